@@ -1,0 +1,283 @@
+//! A text, which contracts see as its bytes, and a set of texts, which they see as a list of these in order.
+ghost use Rattle.std.specs.Prelude.{◌≡◌, ℕ, ◌↔◌, List, [], length, IfOk, IfErr, IsTrue, string_bytes, Contains};
+ghost use Rattle.cat_base.specs.Texts.{sorted_set, IsTextSet};
+ghost use Rattle.cat_base.specs.declared.refusal.Refusal.TheVariants.{Memory};
+
+use crate::refusal::Refusal;
+use std::alloc::Global;
+use std::cmp::Ordering;
+use std::fmt;
+use std::marker::Model;
+
+/// An owned text, equal to and ordered with others by its UTF-8 bytes. Contracts see it as the list of these bytes.
+#[derive(Drop)]
+pub struct Text {
+    text: String,
+}
+
+impl Model for Text {
+    ghost use Rattle.std.specs.Prelude.{ℕ, List, string_bytes};
+
+    ghost Value = { List ℕ };
+
+    ghost view = { λ t. string_bytes t.text };
+}
+
+impl Text {
+    /// The text of the string, which is taken over.
+    pub fn new(text: String) -> Self
+        ensures { result ≡ string_bytes text }
+    {
+        Text { text }
+    }
+
+    /// A copy of the text. A refusal is [`Refusal::Memory`].
+    pub fn from_str(alloc: Global, text: &str) -> Result<Self, Refusal>
+        ensures ok { IfOk result (λ t. t ≡ text.now) }
+        ensures refusal { IfErr result (λ e. e ≡ Memory) }
+    {
+        Ok(Text {
+            text: String::from_str(alloc, text)?,
+        })
+    }
+
+    /// The text, borrowed.
+    pub fn as_str(&self) -> &str
+        ensures { result.now ≡ self.now }
+    {
+        self.text.as_str()
+    }
+
+    /// An equal text in memory of its own. A refusal is [`Refusal::Memory`].
+    pub fn copy(&self) -> Result<Self, Refusal>
+        ensures ok { IfOk result (λ t. t ≡ self.now) }
+        ensures refusal { IfErr result (λ e. e ≡ Memory) }
+    {
+        Ok(Text {
+            text: String::from_str(*self.text.allocator(), self.text.as_str())?,
+        })
+    }
+}
+
+impl PartialEq for Text {
+    ghost use Rattle.std.specs.Prelude.{nat_eq};
+    ghost use Rattle.std.specs.Cmp.Lexicographic.{pointwise, nat_list_eq_equiv};
+    ghost use Rattle.std.specs.Cmp as compare;
+
+    ghost eq = { pointwise nat_eq };
+
+    ghost laws = { compare.partial_equiv_from_equiv nat_list_eq_equiv };
+
+    fn eq(&self, other: &Text) -> bool {
+        self.text == other.text
+    }
+}
+
+impl Eq for Text {
+    ghost use Rattle.std.specs.Cmp.Lexicographic.{nat_list_eq_equiv};
+
+    ghost laws = { nat_list_eq_equiv };
+}
+
+impl Ord for Text {
+    ghost use Rattle.std.specs.Prelude.{refl};
+    ghost use Rattle.std.specs.Ordering.{nat_cmp};
+    ghost use Rattle.std.specs.Cmp.Lexicographic.{slice_cmp, nat_list_cmp_total, texts_ties};
+
+    ghost cmp = { slice_cmp nat_cmp };
+
+    ghost total = { nat_list_cmp_total };
+
+    ghost matches_partial_cmp = { λ x y. refl };
+
+    ghost matches_eq = { texts_ties };
+
+    fn cmp(&self, other: &Text) -> Ordering {
+        self.text.cmp(&other.text)
+    }
+}
+
+impl PartialOrd for Text {
+    ghost use Rattle.std.specs.Ordering.{nat_cmp, as_partial_cmp};
+    ghost use Rattle.std.specs.Cmp.Lexicographic.{slice_cmp, texts_po};
+
+    ghost partial_cmp = { as_partial_cmp (slice_cmp nat_cmp) };
+
+    ghost laws = { texts_po };
+
+    fn partial_cmp(&self, other: &Text) -> Option<Ordering> {
+        Some(self.cmp(other))
+    }
+}
+
+impl fmt::Display for Text {
+    ghost use Rattle.std.specs.Prelude.{Some};
+
+    ghost output = { λ t. Some t };
+
+    fn fmt<W: fmt::Write>(&self, f: &mut fmt::Formatter<W>) -> fmt::Result {
+        fmt::Display::fmt(self.text.as_str(), f)
+    }
+}
+
+impl fmt::Debug for Text {
+    fn fmt<W: fmt::Write>(&self, f: &mut fmt::Formatter<W>) -> fmt::Result {
+        fmt::Debug::fmt(self.text.as_str(), f)
+    }
+}
+
+/// A set of texts, each once. Contracts see it as the list of its texts in byte order.
+#[derive(Debug, Drop)]
+pub struct TextSet {
+    texts: Vec<Text>,
+}
+
+impl Model for TextSet {
+    ghost use Rattle.std.specs.Prelude.{ℕ, List};
+    ghost use Rattle.cat_base.specs.Texts.{IsTextSet};
+
+    ghost Value = { List (List ℕ) };
+
+    ghost view = { λ s. s.texts.items };
+
+    ghost invariant = { λ s. IsTextSet s.texts.items };
+}
+
+impl TextSet {
+    /// The set of no text. It takes no memory until it grows.
+    pub fn new(alloc: Global) -> Self
+        ensures { result ≡ [] }
+    {
+        TextSet {
+            texts: Vec::new(alloc),
+        }
+    }
+
+    /// The set of the texts, which may come in any order and more than once. It takes no memory.
+    pub fn of(mut texts: Vec<Text>) -> Self
+        ensures { result ≡ sorted_set texts.items }
+    {
+        texts.sort_unstable();
+        texts.dedup();
+        TextSet { texts }
+    }
+
+    /// The texts in byte order.
+    pub fn as_slice(&self) -> &[Text]
+        ensures value { result.now ≡ self.now }
+        ensures sorted { IsTextSet self.now }
+    {
+        self.texts.as_slice()
+    }
+
+    /// How many texts there are.
+    pub fn len(&self) -> usize
+        ensures { result ≡ length self.now }
+    {
+        self.texts.len()
+    }
+
+    /// Whether there is no text.
+    pub fn is_empty(&self) -> bool
+        ensures { IsTrue result ↔ (self.now ≡ []) }
+    {
+        self.texts.is_empty()
+    }
+
+    /// Whether the text is in the set, by binary search.
+    pub fn contains(&self, text: &str) -> bool
+        ensures { IsTrue result ↔ Contains self.now text.now }
+    {
+        self.texts
+            .binary_search_by(|other| other.as_str().cmp(text))
+            .is_ok()
+    }
+
+    /// An equal set in memory of its own. A refusal is [`Refusal::Memory`].
+    pub fn copy(&self) -> Result<Self, Refusal>
+        ensures ok { IfOk result (λ t. t ≡ self.now) }
+        ensures refusal { IfErr result (λ e. e ≡ Memory) }
+    {
+        let mut texts = Vec::with_capacity(*self.texts.allocator(), self.texts.len())?;
+        for text in &self.texts {
+            texts.push(text.copy()?)?;
+        }
+        Ok(TextSet { texts })
+    }
+}
+
+/// The laws that make `sorted_set` a set: it rises, it has the texts of its list and no other, and no other rising list
+/// has just these.
+pub fn sorted_sets_are_sets()
+    ensures rising { (texts : List (List ℕ)) → IsTextSet (sorted_set texts) }
+    ensures members { (texts : List (List ℕ)) (text : List ℕ) → Contains (sorted_set texts) text ↔ Contains texts text }
+    ensures only { (texts other : List (List ℕ)) → IsTextSet other
+        → ((text : List ℕ) → Contains other text ↔ Contains texts text) → other ≡ sorted_set texts }
+{}
+
+#[cfg(test)]
+mod tests {
+    use super::*;
+    use std::test::Fail;
+
+    #[test]
+    fn texts_compare_by_bytes(rt: HostRuntime) -> Result<(), Fail> {
+        let alloc = rt.alloc();
+        // "Z" is 5a, "a" is 61, and "é" begins with c3.
+        let rows = [
+            ("", "a", Ordering::Less),
+            ("a", "a", Ordering::Equal),
+            ("a", "Z", Ordering::Greater),
+            ("a", "ab", Ordering::Less),
+            ("z", "é", Ordering::Less),
+        ];
+        for (left, right, want) in rows {
+            let (one, other) = (Text::from_str(alloc, left)?, Text::from_str(alloc, right)?);
+            assert_eq!(rt; one.cmp(&other), want, "{left} {right}");
+            assert_eq!(rt; one.partial_cmp(&other), Some(want), "{left} {right}");
+            assert_eq!(rt; one == other, want == Ordering::Equal, "{left} {right}");
+        }
+        Ok(())
+    }
+
+    #[test]
+    fn texts_are_shown(rt: HostRuntime) -> Result<(), Fail> {
+        let alloc = rt.alloc();
+        let text = Text::new(String::from_str(alloc, "red \"shoe\"")?);
+        assert_eq!(rt; text.as_str(), "red \"shoe\"");
+        assert_eq!(rt; text.copy()?, text);
+        let shown = format!(in alloc; "{text}, {text:?}")?;
+        assert_eq!(rt; shown.as_str(), "red \"shoe\", \"red \\\"shoe\\\"\"");
+        Ok(())
+    }
+
+    #[test]
+    fn a_set_has_each_text_once(rt: HostRuntime) -> Result<(), Fail> {
+        let alloc = rt.alloc();
+        let mut words = Vec::new(alloc);
+        for word in ["b", "a", "b"] {
+            words.push(Text::from_str(alloc, word)?)?;
+        }
+        let set = TextSet::of(words);
+        let copied = set.copy()?;
+        for same in [&set, &copied] {
+            let shown = format!(in alloc; "{:?}", same.as_slice())?;
+            assert_eq!(rt; shown.as_str(), "[\"a\", \"b\"]");
+            assert_eq!(rt; same.len(), 2);
+            assert!(rt; !same.is_empty());
+            for (word, want) in [
+                ("", false),
+                ("a", true),
+                ("aa", false),
+                ("b", true),
+                ("c", false),
+            ] {
+                assert_eq!(rt; same.contains(word), want, "{word}");
+            }
+        }
+        let none = TextSet::new(alloc);
+        assert!(rt; none.is_empty() && none.as_slice().is_empty() && !none.contains("a"));
+        assert_eq!(rt; none.len(), 0);
+        Ok(())
+    }
+}
