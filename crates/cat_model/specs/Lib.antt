@@ -1,0 +1,16 @@
+pub mod Text
+pub mod Words
+pub mod Item
+pub mod Query
+pub mod Write
+pub mod Table
+pub mod Page
+pub mod Facets
+pub mod Answer
+pub mod Run
+pub mod State
+pub mod Lines
+pub mod Heard
+pub mod Input
+pub mod Served
+pub mod Laws

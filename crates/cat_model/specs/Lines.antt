@@ -1,0 +1,147 @@
+-- What a line says and the one way to spell it, and the text of a reply. The protocol is our own.
+use Rattle.std.specs.Prelude.{◌≡◌, ℕ, ◌<◌, ◌≤◌, ◌^◌, ◌⊎◌, List, [], ◌∷◌, ◌++◌, codes, map, length, IsUtf8, Option, None, Some, Ok, Err}
+use Rattle.std.specs.List.{flat_map}
+use Rattle.std.specs.Fmt.{decimal, signed_decimal}
+use Rattle.cat_base.specs.declared.refusal.Refusal.{Refusal}
+use Rattle.cat_base.specs.declared.refusal.Refusal.TheVariants as refusal
+use Rattle.cat_base.specs.Refusals.{number_of}
+use Rattle.cat_model.specs.Text.{Text}
+use Rattle.cat_model.specs.Page.{Key, Entry}
+use Rattle.cat_model.specs.Facets.{Counted}
+use Rattle.cat_model.specs.Answer.{Found}
+use Rattle.cat_model.specs.Run.{Answer, News, Part, Reply}
+
+-- ---- lines
+
+-- A command with its arguments as they came: no item, id or query has been looked at. The protocol is our own.
+pub data Said : Type 0 where
+  put : (item : Text) → Said
+  delete : (id : Text) → Said
+  refresh : Said
+  open_newest : Said
+  open_at : (token : ℕ) → Said
+  close : (token : ℕ) → Said
+  -- a page in order of addition, from its beginning
+  find : (token n : ℕ) (query : Text) → Said
+
+-- the texts with one space between each two
+abbrev pub spaced : List Text → Text
+spaced [] = []
+spaced (t ∷ []) = t
+spaced (t ∷ u ∷ ts) = t ++ 32 ∷ spaced (u ∷ ts)
+
+-- the name of the command and its arguments, each spelled
+abbrev pub spelling : Said → List Text
+spelling (Said.put item) = codes "PUT" ∷ item ∷ []
+spelling (Said.delete id) = codes "DEL" ∷ id ∷ []
+spelling Said.refresh = codes "REFRESH" ∷ []
+spelling Said.open_newest = codes "OPEN" ∷ []
+spelling (Said.open_at t) = codes "OPEN" ∷ decimal t ∷ []
+spelling (Said.close t) = codes "CLOSE" ∷ decimal t ∷ []
+spelling (Said.find t n query) = codes "FIND" ∷ decimal t ∷ decimal n ∷ codes "." ∷ codes "." ∷ query ∷ []
+
+-- a number that may be said
+abbrev pub IsNumber : ℕ → Type 0
+IsNumber n = n < 2 ^ 63
+
+-- the numbers that are said are below 2^63
+abbrev pub HasForm : Said → Type 0
+HasForm (Said.open_at t) = IsNumber t
+HasForm (Said.close t) = IsNumber t
+HasForm (Said.find t n query) = IsNumber t × IsNumber n
+HasForm _ = Unit {0}
+
+-- the text, behind the session and its space, spells what is said
+pub record SpellsSaid (text : Text) (said : Said) : Type 0 where
+  pub form : HasForm said
+  pub spelled : text ≡ spaced (spelling said)
+
+-- the session stands before the first space, or is the whole line
+pub record Shows (line : Text) (session : ℕ) : Type 0 where
+  pub small : session ≤ 9999
+  pub place : (line ≡ decimal session) ⊎ ((rest : Text) × (line ≡ decimal session ++ 32 ∷ rest))
+
+-- the line spells the session, and what is said under it
+pub record SpellsLine (line : Text) (session : ℕ) (said : Said) : Type 0 where
+  pub small : session ≤ 9999
+  pub rest : Text
+  pub session_first : line ≡ decimal session ++ 32 ∷ rest
+  pub says : SpellsSaid rest said
+
+-- a line that can be read at all: it isn't too long, and is UTF-8
+pub record IsReadable (line : Text) : Type 0 where
+  pub short : length line ≤ 10000
+  pub utf8 : IsUtf8 line
+
+-- ---- replies
+
+-- a sort key, or a point where there is none
+abbrev pub key_text : Option Key → Text
+key_text None = codes "."
+key_text (Some (Key.number z)) = signed_decimal z
+key_text (Some (Key.keyword k)) = codes "=" ++ k
+
+-- a stored item, or a point where there is none
+abbrev pub source_text : Option Text → Text
+source_text None = codes "."
+source_text (Some source) = source
+
+-- what maintenance tells
+abbrev pub news_words : News → List Text
+news_words News.idle = codes "idle" ∷ []
+news_words News.busy = codes "busy" ∷ []
+news_words (News.begun_merge k) = codes "begun" ∷ decimal k ∷ []
+news_words (News.copied r) = codes "copied" ∷ decimal r ∷ []
+news_words News.done = codes "done" ∷ []
+news_words News.begun_warming = codes "begun" ∷ []
+news_words (News.warmed r) = codes "warmed" ∷ decimal r ∷ []
+news_words News.stored = codes "stored" ∷ []
+news_words (News.swept n) = decimal n ∷ []
+news_words (News.state st) = decimal st.writes ∷ decimal st.buffered ∷ decimal (length st.parts) ∷ decimal st.records ∷ decimal st.cached ∷ decimal st.pending ∷ []
+
+-- what stands behind OK
+abbrev pub answer_words : Answer → List Text
+answer_words (Answer.number n) = decimal n ∷ []
+answer_words (Answer.found (Found.page p)) = decimal (length p.entries) ∷ decimal p.total ∷ []
+answer_words (Answer.found (Found.facets f)) = decimal f.matching ∷ decimal f.met ∷ []
+answer_words (Answer.found (Found.source s)) = source_text s ∷ []
+answer_words (Answer.names names) = decimal (length names) ∷ []
+answer_words (Answer.news news) = news_words news
+
+-- the line of a hit
+abbrev pub entry_words : Entry → List Text
+entry_words e = decimal e.number ∷ e.id ∷ key_text e.key ∷ []
+
+-- the line of a label
+abbrev pub counted_words : Counted → List Text
+counted_words c = decimal c.count ∷ c.label ∷ []
+
+-- the line of a segment
+abbrev pub part_words : Part → List Text
+part_words p = decimal p.number ∷ decimal p.rows ∷ decimal p.live ∷ []
+
+-- the further lines of an answer
+abbrev pub further : Answer → List (List Text)
+further (Answer.found (Found.page p)) = map entry_words p.entries
+further (Answer.found (Found.facets f)) = map counted_words f.counts
+further (Answer.names names) = map (λ name. name ∷ []) names
+further (Answer.news (News.state st)) = map part_words st.parts
+further _ = []
+
+-- the number of a refusal, and the place where a text is no query
+abbrev pub refusal_words : Refusal → List Text
+refusal_words (refusal.Query place) = decimal 24 ∷ decimal place ∷ []
+refusal_words e = decimal (number_of e) ∷ []
+
+-- the words, and a line feed
+abbrev pub line_text : List Text → Text
+line_text words = spaced words ++ 10 ∷ []
+
+-- the reply under a session: each of its lines begins with the session
+abbrev pub reply_text : ℕ → Reply → Text
+reply_text s (Ok a) = line_text (decimal s ∷ codes "OK" ∷ answer_words a) ++ flat_map (λ words. line_text (decimal s ∷ words)) (further a)
+reply_text s (Err e) = line_text (decimal s ∷ codes "NO" ∷ refusal_words e)
+
+-- the reply to a line that shows no session, or can't be read
+abbrev pub unreadable_text : Text
+unreadable_text = codes "? NO 10\n"

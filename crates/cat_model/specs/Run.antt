@@ -1,0 +1,324 @@
+-- Runs: lists of lines with their replies, and which replies fit.
+--
+-- After Lucene: REFRESH, OPEN, CLOSE and PRUNE are record, acquire, release and prune of SearcherLifetimeManager; COMMIT is
+-- IndexWriter.commit under KeepOnlyLastCommitDeletionPolicy; SNAP and UNSNAP are snapshot and release of
+-- SnapshotDeletionPolicy. Our own are: that a token is the number of writes, that at most 64 records stand, pruning by a
+-- count, holds by session, and the order of the refusals.
+use Rattle.std.specs.Prelude.{◌≡◌, ◌⊎◌, ℕ, ◌+◌, ◌-◌, ◌<◌, ◌≤◌, Bool, true, false, not, ◌&&◌, ◌||◌, ltb, max, List, [], ◌∷◌, ◌++◌, length, filter, filter_map, map, count_by, Option, Some, None, option_to_list, Result, Ok, Err, cond, IsTrue, ◌==◌}
+use Rattle.std.specs.List.{list_any, list_all, last_or}
+use Rattle.cat_base.specs.declared.refusal.Refusal.{Refusal}
+use Rattle.cat_base.specs.declared.refusal.Refusal.TheVariants.{Line as NoForm, Spent, NotHeld, Gone, Full, NoCommit, NoSnapshot, Device, Damaged, Memory}
+use Rattle.cat_model.specs.Text.{Text}
+use Rattle.cat_model.specs.Item.{Item}
+use Rattle.cat_model.specs.Write.{Write}
+use Rattle.cat_model.specs.Table.{Start, Opened, table, count}
+use Rattle.cat_model.specs.Answer.{Read, Found, answer, fault}
+
+-- the maintenance that session 0 alone may ask for
+pub data Chore : Type 0 where
+  merge : Chore
+  force : Chore
+  warm : Chore
+  sweep : Chore
+  stat : Chore
+
+-- A command with its arguments read: a wrong item or id is the refusal of its fault.
+pub data Command : Type 0 where
+  formless : Command
+  put : Result Item Refusal → Command
+  delete : Result Text Refusal → Command
+  refresh : Command
+  open_newest : Command
+  open_at : ℕ → Command
+  close : ℕ → Command
+  read : ℕ → Read → Command
+  prune : ℕ → Command
+  commit : Command
+  snapshot : Command
+  release_snapshot : ℕ → Command
+  files_of_token : ℕ → Command
+  files_of_commit : ℕ → Command
+  chore : Chore → Command
+
+-- a session, and what it says
+pub record Line : Type 0 where
+  pub session : ℕ
+  pub command : Command
+
+-- a segment: its number, its rows, and those of them that are live
+pub record Part : Type 0 where
+  pub number : ℕ
+  pub rows : ℕ
+  pub live : ℕ
+
+-- what STAT tells
+pub record Stat : Type 0 where
+  pub writes : ℕ
+  pub buffered : ℕ
+  pub records : ℕ
+  pub cached : ℕ
+  pub pending : ℕ
+  pub parts : List Part
+
+-- what maintenance tells
+pub data News : Type 0 where
+  idle : News
+  busy : News
+  begun_merge : ℕ → News
+  copied : ℕ → News
+  done : News
+  begun_warming : News
+  warmed : ℕ → News
+  stored : News
+  swept : ℕ → News
+  state : Stat → News
+
+-- the forms that the line's reply may have
+abbrev pub may_tell : Chore → News → Bool
+may_tell Chore.merge News.idle = true
+may_tell Chore.merge (News.begun_merge k) = true
+may_tell Chore.merge (News.copied r) = true
+may_tell Chore.merge News.done = true
+may_tell Chore.force News.idle = true
+may_tell Chore.force (News.begun_merge k) = true
+may_tell Chore.force News.busy = true
+may_tell Chore.warm News.idle = true
+may_tell Chore.warm News.begun_warming = true
+may_tell Chore.warm (News.warmed r) = true
+may_tell Chore.warm News.stored = true
+may_tell Chore.sweep (News.swept n) = true
+may_tell Chore.stat (News.state st) = true
+may_tell _ _ = false
+
+-- what stands after OK
+pub data Answer : Type 0 where
+  number : ℕ → Answer
+  found : Found → Answer
+  names : List Text → Answer
+  news : News → Answer
+
+-- an answer or a refusal
+abbrev pub Reply : Type 0
+Reply = Result Answer Refusal
+
+-- a line and the reply to it
+pub record Exchange : Type 0 where
+  pub line : Line
+  pub reply : Reply
+
+-- what was said and replied, in order
+abbrev pub Run : Type 0
+Run = List Exchange
+
+-- the accepted write of an exchange
+abbrev pub accepted_by : Command → Reply → Option Write
+accepted_by (Command.put (Ok i)) (Ok a) = Some (Write.put i)
+accepted_by (Command.delete (Ok id)) (Ok a) = Some (Write.delete id)
+accepted_by _ _ = None
+
+-- the write that the exchange adds to those accepted, if it does
+abbrev pub accepted : Exchange → Option Write
+accepted e = accepted_by e.line.command e.reply
+
+-- the accepted writes of a run, in order
+abbrev pub writes : Run → List Write
+writes run = filter_map accepted run
+
+-- the number of writes at the end of the run
+abbrev pub now : Start → Run → ℕ
+now start run = count start (writes run)
+
+-- whether the exchange begins a hold of t (true), ends one (false), or neither
+abbrev pub hold_by : ℕ → Command → Reply → Option Bool
+hold_by t Command.open_newest (Ok (Answer.number u)) = cond (u == t) (Some true) None
+hold_by t (Command.open_at v) (Ok (Answer.number u)) = cond (u == t) (Some true) None
+hold_by t (Command.close u) (Ok a) = cond (u == t) (Some false) None
+hold_by t _ _ = None
+
+-- the same for the session, which only its own lines change
+abbrev pub hold_change : ℕ → ℕ → Exchange → Option Bool
+hold_change s t e = cond (e.line.session == s) (hold_by t e.line.command e.reply) None
+
+-- the last change began a hold
+abbrev pub began : Option Bool → Bool
+began None = false
+began (Some b) = b
+
+-- the session has been answered an OPEN with this token, and no CLOSE of it after that
+abbrev pub holds : ℕ → ℕ → Run → Bool
+holds s t run = began (last_or None (filter_map (hold_change s t) run))
+
+-- the sessions that have spoken
+abbrev pub sessions : Run → List ℕ
+sessions run = map (λ e. e.line.session) run
+
+-- some session holds the token
+abbrev pub is_held : Run → ℕ → Bool
+is_held run t = list_any (λ s. holds s t run) (sessions run)
+
+-- the token is one of the list
+abbrev pub has : List ℕ → ℕ → Bool
+has ts t = list_any (λ u. u == t) ts
+
+-- without the least token that no session holds
+abbrev pub without_least_free : (ℕ → Bool) → List ℕ → List ℕ
+without_least_free held ts = filter (λ t. held t || list_any (λ u. not (held u) && ltb u t) ts) ts
+
+-- those that are held or among the greatest max n 1
+abbrev pub pruned : (ℕ → Bool) → ℕ → List ℕ → List ℕ
+pruned held n ts = filter (λ t. held t || ltb (count_by (λ u. ltb t u) ts) (max n 1)) ts
+
+-- the greatest number of a write or a commit
+abbrev pub last_number : ℕ
+last_number = 9223372036854775807
+
+-- one commit may have so many snapshots
+abbrev pub snapshot_limit : ℕ
+snapshot_limit = 65535
+
+-- at most so many records stand
+abbrev pub record_limit : ℕ
+record_limit = 64
+
+-- with this token recorded: nothing changes where it is so already, and at the limit the least one that is not held goes
+abbrev pub recorded : (ℕ → Bool) → List ℕ → ℕ → List ℕ
+recorded held ts t = cond (has ts t) ts (cond (ltb (length ts) record_limit) ts (without_least_free held ts) ++ t ∷ [])
+
+-- the tokens of the records after an exchange, by what was held before it
+abbrev pub records_by : (ℕ → Bool) → List ℕ → Command → Reply → List ℕ
+records_by held ts Command.refresh (Ok (Answer.number t)) = recorded held ts t
+records_by held ts (Command.prune n) (Ok a) = pruned held n ts
+records_by held ts _ _ = ts
+
+-- the tokens after the rest of a run, where these stood after its past
+abbrev pub records_from : List ℕ → Run → Run → List ℕ
+records_from ts past [] = ts
+records_from ts past (e ∷ rest) = records_from (records_by (is_held past) ts e.line.command e.reply) (past ++ e ∷ []) rest
+
+-- the tokens of the records at the end of the run, rising
+abbrev pub records : Start → Run → List ℕ
+records start run = records_from (start.token ∷ []) [] run
+
+-- the generation that a COMMIT was answered
+abbrev pub generation_by : Command → Reply → Option ℕ
+generation_by Command.commit (Ok (Answer.number g)) = Some g
+generation_by _ _ = None
+
+-- the generations of the commits so far, the opened one first
+abbrev pub generations : Opened → Run → List ℕ
+generations from run = option_to_list from.generation ++ filter_map (λ e. generation_by e.line.command e.reply) run
+
+-- the newest commit, which is kept (KeepOnlyLastCommitDeletionPolicy)
+abbrev pub newest_commit : Opened → Run → Option ℕ
+newest_commit from run = last_or None (generations from run)
+
+-- the exchange takes a snapshot of g (SnapshotDeletionPolicy.snapshot)
+abbrev pub takes_snapshot : ℕ → Command → Reply → Bool
+takes_snapshot g Command.snapshot (Ok (Answer.number h)) = g == h
+takes_snapshot g _ _ = false
+
+-- the exchange gives a snapshot of g back (SnapshotDeletionPolicy.release)
+abbrev pub gives_snapshot : ℕ → Command → Reply → Bool
+gives_snapshot g (Command.release_snapshot h) (Ok a) = g == h
+gives_snapshot g _ _ = false
+
+-- snapshots of g that are taken and not released
+abbrev pub snapshots : Run → ℕ → ℕ
+snapshots run g = count_by (λ e. takes_snapshot g e.line.command e.reply) run - count_by (λ e. gives_snapshot g e.line.command e.reply) run
+
+-- the commit is the newest, or has a snapshot
+abbrev pub is_kept : Opened → Run → ℕ → Bool
+is_kept from run g = list_any (λ h. g == h) (option_to_list (newest_commit from run)) || ltb 0 (snapshots run g)
+
+-- whether the session's command is looked at at all
+abbrev pub has_form : ℕ → Command → Bool
+has_form s Command.formless = false
+has_form s (Command.chore c) = s == 0
+has_form s _ = true
+
+-- want of memory, a failing device and a limit that is used up may refuse in place of the answer
+abbrev pub may_refuse : Command → Refusal → Bool
+may_refuse c Memory = true
+may_refuse (Command.put i) Spent = true
+may_refuse (Command.put i) Device = true
+may_refuse Command.refresh Spent = true
+may_refuse Command.refresh Device = true
+may_refuse (Command.read t (Read.get id)) Device = true
+may_refuse (Command.read t (Read.get id)) Damaged = true
+may_refuse Command.commit Spent = true
+may_refuse Command.commit Device = true
+may_refuse (Command.chore Chore.merge) Spent = true
+may_refuse (Command.chore Chore.merge) Device = true
+may_refuse (Command.chore Chore.merge) Damaged = true
+may_refuse (Command.chore Chore.force) Spent = true
+may_refuse (Command.chore Chore.force) Device = true
+may_refuse (Command.chore Chore.sweep) Device = true
+may_refuse _ _ = false
+
+-- what was found is told, or why nothing was
+abbrev pub told : Result Found Refusal → Reply
+told (Ok f) = Ok (Answer.found f)
+told (Err e) = Err e
+
+-- a fault of the read comes before that its token is not held
+abbrev pub or_not_held : Option Refusal → Reply
+or_not_held None = Err NotHeld
+or_not_held (Some e) = Err e
+
+-- the reply to SNAP: the newest commit, if there is one and it may have one snapshot more
+abbrev pub snapshot_of : (ℕ → ℕ) → Option ℕ → Reply
+snapshot_of taken None = Err NoCommit
+snapshot_of taken (Some g) = cond (ltb (taken g) snapshot_limit) (Ok (Answer.number g)) (Err Spent)
+
+-- each of the tokens is held, and no more may stand
+abbrev pub is_full : (ℕ → Bool) → List ℕ → Bool
+is_full held ts = not (ltb (length ts) record_limit) && list_all held ts
+
+-- the greatest of the tokens
+abbrev pub greatest : List ℕ → ℕ
+greatest [] = 0
+greatest (t ∷ ts) = max t (greatest ts)
+
+-- the fitting replies, the causes of `may_refuse` apart
+abbrev pub Answers : Opened → Run → ℕ → Command → Reply → Type 0
+Answers from past s Command.formless r = r ≡ Err NoForm
+Answers from past s (Command.put (Ok i)) r = r ≡ cond (ltb (now from.start past) last_number) (Ok (Answer.number (now from.start past + 1))) (Err Spent)
+Answers from past s (Command.put (Err e)) r = r ≡ Err e
+Answers from past s (Command.delete (Ok id)) r = r ≡ cond (ltb (now from.start past) last_number) (Ok (Answer.number (now from.start past + 1))) (Err Spent)
+Answers from past s (Command.delete (Err e)) r = r ≡ Err e
+Answers from past s Command.refresh r =
+    r ≡ cond (not (has (records from.start past) (now from.start past)) && is_full (is_held past) (records from.start past)) (Err Full) (Ok (Answer.number (now from.start past)))
+Answers from past s Command.open_newest r = r ≡ Ok (Answer.number (greatest (records from.start past)))
+Answers from past s (Command.open_at t) r = r ≡ cond (has (records from.start past) t) (Ok (Answer.number t)) (Err Gone)
+Answers from past s (Command.close t) r = r ≡ cond (holds s t past) (Ok (Answer.number t)) (Err NotHeld)
+Answers from past s (Command.read t asked) r =
+    r ≡ cond (holds s t past) (told (answer from.start.schema (table from.start (writes past) t) asked)) (or_not_held (fault asked))
+Answers from past s (Command.prune n) r =
+    r ≡ Ok (Answer.number (length (records from.start past) - length (pruned (is_held past) n (records from.start past))))
+Answers from past s Command.commit r = cond (list_all (λ h. ltb h last_number) (generations from past)) ((g : ℕ) × (r ≡ Ok (Answer.number g)) × (0 < g) × (g ≤ last_number) × IsTrue (list_all (λ h. ltb h g) (generations from past))) (r ≡ Err Spent)
+Answers from past s Command.snapshot r = r ≡ snapshot_of (snapshots past) (newest_commit from past)
+Answers from past s (Command.release_snapshot g) r = r ≡ cond (ltb 0 (snapshots past g)) (Ok (Answer.number (snapshots past g - 1))) (Err NoSnapshot)
+Answers from past s (Command.files_of_token t) r = cond (holds s t past) ((ns : List Text) × (r ≡ Ok (Answer.names ns))) (r ≡ Err NotHeld)
+Answers from past s (Command.files_of_commit g) r = cond (is_kept from past g) ((ns : List Text) × (r ≡ Ok (Answer.names ns))) (r ≡ Err NoCommit)
+Answers from past s (Command.chore c) r = cond (s == 0) ((n : News) × (r ≡ Ok (Answer.news n)) × IsTrue (may_tell c n)) (r ≡ Err NoForm)
+
+-- the exchange is a refusal that may stand in place of the answer
+abbrev pub Refuses : Command → Reply → Type 0
+Refuses c r = (e : Refusal) × (r ≡ Err e) × IsTrue (may_refuse c e)
+
+-- want of memory, or another such refusal, which comes last: an OK would fit
+abbrev pub Stops : Opened → Run → ℕ → Command → Reply → Type 0
+Stops from past s c r = ((r ≡ Err Memory) × IsTrue (has_form s c)) ⊎ (Refuses c r × ((a : Answer) × Answers from past s c (Ok a)))
+
+-- the reply fits the run before it
+abbrev pub Fits : Opened → Run → Exchange → Type 0
+Fits from past e = Answers from past e.line.session e.line.command e.reply ⊎ Stops from past e.line.session e.line.command e.reply
+
+-- each reply of the rest fits what was before it
+abbrev pub FitsFrom : Opened → Run → Run → Type 0
+FitsFrom from past [] = Unit {0}
+FitsFrom from past (e ∷ rest) = Fits from past e × FitsFrom from (past ++ e ∷ []) rest
+
+-- each reply fits the run before it
+abbrev pub IsRun : Opened → Run → Type 0
+IsRun from run = FitsFrom from [] run

@@ -1,0 +1,136 @@
+-- What serving an input says and reads. The rules are our own.
+use Rattle.std.specs.Prelude.{◌≡◌, ℕ, ◌≤◌, ◌⊎◌, List, [], ◌∷◌, ◌++◌, codes, filter_map, Option, None, Some, Result, Ok, Err}
+use Rattle.std.specs.List.{flat_map}
+use Rattle.std.specs.Fmt.{decimal}
+use Rattle.std.specs.Io.KnownBytes.{Appends, Consumes, IsAtEnd}
+use Rattle.cat_base.specs.declared.refusal.Refusal.{Refusal}
+use Rattle.cat_base.specs.declared.refusal.Refusal.TheVariants.{Line as NoForm, Memory}
+use Rattle.cat_model.specs.Text.{Text}
+use Rattle.cat_model.specs.Item.{Schema}
+use Rattle.cat_model.specs.Table.{Opened}
+use Rattle.cat_model.specs.Run.{Exchange, IsRun}
+use Rattle.cat_model.specs.Lines.{spaced, IsReadable, reply_text, refusal_words, line_text, unreadable_text}
+use Rattle.cat_model.specs.Heard.{Json, Heard, Hears}
+use Rattle.cat_model.specs.Input.{ended_lines, lines_of, HaveCome}
+
+-- ---- the schema line
+
+-- The line spells a factor, a minimum and the text of a schema. The first two say when segments are merged.
+pub record SpellsSchema (line : Text) (factor least : ℕ) (text : Text) : Type 0 where
+  pub factor_low : 2 ≤ factor
+  pub factor_high : factor ≤ 100
+  pub least_low : 1 ≤ least
+  pub least_high : least ≤ 100000
+  pub spelled : line ≡ spaced (codes "SCHEMA" ∷ decimal factor ∷ decimal least ∷ text ∷ [])
+
+-- what opening under a schema may answer
+abbrev pub Opening : Type 1
+Opening = Schema → Result Opened Refusal → Type 0
+
+-- the opening of a service without items, where nothing was committed before
+abbrev pub OpensEmpty : Opening
+OpensEmpty schema (Ok opened) = opened ≡ record { start = record { schema = schema; records = []; token = 0 }; generation = None }
+OpensEmpty schema (Err e) = e ≡ Memory
+
+-- what may come of the schema line: how the service is opened, or why it isn't
+pub data Begins (json : Json) (opens : Opening) (line : Text) : Result Opened Refusal → Type 0 where
+  opened : (factor least : ℕ) (text : Text) (schema : Schema) (r : Result Opened Refusal) → IsReadable line → SpellsSchema line factor least text → json.schema_of text ≡ Ok schema → opens schema r → Begins json opens line r
+  no_schema : (factor least : ℕ) (text : Text) (e : Refusal) → IsReadable line → SpellsSchema line factor least text → json.schema_of text ≡ Err e → Begins json opens line (Err e)
+  formless : (IsReadable line → (factor least : ℕ) (text : Text) → SpellsSchema line factor least text → ⊥) → Begins json opens line (Err NoForm)
+
+-- ---- the lines behind it
+
+-- a line that was heard, and the reply to it
+pub data Told : Type 0 where
+  unreadable : Told
+  replied : Exchange → Told
+
+-- what was heard of the line
+abbrev pub heard : Told → Heard
+heard Told.unreadable = Heard.unreadable
+heard (Told.replied e) = Heard.a_line e.line
+
+-- the exchange of the run, if it is one
+abbrev pub exchange : Told → Option Exchange
+exchange Told.unreadable = None
+exchange (Told.replied e) = Some e
+
+-- what was said to it
+abbrev pub told_text : Told → Text
+told_text Told.unreadable = unreadable_text
+told_text (Told.replied e) = reply_text e.line.session e.reply
+
+-- each line was heard so, in order
+abbrev pub HeardAll : Json → Schema → List Text → List Told → Type 0
+HeardAll json schema [] [] = Unit {0}
+HeardAll json schema (line ∷ lines) (told ∷ tolds) = Hears json schema line (heard told) × HeardAll json schema lines tolds
+HeardAll json schema [] (told ∷ tolds) = ⊥
+HeardAll json schema (line ∷ lines) [] = ⊥
+
+-- The text answers the schema line and the lines behind it: a run from the start, with the replies to unreadable lines between.
+pub record IsServed (json : Json) (opens : Opening) (first : Text) (lines : List Text) (text : Text) : Type 0 where
+  pub from : Opened
+  pub begins : Begins json opens first (Ok from)
+  pub tolds : List Told
+  pub heard_all : HeardAll json from.start.schema lines tolds
+  pub is_run : IsRun from (filter_map exchange tolds)
+  pub whole : text ≡ line_text (codes "OK" ∷ decimal from.start.token ∷ []) ++ flat_map told_text tolds
+
+-- The text answers the lines, the first of which is the schema's. Where none has come, nothing is said.
+abbrev pub Answered : (Text → List Text → Text → Type 0) → List Text → Text → Type 0
+Answered served [] text = text ≡ []
+Answered served (first ∷ lines) text = served first lines text
+
+-- the first line is refused; where memory is wanting, none need have come
+abbrev pub Refused : (Text → Refusal → Type 0) → List Text → Refusal → Type 0
+Refused refused [] e = e ≡ Memory
+Refused refused (first ∷ lines) e = (e ≡ Memory) ⊎ refused first e
+
+-- what is said where the first line is refused
+abbrev pub refused_text : Refusal → Text
+refused_text e = line_text (codes "NO" ∷ refusal_words e)
+
+-- ---- the whole
+
+-- how serving ends early
+pub data Ending : Type 0 where
+  schema : Ending
+  read : Ending
+  write : Ending
+
+-- a front of the text went out
+pub record AppendsFront (before after : Option Text) (text : Text) : Type 0 where
+  pub front : Text
+  pub rest : Text
+  pub whole : front ++ rest ≡ text
+  pub went : Appends before after front
+
+-- what would have gone out: the text for the first of the lines, or a refusal's
+abbrev pub IsDue : (Text → List Text → Text → Type 0) → (Text → Refusal → Type 0) → List Text → Text → Type 0
+IsDue served refused lines text =
+    ((first others : List Text) × (first ++ others ≡ lines) × Answered served first text)
+    ⊎ ((e : Refusal) × Refused refused lines e × (text ≡ refused_text e))
+
+-- What serving does, by how it ends: the reader goes from `input` to `left`, the writer from `before` to `after`. Two
+-- relations say which text answers a first line and the lines behind it, and which refusals a first line may get.
+abbrev pub ServesBy : (Text → List Text → Text → Type 0) → (Text → Refusal → Type 0) → (input left before after : Option Text) → Result (Unit {0}) Ending → Type 0
+-- the input is at its end, and all its lines are answered
+ServesBy served refused input left before after (Ok u) =
+    (bytes : Text) × Consumes input left bytes × IsAtEnd left
+    × (text : Text) × Answered served (lines_of bytes) text × Appends before after text
+-- the first line is refused, and the refusal is all that is said
+ServesBy served refused input left before after (Err Ending.schema) =
+    (bytes : Text) × Consumes input left bytes × (lines : List Text) × HaveCome bytes left lines
+    × (e : Refusal) × Refused refused lines e × Appends before after (refused_text e)
+-- the lines that had ended are answered
+ServesBy served refused input left before after (Err Ending.read) =
+    (bytes : Text) × Consumes input left bytes
+    × (text : Text) × Answered served (ended_lines bytes) text × Appends before after text
+-- a front of the text for the lines that had come went out
+ServesBy served refused input left before after (Err Ending.write) =
+    (bytes : Text) × Consumes input left bytes × (lines : List Text) × HaveCome bytes left lines
+    × (text : Text) × IsDue served refused lines text × AppendsFront before after text
+
+-- What is written answers the lines that were read: it is the text of a run that fits them, from a service so opened.
+abbrev pub Serves : Json → Opening → (input left before after : Option Text) → Result (Unit {0}) Ending → Type 0
+Serves json opens = ServesBy (IsServed json opens) (λ first e. Begins json opens first (Err e))

@@ -1,0 +1,101 @@
+//! The definitions that every contract of the service speaks of, and the laws about them.
+#![tactic(auto)]
+
+ghost use Rattle.cat_model.specs.Laws.{TableFollowsAfter, LaterWritesChangeNothing, RunsAreBounded, HeldReadIsOfItsTable, HeldReadsAgree, RunsGoOn, StepsKeepRuns, FreshStatesBeginRuns, LinesSayOneThing, SchemaLinesSayOneThing, HearingIsOne, InputsAreHeardOneWay, WordsAreLongestRuns, WordsAreLoweredRuns};
+ghost use Rattle.cat_model.specs.Served.{Serves};
+
+/// One more write makes of the table the table after it: the item of its id goes, and an item that
+/// is put comes last.
+///
+/// Lucene's `IndexWriter.updateDocument` deletes the documents of a term and then adds the new one;
+/// `deleteDocuments` only deletes.
+pub fn table_follows_after()
+    ensures { TableFollowsAfter }
+{}
+
+/// Writes that come after a token leave the table at the token as it is.
+///
+/// A reader of Lucene is a view of one point in time: an `IndexReader` never sees a change that is
+/// made after it was opened.
+pub fn later_writes_change_nothing()
+    ensures { LaterWritesChangeNothing }
+{}
+
+/// In a fitting run some record stands, none lies past the number of writes, and each token that a
+/// session holds is recorded.
+///
+/// The rule that nothing takes a held record away is our own. In Lucene's
+/// `SearcherLifetimeManager`, `prune` drops a searcher from the records also while it is in use, and
+/// only closes it after its last `release`.
+pub fn runs_are_bounded()
+    ensures { RunsAreBounded }
+{}
+
+/// A read under a held token is answered over the table at the token, whatever was written later,
+/// unless want of memory or a failing device stops it.
+///
+/// This is what Lucene's `SearcherLifetimeManager` is for: `acquire` gives the very searcher that
+/// `record` was given, so that a later page is of the same view.
+pub fn held_read_is_of_its_table()
+    ensures { HeldReadIsOfItsTable }
+{}
+
+/// Equal reads under a held token have equal replies in every two runs with one start whose accepted
+/// writes agree up to the token, whatever other lines either run has.
+///
+/// Lucene promises it of one searcher; that it holds between two runs is our own claim.
+pub fn held_reads_agree()
+    ensures { HeldReadsAgree }
+{}
+
+/// A run goes on by each exchange that fits it. The notion of a run is our own.
+pub fn runs_go_on()
+    ensures { RunsGoOn }
+{}
+
+/// The reply of a step fits the run before it, and the state after it stands for the longer run.
+/// So a service that only takes such steps answers a run. The machine is our own.
+pub fn steps_keep_runs()
+    ensures { StepsKeepRuns }
+{}
+
+/// A service as it is opened stands for the empty run from its own table. The machine is our own.
+pub fn fresh_states_begin_runs()
+    ensures { FreshStatesBeginRuns }
+{}
+
+/// A line says at most one thing, under one session. The protocol is our own.
+pub fn lines_say_one_thing()
+    ensures { LinesSayOneThing }
+{}
+
+/// A schema line says one factor, one minimum and one text of a schema. The protocol is our own.
+pub fn schema_lines_say_one_thing()
+    ensures { SchemaLinesSayOneThing }
+{}
+
+/// What is heard of a line is one thing: a command, a line without a form, or nothing readable.
+/// The protocol is our own.
+pub fn hearing_is_one()
+    ensures { HearingIsOne }
+{}
+
+/// Whatever two texts answer an input, the service was opened in one way and each line was heard in
+/// one way: they differ in replies alone. The protocol is our own.
+pub fn inputs_are_heard_one_way()
+    ensures { InputsAreHeardOneWay }
+{}
+
+/// The runs of a text are its longest runs of word characters, and nothing else.
+///
+/// The rule is our own, in the manner of the letter runs of Lucene's `SimpleAnalyzer`.
+pub fn words_are_longest_runs()
+    ensures { WordsAreLongestRuns }
+{}
+
+/// A word of a text is one of its longest runs, lowered, and each of these is a word.
+///
+/// The rule is our own; Lucene's `SimpleAnalyzer` lowers letters past ASCII too.
+pub fn words_are_lowered_runs()
+    ensures { WordsAreLoweredRuns }
+{}
