@@ -1,0 +1,86 @@
+-- The fields of a schema have the names of the object's members, in their order.
+use Rattle.std.proofs.Common.{◌≡◌, ℕ, List, [], ◌∷◌, ◌++◌, append-nil, map, Bool, true, false, cond, Option, Some, None, option_map, refl, sym, ap, ◌∙◌, subst, nat_cmp, Less}
+use Rattle.std.specs.Prelude.{option_and_then, String, string_bytes}
+use Rattle.std.specs.List.{AllByRecursion}
+use Rattle.std.specs.List.Sorted.{IsStrictlySortedBy}
+use Rattle.std.specs.Map.{keys_of}
+use Rattle.std.specs.String.{string_cmp}
+use Rattle.std.specs.Cmp.Lexicographic.{slice_cmp}
+use Rattle.std.specs.declared.alloc.Global.{Global}
+use Rattle.serde_json.specs.Data.{Data}
+use Rattle.serde_json.specs.Find.{as_str}
+use Rattle.serde_json.specs.View.{view, members_view}
+use Rattle.serde_json.specs.declared.value.Value.{Value}
+use Rattle.cat_base.specs.Texts.{IsTextSet}
+use Rattle.cat_model.specs.Item.{Field, Kind, is_name}
+use Rattle.cat_schema.specs.Reading.{kind_named, field_of, fields_of}
+
+abbrev Entry : Type 0
+Entry = String Global × Value
+
+abbrev names : List Field → List (List ℕ)
+names fs = map (λ f. f.name) fs
+
+abbrev keys : List Entry → List (List ℕ)
+keys es = map string_bytes (keys_of es)
+
+-- ---- order
+
+below_keys : (k : String Global) (ks : List (String Global)) → AllByRecursion (λ y. string_cmp k y ≡ Less) ks → AllByRecursion (λ y. slice_cmp nat_cmp (string_bytes k) y ≡ Less) (map string_bytes ks)
+below_keys k [] all = tt
+below_keys k (x ∷ ks) all = (all.0, below_keys k ks all.1)
+
+rising_keys : (ks : List (String Global)) → IsStrictlySortedBy string_cmp ks → IsTextSet (map string_bytes ks)
+unfolding IsStrictlySortedBy
+rising_keys [] sorted = tt
+rising_keys (k ∷ ks) sorted = (below_keys k ks sorted.0, rising_keys ks sorted.1)
+
+-- ---- names
+
+record IsFirst (o : Option Field) (p : Option (List Field)) (fs : List Field) : Type 0 where
+  first : Field
+  rest : List Field
+  is_first : o ≡ Some first
+  is_rest : p ≡ Some rest
+  whole : fs ≡ first ∷ rest
+
+parts : (o : Option Field) (p : Option (List Field)) (fs : List Field) → option_and_then (λ f. option_map (λ fs. f ∷ fs) p) o ≡ Some fs → IsFirst o p fs
+parts None p fs e = absurd (cc)
+parts (Some f) None fs e = absurd (cc)
+parts (Some f) (Some rest) fs e = record { first = f; rest = rest; is_first = refl; is_rest = refl; whole = (cc) }
+
+abbrev made : List ℕ → Bool → Option Kind → Option Field
+made name b o = cond b (option_map (λ k. record { name = name; kind = k }) o) None
+
+-- a field that is made has that name, which has the form
+made-name : (name : List ℕ) (b : Bool) (o : Option Kind) (f : Field) → made name b o ≡ Some f → (f.name ≡ name) × (b ≡ true)
+made-name name true None f e = absurd (cc)
+made-name name true (Some k) f e = (let same : f ≡ record { name = name; kind = k } = (cc) in ap (λ g. g.name) same, refl)
+made-name name false o f e = absurd (cc)
+
+field_of-name : (name : List ℕ) (d : Data) (f : Field) → field_of name d ≡ Some f → (f.name ≡ name) × (is_name name ≡ true)
+field_of-name name d f e = made-name name (is_name name) (option_and_then kind_named (as_str d)) f e
+
+names_are : (es : List Entry) (fs : List Field) → fields_of (members_view es) ≡ Some fs → names fs ≡ keys es
+names_are [] fs e = let none : fs ≡ [] = (cc) in ap names none
+names_are (m ∷ es) fs e =
+    let p = parts (field_of (string_bytes m.0) (view m.1)) (fields_of (members_view es)) fs e in
+    let first = (field_of-name (string_bytes m.0) (view m.1) p.first p.is_first).0 in
+    let rest = names_are es p.rest p.is_rest in
+    ap names p.whole ∙ (λ i. first i ∷ rest i)
+
+-- each field's name has the form of one
+pub all_named : (es : List Entry) (fs : List Field) → fields_of (members_view es) ≡ Some fs → AllByRecursion (λ f. is_name f.name ≡ true) fs
+all_named [] fs e = let none : fs ≡ [] = (cc) in subst (AllByRecursion (λ f. is_name f.name ≡ true)) (sym none) tt
+all_named (m ∷ es) fs e =
+    let p = parts (field_of (string_bytes m.0) (view m.1)) (fields_of (members_view es)) fs e in
+    let n = field_of-name (string_bytes m.0) (view m.1) p.first p.is_first in
+    subst (AllByRecursion (λ f. is_name f.name ≡ true)) (sym p.whole) (ap is_name n.0 ∙ n.1, all_named es p.rest p.is_rest)
+
+-- the fields' names rise, since the members' do
+pub rising_names : (es : List Entry) (fs : List Field) → IsStrictlySortedBy string_cmp (keys_of es) → fields_of (members_view es) ≡ Some fs → IsTextSet (names fs)
+rising_names es fs sorted e = subst IsTextSet (sym (names_are es fs e)) (rising_keys (keys_of es) sorted)
+
+-- at the end of the walk
+pub all_read : (old : List Field) (es : List Entry) (all : Option (List Field)) → es ≡ [] → option_map (λ fs. old ++ fs) (fields_of (members_view es)) ≡ all → all ≡ Some old
+all_read old es all none done = sym done ∙ ap (λ l. option_map (λ fs. old ++ fs) (fields_of (members_view l))) none ∙ ap Some (append-nil old)

@@ -1,0 +1,91 @@
+-- The parts of an item, and the values that stand for them.
+use Rattle.std.proofs.Common.{◌≡◌, suc, List, [], ◌∷◌, length, map, Bool, true, false, cond, Option, Some, None, Ok, Err, refl, ap, subst, arith}
+use Rattle.std.specs.Prelude.{option_and_then}
+use Rattle.std.specs.Option.{option_map_or}
+use Rattle.serde_json.specs.Data.{Data, Items, Members}
+use Rattle.serde_json.specs.Find.{as_object, as_str, as_array, get_member}
+use Rattle.cat_base.specs.declared.refusal.Refusal.{Refusal}
+use Rattle.cat_base.specs.declared.refusal.Refusal.TheVariants as refusal
+use Rattle.cat_base.specs.Texts.{sorted_set, IsTextSet}
+use Rattle.cat_base.proofs.TextSets.{IsTextSet-nil, IsTextSet-sorted_set}
+use Rattle.cat_model.specs.Text.{Text}
+use Rattle.cat_model.specs.Item.{Field, Kind, Content, Item, Schema, IsContent, AreParts, IsItem, is_id}
+use Rattle.cat_model.specs.Words.{lowered, runs, words}
+use Rattle.cat_schema.specs.declared.item.FieldValue.{FieldValue}
+use Rattle.cat_schema.specs.Contents.{content_of, parts_with}
+use Rattle.cat_schema.specs.Reading.{id_name, json_of, texts_of, value_of, parts_of, first_fault, checked, with_id, of_members, of_value, item_of}
+
+-- ---- as many values as fields
+
+-- the parts, from what their values mean
+pub parts_with-map : (g : Field → Content) (fs : List Field) (vs : List FieldValue) → map content_of vs ≡ map g fs → parts_with fs vs ≡ map (λ f. record { name = f.name; content = g f }) fs
+parts_with-map g [] vs e = refl
+parts_with-map g (f ∷ fs) [] e = absurd (cc)
+parts_with-map g (f ∷ fs) (v ∷ vs) e =
+    let here : content_of v ≡ g f = (cc) in
+    let later : map content_of vs ≡ map g fs = (cc) in
+    λ i. record { name = f.name; content = here i } ∷ parts_with-map g fs vs later i
+
+-- values that mean something for each field are as many as the fields
+pub as_many : (g : Field → Content) (fs : List Field) (vs : List FieldValue) → map content_of vs ≡ map g fs → length vs ≡ length fs
+as_many g [] [] e = refl
+as_many g [] (v ∷ vs) e = absurd (cc)
+as_many g (f ∷ fs) [] e = absurd (cc)
+as_many g (f ∷ fs) (v ∷ vs) e = let later : map content_of vs ≡ map g fs = (cc) in ap suc (as_many g fs vs later)
+
+-- what the values mean, from the parts
+pub contents-parts_with : (fs : List Field) (vs : List FieldValue) → length vs ≡ length fs → map content_of vs ≡ map (λ p. p.content) (parts_with fs vs)
+contents-parts_with [] [] e = refl
+contents-parts_with [] (v ∷ vs) e = absurd (omega arith)
+contents-parts_with (f ∷ fs) [] e = absurd (omega arith)
+contents-parts_with (f ∷ fs) (v ∷ vs) e = ap (λ cs. content_of v ∷ cs) (contents-parts_with fs vs (omega arith))
+
+-- ---- the parts of an item are those that its fields ask for
+
+words_set : (o : Option Text) → IsTextSet (option_map_or words o [])
+words_set None = IsTextSet-nil
+words_set (Some s) = IsTextSet-sorted_set (map lowered (runs s))
+
+labels_set : (o : Option Items) → IsTextSet (option_map_or (λ ds. sorted_set (texts_of ds)) o [])
+labels_set None = IsTextSet-nil
+labels_set (Some ds) = IsTextSet-sorted_set (texts_of ds)
+
+IsContent-value_of : (k : Kind) (d : Option Data) → IsContent k (value_of k d)
+IsContent-value_of Kind.text d = IsContent.words _ (words_set (option_and_then as_str d))
+IsContent-value_of Kind.keyword d = IsContent.keyword _
+IsContent-value_of Kind.number d = IsContent.number _
+IsContent-value_of Kind.facet d = IsContent.labels _ (labels_set (option_and_then as_array d))
+
+AreParts-parts_of : (fs : Schema) (ms : Members) → AreParts fs (parts_of fs ms)
+AreParts-parts_of [] ms = tt
+AreParts-parts_of (f ∷ fs) ms = ((refl, IsContent-value_of f.kind (get_member f.name ms)), AreParts-parts_of fs ms)
+
+from_checked : (fs : Schema) (bytes : Text) (ms : Members) (id : Text) (o : Option Refusal) (i : Item) → checked fs bytes ms id o ≡ Ok i → IsItem fs i
+from_checked fs bytes ms id (Some e) i is = absurd (cc)
+from_checked fs bytes ms id None i is =
+    let same : record { id = id; parts = parts_of fs ms; source = bytes } ≡ i = (cc) in
+    subst (IsItem fs) same (AreParts-parts_of fs ms)
+
+from_form : (fs : Schema) (bytes : Text) (ms : Members) (id : Text) (b : Bool) (i : Item) → cond b (checked fs bytes ms id (first_fault fs ms)) (Err refusal.Id) ≡ Ok i → IsItem fs i
+from_form fs bytes ms id true i is = from_checked fs bytes ms id (first_fault fs ms) i is
+from_form fs bytes ms id false i is = absurd (cc)
+
+from_id : (fs : Schema) (bytes : Text) (ms : Members) (o : Option Text) (i : Item) → with_id fs bytes ms o ≡ Ok i → IsItem fs i
+from_id fs bytes ms None i is = absurd (cc)
+from_id fs bytes ms (Some id) i is = from_form fs bytes ms id (is_id id) i is
+
+from_members : (fs : Schema) (bytes : Text) (o : Option Members) (i : Item) → of_members fs bytes o ≡ Ok i → IsItem fs i
+from_members fs bytes None i is = absurd (cc)
+from_members fs bytes (Some ms) i is = from_id fs bytes ms (option_and_then as_str (get_member id_name ms)) i is
+
+from_value : (fs : Schema) (bytes : Text) (o : Option Data) (i : Item) → of_value fs bytes o ≡ Ok i → IsItem fs i
+from_value fs bytes None i is = absurd (cc)
+from_value fs bytes (Some d) i is = from_members fs bytes (as_object d) i is
+
+from_small : (fs : Schema) (bytes : Text) (b : Bool) (i : Item) → cond b (Err refusal.Large) (of_value fs bytes (json_of bytes)) ≡ Ok i → IsItem fs i
+from_small fs bytes true i is = absurd (cc)
+from_small fs bytes false i is = from_value fs bytes (json_of bytes) i is
+
+-- an item that is read has a part for each field, of the field's kind
+pub IsItem-item_of : (fs : Schema) (bytes : Text) (i : Item) → item_of fs bytes ≡ Ok i → IsItem fs i
+IsItem-item_of fs bytes i is = from_small fs bytes _ i is

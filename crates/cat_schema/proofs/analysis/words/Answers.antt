@@ -1,0 +1,18 @@
+use Rattle.std.proofs.Common.{◌<◌, ◌∙◌, sym, subst, arith, false-eqb, IsUtf8}
+use Rattle.std.proofs.lemmas.Str.{IsUtf8-drop}
+use Rattle.cat_schema.proofs.RunSteps.{front_of, boundary_after_run, boundary_after_skip, words_more}
+use Rattle.cat_schema.proofs.analysis.words.Goals as goal
+
+pub range_from-rest-requires : goal.range_from-rest-requires
+range_from-rest-requires c =
+    let front = front_of _ _ _ c.as_bytes.ensures.value c.run_len-len.ensures.in_range c.run_len-len.ensures.all c.run_len-len.ensures.stops in
+    λ _. boundary_after_skip _ _ front c.if-len-eq0.true (omega (arith, false-eqb _ 0 c.loop-rest-test.ensures)) c.loop-rest.invariant.utf8
+
+pub loop-rest-preserved : goal.loop-rest-preserved
+loop-rest-preserved c =
+    let front = front_of _ _ _ c.as_bytes.ensures.value c.run_len-len.ensures.in_range c.run_len-len.ensures.all c.run_len-len.ensures.stops in
+    let some : 0 < c.run_len-len.result = omega arith in
+    record {
+      utf8 = subst IsUtf8 (sym c.split_at.ensures.back) (IsUtf8-drop _ _ c.loop-rest.invariant.utf8 (boundary_after_run _ _ front));
+      done = words_more _ _ _ _ _ _ _ c.in_ok-push.ensures.items c.in_ok-lowered.ensures.ok c.split_at.ensures.front c.split_at.ensures.back front some ∙ c.loop-rest.invariant.done;
+    }

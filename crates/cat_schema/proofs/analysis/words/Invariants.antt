@@ -1,0 +1,12 @@
+use Rattle.std.proofs.Common.{◌≡◌, ◌++◌, map, length, IsUtf8}
+use Rattle.cat_model.specs.Words.{lowered, runs}
+use Rattle.cat_schema.proofs.analysis.words.Given as goal
+
+abbrev pub invariant-loop-rest : goal.invariant-loop-rest
+invariant-loop-rest l = record {
+  utf8 : IsUtf8 l.rest;
+  done : l.found.items ++ map lowered (runs l.rest) ≡ map lowered (runs l.fn.text);
+}
+
+abbrev pub decreases-loop-rest : goal.decreases-loop-rest
+decreases-loop-rest l = length l.rest

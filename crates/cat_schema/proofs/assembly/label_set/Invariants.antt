@@ -1,0 +1,7 @@
+use Rattle.std.proofs.Common.{◌≡◌, ◌++◌, drop}
+use Rattle.serde_json.specs.View.{items_view}
+use Rattle.cat_schema.specs.Reading.{texts_of}
+use Rattle.cat_schema.proofs.assembly.label_set.Given as goal
+
+abbrev pub invariant-loop-label : goal.invariant-loop-label
+invariant-loop-label l = l.texts.items ++ texts_of (items_view (drop l.label-index l.label-items)) ≡ texts_of (items_view l.label-items)

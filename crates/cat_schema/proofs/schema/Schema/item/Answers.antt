@@ -1,0 +1,25 @@
+use Rattle.std.proofs.Common.{length, ◌∙◌, ap, sym, Ok, map, arith, option_map}
+use Rattle.serde_json.specs.Find.{get}
+use Rattle.serde_json.specs.View.{view, members_view}
+use Rattle.cat_schema.specs.Contents.{parts_with}
+use Rattle.cat_schema.specs.Reading.{value_of, first_fault}
+use Rattle.cat_schema.proofs.Parts.{parts_with-map, as_many, IsItem-item_of}
+use Rattle.cat_schema.proofs.WholeItem.{item_is}
+use Rattle.cat_schema.proofs.schema.Schema.item.Goals as goal
+
+pub returns-clause-ok : goal.returns-clause-ok
+returns-clause-ok c =
+    let has_id = sym c.text_member.ensures ∙ ap (λ r. option_map (λ s. s.now) r) c.in-Some-text_member.is in
+    let form = sym c.id_ok.ensures ∙ c.if-not-id_ok.false in
+    let none = c.in_default-first_fault.ensures in
+    let right = ap (λ fs. first_fault fs (members_view c.in-Some.members.now.entries)) (sym c.fields-fields.ensures.value) ∙ sym none in
+    let made = item_is c.args.self.now c.args.bytes.now (view c.in_ok-root.root) _ _ (omega arith) c.in_ok-root.ensures.ok c.in-Some.ensures has_id form right in
+    let values = c.in_ok-values.ensures.ok ∙ ap (map (λ f. value_of f.kind (get f.name (view c.in_ok-root.root)))) c.fields-fields.ensures.value in
+    let parts = ap (λ fs. parts_with fs c.in_ok-values.values.items) c.in_ok-shared.ensures.ok ∙ parts_with-map _ c.args.self.now _ values in
+    made ∙ ap Ok (sym (c.new.ensures ∙ (λ i. record { id = c.in_ok-from_str.ensures.ok i; parts = parts i; source = c.in_ok-from_slice.ensures.items i })))
+
+pub returns-clause-typed : goal.returns-clause-typed
+returns-clause-typed c = IsItem-item_of _ _ _ (returns-clause-ok c)
+
+pub new-requires : goal.new-requires
+new-requires c = as_many _ _ _ c.in_ok-values.ensures.ok ∙ ap length (c.fields-fields.ensures.value ∙ sym c.in_ok-shared.ensures.ok)

@@ -1,0 +1,138 @@
+-- The schema and the item that a text is.
+use Rattle.std.specs.Prelude.{ℕ, List, [], ◌∷◌, map, length, Bool, nat_lt, nat_le, ◌&&◌, ◌==◌, not, if◌then◌else◌, Option, Some, None, is_some, option_map, option_and_then, Result, Ok, Err, bytes_eq, codes}
+use Rattle.std.specs.List.{list_all}
+use Rattle.std.specs.Option.{option_or, option_map_or}
+use Rattle.std.specs.Str.{is_utf8}
+use Rattle.serde_json.specs.Data.{Data, Items, no_items, item, Members, no_members, member}
+use Rattle.serde_json.specs.Events.{items_len}
+use Rattle.serde_json.specs.Find.{as_object, as_str, as_null, as_number, as_array, as_i64, get_member}
+use Rattle.serde_json.specs.Read.{read}
+use Rattle.cat_base.specs.declared.refusal.Refusal.{Refusal}
+use Rattle.cat_base.specs.declared.refusal.Refusal.TheVariants as refusal
+use Rattle.cat_base.specs.Texts.{sorted_set}
+use Rattle.cat_model.specs.Text.{Text}
+use Rattle.cat_model.specs.Item.{Field, Kind, Schema, Content, Part, Item, kind_of, is_name, is_id}
+use Rattle.cat_model.specs.Words.{words}
+use Rattle.cat_model.specs.Heard.{Json}
+
+-- the JSON value that bytes are: none where they are no UTF-8, no JSON, or nest deeper than 127
+abbrev pub json_of : Text → Option Data
+json_of bytes = if is_utf8 bytes then read bytes else None
+
+abbrev pub kind_named : Text → Option Kind
+kind_named s =
+    if bytes_eq s (codes "text") then Some Kind.text
+    else (if bytes_eq s (codes "keyword") then Some Kind.keyword
+    else (if bytes_eq s (codes "number") then Some Kind.number
+    else (if bytes_eq s (codes "facet") then Some Kind.facet
+    else None)))
+
+abbrev pub field_of : Text → Data → Option Field
+field_of name d = if is_name name then option_map (λ k. record { name = name; kind = k }) (option_and_then kind_named (as_str d)) else None
+
+-- the fields, where every member is one
+abbrev pub fields_of : Members → Option Schema
+fields_of no_members = Some []
+fields_of (member name d ms) = option_and_then (λ f. option_map (λ fs. f ∷ fs) (fields_of ms)) (field_of name d)
+
+abbrev at_most_32 : Option Schema → Result Schema Refusal
+at_most_32 None = Err refusal.Kind
+at_most_32 (Some fs) = if nat_lt 32 (length fs) then Err refusal.Kind else Ok fs
+
+abbrev schema_of_value : Option Data → Result Schema Refusal
+schema_of_value None = Err refusal.Json
+schema_of_value (Some d) = at_most_32 (option_and_then fields_of (as_object d))
+
+-- the schema that bytes are, or why they are none
+abbrev pub schema_of : Text → Result Schema Refusal
+schema_of bytes = schema_of_value (json_of bytes)
+
+-- ---- what is wrong with a text
+
+abbrev pub id_name : Text
+id_name = codes "id"
+
+-- no control character
+abbrev pub is_plain_byte : ℕ → Bool
+is_plain_byte b = nat_le 32 b && not (b == 127)
+
+abbrev pub keyword_fault : Text → Option Refusal
+keyword_fault s = if nat_lt 128 (length s) then Some refusal.Large else (if list_all is_plain_byte s then None else Some refusal.Kind)
+
+-- a label is a keyword that isn't empty
+abbrev pub label_fault : Text → Option Refusal
+label_fault s = if length s == 0 then Some refusal.Kind else keyword_fault s
+
+-- ---- what is wrong with a member
+
+abbrev pub some_label_fault : Data → Option Refusal
+some_label_fault d = option_map_or label_fault (as_str d) (Some refusal.Kind)
+
+-- the first label that is wrong
+abbrev pub labels_fault : Items → Option Refusal
+labels_fault no_items = None
+labels_fault (item d ds) = option_or (some_label_fault d) (labels_fault ds)
+
+abbrev pub list_fault : Items → Option Refusal
+list_fault ds = if nat_lt 64 (items_len ds) then Some refusal.Large else labels_fault ds
+
+abbrev pub value_fault : Kind → Data → Option Refusal
+value_fault Kind.text d = if is_some (as_str d) then None else Some refusal.Kind
+value_fault Kind.keyword d = option_map_or keyword_fault (as_str d) (Some refusal.Kind)
+value_fault Kind.number d = if is_some (option_and_then as_i64 (as_number d)) then None else Some refusal.Kind
+value_fault Kind.facet d = option_map_or list_fault (as_array d) (Some refusal.Kind)
+
+-- a member that is null is as if absent, where there is such a field
+abbrev pub field_fault : Option Kind → Data → Option Refusal
+field_fault None d = Some refusal.Member
+field_fault (Some k) d = if is_some (as_null d) then None else value_fault k d
+
+abbrev pub member_fault : Schema → Text → Data → Option Refusal
+member_fault fs name d = if bytes_eq name id_name then None else field_fault (kind_of fs name) d
+
+-- the first member that is wrong, `id` apart; members are in byte order of their names
+abbrev pub first_fault : Schema → Members → Option Refusal
+first_fault fs no_members = None
+first_fault fs (member name d ms) = option_or (member_fault fs name d) (first_fault fs ms)
+
+-- ---- what a field has
+
+abbrev pub texts_of : Items → List Text
+texts_of no_items = []
+texts_of (item d ds) = option_map_or (λ s. s ∷ texts_of ds) (as_str d) (texts_of ds)
+
+-- the value of a field whose member is right, or absent
+abbrev pub value_of : Kind → Option Data → Content
+value_of Kind.text d = Content.words (option_map_or words (option_and_then as_str d) [])
+value_of Kind.keyword d = Content.keyword (option_and_then as_str d)
+value_of Kind.number d = Content.number (option_and_then as_i64 (option_and_then as_number d))
+value_of Kind.facet d = Content.labels (option_map_or (λ ds. sorted_set (texts_of ds)) (option_and_then as_array d) [])
+
+abbrev pub parts_of : Schema → Members → List Part
+parts_of fs ms = map (λ f. record { name = f.name; content = value_of f.kind (get_member f.name ms) }) fs
+
+-- ---- the item
+
+abbrev pub checked : Schema → Text → Members → Text → Option Refusal → Result Item Refusal
+checked fs bytes ms id (Some e) = Err e
+checked fs bytes ms id None = Ok (record { id = id; parts = parts_of fs ms; source = bytes })
+
+abbrev pub with_id : Schema → Text → Members → Option (Text) → Result Item Refusal
+with_id fs bytes ms None = Err refusal.Id
+with_id fs bytes ms (Some id) = if is_id id then checked fs bytes ms id (first_fault fs ms) else Err refusal.Id
+
+abbrev pub of_members : Schema → Text → Option Members → Result Item Refusal
+of_members fs bytes None = Err refusal.Kind
+of_members fs bytes (Some ms) = with_id fs bytes ms (option_and_then as_str (get_member id_name ms))
+
+abbrev pub of_value : Schema → Text → Option Data → Result Item Refusal
+of_value fs bytes None = Err refusal.Json
+of_value fs bytes (Some d) = of_members fs bytes (as_object d)
+
+-- the item that bytes are under a schema, or the first refusal
+abbrev pub item_of : Schema → Text → Result Item Refusal
+item_of fs bytes = if nat_lt 8192 (length bytes) then Err refusal.Large else of_value fs bytes (json_of bytes)
+
+-- how texts of JSON are read
+abbrev pub json : Json
+json = record { schema_of = schema_of; item_of = item_of }

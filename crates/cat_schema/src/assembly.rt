@@ -1,0 +1,116 @@
+//! From a text of JSON to an item.
+ghost use Rattle.std.specs.Prelude.{◌≡◌, ◌≢◌, map, Ok, Err, IfOk, IfErr, option_map, option_and_then};
+ghost use Rattle.serde_json.specs.View.{view, items_view};
+ghost use Rattle.serde_json.specs.Find.{get, as_str};
+ghost use Rattle.cat_base.specs.Texts.{sorted_set};
+ghost use Rattle.cat_base.specs.declared.refusal.Refusal.TheVariants.{Memory};
+ghost use Rattle.cat_model.specs.Item.{IsItem};
+ghost use Rattle.cat_schema.specs.Contents.{content_of};
+ghost use Rattle.cat_schema.specs.Kinds.{kind_meant};
+ghost use Rattle.cat_schema.specs.Reading.{texts_of, value_of, item_of};
+
+use crate::analysis::words;
+use crate::faults::first_fault;
+use crate::forms::id_ok;
+use crate::item::{FieldValue, Item};
+use crate::json::read_json;
+use crate::schema::{Field, Kind, Schema};
+use cat_base::{MAX_ITEM_BYTES, Refusal, Text, TextSet};
+use serde_json::Value;
+use std::alloc::Global;
+
+fn label_set(alloc: Global, labels: &Vec<Value>) -> Result<TextSet, Refusal>
+    ensures ok { IfOk result (λ s. s ≡ sorted_set (texts_of (items_view labels.now.items))) }
+    ensures refusal { IfErr result (λ e. e ≡ Memory) }
+{
+    let mut texts = Vec::with_capacity(alloc, labels.len())?;
+    for label in labels {
+        if let Some(text) = label.as_str() {
+            texts.push(Text::from_str(alloc, text)?)?;
+        }
+    }
+    Ok(TextSet::of(texts))
+}
+
+fn value_of(alloc: Global, kind: Kind, member: Option<&Value>) -> Result<FieldValue, Refusal>
+    ensures ok { IfOk result (λ v. content_of v ≡ value_of (kind_meant kind) (option_map (λ d. view d.now) member.entry)) }
+    ensures refusal { IfErr result (λ e. e ≡ Memory) }
+{
+    match kind {
+        Kind::Text => match member.and_then(Value::as_str) {
+            Some(text) => Ok(FieldValue::Words(words(alloc, text)?)),
+            None => Ok(FieldValue::Words(TextSet::new(alloc))),
+        },
+        Kind::Keyword => match member.and_then(Value::as_str) {
+            Some(text) => Ok(FieldValue::Keyword(Some(Text::from_str(alloc, text)?))),
+            None => Ok(FieldValue::Keyword(None)),
+        },
+        Kind::Number => Ok(FieldValue::Number(member.and_then(Value::as_i64))),
+        Kind::Facet => match member.and_then(Value::as_array) {
+            Some(labels) => Ok(FieldValue::Labels(label_set(alloc, labels)?)),
+            None => Ok(FieldValue::Labels(TextSet::new(alloc))),
+        },
+    }
+}
+
+fn values_of(alloc: Global, fields: &[Field], root: &Value) -> Result<Vec<FieldValue>, Refusal>
+    ensures ok { IfOk result (λ v. map content_of v.items
+        ≡ map (λ f. value_of f.kind (get f.name (view root.now))) fields.now) }
+    ensures refusal { IfErr result (λ e. e ≡ Memory) }
+{
+    let mut values = Vec::with_capacity(alloc, fields.len())?;
+    for field in fields {
+        values.push(value_of(alloc, field.kind(), root.get(field.name()))?)?;
+    }
+    Ok(values)
+}
+
+fn text_member<'v>(root: &'v Value, name: &str) -> Option<&'v str>
+    ensures { option_map (λ s. s.now) result ≡ option_and_then as_str (get name.now (view root.now)) }
+{
+    match root.get(name) {
+        Some(value) => value.as_str(),
+        None => None,
+    }
+}
+
+impl Schema {
+    /// The item that a text of JSON is under the schema: an object with a member `id` and, for any of the fields, a
+    /// member of the field's name and kind. A member that is null is as if absent; of equal names the last counts.
+    ///
+    /// The first of these that is so is the refusal: `Refusal::Large` past 8,192 bytes, `Refusal::Json` where the bytes
+    /// are no JSON, `Refusal::Kind` where they are no object, `Refusal::Id` without an id of the right form, and then
+    /// that of the first wrong member in byte order of names: `Refusal::Member` where no field has the name,
+    /// `Refusal::Kind` or `Refusal::Large` where the value is wrong for the field. `Refusal::Memory` comes where memory
+    /// is refused.
+    pub fn item(&self, alloc: Global, bytes: &[u8]) -> Result<Item, Refusal>
+        ensures ok { IfOk result (λ i. item_of self.now bytes.now ≡ Ok i) }
+        ensures err { IfErr result (λ e. e ≢ Memory → item_of self.now bytes.now ≡ Err e) }
+        ensures typed { IfOk result (λ i. IsItem self.now i) }
+    {
+        if bytes.len() > MAX_ITEM_BYTES {
+            return Err(Refusal::Large);
+        }
+        let root = read_json(alloc, bytes)?;
+        let Some(members) = root.as_object() else {
+            return Err(Refusal::Kind);
+        };
+        let fields = self.fields();
+        let Some(id) = text_member(&root, "id") else {
+            return Err(Refusal::Id);
+        };
+        if !id_ok(id) {
+            return Err(Refusal::Id);
+        }
+        if let Some(fault) = first_fault(fields, members) {
+            return Err(fault);
+        }
+        let values = values_of(alloc, fields, &root)?;
+        Ok(Item::new(
+            self.shared()?,
+            Text::from_str(alloc, id)?,
+            values,
+            Vec::from_slice(alloc, bytes)?,
+        ))
+    }
+}

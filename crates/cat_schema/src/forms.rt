@@ -1,0 +1,87 @@
+//! The forms of ids, names, keywords and labels.
+ghost use Rattle.std.specs.Prelude.{◌≡◌};
+ghost use Rattle.std.specs.List.{list_all};
+ghost use Rattle.std.specs.Char.{is_ascii_graphic};
+ghost use Rattle.cat_model.specs.Item.{is_id, is_name, is_name_byte, has_name_form};
+ghost use Rattle.cat_schema.specs.Reading.{is_plain_byte, keyword_fault, label_fault};
+
+use cat_base::{MAX_FIELD_NAME_BYTES, MAX_ID_BYTES, MAX_KEYWORD_BYTES, Refusal};
+
+fn all_graphic(text: &str) -> bool
+    ensures { result ≡ list_all is_ascii_graphic text.now }
+{
+    text.as_bytes().iter().all(|b| b.is_ascii_graphic())
+}
+
+/// Whether a text has the form of an id: 1 to 64 bytes, each from `!` to `~`.
+pub fn id_ok(id: &str) -> bool
+    ensures { result ≡ is_id id.now }
+{
+    !id.is_empty() && id.len() <= MAX_ID_BYTES && all_graphic(id)
+}
+
+fn is_name_byte(b: u8) -> bool
+    ensures { result ≡ is_name_byte b }
+{
+    b.is_ascii_lowercase() || b.is_ascii_digit() || b == b'_'
+}
+
+fn all_name_bytes(bytes: &[u8]) -> bool
+    ensures { result ≡ list_all is_name_byte bytes.now }
+{
+    bytes.iter().all(|b| is_name_byte(*b))
+}
+
+fn has_name_form(bytes: &[u8]) -> bool
+    ensures { result ≡ has_name_form bytes.now }
+{
+    match bytes {
+        [] => false,
+        [first, rest @ ..] => {
+            first.is_ascii_lowercase() && all_name_bytes(rest) && rest.len() < MAX_FIELD_NAME_BYTES
+        }
+    }
+}
+
+/// Whether a field may have the name.
+pub(crate) fn name_ok(name: &str) -> bool
+    ensures { result ≡ is_name name.now }
+{
+    has_name_form(name.as_bytes()) && name != "id"
+}
+
+fn is_plain_byte(b: u8) -> bool
+    ensures { result ≡ is_plain_byte b }
+{
+    b >= b' ' && b != 127
+}
+
+fn all_plain(text: &str) -> bool
+    ensures { result ≡ list_all is_plain_byte text.now }
+{
+    text.as_bytes().iter().all(|b| is_plain_byte(*b))
+}
+
+/// What is wrong with a text as a keyword.
+pub(crate) fn keyword_fault(text: &str) -> Option<Refusal>
+    ensures { result ≡ keyword_fault text.now }
+{
+    if text.len() > MAX_KEYWORD_BYTES {
+        Some(Refusal::Large)
+    } else if all_plain(text) {
+        None
+    } else {
+        Some(Refusal::Kind)
+    }
+}
+
+/// What is wrong with a text as a label: it is a keyword that isn't empty.
+pub(crate) fn label_fault(text: &str) -> Option<Refusal>
+    ensures { result ≡ label_fault text.now }
+{
+    if text.is_empty() {
+        Some(Refusal::Kind)
+    } else {
+        keyword_fault(text)
+    }
+}

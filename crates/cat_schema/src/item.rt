@@ -1,0 +1,125 @@
+//! An item of the catalogue.
+ghost use Rattle.std.specs.Prelude.{◌≡◌, map, length, IfOk, IfErr};
+ghost use Rattle.std.specs.Arc.{arc_value};
+ghost use Rattle.cat_base.specs.declared.refusal.Refusal.TheVariants.{Memory};
+
+use crate::schema::Field;
+use cat_base::{Refusal, Text, TextSet};
+use std::marker::Model;
+use std::sync::Arc;
+
+/// What an item has in one field.
+#[derive(Drop)]
+pub enum FieldValue {
+    /// The words of a text; none where the member is absent.
+    Words(TextSet),
+    /// The text of a keyword, if there is one.
+    Keyword(Option<Text>),
+    /// The integer, if there is one.
+    Number(Option<i64>),
+    /// The labels of a facet; none where the member is absent.
+    Labels(TextSet),
+}
+
+impl FieldValue {
+    /// The same value once more.
+    pub fn copy(&self) -> Result<FieldValue, Refusal>
+        ensures ok { IfOk result (λ v. v ≡ self.now) }
+        ensures refusal { IfErr result (λ e. e ≡ Memory) }
+    {
+        match self {
+            FieldValue::Words(set) => Ok(FieldValue::Words(set.copy()?)),
+            FieldValue::Keyword(None) => Ok(FieldValue::Keyword(None)),
+            FieldValue::Keyword(Some(text)) => Ok(FieldValue::Keyword(Some(text.copy()?))),
+            FieldValue::Number(number) => Ok(FieldValue::Number(*number)),
+            FieldValue::Labels(set) => Ok(FieldValue::Labels(set.copy()?)),
+        }
+    }
+}
+
+/// An item as it was put: its id, what it has in each field, and the text that it was read from. Lucene's `Document`,
+/// with its text as a stored field.
+#[derive(Drop)]
+pub struct Item {
+    fields: Arc<Vec<Field>>,
+    id: Text,
+    // One for each field, in the fields' order.
+    values: Vec<FieldValue>,
+    source: Vec<u8>,
+}
+
+impl Model for Item {
+    ghost use Rattle.std.specs.Prelude.{◌≡◌, length};
+    ghost use Rattle.std.specs.Arc.{arc_value};
+    ghost use Rattle.cat_model.specs.Item as model;
+    ghost use Rattle.cat_schema.specs.Contents.{parts_with};
+
+    ghost Value = { model.Item };
+
+    ghost view = { λ i. record { id = i.id; parts = parts_with (arc_value i.fields).items i.values.items; source = i.source.items } };
+
+    ghost invariant = { λ i. length i.values.items ≡ length (arc_value i.fields).items };
+}
+
+impl Item {
+    ghost use Rattle.cat_schema.specs.Contents.{content_of, parts_with};
+
+    pub(crate) fn new(
+        fields: Arc<Vec<Field>>,
+        id: Text,
+        values: Vec<FieldValue>,
+        source: Vec<u8>,
+    ) -> Item
+        requires { length values.items ≡ length (arc_value fields).items }
+        ensures { result ≡ record { id = id; parts = parts_with (arc_value fields).items values.items; source = source.items } }
+    {
+        Item {
+            fields,
+            id,
+            values,
+            source,
+        }
+    }
+
+    /// The id: 1 to 64 bytes, each from `!` to `~`.
+    pub fn id(&self) -> &str
+        ensures { result.now ≡ self.now.id }
+    {
+        self.id.as_str()
+    }
+
+    /// What the item has in each field, in the order of the schema's fields.
+    pub fn values(&self) -> &[FieldValue]
+        ensures { map content_of result.now ≡ map (λ p. p.content) self.now.parts }
+    {
+        self.values.as_slice()
+    }
+
+    /// The bytes that the item was read from, as they came.
+    pub fn source(&self) -> &[u8]
+        ensures { result.now ≡ self.now.source }
+    {
+        self.source.as_slice()
+    }
+
+    /// The same item once more.
+    pub fn copy(&self) -> Result<Item, Refusal>
+        ensures ok { IfOk result (λ i. i ≡ self.now) }
+        ensures refusal { IfErr result (λ e. e ≡ Memory) }
+    {
+        let alloc = *self.values.allocator();
+        let mut values = Vec::with_capacity(alloc, self.values.len())?;
+        for value in &self.values {
+            values.push(value.copy()?)?;
+        }
+        let id = self.id.copy()?;
+        let source = Vec::from_slice(alloc, self.source.as_slice())?;
+        let fields = Arc::try_clone(&self.fields)?;
+        Ok(Item {
+            fields,
+            id,
+            values,
+            source,
+        })
+    }
+}

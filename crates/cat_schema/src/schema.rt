@@ -1,0 +1,136 @@
+//! The fields of a catalogue.
+ghost use Rattle.std.specs.Prelude.{◌≡◌, ◌≢◌, Ok, Err, IfOk, IfErr};
+ghost use Rattle.std.specs.Arc.{arc_value};
+ghost use Rattle.cat_base.specs.declared.refusal.Refusal.TheVariants.{Memory};
+
+use crate::fields::read_fields;
+use crate::json::read_json;
+use cat_base::{MAX_FIELDS, Refusal, Text};
+use std::alloc::Global;
+use std::marker::Model;
+use std::sync::Arc;
+
+/// What the values of a field are, and so how the field can be asked for.
+#[derive(Clone, Copy, Debug, Drop, PartialEq, Eq)]
+pub enum Kind {
+    /// A text that is searched by its words, as Lucene's `TextField`; the words go by a rule of our own.
+    Text,
+    /// One exact text of at most 128 bytes, as Lucene's `StringField`.
+    Keyword,
+    /// A signed integer of 64 bits, as Lucene's `LongField`.
+    Number,
+    /// A set of at most 64 labels, as Lucene's `SortedSetDocValuesFacetField`.
+    Facet,
+}
+
+/// A field of the catalogue: its name and its kind, as Lucene's `FieldInfo`.
+#[derive(Drop)]
+pub struct Field {
+    name: Text,
+    kind: Kind,
+}
+
+impl Model for Field {
+    ghost use Rattle.cat_model.specs.Item as model;
+    ghost use Rattle.cat_schema.specs.Kinds.{kind_meant};
+
+    ghost Value = { model.Field };
+
+    ghost view = { λ f. record { name = f.name; kind = kind_meant f.kind } };
+}
+
+impl Field {
+    ghost use Rattle.cat_schema.specs.Kinds.{kind_meant};
+
+    pub(crate) fn new(name: Text, kind: Kind) -> Field
+        ensures { result ≡ record { name = name; kind = kind_meant kind } }
+    {
+        Field { name, kind }
+    }
+
+    /// The name: 1 to 32 bytes, a lower ASCII letter and then such letters, digits and `_`; never `id`.
+    pub fn name(&self) -> &str
+        ensures { result.now ≡ self.now.name }
+    {
+        self.name.as_str()
+    }
+
+    /// The kind.
+    pub fn kind(&self) -> Kind
+        ensures { kind_meant result ≡ self.now.kind }
+    {
+        self.kind
+    }
+}
+
+/// The fields of a catalogue, at most 32 and in byte order of their names; copies share them. They are given before
+/// the first item, where Lucene's `FieldInfos` grow with the documents.
+#[derive(Drop)]
+pub struct Schema {
+    fields: Arc<Vec<Field>>,
+}
+
+impl Model for Schema {
+    ghost use Rattle.std.specs.Prelude.{List};
+    ghost use Rattle.std.specs.Arc.{arc_value};
+    ghost use Rattle.cat_model.specs.Item as model;
+
+    ghost Value = { List model.Field };
+
+    ghost view = { λ s. (arc_value s.fields).items };
+
+    ghost invariant = { λ s. model.IsSchema (arc_value s.fields).items };
+}
+
+impl Schema {
+    ghost use Rattle.cat_model.specs.Item.{IsSchema};
+    ghost use Rattle.cat_schema.specs.Reading.{schema_of};
+
+    /// The schema that a text of JSON is: an object of at most 32 members, each a field's name with the name of its
+    /// kind, `"text"`, `"keyword"`, `"number"` or `"facet"`.
+    ///
+    /// `Refusal::Json` where the bytes are no JSON, `Refusal::Kind` where they are no such object, and
+    /// `Refusal::Memory` where memory is refused.
+    pub fn read(alloc: Global, bytes: &[u8]) -> Result<Schema, Refusal>
+        ensures ok { IfOk result (λ s. schema_of bytes.now ≡ Ok s) }
+        ensures err { IfErr result (λ e. e ≢ Memory → schema_of bytes.now ≡ Err e) }
+    {
+        let root = read_json(alloc, bytes)?;
+        let Some(members) = root.as_object() else {
+            return Err(Refusal::Kind);
+        };
+        let fields = read_fields(alloc, members)?;
+        if fields.len() > MAX_FIELDS {
+            return Err(Refusal::Kind);
+        }
+        Ok(Schema {
+            fields: Arc::new(alloc, fields)?,
+        })
+    }
+
+    /// The fields, in byte order of their names.
+    pub fn fields(&self) -> &[Field]
+        ensures value { result.now ≡ self.now }
+        ensures valid { IsSchema self.now }
+    {
+        self.fields.as_slice()
+    }
+
+    /// The fields, to be shared with the items that are read under the schema.
+    pub(crate) fn shared(&self) -> Result<Arc<Vec<Field>>, Refusal>
+        ensures ok { IfOk result (λ a. (arc_value a).items ≡ self.now) }
+        ensures refusal { IfErr result (λ e. e ≡ Memory) }
+    {
+        Ok(Arc::try_clone(&self.fields)?)
+    }
+
+    /// The same schema once more; the fields are shared.
+    pub fn copy(&self) -> Result<Schema, Refusal>
+        ensures ok { IfOk result (λ s. s ≡ self.now) }
+        ensures refusal { IfErr result (λ e. e ≡ Memory) }
+    {
+        Ok(Schema {
+            fields: Arc::try_clone(&self.fields)?,
+        })
+    }
+}
