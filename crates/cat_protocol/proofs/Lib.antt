@@ -1,0 +1,14 @@
+pub mod Answering
+pub mod Bridge
+pub mod Cuts
+pub mod Fronts
+pub mod ModelRuns
+pub mod Openings
+pub mod Paging
+pub mod Rising
+pub mod Sound
+pub mod Steps
+pub mod Tokens
+pub mod WordsSpelled
+pub mod WordsSplit
+pub mod Written

@@ -1,0 +1,99 @@
+-- Texts split at their first space, and the numbers before it.
+use Rattle.std.proofs.Common.{◌≡◌, ◌≢◌, ℕ, zero, suc, ◌<◌, ◌^◌, List, [], ◌∷◌, ◌++◌, length, refl, sym, ◌∙◌, ap, arith}
+use Rattle.std.proofs.lemmas.Bool.Decides.{nat_tests}
+use Rattle.std.specs.Prelude.{Result, Ok, Err, Option, Some, None, IfSome, IfNone, get_or, Bool, true, nat_lt, ◌&&◌}
+use denote.Ref.{Bor}
+use Rattle.std.specs.Fmt.{decimal}
+use Rattle.std.specs.Str.Parse.{ParsesUnsigned, AllDigits, digits_value}
+use Rattle.std.proofs.lemmas.Fmt.{decimal_is_IsNumeral, decimal_digit, decimal_nonempty, first_decimal, decimal-digits_value, decimal_injective, parse-decimal}
+use Rattle.std.proofs.lemmas.Str.Parse.{IsNumeralModel, numerals_by_value, tells_digits, parse_plain, digit_at}
+use Rattle.std.proofs.lemmas.Str.Pattern.{IsSplitOnceResult, split_parts}
+use Rattle.cat_model.specs.Text.{Text}
+use Rattle.cat_model.specs.Lines.{IsNumber}
+use Rattle.cat_protocol.specs.Words.{HasNoSpace}
+
+-- ---- where a text is split
+
+abbrev pub Split : Type 0
+Split = Option (Bor (List ℕ) × Bor (List ℕ))
+
+pub split_first : (text : Text) (r : Split) → IsSplitOnceResult 32 text r → IfSome r (λ parts. HasNoSpace parts.0.now)
+split_first text None h = tt
+split_first text (Some parts) h = (split_parts 32 text (Some parts) h (omega arith)).1
+
+pub split_none : (text : Text) (r : Split) → IsSplitOnceResult 32 text r → IfNone r (HasNoSpace text)
+split_none text None h = split_parts 32 text None h (omega arith)
+split_none text (Some parts) h = tt
+
+-- a text with a space in it has a space
+pub space_within : (word rest : Text) → HasNoSpace (word ++ 32 ∷ rest) → ⊥
+space_within [] rest none = none 0 (omega arith) refl
+space_within (b ∷ word) rest none = space_within word rest (λ i h. none (suc i) (omega arith))
+
+behind : (b : ℕ) (word : Text) → HasNoSpace (b ∷ word) → HasNoSpace word
+behind b word none i h = none (suc i) (omega arith)
+
+-- a text has one first space
+pub one_split : (word other rest left : Text) → HasNoSpace word → HasNoSpace other
+    → word ++ 32 ∷ rest ≡ other ++ 32 ∷ left → (word ≡ other) × (rest ≡ left)
+one_split [] [] rest left h k e = (refl, cc)
+one_split [] (b ∷ other) rest left h k e = let first : 32 ≡ b = cc in absurd (k 0 (omega arith) (sym first))
+one_split (b ∷ word) [] rest left h k e = let first : b ≡ 32 = cc in absurd (h 0 (omega arith) first)
+one_split (b ∷ word) (d ∷ other) rest left h k e =
+    let first : b ≡ d = cc in
+    let more = one_split word other rest left (behind b word h) (behind d other k) cc in
+    let front = more.0 in
+    (cc, more.1)
+
+abbrev all_behind_space : Text → Bool
+all_behind_space [] = true
+all_behind_space (b ∷ text) = nat_lt 32 b && all_behind_space text
+
+-- no space is in a text of letters
+pub letters_no_space : (text : Text) → all_behind_space text ≡ true → HasNoSpace text
+letters_no_space [] h i k e = absurd (omega arith)
+letters_no_space (b ∷ text) h zero k e = let above : 32 < b = grind (arith, nat_tests) in omega (arith, above, e)
+letters_no_space (b ∷ text) h (suc i) k e = letters_no_space text (grind (arith, nat_tests)) i (omega arith) e
+
+-- ---- numbers
+
+own : IsNumeralModel (AllDigits 10) (digits_value 10)
+own = numerals_by_value (AllDigits 10) tells_digits
+
+pub decimal_no_space : (n : ℕ) → n < 2 ^ 64 → HasNoSpace (decimal n)
+decimal_no_space n h i k e = let range = digit_at (decimal n) i (decimal_is_IsNumeral n h).0.1 k in omega (arith, range.0, e)
+
+-- a number has no sign
+pub decimal_no_plus : (text : Text) (n : ℕ) → n < 2 ^ 64 → text ≡ decimal n → get_or text 0 0 ≢ 43
+decimal_no_plus text n h e plus =
+    let range = digit_at (decimal n) 0 (decimal_is_IsNumeral n h).0.1 (decimal_nonempty n h) in
+    let first = ap (λ (t : Text). get_or t 0 0) e in
+    omega (arith, range.0, first, plus)
+
+-- and no leading zero
+pub decimal_no_zero : (text : Text) (n : ℕ) → n < 2 ^ 64 → text ≡ decimal n → get_or text 0 0 ≡ 48 → 1 < length text → ⊥
+decimal_no_zero text zero h e first long =
+    let same = ap length (e ∙ decimal_digit 0 (omega arith)) in
+    omega (arith, same, long)
+decimal_no_zero text (suc n) h e first long =
+    let above = first_decimal (suc n) (omega arith) h in
+    let same = ap (λ (t : Text). get_or t 0 0) e in
+    omega (arith, above, same, first)
+
+-- a text without either is what is written of the number that is parsed
+pub parsed_is_decimal : {E : Type 0} (text : Text) (r : Result ℕ E) (n : ℕ) → ParsesUnsigned 64 10 text r → r ≡ Ok n
+    → get_or text 0 0 ≢ 43 → (get_or text 0 0 ≡ 48 → 1 < length text → ⊥) → text ≡ decimal n
+parsed_is_decimal text (Err e) n h is plus zeros = cc
+parsed_is_decimal {E = E} text (Ok m) n h is plus zeros =
+    let plain = parse_plain own {E = E} 64 text (Ok m) h plus in
+    let same : m ≡ n = cc in
+    let written = decimal-digits_value own text plain.0.0 plain.0.1 (λ first. omega (arith, zeros first, plain.0.1)) plain.0.2 in
+    sym written ∙ ap decimal (sym plain.1 ∙ same)
+
+pub decimal_is_parsed : {E : Type 0} (text : Text) (r : Result ℕ E) (n : ℕ) → ParsesUnsigned 64 10 text r → IsNumber n → text ≡ decimal n → r ≡ Ok n
+decimal_is_parsed text r n h small e = parse-decimal 64 n text r (omega arith) (omega arith) e h
+
+pub one_number : (n m : ℕ) (rest left : Text) → IsNumber n → IsNumber m → decimal n ++ 32 ∷ rest ≡ decimal m ++ 32 ∷ left → (n ≡ m) × (rest ≡ left)
+one_number n m rest left h k e =
+    let split = one_split (decimal n) (decimal m) rest left (decimal_no_space n (omega arith)) (decimal_no_space m (omega arith)) e in
+    (decimal_injective n m (omega arith) (omega arith) split.0, split.1)

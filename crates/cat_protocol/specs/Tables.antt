@@ -1,0 +1,30 @@
+-- What is kept of tables and of views, and what is shown of them.
+use Rattle.std.specs.Prelude.{ℕ, ◌<◌, ◌≤◌, ◌==◌, min, not, List, [], ◌∷◌, filter, Option, None, Some}
+use Rattle.std.specs.List.{AllByRecursion}
+use Rattle.cat_model.specs.Item as item
+use Rattle.cat_model.specs.Page as page
+use Rattle.cat_model.specs.State as state
+
+-- the number of each record is below those behind it
+abbrev pub NumbersRise : List item.Record → Type 0
+NumbersRise [] = Unit {0}
+NumbersRise (r ∷ rs) = AllByRecursion (λ s. r.number < s.number) rs × NumbersRise rs
+
+-- The table after so many writes: its numbers rise, and none lies past their count.
+pub record IsTable (rs : List item.Record) (count : ℕ) : Type 0 where
+  pub rising : NumbersRise rs
+  pub seen : AllByRecursion (λ r. r.number ≤ count) rs
+
+-- a hit in order of addition
+abbrev pub entry_of : item.Record → page.Entry
+entry_of r = record { number = r.number; id = r.item.id; key = None }
+
+-- the lesser of a number and another, if there is one
+abbrev pub lesser_of : Option ℕ → ℕ → Option ℕ
+lesser_of None t = Some t
+lesser_of (Some u) t = Some (min u t)
+
+-- the views but for the one of that token
+abbrev pub without_token : Option ℕ → List state.View → List state.View
+without_token None vs = vs
+without_token (Some t) vs = filter (λ v. not (v.token == t)) vs
