@@ -1,0 +1,25 @@
+//! Tests that cross crates: lines served whole, and the replies that they get.
+#![tactic(auto)]
+
+#[cfg(test)]
+mod rows_held;
+#[cfg(test)]
+mod rows_lines;
+#[cfg(test)]
+mod rows_memory;
+#[cfg(test)]
+mod rows_opening;
+#[cfg(test)]
+mod rows_refused;
+#[cfg(test)]
+mod rows_replies;
+#[cfg(test)]
+mod rows_run;
+#[cfg(test)]
+mod rows_schema;
+#[cfg(test)]
+mod rows_serving;
+#[cfg(test)]
+mod rows_writes;
+#[cfg(test)]
+mod script;

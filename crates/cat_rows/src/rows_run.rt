@@ -1,0 +1,48 @@
+//! Lines that are read and stepped through without an input.
+use crate::script::{Rows, SHOP};
+use cat_protocol::{Line, World};
+use std::alloc::Global;
+use std::process::Abort;
+use std::str::from_utf8;
+use std::test::Fail;
+
+/// Runs the lines in a new world. Each has to get the text of its reply.
+fn expect_run(rt: &impl Abort, alloc: Global, rows: Rows<'_>) -> Result<(), Fail> {
+    let mut lines = Vec::with_capacity(alloc, rows.len())?;
+    for (line, _) in rows {
+        lines.push(Line::read(line)?)?;
+    }
+    let mut world = World::open(alloc, SHOP.0)?;
+    let replies = world.run(alloc, lines.as_slice())?;
+    assert_eq!(rt; replies.len(), rows.len());
+    for (reply, (line, wanted)) in replies.iter().zip(rows) {
+        let text = reply.text(alloc)?;
+        let wanted = format!(in alloc; "{wanted}\n")?;
+        assert_eq!(rt; from_utf8(text.as_slice())?, wanted.as_str(), "to {line}");
+    }
+    Ok(())
+}
+
+#[test]
+fn a_run_of_reads_is_answered_line_by_line(rt: HostRuntime) -> Result<(), Fail> {
+    let rows = &[
+        ("1 OPEN", "1 OK 0"),
+        ("1 FIND 0 10 . . *:*", "1 OK 0 0"),
+        ("1 MERGE", "1 NO 10"),
+        ("1 FIND 0 10 . . price:5", "1 NO 24 0"),
+    ];
+    expect_run(&rt, rt.alloc(), rows)
+}
+
+#[test]
+fn a_run_of_writes_is_answered_line_by_line(rt: HostRuntime) -> Result<(), Fail> {
+    let rows = &[
+        ("1 PUT {\"id\":\"a\"}", "1 OK 1"),
+        ("1 PUT {\"id\":\"b\"}", "1 OK 2"),
+        ("1 PUT {\"id\":\"a\"}", "1 OK 3"),
+        ("1 REFRESH", "1 OK 3"),
+        ("1 OPEN", "1 OK 3"),
+        ("1 FIND 3 10 . . *:*", "1 OK 2 2\n1 2 b .\n1 3 a ."),
+    ];
+    expect_run(&rt, rt.alloc(), rows)
+}
