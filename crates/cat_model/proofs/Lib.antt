@@ -6,3 +6,15 @@ pub mod States
 pub mod Sayings
 pub mod Longest
 pub mod Opening
+pub mod QueryValues
+pub mod QueryTerms
+pub mod QueryComplete
+pub mod QuerySound
+pub mod QueryFaults
+pub mod QueryPlaces
+pub mod QueryLaws
+pub mod QuerySamples
+pub mod Places
+pub mod Insert
+pub mod Ranked
+pub mod HitOrder

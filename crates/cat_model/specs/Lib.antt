@@ -13,4 +13,11 @@ pub mod Lines
 pub mod Heard
 pub mod Input
 pub mod Served
+pub mod Grammar
+pub mod Faults
+pub mod Reader
+pub mod QueryLaws
+pub mod QuerySamples
 pub mod Laws
+pub mod Ranks
+pub mod RankLaws

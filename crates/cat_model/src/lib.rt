@@ -2,7 +2,9 @@
 #![tactic(auto)]
 
 ghost use Rattle.cat_model.specs.Laws.{TableFollowsAfter, LaterWritesChangeNothing, RunsAreBounded, HeldReadIsOfItsTable, HeldReadsAgree, RunsGoOn, StepsKeepRuns, FreshStatesBeginRuns, LinesSayOneThing, SchemaLinesSayOneThing, HearingIsOne, InputsAreHeardOneWay, WordsAreLongestRuns, WordsAreLoweredRuns};
-ghost use Rattle.cat_model.specs.Served.{Serves};
+ghost use Rattle.cat_model.specs.QueryLaws.{QueriesAreRead, FaultsAreFound, TextsSpellOneQuery, FaultsHaveOnePlace, TextsAreJudged, SpelledTextsHaveNoFault};
+ghost use Rattle.cat_model.specs.QuerySamples.{SamplesAreJudged};
+ghost use Rattle.cat_model.specs.RankLaws.{RanksFollowOrder, AddedStandFirst, SortsOrderRecords};
 
 /// One more write makes of the table the table after it: the item of its id goes, and an item that
 /// is put comes last.
@@ -98,4 +100,64 @@ pub fn words_are_longest_runs()
 /// The rule is our own; Lucene's `SimpleAnalyzer` lowers letters past ASCII too.
 pub fn words_are_lowered_runs()
     ensures { WordsAreLoweredRuns }
+{}
+
+/// Reading a text as a query gives a query exactly where the text spells it by the grammar.
+///
+/// `+` and `-` before a clause are those of Lucene's classic `QueryParser`; the rest of the grammar
+/// is our own.
+pub fn queries_are_read()
+    ensures { QueriesAreRead }
+{}
+
+/// Under a schema, reading a text as a query refuses it at a place exactly where the text has a
+/// fault there. The faults and their places are our own.
+pub fn faults_are_found()
+    ensures { FaultsAreFound }
+{}
+
+/// A text spells at most one query. The grammar is our own.
+pub fn texts_spell_one_query()
+    ensures { TextsSpellOneQuery }
+{}
+
+/// Under a schema, a text has a fault in at most one place. The faults and their places are our own.
+pub fn faults_have_one_place()
+    ensures { FaultsHaveOnePlace }
+{}
+
+/// Under a schema, a text spells a query or has a fault, and not both. The rules are our own.
+pub fn texts_are_judged()
+    ensures judged { TextsAreJudged }
+    ensures one_way { SpelledTextsHaveNoFault }
+{}
+
+/// A sample of a query text spells the query that is meant, and samples of each fault have their
+/// place. The texts are our own.
+pub fn samples_are_judged()
+    ensures { SamplesAreJudged }
+{}
+
+/// For a strict order by which any two elements of a list differ, the first so many by rank are the
+/// first of the list in that order, and there are as many as were asked for, or all.
+///
+/// A rank is how many elements come before; Lucene's `TopFieldCollector` keeps the same elements in a
+/// queue.
+pub fn ranks_follow_order<T>()
+    ensures { RanksFollowOrder T }
+{}
+
+/// Of records in order of addition the first so many are those that stand first.
+///
+/// Lucene's `Sort.INDEXORDER` gives documents in the order of their numbers.
+pub fn added_stand_first()
+    ensures { AddedStandFirst }
+{}
+
+/// Every sort is a strict order, by which one of two records of different numbers comes before the
+/// other: whatever the keys, no two hits tie.
+///
+/// Lucene breaks the ties of a `Sort` by document number too.
+pub fn sorts_order_records()
+    ensures { SortsOrderRecords }
 {}
