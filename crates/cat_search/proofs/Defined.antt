@@ -1,0 +1,255 @@
+-- The page that a pass puts together is the page of the definition.
+use Rattle.std.proofs.Common.{◌≡◌, ℕ, ◌+◌, ◌<◌, ◌≤◌, Bool, true, false, ltb, Option, Some, None, option_map, is_some, find, ◌&&◌, ◌||◌, ◌==◌, List, [], ◌∷◌, length, take, map, filter, slice_get, cond, Ok, All, AllPairs, refl, sym, ◌∙◌, ap, subst, arith, inl, inr}
+use Rattle.std.specs.List.{AllByRecursion, list_any, position_or_len}
+use Rattle.std.specs.Ordering.{is_lt, nat_cmp, ordering_then, ordering_reverse}
+use Rattle.std.proofs.lemmas.Bool.Decides.{nat_tests}
+use Rattle.std.proofs.lemmas.List.Elements.{recursion_from_All}
+use Rattle.std.proofs.lemmas.List.Folds.{find_at}
+use Rattle.std.proofs.lemmas.List.Recursion.{is_position_or_len}
+use Rattle.cat_model.specs.Answer.{can_sort, has_mark}
+use Rattle.cat_model.specs.Item.{Schema, Part, Item, Record, AreParts, IsItem, content_of}
+use Rattle.cat_model.specs.Page.{Sort, Key, Page, Entry, key, key_in, key_cmp, comes_before, before, rest, first_ranked}
+use Rattle.cat_model.specs.Ranks.{AreApart, sorted}
+use Rattle.cat_model.specs.Text.{Text, same_text}
+use Rattle.cat_model.proofs.HitOrder.{key_antisymm, is_lt-nat_cmp, is_lt-then, sorts_order_records}
+use Rattle.cat_model.proofs.Insert.{which}
+use Rattle.cat_model.proofs.Lists.{All-kept, All-weaken}
+use Rattle.cat_model.proofs.Places.{EachPair, AllApart, each_pair}
+use Rattle.cat_model.proofs.Ranked.{first_sorted}
+use Rattle.cat_search.specs.Keys.{Rank, Place, rank_cmp, place_before, key_at, key_shown, entry_shown}
+use Rattle.cat_search.specs.Pages.{accepted, page_where, answer_where, rank_by, place_at, mark_at, beyond, places_behind}
+use Rattle.cat_search.specs.Sorts.{place_named, order_of}
+use Rattle.cat_search.proofs.Candidates.{map-first}
+use Rattle.cat_search.proofs.Marks.{any-is_some}
+
+-- ---- the place of a record, by the name of the sort's field
+
+abbrev way : Sort → Key → Rank
+way Sort.added k = Rank.missing
+way (Sort.rising f) k = Rank.rising k
+way (Sort.falling f) k = Rank.falling k
+
+abbrev place_of : Sort → Record → Place
+place_of s r = record { rank = rank_by (way s) (key s r); number = r.number; id = r.item.id }
+
+-- the first place that passes, by recursion on the list
+abbrev first : {X : Type 0} → (X → Bool) → List X → ℕ
+first p [] = 0
+first p (x ∷ xs) = cond (p x) 0 (1 + first p xs)
+
+first-is : {X : Type 0} (p : X → Bool) (xs : List X) → first p xs ≡ position_or_len p xs
+first-is p xs = is_position_or_len (first p) p refl (λ y ys. refl) xs
+
+names_alike : (name : Text) (fs : Schema) (ps : List Part) → AreParts fs ps → first (λ p. same_text p.name name) ps ≡ first (λ f. same_text f.name name) fs
+names_alike name [] [] a = refl
+names_alike name [] (p ∷ ps) a = absurd a
+names_alike name (f ∷ fs) [] a = absurd a
+names_alike name (f ∷ fs) (p ∷ ps) a =
+    ap (λ t. cond (same_text t name) 0 (1 + first (λ q. same_text q.name name) ps)) a.0.0
+    ∙ ap (λ n. cond (same_text f.name name) 0 (1 + n)) (names_alike name fs ps a.1)
+
+key_found : (schema : Schema) (name : Text) (i : Item) → IsItem schema i → key_at (place_named name schema) i ≡ key_in (content_of name i)
+key_found schema name i a =
+    let named : Part → Bool = λ p. same_text p.name name in
+    let same : position_or_len (λ p. same_text p.name name) i.parts ≡ place_named name schema =
+    sym (first-is (λ p. same_text p.name name) i.parts) ∙ names_alike name schema i.parts a ∙ first-is (λ f. same_text f.name name) schema in
+    ap (λ o. key_in (option_map (λ p. p.content) o)) (ap (slice_get i.parts) (sym same) ∙ sym (find_at (λ p. same_text p.name name) i.parts))
+
+place_alike : (schema : Schema) (s : Sort) (r : Record) → IsItem schema r.item → place_at (order_of schema s) r ≡ place_of s r
+place_alike schema Sort.added r a = refl
+place_alike schema (Sort.rising f) r a = ap (λ k. record { rank = rank_by Rank.rising k; number = r.number; id = r.item.id }) (key_found schema f r.item a)
+place_alike schema (Sort.falling f) r a = ap (λ k. record { rank = rank_by Rank.falling k; number = r.number; id = r.item.id }) (key_found schema f r.item a)
+
+-- ---- places compare as records do
+
+rising : (k l : Option Key) (m n : ℕ) → is_lt (ordering_then (rank_cmp (rank_by Rank.rising k) (rank_by Rank.rising l)) (nat_cmp m n)) ≡ comes_before key_cmp k l (ltb m n)
+rising None None m n = is_lt-nat_cmp m n
+rising None (Some l) m n = refl
+rising (Some k) None m n = refl
+rising (Some k) (Some l) m n = is_lt-then (key_cmp k l) m n
+
+falling : (k l : Option Key) (m n : ℕ) → is_lt (ordering_then (rank_cmp (rank_by Rank.falling k) (rank_by Rank.falling l)) (nat_cmp m n)) ≡ comes_before (λ x y. ordering_reverse (key_cmp x y)) k l (ltb m n)
+falling None None m n = is_lt-nat_cmp m n
+falling None (Some l) m n = refl
+falling (Some k) None m n = refl
+falling (Some k) (Some l) m n = ap (λ o. is_lt (ordering_then o (nat_cmp m n))) (key_antisymm l k) ∙ is_lt-then (ordering_reverse (key_cmp k l)) m n
+
+before-is : (s : Sort) (a b : Record) → before s a b ≡ place_before (place_of s a) (place_of s b)
+before-is Sort.added a b = sym (is_lt-nat_cmp a.number b.number)
+before-is (Sort.rising f) a b = sym (rising (key (Sort.rising f) a) (key (Sort.rising f) b) a.number b.number)
+before-is (Sort.falling f) a b = sym (falling (key (Sort.falling f) a) (key (Sort.falling f) b) a.number b.number)
+
+-- ---- entries
+
+shown_key : (rank : Key → Rank) → ((k : Key) → key_shown (rank k) ≡ Some k) → (k : Option Key) → key_shown (rank_by rank k) ≡ k
+shown_key rank e None = refl
+shown_key rank e (Some k) = e k
+
+key-is : (s : Sort) (r : Record) → key_shown (rank_by (way s) (key s r)) ≡ key s r
+key-is Sort.added r = refl
+key-is (Sort.rising f) r = shown_key Rank.rising (λ k. refl) (key (Sort.rising f) r)
+key-is (Sort.falling f) r = shown_key Rank.falling (λ k. refl) (key (Sort.falling f) r)
+
+abbrev entry_of : Sort → Record → Entry
+entry_of s r = record { number = r.number; id = r.item.id; key = key s r }
+
+entry-is : (s : Sort) (r : Record) → entry_shown (place_of s r) ≡ entry_of s r
+entry-is s r = ap (λ k. record { number = r.number; id = r.item.id; key = k }) (key-is s r)
+
+-- ---- lists
+
+map_alike : {X Y : Type 0} (f g : X → Y) (xs : List X) → AllByRecursion (λ x. f x ≡ g x) xs → map f xs ≡ map g xs
+map_alike f g [] a = refl
+map_alike f g (x ∷ xs) a = ap (λ y. y ∷ map f xs) a.0 ∙ ap (λ ys. g x ∷ ys) (map_alike f g xs a.1)
+
+find_alike : {X Y : Type 0} (f g : X → Y) (p : X → Bool) (xs : List X) → AllByRecursion (λ x. f x ≡ g x) xs → option_map f (find p xs) ≡ option_map g (find p xs)
+find_alike f g p [] a = refl
+find_alike f g p (x ∷ xs) a =
+    elim (p x) as (λ b. option_map f (cond b (Some x) (find p xs)) ≡ option_map g (cond b (Some x) (find p xs))) [
+      | true ↦ ap Some a.0
+      | false ↦ find_alike f g p xs a.1
+    ]
+
+filter-map : {X Y : Type 0} (q : Y → Bool) (f : X → Y) (xs : List X) → filter q (map f xs) ≡ map f (filter (λ x. q (f x)) xs)
+filter-map q f [] = refl
+filter-map q f (x ∷ xs) =
+    elim (q (f x)) as (λ b. cond b (f x ∷ filter q (map f xs)) (filter q (map f xs)) ≡ map f (cond b (x ∷ filter (λ y. q (f y)) xs) (filter (λ y. q (f y)) xs))) [
+      | true ↦ ap (λ ys. f x ∷ ys) (filter-map q f xs)
+      | false ↦ filter-map q f xs
+    ]
+
+filter_all : {X : Type 0} (xs : List X) → filter (λ x. true) xs ≡ xs
+filter_all [] = refl
+filter_all (x ∷ xs) = ap (λ ys. x ∷ ys) (filter_all xs)
+
+map_map : {X Y Z : Type 0} (f : Y → Z) (g : X → Y) (h : X → Z) → ((x : X) → f (g x) ≡ h x) → (xs : List X) → map f (map g xs) ≡ map h xs
+map_map f g h e [] = refl
+map_map f g h e (x ∷ xs) = ap (λ z. z ∷ map f (map g xs)) (e x) ∙ ap (λ zs. h x ∷ zs) (map_map f g h e xs)
+
+each_map : {X Y : Type 0} (f : X → Y) (P : Y → Type 0) (xs : List X) → AllByRecursion (λ x. P (f x)) xs → AllByRecursion P (map f xs)
+each_map f P [] a = tt
+each_map f P (x ∷ xs) a = (a.0, each_map f P xs a.1)
+
+each_pair-map : {X Y : Type 0} (f : X → Y) (R : Y → Y → Type 0) (xs : List X) → EachPair (λ x y. R (f x) (f y)) xs → EachPair R (map f xs)
+each_pair-map f R [] a = tt
+each_pair-map f R (x ∷ xs) a = (each_map f (R (f x)) xs a.0, each_pair-map f R xs a.1)
+
+each_pair-filter : {X : Type 0} (R : X → X → Type 0) (p : X → Bool) (xs : List X) → EachPair R xs → EachPair R (filter p xs)
+each_pair-filter R p [] a = tt
+each_pair-filter R p (x ∷ xs) a =
+    elim (p x) as (λ b. EachPair R (cond b (x ∷ filter p xs) (filter p xs))) [
+      | true ↦ (All-kept (R x) p xs a.0, each_pair-filter R p xs a.1)
+      | false ↦ each_pair-filter R p xs a.1
+    ]
+
+-- ---- numbers
+
+-- each number is below those behind it
+abbrev NumbersRise : List Record → Type 0
+NumbersRise rs = EachPair (λ a b. a.number < b.number) rs
+
+differ : (m n : ℕ) → m < n → m ≡ n → ⊥
+differ m n h e = omega (arith, h, e)
+
+all_apart : (s : Sort) (rs : List Record) → NumbersRise rs → AllApart (before s) rs
+all_apart s [] a = tt
+all_apart s (r ∷ rs) a =
+    (All-weaken (λ t. r.number < t.number) (AreApart (before s) r) (λ t h. (sorts_order_records s).apart r t (differ r.number t.number h)) rs a.0, all_apart s rs a.1)
+
+other_number : (m k : ℕ) → k < m → (m == k) ≡ false
+other_number m k h = grind (arith, nat_tests)
+
+same_number : (m k : ℕ) → (m == k) ≡ true → m ≡ k
+same_number m k e = grind (arith, nat_tests)
+
+-- ---- what the mark comes before
+
+abbrev mark_of : Sort → List Record → Option ℕ → Option Place
+mark_of s rs None = None
+mark_of s rs (Some mark) = option_map (place_of s) (find (λ r. r.number == mark) rs)
+
+-- no record behind has the number
+none_behind : (mark : ℕ) (f : Record → Bool) (rs : List Record) → AllByRecursion (λ r. mark < r.number) rs → list_any (λ r. (r.number == mark) && f r) rs ≡ false
+none_behind mark f [] a = refl
+none_behind mark f (r ∷ rs) a = let e : (r.number == mark) ≡ false = other_number r.number mark a.0 in rw e (none_behind mark f rs a.1)
+
+either_none : (b : Bool) → (b || false) ≡ b
+either_none true = refl
+either_none false = refl
+
+-- the record of the mark is alone
+mark_alone : (mark : ℕ) (f : Record → Bool) (rs : List Record) (r : Record) → NumbersRise rs → find (λ t. t.number == mark) rs ≡ Some r → list_any (λ t. (t.number == mark) && f t) rs ≡ f r
+mark_alone mark f [] r a e = absurd (cc)
+mark_alone mark f (t ∷ rs) r a e = elim (which (t.number == mark)) [
+  | inl y ↦
+      let same : Some t ≡ Some r = rw y at e in
+      let is : t ≡ r = cc in
+      let behind : AllByRecursion (λ u. mark < u.number) rs = subst (λ j. AllByRecursion (λ u. j < u.number) rs) (same_number t.number mark y) a.0 in
+      rw (y, none_behind mark f rs behind) (either_none (f t) ∙ ap f is)
+  | inr n ↦ rw n (mark_alone mark f rs r a.1 (rw n at e))
+]
+
+found : (s : Sort) (rs : List Record) (mark : ℕ) → NumbersRise rs → (o : Option Record) → find (λ r. r.number == mark) rs ≡ o → is_some o ≡ true
+    → ◌≡◌ {A = Record → Bool} (λ h. beyond (option_map (place_of s) (find (λ r. r.number == mark) rs)) (place_of s h)) (λ h. list_any (λ r. (r.number == mark) && before s r h) rs)
+found s rs mark a None e t = absurd (cc)
+found s rs mark a (Some r) e t = λ i h. (ap (λ o. beyond (option_map (place_of s) o) (place_of s h)) e ∙ sym (before-is s r h) ∙ sym (mark_alone mark (λ u. before s u h) rs r a e)) i
+
+rest-is : (s : Sort) (rs : List Record) (m : Option ℕ) (hs : List Record) → NumbersRise rs → has_mark rs m ≡ true → filter (λ h. beyond (mark_of s rs m) (place_of s h)) hs ≡ rest s rs m hs
+rest-is s rs None hs a e = filter_all hs
+rest-is s rs (Some mark) hs a e =
+    ap (λ p. filter p hs) (found s rs mark a (find (λ r. r.number == mark) rs) refl (sym (any-is_some (λ r. r.number == mark) rs) ∙ e))
+
+marks_alike : (place place' : Record → Place) (rs : List Record) (m : ℕ) → AllByRecursion (λ r. place r ≡ place' r) rs → option_map place (find (λ r. r.number == m) rs) ≡ option_map place' (find (λ r. r.number == m) rs)
+marks_alike place place' rs m a = find_alike place place' (λ r. r.number == m) rs a
+
+-- ---- the page
+
+module _ (schema : Schema) (rs : List Record) (accepts : Item → Bool) (s : Sort) (n : ℕ) (items : AllByRecursion (λ r. IsItem schema r.item) rs) (rises : NumbersRise rs) where
+  alike : AllByRecursion (λ r. place_at (order_of schema s) r ≡ place_of s r) rs
+  alike = All-weaken (λ r. IsItem schema r.item) (λ r. place_at (order_of schema s) r ≡ place_of s r) (λ r a. place_alike schema s r a) rs items
+
+  mark-is : (m : Option ℕ) → mark_at (order_of schema s) rs m ≡ mark_of s rs m
+  mark-is None = refl
+  mark-is (Some mark) = marks_alike (place_at (order_of schema s)) (place_of s) rs mark alike
+
+  places-are : (m : Option ℕ) → places_behind (order_of schema s) (mark_at (order_of schema s) rs m) accepts rs ≡ filter (beyond (mark_of s rs m)) (map (place_of s) (accepted accepts rs))
+  places-are m =
+      ap (λ o. places_behind (order_of schema s) o accepts rs) (mark-is m)
+      ∙ ap (filter (beyond (mark_of s rs m))) (map_alike (place_at (order_of schema s)) (place_of s) (accepted accepts rs) (All-kept (λ r. place_at (order_of schema s) r ≡ place_of s r) (λ r. accepts r.item) rs alike))
+
+  entries-are : (m : Option ℕ) → has_mark rs m ≡ true
+      → map entry_shown (take n (sorted place_before (places_behind (order_of schema s) (mark_at (order_of schema s) rs m) accepts rs))) ≡ map (entry_of s) (first_ranked (before s) (rest s rs m (accepted accepts rs)) n)
+  entries-are m marked =
+      let hs : List Record = accepted accepts rs in
+      let test : Record → Bool = λ h. beyond (mark_of s rs m) (place_of s h) in
+      let after : List Record = filter test hs in
+      let apart : AllApart (before s) after = all_apart s after (each_pair-filter (λ a b. a.number < b.number) test hs (each_pair-filter (λ a b. a.number < b.number) (λ r. accepts r.item) rs rises)) in
+      ap (λ ps. map entry_shown (take n (sorted place_before ps))) (places-are m ∙ filter-map (beyond (mark_of s rs m)) (place_of s) hs)
+      ∙ ap (map entry_shown) (sym (map-first (place_of s) (before s) place_before (before-is s) n after))
+      ∙ map_map entry_shown (place_of s) (entry_of s) (entry-is s) (take n (sorted (before s) after))
+      ∙ ap (map (entry_of s)) (sym (first_sorted (before s) (sorts_order_records s).strict after n apart))
+      ∙ ap (λ hs'. map (entry_of s) (first_ranked (before s) hs' n)) (rest-is s rs m hs rises marked)
+
+  page-is : (m : Option ℕ) (total : ℕ) (entries : List Entry) → has_mark rs m ≡ true → total ≡ length (accepted accepts rs)
+      → entries ≡ map entry_shown (take n (sorted place_before (places_behind (order_of schema s) (mark_at (order_of schema s) rs m) accepts rs)))
+      → ◌≡◌ {A = Page} (record { total = total; entries = entries }) (page_where rs accepts s m n)
+  page-is m total entries marked t e = λ i. record { total = t i; entries = (e ∙ entries-are m marked) i }
+
+  few : n ≤ 1000 → ltb 1000 n ≡ false
+  few h = grind (arith, nat_tests)
+
+  answer-is : (m : Option ℕ) (p : Page) → n ≤ 1000 → can_sort schema s ≡ true → has_mark rs m ≡ true → p ≡ page_where rs accepts s m n → answer_where schema rs accepts s m n ≡ Ok p
+  answer-is m p h sorts marked e = rw (few h, sorts, marked) (ap Ok (sym e))
+
+-- the answer over whatever stands for records
+pub answered : {X : Type 0} (meant : X → Record) (schema : Schema) (xs : List X) (accepts : Item → Bool) (s : Sort) (m : Option ℕ) (n total : ℕ) (entries : List Entry)
+    → AllPairs (λ a b. (meant a).number < (meant b).number) xs → All (λ x. IsItem schema (meant x).item) xs
+    → n ≤ 1000 → can_sort schema s ≡ true → has_mark (map meant xs) m ≡ true
+    → total ≡ length (accepted accepts (map meant xs))
+    → entries ≡ map entry_shown (take n (sorted place_before (places_behind (order_of schema s) (mark_at (order_of schema s) (map meant xs) m) accepts (map meant xs))))
+    → answer_where schema (map meant xs) accepts s m n ≡ Ok (record { total = total; entries = entries })
+answered meant schema xs accepts s m n total entries rises items h sorts marked t e =
+    let rs : List Record = map meant xs in
+    let up : NumbersRise rs = each_pair-map meant (λ a b. a.number < b.number) xs (each_pair (λ a b. (meant a).number < (meant b).number) xs rises) in
+    let each : AllByRecursion (λ r. IsItem schema r.item) rs = each_map meant (λ r. IsItem schema r.item) xs (recursion_from_All (λ x. IsItem schema (meant x).item) xs items) in
+    answer-is schema rs accepts s n each up m (record { total = total; entries = entries }) h sorts marked (page-is schema rs accepts s n each up m total entries marked t e)

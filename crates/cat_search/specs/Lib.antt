@@ -1,0 +1,5 @@
+pub mod Kept
+pub mod Keys
+pub mod Sorts
+pub mod Seen
+pub mod Pages

@@ -1,0 +1,117 @@
+//! Pages, and the entries that they show.
+ghost use Rattle.std.specs.Prelude.{◌≡◌, option_map, IfOk, IfErr};
+ghost use Rattle.cat_base.specs.declared.refusal.Refusal.TheVariants.{Memory};
+ghost use Rattle.cat_search.specs.Keys.{key_meant, key_shown, entry_shown};
+ghost use Rattle.cat_search.specs.Seen.{seen, seen_rank};
+
+use crate::keys::{Key, KeyRef};
+use crate::places::{Candidate, Rank};
+use cat_base::{Refusal, Text, WriteNo};
+use std::alloc::Global;
+use std::marker::Model;
+
+/// A hit as a page shows it (Lucene: a `FieldDoc`).
+#[derive(Drop)]
+pub struct Entry {
+    number: WriteNo,
+    id: Text,
+    key: Option<Key>,
+}
+
+impl Model for Entry {
+    ghost use Rattle.std.specs.Prelude.{option_map};
+    ghost use Rattle.cat_model.specs.Page as model;
+    ghost use Rattle.cat_search.specs.Keys.{key_meant};
+
+    ghost Value = { model.Entry };
+
+    ghost view = { λ e. record { number = e.number; id = e.id; key = option_map key_meant e.key } };
+}
+
+impl Entry {
+    ghost use Rattle.std.specs.Prelude.{◌≡◌, option_map};
+    ghost use Rattle.cat_search.specs.Keys.{key_meant};
+
+    /// The number of the write that put the item, which a later page takes as its mark.
+    pub fn number(&self) -> WriteNo
+        ensures { result ≡ self.now.number }
+    {
+        self.number
+    }
+
+    /// The id of the item.
+    pub fn id(&self) -> &str
+        ensures { result.now ≡ self.now.id }
+    {
+        self.id.as_str()
+    }
+
+    /// What the hit was sorted by: none in order of addition, and none where the item has no value.
+    pub fn key(&self) -> Option<&Key>
+        ensures { option_map (λ k. key_meant k.now) result ≡ self.now.key }
+    {
+        self.key.as_ref()
+    }
+}
+
+/// The first hits after a mark, and how many hits there are at all (Lucene: `TopFieldDocs`).
+#[derive(Drop)]
+pub struct Page {
+    total: usize,
+    entries: Vec<Entry>,
+}
+
+impl Model for Page {
+    ghost use Rattle.cat_model.specs.Page as model;
+
+    ghost Value = { model.Page };
+
+    ghost view = { λ p. record { total = p.total; entries = p.entries.items } };
+}
+
+impl Page {
+    ghost use Rattle.std.specs.Prelude.{◌≡◌};
+
+    pub(crate) fn new(total: usize, entries: Vec<Entry>) -> Page
+        ensures { result ≡ record { total = total; entries = entries.items } }
+    {
+        Page { total, entries }
+    }
+
+    /// How many hits there are, whatever the mark and whatever is shown.
+    pub fn total(&self) -> usize
+        ensures { result ≡ self.now.total }
+    {
+        self.total
+    }
+
+    /// The hits that are shown, in the order of the sort.
+    pub fn entries(&self) -> &[Entry]
+        ensures { result.now ≡ self.now.entries }
+    {
+        self.entries.as_slice()
+    }
+}
+
+fn key_in(alloc: Global, rank: &Rank) -> Result<Option<Key>, Refusal>
+    ensures ok { IfOk result (λ k. option_map key_meant k ≡ key_shown (seen_rank rank.now)) }
+    ensures refusal { IfErr result (λ e. e ≡ Memory) }
+{
+    match rank {
+        Rank::Rising(key) => Ok(Some(key.to_key(alloc)?)),
+        Rank::Falling(key) => Ok(Some(key.0.to_key(alloc)?)),
+        Rank::Missing => Ok(None),
+    }
+}
+
+/// The hit as a page shows it. A refusal is [`Refusal::Memory`].
+pub(crate) fn entry_of(alloc: Global, candidate: &Candidate) -> Result<Entry, Refusal>
+    ensures ok { IfOk result (λ e. e ≡ entry_shown (seen candidate.now)) }
+    ensures refusal { IfErr result (λ e. e ≡ Memory) }
+{
+    Ok(Entry {
+        number: candidate.number,
+        id: Text::from_str(alloc, candidate.id)?,
+        key: key_in(alloc, &candidate.rank)?,
+    })
+}
