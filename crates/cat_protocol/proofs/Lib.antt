@@ -1,7 +1,6 @@
 pub mod Answering
 pub mod Bridge
 pub mod Cuts
-pub mod Fronts
 pub mod ModelRuns
 pub mod Openings
 pub mod Paging

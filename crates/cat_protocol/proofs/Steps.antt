@@ -14,7 +14,7 @@ use Rattle.cat_protocol.specs.Serving.{Says, SaysAll, SaysUpTo, LinesEnd, Serves
 use Rattle.cat_protocol.specs.declared.serving.ServeFault.{ServeFault}
 use Rattle.cat_protocol.specs.declared.serving.ServeFault.TheVariants as fault
 use Rattle.cat_protocol.proofs.Cuts.{seen_same, no_feed, one_line, lines_end}
-use Rattle.cat_protocol.proofs.Fronts.{front_whole, front_after}
+use Rattle.cat_protocol.proofs.Written.{front_whole, front_behind}
 
 -- lines as they are seen
 abbrev Seen : Type 0
@@ -100,7 +100,7 @@ module _ {S : Type 0} (says : Option S → Option Text → Text → Option S →
       (one.0 ++ two.0, up_to_append ls ms all one.0 two.0 a b None one.1 two.1 whole, Appends-trans o p q one.0 two.0 one.2 two.2)
   ends_then ls ms all a b c o p q (Err fault.Read) one two whole = absurd two
   ends_then ls ms all a b c o p q (Err fault.Write) one two whole =
-      (one.0 ++ two.0, two.1, up_to_append ls ms all one.0 two.0 a b two.1 one.1 two.2 whole, front_after o p q one.0 two.0 one.2 two.3)
+      (one.0 ++ two.0, two.1, up_to_append ls ms all one.0 two.0 a b two.1 one.1 two.2 whole, front_behind o p q one.0 two.0 one.2 two.3)
 
   ends_more : (ls more all : Seen) (a c : Option S) (o p : Option Text) (f : ServeFault) → LinesEnd says a ls c o p (Err f) → ls ++ more ≡ all → LinesEnd says a all c o p (Err f)
   ends_more ls more all a c o p fault.Schema so whole = (so.0, up_to_more ls more all so.0 a None so.1 whole, so.2)

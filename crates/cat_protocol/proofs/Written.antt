@@ -41,6 +41,10 @@ front_kept a b c bytes sent before kept = front_of_take a c bytes sent (Appends-
 
 -- ---- one piece behind another
 
+-- all of a text is a front of it
+pub front_whole : (a b : Option Text) (text : Text) → Appends a b text → AppendsFront a b text
+front_whole a b text went = record { front = text; rest = []; whole = append-nil text; went = went }
+
 -- a front of the first piece is a front of both
 pub front_before : {a b : Option Text} {x : Text} (y : Text) → AppendsFront a b x → AppendsFront a b (x ++ y)
 front_before {x} y part = record {
