@@ -108,7 +108,7 @@ name_step b bs e = step_with (prefix_len is_name_byte bs) (is_name_byte b) e
         (rw k refl, rw k refl)
     step_with n false h = absurd cc
 
-lower_name : (b : ℕ) → is_ascii_lowercase b ≡ true → is_name_byte b ≡ true
+pub lower_name : (b : ℕ) → is_ascii_lowercase b ≡ true → is_name_byte b ≡ true
 lower_name b e = or_left (is_ascii_lowercase b || is_ascii_digit b) (eqb b 95) (or_left (is_ascii_lowercase b) (is_ascii_digit b) e)
 
 is_whole_name : (name rest : Text) → AllByRecursion (λ b. IsTrue (is_name_byte b)) name → Stops is_name_byte rest → IsName name rest

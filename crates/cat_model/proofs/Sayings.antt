@@ -1,18 +1,27 @@
--- A line says at most one thing, under one session.
-use Rattle.std.proofs.Common.{inl, inr, suc, ◌≡◌, ◌⊎◌, ◌≢◌, ℕ, ◌<◌, List, [], ◌∷◌, ◌++◌, sym, ◌∙◌, refl, ap, subst, length, get_or, arith, codes}
-use Rattle.std.specs.Prelude.{slice_index, map, None, Result, Ok}
+-- A line says at most one thing, under one session, and is heard in one way.
+use Rattle.std.proofs.Common.{inl, inr, suc, ◌≡◌, ◌⊎◌, ◌≢◌, ℕ, ◌<◌, true≢false, List, [], ◌∷◌, ◌++◌, sym, ◌∙◌, refl, ap, subst, length, get_or, arith, codes}
+use Rattle.std.specs.Prelude.{zero, true, ◌&&◌, leb, slice_index, map, Option, None, Some, Result, Ok, Err, IsTrue}
+use Rattle.std.specs.List.{list_all}
+use Rattle.std.specs.Char.{is_ascii_lowercase}
 use Rattle.std.specs.Fmt.{decimal}
+use Rattle.std.proofs.lemmas.Bool.{and_parts}
 use Rattle.std.proofs.lemmas.Fmt.{decimal_is_IsNumeral, decimal_injective}
 use Rattle.std.proofs.lemmas.Str.Parse.{digit_at}
 use Rattle.cat_base.specs.declared.refusal.Refusal.{Refusal}
+use Rattle.cat_base.specs.declared.refusal.Refusal.TheVariants.{Query as NoQuery}
 use Rattle.cat_model.specs.Text.{Text}
-use Rattle.cat_model.specs.Item.{Schema}
+use Rattle.cat_model.specs.Item.{Schema, IsSchema, has_name_form, is_name_byte}
+use Rattle.cat_model.specs.Query.{Query}
+use Rattle.cat_model.specs.Page.{Sort}
+use Rattle.cat_model.specs.Answer.{Read}
 use Rattle.cat_model.specs.Table.{Opened}
-use Rattle.cat_model.specs.Lines.{Said, spaced, spelling, HasForm, IsNumber, SpellsLine, Shows}
+use Rattle.cat_model.specs.Lines.{Said, spaced, spelling, sort_text, mark_text, HasForm, IsNumber, IsSort, IsMark, SpellsLine, Shows}
 use Rattle.cat_model.specs.Run.{Command}
-use Rattle.cat_model.specs.Heard.{Json, Heard, Hears, command_of}
+use Rattle.cat_model.specs.Heard.{Json, Heard, Hears, IsCommand, IsQueryOf}
 use Rattle.cat_model.specs.Served.{Begins, OpensEmpty, Told, heard, HeardAll}
-use Rattle.cat_model.specs.Laws.{LinesSayOneThing, SchemaLinesSayOneThing, HearingIsOne, InputsAreHeardOneWay}
+use Rattle.cat_model.specs.Laws.{LinesSayOneThing, SchemaLinesSayOneThing, EachTextIsAQueryOrNone, HearingIsOne, ReadsSchemas, InputsAreHeardOneWay}
+use Rattle.cat_model.proofs.QueryFaults.{lower_name}
+use Rattle.cat_model.proofs.QueryLaws.{one_query, place_is_one, texts_are_judged, no_fault}
 
 -- ---- words
 
@@ -44,11 +53,79 @@ same_number n m r q hn hm e =
     let words = same_word (decimal n) (decimal m) r q (decimal_no_space n hn) (decimal_no_space m hm) e
     in (decimal_injective n m (omega (arith, hn)) (omega (arith, hm)) words.0, words.1)
 
+-- ---- sorts and marks
+
+name_bytes_no_space : (bytes : Text) → list_all is_name_byte bytes ≡ true → NoSpace bytes
+name_bytes_no_space [] h i k e = absurd (omega arith)
+name_bytes_no_space (b ∷ bytes) h zero k e = absurd (true≢false (sym (and_parts (is_name_byte b) (list_all is_name_byte bytes) h).0 ∙ ap is_name_byte e))
+name_bytes_no_space (b ∷ bytes) h (suc i) k e = name_bytes_no_space bytes (and_parts (is_name_byte b) (list_all is_name_byte bytes) h).1 i (omega (arith, k)) e
+
+name_bytes : (name : Text) → IsTrue (has_name_form name) → list_all is_name_byte name ≡ true
+name_bytes [] h = absurd cc
+name_bytes (b ∷ bs) h =
+    let bytes = (and_parts (is_ascii_lowercase b && list_all is_name_byte bs) (leb (length bs) 31) h).0 in
+    let parts = and_parts (is_ascii_lowercase b) (list_all is_name_byte bs) bytes
+    in rw (lower_name b parts.0, parts.1) refl
+
+-- a byte that isn't a space, and a name behind it
+signed_no_space : (sign : ℕ) (name : Text) → sign ≢ 32 → IsTrue (has_name_form name) → NoSpace (sign ∷ name)
+signed_no_space sign name other h zero k e = other e
+signed_no_space sign name other h (suc i) k e = name_bytes_no_space name (name_bytes name h) i (omega (arith, k)) e
+
+dot_no_space : NoSpace (codes ".")
+dot_no_space zero k e = absurd (omega (arith, e))
+dot_no_space (suc i) k e = absurd (omega (arith, k))
+
+sort_no_space : (sort : Sort) → IsSort sort → NoSpace (sort_text sort)
+sort_no_space Sort.added h = dot_no_space
+sort_no_space (Sort.rising name) h = signed_no_space 43 name (λ e. omega (arith, e)) h
+sort_no_space (Sort.falling name) h = signed_no_space 45 name (λ e. omega (arith, e)) h
+
+-- the first byte tells the sorts apart
+sort_spelled_alike : (one two : Sort) → sort_text one ≡ sort_text two → one ≡ two
+sort_spelled_alike Sort.added Sort.added e = refl
+sort_spelled_alike (Sort.rising name) (Sort.rising other) e = ap Sort.rising (cc e)
+sort_spelled_alike (Sort.falling name) (Sort.falling other) e = ap Sort.falling (cc e)
+sort_spelled_alike one two e = absurd (omega (arith, ap (λ t. get_or t 0 0) e))
+
+mark_no_space : (mark : Option ℕ) → IsMark mark → NoSpace (mark_text mark)
+mark_no_space None h = dot_no_space
+mark_no_space (Some n) h = decimal_no_space n h
+
+-- a number doesn't begin with a dot
+no_dot : (n : ℕ) → IsNumber n → decimal n ≡ codes "." → ⊥
+no_dot n h e =
+    let size : length (decimal n) ≡ 1 = ap length e in
+    let range = digit_at (decimal n) 0 (decimal_is_IsNumeral n (omega (arith, h))).0.1 (omega (arith, size)) in
+    omega (arith, range.0, ap (λ t. get_or t 0 0) e)
+
+mark_spelled_alike : (one two : Option ℕ) → IsMark one → IsMark two → mark_text one ≡ mark_text two → one ≡ two
+mark_spelled_alike None None h k e = refl
+mark_spelled_alike None (Some m) h k e = absurd (no_dot m k (sym e))
+mark_spelled_alike (Some n) None h k e = absurd (no_dot n h e)
+mark_spelled_alike (Some n) (Some m) h k e = ap Some (decimal_injective n m (omega (arith, h)) (omega (arith, k)) e)
+
+-- two sorts that stand before a space
+same_sort : (one two : Sort) (r q : Text) → IsSort one → IsSort two → sort_text one ++ 32 ∷ r ≡ sort_text two ++ 32 ∷ q → (one ≡ two) × (r ≡ q)
+same_sort one two r q h k e =
+    let words = same_word (sort_text one) (sort_text two) r q (sort_no_space one h) (sort_no_space two k) e
+    in (sort_spelled_alike one two words.0, words.1)
+
+-- two marks that stand before a space
+same_mark : (one two : Option ℕ) (r q : Text) → IsMark one → IsMark two → mark_text one ++ 32 ∷ r ≡ mark_text two ++ 32 ∷ q → (one ≡ two) × (r ≡ q)
+same_mark one two r q h k e =
+    let words = same_word (mark_text one) (mark_text two) r q (mark_no_space one h) (mark_no_space two k) e
+    in (mark_spelled_alike one two h k words.0, words.1)
+
 -- ---- what is said
 
+-- what stands behind the sort of a FIND
+abbrev marked : Option ℕ → Text → Text
+marked mark query = spaced (mark_text mark ∷ query ∷ [])
+
 -- what stands behind the count of a FIND
-abbrev added : Text → Text
-added query = spaced (codes "." ∷ codes "." ∷ query ∷ [])
+abbrev sorted : Sort → Option ℕ → Text → Text
+sorted sort mark query = spaced (sort_text sort ∷ mark_text mark ∷ query ∷ [])
 
 -- no two commands are spelled alike
 pub spelled_alike : (one two : Said) → HasForm one → HasForm two → spaced (spelling one) ≡ spaced (spelling two) → one ≡ two
@@ -58,11 +135,12 @@ spelled_alike Said.refresh Said.refresh h k e = refl
 spelled_alike Said.open_newest Said.open_newest h k e = refl
 spelled_alike (Said.open_at t) (Said.open_at u) h k e = ap Said.open_at (decimal_injective t u (omega (arith, h)) (omega (arith, k)) (cc e))
 spelled_alike (Said.close t) (Said.close u) h k e = ap Said.close (decimal_injective t u (omega (arith, h)) (omega (arith, k)) (cc e))
-spelled_alike (Said.find t n query) (Said.find u m query') h k e =
-    let tokens : (t ≡ u) × (decimal n ++ 32 ∷ added query ≡ decimal m ++ 32 ∷ added query') = same_number t u (decimal n ++ 32 ∷ added query) (decimal m ++ 32 ∷ added query') h.0 k.0 (cc e) in
-    let counts : (n ≡ m) × (added query ≡ added query') = same_number n m (added query) (added query') h.1 k.1 tokens.1 in
-    let queries : query ≡ query' = cc counts.1
-    in cc (tokens.0, counts.0, queries)
+spelled_alike (Said.find t n sort mark query) (Said.find u m sort' mark' query') h k e =
+    let tokens : (t ≡ u) × (decimal n ++ 32 ∷ sorted sort mark query ≡ decimal m ++ 32 ∷ sorted sort' mark' query') = same_number t u (decimal n ++ 32 ∷ sorted sort mark query) (decimal m ++ 32 ∷ sorted sort' mark' query') h.0 k.0 (cc e) in
+    let counts : (n ≡ m) × (sorted sort mark query ≡ sorted sort' mark' query') = same_number n m (sorted sort mark query) (sorted sort' mark' query') h.1 k.1 tokens.1 in
+    let sorts : (sort ≡ sort') × (marked mark query ≡ marked mark' query') = same_sort sort sort' (marked mark query) (marked mark' query') h.2 k.2 counts.1 in
+    let marks : (mark ≡ mark') × (query ≡ query') = same_mark mark mark' query query' h.3 k.3 sorts.1
+    in cc (tokens.0, counts.0, sorts.0, marks.0, marks.1)
 -- else the first letters differ, or OPEN ends where another has a space
 spelled_alike one two h k e = absurd (omega (arith, ap (λ t. get_or t 0 0) e, ap (λ t. get_or t 4 0) e))
 
@@ -108,29 +186,54 @@ shown line s said a = record { small = a.small; place = inr (a.rest, a.session_f
 no_form : (line : Text) (s t : ℕ) (said : Said) → SpellsLine line s said → Shows line t → ((said : Said) → SpellsLine line t said → ⊥) → ⊥
 no_form line s t said a b none = none said (subst (λ u. SpellsLine line u said) (one_session line s t (shown line s said a) b) a)
 
+-- a text is one query, or has one fault
+one_judgement : (schema : Schema) (text : Text) (one two : Result Query Refusal) → IsSchema schema → IsQueryOf schema text one → IsQueryOf schema text two → one ≡ two
+one_judgement schema text one two ok (IsQueryOf.spelled p a) (IsQueryOf.spelled q b) = ap (λ r. Ok r) (one_query schema text p q a b)
+one_judgement schema text one two ok (IsQueryOf.spelled p a) (IsQueryOf.faulty place b) = absurd (no_fault schema text p place ok a b)
+one_judgement schema text one two ok (IsQueryOf.faulty place a) (IsQueryOf.spelled q b) = absurd (no_fault schema text q place ok b a)
+one_judgement schema text one two ok (IsQueryOf.faulty place a) (IsQueryOf.faulty other b) = ap (λ n. Err (NoQuery n)) (place_is_one schema text place other ok a b)
+
+pub one_text : EachTextIsAQueryOrNone
+one_text schema text ok = elim (texts_are_judged schema text ok) [
+  | inl h ↦ (Ok h.0, IsQueryOf.spelled h.0 h.1, λ r a. one_judgement schema text r (Ok h.0) ok a (IsQueryOf.spelled h.0 h.1))
+  | inr h ↦ (Err (NoQuery h.0), IsQueryOf.faulty h.0 h.1, λ r a. one_judgement schema text r (Err (NoQuery h.0)) ok a (IsQueryOf.faulty h.0 h.1))
+]
+
+-- what is said is one command
+one_command : (json : Json) (schema : Schema) (said : Said) (one two : Command) → IsSchema schema → IsCommand json schema said one → IsCommand json schema said two → one ≡ two
+one_command json schema (Said.put text) one two ok a b = a ∙ sym b
+one_command json schema (Said.delete text) one two ok a b = a ∙ sym b
+one_command json schema Said.refresh one two ok a b = a ∙ sym b
+one_command json schema Said.open_newest one two ok a b = a ∙ sym b
+one_command json schema (Said.open_at t) one two ok a b = a ∙ sym b
+one_command json schema (Said.close t) one two ok a b = a ∙ sym b
+one_command json schema (Said.find t n sort mark text) one two ok a b =
+    a.2 ∙ ap (λ q. Command.read t (Read.find n sort mark q)) (one_judgement schema text a.0 b.0 ok a.1 b.1) ∙ sym b.2
+
 pub one_hearing : HearingIsOne
-one_hearing json schema bytes one two (Hears.spelled s said readable a) (Hears.spelled t other readable' b) =
+one_hearing json schema bytes one two ok (Hears.spelled s said c readable a is) (Hears.spelled t other d readable' b is') =
     let same = one_thing bytes s t said other a b in
-    λ i. Heard.a_line (record { session = same.0 i; command = command_of json schema (same.1 i) })
-one_hearing json schema bytes one two (Hears.spelled s said readable a) (Hears.formless t readable' b none) = absurd (no_form bytes s t said a b none)
-one_hearing json schema bytes one two (Hears.formless s readable a none) (Hears.spelled t said readable' b) = absurd (no_form bytes t s said b a none)
-one_hearing json schema bytes one two (Hears.formless s readable a none) (Hears.formless t readable' b none') = ap (λ u. Heard.a_line (record { session = u; command = Command.formless })) (one_session bytes s t a b)
-one_hearing json schema bytes one two (Hears.unreadable none) (Hears.unreadable none') = refl
-one_hearing json schema bytes one two (Hears.spelled s said readable a) (Hears.unreadable none) = absurd (none readable s (shown bytes s said a))
-one_hearing json schema bytes one two (Hears.formless s readable a none') (Hears.unreadable none) = absurd (none readable s a)
-one_hearing json schema bytes one two (Hears.unreadable none) (Hears.spelled s said readable a) = absurd (none readable s (shown bytes s said a))
-one_hearing json schema bytes one two (Hears.unreadable none) (Hears.formless s readable a none') = absurd (none readable s a)
+    let command : c ≡ d = one_command json schema other c d ok (subst (λ x. IsCommand json schema x c) same.1 is) is' in
+    λ i. Heard.a_line (record { session = same.0 i; command = command i })
+one_hearing json schema bytes one two ok (Hears.spelled s said c readable a is) (Hears.formless t readable' b none) = absurd (no_form bytes s t said a b none)
+one_hearing json schema bytes one two ok (Hears.formless s readable a none) (Hears.spelled t said c readable' b is) = absurd (no_form bytes t s said b a none)
+one_hearing json schema bytes one two ok (Hears.formless s readable a none) (Hears.formless t readable' b none') = ap (λ u. Heard.a_line (record { session = u; command = Command.formless })) (one_session bytes s t a b)
+one_hearing json schema bytes one two ok (Hears.unreadable none) (Hears.unreadable none') = refl
+one_hearing json schema bytes one two ok (Hears.spelled s said c readable a is) (Hears.unreadable none) = absurd (none readable s (shown bytes s said a))
+one_hearing json schema bytes one two ok (Hears.formless s readable a none') (Hears.unreadable none) = absurd (none readable s a)
+one_hearing json schema bytes one two ok (Hears.unreadable none) (Hears.spelled s said c readable a is) = absurd (none readable s (shown bytes s said a))
+one_hearing json schema bytes one two ok (Hears.unreadable none) (Hears.formless s readable a none') = absurd (none readable s a)
 
 -- two accounts of what was told to the same lines heard the same of each
-lines_heard : (json : Json) (schema : Schema) (lines : List Text) (one two : List Told) → HeardAll json schema lines one → HeardAll json schema lines two → map heard one ≡ map heard two
-lines_heard json schema [] [] [] a b = refl
-lines_heard json schema [] [] (t ∷ two) a b = absurd b
-lines_heard json schema [] (t ∷ one) two a b = absurd a
-lines_heard json schema (line ∷ lines) [] two a b = absurd a
-lines_heard json schema (line ∷ lines) (s ∷ one) [] a b = absurd b
-lines_heard json schema (line ∷ lines) (s ∷ one) (t ∷ two) a b =
-    let here = one_hearing json schema line (heard s) (heard t) a.0 b.0 in
-    let rest = lines_heard json schema lines one two a.1 b.1 in
+lines_heard : (json : Json) (schema : Schema) (lines : List Text) (one two : List Told) → IsSchema schema → HeardAll json schema lines one → HeardAll json schema lines two → map heard one ≡ map heard two
+lines_heard json schema [] [] [] ok a b = refl
+lines_heard json schema [] [] (t ∷ two) ok a b = absurd b
+lines_heard json schema [] (t ∷ one) two ok a b = absurd a
+lines_heard json schema (line ∷ lines) [] two ok a b = absurd a
+lines_heard json schema (line ∷ lines) (s ∷ one) [] ok a b = absurd b
+lines_heard json schema (line ∷ lines) (s ∷ one) (t ∷ two) ok a b =
+    let here = one_hearing json schema line (heard s) (heard t) ok a.0 b.0 in
+    let rest = lines_heard json schema lines one two ok a.1 b.1 in
     λ i. here i ∷ rest i
 
 -- a first line opens a service without items in one way
@@ -143,7 +246,12 @@ one_opening json line one two (Begins.opened f l text schema r readable a is ope
     ok_value : ◌≡◌ {A = Result Schema Refusal} (Ok schema) (Ok schema') → schema ≡ schema'
     ok_value e = cc e
 
+-- and under a schema
+under_schema : (json : Json) (line : Text) (from : Opened) → ReadsSchemas json → Begins json OpensEmpty line (Ok from) → IsSchema from.start.schema
+under_schema json line from reads (Begins.opened f l text schema r readable a is opens) = subst (λ o. IsSchema o.start.schema) (sym opens) (reads text schema is)
+
 pub one_way : InputsAreHeardOneWay
-one_way json first lines text text' one two =
+one_way json first lines text text' reads one two =
     let same = one_opening json first one.from two.from one.begins two.begins in
-    (same, lines_heard json two.from.start.schema lines one.tolds two.tolds (subst (λ from. HeardAll json from.start.schema lines one.tolds) same one.heard_all) two.heard_all)
+    let ok = under_schema json first two.from reads two.begins in
+    (same, lines_heard json two.from.start.schema lines one.tolds two.tolds ok (subst (λ from. HeardAll json from.start.schema lines one.tolds) same one.heard_all) two.heard_all)

@@ -1,11 +1,12 @@
 -- What is heard of a line: the command that it says, once its item, id or query is looked at. The rules are our own.
-use Rattle.std.specs.Prelude.{ℕ, codes, None, Result, Ok, Err, cond}
+use Rattle.std.specs.Prelude.{◌≡◌, ℕ, Result, Ok, Err, cond}
 use Rattle.cat_base.specs.declared.refusal.Refusal.{Refusal}
 use Rattle.cat_base.specs.declared.refusal.Refusal.TheVariants.{Id, Query as NoQuery}
-use Rattle.cat_model.specs.Text.{Text, same_text}
+use Rattle.cat_model.specs.Text.{Text}
 use Rattle.cat_model.specs.Item.{Schema, Item, is_id}
-use Rattle.cat_model.specs.Query.{Query, Primary, Sign}
-use Rattle.cat_model.specs.Page.{Sort}
+use Rattle.cat_model.specs.Query.{Query}
+use Rattle.cat_model.specs.Grammar.{Spells}
+use Rattle.cat_model.specs.Faults.{Fault}
 use Rattle.cat_model.specs.Answer.{Read}
 use Rattle.cat_model.specs.Run.{Command, Line}
 use Rattle.cat_model.specs.Lines.{Said, Shows, SpellsLine, IsReadable}
@@ -19,23 +20,20 @@ pub record Json : Type 0 where
 abbrev pub id_of : Text → Result Text Refusal
 id_of t = cond (is_id t) (Ok t) (Err Id)
 
--- `*:*`, which matches every item
-abbrev pub every_item : Query
-every_item = Query.clause Sign.should Primary.everything Query.no_clause
-
--- `*:*` is the only text that is read as a query so far; the fault of each other is told at its first byte
-abbrev pub query_of : Text → Result Query Refusal
-query_of t = cond (same_text t (codes "*:*")) (Ok every_item) (Err (NoQuery 0))
+-- the query that a text spells, or the place of its fault
+pub data IsQueryOf (schema : Schema) (text : Text) : Result Query Refusal → Type 0 where
+  spelled : (q : Query) → Spells schema text q → IsQueryOf schema text (Ok q)
+  faulty : (place : ℕ) → Fault schema text place → IsQueryOf schema text (Err (NoQuery place))
 
 -- what is said is this command under the schema
-abbrev pub command_of : Json → Schema → Said → Command
-command_of json schema (Said.put text) = Command.put (json.item_of schema text)
-command_of json schema (Said.delete text) = Command.delete (id_of text)
-command_of json schema Said.refresh = Command.refresh
-command_of json schema Said.open_newest = Command.open_newest
-command_of json schema (Said.open_at t) = Command.open_at t
-command_of json schema (Said.close t) = Command.close t
-command_of json schema (Said.find t n text) = Command.read t (Read.find n Sort.added None (query_of text))
+abbrev pub IsCommand : Json → Schema → Said → Command → Type 0
+IsCommand json schema (Said.put text) c = c ≡ Command.put (json.item_of schema text)
+IsCommand json schema (Said.delete text) c = c ≡ Command.delete (id_of text)
+IsCommand json schema Said.refresh c = c ≡ Command.refresh
+IsCommand json schema Said.open_newest c = c ≡ Command.open_newest
+IsCommand json schema (Said.open_at t) c = c ≡ Command.open_at t
+IsCommand json schema (Said.close t) c = c ≡ Command.close t
+IsCommand json schema (Said.find t n sort mark text) c = (q : Result Query Refusal) × IsQueryOf schema text q × (c ≡ Command.read t (Read.find n sort mark q))
 
 -- nothing that can be read, or a line
 pub data Heard : Type 0 where
@@ -45,6 +43,6 @@ pub data Heard : Type 0 where
 -- What is heard of the bytes of a line: what they spell; a line without a form, where they show a session and no more;
 -- or nothing that can be read.
 pub data Hears (json : Json) (schema : Schema) (bytes : Text) : Heard → Type 0 where
-  spelled : (session : ℕ) (said : Said) → IsReadable bytes → SpellsLine bytes session said → Hears json schema bytes (Heard.a_line (record { session = session; command = command_of json schema said }))
+  spelled : (session : ℕ) (said : Said) (c : Command) → IsReadable bytes → SpellsLine bytes session said → IsCommand json schema said c → Hears json schema bytes (Heard.a_line (record { session = session; command = c }))
   formless : (session : ℕ) → IsReadable bytes → Shows bytes session → ((said : Said) → SpellsLine bytes session said → ⊥) → Hears json schema bytes (Heard.a_line (record { session = session; command = Command.formless }))
   unreadable : (IsReadable bytes → (session : ℕ) → Shows bytes session → ⊥) → Hears json schema bytes Heard.unreadable

@@ -1,6 +1,7 @@
 -- The laws over the definitions, each the contract of a public function.
-use Rattle.std.specs.Prelude.{◌≡◌, ◌↔◌, Contains, ◌++◌, ◌+◌, ◌≤◌, ◌<◌, ℕ, true, List, [], ◌∷◌, length, map}
+use Rattle.std.specs.Prelude.{◌≡◌, ◌↔◌, Contains, ◌++◌, ◌+◌, ◌≤◌, ◌<◌, ℕ, true, List, [], ◌∷◌, length, map, Result, Ok}
 use Rattle.std.specs.List.{AllByRecursion}
+use Rattle.cat_base.specs.declared.refusal.Refusal.{Refusal}
 use Rattle.cat_model.specs.Write.{Write}
 use Rattle.cat_model.specs.Table.{Start, Opened, IsStart, table, after, count, writes_up_to}
 use Rattle.cat_model.specs.Answer.{Read, answer}
@@ -8,8 +9,9 @@ use Rattle.cat_model.specs.Run.{Command, Line, Reply, Exchange, Run, IsRun, Fits
 use Rattle.cat_model.specs.State.{State, Step, StandsFor, IsFresh, start_of}
 use Rattle.cat_model.specs.Text.{Text}
 use Rattle.cat_model.specs.Words.{runs, words, lowered, IsRunOf}
-use Rattle.cat_model.specs.Item.{Schema}
-use Rattle.cat_model.specs.Heard.{Json, Heard, Hears}
+use Rattle.cat_model.specs.Item.{Schema, IsSchema}
+use Rattle.cat_model.specs.Query.{Query}
+use Rattle.cat_model.specs.Heard.{Json, Heard, Hears, IsQueryOf}
 use Rattle.cat_model.specs.Served.{SpellsSchema, OpensEmpty, heard, IsServed}
 use Rattle.cat_model.specs.Lines.{Said, SpellsLine}
 
@@ -91,15 +93,28 @@ SchemaLinesSayOneThing =
     → SpellsSchema line factor least text → SpellsSchema line factor' least' text'
     → (factor ≡ factor') × (least ≡ least') × (text ≡ text')
 
--- What is heard of a line is one thing.
+-- Under a schema, a text is a query or has the place of a fault, and one only.
+abbrev pub EachTextIsAQueryOrNone : Type 0
+EachTextIsAQueryOrNone =
+    (schema : Schema) (text : Text) → IsSchema schema
+    → (r : Result Query Refusal) × IsQueryOf schema text r × ((other : Result Query Refusal) → IsQueryOf schema text other → other ≡ r)
+
+-- Under a schema, what is heard of a line is one thing.
 abbrev pub HearingIsOne : Type 0
-HearingIsOne = (json : Json) (schema : Schema) (bytes : Text) (one two : Heard) → Hears json schema bytes one → Hears json schema bytes two → one ≡ two
+HearingIsOne =
+    (json : Json) (schema : Schema) (bytes : Text) (one two : Heard) → IsSchema schema
+    → Hears json schema bytes one → Hears json schema bytes two → one ≡ two
+
+-- Each schema that is read from a text keeps the rules for schemas.
+abbrev pub ReadsSchemas : Json → Type 0
+ReadsSchemas json = (text : Text) (schema : Schema) → json.schema_of text ≡ Ok schema → IsSchema schema
 
 -- Whatever two texts answer an input, the service was opened in one way and each line was heard in one way.
 abbrev pub InputsAreHeardOneWay : Type 0
 InputsAreHeardOneWay =
     (json : Json) (first : Text) (lines : List Text) (text₁ text₂ : Text)
-    (one : IsServed json OpensEmpty first lines text₁) (two : IsServed json OpensEmpty first lines text₂)
+    → ReadsSchemas json
+    → (one : IsServed json OpensEmpty first lines text₁) (two : IsServed json OpensEmpty first lines text₂)
     → (one.from ≡ two.from) × (map heard one.tolds ≡ map heard two.tolds)
 
 -- The runs of a text, from which its words are made, are its longest runs of word characters and nothing else.

@@ -2,6 +2,8 @@ pub mod Text
 pub mod Words
 pub mod Item
 pub mod Query
+pub mod Grammar
+pub mod Faults
 pub mod Write
 pub mod Table
 pub mod Page
@@ -13,11 +15,9 @@ pub mod Lines
 pub mod Heard
 pub mod Input
 pub mod Served
-pub mod Grammar
-pub mod Faults
+pub mod Laws
 pub mod Reader
 pub mod QueryLaws
 pub mod QuerySamples
-pub mod Laws
 pub mod Ranks
 pub mod RankLaws

@@ -1,12 +1,13 @@
 -- What a line says and the one way to spell it, and the text of a reply. The protocol is our own.
-use Rattle.std.specs.Prelude.{◌≡◌, ℕ, ◌<◌, ◌≤◌, ◌^◌, ◌⊎◌, List, [], ◌∷◌, ◌++◌, codes, map, length, IsUtf8, Option, None, Some, Ok, Err}
+use Rattle.std.specs.Prelude.{◌≡◌, ℕ, ◌<◌, ◌≤◌, ◌^◌, ◌⊎◌, List, [], ◌∷◌, ◌++◌, codes, map, length, IsUtf8, IsTrue, Option, None, Some, Ok, Err}
 use Rattle.std.specs.List.{flat_map}
 use Rattle.std.specs.Fmt.{decimal, signed_decimal}
 use Rattle.cat_base.specs.declared.refusal.Refusal.{Refusal}
 use Rattle.cat_base.specs.declared.refusal.Refusal.TheVariants as refusal
 use Rattle.cat_base.specs.Refusals.{number_of}
 use Rattle.cat_model.specs.Text.{Text}
-use Rattle.cat_model.specs.Page.{Key, Entry}
+use Rattle.cat_model.specs.Item.{has_name_form}
+use Rattle.cat_model.specs.Page.{Sort, Key, Entry}
 use Rattle.cat_model.specs.Facets.{Counted}
 use Rattle.cat_model.specs.Answer.{Found}
 use Rattle.cat_model.specs.Run.{Answer, News, Part, Reply}
@@ -21,14 +22,24 @@ pub data Said : Type 0 where
   open_newest : Said
   open_at : (token : ℕ) → Said
   close : (token : ℕ) → Said
-  -- a page in order of addition, from its beginning
-  find : (token n : ℕ) (query : Text) → Said
+  find : (token n : ℕ) (sort : Sort) (mark : Option ℕ) (query : Text) → Said
 
 -- the texts with one space between each two
 abbrev pub spaced : List Text → Text
 spaced [] = []
 spaced (t ∷ []) = t
 spaced (t ∷ u ∷ ts) = t ++ 32 ∷ spaced (u ∷ ts)
+
+-- a dot for the order of addition, or a sign and the name of a field
+abbrev pub sort_text : Sort → Text
+sort_text Sort.added = codes "."
+sort_text (Sort.rising name) = codes "+" ++ name
+sort_text (Sort.falling name) = codes "-" ++ name
+
+-- a dot for no mark, or the number of a record
+abbrev pub mark_text : Option ℕ → Text
+mark_text None = codes "."
+mark_text (Some n) = decimal n
 
 -- the name of the command and its arguments, each spelled
 abbrev pub spelling : Said → List Text
@@ -38,17 +49,27 @@ spelling Said.refresh = codes "REFRESH" ∷ []
 spelling Said.open_newest = codes "OPEN" ∷ []
 spelling (Said.open_at t) = codes "OPEN" ∷ decimal t ∷ []
 spelling (Said.close t) = codes "CLOSE" ∷ decimal t ∷ []
-spelling (Said.find t n query) = codes "FIND" ∷ decimal t ∷ decimal n ∷ codes "." ∷ codes "." ∷ query ∷ []
+spelling (Said.find t n sort mark query) = codes "FIND" ∷ decimal t ∷ decimal n ∷ sort_text sort ∷ mark_text mark ∷ query ∷ []
 
 -- a number that may be said
 abbrev pub IsNumber : ℕ → Type 0
 IsNumber n = n < 2 ^ 63
 
--- the numbers that are said are below 2^63
+-- the name that a sort goes by has the form of a field's
+abbrev pub IsSort : Sort → Type 0
+IsSort Sort.added = Unit {0}
+IsSort (Sort.rising name) = IsTrue (has_name_form name)
+IsSort (Sort.falling name) = IsTrue (has_name_form name)
+
+abbrev pub IsMark : Option ℕ → Type 0
+IsMark None = Unit {0}
+IsMark (Some n) = IsNumber n
+
+-- the numbers that are said are below 2^63, and the names have the form of a field's
 abbrev pub HasForm : Said → Type 0
 HasForm (Said.open_at t) = IsNumber t
 HasForm (Said.close t) = IsNumber t
-HasForm (Said.find t n query) = IsNumber t × IsNumber n
+HasForm (Said.find t n sort mark query) = IsNumber t × IsNumber n × IsSort sort × IsMark mark
 HasForm _ = Unit {0}
 
 -- the text, behind the session and its space, spells what is said

@@ -1,7 +1,7 @@
 //! The definitions that every contract of the service speaks of, and the laws about them.
 #![tactic(auto)]
 
-ghost use Rattle.cat_model.specs.Laws.{TableFollowsAfter, LaterWritesChangeNothing, RunsAreBounded, HeldReadIsOfItsTable, HeldReadsAgree, RunsGoOn, StepsKeepRuns, FreshStatesBeginRuns, LinesSayOneThing, SchemaLinesSayOneThing, HearingIsOne, InputsAreHeardOneWay, WordsAreLongestRuns, WordsAreLoweredRuns};
+ghost use Rattle.cat_model.specs.Laws.{TableFollowsAfter, LaterWritesChangeNothing, RunsAreBounded, HeldReadIsOfItsTable, HeldReadsAgree, RunsGoOn, StepsKeepRuns, FreshStatesBeginRuns, LinesSayOneThing, SchemaLinesSayOneThing, EachTextIsAQueryOrNone, HearingIsOne, InputsAreHeardOneWay, WordsAreLongestRuns, WordsAreLoweredRuns};
 ghost use Rattle.cat_model.specs.QueryLaws.{QueriesAreRead, FaultsAreFound, TextsSpellOneQuery, FaultsHaveOnePlace, TextsAreJudged, SpelledTextsHaveNoFault};
 ghost use Rattle.cat_model.specs.QuerySamples.{SamplesAreJudged};
 ghost use Rattle.cat_model.specs.RankLaws.{RanksFollowOrder, AddedStandFirst, SortsOrderRecords};
@@ -76,14 +76,21 @@ pub fn schema_lines_say_one_thing()
     ensures { SchemaLinesSayOneThing }
 {}
 
-/// What is heard of a line is one thing: a command, a line without a form, or nothing readable.
-/// The protocol is our own.
+/// Under a schema, each text is a query or has the place of a fault, and one only. The rules are
+/// our own.
+pub fn each_text_is_a_query_or_none()
+    ensures { EachTextIsAQueryOrNone }
+{}
+
+/// Under a schema, what is heard of a line is one thing: a command, a line without a form, or
+/// nothing readable. The protocol is our own.
 pub fn hearing_is_one()
     ensures { HearingIsOne }
 {}
 
-/// Whatever two texts answer an input, the service was opened in one way and each line was heard in
-/// one way: they differ in replies alone. The protocol is our own.
+/// Where only schemas are read as such, whatever two texts answer an input, the service was opened
+/// in one way and each line was heard in one way: they differ in replies alone. The protocol is our
+/// own.
 pub fn inputs_are_heard_one_way()
     ensures { InputsAreHeardOneWay }
 {}

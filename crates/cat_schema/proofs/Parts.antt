@@ -1,6 +1,8 @@
 -- The parts of an item, and the values that stand for them.
-use Rattle.std.proofs.Common.{◌≡◌, suc, List, [], ◌∷◌, length, map, Bool, true, false, cond, Option, Some, None, Ok, Err, refl, ap, subst, arith}
-use Rattle.std.specs.Prelude.{option_and_then}
+use Rattle.std.proofs.Common.{◌≡◌, ◌+◌, ◌<◌, ◌≤◌, ℕ, zero, Bor, get_or, sym, suc, List, [], ◌∷◌, length, map, Bool, true, false, cond, not, Option, Some, None, Ok, Err, refl, ap, subst, arith}
+use Rattle.std.specs.Prelude.{option_and_then, option_map, slice_get, find, MatchOption}
+use Rattle.std.specs.List.{prefix_len, HoldsAt}
+use Rattle.std.proofs.lemmas.Option.{slice_get_past}
 use Rattle.std.specs.Option.{option_map_or}
 use Rattle.serde_json.specs.Data.{Data, Items, Members}
 use Rattle.serde_json.specs.Find.{as_object, as_str, as_array, get_member}
@@ -8,7 +10,7 @@ use Rattle.cat_base.specs.declared.refusal.Refusal.{Refusal}
 use Rattle.cat_base.specs.declared.refusal.Refusal.TheVariants as refusal
 use Rattle.cat_base.specs.Texts.{sorted_set, IsTextSet}
 use Rattle.cat_base.proofs.TextSets.{IsTextSet-nil, IsTextSet-sorted_set}
-use Rattle.cat_model.specs.Text.{Text}
+use Rattle.cat_model.specs.Text.{Text, same_text}
 use Rattle.cat_model.specs.Item.{Field, Kind, Content, Item, Schema, IsContent, AreParts, IsItem, is_id}
 use Rattle.cat_model.specs.Words.{lowered, runs, words}
 use Rattle.cat_schema.specs.declared.item.FieldValue.{FieldValue}
@@ -39,6 +41,30 @@ contents-parts_with [] [] e = refl
 contents-parts_with [] (v ∷ vs) e = absurd (omega arith)
 contents-parts_with (f ∷ fs) [] e = absurd (omega arith)
 contents-parts_with (f ∷ fs) (v ∷ vs) e = ap (λ cs. content_of v ∷ cs) (contents-parts_with fs vs (omega arith))
+
+item_at : {X : Type 0} (xs : List X) (i : ℕ) (x : X) → i < length xs → x ≡ get_or xs i x → slice_get xs i ≡ Some x
+item_at [] i x lt e = absurd (omega arith)
+item_at (y ∷ ys) zero x lt e = ap (λ z. Some z) (sym e)
+item_at (y ∷ ys) (suc i) x lt e = item_at ys i x (omega arith) e
+
+-- what a borrowed value means, where `get` gave it
+pub content-got : (vs : List FieldValue) (i : ℕ) (r : Option (Bor FieldValue)) → MatchOption r (length vs ≤ i) (λ x. (i < length vs) × HoldsAt (λ y. x.now ≡ y) vs i) → option_map (λ v. content_of v.now) r ≡ option_map content_of (slice_get vs i)
+content-got vs i None past = rw (slice_get_past vs i past) refl
+content-got vs i (Some x) here = rw (item_at vs i x.now here.0 (here.1 x.now)) refl
+
+-- the value at the place of the first field of a name is the content of the part of that name
+pub content-at : (name : Text) (fs : List Field) (vs : List FieldValue) → length vs ≡ length fs
+    → option_map content_of (slice_get vs (prefix_len (λ f. not (same_text f.name name)) fs)) ≡ option_map (λ p. p.content) (find (λ p. same_text p.name name) (parts_with fs vs))
+content-at name [] [] e = refl
+content-at name [] (v ∷ vs) e = absurd (omega arith)
+content-at name (f ∷ fs) [] e = absurd (omega arith)
+content-at name (f ∷ fs) (v ∷ vs) e = at (same_text f.name name) (content-at name fs vs (omega arith))
+  where
+    at : (b : Bool) → option_map content_of (slice_get vs (prefix_len (λ f. not (same_text f.name name)) fs)) ≡ option_map (λ p. p.content) (find (λ p. same_text p.name name) (parts_with fs vs))
+        → option_map content_of (slice_get (v ∷ vs) (cond (not b) (1 + prefix_len (λ f. not (same_text f.name name)) fs) 0))
+        ≡ option_map (λ p. p.content) (cond b (Some (record { name = f.name; content = content_of v })) (find (λ p. same_text p.name name) (parts_with fs vs)))
+    at true h = refl
+    at false h = let e : 1 + prefix_len (λ f. not (same_text f.name name)) fs ≡ suc (prefix_len (λ f. not (same_text f.name name)) fs) = omega arith in rw e h
 
 -- ---- the parts of an item are those that its fields ask for
 

@@ -32,10 +32,12 @@ fn all_name_bytes(bytes: &[u8]) -> bool
     bytes.iter().all(|b| is_name_byte(*b))
 }
 
-fn has_name_form(bytes: &[u8]) -> bool
-    ensures { result ≡ has_name_form bytes.now }
+/// Whether a text has the form of a field's name: 1 to 32 bytes, a lower letter and then lower letters, digits and `_`.
+/// `id` has it, which no field may be named.
+pub fn has_name_form(name: &str) -> bool
+    ensures { result ≡ has_name_form name.now }
 {
-    match bytes {
+    match name.as_bytes() {
         [] => false,
         [first, rest @ ..] => {
             first.is_ascii_lowercase() && all_name_bytes(rest) && rest.len() < MAX_FIELD_NAME_BYTES
@@ -47,7 +49,7 @@ fn has_name_form(bytes: &[u8]) -> bool
 pub(crate) fn name_ok(name: &str) -> bool
     ensures { result ≡ is_name name.now }
 {
-    has_name_form(name.as_bytes()) && name != "id"
+    has_name_form(name) && name != "id"
 }
 
 fn is_plain_byte(b: u8) -> bool

@@ -11,6 +11,6 @@ mod json;
 mod schema;
 
 pub use analysis::words;
-pub use forms::id_ok;
+pub use forms::{has_name_form, id_ok};
 pub use item::{FieldValue, Item};
 pub use schema::{Field, Kind, Schema};
