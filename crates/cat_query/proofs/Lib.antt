@@ -1,0 +1,9 @@
+pub mod Sets
+pub mod SameLists
+pub mod Cuts
+pub mod Quotes
+pub mod Integers
+pub mod ValueSteps
+pub mod Series
+pub mod Groups
+pub mod Judging

@@ -1,0 +1,57 @@
+//! Queries from texts.
+ghost use Rattle.std.specs.Prelude.{◌≡◌, ◌⊎◌, ℕ, Ok, Err, IfOk, IfErr};
+ghost use Rattle.cat_base.specs.declared.refusal.Refusal.TheVariants.{Memory, Query as Unreadable};
+ghost use Rattle.cat_model.specs.Reader.{read_query, content_at};
+ghost use Rattle.cat_query.specs.View.{clauses_of, query_of};
+ghost use Rattle.cat_query.specs.Reading.{Gives, all_of};
+
+use crate::query::{Clause, Query};
+use crate::reading::content;
+use crate::stop::Stop;
+use cat_base::{MAX_CLAUSES, MAX_DEPTH, Refusal};
+use cat_schema::{Field, Schema};
+use std::alloc::Global;
+
+fn clauses(alloc: Global, fields: &[Field], text: &str) -> Result<Vec<Clause>, Stop>
+    ensures { Gives (λ v. clauses_of v.items) result (all_of (content_at fields.now 9 64 text.now)) }
+{
+    // The text itself is a level as a group is.
+    let (clauses, _left, rest) = content(alloc, fields, MAX_DEPTH + 1, MAX_CLAUSES, text)?;
+    if rest.is_empty() {
+        Ok(clauses)
+    } else {
+        Err(Stop::Fault(rest.len()))
+    }
+}
+
+impl Query {
+    ghost use Rattle.cat_model.specs.Faults.{Fault};
+    ghost use Rattle.cat_model.specs.Grammar.{Spells};
+    ghost use Rattle.cat_model.specs.Item.{IsSchema};
+
+    /// The query that a text spells, in a language of our own in the manner of Lucene's classic `QueryParser`.
+    ///
+    /// `Refusal::Query` has the place of the first fault, in bytes from the text's beginning, and `Refusal::Memory`
+    /// comes where memory is refused.
+    pub fn parse(schema: &Schema, alloc: Global, text: &str) -> Result<Query, Refusal>
+        ensures ok { IfOk result (λ q. Spells schema.now text.now (query_of q)) }
+        ensures err { IfErr result (λ e. (e ≡ Memory)
+            ⊎ ((place : ℕ) × (e ≡ Unreadable place) × Fault schema.now text.now place)) }
+    {
+        Query::read(schema, alloc, text)
+    }
+
+    /// What the reader of the definitions gives.
+    fn read(schema: &Schema, alloc: Global, text: &str) -> Result<Query, Refusal>
+        ensures ok { IfOk result (λ q. read_query schema.now text.now ≡ Ok (query_of q)) }
+        ensures err { IfErr result (λ e. (e ≡ Memory)
+            ⊎ ((place : ℕ) × (e ≡ Unreadable place) × (read_query schema.now text.now ≡ Err place))) }
+        ensures under { IsSchema schema.now }
+    {
+        match clauses(alloc, schema.fields(), text) {
+            Ok(clauses) => Ok(Query { clauses }),
+            Err(Stop::Memory) => Err(Refusal::Memory),
+            Err(Stop::Fault(left)) => Err(Refusal::Query(text.len().saturating_sub(left))),
+        }
+    }
+}

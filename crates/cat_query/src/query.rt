@@ -1,0 +1,64 @@
+//! The parsed query: signed clauses in their order.
+
+use cat_base::Text;
+
+/// How a clause counts: `BooleanClause.Occur` in Lucene, without its `FILTER`.
+#[derive(Clone, Copy, Debug, Drop, PartialEq, Eq)]
+pub enum Sign {
+    /// `+`: an item that is accepted matches the clause.
+    Must,
+    /// `-`: an item that is accepted doesn't match the clause.
+    MustNot,
+    /// No sign: where the list has no `+`, an item that is accepted matches some clause of this sign.
+    Should,
+}
+
+/// What is asked of a field. The end of a range that is `None` is open; both ends are part of the range.
+#[derive(Debug, Drop)]
+pub enum Test {
+    /// The text has the word, as by Lucene's `TermQuery`.
+    Word(Text),
+    /// The text has a word that begins so, as by `PrefixQuery`.
+    WordPrefix(Text),
+    /// The keyword is this text.
+    Keyword(Text),
+    /// The keyword begins so.
+    KeywordPrefix(Text),
+    /// The keyword lies in the range, by bytes, as by `TermRangeQuery`.
+    KeywordRange(Option<Text>, Option<Text>),
+    /// The number is this one, as by `LongField.newExactQuery`.
+    Number(i64),
+    /// The number lies in the range, as by `LongField.newRangeQuery`.
+    NumberRange(Option<i64>, Option<i64>),
+    /// The facet has the label.
+    Label(Text),
+    /// The facet has a label that begins so.
+    LabelPrefix(Text),
+}
+
+/// What a clause asks.
+#[derive(Debug, Drop)]
+#[cycle(query)]
+pub enum Primary {
+    /// Any item matches, as by `MatchAllDocsQuery`.
+    Everything,
+    /// An item matches that the clauses accept.
+    Group(Vec<Clause>),
+    /// An item matches whose field of the name passes the test.
+    Field(Text, Test),
+}
+
+/// A signed primary: Lucene's `BooleanClause`.
+#[derive(Debug, Drop)]
+#[cycle(query)]
+pub struct Clause {
+    pub sign: Sign,
+    pub primary: Primary,
+}
+
+/// A query: Lucene's `BooleanQuery`, without scores. Contracts see it as the tree of its clauses, `query_of`; equality
+/// and hashes go by the tree.
+#[derive(Debug, Drop)]
+pub struct Query {
+    pub clauses: Vec<Clause>,
+}
