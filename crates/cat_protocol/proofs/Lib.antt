@@ -1,9 +1,9 @@
 pub mod Answering
 pub mod Bridge
 pub mod Cuts
+pub mod Finds
 pub mod ModelRuns
 pub mod Openings
-pub mod Paging
 pub mod Rising
 pub mod Sound
 pub mod Steps

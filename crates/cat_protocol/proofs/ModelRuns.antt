@@ -1,7 +1,7 @@
 -- Runs of a world from its opening, one line more at a time.
-use Rattle.std.proofs.Common.{inl, inr, ◌≡◌, ℕ, ◌+◌, ◌<◌, List, [], ◌∷◌, ◌++◌, length, take, get_or, map, sym, subst, ◌∙◌, ap, arith}
+use Rattle.std.proofs.Common.{inl, inr, ◌≡◌, ℕ, ◌+◌, ◌<◌, List, [], ◌∷◌, ◌++◌, length, take, get_or, map, sym, subst, ◌∙◌, ap}
 use Rattle.std.specs.Prelude.{None}
-use Rattle.std.proofs.lemmas.List.{take_more, length-take, map-append}
+use Rattle.std.proofs.lemmas.List.{take_more, map-append}
 use Rattle.cat_model.specs.Item.{Schema}
 use Rattle.cat_model.specs.Table.{Opened, stands}
 use Rattle.cat_model.specs.Run.{Line, Reply, Run, Exchange, IsRun, Fits}
@@ -10,6 +10,9 @@ use Rattle.cat_model.proofs.Opening.{fresh_begins}
 use Rattle.cat_model.proofs.Runs.{runs_go_on}
 use Rattle.cat_model.proofs.States.{steps_keep_runs}
 use Rattle.cat_protocol.specs.World.{Does}
+use Rattle.cat_protocol.specs.Exchange.{IsExchangeOf, AreExchanges}
+use Rattle.cat_protocol.specs.declared.line.Line as said
+use Rattle.cat_protocol.specs.declared.reply.Reply as answered
 
 -- a service as it is opened stands for the empty run
 pub fresh_stands : (schema : Schema) (st : State) → IsFresh st → StandsFor (start_of schema st) [] st
@@ -49,28 +52,22 @@ Reaches-start schema st fresh = record { is_run = tt; stands_for = fresh_stands 
 
 -- ---- lines beside their replies
 
--- What pairs lines with replies in order, as a recursion on both lists does.
-pub record IsPairing {L R E : Type 0} (of : L → R → E) (pairs : List L → List R → List E) : Type 0 where
-  pub none : pairs [] [] ≡ []
-  pub first : (l : L) (r : R) (ls : List L) (rs : List R) → pairs (l ∷ ls) (r ∷ rs) ≡ of l r ∷ pairs ls rs
+exchanges-push : (schema : Schema) (ls : List said.Line) (rs : List answered.Reply) (es : Run) (l : said.Line) (r : answered.Reply) (e : Exchange)
+    → AreExchanges schema ls rs es → IsExchangeOf schema l r e → AreExchanges schema (ls ++ l ∷ []) (rs ++ r ∷ []) (es ++ e ∷ [])
+exchanges-push schema [] [] [] l r e all one = (one, tt)
+exchanges-push schema (k ∷ ls) (q ∷ rs) (d ∷ es) l r e all one = (all.0, exchanges-push schema ls rs es l r e all.1 one)
+exchanges-push schema [] [] (d ∷ es) l r e all one = absurd all
+exchanges-push schema [] (q ∷ rs) [] l r e all one = absurd all
+exchanges-push schema [] (q ∷ rs) (d ∷ es) l r e all one = absurd all
+exchanges-push schema (k ∷ ls) [] [] l r e all one = absurd all
+exchanges-push schema (k ∷ ls) [] (d ∷ es) l r e all one = absurd all
+exchanges-push schema (k ∷ ls) (q ∷ rs) [] l r e all one = absurd all
 
-pairs-push : {L R E : Type 0} (of : L → R → E) (pairs : List L → List R → List E) → IsPairing of pairs
-    → (ls : List L) (rs : List R) (l : L) (r : R) → length ls ≡ length rs → pairs (ls ++ l ∷ []) (rs ++ r ∷ []) ≡ pairs ls rs ++ of l r ∷ []
-pairs-push of pairs p [] [] l r e = p.first l r [] [] ∙ ap (λ es. of l r ∷ es) p.none ∙ sym (ap (λ es. es ++ of l r ∷ []) p.none)
-pairs-push of pairs p [] (y ∷ rs) l r e = absurd (omega arith)
-pairs-push of pairs p (x ∷ ls) [] l r e = absurd (omega arith)
-pairs-push of pairs p (x ∷ ls) (y ∷ rs) l r e =
-    p.first x y (ls ++ l ∷ []) (rs ++ r ∷ [])
-    ∙ ap (λ es. of x y ∷ es) (pairs-push of pairs p ls rs l r (omega arith))
-    ∙ sym (ap (λ es. es ++ of l r ∷ []) (p.first x y ls rs))
-
--- the pairs of the first i lines, and of the next one
-pub pairs-more : {L R E : Type 0} (of : L → R → E) (pairs : List L → List R → List E) → IsPairing of pairs
-    → (ls : List L) (i : ℕ) (d : L) (rs : List R) (r : R) → i < length ls → length rs ≡ i
-    → pairs (take (i + 1) ls) (rs ++ r ∷ []) ≡ pairs (take i ls) rs ++ of (get_or ls i d) r ∷ []
-pairs-more of pairs p ls i d rs r lt e =
-    ap (λ ks. pairs ks (rs ++ r ∷ [])) (take_more ls i d lt)
-    ∙ pairs-push of pairs p (take i ls) rs (get_or ls i d) r (omega (arith, length-take i ls, e))
+-- the exchanges of the first i lines, and of the next one
+pub exchanges-more : (schema : Schema) (ls : List said.Line) (i : ℕ) (d : said.Line) (rs : List answered.Reply) (r : answered.Reply) (es : Run) (e : Exchange)
+    → i < length ls → AreExchanges schema (take i ls) rs es → IsExchangeOf schema (get_or ls i d) r e → AreExchanges schema (take (i + 1) ls) (rs ++ r ∷ []) (es ++ e ∷ [])
+exchanges-more schema ls i d rs r es e lt all one =
+    subst (λ ks. AreExchanges schema ks (rs ++ r ∷ []) (es ++ e ∷ [])) (sym (take_more ls i d lt)) (exchanges-push schema (take i ls) rs es (get_or ls i d) r e all one)
 
 -- what is read of the first i lines and of their replies agrees for one more
 pub maps-more : {L R X : Type 0} (f : R → X) (g : L → X) (ls : List L) (i : ℕ) (d : L) (rs : List R) (r : R)

@@ -12,7 +12,7 @@ use Rattle.cat_schema.specs.Reading.{schema_of}
 use Rattle.cat_protocol.specs.World.{Kept, opened_as, OpensWorld}
 
 -- a refusal is want of memory or another
-is_memory : (e : Refusal) → (e ≡ Memory) ⊎ (e ≢ Memory)
+pub is_memory : (e : Refusal) → (e ≡ Memory) ⊎ (e ≢ Memory)
 is_memory Line = inr (λ h. cc h)
 is_memory Json = inr (λ h. cc h)
 is_memory Member = inr (λ h. cc h)

@@ -18,7 +18,7 @@ no_command_alone text none refresh opens Said.refresh h = refresh h.spelled
 no_command_alone text none refresh opens Said.open_newest h = opens h.spelled
 no_command_alone text none refresh opens (Said.open_at t) h = space_within (codes "OPEN") _ (subst HasNoSpace h.spelled none)
 no_command_alone text none refresh opens (Said.close t) h = space_within (codes "CLOSE") _ (subst HasNoSpace h.spelled none)
-no_command_alone text none refresh opens (Said.find t n query) h = space_within (codes "FIND") _ (subst HasNoSpace h.spelled none)
+no_command_alone text none refresh opens (Said.find t n sort mark query) h = space_within (codes "FIND") _ (subst HasNoSpace h.spelled none)
 
 -- a word that is the name of no command with arguments, and what is behind it
 pub no_command : (text name rest : Text) → text ≡ name ++ 32 ∷ rest → HasNoSpace name
@@ -36,7 +36,7 @@ no_command text name rest e none put delete opens close find (Said.open_at t) h 
     opens (one_split name (codes "OPEN") rest _ none (letters_no_space (codes "OPEN") refl) (sym e ∙ h.spelled)).0
 no_command text name rest e none put delete opens close find (Said.close t) h =
     close (one_split name (codes "CLOSE") rest _ none (letters_no_space (codes "CLOSE") refl) (sym e ∙ h.spelled)).0
-no_command text name rest e none put delete opens close find (Said.find t n query) h =
+no_command text name rest e none put delete opens close find (Said.find t n sort mark query) h =
     find (one_split name (codes "FIND") rest _ none (letters_no_space (codes "FIND") refl) (sym e ∙ h.spelled)).0
 
 -- behind the session stands what the rest spells, or nothing

@@ -1,6 +1,9 @@
--- Texts split at their first space, and the numbers before it.
-use Rattle.std.proofs.Common.{◌≡◌, ◌≢◌, ℕ, zero, suc, ◌<◌, ◌^◌, List, [], ◌∷◌, ◌++◌, length, refl, sym, ◌∙◌, ap, arith}
+-- Texts split at their first space, and the numbers, sorts and marks before it.
+use Rattle.std.proofs.Common.{◌≡◌, ◌≢◌, ℕ, zero, suc, ◌<◌, ◌^◌, List, [], ◌∷◌, ◌++◌, length, codes, leb, refl, sym, ◌∙◌, ap, arith}
+use Rattle.std.proofs.lemmas.Bool.{and_parts}
 use Rattle.std.proofs.lemmas.Bool.Decides.{nat_tests}
+use Rattle.std.specs.List.{list_all}
+use Rattle.std.specs.Char.{is_ascii_lowercase}
 use Rattle.std.specs.Prelude.{Result, Ok, Err, Option, Some, None, IfSome, IfNone, get_or, Bool, true, nat_lt, ◌&&◌}
 use denote.Ref.{Bor}
 use Rattle.std.specs.Fmt.{decimal}
@@ -9,7 +12,9 @@ use Rattle.std.proofs.lemmas.Fmt.{decimal_is_IsNumeral, decimal_digit, decimal_n
 use Rattle.std.proofs.lemmas.Str.Parse.{IsNumeralModel, numerals_by_value, tells_digits, parse_plain, digit_at}
 use Rattle.std.proofs.lemmas.Str.Pattern.{IsSplitOnceResult, split_parts}
 use Rattle.cat_model.specs.Text.{Text}
-use Rattle.cat_model.specs.Lines.{IsNumber}
+use Rattle.cat_model.specs.Item.{is_name_byte, has_name_form}
+use Rattle.cat_model.specs.Page.{Sort}
+use Rattle.cat_model.specs.Lines.{IsNumber, IsSort, IsMark, sort_text, mark_text}
 use Rattle.cat_protocol.specs.Words.{HasNoSpace}
 
 -- ---- where a text is split
@@ -97,3 +102,49 @@ pub one_number : (n m : ℕ) (rest left : Text) → IsNumber n → IsNumber m �
 one_number n m rest left h k e =
     let split = one_split (decimal n) (decimal m) rest left (decimal_no_space n (omega arith)) (decimal_no_space m (omega arith)) e in
     (decimal_injective n m (omega arith) (omega arith) split.0, split.1)
+
+-- ---- sorts and marks
+
+first_behind : (b : ℕ) (text : Text) → b ≢ 32 → HasNoSpace text → HasNoSpace (b ∷ text)
+first_behind b text other none zero k e = other e
+first_behind b text other none (suc i) k e = none i (omega arith) e
+
+name_byte_behind_space : (b : ℕ) → is_name_byte b ≡ true → 32 < b
+name_byte_behind_space b h = grind (arith, nat_tests)
+
+name_bytes_no_space : (name : Text) → list_all is_name_byte name ≡ true → HasNoSpace name
+name_bytes_no_space [] h = λ i k e. absurd (omega arith)
+name_bytes_no_space (b ∷ name) h =
+    let parts = and_parts (is_name_byte b) (list_all is_name_byte name) h in
+    let above = name_byte_behind_space b parts.0 in
+    first_behind b name (λ e. omega (arith, above, e)) (name_bytes_no_space name parts.1)
+
+lower_behind_space : (b : ℕ) → is_ascii_lowercase b ≡ true → 32 < b
+lower_behind_space b h = grind (arith, nat_tests)
+
+name_no_space : (name : Text) → has_name_form name ≡ true → HasNoSpace name
+name_no_space [] h = λ i k e. absurd (omega arith)
+name_no_space (b ∷ name) h =
+    let parts = and_parts (is_ascii_lowercase b && list_all is_name_byte name) (leb (length name) 31) h in
+    let bytes = and_parts (is_ascii_lowercase b) (list_all is_name_byte name) parts.0 in
+    let above = lower_behind_space b bytes.0 in
+    first_behind b name (λ e. omega (arith, above, e)) (name_bytes_no_space name bytes.1)
+
+pub sort_no_space : (sort : Sort) → IsSort sort → HasNoSpace (sort_text sort)
+sort_no_space Sort.added h = letters_no_space (codes ".") refl
+sort_no_space (Sort.rising name) h = first_behind 43 name (λ e. omega (arith, e)) (name_no_space name h)
+sort_no_space (Sort.falling name) h = first_behind 45 name (λ e. omega (arith, e)) (name_no_space name h)
+
+pub mark_no_space : (mark : Option ℕ) → IsMark mark → HasNoSpace (mark_text mark)
+mark_no_space None h = letters_no_space (codes ".") refl
+mark_no_space (Some n) h = decimal_no_space n (omega (arith, h))
+
+-- a text begins with one sort
+pub one_sort : (found sort : Sort) (rest left : Text) → IsSort found → IsSort sort → sort_text found ++ 32 ∷ rest ≡ sort_text sort ++ 32 ∷ left → rest ≡ left
+one_sort found sort rest left h k e = (one_split (sort_text found) (sort_text sort) rest left (sort_no_space found h) (sort_no_space sort k) e).1
+
+-- a word that is no dot and has no sign spells no sort
+pub no_sort : (word : Text) → word ≢ codes "." → ((name : Text) → word ≢ 43 ∷ name) → ((name : Text) → word ≢ 45 ∷ name) → (sort : Sort) → IsSort sort → word ≡ sort_text sort → ⊥
+no_sort word dot plus minus Sort.added form e = dot e
+no_sort word dot plus minus (Sort.rising name) form e = plus name e
+no_sort word dot plus minus (Sort.falling name) form e = minus name e

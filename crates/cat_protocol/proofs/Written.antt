@@ -1,6 +1,6 @@
 -- Texts that go out in pieces, one behind another.
 use Rattle.std.proofs.Common.{◌≡◌, ℕ, ◌+◌, ◌-◌, ◌≤◌, ◌<◌, List, [], ◌∷◌, ◌++◌, codes, length, take, drop, refl, sym, ap, ◌∙◌, subst, arith, length-take, append_assoc, append-nil, get_or, take-append-drop}
-use Rattle.std.specs.Prelude.{Option, None, Result, Ok, Err, map}
+use Rattle.std.specs.Prelude.{Option, Result, Ok, Err, map}
 use Rattle.std.specs.Result.{IsErr}
 use Rattle.std.specs.List.{flat_map}
 use Rattle.std.specs.Fmt.{decimal}
@@ -129,6 +129,5 @@ page_in_pieces session page total entries t e =
     rw (t, e, flat_map-map (λ words. line_text (decimal session ∷ words)) entry_words page.entries)
     (found_in_pieces (decimal session) (decimal (length page.entries)) (decimal page.total) (flat_map (entry_line session) page.entries))
 
-pub entry_in_pieces : (session : Text) (e : Entry) (number : ℕ) (id : Text) → e ≡ record { number = number; id = id; key = None }
-    → line_text (session ∷ entry_words e) ≡ (session ++ codes " ") ++ ((decimal number ++ codes " ") ++ (id ++ codes " .\n"))
-entry_in_pieces session e number id is = ap (λ e. line_text (session ∷ entry_words e)) is ∙ simp append_assoc
+pub entry_in_pieces : (session number id key : Text) → line_text (session ∷ number ∷ id ∷ key ∷ []) ≡ (session ++ codes " ") ++ ((number ++ codes " ") ++ (id ++ (codes " " ++ (key ++ codes "\n"))))
+entry_in_pieces session number id key = simp append_assoc

@@ -1,8 +1,7 @@
--- What is kept of tables and of views, and what is shown of them.
+-- What is kept of tables and of views.
 use Rattle.std.specs.Prelude.{ℕ, ◌<◌, ◌≤◌, ◌==◌, min, not, List, [], ◌∷◌, filter, Option, None, Some}
 use Rattle.std.specs.List.{AllByRecursion}
 use Rattle.cat_model.specs.Item as item
-use Rattle.cat_model.specs.Page as page
 use Rattle.cat_model.specs.State as state
 
 -- the number of each record is below those behind it
@@ -15,9 +14,13 @@ pub record IsTable (rs : List item.Record) (count : ℕ) : Type 0 where
   pub rising : NumbersRise rs
   pub seen : AllByRecursion (λ r. r.number ≤ count) rs
 
--- a hit in order of addition
-abbrev pub entry_of : item.Record → page.Entry
-entry_of r = record { number = r.number; id = r.item.id; key = None }
+-- each item has the parts that the schema asks for
+abbrev pub AreItems : item.Schema → List item.Record → Type 0
+AreItems schema rs = AllByRecursion (λ r. item.IsItem schema r.item) rs
+
+-- so have those of each view
+abbrev pub AreViews : item.Schema → List state.View → Type 0
+AreViews schema vs = AllByRecursion (λ v. AreItems schema v.table) vs
 
 -- the lesser of a number and another, if there is one
 abbrev pub lesser_of : Option ℕ → ℕ → Option ℕ

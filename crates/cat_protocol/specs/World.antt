@@ -8,7 +8,7 @@ use Rattle.cat_model.specs.Table.{Opened}
 use Rattle.cat_model.specs.Run.{Command, Line, Reply, has_form}
 use Rattle.cat_model.specs.State.{State, Moves, IsFresh, start_of}
 use Rattle.cat_model.specs.Lines.{Said}
-use Rattle.cat_model.specs.Heard.{Hears, command_of}
+use Rattle.cat_model.specs.Heard.{Hears, IsCommand}
 use Rattle.cat_model.specs.Served.{Begins, OpensEmpty, Told, heard}
 use Rattle.cat_schema.specs.Reading.{json}
 
@@ -17,10 +17,10 @@ pub record Kept : Type 0 where
   pub schema : Schema
   pub state : State
 
--- the command that a line without a form, or with this one, is
-abbrev pub command_under : Schema → Option Said → Command
-command_under schema None = Command.formless
-command_under schema (Some said) = command_of json schema said
+-- a line without a form, or that says this, is this command under the schema
+abbrev pub IsCommandOf : Schema → Option Said → Command → Type 0
+IsCommandOf schema None c = c ≡ Command.formless
+IsCommandOf schema (Some said) c = IsCommand json schema said c
 
 -- From old, a service in memory may give this reply and go on to new. It has no device and no files, so nothing but want
 -- of memory stops a line, and what is stopped changes nothing.

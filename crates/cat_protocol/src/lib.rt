@@ -1,6 +1,7 @@
 //! Lines and replies, and the world of sessions that answers them.
 #![tactic(auto)]
 
+mod finding;
 mod input;
 mod line;
 mod machine;
@@ -13,9 +14,9 @@ mod views;
 mod words;
 mod world;
 
-pub use line::{Command, Line};
+pub use line::{Command, Line, Sort};
 pub use machine::serve;
 pub use record::Record;
-pub use reply::{Answer, Entry, Page, Reply};
+pub use reply::{Answer, Reply};
 pub use serving::ServeFault;
 pub use world::World;

@@ -1,17 +1,29 @@
 //! What a line says.
-ghost use Rattle.std.specs.Prelude.{◌≡◌, ℕ, ◌≤◌, IfSome, IfNone, IfOk, IfErr};
+ghost use Rattle.std.specs.Prelude.{◌≡◌, ℕ, ◌≤◌, Option, IfSome, IfNone, IfOk, IfErr};
 ghost use Rattle.std.specs.Fmt.{decimal};
 ghost use Rattle.cat_model.specs.Text.{Text};
+ghost use Rattle.cat_model.specs.Page as model;
 ghost use Rattle.cat_model.specs.Lines.{Said, SpellsSaid, Shows};
 ghost use Rattle.cat_model.specs.Served.{SpellsSchema};
-ghost use Rattle.cat_protocol.specs.Line.{said_of, Reads};
+ghost use Rattle.cat_protocol.specs.Line.{sort_of, said_of, Reads};
 ghost use Rattle.cat_protocol.specs.Words.{SpellsFind};
 
-use crate::words::{number, split_number, split_word};
+use crate::words::{number, split_mark, split_number, split_sort, split_word};
 use cat_base::{
     GREATEST_MERGE_FACTOR, GREATEST_MERGE_MINIMUM, LAST_SESSION, LEAST_MERGE_FACTOR,
-    LEAST_MERGE_MINIMUM, Refusal, SessionNo, Token,
+    LEAST_MERGE_MINIMUM, Refusal, SessionNo, Token, WriteNo,
 };
+
+/// The order of hits, as it is said: a name has the form of a field's, and no schema has been looked at.
+#[derive(Clone, Copy, Debug, PartialEq, Eq)]
+pub enum Sort<'a> {
+    /// In order of addition: Lucene's `Sort.INDEXORDER`.
+    Added,
+    /// By the field of the name, the least value first.
+    Rising(&'a str),
+    /// By the field of the name, the greatest value first.
+    Falling(&'a str),
+}
 
 /// A command with its arguments as they came: no item, id or query has been looked at.
 #[derive(Clone, Copy, Debug, PartialEq, Eq)]
@@ -28,6 +40,9 @@ pub enum Command<'a> {
         token: Token,
         /// How many hits to show.
         count: u64,
+        sort: Sort<'a>,
+        /// The hits to show come after this record: the `after` of Lucene's `IndexSearcher.searchAfter`.
+        after: Option<WriteNo>,
         query: &'a str,
     },
 }
@@ -42,8 +57,8 @@ pub struct Line<'a> {
 impl<'a> Line<'a> {
     /// Reads a line: its session is all before the first space, or the whole line, and is 0 to 9,999 in decimal without
     /// a sign or a leading zero. Behind it stands `PUT <item>`, `DEL <id>`, `REFRESH`, `OPEN`, `OPEN <token>`,
-    /// `CLOSE <token>` or `FIND <token> <count> . . <query>`, with one space between each two; anything else is read as
-    /// `Command::NoForm`.
+    /// `CLOSE <token>` or `FIND <token> <count> <sort> <mark> <query>`, with one space between each two; anything else is
+    /// read as `Command::NoForm`. A sort is `.`, or `+` or `-` and a name; a mark is `.` or the number of a record.
     ///
     /// `Refusal::Line` says that no session can be read.
     pub fn read(text: &'a str) -> Result<Line<'a>, Refusal>
@@ -100,10 +115,12 @@ fn command_of(text: &str) -> Command<'_>
             None => Command::NoForm,
         },
         "FIND" => match find_of(rest) {
-            Some((token, count, query)) => Command::Find {
-                token,
-                count,
-                query,
+            Some(find) => Command::Find {
+                token: find.token,
+                count: find.count,
+                sort: find.sort,
+                after: find.after,
+                query: find.query,
             },
             None => Command::NoForm,
         },
@@ -111,15 +128,32 @@ fn command_of(text: &str) -> Command<'_>
     }
 }
 
-/// The token, the count and the query of a FIND, in order of addition and from the beginning.
-fn find_of(text: &str) -> Option<(Token, u64, &str)>
-    ensures found { IfSome result (λ find. SpellsFind text.now find.0 find.1 find.2.now) }
-    ensures none { IfNone result ((token count : ℕ) (query : Text) → SpellsFind text.now token count query → ⊥) }
+/// The arguments of a FIND.
+#[derive(Drop)]
+struct Find<'a> {
+    token: Token,
+    count: u64,
+    sort: Sort<'a>,
+    after: Option<WriteNo>,
+    query: &'a str,
+}
+
+/// The arguments of a FIND that the text spells.
+fn find_of(text: &str) -> Option<Find<'_>>
+    ensures found { IfSome result (λ find. SpellsFind text.now find.token find.count (sort_of find.sort) find.after find.query.now) }
+    ensures none { IfNone result ((token count : ℕ) (sort : model.Sort) (mark : Option ℕ) (query : Text) → SpellsFind text.now token count sort mark query → ⊥) }
 {
     let (token, rest) = split_number(text)?;
     let (count, rest) = split_number(rest)?;
-    let query = rest.strip_prefix(". . ")?;
-    Some((token, count, query))
+    let (sort, rest) = split_sort(rest)?;
+    let (after, query) = split_mark(rest)?;
+    Some(Find {
+        token,
+        count,
+        sort,
+        after,
+        query,
+    })
 }
 
 /// What a schema line says.

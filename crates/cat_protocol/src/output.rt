@@ -1,17 +1,19 @@
 //! Replies as they go out, piece by piece: nothing here takes memory, and at a fault a front of the text went out.
-ghost use Rattle.std.specs.Prelude.{◌≤◌, ◌∷◌, ◌++◌, [], codes, length, take, IfOk, OnErr, Ok};
+ghost use Rattle.std.specs.Prelude.{◌≤◌, ◌∷◌, ◌++◌, [], codes, length, option_map, take, IfOk, OnErr, Ok};
 ghost use Rattle.std.specs.Fmt.{decimal};
 ghost use Rattle.std.specs.Io.KnownBytes.{Appends, Keeps};
 ghost use Rattle.std.specs.List.{flat_map};
-ghost use Rattle.cat_model.specs.Lines.{entry_words, line_text, refusal_words, reply_text, unreadable_text};
+ghost use Rattle.cat_model.specs.Lines.{entry_words, key_text, line_text, refusal_words, reply_text, unreadable_text};
 ghost use Rattle.cat_model.specs.Served.{refused_text};
 ghost use Rattle.cat_model.specs.Answer.{Found};
 ghost use Rattle.cat_model.specs.Run as run;
 ghost use Rattle.cat_protocol.specs.Out.{Sent};
 ghost use Rattle.cat_protocol.specs.Reply.{answer_of, reply_of};
+ghost use Rattle.cat_search.specs.Keys.{key_meant};
 
-use crate::reply::{Answer, Entry, Page, Reply};
+use crate::reply::{Answer, Reply};
 use cat_base::{Refusal, SessionNo, Token};
+use cat_search::{Entry, Key, Page};
 use itoa::Buffer;
 use std::io::{ErrorKind, Write};
 
@@ -155,16 +157,34 @@ fn send_entries<W: Write>(
     Ok(())
 }
 
-/// Writes the line of a hit in order of addition, where a dot stands for the sort key.
+/// Writes the line of a hit.
 fn send_entry<W: Write>(session: SessionNo, entry: &Entry, to: &mut W) -> Result<(), WriteFault>
     ensures { Sent (W.contents to.old) (W.contents to.new) result
         (line_text (decimal session ∷ entry_words entry.now)) }
 {
-    let record = entry.record();
-    let number = record.number();
-    let id = record.item().id().as_bytes();
     send_number(session as u64, b" ", to)?;
-    send_number(number, b" ", to)?;
-    send(id, to)?;
-    send(b" .\n", to)
+    send_number(entry.number(), b" ", to)?;
+    send(entry.id().as_bytes(), to)?;
+    send(b" ", to)?;
+    send_key(entry.key(), to)?;
+    send(b"\n", to)
+}
+
+/// Writes what a hit was sorted by: a number in decimal, a keyword behind `=`, and a dot where there is neither.
+fn send_key<W: Write>(key: Option<&Key>, to: &mut W) -> Result<(), WriteFault>
+    ensures { Sent (W.contents to.old) (W.contents to.new) result
+        (key_text (option_map (λ k. key_meant k.now) key.entry)) }
+{
+    match key {
+        None => send(b".", to),
+        Some(Key::Number(number)) => send(Buffer::new().format(*number).as_bytes(), to),
+        Some(Key::Keyword(keyword)) => send_keyword(keyword.as_str().as_bytes(), to),
+    }
+}
+
+fn send_keyword<W: Write>(keyword: &[u8], to: &mut W) -> Result<(), WriteFault>
+    ensures { Sent (W.contents to.old) (W.contents to.new) result (codes "=" ++ keyword.now) }
+{
+    send(b"=", to)?;
+    send(keyword, to)
 }

@@ -5,6 +5,7 @@ ghost use Rattle.cat_base.specs.declared.refusal.Refusal.TheVariants.{Memory};
 
 use cat_base::{Refusal, WriteNo};
 use cat_schema::Item;
+use cat_search::Numbered;
 use std::marker::Model;
 use std::sync::Arc;
 
@@ -52,5 +53,17 @@ impl Record {
             number: self.number,
             item: Arc::try_clone(&self.item)?,
         })
+    }
+}
+
+impl Numbered for Record {
+    ghost meant = { λ r. r };
+
+    fn number(&self) -> WriteNo {
+        self.number
+    }
+
+    fn item(&self) -> &Item {
+        &self.item
     }
 }

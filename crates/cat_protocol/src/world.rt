@@ -1,35 +1,33 @@
 //! A world of sessions: the table, its recorded views and the sessions' holds, and the lines that change them.
-ghost use Rattle.std.specs.Prelude.{◌≡◌, ◌⊎◌, ◌+◌, ◌++◌, ◌∷◌, [], true, false, length, ltb, map, IfOk, IfErr, OnErr, None, Ok, Err};
+ghost use Rattle.std.specs.Prelude.{◌≡◌, ◌⊎◌, ◌+◌, ◌++◌, ◌∷◌, [], true, false, ltb, map, IfOk, IfErr, OnErr, Ok, Err};
 ghost use Rattle.cat_base.specs.declared.refusal.Refusal.TheVariants.{Full, Memory, Spent};
-ghost use Rattle.cat_model.specs.Answer.{Found, Read};
-ghost use Rattle.cat_model.specs.Heard.{query_of};
-ghost use Rattle.cat_model.specs.Page.{Sort};
-ghost use Rattle.cat_model.specs.Run as run;
-ghost use Rattle.cat_model.specs.Run.{Run, IsRun, Fits, greatest, last_number};
+ghost use Rattle.cat_model.specs.Item.{IsItem};
+ghost use Rattle.cat_model.specs.Run.{Exchange, Run, IsRun, Fits, greatest, last_number};
 ghost use Rattle.cat_model.specs.State.{IsFresh, StandsFor, closed, has_hold, has_view, opened, refreshed, refuses_refresh, start_of, table_under, tokens, written};
 ghost use Rattle.cat_model.specs.Table.{Opened};
 ghost use Rattle.cat_model.specs.Write.{Write};
-ghost use Rattle.cat_protocol.specs.Exchange.{exchange_of, exchanges, line_of, read_reply};
+ghost use Rattle.cat_protocol.specs.Exchange.{AreExchanges, DoesLine, FindsPage, IsExchangeOf, RefusesFind};
+ghost use Rattle.cat_protocol.specs.Line.{sort_of};
 ghost use Rattle.cat_protocol.specs.Reply.{reply_of};
-ghost use Rattle.cat_protocol.specs.Tables.{NumbersRise};
-ghost use Rattle.cat_protocol.specs.World.{Does, opened_as};
+ghost use Rattle.cat_protocol.specs.Tables.{AreItems, NumbersRise};
+ghost use Rattle.cat_protocol.specs.World.{opened_as};
 ghost use Rattle.cat_schema.specs.Reading.{item_of};
 
-use crate::line::{Command, Line};
+use crate::finding::{find_in, judge};
+use crate::line::{Command, Line, Sort};
 use crate::record::Record;
-use crate::reply::{Answer, Page, Reply};
-use crate::tables::{copy_records, page_of_all, remove_id};
+use crate::reply::{Answer, Reply};
+use crate::tables::{copy_records, remove_id};
 use crate::views::{
     Hold, View, is_holding, is_recorded, leaving, newest, record_view, remove_hold, view_under,
 };
-use cat_base::{LAST_NUMBER, MAX_PAGE, Refusal, SessionNo, Token, WriteNo};
+use cat_base::{LAST_NUMBER, Refusal, SessionNo, Token, WriteNo};
+use cat_query::Query;
 use cat_schema::{Item, Schema, id_ok};
+use cat_search::Page;
 use std::alloc::Global;
 use std::marker::Model;
 use std::sync::Arc;
-
-/// The query that matches every item.
-const EVERY_ITEM: &str = "*:*";
 
 /// A catalogue in memory with its sessions. Each write gets a number, as of Lucene's IndexWriter; views of the table
 /// are recorded under the number of its last write, and held, as searchers of SearcherLifetimeManager are.
@@ -45,14 +43,14 @@ pub struct World {
 
 impl Model for World {
     ghost use Rattle.cat_model.specs.State.{IsSound};
-    ghost use Rattle.cat_protocol.specs.Tables.{IsTable};
+    ghost use Rattle.cat_protocol.specs.Tables.{AreItems, AreViews, IsTable};
     ghost use Rattle.cat_protocol.specs.World.{Kept};
 
     ghost Value = { Kept };
 
     ghost view = { λ w. record { schema = w.schema; state = record { table = w.table.items; count = w.count; views = w.views.items; holds = w.holds.items } } };
 
-    ghost invariant = { λ w. IsSound w.views.items w.holds.items × IsTable w.table.items w.count };
+    ghost invariant = { λ w. IsSound w.views.items w.holds.items × IsTable w.table.items w.count × AreItems w.schema w.table.items × AreViews w.schema w.views.items };
 }
 
 impl World {
@@ -85,6 +83,7 @@ impl World {
     fn item(&self, text: &str) -> Result<Item, Refusal>
         ensures ok { IfOk result (λ i. item_of self.now.schema text.now ≡ Ok i) }
         ensures err { IfErr result (λ e. (e ≡ Memory) ⊎ (item_of self.now.schema text.now ≡ Err e)) }
+        ensures typed { IfOk result (λ i. IsItem self.now.schema i) }
     {
         self.schema.item(self.alloc, text.as_bytes())
     }
@@ -103,6 +102,7 @@ impl World {
 
     /// Takes out the item of the same id and puts this one last, as IndexWriter.updateDocument does.
     fn put(&mut self, item: Item) -> Result<WriteNo, Refusal>
+        requires { IsItem self.old.schema item }
         ensures schema { self.new.schema ≡ self.old.schema }
         ensures ok { IfOk result (λ n. (ltb self.old.state.count last_number ≡ true) × (n ≡ self.old.state.count + 1) × (self.new.state ≡ written self.old.state (Write.put item))) }
         ensures unchanged { OnErr result (self.new ≡ self.old) }
@@ -195,6 +195,7 @@ impl World {
     fn table_at(&self, token: Token) -> &[Record]
         ensures value { result.now ≡ table_under self.now.state.views token }
         ensures rising { NumbersRise result.now }
+        ensures items { AreItems self.now.schema result.now }
     {
         match view_under(&self.views, token) {
             Some(view) => view.table(),
@@ -202,34 +203,34 @@ impl World {
         }
     }
 
-    /// The first hits in order of addition, as of MatchAllDocsQuery under Sort.INDEXORDER, where the session holds the
-    /// token.
+    /// The first hits behind the mark, where the session holds the token: IndexSearcher.searchAfter with a Sort.
+    ///
+    /// A text that is no query is refused first, then a token that the session doesn't hold, the count, the sort field
+    /// and the mark.
     fn find(
         &self,
         session: SessionNo,
         token: Token,
         count: u64,
-        query: &str,
+        sort: Sort,
+        after: Option<WriteNo>,
+        text: &str,
     ) -> Result<Page, Refusal>
-        ensures ok { IfOk result (λ p. read_reply self.now session token (Read.find count Sort.added None (query_of query.now)) ≡ Ok (run.Answer.found (Found.page p))) }
-        ensures err { IfErr result (λ e. (e ≡ Memory) ⊎ (read_reply self.now session token (Read.find count Sort.added None (query_of query.now)) ≡ Err e)) }
+        ensures ok { IfOk result (λ p. FindsPage self.now session token count (sort_of sort.entry) after text.now p) }
+        ensures err { IfErr result (λ e. (e ≡ Memory) ⊎ RefusesFind self.now session token count (sort_of sort.entry) after text.now e) }
     {
-        if query != EVERY_ITEM {
-            return Err(Refusal::Query(0));
-        }
+        let query = Query::parse(&self.schema, self.alloc, text)?;
         if !self.is_holding(session, token) {
             return Err(Refusal::NotHeld);
         }
-        if count > MAX_PAGE as u64 {
-            return Err(Refusal::Count);
-        }
-        page_of_all(self.alloc, self.table_at(token), count as usize)
+        let records = self.table_at(token);
+        find_in(self.alloc, &self.schema, records, query, sort, after, count)
     }
 
     /// Answers a line, whose session stands in the reply.
     fn answer(&mut self, line: &Line) -> Result<Answer, Refusal>
         ensures schema { self.new.schema ≡ self.old.schema }
-        ensures does { Does self.old.schema self.old.state (line_of self.old.schema line.now) (reply_of result) self.new.state }
+        ensures does { DoesLine self.old.schema self.old.state line.now (reply_of result) self.new.state }
         ensures refused { OnErr result (self.new ≡ self.old) }
     {
         let session = line.session;
@@ -266,8 +267,14 @@ impl World {
             Command::Find {
                 token,
                 count,
+                sort,
+                after,
                 query,
-            } => Ok(Answer::Found(self.find(session, token, count, query)?)),
+            } => {
+                judge(&self.schema, query);
+                let page = self.find(session, token, count, sort, after, query)?;
+                Ok(Answer::Found(page))
+            }
         }
     }
 
@@ -275,10 +282,10 @@ impl World {
     pub fn step(&mut self, line: &Line) -> Reply
         ensures session { result.session ≡ line.now.session }
         ensures schema { self.new.schema ≡ self.old.schema }
-        ensures does { Does self.old.schema self.old.state (line_of self.old.schema line.now) (reply_of result.answer) self.new.state }
+        ensures does { DoesLine self.old.schema self.old.state line.now (reply_of result.answer) self.new.state }
         ensures refused { OnErr result.answer (self.new ≡ self.old) }
         ensures run { (from : Opened) (past : Run) → from.start.schema ≡ self.old.schema → IsRun from past → StandsFor from.start past self.old.state
-            → Fits from past (exchange_of self.old.schema line.now result) × StandsFor from.start (past ++ exchange_of self.old.schema line.now result ∷ []) self.new.state }
+            → (e : Exchange) × IsExchangeOf self.old.schema line.now result e × Fits from past e × StandsFor from.start (past ++ e ∷ []) self.new.state }
     {
         Reply {
             session: line.session,
@@ -290,8 +297,8 @@ impl World {
     pub fn run(&mut self, alloc: Global, lines: &[Line]) -> Result<Vec<Reply>, Refusal>
         requires { IsFresh self.old.state }
         ensures sessions { IfOk result (λ replies. map (λ r. r.session) replies.items ≡ map (λ l. l.session) lines.now) }
-        ensures run { IfOk result (λ replies. (length replies.items ≡ length lines.now) × IsRun (opened_as self.old) (exchanges self.old.schema lines.now replies.items)) }
-        ensures left { IfOk result (λ replies. (self.new.schema ≡ self.old.schema) × StandsFor (start_of self.old.schema self.old.state) (exchanges self.old.schema lines.now replies.items) self.new.state) }
+        ensures schema { self.new.schema ≡ self.old.schema }
+        ensures run { IfOk result (λ replies. (whole : Run) × AreExchanges self.old.schema lines.now replies.items whole × IsRun (opened_as self.old) whole × StandsFor (start_of self.old.schema self.old.state) whole self.new.state) }
         ensures err { IfErr result (λ e. (e ≡ Memory) × (self.new ≡ self.old)) }
     {
         let mut replies = Vec::with_capacity(alloc, lines.len())?;

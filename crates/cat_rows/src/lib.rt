@@ -2,6 +2,8 @@
 #![tactic(auto)]
 
 #[cfg(test)]
+mod rows_find;
+#[cfg(test)]
 mod rows_held;
 #[cfg(test)]
 mod rows_lines;
@@ -9,6 +11,8 @@ mod rows_lines;
 mod rows_memory;
 #[cfg(test)]
 mod rows_opening;
+#[cfg(test)]
+mod rows_queries;
 #[cfg(test)]
 mod rows_refused;
 #[cfg(test)]

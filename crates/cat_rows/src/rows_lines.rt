@@ -1,6 +1,6 @@
 //! Lines, and what is read of them.
 
-use cat_protocol::{Command, Line};
+use cat_protocol::{Command, Line, Sort};
 use std::process::Abort;
 
 const LARGEST: u64 = 9_223_372_036_854_775_807;
@@ -129,7 +129,47 @@ fn finds(rt: HostRuntime) {
             Command::Find {
                 token,
                 count,
+                sort: Sort::Added,
+                after: None,
                 query,
+            },
+        );
+    }
+}
+
+#[test]
+fn sorts_and_marks(rt: HostRuntime) {
+    for (text, sort, after) in [
+        ("1 FIND 0 10 . 0 *:*", Sort::Added, Some(0)),
+        ("1 FIND 0 10 . 3 *:*", Sort::Added, Some(3)),
+        (
+            "1 FIND 0 10 . 9223372036854775807 *:*",
+            Sort::Added,
+            Some(LARGEST),
+        ),
+        ("1 FIND 0 10 +price . *:*", Sort::Rising("price"), None),
+        ("1 FIND 0 10 -price . *:*", Sort::Falling("price"), None),
+        ("1 FIND 0 10 +price 7 *:*", Sort::Rising("price"), Some(7)),
+        ("1 FIND 0 10 -price 7 *:*", Sort::Falling("price"), Some(7)),
+        ("1 FIND 0 10 +a . *:*", Sort::Rising("a"), None),
+        ("1 FIND 0 10 +a_1 . *:*", Sort::Rising("a_1"), None),
+        ("1 FIND 0 10 -id . *:*", Sort::Falling("id"), None),
+        (
+            "1 FIND 0 10 +abcdefghijklmnopqrstuvwxyz012345 . *:*",
+            Sort::Rising("abcdefghijklmnopqrstuvwxyz012345"),
+            None,
+        ),
+    ] {
+        assert_reads(
+            &rt,
+            text,
+            1,
+            Command::Find {
+                token: 0,
+                count: 10,
+                sort,
+                after,
+                query: "*:*",
             },
         );
     }
@@ -183,8 +223,33 @@ fn no_form(rt: HostRuntime) {
         "1 FIND +0 10 . . *:*",
         "1 FIND 0 9223372036854775808 . . *:*",
         "1 FIND 9223372036854775808 10 . . *:*",
-        "1 FIND 0 10 +price . *:*",
-        "1 FIND 0 10 . 3 *:*",
+        "1 FIND 0 10 price . *:*",
+        "1 FIND 0 10 *price . *:*",
+        "1 FIND 0 10 .price . *:*",
+        "1 FIND 0 10 + . *:*",
+        "1 FIND 0 10 - . *:*",
+        "1 FIND 0 10 +- . *:*",
+        "1 FIND 0 10 +-price . *:*",
+        "1 FIND 0 10 +Price . *:*",
+        "1 FIND 0 10 -pRice . *:*",
+        "1 FIND 0 10 +1price . *:*",
+        "1 FIND 0 10 +_price . *:*",
+        "1 FIND 0 10 +pri-ce . *:*",
+        "1 FIND 0 10 +pri\u{e9} . *:*",
+        "1 FIND 0 10 +abcdefghijklmnopqrstuvwxyz0123456 . *:*",
+        "1 FIND 0 10 +price",
+        "1 FIND 0 10 +price *:*",
+        "1 FIND 0 10 + price . *:*",
+        "1 FIND 0 10  . *:*",
+        "1 FIND 0 10 . x *:*",
+        "1 FIND 0 10 . 01 *:*",
+        "1 FIND 0 10 . +1 *:*",
+        "1 FIND 0 10 . -1 *:*",
+        "1 FIND 0 10 . .. *:*",
+        "1 FIND 0 10 .. . *:*",
+        "1 FIND 0 10 . 3",
+        "1 FIND 0 10 . 3x *:*",
+        "1 FIND 0 10 . 9223372036854775808 *:*",
     ] {
         assert_reads(&rt, text, 1, Command::NoForm);
     }

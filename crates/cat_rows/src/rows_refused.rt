@@ -63,8 +63,8 @@ fn lines_without_a_form_are_refused(rt: HostRuntime) -> Result<(), Fail> {
         ("1 CLOSE 9223372036854775808", "1 NO 10"),
         ("1 CLOSE 9223372036854775807", "1 NO 20"),
         ("1 FIND 0 01 . . *:*", "1 NO 10"),
-        ("1 FIND 0 1 +price . *:*", "1 NO 10"),
-        ("1 FIND 0 1 . 1 *:*", "1 NO 10"),
+        ("1 FIND 0 1 +Price . *:*", "1 NO 10"),
+        ("1 FIND 0 1 . 01 *:*", "1 NO 10"),
         ("1 FIND 0 1 . .", "1 NO 10"),
     ];
     expect_rows(&rt, rt.alloc(), rows)
@@ -73,7 +73,7 @@ fn lines_without_a_form_are_refused(rt: HostRuntime) -> Result<(), Fail> {
 #[test]
 fn a_find_tells_a_query_before_a_token_before_a_count(rt: HostRuntime) -> Result<(), Fail> {
     let rows = &[
-        ("1 FIND 0 1001 . . price:5", "1 NO 24 0"),
+        ("1 FIND 0 1001 . . price:x", "1 NO 24 6"),
         ("1 FIND 0 1001 . . ", "1 NO 24 0"),
         ("1 FIND 0 1001 . . *:*", "1 NO 20"),
         ("1 OPEN", "1 OK 0"),

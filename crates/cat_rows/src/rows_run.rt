@@ -29,7 +29,7 @@ fn a_run_of_reads_is_answered_line_by_line(rt: HostRuntime) -> Result<(), Fail> 
         ("1 OPEN", "1 OK 0"),
         ("1 FIND 0 10 . . *:*", "1 OK 0 0"),
         ("1 MERGE", "1 NO 10"),
-        ("1 FIND 0 10 . . price:5", "1 NO 24 0"),
+        ("1 FIND 0 10 . . price:x", "1 NO 24 6"),
     ];
     expect_run(&rt, rt.alloc(), rows)
 }

@@ -20,10 +20,11 @@ returns-in-Ok g c =
     let sent =
     subst (λ s. Sent (g.W.Write.contents c.args.to.now) (g.W.Write.contents c.send_reply.new.to) c.send_reply.result (reply_text s (reply_of reply.answer)))
     c.step-reply.ensures.session c.send_reply.ensures in
+    let does = c.step-reply.ensures.does in
     rw c.in-Some.is (
-      told_to c.args.self.now line.session (said_of line.command) (reply_of reply.answer),
-      heard_as c.args.self.now c.step-reply.new.self c.in-Some.bytes.now c.in-Some-text_of.text.now line.session (said_of line.command) (reply_of reply.answer)
-          found c.in-Some-text_of.ensures.readable c.in-Ok.ensures.found c.step-reply.ensures.schema c.step-reply.ensures.does,
+      told_to line.session does.0 (reply_of reply.answer),
+      heard_as c.args.self.now c.step-reply.new.self c.in-Some.bytes.now c.in-Some-text_of.text.now line.session (said_of line.command) does.0 (reply_of reply.answer)
+          found c.in-Some-text_of.ensures.readable c.in-Ok.ensures.found does.1 c.step-reply.ensures.schema does.2,
       sent,
     )
 
