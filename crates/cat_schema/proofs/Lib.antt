@@ -4,3 +4,4 @@ pub mod LabelSteps
 pub mod Names
 pub mod Parts
 pub mod WholeItem
+pub mod SchemaTexts

@@ -7,9 +7,9 @@ use Rattle.std.specs.Map.{keys_of}
 use Rattle.std.specs.String.{string_cmp}
 use Rattle.std.specs.Cmp.Lexicographic.{slice_cmp}
 use Rattle.std.specs.declared.alloc.Global.{Global}
-use Rattle.serde_json.specs.Data.{Data}
+use Rattle.serde_json.specs.Data.{Data, Members, no_members, member}
 use Rattle.serde_json.specs.Find.{as_str}
-use Rattle.serde_json.specs.View.{view, members_view}
+use Rattle.serde_json.specs.View.{members_view}
 use Rattle.serde_json.specs.declared.value.Value.{Value}
 use Rattle.cat_base.specs.Texts.{IsTextSet}
 use Rattle.cat_model.specs.Item.{Field, Kind, is_name}
@@ -18,8 +18,13 @@ use Rattle.cat_schema.specs.Reading.{kind_named, field_of, fields_of}
 abbrev Entry : Type 0
 Entry = String Global × Value
 
-abbrev names : List Field → List (List ℕ)
+abbrev pub names : List Field → List (List ℕ)
 names fs = map (λ f. f.name) fs
+
+-- the names of the members, in their order
+abbrev pub names_in : Members → List (List ℕ)
+names_in no_members = []
+names_in (member name d ms) = name ∷ names_in ms
 
 abbrev keys : List Entry → List (List ℕ)
 keys es = map string_bytes (keys_of es)
@@ -61,25 +66,32 @@ made-name name false o f e = absurd (cc)
 field_of-name : (name : List ℕ) (d : Data) (f : Field) → field_of name d ≡ Some f → (f.name ≡ name) × (is_name name ≡ true)
 field_of-name name d f e = made-name name (is_name name) (option_and_then kind_named (as_str d)) f e
 
-names_are : (es : List Entry) (fs : List Field) → fields_of (members_view es) ≡ Some fs → names fs ≡ keys es
-names_are [] fs e = let none : fs ≡ [] = (cc) in ap names none
-names_are (m ∷ es) fs e =
-    let p = parts (field_of (string_bytes m.0) (view m.1)) (fields_of (members_view es)) fs e in
-    let first = (field_of-name (string_bytes m.0) (view m.1) p.first p.is_first).0 in
-    let rest = names_are es p.rest p.is_rest in
+names_are : (ms : Members) (fs : List Field) → fields_of ms ≡ Some fs → names fs ≡ names_in ms
+names_are no_members fs e = let none : fs ≡ [] = (cc) in ap names none
+names_are (member name d ms) fs e =
+    let p = parts (field_of name d) (fields_of ms) fs e in
+    let first = (field_of-name name d p.first p.is_first).0 in
+    let rest = names_are ms p.rest p.is_rest in
     ap names p.whole ∙ (λ i. first i ∷ rest i)
 
 -- each field's name has the form of one
-pub all_named : (es : List Entry) (fs : List Field) → fields_of (members_view es) ≡ Some fs → AllByRecursion (λ f. is_name f.name ≡ true) fs
-all_named [] fs e = let none : fs ≡ [] = (cc) in subst (AllByRecursion (λ f. is_name f.name ≡ true)) (sym none) tt
-all_named (m ∷ es) fs e =
-    let p = parts (field_of (string_bytes m.0) (view m.1)) (fields_of (members_view es)) fs e in
-    let n = field_of-name (string_bytes m.0) (view m.1) p.first p.is_first in
-    subst (AllByRecursion (λ f. is_name f.name ≡ true)) (sym p.whole) (ap is_name n.0 ∙ n.1, all_named es p.rest p.is_rest)
+pub all_named : (ms : Members) (fs : List Field) → fields_of ms ≡ Some fs → AllByRecursion (λ f. is_name f.name ≡ true) fs
+all_named no_members fs e = let none : fs ≡ [] = (cc) in subst (AllByRecursion (λ f. is_name f.name ≡ true)) (sym none) tt
+all_named (member name d ms) fs e =
+    let p = parts (field_of name d) (fields_of ms) fs e in
+    let n = field_of-name name d p.first p.is_first in
+    subst (AllByRecursion (λ f. is_name f.name ≡ true)) (sym p.whole) (ap is_name n.0 ∙ n.1, all_named ms p.rest p.is_rest)
 
 -- the fields' names rise, since the members' do
+pub names_rise : (ms : Members) (fs : List Field) → IsTextSet (names_in ms) → fields_of ms ≡ Some fs → IsTextSet (names fs)
+names_rise ms fs sorted e = subst IsTextSet (sym (names_are ms fs e)) sorted
+
+names_viewed : (es : List Entry) → names_in (members_view es) ≡ keys es
+names_viewed [] = refl
+names_viewed (m ∷ es) = ap (λ ks. string_bytes m.0 ∷ ks) (names_viewed es)
+
 pub rising_names : (es : List Entry) (fs : List Field) → IsStrictlySortedBy string_cmp (keys_of es) → fields_of (members_view es) ≡ Some fs → IsTextSet (names fs)
-rising_names es fs sorted e = subst IsTextSet (sym (names_are es fs e)) (rising_keys (keys_of es) sorted)
+rising_names es fs sorted e = names_rise (members_view es) fs (subst IsTextSet (sym (names_viewed es)) (rising_keys (keys_of es) sorted)) e
 
 -- at the end of the walk
 pub all_read : (old : List Field) (es : List Entry) (all : Option (List Field)) → es ≡ [] → option_map (λ fs. old ++ fs) (fields_of (members_view es)) ≡ all → all ≡ Some old

@@ -35,11 +35,11 @@ abbrev pub fields_of : Members → Option Schema
 fields_of no_members = Some []
 fields_of (member name d ms) = option_and_then (λ f. option_map (λ fs. f ∷ fs) (fields_of ms)) (field_of name d)
 
-abbrev at_most_32 : Option Schema → Result Schema Refusal
+abbrev pub at_most_32 : Option Schema → Result Schema Refusal
 at_most_32 None = Err refusal.Kind
 at_most_32 (Some fs) = if nat_lt 32 (length fs) then Err refusal.Kind else Ok fs
 
-abbrev schema_of_value : Option Data → Result Schema Refusal
+abbrev pub schema_of_value : Option Data → Result Schema Refusal
 schema_of_value None = Err refusal.Json
 schema_of_value (Some d) = at_most_32 (option_and_then fields_of (as_object d))
 

@@ -13,7 +13,7 @@ use crate::analysis::words;
 use crate::faults::first_fault;
 use crate::forms::id_ok;
 use crate::item::{FieldValue, Item};
-use crate::json::read_json;
+use crate::parsing::read_json;
 use crate::schema::{Field, Kind, Schema};
 use cat_base::{MAX_ITEM_BYTES, Refusal, Text, TextSet};
 use serde_json::Value;

@@ -7,10 +7,14 @@ mod faults;
 mod fields;
 mod forms;
 mod item;
-mod json;
+mod laws;
+mod parsing;
 mod schema;
 
 pub use analysis::words;
 pub use forms::{has_name_form, id_ok};
 pub use item::{FieldValue, Item};
+pub use laws::{
+    every_input_is_heard_one_way, every_line_is_heard_one_way, texts_of_schemas_keep_the_rules,
+};
 pub use schema::{Field, Kind, Schema};

@@ -4,7 +4,7 @@ ghost use Rattle.std.specs.Arc.{arc_value};
 ghost use Rattle.cat_base.specs.declared.refusal.Refusal.TheVariants.{Memory};
 
 use crate::fields::read_fields;
-use crate::json::read_json;
+use crate::parsing::read_json;
 use cat_base::{MAX_FIELDS, Refusal, Text};
 use std::alloc::Global;
 use std::marker::Model;
