@@ -4,7 +4,7 @@ use Rattle.std.specs.Prelude.{◌⊎◌, ◌≢◌, Option, Some, Result, Ok, Er
 use Rattle.cat_base.specs.declared.refusal.Refusal.{Refusal}
 use Rattle.cat_base.specs.declared.refusal.Refusal.TheVariants.{Memory, NotHeld, Query as NoQuery}
 use Rattle.cat_model.specs.Text.{Text}
-use Rattle.cat_model.specs.Item.{Schema, Record, IsSchema}
+use Rattle.cat_model.specs.Item.{Schema, Record}
 use Rattle.cat_model.specs.Answer.{Read, Found, answer, fault}
 use Rattle.cat_model.specs.Faults.{Fault}
 use Rattle.cat_model.specs.Grammar.{Spells}
@@ -23,7 +23,6 @@ use Rattle.cat_protocol.specs.World.{Kept, IsCommandOf}
 use Rattle.cat_protocol.specs.declared.line.Line.{Line}
 use Rattle.cat_protocol.specs.declared.reply.Answer.{Answer}
 use Rattle.cat_model.specs.Lines.{Said}
-use Rattle.cat_model.proofs.QueryLaws.{texts_are_judged}
 use Rattle.cat_protocol.proofs.Openings.{is_memory}
 
 map_same : {X : Type 0} (xs : List X) → map (λ x. x) xs ≡ xs
@@ -105,11 +104,3 @@ module _ (w : Kept) (line : Line) (t n : ℕ) (sort : Sort) (mark : Option ℕ) 
       → DoesLine w.schema w.state line (reply_of r) w.state
   does_refuse judged (Ok a) e so refused = absurd (cc so.0)
   does_refuse judged (Err x) e so refused = subst (λ y. DoesLine w.schema w.state line (Err y) w.state) (sym so.1) (refuses_find judged e refused)
-
-judged_in : (schema : Schema) (text : Text) → ((q : Query) × Spells schema text q) ⊎ ((place : ℕ) × Fault schema text place) → (q : Result Query Refusal) × IsQueryOf schema text q
-judged_in schema text (inl (q, spells)) = (Ok q, IsQueryOf.spelled q spells)
-judged_in schema text (inr (place, fault)) = (Err (NoQuery place), IsQueryOf.faulty place fault)
-
--- each text is judged under a schema
-pub query_judged : (schema : Schema) (text : Text) → IsSchema schema → (q : Result Query Refusal) × IsQueryOf schema text q
-query_judged schema text is = judged_in schema text (texts_are_judged schema text is)

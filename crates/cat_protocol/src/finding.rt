@@ -1,10 +1,7 @@
 //! Pages of hits over the records of a view.
-ghost use Rattle.std.specs.Prelude.{◌≡◌, ◌⊎◌, Result, Ok, Err, IfOk, IfErr};
-ghost use Rattle.cat_base.specs.declared.refusal.Refusal.{Refusal};
+ghost use Rattle.std.specs.Prelude.{◌≡◌, ◌⊎◌, Ok, Err, IfOk, IfErr};
 ghost use Rattle.cat_base.specs.declared.refusal.Refusal.TheVariants.{Memory};
 ghost use Rattle.cat_model.specs.Answer.{Found, Read, answer};
-ghost use Rattle.cat_model.specs.Heard.{IsQueryOf};
-ghost use Rattle.cat_model.specs.Query as model;
 ghost use Rattle.cat_query.specs.View.{query_of};
 ghost use Rattle.cat_search.specs.Sorts.{sort_meant};
 ghost use Rattle.cat_protocol.specs.Line.{sort_of};
@@ -78,11 +75,4 @@ pub(crate) fn find_in(
         after,
         count as usize,
     )
-}
-
-/// Under the schema the text is a query or has a fault, so that a FIND which wants memory is one of some command, too.
-pub(crate) fn judge(schema: &Schema, text: &str)
-    ensures { (q : Result model.Query Refusal) × IsQueryOf schema.now text.now q }
-{
-    let _ = schema.fields();
 }

@@ -1,7 +1,10 @@
 //! A world of sessions: the table, its recorded views and the sessions' holds, and the lines that change them.
-ghost use Rattle.std.specs.Prelude.{◌≡◌, ◌⊎◌, ◌+◌, ◌++◌, ◌∷◌, [], true, false, ltb, map, IfOk, IfErr, OnErr, Ok, Err};
+ghost use Rattle.std.specs.Prelude.{◌≡◌, ◌⊎◌, ◌+◌, ◌++◌, ◌∷◌, [], true, false, ltb, map, Result, IfOk, IfErr, OnErr, Ok, Err};
+ghost use Rattle.cat_base.specs.declared.refusal.Refusal.{Refusal};
 ghost use Rattle.cat_base.specs.declared.refusal.Refusal.TheVariants.{Full, Memory, Spent};
+ghost use Rattle.cat_model.specs.Heard.{IsQueryOf};
 ghost use Rattle.cat_model.specs.Item.{IsItem};
+ghost use Rattle.cat_model.specs.Query as model;
 ghost use Rattle.cat_model.specs.Run.{Exchange, Run, IsRun, Fits, greatest, last_number};
 ghost use Rattle.cat_model.specs.State.{IsFresh, StandsFor, closed, has_hold, has_view, opened, refreshed, refuses_refresh, start_of, table_under, tokens, written};
 ghost use Rattle.cat_model.specs.Table.{Opened};
@@ -13,7 +16,7 @@ ghost use Rattle.cat_protocol.specs.Tables.{AreItems, NumbersRise};
 ghost use Rattle.cat_protocol.specs.World.{opened_as};
 ghost use Rattle.cat_schema.specs.Reading.{item_of};
 
-use crate::finding::{find_in, judge};
+use crate::finding::find_in;
 use crate::line::{Command, Line, Sort};
 use crate::record::Record;
 use crate::reply::{Answer, Reply};
@@ -218,6 +221,7 @@ impl World {
     ) -> Result<Page, Refusal>
         ensures ok { IfOk result (λ p. FindsPage self.now session token count (sort_of sort.entry) after text.now p) }
         ensures err { IfErr result (λ e. (e ≡ Memory) ⊎ RefusesFind self.now session token count (sort_of sort.entry) after text.now e) }
+        ensures judged { (q : Result model.Query Refusal) × IsQueryOf self.now.schema text.now q }
     {
         let query = Query::parse(&self.schema, self.alloc, text)?;
         if !self.is_holding(session, token) {
@@ -271,7 +275,6 @@ impl World {
                 after,
                 query,
             } => {
-                judge(&self.schema, query);
                 let page = self.find(session, token, count, sort, after, query)?;
                 Ok(Answer::Found(page))
             }

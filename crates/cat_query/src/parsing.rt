@@ -1,5 +1,6 @@
 //! Queries from texts.
-ghost use Rattle.std.specs.Prelude.{◌≡◌, ◌⊎◌, ℕ, Ok, Err, IfOk, IfErr};
+ghost use Rattle.std.specs.Prelude.{◌≡◌, ◌⊎◌, ℕ, Result, Ok, Err, IfOk, IfErr};
+ghost use Rattle.cat_base.specs.declared.refusal.Refusal.{Refusal};
 ghost use Rattle.cat_base.specs.declared.refusal.Refusal.TheVariants.{Memory, Query as Unreadable};
 ghost use Rattle.cat_model.specs.Reader.{read_query, content_at};
 ghost use Rattle.cat_query.specs.View.{clauses_of, query_of};
@@ -27,16 +28,19 @@ fn clauses(alloc: Global, fields: &[Field], text: &str) -> Result<Vec<Clause>, S
 impl Query {
     ghost use Rattle.cat_model.specs.Faults.{Fault};
     ghost use Rattle.cat_model.specs.Grammar.{Spells};
+    ghost use Rattle.cat_model.specs.Heard.{IsQueryOf};
     ghost use Rattle.cat_model.specs.Item.{IsSchema};
+    ghost use Rattle.cat_model.specs.Query as model;
 
     /// The query that a text spells, in a language of our own in the manner of Lucene's classic `QueryParser`.
     ///
     /// `Refusal::Query` has the place of the first fault, in bytes from the text's beginning, and `Refusal::Memory`
-    /// comes where memory is refused.
+    /// comes where memory is refused. Whatever memory does, the text is a query or has a fault.
     pub fn parse(schema: &Schema, alloc: Global, text: &str) -> Result<Query, Refusal>
         ensures ok { IfOk result (λ q. Spells schema.now text.now (query_of q)) }
         ensures err { IfErr result (λ e. (e ≡ Memory)
             ⊎ ((place : ℕ) × (e ≡ Unreadable place) × Fault schema.now text.now place)) }
+        ensures judged { (q : Result model.Query Refusal) × IsQueryOf schema.now text.now q }
     {
         Query::read(schema, alloc, text)
     }

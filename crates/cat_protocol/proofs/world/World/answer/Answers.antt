@@ -1,8 +1,5 @@
-use Rattle.std.proofs.Common.{ap, refl, rules, subst}
-use Rattle.std.specs.Prelude.{Result}
-use Rattle.cat_base.specs.declared.refusal.Refusal.{Refusal}
-use Rattle.cat_model.specs.Query.{Query}
-use Rattle.cat_model.specs.Heard.{IsQueryOf, id_of}
+use Rattle.std.proofs.Common.{ap, refl, rules}
+use Rattle.cat_model.specs.Heard.{id_of}
 use Rattle.cat_model.specs.Run.{Command}
 use Rattle.cat_schema.specs.Reading.{item_of}
 use Rattle.cat_protocol.specs.Line.{said_of, sort_of}
@@ -38,8 +35,7 @@ returns-then-not-is_holding-clause-does c = (Command.close c.in-Close.token, rw 
 
 pub returns-in_err-page-in-Find-clause-does : goal.returns-in_err-page-in-Find-clause-does
 returns-in_err-page-in-Find-clause-does c =
-    let judged = subst (λ w. (q : Result Query Refusal) × IsQueryOf w.schema c.in-Find.query.now q) c.self.view_is c.judge.ensures in
-    does_refuse c.args.self.now c.args.line.now c.in-Find.token c.in-Find.count (sort_of c.in-Find.sort) c.in-Find.after c.in-Find.query.now (ap said_of c.in-Find.is) judged c.from_residual-in_err-page-in-Find.result c.in_err-page-in-Find.field-0.0
+    does_refuse c.args.self.now c.args.line.now c.in-Find.token c.in-Find.count (sort_of c.in-Find.sort) c.in-Find.after c.in-Find.query.now (ap said_of c.in-Find.is) c.in_err-page-in-Find.ensures.judged c.from_residual-in_err-page-in-Find.result c.in_err-page-in-Find.field-0.0
     c.from_residual-in_err-page-in-Find.ensures c.in_err-page-in-Find.ensures.err
 
 pub returns-in-NoForm-clause-does : goal.returns-in-NoForm-clause-does
