@@ -187,7 +187,7 @@ fn entries_of(alloc: Global, candidates: &[Candidate]) -> Result<Vec<Entry>, Ref
 ///
 /// The first of these refusals that is due comes: [`Refusal::Count`] if n is above [`MAX_PAGE`],
 /// [`Refusal::SortField`] if the sort is not by a number or keyword field of the schema, [`Refusal::Mark`] if the mark is
-/// the number of no record; then [`Refusal::Memory`].
+/// the number of no record. Where none of them is due, [`Refusal::Memory`] may come in place of the page.
 pub fn page_of<R: Numbered, Q: Accepts>(
     alloc: Global,
     schema: &Schema,
@@ -201,6 +201,7 @@ pub fn page_of<R: Numbered, Q: Accepts>(
     requires items { All (λ r. IsItem schema.now (R.meant r).item) records.now }
     ensures ok { IfOk result (λ p. answer_where schema.now (map R.meant records.now) (Q.accepted query.now) (sort_meant sort.now) mark n ≡ Ok p) }
     ensures err { IfErr result (λ e. e ≢ Memory → answer_where schema.now (map R.meant records.now) (Q.accepted query.now) (sort_meant sort.now) mark n ≡ Err e) }
+    ensures due { IfErr (answer_where schema.now (map R.meant records.now) (Q.accepted query.now) (sort_meant sort.now) mark n) (λ e. result ≡ Err e) }
 {
     if n > MAX_PAGE {
         return Err(Refusal::Count);
