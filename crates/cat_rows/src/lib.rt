@@ -2,6 +2,8 @@
 #![tactic(auto)]
 
 #[cfg(test)]
+mod rows_faults;
+#[cfg(test)]
 mod rows_find;
 #[cfg(test)]
 mod rows_held;
@@ -11,6 +13,8 @@ mod rows_lines;
 mod rows_memory;
 #[cfg(test)]
 mod rows_opening;
+#[cfg(test)]
+mod rows_pages;
 #[cfg(test)]
 mod rows_queries;
 #[cfg(test)]

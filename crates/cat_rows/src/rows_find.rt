@@ -124,6 +124,27 @@ fn clauses_are_musts_must_nots_and_shoulds(rt: HostRuntime) -> Result<(), Fail> 
 }
 
 #[test]
+fn a_query_has_at_most_64_clauses_and_8_groups(rt: HostRuntime) -> Result<(), Fail> {
+    let alloc = rt.alloc();
+    let clauses = "*:* ".repeat(alloc, 63)?;
+    let most = format!(in alloc; "1 FIND 1 9 . . {}*:*", clauses.as_str())?;
+    let more = format!(in alloc; "1 FIND 1 9 . . {}*:* *:*", clauses.as_str())?;
+    expect_rows(
+        &rt,
+        alloc,
+        &[
+            ("1 PUT {\"id\":\"a\"}", "1 OK 1"),
+            ("1 REFRESH", "1 OK 1"),
+            ("1 OPEN", "1 OK 1"),
+            (most.as_str(), "1 OK 1 1\n1 1 a ."),
+            (more.as_str(), "1 NO 24 256"),
+            ("1 FIND 1 9 . . ((((((((*:*))))))))", "1 OK 1 1\n1 1 a ."),
+            ("1 FIND 1 9 . . (((((((((*:*)))))))))", "1 NO 24 8"),
+        ],
+    )
+}
+
+#[test]
 fn each_fault_has_its_place(rt: HostRuntime) -> Result<(), Fail> {
     let mut script = Script::shop(rt.alloc())?;
     script.row("1 OPEN", "1 OK 0")?;
