@@ -1,5 +1,5 @@
 //! What a value means in a field, by the field's kind.
-ghost use Rattle.std.specs.Prelude.{◌≡◌, ℕ, List, Some, Ok};
+ghost use Rattle.std.specs.Prelude.{◌≡◌, ◌≢◌, ℕ, List, Some, Ok, IfErr};
 ghost use Rattle.std.specs.List.{list_all};
 ghost use Rattle.cat_model.specs.Words.{is_word_byte, lowered, words};
 ghost use Rattle.cat_model.specs.Item as model;
@@ -7,6 +7,7 @@ ghost use Rattle.cat_model.specs.Reader.{or_fault, integer_of, bound_of, meaning
 ghost use Rattle.cat_schema.specs.Kinds.{kind_meant};
 ghost use Rattle.cat_query.specs.View.{tested};
 ghost use Rattle.cat_query.specs.Reading.{Gives, asks_of};
+ghost use Rattle.cat_query.specs.declared.stop.Stop.TheVariants.{Memory};
 
 use crate::query::Test;
 use crate::scanning::{behind, copied};
@@ -104,7 +105,8 @@ fn bound(end: &Option<Text>) -> Option<Option<i64>>
 
 #[tactic(auto, unfolding(cat_model::specs::Reader::meaning))]
 fn in_number(fault: usize, value: &Value) -> Result<Test, Stop>
-    ensures { (f : List ℕ) → Gives (tested f) result (or_fault fault (meaning f model.Kind.number (asks_of value.now))) }
+    ensures gives { (f : List ℕ) → Gives (tested f) result (or_fault fault (meaning f model.Kind.number (asks_of value.now))) }
+    ensures stop { IfErr result (λ e. e ≢ Memory) }
 {
     match value {
         Value::Is(text) => match integer(text.as_str()) {
@@ -121,7 +123,8 @@ fn in_number(fault: usize, value: &Value) -> Result<Test, Stop>
 
 #[tactic(auto, unfolding(cat_model::specs::Reader::meaning))]
 fn in_facet(fault: usize, value: Value) -> Result<Test, Stop>
-    ensures { (f : List ℕ) → Gives (tested f) result (or_fault fault (meaning f model.Kind.facet (asks_of value))) }
+    ensures gives { (f : List ℕ) → Gives (tested f) result (or_fault fault (meaning f model.Kind.facet (asks_of value))) }
+    ensures stop { IfErr result (λ e. e ≢ Memory) }
 {
     match value {
         Value::Is(text) => Ok(Test::Label(text)),

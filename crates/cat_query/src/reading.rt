@@ -1,11 +1,12 @@
 //! Queries are read from left to right; the first fault that is met stops it.
-ghost use Rattle.std.specs.Prelude.{◌≡◌, true, option_map, IfOk};
+ghost use Rattle.std.specs.Prelude.{◌≡◌, ◌≢◌, true, option_map, IfOk, IfErr};
 ghost use Rattle.cat_model.specs.Item.{kind_of};
 ghost use Rattle.cat_model.specs.Query as model;
 ghost use Rattle.cat_model.specs.Reader.{ends, gap_at, term_at, everything_at, leaf_at, sign_at, primary_at, clause_at, content_at};
 ghost use Rattle.cat_schema.specs.Kinds.{kind_meant};
 ghost use Rattle.cat_query.specs.View.{sign_of, primary_of, signed, clauses_of};
 ghost use Rattle.cat_query.specs.Reading.{Gives};
+ghost use Rattle.cat_query.specs.declared.stop.Stop.TheVariants.{Memory};
 
 use crate::meaning::test;
 use crate::query::{Clause, Primary, Sign};
@@ -43,7 +44,8 @@ fn term<'a>(alloc: Global, fields: &[Field], text: &'a str) -> Result<(Primary, 
 }
 
 fn everything(text: &str) -> Result<(Primary, &str), Stop>
-    ensures { Gives (λ x. (primary_of x.0, x.1.now)) result (everything_at text.now) }
+    ensures gives { Gives (λ x. (primary_of x.0, x.1.now)) result (everything_at text.now) }
+    ensures stop { IfErr result (λ e. e ≢ Memory) }
 {
     match behind_all(text, "*:*") {
         Some(rest) => Ok((Primary::Everything, rest)),
@@ -86,7 +88,8 @@ fn is_end(text: &str) -> bool
 
 // What stands behind the spaces after a primary.
 fn gap(text: &str) -> Result<&str, Stop>
-    ensures { Gives (λ t. t.now) result (gap_at text.now) }
+    ensures gives { Gives (λ t. t.now) result (gap_at text.now) }
+    ensures stop { IfErr result (λ e. e ≢ Memory) }
 {
     match text.as_bytes() {
         [] | [b' ' | b')', ..] => Ok(without_spaces(text)),

@@ -1,7 +1,8 @@
 //! Values of a query text, and what they mean in a field.
-ghost use Rattle.std.specs.Prelude.{length};
+ghost use Rattle.std.specs.Prelude.{◌≢◌, length, IfErr};
 ghost use Rattle.cat_model.specs.Reader.{or_fault, end_at, closed_end_at, run_at, to_at, bracket_at, range_at, bare_at, value_at};
 ghost use Rattle.cat_query.specs.Reading.{Gives, asks_of};
+ghost use Rattle.cat_query.specs.declared.stop.Stop.TheVariants.{Memory};
 
 use crate::query::Test;
 use crate::scanning::{bare, behind, behind_all, copied, quoted};
@@ -50,7 +51,8 @@ fn end(alloc: Global, fault: usize, text: &str) -> Result<(Option<Text>, &str), 
 }
 
 fn to(fault: usize, text: &str) -> Result<&str, Stop>
-    ensures { Gives (λ x. x.now) result (or_fault fault (to_at text.now)) }
+    ensures gives { Gives (λ x. x.now) result (or_fault fault (to_at text.now)) }
+    ensures stop { IfErr result (λ e. e ≢ Memory) }
 {
     match behind_all(text, " TO ") {
         Some(rest) => Ok(rest),
@@ -59,7 +61,8 @@ fn to(fault: usize, text: &str) -> Result<&str, Stop>
 }
 
 fn bracket(fault: usize, text: &str) -> Result<&str, Stop>
-    ensures { Gives (λ x. x.now) result (or_fault fault (bracket_at text.now)) }
+    ensures gives { Gives (λ x. x.now) result (or_fault fault (bracket_at text.now)) }
+    ensures stop { IfErr result (λ e. e ≢ Memory) }
 {
     match behind(text, ']') {
         Some(rest) => Ok(rest),

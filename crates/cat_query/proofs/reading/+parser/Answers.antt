@@ -59,7 +59,7 @@ content-returns-in_err-rest-clause-gives t c =
     let schema : Schema = c.args.fields.now in
     let p = err_from_is_err_and c.from_residual-in_err-rest.result c.from_residual-in_err-rest.ensures.1 in
     rw (p.1, p.2) (gap_fails schema (content_at schema (c.args.levels - 1)) (clauses_of c.loop-turn.clauses.items) c.args.left c.loop-turn._turn c.loop-turn.still c.loop-turn.rest.now
-    (content_at schema c.args.levels c.args.left c.args.text.now) (signed c.in_ok-first.first).0 (signed c.in_ok-first.first).1 c.in_ok-first.after c.in_ok-first.more.now c.loop-turn-test.true c.in_ok-first.ensures c.in_err-rest.field-0.0 c.in_err-rest.ensures c.loop-turn.invariant.so)
+    (content_at schema c.args.levels c.args.left c.args.text.now) (signed c.in_ok-first.first).0 (signed c.in_ok-first.first).1 c.in_ok-first.after c.in_ok-first.more.now c.loop-turn-test.true c.in_ok-first.ensures c.in_err-rest.field-0.0 c.in_err-rest.ensures.gives c.loop-turn.invariant.so)
 
 pub content-returns-then-is_end-2-clause-gives : goal.content-returns-then-is_end-2-clause-gives
 content-returns-then-is_end-2-clause-gives t c =
@@ -67,7 +67,7 @@ content-returns-then-is_end-2-clause-gives t c =
     let pushed : clauses_of c.push.new.self.items ≡ joined (clauses_of c.loop-turn.clauses.items) (just (signed c.in_ok-first.first).0 (signed c.in_ok-first.first).1) =
     rw c.in_ok-push.ensures.items (clauses_of-push c.loop-turn.clauses.items c.in_ok-first.first) in
     rw pushed (is_last schema (content_at schema (c.args.levels - 1)) (clauses_of c.loop-turn.clauses.items) c.args.left c.loop-turn._turn c.loop-turn.still c.loop-turn.rest.now
-    (content_at schema c.args.levels c.args.left c.args.text.now) (signed c.in_ok-first.first).0 (signed c.in_ok-first.first).1 c.in_ok-first.after c.in_ok-first.more.now c.loop-turn-test.true c.in_ok-first.ensures c.in_ok-rest.rest.now c.in_ok-rest.ensures (sym c.if-is_end-2.ensures) c.loop-turn.invariant.so)
+    (content_at schema c.args.levels c.args.left c.args.text.now) (signed c.in_ok-first.first).0 (signed c.in_ok-first.first).1 c.in_ok-first.after c.in_ok-first.more.now c.loop-turn-test.true c.in_ok-first.ensures c.in_ok-rest.rest.now c.in_ok-rest.ensures.gives (sym c.if-is_end-2.ensures) c.loop-turn.invariant.so)
 
 pub content-loop-turn-preserved : goal.content-loop-turn-preserved
 content-loop-turn-preserved t c =
@@ -77,7 +77,7 @@ content-loop-turn-preserved t c =
     record {
       text = search rules;
       so = rw pushed (goes_on schema (content_at schema (c.args.levels - 1)) (clauses_of c.loop-turn.clauses.items) c.args.left c.loop-turn._turn c.loop-turn.still c.loop-turn.rest.now
-          (content_at schema c.args.levels c.args.left c.args.text.now) (signed c.in_ok-first.first).0 (signed c.in_ok-first.first).1 c.in_ok-first.after c.in_ok-first.more.now c.loop-turn-test.true c.in_ok-first.ensures c.in_ok-rest.rest.now c.in_ok-rest.ensures (sym c.if-is_end-2.ensures) c.loop-turn.invariant.so);
+          (content_at schema c.args.levels c.args.left c.args.text.now) (signed c.in_ok-first.first).0 (signed c.in_ok-first.first).1 c.in_ok-first.after c.in_ok-first.more.now c.loop-turn-test.true c.in_ok-first.ensures c.in_ok-rest.rest.now c.in_ok-rest.ensures.gives (sym c.if-is_end-2.ensures) c.loop-turn.invariant.so);
     }
 
 pub content-returns-clause-gives : goal.content-returns-clause-gives
