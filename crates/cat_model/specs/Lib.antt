@@ -21,3 +21,6 @@ pub mod QueryLaws
 pub mod QuerySamples
 pub mod Ranks
 pub mod RankLaws
+pub mod RowSets
+pub mod Ordinals
+pub mod View
