@@ -1,0 +1,10 @@
+pub mod Bits
+pub mod Codes
+pub mod Counts
+pub mod Cuts
+pub mod Fills
+pub mod Members
+pub mod Packs
+pub mod Presence
+pub mod Scans
+pub mod Searches

@@ -1,0 +1,82 @@
+-- How the lists of a column stand for what each row has.
+use Rattle.std.specs.Prelude.{◌≡◌, ℕ, zero, suc, ◌+◌, ◌-◌, ◌^◌, ◌<◌, ◌≤◌, ℤ, Bool, true, false, ◌&&◌, List, [], ◌∷◌, length, map, take, drop, Option, Some, None, All, Contains, ⊤}
+use Rattle.std.specs.Borrow.{Bor}
+use Rattle.std.specs.HashSet.{HashSet, keys}
+use Rattle.std.specs.List.{list_any}
+use Rattle.cat_base.specs.Texts.{IsTextSet}
+use Rattle.cat_model.specs.Text.{Text, same_text}
+use Rattle.cat_model.specs.Query.{open_or, int_le}
+use Rattle.cat_model.specs.Ordinals.{text_at, texts_of, dictionary_of}
+
+-- the number, where it is there
+abbrev pub number_at : Bool → ℤ → Option ℤ
+number_at true n = Some n
+number_at false n = None
+
+-- each number, where it is there
+abbrev pub numbers : List Bool → List ℤ → List (Option ℤ)
+numbers [] ns = []
+numbers (b ∷ bs) [] = []
+numbers (b ∷ bs) (n ∷ ns) = number_at b n ∷ numbers bs ns
+
+-- the number lies between the two, both included
+abbrev pub is_within : ℤ → ℤ → ℤ → Bool
+is_within low high n = int_le low n && int_le n high
+
+-- the number lies between the two, where an absent end is open
+abbrev pub is_between : Option ℤ → Option ℤ → ℤ → Bool
+is_between low high n = open_or (λ a. int_le a n) low && open_or (int_le n) high
+
+-- fewer than 2^32 rows, each with a place for its number
+pub record IsNumbers (present : List Bool) (values : List ℤ) : Type 0 where
+  pub few : length present < 2 ^ 32
+  pub same : length present ≡ length values
+
+-- the set has the label
+abbrev pub has_label : {S : Type 0} → Text → HashSet (Bor Text) S → Bool
+has_label text labels = list_any (λ k. same_text text k.now) (keys labels)
+
+-- the text behind the reference, as a list of one text or none
+abbrev pub texts_seen : Option (Bor Text) → List Text
+texts_seen None = []
+texts_seen (Some t) = t.now ∷ []
+
+-- the dictionary has the text, if there is one
+abbrev pub HasLabel : List Text → Option Text → Type 0
+HasLabel dictionary None = ⊤
+HasLabel dictionary (Some text) = Contains dictionary text
+
+-- the text of a code, which is 0 for none and else an ordinal plus 1
+abbrev pub label_at : List Text → ℕ → Option Text
+label_at dictionary zero = None
+label_at dictionary (suc ordinal) = Some (text_at dictionary ordinal)
+
+-- fewer than 2^32 codes, each of no text or of one of the dictionary, which has the rows' texts alone
+pub record IsKeywords (dictionary : List Text) (codes : List ℕ) : Type 0 where
+  pub few : length codes < 2 ^ 32
+  pub within : All (λ code. code ≤ length dictionary) codes
+  pub whole : dictionary ≡ dictionary_of (map texts_of (map (label_at dictionary) codes))
+
+-- the place behind each row's last text, once the rows stand one behind another, the first from `from` on
+abbrev pub ends_from : ℕ → List (List Text) → List ℕ
+ends_from from [] = []
+ends_from from (row ∷ rows) = (from + length row) ∷ ends_from (from + length row) rows
+
+-- the texts from `from` to the first end, from there to the next, and so on
+abbrev pub cut : ℕ → List ℕ → List Text → List (List Text)
+cut from [] texts = []
+cut from (e ∷ es) texts = take (e - from) (drop from texts) ∷ cut e es texts
+
+-- no end lies below `from` or below an earlier end, nor past the total
+abbrev pub AreEnds : ℕ → List ℕ → ℕ → Type 0
+AreEnds from [] total = from ≤ total
+AreEnds from (e ∷ es) total = (from ≤ e) × AreEnds e es total
+
+-- fewer than 2^32 rows, whose parts of the ordinals stand one behind another, each in byte order; the dictionary has the
+-- rows' labels alone
+pub record IsSets (dictionary : List Text) (ends ordinals : List ℕ) : Type 0 where
+  pub few : length ends < 2 ^ 32
+  pub parts : AreEnds 0 ends (length ordinals)
+  pub within : All (λ o. o < length dictionary) ordinals
+  pub whole : dictionary ≡ dictionary_of (cut 0 ends (map (text_at dictionary) ordinals))
+  pub sets : All IsTextSet (cut 0 ends (map (text_at dictionary) ordinals))

@@ -1,0 +1,136 @@
+//! A column of keywords: a dictionary, and the place in it of each row's keyword.
+ghost use Rattle.std.specs.Prelude.{◌≡◌, ℕ, ◌+◌, ◌^◌, ◌<◌, ◌≤◌, length, map, option_map, None, IfOk, IfErr, IfSome, All, slice_index_or};
+ghost use Rattle.std.specs.List.{list_any, flat_map};
+ghost use Rattle.cat_base.specs.declared.refusal.Refusal.TheVariants.{Memory};
+ghost use Rattle.cat_model.specs.Text.{Text, same_text};
+ghost use Rattle.cat_model.specs.Ordinals.{dictionary_of, text_at, texts_of};
+ghost use Rattle.cat_values.specs.Columns.{has_label, HasLabel, label_at, texts_seen};
+
+use crate::dictionary::Dictionary;
+use crate::labels::{add_label, dictionary_from};
+use cat_base::{Refusal, Text};
+use std::alloc::Global;
+use std::collections::HashSet;
+use std::marker::Model;
+
+/// A keyword for each row, or none: Lucene's `SortedDocValues`.
+///
+/// Contracts see it as the list of the rows' keywords.
+#[derive(Debug, Drop)]
+pub struct KeywordColumn {
+    dictionary: Dictionary,
+    /// 0 for a row without a keyword, else its ordinal plus 1.
+    codes: Vec<u32>,
+}
+
+impl Model for KeywordColumn {
+    ghost use Rattle.std.specs.Prelude.{List, Option, ℕ, map};
+    ghost use Rattle.cat_values.specs.Columns.{label_at, IsKeywords};
+
+    ghost Value = { List (Option (List ℕ)) };
+
+    ghost view = { λ c. map (label_at c.dictionary) c.codes.items };
+
+    ghost invariant = { λ c. IsKeywords c.dictionary c.codes.items };
+}
+
+/// The distinct keywords of the rows.
+fn keywords_in<'a>(alloc: Global, values: &[Option<&'a Text>]) -> Result<HashSet<&'a str>, Refusal>
+    ensures ok { IfOk result (λ s. (text : Text) → has_label text s ≡ list_any (same_text text) (flat_map texts_seen values.now)) }
+    ensures refusal { IfErr result (λ e. e ≡ Memory) }
+{
+    let mut labels = HashSet::new(alloc);
+    for value in values {
+        if let Some(text) = value {
+            add_label(&mut labels, text)?;
+        }
+    }
+    Ok(labels)
+}
+
+/// 0 for no keyword, else its ordinal plus 1.
+fn code_of(dictionary: &Dictionary, value: Option<&Text>) -> u32
+    requires few { length dictionary.now < 2 ^ 32 }
+    requires there { HasLabel dictionary.now (option_map (λ t. t.now) value) }
+    ensures value { label_at dictionary.now result ≡ option_map (λ t. t.now) value.entry }
+    ensures bound { result ≤ length dictionary.now }
+{
+    let Some(text) = value else {
+        return 0;
+    };
+    match dictionary.ordinal(text.as_str()) {
+        Some(ordinal) => (ordinal + 1) as u32,
+        None => 0,
+    }
+}
+
+/// The codes of the rows' keywords, which the dictionary has.
+fn codes_of(
+    alloc: Global,
+    dictionary: &Dictionary,
+    values: &[Option<&Text>],
+) -> Result<Vec<u32>, Refusal>
+    requires few { length dictionary.now < 2 ^ 32 }
+    requires there { All (λ v. HasLabel dictionary.now (option_map (λ t. t.now) v)) values.now }
+    ensures values { IfOk result (λ v. map (label_at dictionary.now) v.items ≡ map (option_map (λ t. t.now)) values.now) }
+    ensures bound { IfOk result (λ v. All (λ code. code ≤ length dictionary.now) v.items) }
+    ensures refusal { IfErr result (λ e. e ≡ Memory) }
+{
+    let mut codes = Vec::with_capacity(alloc, values.len())?;
+    for value in values {
+        codes.push(code_of(dictionary, *value))?;
+    }
+    Ok(codes)
+}
+
+impl KeywordColumn {
+    /// The column of the rows' keywords, as Lucene's `SortedDocValuesWriter` makes it: each distinct keyword is copied
+    /// once, and they are sorted once. A refusal is [`Refusal::Memory`].
+    pub fn of(alloc: Global, values: &[Option<&Text>]) -> Result<Self, Refusal>
+        requires few { length values.now < 2 ^ 32 }
+        ensures ok { IfOk result (λ c. c ≡ map (option_map (λ t. t.now)) values.now) }
+        ensures refusal { IfErr result (λ e. e ≡ Memory) }
+    {
+        let dictionary = dictionary_from(alloc, &keywords_in(alloc, values)?)?;
+        let codes = codes_of(alloc, &dictionary, values)?;
+        Ok(KeywordColumn { dictionary, codes })
+    }
+
+    /// How many rows there are.
+    pub fn len(&self) -> usize
+        ensures value { result ≡ length self.now }
+        ensures few { length self.now < 2 ^ 32 }
+    {
+        self.codes.len()
+    }
+
+    /// The keywords that some row has.
+    pub fn dictionary(&self) -> &Dictionary
+        ensures { result.now ≡ dictionary_of (map texts_of self.now) }
+    {
+        &self.dictionary
+    }
+
+    /// The ordinal of the row's keyword, if it has one (`SortedDocValues.ordValue`).
+    pub fn ordinal(&self, row: usize) -> Option<usize>
+        requires { row < length self.now }
+        ensures value { option_map (text_at (dictionary_of (map texts_of self.now))) result ≡ slice_index_or self.now row None }
+        ensures bound { IfSome result (λ ordinal. ordinal < length (dictionary_of (map texts_of self.now))) }
+    {
+        match self.codes[row] {
+            0 => None,
+            code => Some(code as usize - 1),
+        }
+    }
+
+    /// The keyword of the row, if it has one.
+    pub fn value(&self, row: usize) -> Option<&Text>
+        requires { row < length self.now }
+        ensures { option_map (λ t. t.now) result ≡ slice_index_or self.now row None }
+    {
+        match self.ordinal(row) {
+            Some(ordinal) => Some(self.dictionary.label(ordinal)),
+            None => None,
+        }
+    }
+}
