@@ -1,0 +1,110 @@
+//! Terms of a few rows, looked up by words and by ranges of words.
+ghost use Rattle.std.specs.Prelude.{◌^◌, ◌<◌, length};
+
+use crate::Terms;
+use cat_base::{Text, TextSet};
+use cat_values::RowSet;
+use std::alloc::Global;
+use std::test::Fail;
+
+fn set(alloc: Global, words: &[&str]) -> Result<TextSet, Fail> {
+    let mut texts = Vec::new(alloc);
+    for word in words {
+        texts.push(Text::from_str(alloc, word)?)?;
+    }
+    Ok(TextSet::of(texts))
+}
+
+fn terms_of_sets(alloc: Global, sets: &[TextSet]) -> Result<Terms, Fail>
+    requires { length sets.now < 2 ^ 32 }
+{
+    let mut rows = Vec::new(alloc);
+    for set in sets {
+        rows.push(set.as_slice())?;
+    }
+    Ok(Terms::build(alloc, &rows)?)
+}
+
+fn terms(alloc: Global) -> Result<Terms, Fail> {
+    let sets = [
+        set(alloc, &["red", "shoe"])?,
+        set(alloc, &[])?,
+        set(alloc, &["shoe", "redder", "blue"])?,
+        set(alloc, &["reef"])?,
+    ];
+    terms_of_sets(alloc, &sets)
+}
+
+fn shown(alloc: Global, rows: &RowSet) -> Result<String, Fail> {
+    let places: Vec<usize> = rows.iter().collect(alloc)?;
+    Ok(format!(in alloc; "{places:?}")?)
+}
+
+#[test]
+fn words_lead_to_their_rows(rt: HostRuntime) -> Result<(), Fail> {
+    let alloc = rt.alloc();
+    let terms = terms(alloc)?;
+    assert_eq!(rt; terms.len(), 4);
+    let words = format!(in alloc; "{:?}", terms.words())?;
+    assert_eq!(rt;
+        words.as_str(),
+        "[\"blue\", \"red\", \"redder\", \"reef\", \"shoe\"]"
+    );
+    for (word, want) in [("blue", "[2]"), ("shoe", "[0, 2]"), ("re", "[]")] {
+        let postings = format!(in alloc; "{:?}", terms.postings(word))?;
+        assert_eq!(rt; postings.as_str(), want, "{word}");
+        let rows = terms.rows_with(word)?;
+        assert_eq!(rt; shown(alloc, &rows)?.as_str(), want, "{word}");
+    }
+    Ok(())
+}
+
+#[test]
+fn prefixes_lead_to_rows(rt: HostRuntime) -> Result<(), Fail> {
+    let alloc = rt.alloc();
+    let terms = terms(alloc)?;
+    for (prefix, want) in [
+        ("", "[0, 2, 3]"),
+        ("red", "[0, 2]"),
+        ("redd", "[2]"),
+        ("t", "[]"),
+        ("a", "[]"),
+    ] {
+        let rows = terms.prefix(prefix)?;
+        assert_eq!(rt; shown(alloc, &rows)?.as_str(), want, "{prefix}");
+    }
+    Ok(())
+}
+
+#[test]
+fn ranges_lead_to_rows(rt: HostRuntime) -> Result<(), Fail> {
+    let alloc = rt.alloc();
+    let terms = terms(alloc)?;
+    for (low, high, want) in [
+        ("blue", "blue", "[2]"),
+        ("bluf", "redder", "[0, 2]"),
+        ("redder", "red", "[]"),
+        ("redder", "z", "[0, 2, 3]"),
+    ] {
+        let (low, high) = (Text::from_str(alloc, low)?, Text::from_str(alloc, high)?);
+        let rows = terms.between(Some(&low), Some(&high))?;
+        assert_eq!(rt; shown(alloc, &rows)?.as_str(), want, "{low} {high}");
+    }
+    Ok(())
+}
+
+#[test]
+fn open_ends_bound_nothing(rt: HostRuntime) -> Result<(), Fail> {
+    let alloc = rt.alloc();
+    let terms = terms(alloc)?;
+    let red = Text::from_str(alloc, "red")?;
+    assert_eq!(rt;
+        shown(alloc, &terms.between(None, Some(&red))?)?.as_str(),
+        "[0, 2]"
+    );
+    assert_eq!(rt;
+        shown(alloc, &terms.between(Some(&red), None)?)?.as_str(),
+        "[0, 2, 3]"
+    );
+    Ok(())
+}
