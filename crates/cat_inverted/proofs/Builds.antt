@@ -1,6 +1,6 @@
 -- Terms that were built of rows have these rows.
-use Rattle.std.proofs.Common.{◌≡◌, ℕ, zero, suc, ◌+◌, ◌^◌, ◌<◌, ◌≤◌, List, [], ◌∷◌, length, get_or, map, Bool, true, false, cond, ◌&&◌, refl, sym, ap, ◌∙◌, arith, nat_cmp, subst}
-use Rattle.std.proofs.lemmas.Bool.{cases_Bool, true≢false}
+use Rattle.std.proofs.Common.{◌≡◌, ℕ, zero, suc, ◌+◌, ◌^◌, ◌<◌, List, [], ◌∷◌, length, get_or, map, Bool, true, false, cond, ◌&&◌, refl, sym, ap, ◌∙◌, arith, nat_cmp, subst}
+use Rattle.std.proofs.lemmas.Bool.{true≢false}
 use Rattle.std.proofs.lemmas.List.{length-map, get_or-map, get_or_default}
 use Rattle.std.proofs.lemmas.List.Folds.{Any-from_list_any, list_any_at}
 use Rattle.std.proofs.lemmas.List.FromFn.{fill_by_all}
@@ -9,12 +9,12 @@ use Rattle.std.proofs.lemmas.Map.Views.{any-filter_same}
 use Rattle.std.proofs.lemmas.Slice.Eq.{bytes_eq-Decides}
 use Rattle.std.specs.Borrow.{Bor}
 use Rattle.std.specs.Cmp.Lexicographic.{slice_cmp}
-use Rattle.std.specs.List.{list_any, filter, range_with_len, zip}
+use Rattle.std.specs.List.{list_any, filter, zip}
 use Rattle.std.specs.Prelude.{All}
 use Rattle.cat_base.specs.Texts.{IsTextSet}
 use Rattle.cat_base.proofs.TextSets.{has, same_set}
 use Rattle.cat_model.specs.Text.{Text, same_text}
-use Rattle.cat_model.specs.RowSets.{has_row, places}
+use Rattle.cat_model.specs.RowSets.{has_row}
 use Rattle.cat_model.specs.Ordinals.{postings_of, rows_having}
 use Rattle.cat_inverted.specs.Postings.{cut, AreEnds, is_among, IsPostings, words_at, words_of_rows, IsTerms}
 use Rattle.cat_inverted.specs.Gathered.{ends_from}

@@ -1,16 +1,16 @@
 -- The rows of each word, as they are gathered row by row.
-use Rattle.std.proofs.Common.{◌≡◌, ℕ, zero, suc, ◌+◌, ◌<◌, ◌≤◌, List, [], ◌∷◌, ◌++◌, length, get_or, take, map, Bool, true, false, cond, ◌||◌, if◌then◌else◌, is_some, Option, Some, None, inl, inr, refl, sym, ap, ◌∙◌, arith}
+use Rattle.std.proofs.Common.{◌≡◌, ℕ, zero, suc, ◌+◌, ◌<◌, List, [], ◌∷◌, ◌++◌, length, get_or, take, map, Bool, true, false, cond, ◌||◌, if◌then◌else◌, is_some, Option, Some, inl, inr, refl, sym, ap, ◌∙◌, arith}
 use Rattle.std.proofs.lemmas.Bool.{cases_Bool, true≢false}
-use Rattle.std.proofs.lemmas.List.{append-nil, append_assoc, length-append, length-map, length-take, length-take-le, get_or-take, get_or_default, get_or_append_left, get_or_push, take_more, map_more, map_push}
+use Rattle.std.proofs.lemmas.List.{append-nil, append_assoc, length-append, length-map, length-take, length-take-le, get_or-take, get_or_default, get_or_append_left, get_or_push, map_more, map_push}
 use Rattle.std.proofs.lemmas.List.Folds.{list_any_more, Any-from_list_any}
 use Rattle.std.proofs.lemmas.Slice.Eq.{bytes_eq-Decides}
 use Rattle.std.specs.Borrow.{Bor}
-use Rattle.std.specs.List.{list_any, filter, range_with_len, flat_map}
+use Rattle.std.specs.List.{list_any, filter, range_with_len}
 use Rattle.std.specs.Map.{lookup, keys_of}
 use Rattle.std.specs.Option.{option_map_or}
 use Rattle.std.specs.Prelude.{bytes_eq}
 use Rattle.cat_base.specs.Texts.{sorted_set, IsTextSet}
-use Rattle.cat_base.proofs.TextSets.{has, has-sorted_set}
+use Rattle.cat_base.proofs.TextSets.{has-sorted_set}
 use Rattle.cat_model.specs.Text.{Text, same_text}
 use Rattle.cat_model.specs.RowSets.{has_row, places}
 use Rattle.cat_model.specs.Ordinals.{postings_of, rows_having}

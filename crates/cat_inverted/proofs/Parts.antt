@@ -1,6 +1,6 @@
 -- Lists that stand one behind another, and where each ends.
 use Rattle.std.proofs.Common.{◌≡◌, ℕ, zero, suc, ◌+◌, ◌-◌, ◌<◌, ◌≤◌, List, [], ◌∷◌, ◌++◌, length, get_or, take, drop, refl, sym, ap, ◌∙◌, arith}
-use Rattle.std.proofs.lemmas.List.{length-append, length-drop, length-take, drop-drop, append_assoc, append-nil, take_at, drop_at}
+use Rattle.std.proofs.lemmas.List.{length-append, length-drop, length-take, drop-drop, append_assoc, take_at, drop_at}
 use Rattle.std.proofs.Math.Seq.{take-add}
 use Rattle.std.specs.List.{flat_map}
 use Rattle.std.specs.Prelude.{All, min}

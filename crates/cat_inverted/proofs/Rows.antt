@@ -1,6 +1,6 @@
 -- Which rows have a word, and which words a row has.
-use Rattle.std.proofs.Common.{◌≡◌, ℕ, zero, suc, ◌+◌, ◌-◌, ◌<◌, ◌≤◌, List, [], ◌∷◌, ◌++◌, length, get_or, take, drop, map, Bool, true, false, cond, ◌&&◌, ◌||◌, refl, sym, ap, ◌∙◌, arith, Ordering, Less, nat_cmp, subst, replicate, eq-eqb, eqb-true}
-use Rattle.std.proofs.lemmas.List.{length-append, append-nil, get_or-map, length-replicate}
+use Rattle.std.proofs.Common.{◌≡◌, ℕ, zero, suc, ◌+◌, ◌-◌, ◌<◌, ◌≤◌, List, [], ◌∷◌, length, get_or, take, drop, map, Bool, true, false, cond, ◌&&◌, ◌||◌, refl, sym, ap, ◌∙◌, arith, Less, nat_cmp, subst, replicate, eq-eqb, eqb-true}
+use Rattle.std.proofs.lemmas.List.{length-replicate}
 use Rattle.std.proofs.lemmas.List.FromFn.{fill_by_all, length-range_with_len, get_or-range_with_len, length-map-range_with_len, get_or-map-range_with_len}
 use Rattle.std.proofs.lemmas.List.Elements.{All-from_recursion}
 use Rattle.std.proofs.lemmas.List.Folds.{list_any_at}
@@ -10,13 +10,13 @@ use Rattle.std.specs.Cmp.Lexicographic.{slice_cmp}
 use Rattle.std.specs.List.{list_any, flat_map, filter, range_with_len, zip, AllByRecursion}
 use Rattle.std.specs.List.Sorted.{IsStrictlySortedBy}
 use Rattle.std.specs.Prelude.{All, ◌==◌, IfOk, Result, Ok, Err}
-use Rattle.cat_base.specs.Texts.{sorted_set, IsTextSet}
+use Rattle.cat_base.specs.Texts.{IsTextSet}
 use Rattle.cat_base.proofs.TextSets.{has, sorted_set_is}
 use Rattle.cat_model.specs.Text.{Text, same_text}
 use Rattle.cat_model.specs.RowSets.{has_row, places, with_rows}
-use Rattle.cat_model.specs.Ordinals.{dictionary_of, rows_having, postings_of}
-use Rattle.cat_model.proofs.Lists.{All-kept, All-both, filter_alike, list_any-append, list_any_alike}
-use Rattle.cat_inverted.specs.Postings.{cut, AreEnds, is_among, IsPostings, words_at, words_of_rows, IsTerms}
+use Rattle.cat_model.specs.Ordinals.{dictionary_of}
+use Rattle.cat_model.proofs.Lists.{All-kept, All-both, filter_alike, list_any-append}
+use Rattle.cat_inverted.specs.Postings.{cut, is_among, IsPostings, words_at, words_of_rows, IsTerms}
 use Rattle.cat_inverted.specs.Intervals.{IsInterval}
 use Rattle.cat_inverted.proofs.Parts.{joined, length-cut, some_in_cut}
 

@@ -1,10 +1,10 @@
 //! How the terms of a segment are built from the words of its rows, as Lucene's `FreqProxTermsWriter` does.
-ghost use Rattle.std.specs.Prelude.{◌≡◌, ℕ, ◌+◌, ◌^◌, ◌<◌, ◌++◌, ◌∷◌, ◌||◌, [], List, length, map, All, IfOk, IfErr, OnOk, OnErr, is_some, if◌then◌else◌};
+ghost use Rattle.std.specs.Prelude.{◌≡◌, ℕ, ◌^◌, ◌<◌, ◌++◌, ◌∷◌, ◌||◌, [], length, map, All, IfOk, IfErr, OnOk, OnErr, is_some, if◌then◌else◌};
 ghost use Rattle.std.specs.List.{flat_map, list_any};
 ghost use Rattle.cat_base.specs.Texts.{IsTextSet};
 ghost use Rattle.cat_base.specs.declared.refusal.Refusal.TheVariants.{Memory};
 ghost use Rattle.cat_model.specs.Text.{Text, same_text};
-ghost use Rattle.cat_model.specs.Ordinals.{dictionary_of, postings_of, rows_having};
+ghost use Rattle.cat_model.specs.Ordinals.{postings_of};
 ghost use Rattle.cat_inverted.specs.Gathered.{found, listed, ends_from};
 
 use crate::terms::Terms;

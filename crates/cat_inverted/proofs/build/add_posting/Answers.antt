@@ -1,4 +1,4 @@
-use Rattle.std.proofs.Common.{◌≡◌, ℕ, List, [], ◌∷◌, ◌++◌, ◌||◌, if◌then◌else◌, is_some, ap, sym, ◌∙◌, rules, Some}
+use Rattle.std.proofs.Common.{[], ◌∷◌, ◌++◌, ◌||◌, if◌then◌else◌, is_some, ap, sym, ◌∙◌, rules, Some}
 use Rattle.std.proofs.lemmas.Map.Text.{hash_map_updates_str}
 use Rattle.std.specs.Option.{option_map_or}
 use Rattle.cat_model.specs.Text.{same_text}

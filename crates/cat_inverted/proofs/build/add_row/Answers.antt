@@ -1,4 +1,4 @@
-use Rattle.std.proofs.Common.{◌≡◌, List, [], ◌∷◌, ◌++◌, ◌||◌, if◌then◌else◌, is_some, sym, ap, ◌∙◌}
+use Rattle.std.proofs.Common.{[], ◌∷◌, ◌++◌, ◌||◌, if◌then◌else◌, is_some, ap, ◌∙◌}
 use Rattle.cat_model.specs.Text.{same_text}
 use Rattle.cat_inverted.specs.Gathered.{found, listed}
 use Rattle.cat_inverted.proofs.Gathering.{word_more, key_more}

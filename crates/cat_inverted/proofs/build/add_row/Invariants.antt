@@ -1,4 +1,4 @@
-use Rattle.std.proofs.Common.{◌≡◌, List, [], ◌∷◌, ◌++◌, ◌||◌, take, is_some, if◌then◌else◌}
+use Rattle.std.proofs.Common.{◌≡◌, [], ◌∷◌, ◌++◌, ◌||◌, take, is_some, if◌then◌else◌}
 use Rattle.std.specs.List.{list_any}
 use Rattle.cat_model.specs.Text.{Text, same_text}
 use Rattle.cat_inverted.specs.Gathered.{found, listed}

@@ -1,4 +1,4 @@
-use Rattle.std.proofs.Common.{◌≡◌, ℕ, List, length, sym, ap, ◌∙◌}
+use Rattle.std.proofs.Common.{ℕ, List, length, ap, ◌∙◌}
 use Rattle.cat_inverted.specs.Gathered.{listed}
 use Rattle.cat_inverted.proofs.Gathering.{laid_more, ends_more}
 use Rattle.cat_inverted.proofs.build.laid.Goals as goal

@@ -1,4 +1,4 @@
-use Rattle.std.proofs.Common.{◌≡◌, ℕ, ◌+◌, ◌-◌, ◌≤◌, List, length, take, drop, sym, ap, ◌∙◌, arith, rules}
+use Rattle.std.proofs.Common.{◌+◌, ◌-◌, ◌≤◌, length, take, drop, sym, ap, ◌∙◌, arith, rules}
 use Rattle.cat_inverted.specs.Postings.{start_of}
 use Rattle.cat_inverted.proofs.Parts.{starts_rise, starts_within, parts_are}
 use Rattle.cat_inverted.proofs.terms.parts.Goals as goal

@@ -1,4 +1,4 @@
-use Rattle.std.proofs.Common.{◌≡◌, ℕ, ◌+◌, ◌-◌, suc, ap, sym, ◌∙◌, arith}
+use Rattle.std.proofs.Common.{◌≡◌, ◌-◌, suc, ap, sym, ◌∙◌, arith}
 use Rattle.cat_inverted.specs.Postings.{start_of}
 use Rattle.cat_inverted.proofs.Parts.{start_is}
 use Rattle.cat_inverted.proofs.terms.start_of.Goals as goal

@@ -1,4 +1,4 @@
-use Rattle.std.proofs.Common.{◌≡◌, true, false, Bool, Option, ◌&&◌, List, length, drop, refl, subst, sym}
+use Rattle.std.proofs.Common.{◌≡◌, true, false, Bool, Option, ◌&&◌, List, refl, subst, sym}
 use Rattle.std.proofs.lemmas.List.{take_rest}
 use Rattle.std.specs.List.Sorted.{IsPartitionPoint}
 use Rattle.std.specs.Option.{option_map}

@@ -1,9 +1,5 @@
-use Rattle.std.proofs.Common.{◌≡◌, ℕ, List, length, map, sym, ap, ◌∙◌, subst}
-use Rattle.std.proofs.lemmas.List.{length-map, get_or-map}
-use Rattle.std.specs.Prelude.{All}
-use Rattle.std.specs.List.{list_any}
-use Rattle.cat_base.specs.Texts.{IsTextSet}
-use Rattle.cat_model.specs.Text.{same_text}
+use Rattle.std.proofs.Common.{ℕ, List, length, map, ap, ◌∙◌}
+use Rattle.std.proofs.lemmas.List.{length-map}
 use Rattle.cat_inverted.specs.Gathered.{listed, ends_from}
 use Rattle.cat_inverted.proofs.Parts.{joined}
 use Rattle.cat_inverted.proofs.Builds.{each_set, terms_built, rows_built}

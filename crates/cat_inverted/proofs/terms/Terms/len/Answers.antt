@@ -2,7 +2,6 @@ use Rattle.std.proofs.Common.{◌≡◌, ℕ, List, ◌∙◌, ap, sym, subst, l
 use Rattle.std.specs.Prelude.{All}
 use Rattle.std.proofs.lemmas.List.FromFn.{length-map-range_with_len}
 use Rattle.cat_base.specs.Texts.{IsTextSet}
-use Rattle.cat_model.specs.Text.{Text}
 use Rattle.cat_inverted.specs.Postings.{cut, words_at}
 use Rattle.cat_inverted.proofs.Rows.{rows_are_sets}
 use Rattle.cat_inverted.proofs.terms.Terms.len.Goals as goal

@@ -1,4 +1,4 @@
-use Rattle.std.proofs.Common.{◌≡◌, true, false, List, length, drop, subst, sym}
+use Rattle.std.proofs.Common.{◌≡◌, true, false, List, subst, sym}
 use Rattle.std.proofs.lemmas.List.{take_rest}
 use Rattle.std.specs.List.Sorted.{IsPartitionPoint}
 use Rattle.cat_base.specs.Texts.{IsTextSet}

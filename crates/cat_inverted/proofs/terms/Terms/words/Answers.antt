@@ -1,4 +1,4 @@
-use Rattle.std.proofs.Common.{◌∙◌, ap, sym}
+use Rattle.std.proofs.Common.{◌∙◌, ap}
 use Rattle.cat_model.specs.Ordinals.{dictionary_of}
 use Rattle.cat_inverted.proofs.Rows.{words_are}
 use Rattle.cat_inverted.proofs.terms.Terms.words.Goals as goal
