@@ -1,0 +1,79 @@
+-- The content of a field is told by its texts, its keyword or its number, since it is of the field's kind.
+use Rattle.std.proofs.Common.{◌≡◌, ◌<◌, ℕ, zero, suc, get_or, List, [], ◌∷◌, length, map, Option, Some, None, refl, sym, ap, ◌∙◌, subst, arith}
+use Rattle.std.specs.Prelude.{ℤ, option_map, slice_get, All, MatchOption}
+use Rattle.std.specs.List.Sorted.{IsStrictlySortedBy}
+use Rattle.std.proofs.lemmas.Simd.{map-map}
+use Rattle.cat_base.specs.Texts.{IsTextSet}
+use Rattle.cat_model.specs.Text.{Text}
+use Rattle.cat_model.specs.Item.{Field, Kind, Content, Schema, Part, IsContent, AreParts, keyword_in, number_in}
+use Rattle.cat_model.specs.Ordinals.{texts_of}
+use Rattle.cat_segment.specs.Fields.{content_in, contents_in, IsFilled, texts_in}
+use Rattle.cat_segment.specs.declared.segment.Row as given
+
+-- one text or none is a set
+pub IsTextSet-texts_of : (o : Option Text) (ts : List Text) → MatchOption o (ts ≡ []) (λ t. ts ≡ t ∷ []) → IsTextSet ts
+unfolding IsStrictlySortedBy
+IsTextSet-texts_of None ts e = subst IsTextSet (sym e) tt
+IsTextSet-texts_of (Some t) ts e = subst IsTextSet (sym e) (tt, tt)
+
+-- what agrees at each element of a list
+map_where : {X Y : Type 0} (P : X → Type 0) (f g : X → Y) → ((x : X) → P x → f x ≡ g x) → (xs : List X) → All P xs → map f xs ≡ map g xs
+map_where P f g same [] all = refl
+map_where P f g same (x ∷ xs) all = λ i. same x (all 0 x (omega arith)) i ∷ map_where P f g same xs (λ k d lt. all (suc k) d (omega arith)) i
+
+text_told : (o : Option Content) → IsFilled Kind.text o → Some (Content.words (texts_in o)) ≡ o
+text_told None none = absurd none
+text_told (Some c) (IsContent.words ws sorted) = refl
+
+keyword_told : (o : Option Content) → IsFilled Kind.keyword o → Some (Content.keyword (keyword_in o)) ≡ o
+keyword_told None none = absurd none
+keyword_told (Some c) (IsContent.keyword k) = refl
+
+keyword_texts : (o : Option Content) → IsFilled Kind.keyword o → texts_in o ≡ texts_of (keyword_in o)
+keyword_texts None none = absurd none
+keyword_texts (Some c) (IsContent.keyword k) = refl
+
+number_told : (o : Option Content) → IsFilled Kind.number o → Some (Content.number (number_in o)) ≡ o
+number_told None none = absurd none
+number_told (Some c) (IsContent.number z) = refl
+
+facet_told : (o : Option Content) → IsFilled Kind.facet o → Some (Content.labels (texts_in o)) ≡ o
+facet_told None none = absurd none
+facet_told (Some c) (IsContent.labels ls sorted) = refl
+
+module _ (place : ℕ) (rows : List given.Row) where
+  abbrev AreFilled : Kind → Type 0
+  AreFilled kind = All (λ r. IsFilled kind (content_in place r.item.now)) rows
+
+  told : {X : Type 0} (kind : Kind) (make : X → Content) (read : Option Content → X) → ((o : Option Content) → IsFilled kind o → Some (make (read o)) ≡ o)
+      → AreFilled kind → (xs : List X) → xs ≡ map (λ r. read (content_in place r.item.now)) rows → map (λ x. Some x) (map make xs) ≡ contents_in place rows
+  told kind make read same filled xs is =
+      ap (λ l. map (λ x. Some x) (map make l)) is
+      ∙ map-map (λ x. Some x) make (map (λ r. read (content_in place r.item.now)) rows)
+      ∙ map-map (λ x. Some (make x)) (λ r. read (content_in place r.item.now)) rows
+      ∙ map_where (λ r. IsFilled kind (content_in place r.item.now)) (λ r. Some (make (read (content_in place r.item.now)))) (λ r. content_in place r.item.now) (λ r f. same (content_in place r.item.now) f) rows filled
+
+  pub texts_told : AreFilled Kind.text → (xs : List (List Text)) → xs ≡ map (λ r. texts_in (content_in place r.item.now)) rows → map (λ x. Some x) (map (λ x. Content.words x) xs) ≡ contents_in place rows
+  texts_told = told Kind.text (λ x. Content.words x) texts_in text_told
+
+  pub keywords_told : AreFilled Kind.keyword → (xs : List (Option Text)) → xs ≡ map (λ r. keyword_in (content_in place r.item.now)) rows → map (λ x. Some x) (map (λ x. Content.keyword x) xs) ≡ contents_in place rows
+  keywords_told = told Kind.keyword (λ x. Content.keyword x) keyword_in keyword_told
+
+  pub numbers_told : AreFilled Kind.number → (xs : List (Option ℤ)) → xs ≡ map (λ r. number_in (content_in place r.item.now)) rows → map (λ x. Some x) (map (λ x. Content.number x) xs) ≡ contents_in place rows
+  numbers_told = told Kind.number (λ x. Content.number x) number_in number_told
+
+  pub labels_told : AreFilled Kind.facet → (xs : List (List Text)) → xs ≡ map (λ r. texts_in (content_in place r.item.now)) rows → map (λ x. Some x) (map (λ x. Content.labels x) xs) ≡ contents_in place rows
+  labels_told = told Kind.facet (λ x. Content.labels x) texts_in facet_told
+
+  -- the texts of a keyword field are its keywords
+  pub keywords_as_texts : AreFilled Kind.keyword → map (λ r. texts_in (content_in place r.item.now)) rows ≡ map texts_of (map (λ r. keyword_in (content_in place r.item.now)) rows)
+  keywords_as_texts filled =
+      map_where (λ r. IsFilled Kind.keyword (content_in place r.item.now)) (λ r. texts_in (content_in place r.item.now)) (λ r. texts_of (keyword_in (content_in place r.item.now))) (λ r f. keyword_texts (content_in place r.item.now) f) rows filled
+      ∙ sym (map-map texts_of (λ r. keyword_in (content_in place r.item.now)) rows)
+
+-- the part of a field's place is of the field's kind
+pub filled_at : (fs : Schema) (ps : List Part) (place : ℕ) (f : Field) → AreParts fs ps → place < length fs → f ≡ get_or fs place f → IsFilled f.kind (option_map (λ p. p.content) (slice_get ps place))
+filled_at [] ps place f parts lt is = absurd (omega arith)
+filled_at (g ∷ fs) [] place f parts lt is = absurd parts
+filled_at (g ∷ fs) (p ∷ ps) zero f parts lt is = subst (λ h. IsContent h.kind p.content) (sym is) parts.0.1
+filled_at (g ∷ fs) (p ∷ ps) (suc place) f parts lt is = filled_at fs ps place f parts.1 (omega arith) is

@@ -1,0 +1,116 @@
+-- A segment that is made of rows holds these rows.
+use Rattle.std.proofs.Common.{◌≡◌, ◌+◌, ◌<◌, ℕ, suc, zero, get_or, List, [], ◌∷◌, ◌++◌, length, map, Option, Some, None, refl, sym, ap, ◌∙◌, subst, arith}
+use Rattle.std.specs.Prelude.{option_map, slice_get}
+use Rattle.std.specs.List.{range_with_len}
+use Rattle.std.proofs.lemmas.List.{length-map, get_or-map, map-append}
+use Rattle.std.proofs.lemmas.List.FromFn.{length-map-range_with_len, get_or-map-range_with_len, fill_by_all, map-range_with_len_more}
+use Rattle.cat_model.specs.Item.{Content, Schema, Part, AreParts}
+use Rattle.cat_model.specs.View.{Row, row_of, AreRows}
+use Rattle.cat_segment.specs.Contents.{contents_of}
+use Rattle.cat_segment.specs.Fields.{record_of, content_in, contents_in}
+use Rattle.cat_segment.specs.Rows.{content_at, parts_at, Held, row_at, rows_of, IsHeld}
+use Rattle.cat_segment.specs.declared.column.Column.{Column}
+use Rattle.cat_segment.specs.declared.segment.Row as given
+
+-- the row of a place
+pub row_here : (held : Held) (row : ℕ) (d : Row) → row < length held.numbers → get_or (rows_of held) row d ≡ row_at held row
+row_here held row d lt = get_or-map-range_with_len (row_at held) 0 (length held.numbers) row row d lt (omega arith)
+
+abbrev row_made : given.Row → Row
+row_made r = row_of (record_of r)
+
+abbrev pub seen : Column → List (Option Content)
+seen c = map (λ x. Some x) (contents_of c)
+
+-- one more column
+pub columns_more : (rows : List given.Row) (old new : List Column) (c : Column) (place : ℕ) → new ≡ old ++ c ∷ [] → seen c ≡ contents_in place rows
+    → map seen old ≡ map (λ k. contents_in k rows) (range_with_len 0 place) → map seen new ≡ map (λ k. contents_in k rows) (range_with_len 0 (place + 1))
+columns_more rows old new c place pushed is before =
+    ap (map seen) pushed ∙ map-append seen old (c ∷ [])
+    ∙ (λ i. before i ++ is i ∷ [])
+    ∙ sym (map-range_with_len_more (λ k. contents_in k rows) 0 place place (omega arith))
+
+-- the parts of a row, field by field
+parts_made : (fs : Schema) (cs : List Column) (ps : List Part) (row : ℕ) → AreParts fs ps → length cs ≡ length fs
+    → ((j : ℕ) (d : Column) → j < length fs → Some (content_at (get_or cs j d) row) ≡ option_map (λ p. p.content) (slice_get ps j)) → parts_at fs cs row ≡ ps
+parts_made [] cs [] row parts e is = refl
+parts_made [] cs (p ∷ ps) row parts e is = absurd parts
+parts_made (f ∷ fs) cs [] row parts e is = absurd parts
+parts_made (f ∷ fs) [] (p ∷ ps) row parts e is = absurd (omega arith)
+parts_made (f ∷ fs) (c ∷ cs) (p ∷ ps) row parts e is =
+    let first = is zero c (omega arith) in
+    let here : content_at c row ≡ p.content = (cc) in
+    let later = parts_made fs cs ps row parts.1 (omega arith) (λ j d lt. is (suc j) d (omega arith)) in
+    λ i. record { name = sym parts.0.0 i; content = here i } ∷ later i
+
+module _ (fs : Schema) (rows : List given.Row) (are : AreRows fs (map row_made rows)) where
+  -- each row has the parts that the schema asks for
+  pub parts_right : (k : ℕ) (d : given.Row) → k < length rows → AreParts fs (get_or rows k d).item.now.parts
+  parts_right k d lt = subst (λ r. AreParts fs r.parts) (get_or-map row_made rows k d (row_made d) lt) (are.parts k (row_made d) (omega (arith, length-map rows row_made)))
+
+  module _ (cs : List Column) (right : map seen cs ≡ map (λ k. contents_in k rows) (range_with_len 0 (length fs))) where
+    abbrev made : Held
+    made = record { schema = fs; numbers = map (λ r. r.number) rows; ids = map (λ r. r.item.now.id) rows; lengths = map (λ r. length r.item.now.source) rows; columns = cs }
+
+    as_many : length cs ≡ length fs
+    as_many = sym (length-map cs seen) ∙ ap length right ∙ length-map-range_with_len (λ k. contents_in k rows) 0 (length fs)
+
+    column_right : (j : ℕ) (d : Column) → j < length fs → seen (get_or cs j d) ≡ contents_in j rows
+    column_right j d lt =
+        sym (get_or-map seen cs j d [] (omega (arith, as_many)))
+        ∙ ap (λ l. get_or l j []) right
+        ∙ get_or-map-range_with_len (λ k. contents_in k rows) 0 (length fs) j j [] lt (omega arith)
+
+    column_long : (j : ℕ) (d : Column) → j < length fs → length (contents_of (get_or cs j d)) ≡ length rows
+    column_long j d lt =
+        sym (length-map (contents_of (get_or cs j d)) (λ x. Some x)) ∙ ap length (column_right j d lt) ∙ length-map rows (λ r. content_in j r.item.now)
+
+    content_right : (j : ℕ) (d : Column) (k : ℕ) (r : given.Row) → j < length fs → k < length rows → Some (content_at (get_or cs j d) k) ≡ content_in j (get_or rows k r).item.now
+    content_right j d k r lt in_rows =
+        sym (get_or-map (λ x. Some x) (contents_of (get_or cs j d)) k (Content.words []) None (omega (arith, column_long j d lt)))
+        ∙ ap (λ l. get_or l k None) (column_right j d lt)
+        ∙ get_or-map (λ r. content_in j r.item.now) rows k r None in_rows
+
+    row_right : (k : ℕ) (r : given.Row) → k < length rows → row_at made k ≡ row_made (get_or rows k r)
+    row_right k r lt =
+        let number = get_or-map (λ r. r.number) rows k r 0 lt in
+        let id = get_or-map (λ r. r.item.now.id) rows k r [] lt in
+        let parts = parts_made fs cs (get_or rows k r).item.now.parts k (parts_right k r lt) as_many (λ j d within. content_right j d k r within lt) in
+        let length = get_or-map (λ r. length r.item.now.source) rows k r 0 lt in
+        λ i. record { number = number i; id = id i; parts = parts i; length = length i }
+
+    rows_right : rows_of made ≡ map row_made rows
+    rows_right = sym (by rows refl)
+      where
+        by : (rs : List given.Row) → rs ≡ rows → map row_made rows ≡ rows_of made
+        by [] e = absurd (omega (arith, are.some, length-map rows row_made, ap length e))
+        by (r ∷ rs) e =
+            fill_by_all (row_at made) (map row_made rows) (length made.numbers) (row_made r) (length-map rows row_made ∙ sym (length-map rows (λ r. r.number)))
+            (λ k lt. let within : k < length rows = omega (arith, length-map rows (λ r. r.number)) in get_or-map row_made rows k r (row_made r) within ∙ sym (row_right k r within))
+
+    held_right : IsHeld made
+    held_right = record {
+      ids = length-map rows (λ r. r.item.now.id) ∙ sym (length-map rows (λ r. r.number));
+      lengths = length-map rows (λ r. length r.item.now.source) ∙ sym (length-map rows (λ r. r.number));
+      columns = as_many;
+      contents = λ k d lt. column_long k d (omega (arith, as_many)) ∙ sym (length-map rows (λ r. r.number));
+      rows = subst (AreRows fs) (sym rows_right) are;
+    }
+
+-- what was copied of the rows, list by list
+pub record IsMade (fs : Schema) (rows : List given.Row) (held : Held) : Type 0 where
+  pub schema : held.schema ≡ fs
+  pub numbers : held.numbers ≡ map (λ r. r.number) rows
+  pub ids : held.ids ≡ map (λ r. r.item.now.id) rows
+  pub lengths : held.lengths ≡ map (λ r. length r.item.now.source) rows
+  pub columns : map seen held.columns ≡ map (λ k. contents_in k rows) (range_with_len 0 (length fs))
+
+module _ (fs : Schema) (rows : List given.Row) (are : AreRows fs (map row_made rows)) (held : Held) (is : IsMade fs rows held) where
+  all_made : held ≡ made fs rows are held.columns is.columns
+  all_made = λ i. record { schema = is.schema i; numbers = is.numbers i; ids = is.ids i; lengths = is.lengths i; columns = held.columns }
+
+  pub rows_held : rows_of held ≡ map (λ r. row_of (record_of r)) rows
+  rows_held = ap rows_of all_made ∙ rows_right fs rows are held.columns is.columns
+
+  pub IsHeld-made : IsHeld held
+  IsHeld-made = subst IsHeld (sym all_made) (held_right fs rows are held.columns is.columns)

@@ -1,0 +1,99 @@
+//! The columns of rows.
+ghost use Rattle.std.specs.Prelude.{◌≡◌, ℕ, ◌<◌, ◌^◌, map, length, Some, IfOk, IfErr, All};
+ghost use Rattle.std.specs.List.{range_with_len};
+ghost use Rattle.cat_base.specs.declared.refusal.Refusal.TheVariants.{Memory};
+ghost use Rattle.cat_model.specs.Item.{AreParts};
+ghost use Rattle.cat_schema.specs.Kinds.{kind_meant};
+ghost use Rattle.cat_segment.specs.Contents.{contents_of};
+ghost use Rattle.cat_segment.specs.Fields.{content_in, contents_in, IsFilled};
+
+use crate::column::{Column, Keywords, Labels};
+use crate::gathering::{keywords, numbers, texts};
+use crate::segment::Row;
+use cat_base::{Refusal, Text, WriteNo};
+use cat_inverted::Terms;
+use cat_schema::{Field, Kind};
+use cat_values::NumberColumn;
+use std::alloc::Global;
+
+/// The column of the field of the place, whose kind is given. A refusal is [`Refusal::Memory`].
+fn column_of(alloc: Global, kind: Kind, place: usize, rows: &[Row<'_>]) -> Result<Column, Refusal>
+    requires few { length rows.now < 2 ^ 32 }
+    requires filled { All (λ r. IsFilled (kind_meant kind) (content_in place r.item.now)) rows.now }
+    ensures ok { IfOk result (λ c. map (λ x. Some x) (contents_of c) ≡ contents_in place rows.now) }
+    ensures refusal { IfErr result (λ e. e ≡ Memory) }
+{
+    match kind {
+        Kind::Text => {
+            let texts = texts(alloc, place, rows)?;
+            Ok(Column::Text(Terms::build(alloc, &texts)?))
+        }
+        Kind::Keyword => {
+            let texts = texts(alloc, place, rows)?;
+            let values = keywords(alloc, place, rows)?;
+            Ok(Column::Keyword(Keywords::of(alloc, &values, &texts)?))
+        }
+        Kind::Number => {
+            let numbers = numbers(alloc, place, rows)?;
+            Ok(Column::Number(NumberColumn::of(alloc, &numbers)?))
+        }
+        Kind::Facet => {
+            let texts = texts(alloc, place, rows)?;
+            Ok(Column::Facet(Labels::of(alloc, &texts)?))
+        }
+    }
+}
+
+/// The columns of the fields, in the fields' order. A refusal is [`Refusal::Memory`].
+pub(crate) fn columns_of(
+    alloc: Global,
+    fields: &[Field],
+    rows: &[Row<'_>],
+) -> Result<Vec<Column>, Refusal>
+    requires few { length rows.now < 2 ^ 32 }
+    requires parts { All (λ r. AreParts fields.now r.item.now.parts) rows.now }
+    ensures ok { IfOk result (λ cs. map (λ c. map (λ x. Some x) (contents_of c)) cs.items ≡ map (λ k. contents_in k rows.now) (range_with_len 0 (length fields.now))) }
+    ensures refusal { IfErr result (λ e. e ≡ Memory) }
+{
+    let mut columns = Vec::with_capacity(alloc, fields.len())?;
+    for (place, field) in fields.iter().enumerate() {
+        columns.push(column_of(alloc, field.kind(), place, rows)?)?;
+    }
+    Ok(columns)
+}
+
+/// The number of each row. A refusal is [`Refusal::Memory`].
+pub(crate) fn write_numbers(alloc: Global, rows: &[Row<'_>]) -> Result<Vec<WriteNo>, Refusal>
+    ensures ok { IfOk result (λ v. v.items ≡ map (λ r. r.number) rows.now) }
+    ensures refusal { IfErr result (λ e. e ≡ Memory) }
+{
+    Ok(rows.iter().map(|row| row.number).collect(alloc)?)
+}
+
+/// A copy of the id of each row. A refusal is [`Refusal::Memory`].
+pub(crate) fn ids(alloc: Global, rows: &[Row<'_>]) -> Result<Vec<Text>, Refusal>
+    ensures ok { IfOk result (λ v. v.items ≡ map (λ r. r.item.now.id) rows.now) }
+    ensures refusal { IfErr result (λ e. e ≡ Memory) }
+{
+    let mut ids = Vec::with_capacity(alloc, rows.len())?;
+    for row in rows {
+        ids.push(Text::from_str(alloc, row.item.id())?)?;
+    }
+    Ok(ids)
+}
+
+/// The length of the text that each row's item came as, in bytes. A refusal is [`Refusal::Memory`], also for a text of
+/// 2^32 bytes and more.
+pub(crate) fn source_lengths(alloc: Global, rows: &[Row<'_>]) -> Result<Vec<u32>, Refusal>
+    ensures ok { IfOk result (λ v. v.items ≡ map (λ r. length r.item.now.source) rows.now) }
+    ensures refusal { IfErr result (λ e. e ≡ Memory) }
+{
+    let mut lengths = Vec::with_capacity(alloc, rows.len())?;
+    for row in rows {
+        let Ok(len) = u32::try_from(row.item.source().len()) else {
+            return Err(Refusal::Memory);
+        };
+        lengths.push(len)?;
+    }
+    Ok(lengths)
+}

@@ -1,0 +1,86 @@
+//! Live sets: which rows of a segment are live.
+ghost use Rattle.std.specs.Prelude.{◌≡◌, ◌<◌, ◌^◌, true, false, length, count_by, replicate, slice_set, IfOk, IfErr};
+ghost use Rattle.cat_base.specs.declared.refusal.Refusal.TheVariants.{Memory};
+ghost use Rattle.cat_model.specs.RowSets.{has_row};
+
+use cat_base::Refusal;
+use cat_values::RowSet;
+use std::alloc::Global;
+use std::marker::Model;
+
+/// Which rows of a segment are live, where the others are deleted (Lucene: the `liveDocs` of a segment). It is kept
+/// beside the segment, which never changes; readers of one view share it, and a row that is killed later is killed in
+/// a copy.
+#[derive(Drop)]
+pub struct Live {
+    rows: RowSet,
+}
+
+impl Model for Live {
+    ghost use Rattle.std.specs.Prelude.{List, Bool};
+
+    ghost Value = { List Bool };
+
+    ghost view = { λ l. l.rows };
+}
+
+impl Live {
+    /// The live set of a new segment of this many rows, which all are live. A refusal is [`Refusal::Memory`].
+    pub fn all(alloc: Global, rows: usize) -> Result<Self, Refusal>
+        requires { rows < 2 ^ 32 }
+        ensures ok { IfOk result (λ l. l ≡ replicate rows true) }
+        ensures refusal { IfErr result (λ e. e ≡ Memory) }
+    {
+        Ok(Live {
+            rows: RowSet::all(alloc, rows)?,
+        })
+    }
+
+    /// How many rows there are, live or not (Lucene: `maxDoc`).
+    pub fn len(&self) -> usize
+        ensures value { result ≡ length self.now }
+        ensures few { length self.now < 2 ^ 32 }
+    {
+        self.rows.len()
+    }
+
+    /// Whether the row is live (Lucene: `Bits.get` of the live documents).
+    pub fn is_live(&self, row: usize) -> bool
+        requires { row < length self.now }
+        ensures { result ≡ has_row self.now row }
+    {
+        self.rows.contains(row)
+    }
+
+    /// Makes the row dead; one that is dead stays so (Lucene: `PendingDeletes.delete`).
+    pub fn kill(&mut self, row: usize)
+        requires { row < length self.old }
+        ensures { self.new ≡ slice_set self.old row false }
+    {
+        self.rows.remove(row);
+    }
+
+    /// How many rows are live (Lucene: `numDocs`).
+    pub fn count(&self) -> usize
+        ensures { result ≡ count_by (λ b. b) self.now }
+    {
+        self.rows.count()
+    }
+
+    /// The live rows, as a set to be joined with others.
+    pub fn rows(&self) -> &RowSet
+        ensures { result.now ≡ self.now }
+    {
+        &self.rows
+    }
+
+    /// An equal live set in memory of its own. A refusal is [`Refusal::Memory`].
+    pub fn copy(&self) -> Result<Self, Refusal>
+        ensures ok { IfOk result (λ l. l ≡ self.now) }
+        ensures refusal { IfErr result (λ e. e ≡ Memory) }
+    {
+        Ok(Live {
+            rows: self.rows.copy()?,
+        })
+    }
+}

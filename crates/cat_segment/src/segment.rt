@@ -1,0 +1,142 @@
+//! Immutable segments.
+ghost use Rattle.std.specs.Prelude.{◌≡◌, ◌<◌, map, length, not, replicate, Some, None, MatchOption, IfOk, IfErr};
+ghost use Rattle.std.specs.List.{prefix_len, HoldsAt};
+ghost use Rattle.cat_base.specs.declared.refusal.Refusal.TheVariants.{Memory};
+ghost use Rattle.cat_model.specs.Text.{same_text};
+ghost use Rattle.cat_model.specs.Item.{content_of};
+ghost use Rattle.cat_model.specs.View.{row_of, item_in, AreRows};
+ghost use Rattle.cat_segment.specs.Contents.{contents_of};
+ghost use Rattle.cat_segment.specs.Fields.{record_of};
+
+use crate::building::{columns_of, ids, source_lengths, write_numbers};
+use crate::column::Column;
+use cat_base::{Refusal, SegNo, Text, WriteNo};
+use cat_schema::{Field, Item, Schema};
+use std::alloc::Global;
+use std::marker::Model;
+
+/// A row that a segment is made of: an item under the number of the write that put it.
+#[derive(Clone, Copy, Drop)]
+pub struct Row<'a> {
+    /// The number of the write.
+    pub number: WriteNo,
+    /// The item.
+    pub item: &'a Item,
+}
+
+/// A segment: 1 to 262,144 rows that never change, held by columns (Lucene: a `SegmentReader` of a flushed or merged
+/// segment, whose live documents are kept beside it).
+///
+/// The texts that the items came as are held elsewhere; a segment knows their lengths.
+#[derive(Drop)]
+pub struct Segment {
+    number: SegNo,
+    schema: Schema,
+    // One of each for each row.
+    numbers: Vec<WriteNo>,
+    ids: Vec<Text>,
+    lengths: Vec<u32>,
+    // One for each field, in the fields' order.
+    columns: Vec<Column>,
+}
+
+impl Model for Segment {
+    ghost use Rattle.cat_model.specs.View as model;
+    ghost use Rattle.cat_segment.specs.Rows.{held_in, rows_of, IsHeld};
+
+    ghost Value = { model.Segment };
+
+    ghost view = { λ s. record { number = s.number; schema = s.schema; rows = rows_of (held_in s) } };
+
+    ghost invariant = { λ s. IsHeld (held_in s) };
+}
+
+// How many fields stand before the one of the name.
+fn fields_before(fields: &[Field], name: &str) -> usize
+    ensures { result ≡ prefix_len (λ f. not (same_text f.name name.now)) fields.now }
+{
+    fields
+        .iter()
+        .take_while(|field| field.name() != name)
+        .count()
+}
+
+impl Segment {
+    /// The segment of the rows, under the number, over the fields that the items were read under.
+    pub fn of(
+        alloc: Global,
+        number: SegNo,
+        schema: &Schema,
+        rows: &[Row<'_>],
+    ) -> Result<Segment, Refusal>
+        requires rows { AreRows schema.now (map (λ r. row_of (record_of r)) rows.now) }
+        ensures ok { IfOk result (λ s. s ≡ record { number = number; schema = schema.now; rows = map (λ r. row_of (record_of r)) rows.now }) }
+        ensures refusal { IfErr result (λ e. e ≡ Memory) }
+    {
+        Ok(Segment {
+            number,
+            schema: schema.copy()?,
+            numbers: write_numbers(alloc, rows)?,
+            ids: ids(alloc, rows)?,
+            lengths: source_lengths(alloc, rows)?,
+            columns: columns_of(alloc, schema.fields(), rows)?,
+        })
+    }
+
+    /// The number of the segment.
+    pub fn number(&self) -> SegNo
+        ensures { result ≡ self.now.number }
+    {
+        self.number
+    }
+
+    /// How many rows there are, 1 to 262,144, deleted ones counted (Lucene: `maxDoc`).
+    pub fn len(&self) -> usize
+        ensures same { result ≡ length self.now.rows }
+        ensures rows { AreRows self.now.schema self.now.rows }
+    {
+        self.numbers.len()
+    }
+
+    /// The fields of the rows.
+    pub fn schema(&self) -> &Schema
+        ensures { result.now ≡ self.now.schema }
+    {
+        &self.schema
+    }
+
+    /// The number of the write that put the row.
+    pub fn write_number(&self, row: usize) -> WriteNo
+        requires { row < length self.now.rows }
+        ensures { HoldsAt (λ r. r.number ≡ result) self.now.rows row }
+    {
+        self.numbers[row]
+    }
+
+    /// The id of the row.
+    pub fn id(&self, row: usize) -> &str
+        requires { row < length self.now.rows }
+        ensures { HoldsAt (λ r. r.id ≡ result.now) self.now.rows row }
+    {
+        self.ids[row].as_str()
+    }
+
+    /// The length of the text that the row's item came as, in bytes.
+    pub fn source_length(&self, row: usize) -> u32
+        requires { row < length self.now.rows }
+        ensures { HoldsAt (λ r. r.length ≡ result) self.now.rows row }
+    {
+        self.lengths[row]
+    }
+
+    /// The column of the field of the name, if there is such a field.
+    pub fn column(&self, name: &str) -> Option<&Column>
+        ensures { MatchOption result
+            (map (λ r. content_of name.now (item_in r)) self.now.rows ≡ replicate (length self.now.rows) None)
+            (λ c. map (λ x. Some x) (contents_of c.now) ≡ map (λ r. content_of name.now (item_in r)) self.now.rows) }
+    {
+        // Past the last column where no field has the name.
+        let place = fields_before(self.schema.fields(), name);
+        self.columns.get(place)
+    }
+}
