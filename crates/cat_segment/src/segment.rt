@@ -62,7 +62,11 @@ fn fields_before(fields: &[Field], name: &str) -> usize
 }
 
 impl Segment {
-    /// The segment of the rows, under the number, over the fields that the items were read under.
+    /// The segment of the rows, under the number, over the fields that the items were read under (Lucene: what
+    /// `DocumentsWriterPerThread.flush` makes). The rows are 1 to 262,144, their numbers rise from at least 1, and their
+    /// ids differ.
+    ///
+    /// A refusal is [`Refusal::Memory`]; it also stands for an item's text of 2^32 bytes or more.
     pub fn of(
         alloc: Global,
         number: SegNo,
