@@ -7,3 +7,4 @@ pub mod ValueSteps
 pub mod Series
 pub mod Groups
 pub mod Judging
+pub mod RowTests

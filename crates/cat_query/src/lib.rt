@@ -1,7 +1,9 @@
-//! Queries: how they are read from texts, which items they accept, and that they compare as what they ask.
+//! Queries: how they are read from texts, which items they accept, which rows of a segment they match, and that
+//! they compare as what they ask.
 #![tactic(auto)]
 
 mod copies;
+mod doc_set;
 mod equality;
 mod hashing;
 mod matching;
@@ -10,7 +12,9 @@ mod parsing;
 mod query;
 mod reading;
 mod scanning;
+mod segments;
 mod stop;
 mod values;
 
+pub use doc_set::DocSet;
 pub use query::{Clause, Primary, Query, Sign, Test};

@@ -26,6 +26,8 @@ mod rows_run;
 #[cfg(test)]
 mod rows_schema;
 #[cfg(test)]
+mod rows_segments;
+#[cfg(test)]
 mod rows_serving;
 #[cfg(test)]
 mod rows_writes;

@@ -1,0 +1,80 @@
+//! The rows of a segment that a query matches.
+ghost use Rattle.std.specs.Prelude.{◌≡◌, ◌^◌, ◌<◌, length, count_by, IfOk, IfErr};
+ghost use Rattle.cat_base.specs.declared.refusal.Refusal.TheVariants.{Memory};
+ghost use Rattle.cat_model.specs.RowSets.{has_row, places};
+
+use cat_base::Refusal;
+use cat_values::{RowSet, Rows};
+use std::marker::Model;
+
+/// The rows of one segment that a query matches, deleted rows too: Lucene's `DocIdSet`, as `LRUQueryCache` keeps it for
+/// a segment.
+///
+/// Contracts see it as one truth value for each row.
+#[derive(Debug, Drop)]
+pub struct DocSet {
+    rows: RowSet,
+}
+
+impl Model for DocSet {
+    ghost use Rattle.std.specs.Prelude.{List, Bool};
+
+    ghost Value = { List Bool };
+
+    ghost view = { λ s. s.rows };
+}
+
+impl DocSet {
+    /// The set of these rows.
+    pub(crate) fn of(rows: RowSet) -> Self
+        ensures { result ≡ rows }
+    {
+        DocSet { rows }
+    }
+
+    /// How many rows the segment has, matched or not.
+    pub fn len(&self) -> usize
+        ensures value { result ≡ length self.now }
+        ensures few { length self.now < 2 ^ 32 }
+    {
+        self.rows.len()
+    }
+
+    /// Whether the row matches (`Bits.get`).
+    pub fn contains(&self, row: usize) -> bool
+        requires { row < length self.now }
+        ensures { result ≡ has_row self.now row }
+    {
+        self.rows.contains(row)
+    }
+
+    /// How many rows match, deleted ones too (`DocIdSetIterator.cost`).
+    pub fn count(&self) -> usize
+        ensures { result ≡ count_by (λ b. b) self.now }
+    {
+        self.rows.count()
+    }
+
+    /// The rows that match, rising (`DocIdSet.iterator`).
+    pub fn iter(&self) -> Rows<'_>
+        ensures { result ≡ places self.now }
+    {
+        self.rows.iter()
+    }
+
+    /// The rows that match, as a set of rows to join with others.
+    pub fn rows(&self) -> &RowSet
+        ensures { result.now ≡ self.now }
+    {
+        &self.rows
+    }
+
+    /// An equal set in memory of its own. A refusal is [`Refusal::Memory`].
+    pub fn copy(&self) -> Result<Self, Refusal>
+        ensures ok { IfOk result (λ s. s ≡ self.now) }
+        ensures refusal { IfErr result (λ e. e ≡ Memory) }
+    {
+        let rows = self.rows.copy()?;
+        Ok(DocSet { rows })
+    }
+}

@@ -1,0 +1,283 @@
+//! The rows of a segment that a query matches: those whose items it accepts one by one.
+ghost use Rattle.std.specs.Prelude.{◌≡◌, ◌≢◌, ◌≤◌, ◌<◌, true, length, map, IfOk, All, AllPairs};
+ghost use Rattle.cat_model.specs.Item.{IsItem};
+
+use cat_base::Refusal;
+use cat_query::{DocSet, Query};
+use cat_schema::{Item, Schema};
+use cat_segment::{Row, Segment};
+use std::alloc::{AllocError, Global};
+use std::test::Fail;
+
+const FIELDS: &[u8] = br#"{"brand":"keyword","color":"facet","price":"number","title":"text"}"#;
+
+// What an item may have in each field.
+const BRANDS: [&str; 6] = [
+    "",
+    ",\"brand\":\"ac\"",
+    ",\"brand\":\"acme\"",
+    ",\"brand\":\"bo\"",
+    ",\"brand\":\"bolt\"",
+    ",\"brand\":\"zed\"",
+];
+
+const COLORS: [&str; 6] = [
+    "",
+    ",\"color\":[]",
+    ",\"color\":[\"red\"]",
+    ",\"color\":[\"red\",\"blue\"]",
+    ",\"color\":[\"blue\",\"blue\"]",
+    ",\"color\":[\"rose\",\"black\",\"red\"]",
+];
+
+const PRICES: [&str; 6] = [
+    "",
+    ",\"price\":-3",
+    ",\"price\":0",
+    ",\"price\":1",
+    ",\"price\":2",
+    ",\"price\":9223372036854775807",
+];
+
+const TITLES: [&str; 6] = [
+    "",
+    ",\"title\":\"\"",
+    ",\"title\":\"Garden shovel\"",
+    ",\"title\":\"gar gar\"",
+    ",\"title\":\"red shoe\"",
+    ",\"title\":\"shoe, garden; shoe\"",
+];
+
+const SIGNS: [&str; 4] = ["", "", "+", "-"];
+
+const TESTS: [&str; 22] = [
+    "*:*",
+    "brand:ac",
+    "brand:b*",
+    "brand:none",
+    "brand:[ac TO bo]",
+    "brand:[acme TO *]",
+    "brand:[* TO acme]",
+    "brand:[bolt TO ac]",
+    "price:0",
+    "price:[0 TO 2]",
+    "price:[* TO 0]",
+    "price:[1 TO *]",
+    "price:[2 TO 1]",
+    "color:red",
+    "color:blue",
+    "color:r*",
+    "color:b*",
+    "color:green",
+    "title:garden",
+    "title:gar",
+    "title:gar*",
+    "title:sho*",
+];
+
+/// Numbers that look thrown, the same at each run.
+#[derive(Drop)]
+struct Dice {
+    state: u64,
+}
+
+impl Dice {
+    /// One of `0..sides`.
+    fn roll(&mut self, sides: usize) -> usize
+        requires { 0 < sides }
+        ensures { result < sides }
+    {
+        self.state = self
+            .state
+            .wrapping_mul(6_364_136_223_846_793_005)
+            .wrapping_add(1_442_695_040_888_963_407);
+        (self.state >> 33) as usize % sides
+    }
+
+    fn pick<'a>(&mut self, texts: &[&'a str]) -> &'a str
+        requires { 0 < length texts.now }
+    {
+        texts[self.roll(texts.len())]
+    }
+}
+
+fn item_text(alloc: Global, dice: &mut Dice, row: usize) -> Result<String, AllocError> {
+    let mut text = format!(in alloc; "{{\"id\":\"i{row}\"")?;
+    text.push_str(dice.pick(&BRANDS))?;
+    text.push_str(dice.pick(&COLORS))?;
+    text.push_str(dice.pick(&PRICES))?;
+    text.push_str(dice.pick(&TITLES))?;
+    text.push('}')?;
+    Ok(text)
+}
+
+fn item_texts(alloc: Global, dice: &mut Dice, count: usize) -> Result<Vec<String>, AllocError> {
+    let mut texts = Vec::new(alloc);
+    for row in 0..count {
+        texts.push(item_text(alloc, dice, row)?)?;
+    }
+    Ok(texts)
+}
+
+/// One to three clauses, none of them a group.
+fn push_clauses(text: &mut String, dice: &mut Dice) -> Result<(), AllocError> {
+    for place in 0..dice.roll(3) + 1 {
+        text.push_str(if place == 0 { "" } else { " " })?;
+        text.push_str(dice.pick(&SIGNS))?;
+        text.push_str(dice.pick(&TESTS))?;
+    }
+    Ok(())
+}
+
+/// Clauses, then a group of clauses, and a clause behind it.
+fn query_text(alloc: Global, dice: &mut Dice) -> Result<String, AllocError> {
+    let mut text = String::new(alloc);
+    push_clauses(&mut text, dice)?;
+    text.push_str(dice.pick(&[" (", " +(", " -("]))?;
+    push_clauses(&mut text, dice)?;
+    text.push_str(dice.pick(&[") ", ") +", ") -"]))?;
+    text.push_str(dice.pick(&TESTS))?;
+    Ok(text)
+}
+
+fn read_items(alloc: Global, schema: &Schema, texts: &[String]) -> Result<Vec<Item>, Refusal>
+    ensures { IfOk result (λ v. All (IsItem schema.now) v.items) }
+{
+    let mut items = Vec::new(alloc);
+    for text in texts {
+        items.push(schema.item(alloc, text.as_bytes())?)?;
+    }
+    Ok(items)
+}
+
+fn rows_of<'a>(alloc: Global, items: &'a [Item]) -> Result<Vec<Row<'a>>, Refusal>
+    ensures items { IfOk result (λ v. map (λ r. r.item.now) v.items ≡ items.now) }
+    ensures positive { IfOk result (λ v. All (λ r. 1 ≤ r.number) v.items) }
+{
+    let mut rows = Vec::new(alloc);
+    for item in items {
+        let number = rows.len() as u64 + 1;
+        rows.push(Row { number, item })?;
+    }
+    Ok(rows)
+}
+
+/// Whether all the rows have lower numbers than this one, and other ids.
+fn is_behind(rows: &[Row<'_>], last: &Row<'_>) -> bool
+    ensures { result ≡ true → All (λ r. (r.number < last.now.number) × (r.item.now.id ≢ last.now.item.now.id)) rows.now }
+{
+    for row in rows {
+        if row.number >= last.number || row.item.id() == last.item.id() {
+            return false;
+        }
+    }
+    true
+}
+
+/// Whether the numbers of the rows rise and their ids differ.
+fn are_apart(rows: &[Row<'_>]) -> bool
+    ensures { result ≡ true → AllPairs (λ a b. (a.number < b.number) × (a.item.now.id ≢ b.item.now.id)) rows.now }
+{
+    for place in 0..rows.len() {
+        if !is_behind(&rows[..place], &rows[place]) {
+            return false;
+        }
+    }
+    true
+}
+
+/// The segment of the items, and `None` where they can't be the rows of one.
+fn segment_of(alloc: Global, schema: &Schema, items: &[Item]) -> Result<Option<Segment>, Refusal>
+    requires { All (IsItem schema.now) items.now }
+{
+    let rows = rows_of(alloc, items)?;
+    let count = rows.len();
+    if count == 0 || count > 262_144 || !are_apart(&rows) {
+        return Ok(None);
+    }
+    Ok(Some(Segment::of(alloc, 1, schema, &rows)?))
+}
+
+/// Whether the set says of each row what the query says of the row's item.
+fn is_accepted(query: &Query, set: &DocSet, items: &[Item]) -> bool {
+    for (row, item) in items.iter().enumerate() {
+        if row >= set.len() || set.contains(row) != query.accepts(item) {
+            return false;
+        }
+    }
+    set.len() == items.len()
+}
+
+/// The rows that match, and `None` where the query accepts others.
+fn rows_matched(
+    alloc: Global,
+    segment: &Segment,
+    items: &[Item],
+    text: &str,
+) -> Result<Option<Vec<usize>>, Refusal> {
+    let query = Query::parse(segment.schema(), alloc, text)?;
+    let set = query.matches(alloc, segment)?.copy()?;
+    let mut rows = Vec::new(alloc);
+    for row in set.iter() {
+        rows.push(row)?;
+    }
+    let agrees = is_accepted(&query, &set, items) && set.count() == rows.len();
+    Ok(if agrees { Some(rows) } else { None })
+}
+
+#[test]
+fn queries_match_rows(rt: HostRuntime) -> Result<(), Fail> {
+    let alloc = rt.alloc();
+    let schema = Schema::read(alloc, br#"{"color":"facet"}"#)?;
+    let texts = vec![in alloc;
+        String::from_str(alloc, r#"{"id":"a","color":["red","blue"]}"#)?,
+        String::from_str(alloc, r#"{"id":"b","color":["red"]}"#)?,
+        String::from_str(alloc, r#"{"id":"c","color":["blue","blue"]}"#)?,
+        String::from_str(alloc, r#"{"id":"d"}"#)?,
+    ]?;
+    let items = read_items(alloc, &schema, &texts)?;
+    let Some(segment) = segment_of(alloc, &schema, &items)? else {
+        panic!(rt; "no segment");
+    };
+    let rows: [(&str, &[usize]); 6] = [
+        ("color:r*", &[0, 1]),
+        ("*:* -color:red", &[2, 3]),
+        ("-color:red", &[]),
+        ("+color:red color:blue", &[0, 1]),
+        ("color:blue", &[0, 2]),
+        ("+(*:* -color:red) -color:blue", &[3]),
+    ];
+    for (text, places) in rows {
+        let found = rows_matched(alloc, &segment, &items, text)?;
+        assert_eq!(rt; found.as_deref(), Some(places), "{text}");
+    }
+    Ok(())
+}
+
+#[test]
+fn sets_agree_with_items(rt: HostRuntime) -> Result<(), Fail> {
+    let alloc = rt.alloc();
+    let schema = Schema::read(alloc, FIELDS)?;
+    let mut dice = Dice { state: 1 };
+    for size in [1usize, 63, 64, 65, 128, 1_000] {
+        let texts = item_texts(alloc, &mut dice, size)?;
+        let items = read_items(alloc, &schema, &texts)?;
+        let Some(segment) = segment_of(alloc, &schema, &items)? else {
+            panic!(rt; "no segment of {size}");
+        };
+        let mut matched = 0usize;
+        for _ in 0..100 {
+            let text = query_text(alloc, &mut dice)?;
+            let Some(rows) = rows_matched(alloc, &segment, &items, &text)? else {
+                panic!(rt; "{text} of {size}");
+            };
+            matched = matched.saturating_add(rows.len());
+        }
+        // The texts match some rows, and not all.
+        assert!(rt;
+            size < matched && matched < size.saturating_mul(99),
+            "{matched} of {size}"
+        );
+    }
+    Ok(())
+}
