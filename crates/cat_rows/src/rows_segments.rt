@@ -5,8 +5,10 @@ ghost use Rattle.cat_model.specs.Item.{IsItem};
 use cat_base::Refusal;
 use cat_query::{DocSet, Query};
 use cat_schema::{Item, Schema};
-use cat_segment::{Row, Segment};
+use cat_segment::{Column, Row, Segment};
+use cat_values::SetColumn;
 use std::alloc::{AllocError, Global};
+use std::process::Abort;
 use std::test::Fail;
 
 const FIELDS: &[u8] = br#"{"brand":"keyword","color":"facet","price":"number","title":"text"}"#;
@@ -225,32 +227,133 @@ fn rows_matched(
     Ok(if agrees { Some(rows) } else { None })
 }
 
-#[test]
-fn queries_match_rows(rt: HostRuntime) -> Result<(), Fail> {
-    let alloc = rt.alloc();
-    let schema = Schema::read(alloc, br#"{"color":"facet"}"#)?;
-    let texts = vec![in alloc;
-        String::from_str(alloc, r#"{"id":"a","color":["red","blue"]}"#)?,
-        String::from_str(alloc, r#"{"id":"b","color":["red"]}"#)?,
-        String::from_str(alloc, r#"{"id":"c","color":["blue","blue"]}"#)?,
-        String::from_str(alloc, r#"{"id":"d"}"#)?,
-    ]?;
-    let items = read_items(alloc, &schema, &texts)?;
+fn strings(alloc: Global, texts: &[&str]) -> Result<Vec<String>, AllocError> {
+    let mut strings = Vec::with_capacity(alloc, texts.len())?;
+    for text in texts {
+        strings.push(String::from_str(alloc, text)?)?;
+    }
+    Ok(strings)
+}
+
+/// Fails unless each query matches these rows of a segment of the items, and accepts no item of another row.
+fn expect_rows_of<const N: usize>(
+    rt: &impl Abort,
+    alloc: Global,
+    texts: &[&str],
+    rows: [(&str, &[usize]); N],
+) -> Result<(), Fail> {
+    let schema = Schema::read(alloc, FIELDS)?;
+    let items = read_items(alloc, &schema, &strings(alloc, texts)?)?;
     let Some(segment) = segment_of(alloc, &schema, &items)? else {
         panic!(rt; "no segment");
     };
-    let rows: [(&str, &[usize]); 6] = [
-        ("color:r*", &[0, 1]),
-        ("*:* -color:red", &[2, 3]),
-        ("-color:red", &[]),
-        ("+color:red color:blue", &[0, 1]),
-        ("color:blue", &[0, 2]),
-        ("+(*:* -color:red) -color:blue", &[3]),
-    ];
     for (text, places) in rows {
         let found = rows_matched(alloc, &segment, &items, text)?;
         assert_eq!(rt; found.as_deref(), Some(places), "{text}");
     }
+    Ok(())
+}
+
+/// Items with one color, two, and none.
+const COLORED: &[&str] = &[
+    r#"{"id":"a","color":["red","blue"]}"#,
+    r#"{"id":"b","color":["red"]}"#,
+    r#"{"id":"c","color":["blue","blue"]}"#,
+    r#"{"id":"d"}"#,
+];
+
+#[test]
+fn queries_match_rows_by_labels(rt: HostRuntime) -> Result<(), Fail> {
+    expect_rows_of(
+        &rt,
+        rt.alloc(),
+        COLORED,
+        [
+            ("*:*", &[0, 1, 2, 3]),
+            ("color:r*", &[0, 1]),
+            ("*:* -color:red", &[2, 3]),
+            ("-color:red", &[]),
+            ("+color:red color:blue", &[0, 1]),
+            ("color:blue", &[0, 2]),
+            ("+(*:* -color:red) -color:blue", &[3]),
+            ("color:green", &[]),
+            ("price:[* TO *]", &[]),
+        ],
+    )
+}
+
+#[test]
+fn queries_match_rows_by_numbers(rt: HostRuntime) -> Result<(), Fail> {
+    expect_rows_of(
+        &rt,
+        rt.alloc(),
+        &[
+            r#"{"id":"a","price":7,"brand":"x"}"#,
+            r#"{"id":"b","brand":"y"}"#,
+            r#"{"id":"c","price":7}"#,
+            r#"{"id":"d","price":-3}"#,
+        ],
+        [
+            ("price:7", &[0, 2]),
+            ("price:[* TO 0]", &[3]),
+            ("price:[-3 TO 7]", &[0, 2, 3]),
+            ("price:[3 TO -3]", &[]),
+            ("*:* -(-brand:x)", &[0, 1, 2, 3]),
+            ("(-brand:y)", &[]),
+            ("*:* -price:[* TO *]", &[1]),
+        ],
+    )
+}
+
+#[test]
+fn queries_match_rows_by_words_and_keywords(rt: HostRuntime) -> Result<(), Fail> {
+    expect_rows_of(
+        &rt,
+        rt.alloc(),
+        &[
+            r#"{"id":"a","title":"Red-Shoe 42é","brand":"Acme"}"#,
+            r#"{"id":"b","title":"shoes","brand":"Zed"}"#,
+        ],
+        [
+            ("title:RED", &[0]),
+            ("title:sho*", &[0, 1]),
+            ("title:42", &[]),
+            ("title:42é", &[0]),
+            ("+brand:[B TO *] title:red", &[1]),
+            ("brand:[* TO Acme]", &[0]),
+            ("brand:Z*", &[1]),
+            ("brand:zed", &[]),
+        ],
+    )
+}
+
+/// The labels of a facet field in order of their ordinals, and the ordinals of each row.
+fn ordinals_of(alloc: Global, labels: &SetColumn) -> Result<String, AllocError> {
+    let mut text = String::new(alloc);
+    for label in labels.dictionary().as_slice() {
+        text.push_str(label.as_str())?;
+        text.push(' ')?;
+    }
+    for row in 0..labels.len() {
+        text.push_str(&format!(in alloc; "{:?}", labels.ordinals(row))?)?;
+    }
+    Ok(text)
+}
+
+#[test]
+fn labels_have_ordinals_in_byte_order(rt: HostRuntime) -> Result<(), Fail> {
+    let alloc = rt.alloc();
+    let schema = Schema::read(alloc, FIELDS)?;
+    let items = read_items(alloc, &schema, &strings(alloc, COLORED)?)?;
+    let Some(segment) = segment_of(alloc, &schema, &items)? else {
+        panic!(rt; "no segment");
+    };
+    let Some(Column::Facet(colors)) = segment.column("color") else {
+        panic!(rt; "no colors");
+    };
+    let shown = ordinals_of(alloc, colors.labels())?;
+    assert_eq!(rt; shown.as_str(), "blue red [0, 1][1][0][]");
+    assert!(rt; segment.column("size").is_none());
     Ok(())
 }
 
