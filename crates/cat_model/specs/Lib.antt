@@ -24,3 +24,4 @@ pub mod RankLaws
 pub mod RowSets
 pub mod Ordinals
 pub mod View
+pub mod Files

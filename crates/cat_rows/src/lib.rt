@@ -2,6 +2,8 @@
 #![tactic(auto)]
 
 #[cfg(test)]
+mod files;
+#[cfg(test)]
 mod rows_faults;
 #[cfg(test)]
 mod rows_find;
