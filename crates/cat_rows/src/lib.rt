@@ -2,8 +2,6 @@
 #![tactic(auto)]
 
 #[cfg(test)]
-mod files;
-#[cfg(test)]
 mod rows_faults;
 #[cfg(test)]
 mod rows_find;
