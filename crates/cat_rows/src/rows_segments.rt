@@ -236,11 +236,11 @@ fn strings(alloc: Global, texts: &[&str]) -> Result<Vec<String>, AllocError> {
 }
 
 /// Fails unless each query matches these rows of a segment of the items, and accepts no item of another row.
-fn expect_rows_of<const N: usize>(
+fn expect_rows_of(
     rt: &impl Abort,
     alloc: Global,
     texts: &[&str],
-    rows: [(&str, &[usize]); N],
+    rows: &[(&str, &[usize])],
 ) -> Result<(), Fail> {
     let schema = Schema::read(alloc, FIELDS)?;
     let items = read_items(alloc, &schema, &strings(alloc, texts)?)?;
@@ -249,7 +249,7 @@ fn expect_rows_of<const N: usize>(
     };
     for (text, places) in rows {
         let found = rows_matched(alloc, &segment, &items, text)?;
-        assert_eq!(rt; found.as_deref(), Some(places), "{text}");
+        assert_eq!(rt; found.as_deref(), Some(*places), "{text}");
     }
     Ok(())
 }
@@ -268,7 +268,7 @@ fn queries_match_rows_by_labels(rt: HostRuntime) -> Result<(), Fail> {
         &rt,
         rt.alloc(),
         COLORED,
-        [
+        &[
             ("*:*", &[0, 1, 2, 3]),
             ("color:r*", &[0, 1]),
             ("*:* -color:red", &[2, 3]),
@@ -293,7 +293,7 @@ fn queries_match_rows_by_numbers(rt: HostRuntime) -> Result<(), Fail> {
             r#"{"id":"c","price":7}"#,
             r#"{"id":"d","price":-3}"#,
         ],
-        [
+        &[
             ("price:7", &[0, 2]),
             ("price:[* TO 0]", &[3]),
             ("price:[-3 TO 7]", &[0, 2, 3]),
@@ -314,7 +314,7 @@ fn queries_match_rows_by_words_and_keywords(rt: HostRuntime) -> Result<(), Fail>
             r#"{"id":"a","title":"Red-Shoe 42é","brand":"Acme"}"#,
             r#"{"id":"b","title":"shoes","brand":"Zed"}"#,
         ],
-        [
+        &[
             ("title:RED", &[0]),
             ("title:sho*", &[0, 1]),
             ("title:42", &[]),
