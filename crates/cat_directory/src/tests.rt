@@ -1,6 +1,6 @@
 //! Files by name: the same calls on files in memory and in a folder.
-use cat_base::Refusal;
 use crate::{Directory, FileName, Folder, FolderShelf, Holder, MemoryDirectory, Shelf};
+use cat_base::Refusal;
 use std::alloc::Global;
 use std::fs;
 use std::process::Abort;
