@@ -23,5 +23,8 @@ pub mod Ranks
 pub mod RankLaws
 pub mod RowSets
 pub mod Ordinals
-pub mod View
+pub mod Forms
 pub mod Files
+pub mod View
+pub mod Layout
+pub mod LiveFile

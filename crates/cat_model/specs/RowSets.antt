@@ -1,5 +1,6 @@
 -- Sets of the rows of a segment, with one truth value for each row, in the rows' order: Lucene's FixedBitSet and DocIdSet.
-use Rattle.std.specs.Prelude.{ℕ, Bool, false, not, ◌&&◌, ◌||◌, ◌==◌, List, [], ◌∷◌, length, map, filter, slice_index_or}
+use Rattle.std.specs.Prelude.{◌≡◌, ℕ, ◌+◌, ◌*◌, ◌/◌, ◌%◌, ◌<◌, Bool, false, not, ◌&&◌, ◌||◌, ◌==◌, List, [], ◌∷◌, length, map, filter, slice_index, slice_index_or, All}
+use Rattle.std.specs.Int.{bit_at}
 use Rattle.std.specs.List.{list_any, range_with_len}
 
 -- the two sets, row by row
@@ -31,3 +32,10 @@ places set = filter (has_row set) (range_with_len 0 (length set))
 -- the set, and the rows of these places too
 abbrev pub with_rows : List ℕ → List Bool → List Bool
 with_rows rows set = map (λ row. has_row set row || list_any (λ r. r == row) rows) (range_with_len 0 (length set))
+
+-- The set as bytes: as few as have a bit for each row. The row r is in byte r / 8, at the bit of value 2 to the power of
+-- r % 8; the bits past the last row are 0. (After FixedBitSet, whose words are longer.)
+pub record IsPacked (packed : List ℕ) (set : List Bool) : Type 0 where
+  pub long : length packed ≡ (length set + 7) / 8
+  pub bytes : All (λ b. b < 256) packed
+  pub bits : (row : ℕ) → row < 8 * length packed → (bit_at (slice_index packed (row / 8)) (row % 8) == 1) ≡ has_row set row

@@ -1,8 +1,13 @@
--- Segments, which hold rows that never change: Lucene's SegmentReader, whose deletions are kept beside it as live documents.
-use Rattle.std.specs.Prelude.{◌≢◌, ℕ, ◌≤◌, ◌<◌, Bool, List, [], length, All, AllPairs}
+-- Segments, which hold rows that never change, and views of them: Lucene's SegmentReader, whose deletions are kept beside
+-- it as live documents, and the DirectoryReader of a searcher.
+use Rattle.std.specs.Prelude.{◌≡◌, ◌≢◌, ℕ, ◌≤◌, ◌<◌, ◌^◌, Bool, true, false, List, [], ◌∷◌, length, map, take, drop, All, AllPairs}
+use Rattle.std.specs.List.{flat_map}
 use Rattle.cat_model.specs.Text.{Text}
-use Rattle.cat_model.specs.Item.{Schema, Part, Item, Record, AreParts}
+use Rattle.cat_model.specs.Item.{Schema, Part, Item, Record, AreParts, IsSchema, is_id, content_of, words_in}
+use Rattle.cat_model.specs.Forms.{IsFormed, IsSourceLength}
 use Rattle.cat_model.specs.Query.{Query, matches}
+use Rattle.cat_model.specs.Files.{Name}
+use Rattle.cat_model.specs.Ordinals.{dictionary_of}
 
 -- a row: a record, with the length of its item's source in bytes in place of the source
 pub record Row : Type 0 where
@@ -37,3 +42,74 @@ pub record AreRows (schema : Schema) (rows : List Row) : Type 0 where
   pub positive : All (λ r. 1 ≤ r.number) rows
   pub rising : AllPairs (λ a b. a.number < b.number) rows
   pub distinct : AllPairs (λ a b. a.id ≢ b.id) rows
+
+-- what a row holds has the forms of items
+pub record IsFormedRow (row : Row) : Type 0 where
+  pub number : row.number < 2 ^ 64
+  pub id : is_id row.id ≡ true
+  pub source : IsSourceLength row.length
+  pub parts : All (λ p. IsFormed p.content) row.parts
+
+-- the words that rows have in the field of this name
+abbrev pub words_of_field : List Row → Text → List Text
+words_of_field rows name = dictionary_of (map (λ r. words_in (content_of name (item_in r))) rows)
+
+-- what always holds of a segment; no field has 2^32 different words
+pub record IsSegment (s : Segment) : Type 0 where
+  pub schema : IsSchema s.schema
+  pub rows : AreRows s.schema s.rows
+  pub formed : All IsFormedRow s.rows
+  pub words : (name : Text) → length (words_of_field s.rows name) < 2 ^ 32
+
+-- ---- views
+
+-- a segment of a view, and which of its rows are live (LeafReader)
+pub record Leaf : Type 0 where
+  pub segment : Segment
+  pub live : List Bool
+
+-- what a searcher sees of the catalogue: segments in order, under the number of writes that they take in
+pub record View : Type 0 where
+  pub schema : Schema
+  pub leaves : List Leaf
+  pub token : ℕ
+
+-- those that are marked by true
+abbrev pub marked : {A : Type 0} → List Bool → List A → List A
+marked [] xs = []
+marked (b ∷ bs) [] = []
+marked (true ∷ bs) (x ∷ xs) = x ∷ marked bs xs
+marked (false ∷ bs) (x ∷ xs) = marked bs xs
+
+-- the live rows of a leaf
+abbrev pub live_rows : Leaf → List Row
+live_rows leaf = marked leaf.live leaf.segment.rows
+
+-- the live rows of a view, in order
+abbrev pub rows_in : View → List Row
+rows_in view = flat_map live_rows view.leaves
+
+-- Each segment has the view's schema, and a live set with one value for each row; numbers rise over all rows, dead ones
+-- too, and the ids of live rows differ.
+pub record IsView (view : View) : Type 0 where
+  pub schemas : All (λ leaf. leaf.segment.schema ≡ view.schema) view.leaves
+  pub live : All (λ leaf. length leaf.live ≡ length leaf.segment.rows) view.leaves
+  pub rising : AllPairs (λ a b. a.number < b.number) (flat_map (λ leaf. leaf.segment.rows) view.leaves)
+  pub distinct : AllPairs (λ a b. a.id ≢ b.id) (rows_in view)
+
+-- the view shows these records: they are its live rows in order, but for their sources, of which it knows the lengths
+abbrev pub Shows : View → List Record → Type 0
+Shows view rs = map row_of rs ≡ rows_in view
+
+-- the records of rows, whose sources stand one after the other
+abbrev pub sourced : List Row → List ℕ → List Record
+sourced [] bytes = []
+sourced (row ∷ rows) bytes = record { number = row.number; item = record { id = row.id; parts = row.parts; source = take row.length bytes } } ∷ sourced rows (drop row.length bytes)
+
+-- the records of a view, where the files with the sources of its segments hold these bytes, by the numbers of the segments
+abbrev pub records_in : (ℕ → List ℕ) → View → List Record
+records_in files view = flat_map (λ leaf. marked leaf.live (sourced leaf.segment.rows (files leaf.segment.number))) view.leaves
+
+-- the names of the files that a searcher of the view needs
+abbrev pub needs : View → List Name
+needs view = flat_map (λ leaf. Name.segment leaf.segment.number ∷ Name.source leaf.segment.number ∷ []) view.leaves

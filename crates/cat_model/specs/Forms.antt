@@ -1,0 +1,52 @@
+-- The forms of what an item has. A file of a segment is judged by them too. They are our own.
+use Rattle.std.specs.Prelude.{◌≡◌, ℕ, ◌<◌, ◌≤◌, ◌^◌, Bool, true, nat_le, ◌&&◌, ◌==◌, not, length, All, IfSome, IsUtf8}
+use Rattle.std.specs.List.{list_all}
+use Rattle.std.specs.Char.{is_ascii_uppercase}
+use Rattle.std.specs.Int.{w64}
+use Rattle.std.specs.Int.RustNames.{FitsSigned}
+use Rattle.cat_model.specs.Text.{Text}
+use Rattle.cat_model.specs.Item.{Content, Item, is_id}
+use Rattle.cat_model.specs.Words.{is_word_byte}
+
+-- no control character
+abbrev pub is_plain_byte : ℕ → Bool
+is_plain_byte b = nat_le 32 b && not (b == 127)
+
+-- a keyword: at most 128 bytes without control characters
+pub record IsKeyword (text : Text) : Type 0 where
+  pub utf8 : IsUtf8 text
+  pub short : length text ≤ 128
+  pub plain : list_all is_plain_byte text ≡ true
+
+-- a label: a keyword that isn't empty
+pub record IsLabel (text : Text) : Type 0 where
+  pub keyword : IsKeyword text
+  pub some : 0 < length text
+
+-- a byte of a word, which is no capital
+abbrev pub is_low_byte : ℕ → Bool
+is_low_byte b = is_word_byte b && not (is_ascii_uppercase b)
+
+-- a word: one or more bytes of words, no capital among them
+pub record IsWord (text : Text) : Type 0 where
+  pub utf8 : IsUtf8 text
+  pub some : 0 < length text
+  pub short : length text < 2 ^ 32
+  pub low : list_all is_low_byte text ≡ true
+
+-- what an item has in a field has the forms of its kind
+abbrev pub IsFormed : Content → Type 0
+IsFormed (Content.words ws) = All IsWord ws
+IsFormed (Content.keyword k) = IfSome k IsKeyword
+IsFormed (Content.number z) = IfSome z (FitsSigned w64)
+IsFormed (Content.labels ls) = (length ls ≤ 64) × All IsLabel ls
+
+-- 1 to 8,192 bytes of JSON
+abbrev pub IsSourceLength : ℕ → Type 0
+IsSourceLength n = (1 ≤ n) × (n ≤ 8192)
+
+-- the item has the forms, whatever the schema is
+pub record IsFormedItem (i : Item) : Type 0 where
+  pub id : is_id i.id ≡ true
+  pub source : IsSourceLength (length i.source)
+  pub parts : All (λ p. IsFormed p.content) i.parts

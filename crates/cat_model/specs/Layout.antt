@@ -1,0 +1,176 @@
+-- How a segment is laid out in a file, and the bytes of each part. The layouts are our own; they hold what Lucene's codec
+-- holds in its FieldInfosFormat, PostingsFormat and DocValuesFormat.
+use Rattle.std.specs.Prelude.{◌≡◌, ℕ, zero, suc, ◌+◌, ◌-◌, ◌<◌, ◌≤◌, ◌^◌, ℤ, not, true, List, [], ◌∷◌, ◌++◌, length, map, codes, take, drop, Option, Some, None, IfSome, All}
+use Rattle.std.specs.List.{flat_map, prefix_len}
+use Rattle.std.specs.Int.{w64, cast_unsigned}
+use Rattle.std.specs.Int.RustNames.{FitsSigned}
+use Rattle.cat_base.specs.Bytes.{spelled_u32, spelled_u64, spelled_bytes}
+use Rattle.cat_model.specs.Text.{Text, same_text}
+use Rattle.cat_model.specs.Item.{Content, Field, Kind, Schema, IsSchema, is_id, content_of, words_in, keyword_in, number_in, labels_in}
+use Rattle.cat_model.specs.Forms.{IsKeyword, IsLabel, IsWord, IsSourceLength}
+use Rattle.cat_model.specs.Ordinals.{dictionary_of, postings_of, texts_of}
+use Rattle.cat_model.specs.Files.{IsFileNumber}
+use Rattle.cat_model.specs.View.{Row, Segment, item_in}
+
+-- ---- what is laid out
+
+-- a word, and the places of the rows that have it
+pub record Posted : Type 0 where
+  pub word : Text
+  pub rows : List ℕ
+
+-- a column, by the kind of its field
+pub data Laid : Type 0 where
+  words : List Posted → Laid
+  keywords : (dictionary : List Text) (codes : List ℕ) → Laid
+  numbers : List (Option ℤ) → Laid
+  labels : (dictionary : List Text) (ordinals : List (List ℕ)) → Laid
+
+-- what a file says of a row beside its columns
+pub record Head : Type 0 where
+  pub number : ℕ
+  pub id : Text
+  pub length : ℕ
+
+pub record Layout : Type 0 where
+  pub number : ℕ
+  pub schema : Schema
+  pub heads : List Head
+  pub columns : List Laid
+
+-- the ordinal of a text of the dictionary: how many texts stand before it
+abbrev pub ordinal_in : List Text → Text → ℕ
+ordinal_in dictionary text = prefix_len (λ t. not (same_text t text)) dictionary
+
+-- 0 where the row has no text, else the ordinal plus 1
+abbrev pub code_in : List Text → Option Text → ℕ
+code_in dictionary None = 0
+code_in dictionary (Some text) = suc (ordinal_in dictionary text)
+
+-- the words of rows, each with its postings
+abbrev pub posted_of : List (List Text) → List Posted
+posted_of rows = map (λ w. record { word = w; rows = postings_of w rows }) (dictionary_of rows)
+
+-- the dictionary of keywords
+abbrev pub keywords_of : List (Option Text) → List Text
+keywords_of values = dictionary_of (map texts_of values)
+
+-- the column of what the rows have in a field of the kind
+abbrev pub laid_as : Kind → List (Option Content) → Laid
+laid_as Kind.text rows = Laid.words (posted_of (map words_in rows))
+laid_as Kind.keyword rows = Laid.keywords (keywords_of (map keyword_in rows)) (map (code_in (keywords_of (map keyword_in rows))) (map keyword_in rows))
+laid_as Kind.number rows = Laid.numbers (map number_in rows)
+laid_as Kind.facet rows = Laid.labels (dictionary_of (map labels_in rows)) (map (map (ordinal_in (dictionary_of (map labels_in rows)))) (map labels_in rows))
+
+-- the column of the field
+abbrev pub column_of : List Row → Field → Laid
+column_of rows f = laid_as f.kind (map (λ r. content_of f.name (item_in r)) rows)
+
+abbrev pub head_of : Row → Head
+head_of row = record { number = row.number; id = row.id; length = row.length }
+
+abbrev pub layout_of : Segment → Layout
+layout_of s = record { number = s.number; schema = s.schema; heads = map head_of s.rows; columns = map (column_of s.rows) s.schema }
+
+-- ---- its bytes
+
+abbrev pub kind_byte : Kind → ℕ
+kind_byte Kind.text = 1
+kind_byte Kind.keyword = 2
+kind_byte Kind.number = 3
+kind_byte Kind.facet = 4
+
+abbrev pub spelled_field : Field → List ℕ
+spelled_field f = spelled_bytes f.name ++ kind_byte f.kind ∷ []
+
+-- the number of fields, and each
+abbrev pub spelled_fields : Schema → List ℕ
+spelled_fields schema = spelled_u32 (length schema) ++ flat_map spelled_field schema
+
+abbrev pub spelled_head : Head → List ℕ
+spelled_head h = spelled_u64 h.number ++ (spelled_bytes h.id ++ spelled_u32 h.length)
+
+-- the number of numbers, and each
+abbrev pub spelled_list : List ℕ → List ℕ
+spelled_list ns = spelled_u32 (length ns) ++ flat_map spelled_u32 ns
+
+-- the number of texts, and each
+abbrev pub spelled_texts : List Text → List ℕ
+spelled_texts texts = spelled_u32 (length texts) ++ flat_map spelled_bytes texts
+
+abbrev pub spelled_posted : Posted → List ℕ
+spelled_posted p = spelled_bytes p.word ++ spelled_list p.rows
+
+-- 0 where the row has no number; else 1, and the number in two's complement
+abbrev pub spelled_number : Option ℤ → List ℕ
+spelled_number None = 0 ∷ []
+spelled_number (Some z) = 1 ∷ spelled_u64 (cast_unsigned w64 z)
+
+abbrev pub spelled_column : Laid → List ℕ
+spelled_column (Laid.words ps) = spelled_u32 (length ps) ++ flat_map spelled_posted ps
+spelled_column (Laid.keywords dictionary codes) = spelled_texts dictionary ++ flat_map spelled_u32 codes
+spelled_column (Laid.numbers zs) = flat_map spelled_number zs
+spelled_column (Laid.labels dictionary ordinals) = spelled_texts dictionary ++ flat_map spelled_list ordinals
+
+-- the magic word, the version 1, the number, the number of rows, the fields, the rows, the columns
+abbrev pub spelled_layout : Layout → List ℕ
+spelled_layout l = codes "CSEG" ++ (1 ∷ (spelled_u64 l.number ++ (spelled_u32 (length l.heads) ++ (spelled_fields l.schema ++ (flat_map spelled_head l.heads ++ flat_map spelled_column l.columns)))))
+
+-- the bytes of a segment's file
+abbrev pub spelled_segment : Segment → List ℕ
+spelled_segment s = spelled_layout (layout_of s)
+
+-- ---- what can be laid out: texts with their forms, numbers that fit, one of each for each row
+
+pub record IsHead (h : Head) : Type 0 where
+  pub positive : 1 ≤ h.number
+  pub fits : h.number < 2 ^ 64
+  pub id : is_id h.id ≡ true
+  pub source : IsSourceLength h.length
+
+-- each number fits four bytes, and so does how many they are
+abbrev pub FitU32 : List ℕ → Type 0
+FitU32 ns = (length ns < 2 ^ 32) × All (λ n. n < 2 ^ 32) ns
+
+pub record IsPosted (p : Posted) : Type 0 where
+  pub word : IsWord p.word
+  pub rows : FitU32 p.rows
+
+abbrev pub IsLaid : ℕ → Kind → Laid → Type 0
+IsLaid rows Kind.text (Laid.words ps) = (length ps < 2 ^ 32) × All IsPosted ps
+IsLaid rows Kind.keyword (Laid.keywords dictionary codes) = (length dictionary < 2 ^ 32) × All IsKeyword dictionary × (length codes ≡ rows) × FitU32 codes
+IsLaid rows Kind.number (Laid.numbers zs) = (length zs ≡ rows) × All (λ z. IfSome z (FitsSigned w64)) zs
+IsLaid rows Kind.facet (Laid.labels dictionary ordinals) = (length dictionary < 2 ^ 32) × All IsLabel dictionary × (length ordinals ≡ rows) × All FitU32 ordinals
+IsLaid rows kind column = ⊥
+
+-- one column for each field, of its kind
+abbrev pub AreLaid : ℕ → Schema → List Laid → Type 0
+AreLaid rows [] [] = Unit {0}
+AreLaid rows (f ∷ fs) (c ∷ cs) = IsLaid rows f.kind c × AreLaid rows fs cs
+AreLaid rows fs cs = ⊥
+
+pub record IsLayout (l : Layout) : Type 0 where
+  pub number : IsFileNumber l.number
+  pub schema : IsSchema l.schema
+  pub some : 1 ≤ length l.heads
+  pub few : length l.heads ≤ 262144
+  pub heads : All IsHead l.heads
+  pub columns : AreLaid (length l.heads) l.schema l.columns
+
+-- ---- pieces of one list
+
+-- the list from `from` to the first end, from there to the next, and so on
+abbrev pub pieces : {A : Type 0} → ℕ → List ℕ → List A → List (List A)
+pieces from [] xs = []
+pieces from (e ∷ es) xs = take (e - from) (drop from xs) ∷ pieces e es xs
+
+-- no end lies below the one before it, the first not below `from`; the last is `total`
+abbrev pub AreEnds : ℕ → List ℕ → ℕ → Type 0
+AreEnds from [] total = from ≡ total
+AreEnds from (e ∷ es) total = (from ≤ e) × AreEnds e es total
+
+-- the words, each with its piece of the rows
+abbrev pub posted : List Text → List (List ℕ) → List Posted
+posted [] parts = []
+posted (w ∷ ws) [] = []
+posted (w ∷ ws) (rows ∷ parts) = record { word = w; rows = rows } ∷ posted ws parts
