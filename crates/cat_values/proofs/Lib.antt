@@ -4,6 +4,7 @@ pub mod Counts
 pub mod Cuts
 pub mod Fills
 pub mod Members
+pub mod Ordinals
 pub mod Packs
 pub mod Presence
 pub mod Scans

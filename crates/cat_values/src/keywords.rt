@@ -3,6 +3,7 @@ ghost use Rattle.std.specs.Prelude.{◌≡◌, ℕ, ◌+◌, ◌^◌, ◌<◌, �
 ghost use Rattle.std.specs.List.{list_any, flat_map};
 ghost use Rattle.cat_base.specs.declared.refusal.Refusal.TheVariants.{Memory};
 ghost use Rattle.cat_model.specs.Text.{Text, same_text};
+ghost use Rattle.cat_model.specs.Layout.{code_in, keywords_of};
 ghost use Rattle.cat_model.specs.Ordinals.{dictionary_of, text_at, texts_of};
 ghost use Rattle.cat_values.specs.Columns.{has_label, HasLabel, label_at, texts_seen};
 
@@ -109,6 +110,13 @@ impl KeywordColumn {
         ensures { result.now ≡ dictionary_of (map texts_of self.now) }
     {
         &self.dictionary
+    }
+
+    /// The code of each row's keyword, as a file has it: 0 for a row without a keyword, else its ordinal plus 1.
+    pub fn codes(&self) -> &[u32]
+        ensures { result.now ≡ map (code_in (keywords_of self.now)) self.now }
+    {
+        &self.codes
     }
 
     /// The ordinal of the row's keyword, if it has one (`SortedDocValues.ordValue`).

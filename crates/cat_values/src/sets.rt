@@ -4,6 +4,7 @@ ghost use Rattle.std.specs.List.{list_any, flat_map};
 ghost use Rattle.cat_base.specs.Texts.{IsTextSet};
 ghost use Rattle.cat_base.specs.declared.refusal.Refusal.TheVariants.{Memory};
 ghost use Rattle.cat_model.specs.Text.{Text, same_text};
+ghost use Rattle.cat_model.specs.Layout.{ordinal_in};
 ghost use Rattle.cat_model.specs.Ordinals.{dictionary_of, text_at};
 ghost use Rattle.cat_values.specs.Columns.{has_label, ends_from};
 
@@ -157,6 +158,7 @@ impl SetColumn {
         requires { row < length self.now }
         ensures value { map (text_at (dictionary_of self.now)) result.now ≡ slice_index_or self.now row [] }
         ensures bound { All (λ o. o < length (dictionary_of self.now)) result.now }
+        ensures laid { result.now ≡ map (ordinal_in (dictionary_of self.now)) (slice_index_or self.now row []) }
     {
         &self.ordinals[start_of(&self.ends, row)..self.ends[row] as usize]
     }
