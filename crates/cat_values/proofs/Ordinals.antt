@@ -45,6 +45,26 @@ codes_back ds (code ∷ codes) sorted within =
     ap (λ k. k ∷ map (code_in ds) (map (label_at ds) codes)) (code_back ds code sorted (within 0 0 (omega arith)))
     ∙ ap (λ l. code ∷ l) (codes_back ds codes sorted (λ k d lt. within (suc k) d (omega arith)))
 
+-- the text of a text's ordinal
+pub ordinal_within : (ds : List Text) (t : Text) → Contains ds t → ordinal_in ds t < length ds
+ordinal_within ds t h = elim (cases_lt (ordinal_in ds t) (length ds)) [
+  | inl lt ↦ lt
+  | inr past ↦ absurd (
+      let below = h.1 in
+      let passed : not (same_text (get_or ds h.0 t) t) ≡ true = prefix_len_passes (λ s. not (same_text s t)) ds h.0 t (omega arith) in
+      true≢false (sym passed ∙ ap not (ap (λ (s : Text). same_text s t) h.2 ∙ itself t))
+      )
+]
+
+pub not_false : (b : Bool) → not b ≡ false → b ≡ true
+not_false true e = refl
+not_false false e = absurd (true≢false e)
+
+pub text_back : (ds : List Text) (t : Text) → Contains ds t → text_at ds (ordinal_in ds t) ≡ t
+text_back ds t h =
+    (bytes_eq-Decides (text_at ds (ordinal_in ds t)) t).0
+    (not_false (same_text (text_at ds (ordinal_in ds t)) t) (prefix_len_stops (λ s. not (same_text s t)) ds [] (ordinal_within ds t h)))
+
 -- a dictionary rises
 pub dictionary_rises : (rows : List (List Text)) → IsTextSet (dictionary_of rows)
 dictionary_rises rows = IsTextSet-sorted_set (flat_map (λ texts. texts) rows)

@@ -29,12 +29,13 @@ pub struct SetColumn {
 
 impl Model for SetColumn {
     ghost use Rattle.std.specs.Prelude.{List, ℕ, map};
+    ghost use Rattle.cat_model.specs.Layout.{pieces};
     ghost use Rattle.cat_model.specs.Ordinals.{text_at};
-    ghost use Rattle.cat_values.specs.Columns.{cut, IsSets};
+    ghost use Rattle.cat_values.specs.Columns.{IsSets};
 
     ghost Value = { List (List (List ℕ)) };
 
-    ghost view = { λ c. cut 0 c.ends.items (map (text_at c.dictionary) c.ordinals.items) };
+    ghost view = { λ c. pieces 0 c.ends.items (map (text_at c.dictionary) c.ordinals.items) };
 
     ghost invariant = { λ c. IsSets c.dictionary c.ends.items c.ordinals.items };
 }
