@@ -9,6 +9,7 @@ pub mod Ordinals
 pub mod Packs
 pub mod Presence
 pub mod Rising
+pub mod RowTests
 pub mod Scans
 pub mod Searches
 pub mod Uses
