@@ -36,6 +36,19 @@ starts_within from [] total (suc k) h = omega arith
 starts_within from (e ∷ es) total zero h = let more = starts_within e es total zero h.1 in let lt = h.0 in omega arith
 starts_within from (e ∷ es) total (suc k) h = starts_within e es total k h.1
 
+-- a piece is the rows from its start to its end
+pub piece_at : (from : ℕ) (ends rows : List ℕ) (k : ℕ) → k < length ends → get_or (pieces from ends rows) k [] ≡ take (get_or ends k 0 - start_of from ends k) (drop (start_of from ends k) rows)
+piece_at from [] rows k lt = absurd (omega arith)
+piece_at from (e ∷ es) rows zero lt = refl
+piece_at from (e ∷ es) rows (suc k) lt = piece_at e es rows k (omega arith)
+
+pub piece_bounds : (from : ℕ) (ends : List ℕ) (total k : ℕ) → AreEnds from ends total → k < length ends → (start_of from ends k ≤ get_or ends k 0) × (get_or ends k 0 ≤ total) × (get_or ends k 0 ≡ start_of from ends (k + 1))
+piece_bounds from ends total k h lt =
+    let at : start_of from ends (k + 1) ≡ get_or ends k 0 = ap (start_of from ends) (let next : k + 1 ≡ suc k = omega arith in next) ∙ start_is from ends k lt in
+    let rise = starts_rise from ends total k (k + 1) h (omega arith) in
+    let within = starts_within from ends total (k + 1) h in
+    ((omega arith), (omega arith), sym at)
+
 -- two parts that touch are one
 touching : (rows : List ℕ) (from mid end : ℕ) → from ≤ mid → mid ≤ end → take (mid - from) (drop from rows) ++ take (end - mid) (drop mid rows) ≡ take (end - from) (drop from rows)
 touching rows from mid end a b =
@@ -60,6 +73,11 @@ pub parts_are : (from : ℕ) (ends rows : List ℕ) (total first count : ℕ) �
 parts_are from ends rows total zero count h le = first_parts from ends rows total count h (omega arith) ∙ ap (λ n. take (start_of from ends n - from) (drop from rows)) (let e : count ≡ 0 + count = omega arith in e)
 parts_are from [] rows total (suc f) count h le = absurd (omega arith)
 parts_are from (e ∷ es) rows total (suc f) count h le = parts_are e es rows total f count h.1 (omega arith) ∙ ap (λ n. take (start_of from (e ∷ es) n - start_of e es f) (drop (start_of e es f) rows)) (let same : suc (f + count) ≡ suc f + count = omega arith in same)
+
+-- the whole is below what each end is below
+pub total_below : (from : ℕ) (ends : List ℕ) (total bound : ℕ) → from < bound → ((k : ℕ) → get_or ends k 0 < bound) → AreEnds from ends total → total < bound
+total_below from [] total bound lt each h = omega arith
+total_below from (e ∷ es) total bound lt each h = total_below e es total bound (each 0) (λ k. each (suc k)) h.1
 
 -- there is a piece for each end
 pub length-pieces : (from : ℕ) (ends rows : List ℕ) → length (pieces from ends rows) ≡ length ends

@@ -18,7 +18,7 @@ use Rattle.cat_model.specs.RowSets.{has_row, places, with_rows}
 use Rattle.cat_model.specs.Ordinals.{dictionary_of, rows_having, postings_of}
 use Rattle.cat_model.proofs.Lists.{All-kept, All-both, filter_alike, list_any-append}
 use Rattle.cat_model.specs.Layout.{pieces}
-use Rattle.cat_inverted.specs.Postings.{is_among, IsPostings, words_at, words_of_rows, IsTerms}
+use Rattle.cat_inverted.specs.Postings.{is_among, IsPostings, IsPart, words_at, words_of_rows, IsTerms}
 use Rattle.cat_inverted.specs.Intervals.{IsInterval}
 use Rattle.cat_inverted.proofs.Parts.{joined, length-pieces}
 
@@ -45,7 +45,7 @@ any_kept {X} p q (x ∷ xs) =
       | false ↦ any_kept p q xs ∙ elim (p x) as (λ a. list_any (λ y. p y && q y) xs ≡ ((a && false) || list_any (λ y. p y && q y) xs)) [ true ↦ refl | false ↦ refl ]
     ]
 
-any_joined : {X Y : Type 0} (p : Y → Bool) (f : X → List Y) (xs : List X) → list_any p (flat_map (λ l. l) (map f xs)) ≡ list_any (λ x. list_any p (f x)) xs
+pub any_joined : {X Y : Type 0} (p : Y → Bool) (f : X → List Y) (xs : List X) → list_any p (flat_map (λ l. l) (map f xs)) ≡ list_any (λ x. list_any p (f x)) xs
 any_joined p f [] = refl
 any_joined p f (x ∷ xs) = list_any-append p (f x) (flat_map (λ l. l) (map f xs)) ∙ ap (λ b. list_any p (f x) || b) (any_joined p f xs)
 
@@ -208,8 +208,8 @@ any_alike : {X : Type 0} (f g : X → Bool) → ((x : X) → f x ≡ g x) → (x
 any_alike f g h [] = refl
 any_alike f g h (x ∷ xs) = let here = h x in let later = any_alike f g h xs in cc
 
-posted : (len : ℕ) (part : List ℕ) → 0 < length part → IsPostings len part → list_any (is_among part) (range_with_len 0 len) ≡ true
-posted len part some e = some_kept (is_among part) (range_with_len 0 len) (subst (λ (l : List ℕ). 0 < length l) e some)
+posted : (len : ℕ) (part : List ℕ) → IsPart len part → list_any (is_among part) (range_with_len 0 len) ≡ true
+posted len part h = some_kept (is_among part) (range_with_len 0 len) (subst (λ (l : List ℕ). 0 < length l) h.1 h.0)
 
 -- the words are those that some row has
 pub words_are : (len : ℕ) (words : List Text) (ends rows : List ℕ) → IsTerms len words ends rows → words ≡ dictionary_of (words_of_rows len words (pieces 0 ends rows))
@@ -220,7 +220,7 @@ words_are len words ends rows h =
     parts = pieces 0 ends rows
 
     all_posted : All (λ part. list_any (is_among part) (range_with_len 0 len) ≡ true) parts
-    all_posted k d lt = posted len (get_or parts k d) (h.some k d lt) (h.posted k d lt)
+    all_posted k d lt = posted len (get_or parts k d) (h.posted k d lt)
 
     members : (q : Text) → list_any (same_text q) (flat_map (λ texts. texts) (words_of_rows len words parts)) ≡ list_any (same_text q) words
     members q =
@@ -256,10 +256,10 @@ rows_are_sets len words parts sorted k d lt =
 
 -- ---- of rows below the length
 
-kept_below : (f : ℕ → Bool) (len : ℕ) → AllByRecursion (λ r. r < len) (filter f (range_with_len 0 len))
+pub kept_below : (f : ℕ → Bool) (len : ℕ) → AllByRecursion (λ r. r < len) (filter f (range_with_len 0 len))
 kept_below f len = All-kept (λ r. r < len) f (range_with_len 0 len) (each_row (λ r. r < len) 0 len (λ k le lt. omega arith))
 
-joined_below : (len : ℕ) (parts : List (List ℕ)) (first count : ℕ) → All (IsPostings len) parts → AllByRecursion (λ r. r < len) (joined (take count (drop first parts)))
+joined_below : (len : ℕ) (parts : List (List ℕ)) (first count : ℕ) → All (IsPart len) parts → AllByRecursion (λ r. r < len) (joined (take count (drop first parts)))
 joined_below len [] zero zero h = tt
 joined_below len [] zero (suc n) h = tt
 joined_below len [] (suc f) zero h = tt
@@ -268,11 +268,11 @@ joined_below len (r ∷ parts) (suc f) count h = joined_below len parts f count 
 joined_below len (r ∷ parts) zero zero h = tt
 joined_below len (r ∷ parts) zero (suc n) h =
     All-both (λ x. x < len) r (joined (take n parts))
-    (subst (AllByRecursion (λ x. x < len)) (sym (h 0 r (omega arith))) (kept_below (is_among r) len))
+    (subst (AllByRecursion (λ x. x < len)) (sym (h 0 r (omega arith)).1) (kept_below (is_among r) len))
     (joined_below len parts zero n (λ k d lt. h (suc k) d (omega arith)))
 
 -- the rows of words are below the length
-pub parts_below : (len : ℕ) (parts : List (List ℕ)) (first count : ℕ) → All (IsPostings len) parts → All (λ r. r < len) (joined (take count (drop first parts)))
+pub parts_below : (len : ℕ) (parts : List (List ℕ)) (first count : ℕ) → All (IsPart len) parts → All (λ r. r < len) (joined (take count (drop first parts)))
 parts_below len parts first count h = All-from_recursion (λ r. r < len) (joined (take count (drop first parts))) (joined_below len parts first count h)
 
 -- the places in a set are below its length

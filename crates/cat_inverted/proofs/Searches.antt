@@ -61,7 +61,7 @@ no_interval words word missing = record {
   ];
 }
 
-one_part : (parts : List (List ℕ)) (o : ℕ) → o < length parts → joined (take 1 (drop o parts)) ≡ get_or parts o []
+pub one_part : (parts : List (List ℕ)) (o : ℕ) → o < length parts → joined (take 1 (drop o parts)) ≡ get_or parts o []
 one_part [] o lt = absurd (omega arith)
 one_part (r ∷ parts) zero lt = append-nil r
 one_part (r ∷ parts) (suc o) lt = one_part parts o (omega arith)
@@ -81,7 +81,7 @@ module _ (len : ℕ) (words : List Text) (ends rows : List ℕ) (terms : IsTerms
   postings_are o lt at =
       let inside : o < length parts = omega (arith, paired) in
       let one = one_part parts o inside in
-      subst (IsPostings len) (sym one) (terms.posted o [] inside) ∙ sym (rows_are o 1 (word_interval words word o terms.sorted lt at))
+      subst (IsPostings len) (sym one) (terms.posted o [] inside).1 ∙ sym (rows_are o 1 (word_interval words word o terms.sorted lt at))
 
   pub no_postings : (Contains words word → ⊥) → [] ≡ postings_of word (words_of_rows len words parts)
   no_postings missing = sym (rows_are 0 0 (no_interval words word missing) ∙ nowhere (range_with_len 0 len))

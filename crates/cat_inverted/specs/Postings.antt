@@ -20,6 +20,10 @@ is_among rows row = list_any (λ r. r == row) rows
 abbrev pub IsPostings : ℕ → List ℕ → Type 0
 IsPostings len rows = rows ≡ filter (is_among rows) (range_with_len 0 len)
 
+-- the postings of a word that some row has
+abbrev pub IsPart : ℕ → List ℕ → Type 0
+IsPart len rows = (0 < length rows) × IsPostings len rows
+
 -- the words whose postings have the row
 abbrev pub words_at : List Text → List (List ℕ) → ℕ → List Text
 words_at words postings row = map (λ e. e.0) (filter (λ e. is_among e.1 row) (zip words postings))
@@ -28,12 +32,11 @@ words_at words postings row = map (λ e. e.0) (filter (λ e. is_among e.1 row) (
 abbrev pub words_of_rows : ℕ → List Text → List (List ℕ) → List (List Text)
 words_of_rows len words postings = map (words_at words postings) (range_with_len 0 len)
 
--- words in byte order, each with its piece of `rows`, which has at least one row
+-- words in byte order, each with its piece of `rows` as its postings
 pub record IsTerms (len : ℕ) (words : List Text) (ends rows : List ℕ) : Type 0 where
   pub few : len < 2 ^ 32
   pub fits : length rows < 2 ^ 32
   pub sorted : IsTextSet words
   pub paired : length ends ≡ length words
   pub ended : AreEnds 0 ends (length rows)
-  pub posted : All (IsPostings len) (pieces 0 ends rows)
-  pub some : All (λ part. 0 < length part) (pieces 0 ends rows)
+  pub posted : All (IsPart len) (pieces 0 ends rows)

@@ -14,4 +14,4 @@ returns-clause-few c =
     let t = c.self.inside in
     let h = c.self.invariant in
     let whole = words_are t.len t.words t.ends.items t.rows.items h ∙ ap dictionary_of c.self.view_is in
-    omega (arith, few_pieces 0 t.ends.items t.rows.items h.ended h.some, h.fits, h.paired, ap length whole)
+    omega (arith, few_pieces 0 t.ends.items t.rows.items h.ended (λ k d lt. (h.posted k d lt).0), h.fits, h.paired, ap length whole)
