@@ -1,6 +1,9 @@
 pub mod Builds
+pub mod ByOrdinal
 pub mod Gathering
 pub mod Parts
 pub mod Intervals
+pub mod Rising
 pub mod Rows
 pub mod Searches
+pub mod Told

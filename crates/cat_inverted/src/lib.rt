@@ -2,9 +2,12 @@
 #![tactic(auto)]
 
 mod build;
+mod ordinals;
+mod posted;
 mod ranges;
 mod terms;
 #[cfg(test)]
 mod tests;
 
+pub use posted::terms_are_told_by_their_postings;
 pub use terms::Terms;
