@@ -1,11 +1,9 @@
 //! An item of the catalogue.
-ghost use Rattle.std.specs.Prelude.{◌≡◌, not, map, length, option_map, IfOk, IfErr};
-ghost use Rattle.std.specs.List.{prefix_len};
+ghost use Rattle.std.specs.Prelude.{◌≡◌, map, length, option_map, IfOk, IfErr};
 ghost use Rattle.std.specs.Arc.{arc_value};
 ghost use Rattle.cat_base.specs.declared.refusal.Refusal.TheVariants.{Memory};
-ghost use Rattle.cat_model.specs.Text.{same_text};
 
-use crate::schema::Field;
+use crate::schema::{Field, place_of};
 use cat_base::{Refusal, Text, TextSet};
 use std::marker::Model;
 use std::sync::Arc;
@@ -63,16 +61,6 @@ impl Model for Item {
     ghost invariant = { λ i. length i.values.items ≡ length (arc_value i.fields).items };
 }
 
-// How many fields stand before the one of the name.
-fn fields_before(fields: &[Field], name: &str) -> usize
-    ensures { result ≡ prefix_len (λ f. not (same_text f.name name.now)) fields.now }
-{
-    fields
-        .iter()
-        .take_while(|field| field.name() != name)
-        .count()
-}
-
 impl Item {
     ghost use Rattle.cat_model.specs.Item as model;
     ghost use Rattle.cat_schema.specs.Contents.{content_of, parts_with};
@@ -112,8 +100,7 @@ impl Item {
     pub fn value(&self, name: &str) -> Option<&FieldValue>
         ensures { option_map (λ v. content_of v.now) result ≡ model.content_of name.now self.now }
     {
-        // Past the last value where no field has the name.
-        let place = fields_before(&self.fields, name);
+        let place = place_of(&self.fields, name)?;
         self.values.get(place)
     }
 

@@ -17,4 +17,4 @@ pub use item::{FieldValue, Item};
 pub use laws::{
     every_input_is_heard_one_way, every_line_is_heard_one_way, texts_of_schemas_keep_the_rules,
 };
-pub use schema::{Field, Kind, Schema};
+pub use schema::{Field, Kind, Schema, place_of};

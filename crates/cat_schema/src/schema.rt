@@ -1,9 +1,10 @@
 //! The fields of a catalogue.
 ghost use Rattle.std.specs.Prelude.{◌≡◌, ◌≢◌, ◌↔◌, ◌⊎◌, Ok, Err, IfOk, IfErr, IsTrue, map};
-ghost use Rattle.std.specs.List.{AllByRecursion};
+ghost use Rattle.std.specs.List.{AllByRecursion, position};
 ghost use Rattle.std.specs.Arc.{arc_value};
 ghost use Rattle.cat_base.specs.Texts.{IsTextSet};
 ghost use Rattle.cat_base.specs.declared.refusal.Refusal.TheVariants.{Memory, Damaged};
+ghost use Rattle.cat_model.specs.Text.{same_text};
 ghost use Rattle.cat_model.specs.Item.{is_name};
 
 use crate::fields::read_fields;
@@ -68,6 +69,14 @@ impl Field {
     {
         self.kind
     }
+}
+
+/// The place of the field of the name among the fields, if one has it; Lucene's `FieldInfos.fieldInfo` by a name, whose
+/// `number` is the place here.
+pub fn place_of(fields: &[Field], name: &str) -> Option<usize>
+    ensures { result ≡ position (λ f. same_text f.name name.now) fields.now }
+{
+    fields.iter().position(|field| field.name() == name)
 }
 
 fn all_named(fields: &[Field]) -> bool
