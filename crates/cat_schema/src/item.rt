@@ -1,7 +1,9 @@
 //! An item of the catalogue.
-ghost use Rattle.std.specs.Prelude.{◌≡◌, map, length, option_map, IfOk, IfErr};
+ghost use Rattle.std.specs.Prelude.{◌≡◌, true, map, length, option_map, All, IfOk, IfErr};
 ghost use Rattle.std.specs.Arc.{arc_value};
 ghost use Rattle.cat_base.specs.declared.refusal.Refusal.TheVariants.{Memory};
+ghost use Rattle.cat_model.specs.Item.{is_id};
+ghost use Rattle.cat_model.specs.Forms.{IsFormed, IsFormedItem, IsSourceLength};
 
 use crate::schema::{Field, place_of};
 use cat_base::{Refusal, Text, TextSet};
@@ -49,16 +51,14 @@ pub struct Item {
 }
 
 impl Model for Item {
-    ghost use Rattle.std.specs.Prelude.{◌≡◌, length};
-    ghost use Rattle.std.specs.Arc.{arc_value};
     ghost use Rattle.cat_model.specs.Item as model;
-    ghost use Rattle.cat_schema.specs.Contents.{parts_with};
+    ghost use Rattle.cat_schema.specs.Contents.{item_in, IsKept};
 
     ghost Value = { model.Item };
 
-    ghost view = { λ i. record { id = i.id; parts = parts_with (arc_value i.fields).items i.values.items; source = i.source.items } };
+    ghost view = { item_in };
 
-    ghost invariant = { λ i. length i.values.items ≡ length (arc_value i.fields).items };
+    ghost invariant = { IsKept };
 }
 
 impl Item {
@@ -71,7 +71,8 @@ impl Item {
         values: Vec<FieldValue>,
         source: Vec<u8>,
     ) -> Item
-        requires { length values.items ≡ length (arc_value fields).items }
+        requires each { length values.items ≡ length (arc_value fields).items }
+        requires formed { IsFormedItem (record { id = id; parts = parts_with (arc_value fields).items values.items; source = source.items }) }
         ensures { result ≡ record { id = id; parts = parts_with (arc_value fields).items values.items; source = source.items } }
     {
         Item {
@@ -84,14 +85,17 @@ impl Item {
 
     /// The id: 1 to 64 bytes, each from `!` to `~`.
     pub fn id(&self) -> &str
-        ensures { result.now ≡ self.now.id }
+        ensures value { result.now ≡ self.now.id }
+        ensures form { is_id self.now.id ≡ true }
     {
         self.id.as_str()
     }
 
-    /// What the item has in each field, in the order of the schema's fields.
+    /// What the item has in each field, in the order of the schema's fields. A word has 1 to 4,294,967,295 bytes, a
+    /// keyword at most 128, a label 1 to 128, and labels are at most 64.
     pub fn values(&self) -> &[FieldValue]
-        ensures { map content_of result.now ≡ map (λ p. p.content) self.now.parts }
+        ensures value { map content_of result.now ≡ map (λ p. p.content) self.now.parts }
+        ensures forms { All (λ p. IsFormed p.content) self.now.parts }
     {
         self.values.as_slice()
     }
@@ -104,9 +108,10 @@ impl Item {
         self.values.get(place)
     }
 
-    /// The bytes that the item was read from, as they came.
+    /// The bytes that the item was read from, as they came, 1 to 8,192.
     pub fn source(&self) -> &[u8]
-        ensures { result.now ≡ self.now.source }
+        ensures value { result.now ≡ self.now.source }
+        ensures size { IsSourceLength (length self.now.source) }
     {
         self.source.as_slice()
     }

@@ -11,7 +11,7 @@ pub returns-in_err-place : goal.returns-in_err-place
 returns-in_err-place c =
     let fields = c.deref-2.ensures.value ∙ ap (λ v. v.items) c.deref.ensures in
     let place = sym c.in_err-place.was ∙ c.place_of.ensures ∙ ap (position (λ f. same_text f.name c.args.name.now)) fields in
-    let here = content-none c.args.name.now (arc_value c.self.inside.fields).items c.self.inside.values.items c.self.invariant place in
+    let here = content-none c.args.name.now (arc_value c.self.inside.fields).items c.self.inside.values.items c.self.invariant.each place in
     ap (option_map (λ v. content_of v.now)) c.from_residual.ensures ∙ here ∙ ap (λ i. model.content_of c.args.name.now i) c.self.view_is
 
 pub returns : goal.returns
@@ -19,5 +19,5 @@ returns c =
     let fields = c.deref-2.ensures.value ∙ ap (λ v. v.items) c.deref.ensures in
     let place = sym c.in_ok-place.was ∙ c.place_of.ensures ∙ ap (position (λ f. same_text f.name c.args.name.now)) fields in
     let found = content-got c.deref-3.result.now c.in_ok-place.place c.get.result c.get.ensures.lookup.3 in
-    let here = content-some c.args.name.now (arc_value c.self.inside.fields).items c.self.inside.values.items c.in_ok-place.place c.self.invariant place in
+    let here = content-some c.args.name.now (arc_value c.self.inside.fields).items c.self.inside.values.items c.in_ok-place.place c.self.invariant.each place in
     found ∙ rw c.deref-3.ensures.value (here ∙ ap (λ i. model.content_of c.args.name.now i) c.self.view_is)
