@@ -1,0 +1,4 @@
+//! Reads and writes the parts of files: fields, and segments as they are laid out.
+#![tactic(auto)]
+
+mod cursor;
