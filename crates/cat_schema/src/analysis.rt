@@ -9,7 +9,7 @@ use std::alloc::Global;
 /// The first byte past ASCII: the bytes from it on are those of the other characters' UTF-8.
 const PAST_ASCII: u8 = 128;
 
-fn is_word_byte(b: u8) -> bool
+pub(crate) fn is_word_byte(b: u8) -> bool
     ensures { result ≡ is_word_byte b }
 {
     b.is_ascii_alphanumeric() || b >= PAST_ASCII
