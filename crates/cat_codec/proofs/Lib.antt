@@ -1,2 +1,4 @@
+pub mod Forms
+pub mod Loop
 pub mod Numbers
 pub mod Readers

@@ -50,7 +50,7 @@ same_bytes xs ys = (bytes_eq-Decides xs ys).0
 is_same : (xs : List ℕ) → bytes_eq xs xs ≡ true
 is_same xs = (bytes_eq-Decides xs xs).1 refl
 
-both_true : (a b : Bool) → (a && b) ≡ true → (a ≡ true) × (b ≡ true)
+pub both_true : (a b : Bool) → (a && b) ≡ true → (a ≡ true) × (b ≡ true)
 both_true true b e = (refl, e)
 both_true false b e = absurd cc
 
@@ -62,15 +62,15 @@ pub reads_u32 : Reads u32_at spelled_u32 (λ n. n < 2 ^ 32)
 unfolding u32_at
 reads_u32 = record {
   sound = λ bytes x e.
-    let made : ℕ × List ℕ = (from_be_bytes w32 (take 4 bytes), drop 4 bytes) in
-    let g = kept (ltb made.0 (2 ^ 32) && bytes_eq (spelled_u32 made.0) (take 4 bytes)) (Some made) x e in
-    let h = both_true (ltb made.0 (2 ^ 32)) (bytes_eq (spelled_u32 made.0) (take 4 bytes)) g.0 in
-    let front : spelled_u32 made.0 ≡ take 4 bytes = same_bytes (spelled_u32 made.0) (take 4 bytes) h.1 in
-    subst (λ (y : ℕ × List ℕ). (bytes ≡ spelled_u32 y.0 ++ y.1) × (y.0 < 2 ^ 32)) (some_is made x g.1)
-    (subst (λ (t : List ℕ). bytes ≡ t ++ drop 4 bytes) (sym front) (sym (take-append-drop 4 bytes)), ltb-true _ _ h.0);
+      let made : ℕ × List ℕ = (from_be_bytes w32 (take 4 bytes), drop 4 bytes) in
+      let g = kept (ltb made.0 (2 ^ 32) && bytes_eq (spelled_u32 made.0) (take 4 bytes)) (Some made) x e in
+      let h = both_true (ltb made.0 (2 ^ 32)) (bytes_eq (spelled_u32 made.0) (take 4 bytes)) g.0 in
+      let front : spelled_u32 made.0 ≡ take 4 bytes = same_bytes (spelled_u32 made.0) (take 4 bytes) h.1 in
+      subst (λ (y : ℕ × List ℕ). (bytes ≡ spelled_u32 y.0 ++ y.1) × (y.0 < 2 ^ 32)) (some_is made x g.1)
+      (subst (λ (t : List ℕ). bytes ≡ t ++ drop 4 bytes) (sym front) (sym (take-append-drop 4 bytes)), ltb-true _ _ h.0);
   complete = λ n rest lt.
-    let back : from_be_bytes w32 (to_be_bytes w32 n) ≡ n = from_be_bytes-to_be_bytes_4 n lt in
-    rw (back, lt-ltb n (2 ^ 32) lt, is_same (spelled_u32 n)) refl;
+      let back : from_be_bytes w32 (to_be_bytes w32 n) ≡ n = from_be_bytes-to_be_bytes_4 n lt in
+      rw (back, lt-ltb n (2 ^ 32) lt, is_same (spelled_u32 n)) refl;
 }
 
 pub u32_here : (old new : List ℕ) (n : ℕ) → n < 2 ^ 32 → old ≡ spelled_u32 n ++ new → u32_at old ≡ Some (n, new)
@@ -82,22 +82,22 @@ u32_not old short =
     let read : ℕ = from_be_bytes w32 (take 4 old) in
     not_kept (ltb read (2 ^ 32) && bytes_eq (spelled_u32 read) (take 4 old)) (Some (read, drop 4 old))
     (λ e. let same : spelled_u32 read ≡ take 4 old = same_bytes (spelled_u32 read) (take 4 old) (both_true (ltb read (2 ^ 32)) _ e).1 in
-        let long : length (take 4 old) ≡ 4 = sym (ap length same) in
-        omega (arith, long, length-take 4 old))
+    let long : length (take 4 old) ≡ 4 = sym (ap length same) in
+    omega (arith, long, length-take 4 old))
 
 pub reads_u64 : Reads u64_at spelled_u64 (λ n. n < 2 ^ 64)
 unfolding u64_at
 reads_u64 = record {
   sound = λ bytes x e.
-    let made : ℕ × List ℕ = (from_be_bytes w64 (take 8 bytes), drop 8 bytes) in
-    let g = kept (ltb made.0 (2 ^ 64) && bytes_eq (spelled_u64 made.0) (take 8 bytes)) (Some made) x e in
-    let h = both_true (ltb made.0 (2 ^ 64)) (bytes_eq (spelled_u64 made.0) (take 8 bytes)) g.0 in
-    let front : spelled_u64 made.0 ≡ take 8 bytes = same_bytes (spelled_u64 made.0) (take 8 bytes) h.1 in
-    subst (λ (y : ℕ × List ℕ). (bytes ≡ spelled_u64 y.0 ++ y.1) × (y.0 < 2 ^ 64)) (some_is made x g.1)
-    (subst (λ (t : List ℕ). bytes ≡ t ++ drop 8 bytes) (sym front) (sym (take-append-drop 8 bytes)), ltb-true _ _ h.0);
+      let made : ℕ × List ℕ = (from_be_bytes w64 (take 8 bytes), drop 8 bytes) in
+      let g = kept (ltb made.0 (2 ^ 64) && bytes_eq (spelled_u64 made.0) (take 8 bytes)) (Some made) x e in
+      let h = both_true (ltb made.0 (2 ^ 64)) (bytes_eq (spelled_u64 made.0) (take 8 bytes)) g.0 in
+      let front : spelled_u64 made.0 ≡ take 8 bytes = same_bytes (spelled_u64 made.0) (take 8 bytes) h.1 in
+      subst (λ (y : ℕ × List ℕ). (bytes ≡ spelled_u64 y.0 ++ y.1) × (y.0 < 2 ^ 64)) (some_is made x g.1)
+      (subst (λ (t : List ℕ). bytes ≡ t ++ drop 8 bytes) (sym front) (sym (take-append-drop 8 bytes)), ltb-true _ _ h.0);
   complete = λ n rest lt.
-    let back : from_be_bytes w64 (to_be_bytes w64 n) ≡ n = from_be_bytes-to_be_bytes_8 n lt in
-    rw (back, lt-ltb n (2 ^ 64) lt, is_same (spelled_u64 n)) refl;
+      let back : from_be_bytes w64 (to_be_bytes w64 n) ≡ n = from_be_bytes-to_be_bytes_8 n lt in
+      rw (back, lt-ltb n (2 ^ 64) lt, is_same (spelled_u64 n)) refl;
 }
 
 pub u64_here : (old new : List ℕ) (n : ℕ) → n < 2 ^ 64 → old ≡ spelled_u64 n ++ new → u64_at old ≡ Some (n, new)
@@ -109,8 +109,8 @@ u64_not old short =
     let read : ℕ = from_be_bytes w64 (take 8 old) in
     not_kept (ltb read (2 ^ 64) && bytes_eq (spelled_u64 read) (take 8 old)) (Some (read, drop 8 old))
     (λ e. let same : spelled_u64 read ≡ take 8 old = same_bytes (spelled_u64 read) (take 8 old) (both_true (ltb read (2 ^ 64)) _ e).1 in
-        let long : length (take 8 old) ≡ 8 = sym (ap length same) in
-        omega (arith, long, length-take 8 old))
+    let long : length (take 8 old) ≡ 8 = sym (ap length same) in
+    omega (arith, long, length-take 8 old))
 
 -- ---- bytes
 
@@ -139,19 +139,19 @@ pub reads_string : Reads string_at spelled_bytes (λ t. length t < 2 ^ 32)
 unfolding string_at
 reads_string = record {
   sound = λ bytes x e.
-    let b = bind_some (u32_at bytes) (λ n. cond (ltb (length n.1) n.0) None (Some (take n.0 n.1, drop n.0 n.1))) x e in
-    let n = b.0 in
-    let t = reads_u32.sound bytes n b.1 in
-    let made : List ℕ × List ℕ = (take n.0 n.1, drop n.0 n.1) in
-    let g = passed (ltb (length n.1) n.0) (Some made) x b.2 in
-    let long : n.0 ≤ length n.1 = ltb-false _ _ g.0 in
-    let len : length (take n.0 n.1) ≡ n.0 = omega (arith, length-take n.0 n.1) in
-    let both = then bytes (spelled_u32 n.0) n.1 (take n.0 n.1) (drop n.0 n.1) t.0 (sym (take-append-drop n.0 n.1)) in
-    let whole : bytes ≡ spelled_bytes (take n.0 n.1) ++ drop n.0 n.1 = subst (λ (k : ℕ). bytes ≡ (spelled_u32 k ++ take n.0 n.1) ++ drop n.0 n.1) (sym len) both in
-    subst (λ (y : List ℕ × List ℕ). (bytes ≡ spelled_bytes y.0 ++ y.1) × (length y.0 < 2 ^ 32)) (some_is made x g.1) (whole, omega (arith, t.1, len));
+      let b = bind_some (u32_at bytes) (λ n. cond (ltb (length n.1) n.0) None (Some (take n.0 n.1, drop n.0 n.1))) x e in
+      let n = b.0 in
+      let t = reads_u32.sound bytes n b.1 in
+      let made : List ℕ × List ℕ = (take n.0 n.1, drop n.0 n.1) in
+      let g = passed (ltb (length n.1) n.0) (Some made) x b.2 in
+      let long : n.0 ≤ length n.1 = ltb-false _ _ g.0 in
+      let len : length (take n.0 n.1) ≡ n.0 = omega (arith, length-take n.0 n.1) in
+      let both = then bytes (spelled_u32 n.0) n.1 (take n.0 n.1) (drop n.0 n.1) t.0 (sym (take-append-drop n.0 n.1)) in
+      let whole : bytes ≡ spelled_bytes (take n.0 n.1) ++ drop n.0 n.1 = subst (λ (k : ℕ). bytes ≡ (spelled_u32 k ++ take n.0 n.1) ++ drop n.0 n.1) (sym len) both in
+      subst (λ (y : List ℕ × List ℕ). (bytes ≡ spelled_bytes y.0 ++ y.1) × (length y.0 < 2 ^ 32)) (some_is made x g.1) (whole, omega (arith, t.1, len));
   complete = λ text rest lt.
-    let long : ltb (length (text ++ rest)) (length text) ≡ false = le-ltb _ _ (omega (arith, length-append text rest)) in
-    rw (reads_u32.complete (length text) (text ++ rest) lt, long, take_at text rest (length text) refl, drop_at text rest (length text) refl) refl;
+      let long : ltb (length (text ++ rest)) (length text) ≡ false = le-ltb _ _ (omega (arith, length-append text rest)) in
+      rw (reads_u32.complete (length text) (text ++ rest) lt, long, take_at text rest (length text) refl, drop_at text rest (length text) refl) refl;
 }
 
 pub string_here : (old new bytes : List ℕ) → length bytes < 2 ^ 32 → old ≡ spelled_bytes bytes ++ new → string_at old ≡ Some (bytes, new)

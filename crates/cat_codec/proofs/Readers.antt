@@ -12,10 +12,10 @@ pub reads_where : {A : Type 0} (passes : A → Bool) (one : Reader A) (spell : A
 unfolding where_at
 reads_where {A} passes one spell P r = record {
   sound = λ bytes x e.
-    let b = bind_some (one bytes) (λ y. cond (passes y.0) (Some y) None) x e in
-    let g = kept (passes b.0.0) (Some b.0) x b.2 in
-    let s = r.sound bytes b.0 b.1 in
-    subst (λ (y : A × List ℕ). (bytes ≡ spell y.0 ++ y.1) × (P y.0 × (passes y.0 ≡ true))) (some_is b.0 x g.1) (s.0, (s.1, g.0));
+      let b = bind_some (one bytes) (λ y. cond (passes y.0) (Some y) None) x e in
+      let g = kept (passes b.0.0) (Some b.0) x b.2 in
+      let s = r.sound bytes b.0 b.1 in
+      subst (λ (y : A × List ℕ). (bytes ≡ spell y.0 ++ y.1) × (P y.0 × (passes y.0 ≡ true))) (some_is b.0 x g.1) (s.0, (s.1, g.0));
   complete = λ x rest h. rw (r.complete x rest h.0, h.1) refl;
 }
 
@@ -95,8 +95,8 @@ reads_many one spell P r n = record {
 pub reads_counted : {A : Type 0} (one : Reader A) (spell : A → List ℕ) (P : A → Type 0) → Reads one spell P → Reads (counted_at one) (λ xs. spelled_u32 (length xs) ++ flat_map spell xs) (λ xs. (length xs < 2 ^ 32) × All P xs)
 reads_counted one spell P r = record {
   sound = λ bytes x e.
-    let b = both_sound u32_at (λ n. many_at one n) (λ n xs. xs) spelled_u32 (flat_map spell) (λ n. n < 2 ^ 32) (λ n xs. (length xs ≡ n) × All P xs) reads_u32 (reads_many one spell P r) bytes x e in
-    subst (λ xs. (bytes ≡ (spelled_u32 (length xs) ++ flat_map spell xs) ++ x.1) × ((length xs < 2 ^ 32) × All P xs)) b.made
-    (subst (λ (n : ℕ). bytes ≡ (spelled_u32 n ++ flat_map spell b.second) ++ x.1) (sym b.both.0) b.spelled, (subst (λ (n : ℕ). n < 2 ^ 32) (sym b.both.0) b.holds, b.both.1));
+      let b = both_sound u32_at (λ n. many_at one n) (λ n xs. xs) spelled_u32 (flat_map spell) (λ n. n < 2 ^ 32) (λ n xs. (length xs ≡ n) × All P xs) reads_u32 (reads_many one spell P r) bytes x e in
+      subst (λ xs. (bytes ≡ (spelled_u32 (length xs) ++ flat_map spell xs) ++ x.1) × ((length xs < 2 ^ 32) × All P xs)) b.made
+      (subst (λ (n : ℕ). bytes ≡ (spelled_u32 n ++ flat_map spell b.second) ++ x.1) (sym b.both.0) b.spelled, (subst (λ (n : ℕ). n < 2 ^ 32) (sym b.both.0) b.holds, b.both.1));
   complete = λ xs rest h. both_complete u32_at (λ n. many_at one n) (λ n xs. xs) spelled_u32 (flat_map spell) (λ n. n < 2 ^ 32) (λ n xs. (length xs ≡ n) × All P xs) reads_u32 (reads_many one spell P r) (length xs) xs rest h.0 (refl, h.1);
 }

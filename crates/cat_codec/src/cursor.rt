@@ -35,6 +35,7 @@ fn take_bytes<'a>(cursor: &mut Cursor<'a>) -> Result<&'a [u8], Refusal>
 }
 
 /// The next byte string, where it is the UTF-8 of a text.
+#[tactic(auto, unfolding(crate::specs::Reading::where_at))]
 pub(crate) fn take_str<'a>(cursor: &mut Cursor<'a>) -> Result<&'a str, Refusal>
     ensures { Gives (λ t. (t.now, cursor.new)) result (where_at is_utf8 string_at cursor.old) }
 {
