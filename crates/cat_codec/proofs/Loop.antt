@@ -1,6 +1,7 @@
 -- Reading values one after the other, as a loop does.
-use Rattle.std.proofs.Common.{◌≡◌, ℕ, suc, ◌-◌, ◌+◌, ◌≤◌, ◌<◌, List, [], ◌∷◌, ◌++◌, Option, Some, None, refl, sym, ap, ◌∙◌, append_assoc, arith}
+use Rattle.std.proofs.Common.{◌≡◌, ℕ, suc, ◌-◌, ◌+◌, ◌≤◌, ◌<◌, List, [], ◌∷◌, ◌++◌, Option, Some, None, refl, sym, ap, ◌∙◌, append_assoc, arith, inl, inr}
 use Rattle.std.proofs.lemmas.List.{append-nil}
+use Rattle.std.specs.Prelude.{◌⊎◌}
 use Rattle.cat_base.specs.declared.refusal.Refusal.{Refusal}
 use Rattle.cat_base.specs.declared.refusal.Refusal.TheVariants as errors
 use Rattle.cat_model.specs.Item.{Field, Schema}
@@ -41,6 +42,33 @@ fails_none errors.NoSnapshot a b f h = absurd f
 fails_none errors.SortField a b f h = absurd f
 fails_none errors.NotFacet a b f h = absurd f
 fails_none errors.Device a b f h = absurd f
+
+-- a refusal that is one of the two that reading knows
+pub fails_of : {B : Type 0} (e : Refusal) (b : Option B) → (e ≡ errors.Damaged) ⊎ (e ≡ errors.Memory) → (e ≡ errors.Damaged → b ≡ None) → Fails e b
+fails_of e b (inl is) h = rw is (h is)
+fails_of e b (inr is) h = rw is tt
+
+pub fails_known : {B : Type 0} (e : Refusal) (b : Option B) → Fails e b → (e ≡ errors.Damaged) ⊎ (e ≡ errors.Memory)
+fails_known errors.Memory b f = inr refl
+fails_known errors.Damaged b f = inl refl
+fails_known errors.Line b f = absurd f
+fails_known errors.Json b f = absurd f
+fails_known errors.Member b f = absurd f
+fails_known errors.Kind b f = absurd f
+fails_known errors.Id b f = absurd f
+fails_known errors.Large b f = absurd f
+fails_known errors.Spent b f = absurd f
+fails_known errors.NotHeld b f = absurd f
+fails_known errors.Gone b f = absurd f
+fails_known errors.Full b f = absurd f
+fails_known errors.Mark b f = absurd f
+fails_known (errors.Query q) b f = absurd f
+fails_known errors.Count b f = absurd f
+fails_known errors.NoCommit b f = absurd f
+fails_known errors.NoSnapshot b f = absurd f
+fails_known errors.SortField b f = absurd f
+fails_known errors.NotFacet b f = absurd f
+fails_known errors.Device b f = absurd f
 
 pub ends : {A : Type 0} (one : Reader A) (e : Refusal) (front : List A) (count i : ℕ) (bytes : List ℕ) (total : Option (List A × List ℕ)) → i < count → Fails e (one bytes)
     → with_front front (many_at one (count - i) bytes) ≡ total → Fails e total
