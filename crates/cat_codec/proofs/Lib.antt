@@ -1,4 +1,5 @@
 pub mod Forms
+pub mod Layouts
 pub mod Loop
 pub mod Numbers
 pub mod Pieces

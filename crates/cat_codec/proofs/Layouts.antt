@@ -1,0 +1,104 @@
+-- What is read of a segment's file is what is spelled there.
+use Rattle.std.proofs.Common.{◌≡◌, ℕ, ℤ, zero, suc, ◌+◌, ◌^◌, ◌<◌, ◌≤◌, Bool, true, false, ◌&&◌, cond, eqb, ltb, leb, List, [], ◌∷◌, ◌++◌, length, Option, Some, None, refl, sym, ap, subst, ◌∙◌, append_assoc, arith}
+use Rattle.std.specs.Prelude.{IfSome, codes}
+use Rattle.std.specs.Str.{is_utf8}
+use Rattle.std.specs.Int.{w64, cast_signed, cast_unsigned}
+use Rattle.std.specs.Int.RustNames.{FitsSigned}
+use Rattle.std.specs.List.{flat_map, All, AllByRecursion}
+use Rattle.std.proofs.lemmas.Bool.{ltb-true, lt-ltb, leb-true, le-leb, eqb-true}
+use Rattle.std.proofs.lemmas.List.{append-nil, nil_from_length}
+use Rattle.std.proofs.lemmas.List.Concat.{flat_map-cons}
+use Rattle.std.proofs.lemmas.List.Elements.{All-cons, All-nil}
+use Rattle.std.proofs.lemmas.Str.{IsUtf8-from_is_utf8, is_utf8-from_IsUtf8}
+use Rattle.std.proofs.lemmas.Int.{of_z-to_z, to_z-of_z, ints}
+use Rattle.cat_base.specs.Bytes.{spelled_u32, spelled_u64, spelled_bytes}
+use Rattle.cat_model.specs.Text.{Text}
+use Rattle.cat_model.specs.Item.{Field, Kind, Schema, IsSchema, is_id, is_name}
+use Rattle.cat_model.specs.Forms.{IsWord, IsKeyword, IsLabel, IsSourceLength}
+use Rattle.cat_model.specs.Files.{IsFileNumber}
+use Rattle.cat_model.specs.Layout.{Posted, Laid, Head, Layout, kind_byte, spelled_field, spelled_fields, spelled_head, spelled_list, spelled_texts, spelled_posted, spelled_number, spelled_column, spelled_layout, IsHead, FitU32, IsPosted, IsLaid, AreLaid, IsLayout}
+use Rattle.cat_base.specs.declared.refusal.Refusal.{Refusal}
+use Rattle.cat_base.specs.declared.refusal.Refusal.TheVariants.{Damaged}
+use Rattle.cat_codec.specs.Reading.{Reader, Fails, ◌>>=◌, byte_at, u32_at, u64_at, string_at, where_at, both_at, many_at, counted_at, text_at}
+use Rattle.cat_codec.specs.Layouts.{is_word, is_keyword, is_label, is_schema, is_file_number, is_row_count, is_write_number, is_source_length, kind_at, field_at, fields_at, head_at, list_at, posted_at, cell_at, column_at, columns_at, magic, start_at, layout_at}
+use Rattle.cat_codec.proofs.Numbers.{Reads, bind_some, bind_at, kept, both_true, some_is, then, reads_byte, reads_u32, reads_u64, reads_string}
+use Rattle.cat_codec.proofs.Readers.{reads_where, reads_as, reads_text, ReadBoth, both_sound, both_complete, reads_many, reads_counted}
+use Rattle.cat_codec.proofs.Forms.{both_hold, word_from, word_to, keyword_from, keyword_to, label_from, label_to, schema_from, schema_to, id_is_utf8, id_is_short, name_is_text}
+
+-- the same reader under another name
+renamed : {A : Type 0} (one two : Reader A) (spell : A → List ℕ) (P : A → Type 0) → ((bytes : List ℕ) → two bytes ≡ one bytes) → Reads one spell P → Reads two spell P
+renamed one two spell P same r = record {
+  sound = λ bytes x e. r.sound bytes x (sym (same bytes) ∙ e);
+  complete = λ x rest h. same (spell x ++ rest) ∙ r.complete x rest h;
+}
+
+-- where nothing is read, nothing is spelled
+pub never : {A : Type 0} (one : Reader A) (spell : A → List ℕ) (P : A → Type 0) → Reads one spell P → (old : List ℕ) (e : Refusal) → Fails e (one old) → e ≡ Damaged → (x : A) (rest : List ℕ) → P x → old ≡ spell x ++ rest → ⊥
+never one spell P r old e f is x rest h same =
+    let none : one old ≡ None = subst (λ d. Fails d (one old)) is f in
+    let some : one old ≡ Some (x, rest) = ap one same ∙ r.complete x rest h in
+    absurd (cc (none, some))
+
+-- ---- fields
+
+kind_of_byte : ℕ → Option Kind
+kind_of_byte b = cond (eqb b 1) (Some Kind.text) (cond (eqb b 2) (Some Kind.keyword) (cond (eqb b 3) (Some Kind.number) (cond (eqb b 4) (Some Kind.facet) None)))
+
+reads_kind : Reads kind_at (λ k. kind_byte k ∷ []) (λ k. Unit {0})
+unfolding kind_at byte_at
+reads_kind = record { sound = kind_sound; complete = kind_complete }
+  where
+    kind_complete : (k : Kind) (rest : List ℕ) → Unit {0} → kind_at (kind_byte k ∷ rest) ≡ Some (k, rest)
+    kind_complete Kind.text rest h = refl
+    kind_complete Kind.keyword rest h = refl
+    kind_complete Kind.number rest h = refl
+    kind_complete Kind.facet rest h = refl
+    goal : ℕ → List ℕ → Kind × List ℕ → Type 0
+    goal b rest y = (b ∷ rest ≡ kind_byte y.0 ∷ y.1) × Unit {0}
+    made : (b n : ℕ) (rest : List ℕ) (x : Kind × List ℕ) (k : Kind) → kind_byte k ≡ n → eqb b n ≡ true → Some (k, rest) ≡ Some x → goal b rest x
+    made b n rest x k is t s = subst (goal b rest) (some_is (k, rest) x s) (ap (λ c. c ∷ rest) (eqb-true _ _ t ∙ sym is), tt)
+    kind_sound : (bytes : List ℕ) (x : Kind × List ℕ) → kind_at bytes ≡ Some x → (bytes ≡ kind_byte x.0 ∷ x.1) × Unit {0}
+    kind_sound [] x e = absurd cc
+    kind_sound (b ∷ rest) x e = first (eqb b 1) refl e
+      where
+        four : (t : Bool) → eqb b 4 ≡ t → cond t (Some (Kind.facet, rest)) None ≡ Some x → goal b rest x
+        four true is h = made b 4 rest x Kind.facet refl is h
+        four false is h = absurd cc
+        three : (t : Bool) → eqb b 3 ≡ t → cond t (Some (Kind.number, rest)) (cond (eqb b 4) (Some (Kind.facet, rest)) None) ≡ Some x → goal b rest x
+        three true is h = made b 3 rest x Kind.number refl is h
+        three false is h = four (eqb b 4) refl h
+        two : (t : Bool) → eqb b 2 ≡ t → cond t (Some (Kind.keyword, rest)) (cond (eqb b 3) (Some (Kind.number, rest)) (cond (eqb b 4) (Some (Kind.facet, rest)) None)) ≡ Some x → goal b rest x
+        two true is h = made b 2 rest x Kind.keyword refl is h
+        two false is h = three (eqb b 3) refl h
+        first : (t : Bool) → eqb b 1 ≡ t → cond t (Some (Kind.text, rest)) (cond (eqb b 2) (Some (Kind.keyword, rest)) (cond (eqb b 3) (Some (Kind.number, rest)) (cond (eqb b 4) (Some (Kind.facet, rest)) None))) ≡ Some x → goal b rest x
+        first true is h = made b 1 rest x Kind.text refl is h
+        first false is h = two (eqb b 2) refl h
+
+abbrev IsText : Text → Type 0
+IsText t = (length t < 2 ^ 32) × (is_utf8 t ≡ true)
+
+any_text : Reads (text_at (λ t. true)) spelled_bytes IsText
+any_text = reads_as (text_at (λ t. true)) spelled_bytes (λ t. IsText t × (true ≡ true)) IsText (λ t h. h.0) (λ t h. (h, refl)) (reads_text (λ t. true))
+
+reads_field : Reads field_at spelled_field (λ f. IsText f.name)
+unfolding field_at
+reads_field = record {
+  sound = λ bytes x e.
+    let b = both_sound (text_at (λ t. true)) (λ name. kind_at) (λ name kind. record { name = name; kind = kind }) spelled_bytes (λ k. kind_byte k ∷ []) IsText (λ name kind. Unit {0}) any_text (λ name. reads_kind) bytes x e in
+    subst (λ (f : Field). (bytes ≡ spelled_field f ++ x.1) × IsText f.name) b.made (b.spelled, b.holds);
+  complete = λ f rest h. both_complete (text_at (λ t. true)) (λ name. kind_at) (λ name kind. record { name = name; kind = kind }) spelled_bytes (λ k. kind_byte k ∷ []) IsText (λ name kind. Unit {0}) any_text (λ name. reads_kind) f.name f.kind rest h tt;
+}
+
+-- the names of a schema are texts
+names_are_texts : (fs : Schema) → AllByRecursion (λ f. is_name f.name ≡ true) fs → All (λ f. IsText f.name) fs
+names_are_texts [] h = All-nil (λ (f : Field). IsText f.name)
+names_are_texts (f ∷ fs) h = All-cons (λ (g : Field). IsText g.name) f fs (name_is_text f.name h.0) (names_are_texts fs h.1)
+
+pub reads_fields : Reads fields_at spelled_fields IsSchema
+unfolding fields_at
+reads_fields =
+    renamed (where_at is_schema (counted_at field_at)) fields_at spelled_fields IsSchema (λ bytes. refl)
+    (reads_as (where_at is_schema (counted_at field_at)) spelled_fields (λ fs. ((length fs < 2 ^ 32) × All (λ f. IsText f.name) fs) × (is_schema fs ≡ true)) IsSchema
+        (λ fs h. schema_from fs h.1)
+        (λ fs s. ((let few : length fs ≤ 32 = s.few in omega arith, names_are_texts fs s.named), schema_to fs s))
+        (reads_where is_schema (counted_at field_at) spelled_fields (λ fs. (length fs < 2 ^ 32) × All (λ f. IsText f.name) fs) (reads_counted field_at spelled_field (λ f. IsText f.name) reads_field)))
