@@ -141,12 +141,12 @@ head_complete h rest is =
     ∙ bind_at (text_at is_id (spelled_bytes h.id ++ (spelled_u32 h.length ++ rest))) _ _ (reads_id.complete h.id (spelled_u32 h.length ++ rest) is.id)
     ∙ bind_at (where_at is_source_length u32_at (spelled_u32 h.length ++ rest)) _ _ (reads_length.complete h.length rest is.source)
 
-reads_head : Reads head_at spelled_head IsHead
+pub reads_head : Reads head_at spelled_head IsHead
 reads_head = record { sound = head_sound; complete = head_complete }
 
 -- ---- lists and texts
 
-reads_list : Reads list_at spelled_list FitU32
+pub reads_list : Reads list_at spelled_list FitU32
 unfolding list_at
 reads_list = renamed (counted_at u32_at) list_at spelled_list FitU32 (λ bytes. refl) (reads_counted u32_at spelled_u32 (λ n. n < 2 ^ 32) reads_u32)
 
@@ -157,15 +157,15 @@ reads_word = reads_as (text_at is_word) spelled_bytes (λ t. IsText t × (is_wor
 keyword_is_text : (t : Text) → IsKeyword t → IsText t
 keyword_is_text t k = (let short : length t ≤ 128 = k.short in omega arith, is_utf8-from_IsUtf8 t k.utf8)
 
-reads_keyword : Reads (text_at is_keyword) spelled_bytes IsKeyword
+pub reads_keyword : Reads (text_at is_keyword) spelled_bytes IsKeyword
 reads_keyword = reads_as (text_at is_keyword) spelled_bytes (λ t. IsText t × (is_keyword t ≡ true)) IsKeyword
     (λ t h. keyword_from t (IsUtf8-from_is_utf8 t h.0.1) h.1) (λ t k. (keyword_is_text t k, keyword_to t k)) (reads_text is_keyword)
 
-reads_label : Reads (text_at is_label) spelled_bytes IsLabel
+pub reads_label : Reads (text_at is_label) spelled_bytes IsLabel
 reads_label = reads_as (text_at is_label) spelled_bytes (λ t. IsText t × (is_label t ≡ true)) IsLabel
     (λ t h. label_from t (IsUtf8-from_is_utf8 t h.0.1) h.1) (λ t l. (keyword_is_text t l.keyword, label_to t l)) (reads_text is_label)
 
-reads_posted : Reads posted_at spelled_posted IsPosted
+pub reads_posted : Reads posted_at spelled_posted IsPosted
 unfolding posted_at
 reads_posted = record {
   sound = λ bytes x e.
@@ -176,7 +176,7 @@ reads_posted = record {
 
 -- ---- numbers of rows
 
-abbrev IsCell : Option ℤ → Type 0
+abbrev pub IsCell : Option ℤ → Type 0
 IsCell z = IfSome z (FitsSigned w64)
 
 fits_signed : (n : ℕ) → n < 2 ^ 64 → FitsSigned w64 (cast_signed w64 n)
@@ -209,5 +209,5 @@ unfolding cell_at byte_at
 cell_complete None rest fits = refl
 cell_complete (Some z) rest fits = rw (reads_u64.complete (cast_unsigned w64 z) rest (unsigned_below z fits), to_z-of_z w64 z fits) refl
 
-reads_cell : Reads cell_at spelled_number IsCell
+pub reads_cell : Reads cell_at spelled_number IsCell
 reads_cell = record { sound = cell_sound; complete = cell_complete }

@@ -4,3 +4,4 @@ pub mod Loop
 pub mod Numbers
 pub mod Pieces
 pub mod Readers
+pub mod Segments
