@@ -1,13 +1,11 @@
 -- What is read of a segment's file is what is spelled there.
-use Rattle.std.proofs.Common.{◌≡◌, ℕ, ℤ, zero, suc, ◌+◌, ◌^◌, ◌<◌, ◌≤◌, Bool, true, false, ◌&&◌, cond, eqb, ltb, leb, List, [], ◌∷◌, ◌++◌, length, Option, Some, None, refl, sym, ap, subst, ◌∙◌, append_assoc, arith}
-use Rattle.std.specs.Prelude.{IfSome, codes}
+use Rattle.std.proofs.Common.{◌≡◌, ℕ, ℤ, ◌^◌, ◌<◌, ◌≤◌, Bool, true, false, cond, eqb, leb, List, [], ◌∷◌, ◌++◌, length, Option, Some, None, refl, sym, ap, subst, ◌∙◌, append_assoc, arith}
+use Rattle.std.specs.Prelude.{IfSome}
 use Rattle.std.specs.Str.{is_utf8}
 use Rattle.std.specs.Int.{w64, cast_signed, cast_unsigned}
 use Rattle.std.specs.Int.RustNames.{FitsSigned}
-use Rattle.std.specs.List.{flat_map, All, AllByRecursion}
-use Rattle.std.proofs.lemmas.Bool.{ltb-true, lt-ltb, leb-true, le-leb, eqb-true}
-use Rattle.std.proofs.lemmas.List.{append-nil, nil_from_length}
-use Rattle.std.proofs.lemmas.List.Concat.{flat_map-cons}
+use Rattle.std.specs.List.{All, AllByRecursion}
+use Rattle.std.proofs.lemmas.Bool.{leb-true, le-leb, eqb-true}
 use Rattle.std.proofs.lemmas.List.Elements.{All-cons, All-nil}
 use Rattle.std.proofs.lemmas.Str.{IsUtf8-from_is_utf8, is_utf8-from_IsUtf8}
 use Rattle.std.proofs.lemmas.Int.{of_z-to_z, to_z-of_z, ints}
@@ -15,14 +13,13 @@ use Rattle.cat_base.specs.Bytes.{spelled_u32, spelled_u64, spelled_bytes}
 use Rattle.cat_model.specs.Text.{Text}
 use Rattle.cat_model.specs.Item.{Field, Kind, Schema, IsSchema, is_id, is_name}
 use Rattle.cat_model.specs.Forms.{IsWord, IsKeyword, IsLabel, IsSourceLength}
-use Rattle.cat_model.specs.Files.{IsFileNumber}
-use Rattle.cat_model.specs.Layout.{Posted, Laid, Head, Layout, kind_byte, spelled_field, spelled_fields, spelled_head, spelled_list, spelled_texts, spelled_posted, spelled_number, spelled_column, spelled_layout, IsHead, FitU32, IsPosted, IsLaid, AreLaid, IsLayout}
+use Rattle.cat_model.specs.Layout.{Posted, Head, kind_byte, spelled_field, spelled_fields, spelled_head, spelled_list, spelled_posted, spelled_number, IsHead, FitU32, IsPosted}
 use Rattle.cat_base.specs.declared.refusal.Refusal.{Refusal}
 use Rattle.cat_base.specs.declared.refusal.Refusal.TheVariants.{Damaged}
-use Rattle.cat_codec.specs.Reading.{Reader, Fails, ◌>>=◌, byte_at, u32_at, u64_at, string_at, where_at, both_at, many_at, counted_at, text_at}
-use Rattle.cat_codec.specs.Layouts.{is_word, is_keyword, is_label, is_schema, is_file_number, is_row_count, is_write_number, is_source_length, kind_at, field_at, fields_at, head_at, list_at, posted_at, cell_at, column_at, columns_at, magic, start_at, layout_at}
-use Rattle.cat_codec.proofs.Numbers.{Reads, bind_some, bind_at, kept, both_true, some_is, then, reads_byte, reads_u32, reads_u64, reads_string}
-use Rattle.cat_codec.proofs.Readers.{reads_where, reads_as, reads_text, ReadBoth, both_sound, both_complete, reads_many, reads_counted}
+use Rattle.cat_codec.specs.Reading.{Reader, Fails, ◌>>=◌, byte_at, u32_at, u64_at, where_at, counted_at, text_at}
+use Rattle.cat_codec.specs.Layouts.{is_word, is_keyword, is_label, is_schema, is_write_number, is_source_length, kind_at, field_at, fields_at, head_at, list_at, posted_at, cell_at}
+use Rattle.cat_codec.proofs.Numbers.{Reads, bind_some, bind_at, both_true, some_is, then, reads_u32, reads_u64}
+use Rattle.cat_codec.proofs.Readers.{reads_where, reads_as, reads_text, both_sound, both_complete, reads_counted}
 use Rattle.cat_codec.proofs.Forms.{both_hold, word_from, word_to, keyword_from, keyword_to, label_from, label_to, schema_from, schema_to, id_is_utf8, id_is_short, name_is_text}
 
 -- the same reader under another name
@@ -53,10 +50,13 @@ reads_kind = record { sound = kind_sound; complete = kind_complete }
     kind_complete Kind.keyword rest h = refl
     kind_complete Kind.number rest h = refl
     kind_complete Kind.facet rest h = refl
+
     goal : ℕ → List ℕ → Kind × List ℕ → Type 0
     goal b rest y = (b ∷ rest ≡ kind_byte y.0 ∷ y.1) × Unit {0}
+
     made : (b n : ℕ) (rest : List ℕ) (x : Kind × List ℕ) (k : Kind) → kind_byte k ≡ n → eqb b n ≡ true → Some (k, rest) ≡ Some x → goal b rest x
     made b n rest x k is t s = subst (goal b rest) (some_is (k, rest) x s) (ap (λ c. c ∷ rest) (eqb-true _ _ t ∙ sym is), tt)
+
     kind_sound : (bytes : List ℕ) (x : Kind × List ℕ) → kind_at bytes ≡ Some x → (bytes ≡ kind_byte x.0 ∷ x.1) × Unit {0}
     kind_sound [] x e = absurd cc
     kind_sound (b ∷ rest) x e = first (eqb b 1) refl e
@@ -64,12 +64,15 @@ reads_kind = record { sound = kind_sound; complete = kind_complete }
         four : (t : Bool) → eqb b 4 ≡ t → cond t (Some (Kind.facet, rest)) None ≡ Some x → goal b rest x
         four true is h = made b 4 rest x Kind.facet refl is h
         four false is h = absurd cc
+
         three : (t : Bool) → eqb b 3 ≡ t → cond t (Some (Kind.number, rest)) (cond (eqb b 4) (Some (Kind.facet, rest)) None) ≡ Some x → goal b rest x
         three true is h = made b 3 rest x Kind.number refl is h
         three false is h = four (eqb b 4) refl h
+
         two : (t : Bool) → eqb b 2 ≡ t → cond t (Some (Kind.keyword, rest)) (cond (eqb b 3) (Some (Kind.number, rest)) (cond (eqb b 4) (Some (Kind.facet, rest)) None)) ≡ Some x → goal b rest x
         two true is h = made b 2 rest x Kind.keyword refl is h
         two false is h = three (eqb b 3) refl h
+
         first : (t : Bool) → eqb b 1 ≡ t → cond t (Some (Kind.text, rest)) (cond (eqb b 2) (Some (Kind.keyword, rest)) (cond (eqb b 3) (Some (Kind.number, rest)) (cond (eqb b 4) (Some (Kind.facet, rest)) None))) ≡ Some x → goal b rest x
         first true is h = made b 1 rest x Kind.text refl is h
         first false is h = two (eqb b 2) refl h
@@ -84,8 +87,8 @@ reads_field : Reads field_at spelled_field (λ f. IsText f.name)
 unfolding field_at
 reads_field = record {
   sound = λ bytes x e.
-    let b = both_sound (text_at (λ t. true)) (λ name. kind_at) (λ name kind. record { name = name; kind = kind }) spelled_bytes (λ k. kind_byte k ∷ []) IsText (λ name kind. Unit {0}) any_text (λ name. reads_kind) bytes x e in
-    subst (λ (f : Field). (bytes ≡ spelled_field f ++ x.1) × IsText f.name) b.made (b.spelled, b.holds);
+      let b = both_sound (text_at (λ t. true)) (λ name. kind_at) (λ name kind. record { name = name; kind = kind }) spelled_bytes (λ k. kind_byte k ∷ []) IsText (λ name kind. Unit {0}) any_text (λ name. reads_kind) bytes x e in
+      subst (λ (f : Field). (bytes ≡ spelled_field f ++ x.1) × IsText f.name) b.made (b.spelled, b.holds);
   complete = λ f rest h. both_complete (text_at (λ t. true)) (λ name. kind_at) (λ name kind. record { name = name; kind = kind }) spelled_bytes (λ k. kind_byte k ∷ []) IsText (λ name kind. Unit {0}) any_text (λ name. reads_kind) f.name f.kind rest h tt;
 }
 
@@ -99,9 +102,9 @@ unfolding fields_at
 reads_fields =
     renamed (where_at is_schema (counted_at field_at)) fields_at spelled_fields IsSchema (λ bytes. refl)
     (reads_as (where_at is_schema (counted_at field_at)) spelled_fields (λ fs. ((length fs < 2 ^ 32) × All (λ f. IsText f.name) fs) × (is_schema fs ≡ true)) IsSchema
-        (λ fs h. schema_from fs h.1)
-        (λ fs s. ((let few : length fs ≤ 32 = s.few in omega arith, names_are_texts fs s.named), schema_to fs s))
-        (reads_where is_schema (counted_at field_at) spelled_fields (λ fs. (length fs < 2 ^ 32) × All (λ f. IsText f.name) fs) (reads_counted field_at spelled_field (λ f. IsText f.name) reads_field)))
+    (λ fs h. schema_from fs h.1)
+    (λ fs s. ((let few : length fs ≤ 32 = s.few in omega arith, names_are_texts fs s.named), schema_to fs s))
+    (reads_where is_schema (counted_at field_at) spelled_fields (λ fs. (length fs < 2 ^ 32) × All (λ f. IsText f.name) fs) (reads_counted field_at spelled_field (λ f. IsText f.name) reads_field)))
 
 -- ---- rows
 
@@ -128,9 +131,10 @@ head_sound bytes x e =
     let t2 = reads_length.sound b.0.1 c.0 c.1 in
     let made : Head × List ℕ = (record { number = a.0.0; id = b.0.0; length = c.0.0 }, c.0.1) in
     let e12 = then a.0.1 (spelled_bytes b.0.0) b.0.1 (spelled_u32 c.0.0) c.0.1 t1.0 t2.0 in
-    subst (λ (y : Head × List ℕ). (bytes ≡ spelled_head y.0 ++ y.1) × IsHead y.0) (some_is made x c.2)
-    (then bytes (spelled_u64 a.0.0) a.0.1 (spelled_bytes b.0.0 ++ spelled_u32 c.0.0) c.0.1 t0.0 e12,
-     record { positive = leb-true _ _ t0.1.1; fits = t0.1.0; id = t1.1; source = t2.1 })
+    subst (λ (y : Head × List ℕ). (bytes ≡ spelled_head y.0 ++ y.1) × IsHead y.0) (some_is made x c.2) (
+      then bytes (spelled_u64 a.0.0) a.0.1 (spelled_bytes b.0.0 ++ spelled_u32 c.0.0) c.0.1 t0.0 e12,
+      record { positive = leb-true _ _ t0.1.1; fits = t0.1.0; id = t1.1; source = t2.1 },
+    )
 
 head_complete : (h : Head) (rest : List ℕ) → IsHead h → head_at (spelled_head h ++ rest) ≡ Some (h, rest)
 unfolding head_at
@@ -169,8 +173,8 @@ pub reads_posted : Reads posted_at spelled_posted IsPosted
 unfolding posted_at
 reads_posted = record {
   sound = λ bytes x e.
-    let b = both_sound (text_at is_word) (λ word. list_at) (λ word rows. record { word = word; rows = rows }) spelled_bytes spelled_list IsWord (λ word rows. FitU32 rows) reads_word (λ word. reads_list) bytes x e in
-    subst (λ (p : Posted). (bytes ≡ spelled_posted p ++ x.1) × IsPosted p) b.made (b.spelled, record { word = b.holds; rows = b.both });
+      let b = both_sound (text_at is_word) (λ word. list_at) (λ word rows. record { word = word; rows = rows }) spelled_bytes spelled_list IsWord (λ word rows. FitU32 rows) reads_word (λ word. reads_list) bytes x e in
+      subst (λ (p : Posted). (bytes ≡ spelled_posted p ++ x.1) × IsPosted p) b.made (b.spelled, record { word = b.holds; rows = b.both });
   complete = λ p rest h. both_complete (text_at is_word) (λ word. list_at) (λ word rows. record { word = word; rows = rows }) spelled_bytes spelled_list IsWord (λ word rows. FitU32 rows) reads_word (λ word. reads_list) p.word p.rows rest h.word h.rows;
 }
 
@@ -192,6 +196,7 @@ cell_sound (b ∷ rest) x e = zeros (eqb b 0) refl e
   where
     goal : Option ℤ × List ℕ → Type 0
     goal y = (b ∷ rest ≡ spelled_number y.0 ++ y.1) × IsCell y.0
+
     ones : (t : Bool) → eqb b 1 ≡ t → cond t (u64_at rest >>= λ n. Some (Some (cast_signed w64 n.0), n.1)) None ≡ Some x → goal x
     ones true is h =
         let n = bind_some (u64_at rest) (λ n. Some (Some (cast_signed w64 n.0), n.1)) x h in
@@ -200,6 +205,7 @@ cell_sound (b ∷ rest) x e = zeros (eqb b 0) refl e
         let spelled : rest ≡ spelled_u64 (cast_unsigned w64 (cast_signed w64 n.0.0)) ++ n.0.1 = subst (λ (k : ℕ). rest ≡ spelled_u64 k ++ n.0.1) (sym (of_z-to_z w64 n.0.0 t.1)) t.0 in
         subst goal (some_is (Some (cast_signed w64 n.0.0), n.0.1) x n.2) (ap (λ c. c ∷ rest) one ∙ ap (λ (w : List ℕ). 1 ∷ w) spelled, fits_signed n.0.0 t.1)
     ones false is h = absurd cc
+
     zeros : (t : Bool) → eqb b 0 ≡ t → cond t (Some (None, rest)) (cond (eqb b 1) (u64_at rest >>= λ n. Some (Some (cast_signed w64 n.0), n.1)) None) ≡ Some x → goal x
     zeros true is h = subst goal (some_is (None, rest) x h) (ap (λ c. c ∷ rest) (eqb-true _ _ is), tt)
     zeros false is h = ones (eqb b 1) refl h

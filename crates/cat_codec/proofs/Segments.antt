@@ -1,5 +1,5 @@
 -- What is read of a whole segment's file is what is spelled there.
-use Rattle.std.proofs.Common.{◌≡◌, ℕ, ℤ, ◌+◌, ◌^◌, ◌<◌, ◌≤◌, Bool, true, false, ◌&&◌, cond, eqb, ltb, leb, List, [], ◌∷◌, ◌++◌, length, Option, Some, None, refl, sym, ap, subst, ◌∙◌, append_assoc, arith}
+use Rattle.std.proofs.Common.{◌≡◌, ℕ, ◌^◌, ◌<◌, ◌≤◌, true, ◌&&◌, cond, eqb, ltb, leb, List, [], ◌∷◌, ◌++◌, length, Option, Some, None, refl, sym, ap, subst, ◌∙◌, append_assoc, arith}
 use Rattle.std.specs.Prelude.{codes}
 use Rattle.std.specs.List.{flat_map, All}
 use Rattle.std.proofs.lemmas.Bool.{ltb-true, lt-ltb, leb-true, le-leb, eqb-true}
@@ -9,14 +9,14 @@ use Rattle.cat_base.specs.Bytes.{spelled_u32, spelled_u64, spelled_bytes}
 use Rattle.cat_base.specs.declared.refusal.Refusal.{Refusal}
 use Rattle.cat_base.specs.declared.refusal.Refusal.TheVariants.{Damaged}
 use Rattle.cat_model.specs.Text.{Text}
-use Rattle.cat_model.specs.Item.{Field, Kind, Schema, IsSchema}
+use Rattle.cat_model.specs.Item.{Kind, Schema}
 use Rattle.cat_model.specs.Forms.{IsKeyword, IsLabel}
 use Rattle.cat_model.specs.Files.{IsFileNumber}
 use Rattle.cat_model.specs.Layout.{Posted, Laid, Head, Layout, spelled_fields, spelled_head, spelled_list, spelled_texts, spelled_posted, spelled_number, spelled_column, spelled_layout, IsHead, FitU32, IsPosted, IsLaid, AreLaid, IsLayout}
 use Rattle.cat_codec.specs.Reading.{Reader, Fails, ◌>>=◌, byte_at, u32_at, u64_at, where_at, both_at, many_at, counted_at, text_at}
 use Rattle.cat_codec.specs.Layouts.{is_keyword, is_label, is_file_number, is_row_count, fields_at, head_at, list_at, posted_at, cell_at, column_at, columns_at, magic, start_at, layout_at}
 use Rattle.cat_codec.proofs.Numbers.{Reads, bind_some, bind_at, kept, both_true, some_is, then, reads_byte, reads_u32, reads_u64}
-use Rattle.cat_codec.proofs.Readers.{reads_where, reads_as, ReadBoth, both_sound, both_complete, reads_many, reads_counted}
+use Rattle.cat_codec.proofs.Readers.{reads_where, reads_as, both_sound, both_complete, reads_many, reads_counted}
 use Rattle.cat_codec.proofs.Forms.{both_hold}
 use Rattle.cat_codec.proofs.Layouts.{reads_fields, reads_head, reads_list, reads_keyword, reads_label, reads_posted, IsCell, reads_cell}
 
@@ -189,18 +189,20 @@ layout_sound bytes l e =
     let td = columns_sound b.0.0 a.0.0.1 few c.0.1 d.0 d.1 in
     let last : c.0.1 ≡ flat_map spelled_column d.0.0 = td.0 ∙ ap (λ (t : List ℕ). flat_map spelled_column d.0.0 ++ t) nothing ∙ append-nil (flat_map spelled_column d.0.0) in
     let bytes-are : bytes ≡ spelled_start a.0.0 ++ (spelled_fields b.0.0 ++ (flat_map spelled_head c.0.0 ++ flat_map spelled_column d.0.0)) =
-        ta.0 ∙ ap (λ (t : List ℕ). spelled_start a.0.0 ++ t) (tb.0 ∙ ap (λ (t : List ℕ). spelled_fields b.0.0 ++ t) (tc.0 ∙ ap (λ (t : List ℕ). flat_map spelled_head c.0.0 ++ t) last)) in
+    ta.0 ∙ ap (λ (t : List ℕ). spelled_start a.0.0 ++ t) (tb.0 ∙ ap (λ (t : List ℕ). spelled_fields b.0.0 ++ t) (tc.0 ∙ ap (λ (t : List ℕ). flat_map spelled_head c.0.0 ++ t) last)) in
     let counted : bytes ≡ spelled_start (a.0.0.0, length c.0.0) ++ (spelled_fields b.0.0 ++ (flat_map spelled_head c.0.0 ++ flat_map spelled_column d.0.0)) =
-        subst (λ (m : ℕ). bytes ≡ spelled_start (a.0.0.0, m) ++ (spelled_fields b.0.0 ++ (flat_map spelled_head c.0.0 ++ flat_map spelled_column d.0.0))) (sym tc.1.0) bytes-are in
-    subst (λ (v : Layout). IsLayout v × (bytes ≡ spelled_layout v)) (some_is made l g.1)
-    (record {
-      number = ta.1.0;
-      schema = tb.1;
-      some = subst (λ (m : ℕ). 1 ≤ m) (sym tc.1.0) ta.1.1.0;
-      few = subst (λ (m : ℕ). m ≤ 262144) (sym tc.1.0) most;
-      heads = tc.1.1;
-      columns = subst (λ (m : ℕ). AreLaid m b.0.0 d.0.0) (sym tc.1.0) td.1;
-    }, counted)
+    subst (λ (m : ℕ). bytes ≡ spelled_start (a.0.0.0, m) ++ (spelled_fields b.0.0 ++ (flat_map spelled_head c.0.0 ++ flat_map spelled_column d.0.0))) (sym tc.1.0) bytes-are in
+    subst (λ (v : Layout). IsLayout v × (bytes ≡ spelled_layout v)) (some_is made l g.1) (
+      record {
+        number = ta.1.0;
+        schema = tb.1;
+        some = subst (λ (m : ℕ). 1 ≤ m) (sym tc.1.0) ta.1.1.0;
+        few = subst (λ (m : ℕ). m ≤ 262144) (sym tc.1.0) most;
+        heads = tc.1.1;
+        columns = subst (λ (m : ℕ). AreLaid m b.0.0 d.0.0) (sym tc.1.0) td.1;
+      },
+      counted,
+    )
 
 pub layout_complete : (l : Layout) → IsLayout l → layout_at (spelled_layout l) ≡ Some l
 unfolding layout_at

@@ -1,5 +1,5 @@
 -- The parts of a segment's file as they lie in memory, and the layout that they are.
-use Rattle.std.specs.Prelude.{◌≡◌, ℕ, ◌^◌, ◌<◌, ℤ, List, [], ◌∷◌, length, map, All, codes, ◌++◌}
+use Rattle.std.specs.Prelude.{◌≡◌, ℕ, ◌^◌, ◌<◌, List, [], ◌∷◌, length, map, All, codes, ◌++◌}
 use Rattle.cat_base.specs.Bytes.{spelled_u32, spelled_u64}
 use Rattle.cat_model.specs.Text.{Text}
 use Rattle.cat_model.specs.Layout.{Laid, Head, Layout, AreEnds, pieces, posted}

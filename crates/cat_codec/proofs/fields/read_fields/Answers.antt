@@ -1,7 +1,5 @@
-use Rattle.std.proofs.Common.{◌≡◌, ◌++◌, List, ℕ, Some, None, sym, ap, subst, ◌∙◌}
 use Rattle.std.proofs.lemmas.Result.{err_from_is_err_and}
 use Rattle.cat_codec.specs.Layouts.{fields_at}
-use Rattle.cat_codec.specs.Reading.{Fails}
 use Rattle.cat_codec.proofs.Layouts.{reads_fields, never}
 use Rattle.cat_model.specs.Item.{IsSchema}
 use Rattle.cat_model.specs.Layout.{spelled_fields}
