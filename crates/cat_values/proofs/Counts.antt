@@ -1,10 +1,11 @@
 -- How many rows are set.
-use Rattle.std.proofs.Common.{◌≡◌, ℕ, zero, suc, ◌+◌, ◌-◌, ◌*◌, ◌/◌, ◌%◌, ◌^◌, ◌<◌, ◌≤◌, Bool, false, cond, eqb, List, [], ◌∷◌, ◌++◌, length, map, get_or, refl, sym, ap, ◌∙◌, arith, count_by, sum_by, subst}
+use Rattle.std.proofs.Common.{◌≡◌, ℕ, zero, suc, ◌+◌, ◌-◌, ◌*◌, ◌/◌, ◌%◌, ◌^◌, ◌<◌, ◌≤◌, Bool, true, false, cond, eqb, List, [], ◌∷◌, ◌++◌, length, map, get_or, refl, sym, ap, ◌∙◌, arith, count_by, sum_by, subst}
 use Rattle.std.specs.Prelude.{count_ones}
 use Rattle.std.specs.Int.{bit_at}
 use Rattle.std.specs.List.{range_with_len}
 use Rattle.std.proofs.Common.{mul-suc}
-use Rattle.std.proofs.lemmas.List.Sums.{sum_by-cons, sum_by-append}
+use Rattle.std.proofs.lemmas.Bool.{true≢false}
+use Rattle.std.proofs.lemmas.List.Sums.{sum_by-cons, sum_by-append, count_by-le-length}
 use Rattle.std.proofs.lemmas.List.FromFn.{length-map-range_with_len, get_or-map-range_with_len}
 use Rattle.std.proofs.lemmas.Nat.Bits.{bit_at-lt, same_from_bits_below}
 use Rattle.std.proofs.lemmas.Simd.{mask_l-lt, bit_mask_l, ones-mask_l}
@@ -102,3 +103,17 @@ count_flags rows words words' v is e same =
     ∙ ap (λ k. count_by (is_set words) (range_with_len 0 rows) + k) (count_none (is_set words) (0 + rows) (64 * length words - rows) (λ i le. is.clear i (omega arith)))
     ∙ omega arith
     ∙ sym (count_of_map (is_set words) (range_with_len 0 rows)) ∙ ap (count_by (λ b. b)) e
+
+-- all are counted where each is true
+pub all_counted : (set : List Bool) → length set ≤ count_by (λ b. b) set → (k : ℕ) → k < length set → get_or set k false ≡ true
+all_counted [] le k lt = absurd (omega arith)
+all_counted (true ∷ set) le zero lt = refl
+all_counted (true ∷ set) le (suc k) lt = all_counted set (omega (arith, sum_by-cons (λ b. cond b 1 0) true set)) k (omega arith)
+all_counted (false ∷ set) le k lt = absurd (omega (arith, sum_by-cons (λ b. cond b 1 0) false set, count_by-le-length (λ b. b) set))
+
+pub count_all : (set : List Bool) → ((k : ℕ) → k < length set → get_or set k false ≡ true) → count_by (λ b. b) set ≡ length set
+count_all [] each = refl
+count_all (true ∷ set) each =
+    let rest : count_by (λ b. b) set ≡ length set = count_all set (λ k lt. each (suc k) (omega arith)) in
+    omega (arith, sum_by-cons (λ b. cond b 1 0) true set)
+count_all (false ∷ set) each = absurd (true≢false (sym (each 0 (omega arith))))

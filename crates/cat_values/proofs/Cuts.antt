@@ -1,4 +1,4 @@
--- The rows that are cut out of one list are those that it was joined from.
+-- The rows whose pieces stand in one list are those that it was joined from.
 use Rattle.std.proofs.Common.{◌≡◌, ℕ, zero, suc, ◌+◌, ◌-◌, ◌^◌, ◌<◌, ◌≤◌, List, [], ◌∷◌, ◌++◌, length, get_or, take, drop, map, refl, sym, ap, ◌∙◌, arith, subst}
 use Rattle.std.proofs.lemmas.List.{get_or_default, take_more, length-append, length-map, append_assoc, append-nil, map-append, take-map, drop-map}
 use Rattle.cat_base.proofs.TextSets.{has-sorted_set, has-Decides}
@@ -11,8 +11,9 @@ use Rattle.std.specs.Borrow.{Bor}
 use Rattle.std.specs.List.{flat_map, list_any}
 use Rattle.cat_base.specs.Texts.{sorted_set, IsTextSet}
 use Rattle.cat_model.specs.Text.{Text, same_text}
+use Rattle.cat_model.specs.Layout.{pieces, AreEnds}
 use Rattle.cat_model.specs.Ordinals.{text_at, dictionary_of}
-use Rattle.cat_values.specs.Columns.{ends_from, cut, AreEnds, IsSets}
+use Rattle.cat_values.specs.Columns.{ends_from, IsSets}
 
 abbrev pub joined_rows : List (List Text) → List Text
 joined_rows rows = flat_map (λ texts. texts) rows
@@ -24,18 +25,18 @@ take_length (p ∷ r) xs = ap (λ l. p ∷ l) (take_length r xs)
 less : (a b : ℕ) → (a + b) - a ≡ b
 less a b = omega arith
 
-cut_from : (n : ℕ) (rs : List (List Text)) (pre : List Text) → length pre ≡ n → cut n (ends_from n rs) (pre ++ joined_rows rs) ≡ rs
-cut_from n [] pre e = refl
-cut_from n (r ∷ rs) pre e =
-    ap (λ k. take k (drop n (pre ++ (r ++ joined_rows rs))) ∷ cut (n + length r) (ends_from (n + length r) rs) (pre ++ (r ++ joined_rows rs))) (less n (length r))
-    ∙ ap (λ k. take (length r) (drop k (pre ++ (r ++ joined_rows rs))) ∷ cut (n + length r) (ends_from (n + length r) rs) (pre ++ (r ++ joined_rows rs))) (sym e)
-    ∙ ap (λ l. take (length r) l ∷ cut (n + length r) (ends_from (n + length r) rs) (pre ++ (r ++ joined_rows rs))) (drop-append_seam pre (r ++ joined_rows rs))
-    ∙ ap (λ l. l ∷ cut (n + length r) (ends_from (n + length r) rs) (pre ++ (r ++ joined_rows rs))) (take_length r (joined_rows rs))
-    ∙ ap (λ l. r ∷ cut (n + length r) (ends_from (n + length r) rs) l) (sym (append_assoc pre r (joined_rows rs)))
-    ∙ ap (λ l. r ∷ l) (cut_from (n + length r) rs (pre ++ r) (length-append pre r ∙ ap (λ k. k + length r) e))
+pieces_from : (n : ℕ) (rs : List (List Text)) (pre : List Text) → length pre ≡ n → pieces n (ends_from n rs) (pre ++ joined_rows rs) ≡ rs
+pieces_from n [] pre e = refl
+pieces_from n (r ∷ rs) pre e =
+    ap (λ k. take k (drop n (pre ++ (r ++ joined_rows rs))) ∷ pieces (n + length r) (ends_from (n + length r) rs) (pre ++ (r ++ joined_rows rs))) (less n (length r))
+    ∙ ap (λ k. take (length r) (drop k (pre ++ (r ++ joined_rows rs))) ∷ pieces (n + length r) (ends_from (n + length r) rs) (pre ++ (r ++ joined_rows rs))) (sym e)
+    ∙ ap (λ l. take (length r) l ∷ pieces (n + length r) (ends_from (n + length r) rs) (pre ++ (r ++ joined_rows rs))) (drop-append_seam pre (r ++ joined_rows rs))
+    ∙ ap (λ l. l ∷ pieces (n + length r) (ends_from (n + length r) rs) (pre ++ (r ++ joined_rows rs))) (take_length r (joined_rows rs))
+    ∙ ap (λ l. r ∷ pieces (n + length r) (ends_from (n + length r) rs) l) (sym (append_assoc pre r (joined_rows rs)))
+    ∙ ap (λ l. r ∷ l) (pieces_from (n + length r) rs (pre ++ r) (length-append pre r ∙ ap (λ k. k + length r) e))
 
-pub cut_joined : (rs : List (List Text)) → cut 0 (ends_from 0 rs) (joined_rows rs) ≡ rs
-cut_joined rs = cut_from 0 rs [] refl
+pub pieces_joined : (rs : List (List Text)) → pieces 0 (ends_from 0 rs) (joined_rows rs) ≡ rs
+pieces_joined rs = pieces_from 0 rs [] refl
 
 joined_push : (rs : List (List Text)) (r : List Text) → joined_rows (rs ++ r ∷ []) ≡ joined_rows rs ++ r
 joined_push rs r = flat_map-append (λ texts. texts) rs (r ∷ []) ∙ ap (λ l. joined_rows rs ++ l) (append-nil r)
@@ -81,20 +82,20 @@ pub length-ends_from : (n : ℕ) (rs : List (List Text)) → length (ends_from n
 length-ends_from n [] = refl
 length-ends_from n (r ∷ rs) = ap suc (length-ends_from (n + length r) rs)
 
-pub length-cut : (n : ℕ) (ends : List ℕ) (texts : List Text) → length (cut n ends texts) ≡ length ends
-length-cut n [] texts = refl
-length-cut n (e ∷ es) texts = ap suc (length-cut e es texts)
+pub length-pieces : {A : Type 0} (n : ℕ) (ends : List ℕ) (texts : List A) → length (pieces n ends texts) ≡ length ends
+length-pieces n [] texts = refl
+length-pieces n (e ∷ es) texts = ap suc (length-pieces e es texts)
 
 -- the part of a row
-pub get_or-cut : (n : ℕ) (ends : List ℕ) (texts : List Text) (row : ℕ) → row < length ends
-    → get_or (cut n ends texts) row [] ≡ take (get_or ends row 0 - get_or (n ∷ ends) row 0) (drop (get_or (n ∷ ends) row 0) texts)
-get_or-cut n [] texts row lt = absurd (omega arith)
-get_or-cut n (e ∷ es) texts zero lt = refl
-get_or-cut n (e ∷ es) texts (suc row) lt = get_or-cut e es texts row (omega arith)
+pub get_or-pieces : {A : Type 0} (n : ℕ) (ends : List ℕ) (texts : List A) (row : ℕ) → row < length ends
+    → get_or (pieces n ends texts) row [] ≡ take (get_or ends row 0 - get_or (n ∷ ends) row 0) (drop (get_or (n ∷ ends) row 0) texts)
+get_or-pieces n [] texts row lt = absurd (omega arith)
+get_or-pieces n (e ∷ es) texts zero lt = refl
+get_or-pieces n (e ∷ es) texts (suc row) lt = get_or-pieces e es texts row (omega arith)
 
 -- a row's part lies within
 ends_reach : (n : ℕ) (ends : List ℕ) (total : ℕ) → AreEnds n ends total → n ≤ total
-ends_reach n [] total is = is
+ends_reach n [] total is = omega (arith, is)
 ends_reach n (e ∷ es) total is = omega (arith, is.0, ends_reach e es total is.1)
 
 pub part_within : (n : ℕ) (ends : List ℕ) (total row : ℕ) → AreEnds n ends total → row < length ends
@@ -143,10 +144,10 @@ module _ (rows : List (Bor (List Text))) (ks : List (Bor Text)) (ds : List Text)
       subst (λ (xs : List Text). Contains xs q) (sym seen_dictionary) (sorted_has (flat_map (λ row. row.now) rows) q (each_joined rows k d lt j e l))
 
   module _ (ends ordinals : List ℕ) (ends_is : ends ≡ ends_from 0 (map (λ row. row.now) rows)) (texts_are : map (text_at ds) ordinals ≡ flat_map (λ row. row.now) rows) where
-    pub laid_rows : cut 0 ends (map (text_at ds) ordinals) ≡ map (λ row. row.now) rows
+    pub laid_rows : pieces 0 ends (map (text_at ds) ordinals) ≡ map (λ row. row.now) rows
     laid_rows =
-        ap (λ es. cut 0 es (map (text_at ds) ordinals)) ends_is ∙ ap (cut 0 (ends_from 0 (map (λ row. row.now) rows))) (texts_are ∙ joined_now rows)
-        ∙ cut_joined (map (λ row. row.now) rows)
+        ap (λ es. pieces 0 es (map (text_at ds) ordinals)) ends_is ∙ ap (pieces 0 (ends_from 0 (map (λ row. row.now) rows))) (texts_are ∙ joined_now rows)
+        ∙ pieces_joined (map (λ row. row.now) rows)
 
     pub IsSets-of : length rows < 2 ^ 32 → All (λ row. IsTextSet row.now) rows → All (λ o. o < length ds) ordinals → IsSets ds ends ordinals
     IsSets-of few sets bound = record {
@@ -159,9 +160,9 @@ module _ (rows : List (Bor (List Text))) (ks : List (Bor Text)) (ds : List Text)
     }
 
 -- the ordinals of a row
-module _ (ds : List Text) (ends ordinals : List ℕ) (v : List (List Text)) (is : IsSets ds ends ordinals) (view : cut 0 ends (map (text_at ds) ordinals) ≡ v) where
+module _ (ds : List Text) (ends ordinals : List ℕ) (v : List (List Text)) (is : IsSets ds ends ordinals) (view : pieces 0 ends (map (text_at ds) ordinals) ≡ v) where
   pub rows_ends : length v ≡ length ends
-  rows_ends = sym (ap length view) ∙ length-cut 0 ends (map (text_at ds) ordinals)
+  rows_ends = sym (ap length view) ∙ length-pieces 0 ends (map (text_at ds) ordinals)
 
   pub row_within : (row : ℕ) → row < length v → (get_or (0 ∷ ends) row 0 ≤ get_or ends row 0) × (get_or ends row 0 ≤ length ordinals)
   row_within row lt = part_within 0 ends (length ordinals) row is.parts (omega (arith, rows_ends))
@@ -175,7 +176,7 @@ module _ (ds : List Text) (ends ordinals : List ℕ) (v : List (List Text)) (is 
       ∙ ap (λ l. map (text_at ds) (take (end - start) (drop start l))) ordinals_are
       ∙ sym (take-map (text_at ds) (end - start) (drop start ordinals)) ∙ ap (take (end - start)) (sym (drop-map (text_at ds) start ordinals))
       ∙ ap (λ k. take (k - start) (drop start (map (text_at ds) ordinals))) to ∙ ap (λ k. take (get_or ends row 0 - k) (drop k (map (text_at ds) ordinals))) at
-      ∙ sym (get_or-cut 0 ends (map (text_at ds) ordinals) row (omega (arith, rows_ends))) ∙ ap (λ (l : List (List Text)). get_or l row []) view
+      ∙ sym (get_or-pieces 0 ends (map (text_at ds) ordinals) row (omega (arith, rows_ends))) ∙ ap (λ (l : List (List Text)). get_or l row []) view
 
   drop_all_of : (P : ℕ → Type 0) (n : ℕ) (xs : List ℕ) → All P xs → All P (drop n xs)
   drop_all_of P zero xs all = all

@@ -3,8 +3,13 @@ pub mod Codes
 pub mod Counts
 pub mod Cuts
 pub mod Fills
+pub mod Laid
 pub mod Members
+pub mod Ordinals
 pub mod Packs
 pub mod Presence
+pub mod Rising
+pub mod RowTests
 pub mod Scans
 pub mod Searches
+pub mod Uses

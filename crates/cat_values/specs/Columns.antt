@@ -3,8 +3,10 @@ use Rattle.std.specs.Prelude.{◌≡◌, ℕ, zero, suc, ◌+◌, ◌-◌, ◌^�
 use Rattle.std.specs.Borrow.{Bor}
 use Rattle.std.specs.HashSet.{HashSet, keys}
 use Rattle.std.specs.List.{list_any}
+use Rattle.std.specs.List.Sorted.{IsStrictlyIncreasing}
 use Rattle.cat_base.specs.Texts.{IsTextSet}
 use Rattle.cat_model.specs.Text.{Text, same_text}
+use Rattle.cat_model.specs.Layout.{pieces, AreEnds}
 use Rattle.cat_model.specs.Query.{open_or, int_le}
 use Rattle.cat_model.specs.Ordinals.{text_at, texts_of, dictionary_of}
 
@@ -62,21 +64,24 @@ abbrev pub ends_from : ℕ → List (List Text) → List ℕ
 ends_from from [] = []
 ends_from from (row ∷ rows) = (from + length row) ∷ ends_from (from + length row) rows
 
--- the texts from `from` to the first end, from there to the next, and so on
-abbrev pub cut : ℕ → List ℕ → List Text → List (List Text)
-cut from [] texts = []
-cut from (e ∷ es) texts = take (e - from) (drop from texts) ∷ cut e es texts
-
--- no end lies below `from` or below an earlier end, nor past the total
-abbrev pub AreEnds : ℕ → List ℕ → ℕ → Type 0
-AreEnds from [] total = from ≤ total
-AreEnds from (e ∷ es) total = (from ≤ e) × AreEnds e es total
-
 -- fewer than 2^32 rows, whose parts of the ordinals stand one behind another, each in byte order; the dictionary has the
 -- rows' labels alone
 pub record IsSets (dictionary : List Text) (ends ordinals : List ℕ) : Type 0 where
   pub few : length ends < 2 ^ 32
   pub parts : AreEnds 0 ends (length ordinals)
   pub within : All (λ o. o < length dictionary) ordinals
-  pub whole : dictionary ≡ dictionary_of (cut 0 ends (map (text_at dictionary) ordinals))
-  pub sets : All IsTextSet (cut 0 ends (map (text_at dictionary) ordinals))
+  pub whole : dictionary ≡ dictionary_of (pieces 0 ends (map (text_at dictionary) ordinals))
+  pub sets : All IsTextSet (pieces 0 ends (map (text_at dictionary) ordinals))
+
+-- no more texts than codes, each code of no text or of one of `len`, and each of these texts has a code
+pub record AreCodes (len : ℕ) (codes : List ℕ) : Type 0 where
+  pub few : len ≤ length codes
+  pub within : All (λ code. code ≤ len) codes
+  pub used : (ordinal : ℕ) → ordinal < len → Contains codes (ordinal + 1)
+
+-- no more texts than ordinals, each ordinal of one of `len` texts, each of these texts has one, and those of each row rise
+pub record AreOrdinals (len : ℕ) (ends ordinals : List ℕ) : Type 0 where
+  pub few : len ≤ length ordinals
+  pub within : All (λ o. o < len) ordinals
+  pub used : (ordinal : ℕ) → ordinal < len → Contains ordinals ordinal
+  pub rise : All IsStrictlyIncreasing (pieces 0 ends ordinals)

@@ -1,9 +1,10 @@
 //! A dictionary: the texts of a field in byte order, each found by its ordinal, and each ordinal by its text.
-ghost use Rattle.std.specs.Prelude.{◌≡◌, ℕ, ◌<◌, length};
+ghost use Rattle.std.specs.Prelude.{◌≡◌, ℕ, ◌<◌, ◌↔◌, length, IfOk, IfErr, IsTrue};
 ghost use Rattle.cat_base.specs.Texts.{sorted_set, IsTextSet};
+ghost use Rattle.cat_base.specs.declared.refusal.Refusal.TheVariants.{Damaged};
 ghost use Rattle.cat_model.specs.Ordinals.{text_at, IsOrdinal};
 
-use cat_base::{Text, TextSet};
+use cat_base::{Refusal, Text, TextSet};
 use std::marker::Model;
 
 /// Texts in byte order, each once. The ordinal of a text is its place, from 0 on: Lucene's `SortedDocValues`, without the
@@ -26,6 +27,13 @@ impl Model for Dictionary {
     ghost invariant = { λ d. IsTextSet d.texts };
 }
 
+/// Whether each text is below the next by bytes.
+fn rises(texts: &[Text]) -> bool
+    ensures { IsTrue result ↔ IsTextSet texts.now }
+{
+    texts.is_sorted_by(|text, next| text < next)
+}
+
 impl Dictionary {
     /// The dictionary of the texts, which may come in any order and more than once. It takes no memory.
     pub fn of(texts: Vec<Text>) -> Self
@@ -34,6 +42,18 @@ impl Dictionary {
         Dictionary {
             texts: TextSet::of(texts),
         }
+    }
+
+    /// The dictionary of texts that a file has in byte order, each once. It takes no memory, and its time is linear, as a sort
+    /// of what is sorted is. A refusal is [`Refusal::Damaged`]: some text isn't below the next.
+    pub fn from_sorted(texts: Vec<Text>) -> Result<Self, Refusal>
+        ensures ok { IfOk result (λ d. (d ≡ texts.items) × IsTextSet texts.items) }
+        ensures refusal { IfErr result (λ e. (e ≡ Damaged) × (IsTextSet texts.items → ⊥)) }
+    {
+        if !rises(&texts) {
+            return Err(Refusal::Damaged);
+        }
+        Ok(Dictionary::of(texts))
     }
 
     /// How many texts there are (`SortedDocValues.getValueCount`).

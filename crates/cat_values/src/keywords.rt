@@ -1,13 +1,16 @@
 //! A column of keywords: a dictionary, and the place in it of each row's keyword.
-ghost use Rattle.std.specs.Prelude.{◌≡◌, ℕ, ◌+◌, ◌^◌, ◌<◌, ◌≤◌, length, map, option_map, None, IfOk, IfErr, IfSome, All, slice_index_or};
+ghost use Rattle.std.specs.Prelude.{◌≡◌, ◌≢◌, ◌↔◌, ◌==◌, ◌⊎◌, ℕ, ◌+◌, ◌^◌, ◌<◌, ◌≤◌, List, length, map, Option, option_map, None, IfOk, IfErr, OnOk, IfSome, All, IsTrue, slice_index_or};
 ghost use Rattle.std.specs.List.{list_any, flat_map};
-ghost use Rattle.cat_base.specs.declared.refusal.Refusal.TheVariants.{Memory};
+ghost use Rattle.cat_base.specs.declared.refusal.Refusal.TheVariants.{Damaged, Memory};
 ghost use Rattle.cat_model.specs.Text.{Text, same_text};
+ghost use Rattle.cat_model.specs.Layout.{code_in, keywords_of};
 ghost use Rattle.cat_model.specs.Ordinals.{dictionary_of, text_at, texts_of};
-ghost use Rattle.cat_values.specs.Columns.{has_label, HasLabel, label_at, texts_seen};
+ghost use Rattle.cat_model.specs.RowSets.{has_row};
+ghost use Rattle.cat_values.specs.Columns.{has_label, HasLabel, label_at, texts_seen, AreCodes};
 
 use crate::dictionary::Dictionary;
 use crate::labels::{add_label, dictionary_from};
+use crate::row_set::RowSet;
 use cat_base::{Refusal, Text};
 use std::alloc::Global;
 use std::collections::HashSet;
@@ -83,6 +86,47 @@ fn codes_of(
     Ok(codes)
 }
 
+/// Whether each code is of no keyword or of one of `len`.
+fn codes_are_within(len: usize, codes: &[u32]) -> bool
+    ensures { IsTrue result ↔ All (λ code. code ≤ len) codes.now }
+{
+    codes.iter().all(|code| *code as usize <= len)
+}
+
+/// The ordinals below `len` that some code is of, out of codes that are of no others.
+fn ordinals_used(alloc: Global, len: usize, codes: &[u32]) -> Result<RowSet, Refusal>
+    requires few { len < 2 ^ 32 }
+    requires within { All (λ code. code ≤ len) codes.now }
+    ensures long { IfOk result (λ s. length s ≡ len) }
+    ensures used { IfOk result (λ s. (ordinal : ℕ) → ordinal < len → has_row s ordinal ≡ list_any (λ code. code == ordinal + 1) codes.now) }
+    ensures refusal { IfErr result (λ e. e ≡ Memory) }
+{
+    let mut used = RowSet::none(alloc, len)?;
+    for code in codes {
+        if *code != 0 {
+            used.insert(*code as usize - 1);
+        }
+    }
+    Ok(used)
+}
+
+/// Refuses codes that no column with `len` keywords has: with [`Refusal::Damaged`] where one is past the last keyword, or a
+/// keyword has none.
+fn check_codes(alloc: Global, len: usize, codes: &[u32]) -> Result<(), Refusal>
+    requires few { length codes.now < 2 ^ 32 }
+    ensures ok { OnOk result (AreCodes len codes.now) }
+    ensures damaged { IfErr result (λ e. e ≡ Damaged → AreCodes len codes.now → ⊥) }
+    ensures refusal { IfErr result (λ e. (e ≡ Damaged) ⊎ (e ≡ Memory)) }
+{
+    if len > codes.len() || !codes_are_within(len, codes) {
+        return Err(Refusal::Damaged);
+    }
+    if ordinals_used(alloc, len, codes)?.count() < len {
+        return Err(Refusal::Damaged);
+    }
+    Ok(())
+}
+
 impl KeywordColumn {
     /// The column of the rows' keywords, as Lucene's `SortedDocValuesWriter` makes it: each distinct keyword is copied
     /// once, and they are sorted once. A refusal is [`Refusal::Memory`].
@@ -93,6 +137,24 @@ impl KeywordColumn {
     {
         let dictionary = dictionary_from(alloc, &keywords_in(alloc, values)?)?;
         let codes = codes_of(alloc, &dictionary, values)?;
+        Ok(KeywordColumn { dictionary, codes })
+    }
+
+    /// The column that a file has as a dictionary and the code of each row's keyword, which is 0 for none, else the ordinal
+    /// plus 1. Both are taken over, and nothing is sorted. A refusal is [`Refusal::Memory`], or [`Refusal::Damaged`] where no
+    /// column is laid out so: the dictionary doesn't rise by bytes, a code is past it, or no row has one of its keywords.
+    pub fn from_codes(
+        alloc: Global,
+        dictionary: Vec<Text>,
+        codes: Vec<u32>,
+    ) -> Result<Self, Refusal>
+        requires few { length codes.items < 2 ^ 32 }
+        ensures ok { IfOk result (λ c. (keywords_of c ≡ dictionary.items) × (map (code_in (keywords_of c)) c ≡ codes.items)) }
+        ensures damaged { IfErr result (λ e. e ≡ Damaged → (values : List (Option Text)) → keywords_of values ≡ dictionary.items → map (code_in (keywords_of values)) values ≢ codes.items) }
+        ensures refusal { IfErr result (λ e. (e ≡ Damaged) ⊎ (e ≡ Memory)) }
+    {
+        let dictionary = Dictionary::from_sorted(dictionary)?;
+        check_codes(alloc, dictionary.len(), &codes)?;
         Ok(KeywordColumn { dictionary, codes })
     }
 
@@ -109,6 +171,13 @@ impl KeywordColumn {
         ensures { result.now ≡ dictionary_of (map texts_of self.now) }
     {
         &self.dictionary
+    }
+
+    /// The code of each row's keyword, as a file has it: 0 for a row without a keyword, else its ordinal plus 1.
+    pub fn codes(&self) -> &[u32]
+        ensures { result.now ≡ map (code_in (keywords_of self.now)) self.now }
+    {
+        &self.codes
     }
 
     /// The ordinal of the row's keyword, if it has one (`SortedDocValues.ordValue`).

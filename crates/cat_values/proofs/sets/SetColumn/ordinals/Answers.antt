@@ -1,5 +1,6 @@
 use Rattle.std.proofs.Common.{◌≤◌, ap, length, arith, rules}
 use Rattle.cat_values.proofs.Cuts.{rows_ends, row_texts, row_bound, row_start, row_end}
+use Rattle.cat_values.proofs.Ordinals.{ordinals_laid}
 use Rattle.cat_values.proofs.sets.SetColumn.ordinals.Goals as goal
 
 pub start_of-requires : goal.start_of-requires
@@ -36,3 +37,9 @@ returns-clause-value c = row_texts _ _ _ c.args.self.now c.self.invariant c.self
 
 pub returns-clause-bound : goal.returns-clause-bound
 returns-clause-bound c = row_bound _ _ _ c.args.self.now c.self.invariant c.self.view_is c.deref.result.now c.start_of.result c.index.result.now c.deref.ensures.value
+
+pub returns-clause-laid : goal.returns-clause-laid
+returns-clause-laid c =
+    ordinals_laid c.args.self.now _ _
+    (row_texts _ _ _ c.args.self.now c.self.invariant c.self.view_is c.args.row c.deref-2.result.now c.deref.result.now c.start_of.result c.index.result.now c.requires c.deref-2.ensures.value c.deref.ensures.value c.start_of.ensures c.index.ensures)
+    (row_bound _ _ _ c.args.self.now c.self.invariant c.self.view_is c.deref.result.now c.start_of.result c.index.result.now c.deref.ensures.value)
