@@ -108,3 +108,24 @@ fn open_ends_bound_nothing(rt: HostRuntime) -> Result<(), Fail> {
     );
     Ok(())
 }
+
+/// Terms of the words with their postings; each word ends where `ends` says.
+fn read(
+    alloc: Global,
+    len: usize,
+    words: &[&str],
+    ends: &[u32],
+    rows: &[u32],
+) -> Result<Result<Terms, Refusal>, Fail>
+    requires few { len < 2 ^ 32 }
+    requires paired { length ends.now ≡ length words.now }
+    requires parts { AreEnds 0 ends.now (length rows.now) }
+{
+    let mut texts = Vec::new(alloc);
+    for word in words {
+        texts.push(Text::from_str(alloc, word)?)?;
+    }
+    let ends = Vec::from_slice(alloc, ends)?;
+    let rows = Vec::from_slice(alloc, rows)?;
+    Ok(Terms::from_postings(len, texts, ends, rows))
+}
