@@ -17,7 +17,7 @@ IsTextSet-texts_of None ts e = subst IsTextSet (sym e) tt
 IsTextSet-texts_of (Some t) ts e = subst IsTextSet (sym e) (tt, tt)
 
 -- what agrees at each element of a list
-map_where : {X Y : Type 0} (P : X → Type 0) (f g : X → Y) → ((x : X) → P x → f x ≡ g x) → (xs : List X) → All P xs → map f xs ≡ map g xs
+pub map_where : {X Y : Type 0} (P : X → Type 0) (f g : X → Y) → ((x : X) → P x → f x ≡ g x) → (xs : List X) → All P xs → map f xs ≡ map g xs
 map_where P f g same [] all = refl
 map_where P f g same (x ∷ xs) all = λ i. same x (all 0 x (omega arith)) i ∷ map_where P f g same xs (λ k d lt. all (suc k) d (omega arith)) i
 

@@ -1,5 +1,10 @@
+pub mod Assembled
 pub mod Columns
 pub mod Ends
 pub mod Filled
+pub mod Formed
+pub mod Layouts
 pub mod Made
 pub mod Ordered
+pub mod Placed
+pub mod Worded

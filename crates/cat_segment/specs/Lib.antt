@@ -1,5 +1,6 @@
 pub mod Contents
 pub mod Fields
 pub mod Index
+pub mod Laid
 pub mod Rows
 pub mod Sources

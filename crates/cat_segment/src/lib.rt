@@ -9,6 +9,8 @@ mod live;
 mod segment;
 mod sources;
 
+mod trial;
+
 pub use column::{Column, Keywords, Labels};
 pub use live::Live;
 pub use segment::{Row, Segment};
