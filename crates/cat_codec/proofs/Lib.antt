@@ -1,0 +1,5 @@
+pub mod Forms
+pub mod Loop
+pub mod Numbers
+pub mod Pieces
+pub mod Readers

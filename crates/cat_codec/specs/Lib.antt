@@ -1,0 +1,3 @@
+pub mod Layouts
+pub mod Parts
+pub mod Reading

@@ -1,0 +1,153 @@
+//! The columns of a segment, read.
+ghost use Rattle.std.specs.Prelude.{◌≡◌, ℕ, ◌^◌, ◌<◌, length, map, IfOk, IfErr, All};
+ghost use Rattle.cat_base.specs.declared.refusal.Refusal.TheVariants.{Memory};
+ghost use Rattle.cat_model.specs.Layout.{AreEnds, pieces, posted};
+ghost use Rattle.cat_schema.specs.Kinds.{kind_meant};
+ghost use Rattle.cat_codec.specs.Reading.{Gives, many_at};
+ghost use Rattle.cat_codec.specs.Layouts.{list_at, posted_at, cell_at, column_at, columns_at};
+ghost use Rattle.cat_codec.specs.Parts.{column_in, IsColumnParts};
+
+use crate::cursor::{take_u8, take_u32, take_u64};
+use crate::lists::{read_keywords, read_labels, read_list, read_numbers, read_word};
+use crate::parts::ColumnParts;
+use cat_base::{Cursor, Refusal, Text};
+use cat_schema::{Field, Kind};
+use std::alloc::Global;
+
+// The words of a column, where the rows of each end, and the rows.
+#[derive(Drop)]
+struct Postings {
+    words: Vec<Text>,
+    ends: Vec<u32>,
+    rows: Vec<u32>,
+}
+
+// The ordinals of rows, and where those of each row end.
+#[derive(Drop)]
+struct RowOrdinals {
+    ends: Vec<u32>,
+    ordinals: Vec<u32>,
+}
+
+#[tactic(auto, unfolding(crate::specs::Layouts::cell_at))]
+fn read_cell(cursor: &mut Cursor<'_>) -> Result<Option<i64>, Refusal>
+    ensures { Gives (λ z. (z, cursor.new)) result (cell_at cursor.old) }
+{
+    match take_u8(cursor)? {
+        0 => Ok(None),
+        1 => {
+            let bits = take_u64(cursor)?;
+            Ok(Some(bits.cast_signed()))
+        }
+        _ => Err(Refusal::Damaged),
+    }
+}
+
+fn read_cells(
+    alloc: Global,
+    count: u32,
+    cursor: &mut Cursor<'_>,
+) -> Result<Vec<Option<i64>>, Refusal>
+    ensures { Gives (λ v. (v.items, cursor.new)) result (many_at cell_at count cursor.old) }
+{
+    let mut out = Vec::new(alloc);
+    for _ in 0..count {
+        let one = read_cell(cursor)?;
+        out.push(one)?;
+    }
+    Ok(out)
+}
+
+// Where the list ends, in 32 bits.
+fn end_of(list: &[u32]) -> Result<u32, Refusal>
+    ensures ok { IfOk result (λ n. n ≡ length list.now) }
+    ensures refusal { IfErr result (λ e. e ≡ Memory) }
+{
+    u32::try_from(list.len()).map_err(|_| Refusal::Memory)
+}
+
+fn read_postings(alloc: Global, count: u32, cursor: &mut Cursor<'_>) -> Result<Postings, Refusal>
+    ensures gives { Gives (λ p. (posted p.words.items (pieces 0 p.ends.items p.rows.items), cursor.new)) result (many_at posted_at count cursor.old) }
+    ensures even { IfOk result (λ p. length p.ends.items ≡ length p.words.items) }
+    ensures ends { IfOk result (λ p. AreEnds 0 p.ends.items (length p.rows.items)) }
+    ensures few { IfOk result (λ p. length p.rows.items < 2 ^ 32) }
+{
+    let mut words = Vec::new(alloc);
+    let mut ends = Vec::new(alloc);
+    let mut rows = Vec::new(alloc);
+    for _ in 0..count {
+        let word = read_word(alloc, cursor)?;
+        read_list(cursor, &mut rows)?;
+        let end = end_of(&rows)?;
+        words.push(word)?;
+        ends.push(end)?;
+    }
+    Ok(Postings { words, ends, rows })
+}
+
+fn read_ordinals(alloc: Global, count: u32, cursor: &mut Cursor<'_>) -> Result<RowOrdinals, Refusal>
+    ensures gives { Gives (λ o. (pieces 0 o.ends.items o.ordinals.items, cursor.new)) result (many_at list_at count cursor.old) }
+    ensures ends { IfOk result (λ o. AreEnds 0 o.ends.items (length o.ordinals.items)) }
+    ensures few { IfOk result (λ o. length o.ordinals.items < 2 ^ 32) }
+{
+    let mut ends = Vec::new(alloc);
+    let mut ordinals = Vec::new(alloc);
+    for _ in 0..count {
+        read_list(cursor, &mut ordinals)?;
+        let end = end_of(&ordinals)?;
+        ends.push(end)?;
+    }
+    Ok(RowOrdinals { ends, ordinals })
+}
+
+#[tactic(auto, unfolding(crate::specs::Layouts::column_at, crate::specs::Reading::both_at))]
+fn read_column(
+    alloc: Global,
+    kind: Kind,
+    rows: u32,
+    cursor: &mut Cursor<'_>,
+) -> Result<ColumnParts, Refusal>
+    ensures gives { Gives (λ c. (column_in c, cursor.new)) result (column_at (kind_meant kind) rows cursor.old) }
+    ensures formed { IfOk result IsColumnParts }
+{
+    match kind {
+        Kind::Text => {
+            let count = take_u32(cursor)?;
+            let postings = read_postings(alloc, count, cursor)?;
+            Ok(ColumnParts::Text(postings.words, postings.ends, postings.rows))
+        }
+        Kind::Keyword => {
+            let count = take_u32(cursor)?;
+            let dictionary = read_keywords(alloc, count, cursor)?;
+            let codes = read_numbers(alloc, rows, cursor)?;
+            Ok(ColumnParts::Keyword(dictionary, codes))
+        }
+        Kind::Number => {
+            let numbers = read_cells(alloc, rows, cursor)?;
+            Ok(ColumnParts::Number(numbers))
+        }
+        Kind::Facet => {
+            let count = take_u32(cursor)?;
+            let dictionary = read_labels(alloc, count, cursor)?;
+            let ordinals = read_ordinals(alloc, rows, cursor)?;
+            Ok(ColumnParts::Facet(dictionary, ordinals.ends, ordinals.ordinals))
+        }
+    }
+}
+
+pub(crate) fn read_columns(
+    alloc: Global,
+    fields: &[Field],
+    rows: u32,
+    cursor: &mut Cursor<'_>,
+) -> Result<Vec<ColumnParts>, Refusal>
+    ensures gives { Gives (λ v. (map column_in v.items, cursor.new)) result (columns_at rows fields.now cursor.old) }
+    ensures formed { IfOk result (λ v. All IsColumnParts v.items) }
+{
+    let mut out = Vec::new(alloc);
+    for field in fields {
+        let one = read_column(alloc, field.kind(), rows, cursor)?;
+        out.push(one)?;
+    }
+    Ok(out)
+}
