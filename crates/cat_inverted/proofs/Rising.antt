@@ -1,5 +1,5 @@
 -- Lists that rise: how they are tested, and that postings are rows that rise.
-use Rattle.std.proofs.Common.{◌≡◌, ℕ, zero, suc, ◌+◌, ◌<◌, ◌≤◌, List, [], ◌∷◌, length, get_or, ◌-◌, Some, Bool, true, false, ◌||◌, IsTrue, inl, inr, refl, sym, ap, ◌∙◌, arith, Ordering, Less, Equal, Greater, nat_cmp, subst}
+use Rattle.std.proofs.Common.{◌≡◌, ℕ, ◌+◌, ◌<◌, ◌≤◌, List, [], ◌∷◌, length, get_or, ◌-◌, Some, Bool, true, false, IsTrue, inl, inr, refl, sym, ap, ◌∙◌, arith, Ordering, Less, Equal, Greater, nat_cmp, subst}
 use Rattle.std.proofs.lemmas.Bool.{true≢false, cases_lt}
 use Rattle.std.proofs.lemmas.Bool.Decides.{nat_tests}
 use Rattle.std.proofs.lemmas.List.Elements.{All-from_recursion, All-from_get_or}

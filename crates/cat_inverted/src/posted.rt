@@ -59,7 +59,12 @@ impl Terms {
     /// It checks that the words rise by their bytes, and that each piece has at least one row, rises, and stays below `len`.
     /// Where this fails, [`Refusal::Damaged`]: then no rows have such terms. It takes over the lists and takes no memory, and
     /// it takes time in proportion to the words and the postings.
-    pub fn from_postings(len: usize, words: Vec<Text>, ends: Vec<u32>, rows: Vec<u32>) -> Result<Self, Refusal>
+    pub fn from_postings(
+        len: usize,
+        words: Vec<Text>,
+        ends: Vec<u32>,
+        rows: Vec<u32>,
+    ) -> Result<Self, Refusal>
         requires few { len < 2 ^ 32 }
         requires paired { length ends.items ≡ length words.items }
         requires parts { AreEnds 0 ends.items (length rows.items) }

@@ -1,8 +1,8 @@
-use Rattle.std.proofs.Common.{◌≡◌, ℕ, ◌+◌, ◌-◌, ◌^◌, ◌<◌, ◌≤◌, List, [], length, get_or, take, drop, true, false, refl, sym, ap, ◌∙◌, subst, arith, rules, below_more, IsTrue}
+use Rattle.std.proofs.Common.{◌-◌, ◌^◌, [], length, get_or, take, drop, refl, sym, ap, ◌∙◌, subst, arith, rules, below_more}
 use Rattle.std.proofs.lemmas.Bool.{true≢false}
 use Rattle.std.proofs.lemmas.List.Elements.{All-from_get_or}
 use Rattle.cat_model.specs.Layout.{pieces}
-use Rattle.cat_inverted.specs.Postings.{start_of, IsPart}
+use Rattle.cat_inverted.specs.Postings.{IsPart}
 use Rattle.cat_inverted.proofs.Parts.{piece_at, piece_bounds, length-pieces, total_below}
 use Rattle.cat_inverted.proofs.posted.are_parts.Goals as goal
 
@@ -38,8 +38,7 @@ returns-then-not-is_part-clause-parts c =
     let i = c.loop-end.end-index in
     let ends = c.args.ends.now in
     let rows = c.args.rows.now in
-    let here = piece_at 0 ends rows i c.loop-end-test.true ∙ ap (λ start. take (get_or ends i 0 - start) (drop start rows)) (sym c.loop-end.invariant.start) in
-    (
+    let here = piece_at 0 ends rows i c.loop-end-test.true ∙ ap (λ start. take (get_or ends i 0 - start) (drop start rows)) (sym c.loop-end.invariant.start) in (
       λ e. absurd (true≢false (sym e)),
       λ all. absurd (true≢false (sym (c.is_part.ensures.1 (subst (IsPart c.args.len) here (all i [] (omega (arith, c.loop-end-test.true, length-pieces 0 ends rows))))) ∙ c.if-not-is_part.true)),
     )

@@ -1,13 +1,12 @@
-use Rattle.std.proofs.Common.{◌≡◌, ℕ, ◌<◌, ◌^◌, List, length, true, refl, sym, ap, ◌∙◌, subst}
+use Rattle.std.proofs.Common.{◌≡◌, ℕ, ◌<◌, ◌^◌, List, length, refl, sym, ap, ◌∙◌, subst}
 use Rattle.std.proofs.lemmas.Bool.{true≢false}
 use Rattle.std.proofs.lemmas.List.FromFn.{length-map-range_with_len}
 use Rattle.std.specs.Prelude.{All}
 use Rattle.cat_base.specs.Texts.{IsTextSet}
 use Rattle.cat_model.specs.Text.{Text}
-use Rattle.cat_model.specs.Layout.{pieces, posted, posted_of}
-use Rattle.cat_inverted.specs.Postings.{words_at, words_of_rows, IsPart, IsTerms}
+use Rattle.cat_model.specs.Layout.{pieces, posted}
+use Rattle.cat_inverted.specs.Postings.{words_at, IsPart}
 use Rattle.cat_inverted.proofs.Parts.{length-pieces}
-use Rattle.cat_inverted.proofs.Rows.{words_are}
 use Rattle.cat_inverted.proofs.Told.{rising_words, posted_parts, terms_posted, rising_set}
 use Rattle.cat_inverted.proofs.terms.Terms.from_postings.Goals as goal
 use Rattle.cat_inverted.proofs.terms.Terms.from_postings.Goals.{else-rise-via-then-rise+else-are_parts, else-rise-via-else-rise}
@@ -31,8 +30,7 @@ pub returns-then-are_parts-clause-ok : goal.returns-then-are_parts-clause-ok
 returns-then-are_parts-clause-ok c =
     let parts = pieces 0 c.args.ends.items c.args.rows.items in
     let sorted = subst IsTextSet c.deref.ensures.value (c.rise.ensures.0 c.if-rise.true) in
-    let is = c.of.ensures ∙ rising_set c.args.words.items sorted in
-    (
+    let is = c.of.ensures ∙ rising_set c.args.words.items sorted in (
       length-map-range_with_len (words_at c.of.result parts) 0 c.args.len,
       terms_posted c.args.len c.of.result c.args.ends.items c.args.rows.items (invariant_of-result c) ∙ ap (λ (words : List Text). posted words parts) is,
     )
@@ -40,8 +38,7 @@ returns-then-are_parts-clause-ok c =
 pub returns-else-rise-clause-refusal : goal.returns-else-rise-clause-refusal
 returns-else-rise-clause-refusal c =
     let parts = pieces 0 c.args.ends.items c.args.rows.items in
-    let long : length parts ≡ length c.args.words.items = length-pieces 0 c.args.ends.items c.args.rows.items ∙ c.requires.paired in
-    (
+    let long : length parts ≡ length c.args.words.items = length-pieces 0 c.args.ends.items c.args.rows.items ∙ c.requires.paired in (
       refl,
       λ texts same sets e. elim c.else-rise.branch [
         | else-rise-via-then-rise+else-are_parts w ↦
