@@ -22,7 +22,7 @@ use Rattle.cat_segment.specs.Laid.{AreContents, laid_out}
 
 -- ---- dictionaries
 
-abbrev joined : List (List Text) → List Text
+abbrev pub joined : List (List Text) → List Text
 joined rows = flat_map (λ texts. texts) rows
 
 all_joined : (P : Text → Type 0) (rows : List (List Text)) → All (All P) rows → All P (joined rows)
@@ -88,6 +88,9 @@ labels_formed c (IsContent.labels ls rising) formed = formed.1
 labels_few : (c : Content) → IsContent Kind.facet c → IsFormed c → length (labels_in (Some c)) ≤ 64
 labels_few c (IsContent.labels ls rising) formed = formed.0
 
+pub label_counts : (contents : List Content) → All (IsContent Kind.facet) contents → All IsFormed contents → All (λ row. length row ≤ 64) (map labels_in (seen contents))
+label_counts contents kinds formed = all_read (λ row. length row ≤ 64) labels_in Kind.facet labels_few contents kinds formed
+
 texts_formed : (k : Option Text) → IfSome k IsKeyword → All IsKeyword (texts_of k)
 texts_formed None formed = All-nil IsKeyword
 texts_formed (Some t) formed = All-cons IsKeyword t [] formed (All-nil IsKeyword)
@@ -135,7 +138,7 @@ laid_labels : (rows : ℕ) (contents : List Content) → AreContents Kind.facet 
 laid_labels rows contents are few =
     let lss : List (List Text) = map labels_in (seen contents) in
     let long : length lss ≡ rows = length-read labels_in contents ∙ are.long in
-    let short : All (λ row. length row ≤ 64) lss = all_read (λ row. length row ≤ 64) labels_in Kind.facet labels_few contents are.kinds are.formed in
+    let short : All (λ row. length row ≤ 64) lss = label_counts contents are.kinds are.formed in
     let most : length (dictionary_of lss) ≤ 16777216 = omega (arith, length-dictionary 64 lss short) in
     (
       omega arith,

@@ -1,4 +1,5 @@
 pub mod Assembled
+pub mod Columned
 pub mod Columns
 pub mod Ends
 pub mod Filled
