@@ -67,6 +67,9 @@ keyword_there : (vs : List (Option Text)) (v : Option Text) → Contains vs v �
 keyword_there vs None h = tt
 keyword_there vs (Some t) h = dictionary_has (map texts_of vs) t (texts_have vs t h)
 
+pub keywords_there : (vs : List (Option Text)) → All (HasLabel (keywords_of vs)) vs
+keywords_there vs k d lt = keyword_there vs (get_or vs k d) (Contains-get_or vs k d lt)
+
 code_within : (ds : List Text) (v : Option Text) → HasLabel ds v → code_in ds v ≤ length ds
 code_within ds None h = omega arith
 code_within ds (Some t) h = omega (arith, ordinal_within ds t h)
@@ -220,7 +223,7 @@ label_used rows o lt =
     let there : Contains (joined_rows rows) (text_at ds o) = dictionary_had rows (text_at ds o) (Contains-get_or ds o [] lt) in
     subst (λ k. Contains (map (ordinal_in ds) (joined_rows rows)) k) (ordinal_back ds o (dictionary_rises rows) lt) (mapped (ordinal_in ds) (joined_rows rows) (text_at ds o) there)
 
-rows_there : (rows : List (List Text)) → All (All (Contains (dictionary_of rows))) rows
+pub rows_there : (rows : List (List Text)) → All (All (Contains (dictionary_of rows))) rows
 rows_there rows k d lt j e l =
     let row : List Text = get_or rows k d in
     dictionary_has rows (get_or row j e) (all_have rows row (get_or row j e) (Contains-get_or rows k d lt) (Contains-get_or row j e l))

@@ -1,4 +1,5 @@
 pub mod Bits
+pub mod Bytes
 pub mod Codes
 pub mod Counts
 pub mod Cuts
@@ -12,4 +13,5 @@ pub mod Rising
 pub mod RowTests
 pub mod Scans
 pub mod Searches
+pub mod Told
 pub mod Uses

@@ -12,10 +12,10 @@ use Rattle.cat_values.specs.Bits.{has_bit, is_set, flags_of, IsBits, rows_from, 
 use Rattle.cat_values.proofs.Bits.{flags-length, flag_at}
 use Rattle.cat_values.proofs.Counts.{range_split}
 
-shifted_bit : (w k i : ℕ) → bit_at (w / 2 ^ k) i ≡ bit_at w (k + i)
+pub shifted_bit : (w k i : ℕ) → bit_at (w / 2 ^ k) i ≡ bit_at w (k + i)
 shifted_bit w k i = ap (λ n. n % 2) (shr-shr w k i)
 
-no_bit : (w k i : ℕ) → w / 2 ^ k ≡ 0 → k ≤ i → has_bit w i ≡ false
+pub no_bit : (w k i : ℕ) → w / 2 ^ k ≡ 0 → k ≤ i → has_bit w i ≡ false
 no_bit w k i none le =
     let at : i ≡ k + (i - k) = omega arith in
     ap (has_bit w) at ∙ ap (λ n. eqb n 1) (sym (shifted_bit w k (i - k)) ∙ ap (λ n. bit_at n (i - k)) none ∙ bit_at-zero (i - k))

@@ -11,6 +11,10 @@ has_bit word i = bit_at word i == 1
 abbrev pub is_set : List ℕ → ℕ → Bool
 is_set words row = has_bit (slice_index words (row / 64)) (row % 64)
 
+-- the bit of the row is 1, in bytes
+abbrev pub has_row_bit : List ℕ → ℕ → Bool
+has_row_bit bytes row = has_bit (slice_index bytes (row / 8)) (row % 8)
+
 -- whether each of the first rows is in the set
 abbrev pub flags_of : ℕ → List ℕ → List Bool
 flags_of len words = map (is_set words) (range_with_len 0 len)

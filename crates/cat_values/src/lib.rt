@@ -4,14 +4,19 @@
 mod dictionary;
 mod keywords;
 mod labels;
+mod laws;
 mod numbers;
+mod packed;
 mod row_set;
 mod scan;
 mod sets;
+#[cfg(test)]
+mod tests;
 mod words;
 
 pub use dictionary::Dictionary;
 pub use keywords::KeywordColumn;
+pub use laws::{columns_are_told_by_their_layouts, sets_are_told_by_their_bytes};
 pub use numbers::NumberColumn;
 pub use row_set::RowSet;
 pub use scan::Rows;

@@ -1,9 +1,10 @@
 //! A set of the rows of one segment.
-ghost use Rattle.std.specs.Prelude.{◌≡◌, ℕ, ◌+◌, ◌*◌, ◌^◌, ◌<◌, ◌≤◌, true, false, length, replicate, slice_set, count_by, IfOk, IfErr, All};
-ghost use Rattle.cat_base.specs.declared.refusal.Refusal.TheVariants.{Memory};
-ghost use Rattle.cat_model.specs.RowSets.{joined, both, either, first_only, has_row, places, with_rows};
+ghost use Rattle.std.specs.Prelude.{◌≡◌, ◌⊎◌, Bool, List, ℕ, ◌+◌, ◌*◌, ◌^◌, ◌<◌, ◌≤◌, true, false, length, replicate, slice_set, count_by, IfOk, IfErr, All};
+ghost use Rattle.cat_base.specs.declared.refusal.Refusal.TheVariants.{Damaged, Memory};
+ghost use Rattle.cat_model.specs.RowSets.{joined, both, either, first_only, has_row, places, with_rows, IsPacked};
 ghost use Rattle.cat_values.specs.Bits.{flags_of, IsBits};
 
+use crate::packed::{bytes_of, is_clear_from, words_of};
 use crate::scan::Rows;
 use crate::words::{
     and_words, clear_row, clear_words, count_words, full_words, has_row, or_words, set_row,
@@ -138,6 +139,31 @@ impl RowSet {
         ensures { result ≡ places self.now }
     {
         Rows::of(&self.words)
+    }
+
+    /// The set as the bytes of a file: row r is bit r % 8, from the lowest, of byte r / 8, and the bits past the last row are 0
+    /// (`Lucene90LiveDocsFormat.writeBits`, which writes longer words). A refusal is [`Refusal::Memory`].
+    pub fn to_bytes(&self) -> Result<Vec<u8>, Refusal>
+        ensures ok { IfOk result (λ b. IsPacked b.items self.now) }
+        ensures refusal { IfErr result (λ e. e ≡ Memory) }
+    {
+        bytes_of(*self.words.allocator(), &self.words, (self.len + 7) / 8)
+    }
+
+    /// The set of rows out of `len` that [`RowSet::to_bytes`] writes as these bytes (`Lucene90LiveDocsFormat.readBits`). A
+    /// refusal is [`Refusal::Memory`], or [`Refusal::Damaged`] where no set is written so: there are more bytes or fewer than
+    /// the rows take, or a bit past the last row is 1.
+    pub fn from_bytes(alloc: Global, len: usize, bytes: &[u8]) -> Result<RowSet, Refusal>
+        requires { len < 2 ^ 32 }
+        ensures ok { IfOk result (λ s. (length s ≡ len) × IsPacked bytes.now s) }
+        ensures damaged { IfErr result (λ e. e ≡ Damaged → (set : List Bool) → length set ≡ len → IsPacked bytes.now set → ⊥) }
+        ensures refusal { IfErr result (λ e. (e ≡ Damaged) ⊎ (e ≡ Memory)) }
+    {
+        if bytes.len() != (len + 7) / 8 || !is_clear_from(bytes, len) {
+            return Err(Refusal::Damaged);
+        }
+        let words = words_of(alloc, bytes)?;
+        Ok(RowSet { len, words })
     }
 
     /// An equal set in memory of its own. A refusal is [`Refusal::Memory`].
