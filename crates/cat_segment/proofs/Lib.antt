@@ -8,4 +8,5 @@ pub mod Layouts
 pub mod Made
 pub mod Ordered
 pub mod Placed
+pub mod Steps
 pub mod Worded

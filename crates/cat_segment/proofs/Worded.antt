@@ -35,9 +35,9 @@ wordless kind c (IsContent.labels ls rising) other = omega arith
 pub words_fit : (kind : Kind) (rows : ℕ) (contents : List Content) → All (IsContent kind) contents → IsLaid rows kind (laid_out kind contents) → length (dictionary_of (words_under contents)) < 2 ^ 32
 words_fit Kind.text rows contents kinds laid =
     omega (arith, laid.0, length-map {B = Posted} (dictionary_of (words_under contents)) (λ w. record { word = w; rows = postings_of w (words_under contents) }))
-words_fit Kind.keyword rows contents kinds laid = no_words contents (λ k d lt. wordless Kind.keyword (get_or contents k d) (kinds k d lt) (cc))
-words_fit Kind.number rows contents kinds laid = no_words contents (λ k d lt. wordless Kind.number (get_or contents k d) (kinds k d lt) (cc))
-words_fit Kind.facet rows contents kinds laid = no_words contents (λ k d lt. wordless Kind.facet (get_or contents k d) (kinds k d lt) (cc))
+words_fit Kind.keyword rows contents kinds laid = no_words contents (λ k d lt. wordless Kind.keyword (get_or contents k d) (kinds k d lt) (λ e. (cc)))
+words_fit Kind.number rows contents kinds laid = no_words contents (λ k d lt. wordless Kind.number (get_or contents k d) (kinds k d lt) (λ e. (cc)))
+words_fit Kind.facet rows contents kinds laid = no_words contents (λ k d lt. wordless Kind.facet (get_or contents k d) (kinds k d lt) (λ e. (cc)))
 
 -- ---- names
 

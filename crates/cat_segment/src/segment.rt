@@ -4,7 +4,7 @@ ghost use Rattle.std.specs.List.{prefix_len, HoldsAt};
 ghost use Rattle.cat_base.specs.declared.refusal.Refusal.TheVariants.{Memory};
 ghost use Rattle.cat_model.specs.Text.{same_text};
 ghost use Rattle.cat_model.specs.Item.{content_of};
-ghost use Rattle.cat_model.specs.View.{row_of, item_in, AreRows};
+ghost use Rattle.cat_model.specs.View.{row_of, item_in, AreRows, IsSegment};
 ghost use Rattle.cat_segment.specs.Contents.{contents_of};
 ghost use Rattle.cat_segment.specs.Fields.{record_of};
 ghost use Rattle.cat_segment.specs.Sources.{source_place};
@@ -69,7 +69,7 @@ impl Segment {
     /// `DocumentsWriterPerThread.flush` makes). The rows are 1 to 262,144, their numbers rise from at least 1, and their
     /// ids differ.
     ///
-    /// A refusal is [`Refusal::Memory`]; it also stands for texts of items that have 2^32 bytes or more together.
+    /// A refusal is [`Refusal::Memory`].
     pub fn of(
         alloc: Global,
         number: SegNo,
@@ -101,6 +101,7 @@ impl Segment {
     pub fn len(&self) -> usize
         ensures same { result ≡ length self.now.rows }
         ensures rows { AreRows self.now.schema self.now.rows }
+        ensures segment { IsSegment self.now }
     {
         self.numbers.len()
     }

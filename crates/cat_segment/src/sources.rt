@@ -1,5 +1,5 @@
 //! Where the texts that the items of a segment came as stand, one after the other.
-ghost use Rattle.std.specs.Prelude.{◌≡◌, ◌≢◌, ◌<◌, ◌≤◌, ◌++◌, ◌∷◌, [], length, take, sum, OnOk, OnErr, IfErr, slice_index};
+ghost use Rattle.std.specs.Prelude.{◌≡◌, ◌+◌, ◌<◌, ◌≤◌, ◌^◌, ◌++◌, ◌∷◌, [], length, take, sum, IfOk, OnOk, OnErr, IfErr, slice_index};
 ghost use Rattle.cat_base.specs.declared.refusal.Refusal.TheVariants.{Memory};
 
 use cat_base::Refusal;
@@ -27,27 +27,25 @@ impl Model for Sources {
 }
 
 impl Sources {
-    /// No text. It takes no memory until the first is added.
-    pub(crate) fn new(alloc: Global) -> Sources
-        ensures { result ≡ [] }
+    /// No text, with memory for as many as this. A refusal is [`Refusal::Memory`].
+    pub(crate) fn with_capacity(alloc: Global, texts: usize) -> Result<Sources, Refusal>
+        ensures ok { IfOk result (λ s. s ≡ []) }
+        ensures refusal { IfErr result (λ e. e ≡ Memory) }
     {
-        Sources {
-            ends: Vec::new(alloc),
-        }
+        Ok(Sources {
+            ends: Vec::with_capacity(alloc, texts)?,
+        })
     }
 
-    /// Adds the text of the next row. A refusal is [`Refusal::Memory`], also where the texts would have 2^32 bytes or more,
-    /// and leaves the texts as they were.
-    pub(crate) fn push(&mut self, len: usize) -> Result<(), Refusal>
+    /// Adds the text of the next row. A refusal is [`Refusal::Memory`], and leaves the texts as they were.
+    pub(crate) fn push(&mut self, len: u32) -> Result<(), Refusal>
+        requires { sum self.old + len < 2 ^ 32 }
         ensures ok { OnOk result (self.new ≡ self.old ++ len ∷ []) }
         ensures err { OnErr result (self.new ≡ self.old) }
         ensures refusal { IfErr result (λ e. e ≡ Memory) }
     {
-        let start = self.place(self.ends.len()) as usize;
-        if len > u32::MAX as usize - start {
-            return Err(Refusal::Memory);
-        }
-        self.ends.push((start + len) as u32)?;
+        let start = self.place(self.ends.len());
+        self.ends.push(start + len)?;
         Ok(())
     }
 
