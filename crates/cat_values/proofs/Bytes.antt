@@ -1,5 +1,5 @@
 -- The bits of bytes, and of the words that hold them.
-use Rattle.std.proofs.Common.{◌≡◌, ◌≢◌, ◌↔◌, ℕ, zero, suc, ◌+◌, ◌-◌, ◌*◌, ◌/◌, ◌%◌, ◌^◌, ◌<◌, ◌≤◌, Bool, true, false, eqb, List, [], ◌∷◌, ◌++◌, length, get_or, set, refl, sym, ap, ◌∙◌, inl, inr, arith, w64, eq-eqb, IsTrue}
+use Rattle.std.proofs.Common.{◌≡◌, ◌≢◌, ◌↔◌, ℕ, zero, suc, ◌+◌, ◌*◌, ◌/◌, ◌%◌, ◌^◌, ◌<◌, ◌≤◌, Bool, false, eqb, List, [], ◌∷◌, ◌++◌, length, get_or, set, refl, sym, ap, ◌∙◌, inl, inr, arith, w64, eq-eqb, IsTrue}
 use Rattle.std.specs.Prelude.{bit_and, All, Result, Ok, Err, IfOk}
 use Rattle.std.specs.Int.{bit_at, to_le_bytes, from_le_bytes}
 use Rattle.std.proofs.lemmas.Bool.{cases_lt, cases_eq, true≢false}
@@ -63,9 +63,6 @@ row_bit bytes from i =
 pub row_bit_past : (bytes : List ℕ) (row : ℕ) → 8 * length bytes ≤ row → has_row_bit bytes row ≡ false
 row_bit_past bytes row past = ap (λ w. has_bit w (row % 8)) (get_or_past bytes (row / 8) 0 (omega arith)) ∙ has_bit-zero (row % 8)
 
-pub set_past : (words : List ℕ) (row : ℕ) → 64 * length words ≤ row → is_set words row ≡ false
-set_past words row past = ap (λ w. has_bit w (row % 64)) (get_or_past words (row / 64) 0 (omega arith)) ∙ has_bit-zero (row % 64)
-
 -- a byte more
 pub byte_more : (f : ℕ → Bool) (bytes bytes' : List ℕ) (b place : ℕ) → length bytes ≡ place → bytes' ≡ bytes ++ b ∷ [] → ((i : ℕ) → i < 8 → has_bit b i ≡ f (8 * place + i))
     → ((row : ℕ) → row < 8 * place → has_row_bit bytes row ≡ f row) → (row : ℕ) → row < 8 * (place + 1) → has_row_bit bytes' row ≡ f row
@@ -91,13 +88,6 @@ word_more f words words' w k long push bits done row lt =
           ap (λ j. has_bit (get_or (words ++ w ∷ []) j 0) (row % 64)) word ∙ ap (λ v. has_bit v (row % 64)) (get_or-append_seam words w [] 0)
           ∙ bits (row % 64) (omega arith) ∙ ap f at
     ]
-
-pub words_all : (bytes words : List ℕ) (k : ℕ) → length words ≡ k → k ≡ (length bytes + 7) / 8 → ((row : ℕ) → row < 64 * k → is_set words row ≡ has_row_bit bytes row)
-    → (row : ℕ) → is_set words row ≡ has_row_bit bytes row
-words_all bytes words k long all done row = elim (cases_lt row (64 * k)) [
-  | inl within ↦ done row within
-  | inr past ↦ set_past words row (omega arith) ∙ sym (row_bit_past bytes row (omega arith))
-]
 
 -- no bit is set from a row on
 no_one : (b : ℕ) → b < 2 → eqb b 1 ≡ false → b ≡ 0
@@ -153,16 +143,6 @@ module _ (len : ℕ) (words bytes : List ℕ) (few : len < 2 ^ 32) (long : lengt
     length-flags_of len words,
     IsPacked-of len words words bytes (flags_of len words) IsBits-from refl refl long (All-from_get_or (λ b. b < 256) bytes 0 fits) (λ row lt. sym (bits row)),
   )
-
--- what no set is written as
-pub IsPacked-clear : (len : ℕ) (bytes : List ℕ) (set : List Bool) → length set ≡ len → IsPacked bytes set → (r : ℕ) → len ≤ r → has_row_bit bytes r ≡ false
-IsPacked-clear len bytes set long is r past = elim (cases_lt r (8 * length bytes)) [
-  | inl within ↦ is.bits r within ∙ get_or_past set r false (omega arith)
-  | inr beyond ↦ row_bit_past bytes r beyond
-]
-
-pub IsPacked-long : (len : ℕ) (bytes : List ℕ) (set : List Bool) → length set ≡ len → IsPacked bytes set → length bytes ≡ (len + 7) / 8
-IsPacked-long len bytes set long is = is.long ∙ ap (λ n. (n + 7) / 8) long
 
 -- a byte more of an array of eight
 pub put_more : (bytes word : List ℕ) (from place b : ℕ) → length word ≡ 8 → place < 8 → b ≡ get_or bytes (from + place) 0

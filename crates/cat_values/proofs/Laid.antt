@@ -1,8 +1,8 @@
 -- What a file has of a column: which lists a column is laid out as, and the column that they make.
 use Rattle.std.proofs.Common.{◌≡◌, ℕ, zero, suc, ◌+◌, ◌-◌, ◌^◌, ◌<◌, ◌≤◌, List, [], ◌∷◌, ◌++◌, length, get_or, map, take, drop, Option, Some, None, refl, sym, ap, ◌∙◌, arith, subst, inl, inr, Ordering, Less, Equal, Greater, nat_cmp}
 use Rattle.std.proofs.lemmas.Bool.{cases_order}
-use Rattle.std.proofs.lemmas.List.{length-map, get_or-map, get_or_default, take-append-drop, take-map, drop-map, map-append, length-append, drop_all, drop-drop}
-use Rattle.std.proofs.lemmas.List.Elements.{All-map, All-weaker, All-take, All-drop, All-contains, All-contains_itself, Contains-get_or, Contains-append_left, Contains-append_right, Contains-append_cases}
+use Rattle.std.proofs.lemmas.List.{length-map, get_or-map, take-append-drop, take-map, drop-map, map-append, drop_all, drop-drop}
+use Rattle.std.proofs.lemmas.List.Elements.{All-map, All-weaker, All-take, All-drop, All-contains, All-contains_itself, Contains-get_or, Contains-append_left, Contains-append_right}
 use Rattle.std.proofs.lemmas.Map.Keys.{Less-from_sorted, sorted_from_all_adjacent}
 use Rattle.std.specs.Cmp.{tied_itself}
 use Rattle.std.specs.Cmp.Lexicographic.{slice_cmp, nat_list_cmp_total}
@@ -19,7 +19,7 @@ use Rattle.cat_values.specs.Columns.{label_at, HasLabel, IsKeywords, IsSets, Are
 use Rattle.cat_values.proofs.Codes.{length-dictionary_of}
 use Rattle.cat_values.proofs.Cuts.{joined_rows}
 use Rattle.cat_values.proofs.Members.{length-sorted_set}
-use Rattle.cat_values.proofs.Ordinals.{ordinal_back, ordinals_back, codes_back, codes_laid, dictionary_rises, text_back, ordinal_within}
+use Rattle.cat_values.proofs.Ordinals.{ordinal_back, ordinals_back, codes_laid, dictionary_rises, text_back, ordinal_within}
 
 abbrev order : List ℕ → List ℕ → Ordering
 order = slice_cmp nat_cmp

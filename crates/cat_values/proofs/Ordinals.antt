@@ -1,5 +1,5 @@
 -- The ordinals of a dictionary's texts, and the texts of its ordinals.
-use Rattle.std.proofs.Common.{◌≡◌, ℕ, zero, suc, ◌<◌, ◌≤◌, Bool, true, false, not, List, [], ◌∷◌, length, get_or, map, Option, Some, None, refl, sym, ap, ◌∙◌, arith, subst, inl, inr}
+use Rattle.std.proofs.Common.{◌≡◌, ℕ, zero, suc, ◌<◌, ◌≤◌, Bool, true, false, not, List, [], ◌∷◌, length, get_or, map, Option, refl, sym, ap, ◌∙◌, arith, subst, inl, inr}
 use Rattle.std.proofs.lemmas.Bool.{cases_Bool, cases_lt, true≢false}
 use Rattle.std.proofs.lemmas.List.Sums.{prefix_len_is, prefix_len_passes, prefix_len_stops}
 use Rattle.std.proofs.lemmas.Slice.Eq.{bytes_eq-Decides}
@@ -10,7 +10,7 @@ use Rattle.cat_base.proofs.TextSets.{IsTextSet-sorted_set}
 use Rattle.cat_model.specs.Text.{Text, same_text}
 use Rattle.cat_model.specs.Layout.{ordinal_in, code_in, keywords_of}
 use Rattle.cat_model.specs.Ordinals.{text_at, texts_of, dictionary_of}
-use Rattle.cat_values.specs.Columns.{label_at, HasLabel, IsKeywords}
+use Rattle.cat_values.specs.Columns.{label_at, IsKeywords}
 use Rattle.cat_values.proofs.Searches.{one_place}
 
 itself : (t : Text) → same_text t t ≡ true
@@ -56,7 +56,7 @@ ordinal_within ds t h = elim (cases_lt (ordinal_in ds t) (length ds)) [
       )
 ]
 
-pub not_false : (b : Bool) → not b ≡ false → b ≡ true
+not_false : (b : Bool) → not b ≡ false → b ≡ true
 not_false true e = refl
 not_false false e = absurd (true≢false e)
 

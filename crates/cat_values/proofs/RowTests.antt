@@ -1,6 +1,5 @@
 -- What is tested of the rows' ordinals.
-use Rattle.std.proofs.Common.{◌≡◌, ℕ, zero, suc, ◌+◌, ◌-◌, ◌<◌, ◌≤◌, ◌↔◌, ◌||◌, Bool, true, false, eqb, List, [], ◌∷◌, length, get_or, map, take, drop, replicate, count_by, refl, sym, ap, ◌∙◌, arith, eq-eqb, IsTrue, subst}
-use Rattle.std.proofs.lemmas.Bool.{true≢false}
+use Rattle.std.proofs.Common.{◌≡◌, ℕ, suc, ◌+◌, ◌-◌, ◌<◌, ◌≤◌, ◌↔◌, ◌||◌, Bool, false, eqb, List, [], ◌∷◌, length, get_or, take, drop, replicate, count_by, sym, ap, ◌∙◌, arith, eq-eqb, IsTrue, subst}
 use Rattle.std.proofs.lemmas.Bool.Decides.{Decides-eqb}
 use Rattle.std.proofs.lemmas.List.{get_or-replicate, length-replicate, take_all}
 use Rattle.std.proofs.lemmas.List.Elements.{All-more, All-same}

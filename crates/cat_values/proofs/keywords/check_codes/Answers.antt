@@ -1,4 +1,4 @@
-use Rattle.std.proofs.Common.{◌≡◌, ℕ, ◌+◌, ◌<◌, arith, rules, count_by}
+use Rattle.std.proofs.Common.{◌+◌, arith, rules}
 use Rattle.cat_values.proofs.Uses.{used_counted, counted_used}
 use Rattle.cat_values.proofs.keywords.check_codes.Goals as goal
 

@@ -1,4 +1,4 @@
-use Rattle.std.proofs.Common.{rules, arith}
+use Rattle.std.proofs.Common.{rules}
 use Rattle.cat_values.specs.Bits.{has_row_bit}
 use Rattle.cat_values.proofs.Bytes.{word_more}
 use Rattle.cat_values.proofs.packed.words_of.Goals as goal

@@ -1,4 +1,4 @@
-use Rattle.std.proofs.Common.{◌≤◌, length, rules, refl, sym, ◌∙◌}
+use Rattle.std.proofs.Common.{rules, refl, sym, ◌∙◌}
 use Rattle.std.proofs.lemmas.Bool.{true≢false}
 use Rattle.cat_values.proofs.RowTests.{row_bounds, row_more, row_of, rows_all, next_start}
 use Rattle.cat_values.proofs.sets.rows_rise.Goals as goal

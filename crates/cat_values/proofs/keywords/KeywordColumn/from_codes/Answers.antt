@@ -1,4 +1,3 @@
-use Rattle.std.proofs.Common.{ap, ◌∙◌}
 use Rattle.std.proofs.lemmas.Result.{err_from_is_err_and}
 use Rattle.cat_values.proofs.Laid.{keywords_rise, AreCodes-laid, IsKeywords-laid, keywords_read}
 use Rattle.cat_values.proofs.keywords.KeywordColumn.from_codes.Goals as goal

@@ -1,4 +1,4 @@
-use Rattle.std.proofs.Common.{rules, arith}
+use Rattle.std.proofs.Common.{arith}
 use Rattle.cat_values.proofs.Bytes.{IsPacked-from}
 use Rattle.cat_values.proofs.row_set.RowSet.from_bytes.Goals as goal
 
