@@ -22,7 +22,7 @@ use Rattle.cat_inverted.proofs.Searches.{one_place}
 
 -- ---- a word more of a row
 
-joined_if : (xs ys zs : List ℕ) (row : ℕ) (a b : Bool) → (a ≡ true → b ≡ false) → zs ≡ ys ++ (if b then row ∷ [] else []) → ys ≡ xs ++ (if a then row ∷ [] else []) → zs ≡ xs ++ (if a || b then row ∷ [] else [])
+pub joined_if : (xs ys zs : List ℕ) (row : ℕ) (a b : Bool) → (a ≡ true → b ≡ false) → zs ≡ ys ++ (if b then row ∷ [] else []) → ys ≡ xs ++ (if a then row ∷ [] else []) → zs ≡ xs ++ (if a || b then row ∷ [] else [])
 joined_if xs ys zs row true true apart z y = absurd (let no' : true ≡ false = apart refl in cc)
 joined_if xs ys zs row true false apart z y = z ∙ append-nil ys ∙ y
 joined_if xs ys zs row false b apart z y = z ∙ ap (λ (l : List ℕ). l ++ (if b then row ∷ [] else [])) (y ∙ append-nil xs)
@@ -73,7 +73,7 @@ filter_more f (y ∷ xs) x =
       | false ↦ filter_more f xs x
     ]
 
-places_more : (set : List Bool) (b : Bool) (n : ℕ) → length set ≡ n → places (set ++ b ∷ []) ≡ places set ++ (if b then n ∷ [] else [])
+pub places_more : (set : List Bool) (b : Bool) (n : ℕ) → length set ≡ n → places (set ++ b ∷ []) ≡ places set ++ (if b then n ∷ [] else [])
 places_more set b n e =
     ap (λ k. filter (has_row (set ++ b ∷ [])) (range_with_len 0 k)) (let long : length (set ++ b ∷ []) ≡ n + 1 = omega (arith, length-append set (b ∷ [])) in long)
     ∙ ap (filter (has_row (set ++ b ∷ []))) (range_more 0 n)
@@ -174,12 +174,12 @@ ends_push n (k ∷ ls) l =
     ap (λ (r : List ℕ). (n + length k) ∷ r) (ends_push (n + length k) ls l)
     ∙ ap (λ j. (n + length k) ∷ (ends_from (n + length k) ls ++ j ∷ [])) (let both : length (k ++ joined ls) ≡ length k + length (joined ls) = length-append k (joined ls) in omega arith)
 
-module _ (f : Text → List ℕ) (words : List Text) (i : ℕ) (word : Text) (lt : i < length words) (at : word ≡ get_or words i word) where
+module _ {X : Type 0} (f : X → List ℕ) (words : List X) (i : ℕ) (word : X) (lt : i < length words) (at : word ≡ get_or words i word) where
   abbrev laid_so_far : List (List ℕ)
   laid_so_far = map f (take i words)
 
   lists_more : map f (take (i + 1) words) ≡ laid_so_far ++ f word ∷ []
-  lists_more = map_more f words i word lt ∙ ap (λ (w : Text). laid_so_far ++ f w ∷ []) (sym at)
+  lists_more = map_more f words i word lt ∙ ap (λ (w : X). laid_so_far ++ f w ∷ []) (sym at)
 
   pub laid_more : (rows more part : List ℕ) → rows ≡ joined laid_so_far → part ≡ f word → more ≡ rows ++ part → more ≡ joined (map f (take (i + 1) words))
   laid_more rows more part r p m = m ∙ ap (λ (l : List ℕ). l ++ part) r ∙ ap (λ (l : List ℕ). joined laid_so_far ++ l) p ∙ sym (joined_push laid_so_far (f word)) ∙ ap joined (sym lists_more)

@@ -1,4 +1,5 @@
 pub mod Builds
+pub mod ByOrdinal
 pub mod Gathering
 pub mod Parts
 pub mod Intervals

@@ -50,7 +50,7 @@ module _ (texts : List (List Text)) where
   as_many : length (postings_in texts) ≡ length (dictionary_of texts)
   as_many = length-map (dictionary_of texts) (λ w. postings_of w texts)
 
-  members : (q : Text) → list_any (same_text q) (dictionary_of texts) ≡ list_any (list_any (same_text q)) texts
+  pub members : (q : Text) → list_any (same_text q) (dictionary_of texts) ≡ list_any (list_any (same_text q)) texts
   members q =
       same_has q (dictionary_of texts) ∙ has-sorted_set q (flat_map (λ l. l) texts) ∙ sym (same_has q (flat_map (λ l. l) texts))
       ∙ ap (λ (ts : List (List Text)). list_any (same_text q) (flat_map (λ l. l) ts)) (sym (map-id texts))

@@ -1,11 +1,13 @@
 -- What was gathered: the rows of each word, and where they end once they are laid one word behind another.
-use Rattle.std.specs.Prelude.{ℕ, ◌+◌, List, [], ◌∷◌, length, bytes_eq}
+use Rattle.std.specs.Prelude.{ℕ, ◌+◌, List, [], ◌∷◌, length, map, slice_index_or, bytes_eq}
 use Rattle.std.specs.declared.option.Option.{Option}
 use Rattle.std.specs.Option.{option_map_or}
 use Rattle.std.specs.HashMap.{HashMap, get_by}
 use Rattle.std.specs.Borrow.{Bor}
 use Rattle.std.specs.declared.vec.Vec.{Vec}
+use Rattle.cat_model.specs.RowSets.{places}
 use Rattle.cat_model.specs.Text.{Text}
+use Rattle.cat_inverted.specs.Postings.{is_among}
 
 -- what the map has under the word
 abbrev pub found : {X S : Type 0} → Text → HashMap (Bor (List ℕ)) X S → Option X
@@ -19,3 +21,15 @@ listed word m = option_map_or (λ rows. rows.items) (found word m) []
 abbrev pub ends_from : ℕ → List (List ℕ) → List ℕ
 ends_from from [] = []
 ends_from from (list ∷ lists) = (from + length list) ∷ ends_from (from + length list) lists
+
+-- the lists of a list of lists
+abbrev pub lists_in : {Z S : Type 0} → Vec (Vec ℕ Z) S → List (List ℕ)
+lists_in v = map (λ list. list.items) v.items
+
+-- the list at the place
+abbrev pub list_at : {Z S : Type 0} → Vec (Vec ℕ Z) S → ℕ → List ℕ
+list_at v place = slice_index_or (lists_in v) place []
+
+-- the rows whose ordinals have this one
+abbrev pub rows_at : ℕ → List (List ℕ) → List ℕ
+rows_at ordinal rows = places (map (λ ordinals. is_among ordinals ordinal) rows)

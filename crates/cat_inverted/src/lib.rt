@@ -2,6 +2,7 @@
 #![tactic(auto)]
 
 mod build;
+mod ordinals;
 mod posted;
 mod ranges;
 mod terms;
