@@ -1,19 +1,21 @@
 -- The forms of texts, as tests.
-use Rattle.std.proofs.Common.{◌≡◌, ℕ, ◌+◌, ◌^◌, ◌<◌, ◌≤◌, Bool, true, false, ◌&&◌, not, ltb, leb, eqb, List, [], ◌∷◌, length, Option, Some, None, cond, refl, sym, ap, ◌∙◌, arith, map}
+use Rattle.std.proofs.Common.{◌≡◌, ℕ, ◌^◌, ◌<◌, ◌≤◌, Bool, true, false, ◌&&◌, not, ltb, leb, eqb, List, [], ◌∷◌, length, Some, None, cond, refl, sym, ap, ◌∙◌, arith, map}
 use Rattle.std.specs.Prelude.{◌↔◌, IsTrue, ◌||◌, codes}
-use Rattle.std.specs.Str.{is_utf8, IsUtf8, IsAscii}
+use Rattle.std.specs.Str.{is_utf8, IsUtf8}
 use Rattle.std.specs.List.{list_all, All, AllByRecursion}
 use Rattle.std.specs.Char.{is_ascii_graphic, is_ascii_digit, is_ascii_lowercase}
-use Rattle.std.proofs.lemmas.Bool.{ltb-true, lt-ltb, leb-true, le-leb}
-use Rattle.std.proofs.lemmas.Str.{IsUtf8-from_is_utf8, is_utf8-from_IsUtf8, IsUtf8-from_ascii}
+use Rattle.std.specs.Int.{is_in_range}
+use Rattle.std.proofs.lemmas.Bool.{ltb-true, lt-ltb, leb-true, le-leb, eqb-true}
+use Rattle.std.proofs.lemmas.List.Elements.{All-cons, All-nil}
+use Rattle.std.proofs.lemmas.Str.{is_utf8-from_IsUtf8, IsUtf8-from_ascii}
 use Rattle.std.proofs.lemmas.Str.Ascii.{IsAscii-from_all}
 use Rattle.std.specs.declared.cmp.Ordering.{Ordering}
 use Rattle.std.specs.declared.cmp.Ordering.TheVariants.{Less, Equal, Greater}
 use Rattle.std.specs.Ordering.{is_lt}
 use Rattle.std.specs.List.Sorted.{IsStrictlySortedBy}
 use Rattle.cat_base.specs.Texts.{IsTextSet}
-use Rattle.cat_model.specs.Text.{Text, text_cmp}
-use Rattle.cat_model.specs.Item.{Field, Schema, IsSchema, is_id, is_name, has_name_form}
+use Rattle.cat_model.specs.Text.{Text, text_cmp, same_text}
+use Rattle.cat_model.specs.Item.{Field, Schema, IsSchema, is_id, is_name, is_name_byte, has_name_form}
 use Rattle.cat_model.specs.Forms.{IsWord, IsKeyword, IsLabel, is_low_byte, is_plain_byte}
 use Rattle.cat_codec.specs.Reading.{u32_at, where_at, both_at, many_at}
 use Rattle.cat_codec.specs.Layouts.{is_word, is_keyword, is_label, is_rising, is_schema, field_at, fields_at}
@@ -118,3 +120,49 @@ fields_not_count old e = rw e refl
 pub fields_not_each : (old mid : List ℕ) (n : ℕ) → u32_at old ≡ Some (n, mid) → many_at field_at n mid ≡ None → fields_at old ≡ None
 unfolding fields_at where_at both_at
 fields_not_each old mid n e f = rw (e, f) refl
+
+-- ---- texts of ASCII are UTF-8
+
+low_bytes : (p : ℕ → Bool) → ((b : ℕ) → p b ≡ true → b < 128) → (t : List ℕ) → list_all p t ≡ true → All (λ b. b < 128) t
+low_bytes p low [] e = All-nil (λ b. b < 128)
+low_bytes p low (b ∷ bs) e = let h = both_true (p b) (list_all p bs) e in All-cons (λ b. b < 128) b bs (low b h.0) (low_bytes p low bs h.1)
+
+low_is_utf8 : (t : List ℕ) → All (λ b. b < 128) t → is_utf8 t ≡ true
+low_is_utf8 t low = is_utf8-from_IsUtf8 t (IsUtf8-from_ascii t (IsAscii-from_all t low))
+
+in_range : (low high b : ℕ) → high < 128 → is_in_range low high b ≡ true → b < 128
+in_range low high b small e = let h = both_true (leb low b) (leb b high) e in let le : b ≤ high = leb-true _ _ h.1 in omega arith
+
+graphic_low : (b : ℕ) → is_ascii_graphic b ≡ true → b < 128
+graphic_low b e = in_range 33 126 b (omega arith) e
+
+either : (a b : Bool) {P : Type 0} → (a || b) ≡ true → (a ≡ true → P) → (b ≡ true → P) → P
+either true b e f g = f refl
+either false b e f g = g e
+
+name_byte_low : (b : ℕ) → is_name_byte b ≡ true → b < 128
+name_byte_low b e =
+    either (is_ascii_lowercase b || is_ascii_digit b) (eqb b 95) e
+    (λ k. either (is_ascii_lowercase b) (is_ascii_digit b) k (in_range 97 122 b (omega arith)) (in_range 48 57 b (omega arith)))
+    (λ s. let is : b ≡ 95 = eqb-true b 95 s in omega arith)
+
+pub id_is_utf8 : (t : Text) → is_id t ≡ true → is_utf8 t ≡ true
+id_is_utf8 t e =
+    let h = both_true (ltb 0 (length t) && leb (length t) 64) (list_all is_ascii_graphic t) e in
+    low_is_utf8 t (low_bytes is_ascii_graphic graphic_low t h.1)
+
+pub id_is_short : (t : Text) → is_id t ≡ true → length t < 2 ^ 32
+id_is_short t e =
+    let h = both_true (ltb 0 (length t) && leb (length t) 64) (list_all is_ascii_graphic t) e in
+    let k = both_true (ltb 0 (length t)) (leb (length t) 64) h.0 in
+    let le : length t ≤ 64 = leb-true _ _ k.1 in
+    omega arith
+
+pub name_is_text : (t : Text) → is_name t ≡ true → (length t < 2 ^ 32) × (is_utf8 t ≡ true)
+name_is_text [] e = absurd cc
+name_is_text (b ∷ bs) e =
+    let h = both_true (has_name_form (b ∷ bs)) (not (same_text (b ∷ bs) (codes "id"))) e in
+    let k = both_true (is_ascii_lowercase b && list_all is_name_byte bs) (leb (length bs) 31) h.0 in
+    let m = both_true (is_ascii_lowercase b) (list_all is_name_byte bs) k.0 in
+    let le : length bs ≤ 31 = leb-true _ _ k.1 in
+    (omega arith, low_is_utf8 (b ∷ bs) (All-cons (λ c. c < 128) b bs (in_range 97 122 b (omega arith) m.0) (low_bytes is_name_byte name_byte_low bs m.1)))

@@ -1,5 +1,7 @@
 pub mod Forms
+pub mod Layouts
 pub mod Loop
 pub mod Numbers
 pub mod Pieces
 pub mod Readers
+pub mod Segments

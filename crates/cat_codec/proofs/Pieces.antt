@@ -1,11 +1,10 @@
 -- Lists that lie one after the other in one list, with the end of each.
-use Rattle.std.proofs.Common.{◌≡◌, ℕ, suc, ◌+◌, ◌-◌, ◌<◌, ◌≤◌, ◌^◌, List, [], ◌∷◌, ◌++◌, length, take, drop, Option, Some, None, refl, sym, ap, ◌∙◌, arith, length-append, length-drop}
+use Rattle.std.proofs.Common.{◌≡◌, ℕ, suc, ◌+◌, ◌-◌, ◌≤◌, List, [], ◌∷◌, ◌++◌, length, take, drop, Option, Some, None, refl, sym, ap, ◌∙◌, arith, length-append, length-drop}
 use Rattle.std.proofs.lemmas.List.{take-append-le, drop-append-le}
 use Rattle.std.proofs.Math.Seq.{drop-append_seam, take-length}
 use Rattle.cat_model.specs.Text.{Text}
 use Rattle.cat_model.specs.Layout.{Posted, Head, AreEnds, pieces, posted}
-use Rattle.cat_base.specs.declared.refusal.Refusal.{Refusal}
-use Rattle.cat_codec.specs.Reading.{Reader, ◌>>=◌, Fails, u32_at, many_at, both_at, text_at, with_front}
+use Rattle.cat_codec.specs.Reading.{◌>>=◌, u32_at, many_at, both_at, text_at, with_front}
 use Rattle.cat_codec.specs.Layouts.{is_word, list_at, posted_at}
 use Rattle.cat_codec.specs.Parts.{heads_in}
 use Rattle.cat_codec.proofs.Numbers.{some_is}

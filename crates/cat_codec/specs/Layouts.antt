@@ -1,6 +1,6 @@
 -- How the parts of a segment's file are read. These are what the private functions are held to; the public contracts speak
 -- of what is spelled alone.
-use Rattle.std.specs.Prelude.{◌≡◌, ℕ, ◌^◌, ℤ, List, [], ◌∷◌, length, map, Option, Some, None, Bool, true, nat_lt, nat_le, ◌==◌, ◌&&◌, if◌then◌else◌}
+use Rattle.std.specs.Prelude.{ℕ, ◌^◌, ℤ, List, [], ◌∷◌, length, map, Option, Some, None, Bool, true, nat_lt, nat_le, ◌==◌, ◌&&◌, if◌then◌else◌}
 use Rattle.std.specs.List.{list_all}
 use Rattle.std.specs.Int.{w64, cast_signed}
 use Rattle.std.specs.Ordering.{is_lt}

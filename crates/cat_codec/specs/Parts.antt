@@ -1,5 +1,6 @@
 -- The parts of a segment's file as they lie in memory, and the layout that they are.
-use Rattle.std.specs.Prelude.{◌≡◌, ℕ, ◌^◌, ◌<◌, ℤ, List, [], ◌∷◌, length, map, All}
+use Rattle.std.specs.Prelude.{◌≡◌, ℕ, ◌^◌, ◌<◌, List, [], ◌∷◌, length, map, All, codes, ◌++◌}
+use Rattle.cat_base.specs.Bytes.{spelled_u32, spelled_u64}
 use Rattle.cat_model.specs.Text.{Text}
 use Rattle.cat_model.specs.Layout.{Laid, Head, Layout, AreEnds, pieces, posted}
 use Rattle.cat_codec.specs.declared.parts.ColumnParts.{ColumnParts}
@@ -31,3 +32,7 @@ pub record IsParts (p : SegmentParts) : Type 0 where
   pub ids : length p.ids.items ≡ length p.numbers.items
   pub lengths : length p.lengths.items ≡ length p.numbers.items
   pub columns : All IsColumnParts p.columns.items
+
+-- how the file begins: the magic word, the version 1, the number and the number of rows
+abbrev pub spelled_start : ℕ → ℕ → List ℕ
+spelled_start number rows = codes "CSEG" ++ (1 ∷ (spelled_u64 number ++ spelled_u32 rows))

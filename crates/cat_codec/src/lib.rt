@@ -7,7 +7,14 @@ mod fields;
 mod lists;
 mod parts;
 mod reading;
+mod writing;
 
 pub use fields::read_fields;
 pub use parts::{ColumnParts, SegmentParts};
 pub use reading::{layouts_are_told_by_their_bytes, read_segment};
+pub use writing::{
+    put_fields, put_head, put_list, put_number, put_numbers, put_posted, put_start, put_texts,
+};
+
+#[cfg(test)]
+mod tests;

@@ -8,5 +8,5 @@ use Rattle.cat_codec.proofs.columns.read_columns.Given as goal
 abbrev pub invariant-loop-field : goal.invariant-loop-field
 invariant-loop-field l = record {
   read : with_front (map column_in l.out.items) (columns_at l.rows (drop l.field-index l.fields) l.cursor) ≡ columns_at l.rows l.fields l.fn.cursor;
-  formed : All IsColumnParts l.out.items
+  formed : All IsColumnParts l.out.items;
 }

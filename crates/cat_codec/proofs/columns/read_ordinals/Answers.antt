@@ -1,4 +1,4 @@
-use Rattle.std.proofs.Common.{◌≡◌, ◌≤◌, ◌++◌, ◌∷◌, [], length, ap, ◌∙◌, arith, length-append}
+use Rattle.std.proofs.Common.{◌≡◌, ◌≤◌, length, ap, ◌∙◌, arith, length-append}
 use Rattle.std.proofs.lemmas.Result.{err_from_is_err_and}
 use Rattle.cat_model.specs.Layout.{pieces}
 use Rattle.cat_codec.specs.Reading.{many_at, with_front}
@@ -11,7 +11,7 @@ pub returns-in_err-read_list-clause-gives : goal.returns-in_err-read_list-clause
 returns-in_err-read_list-clause-gives c =
     let p = err_from_is_err_and c.from_residual.result c.from_residual.ensures.1 in
     rw (p.1, p.2) (ends list_at c.in_err-read_list.field-0.0 (pieces 0 c.loop.ends.items c.loop.ordinals.items) c.args.count c.loop.counter c.loop.cursor (many_at list_at c.args.count c.args.cursor.now) c.loop-test.true
-        (fails_none c.in_err-read_list.field-0.0 (with_front c.loop.ordinals.items (list_at c.loop.cursor)) (list_at c.loop.cursor) c.in_err-read_list.ensures (front_none c.loop.ordinals.items (list_at c.loop.cursor))) c.loop.invariant.read)
+    (fails_none c.in_err-read_list.field-0.0 (with_front c.loop.ordinals.items (list_at c.loop.cursor)) (list_at c.loop.cursor) c.in_err-read_list.ensures (front_none c.loop.ordinals.items (list_at c.loop.cursor))) c.loop.invariant.read)
 
 pub loop-preserved : goal.loop-preserved
 loop-preserved c =
@@ -23,7 +23,7 @@ loop-preserved c =
       read = rw (c.in_ok-push.ensures.items, pushed)
           (goes_on list_at (pieces 0 c.loop.ends.items c.loop.ordinals.items) c.args.count c.loop.counter c.loop.cursor b.more c.read_list.new.cursor (many_at list_at c.args.count c.args.cursor.now) c.loop-test.true b.read c.loop.invariant.read);
       ends = rw (c.in_ok-push.ensures.items, ← counted) (ends_push 0 c.loop.ends.items (length c.loop.ordinals.items) c.in_ok-end.end grown c.loop.invariant.ends);
-      few = omega (arith, counted)
+      few = omega (arith, counted);
     }
 
 pub returns-clause-gives : goal.returns-clause-gives

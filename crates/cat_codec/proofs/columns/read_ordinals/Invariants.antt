@@ -8,5 +8,5 @@ abbrev pub invariant-loop : goal.invariant-loop
 invariant-loop l = record {
   read : with_front (pieces 0 l.ends.items l.ordinals.items) (many_at list_at (l.count - l.counter) l.cursor) ≡ many_at list_at l.count l.fn.cursor;
   ends : AreEnds 0 l.ends.items (length l.ordinals.items);
-  few : length l.ordinals.items < 2 ^ 32
+  few : length l.ordinals.items < 2 ^ 32;
 }

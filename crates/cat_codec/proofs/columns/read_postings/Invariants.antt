@@ -9,5 +9,5 @@ invariant-loop l = record {
   read : with_front (posted l.words.items (pieces 0 l.ends.items l.rows.items)) (many_at posted_at (l.count - l.counter) l.cursor) ≡ many_at posted_at l.count l.fn.cursor;
   even : length l.ends.items ≡ length l.words.items;
   ends : AreEnds 0 l.ends.items (length l.rows.items);
-  few : length l.rows.items < 2 ^ 32
+  few : length l.rows.items < 2 ^ 32;
 }

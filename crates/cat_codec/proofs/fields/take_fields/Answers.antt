@@ -21,7 +21,7 @@ pub returns-in_err-schema : goal.returns-in_err-schema
 returns-in_err-schema c =
     let p = err_from_is_err_and c.from_residual-in_err-schema.result c.from_residual-in_err-schema.ensures.1 in
     rw (p.1, p.2) (fails_of c.in_err-schema.field-0.0 (fields_at c.args.cursor.now) c.in_err-schema.ensures.refusal
-        (λ e. fields_not_schema c.args.cursor.now c.take_u32.new.cursor c.read_each_field.new.cursor c.in_ok-count.count c.in_ok-fields.fields.items c.in_ok-count.ensures c.in_ok-fields.ensures (c.in_err-schema.ensures.damaged e)))
+    (λ e. fields_not_schema c.args.cursor.now c.take_u32.new.cursor c.read_each_field.new.cursor c.in_ok-count.count c.in_ok-fields.fields.items c.in_ok-count.ensures c.in_ok-fields.ensures (c.in_err-schema.ensures.damaged e)))
 
 pub returns : goal.returns
 returns c = rw c.in_ok-schema.ensures.ok (fields_here c.args.cursor.now c.take_u32.new.cursor c.read_each_field.new.cursor c.in_ok-count.count c.in_ok-fields.fields.items c.in_ok-count.ensures c.in_ok-fields.ensures (subst (λ s. IsSchema s) c.in_ok-schema.ensures.ok c.in_ok-schema.ensures.valid))

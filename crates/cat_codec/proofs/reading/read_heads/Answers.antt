@@ -1,4 +1,4 @@
-use Rattle.std.proofs.Common.{◌≡◌, ◌++◌, ◌∷◌, [], length, arith, length-append}
+use Rattle.std.proofs.Common.{◌∷◌, [], arith, length-append}
 use Rattle.std.proofs.lemmas.Result.{err_from_is_err_and}
 use Rattle.cat_codec.specs.Reading.{many_at}
 use Rattle.cat_codec.specs.Layouts.{head_at}
@@ -19,7 +19,7 @@ loop-preserved c =
       read = rw (c.in_ok-push.ensures.items, c.in_ok-push-2.ensures.items, c.in_ok-push-3.ensures.items, pushed)
           (goes_on head_at (heads_in c.loop.numbers.items c.loop.ids.items c.loop.lengths.items) c.args.count c.loop.counter c.loop.cursor (record { number = c.in_ok-one.one.number; id = c.in_ok-one.one.id; length = c.in_ok-one.one.length }) c.read_head.new.cursor (many_at head_at c.args.count c.args.cursor.now) c.loop-test.true c.in_ok-one.ensures c.loop.invariant.read);
       ids = rw (c.in_ok-push.ensures.items, c.in_ok-push-2.ensures.items) (omega (arith, length-append c.loop.ids.items (c.in_ok-one.one.id ∷ []), length-append c.loop.numbers.items (c.in_ok-one.one.number ∷ []), c.loop.invariant.ids));
-      lengths = rw (c.in_ok-push.ensures.items, c.in_ok-push-3.ensures.items) (omega (arith, length-append c.loop.lengths.items (c.in_ok-one.one.length ∷ []), length-append c.loop.numbers.items (c.in_ok-one.one.number ∷ []), c.loop.invariant.lengths))
+      lengths = rw (c.in_ok-push.ensures.items, c.in_ok-push-3.ensures.items) (omega (arith, length-append c.loop.lengths.items (c.in_ok-one.one.length ∷ []), length-append c.loop.numbers.items (c.in_ok-one.one.number ∷ []), c.loop.invariant.lengths));
     }
 
 pub returns-clause-gives : goal.returns-clause-gives

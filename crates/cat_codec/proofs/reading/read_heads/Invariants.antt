@@ -8,5 +8,5 @@ abbrev pub invariant-loop : goal.invariant-loop
 invariant-loop l = record {
   read : with_front (heads_in l.numbers.items l.ids.items l.lengths.items) (many_at head_at (l.count - l.counter) l.cursor) ≡ many_at head_at l.count l.fn.cursor;
   ids : length l.ids.items ≡ length l.numbers.items;
-  lengths : length l.lengths.items ≡ length l.numbers.items
+  lengths : length l.lengths.items ≡ length l.numbers.items;
 }

@@ -1,0 +1,14 @@
+use Rattle.std.proofs.lemmas.Result.{err_from_is_err_and}
+use Rattle.cat_codec.specs.Layouts.{fields_at}
+use Rattle.cat_codec.proofs.Layouts.{reads_fields, never}
+use Rattle.cat_model.specs.Item.{IsSchema}
+use Rattle.cat_model.specs.Layout.{spelled_fields}
+use Rattle.cat_codec.proofs.fields.read_fields.Goals as goal
+
+pub returns-clause-ok : goal.returns-clause-ok
+returns-clause-ok c = let s = reads_fields.sound c.args.cursor.now (c.in_ok-schema.schema, c.take_fields.new.cursor) c.in_ok-schema.ensures in (s.1, s.0)
+
+pub returns-in_err-schema-clause-damaged : goal.returns-in_err-schema-clause-damaged
+returns-in_err-schema-clause-damaged c =
+    let p = err_from_is_err_and c.from_residual.result c.from_residual.ensures.1 in
+    rw (p.1, p.2) (never fields_at spelled_fields IsSchema reads_fields c.args.cursor.now c.in_err-schema.field-0.0 c.in_err-schema.ensures)
