@@ -12,15 +12,15 @@ use Rattle.cat_model.specs.Layout.{Laid, Layout, Head, column_of, head_of, layou
 use Rattle.cat_model.specs.Ordinals.{dictionary_of}
 use Rattle.cat_model.specs.View.{Row, Segment, AreRows, IsFormedRow, IsSegment, words_of_field}
 use Rattle.cat_segment.proofs.Columns.{length-rows_of, map-rows_of}
-use Rattle.cat_segment.proofs.Layouts.{column_placed}
+use Rattle.cat_segment.proofs.Layouts.{column_placed, contents_are}
 use Rattle.cat_segment.proofs.Made.{row_here}
 use Rattle.cat_segment.proofs.Placed.{no_part}
 use Rattle.cat_segment.proofs.Worded.{words_few, words_fit, words_under}
 use Rattle.cat_segment.specs.Contents.{contents_of}
-use Rattle.cat_segment.specs.Laid.{content_under, contents_under, AreContents, laid_out, AreRead}
+use Rattle.cat_segment.specs.Laid.{content_under, contents_under, AreContents, laid_out, laid_in, kind_of, AreRead}
 use Rattle.cat_segment.specs.Rows.{content_at, parts_at, Held, row_at, rows_of, IsHeld}
 use Rattle.cat_segment.specs.declared.column.Column.{Column}
-use Rattle.cat_segment.specs.declared.column.Column.TheVariants.{Number}
+use Rattle.cat_segment.specs.declared.column.Column.TheVariants.{Text as TextColumn, Keyword, Number, Facet}
 
 -- the column of each field is of the field's kind
 pub laid_at : (rows : ℕ) (fs : Schema) (ls : List Laid) (place : ℕ) (f : Field) (l : Laid) → AreLaid rows fs ls → place < length fs → IsLaid rows (get_or fs place f).kind (get_or ls place l)
@@ -47,6 +47,47 @@ parts_are : (fs : Schema) (cs : List Column) (row : ℕ) → length cs ≡ lengt
 parts_are [] cs row many each = tt
 parts_are (f ∷ fs) [] row many each = absurd (omega arith)
 parts_are (f ∷ fs) (c ∷ cs) row many each = ((refl, each 0 f c (omega arith)), parts_are fs cs row (omega arith) (λ place g d lt. each (suc place) g d (omega arith)))
+
+-- what rows have in a field is what its column says
+pub contents_held : (held : Held) (place : ℕ) (c : Column) → length held.columns ≡ length held.schema → place < length held.schema → length (contents_of (get_or held.columns place c)) ≡ length held.numbers
+    → contents_under place (rows_of held) ≡ contents_of (get_or held.columns place c)
+contents_held held place c many lt long =
+    let f : Field = record { name = []; kind = Kind.text } in
+    map-rows_of (content_under place) held
+    ∙ sym (fill_by_all (λ row. content_under place (row_at held row)) (contents_of (get_or held.columns place c)) (length held.numbers) (Content.words []) long
+    (λ row within. sym (ap (λ p. p.content) (part_at held.schema held.columns row place f c no_part many lt))))
+
+-- a column that has rows tells the kind of its field
+kind_told : (c : Column) (kind : Kind) (d : Content) → 0 < length (contents_of c) → IsContent kind (get_or (contents_of c) 0 d) → kind ≡ kind_of c
+kind_told (TextColumn []) kind d some is = absurd (omega arith)
+kind_told (TextColumn (x ∷ xs)) kind d some (IsContent.words ws rising) = refl
+kind_told (Keyword []) kind d some is = absurd (omega arith)
+kind_told (Keyword (x ∷ xs)) kind d some (IsContent.keyword k) = refl
+kind_told (Number []) kind d some is = absurd (omega arith)
+kind_told (Number (x ∷ xs)) kind d some (IsContent.number z) = refl
+kind_told (Facet []) kind d some is = absurd (omega arith)
+kind_told (Facet (x ∷ xs)) kind d some (IsContent.labels ls rising) = refl
+
+-- the columns of a segment lie in its file as the columns of its fields
+pub columns_held : (held : Held) → IsHeld held → map laid_in held.columns ≡ map (column_of (rows_of held)) held.schema
+columns_held held is =
+    same_lists (map laid_in held.columns) (map (column_of (rows_of held)) held.schema) (length-map held.columns laid_in ∙ is.columns ∙ sym (length-map held.schema (column_of (rows_of held))))
+    (λ k l lt.
+    let f : Field = record { name = []; kind = Kind.text } in
+    let here : k < length held.columns = omega (arith, length-map held.columns laid_in) in
+    let within : k < length held.schema = omega (arith, is.columns) in
+    let c : Column = get_or held.columns k (Number []) in
+    let long : length (contents_of c) ≡ length held.numbers = is.contents k (Number []) here in
+    let s : Segment = record { number = 0; schema = held.schema; rows = rows_of held } in
+    let segment : IsSegment s = record { schema = is.schema; rows = is.rows; formed = is.formed; words = is.words } in
+    let contents : contents_under k (rows_of held) ≡ contents_of c = contents_held held k (Number []) is.columns within long in
+    let some : 0 < length (contents_of c) = omega (arith, long, is.rows.some, length-rows_of held) in
+    let are : AreContents (get_or held.schema k f).kind (length (rows_of held)) (contents_of c) = subst (AreContents (get_or held.schema k f).kind (length (rows_of held))) contents (contents_are s segment k f within) in
+    let kind : (get_or held.schema k f).kind ≡ kind_of c = kind_told c (get_or held.schema k f).kind (Content.words []) some (are.kinds 0 (Content.words []) some) in
+    get_or-map laid_in held.columns k (Number []) l here
+    ∙ ap (λ j. laid_out j (contents_of c)) (sym kind) ∙ ap (laid_out (get_or held.schema k f).kind) (sym contents)
+    ∙ sym (column_placed s segment k f within)
+    ∙ sym (get_or-map (column_of (rows_of held)) held.schema k f l within))
 
 module _ (number : ℕ) (schema : Schema) (numbers : List ℕ) (ids : List Text) (lengths : List ℕ) (columns : List Column) (heads : List Head) (laid : List Laid) where
   abbrev pub held : Held
@@ -85,12 +126,8 @@ module _ (number : ℕ) (schema : Schema) (numbers : List ℕ) (ids : List Text)
     content_formed : (place row : ℕ) (f : Field) (c : Column) → place < length schema → row < length numbers → IsFormed (content_at (get_or columns place c) row)
     content_formed place row f c lt within = let are = is.read.contents place f c lt in are.formed row (Content.words []) (omega (arith, are.long))
 
-    -- what the rows have in a field is what its column says
-    pub contents_read : (place : ℕ) (c : Column) → place < length schema → contents_under place (rows_of held) ≡ contents_of (get_or columns place c)
-    contents_read place c lt =
-        map-rows_of (content_under place) held
-        ∙ sym (fill_by_all (λ row. content_under place (row_at held row)) (contents_of (get_or columns place c)) (length numbers) (Content.words []) (is.read.contents place no_field c lt).long
-        (λ row within. sym (ap (λ p. p.content) (part_at schema columns row place no_field c no_part is.read.many lt))))
+    contents_read : (place : ℕ) (c : Column) → place < length schema → contents_under place (rows_of held) ≡ contents_of (get_or columns place c)
+    contents_read place c lt = contents_held held place c is.read.many lt (is.read.contents place no_field c lt).long
 
     head_of_row : (k : ℕ) → k < length numbers → IsHead (record { number = get_or numbers k 0; id = get_or ids k []; length = get_or lengths k 0 })
     head_of_row k lt =

@@ -4,9 +4,11 @@ ghost use Rattle.std.specs.List.{prefix_len, HoldsAt};
 ghost use Rattle.cat_base.specs.declared.refusal.Refusal.TheVariants.{Memory};
 ghost use Rattle.cat_model.specs.Text.{same_text};
 ghost use Rattle.cat_model.specs.Item.{content_of};
+ghost use Rattle.cat_model.specs.Layout.{column_of};
 ghost use Rattle.cat_model.specs.View.{row_of, item_in, AreRows, IsSegment};
 ghost use Rattle.cat_segment.specs.Contents.{contents_of};
 ghost use Rattle.cat_segment.specs.Fields.{record_of};
+ghost use Rattle.cat_segment.specs.Laid.{laid_in};
 ghost use Rattle.cat_segment.specs.Sources.{source_place};
 
 use crate::building::{columns_of, ids, sources, write_numbers};
@@ -152,6 +154,13 @@ impl Segment {
         ensures { result ≡ source_place self.now.rows row }
     {
         u64::from(self.sources.place(row))
+    }
+
+    /// The columns, in the fields' order.
+    pub(crate) fn columns(&self) -> &[Column]
+        ensures { map laid_in result.now ≡ map (column_of self.now.rows) self.now.schema }
+    {
+        &self.columns
     }
 
     /// The column of the field of the name, if there is such a field.
