@@ -1,12 +1,16 @@
 -- The content of a field is told by its texts, its keyword or its number, since it is of the field's kind.
-use Rattle.std.proofs.Common.{◌≡◌, ◌<◌, ℕ, zero, suc, get_or, List, [], ◌∷◌, length, map, Option, Some, None, refl, sym, ap, ◌∙◌, subst, arith}
-use Rattle.std.specs.Prelude.{ℤ, option_map, slice_get, All, MatchOption}
+use Rattle.std.proofs.Common.{◌≡◌, ◌≢◌, ◌<◌, ◌≤◌, ◌^◌, ℕ, zero, suc, get_or, List, [], ◌∷◌, length, map, Option, Some, None, refl, sym, ap, ◌∙◌, subst, arith}
+use Rattle.std.specs.Prelude.{ℤ, option_map, slice_get, All, IfSome, MatchOption}
 use Rattle.std.specs.List.Sorted.{IsStrictlySortedBy}
+use Rattle.std.proofs.lemmas.List.Elements.{All-map}
+use Rattle.std.proofs.lemmas.Option.{slice_get-get_or}
 use Rattle.std.proofs.lemmas.Simd.{map-map}
 use Rattle.cat_base.specs.Texts.{IsTextSet}
 use Rattle.cat_model.specs.Text.{Text}
-use Rattle.cat_model.specs.Item.{Field, Kind, Content, Schema, Part, IsContent, AreParts, keyword_in, number_in}
-use Rattle.cat_model.specs.Ordinals.{texts_of}
+use Rattle.cat_model.specs.Item.{Field, Kind, Content, Schema, Part, IsContent, AreParts, keyword_in, number_in, words_in}
+use Rattle.cat_model.specs.Forms.{IsFormed}
+use Rattle.cat_model.specs.Ordinals.{texts_of, dictionary_of}
+use Rattle.cat_segment.proofs.Formed.{length-dictionary}
 use Rattle.cat_segment.specs.Fields.{content_in, contents_in, IsFilled, texts_in}
 use Rattle.cat_segment.specs.declared.segment.Row as given
 
@@ -17,7 +21,7 @@ IsTextSet-texts_of None ts e = subst IsTextSet (sym e) tt
 IsTextSet-texts_of (Some t) ts e = subst IsTextSet (sym e) (tt, tt)
 
 -- what agrees at each element of a list
-map_where : {X Y : Type 0} (P : X → Type 0) (f g : X → Y) → ((x : X) → P x → f x ≡ g x) → (xs : List X) → All P xs → map f xs ≡ map g xs
+pub map_where : {X Y : Type 0} (P : X → Type 0) (f g : X → Y) → ((x : X) → P x → f x ≡ g x) → (xs : List X) → All P xs → map f xs ≡ map g xs
 map_where P f g same [] all = refl
 map_where P f g same (x ∷ xs) all = λ i. same x (all 0 x (omega arith)) i ∷ map_where P f g same xs (λ k d lt. all (suc k) d (omega arith)) i
 
@@ -77,3 +81,45 @@ filled_at [] ps place f parts lt is = absurd (omega arith)
 filled_at (g ∷ fs) [] place f parts lt is = absurd parts
 filled_at (g ∷ fs) (p ∷ ps) zero f parts lt is = subst (λ h. IsContent h.kind p.content) (sym is) parts.0.1
 filled_at (g ∷ fs) (p ∷ ps) (suc place) f parts lt is = filled_at fs ps place f parts.1 (omega arith) is
+
+-- ---- forms
+
+-- what is in a place has its forms where each part has
+pub formed_in : (ps : List Part) (place : ℕ) → All (λ p. IsFormed p.content) ps → IfSome (option_map (λ p. p.content) (slice_get ps place)) IsFormed
+formed_in [] place formed = tt
+formed_in (p ∷ ps) zero formed = formed 0 p (omega arith)
+formed_in (p ∷ ps) (suc place) formed = formed_in ps place (λ k d lt. formed (suc k) d (omega arith))
+
+-- and each part has where what is in each place has
+pub parts_formed : (ps : List Part) → ((place : ℕ) → place < length ps → IfSome (option_map (λ p. p.content) (slice_get ps place)) IsFormed) → All (λ p. IsFormed p.content) ps
+parts_formed ps each k d lt = subst (λ o. IfSome (option_map (λ p. p.content) o) IsFormed) (slice_get-get_or ps k d lt) (each k lt)
+
+-- the words of a text field are its texts
+pub words_are_texts : (o : Option Content) → IsFilled Kind.text o → words_in o ≡ texts_in o
+words_are_texts None none = absurd none
+words_are_texts (Some c) (IsContent.words ws sorted) = refl
+
+-- another field has no words
+pub no_words : (kind : Kind) → kind ≢ Kind.text → (o : Option Content) → IsFilled kind o → length (words_in o) ≤ 0
+no_words kind other None none = absurd none
+no_words kind other (Some c) (IsContent.words ws sorted) = absurd (other refl)
+no_words kind other (Some c) (IsContent.keyword k) = omega arith
+no_words kind other (Some c) (IsContent.number z) = omega arith
+no_words kind other (Some c) (IsContent.labels ls sorted) = omega arith
+
+module _ (place : ℕ) (rows : List given.Row) where
+  -- the words of a text field are those of its terms
+  pub words_of_terms : All (λ r. IsFilled Kind.text (content_in place r.item.now)) rows → (terms : List (List Text)) → terms ≡ map (λ r. texts_in (content_in place r.item.now)) rows
+      → length (dictionary_of terms) < 2 ^ 32 → length (dictionary_of (map words_in (contents_in place rows))) < 2 ^ 32
+  words_of_terms filled terms same few =
+      let words : map words_in (contents_in place rows) ≡ terms =
+      map-map words_in (λ r. content_in place r.item.now) rows
+      ∙ map_where (λ r. IsFilled Kind.text (content_in place r.item.now)) (λ r. words_in (content_in place r.item.now)) (λ r. texts_in (content_in place r.item.now)) (λ r f. words_are_texts (content_in place r.item.now) f) rows filled
+      ∙ sym same in
+      omega (arith, few, ap (λ (l : List (List Text)). length (dictionary_of l)) words)
+
+  -- a field of another kind has none
+  pub words_of_none : (kind : Kind) → kind ≢ Kind.text → All (λ r. IsFilled kind (content_in place r.item.now)) rows → length (dictionary_of (map words_in (contents_in place rows))) < 2 ^ 32
+  words_of_none kind other filled =
+      omega (arith, length-dictionary 0 (map words_in (contents_in place rows))
+      (All-map (λ ws. length ws ≤ 0) words_in (contents_in place rows) (All-map (λ o. length (words_in o) ≤ 0) (λ r. content_in place r.item.now) rows (λ k d lt. no_words kind other (content_in place (get_or rows k d).item.now) (filled k d lt)))))

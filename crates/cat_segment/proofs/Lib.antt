@@ -1,3 +1,14 @@
+pub mod Assembled
+pub mod Columned
 pub mod Columns
+pub mod Ends
 pub mod Filled
+pub mod Formed
+pub mod Layouts
+pub mod LiveFiles
 pub mod Made
+pub mod Ordered
+pub mod Placed
+pub mod Spelled
+pub mod Steps
+pub mod Worded

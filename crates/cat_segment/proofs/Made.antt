@@ -1,13 +1,23 @@
 -- A segment that is made of rows holds these rows.
-use Rattle.std.proofs.Common.{◌≡◌, ◌+◌, ◌<◌, ℕ, suc, zero, get_or, List, [], ◌∷◌, ◌++◌, length, map, Option, Some, None, refl, sym, ap, ◌∙◌, subst, arith}
-use Rattle.std.specs.Prelude.{option_map, slice_get}
+use Rattle.std.proofs.Common.{◌≡◌, ◌+◌, ◌<◌, ◌^◌, true, ℕ, suc, zero, get_or, List, [], ◌∷◌, ◌++◌, length, map, Option, Some, None, refl, sym, ap, ◌∙◌, subst, arith}
+use Rattle.std.specs.Prelude.{option_map, slice_get, All}
 use Rattle.std.specs.List.{range_with_len}
 use Rattle.std.proofs.lemmas.List.{length-map, get_or-map, map-append}
+use Rattle.std.proofs.lemmas.List.Elements.{All-map}
+use Rattle.std.proofs.lemmas.Option.{slice_get-get_or}
+use Rattle.std.proofs.lemmas.Simd.{map-map}
 use Rattle.std.proofs.lemmas.List.FromFn.{length-map-range_with_len, get_or-map-range_with_len, fill_by_all, map-range_with_len_more}
-use Rattle.cat_model.specs.Item.{Content, Schema, Part, AreParts}
-use Rattle.cat_model.specs.View.{Row, row_of, AreRows}
+use Rattle.cat_model.specs.Text.{Text}
+use Rattle.cat_model.specs.Item.{Content, Schema, Part, AreParts, IsSchema, is_id, words_in}
+use Rattle.cat_model.specs.Forms.{IsSourceLength}
+use Rattle.cat_model.specs.Ordinals.{dictionary_of}
+use Rattle.cat_model.specs.View.{Row, row_of, AreRows, IsFormedRow, words_of_field}
+use Rattle.cat_segment.proofs.Filled.{map_where, parts_formed}
+use Rattle.cat_segment.proofs.Placed.{no_part, length-parts}
+use Rattle.cat_segment.proofs.Worded.{words_few}
+use Rattle.cat_segment.specs.Laid.{content_under, contents_under}
 use Rattle.cat_segment.specs.Contents.{contents_of}
-use Rattle.cat_segment.specs.Fields.{record_of, content_in, contents_in}
+use Rattle.cat_segment.specs.Fields.{record_of, content_in, contents_in, AreFitting}
 use Rattle.cat_segment.specs.Rows.{content_at, parts_at, Held, row_at, rows_of, IsHeld}
 use Rattle.cat_segment.specs.declared.column.Column.{Column}
 use Rattle.cat_segment.specs.declared.segment.Row as given
@@ -44,11 +54,38 @@ parts_made (f ∷ fs) (c ∷ cs) (p ∷ ps) row parts e is =
     λ i. record { name = sym parts.0.0 i; content = here i } ∷ later i
 
 module _ (fs : Schema) (rows : List given.Row) (are : AreRows fs (map row_made rows)) where
+  parts_at_row : (k : ℕ) (d : given.Row) → k < length rows → AreParts fs (get_or rows k d).item.now.parts
+  parts_at_row k d lt = subst (λ r. AreParts fs r.parts) (get_or-map row_made rows k d (row_made d) lt) (are.parts k (row_made d) (omega (arith, length-map rows row_made)))
+
+  -- what the items have, place by place
+  contents_placed : (place : ℕ) → place < length fs → contents_in place rows ≡ map (λ c. Some c) (contents_under place (map row_made rows))
+  contents_placed place lt =
+      map_where (λ r. AreParts fs r.item.now.parts) (λ r. content_in place r.item.now) (λ r. Some (content_under place (row_made r)))
+      (λ r parts. ap (option_map (λ p. p.content)) (slice_get-get_or r.item.now.parts place no_part (omega (arith, length-parts fs r.item.now.parts parts)))) rows parts_at_row
+      ∙ sym (map-map (λ c. Some c) (λ r. content_under place (row_made r)) rows)
+      ∙ ap (map (λ c. Some c)) (sym (map-map (content_under place) row_made rows))
+
+  module _ (schema : IsSchema fs) (numbers : All (λ r. r.number < 2 ^ 64) rows) (ids : All (λ r. is_id r.item.now.id ≡ true) rows) (sizes : All (λ r. IsSourceLength (length r.item.now.source)) rows)
+      (fitting : (place : ℕ) → place < length fs → AreFitting place rows) where
+    pub rows_formed : All IsFormedRow (map row_made rows)
+    rows_formed = All-map IsFormedRow row_made rows
+        (λ k d lt. record {
+          number = numbers k d lt;
+          id = ids k d lt;
+          source = sizes k d lt;
+          parts = parts_formed (get_or rows k d).item.now.parts (λ place inside. (fitting place (omega (arith, length-parts fs (get_or rows k d).item.now.parts (parts_at_row k d lt)))).formed k d lt);
+        })
+
+    pub rows_words : (name : Text) → length (words_of_field (map row_made rows) name) < 2 ^ 32
+    rows_words name =
+        words_few fs (map row_made rows) schema.rising are.parts
+        (λ place lt. omega (arith, (fitting place lt).words, ap (λ l. length (dictionary_of (map words_in l))) (contents_placed place lt))) name
+
   -- each row has the parts that the schema asks for
   pub parts_right : (k : ℕ) (d : given.Row) → k < length rows → AreParts fs (get_or rows k d).item.now.parts
   parts_right k d lt = subst (λ r. AreParts fs r.parts) (get_or-map row_made rows k d (row_made d) lt) (are.parts k (row_made d) (omega (arith, length-map rows row_made)))
 
-  module _ (cs : List Column) (right : map seen cs ≡ map (λ k. contents_in k rows) (range_with_len 0 (length fs))) where
+  module _ (schema : IsSchema fs) (formed : All IsFormedRow (map row_made rows)) (words : (name : Text) → length (words_of_field (map row_made rows) name) < 2 ^ 32) (cs : List Column) (right : map seen cs ≡ map (λ k. contents_in k rows) (range_with_len 0 (length fs))) where
     abbrev made : Held
     made = record { schema = fs; numbers = map (λ r. r.number) rows; ids = map (λ r. r.item.now.id) rows; lengths = map (λ r. length r.item.now.source) rows; columns = cs }
 
@@ -94,7 +131,10 @@ module _ (fs : Schema) (rows : List given.Row) (are : AreRows fs (map row_made r
       lengths = length-map rows (λ r. length r.item.now.source) ∙ sym (length-map rows (λ r. r.number));
       columns = as_many;
       contents = λ k d lt. column_long k d (omega (arith, as_many)) ∙ sym (length-map rows (λ r. r.number));
+      schema = schema;
       rows = subst (AreRows fs) (sym rows_right) are;
+      formed = subst (All IsFormedRow) (sym rows_right) formed;
+      words = subst (λ l. (name : Text) → length (words_of_field l name) < 2 ^ 32) (sym rows_right) words;
     }
 
 -- what was copied of the rows, list by list
@@ -105,12 +145,13 @@ pub record IsMade (fs : Schema) (rows : List given.Row) (held : Held) : Type 0 w
   pub lengths : held.lengths ≡ map (λ r. length r.item.now.source) rows
   pub columns : map seen held.columns ≡ map (λ k. contents_in k rows) (range_with_len 0 (length fs))
 
-module _ (fs : Schema) (rows : List given.Row) (are : AreRows fs (map row_made rows)) (held : Held) (is : IsMade fs rows held) where
-  all_made : held ≡ made fs rows are held.columns is.columns
+module _ (fs : Schema) (rows : List given.Row) (are : AreRows fs (map row_made rows)) (schema : IsSchema fs) (formed : All IsFormedRow (map row_made rows)) (words : (name : Text) → length (words_of_field (map row_made rows) name) < 2 ^ 32)
+    (held : Held) (is : IsMade fs rows held) where
+  all_made : held ≡ made fs rows are schema formed words held.columns is.columns
   all_made = λ i. record { schema = is.schema i; numbers = is.numbers i; ids = is.ids i; lengths = is.lengths i; columns = held.columns }
 
   pub rows_held : rows_of held ≡ map (λ r. row_of (record_of r)) rows
-  rows_held = ap rows_of all_made ∙ rows_right fs rows are held.columns is.columns
+  rows_held = ap rows_of all_made ∙ rows_right fs rows are schema formed words held.columns is.columns
 
   pub IsHeld-made : IsHeld held
-  IsHeld-made = subst IsHeld (sym all_made) (held_right fs rows are held.columns is.columns)
+  IsHeld-made = subst IsHeld (sym all_made) (held_right fs rows are schema formed words held.columns is.columns)

@@ -1,8 +1,9 @@
 -- What the rows that a segment is made of have in the field of a place among the schema's fields.
-use Rattle.std.specs.Prelude.{ℕ, List, [], Option, Some, None, map, option_map, slice_get}
+use Rattle.std.specs.Prelude.{◌≡◌, ◌<◌, ◌^◌, ℕ, List, [], Option, Some, None, map, length, option_map, slice_get, All, IfSome}
 use Rattle.cat_model.specs.Text.{Text}
-use Rattle.cat_model.specs.Item.{Content, Item, Kind, IsContent, Record}
-use Rattle.cat_model.specs.Ordinals.{texts_of}
+use Rattle.cat_model.specs.Item.{Content, Item, Kind, IsContent, Record, words_in}
+use Rattle.cat_model.specs.Forms.{IsFormed}
+use Rattle.cat_model.specs.Ordinals.{texts_of, dictionary_of}
 use Rattle.cat_segment.specs.declared.segment.Row as given
 
 -- the record of a row that a segment is made of
@@ -29,3 +30,12 @@ texts_in (Some (Content.words ws)) = ws
 texts_in (Some (Content.keyword k)) = texts_of k
 texts_in (Some (Content.number n)) = []
 texts_in (Some (Content.labels ls)) = ls
+
+-- what the item has in the field of this place, if there is one, has its forms
+abbrev pub IsFormedIn : ℕ → given.Row → Type 0
+IsFormedIn place r = IfSome (content_in place r.item.now) IsFormed
+
+-- what the rows have in the field of this place: it has its forms, and fewer than 2^32 different words
+pub record AreFitting (place : ℕ) (rows : List given.Row) : Type 0 where
+  pub formed : All (IsFormedIn place) rows
+  pub words : length (dictionary_of (map words_in (contents_in place rows))) < 2 ^ 32

@@ -1,3 +1,7 @@
 pub mod Contents
 pub mod Fields
+pub mod Index
+pub mod Laid
+pub mod LiveStart
 pub mod Rows
+pub mod Sources

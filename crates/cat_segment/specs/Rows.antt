@@ -1,9 +1,9 @@
 -- The rows of a segment, from its columns, its numbers, its ids and its source lengths.
-use Rattle.std.specs.Prelude.{◌≡◌, ℕ, List, [], ◌∷◌, map, length, slice_index_or, All}
+use Rattle.std.specs.Prelude.{◌≡◌, ◌<◌, ◌^◌, ℕ, List, [], ◌∷◌, map, length, slice_index_or, All}
 use Rattle.std.specs.List.{range_with_len}
 use Rattle.cat_model.specs.Text.{Text}
-use Rattle.cat_model.specs.Item.{Content, Schema, Part}
-use Rattle.cat_model.specs.View.{Row, AreRows}
+use Rattle.cat_model.specs.Item.{Content, Schema, Part, IsSchema}
+use Rattle.cat_model.specs.View.{Row, AreRows, IsFormedRow, words_of_field}
 use Rattle.cat_segment.specs.Contents.{contents_of}
 use Rattle.cat_segment.specs.declared.column.Column.{Column}
 use Rattle.cat_segment.specs.declared.segment.Segment.TheInside.{Inside}
@@ -27,7 +27,7 @@ pub record Held : Type 0 where
   pub columns : List Column
 
 abbrev pub held_in : Inside → Held
-held_in s = record { schema = s.schema; numbers = s.numbers.items; ids = s.ids.items; lengths = s.lengths.items; columns = s.columns.items }
+held_in s = record { schema = s.schema; numbers = s.numbers.items; ids = s.ids; lengths = s.sources; columns = s.columns.items }
 
 abbrev pub row_at : Held → ℕ → Row
 row_at held row = record {
@@ -40,10 +40,13 @@ row_at held row = record {
 abbrev pub rows_of : Held → List Row
 rows_of held = map (row_at held) (range_with_len 0 (length held.numbers))
 
--- one of each for each row, one column for each field, and the rows are as they have to be
+-- one of each for each row, one column for each field, and the rows are those of a segment
 pub record IsHeld (held : Held) : Type 0 where
   pub ids : length held.ids ≡ length held.numbers
   pub lengths : length held.lengths ≡ length held.numbers
   pub columns : length held.columns ≡ length held.schema
   pub contents : All (λ c. length (contents_of c) ≡ length held.numbers) held.columns
+  pub schema : IsSchema held.schema
   pub rows : AreRows held.schema (rows_of held)
+  pub formed : All IsFormedRow (rows_of held)
+  pub words : (name : Text) → length (words_of_field (rows_of held) name) < 2 ^ 32

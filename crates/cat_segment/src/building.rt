@@ -1,32 +1,52 @@
 //! The columns of rows.
-ghost use Rattle.std.specs.Prelude.{◌≡◌, ℕ, ◌<◌, ◌^◌, map, length, Some, IfOk, IfErr, All};
+ghost use Rattle.std.specs.Prelude.{◌≡◌, ℕ, ◌<◌, ◌≤◌, ◌^◌, true, map, length, Some, IfOk, IfErr, All};
 ghost use Rattle.std.specs.List.{range_with_len};
 ghost use Rattle.cat_base.specs.declared.refusal.Refusal.TheVariants.{Memory};
-ghost use Rattle.cat_model.specs.Item.{AreParts};
+ghost use Rattle.cat_base.specs.Texts.{IsTextSet};
+ghost use Rattle.cat_model.specs.Forms.{IsSourceLength};
+ghost use Rattle.cat_model.specs.Item.{AreParts, is_id};
+ghost use Rattle.cat_model.specs.Ordinals.{dictionary_of};
 ghost use Rattle.cat_schema.specs.Kinds.{kind_meant};
 ghost use Rattle.cat_segment.specs.Contents.{contents_of};
-ghost use Rattle.cat_segment.specs.Fields.{content_in, contents_in, IsFilled};
+ghost use Rattle.cat_segment.specs.Fields.{content_in, contents_in, AreFitting, IsFilled};
 
 use crate::column::{Column, Keywords, Labels};
 use crate::gathering::{keywords, numbers, texts};
+use crate::index::Ids;
 use crate::segment::Row;
+use crate::sources::Sources;
 use cat_base::{Refusal, Text, WriteNo};
 use cat_inverted::Terms;
 use cat_schema::{Field, Kind};
 use cat_values::NumberColumn;
 use std::alloc::Global;
 
+/// The terms of the rows' words, of which there are fewer than 2^32. A refusal is [`Refusal::Memory`].
+fn terms(alloc: Global, rows: &[&[Text]]) -> Result<Terms, Refusal>
+    requires few { length rows.now < 2 ^ 32 }
+    requires sets { All (λ r. IsTextSet r.now) rows.now }
+    ensures ok { IfOk result (λ t. t ≡ map (λ r. r.now) rows.now) }
+    ensures few { IfOk result (λ t. length (dictionary_of t) < 2 ^ 32) }
+    ensures refusal { IfErr result (λ e. e ≡ Memory) }
+{
+    let terms = Terms::build(alloc, rows)?;
+    // Its contract says how many words there are.
+    let _words = terms.words();
+    Ok(terms)
+}
+
 /// The column of the field of the place, whose kind is given. A refusal is [`Refusal::Memory`].
 fn column_of(alloc: Global, kind: Kind, place: usize, rows: &[Row<'_>]) -> Result<Column, Refusal>
     requires few { length rows.now < 2 ^ 32 }
     requires filled { All (λ r. IsFilled (kind_meant kind) (content_in place r.item.now)) rows.now }
     ensures ok { IfOk result (λ c. map (λ x. Some x) (contents_of c) ≡ contents_in place rows.now) }
+    ensures fitting { IfOk result (λ c. AreFitting place rows.now) }
     ensures refusal { IfErr result (λ e. e ≡ Memory) }
 {
     match kind {
         Kind::Text => {
             let texts = texts(alloc, place, rows)?;
-            Ok(Column::Text(Terms::build(alloc, &texts)?))
+            Ok(Column::Text(terms(alloc, &texts)?))
         }
         Kind::Keyword => {
             let texts = texts(alloc, place, rows)?;
@@ -53,6 +73,7 @@ pub(crate) fn columns_of(
     requires few { length rows.now < 2 ^ 32 }
     requires parts { All (λ r. AreParts fields.now r.item.now.parts) rows.now }
     ensures ok { IfOk result (λ cs. map (λ c. map (λ x. Some x) (contents_of c)) cs.items ≡ map (λ k. contents_in k rows.now) (range_with_len 0 (length fields.now))) }
+    ensures fitting { IfOk result (λ cs. (place : ℕ) → place < length fields.now → AreFitting place rows.now) }
     ensures refusal { IfErr result (λ e. e ≡ Memory) }
 {
     let mut columns = Vec::with_capacity(alloc, fields.len())?;
@@ -65,14 +86,20 @@ pub(crate) fn columns_of(
 /// The number of each row. A refusal is [`Refusal::Memory`].
 pub(crate) fn write_numbers(alloc: Global, rows: &[Row<'_>]) -> Result<Vec<WriteNo>, Refusal>
     ensures ok { IfOk result (λ v. v.items ≡ map (λ r. r.number) rows.now) }
+    ensures fit { IfOk result (λ v. All (λ r. r.number < 2 ^ 64) rows.now) }
     ensures refusal { IfErr result (λ e. e ≡ Memory) }
 {
-    Ok(rows.iter().map(|row| row.number).collect(alloc)?)
+    let mut numbers = Vec::with_capacity(alloc, rows.len())?;
+    for row in rows {
+        numbers.push(row.number)?;
+    }
+    Ok(numbers)
 }
 
 /// A copy of the id of each row. A refusal is [`Refusal::Memory`].
-pub(crate) fn ids(alloc: Global, rows: &[Row<'_>]) -> Result<Vec<Text>, Refusal>
+fn copied_ids(alloc: Global, rows: &[Row<'_>]) -> Result<Vec<Text>, Refusal>
     ensures ok { IfOk result (λ v. v.items ≡ map (λ r. r.item.now.id) rows.now) }
+    ensures forms { IfOk result (λ v. All (λ r. is_id r.item.now.id ≡ true) rows.now) }
     ensures refusal { IfErr result (λ e. e ≡ Memory) }
 {
     let mut ids = Vec::with_capacity(alloc, rows.len())?;
@@ -82,18 +109,26 @@ pub(crate) fn ids(alloc: Global, rows: &[Row<'_>]) -> Result<Vec<Text>, Refusal>
     Ok(ids)
 }
 
-/// The length of the text that each row's item came as, in bytes. A refusal is [`Refusal::Memory`], also for a text of
-/// 2^32 bytes and more.
-pub(crate) fn source_lengths(alloc: Global, rows: &[Row<'_>]) -> Result<Vec<u32>, Refusal>
-    ensures ok { IfOk result (λ v. v.items ≡ map (λ r. length r.item.now.source) rows.now) }
+/// The ids of the rows, with their index. A refusal is [`Refusal::Memory`].
+pub(crate) fn ids(alloc: Global, rows: &[Row<'_>]) -> Result<Ids, Refusal>
+    requires { length rows.now < 2 ^ 32 }
+    ensures ok { IfOk result (λ i. i ≡ map (λ r. r.item.now.id) rows.now) }
+    ensures forms { IfOk result (λ i. All (λ r. is_id r.item.now.id ≡ true) rows.now) }
     ensures refusal { IfErr result (λ e. e ≡ Memory) }
 {
-    let mut lengths = Vec::with_capacity(alloc, rows.len())?;
+    Ids::of(alloc, copied_ids(alloc, rows)?)
+}
+
+/// Where the texts that the rows' items came as stand. A refusal is [`Refusal::Memory`].
+pub(crate) fn sources(alloc: Global, rows: &[Row<'_>]) -> Result<Sources, Refusal>
+    requires { length rows.now ≤ 262144 }
+    ensures ok { IfOk result (λ s. s ≡ map (λ r. length r.item.now.source) rows.now) }
+    ensures sizes { IfOk result (λ s. All (λ r. IsSourceLength (length r.item.now.source)) rows.now) }
+    ensures refusal { IfErr result (λ e. e ≡ Memory) }
+{
+    let mut sources = Sources::with_capacity(alloc, rows.len())?;
     for row in rows {
-        let Ok(len) = u32::try_from(row.item.source().len()) else {
-            return Err(Refusal::Memory);
-        };
-        lengths.push(len)?;
+        sources.push(row.item.source().len() as u32)?;
     }
-    Ok(lengths)
+    Ok(sources)
 }

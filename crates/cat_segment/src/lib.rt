@@ -3,10 +3,18 @@
 
 mod building;
 mod column;
+mod encoding;
 mod gathering;
+mod index;
 mod live;
+mod live_file;
 mod segment;
+mod sources;
+
+mod trial;
 
 pub use column::{Column, Keywords, Labels};
+pub use encoding::encode_seg;
 pub use live::Live;
+pub use live_file::{LiveFile, decode_liv, encode_liv, live_rows_are_told_by_their_bytes};
 pub use segment::{Row, Segment};

@@ -36,6 +36,13 @@ impl Live {
         })
     }
 
+    /// The live set of the rows that are in the set.
+    pub(crate) fn of(rows: RowSet) -> Self
+        ensures { result ≡ rows }
+    {
+        Live { rows }
+    }
+
     /// How many rows there are, live or not (Lucene: `maxDoc`).
     pub fn len(&self) -> usize
         ensures value { result ≡ length self.now }

@@ -3,11 +3,15 @@ use Rattle.std.specs.Prelude.{slice_get}
 use Rattle.std.proofs.lemmas.Option.{slice_get-map}
 use Rattle.cat_schema.specs.Contents.{content_of}
 use Rattle.cat_schema.proofs.Parts.{content-got}
+use Rattle.cat_segment.proofs.Filled.{formed_in}
 use Rattle.cat_segment.proofs.gathering.value_at.Goals as goal
 
-pub returns : goal.returns
-returns c =
+pub returns-clause-value : goal.returns-clause-value
+returns-clause-value c =
     content-got c.values.result.now c.args.place c.get.result c.get.ensures.lookup.3
     ∙ sym (slice_get-map content_of c.values.result.now c.args.place)
     ∙ ap (λ l. slice_get l c.args.place) c.values.ensures.value
     ∙ slice_get-map (λ p. p.content) c.args.item.now.parts c.args.place
+
+pub returns-clause-formed : goal.returns-clause-formed
+returns-clause-formed c = formed_in c.args.item.now.parts c.args.place c.values.ensures.forms

@@ -1,0 +1,189 @@
+-- A segment of what was read of a file: it is laid out as the file.
+use Rattle.std.proofs.Common.{◌≡◌, ◌≢◌, ◌+◌, ◌<◌, ◌≤◌, ◌^◌, ℕ, zero, suc, List, [], ◌∷◌, length, map, get_or, Option, Some, None, refl, sym, ap, ◌∙◌, subst, arith}
+use Rattle.std.specs.Prelude.{All}
+use Rattle.std.specs.List.{AllPairs, range_with_len}
+use Rattle.std.proofs.lemmas.List.{length-map, get_or-map, get_or_default, same_lists}
+use Rattle.std.proofs.lemmas.List.FromFn.{fill_by_all, length-map-range_with_len, get_or-map-range_with_len}
+use Rattle.std.proofs.lemmas.Simd.{map-map}
+use Rattle.cat_model.specs.Text.{Text}
+use Rattle.cat_model.specs.Item.{Content, Field, Kind, Schema, Part, IsContent, AreParts}
+use Rattle.cat_model.specs.Forms.{IsFormed}
+use Rattle.cat_model.specs.Layout.{Laid, Layout, Head, column_of, head_of, layout_of, IsHead, IsLaid, AreLaid, IsLayout}
+use Rattle.cat_model.specs.Ordinals.{dictionary_of}
+use Rattle.cat_model.specs.View.{Row, Segment, AreRows, IsFormedRow, IsSegment, words_of_field}
+use Rattle.cat_segment.proofs.Columns.{length-rows_of, map-rows_of}
+use Rattle.cat_segment.proofs.Layouts.{column_placed, contents_are}
+use Rattle.cat_segment.proofs.Made.{row_here}
+use Rattle.cat_segment.proofs.Placed.{no_part}
+use Rattle.cat_segment.proofs.Worded.{words_few, words_fit, words_under}
+use Rattle.cat_segment.specs.Contents.{contents_of}
+use Rattle.cat_segment.specs.Laid.{content_under, contents_under, AreContents, laid_out, laid_in, kind_of, AreRead}
+use Rattle.cat_segment.specs.Rows.{content_at, parts_at, Held, row_at, rows_of, IsHeld}
+use Rattle.cat_segment.specs.declared.column.Column.{Column}
+use Rattle.cat_segment.specs.declared.column.Column.TheVariants.{Text as TextColumn, Keyword, Number, Facet}
+
+-- the column of each field is of the field's kind
+pub laid_at : (rows : ℕ) (fs : Schema) (ls : List Laid) (place : ℕ) (f : Field) (l : Laid) → AreLaid rows fs ls → place < length fs → IsLaid rows (get_or fs place f).kind (get_or ls place l)
+laid_at rows [] ls place f l are lt = absurd (omega arith)
+laid_at rows (g ∷ fs) [] place f l are lt = absurd are
+laid_at rows (g ∷ fs) (m ∷ ls) zero f l are lt = are.0
+laid_at rows (g ∷ fs) (m ∷ ls) (suc place) f l are lt = laid_at rows fs ls place f l are.1 (omega arith)
+
+-- the part of a place among those of a row
+part_at : (fs : Schema) (cs : List Column) (row place : ℕ) (f : Field) (c : Column) (p : Part) → length cs ≡ length fs → place < length fs
+    → get_or (parts_at fs cs row) place p ≡ record { name = (get_or fs place f).name; content = content_at (get_or cs place c) row }
+part_at [] cs row place f c p many lt = absurd (omega arith)
+part_at (g ∷ fs) [] row place f c p many lt = absurd (omega arith)
+part_at (g ∷ fs) (d ∷ cs) row zero f c p many lt = refl
+part_at (g ∷ fs) (d ∷ cs) row (suc place) f c p many lt = part_at fs cs row place f c p (omega arith) (omega arith)
+
+length-parts_at : (fs : Schema) (cs : List Column) (row : ℕ) → length cs ≡ length fs → length (parts_at fs cs row) ≡ length fs
+length-parts_at [] cs row many = refl
+length-parts_at (f ∷ fs) [] row many = absurd (omega arith)
+length-parts_at (f ∷ fs) (c ∷ cs) row many = ap suc (length-parts_at fs cs row (omega arith))
+
+parts_are : (fs : Schema) (cs : List Column) (row : ℕ) → length cs ≡ length fs
+    → ((place : ℕ) (f : Field) (c : Column) → place < length fs → IsContent (get_or fs place f).kind (content_at (get_or cs place c) row)) → AreParts fs (parts_at fs cs row)
+parts_are [] cs row many each = tt
+parts_are (f ∷ fs) [] row many each = absurd (omega arith)
+parts_are (f ∷ fs) (c ∷ cs) row many each = ((refl, each 0 f c (omega arith)), parts_are fs cs row (omega arith) (λ place g d lt. each (suc place) g d (omega arith)))
+
+-- what rows have in a field is what its column says
+pub contents_held : (held : Held) (place : ℕ) (c : Column) → length held.columns ≡ length held.schema → place < length held.schema → length (contents_of (get_or held.columns place c)) ≡ length held.numbers
+    → contents_under place (rows_of held) ≡ contents_of (get_or held.columns place c)
+contents_held held place c many lt long =
+    let f : Field = record { name = []; kind = Kind.text } in
+    map-rows_of (content_under place) held
+    ∙ sym (fill_by_all (λ row. content_under place (row_at held row)) (contents_of (get_or held.columns place c)) (length held.numbers) (Content.words []) long
+    (λ row within. sym (ap (λ p. p.content) (part_at held.schema held.columns row place f c no_part many lt))))
+
+-- a column that has rows tells the kind of its field
+kind_told : (c : Column) (kind : Kind) (d : Content) → 0 < length (contents_of c) → IsContent kind (get_or (contents_of c) 0 d) → kind ≡ kind_of c
+kind_told (TextColumn []) kind d some is = absurd (omega arith)
+kind_told (TextColumn (x ∷ xs)) kind d some (IsContent.words ws rising) = refl
+kind_told (Keyword []) kind d some is = absurd (omega arith)
+kind_told (Keyword (x ∷ xs)) kind d some (IsContent.keyword k) = refl
+kind_told (Number []) kind d some is = absurd (omega arith)
+kind_told (Number (x ∷ xs)) kind d some (IsContent.number z) = refl
+kind_told (Facet []) kind d some is = absurd (omega arith)
+kind_told (Facet (x ∷ xs)) kind d some (IsContent.labels ls rising) = refl
+
+-- the columns of a segment lie in its file as the columns of its fields
+pub columns_held : (held : Held) → IsHeld held → map laid_in held.columns ≡ map (column_of (rows_of held)) held.schema
+columns_held held is =
+    same_lists (map laid_in held.columns) (map (column_of (rows_of held)) held.schema) (length-map held.columns laid_in ∙ is.columns ∙ sym (length-map held.schema (column_of (rows_of held))))
+    (λ k l lt.
+    let f : Field = record { name = []; kind = Kind.text } in
+    let here : k < length held.columns = omega (arith, length-map held.columns laid_in) in
+    let within : k < length held.schema = omega (arith, is.columns) in
+    let c : Column = get_or held.columns k (Number []) in
+    let long : length (contents_of c) ≡ length held.numbers = is.contents k (Number []) here in
+    let s : Segment = record { number = 0; schema = held.schema; rows = rows_of held } in
+    let segment : IsSegment s = record { schema = is.schema; rows = is.rows; formed = is.formed; words = is.words } in
+    let contents : contents_under k (rows_of held) ≡ contents_of c = contents_held held k (Number []) is.columns within long in
+    let some : 0 < length (contents_of c) = omega (arith, long, is.rows.some, length-rows_of held) in
+    let are : AreContents (get_or held.schema k f).kind (length (rows_of held)) (contents_of c) = subst (AreContents (get_or held.schema k f).kind (length (rows_of held))) contents (contents_are s segment k f within) in
+    let kind : (get_or held.schema k f).kind ≡ kind_of c = kind_told c (get_or held.schema k f).kind (Content.words []) some (are.kinds 0 (Content.words []) some) in
+    get_or-map laid_in held.columns k (Number []) l here
+    ∙ ap (λ j. laid_out j (contents_of c)) (sym kind) ∙ ap (laid_out (get_or held.schema k f).kind) (sym contents)
+    ∙ sym (column_placed s segment k f within)
+    ∙ sym (get_or-map (column_of (rows_of held)) held.schema k f l within))
+
+module _ (number : ℕ) (schema : Schema) (numbers : List ℕ) (ids : List Text) (lengths : List ℕ) (columns : List Column) (heads : List Head) (laid : List Laid) where
+  abbrev pub held : Held
+  held = record { schema = schema; numbers = numbers; ids = ids; lengths = lengths; columns = columns }
+
+  abbrev pub layout : Layout
+  layout = record { number = number; schema = schema; heads = heads; columns = laid }
+
+  abbrev pub segment : Segment
+  segment = record { number = number; schema = schema; rows = rows_of held }
+
+  -- what was read, and judged
+  pub record IsRead : Type 0 where
+    pub fits : IsLayout layout
+    pub each_id : length ids ≡ length numbers
+    pub each_length : length lengths ≡ length numbers
+    pub each_head : length heads ≡ length numbers
+    pub head : (k : ℕ) (d : Head) → k < length numbers → get_or heads k d ≡ record { number = get_or numbers k 0; id = get_or ids k []; length = get_or lengths k 0 }
+    pub rising : AllPairs (λ a b. a < b) numbers
+    pub distinct : AllPairs (λ a b. a ≢ b) ids
+    pub read : AreRead (length numbers) schema laid columns
+
+  module _ (is : IsRead) where
+    no_field : Field
+    no_field = record { name = []; kind = Kind.text }
+
+    row_is : (k : ℕ) (d : Row) → k < length (rows_of held) → get_or (rows_of held) k d ≡ row_at held k
+    row_is k d lt = row_here held k d (omega (arith, length-rows_of held))
+
+    inside : (k : ℕ) → k < length (rows_of held) → k < length numbers
+    inside k lt = omega (arith, length-rows_of held)
+
+    content_is : (place row : ℕ) (f : Field) (c : Column) → place < length schema → row < length numbers → IsContent (get_or schema place f).kind (content_at (get_or columns place c) row)
+    content_is place row f c lt within = let are = is.read.contents place f c lt in are.kinds row (Content.words []) (omega (arith, are.long))
+
+    content_formed : (place row : ℕ) (f : Field) (c : Column) → place < length schema → row < length numbers → IsFormed (content_at (get_or columns place c) row)
+    content_formed place row f c lt within = let are = is.read.contents place f c lt in are.formed row (Content.words []) (omega (arith, are.long))
+
+    contents_read : (place : ℕ) (c : Column) → place < length schema → contents_under place (rows_of held) ≡ contents_of (get_or columns place c)
+    contents_read place c lt = contents_held held place c is.read.many lt (is.read.contents place no_field c lt).long
+
+    head_of_row : (k : ℕ) → k < length numbers → IsHead (record { number = get_or numbers k 0; id = get_or ids k []; length = get_or lengths k 0 })
+    head_of_row k lt =
+        let d : Head = record { number = 0; id = []; length = 0 } in
+        subst IsHead (is.head k d lt) (is.fits.heads k d (omega (arith, is.each_head)))
+
+    pub rows_are : AreRows schema (rows_of held)
+    rows_are = record {
+      some = omega (arith, is.fits.some, is.each_head, length-rows_of held);
+      few = omega (arith, is.fits.few, is.each_head, length-rows_of held);
+      parts = λ k d lt. subst (λ r. AreParts schema r.parts) (sym (row_is k d lt)) (parts_are schema columns k is.read.many (λ place f c within. content_is place k f c within (inside k lt)));
+      positive = λ k d lt. subst (λ r. 1 ≤ r.number) (sym (row_is k d lt)) (head_of_row k (inside k lt)).positive;
+      rising = λ i j d lt within. subst (λ r. r.number < (get_or (rows_of held) j d).number) (sym (row_is i d (omega arith))) (subst (λ r. get_or numbers i 0 < r.number) (sym (row_is j d within)) (is.rising i j 0 lt (inside j within)));
+      distinct = λ i j d lt within same. is.distinct i j [] lt (omega (arith, inside j within, is.each_id)) (ap (λ r. r.id) (sym (row_is i d (omega arith))) ∙ same ∙ ap (λ r. r.id) (row_is j d within));
+    }
+
+    parts_formed : (row : ℕ) → row < length numbers → All (λ p. IsFormed p.content) (parts_at schema columns row)
+    parts_formed row within k d lt =
+        let place : k < length schema = omega (arith, length-parts_at schema columns row is.read.many) in
+        let c : Column = Number [] in
+        subst (λ p. IsFormed p.content) (sym (part_at schema columns row k no_field c d is.read.many place)) (content_formed k row no_field c place within)
+
+    pub rows_formed : All IsFormedRow (rows_of held)
+    rows_formed k d lt =
+        let head = head_of_row k (inside k lt) in
+        subst IsFormedRow (sym (row_is k d lt)) (record { number = head.fits; id = head.id; source = head.source; parts = parts_formed k (inside k lt) })
+
+    pub read_words : (name : Text) → length (words_of_field (rows_of held) name) < 2 ^ 32
+    read_words name = words_few schema (rows_of held) is.fits.schema.rising rows_are.parts each name
+      where
+        each : (place : ℕ) → place < length schema → length (dictionary_of (words_under (contents_under place (rows_of held)))) < 2 ^ 32
+        each place lt =
+            let c : Column = Number [] in
+            let l : Laid = Laid.numbers [] in
+            let are = is.read.contents place no_field c lt in
+            let fits = subst (λ m. IsLaid (length heads) (get_or schema place no_field).kind m) (sym (is.read.spelled place no_field c l lt)) (laid_at (length heads) schema laid place no_field l is.fits.columns lt) in
+            omega (arith, words_fit (get_or schema place no_field).kind (length heads) (contents_of (get_or columns place c)) are.kinds fits, ap (λ cs. length (dictionary_of (words_under cs))) (contents_read place c lt))
+
+    pub IsSegment-read : IsSegment segment
+    IsSegment-read = record { schema = is.fits.schema; rows = rows_are; formed = rows_formed; words = read_words }
+
+    heads_read : map head_of (rows_of held) ≡ heads
+    heads_read =
+        same_lists (map head_of (rows_of held)) heads (length-map (rows_of held) head_of ∙ length-rows_of held ∙ sym is.each_head)
+        (λ k d lt. let within : k < length (rows_of held) = omega (arith, length-map (rows_of held) head_of) in
+        let r : Row = record { number = 0; id = []; parts = []; length = 0 } in
+        get_or-map head_of (rows_of held) k r d within ∙ ap head_of (row_is k r within) ∙ sym (is.head k d (inside k within)))
+
+    columns_read : map (column_of (rows_of held)) schema ≡ laid
+    columns_read =
+        same_lists (map (column_of (rows_of held)) schema) laid (length-map schema (column_of (rows_of held)) ∙ sym is.read.as_many)
+        (λ k l lt. let within : k < length schema = omega (arith, length-map schema (column_of (rows_of held))) in
+        let c : Column = Number [] in
+        get_or-map (column_of (rows_of held)) schema k no_field l within ∙ column_placed segment IsSegment-read k no_field within
+        ∙ ap (laid_out (get_or schema k no_field).kind) (contents_read k c within) ∙ is.read.spelled k no_field c l within)
+
+    -- the segment is laid out as the file
+    pub layout_read : layout_of segment ≡ layout
+    layout_read = λ i. record { number = number; schema = schema; heads = heads_read i; columns = columns_read i }

@@ -1,0 +1,12 @@
+use Rattle.std.proofs.Common.{◌<◌, ◌^◌, refl, arith}
+use Rattle.cat_segment.proofs.Steps.{made_more, holds_more}
+use Rattle.cat_segment.proofs.building.write_numbers.Goals as goal
+
+pub loop-row-preserved : goal.loop-row-preserved
+loop-row-preserved c =
+    let rows = c.args.rows.now in
+    let i = c.loop-row.row-index in
+    record {
+      same = made_more rows i c.row-item.result c.loop-row-test.true c.row-item.is (λ r. r.number) c.loop-row.numbers.items _ _ c.in_ok-push.ensures.items refl c.loop-row.invariant.same;
+      fit = holds_more rows i c.row-item.result c.loop-row-test.true c.row-item.is (λ r. r.number < 2 ^ 64) c.loop-row.invariant.fit (omega arith);
+    }

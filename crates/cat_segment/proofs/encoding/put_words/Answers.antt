@@ -1,0 +1,26 @@
+use Rattle.std.proofs.Common.{◌≡◌, ◌<◌, ◌++◌, ℕ, List, [], length, map, get_or, ap, sym, ◌∙◌, arith}
+use Rattle.std.proofs.lemmas.List.{get_or-map, length-map, get_or_read}
+use Rattle.cat_base.specs.Bytes.{spelled_u32}
+use Rattle.cat_model.specs.Text.{Text}
+use Rattle.cat_model.specs.Layout.{Posted, posted_of, spelled_posted}
+use Rattle.cat_model.specs.Ordinals.{dictionary_of, postings_of}
+use Rattle.cat_segment.proofs.Spelled.{spelled_next}
+use Rattle.cat_segment.proofs.encoding.put_words.Goals as goal
+
+pub loop-ordinal-preserved : goal.loop-ordinal-preserved
+loop-ordinal-preserved c =
+    let terms = c.args.terms.now in
+    let words : List Text = dictionary_of terms in
+    let make : Text → Posted = λ w. record { word = w; rows = postings_of w terms } in
+    let none : Posted = record { word = []; rows = [] } in
+    let i = c.loop-ordinal.ordinal in
+    let within : i < length words = omega (arith, c.loop-ordinal-test.true, ap length c.words-words.ensures.value) in
+    let word : c.index-words-ordinal.result ≡ get_or words i [] =
+    get_or_read c.words-words.result.now i c.index-words-ordinal.result c.loop-ordinal-test.true c.index-words-ordinal.is [] ∙ ap (λ l. get_or l i []) c.words-words.ensures.value in
+    let here = c.as_str.ensures ∙ word in
+    let rows = c.postings_at.ensures.value in
+    let made : record { word = c.as_str.result.now; rows = c.postings_at.result.now } ≡ make (get_or words i []) = λ j. record { word = here j; rows = rows j } in
+    spelled_next spelled_posted (posted_of terms) i _ none (c.args.out.now.items ++ spelled_u32 (length (posted_of terms))) c.loop-ordinal.out.items _
+    (omega (arith, within, length-map {B = Posted} words make))
+    (made ∙ sym (get_or-map make words i [] none within))
+    c.in_ok-put_posted.ensures.ok c.loop-ordinal.invariant
