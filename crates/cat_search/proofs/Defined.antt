@@ -24,12 +24,12 @@ use Rattle.cat_search.proofs.Marks.{any-is_some}
 
 -- ---- the place of a record, by the name of the sort's field
 
-abbrev way : Sort → Key → Rank
+abbrev pub way : Sort → Key → Rank
 way Sort.added k = Rank.missing
 way (Sort.rising f) k = Rank.rising k
 way (Sort.falling f) k = Rank.falling k
 
-abbrev place_of : Sort → Record → Place
+abbrev pub place_of : Sort → Record → Place
 place_of s r = record { rank = rank_by (way s) (key s r); number = r.number; id = r.item.id }
 
 -- the first place that passes, by recursion on the list
@@ -110,7 +110,7 @@ find_alike f g p (x ∷ xs) a =
       | false ↦ find_alike f g p xs a.1
     ]
 
-filter-map : {X Y : Type 0} (q : Y → Bool) (f : X → Y) (xs : List X) → filter q (map f xs) ≡ map f (filter (λ x. q (f x)) xs)
+pub filter-map : {X Y : Type 0} (q : Y → Bool) (f : X → Y) (xs : List X) → filter q (map f xs) ≡ map f (filter (λ x. q (f x)) xs)
 filter-map q f [] = refl
 filter-map q f (x ∷ xs) =
     elim (q (f x)) as (λ b. cond b (f x ∷ filter q (map f xs)) (filter q (map f xs)) ≡ map f (cond b (x ∷ filter (λ y. q (f y)) xs) (filter (λ y. q (f y)) xs))) [
@@ -122,7 +122,7 @@ filter_all : {X : Type 0} (xs : List X) → filter (λ x. true) xs ≡ xs
 filter_all [] = refl
 filter_all (x ∷ xs) = ap (λ ys. x ∷ ys) (filter_all xs)
 
-map_map : {X Y Z : Type 0} (f : Y → Z) (g : X → Y) (h : X → Z) → ((x : X) → f (g x) ≡ h x) → (xs : List X) → map f (map g xs) ≡ map h xs
+pub map_map : {X Y Z : Type 0} (f : Y → Z) (g : X → Y) (h : X → Z) → ((x : X) → f (g x) ≡ h x) → (xs : List X) → map f (map g xs) ≡ map h xs
 map_map f g h e [] = refl
 map_map f g h e (x ∷ xs) = ap (λ z. z ∷ map f (map g xs)) (e x) ∙ ap (λ zs. h x ∷ zs) (map_map f g h e xs)
 
@@ -130,7 +130,7 @@ each_map : {X Y : Type 0} (f : X → Y) (P : Y → Type 0) (xs : List X) → All
 each_map f P [] a = tt
 each_map f P (x ∷ xs) a = (a.0, each_map f P xs a.1)
 
-each_pair-map : {X Y : Type 0} (f : X → Y) (R : Y → Y → Type 0) (xs : List X) → EachPair (λ x y. R (f x) (f y)) xs → EachPair R (map f xs)
+pub each_pair-map : {X Y : Type 0} (f : X → Y) (R : Y → Y → Type 0) (xs : List X) → EachPair (λ x y. R (f x) (f y)) xs → EachPair R (map f xs)
 each_pair-map f R [] a = tt
 each_pair-map f R (x ∷ xs) a = (each_map f (R (f x)) xs a.0, each_pair-map f R xs a.1)
 
@@ -145,7 +145,7 @@ each_pair-filter R p (x ∷ xs) a =
 -- ---- numbers
 
 -- each number is below those behind it
-abbrev NumbersRise : List Record → Type 0
+abbrev pub NumbersRise : List Record → Type 0
 NumbersRise rs = EachPair (λ a b. a.number < b.number) rs
 
 differ : (m n : ℕ) → m < n → m ≡ n → ⊥
@@ -164,7 +164,7 @@ same_number m k e = grind (arith, nat_tests)
 
 -- ---- what the mark comes before
 
-abbrev mark_of : Sort → List Record → Option ℕ → Option Place
+abbrev pub mark_of : Sort → List Record → Option ℕ → Option Place
 mark_of s rs None = None
 mark_of s rs (Some mark) = option_map (place_of s) (find (λ r. r.number == mark) rs)
 
