@@ -11,3 +11,4 @@ pub mod Finds
 pub mod Shown
 pub mod Ranks
 pub mod Gathered
+pub mod ViewPages
