@@ -12,3 +12,4 @@ pub mod Shown
 pub mod Ranks
 pub mod Gathered
 pub mod ViewPages
+pub mod Stored

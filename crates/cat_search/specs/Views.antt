@@ -1,14 +1,21 @@
 -- What pages over a view are made of: its rows as hits, and the columns that rank them.
-use Rattle.std.specs.Prelude.{◌≡◌, ℕ, List, [], ◌∷◌, length, map, replicate, Option, Some, None, option_map, find, ◌==◌}
+use Rattle.std.specs.Prelude.{◌≡◌, ◌≤◌, ℕ, Bool, List, [], ◌∷◌, length, map, take, drop, sum, replicate, slice_index, Option, Some, None, option_map, find, ◌==◌, All}
 use Rattle.std.specs.Borrow.{Bor}
+use Rattle.std.specs.List.{flat_map}
 use Rattle.cat_model.specs.Files.{Name}
 use Rattle.cat_model.specs.Item.{Record}
 use Rattle.cat_model.specs.Page as model
 use Rattle.cat_model.specs.Page.{key, key_in}
-use Rattle.cat_model.specs.View.{Row, Leaf, View, Shows, item_in}
+use Rattle.cat_model.specs.Answer.{stored}
+use Rattle.cat_model.specs.Text.{Text, same_text}
+use Rattle.cat_model.specs.View.{Row, Leaf, View, Shows, item_in, marked, sourced}
 use Rattle.cat_query.specs.declared.query.Query.{Query}
 use Rattle.cat_segment.specs.Contents.{contents_of}
 use Rattle.cat_segment.specs.declared.column.Column.{Column}
+use Rattle.cat_segment.specs.Sources.{source_place}
+use Rattle.cat_directory.specs.Devices.{Told}
+use Rattle.cat_directory.specs.declared.name.FileName.{FileName}
+use Rattle.cat_directory.specs.declared.name.FileName.TheVariants as file
 use Rattle.cat_search.specs.declared.sort.Order.{Order}
 use Rattle.cat_search.specs.Keys.{Place}
 use Rattle.cat_search.specs.Pages.{rank_with}
@@ -56,6 +63,29 @@ abbrev pub places_by : Order → List (Option model.Key) → List Row → List P
 places_by o [] rows = []
 places_by o (k ∷ ks) [] = []
 places_by o (k ∷ ks) (row ∷ rows) = place_with o k row ∷ places_by o ks rows
+
+-- ---- stored sources
+
+-- the row has the id
+abbrev pub has_id : Text → Row → Bool
+has_id id row = same_text row.id id
+
+-- the source of the row of this place, where files hold the sources of the segments' rows, by the segments' numbers
+abbrev pub source_in : (ℕ → List ℕ) → Leaf → ℕ → Text
+source_in files leaf row =
+    take (slice_index (map (λ r. r.length) leaf.segment.rows) row) (drop (source_place leaf.segment.rows row) (files leaf.segment.number))
+
+-- the source of the live row of this id
+abbrev pub stored_in : (ℕ → List ℕ) → List Leaf → Text → Option Text
+stored_in files leaves id = stored (flat_map (λ leaf. marked leaf.live (sourced leaf.segment.rows (files leaf.segment.number))) leaves) id
+
+-- what a device tells of the files with the sources of the view's segments
+abbrev pub TellsSources : (FileName → Told) → (ℕ → List ℕ) → View → Type 0
+TellsSources told files view = All (λ leaf. told (file.Source leaf.segment.number) ≡ Some (Some (files leaf.segment.number))) view.leaves
+
+-- no file is shorter than the sources of its segment's rows
+abbrev pub HoldSources : (ℕ → List ℕ) → View → Type 0
+HoldSources files view = All (λ leaf. sum (map (λ r. r.length) leaf.segment.rows) ≤ length (files leaf.segment.number)) view.leaves
 
 -- ---- the law
 

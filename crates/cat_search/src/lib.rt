@@ -7,6 +7,7 @@ mod entries;
 mod gathering;
 mod keys;
 mod leaf_ranks;
+mod lookup;
 mod offers;
 mod pages;
 mod places;

@@ -1,14 +1,17 @@
 //! Views: segments with their live rows, as a searcher sees them.
-ghost use Rattle.std.specs.Prelude.{◌≡◌, ◌<◌, length, map, IfOk, IfErr};
+ghost use Rattle.std.specs.Prelude.{◌≡◌, ◌<◌, ℕ, List, length, map, option_map, is_some, false, Ok, None, IfOk, IfErr};
 ghost use Rattle.std.specs.Arc.{arc_value};
-ghost use Rattle.std.specs.List.{flat_map};
-ghost use Rattle.cat_base.specs.declared.refusal.Refusal.TheVariants.{Memory};
-ghost use Rattle.cat_model.specs.View.{IsView, needs};
+ghost use Rattle.std.specs.List.{flat_map, list_any};
+ghost use Rattle.cat_base.specs.declared.refusal.Refusal.TheVariants.{Memory, Device, Damaged};
+ghost use Rattle.cat_model.specs.Answer.{stored};
+ghost use Rattle.cat_model.specs.View.{IsView, needs, records_in, rows_in};
+ghost use Rattle.cat_directory.specs.Devices.{CountsReading};
 ghost use Rattle.cat_directory.specs.Names.{name_of};
-ghost use Rattle.cat_search.specs.Views.{first_in, leaf_names};
+ghost use Rattle.cat_search.specs.Views.{first_in, has_id, leaf_names, HoldSources, TellsSources};
 
+use crate::lookup::holder_of;
 use cat_base::{Refusal, Token, WriteNo};
-use cat_directory::FileName;
+use cat_directory::{FileName, Shelf};
 use cat_schema::Schema;
 use cat_segment::{Live, Segment};
 use std::alloc::Global;
@@ -155,6 +158,35 @@ impl View {
         ensures refusal { IfErr result (λ e. e ≡ Memory) }
     {
         files_of(alloc, &self.leaves)
+    }
+
+    /// The text that the item of this id came as, read from the file of its segment's sources; none where no live row has
+    /// the id, and then no file is read. (Lucene: `StoredFields.document` of the document that a primary key finds.)
+    ///
+    /// [`Refusal::Damaged`] if the file is absent, or shorter than the sources of its rows; [`Refusal::Device`] if the
+    /// shelf fails; else [`Refusal::Memory`].
+    pub fn get<S: Shelf>(
+        &self,
+        alloc: Global,
+        shelf: &mut S,
+        id: &str,
+    ) -> Result<Option<Vec<u8>>, Refusal>
+        ensures ok { IfOk result (λ found. (files : ℕ → List ℕ) → TellsSources (S.bytes shelf.old) files self.now
+            → option_map (λ bytes. bytes.items) found ≡ stored (records_in files self.now) id.now) }
+        ensures there { IfOk result (λ found. is_some found ≡ list_any (has_id id.now) (rows_in self.now)) }
+        ensures none { list_any (has_id id.now) (rows_in self.now) ≡ false → (result ≡ Ok None) × (S.fault_count shelf.new ≡ S.fault_count shelf.old) }
+        ensures damaged { IfErr result (λ e. e ≡ Damaged → (files : ℕ → List ℕ) → TellsSources (S.bytes shelf.old) files self.now → HoldSources files self.now → ⊥) }
+        ensures device { IfErr result (λ e. e ≡ Device → S.can_fail shelf.old) }
+        ensures same { (q : FileName) → S.bytes shelf.new q ≡ S.bytes shelf.old q }
+        ensures counted { CountsReading (S.fault_count shelf.old) (S.fault_count shelf.new) result }
+    {
+        let Some((leaf, row)) = holder_of(&self.leaves, id) else {
+            return Ok(None);
+        };
+        let segment = leaf.segment();
+        let name = FileName::Source(segment.number());
+        let place = segment.source_place(row);
+        Ok(Some(shelf.read(alloc, name, place, segment.source_length(row))?))
     }
 }
 
