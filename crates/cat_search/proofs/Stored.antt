@@ -1,0 +1,254 @@
+-- The stored source of the row of an id.
+use Rattle.std.proofs.Common.{◌≡◌, ◌≢◌, ℕ, zero, suc, ◌+◌, ◌<◌, ◌≤◌, ◌⊎◌, List, [], ◌∷◌, ◌++◌, length, map, take, drop, get_or, sum, AllPairs, Bool, true, false, cond, ◌||◌, Option, Some, None, option_map, is_some, find, refl, sym, ap, ◌∙◌, subst, inl, inr, arith}
+use Rattle.std.specs.Prelude.{slice_index, Contains}
+use Rattle.std.specs.Option.{option_or}
+use Rattle.std.specs.List.{AllByRecursion, HoldsAt, All, flat_map, list_any}
+use Rattle.std.proofs.lemmas.Bool.{cases_lt}
+use Rattle.std.proofs.lemmas.List.{drop-drop, take_more, flat_map_more}
+use Rattle.std.proofs.lemmas.List.Elements.{Contains-from_at, recursion_from_All}
+use Rattle.std.proofs.lemmas.List.Folds.{find-append}
+use Rattle.std.proofs.lemmas.List.Sums.{sum_by-cons}
+use Rattle.std.proofs.lemmas.Slice.Eq.{bytes_eq-Decides}
+use Rattle.cat_model.specs.Answer.{stored}
+use Rattle.cat_model.specs.Item.{Record}
+use Rattle.cat_model.specs.RowSets.{has_row}
+use Rattle.cat_model.specs.Text.{Text, same_text}
+use Rattle.cat_model.specs.View.{Row, Leaf, Segment, marked, live_rows, sourced}
+use Rattle.cat_model.proofs.Insert.{which}
+use Rattle.cat_model.proofs.Lists.{list_any-append, list_any_none, All-weaken}
+use Rattle.cat_segment.specs.Sources.{source_place}
+use Rattle.cat_search.specs.Views.{has_id, source_in, stored_in}
+use Rattle.cat_search.proofs.Marked.{All-marked}
+use Rattle.cat_search.proofs.Marks.{any-is_some, before_or_at}
+
+-- ---- texts
+
+same : (a b : Text) → a ≡ b → same_text a b ≡ true
+same a b e = (bytes_eq-Decides a b).1 e
+
+other : (a b : Text) → a ≢ b → same_text a b ≡ false
+other a b h = elim (which (same_text a b)) [
+  | inl y ↦ absurd (h ((bytes_eq-Decides a b).0 y))
+  | inr n ↦ n
+]
+
+-- ---- the only element that passes, if it is marked
+
+module _ {X : Type 0} (p : X → Bool) where
+  none_marked : (set : List Bool) (xs : List X) (d : X) → ((k : ℕ) → k < length xs → p (get_or xs k d) ≡ false) → find p (marked set xs) ≡ None
+  none_marked [] xs d h = refl
+  none_marked (b ∷ bs) [] d h = refl
+  none_marked (true ∷ bs) (x ∷ xs) d h = let e : p x ≡ false = h 0 (omega arith) in rw e (none_marked bs xs d (λ k l. h (suc k) (omega arith)))
+  none_marked (false ∷ bs) (x ∷ xs) d h = none_marked bs xs d (λ k l. h (suc k) (omega arith))
+
+  only_marked : (set : List Bool) (xs : List X) (i : ℕ) (d : X) → i < length xs → p (get_or xs i d) ≡ true → ((k : ℕ) → k < length xs → k ≢ i → p (get_or xs k d) ≡ false)
+      → find p (marked set xs) ≡ cond (get_or set i false) (Some (get_or xs i d)) None
+  only_marked [] xs i d h e o = refl
+  only_marked (b ∷ bs) [] i d h e o = absurd (omega arith)
+  only_marked (true ∷ bs) (x ∷ xs) zero d h e o = rw e refl
+  only_marked (false ∷ bs) (x ∷ xs) zero d h e o = none_marked bs xs d (λ k l. o (suc k) (omega arith) (λ q. omega (arith, q)))
+  only_marked (true ∷ bs) (x ∷ xs) (suc i) d h e o =
+      let f : p x ≡ false = o 0 (omega arith) (λ q. omega (arith, q)) in
+      rw f (only_marked bs xs i d (omega arith) e (λ k l n. o (suc k) (omega arith) (λ q. n (omega (arith, q)))))
+  only_marked (false ∷ bs) (x ∷ xs) (suc i) d h e o = only_marked bs xs i d (omega arith) e (λ k l n. o (suc k) (omega arith) (λ q. n (omega (arith, q))))
+
+-- ---- the row of an id in one segment
+
+abbrev pub IdsDiffer : List Row → Type 0
+IdsDiffer rows = AllPairs (λ a b. a.id ≢ b.id) rows
+
+differ_at : (id : Text) (rows : List Row) (i k : ℕ) (d : Row) → IdsDiffer rows → i < length rows → (get_or rows i d).id ≡ id → k < length rows → k ≢ i → same_text (get_or rows k d).id id ≡ false
+differ_at id rows i k d apart h e l n = elim (cases_lt k i) [
+  | inl q ↦ other (get_or rows k d).id id (λ s. apart k i d q h (s ∙ sym e))
+  | inr q ↦ elim (before_or_at i k q) [
+      | inl r ↦ other (get_or rows k d).id id (λ s. apart i k d r l (e ∙ sym s))
+      | inr r ↦ absurd (n (sym r))
+    ]
+]
+
+pub none_in : (id : Text) (leaf : Leaf) (rows : List Row) → rows ≡ leaf.segment.rows → All (λ r. r.id ≢ id) rows → list_any (has_id id) (live_rows leaf) ≡ false
+none_in id leaf rows is a =
+    let each : AllByRecursion (λ r. has_id id r ≡ false) leaf.segment.rows =
+    subst (AllByRecursion (λ r. has_id id r ≡ false)) is (All-weaken (λ r. r.id ≢ id) (λ r. has_id id r ≡ false) (λ r h. other r.id id h) rows (recursion_from_All (λ r. r.id ≢ id) rows a)) in
+    list_any_none (has_id id) (live_rows leaf) (All-marked (λ r. has_id id r ≡ false) leaf.live leaf.segment.rows each)
+
+-- some row, for the reads of a list past its end
+abbrev no_row : Row
+no_row = record { number = 0; id = []; parts = []; length = 0 }
+
+found_row : (id : Text) (set : List Bool) (rows : List Row) (i : ℕ) → IdsDiffer rows → i < length rows → HoldsAt (λ r. r.id ≡ id) rows i
+    → find (has_id id) (marked set rows) ≡ cond (get_or set i false) (Some (get_or rows i no_row)) None
+found_row id set rows i apart h is =
+    only_marked (has_id id) set rows i no_row h (same (get_or rows i no_row).id id (is no_row)) (λ k l n. differ_at id rows i k no_row apart h (is no_row) l n)
+
+pub dead_in : (id : Text) (leaf : Leaf) (rows : List Row) (i : ℕ) → rows ≡ leaf.segment.rows → IdsDiffer leaf.segment.rows → i < length rows → HoldsAt (λ r. r.id ≡ id) rows i → has_row leaf.live i ≡ false
+    → list_any (has_id id) (live_rows leaf) ≡ false
+dead_in id leaf rows i same_rows apart h is dead =
+    let here : i < length leaf.segment.rows = subst (λ rs. i < length rs) same_rows h in
+    let at : HoldsAt (λ r. r.id ≡ id) leaf.segment.rows i = subst (λ rs. HoldsAt (λ r. r.id ≡ id) rs i) same_rows is in
+    any-is_some (has_id id) (live_rows leaf)
+    ∙ ap is_some (found_row id leaf.live leaf.segment.rows i apart here at ∙ ap (λ b. cond b (Some (get_or leaf.segment.rows i no_row)) None) dead)
+
+live_in : (id : Text) (leaf : Leaf) (i : ℕ) → IdsDiffer leaf.segment.rows → i < length leaf.segment.rows → HoldsAt (λ r. r.id ≡ id) leaf.segment.rows i → has_row leaf.live i ≡ true
+    → list_any (has_id id) (live_rows leaf) ≡ true
+live_in id leaf i apart h is live =
+    any-is_some (has_id id) (live_rows leaf)
+    ∙ ap is_some (found_row id leaf.live leaf.segment.rows i apart h is ∙ ap (λ b. cond b (Some (get_or leaf.segment.rows i no_row)) None) live)
+
+-- ---- the record of an id, with its source
+
+abbrev no_record : Record
+no_record = record { number = 0; item = record { id = []; parts = []; source = [] } }
+
+sum-cons : (x : ℕ) (xs : List ℕ) → sum (x ∷ xs) ≡ x + sum xs
+sum-cons x xs = sum_by-cons (λ n. n) x xs
+
+length-sourced : (rows : List Row) (bytes : List ℕ) → length (sourced rows bytes) ≡ length rows
+length-sourced [] bytes = refl
+length-sourced (r ∷ rows) bytes = let h : length (sourced rows (drop r.length bytes)) ≡ length rows = length-sourced rows (drop r.length bytes) in omega (arith, h)
+
+id-sourced : (rows : List Row) (bytes : List ℕ) (k : ℕ) → k < length rows → (get_or (sourced rows bytes) k no_record).item.id ≡ (get_or rows k no_row).id
+id-sourced [] bytes k h = absurd (omega arith)
+id-sourced (r ∷ rows) bytes zero h = refl
+id-sourced (r ∷ rows) bytes (suc k) h = id-sourced rows (drop r.length bytes) k (omega arith)
+
+source-sourced : (rows : List Row) (bytes : List ℕ) (k : ℕ) → k < length rows
+    → (get_or (sourced rows bytes) k no_record).item.source ≡ take (slice_index (map (λ r. r.length) rows) k) (drop (source_place rows k) bytes)
+source-sourced [] bytes k h = absurd (omega arith)
+source-sourced (r ∷ rows) bytes zero h = refl
+source-sourced (r ∷ rows) bytes (suc k) h =
+    let len : ℕ = slice_index (map (λ s. s.length) rows) k in
+    let place : r.length + source_place rows k ≡ source_place (r ∷ rows) (suc k) = sym (sum-cons r.length (map (λ s. s.length) (take k rows))) in
+    source-sourced rows (drop r.length bytes) k (omega arith)
+    ∙ ap (take len) (drop-drop (source_place rows k) r.length bytes)
+    ∙ ap (λ n. take len (drop n bytes)) place
+
+abbrev records : (ℕ → List ℕ) → Leaf → List Record
+records files leaf = marked leaf.live (sourced leaf.segment.rows (files leaf.segment.number))
+
+found_record : (files : ℕ → List ℕ) (id : Text) (leaf : Leaf) (i : ℕ) → IdsDiffer leaf.segment.rows → i < length leaf.segment.rows → HoldsAt (λ r. r.id ≡ id) leaf.segment.rows i → has_row leaf.live i ≡ true
+    → stored (records files leaf) id ≡ Some (source_in files leaf i)
+found_record files id leaf i apart h is live =
+    let rows : List Row = leaf.segment.rows in
+    let bytes : List ℕ = files leaf.segment.number in
+    let all : List Record = sourced rows bytes in
+    let long : length all ≡ length rows = length-sourced rows bytes in
+    let yes : same_text (get_or all i no_record).item.id id ≡ true = ap (λ t. same_text t id) (id-sourced rows bytes i h) ∙ same (get_or rows i no_row).id id (is no_row) in
+    let no = λ (k : ℕ) (l : k < length all) (n : k ≢ i).
+        ap (λ t. same_text t id) (id-sourced rows bytes k (omega (arith, l, long))) ∙ differ_at id rows i k no_row apart h (is no_row) (omega (arith, l, long)) n in
+    ap (option_map (λ r. r.item.source)) (only_marked (λ r. same_text r.item.id id) leaf.live all i no_record (omega (arith, h, long)) yes no ∙ ap (λ b. cond b (Some (get_or all i no_record)) None) live)
+    ∙ ap Some (source-sourced rows bytes i h)
+
+alike : (id : Text) (set : List Bool) (rows : List Row) (bytes : List ℕ) → list_any (λ r. same_text r.item.id id) (marked set (sourced rows bytes)) ≡ list_any (has_id id) (marked set rows)
+alike id [] rows bytes = refl
+alike id (b ∷ bs) [] bytes = refl
+alike id (true ∷ bs) (r ∷ rows) bytes = ap (λ b. same_text r.id id || b) (alike id bs rows (drop r.length bytes))
+alike id (false ∷ bs) (r ∷ rows) bytes = alike id bs rows (drop r.length bytes)
+
+missing : {X : Type 0} (o : Option X) → is_some o ≡ false → o ≡ None
+missing None e = refl
+missing (Some x) e = absurd (cc)
+
+none_recorded : (files : ℕ → List ℕ) (id : Text) (leaf : Leaf) → list_any (has_id id) (live_rows leaf) ≡ false → find (λ r. same_text r.item.id id) (records files leaf) ≡ None
+none_recorded files id leaf e =
+    missing (find (λ r. same_text r.item.id id) (records files leaf))
+    (sym (any-is_some (λ r. same_text r.item.id id) (records files leaf)) ∙ alike id leaf.live leaf.segment.rows (files leaf.segment.number) ∙ e)
+
+-- ---- in all segments
+
+neither : (a b : Bool) → (a || b) ≡ false → (a ≡ false) × (b ≡ false)
+neither true b e = absurd (cc)
+neither false b e = (refl, e)
+
+either_one : (a : Bool) → (a || true) ≡ true
+either_one true = refl
+either_one false = refl
+
+abbrev stored_of : Option Record → Option Text
+stored_of o = option_map (λ r. r.item.source) o
+
+pub none_stored : (files : ℕ → List ℕ) (id : Text) (ls : List Leaf) → list_any (has_id id) (flat_map live_rows ls) ≡ false → stored_in files ls id ≡ None
+none_stored files id [] e = refl
+none_stored files id (l ∷ ls) e =
+    let none = neither _ _ (sym (list_any-append (has_id id) (live_rows l) (flat_map live_rows ls)) ∙ e) in
+    ap stored_of (find-append (λ r. same_text r.item.id id) (records files l) (flat_map (records files) ls) ∙ ap (λ o. option_or o (find (λ r. same_text r.item.id id) (flat_map (records files) ls))) (none_recorded files id l none.0))
+    ∙ none_stored files id ls none.1
+
+pub none_more : (id : Text) (ls : List Leaf) (i : ℕ) (leaf : Leaf) → leaf ≡ get_or ls i leaf → i < length ls → list_any (has_id id) (flat_map live_rows (take i ls)) ≡ false → list_any (has_id id) (live_rows leaf) ≡ false
+    → list_any (has_id id) (flat_map live_rows (take (i + 1) ls)) ≡ false
+none_more id ls i leaf at h a b =
+    ap (list_any (has_id id)) (ap (flat_map live_rows) (take_more ls i leaf h ∙ ap (λ l. take i ls ++ l ∷ []) (sym at)) ∙ sym (flat_map_more live_rows [] (take i ls) leaf))
+    ∙ list_any-append (has_id id) (flat_map live_rows (take i ls)) (live_rows leaf) ∙ ap (λ c. c || list_any (has_id id) (live_rows leaf)) a ∙ b
+
+some_source : (o : Option Record) (rest : Option Record) (t : Text) → stored_of o ≡ Some t → stored_of (option_or o rest) ≡ Some t
+some_source None rest t e = absurd (cc)
+some_source (Some r) rest t e = e
+
+first_stored : (files : ℕ → List ℕ) (id : Text) (ls : List Leaf) (i : ℕ) (leaf : Leaf) (t : Text) → leaf ≡ get_or ls i leaf → i < length ls → list_any (has_id id) (flat_map live_rows (take i ls)) ≡ false
+    → stored (records files leaf) id ≡ Some t → stored_in files ls id ≡ Some t
+first_stored files id [] i leaf t at h none e = absurd (omega arith)
+first_stored files id (l ∷ ls) zero leaf t at h none e =
+    ap stored_of (find-append (λ r. same_text r.item.id id) (records files l) (flat_map (records files) ls))
+    ∙ some_source (find (λ r. same_text r.item.id id) (records files l)) (find (λ r. same_text r.item.id id) (flat_map (records files) ls)) t (ap (λ k. stored (records files k) id) (sym at) ∙ e)
+first_stored files id (l ∷ ls) (suc i) leaf t at h none e =
+    let before = neither _ _ (sym (list_any-append (has_id id) (live_rows l) (flat_map live_rows (take i ls))) ∙ none) in
+    ap stored_of (find-append (λ r. same_text r.item.id id) (records files l) (flat_map (records files) ls) ∙ ap (λ o. option_or o (find (λ r. same_text r.item.id id) (flat_map (records files) ls))) (none_recorded files id l before.0))
+    ∙ first_stored files id ls i leaf t at (omega arith) before.1 e
+
+some_live : (id : Text) (ls : List Leaf) (i : ℕ) (leaf : Leaf) → leaf ≡ get_or ls i leaf → i < length ls → list_any (has_id id) (live_rows leaf) ≡ true → list_any (has_id id) (flat_map live_rows ls) ≡ true
+some_live id [] i leaf at h e = absurd (omega arith)
+some_live id (l ∷ ls) zero leaf at h e =
+    list_any-append (has_id id) (live_rows l) (flat_map live_rows ls) ∙ ap (λ b. b || list_any (has_id id) (flat_map live_rows ls)) (ap (λ k. list_any (has_id id) (live_rows k)) (sym at) ∙ e)
+some_live id (l ∷ ls) (suc i) leaf at h e =
+    list_any-append (has_id id) (live_rows l) (flat_map live_rows ls) ∙ ap (λ b. list_any (has_id id) (live_rows l) || b) (some_live id ls i leaf at (omega arith) e) ∙ either_one (list_any (has_id id) (live_rows l))
+
+-- the row that holds the id
+pub held : (id : Text) (ls : List Leaf) (i : ℕ) (leaf : Leaf) (row : ℕ) → leaf ≡ get_or ls i leaf → i < length ls → list_any (has_id id) (flat_map live_rows (take i ls)) ≡ false
+    → (row < length leaf.segment.rows) × HoldsAt (λ r. r.id ≡ id) leaf.segment.rows row × (has_row leaf.live row ≡ true) × IdsDiffer leaf.segment.rows
+    → (row < length leaf.segment.rows) × (list_any (has_id id) (flat_map live_rows ls) ≡ true) × Contains ls leaf × ((files : ℕ → List ℕ) → stored_in files ls id ≡ Some (source_in files leaf row))
+held id ls i leaf row at h none is = (
+  is.0,
+  some_live id ls i leaf at h (live_in id leaf row is.3 is.0 is.1 is.2),
+  Contains-from_at ls leaf (i, h, λ d. any_read ls i leaf d h ∙ sym at),
+  λ files. first_stored files id ls i leaf (source_in files leaf row) at h none (found_record files id leaf row is.3 is.0 is.1 is.2),
+)
+  where
+    any_read : {X : Type 0} (xs : List X) (k : ℕ) (d e : X) → k < length xs → get_or xs k e ≡ get_or xs k d
+    any_read [] k d e q = absurd (omega arith)
+    any_read (x ∷ xs) zero d e q = refl
+    any_read (x ∷ xs) (suc k) d e q = any_read xs k d e (omega arith)
+
+-- ---- lengths
+
+pub length-at : (rows : List Row) (i n : ℕ) → i < length rows → HoldsAt (λ r. r.length ≡ n) rows i → slice_index (map (λ r. r.length) rows) i ≡ n
+length-at [] i n h is = absurd (omega arith)
+length-at (r ∷ rows) zero n h is = is r
+length-at (r ∷ rows) (suc i) n h is = length-at rows i n (omega arith) is
+
+pub place_within : (rows : List Row) (i : ℕ) → i < length rows → source_place rows i + slice_index (map (λ r. r.length) rows) i ≤ sum (map (λ r. r.length) rows)
+place_within [] i h = absurd (omega arith)
+place_within (r ∷ rows) zero h = let s = sum-cons r.length (map (λ q. q.length) rows) in omega (arith, s)
+place_within (r ∷ rows) (suc i) h =
+    let later : source_place rows i + slice_index (map (λ q. q.length) rows) i ≤ sum (map (λ q. q.length) rows) = place_within rows i (omega arith) in
+    let s = sum-cons r.length (map (λ q. q.length) rows) in
+    let t = sum-cons r.length (map (λ q. q.length) (take i rows)) in
+    omega (arith, later, s, t)
+
+-- what a device gives of the file with the sources of a segment that the code has by another name
+pub read_is : (files : ℕ → List ℕ) (leaf : Leaf) (s : Segment) (row place len : ℕ) (items : List ℕ) → s ≡ leaf.segment → row < length leaf.segment.rows
+    → place ≡ source_place s.rows row → HoldsAt (λ r. r.length ≡ len) s.rows row → items ≡ take len (drop place (files leaf.segment.number)) → items ≡ source_in files leaf row
+read_is files leaf s row place len items is h p l e =
+    let rows : List Row = leaf.segment.rows in
+    let bytes : List ℕ = files leaf.segment.number in
+    let long : slice_index (map (λ r. r.length) rows) row ≡ len = length-at rows row len h (subst (λ t. HoldsAt (λ r. r.length ≡ len) t.rows row) is l) in
+    e ∙ ap (λ n. take n (drop place bytes)) (sym long) ∙ ap (λ n. take (slice_index (map (λ r. r.length) rows) row) (drop n bytes)) (p ∙ ap (λ t. source_place t.rows row) is)
+
+-- a file that holds the sources isn't too short for one of them
+pub long_enough : (files : ℕ → List ℕ) (leaf : Leaf) (s : Segment) (row place len : ℕ) → s ≡ leaf.segment → row < length leaf.segment.rows
+    → place ≡ source_place s.rows row → HoldsAt (λ r. r.length ≡ len) s.rows row → sum (map (λ r. r.length) leaf.segment.rows) ≤ length (files leaf.segment.number) → length (files leaf.segment.number) < place + len → ⊥
+long_enough files leaf s row place len is h p l holds short =
+    let rows : List Row = leaf.segment.rows in
+    let long : slice_index (map (λ r. r.length) rows) row ≡ len = length-at rows row len h (subst (λ t. HoldsAt (λ r. r.length ≡ len) t.rows row) is l) in
+    let at : place ≡ source_place rows row = p ∙ ap (λ t. source_place t.rows row) is in
+    let fits = place_within rows row h in
+    omega (arith, long, at, fits, holds, short)
