@@ -4,6 +4,7 @@ use Rattle.std.specs.Prelude.{codes, count_by}
 use Rattle.std.proofs.lemmas.List.{length-append, drop_at, append_cancel_left}
 use Rattle.cat_base.specs.Bytes.{spelled_u32, spelled_u64}
 use Rattle.cat_base.proofs.Spellings.{u32_exact, u64_exact}
+use Rattle.cat_values.proofs.Told.{same_sets}
 use Rattle.cat_model.specs.RowSets.{IsPacked}
 use Rattle.cat_model.specs.LiveFile.{LiveRows, AreLiveRows, SpellsLive}
 
@@ -44,3 +45,12 @@ said magic version number generation rows rest told fit_magic fit_number fit_gen
 -- and in no fewer than 25
 pub spelled_long : (bytes : List ℕ) (told : LiveRows) → SpellsLive bytes told → 25 ≤ length bytes
 spelled_long bytes told s = omega (arith, ap length s.spelled, length-spelled 1129072982 1 told.number told.generation (length told.live) s.packed)
+
+-- the rows that are live are those of the set that stands there
+pub live_told : (bytes : List ℕ) (magic version number generation rows : ℕ) (rest : List ℕ) (told : LiveRows) (set : List Bool) → bytes ≡ spelled magic version number generation rows rest
+    → magic < 2 ^ 32 → number < 2 ^ 64 → generation < 2 ^ 64 → rows < 2 ^ 32 → AreLiveRows told → SpellsLive bytes told → length set ≡ rows → IsPacked (drop 25 bytes) set → told.live ≡ set
+live_told bytes magic version number generation rows rest told set whole fit_magic fit_number fit_generation fit_rows are spells long packed =
+    let s : SpellsLive (spelled magic version number generation rows rest) told = subst (λ l. SpellsLive l told) whole spells in
+    let t = said magic version number generation rows rest told fit_magic fit_number fit_generation fit_rows are s in
+    let there : IsPacked s.packed set = subst (λ l. IsPacked l set) (ap (drop 25) whole ∙ rest_is magic version number generation rows rest ∙ t.the_rest) packed in
+    same_sets s.packed told.live set s.set there (sym t.the_rows ∙ sym long)
