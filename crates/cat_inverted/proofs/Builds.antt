@@ -16,9 +16,10 @@ use Rattle.cat_base.proofs.TextSets.{has, same_set}
 use Rattle.cat_model.specs.Text.{Text, same_text}
 use Rattle.cat_model.specs.RowSets.{has_row}
 use Rattle.cat_model.specs.Ordinals.{postings_of, rows_having}
-use Rattle.cat_inverted.specs.Postings.{cut, AreEnds, is_among, IsPostings, words_at, words_of_rows, IsTerms}
+use Rattle.cat_model.specs.Layout.{pieces, AreEnds}
+use Rattle.cat_inverted.specs.Postings.{is_among, IsPostings, IsPart, words_at, words_of_rows, IsTerms}
 use Rattle.cat_inverted.specs.Gathered.{ends_from}
-use Rattle.cat_inverted.proofs.Parts.{joined, cut_joined, length-ends_from, ends_are}
+use Rattle.cat_inverted.proofs.Parts.{joined, pieces_joined, length-ends_from, ends_are}
 use Rattle.cat_inverted.proofs.Rows.{same_has, among_kept, kept_are_postings}
 
 -- what holds of each slice holds of each list
@@ -77,15 +78,19 @@ module _ (len : ℕ) (texts : List (List Text)) (words : List Text) (f : Text �
       subst (IsPostings len) (sym (get_or-map f words k [] d inside ∙ lists q))
       (subst (λ n. IsPostings n (postings_of q texts)) (set_length q) (kept_are_postings (has_row (rows_having q texts)) (length (rows_having q texts))))
 
-  pub terms_built : (ends rows : List ℕ) → len < 2 ^ 32 → ends ≡ ends_from 0 parts → rows ≡ joined parts → IsTerms len words ends rows
-  terms_built ends rows few e r =
-      let whole = ap (λ (l : List ℕ). cut 0 l rows) e ∙ ap (cut 0 (ends_from 0 parts)) r ∙ cut_joined parts in
+  pub parts_posted : All (IsPart len) parts
+  parts_posted k d lt = (some_rows k d lt, posted k d lt)
+
+  pub terms_built : (ends rows : List ℕ) → len < 2 ^ 32 → length rows < 2 ^ 32 → ends ≡ ends_from 0 parts → rows ≡ joined parts → IsTerms len words ends rows
+  terms_built ends rows few fits e r =
+      let whole = ap (λ (l : List ℕ). pieces 0 l rows) e ∙ ap (pieces 0 (ends_from 0 parts)) r ∙ pieces_joined parts in
       record {
         few = few;
+        fits = fits;
         sorted = sorted;
         paired = ap length e ∙ length-ends_from 0 parts ∙ length-map words f;
-        ended = subst (λ (l : List ℕ). AreEnds 0 l (length rows)) (sym e) (ends_are 0 (length rows) parts some_rows (let total = ap length r in let whole_length : 0 + length (joined parts) ≡ length rows = omega arith in whole_length));
-        posted = subst (All (IsPostings len)) (sym whole) posted;
+        ended = subst (λ (l : List ℕ). AreEnds 0 l (length rows)) (sym e) (ends_are 0 (length rows) parts (let total = ap length r in let whole_length : 0 + length (joined parts) ≡ length rows = omega arith in whole_length));
+        posted = subst (All (IsPart len)) (sym whole) parts_posted;
       }
 
   row_set : All IsTextSet texts → (k : ℕ) → k < len → get_or texts k [] ≡ words_at words parts k
@@ -102,7 +107,10 @@ module _ (len : ℕ) (texts : List (List Text)) (words : List Text) (f : Text �
           ∙ sym (any-filter_same (same_text q) (λ w. is_among (f w) k) (is_among (f q) k) (λ w h. ap (λ v. is_among (f v) k) (sym ((bytes_eq-Decides q w).0 h))) words)
           ∙ same_has q (filter (λ w. is_among (f w) k) words)
 
-  pub rows_built : All IsTextSet texts → (ends rows : List ℕ) → ends ≡ ends_from 0 parts → rows ≡ joined parts → words_of_rows len words (cut 0 ends rows) ≡ texts
+  pub rows_are : All IsTextSet texts → words_of_rows len words parts ≡ texts
+  rows_are sets = sym (fill_by_all (words_at words parts) texts len [] long (row_set sets))
+
+  pub rows_built : All IsTextSet texts → (ends rows : List ℕ) → ends ≡ ends_from 0 parts → rows ≡ joined parts → words_of_rows len words (pieces 0 ends rows) ≡ texts
   rows_built sets ends rows e r =
-      ap (words_of_rows len words) (ap (λ (l : List ℕ). cut 0 l rows) e ∙ ap (cut 0 (ends_from 0 parts)) r ∙ cut_joined parts)
-      ∙ sym (fill_by_all (words_at words parts) texts len [] long (row_set sets))
+      ap (words_of_rows len words) (ap (λ (l : List ℕ). pieces 0 l rows) e ∙ ap (pieces 0 (ends_from 0 parts)) r ∙ pieces_joined parts)
+      ∙ rows_are sets

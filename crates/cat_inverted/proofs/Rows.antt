@@ -1,9 +1,10 @@
 -- Which rows have a word, and which words a row has.
 use Rattle.std.proofs.Common.{◌≡◌, ℕ, zero, suc, ◌+◌, ◌-◌, ◌<◌, ◌≤◌, List, [], ◌∷◌, length, get_or, take, drop, map, Bool, true, false, cond, ◌&&◌, ◌||◌, refl, sym, ap, ◌∙◌, arith, Less, nat_cmp, subst, replicate, eq-eqb, eqb-true}
-use Rattle.std.proofs.lemmas.List.{length-replicate}
+use Rattle.std.proofs.lemmas.List.{length-map, length-replicate}
 use Rattle.std.proofs.lemmas.List.FromFn.{fill_by_all, length-range_with_len, get_or-range_with_len, length-map-range_with_len, get_or-map-range_with_len}
 use Rattle.std.proofs.lemmas.List.Elements.{All-from_recursion}
 use Rattle.std.proofs.lemmas.List.Folds.{list_any_at}
+use Rattle.std.proofs.lemmas.List.Sums.{length-filter, count_by-le-length}
 use Rattle.std.proofs.lemmas.Map.Views.{any-filter_same}
 use Rattle.std.proofs.lemmas.Map.Text.{is_eq-slice_cmp}
 use Rattle.std.specs.Cmp.Lexicographic.{slice_cmp}
@@ -14,11 +15,12 @@ use Rattle.cat_base.specs.Texts.{IsTextSet}
 use Rattle.cat_base.proofs.TextSets.{has, sorted_set_is}
 use Rattle.cat_model.specs.Text.{Text, same_text}
 use Rattle.cat_model.specs.RowSets.{has_row, places, with_rows}
-use Rattle.cat_model.specs.Ordinals.{dictionary_of}
+use Rattle.cat_model.specs.Ordinals.{dictionary_of, rows_having, postings_of}
 use Rattle.cat_model.proofs.Lists.{All-kept, All-both, filter_alike, list_any-append}
-use Rattle.cat_inverted.specs.Postings.{cut, is_among, IsPostings, words_at, words_of_rows, IsTerms}
+use Rattle.cat_model.specs.Layout.{pieces}
+use Rattle.cat_inverted.specs.Postings.{is_among, IsPostings, IsPart, words_at, words_of_rows, IsTerms}
 use Rattle.cat_inverted.specs.Intervals.{IsInterval}
-use Rattle.cat_inverted.proofs.Parts.{joined, length-cut, some_in_cut}
+use Rattle.cat_inverted.proofs.Parts.{joined, length-pieces}
 
 pub if_ok : {X E : Type 0} (P Q : X → Type 0) → ((x : X) → P x → Q x) → (r : Result X E) → IfOk r P → IfOk r Q
 if_ok P Q f (Ok x) h = f x h
@@ -43,7 +45,7 @@ any_kept {X} p q (x ∷ xs) =
       | false ↦ any_kept p q xs ∙ elim (p x) as (λ a. list_any (λ y. p y && q y) xs ≡ ((a && false) || list_any (λ y. p y && q y) xs)) [ true ↦ refl | false ↦ refl ]
     ]
 
-any_joined : {X Y : Type 0} (p : Y → Bool) (f : X → List Y) (xs : List X) → list_any p (flat_map (λ l. l) (map f xs)) ≡ list_any (λ x. list_any p (f x)) xs
+pub any_joined : {X Y : Type 0} (p : Y → Bool) (f : X → List Y) (xs : List X) → list_any p (flat_map (λ l. l) (map f xs)) ≡ list_any (λ x. list_any p (f x)) xs
 any_joined p f [] = refl
 any_joined p f (x ∷ xs) = list_any-append p (f x) (flat_map (λ l. l) (map f xs)) ∙ ap (λ b. list_any p (f x) || b) (any_joined p f xs)
 
@@ -206,26 +208,26 @@ any_alike : {X : Type 0} (f g : X → Bool) → ((x : X) → f x ≡ g x) → (x
 any_alike f g h [] = refl
 any_alike f g h (x ∷ xs) = let here = h x in let later = any_alike f g h xs in cc
 
-posted : (len : ℕ) (part : List ℕ) → 0 < length part → IsPostings len part → list_any (is_among part) (range_with_len 0 len) ≡ true
-posted len part some e = some_kept (is_among part) (range_with_len 0 len) (subst (λ (l : List ℕ). 0 < length l) e some)
+posted : (len : ℕ) (part : List ℕ) → IsPart len part → list_any (is_among part) (range_with_len 0 len) ≡ true
+posted len part h = some_kept (is_among part) (range_with_len 0 len) (subst (λ (l : List ℕ). 0 < length l) h.1 h.0)
 
 -- the words are those that some row has
-pub words_are : (len : ℕ) (words : List Text) (ends rows : List ℕ) → IsTerms len words ends rows → words ≡ dictionary_of (words_of_rows len words (cut 0 ends rows))
+pub words_are : (len : ℕ) (words : List Text) (ends rows : List ℕ) → IsTerms len words ends rows → words ≡ dictionary_of (words_of_rows len words (pieces 0 ends rows))
 words_are len words ends rows h =
     sorted_set_is (flat_map (λ texts. texts) (words_of_rows len words parts)) words h.sorted (λ q. sym (same_has q _) ∙ members q ∙ same_has q words)
   where
     parts : List (List ℕ)
-    parts = cut 0 ends rows
+    parts = pieces 0 ends rows
 
     all_posted : All (λ part. list_any (is_among part) (range_with_len 0 len) ≡ true) parts
-    all_posted k d lt = posted len (get_or parts k d) (some_in_cut 0 ends rows h.ended k d lt) (h.posted k d lt)
+    all_posted k d lt = posted len (get_or parts k d) (h.posted k d lt)
 
     members : (q : Text) → list_any (same_text q) (flat_map (λ texts. texts) (words_of_rows len words parts)) ≡ list_any (same_text q) words
     members q =
         any_joined (same_text q) (words_at words parts) (range_with_len 0 len)
         ∙ any_alike (λ row. list_any (same_text q) (words_at words parts row)) (λ row. list_any (λ e. same_text q e.0 && is_among e.1 row) (zip words parts)) (words_any (same_text q) words parts) (range_with_len 0 len)
         ∙ swapped (same_text q) (zip words parts) (range_with_len 0 len)
-        ∙ each_word (same_text q) (λ part. list_any (is_among part) (range_with_len 0 len)) words parts (length-cut 0 ends rows ∙ h.paired) all_posted
+        ∙ each_word (same_text q) (λ part. list_any (is_among part) (range_with_len 0 len)) words parts (length-pieces 0 ends rows ∙ h.paired) all_posted
 
 all_kept : (P : Text → Type 0) (test : List ℕ → Bool) (words : List Text) (parts : List (List ℕ)) → AllByRecursion P words → AllByRecursion P (map (λ e. e.0) (filter (λ e. test e.1) (zip words parts)))
 all_kept P test [] parts a = tt
@@ -254,10 +256,10 @@ rows_are_sets len words parts sorted k d lt =
 
 -- ---- of rows below the length
 
-kept_below : (f : ℕ → Bool) (len : ℕ) → AllByRecursion (λ r. r < len) (filter f (range_with_len 0 len))
+pub kept_below : (f : ℕ → Bool) (len : ℕ) → AllByRecursion (λ r. r < len) (filter f (range_with_len 0 len))
 kept_below f len = All-kept (λ r. r < len) f (range_with_len 0 len) (each_row (λ r. r < len) 0 len (λ k le lt. omega arith))
 
-joined_below : (len : ℕ) (parts : List (List ℕ)) (first count : ℕ) → All (IsPostings len) parts → AllByRecursion (λ r. r < len) (joined (take count (drop first parts)))
+joined_below : (len : ℕ) (parts : List (List ℕ)) (first count : ℕ) → All (IsPart len) parts → AllByRecursion (λ r. r < len) (joined (take count (drop first parts)))
 joined_below len [] zero zero h = tt
 joined_below len [] zero (suc n) h = tt
 joined_below len [] (suc f) zero h = tt
@@ -266,16 +268,22 @@ joined_below len (r ∷ parts) (suc f) count h = joined_below len parts f count 
 joined_below len (r ∷ parts) zero zero h = tt
 joined_below len (r ∷ parts) zero (suc n) h =
     All-both (λ x. x < len) r (joined (take n parts))
-    (subst (AllByRecursion (λ x. x < len)) (sym (h 0 r (omega arith))) (kept_below (is_among r) len))
+    (subst (AllByRecursion (λ x. x < len)) (sym (h 0 r (omega arith)).1) (kept_below (is_among r) len))
     (joined_below len parts zero n (λ k d lt. h (suc k) d (omega arith)))
 
 -- the rows of words are below the length
-pub parts_below : (len : ℕ) (parts : List (List ℕ)) (first count : ℕ) → All (IsPostings len) parts → All (λ r. r < len) (joined (take count (drop first parts)))
+pub parts_below : (len : ℕ) (parts : List (List ℕ)) (first count : ℕ) → All (IsPart len) parts → All (λ r. r < len) (joined (take count (drop first parts)))
 parts_below len parts first count h = All-from_recursion (λ r. r < len) (joined (take count (drop first parts))) (joined_below len parts first count h)
 
 -- the places in a set are below its length
 pub places_below : (set : List Bool) → All (λ r. r < length set) (places set)
 places_below set = All-from_recursion (λ r. r < length set) (places set) (kept_below (has_row set) (length set))
+
+-- a word has at most as many postings as there are rows
+pub few_postings : (word : Text) (texts : List (List Text)) → length (postings_of word texts) ≤ length texts
+few_postings word texts =
+    let set = rows_having word texts in
+    omega (arith, length-filter (has_row set) (range_with_len 0 (length set)), count_by-le-length (has_row set) (range_with_len 0 (length set)), length-range_with_len 0 (length set), length-map texts (list_any (same_text word)))
 
 -- a set is told by its places
 pub set_of_places : (set : List Bool) → set ≡ map (is_among (places set)) (range_with_len 0 (length set))

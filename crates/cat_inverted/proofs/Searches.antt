@@ -12,9 +12,10 @@ use Rattle.cat_base.specs.Texts.{IsTextSet}
 use Rattle.cat_model.specs.Text.{Text, same_text}
 use Rattle.cat_model.specs.RowSets.{places}
 use Rattle.cat_model.specs.Ordinals.{postings_of}
-use Rattle.cat_inverted.specs.Postings.{cut, is_among, IsPostings, words_of_rows, IsTerms}
+use Rattle.cat_model.specs.Layout.{pieces}
+use Rattle.cat_inverted.specs.Postings.{is_among, IsPostings, words_of_rows, IsTerms}
 use Rattle.cat_inverted.specs.Intervals.{IsInterval}
-use Rattle.cat_inverted.proofs.Parts.{joined, length-cut}
+use Rattle.cat_inverted.proofs.Parts.{joined, length-pieces}
 use Rattle.cat_inverted.proofs.Rows.{rows_of_interval, places_of_test}
 
 abbrev order : Text → Text → Ordering
@@ -60,17 +61,17 @@ no_interval words word missing = record {
   ];
 }
 
-one_part : (parts : List (List ℕ)) (o : ℕ) → o < length parts → joined (take 1 (drop o parts)) ≡ get_or parts o []
+pub one_part : (parts : List (List ℕ)) (o : ℕ) → o < length parts → joined (take 1 (drop o parts)) ≡ get_or parts o []
 one_part [] o lt = absurd (omega arith)
 one_part (r ∷ parts) zero lt = append-nil r
 one_part (r ∷ parts) (suc o) lt = one_part parts o (omega arith)
 
 module _ (len : ℕ) (words : List Text) (ends rows : List ℕ) (terms : IsTerms len words ends rows) (word : Text) where
   abbrev parts : List (List ℕ)
-  parts = cut 0 ends rows
+  parts = pieces 0 ends rows
 
   paired : length parts ≡ length words
-  paired = length-cut 0 ends rows ∙ terms.paired
+  paired = length-pieces 0 ends rows ∙ terms.paired
 
   -- the rows of an interval that has just the word
   rows_are : (first count : ℕ) → IsInterval (same_text word) words first count → postings_of word (words_of_rows len words parts) ≡ filter (is_among (joined (take count (drop first parts)))) (range_with_len 0 len)
@@ -80,7 +81,7 @@ module _ (len : ℕ) (words : List Text) (ends rows : List ℕ) (terms : IsTerms
   postings_are o lt at =
       let inside : o < length parts = omega (arith, paired) in
       let one = one_part parts o inside in
-      subst (IsPostings len) (sym one) (terms.posted o [] inside) ∙ sym (rows_are o 1 (word_interval words word o terms.sorted lt at))
+      subst (IsPostings len) (sym one) (terms.posted o [] inside).1 ∙ sym (rows_are o 1 (word_interval words word o terms.sorted lt at))
 
   pub no_postings : (Contains words word → ⊥) → [] ≡ postings_of word (words_of_rows len words parts)
   no_postings missing = sym (rows_are 0 0 (no_interval words word missing) ∙ nowhere (range_with_len 0 len))

@@ -1,25 +1,16 @@
 -- Words with the rows that each is in: how a list of words and one list of rows, cut into a part for each word, stand for
 -- the texts of each row.
-use Rattle.std.specs.Prelude.{◌≡◌, ℕ, zero, suc, ◌-◌, ◌<◌, ◌^◌, Bool, List, [], ◌∷◌, length, map, filter, take, drop, All, ◌==◌}
+use Rattle.std.specs.Prelude.{◌≡◌, ℕ, zero, suc, ◌<◌, ◌^◌, Bool, List, [], ◌∷◌, length, map, filter, All, ◌==◌}
 use Rattle.std.specs.List.{list_any, range_with_len, zip}
 use Rattle.cat_base.specs.Texts.{IsTextSet}
 use Rattle.cat_model.specs.Text.{Text}
-
--- the list from `from` to the first end, from there to the next, and so on
-abbrev pub cut : ℕ → List ℕ → List ℕ → List (List ℕ)
-cut from [] rows = []
-cut from (e ∷ es) rows = take (e - from) (drop from rows) ∷ cut e es rows
+use Rattle.cat_model.specs.Layout.{pieces, AreEnds}
 
 -- where the part of a place begins: at the end before it, the first part at `from`
 abbrev pub start_of : ℕ → List ℕ → ℕ → ℕ
 start_of from ends zero = from
 start_of from [] (suc place) = from
 start_of from (e ∷ es) (suc place) = start_of e es place
-
--- the first end is above `from` and each later one above the end before; the last is `total`
-abbrev pub AreEnds : ℕ → List ℕ → ℕ → Type 0
-AreEnds from [] total = from ≡ total
-AreEnds from (e ∷ es) total = (from < e) × AreEnds e es total
 
 -- whether the row is among the rows
 abbrev pub is_among : List ℕ → ℕ → Bool
@@ -29,6 +20,10 @@ is_among rows row = list_any (λ r. r == row) rows
 abbrev pub IsPostings : ℕ → List ℕ → Type 0
 IsPostings len rows = rows ≡ filter (is_among rows) (range_with_len 0 len)
 
+-- the postings of a word that some row has
+abbrev pub IsPart : ℕ → List ℕ → Type 0
+IsPart len rows = (0 < length rows) × IsPostings len rows
+
 -- the words whose postings have the row
 abbrev pub words_at : List Text → List (List ℕ) → ℕ → List Text
 words_at words postings row = map (λ e. e.0) (filter (λ e. is_among e.1 row) (zip words postings))
@@ -37,10 +32,11 @@ words_at words postings row = map (λ e. e.0) (filter (λ e. is_among e.1 row) (
 abbrev pub words_of_rows : ℕ → List Text → List (List ℕ) → List (List Text)
 words_of_rows len words postings = map (words_at words postings) (range_with_len 0 len)
 
--- words in byte order, each with a part of `rows` that has at least one row
+-- words in byte order, each with its piece of `rows` as its postings
 pub record IsTerms (len : ℕ) (words : List Text) (ends rows : List ℕ) : Type 0 where
   pub few : len < 2 ^ 32
+  pub fits : length rows < 2 ^ 32
   pub sorted : IsTextSet words
   pub paired : length ends ≡ length words
   pub ended : AreEnds 0 ends (length rows)
-  pub posted : All (IsPostings len) (cut 0 ends rows)
+  pub posted : All (IsPart len) (pieces 0 ends rows)

@@ -98,6 +98,7 @@ fn laid(
 ) -> Result<(Vec<u32>, Vec<u32>), Refusal>
     ensures ends { IfOk result (λ p. p.0.items ≡ ends_from 0 (map (λ word. listed word postings.now) words.now)) }
     ensures rows { IfOk result (λ p. p.1.items ≡ flat_map (λ part. part) (map (λ word. listed word postings.now) words.now)) }
+    ensures few { IfOk result (λ p. length p.1.items < 2 ^ 32) }
     ensures refusal { IfErr result (λ e. e ≡ Memory) }
 {
     let mut ends = Vec::with_capacity(alloc, words.len())?;

@@ -2,9 +2,11 @@
 #![tactic(auto)]
 
 mod build;
+mod posted;
 mod ranges;
 mod terms;
 #[cfg(test)]
 mod tests;
 
+pub use posted::terms_are_told_by_their_postings;
 pub use terms::Terms;

@@ -4,8 +4,9 @@ ghost use Rattle.std.specs.List.{flat_map, list_any, range_with_len};
 ghost use Rattle.cat_base.specs.Texts.{IsTextSet};
 ghost use Rattle.cat_base.specs.declared.refusal.Refusal.TheVariants.{Memory};
 ghost use Rattle.cat_model.specs.Text.{Text};
-ghost use Rattle.cat_model.specs.Ordinals.{dictionary_of, postings_of};
-ghost use Rattle.cat_inverted.specs.Postings.{cut, start_of, AreEnds, is_among};
+ghost use Rattle.cat_model.specs.Ordinals.{dictionary_of, postings_of, text_at};
+ghost use Rattle.cat_model.specs.Layout.{pieces, AreEnds};
+ghost use Rattle.cat_inverted.specs.Postings.{start_of, is_among};
 ghost use Rattle.cat_inverted.specs.Intervals.{IsInterval};
 
 use cat_base::{Refusal, Text, TextSet};
@@ -29,11 +30,12 @@ pub struct Terms {
 impl Model for Terms {
     ghost use Rattle.std.specs.Prelude.{List};
     ghost use Rattle.cat_model.specs.Text.{Text};
-    ghost use Rattle.cat_inverted.specs.Postings.{cut, words_of_rows, IsTerms};
+    ghost use Rattle.cat_model.specs.Layout.{pieces};
+    ghost use Rattle.cat_inverted.specs.Postings.{words_of_rows, IsTerms};
 
     ghost Value = { List (List Text) };
 
-    ghost view = { λ t. words_of_rows t.len t.words (cut 0 t.ends.items t.rows.items) };
+    ghost view = { λ t. words_of_rows t.len t.words (pieces 0 t.ends.items t.rows.items) };
 
     ghost invariant = { λ t. IsTerms t.len t.words t.ends.items t.rows.items };
 }
@@ -55,7 +57,7 @@ fn start_of(ends: &[u32], ordinal: usize) -> usize
 fn parts<'a>(ends: &[u32], rows: &'a [u32], first: usize, count: usize) -> &'a [u32]
     requires ends { AreEnds 0 ends.now (length rows.now) }
     requires within { first + count ≤ length ends.now }
-    ensures { result.now ≡ flat_map (λ part. part) (take count (drop first (cut 0 ends.now rows.now))) }
+    ensures { result.now ≡ flat_map (λ part. part) (take count (drop first (pieces 0 ends.now rows.now))) }
 {
     &rows[start_of(ends, first)..start_of(ends, first + count)]
 }
@@ -70,12 +72,26 @@ impl Terms {
         self.len
     }
 
-    /// The words that some row has, in byte order.
+    /// The words that some row has, in byte order. The place of a word is its ordinal, as that of Lucene's
+    /// `TermsEnum.ord`. There are fewer than 2^32.
     pub fn words(&self) -> &[Text]
         ensures value { result.now ≡ dictionary_of self.now }
         ensures sorted { IsTextSet result.now }
+        ensures few { length (dictionary_of self.now) < 2 ^ 32 }
     {
         self.words.as_slice()
+    }
+
+    /// The rows that have the word of this ordinal, rising: at most as many as the segment has, and each below that number.
+    /// It takes no search, as Lucene's `TermsEnum.seekExact(ord)` and `postings`.
+    pub fn postings_at(&self, ordinal: usize) -> &[u32]
+        requires { ordinal < length (dictionary_of self.now) }
+        ensures value { result.now ≡ postings_of (text_at (dictionary_of self.now) ordinal) self.now }
+        ensures within { All (λ row. row < length self.now) result.now }
+        ensures count { length result.now ≤ length self.now }
+        ensures few { length result.now < 2 ^ 32 }
+    {
+        parts(&self.ends, &self.rows, ordinal, 1)
     }
 
     /// The rows that have the word, rising; none for a word that no row has. It takes a binary search, as Lucene's

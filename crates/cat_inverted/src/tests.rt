@@ -1,8 +1,9 @@
 //! Terms of a few rows, looked up by words and by ranges of words.
-ghost use Rattle.std.specs.Prelude.{◌^◌, ◌<◌, length};
+ghost use Rattle.std.specs.Prelude.{◌≡◌, ◌^◌, ◌<◌, length};
+ghost use Rattle.cat_model.specs.Layout.{AreEnds};
 
 use crate::Terms;
-use cat_base::{Text, TextSet};
+use cat_base::{Refusal, Text, TextSet};
 use cat_values::RowSet;
 use std::alloc::Global;
 use std::test::Fail;
@@ -106,5 +107,66 @@ fn open_ends_bound_nothing(rt: HostRuntime) -> Result<(), Fail> {
         shown(alloc, &terms.between(Some(&red), None)?)?.as_str(),
         "[0, 2, 3]"
     );
+    Ok(())
+}
+
+/// The terms of `len` rows with these words, whose postings end where `ends` says.
+fn read(
+    alloc: Global,
+    len: usize,
+    words: &[&str],
+    ends: &[u32],
+    rows: &[u32],
+) -> Result<Terms, Refusal>
+    requires few { len < 2 ^ 32 }
+    requires paired { length ends.now ≡ length words.now }
+    requires parts { AreEnds 0 ends.now (length rows.now) }
+{
+    let mut texts = Vec::new(alloc);
+    for word in words {
+        texts.push(Text::from_str(alloc, word)?)?;
+    }
+    let ends = Vec::from_slice(alloc, ends)?;
+    let rows = Vec::from_slice(alloc, rows)?;
+    Terms::from_postings(len, texts, ends, rows)
+}
+
+/// Whether the terms were refused as damaged.
+fn is_damaged(read: Result<Terms, Refusal>) -> Result<bool, Fail> {
+    match read {
+        Ok(_) => Ok(false),
+        Err(Refusal::Damaged) => Ok(true),
+        Err(refusal) => Err(refusal.into()),
+    }
+}
+
+#[test]
+fn postings_make_terms(rt: HostRuntime) -> Result<(), Fail> {
+    let alloc = rt.alloc();
+    let terms = read(alloc, 3, &["blue", "red"], &[1, 3], &[2, 0, 2])?;
+    assert_eq!(rt; terms.len(), 3);
+    let words = format!(in alloc; "{:?}", terms.words())?;
+    assert_eq!(rt; words.as_str(), "[\"blue\", \"red\"]");
+    let blue = format!(in alloc; "{:?}", terms.postings("blue"))?;
+    assert_eq!(rt; blue.as_str(), "[2]");
+    if terms.words().len() == 2 {
+        let red = format!(in alloc; "{:?}", terms.postings_at(1))?;
+        assert_eq!(rt; red.as_str(), "[0, 2]");
+    }
+    Ok(())
+}
+
+#[test]
+fn postings_of_no_rows_are_damaged(rt: HostRuntime) -> Result<(), Fail> {
+    let alloc = rt.alloc();
+    // Words that fall, and one that comes twice.
+    assert!(rt; is_damaged(read(alloc, 3, &["red", "blue"], &[1, 2], &[0, 1]))?);
+    assert!(rt; is_damaged(read(alloc, 3, &["red", "red"], &[1, 2], &[0, 1]))?);
+    // A word without rows.
+    assert!(rt; is_damaged(read(alloc, 3, &["blue", "red"], &[1, 1], &[0]))?);
+    // Rows that fall, one that comes twice, and one past the last.
+    assert!(rt; is_damaged(read(alloc, 3, &["red"], &[2], &[1, 0]))?);
+    assert!(rt; is_damaged(read(alloc, 3, &["red"], &[2], &[1, 1]))?);
+    assert!(rt; is_damaged(read(alloc, 3, &["red"], &[2], &[1, 3]))?);
     Ok(())
 }

@@ -1,4 +1,4 @@
-use Rattle.std.proofs.Common.{ℕ, List, length, ap, ◌∙◌}
+use Rattle.std.proofs.Common.{ℕ, List, length, ap, ◌∙◌, arith}
 use Rattle.cat_inverted.specs.Gathered.{listed}
 use Rattle.cat_inverted.proofs.Gathering.{laid_more, ends_more}
 use Rattle.cat_inverted.proofs.build.laid.Goals as goal
@@ -13,4 +13,5 @@ loop-word-preserved c =
     record {
       ends = ends_more f c.args.words.now i word c.loop-word-test.true c.word-item.is c.loop-word.ends.items c.push.new.self.items c.len-in-loop-word.result c.loop-word.invariant.ends c.in_ok-push.ensures.items (c.len-in-loop-word.ensures ∙ c.extend_from_slice.new.self.ok.0 ∙ ap length rows);
       rows = rows;
+      few = omega (arith, c.len.ensures, c.extend_from_slice.new.self.ok.0);
     }

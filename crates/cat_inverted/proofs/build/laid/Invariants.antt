@@ -1,4 +1,4 @@
-use Rattle.std.proofs.Common.{◌≡◌, take, map}
+use Rattle.std.proofs.Common.{◌≡◌, ◌<◌, ◌^◌, length, take, map}
 use Rattle.std.specs.List.{flat_map}
 use Rattle.cat_inverted.specs.Gathered.{listed, ends_from}
 use Rattle.cat_inverted.proofs.build.laid.Given as goal
@@ -7,4 +7,5 @@ abbrev pub invariant-loop-word : goal.invariant-loop-word
 invariant-loop-word l = record {
   ends : l.ends.items ≡ ends_from 0 (map (λ word. listed word l.postings) (take l.word-index l.words));
   rows : l.rows.items ≡ flat_map (λ part. part) (map (λ word. listed word l.postings) (take l.word-index l.words));
+  few : length l.rows.items < 2 ^ 32;
 }

@@ -12,7 +12,7 @@ invariant_of-result c =
     let f = λ (q : List ℕ). listed q m in
     let words = c.in_ok-words.words in
     terms_built (length rows) (map (λ r. r.now) rows) words f (length-map rows (λ r. r.now)) c.in_ok-postings.ensures.lists c.in_ok-words.ensures.sorted (λ q. c.in_ok-words.ensures.ok q ∙ c.in_ok-postings.ensures.keys q)
-    c.in_ok-ends.ends.items c.in_ok-ends.rows_of_words.items c.requires.few
+    c.in_ok-ends.ends.items c.in_ok-ends.rows_of_words.items c.requires.few c.in_ok-ends.ensures.few
     (c.in_ok-ends.ensures.ends ∙ ap (λ ws. ends_from 0 (map f ws)) c.as_slice.ensures.value)
     (c.in_ok-ends.ensures.rows ∙ ap (λ ws. joined (map f ws)) c.as_slice.ensures.value)
 

@@ -8,7 +8,7 @@ use Rattle.std.specs.Prelude.{Contains}
 use Rattle.cat_base.specs.Texts.{IsTextSet}
 use Rattle.cat_base.proofs.TextSets.{searched}
 use Rattle.cat_model.specs.Ordinals.{postings_of}
-use Rattle.cat_inverted.specs.Postings.{cut}
+use Rattle.cat_model.specs.Layout.{pieces}
 use Rattle.cat_inverted.proofs.Parts.{joined}
 use Rattle.cat_inverted.proofs.Searches.{postings_are, no_postings}
 use Rattle.cat_inverted.proofs.terms.Terms.postings.Goals as goal
@@ -22,8 +22,8 @@ returns-in-Ok c =
     let inside = subst (λ (l : List (List ℕ)). o < length l) c.as_slice.ensures.value c.in-Ok.ensures.bound in
     let here = subst (λ (l : List (List ℕ)). get_or l o [] ≡ word) c.as_slice.ensures.value (exact_bytes _ _ (at [])) in
     c.parts.ensures
-    ∙ ap (λ (ends : List ℕ). joined (take 1 (drop o (cut 0 ends c.deref-in-Ok.result.now)))) c.deref.ensures.value
-    ∙ ap (λ (rows : List ℕ). joined (take 1 (drop o (cut 0 t.ends.items rows)))) c.deref-in-Ok.ensures.value
+    ∙ ap (λ (ends : List ℕ). joined (take 1 (drop o (pieces 0 ends c.deref-in-Ok.result.now)))) c.deref.ensures.value
+    ∙ ap (λ (rows : List ℕ). joined (take 1 (drop o (pieces 0 t.ends.items rows)))) c.deref-in-Ok.ensures.value
     ∙ postings_are t.len t.words t.ends.items t.rows.items c.self.invariant word o inside here
     ∙ ap (postings_of word) c.self.view_is
 

@@ -5,8 +5,9 @@ use Rattle.std.specs.Prelude.{All}
 use Rattle.cat_model.specs.Text.{Text}
 use Rattle.cat_model.specs.Ordinals.{dictionary_of}
 use Rattle.cat_inverted.specs.Intervals.{IsInterval}
-use Rattle.cat_inverted.specs.Postings.{cut, is_among, words_at}
-use Rattle.cat_inverted.proofs.Parts.{joined, length-cut}
+use Rattle.cat_model.specs.Layout.{pieces}
+use Rattle.cat_inverted.specs.Postings.{is_among, words_at}
+use Rattle.cat_inverted.proofs.Parts.{joined, length-pieces}
 use Rattle.cat_inverted.proofs.Rows.{if_ok, words_are, parts_below, rows_of_interval}
 use Rattle.cat_inverted.proofs.terms.Terms.rows_of_words.Goals as goal
 
@@ -19,27 +20,27 @@ parts-requires-clause-within c =
 pub set_of-requires : goal.set_of-requires
 set_of-requires c =
     let t = c.self.inside in
-    let parts = cut 0 t.ends.items t.rows.items in
+    let parts = pieces 0 t.ends.items t.rows.items in
     let long = sym (length-map-range_with_len (words_at t.words parts) 0 t.len) ∙ ap length c.self.view_is in
     let found =
     c.parts.ensures
-    ∙ ap (λ (ends : List ℕ). joined (take c.args.count (drop c.args.first (cut 0 ends c.deref-2.result.now)))) c.deref.ensures.value
-    ∙ ap (λ (rows : List ℕ). joined (take c.args.count (drop c.args.first (cut 0 t.ends.items rows)))) c.deref-2.ensures.value in
+    ∙ ap (λ (ends : List ℕ). joined (take c.args.count (drop c.args.first (pieces 0 ends c.deref-2.result.now)))) c.deref.ensures.value
+    ∙ ap (λ (rows : List ℕ). joined (take c.args.count (drop c.args.first (pieces 0 t.ends.items rows)))) c.deref-2.ensures.value in
     subst (λ (rows : List ℕ). All (λ r. r < length c.args.self.now) rows) (sym found)
     (subst (λ (n : ℕ). All (λ r. r < n) (joined (take c.args.count (drop c.args.first parts)))) long (parts_below t.len parts c.args.first c.args.count c.self.invariant.posted))
 
 pub returns-clause-ok : goal.returns-clause-ok
 returns-clause-ok c =
     let t = c.self.inside in
-    let parts = cut 0 t.ends.items t.rows.items in
+    let parts = pieces 0 t.ends.items t.rows.items in
     let whole = words_are t.len t.words t.ends.items t.rows.items c.self.invariant ∙ ap dictionary_of c.self.view_is in
     let long = sym (length-map-range_with_len (words_at t.words parts) 0 t.len) ∙ ap length c.self.view_is in
     let found =
     c.parts.ensures
-    ∙ ap (λ (ends : List ℕ). joined (take c.args.count (drop c.args.first (cut 0 ends c.deref-2.result.now)))) c.deref.ensures.value
-    ∙ ap (λ (rows : List ℕ). joined (take c.args.count (drop c.args.first (cut 0 t.ends.items rows)))) c.deref-2.ensures.value in
+    ∙ ap (λ (ends : List ℕ). joined (take c.args.count (drop c.args.first (pieces 0 ends c.deref-2.result.now)))) c.deref.ensures.value
+    ∙ ap (λ (rows : List ℕ). joined (take c.args.count (drop c.args.first (pieces 0 t.ends.items rows)))) c.deref-2.ensures.value in
     if_ok _ _ (λ s set p interval.
     set ∙ ap (λ (rows : List ℕ). map (is_among rows) (range_with_len 0 (length c.args.self.now))) found
     ∙ ap (λ (n : ℕ). map (is_among (joined (take c.args.count (drop c.args.first parts)))) (range_with_len 0 n)) (sym long)
-    ∙ sym (rows_of_interval p t.len t.words parts c.args.first c.args.count (subst (λ (words : List Text). IsInterval p words c.args.first c.args.count) (sym whole) interval) (length-cut 0 t.ends.items t.rows.items ∙ c.self.invariant.paired))
+    ∙ sym (rows_of_interval p t.len t.words parts c.args.first c.args.count (subst (λ (words : List Text). IsInterval p words c.args.first c.args.count) (sym whole) interval) (length-pieces 0 t.ends.items t.rows.items ∙ c.self.invariant.paired))
     ∙ ap (map (list_any p)) c.self.view_is) c.set_of.result c.set_of.ensures.ok
