@@ -2,6 +2,8 @@ pub mod RunSteps
 pub mod MemberSteps
 pub mod LabelSteps
 pub mod Names
+pub mod LoweredRuns
 pub mod Parts
 pub mod WholeItem
 pub mod SchemaTexts
+pub mod Formed

@@ -1,11 +1,15 @@
 -- The fields of a schema have the names of the object's members, in their order.
-use Rattle.std.proofs.Common.{◌≡◌, ℕ, List, [], ◌∷◌, ◌++◌, append-nil, map, Bool, true, false, cond, Option, Some, None, option_map, refl, sym, ap, ◌∙◌, subst, nat_cmp, Less}
-use Rattle.std.specs.Prelude.{option_and_then, String, string_bytes}
-use Rattle.std.specs.List.{AllByRecursion}
+use Rattle.std.proofs.Common.{◌≡◌, ℕ, List, [], ◌∷◌, ◌++◌, append-nil, map, Bool, true, false, cond, Option, Some, None, option_map, refl, sym, ap, ◌∙◌, subst, nat_cmp, Ordering, Less, Equal, Greater, IsTrue, ◌+◌, get_or, arith}
+use Rattle.std.specs.Prelude.{◌↔◌, option_and_then, String, string_bytes}
+use Rattle.std.specs.List.{AllByRecursion, IsAllAdjacentAnswer}
 use Rattle.std.specs.List.Sorted.{IsStrictlySortedBy}
 use Rattle.std.specs.Map.{keys_of}
 use Rattle.std.specs.String.{string_cmp}
-use Rattle.std.specs.Cmp.Lexicographic.{slice_cmp}
+use Rattle.std.specs.Ordering.{is_lt}
+use Rattle.std.specs.Cmp.Lexicographic.{slice_cmp, nat_list_cmp_total}
+use Rattle.std.proofs.Math.ListN.{get_or-map, length-map}
+use Rattle.std.proofs.lemmas.Bool.{true≢false}
+use Rattle.std.proofs.lemmas.Map.Keys.{sorted_from_all_adjacent, Less-from_sorted}
 use Rattle.std.specs.declared.alloc.Global.{Global}
 use Rattle.serde_json.specs.Data.{Data, Members, no_members, member}
 use Rattle.serde_json.specs.Find.{as_str}
@@ -96,3 +100,33 @@ rising_names es fs sorted e = names_rise (members_view es) fs (subst IsTextSet (
 -- at the end of the walk
 pub all_read : (old : List Field) (es : List Entry) (all : Option (List Field)) → es ≡ [] → option_map (λ fs. old ++ fs) (fields_of (members_view es)) ≡ all → all ≡ Some old
 all_read old es all none done = sym done ∙ ap (λ l. option_map (λ fs. old ++ fs) (fields_of (members_view l))) none ∙ ap Some (append-nil old)
+
+-- ---- fields whose neighbours rise
+
+abbrev pub comes_before : Field → Field → Bool
+comes_before f g = is_lt (slice_cmp nat_cmp f.name g.name)
+
+less_from_is_lt : (r : Ordering) → true ≡ is_lt r → r ≡ Less
+less_from_is_lt Less e = refl
+less_from_is_lt Equal e = absurd (cc)
+less_from_is_lt Greater e = absurd (cc)
+
+abbrev none : Field
+none = record { name = []; kind = Kind.text }
+
+name-at : (fs : List Field) (k : ℕ) → get_or (names fs) k [] ≡ (get_or fs k none).name
+name-at fs k = get_or-map (λ (f : Field). f.name) fs k none
+
+pair-at : (fs : List Field) (k : ℕ) → slice_cmp nat_cmp (get_or (names fs) k []) (get_or (names fs) (k + 1) []) ≡ slice_cmp nat_cmp (get_or fs k none).name (get_or fs (k + 1) none).name
+pair-at fs k = λ i. slice_cmp nat_cmp (name-at fs k i) (name-at fs (k + 1) i)
+
+-- each field before the next by its name: that is, the names rise
+pub rising_fields : (fs : List Field) (r : Bool) → IsAllAdjacentAnswer (λ f g b. b ≡ comes_before f g) fs r → IsTrue r ↔ IsTextSet (names fs)
+rising_fields fs true all = (
+  λ h. sorted_from_all_adjacent nat_list_cmp_total (names fs) [] (λ k lt. pair-at fs k ∙ less_from_is_lt _ (all k none (omega (arith, lt, length-map fs (λ (f : Field). f.name))))),
+  λ h. refl,
+)
+rising_fields fs false (k, lt, out) = (
+  λ h. absurd (true≢false (sym h)),
+  λ sorted. out none ∙ ap is_lt (sym (pair-at fs k) ∙ Less-from_sorted (slice_cmp nat_cmp) (names fs) k (k + 1) [] sorted (omega arith) (omega (arith, lt, length-map fs (λ (f : Field). f.name)))),
+)

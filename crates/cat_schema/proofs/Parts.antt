@@ -1,7 +1,7 @@
 -- The parts of an item, and the values that stand for them.
-use Rattle.std.proofs.Common.{◌≡◌, ◌+◌, ◌<◌, ◌≤◌, ℕ, zero, Bor, get_or, sym, suc, List, [], ◌∷◌, length, map, Bool, true, false, cond, not, Option, Some, None, Ok, Err, refl, ap, subst, arith}
+use Rattle.std.proofs.Common.{◌≡◌, ◌+◌, ◌<◌, ◌≤◌, ℕ, zero, Bor, get_or, sym, suc, List, [], ◌∷◌, length, map, Bool, true, false, cond, not, Option, Some, None, Ok, Err, refl, ap, ◌∙◌, subst, arith, rules, ltb}
 use Rattle.std.specs.Prelude.{option_and_then, option_map, slice_get, find, MatchOption}
-use Rattle.std.specs.List.{prefix_len, HoldsAt}
+use Rattle.std.specs.List.{prefix_len, position, position_or_len, HoldsAt}
 use Rattle.std.proofs.lemmas.Option.{slice_get_past}
 use Rattle.std.specs.Option.{option_map_or}
 use Rattle.serde_json.specs.Data.{Data, Items, Members}
@@ -53,7 +53,7 @@ content-got vs i None past = rw (slice_get_past vs i past) refl
 content-got vs i (Some x) here = rw (item_at vs i x.now here.0 (here.1 x.now)) refl
 
 -- the value at the place of the first field of a name is the content of the part of that name
-pub content-at : (name : Text) (fs : List Field) (vs : List FieldValue) → length vs ≡ length fs
+content-at : (name : Text) (fs : List Field) (vs : List FieldValue) → length vs ≡ length fs
     → option_map content_of (slice_get vs (prefix_len (λ f. not (same_text f.name name)) fs)) ≡ option_map (λ p. p.content) (find (λ p. same_text p.name name) (parts_with fs vs))
 content-at name [] [] e = refl
 content-at name [] (v ∷ vs) e = absurd (omega arith)
@@ -65,6 +65,29 @@ content-at name (f ∷ fs) (v ∷ vs) e = at (same_text f.name name) (content-at
         ≡ option_map (λ p. p.content) (cond b (Some (record { name = f.name; content = content_of v })) (find (λ p. same_text p.name name) (parts_with fs vs)))
     at true h = refl
     at false h = let e : 1 + prefix_len (λ f. not (same_text f.name name)) fs ≡ suc (prefix_len (λ f. not (same_text f.name name)) fs) = omega arith in rw e h
+
+abbrev names_field : Text → Field → Bool
+names_field name = λ f. same_text f.name name
+
+placed : (n len : ℕ) (b : Bool) (o : Option ℕ) → ltb n len ≡ b → o ≡ cond b (Some n) None → MatchOption o (len ≤ n) (λ i. i ≡ n)
+placed n len true None test is = absurd (cc)
+placed n len true (Some i) test is = (cc)
+placed n len false None test is = grind (arith, rules)
+placed n len false (Some i) test is = absurd (cc)
+
+place_is : (name : Text) (fs : List Field) (o : Option ℕ) → o ≡ position (names_field name) fs → MatchOption o (length fs ≤ position_or_len (names_field name) fs) (λ i. i ≡ position_or_len (names_field name) fs)
+place_is name fs o is = placed (position_or_len (names_field name) fs) (length fs) _ o refl is
+
+-- no field of the name, and no part
+pub content-none : (name : Text) (fs : List Field) (vs : List FieldValue) → length vs ≡ length fs → None ≡ position (names_field name) fs → None ≡ option_map (λ p. p.content) (find (λ p. same_text p.name name) (parts_with fs vs))
+content-none name fs vs e is =
+    let past = place_is name fs None is in
+    ap (option_map content_of) (sym (slice_get_past vs (position_or_len (names_field name) fs) (omega arith))) ∙ content-at name fs vs e
+
+-- the value at the place of the field of the name
+pub content-some : (name : Text) (fs : List Field) (vs : List FieldValue) (i : ℕ) → length vs ≡ length fs → Some i ≡ position (names_field name) fs
+    → option_map content_of (slice_get vs i) ≡ option_map (λ p. p.content) (find (λ p. same_text p.name name) (parts_with fs vs))
+content-some name fs vs i e is = ap (λ n. option_map content_of (slice_get vs n)) (place_is name fs (Some i) is) ∙ content-at name fs vs e
 
 -- ---- the parts of an item are those that its fields ask for
 

@@ -1,5 +1,5 @@
 -- The schema and the item that a text is.
-use Rattle.std.specs.Prelude.{ℕ, List, [], ◌∷◌, map, length, Bool, nat_lt, nat_le, ◌&&◌, ◌==◌, not, if◌then◌else◌, Option, Some, None, is_some, option_map, option_and_then, Result, Ok, Err, bytes_eq, codes}
+use Rattle.std.specs.Prelude.{List, [], ◌∷◌, map, length, nat_lt, ◌==◌, if◌then◌else◌, Option, Some, None, is_some, option_map, option_and_then, Result, Ok, Err, bytes_eq, codes}
 use Rattle.std.specs.List.{list_all}
 use Rattle.std.specs.Option.{option_or, option_map_or}
 use Rattle.std.specs.Str.{is_utf8}
@@ -13,6 +13,7 @@ use Rattle.cat_base.specs.Texts.{sorted_set}
 use Rattle.cat_model.specs.Text.{Text}
 use Rattle.cat_model.specs.Item.{Field, Kind, Schema, Content, Part, Item, kind_of, is_name, is_id}
 use Rattle.cat_model.specs.Words.{words}
+use Rattle.cat_model.specs.Forms.{is_plain_byte}
 use Rattle.cat_model.specs.Heard.{Json}
 
 -- the JSON value that bytes are: none where they are no UTF-8, no JSON, or nest deeper than 127
@@ -51,10 +52,6 @@ schema_of bytes = schema_of_value (json_of bytes)
 
 abbrev pub id_name : Text
 id_name = codes "id"
-
--- no control character
-abbrev pub is_plain_byte : ℕ → Bool
-is_plain_byte b = nat_le 32 b && not (b == 127)
 
 abbrev pub keyword_fault : Text → Option Refusal
 keyword_fault s = if nat_lt 128 (length s) then Some refusal.Large else (if list_all is_plain_byte s then None else Some refusal.Kind)

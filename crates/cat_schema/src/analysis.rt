@@ -1,7 +1,8 @@
 //! The words of a text: its longest runs of word characters, with ASCII letters lowered.
-ghost use Rattle.std.specs.Prelude.{◌≡◌, ◌<◌, ◌≤◌, ℕ, IfOk, IfErr, length, slice_index, true, false};
+ghost use Rattle.std.specs.Prelude.{◌≡◌, ◌<◌, ◌≤◌, ℕ, IfOk, IfErr, length, slice_index, true, false, All, IsUtf8};
 ghost use Rattle.cat_base.specs.declared.refusal.Refusal.TheVariants.{Memory};
 ghost use Rattle.cat_model.specs.Words.{is_word_byte, lowered, words};
+ghost use Rattle.cat_model.specs.Forms.{IsWord};
 
 use cat_base::{Refusal, Text, TextSet};
 use std::alloc::Global;
@@ -9,7 +10,7 @@ use std::alloc::Global;
 /// The first byte past ASCII: the bytes from it on are those of the other characters' UTF-8.
 const PAST_ASCII: u8 = 128;
 
-fn is_word_byte(b: u8) -> bool
+pub(crate) fn is_word_byte(b: u8) -> bool
     ensures { result ≡ is_word_byte b }
 {
     b.is_ascii_alphanumeric() || b >= PAST_ASCII
@@ -31,6 +32,7 @@ fn run_len(bytes: &[u8]) -> usize
 
 fn lowered(alloc: Global, run: &str) -> Result<Text, Refusal>
     ensures ok { IfOk result (λ t. t ≡ lowered run.now) }
+    ensures utf8 { IfOk result (λ t. IsUtf8 t) }
     ensures refusal { IfErr result (λ e. e ≡ Memory) }
 {
     let mut text = String::from_str(alloc, run)?;
@@ -42,10 +44,16 @@ fn lowered(alloc: Global, run: &str) -> Result<Text, Refusal>
 /// past ASCII, with its ASCII letters lowered.
 ///
 /// Lucene's counterpart is an `Analyzer` of a tokenizer and a `LowerCaseFilter`; the rule is our own.
+///
+/// A refusal is [`Refusal::Memory`]; it also stands for a text of 2^32 bytes or more, which no item has.
 pub fn words(alloc: Global, text: &str) -> Result<TextSet, Refusal>
     ensures ok { IfOk result (λ s. s ≡ words text.now) }
+    ensures forms { IfOk result (λ s. All IsWord s) }
     ensures refusal { IfErr result (λ e. e ≡ Memory) }
 {
+    if text.len() > u32::MAX as usize {
+        return Err(Refusal::Memory);
+    }
     let mut found = Vec::new(alloc);
     let mut rest = text;
     while !rest.is_empty() {

@@ -1,11 +1,11 @@
 //! From a text of JSON to an item.
-ghost use Rattle.std.specs.Prelude.{◌≡◌, ◌≢◌, map, Ok, Err, IfOk, IfErr, option_map, option_and_then};
+ghost use Rattle.std.specs.Prelude.{◌≡◌, ◌≢◌, map, Ok, Err, All, IfOk, IfErr, IsUtf8, option_map, option_and_then};
 ghost use Rattle.serde_json.specs.View.{view, items_view};
 ghost use Rattle.serde_json.specs.Find.{get, as_str};
 ghost use Rattle.cat_base.specs.Texts.{sorted_set};
 ghost use Rattle.cat_base.specs.declared.refusal.Refusal.TheVariants.{Memory};
 ghost use Rattle.cat_model.specs.Item.{IsItem};
-ghost use Rattle.cat_schema.specs.Contents.{content_of};
+ghost use Rattle.cat_schema.specs.Contents.{content_of, IsTyped};
 ghost use Rattle.cat_schema.specs.Kinds.{kind_meant};
 ghost use Rattle.cat_schema.specs.Reading.{texts_of, value_of, item_of};
 
@@ -19,14 +19,24 @@ use cat_base::{MAX_ITEM_BYTES, Refusal, Text, TextSet};
 use serde_json::Value;
 use std::alloc::Global;
 
+// A copy of the text, which is known to be UTF-8.
+fn copied(alloc: Global, text: &str) -> Result<Text, Refusal>
+    ensures ok { IfOk result (λ t. t ≡ text.now) }
+    ensures utf8 { IfOk result (λ t. IsUtf8 t) }
+    ensures refusal { IfErr result (λ e. e ≡ Memory) }
+{
+    Text::from_str(alloc, text)
+}
+
 fn label_set(alloc: Global, labels: &Vec<Value>) -> Result<TextSet, Refusal>
     ensures ok { IfOk result (λ s. s ≡ sorted_set (texts_of (items_view labels.now.items))) }
+    ensures utf8 { IfOk result (λ s. All IsUtf8 s) }
     ensures refusal { IfErr result (λ e. e ≡ Memory) }
 {
     let mut texts = Vec::with_capacity(alloc, labels.len())?;
     for label in labels {
         if let Some(text) = label.as_str() {
-            texts.push(Text::from_str(alloc, text)?)?;
+            texts.push(copied(alloc, text)?)?;
         }
     }
     Ok(TextSet::of(texts))
@@ -34,6 +44,7 @@ fn label_set(alloc: Global, labels: &Vec<Value>) -> Result<TextSet, Refusal>
 
 fn value_of(alloc: Global, kind: Kind, member: Option<&Value>) -> Result<FieldValue, Refusal>
     ensures ok { IfOk result (λ v. content_of v ≡ value_of (kind_meant kind) (option_map (λ d. view d.now) member.entry)) }
+    ensures typed { IfOk result (λ v. IsTyped (content_of v)) }
     ensures refusal { IfErr result (λ e. e ≡ Memory) }
 {
     match kind {
@@ -42,7 +53,7 @@ fn value_of(alloc: Global, kind: Kind, member: Option<&Value>) -> Result<FieldVa
             None => Ok(FieldValue::Words(TextSet::new(alloc))),
         },
         Kind::Keyword => match member.and_then(Value::as_str) {
-            Some(text) => Ok(FieldValue::Keyword(Some(Text::from_str(alloc, text)?))),
+            Some(text) => Ok(FieldValue::Keyword(Some(copied(alloc, text)?))),
             None => Ok(FieldValue::Keyword(None)),
         },
         Kind::Number => Ok(FieldValue::Number(member.and_then(Value::as_i64))),
@@ -56,6 +67,7 @@ fn value_of(alloc: Global, kind: Kind, member: Option<&Value>) -> Result<FieldVa
 fn values_of(alloc: Global, fields: &[Field], root: &Value) -> Result<Vec<FieldValue>, Refusal>
     ensures ok { IfOk result (λ v. map content_of v.items
         ≡ map (λ f. value_of f.kind (get f.name (view root.now))) fields.now) }
+    ensures typed { IfOk result (λ v. All (λ x. IsTyped (content_of x)) v.items) }
     ensures refusal { IfErr result (λ e. e ≡ Memory) }
 {
     let mut values = Vec::with_capacity(alloc, fields.len())?;

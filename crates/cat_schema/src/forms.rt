@@ -1,10 +1,12 @@
-//! The forms of ids, names, keywords and labels.
-ghost use Rattle.std.specs.Prelude.{◌≡◌};
+//! The forms of ids, names, keywords, labels and words.
+ghost use Rattle.std.specs.Prelude.{◌≡◌, ◌↔◌, IsTrue};
 ghost use Rattle.std.specs.List.{list_all};
 ghost use Rattle.std.specs.Char.{is_ascii_graphic};
 ghost use Rattle.cat_model.specs.Item.{is_id, is_name, is_name_byte, has_name_form};
-ghost use Rattle.cat_schema.specs.Reading.{is_plain_byte, keyword_fault, label_fault};
+ghost use Rattle.cat_model.specs.Forms.{is_plain_byte, is_low_byte, IsKeyword, IsLabel, IsWord};
+ghost use Rattle.cat_schema.specs.Reading.{keyword_fault, label_fault};
 
+use crate::analysis::is_word_byte;
 use cat_base::{MAX_FIELD_NAME_BYTES, MAX_ID_BYTES, MAX_KEYWORD_BYTES, Refusal};
 
 fn all_graphic(text: &str) -> bool
@@ -62,6 +64,43 @@ fn all_plain(text: &str) -> bool
     ensures { result ≡ list_all is_plain_byte text.now }
 {
     text.as_bytes().iter().all(|b| is_plain_byte(*b))
+}
+
+/// Whether a text has the form of a keyword: at most 128 bytes, none of them a control character of ASCII. Lucene's
+/// `StringField` takes any term of at most `IndexWriter.MAX_TERM_LENGTH` bytes; the form is our own.
+pub fn keyword_ok(text: &str) -> bool
+    ensures { IsTrue result ↔ IsKeyword text.now }
+{
+    text.len() <= MAX_KEYWORD_BYTES && all_plain(text)
+}
+
+/// Whether a text has the form of a label: a keyword that isn't empty. Lucene's
+/// `SortedSetDocValuesFacetField` takes no empty label either.
+pub fn label_ok(text: &str) -> bool
+    ensures { IsTrue result ↔ IsLabel text.now }
+{
+    !text.is_empty() && keyword_ok(text)
+}
+
+// A byte of a word, and no capital of ASCII.
+fn is_low_byte(b: u8) -> bool
+    ensures { result ≡ is_low_byte b }
+{
+    is_word_byte(b) && !b.is_ascii_uppercase()
+}
+
+fn all_low(text: &str) -> bool
+    ensures { result ≡ list_all is_low_byte text.now }
+{
+    text.as_bytes().iter().all(|b| is_low_byte(*b))
+}
+
+/// Whether a text has the form of a word, as [`words`](crate::words) makes them: 1 to 4,294,967,295 bytes, each an ASCII
+/// letter or digit or of a character past ASCII, and no ASCII capital. The form is our own.
+pub fn word_ok(text: &str) -> bool
+    ensures { IsTrue result ↔ IsWord text.now }
+{
+    !text.is_empty() && text.len() <= u32::MAX as usize && all_low(text)
 }
 
 /// What is wrong with a text as a keyword.

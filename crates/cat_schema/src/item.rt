@@ -1,11 +1,11 @@
 //! An item of the catalogue.
-ghost use Rattle.std.specs.Prelude.{◌≡◌, not, map, length, option_map, IfOk, IfErr};
-ghost use Rattle.std.specs.List.{prefix_len};
+ghost use Rattle.std.specs.Prelude.{◌≡◌, true, map, length, option_map, All, IfOk, IfErr};
 ghost use Rattle.std.specs.Arc.{arc_value};
 ghost use Rattle.cat_base.specs.declared.refusal.Refusal.TheVariants.{Memory};
-ghost use Rattle.cat_model.specs.Text.{same_text};
+ghost use Rattle.cat_model.specs.Item.{is_id};
+ghost use Rattle.cat_model.specs.Forms.{IsFormed, IsFormedItem, IsSourceLength};
 
-use crate::schema::Field;
+use crate::schema::{Field, place_of};
 use cat_base::{Refusal, Text, TextSet};
 use std::marker::Model;
 use std::sync::Arc;
@@ -51,26 +51,14 @@ pub struct Item {
 }
 
 impl Model for Item {
-    ghost use Rattle.std.specs.Prelude.{◌≡◌, length};
-    ghost use Rattle.std.specs.Arc.{arc_value};
     ghost use Rattle.cat_model.specs.Item as model;
-    ghost use Rattle.cat_schema.specs.Contents.{parts_with};
+    ghost use Rattle.cat_schema.specs.Contents.{item_in, IsKept};
 
     ghost Value = { model.Item };
 
-    ghost view = { λ i. record { id = i.id; parts = parts_with (arc_value i.fields).items i.values.items; source = i.source.items } };
+    ghost view = { item_in };
 
-    ghost invariant = { λ i. length i.values.items ≡ length (arc_value i.fields).items };
-}
-
-// How many fields stand before the one of the name.
-fn fields_before(fields: &[Field], name: &str) -> usize
-    ensures { result ≡ prefix_len (λ f. not (same_text f.name name.now)) fields.now }
-{
-    fields
-        .iter()
-        .take_while(|field| field.name() != name)
-        .count()
+    ghost invariant = { IsKept };
 }
 
 impl Item {
@@ -83,7 +71,8 @@ impl Item {
         values: Vec<FieldValue>,
         source: Vec<u8>,
     ) -> Item
-        requires { length values.items ≡ length (arc_value fields).items }
+        requires each { length values.items ≡ length (arc_value fields).items }
+        requires formed { IsFormedItem (record { id = id; parts = parts_with (arc_value fields).items values.items; source = source.items }) }
         ensures { result ≡ record { id = id; parts = parts_with (arc_value fields).items values.items; source = source.items } }
     {
         Item {
@@ -96,14 +85,17 @@ impl Item {
 
     /// The id: 1 to 64 bytes, each from `!` to `~`.
     pub fn id(&self) -> &str
-        ensures { result.now ≡ self.now.id }
+        ensures value { result.now ≡ self.now.id }
+        ensures form { is_id self.now.id ≡ true }
     {
         self.id.as_str()
     }
 
-    /// What the item has in each field, in the order of the schema's fields.
+    /// What the item has in each field, in the order of the schema's fields. A word has 1 to 4,294,967,295 bytes, a
+    /// keyword at most 128, a label 1 to 128, and labels are at most 64.
     pub fn values(&self) -> &[FieldValue]
-        ensures { map content_of result.now ≡ map (λ p. p.content) self.now.parts }
+        ensures value { map content_of result.now ≡ map (λ p. p.content) self.now.parts }
+        ensures forms { All (λ p. IsFormed p.content) self.now.parts }
     {
         self.values.as_slice()
     }
@@ -112,14 +104,14 @@ impl Item {
     pub fn value(&self, name: &str) -> Option<&FieldValue>
         ensures { option_map (λ v. content_of v.now) result ≡ model.content_of name.now self.now }
     {
-        // Past the last value where no field has the name.
-        let place = fields_before(&self.fields, name);
+        let place = place_of(&self.fields, name)?;
         self.values.get(place)
     }
 
-    /// The bytes that the item was read from, as they came.
+    /// The bytes that the item was read from, as they came, 1 to 8,192.
     pub fn source(&self) -> &[u8]
-        ensures { result.now ≡ self.now.source }
+        ensures value { result.now ≡ self.now.source }
+        ensures size { IsSourceLength (length self.now.source) }
     {
         self.source.as_slice()
     }

@@ -12,9 +12,9 @@ mod parsing;
 mod schema;
 
 pub use analysis::words;
-pub use forms::{has_name_form, id_ok};
+pub use forms::{has_name_form, id_ok, keyword_ok, label_ok, word_ok};
 pub use item::{FieldValue, Item};
 pub use laws::{
     every_input_is_heard_one_way, every_line_is_heard_one_way, texts_of_schemas_keep_the_rules,
 };
-pub use schema::{Field, Kind, Schema};
+pub use schema::{Field, Kind, Schema, place_of};

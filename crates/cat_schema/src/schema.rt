@@ -1,9 +1,14 @@
 //! The fields of a catalogue.
-ghost use Rattle.std.specs.Prelude.{◌≡◌, ◌≢◌, Ok, Err, IfOk, IfErr};
+ghost use Rattle.std.specs.Prelude.{◌≡◌, ◌≢◌, ◌↔◌, ◌⊎◌, Ok, Err, IfOk, IfErr, IsTrue, map};
+ghost use Rattle.std.specs.List.{AllByRecursion, position};
 ghost use Rattle.std.specs.Arc.{arc_value};
-ghost use Rattle.cat_base.specs.declared.refusal.Refusal.TheVariants.{Memory};
+ghost use Rattle.cat_base.specs.Texts.{IsTextSet};
+ghost use Rattle.cat_base.specs.declared.refusal.Refusal.TheVariants.{Memory, Damaged};
+ghost use Rattle.cat_model.specs.Text.{same_text};
+ghost use Rattle.cat_model.specs.Item.{is_name};
 
 use crate::fields::read_fields;
+use crate::forms::name_ok;
 use crate::parsing::read_json;
 use cat_base::{MAX_FIELDS, Refusal, Text};
 use std::alloc::Global;
@@ -42,13 +47,16 @@ impl Model for Field {
 impl Field {
     ghost use Rattle.cat_schema.specs.Kinds.{kind_meant};
 
-    pub(crate) fn new(name: Text, kind: Kind) -> Field
+    /// The field of the name and the kind. Whether a field may have the name is judged where fields become a schema
+    /// ([`Schema::of_fields`]).
+    pub fn new(name: Text, kind: Kind) -> Field
         ensures { result ≡ record { name = name; kind = kind_meant kind } }
     {
         Field { name, kind }
     }
 
-    /// The name: 1 to 32 bytes, a lower ASCII letter and then such letters, digits and `_`; never `id`.
+    /// The name. In a schema it has 1 to 32 bytes, a lower ASCII letter and then such letters, digits and `_`, and is
+    /// never `id`.
     pub fn name(&self) -> &str
         ensures { result.now ≡ self.now.name }
     {
@@ -61,6 +69,26 @@ impl Field {
     {
         self.kind
     }
+}
+
+/// The place of the field of the name among the fields, if one has it; Lucene's `FieldInfos.fieldInfo` by a name, whose
+/// `number` is the place here.
+pub fn place_of(fields: &[Field], name: &str) -> Option<usize>
+    ensures { result ≡ position (λ f. same_text f.name name.now) fields.now }
+{
+    fields.iter().position(|field| field.name() == name)
+}
+
+fn all_named(fields: &[Field]) -> bool
+    ensures { IsTrue result ↔ AllByRecursion (λ f. IsTrue (is_name f.name)) fields.now }
+{
+    fields.iter().all(|field| name_ok(field.name()))
+}
+
+fn names_rise(fields: &[Field]) -> bool
+    ensures { IsTrue result ↔ IsTextSet (map (λ f. f.name) fields.now) }
+{
+    fields.is_sorted_by(|one, next| one.name() < next.name())
 }
 
 /// The fields of a catalogue, at most 32 and in byte order of their names; copies share them. They are given before
@@ -102,6 +130,24 @@ impl Schema {
         let fields = read_fields(alloc, members)?;
         if fields.len() > MAX_FIELDS {
             return Err(Refusal::Kind);
+        }
+        Ok(Schema {
+            fields: Arc::new(alloc, fields)?,
+        })
+    }
+
+    /// The schema of the fields, in their order, as a file lists them: at most 32, each with the name of a field, and
+    /// the names rise by bytes. Lucene's `FieldInfos` of an array of `FieldInfo`s, as a `FieldInfosFormat` makes it.
+    ///
+    /// `Refusal::Damaged` where the fields are no schema, and `Refusal::Memory` where memory is refused.
+    pub fn of_fields(alloc: Global, fields: Vec<Field>) -> Result<Schema, Refusal>
+        ensures ok { IfOk result (λ s. s ≡ fields.items) }
+        ensures valid { IfOk result (λ s. IsSchema s) }
+        ensures damaged { IfErr result (λ e. e ≡ Damaged → ¬ (IsSchema fields.items)) }
+        ensures refusal { IfErr result (λ e. (e ≡ Damaged) ⊎ (e ≡ Memory)) }
+    {
+        if fields.len() > MAX_FIELDS || !all_named(&fields) || !names_rise(&fields) {
+            return Err(Refusal::Damaged);
         }
         Ok(Schema {
             fields: Arc::new(alloc, fields)?,

@@ -9,5 +9,5 @@ pub returns : goal.returns
 returns c =
     content-got c.values.result.now c.args.place c.get.result c.get.ensures.lookup.3
     ∙ sym (slice_get-map content_of c.values.result.now c.args.place)
-    ∙ ap (λ l. slice_get l c.args.place) c.values.ensures
+    ∙ ap (λ l. slice_get l c.args.place) c.values.ensures.value
     ∙ slice_get-map (λ p. p.content) c.args.item.now.parts c.args.place

@@ -10,7 +10,7 @@ use Rattle.cat_flush.proofs.Kept.{IsBuffered-put}
 use Rattle.cat_flush.proofs.buffer.Buffer.put.Goals as goal
 
 same_id : (c : goal.In_ok-put_last) → string_bytes c.in_ok-id.id ≡ c.args.item.id
-same_id c = c.in_ok-id.ensures.ok ∙ c.id.ensures
+same_id c = c.in_ok-id.ensures.ok ∙ c.id.ensures.value
 
 -- the record goes last
 more : (c : goal.In_ok-put_last) → c.put_last.new.entries.entries

@@ -1,12 +1,23 @@
-use Rattle.std.proofs.Common.{◌∙◌, ap}
+use Rattle.std.proofs.Common.{◌∙◌, ap, sym, option_map}
+use Rattle.std.specs.List.{position}
 use Rattle.std.specs.Arc.{arc_value}
+use Rattle.cat_model.specs.Text.{same_text}
 use Rattle.cat_model.specs.Item as model
-use Rattle.cat_schema.proofs.Parts.{content-at, content-got}
+use Rattle.cat_schema.specs.Contents.{content_of}
+use Rattle.cat_schema.proofs.Parts.{content-none, content-some, content-got}
 use Rattle.cat_schema.proofs.item.Item.value.Goals as goal
+
+pub returns-in_err-place : goal.returns-in_err-place
+returns-in_err-place c =
+    let fields = c.deref-2.ensures.value ∙ ap (λ v. v.items) c.deref.ensures in
+    let place = sym c.in_err-place.was ∙ c.place_of.ensures ∙ ap (position (λ f. same_text f.name c.args.name.now)) fields in
+    let here = content-none c.args.name.now (arc_value c.self.inside.fields).items c.self.inside.values.items c.self.invariant.each place in
+    ap (option_map (λ v. content_of v.now)) c.from_residual.ensures ∙ here ∙ ap (λ i. model.content_of c.args.name.now i) c.self.view_is
 
 pub returns : goal.returns
 returns c =
-    let found = content-got c.deref-3.result.now c.fields_before-place.result c.get.result c.get.ensures.lookup.3 in
-    let here = content-at c.args.name.now (arc_value c.self.inside.fields).items c.self.inside.values.items c.self.invariant in
-    let named = ap (λ i. model.content_of c.args.name.now i) c.self.view_is in
-    found ∙ rw (c.deref-3.ensures.value, c.fields_before-place.ensures, c.deref-2.ensures.value, c.deref.ensures) (here ∙ named)
+    let fields = c.deref-2.ensures.value ∙ ap (λ v. v.items) c.deref.ensures in
+    let place = sym c.in_ok-place.was ∙ c.place_of.ensures ∙ ap (position (λ f. same_text f.name c.args.name.now)) fields in
+    let found = content-got c.deref-3.result.now c.in_ok-place.place c.get.result c.get.ensures.lookup.3 in
+    let here = content-some c.args.name.now (arc_value c.self.inside.fields).items c.self.inside.values.items c.in_ok-place.place c.self.invariant.each place in
+    found ∙ rw c.deref-3.ensures.value (here ∙ ap (λ i. model.content_of c.args.name.now i) c.self.view_is)

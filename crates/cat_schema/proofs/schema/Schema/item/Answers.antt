@@ -5,6 +5,7 @@ use Rattle.cat_schema.specs.Contents.{parts_with}
 use Rattle.cat_schema.specs.Reading.{value_of, first_fault}
 use Rattle.cat_schema.proofs.Parts.{parts_with-map, as_many, IsItem-item_of}
 use Rattle.cat_schema.proofs.WholeItem.{item_is}
+use Rattle.cat_schema.proofs.Formed.{IsFormedItem-read}
 use Rattle.cat_schema.proofs.schema.Schema.item.Goals as goal
 
 pub returns-clause-ok : goal.returns-clause-ok
@@ -21,5 +22,13 @@ returns-clause-ok c =
 pub returns-clause-typed : goal.returns-clause-typed
 returns-clause-typed c = IsItem-item_of _ _ _ (returns-clause-ok c)
 
-pub new-requires : goal.new-requires
-new-requires c = as_many _ _ _ c.in_ok-values.ensures.ok ∙ ap length (c.fields-fields.ensures.value ∙ sym c.in_ok-shared.ensures.ok)
+pub new-requires-clause-each : goal.new-requires-clause-each
+new-requires-clause-each c = as_many _ _ _ c.in_ok-values.ensures.ok ∙ ap length (c.fields-fields.ensures.value ∙ sym c.in_ok-shared.ensures.ok)
+
+pub new-requires-clause-formed : goal.new-requires-clause-formed
+new-requires-clause-formed c =
+    let form = sym c.id_ok.ensures ∙ c.if-not-id_ok.false in
+    let none = c.in_default-first_fault.ensures in
+    let right = ap (λ fs. first_fault fs (members_view c.in-Some.members.now.entries)) (sym c.fields-fields.ensures.value) ∙ sym none in
+    let values = c.in_ok-values.ensures.ok ∙ ap (map (λ f. value_of f.kind (get f.name (view c.in_ok-root.root)))) c.fields-fields.ensures.value in
+    IsFormedItem-read c.args.self.now _ _ c.args.bytes.now _ _ _ (view c.in_ok-root.root) _ c.fields-fields.ensures.valid c.in_ok-shared.ensures.ok (omega arith) c.in_ok-from_slice.ensures.items c.in_ok-root.ensures.ok c.in-Some.ensures right values c.in_ok-values.ensures.typed form c.in_ok-from_str.ensures.ok
