@@ -24,12 +24,12 @@ use Rattle.cat_search.proofs.Marks.{any-is_some}
 
 -- ---- the place of a record, by the name of the sort's field
 
-abbrev way : Sort → Key → Rank
+abbrev pub way : Sort → Key → Rank
 way Sort.added k = Rank.missing
 way (Sort.rising f) k = Rank.rising k
 way (Sort.falling f) k = Rank.falling k
 
-abbrev place_of : Sort → Record → Place
+abbrev pub place_of : Sort → Record → Place
 place_of s r = record { rank = rank_by (way s) (key s r); number = r.number; id = r.item.id }
 
 -- the first place that passes, by recursion on the list
@@ -110,7 +110,7 @@ find_alike f g p (x ∷ xs) a =
       | false ↦ find_alike f g p xs a.1
     ]
 
-filter-map : {X Y : Type 0} (q : Y → Bool) (f : X → Y) (xs : List X) → filter q (map f xs) ≡ map f (filter (λ x. q (f x)) xs)
+pub filter-map : {X Y : Type 0} (q : Y → Bool) (f : X → Y) (xs : List X) → filter q (map f xs) ≡ map f (filter (λ x. q (f x)) xs)
 filter-map q f [] = refl
 filter-map q f (x ∷ xs) =
     elim (q (f x)) as (λ b. cond b (f x ∷ filter q (map f xs)) (filter q (map f xs)) ≡ map f (cond b (x ∷ filter (λ y. q (f y)) xs) (filter (λ y. q (f y)) xs))) [
@@ -122,7 +122,7 @@ filter_all : {X : Type 0} (xs : List X) → filter (λ x. true) xs ≡ xs
 filter_all [] = refl
 filter_all (x ∷ xs) = ap (λ ys. x ∷ ys) (filter_all xs)
 
-map_map : {X Y Z : Type 0} (f : Y → Z) (g : X → Y) (h : X → Z) → ((x : X) → f (g x) ≡ h x) → (xs : List X) → map f (map g xs) ≡ map h xs
+pub map_map : {X Y Z : Type 0} (f : Y → Z) (g : X → Y) (h : X → Z) → ((x : X) → f (g x) ≡ h x) → (xs : List X) → map f (map g xs) ≡ map h xs
 map_map f g h e [] = refl
 map_map f g h e (x ∷ xs) = ap (λ z. z ∷ map f (map g xs)) (e x) ∙ ap (λ zs. h x ∷ zs) (map_map f g h e xs)
 
@@ -130,11 +130,11 @@ each_map : {X Y : Type 0} (f : X → Y) (P : Y → Type 0) (xs : List X) → All
 each_map f P [] a = tt
 each_map f P (x ∷ xs) a = (a.0, each_map f P xs a.1)
 
-each_pair-map : {X Y : Type 0} (f : X → Y) (R : Y → Y → Type 0) (xs : List X) → EachPair (λ x y. R (f x) (f y)) xs → EachPair R (map f xs)
+pub each_pair-map : {X Y : Type 0} (f : X → Y) (R : Y → Y → Type 0) (xs : List X) → EachPair (λ x y. R (f x) (f y)) xs → EachPair R (map f xs)
 each_pair-map f R [] a = tt
 each_pair-map f R (x ∷ xs) a = (each_map f (R (f x)) xs a.0, each_pair-map f R xs a.1)
 
-each_pair-filter : {X : Type 0} (R : X → X → Type 0) (p : X → Bool) (xs : List X) → EachPair R xs → EachPair R (filter p xs)
+pub each_pair-filter : {X : Type 0} (R : X → X → Type 0) (p : X → Bool) (xs : List X) → EachPair R xs → EachPair R (filter p xs)
 each_pair-filter R p [] a = tt
 each_pair-filter R p (x ∷ xs) a =
     elim (p x) as (λ b. EachPair R (cond b (x ∷ filter p xs) (filter p xs))) [
@@ -145,7 +145,7 @@ each_pair-filter R p (x ∷ xs) a =
 -- ---- numbers
 
 -- each number is below those behind it
-abbrev NumbersRise : List Record → Type 0
+abbrev pub NumbersRise : List Record → Type 0
 NumbersRise rs = EachPair (λ a b. a.number < b.number) rs
 
 differ : (m n : ℕ) → m < n → m ≡ n → ⊥
@@ -164,7 +164,7 @@ same_number m k e = grind (arith, nat_tests)
 
 -- ---- what the mark comes before
 
-abbrev mark_of : Sort → List Record → Option ℕ → Option Place
+abbrev pub mark_of : Sort → List Record → Option ℕ → Option Place
 mark_of s rs None = None
 mark_of s rs (Some mark) = option_map (place_of s) (find (λ r. r.number == mark) rs)
 
@@ -204,7 +204,35 @@ marks_alike place place' rs m a = find_alike place place' (λ r. r.number == m) 
 
 -- ---- the page
 
-module _ (schema : Schema) (rs : List Record) (accepts : Item → Bool) (s : Sort) (n : ℕ) (items : AllByRecursion (λ r. IsItem schema r.item) rs) (rises : NumbersRise rs) where
+module _ (rs : List Record) (accepts : Item → Bool) (s : Sort) (n : ℕ) (rises : NumbersRise rs) where
+  entries-by : (m : Option ℕ) → has_mark rs m ≡ true
+      → map entry_shown (take n (sorted place_before (filter (beyond (mark_of s rs m)) (map (place_of s) (accepted accepts rs))))) ≡ map (entry_of s) (first_ranked (before s) (rest s rs m (accepted accepts rs)) n)
+  entries-by m marked =
+      let hs : List Record = accepted accepts rs in
+      let test : Record → Bool = λ h. beyond (mark_of s rs m) (place_of s h) in
+      let after : List Record = filter test hs in
+      let apart : AllApart (before s) after = all_apart s after (each_pair-filter (λ a b. a.number < b.number) test hs (each_pair-filter (λ a b. a.number < b.number) (λ r. accepts r.item) rs rises)) in
+      ap (λ ps. map entry_shown (take n (sorted place_before ps))) (filter-map (beyond (mark_of s rs m)) (place_of s) hs)
+      ∙ ap (map entry_shown) (sym (map-first (place_of s) (before s) place_before (before-is s) n after))
+      ∙ map_map entry_shown (place_of s) (entry_of s) (entry-is s) (take n (sorted (before s) after))
+      ∙ ap (map (entry_of s)) (sym (first_sorted (before s) (sorts_order_records s).strict after n apart))
+      ∙ ap (λ hs'. map (entry_of s) (first_ranked (before s) hs' n)) (rest-is s rs m hs rises marked)
+
+  page-by : (m : Option ℕ) (total : ℕ) (entries : List Entry) → has_mark rs m ≡ true → total ≡ length (accepted accepts rs)
+      → entries ≡ map entry_shown (take n (sorted place_before (filter (beyond (mark_of s rs m)) (map (place_of s) (accepted accepts rs)))))
+      → ◌≡◌ {A = Page} (record { total = total; entries = entries }) (page_where rs accepts s m n)
+  page-by m total entries marked t e = λ i. record { total = t i; entries = (e ∙ entries-by m marked) i }
+
+  few : n ≤ 1000 → ltb 1000 n ≡ false
+  few h = grind (arith, nat_tests)
+
+  -- the answer, where places go by the name of the sort's field
+  pub answered_by : (schema : Schema) (m : Option ℕ) (total : ℕ) (entries : List Entry) → n ≤ 1000 → can_sort schema s ≡ true → has_mark rs m ≡ true → total ≡ length (accepted accepts rs)
+      → entries ≡ map entry_shown (take n (sorted place_before (filter (beyond (mark_of s rs m)) (map (place_of s) (accepted accepts rs)))))
+      → answer_where schema rs accepts s m n ≡ Ok (record { total = total; entries = entries })
+  answered_by schema m total entries h sorts marked t e = rw (few h, sorts, marked) (ap Ok (sym (page-by m total entries marked t e)))
+
+module _ (schema : Schema) (rs : List Record) (accepts : Item → Bool) (s : Sort) (items : AllByRecursion (λ r. IsItem schema r.item) rs) where
   alike : AllByRecursion (λ r. place_at (order_of schema s) r ≡ place_of s r) rs
   alike = All-weaken (λ r. IsItem schema r.item) (λ r. place_at (order_of schema s) r ≡ place_of s r) (λ r a. place_alike schema s r a) rs items
 
@@ -217,30 +245,6 @@ module _ (schema : Schema) (rs : List Record) (accepts : Item → Bool) (s : Sor
       ap (λ o. places_behind (order_of schema s) o accepts rs) (mark-is m)
       ∙ ap (filter (beyond (mark_of s rs m))) (map_alike (place_at (order_of schema s)) (place_of s) (accepted accepts rs) (All-kept (λ r. place_at (order_of schema s) r ≡ place_of s r) (λ r. accepts r.item) rs alike))
 
-  entries-are : (m : Option ℕ) → has_mark rs m ≡ true
-      → map entry_shown (take n (sorted place_before (places_behind (order_of schema s) (mark_at (order_of schema s) rs m) accepts rs))) ≡ map (entry_of s) (first_ranked (before s) (rest s rs m (accepted accepts rs)) n)
-  entries-are m marked =
-      let hs : List Record = accepted accepts rs in
-      let test : Record → Bool = λ h. beyond (mark_of s rs m) (place_of s h) in
-      let after : List Record = filter test hs in
-      let apart : AllApart (before s) after = all_apart s after (each_pair-filter (λ a b. a.number < b.number) test hs (each_pair-filter (λ a b. a.number < b.number) (λ r. accepts r.item) rs rises)) in
-      ap (λ ps. map entry_shown (take n (sorted place_before ps))) (places-are m ∙ filter-map (beyond (mark_of s rs m)) (place_of s) hs)
-      ∙ ap (map entry_shown) (sym (map-first (place_of s) (before s) place_before (before-is s) n after))
-      ∙ map_map entry_shown (place_of s) (entry_of s) (entry-is s) (take n (sorted (before s) after))
-      ∙ ap (map (entry_of s)) (sym (first_sorted (before s) (sorts_order_records s).strict after n apart))
-      ∙ ap (λ hs'. map (entry_of s) (first_ranked (before s) hs' n)) (rest-is s rs m hs rises marked)
-
-  page-is : (m : Option ℕ) (total : ℕ) (entries : List Entry) → has_mark rs m ≡ true → total ≡ length (accepted accepts rs)
-      → entries ≡ map entry_shown (take n (sorted place_before (places_behind (order_of schema s) (mark_at (order_of schema s) rs m) accepts rs)))
-      → ◌≡◌ {A = Page} (record { total = total; entries = entries }) (page_where rs accepts s m n)
-  page-is m total entries marked t e = λ i. record { total = t i; entries = (e ∙ entries-are m marked) i }
-
-  few : n ≤ 1000 → ltb 1000 n ≡ false
-  few h = grind (arith, nat_tests)
-
-  answer-is : (m : Option ℕ) (p : Page) → n ≤ 1000 → can_sort schema s ≡ true → has_mark rs m ≡ true → p ≡ page_where rs accepts s m n → answer_where schema rs accepts s m n ≡ Ok p
-  answer-is m p h sorts marked e = rw (few h, sorts, marked) (ap Ok (sym e))
-
 -- the answer over whatever stands for records
 pub answered : {X : Type 0} (meant : X → Record) (schema : Schema) (xs : List X) (accepts : Item → Bool) (s : Sort) (m : Option ℕ) (n total : ℕ) (entries : List Entry)
     → AllPairs (λ a b. (meant a).number < (meant b).number) xs → All (λ x. IsItem schema (meant x).item) xs
@@ -252,4 +256,4 @@ answered meant schema xs accepts s m n total entries rises items h sorts marked 
     let rs : List Record = map meant xs in
     let up : NumbersRise rs = each_pair-map meant (λ a b. a.number < b.number) xs (each_pair (λ a b. (meant a).number < (meant b).number) xs rises) in
     let each : AllByRecursion (λ r. IsItem schema r.item) rs = each_map meant (λ r. IsItem schema r.item) xs (recursion_from_All (λ x. IsItem schema (meant x).item) xs items) in
-    answer-is schema rs accepts s n each up m (record { total = total; entries = entries }) h sorts marked (page-is schema rs accepts s n each up m total entries marked t e)
+    answered_by rs accepts s n up schema m total entries h sorts marked t (e ∙ ap (λ ps. map entry_shown (take n (sorted place_before ps))) (places-are schema rs accepts s each m))

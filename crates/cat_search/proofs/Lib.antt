@@ -4,5 +4,11 @@ pub mod Fields
 pub mod Candidates
 pub mod Passes
 pub mod Marks
+pub mod Marked
+pub mod RowSearch
 pub mod Defined
 pub mod Finds
+pub mod Shown
+pub mod Ranks
+pub mod Gathered
+pub mod ViewPages

@@ -11,7 +11,7 @@ use Rattle.cat_model.proofs.Places.{EachPair, each_pair}
 use Rattle.cat_search.specs.declared.sort.Order.{Order}
 use Rattle.cat_search.specs.Pages.{place_at, mark_at}
 
-find-map : {X Y : Type 0} (q : Y → Bool) (f : X → Y) (xs : List X) → find q (map f xs) ≡ option_map f (find (λ x. q (f x)) xs)
+pub find-map : {X Y : Type 0} (q : Y → Bool) (f : X → Y) (xs : List X) → find q (map f xs) ≡ option_map f (find (λ x. q (f x)) xs)
 find-map q f [] = refl
 find-map q f (x ∷ xs) =
     elim (q (f x)) as (λ b. cond b (Some (f x)) (find q (map f xs)) ≡ option_map f (cond b (Some x) (find (λ y. q (f y)) xs))) [
@@ -31,7 +31,7 @@ module _ {X : Type 0} (meant : X → Record) (xs : List X) (mark : Option ℕ) (
   found : (o : Option X) → find (λ x. (meant x).number == number) xs ≡ o → find (λ r. r.number == number) (map meant xs) ≡ option_map meant o
   found o e = find-map (λ r. r.number == number) meant xs ∙ ap (option_map meant) e
 
-  has : (o : Option X) → find (λ x. (meant x).number == number) xs ≡ o → has_mark (map meant xs) mark ≡ is_some (option_map meant o)
+  pub has : (o : Option X) → find (λ x. (meant x).number == number) xs ≡ o → has_mark (map meant xs) mark ≡ is_some (option_map meant o)
   has o e = ap (has_mark (map meant xs)) is ∙ any-is_some (λ r. r.number == number) (map meant xs) ∙ ap is_some (found o e)
 
   pub no_mark : find (λ x. (meant x).number == number) xs ≡ None → has_mark (map meant xs) mark ≡ false
@@ -46,7 +46,7 @@ module _ {X : Type 0} (meant : X → Record) (xs : List X) (mark : Option ℕ) (
 below : (m n k : ℕ) → m < n → nat_lt n k ≡ true → nat_lt m k ≡ true
 below m n k h e = grind (arith, nat_tests)
 
-before_or_at : (i j : ℕ) → i ≤ j → (i < j) ⊎ (i ≡ j)
+pub before_or_at : (i j : ℕ) → i ≤ j → (i < j) ⊎ (i ≡ j)
 before_or_at i j h = elim (which (nat_lt i j)) [
   | inl e ↦ inl (grind (arith, nat_tests))
   | inr e ↦ inr (grind (arith, nat_tests))

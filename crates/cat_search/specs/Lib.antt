@@ -3,3 +3,4 @@ pub mod Keys
 pub mod Sorts
 pub mod Seen
 pub mod Pages
+pub mod Views

@@ -34,6 +34,12 @@ abbrev pub rank_by : (model.Key → Rank) → Option model.Key → Rank
 rank_by rank None = Rank.missing
 rank_by rank (Some k) = rank k
 
+-- the rank of a key in the order, which is that of addition or the one of a field
+abbrev pub rank_with : Order → Option model.Key → Rank
+rank_with order.Added k = Rank.missing
+rank_with (order.Rising field) k = rank_by Rank.rising k
+rank_with (order.Falling field) k = rank_by Rank.falling k
+
 -- the rank of an item
 abbrev pub rank_at : Order → Item → Rank
 rank_at order.Added i = Rank.missing

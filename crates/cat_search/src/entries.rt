@@ -1,5 +1,5 @@
 //! Pages, and the entries that they show.
-ghost use Rattle.std.specs.Prelude.{◌≡◌, option_map, IfOk, IfErr};
+ghost use Rattle.std.specs.Prelude.{◌≡◌, map, option_map, IfOk, IfErr};
 ghost use Rattle.cat_base.specs.declared.refusal.Refusal.TheVariants.{Memory};
 ghost use Rattle.cat_search.specs.Keys.{key_meant, key_shown, entry_shown};
 ghost use Rattle.cat_search.specs.Seen.{seen, seen_rank};
@@ -114,4 +114,16 @@ pub(crate) fn entry_of(alloc: Global, candidate: &Candidate) -> Result<Entry, Re
         id: Text::from_str(alloc, candidate.id)?,
         key: key_in(alloc, &candidate.rank)?,
     })
+}
+
+/// The hits as a page shows them. A refusal is [`Refusal::Memory`].
+pub(crate) fn entries_of(alloc: Global, candidates: &[Candidate]) -> Result<Vec<Entry>, Refusal>
+    ensures ok { IfOk result (λ v. v.items ≡ map entry_shown (map seen candidates.now)) }
+    ensures refusal { IfErr result (λ e. e ≡ Memory) }
+{
+    let mut entries = Vec::with_capacity(alloc, candidates.len())?;
+    for candidate in candidates {
+        entries.push(entry_of(alloc, candidate)?)?;
+    }
+    Ok(entries)
 }

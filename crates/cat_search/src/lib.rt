@@ -1,15 +1,24 @@
-//! The pages of hits, each in one pass over the records, and the sorts that they go by.
+//! The pages of hits, each in one pass over the segments of a view or over a list of records, and the sorts that they go
+//! by.
 #![tactic(auto)]
 
 mod best;
 mod entries;
+mod gathering;
 mod keys;
+mod leaf_ranks;
+mod offers;
 mod pages;
 mod places;
+mod prepared;
+mod row_marks;
 mod sort;
+mod view;
 
 pub use best::Best;
 pub use entries::{Entry, Page};
 pub use keys::{Key, KeyRef, key_of};
 pub use pages::{Accepts, Numbered, page_of, pages_answer_finds};
+pub use prepared::{Prepared, views_show_records};
 pub use sort::Sort;
+pub use view::{Leaf, View};

@@ -11,14 +11,14 @@ ghost use Rattle.cat_search.specs.Seen.{seen, seen_rank, IsBestAt};
 ghost use Rattle.cat_search.specs.Sorts.{sort_meant};
 
 use crate::best::Best;
-use crate::entries::{Entry, Page, entry_of};
+use crate::entries::{Page, entries_of};
 use crate::keys::key_of;
+use crate::offers::offer_hit;
 use crate::places::{Candidate, Rank};
-use crate::sort::{Order, Sort};
+use crate::sort::{Order, Sort, rank_with};
 use cat_base::{MAX_PAGE, Refusal, WriteNo};
 use cat_schema::{Item, Schema};
 use std::alloc::Global;
-use std::cmp::Reverse;
 
 /// An item under the number of the write that put it.
 pub trait Numbered {
@@ -53,14 +53,7 @@ fn rank_of(item: &Item, order: Order) -> Rank
 {
     match order {
         Order::Added => Rank::Missing,
-        Order::Rising(field) => match key_of(item, field) {
-            None => Rank::Missing,
-            Some(key) => Rank::Rising(key),
-        },
-        Order::Falling(field) => match key_of(item, field) {
-            None => Rank::Missing,
-            Some(key) => Rank::Falling(Reverse(key)),
-        },
+        Order::Rising(field) | Order::Falling(field) => rank_with(key_of(item, field), order),
     }
 }
 
@@ -74,34 +67,6 @@ fn candidate_of<'a, R: Numbered>(hit: &'a R, order: Order) -> Candidate<'a>
         number: hit.number(),
         id: item.id(),
     }
-}
-
-fn is_beyond(mark: &Option<Candidate>, candidate: &Candidate) -> bool
-    ensures { result ≡ beyond (option_map seen mark.now) (seen candidate.now) }
-{
-    match mark {
-        None => true,
-        Some(mark) => mark.cmp(candidate).is_lt(),
-    }
-}
-
-/// Offers the hit to the page, if the mark comes before it.
-fn offer_hit<'a, R: Numbered>(
-    best: &mut Best<Candidate<'a>>,
-    hit: &'a R,
-    order: Order,
-    mark: &Option<Candidate<'a>>,
-) -> Result<(), Refusal>
-    ensures limit { best.new.limit ≡ best.old.limit }
-    ensures best { OnOk result ((places : List Place) → IsBestAt best.old places
-        → IsBestAt best.new (places ++ cond (beyond (option_map seen mark.now) (place_at order (R.meant hit.now))) (place_at order (R.meant hit.now) ∷ []) [])) }
-    ensures refusal { IfErr result (λ e. e ≡ Memory) }
-{
-    let candidate = candidate_of(hit, order);
-    if is_beyond(mark, &candidate) {
-        best.offer(candidate)?;
-    }
-    Ok(())
 }
 
 /// How many hits there are, and the first n of those that the mark comes before.
@@ -123,7 +88,7 @@ fn best_of<'a, R: Numbered, Q: Accepts>(
     for hit in records {
         if query.accepts(hit.item()) {
             total += 1;
-            offer_hit(&mut best, hit, order, mark)?;
+            offer_hit(&mut best, candidate_of(hit, order), mark)?;
         }
     }
     Ok((total, best.into_items()))
@@ -167,17 +132,6 @@ fn mark_of<R: Numbered>(
             Some(marked) => Ok(Some(candidate_of(marked, order))),
         },
     }
-}
-
-fn entries_of(alloc: Global, candidates: &[Candidate]) -> Result<Vec<Entry>, Refusal>
-    ensures ok { IfOk result (λ v. v.items ≡ map entry_shown (map seen candidates.now)) }
-    ensures refusal { IfErr result (λ e. e ≡ Memory) }
-{
-    let mut entries = Vec::with_capacity(alloc, candidates.len())?;
-    for candidate in candidates {
-        entries.push(entry_of(alloc, candidate)?)?;
-    }
-    Ok(entries)
 }
 
 /// The first n of the accepted records that come behind the mark, in the order of the sort, and how many are accepted at

@@ -1,12 +1,18 @@
 //! The sorts that a page can go by.
-ghost use Rattle.std.specs.Prelude.{◌≡◌, true, false, IfOk, IfErr, position};
+ghost use Rattle.std.specs.Prelude.{◌≡◌, true, false, option_map, IfOk, IfErr, position};
 ghost use Rattle.cat_base.specs.declared.refusal.Refusal.TheVariants.{SortField};
 ghost use Rattle.cat_model.specs.Answer.{can_sort};
 ghost use Rattle.cat_model.specs.Text.{same_text};
+ghost use Rattle.cat_search.specs.Keys.{key_seen};
+ghost use Rattle.cat_search.specs.Pages.{rank_with};
+ghost use Rattle.cat_search.specs.Seen.{seen_rank};
 ghost use Rattle.cat_search.specs.Sorts.{sort_meant, order_of, place_named, can_sort_by};
 
+use crate::keys::KeyRef;
+use crate::places::Rank;
 use cat_base::{Refusal, Text};
 use cat_schema::{Field, Kind, Schema};
+use std::cmp::Reverse;
 
 /// How the hits of a page are sorted (Lucene: `Sort`).
 ///
@@ -64,5 +70,16 @@ impl Sort {
             Sort::Rising(name) => Ok(Order::Rising(sort_field(schema, name.as_str())?)),
             Sort::Falling(name) => Ok(Order::Falling(sort_field(schema, name.as_str())?)),
         }
+    }
+}
+
+/// Where a hit of this key stands in the order.
+pub(crate) fn rank_with(key: Option<KeyRef>, order: Order) -> Rank
+    ensures { seen_rank result ≡ rank_with order (option_map key_seen key.entry) }
+{
+    match (order, key) {
+        (Order::Rising(_), Some(key)) => Rank::Rising(key),
+        (Order::Falling(_), Some(key)) => Rank::Falling(Reverse(key)),
+        _ => Rank::Missing,
     }
 }

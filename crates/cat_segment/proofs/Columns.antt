@@ -1,6 +1,6 @@
 -- What the columns of a segment say of its rows.
 use Rattle.std.proofs.Common.{◌≡◌, ◌+◌, ◌<◌, ◌≤◌, ℕ, suc, Bor, List, [], ◌∷◌, length, map, replicate, Bool, true, false, cond, not, Option, Some, None, refl, sym, ap, ◌∙◌, arith}
-use Rattle.std.specs.Prelude.{option_map, slice_get, find, MatchOption}
+use Rattle.std.specs.Prelude.{◌≢◌, option_map, slice_get, slice_index_or, find, All, IfSome, MatchOption}
 use Rattle.std.specs.List.{prefix_len, HoldsAt, range_with_len}
 use Rattle.std.proofs.lemmas.Option.{slice_get_past, slice_get_read}
 use Rattle.std.proofs.lemmas.List.{length-map, length-replicate, get_or-map, get_or-replicate}
@@ -15,6 +15,9 @@ use Rattle.cat_segment.specs.Rows.{content_at, parts_at, Held, row_at, rows_of, 
 
 pub length-rows_of : (held : Held) → length (rows_of held) ≡ length held.numbers
 length-rows_of held = length-map-range_with_len (row_at held) 0 (length held.numbers)
+
+pub row_within : (held : Held) (row : ℕ) → row < length (rows_of held) → row < length held.numbers
+row_within held row lt = omega (arith, length-rows_of held)
 
 -- a field that each row of a segment has
 pub map-rows_of : {X : Type 0} (f : Row → X) (held : Held) → map f (rows_of held) ≡ map (λ k. f (row_at held k)) (range_with_len 0 (length held.numbers))
@@ -57,3 +60,16 @@ module _ (held : Held) (is : IsHeld held) (name : Text) (place : ℕ) (found : p
       (length-map (contents_of c.now) (λ x. Some x) ∙ len)
       (λ k lt. get_or-map (λ x. Some x) (contents_of c.now) k (Content.words []) None (omega (arith, len)) ∙ sym (in_row k ∙ ap (option_map (λ c. content_at c k)) (slice_get_read held.columns (length held.columns) place c.now refl here.0 (here.1 c.now))))
       ∙ sym (map-rows_of content_in held)
+
+module _ (held : Held) (is : IsHeld held) where
+  pub ids_are : map (λ r. r.id) (rows_of held) ≡ held.ids
+  ids_are = map-rows_of (λ r. r.id) held ∙ sym (fill_by_all (λ k. slice_index_or held.ids k []) held.ids (length held.numbers) [] is.ids (λ k lt. refl))
+
+  pub lengths_are : map (λ r. r.length) (rows_of held) ≡ held.lengths
+  lengths_are = map-rows_of (λ r. r.length) held ∙ sym (fill_by_all (λ k. slice_index_or held.lengths k 0) held.lengths (length held.numbers) 0 is.lengths (λ k lt. refl))
+
+-- the row of an id among the ids is the row of that id
+pub row_named : (rows : List Row) (id : Text) (found : Option ℕ) → MatchOption found (All (λ i. i ≢ id) (map (λ r. r.id) rows)) (λ row. HoldsAt (λ i. i ≡ id) (map (λ r. r.id) rows) row)
+    → IfSome found (λ row. row < length rows) → MatchOption found (All (λ r. r.id ≢ id) rows) (λ row. HoldsAt (λ r. r.id ≡ id) rows row)
+row_named rows id None absent within = λ k d lt same. absent k [] (omega (arith, length-map rows (λ r. r.id))) (get_or-map (λ r. r.id) rows k d [] lt ∙ same)
+row_named rows id (Some row) here within = λ d. sym (get_or-map (λ r. r.id) rows row d [] within) ∙ here []

@@ -27,7 +27,7 @@ pub record Held : Type 0 where
   pub columns : List Column
 
 abbrev pub held_in : Inside → Held
-held_in s = record { schema = s.schema; numbers = s.numbers.items; ids = s.ids.items; lengths = s.lengths.items; columns = s.columns.items }
+held_in s = record { schema = s.schema; numbers = s.numbers.items; ids = s.ids; lengths = s.sources; columns = s.columns.items }
 
 abbrev pub row_at : Held → ℕ → Row
 row_at held row = record {

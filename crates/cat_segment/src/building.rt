@@ -9,7 +9,9 @@ ghost use Rattle.cat_segment.specs.Fields.{content_in, contents_in, IsFilled};
 
 use crate::column::{Column, Keywords, Labels};
 use crate::gathering::{keywords, numbers, texts};
+use crate::index::Ids;
 use crate::segment::Row;
+use crate::sources::Sources;
 use cat_base::{Refusal, Text, WriteNo};
 use cat_inverted::Terms;
 use cat_schema::{Field, Kind};
@@ -71,7 +73,7 @@ pub(crate) fn write_numbers(alloc: Global, rows: &[Row<'_>]) -> Result<Vec<Write
 }
 
 /// A copy of the id of each row. A refusal is [`Refusal::Memory`].
-pub(crate) fn ids(alloc: Global, rows: &[Row<'_>]) -> Result<Vec<Text>, Refusal>
+fn copied_ids(alloc: Global, rows: &[Row<'_>]) -> Result<Vec<Text>, Refusal>
     ensures ok { IfOk result (λ v. v.items ≡ map (λ r. r.item.now.id) rows.now) }
     ensures refusal { IfErr result (λ e. e ≡ Memory) }
 {
@@ -82,18 +84,24 @@ pub(crate) fn ids(alloc: Global, rows: &[Row<'_>]) -> Result<Vec<Text>, Refusal>
     Ok(ids)
 }
 
-/// The length of the text that each row's item came as, in bytes. A refusal is [`Refusal::Memory`], also for a text of
-/// 2^32 bytes and more.
-pub(crate) fn source_lengths(alloc: Global, rows: &[Row<'_>]) -> Result<Vec<u32>, Refusal>
-    ensures ok { IfOk result (λ v. v.items ≡ map (λ r. length r.item.now.source) rows.now) }
+/// The ids of the rows, with their index. A refusal is [`Refusal::Memory`].
+pub(crate) fn ids(alloc: Global, rows: &[Row<'_>]) -> Result<Ids, Refusal>
+    requires { length rows.now < 2 ^ 32 }
+    ensures ok { IfOk result (λ i. i ≡ map (λ r. r.item.now.id) rows.now) }
     ensures refusal { IfErr result (λ e. e ≡ Memory) }
 {
-    let mut lengths = Vec::with_capacity(alloc, rows.len())?;
+    Ids::of(alloc, copied_ids(alloc, rows)?)
+}
+
+/// Where the texts that the rows' items came as stand. A refusal is [`Refusal::Memory`], also where they have 2^32 bytes or
+/// more.
+pub(crate) fn sources(alloc: Global, rows: &[Row<'_>]) -> Result<Sources, Refusal>
+    ensures ok { IfOk result (λ s. s ≡ map (λ r. length r.item.now.source) rows.now) }
+    ensures refusal { IfErr result (λ e. e ≡ Memory) }
+{
+    let mut sources = Sources::new(alloc);
     for row in rows {
-        let Ok(len) = u32::try_from(row.item.source().len()) else {
-            return Err(Refusal::Memory);
-        };
-        lengths.push(len)?;
+        sources.push(row.item.source().len())?;
     }
-    Ok(lengths)
+    Ok(sources)
 }

@@ -4,8 +4,10 @@
 mod building;
 mod column;
 mod gathering;
+mod index;
 mod live;
 mod segment;
+mod sources;
 
 pub use column::{Column, Keywords, Labels};
 pub use live::Live;

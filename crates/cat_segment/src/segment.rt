@@ -1,5 +1,5 @@
 //! Immutable segments.
-ghost use Rattle.std.specs.Prelude.{◌≡◌, ◌<◌, map, length, not, replicate, Some, None, MatchOption, IfOk, IfErr};
+ghost use Rattle.std.specs.Prelude.{◌≡◌, ◌≢◌, ◌<◌, map, length, not, replicate, Some, None, MatchOption, IfSome, IfOk, IfErr, All};
 ghost use Rattle.std.specs.List.{prefix_len, HoldsAt};
 ghost use Rattle.cat_base.specs.declared.refusal.Refusal.TheVariants.{Memory};
 ghost use Rattle.cat_model.specs.Text.{same_text};
@@ -7,10 +7,13 @@ ghost use Rattle.cat_model.specs.Item.{content_of};
 ghost use Rattle.cat_model.specs.View.{row_of, item_in, AreRows};
 ghost use Rattle.cat_segment.specs.Contents.{contents_of};
 ghost use Rattle.cat_segment.specs.Fields.{record_of};
+ghost use Rattle.cat_segment.specs.Sources.{source_place};
 
-use crate::building::{columns_of, ids, source_lengths, write_numbers};
+use crate::building::{columns_of, ids, sources, write_numbers};
 use crate::column::Column;
-use cat_base::{Refusal, SegNo, Text, WriteNo};
+use crate::index::Ids;
+use crate::sources::Sources;
+use cat_base::{Refusal, SegNo, WriteNo};
 use cat_schema::{Field, Item, Schema};
 use std::alloc::Global;
 use std::marker::Model;
@@ -34,8 +37,8 @@ pub struct Segment {
     schema: Schema,
     // One of each for each row.
     numbers: Vec<WriteNo>,
-    ids: Vec<Text>,
-    lengths: Vec<u32>,
+    ids: Ids,
+    sources: Sources,
     // One for each field, in the fields' order.
     columns: Vec<Column>,
 }
@@ -66,7 +69,7 @@ impl Segment {
     /// `DocumentsWriterPerThread.flush` makes). The rows are 1 to 262,144, their numbers rise from at least 1, and their
     /// ids differ.
     ///
-    /// A refusal is [`Refusal::Memory`]; it also stands for an item's text of 2^32 bytes or more.
+    /// A refusal is [`Refusal::Memory`]; it also stands for texts of items that have 2^32 bytes or more together.
     pub fn of(
         alloc: Global,
         number: SegNo,
@@ -82,7 +85,7 @@ impl Segment {
             schema: schema.copy()?,
             numbers: write_numbers(alloc, rows)?,
             ids: ids(alloc, rows)?,
-            lengths: source_lengths(alloc, rows)?,
+            sources: sources(alloc, rows)?,
             columns: columns_of(alloc, schema.fields(), rows)?,
         })
     }
@@ -122,7 +125,15 @@ impl Segment {
         requires { row < length self.now.rows }
         ensures { HoldsAt (λ r. r.id ≡ result.now) self.now.rows row }
     {
-        self.ids[row].as_str()
+        self.ids.id(row)
+    }
+
+    /// The row of the id, if there is one, by binary search (Lucene: `TermsEnum.seekExact` in a primary key's field).
+    pub fn row_with(&self, id: &str) -> Option<usize>
+        ensures lookup { MatchOption result (All (λ r. r.id ≢ id.now) self.now.rows) (λ row. HoldsAt (λ r. r.id ≡ id.now) self.now.rows row) }
+        ensures bound { IfSome result (λ row. row < length self.now.rows) }
+    {
+        self.ids.row_of(id)
     }
 
     /// The length of the text that the row's item came as, in bytes.
@@ -130,7 +141,16 @@ impl Segment {
         requires { row < length self.now.rows }
         ensures { HoldsAt (λ r. r.length ≡ result) self.now.rows row }
     {
-        self.lengths[row]
+        self.sources.length(row)
+    }
+
+    /// Where the text that the row's item came as begins, where these texts stand one after the other in the rows' order:
+    /// the sum of the lengths of those before it, in bytes.
+    pub fn source_place(&self, row: usize) -> u64
+        requires { row < length self.now.rows }
+        ensures { result ≡ source_place self.now.rows row }
+    {
+        u64::from(self.sources.place(row))
     }
 
     /// The column of the field of the name, if there is such a field.

@@ -25,7 +25,7 @@ loop-hit-preserved g c =
             few = omega (arith, c.loop-hit.invariant.few);
             total = total_hit accepts rs (meant x) c.loop-hit.total e c.loop-hit.invariant.total;
             limit = w.in_ok-offer_hit.ensures.limit ∙ c.loop-hit.invariant.limit;
-            best = subst (IsBestAt w.offer_hit.new.best) (sym (places_hit accepts rs (meant x) c.args.order mark e)) (w.in_ok-offer_hit.ensures.best (places_behind c.args.order mark accepts rs) c.loop-hit.invariant.best);
+            best = subst (IsBestAt w.offer_hit.new.best) (sym (places_hit accepts rs (meant x) c.args.order mark e)) (rw w.candidate_of.ensures at w.in_ok-offer_hit.ensures.best (places_behind c.args.order mark accepts rs) c.loop-hit.invariant.best);
           })
       | else-accepts w ↦
           let e = test ∙ w.if-accepts.false in

@@ -7,12 +7,12 @@ use Rattle.cat_segment.proofs.segment.Segment.of.Goals as goal
 pub columns_of-requires-clause-parts : goal.columns_of-requires-clause-parts
 columns_of-requires-clause-parts c = rw c.fields.ensures.value (parts_right c.args.schema.now c.args.rows.now c.requires.rows)
 
-made : (c : goal.In_ok-columns_of) → IsMade c.args.schema.now c.args.rows.now (record { schema = c.in_ok-copy.field-0; numbers = c.in_ok-write_numbers.field-0.items; ids = c.in_ok-ids.field-0.items; lengths = c.in_ok-source_lengths.field-0.items; columns = c.in_ok-columns_of.field-0.items })
+made : (c : goal.In_ok-columns_of) → IsMade c.args.schema.now c.args.rows.now (record { schema = c.in_ok-copy.field-0; numbers = c.in_ok-write_numbers.field-0.items; ids = c.in_ok-ids.field-0; lengths = c.in_ok-sources.field-0; columns = c.in_ok-columns_of.field-0.items })
 made c = record {
   schema = c.in_ok-copy.ensures.ok;
   numbers = c.in_ok-write_numbers.ensures.ok;
   ids = c.in_ok-ids.ensures.ok;
-  lengths = c.in_ok-source_lengths.ensures.ok;
+  lengths = c.in_ok-sources.ensures.ok;
   columns = c.in_ok-columns_of.ensures.ok ∙ ap (λ fs. map (λ k. contents_in k c.args.rows.now) (range_with_len 0 (length fs))) c.fields.ensures.value;
 }
 

@@ -1,18 +1,13 @@
-use Rattle.std.proofs.Common.{◌<◌, length, sym, ap, ◌∙◌, arith}
-use Rattle.std.proofs.lemmas.List.{get_or_read}
+use Rattle.std.proofs.Common.{sym, ap, ◌∙◌, arith}
 use Rattle.cat_segment.specs.Rows.{held_in}
-use Rattle.cat_segment.proofs.Columns.{length-rows_of}
+use Rattle.cat_segment.proofs.Columns.{row_within}
 use Rattle.cat_segment.proofs.Made.{row_here}
 use Rattle.cat_segment.proofs.segment.Segment.source_length.Goals as goal
 
-pub index-requires : goal.index-requires
-index-requires c =
-    let held = held_in c.self.inside in
-    omega (arith, c.requires, ap (λ s. length s.rows) c.self.view_is, length-rows_of held, c.self.invariant.ids, c.self.invariant.lengths, c.self.inside.numbers.ok.0, c.self.inside.lengths.ok.0)
+pub length-requires : goal.length-requires
+length-requires c = omega (arith, row_within (held_in c.self.inside) c.args.row (rw (← c.self.view_is) at c.requires), c.self.invariant.lengths)
 
 pub returns : goal.returns
 returns c =
     let held = held_in c.self.inside in
-    let within : c.args.row < length held.numbers = omega (arith, c.requires, ap (λ s. length s.rows) c.self.view_is, length-rows_of held) in
-    let here = get_or_read held.lengths c.args.row c.index.result.now (omega (arith, c.self.invariant.ids, c.self.invariant.lengths)) c.index.ensures 0 in
-    rw (← c.self.view_is) (λ d. ap (λ r. r.length) (row_here held c.args.row d within) ∙ sym here)
+    rw (← c.self.view_is) (λ d. ap (λ r. r.length) (row_here held c.args.row d (row_within held c.args.row (rw (← c.self.view_is) at c.requires))) ∙ sym c.length.ensures)

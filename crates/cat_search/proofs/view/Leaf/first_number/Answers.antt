@@ -1,0 +1,11 @@
+use Rattle.std.proofs.Common.{◌∙◌, ◌<◌, length, ap, subst, arith}
+use Rattle.std.specs.List.{HoldsAt}
+use Rattle.cat_search.specs.Views.{first_in}
+use Rattle.cat_search.proofs.RowSearch.{first-at}
+use Rattle.cat_search.proofs.view.Leaf.first_number.Goals as goal
+
+pub returns-clause-number : goal.returns-clause-number
+returns-clause-number c =
+    let same = c.deref-2.ensures ∙ ap (λ l. l.segment) c.self.view_is in
+    let some : 0 < length c.deref-2.result.now.rows = omega (arith, c.len.ensures.rows.some, ap (λ s. length s.rows) c.deref.ensures, ap (λ s. length s.rows) c.deref-2.ensures) in
+    first-at c.deref-2.result.now.rows c.write_number.result some c.write_number.ensures ∙ ap (λ s. first_in s.rows) same

@@ -1,0 +1,64 @@
+-- What pages over a view are made of: its rows as hits, and the columns that rank them.
+use Rattle.std.specs.Prelude.{◌≡◌, ℕ, List, [], ◌∷◌, length, map, replicate, Option, Some, None, option_map, find, ◌==◌}
+use Rattle.std.specs.Borrow.{Bor}
+use Rattle.cat_model.specs.Files.{Name}
+use Rattle.cat_model.specs.Item.{Record}
+use Rattle.cat_model.specs.Page as model
+use Rattle.cat_model.specs.Page.{key, key_in}
+use Rattle.cat_model.specs.View.{Row, Leaf, View, Shows, item_in}
+use Rattle.cat_query.specs.declared.query.Query.{Query}
+use Rattle.cat_segment.specs.Contents.{contents_of}
+use Rattle.cat_segment.specs.declared.column.Column.{Column}
+use Rattle.cat_search.specs.declared.sort.Order.{Order}
+use Rattle.cat_search.specs.Keys.{Place}
+use Rattle.cat_search.specs.Pages.{rank_with}
+
+-- a query, and the view that it is put to
+pub record Prepared : Type 0 where
+  pub view : View
+  pub query : Query
+
+-- the names of the files of a leaf's segment
+abbrev pub leaf_names : Leaf → List Name
+leaf_names leaf = Name.segment leaf.segment.number ∷ Name.source leaf.segment.number ∷ []
+
+-- the number of the first row
+abbrev pub first_in : List Row → ℕ
+first_in [] = 0
+first_in (row ∷ rows) = row.number
+
+-- the row as a record, without its source
+abbrev pub bare : Row → Record
+bare row = record { number = row.number; item = item_in row }
+
+-- ---- the places of rows
+
+-- the place of a row that has this key
+abbrev pub place_with : Order → Option model.Key → Row → Place
+place_with o k row = record { rank = rank_with o k; number = row.number; id = row.id }
+
+-- the place of a row
+abbrev pub place_in : Order → model.Sort → Row → Place
+place_in o sort row = place_with o (key sort (bare row)) row
+
+-- the place of the mark's row, where there is a mark
+abbrev pub mark_in : Order → model.Sort → List Row → Option ℕ → Option Place
+mark_in o sort rows None = None
+mark_in o sort rows (Some mark) = option_map (place_in o sort) (find (λ r. r.number == mark) rows)
+
+-- the sort keys that so many rows have in the column, and none without one
+abbrev pub keys_by : Option (Bor Column) → ℕ → List (Option model.Key)
+keys_by None rows = replicate rows None
+keys_by (Some column) rows = map (λ x. key_in (Some x)) (contents_of column.now)
+
+-- the places of rows that have these keys
+abbrev pub places_by : Order → List (Option model.Key) → List Row → List Place
+places_by o [] rows = []
+places_by o (k ∷ ks) [] = []
+places_by o (k ∷ ks) (row ∷ rows) = place_with o k row ∷ places_by o ks rows
+
+-- ---- the law
+
+-- some records have these rows
+abbrev pub ViewsShowRecords : Type 0
+ViewsShowRecords = (view : View) → (rs : List Record) × Shows view rs

@@ -1,0 +1,173 @@
+//! Views: segments with their live rows, as a searcher sees them.
+ghost use Rattle.std.specs.Prelude.{◌≡◌, ◌<◌, length, map, IfOk, IfErr};
+ghost use Rattle.std.specs.Arc.{arc_value};
+ghost use Rattle.std.specs.List.{flat_map};
+ghost use Rattle.cat_base.specs.declared.refusal.Refusal.TheVariants.{Memory};
+ghost use Rattle.cat_model.specs.View.{IsView, needs};
+ghost use Rattle.cat_directory.specs.Names.{name_of};
+ghost use Rattle.cat_search.specs.Views.{first_in, leaf_names};
+
+use cat_base::{Refusal, Token, WriteNo};
+use cat_directory::FileName;
+use cat_schema::Schema;
+use cat_segment::{Live, Segment};
+use std::alloc::Global;
+use std::marker::Model;
+use std::sync::Arc;
+
+/// A segment of a view, and which of its rows are live (Lucene: a `LeafReader`, by its `LeafReaderContext`, with its
+/// `liveDocs`). Both are shared: a copy of a leaf counts one more user of each.
+#[derive(Drop)]
+pub struct Leaf {
+    segment: Arc<Segment>,
+    live: Arc<Live>,
+}
+
+impl Model for Leaf {
+    ghost use Rattle.std.specs.Prelude.{◌≡◌, length};
+    ghost use Rattle.std.specs.Arc.{arc_value};
+    ghost use Rattle.cat_model.specs.View as model;
+
+    ghost Value = { model.Leaf };
+
+    ghost view = { λ l. record { segment = arc_value l.segment; live = arc_value l.live } };
+
+    ghost invariant = { λ l. length (arc_value l.live) ≡ length (arc_value l.segment).rows };
+}
+
+impl Leaf {
+    /// The segment with these of its rows live. There is one truth value for each row.
+    pub fn new(segment: Arc<Segment>, live: Arc<Live>) -> Leaf
+        requires { length (arc_value live) ≡ length (arc_value segment).rows }
+        ensures { result ≡ record { segment = arc_value segment; live = arc_value live } }
+    {
+        Leaf { segment, live }
+    }
+
+    /// The segment.
+    pub fn segment(&self) -> &Segment
+        ensures { result.now ≡ self.now.segment }
+    {
+        &self.segment
+    }
+
+    /// Which rows of the segment are live.
+    pub fn live(&self) -> &Live
+        ensures value { result.now ≡ self.now.live }
+        ensures long { length self.now.live ≡ length self.now.segment.rows }
+    {
+        &self.live
+    }
+
+    /// The number of the write that put the segment's first row, live or dead.
+    pub(crate) fn first_number(&self) -> WriteNo
+        ensures some { 0 < length self.now.segment.rows }
+        ensures number { result ≡ first_in self.now.segment.rows }
+    {
+        prove!(0 < self.segment.len());
+        self.segment.write_number(0)
+    }
+}
+
+/// What a searcher sees of the catalogue: segments with their live rows, under the number of writes that they take in
+/// (Lucene: a `DirectoryReader`, as an `IndexSearcher` is made over it). It never changes, whatever is written later.
+#[derive(Drop)]
+pub struct View {
+    schema: Schema,
+    leaves: Arc<Vec<Leaf>>,
+    token: Token,
+}
+
+impl Model for View {
+    ghost use Rattle.std.specs.Arc.{arc_value};
+    ghost use Rattle.cat_model.specs.View as model;
+
+    ghost Value = { model.View };
+
+    ghost view = { λ v. record { schema = v.schema; leaves = (arc_value v.leaves).items; token = v.token } };
+
+    ghost invariant = { λ v. model.IsView (record { schema = v.schema; leaves = (arc_value v.leaves).items; token = v.token }) };
+}
+
+impl View {
+    /// The view of these segments, in order, at the token. Each segment has the fields of the schema; the numbers of
+    /// the writes that put their rows rise over all segments, dead rows too, and the ids of live rows differ.
+    ///
+    /// A refusal is [`Refusal::Memory`].
+    pub fn of(
+        alloc: Global,
+        schema: Schema,
+        leaves: Vec<Leaf>,
+        token: Token,
+    ) -> Result<View, Refusal>
+        requires { IsView (record { schema = schema; leaves = leaves.items; token = token }) }
+        ensures ok { IfOk result (λ v. v ≡ record { schema = schema; leaves = leaves.items; token = token }) }
+        ensures refusal { IfErr result (λ e. e ≡ Memory) }
+    {
+        let leaves = Arc::new(alloc, leaves)?;
+        Ok(View {
+            schema,
+            leaves,
+            token,
+        })
+    }
+
+    /// The fields of the catalogue.
+    pub fn schema(&self) -> &Schema
+        ensures { result.now ≡ self.now.schema }
+    {
+        &self.schema
+    }
+
+    /// The segments in order, each with its live rows (Lucene: `IndexReader.leaves`).
+    pub fn leaves(&self) -> &[Leaf]
+        ensures value { result.now ≡ self.now.leaves }
+        ensures valid { IsView self.now }
+    {
+        self.leaves.as_slice()
+    }
+
+    /// The number of writes that the view takes in (Lucene: `DirectoryReader.getVersion`).
+    pub fn token(&self) -> Token
+        ensures { result ≡ self.now.token }
+    {
+        self.token
+    }
+
+    /// The same view once more; the segments are shared (Lucene: `IndexReader.incRef`). A refusal is
+    /// [`Refusal::Memory`]; it also stands for a full count of users.
+    pub fn copy(&self) -> Result<View, Refusal>
+        ensures ok { IfOk result (λ v. v ≡ self.now) }
+        ensures refusal { IfErr result (λ e. e ≡ Memory) }
+    {
+        let leaves = Arc::try_clone(&self.leaves)?;
+        Ok(View {
+            schema: self.schema.copy()?,
+            leaves,
+            token: self.token,
+        })
+    }
+
+    /// The names of the files that a searcher of the view needs, those of each segment in turn (Lucene: what
+    /// `IndexCommit.getFileNames` lists, without the files of a commit). A refusal is [`Refusal::Memory`].
+    pub fn files(&self, alloc: Global) -> Result<Vec<FileName>, Refusal>
+        ensures ok { IfOk result (λ names. map name_of names.items ≡ needs self.now) }
+        ensures refusal { IfErr result (λ e. e ≡ Memory) }
+    {
+        files_of(alloc, &self.leaves)
+    }
+}
+
+/// The names of the files of the leaves' segments.
+fn files_of(alloc: Global, leaves: &[Leaf]) -> Result<Vec<FileName>, Refusal>
+    ensures ok { IfOk result (λ names. map name_of names.items ≡ flat_map leaf_names leaves.now) }
+    ensures refusal { IfErr result (λ e. e ≡ Memory) }
+{
+    let mut names = Vec::new(alloc);
+    for leaf in leaves {
+        let number = leaf.segment().number();
+        names.push(FileName::Segment(number))?;
+        names.push(FileName::Source(number))?;
+    }
+    Ok(names)
+}
