@@ -2,8 +2,6 @@
 #![tactic(auto)]
 
 #[cfg(test)]
-mod rows_faults;
-#[cfg(test)]
 mod rows_find;
 #[cfg(test)]
 mod rows_held;
@@ -16,17 +14,11 @@ mod rows_opening;
 #[cfg(test)]
 mod rows_pages;
 #[cfg(test)]
-mod rows_queries;
-#[cfg(test)]
 mod rows_refused;
 #[cfg(test)]
 mod rows_replies;
 #[cfg(test)]
 mod rows_run;
-#[cfg(test)]
-mod rows_schema;
-#[cfg(test)]
-mod rows_segments;
 #[cfg(test)]
 mod rows_serving;
 #[cfg(test)]

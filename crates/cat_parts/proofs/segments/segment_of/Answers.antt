@@ -1,6 +1,6 @@
 use Rattle.std.proofs.Common.{◌≡◌, ◌≤◌, AllPairs, length, subst, arith}
-use Rattle.cat_rows.proofs.SegmentRows.{Apart, are_rows}
-use Rattle.cat_rows.proofs.rows_segments.segment_of.Goals as goal
+use Rattle.cat_parts.proofs.SegmentRows.{Apart, are_rows}
+use Rattle.cat_parts.proofs.segments.segment_of.Goals as goal
 
 pub of-requires : goal.of-requires
 of-requires c = record {

@@ -1,5 +1,5 @@
 use Rattle.std.proofs.Common.{◌≡◌, ◌≤◌, All, map, take}
-use Rattle.cat_rows.proofs.rows_segments.rows_of.Given as goal
+use Rattle.cat_parts.proofs.segments.rows_of.Given as goal
 
 abbrev pub invariant-loop-item : goal.invariant-loop-item
 invariant-loop-item l = record {

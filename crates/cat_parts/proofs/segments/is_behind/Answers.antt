@@ -1,8 +1,8 @@
 use Rattle.std.proofs.Common.{◌≡◌, ◌<◌, All, take, get_or, subst, arith, rules}
 use Rattle.std.proofs.lemmas.List.{take_all}
 use Rattle.std.proofs.lemmas.List.Elements.{All-more}
-use Rattle.cat_rows.proofs.SegmentRows.{Apart}
-use Rattle.cat_rows.proofs.rows_segments.is_behind.Goals as goal
+use Rattle.cat_parts.proofs.SegmentRows.{Apart}
+use Rattle.cat_parts.proofs.segments.is_behind.Goals as goal
 
 pub loop-row-preserved : goal.loop-row-preserved
 loop-row-preserved c =

@@ -1,0 +1,11 @@
+//! Tests that cross the crates below the protocol: schemas and items, query texts, segments and their files.
+#![tactic(auto)]
+
+#[cfg(test)]
+mod faults;
+#[cfg(test)]
+mod queries;
+#[cfg(test)]
+mod schemas;
+#[cfg(test)]
+mod segments;
