@@ -77,6 +77,7 @@ at_places set xs d e = picked (λ i. get_or xs i d) (has_row set) 0 set xs e (λ
   where
     zeroed : (k : ℕ) → 0 + k ≡ k
     zeroed k = omega arith
+
     any_default : {X : Type 0} (xs : List X) (k : ℕ) (d d' : X) → k < length xs → get_or xs k d ≡ get_or xs k d'
     any_default [] k d d' h = absurd (omega arith)
     any_default (x ∷ xs) zero d d' h = refl
@@ -131,10 +132,12 @@ module _ {L X : Type 0} (set : L → List Bool) (piece : L → List X) where
       → EachPair R (marked bs xs ++ flat_map (λ l. marked (set l) (piece l)) ls)
   cut R ls [] xs a h = h
   cut R ls (b ∷ bs) [] a h = h
-  cut R ls (true ∷ bs) (x ∷ xs) a h =
-      (All-both (R x) (marked bs xs) (flat_map (λ l. marked (set l) (piece l)) ls)
-      (All-marked (R x) bs xs (All-left (R x) xs (flat_map piece ls) a.0))
-      (All-pieces (R x) ls (All-right (R x) xs (flat_map piece ls) a.0)), cut R ls bs xs a.1 h)
+  cut R ls (true ∷ bs) (x ∷ xs) a h = (
+    All-both (R x) (marked bs xs) (flat_map (λ l. marked (set l) (piece l)) ls)
+        (All-marked (R x) bs xs (All-left (R x) xs (flat_map piece ls) a.0))
+        (All-pieces (R x) ls (All-right (R x) xs (flat_map piece ls) a.0)),
+    cut R ls bs xs a.1 h,
+  )
   cut R ls (false ∷ bs) (x ∷ xs) a h = cut R ls bs xs a.1 h
 
   pub Pairs-pieces : (R : X → X → Type 0) (ls : List L) → EachPair R (flat_map piece ls) → EachPair R (flat_map (λ l. marked (set l) (piece l)) ls)

@@ -1,9 +1,9 @@
 -- The rows of a segment as hits, by the column of the sort's field.
-use Rattle.std.proofs.Common.{◌≡◌, ℕ, zero, suc, ◌+◌, ◌<◌, List, [], ◌∷◌, length, map, get_or, Option, Some, None, option_map, find, ◌==◌, Bool, true, slice_get, refl, sym, ap, ◌∙◌, arith}
+use Rattle.std.proofs.Common.{◌≡◌, ℕ, zero, suc, ◌<◌, List, [], ◌∷◌, length, map, get_or, Option, Some, None, option_map, find, ◌==◌, true, slice_get, refl, sym, ap, ◌∙◌, arith}
 use Rattle.std.specs.Prelude.{replicate, MatchOption}
 use Rattle.std.specs.Borrow.{Bor}
 use Rattle.std.specs.List.{HoldsAt}
-use Rattle.std.proofs.lemmas.List.{length-map, length-replicate, get_or-replicate}
+use Rattle.std.proofs.lemmas.List.{length-map}
 use Rattle.cat_model.specs.Answer.{has_mark}
 use Rattle.cat_model.specs.Item.{Content, content_of}
 use Rattle.cat_model.specs.Page.{Sort, Key, key, key_in}
@@ -14,7 +14,7 @@ use Rattle.cat_segment.specs.declared.column.Column.{Column}
 use Rattle.cat_search.specs.declared.sort.Order.{Order}
 use Rattle.cat_search.specs.Keys.{Place}
 use Rattle.cat_search.specs.Pages.{rank_with}
-use Rattle.cat_search.specs.Views.{bare, keys_by, mark_in, place_with, place_in, places_by}
+use Rattle.cat_search.specs.Views.{bare, keys_by, mark_in, place_in, places_by}
 use Rattle.cat_search.proofs.Defined.{map_map}
 use Rattle.cat_search.proofs.Marks.{has}
 

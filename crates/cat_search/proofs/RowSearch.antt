@@ -9,7 +9,7 @@ use Rattle.cat_model.specs.RowSets.{has_row}
 use Rattle.cat_model.proofs.Lists.{All-both, All-weaken}
 use Rattle.cat_model.proofs.Places.{EachPair, each_pair}
 use Rattle.cat_search.specs.Views.{first_in}
-use Rattle.cat_search.proofs.Marked.{All-marked, All-left, All-right, Pairs-left, Pairs-right, All-pieces}
+use Rattle.cat_search.proofs.Marked.{All-marked, All-left, All-right, Pairs-right, All-pieces}
 use Rattle.cat_search.proofs.Marks.{before_or_at}
 
 -- the number of each row is below those behind it

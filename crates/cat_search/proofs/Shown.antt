@@ -1,5 +1,5 @@
 -- An answer to a FIND asks for no source, so over the records that a view shows it is the answer over its bare rows.
-use Rattle.std.proofs.Common.{◌≡◌, ◌≢◌, ℕ, zero, suc, min, List, [], ◌∷◌, length, map, filter, Bool, true, false, cond, ltb, Option, Some, None, option_map, find, ◌&&◌, ◌||◌, ◌==◌, Result, Ok, Err, IfErr, refl, sym, ap, ◌∙◌}
+use Rattle.std.proofs.Common.{◌≡◌, ℕ, min, List, [], ◌∷◌, length, map, filter, Bool, cond, ltb, Option, Some, None, option_map, find, ◌&&◌, ◌||◌, ◌==◌, Result, Ok, Err, IfErr, refl, sym, ap, ◌∙◌}
 use Rattle.std.specs.Prelude.{filter_map, count_by, replicate}
 use Rattle.std.specs.List.{list_any, cons_option, range_with_len}
 use Rattle.std.proofs.lemmas.List.{length-map, length-replicate}
@@ -9,7 +9,7 @@ use Rattle.cat_base.specs.declared.refusal.Refusal.TheVariants.{Count, SortField
 use Rattle.cat_model.specs.Answer.{Read, Found, answer, can_sort, has_mark}
 use Rattle.cat_model.specs.Item.{Item, Record, Schema}
 use Rattle.cat_model.specs.Page.{Sort, Page, Entry, key, hits, before, ranked, first_ranked, rest, page_of}
-use Rattle.cat_model.specs.Query.{Query, Primary, Sign, obeys, supports, obeyed, supported, primary_matches, matches}
+use Rattle.cat_model.specs.Query.{Query, Primary, obeys, supports, obeyed, supported, primary_matches, matches}
 use Rattle.cat_model.specs.View.{Row, View, Shows, row_of, rows_in}
 use Rattle.cat_search.specs.Pages.{answer_where, as_found}
 use Rattle.cat_search.specs.Views.{bare, ViewsShowRecords}

@@ -1,5 +1,5 @@
 -- The stored source of the row of an id.
-use Rattle.std.proofs.Common.{◌≡◌, ◌≢◌, ℕ, zero, suc, ◌+◌, ◌<◌, ◌≤◌, ◌⊎◌, List, [], ◌∷◌, ◌++◌, length, map, take, drop, get_or, sum, AllPairs, Bool, true, false, cond, ◌||◌, Option, Some, None, option_map, is_some, find, refl, sym, ap, ◌∙◌, subst, inl, inr, arith}
+use Rattle.std.proofs.Common.{◌≡◌, ◌≢◌, ℕ, zero, suc, ◌+◌, ◌<◌, ◌≤◌, List, [], ◌∷◌, ◌++◌, length, map, take, drop, get_or, sum, AllPairs, Bool, true, false, cond, ◌||◌, Option, Some, None, option_map, is_some, find, refl, sym, ap, ◌∙◌, subst, inl, inr, arith}
 use Rattle.std.specs.Prelude.{slice_index, Contains}
 use Rattle.std.specs.Option.{option_or}
 use Rattle.std.specs.List.{AllByRecursion, HoldsAt, All, flat_map, list_any}
@@ -61,9 +61,9 @@ differ_at : (id : Text) (rows : List Row) (i k : ℕ) (d : Row) → IdsDiffer ro
 differ_at id rows i k d apart h e l n = elim (cases_lt k i) [
   | inl q ↦ other (get_or rows k d).id id (λ s. apart k i d q h (s ∙ sym e))
   | inr q ↦ elim (before_or_at i k q) [
-      | inl r ↦ other (get_or rows k d).id id (λ s. apart i k d r l (e ∙ sym s))
-      | inr r ↦ absurd (n (sym r))
-    ]
+    | inl r ↦ other (get_or rows k d).id id (λ s. apart i k d r l (e ∙ sym s))
+    | inr r ↦ absurd (n (sym r))
+  ]
 ]
 
 pub none_in : (id : Text) (leaf : Leaf) (rows : List Row) → rows ≡ leaf.segment.rows → All (λ r. r.id ≢ id) rows → list_any (has_id id) (live_rows leaf) ≡ false
@@ -135,7 +135,7 @@ found_record files id leaf i apart h is live =
     let long : length all ≡ length rows = length-sourced rows bytes in
     let yes : same_text (get_or all i no_record).item.id id ≡ true = ap (λ t. same_text t id) (id-sourced rows bytes i h) ∙ same (get_or rows i no_row).id id (is no_row) in
     let no = λ (k : ℕ) (l : k < length all) (n : k ≢ i).
-        ap (λ t. same_text t id) (id-sourced rows bytes k (omega (arith, l, long))) ∙ differ_at id rows i k no_row apart h (is no_row) (omega (arith, l, long)) n in
+    ap (λ t. same_text t id) (id-sourced rows bytes k (omega (arith, l, long))) ∙ differ_at id rows i k no_row apart h (is no_row) (omega (arith, l, long)) n in
     ap (option_map (λ r. r.item.source)) (only_marked (λ r. same_text r.item.id id) leaf.live all i no_record (omega (arith, h, long)) yes no ∙ ap (λ b. cond b (Some (get_or all i no_record)) None) live)
     ∙ ap Some (source-sourced rows bytes i h)
 

@@ -1,5 +1,5 @@
 -- The page that a pass over segments puts together is the page over the view's bare rows.
-use Rattle.std.proofs.Common.{◌≡◌, ℕ, ◌<◌, ◌≤◌, List, [], ◌∷◌, length, map, filter, take, AllPairs, Bool, true, Option, Some, None, option_map, find, ◌==◌, Result, Ok, Err, IfOk, IfErr, refl, sym, ap, ◌∙◌, subst}
+use Rattle.std.proofs.Common.{◌≡◌, ℕ, ◌<◌, ◌≤◌, List, length, map, filter, take, AllPairs, true, Option, Some, None, option_map, find, ◌==◌, Result, Ok, Err, IfOk, IfErr, refl, sym, ap, ◌∙◌, subst}
 use Rattle.std.specs.List.{flat_map}
 use Rattle.std.proofs.lemmas.List.{length-map}
 use Rattle.cat_base.specs.declared.refusal.Refusal.{Refusal}
@@ -9,7 +9,7 @@ use Rattle.cat_model.specs.Item.{Record}
 use Rattle.cat_model.specs.Page.{Sort, Page, Entry}
 use Rattle.cat_model.specs.Query.{Query, matches}
 use Rattle.cat_model.specs.Ranks.{sorted}
-use Rattle.cat_model.specs.View.{Row, Leaf, View, IsView, Shows, live_rows, rows_in, item_in, row_matches}
+use Rattle.cat_model.specs.View.{Row, Leaf, View, IsView, Shows, live_rows, rows_in, row_matches}
 use Rattle.cat_model.proofs.Places.{each_pair, all_pairs}
 use Rattle.cat_query.specs.View.{query_of}
 use Rattle.cat_search.specs.declared.sort.Order.{Order}

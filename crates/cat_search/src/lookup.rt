@@ -12,7 +12,7 @@ fn row_in(leaf: &Leaf, id: &str) -> Option<usize>
     ensures { MatchOption result
         (list_any (has_id id.now) (live_rows leaf.now) ≡ false)
         (λ row. (row < length leaf.now.segment.rows) × HoldsAt (λ r. r.id ≡ id.now) leaf.now.segment.rows row
-            × (has_row leaf.now.live row ≡ true) × AllPairs (λ a b. a.id ≢ b.id) leaf.now.segment.rows) }
+        × (has_row leaf.now.live row ≡ true) × AllPairs (λ a b. a.id ≢ b.id) leaf.now.segment.rows) }
 {
     let row = leaf.segment().row_with(id)?;
     prove!(row < leaf.segment().len());
@@ -28,7 +28,7 @@ pub(crate) fn holder_of<'a>(leaves: &'a [Leaf], id: &str) -> Option<(&'a Leaf, u
     ensures { MatchOption result
         (list_any (has_id id.now) (flat_map live_rows leaves.now) ≡ false)
         (λ at. (at.1 < length at.0.now.segment.rows) × (list_any (has_id id.now) (flat_map live_rows leaves.now) ≡ true) × Contains leaves.now at.0.now
-            × ((files : ℕ → List ℕ) → stored_in files leaves.now id.now ≡ Some (source_in files at.0.now at.1))) }
+        × ((files : ℕ → List ℕ) → stored_in files leaves.now id.now ≡ Some (source_in files at.0.now at.1))) }
 {
     for leaf in leaves {
         if let Some(row) = row_in(leaf, id) {

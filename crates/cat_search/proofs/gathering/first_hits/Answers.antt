@@ -1,4 +1,4 @@
-use Rattle.std.proofs.Common.{◌≡◌, ◌∙◌, ℕ, List, map, take, filter, option_map}
+use Rattle.std.proofs.Common.{◌∙◌, option_map}
 use Rattle.std.specs.List.{flat_map}
 use Rattle.cat_model.specs.View.{live_rows, row_matches}
 use Rattle.cat_query.specs.View.{query_of}

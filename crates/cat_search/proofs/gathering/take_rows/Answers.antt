@@ -2,7 +2,7 @@ use Rattle.std.proofs.Common.{◌≡◌, ◌∙◌, ◌++◌, ◌∷◌, [], ◌
 use Rattle.std.proofs.lemmas.List.{length-map}
 use Rattle.cat_model.specs.RowSets.{places}
 use Rattle.cat_search.specs.Seen.{seen}
-use Rattle.cat_search.proofs.Gathered.{none, one, placed, placed-more, placed-append, placed-all, next_within, full}
+use Rattle.cat_search.proofs.Gathered.{placed, placed-append, placed-all, next_within, full}
 use Rattle.cat_search.proofs.gathering.take_rows.Goals as goal
 
 pub returns-then-len-n-clause-taken : goal.returns-then-len-n-clause-taken

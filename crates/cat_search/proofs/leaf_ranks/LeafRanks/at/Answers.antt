@@ -1,5 +1,4 @@
-use Rattle.std.proofs.Common.{◌≡◌, ◌∙◌, ◌<◌, length, get_or, Option, None, Some, option_map, sym, ap, arith}
-use Rattle.cat_model.specs.Page.{Key}
+use Rattle.std.proofs.Common.{◌≡◌, ◌∙◌, ◌<◌, length, get_or, None, option_map, sym, ap, arith}
 use Rattle.cat_search.specs.Keys.{key_seen}
 use Rattle.cat_search.specs.Views.{keys_by}
 use Rattle.cat_search.proofs.Ranks.{length-places, length-keys, place-at, key-at, no_key-at}

@@ -1,5 +1,4 @@
-use Rattle.std.proofs.Common.{◌∙◌, ◌<◌, length, ap, subst, arith}
-use Rattle.std.specs.List.{HoldsAt}
+use Rattle.std.proofs.Common.{◌∙◌, ◌<◌, length, ap, arith}
 use Rattle.cat_search.specs.Views.{first_in}
 use Rattle.cat_search.proofs.RowSearch.{first-at}
 use Rattle.cat_search.proofs.view.Leaf.first_number.Goals as goal

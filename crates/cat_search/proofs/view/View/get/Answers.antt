@@ -5,7 +5,7 @@ use Rattle.std.proofs.lemmas.List.Elements.{All-contains}
 use Rattle.std.proofs.lemmas.Result.{err_from_is_err_and}
 use Rattle.cat_model.specs.View.{live_rows}
 use Rattle.cat_directory.specs.declared.name.FileName.TheVariants as file
-use Rattle.cat_search.specs.Views.{has_id, source_in, stored_in}
+use Rattle.cat_search.specs.Views.{has_id, stored_in}
 use Rattle.cat_search.proofs.Stored.{none_stored, read_is, long_enough}
 use Rattle.cat_search.proofs.view.View.get.Goals as goal
 
@@ -30,12 +30,12 @@ pub returns-in_err-read-clause-damaged : goal.returns-in_err-read-clause-damaged
 returns-in_err-read-clause-damaged g c =
     let p = err_from_is_err_and c.from_residual.result c.from_residual.ensures.1 in
     rw (p.1, p.2) (λ e files tells holds.
-        let told = g.S.Holder.bytes c.args.shelf.now in
-        let leaf = c.in-Some.leaf.now in
-        let leaves = c.deref-2.ensures.value ∙ ap (λ v. v.items) c.deref.ensures ∙ ap (λ v. v.leaves) c.self.view_is in
-        let there = subst (λ ls. Contains ls leaf) leaves c.in-Some.ensures.2 in
-        let tell = All-contains (λ l. told (file.Source l.segment.number) ≡ Some (Some (files l.segment.number))) c.args.self.now.leaves leaf tells there in
-        let number = c.number.ensures ∙ ap (λ s. s.number) c.segment-segment.ensures in
-        let short = c.in_err-read.ensures.damaged e (files leaf.segment.number) (ap (λ n. told (file.Source n)) number ∙ tell) in
-        let whole = All-contains (λ l. sum (map (λ r. r.length) l.segment.rows) ≤ length (files l.segment.number)) c.args.self.now.leaves leaf holds there in
-        long_enough files leaf c.segment-segment.result.now c.in-Some.row c.source_place-place.result c.source_length.result c.segment-segment.ensures c.in-Some.ensures.0 c.source_place-place.ensures c.source_length.ensures whole short)
+    let told = g.S.Holder.bytes c.args.shelf.now in
+    let leaf = c.in-Some.leaf.now in
+    let leaves = c.deref-2.ensures.value ∙ ap (λ v. v.items) c.deref.ensures ∙ ap (λ v. v.leaves) c.self.view_is in
+    let there = subst (λ ls. Contains ls leaf) leaves c.in-Some.ensures.2 in
+    let tell = All-contains (λ l. told (file.Source l.segment.number) ≡ Some (Some (files l.segment.number))) c.args.self.now.leaves leaf tells there in
+    let number = c.number.ensures ∙ ap (λ s. s.number) c.segment-segment.ensures in
+    let short = c.in_err-read.ensures.damaged e (files leaf.segment.number) (ap (λ n. told (file.Source n)) number ∙ tell) in
+    let whole = All-contains (λ l. sum (map (λ r. r.length) l.segment.rows) ≤ length (files l.segment.number)) c.args.self.now.leaves leaf holds there in
+    long_enough files leaf c.segment-segment.result.now c.in-Some.row c.source_place-place.result c.source_length.result c.segment-segment.ensures c.in-Some.ensures.0 c.source_place-place.ensures c.source_length.ensures whole short)
