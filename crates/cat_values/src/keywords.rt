@@ -141,8 +141,9 @@ impl KeywordColumn {
     }
 
     /// The column that a file has as a dictionary and the code of each row's keyword, which is 0 for none, else the ordinal
-    /// plus 1. Both are taken over, and nothing is sorted. A refusal is [`Refusal::Memory`], or [`Refusal::Damaged`] where no
-    /// column is laid out so: the dictionary doesn't rise by bytes, a code is past it, or no row has one of its keywords.
+    /// plus 1 (`DocValuesProducer.getSorted`). Both are taken over, in linear time. A refusal is [`Refusal::Memory`], or
+    /// [`Refusal::Damaged`] where no column is laid out so: the dictionary doesn't rise by bytes, a code is past it, or no row
+    /// has one of its keywords.
     pub fn from_codes(
         alloc: Global,
         dictionary: Vec<Text>,

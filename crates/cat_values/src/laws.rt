@@ -13,7 +13,7 @@ pub fn columns_are_told_by_their_layouts()
         → map (map (ordinal_in (dictionary_of a))) a ≡ map (map (ordinal_in (dictionary_of b))) b → a ≡ b }
 {}
 
-/// The laws that make bytes of a set one of its spellings: a set has one spelling, and no other set of as many rows has it.
+/// The laws that tie a set to its bytes: it has one spelling, and no other set of as many rows has that one.
 pub fn sets_are_told_by_their_bytes()
     ensures bytes { (a b : List ℕ) (s : List Bool) → IsPacked a s → IsPacked b s → a ≡ b }
     ensures sets { (a : List ℕ) (s t : List Bool) → IsPacked a s → IsPacked a t → length s ≡ length t → s ≡ t }

@@ -200,9 +200,9 @@ impl SetColumn {
     }
 
     /// The column that a file has as a dictionary and the ordinals of the rows' labels, one row behind another, each up to its
-    /// end. All three are taken over, and nothing is sorted. A refusal is [`Refusal::Memory`], or [`Refusal::Damaged`] where no
-    /// column is laid out so: the dictionary doesn't rise by bytes, an ordinal is past it, those of a row don't rise, or no row
-    /// has one of its labels.
+    /// end (`DocValuesProducer.getSortedSet`). All three are taken over, in linear time. A refusal is [`Refusal::Memory`], or
+    /// [`Refusal::Damaged`] where no column is laid out so: the dictionary doesn't rise by bytes, an ordinal is past it, those
+    /// of a row don't rise, or no row has one of its labels.
     pub fn from_ordinals(
         alloc: Global,
         dictionary: Vec<Text>,
