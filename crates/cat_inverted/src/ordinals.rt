@@ -1,5 +1,5 @@
 //! How the terms of a segment are built from the ordinals of its rows' texts.
-ghost use Rattle.std.specs.Prelude.{◌≡◌, ℕ, ◌^◌, ◌<◌, ◌++◌, ◌∷◌, List, [], length, map, replicate, All, IfOk, IfErr, OnOk, if◌then◌else◌};
+ghost use Rattle.std.specs.Prelude.{◌≡◌, ℕ, ◌^◌, ◌<◌, ◌++◌, ◌∷◌, [], length, map, All, IfOk, IfErr, OnOk, if◌then◌else◌};
 ghost use Rattle.std.specs.List.{flat_map};
 ghost use Rattle.std.specs.List.Sorted.{IsStrictlySortedBy};
 ghost use Rattle.std.specs.Ordering.{nat_cmp};
@@ -7,7 +7,7 @@ ghost use Rattle.cat_base.specs.declared.refusal.Refusal.TheVariants.{Memory};
 ghost use Rattle.cat_model.specs.Layout.{pieces, AreEnds};
 ghost use Rattle.cat_model.specs.Ordinals.{dictionary_of, text_at};
 ghost use Rattle.cat_inverted.specs.Postings.{is_among};
-ghost use Rattle.cat_inverted.specs.Gathered.{ends_from, lists_in, list_at, rows_at};
+ghost use Rattle.cat_inverted.specs.Gathered.{ends_from, list_at, rows_at};
 
 use crate::terms::Terms;
 use cat_base::{Refusal, TextSet};
@@ -85,10 +85,12 @@ fn laid(alloc: Global, lists: &[Vec<u32>]) -> Result<(Vec<u32>, Vec<u32>), Refus
 }
 
 impl Terms {
-    /// The terms of rows that have texts of these ordinals, where the ordinals of each row rise and end where `ends` says,
-    /// and each word has a row. So Lucene's `SortedSetDocValuesTermsEnum` and a pass over the doc values would find them.
-    /// It hashes and compares no text, and takes time in proportion to the rows, the words and the ordinals. A refusal is
-    /// [`Refusal::Memory`].
+    /// The terms of rows that have the words of these ordinals. The ordinals of each row rise, and stand one row behind
+    /// another; `ends` says where each row's end. The words are those that some row has, as in the dictionary of Lucene's
+    /// `SortedSetDocValues`, whose `termsEnum` has these terms.
+    ///
+    /// It goes over the ordinals once, hashes no word and compares none, and takes time in proportion to the rows, the words
+    /// and the ordinals. A refusal is [`Refusal::Memory`].
     pub fn from_ordinals(
         alloc: Global,
         words: TextSet,

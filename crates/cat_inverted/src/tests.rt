@@ -170,3 +170,20 @@ fn postings_of_no_rows_are_damaged(rt: HostRuntime) -> Result<(), Fail> {
     assert!(rt; is_damaged(read(alloc, 3, &["red"], &[2], &[1, 3]))?);
     Ok(())
 }
+
+/// The terms of three rows of which the second alone has the word.
+fn of_one_word(alloc: Global, word: &str) -> Result<Terms, Refusal> {
+    let mut texts = Vec::new(alloc);
+    texts.push(Text::from_str(alloc, word)?)?;
+    Terms::from_ordinals(alloc, TextSet::of(texts), &[0, 1, 1], &[0])
+}
+
+#[test]
+fn ordinals_make_terms(rt: HostRuntime) -> Result<(), Fail> {
+    let alloc = rt.alloc();
+    let terms = of_one_word(alloc, "red")?;
+    assert_eq!(rt; terms.len(), 3);
+    let red = format!(in alloc; "{:?} {:?}", terms.words(), terms.postings("red"))?;
+    assert_eq!(rt; red.as_str(), "[\"red\"] [1]");
+    Ok(())
+}

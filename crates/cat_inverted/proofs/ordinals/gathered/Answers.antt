@@ -1,10 +1,10 @@
-use Rattle.std.proofs.Common.{◌≡◌, ℕ, ◌+◌, ◌-◌, ◌<◌, ◌≤◌, List, [], ◌∷◌, ◌++◌, length, get_or, take, drop, if◌then◌else◌, refl, sym, ap, ◌∙◌, subst, arith, rules, nat_cmp}
+use Rattle.std.proofs.Common.{ℕ, ◌-◌, ◌<◌, List, [], ◌∷◌, ◌++◌, length, get_or, take, drop, if◌then◌else◌, refl, sym, ap, ◌∙◌, subst, arith, rules, nat_cmp}
 use Rattle.std.proofs.lemmas.List.{take_all}
 use Rattle.std.specs.List.Sorted.{IsStrictlySortedBy}
 use Rattle.std.specs.Prelude.{All}
 use Rattle.cat_model.specs.Layout.{pieces}
-use Rattle.cat_inverted.specs.Postings.{start_of, is_among}
-use Rattle.cat_inverted.specs.Gathered.{list_at, rows_at}
+use Rattle.cat_inverted.specs.Postings.{is_among}
+use Rattle.cat_inverted.specs.Gathered.{rows_at}
 use Rattle.cat_inverted.proofs.Parts.{piece_at, piece_bounds, length-pieces}
 use Rattle.cat_inverted.proofs.ByOrdinal.{none_listed, rows_more}
 use Rattle.cat_inverted.proofs.ordinals.gathered.Goals as goal

@@ -1,4 +1,4 @@
-use Rattle.std.proofs.Common.{ℕ, Vec, Global, List, length, ap, ◌∙◌, arith}
+use Rattle.std.proofs.Common.{ℕ, Vec, Global, length, ap, ◌∙◌, arith}
 use Rattle.cat_inverted.proofs.Gathering.{laid_more, ends_more}
 use Rattle.cat_inverted.proofs.ordinals.laid.Goals as goal
 

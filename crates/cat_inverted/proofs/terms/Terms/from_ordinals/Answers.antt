@@ -1,9 +1,6 @@
-use Rattle.std.proofs.Common.{◌≡◌, ℕ, ◌<◌, Vec, Global, List, length, map, sym, ap, ◌∙◌, arith, subst}
-use Rattle.std.specs.Prelude.{All}
-use Rattle.cat_base.specs.Texts.{IsTextSet}
-use Rattle.cat_base.proofs.TextSets.{IsTextSet-sorted_set}
+use Rattle.std.proofs.Common.{ℕ, Vec, Global, List, length, map, ap, ◌∙◌, arith}
 use Rattle.cat_model.specs.Layout.{pieces}
-use Rattle.cat_model.specs.Ordinals.{postings_of, text_at}
+use Rattle.cat_model.specs.Ordinals.{text_at}
 use Rattle.cat_inverted.specs.Gathered.{ends_from}
 use Rattle.cat_inverted.proofs.Parts.{joined, length-pieces}
 use Rattle.cat_inverted.proofs.ByOrdinal.{dictionary_rises, lists_are_postings, terms_gathered, rows_gathered}
