@@ -18,7 +18,7 @@ use Rattle.cat_base.specs.declared.refusal.Refusal.{Refusal}
 use Rattle.cat_base.specs.declared.refusal.Refusal.TheVariants.{Damaged}
 use Rattle.cat_codec.specs.Reading.{Reader, Fails, ◌>>=◌, byte_at, u32_at, u64_at, where_at, counted_at, text_at}
 use Rattle.cat_codec.specs.Layouts.{is_word, is_keyword, is_label, is_schema, is_write_number, is_source_length, kind_at, field_at, fields_at, head_at, list_at, posted_at, cell_at}
-use Rattle.cat_codec.proofs.Numbers.{Reads, bind_some, bind_at, both_true, some_is, then, reads_u32, reads_u64}
+use Rattle.cat_codec.proofs.Numbers.{Reads, bind_some, bind_at, both_true, at_some, then, reads_u32, reads_u64}
 use Rattle.cat_codec.proofs.Readers.{reads_where, reads_as, reads_text, both_sound, both_complete, reads_counted}
 use Rattle.cat_codec.proofs.Forms.{both_hold, word_from, word_to, keyword_from, keyword_to, label_from, label_to, schema_from, schema_to, id_is_utf8, id_is_short, name_is_text}
 
@@ -55,7 +55,7 @@ reads_kind = record { sound = kind_sound; complete = kind_complete }
     goal b rest y = (b ∷ rest ≡ kind_byte y.0 ∷ y.1) × Unit {0}
 
     made : (b n : ℕ) (rest : List ℕ) (x : Kind × List ℕ) (k : Kind) → kind_byte k ≡ n → eqb b n ≡ true → Some (k, rest) ≡ Some x → goal b rest x
-    made b n rest x k is t s = subst (goal b rest) (some_is (k, rest) x s) (ap (λ c. c ∷ rest) (eqb-true _ _ t ∙ sym is), tt)
+    made b n rest x k is t s = at_some (goal b rest) (k, rest) x s (ap (λ c. c ∷ rest) (eqb-true _ _ t ∙ sym is), tt)
 
     kind_sound : (bytes : List ℕ) (x : Kind × List ℕ) → kind_at bytes ≡ Some x → (bytes ≡ kind_byte x.0 ∷ x.1) × Unit {0}
     kind_sound [] x e = absurd cc
@@ -131,7 +131,7 @@ head_sound bytes x e =
     let t2 = reads_length.sound b.0.1 c.0 c.1 in
     let made : Head × List ℕ = (record { number = a.0.0; id = b.0.0; length = c.0.0 }, c.0.1) in
     let e12 = then a.0.1 (spelled_bytes b.0.0) b.0.1 (spelled_u32 c.0.0) c.0.1 t1.0 t2.0 in
-    subst (λ (y : Head × List ℕ). (bytes ≡ spelled_head y.0 ++ y.1) × IsHead y.0) (some_is made x c.2) (
+    at_some (λ (y : Head × List ℕ). (bytes ≡ spelled_head y.0 ++ y.1) × IsHead y.0) made x c.2 (
       then bytes (spelled_u64 a.0.0) a.0.1 (spelled_bytes b.0.0 ++ spelled_u32 c.0.0) c.0.1 t0.0 e12,
       record { positive = leb-true _ _ t0.1.1; fits = t0.1.0; id = t1.1; source = t2.1 },
     )
@@ -203,11 +203,11 @@ cell_sound (b ∷ rest) x e = zeros (eqb b 0) refl e
         let t = reads_u64.sound rest n.0 n.1 in
         let one : b ≡ 1 = eqb-true _ _ is in
         let spelled : rest ≡ spelled_u64 (cast_unsigned w64 (cast_signed w64 n.0.0)) ++ n.0.1 = subst (λ (k : ℕ). rest ≡ spelled_u64 k ++ n.0.1) (sym (of_z-to_z w64 n.0.0 t.1)) t.0 in
-        subst goal (some_is (Some (cast_signed w64 n.0.0), n.0.1) x n.2) (ap (λ c. c ∷ rest) one ∙ ap (λ (w : List ℕ). 1 ∷ w) spelled, fits_signed n.0.0 t.1)
+        at_some goal (Some (cast_signed w64 n.0.0), n.0.1) x n.2 (ap (λ c. c ∷ rest) one ∙ ap (λ (w : List ℕ). 1 ∷ w) spelled, fits_signed n.0.0 t.1)
     ones false is h = absurd cc
 
     zeros : (t : Bool) → eqb b 0 ≡ t → cond t (Some (None, rest)) (cond (eqb b 1) (u64_at rest >>= λ n. Some (Some (cast_signed w64 n.0), n.1)) None) ≡ Some x → goal x
-    zeros true is h = subst goal (some_is (None, rest) x h) (ap (λ c. c ∷ rest) (eqb-true _ _ is), tt)
+    zeros true is h = at_some goal (None, rest) x h (ap (λ c. c ∷ rest) (eqb-true _ _ is), tt)
     zeros false is h = ones (eqb b 1) refl h
 
 cell_complete : (z : Option ℤ) (rest : List ℕ) → IsCell z → cell_at (spelled_number z ++ rest) ≡ Some (z, rest)

@@ -37,6 +37,9 @@ done x = Some x
 pub some_is : {A : Type 0} (x y : A) → done x ≡ done y → x ≡ y
 some_is x y e = cc
 
+pub at_some : {A : Type 0} (P : A → Type 0) (x y : A) → done x ≡ done y → P x → P y
+at_some P x y e p = subst P (some_is x y e) p
+
 -- one part and then another
 pub then : (a x b y c : List ℕ) → a ≡ x ++ b → b ≡ y ++ c → a ≡ (x ++ y) ++ c
 then a x b y c p q = p ∙ ap (λ (t : List ℕ). x ++ t) q ∙ sym (append_assoc x y c)
@@ -66,7 +69,7 @@ reads_u32 = record {
       let g = kept (ltb made.0 (2 ^ 32) && bytes_eq (spelled_u32 made.0) (take 4 bytes)) (Some made) x e in
       let h = both_true (ltb made.0 (2 ^ 32)) (bytes_eq (spelled_u32 made.0) (take 4 bytes)) g.0 in
       let front : spelled_u32 made.0 ≡ take 4 bytes = same_bytes (spelled_u32 made.0) (take 4 bytes) h.1 in
-      subst (λ (y : ℕ × List ℕ). (bytes ≡ spelled_u32 y.0 ++ y.1) × (y.0 < 2 ^ 32)) (some_is made x g.1)
+      at_some (λ (y : ℕ × List ℕ). (bytes ≡ spelled_u32 y.0 ++ y.1) × (y.0 < 2 ^ 32)) made x g.1
       (subst (λ (t : List ℕ). bytes ≡ t ++ drop 4 bytes) (sym front) (sym (take-append-drop 4 bytes)), ltb-true _ _ h.0);
   complete = λ n rest lt.
       let back : from_be_bytes w32 (to_be_bytes w32 n) ≡ n = from_be_bytes-to_be_bytes_4 n lt in
@@ -93,7 +96,7 @@ reads_u64 = record {
       let g = kept (ltb made.0 (2 ^ 64) && bytes_eq (spelled_u64 made.0) (take 8 bytes)) (Some made) x e in
       let h = both_true (ltb made.0 (2 ^ 64)) (bytes_eq (spelled_u64 made.0) (take 8 bytes)) g.0 in
       let front : spelled_u64 made.0 ≡ take 8 bytes = same_bytes (spelled_u64 made.0) (take 8 bytes) h.1 in
-      subst (λ (y : ℕ × List ℕ). (bytes ≡ spelled_u64 y.0 ++ y.1) × (y.0 < 2 ^ 64)) (some_is made x g.1)
+      at_some (λ (y : ℕ × List ℕ). (bytes ≡ spelled_u64 y.0 ++ y.1) × (y.0 < 2 ^ 64)) made x g.1
       (subst (λ (t : List ℕ). bytes ≡ t ++ drop 8 bytes) (sym front) (sym (take-append-drop 8 bytes)), ltb-true _ _ h.0);
   complete = λ n rest lt.
       let back : from_be_bytes w64 (to_be_bytes w64 n) ≡ n = from_be_bytes-to_be_bytes_8 n lt in
@@ -123,7 +126,7 @@ reads_byte = record {
   where
     byte_sound : (bytes : List ℕ) (x : ℕ × List ℕ) → byte_at bytes ≡ Some x → (bytes ≡ x.0 ∷ x.1) × Unit {0}
     byte_sound [] x e = absurd cc
-    byte_sound (b ∷ rest) x e = subst (λ (y : ℕ × List ℕ). (b ∷ rest ≡ y.0 ∷ y.1) × Unit {0}) (some_is (b, rest) x e) (refl, tt)
+    byte_sound (b ∷ rest) x e = at_some (λ (y : ℕ × List ℕ). (b ∷ rest ≡ y.0 ∷ y.1) × Unit {0}) (b, rest) x e (refl, tt)
 
 pub byte_here : (old new : List ℕ) (b : ℕ) → old ≡ b ∷ new → byte_at old ≡ Some (b, new)
 unfolding byte_at
@@ -148,7 +151,7 @@ reads_string = record {
       let len : length (take n.0 n.1) ≡ n.0 = omega (arith, length-take n.0 n.1) in
       let both = then bytes (spelled_u32 n.0) n.1 (take n.0 n.1) (drop n.0 n.1) t.0 (sym (take-append-drop n.0 n.1)) in
       let whole : bytes ≡ spelled_bytes (take n.0 n.1) ++ drop n.0 n.1 = subst (λ (k : ℕ). bytes ≡ (spelled_u32 k ++ take n.0 n.1) ++ drop n.0 n.1) (sym len) both in
-      subst (λ (y : List ℕ × List ℕ). (bytes ≡ spelled_bytes y.0 ++ y.1) × (length y.0 < 2 ^ 32)) (some_is made x g.1) (whole, omega (arith, t.1, len));
+      at_some (λ (y : List ℕ × List ℕ). (bytes ≡ spelled_bytes y.0 ++ y.1) × (length y.0 < 2 ^ 32)) made x g.1 (whole, omega (arith, t.1, len));
   complete = λ text rest lt.
       let long : ltb (length (text ++ rest)) (length text) ≡ false = le-ltb _ _ (omega (arith, length-append text rest)) in
       rw (reads_u32.complete (length text) (text ++ rest) lt, long, take_at text rest (length text) refl, drop_at text rest (length text) refl) refl;

@@ -6,7 +6,7 @@ use Rattle.std.proofs.lemmas.List.Elements.{All-cons, All-nil}
 use Rattle.cat_base.specs.Bytes.{spelled_u32, spelled_bytes}
 use Rattle.cat_codec.specs.Reading.{Reader, ◌>>=◌, u32_at, string_at, where_at, both_at, many_at, counted_at, text_at}
 use Rattle.std.specs.Str.{is_utf8}
-use Rattle.cat_codec.proofs.Numbers.{Reads, bind_some, kept, some_is, then, reads_u32, reads_string}
+use Rattle.cat_codec.proofs.Numbers.{Reads, bind_some, kept, some_is, at_some, then, reads_u32, reads_string}
 
 pub reads_where : {A : Type 0} (passes : A → Bool) (one : Reader A) (spell : A → List ℕ) (P : A → Type 0) → Reads one spell P → Reads (where_at passes one) spell (λ x. P x × (passes x ≡ true))
 unfolding where_at
@@ -15,7 +15,7 @@ reads_where {A} passes one spell P r = record {
       let b = bind_some (one bytes) (λ y. cond (passes y.0) (Some y) None) x e in
       let g = kept (passes b.0.0) (Some b.0) x b.2 in
       let s = r.sound bytes b.0 b.1 in
-      subst (λ (y : A × List ℕ). (bytes ≡ spell y.0 ++ y.1) × (P y.0 × (passes y.0 ≡ true))) (some_is b.0 x g.1) (s.0, (s.1, g.0));
+      at_some (λ (y : A × List ℕ). (bytes ≡ spell y.0 ++ y.1) × (P y.0 × (passes y.0 ≡ true))) b.0 x g.1 (s.0, (s.1, g.0));
   complete = λ x rest h. rw (r.complete x rest h.0, h.1) refl;
 }
 
@@ -69,7 +69,7 @@ many_sound : {A : Type 0} (one : Reader A) (spell : A → List ℕ) (P : A → T
     → (bytes ≡ flat_map spell x.0 ++ x.1) × ((length x.0 ≡ n) × All P x.0)
 unfolding many_at
 many_sound {A} one spell P r zero bytes x e =
-    subst (λ (y : List A × List ℕ). (bytes ≡ flat_map spell y.0 ++ y.1) × ((length y.0 ≡ 0) × All P y.0)) (some_is ([], bytes) x e) (refl, (refl, All-nil P))
+    at_some (λ (y : List A × List ℕ). (bytes ≡ flat_map spell y.0 ++ y.1) × ((length y.0 ≡ 0) × All P y.0)) ([], bytes) x e (refl, (refl, All-nil P))
 many_sound {A} one spell P r (suc n) bytes x e =
     let a = bind_some (one bytes) (λ first. many_at one n first.1 >>= λ others. Some (first.0 ∷ others.0, others.1)) x e in
     let b = bind_some (many_at one n a.0.1) (λ others. Some (a.0.0 ∷ others.0, others.1)) x a.2 in
@@ -77,7 +77,7 @@ many_sound {A} one spell P r (suc n) bytes x e =
     let second = many_sound one spell P r n a.0.1 b.0 b.1 in
     let both : bytes ≡ flat_map spell (a.0.0 ∷ b.0.0) ++ b.0.1 = rw flat_map-cons (then bytes (spell a.0.0) a.0.1 (flat_map spell b.0.0) b.0.1 first.0 second.0) in
     let made : List A × List ℕ = (a.0.0 ∷ b.0.0, b.0.1) in
-    subst (λ (y : List A × List ℕ). (bytes ≡ flat_map spell y.0 ++ y.1) × ((length y.0 ≡ suc n) × All P y.0)) (some_is made x b.2) (both, (ap suc second.1.0, All-cons P a.0.0 b.0.0 first.1 second.1.1))
+    at_some (λ (y : List A × List ℕ). (bytes ≡ flat_map spell y.0 ++ y.1) × ((length y.0 ≡ suc n) × All P y.0)) made x b.2 (both, (ap suc second.1.0, All-cons P a.0.0 b.0.0 first.1 second.1.1))
 
 many_complete : {A : Type 0} (one : Reader A) (spell : A → List ℕ) (P : A → Type 0) → Reads one spell P → (xs : List A) (rest : List ℕ) → All P xs → many_at one (length xs) (flat_map spell xs ++ rest) ≡ Some (xs, rest)
 unfolding many_at

@@ -15,7 +15,7 @@ use Rattle.cat_model.specs.Files.{IsFileNumber}
 use Rattle.cat_model.specs.Layout.{Posted, Laid, Head, Layout, spelled_fields, spelled_head, spelled_list, spelled_texts, spelled_posted, spelled_number, spelled_column, spelled_layout, IsHead, FitU32, IsPosted, IsLaid, AreLaid, IsLayout}
 use Rattle.cat_codec.specs.Reading.{Reader, Fails, ◌>>=◌, byte_at, u32_at, u64_at, where_at, both_at, many_at, counted_at, text_at}
 use Rattle.cat_codec.specs.Layouts.{is_keyword, is_label, is_file_number, is_row_count, fields_at, head_at, list_at, posted_at, cell_at, column_at, columns_at, magic, start_at, layout_at}
-use Rattle.cat_codec.proofs.Numbers.{Reads, bind_some, bind_at, kept, both_true, some_is, then, reads_byte, reads_u32, reads_u64}
+use Rattle.cat_codec.proofs.Numbers.{Reads, bind_some, bind_at, kept, both_true, some_is, at_some, then, reads_byte, reads_u32, reads_u64}
 use Rattle.cat_codec.proofs.Readers.{reads_where, reads_as, both_sound, both_complete, reads_many, reads_counted}
 use Rattle.cat_codec.proofs.Forms.{both_hold}
 use Rattle.cat_codec.proofs.Layouts.{reads_fields, reads_head, reads_list, reads_keyword, reads_label, reads_posted, IsCell, reads_cell}
@@ -57,7 +57,7 @@ unfolding column_at
 column_sound Kind.text rows few bytes x e =
     let a = bind_some (counted_at posted_at bytes) (λ words. Some (Laid.words words.0, words.1)) x e in
     let t = reads_words.sound bytes a.0 a.1 in
-    subst (λ (y : Laid × List ℕ). (bytes ≡ spelled_column y.0 ++ y.1) × IsLaid rows Kind.text y.0) (some_is (Laid.words a.0.0, a.0.1) x a.2) t
+    at_some (λ (y : Laid × List ℕ). (bytes ≡ spelled_column y.0 ++ y.1) × IsLaid rows Kind.text y.0) (Laid.words a.0.0, a.0.1) x a.2 t
 column_sound Kind.keyword rows few bytes x e =
     let b = both_sound (counted_at (text_at is_keyword)) (λ dictionary. many_at u32_at rows) Laid.keywords spelled_texts (flat_map spelled_u32) (AreTexts IsKeyword) (λ dictionary. AreCodes rows) reads_keywords (λ dictionary. reads_codes rows) bytes x e in
     subst (λ (c : Laid). (bytes ≡ spelled_column c ++ x.1) × IsLaid rows Kind.keyword c) b.made
@@ -65,7 +65,7 @@ column_sound Kind.keyword rows few bytes x e =
 column_sound Kind.number rows few bytes x e =
     let a = bind_some (many_at cell_at rows bytes) (λ cells. Some (Laid.numbers cells.0, cells.1)) x e in
     let t = (reads_cells rows).sound bytes a.0 a.1 in
-    subst (λ (y : Laid × List ℕ). (bytes ≡ spelled_column y.0 ++ y.1) × IsLaid rows Kind.number y.0) (some_is (Laid.numbers a.0.0, a.0.1) x a.2) t
+    at_some (λ (y : Laid × List ℕ). (bytes ≡ spelled_column y.0 ++ y.1) × IsLaid rows Kind.number y.0) (Laid.numbers a.0.0, a.0.1) x a.2 t
 column_sound Kind.facet rows few bytes x e =
     let b = both_sound (counted_at (text_at is_label)) (λ dictionary. many_at list_at rows) Laid.labels spelled_texts (flat_map spelled_list) (AreTexts IsLabel) (λ dictionary. AreOrdinals rows) reads_labels (λ dictionary. reads_ordinals rows) bytes x e in
     subst (λ (c : Laid). (bytes ≡ spelled_column c ++ x.1) × IsLaid rows Kind.facet c) b.made
@@ -95,14 +95,14 @@ column_complete Kind.facet rows (Laid.numbers zs) rest h = absurd h
 columns_sound : (fs : Schema) (rows : ℕ) → rows < 2 ^ 32 → (bytes : List ℕ) (x : List Laid × List ℕ) → columns_at rows fs bytes ≡ Some x → (bytes ≡ flat_map spelled_column x.0 ++ x.1) × AreLaid rows fs x.0
 unfolding columns_at
 columns_sound [] rows few bytes x e =
-    subst (λ (y : List Laid × List ℕ). (bytes ≡ flat_map spelled_column y.0 ++ y.1) × AreLaid rows [] y.0) (some_is ([], bytes) x e) (refl, tt)
+    at_some (λ (y : List Laid × List ℕ). (bytes ≡ flat_map spelled_column y.0 ++ y.1) × AreLaid rows [] y.0) ([], bytes) x e (refl, tt)
 columns_sound (f ∷ fs) rows few bytes x e =
     let a = bind_some (column_at f.kind rows bytes) (λ first. columns_at rows fs first.1 >>= λ others. Some (first.0 ∷ others.0, others.1)) x e in
     let b = bind_some (columns_at rows fs a.0.1) (λ others. Some (a.0.0 ∷ others.0, others.1)) x a.2 in
     let first = column_sound f.kind rows few bytes a.0 a.1 in
     let second = columns_sound fs rows few a.0.1 b.0 b.1 in
     let both : bytes ≡ flat_map spelled_column (a.0.0 ∷ b.0.0) ++ b.0.1 = rw flat_map-cons (then bytes (spelled_column a.0.0) a.0.1 (flat_map spelled_column b.0.0) b.0.1 first.0 second.0) in
-    subst (λ (y : List Laid × List ℕ). (bytes ≡ flat_map spelled_column y.0 ++ y.1) × AreLaid rows (f ∷ fs) y.0) (some_is (a.0.0 ∷ b.0.0, b.0.1) x b.2) (both, (first.1, second.1))
+    at_some (λ (y : List Laid × List ℕ). (bytes ≡ flat_map spelled_column y.0 ++ y.1) × AreLaid rows (f ∷ fs) y.0) (a.0.0 ∷ b.0.0, b.0.1) x b.2 (both, (first.1, second.1))
 
 columns_complete : (fs : Schema) (rows : ℕ) (cs : List Laid) (rest : List ℕ) → AreLaid rows fs cs → columns_at rows fs (flat_map spelled_column cs ++ rest) ≡ Some (cs, rest)
 unfolding columns_at
@@ -192,7 +192,7 @@ layout_sound bytes l e =
     ta.0 ∙ ap (λ (t : List ℕ). spelled_start a.0.0 ++ t) (tb.0 ∙ ap (λ (t : List ℕ). spelled_fields b.0.0 ++ t) (tc.0 ∙ ap (λ (t : List ℕ). flat_map spelled_head c.0.0 ++ t) last)) in
     let counted : bytes ≡ spelled_start (a.0.0.0, length c.0.0) ++ (spelled_fields b.0.0 ++ (flat_map spelled_head c.0.0 ++ flat_map spelled_column d.0.0)) =
     subst (λ (m : ℕ). bytes ≡ spelled_start (a.0.0.0, m) ++ (spelled_fields b.0.0 ++ (flat_map spelled_head c.0.0 ++ flat_map spelled_column d.0.0))) (sym tc.1.0) bytes-are in
-    subst (λ (v : Layout). IsLayout v × (bytes ≡ spelled_layout v)) (some_is made l g.1) (
+    at_some (λ (v : Layout). IsLayout v × (bytes ≡ spelled_layout v)) made l g.1 (
       record {
         number = ta.1.0;
         schema = tb.1;
