@@ -4,6 +4,7 @@ pub mod Columns
 pub mod Ends
 pub mod Filled
 pub mod Formed
+pub mod Inverted
 pub mod Layouts
 pub mod LiveFiles
 pub mod Made
