@@ -13,6 +13,7 @@ use Rattle.cat_model.specs.Item.{Content, Kind, IsContent, words_in, keyword_in,
 use Rattle.cat_model.specs.Forms.{IsFormed, IsWord, IsKeyword, IsLabel}
 use Rattle.cat_model.specs.Layout.{Laid, Posted, ordinal_in, code_in, posted_of, keywords_of, IsPosted, IsLaid}
 use Rattle.cat_model.specs.Ordinals.{dictionary_of, postings_of, texts_of}
+use Rattle.cat_values.proofs.Told.{same_labels}
 use Rattle.cat_segment.proofs.Formed.{seen, joined, label_counts}
 use Rattle.cat_segment.proofs.Layouts.{word_sets, label_sets, length-seen}
 use Rattle.cat_segment.specs.Laid.{AreContents, laid_out}
@@ -147,12 +148,11 @@ no_labels rows dictionary ordinals none contents are same =
     none sets (label_sets contents are.kinds) texts laid
 
 -- a row has at most 64 labels
-pub too_many_labels : (rows : ℕ) (dictionary : List Text) (ordinals : List (List ℕ)) (row : ℕ) → row < length ordinals → 64 < length (get_or ordinals row []) → (contents : List Content) → AreContents Kind.facet rows contents
-    → laid_out Kind.facet contents ≢ Laid.labels dictionary ordinals
-too_many_labels rows dictionary ordinals row lt many contents are same =
-    let sets : List (List Text) = map labels_in (seen contents) in
-    let laid : map (map (ordinal_in (dictionary_of sets))) sets ≡ ordinals = cc in
-    let within : row < length sets = omega (arith, ap length laid, length-map sets (map (ordinal_in (dictionary_of sets)))) in
-    let long = ap (λ l. length (get_or l row [])) (sym laid) ∙ ap length (get_or-map (map (ordinal_in (dictionary_of sets))) sets row [] [] within) ∙ length-map (get_or sets row []) (ordinal_in (dictionary_of sets)) in
-    let few : All (λ set. length set ≤ 64) sets = label_counts contents are.kinds are.formed in
-    absurd (omega (arith, long, few row [] within))
+pub long_labels : (rows : ℕ) (sets : List (List Text)) (dictionary : List Text) (ordinals : List (List ℕ)) → dictionary_of sets ≡ dictionary → map (map (ordinal_in (dictionary_of sets))) sets ≡ ordinals
+    → (All (λ set. length set ≤ 64) sets → ⊥) → (contents : List Content) → AreContents Kind.facet rows contents → laid_out Kind.facet contents ≢ Laid.labels dictionary ordinals
+long_labels rows sets dictionary ordinals texts laid long contents are same =
+    let others : List (List Text) = map labels_in (seen contents) in
+    let other_texts : dictionary_of others ≡ dictionary = cc in
+    let other_laid : map (map (ordinal_in (dictionary_of others))) others ≡ ordinals = cc in
+    let one : others ≡ sets = same_labels others sets (other_texts ∙ sym texts) (other_laid ∙ sym laid) in
+    absurd (long (subst (All (λ set. length set ≤ 64)) one (label_counts contents are.kinds are.formed)))

@@ -2,13 +2,13 @@
 use Rattle.std.proofs.Common.{◌≡◌, ◌+◌, ◌<◌, ◌≤◌, ℕ, zero, suc, List, [], ◌∷◌, ◌++◌, length, map, get_or, take, Option, Some, None, refl, sym, ap, ◌∙◌, subst, arith, nat_cmp}
 use Rattle.std.specs.Prelude.{All, Contains}
 use Rattle.std.specs.List.Sorted.{IsStrictlySortedBy, IsStrictlyIncreasing}
-use Rattle.std.proofs.lemmas.List.{length-append, map_more}
+use Rattle.std.proofs.lemmas.List.{length-append, length-map, map_more}
 use Rattle.std.proofs.lemmas.List.Elements.{All-weaker, All-map}
 use Rattle.std.proofs.lemmas.Map.Keys.{sorted_from_strictly_increasing}
 use Rattle.std.proofs.lemmas.Simd.{map-map}
 use Rattle.cat_base.specs.Texts.{sorted_set, IsTextSet}
 use Rattle.cat_base.proofs.TextSets.{IsTextSet-nil, sorted_set_only}
-use Rattle.cat_codec.proofs.Pieces.{ends_push, pieces_push}
+use Rattle.cat_codec.proofs.Pieces.{ends_push, pieces_push, length-pieces}
 use Rattle.cat_model.specs.Text.{Text}
 use Rattle.cat_model.specs.Layout.{ordinal_in, code_in, keywords_of, pieces, AreEnds}
 use Rattle.cat_model.specs.Ordinals.{dictionary_of, text_at, texts_of}
@@ -65,14 +65,15 @@ one_text (Some t) = (tt, tt)
 pub keyword_sets : (values : List (Option Text)) → All IsTextSet (map texts_of values)
 keyword_sets values = All-map IsTextSet texts_of values (λ k d lt. one_text (get_or values k d))
 
-pub keywords_right : (values : List (Option Text)) (dictionary : List Text) (ends ordinals codes : List ℕ) → dictionary ≡ dictionary_of (map texts_of values) → codes ≡ map (code_in (keywords_of values)) values → AreEnds 0 ends (length ordinals)
-    → pieces 0 ends ordinals ≡ map ordinals_of codes → AreTermsOf (map texts_of values) dictionary (pieces 0 ends ordinals)
-keywords_right values dictionary ends ordinals codes same coded parts laid =
-    terms_right (map texts_of values) dictionary ends ordinals same parts (keyword_sets values)
-    (ordinal_of_code (keywords_of values) values ∙ ap (map ordinals_of) (sym coded) ∙ sym laid)
+module _ (values : List (Option Text)) (dictionary : List Text) (ends ends' ordinals ordinals' codes : List ℕ) (same : dictionary ≡ dictionary_of (map texts_of values)) (coded : codes ≡ map (code_in (keywords_of values)) values)
+    (same_ends : ends' ≡ ends) (same_ordinals : ordinals' ≡ ordinals) (parts : AreEnds 0 ends (length ordinals)) (laid : pieces 0 ends ordinals ≡ map ordinals_of codes) where
+  pub keywords_right : AreTermsOf (map texts_of values) dictionary (pieces 0 ends' ordinals')
+  keywords_right =
+      subst (AreTermsOf (map texts_of values) dictionary) (λ i. pieces 0 (sym same_ends i) (sym same_ordinals i))
+      (terms_right (map texts_of values) dictionary ends ordinals same parts (keyword_sets values) (ordinal_of_code (keywords_of values) values ∙ ap (map ordinals_of) (sym coded) ∙ sym laid))
 
 -- one more code
-pub code_more : (codes : List ℕ) (i code : ℕ) (ends new_ends ordinals new_ordinals : List ℕ) (end : ℕ) → i < length codes → code ≡ get_or codes i code → new_ordinals ≡ ordinals ++ ordinals_of code → end ≡ length new_ordinals → new_ends ≡ ends ++ end ∷ []
+pub code_more : (codes : List ℕ) (i code : ℕ) (ends new_ends ordinals new_ordinals : List ℕ) (end : ℕ) → i < length codes → code ≡ get_or codes i 0 → new_ordinals ≡ ordinals ++ ordinals_of code → end ≡ length new_ordinals → new_ends ≡ ends ++ end ∷ []
     → AreEnds 0 ends (length ordinals) → pieces 0 ends ordinals ≡ map ordinals_of (take i codes)
     → AreEnds 0 new_ends (length new_ordinals) × (pieces 0 new_ends new_ordinals ≡ map ordinals_of (take (i + 1) codes))
 code_more codes i code ends new_ends ordinals new_ordinals end lt is added long pushed parts laid =
@@ -81,5 +82,14 @@ code_more codes i code ends new_ends ordinals new_ordinals end lt is added long 
     (
       subst (λ l. AreEnds 0 l (length new_ordinals)) (sym pushed) (subst (λ n. AreEnds 0 (ends ++ end ∷ []) n) long rise),
       (λ j. pieces 0 (pushed j) (added j)) ∙ pieces_push 0 ends ordinals (ordinals_of code) end (omega arith) parts
-          ∙ ap (λ l. l ++ ordinals_of code ∷ []) laid ∙ ap (λ n. map ordinals_of (take i codes) ++ ordinals_of n ∷ []) is ∙ sym (map_more ordinals_of codes i code lt),
+          ∙ ap (λ l. l ++ ordinals_of code ∷ []) laid ∙ ap (λ n. map ordinals_of (take i codes) ++ ordinals_of n ∷ []) is ∙ sym (map_more ordinals_of codes i 0 lt),
     )
+
+-- a code is of at most one ordinal
+pub one_ordinal : (old new : List ℕ) (code : ℕ) → new ≡ old ++ ordinals_of code → length new ≤ length old + 1
+one_ordinal old new zero added = omega (arith, ap length added, length-append old [])
+one_ordinal old new (suc o) added = omega (arith, ap length added, length-append old (o ∷ []))
+
+-- as many ends as codes
+pub ends_many : (codes ends ordinals : List ℕ) → pieces 0 ends ordinals ≡ map ordinals_of codes → length ends ≡ length codes
+ends_many codes ends ordinals laid = sym (length-pieces 0 ends ordinals) ∙ ap length laid ∙ length-map codes ordinals_of

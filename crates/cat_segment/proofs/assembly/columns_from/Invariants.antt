@@ -1,0 +1,5 @@
+use Rattle.cat_segment.specs.Decoded.{AreColumnsOf}
+use Rattle.cat_segment.proofs.assembly.columns_from.Given as goal
+
+abbrev pub invariant-loop-part : goal.invariant-loop-part
+invariant-loop-part l = AreColumnsOf l.rows l.yielded l.columns.items
