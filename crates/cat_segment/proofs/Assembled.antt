@@ -187,3 +187,16 @@ module _ (number : ℕ) (schema : Schema) (numbers : List ℕ) (ids : List Text)
     -- the segment is laid out as the file
     pub layout_read : layout_of segment ≡ layout
     layout_read = λ i. record { number = number; schema = schema; heads = heads_read i; columns = columns_read i }
+
+    -- the parts fit together
+    pub IsHeld-read : IsHeld held
+    IsHeld-read = record {
+      ids = is.each_id;
+      lengths = is.each_length;
+      columns = is.read.many;
+      contents = λ k d lt. (is.read.contents k no_field d (omega (arith, is.read.many))).long;
+      schema = is.fits.schema;
+      rows = rows_are;
+      formed = rows_formed;
+      words = read_words;
+    }

@@ -5,6 +5,7 @@ pub mod Ends
 pub mod Filled
 pub mod Formed
 pub mod Inverted
+pub mod Judged
 pub mod Layouts
 pub mod LiveFiles
 pub mod Made
