@@ -1,9 +1,6 @@
 -- What the lists of a column, as a file has them, say of the rows, and where they are no column.
-use Rattle.std.proofs.Common.{◌≡◌, ◌≢◌, ◌+◌, ◌<◌, ◌≤◌, ◌^◌, ℕ, ℤ, zero, suc, List, [], ◌∷◌, length, map, get_or, Option, Some, None, refl, sym, ap, ◌∙◌, subst, arith}
+use Rattle.std.proofs.Common.{◌≡◌, ◌≢◌, ◌<◌, ◌≤◌, ℕ, ℤ, zero, suc, List, [], ◌∷◌, length, map, get_or, Option, Some, None, refl, sym, ap, ◌∙◌, subst, arith}
 use Rattle.std.specs.Prelude.{All, IfSome, Contains}
-use Rattle.std.specs.Int.{w64}
-use Rattle.std.specs.Int.RustNames.{FitsSigned}
-use Rattle.std.specs.List.{flat_map}
 use Rattle.std.proofs.lemmas.List.{length-map, get_or-map}
 use Rattle.std.proofs.lemmas.List.Elements.{All-map, All-contains, Contains-get_or, Contains-append_left, Contains-append_right}
 use Rattle.cat_base.specs.Texts.{IsTextSet}
@@ -74,8 +71,7 @@ words_had texts ps same posted k d lt =
 
 pub words_read : (rows : ℕ) (texts : List (List Text)) (ps : List Posted) → length texts ≡ rows → All IsTextSet texts → posted_of texts ≡ ps → IsLaid rows Kind.text (Laid.words ps) → Read Kind.text rows (map Content.words texts) (Laid.words ps)
 words_read rows texts ps long sets same laid =
-    let words = all_of_dictionary IsWord texts (words_had texts ps same laid.1) in
-    (
+    let words = all_of_dictionary IsWord texts (words_had texts ps same laid.1) in (
       record {
         long = length-map texts Content.words ∙ long;
         kinds = All-map (IsContent Kind.text) Content.words texts (λ k d lt. IsContent.words (get_or texts k d) (sets k d lt));
@@ -87,8 +83,7 @@ words_read rows texts ps long sets same laid =
 pub keywords_read : (rows : ℕ) (values : List (Option Text)) (dictionary : List Text) (codes : List ℕ) → keywords_of values ≡ dictionary → map (code_in (keywords_of values)) values ≡ codes
     → IsLaid rows Kind.keyword (Laid.keywords dictionary codes) → Read Kind.keyword rows (map Content.keyword values) (Laid.keywords dictionary codes)
 keywords_read rows values dictionary codes same coded laid =
-    let texts = all_of_dictionary IsKeyword (map texts_of values) (subst (All IsKeyword) (sym same) laid.1) in
-    (
+    let texts = all_of_dictionary IsKeyword (map texts_of values) (subst (All IsKeyword) (sym same) laid.1) in (
       record {
         long = length-map values Content.keyword ∙ sym (length-map values (code_in (keywords_of values))) ∙ ap length coded ∙ laid.2;
         kinds = All-map (IsContent Kind.keyword) Content.keyword values (λ k d lt. IsContent.keyword (get_or values k d));
@@ -114,8 +109,7 @@ numbers_read rows values laid = (
 pub labels_read : (rows : ℕ) (sets : List (List Text)) (dictionary : List Text) (ordinals : List (List ℕ)) → All IsTextSet sets → All (λ set. length set ≤ 64) sets → dictionary_of sets ≡ dictionary
     → map (map (ordinal_in (dictionary_of sets))) sets ≡ ordinals → IsLaid rows Kind.facet (Laid.labels dictionary ordinals) → Read Kind.facet rows (map Content.labels sets) (Laid.labels dictionary ordinals)
 labels_read rows sets dictionary ordinals rising few same laid_same laid =
-    let labels = all_of_dictionary IsLabel sets (subst (All IsLabel) (sym same) laid.1) in
-    (
+    let labels = all_of_dictionary IsLabel sets (subst (All IsLabel) (sym same) laid.1) in (
       record {
         long = length-map sets Content.labels ∙ sym (length-map sets (map (ordinal_in (dictionary_of sets)))) ∙ ap length laid_same ∙ laid.2;
         kinds = All-map (IsContent Kind.facet) Content.labels sets (λ k d lt. IsContent.labels (get_or sets k d) (rising k d lt));

@@ -5,9 +5,8 @@ use Rattle.std.specs.List.Sorted.{IsStrictlySortedBy, IsStrictlyIncreasing}
 use Rattle.std.proofs.lemmas.List.{length-append, length-map, map_more}
 use Rattle.std.proofs.lemmas.List.Elements.{All-weaker, All-map}
 use Rattle.std.proofs.lemmas.Map.Keys.{sorted_from_strictly_increasing}
-use Rattle.std.proofs.lemmas.Simd.{map-map}
 use Rattle.cat_base.specs.Texts.{sorted_set, IsTextSet}
-use Rattle.cat_base.proofs.TextSets.{IsTextSet-nil, sorted_set_only}
+use Rattle.cat_base.proofs.TextSets.{sorted_set_only}
 use Rattle.cat_codec.proofs.Pieces.{ends_push, pieces_push, length-pieces}
 use Rattle.cat_model.specs.Text.{Text}
 use Rattle.cat_model.specs.Layout.{ordinal_in, code_in, keywords_of, pieces, AreEnds}
@@ -78,8 +77,7 @@ pub code_more : (codes : List ℕ) (i code : ℕ) (ends new_ends ordinals new_or
     → AreEnds 0 new_ends (length new_ordinals) × (pieces 0 new_ends new_ordinals ≡ map ordinals_of (take (i + 1) codes))
 code_more codes i code ends new_ends ordinals new_ordinals end lt is added long pushed parts laid =
     let more : length new_ordinals ≡ length ordinals + length (ordinals_of code) = ap length added ∙ length-append ordinals (ordinals_of code) in
-    let rise : AreEnds 0 (ends ++ end ∷ []) end = ends_push 0 ends (length ordinals) end (omega arith) parts in
-    (
+    let rise : AreEnds 0 (ends ++ end ∷ []) end = ends_push 0 ends (length ordinals) end (omega arith) parts in (
       subst (λ l. AreEnds 0 l (length new_ordinals)) (sym pushed) (subst (λ n. AreEnds 0 (ends ++ end ∷ []) n) long rise),
       (λ j. pieces 0 (pushed j) (added j)) ∙ pieces_push 0 ends ordinals (ordinals_of code) end (omega arith) parts
           ∙ ap (λ l. l ++ ordinals_of code ∷ []) laid ∙ ap (λ n. map ordinals_of (take i codes) ++ ordinals_of n ∷ []) is ∙ sym (map_more ordinals_of codes i 0 lt),

@@ -1,24 +1,22 @@
 -- What the parts of a file have to keep so that a segment is laid out as they are.
-use Rattle.std.proofs.Common.{◌≡◌, ◌≢◌, ◌+◌, ◌<◌, ◌≤◌, ◌^◌, ℕ, zero, suc, List, [], ◌∷◌, ◌++◌, length, map, get_or, refl, sym, ap, ◌∙◌, subst, arith}
+use Rattle.std.proofs.Common.{◌≡◌, ◌≢◌, ◌<◌, ◌≤◌, ℕ, zero, suc, List, [], ◌∷◌, ◌++◌, length, map, get_or, refl, sym, ap, ◌∙◌, subst, arith}
 use Rattle.std.specs.Prelude.{All, Any}
 use Rattle.std.specs.List.{AllPairs}
 use Rattle.std.proofs.lemmas.List.{length-map, get_or-map, get_or_default, length-append, get_or_at}
-use Rattle.std.proofs.lemmas.Simd.{map-map}
 use Rattle.cat_codec.specs.Parts.{heads_in, column_in, layout_in, IsParts}
 use Rattle.cat_codec.specs.declared.parts.ColumnParts.{ColumnParts}
 use Rattle.cat_codec.specs.declared.parts.ColumnParts.TheVariants as parts
 use Rattle.cat_codec.specs.declared.parts.SegmentParts.{SegmentParts}
 use Rattle.cat_model.specs.Text.{Text}
 use Rattle.cat_model.specs.Item.{Content, Field, Kind, Schema}
-use Rattle.cat_model.specs.Layout.{Laid, Layout, Head, column_of, head_of, layout_of, IsHead, IsLaid, AreLaid, IsLayout}
+use Rattle.cat_model.specs.Layout.{Laid, Head, column_of, head_of, layout_of, IsLaid, AreLaid, IsLayout}
 use Rattle.cat_model.specs.View.{Row, Segment, IsSegment}
 use Rattle.cat_segment.proofs.Assembled.{laid_at, IsRead}
 use Rattle.cat_segment.proofs.Layouts.{column_placed, contents_are}
 use Rattle.cat_segment.specs.Contents.{contents_of}
 use Rattle.cat_segment.specs.Decoded.{kind_in, IsColumnOf, HasNoColumn, AreColumnsOf}
-use Rattle.cat_segment.specs.Laid.{contents_under, AreContents, laid_out, AreRead}
+use Rattle.cat_segment.specs.Laid.{contents_under, AreContents, laid_out}
 use Rattle.cat_segment.specs.declared.column.Column.{Column}
-use Rattle.cat_segment.specs.declared.column.Column.TheVariants.{Number}
 
 -- ---- columns
 
@@ -185,8 +183,7 @@ module _ (p : SegmentParts) (is : IsParts p) where
           let column : get_or laid place l ≡ column_in (get_or p.columns.items place q) = get_or-map column_in p.columns.items place q l within in
           let fits = subst (IsLaid (length (heads_in p.numbers.items p.ids.items p.lengths.items)) (get_or p.schema place f).kind) column
           (laid_at (length (heads_in p.numbers.items p.ids.items p.lengths.items)) p.schema laid place f l layout.columns lt) in
-          let kind : (get_or p.schema place f).kind ≡ kind_in (get_or p.columns.items place q) = kind_is (length (heads_in p.numbers.items p.ids.items p.lengths.items)) (get_or p.schema place f).kind (get_or p.columns.items place q) fits in
-          (
+          let kind : (get_or p.schema place f).kind ≡ kind_in (get_or p.columns.items place q) = kind_is (length (heads_in p.numbers.items p.ids.items p.lengths.items)) (get_or p.schema place f).kind (get_or p.columns.items place q) fits in (
             subst (λ k. AreContents k (length p.numbers.items) (contents_of (get_or columns place c))) (sym kind) one.contents,
             ap (λ k. laid_out k (contents_of (get_or columns place c))) kind ∙ one.spelled ∙ sym column,
           )

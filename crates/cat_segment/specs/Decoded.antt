@@ -1,5 +1,5 @@
 -- The columns that the parts of a file make.
-use Rattle.std.specs.Prelude.{◌≡◌, ◌≢◌, ℕ, zero, suc, List, [], ◌∷◌, Option}
+use Rattle.std.specs.Prelude.{◌≡◌, ◌≢◌, ℕ, zero, suc, List, [], ◌∷◌}
 use Rattle.cat_codec.specs.Parts.{column_in}
 use Rattle.cat_codec.specs.declared.parts.ColumnParts.{ColumnParts}
 use Rattle.cat_codec.specs.declared.parts.ColumnParts.TheVariants as parts

@@ -63,9 +63,7 @@ fn assemble(alloc: Global, parts: SegmentParts) -> Result<Segment, Refusal>
     }
     let columns = columns_from(alloc, numbers.len(), columns)?;
     let sources = sources_from(alloc, &lengths)?;
-    Ok(Segment::joined(
-        number, schema, numbers, ids, sources, columns,
-    ))
+    Ok(Segment::joined(number, schema, numbers, ids, sources, columns))
 }
 
 /// The segment whose file has these bytes (Lucene: a `SegmentReader` opens a segment so, by the formats of its `Codec`).

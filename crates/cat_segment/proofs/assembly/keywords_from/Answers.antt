@@ -1,4 +1,4 @@
-use Rattle.std.proofs.Common.{ℕ, List, Option, ap, sym, ◌∙◌, subst}
+use Rattle.std.proofs.Common.{List, Option, sym, subst}
 use Rattle.cat_codec.specs.declared.parts.ColumnParts.TheVariants as parts
 use Rattle.cat_model.specs.Text.{Text}
 use Rattle.cat_segment.proofs.Columned.{keywords_read}

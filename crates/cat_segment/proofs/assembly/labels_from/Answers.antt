@@ -1,4 +1,4 @@
-use Rattle.std.proofs.Common.{ℕ, List, refl, length, map, ap, sym, ◌∙◌, subst, arith}
+use Rattle.std.proofs.Common.{List, refl, length, ap, sym, ◌∙◌, subst, arith}
 use Rattle.std.proofs.lemmas.Bool.{true≢false}
 use Rattle.std.proofs.lemmas.Result.{err_from_is_err_and}
 use Rattle.cat_codec.proofs.Pieces.{length-pieces}

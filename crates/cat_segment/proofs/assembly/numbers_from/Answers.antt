@@ -1,4 +1,4 @@
-use Rattle.std.proofs.Common.{ℤ, List, Option, ap, sym, ◌∙◌, subst}
+use Rattle.std.proofs.Common.{ℤ, List, Option, sym, ◌∙◌, subst}
 use Rattle.cat_segment.proofs.Columned.{numbers_read}
 use Rattle.cat_segment.specs.Decoded.{IsColumnOf}
 use Rattle.cat_segment.specs.declared.column.Column.TheVariants.{Number}

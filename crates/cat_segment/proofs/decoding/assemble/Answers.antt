@@ -1,12 +1,12 @@
-use Rattle.std.proofs.Common.{◌≡◌, ◌≢◌, ◌≤◌, ◌<◌, ◌^◌, ℕ, List, length, map, refl, ap, sym, ◌∙◌, subst, arith}
+use Rattle.std.proofs.Common.{◌≡◌, ◌≢◌, ◌≤◌, ◌<◌, ℕ, List, length, map, refl, ap, sym, ◌∙◌, subst, arith}
 use Rattle.std.specs.Prelude.{All, Any}
 use Rattle.std.specs.List.{AllPairs}
 use Rattle.std.proofs.lemmas.Bool.{true≢false}
 use Rattle.std.proofs.lemmas.Result.{err_from_is_err_and}
-use Rattle.cat_codec.specs.Parts.{heads_in, column_in, layout_in}
+use Rattle.cat_codec.specs.Parts.{heads_in, column_in}
 use Rattle.cat_model.specs.Layout.{layout_of}
 use Rattle.cat_model.specs.Text.{Text}
-use Rattle.cat_model.specs.View.{Segment, IsSegment}
+use Rattle.cat_model.specs.View.{IsSegment}
 use Rattle.cat_segment.proofs.Assembled.{IsHeld-read, IsSegment-read, layout_read}
 use Rattle.cat_segment.proofs.Judged.{numbers_rise, ids_differ, columns_stand, few, lengths_short, columns_laid, parts_read}
 use Rattle.cat_segment.specs.Decoded.{HasNoColumn, AreColumnsOf}
@@ -60,8 +60,7 @@ returns-clause-ok c =
     (subst (λ (ns : List ℕ). AllPairs (λ a b. a < b) ns) c.deref.ensures.value (c.if-not-rise.ensures.0 refl)) (c.if-not-differ.ensures.0 refl)
     (subst (λ n. AreColumnsOf n p.columns.items c.in_ok-columns.columns.items) rows c.in_ok-columns.ensures.ok) in
     let heads = heads_in p.numbers.items p.ids.items p.lengths.items in
-    let laid = map column_in p.columns.items in
-    (
+    let laid = map column_in p.columns.items in (
       subst IsSegment (sym c.joined.ensures) (IsSegment-read p.number p.schema p.numbers.items c.in_ok-ids.ids c.in_ok-sources.sources c.in_ok-columns.columns.items heads laid read),
       ap layout_of c.joined.ensures ∙ layout_read p.number p.schema p.numbers.items c.in_ok-ids.ids c.in_ok-sources.sources c.in_ok-columns.columns.items heads laid read,
     )

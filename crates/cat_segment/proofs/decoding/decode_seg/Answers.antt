@@ -1,11 +1,8 @@
-use Rattle.std.proofs.Common.{◌≡◌, ◌≢◌, List, Result, Ok, Err, sym, ◌∙◌}
+use Rattle.std.proofs.Common.{sym, ◌∙◌}
 use Rattle.std.proofs.lemmas.Result.{err_from_is_err_and, MatchResult-weaker}
-use Rattle.cat_base.specs.declared.refusal.Refusal.TheVariants.{Damaged}
 use Rattle.cat_codec.proofs.Segments.{told_by_bytes}
 use Rattle.cat_codec.specs.Parts.{layout_in}
-use Rattle.cat_model.specs.Files.{IsFileNumber}
-use Rattle.cat_model.specs.Layout.{layout_of, spelled_segment}
-use Rattle.cat_model.specs.View.{Segment, IsSegment}
+use Rattle.cat_model.specs.Layout.{layout_of}
 use Rattle.cat_segment.proofs.Layouts.{IsLayout-of}
 use Rattle.cat_segment.proofs.decoding.decode_seg.Goals as goal
 

@@ -1,4 +1,4 @@
-use Rattle.std.proofs.Common.{◌≡◌, ◌<◌, ◌+◌, ℕ, Bool, true, false, List, length, get_or, refl, rules, sym, ap, ◌∙◌, arith, IsTrue, ltb}
+use Rattle.std.proofs.Common.{◌≡◌, ◌<◌, ◌+◌, ℕ, Bool, true, false, List, get_or, refl, rules, sym, arith, IsTrue, ltb}
 use Rattle.std.specs.Prelude.{◌↔◌}
 use Rattle.std.specs.List.{AllPairs, IsAllAdjacentAnswer}
 use Rattle.std.proofs.lemmas.Bool.{true≢false}

@@ -1,7 +1,5 @@
-use Rattle.std.proofs.Common.{◌≤◌, refl, length, ap, ◌∙◌, arith}
-use Rattle.std.proofs.lemmas.List.{length-append}
+use Rattle.std.proofs.Common.{refl, arith}
 use Rattle.cat_segment.proofs.Inverted.{code_more, one_ordinal}
-use Rattle.cat_segment.specs.Decoded.{ordinals_of}
 use Rattle.cat_segment.proofs.inverting.ordinals_of.Goals as goal
 
 pub loop-code-preserved : goal.loop-code-preserved

@@ -1,10 +1,9 @@
-use Rattle.std.proofs.Common.{◌≡◌, ◌<◌, ◌^◌, ℕ, List, length, map, ap, sym, ◌∙◌, subst, arith, Result, Ok, Err}
-use Rattle.std.specs.Prelude.{IfOk}
+use Rattle.std.proofs.Common.{◌≡◌, length, map, ap, ◌∙◌, arith}
 use Rattle.std.proofs.lemmas.List.{length-map}
 use Rattle.std.proofs.lemmas.Result.{IfOk-weaker}
-use Rattle.cat_model.specs.Layout.{code_in, keywords_of, pieces, AreEnds}
+use Rattle.cat_model.specs.Layout.{code_in, keywords_of, pieces}
 use Rattle.cat_model.specs.Ordinals.{texts_of, text_at}
-use Rattle.cat_segment.proofs.Inverted.{AreTermsOf, keywords_right, ends_many}
+use Rattle.cat_segment.proofs.Inverted.{keywords_right, ends_many}
 use Rattle.cat_segment.proofs.inverting.terms_of_keywords.Goals as goal
 
 pub terms_from-requires-clause-few : goal.terms_from-requires-clause-few

@@ -2,7 +2,7 @@ use Rattle.std.proofs.Common.{◌≡◌, map, ◌∙◌}
 use Rattle.std.proofs.lemmas.Result.{IfOk-weaker}
 use Rattle.cat_model.specs.Ordinals.{text_at}
 use Rattle.cat_model.specs.Layout.{pieces}
-use Rattle.cat_segment.proofs.Inverted.{AreTermsOf, terms_right}
+use Rattle.cat_segment.proofs.Inverted.{terms_right}
 use Rattle.cat_segment.proofs.inverting.terms_of_labels.Goals as goal
 
 pub terms_from-requires-clause-rising : goal.terms_from-requires-clause-rising
