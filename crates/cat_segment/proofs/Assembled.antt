@@ -1,10 +1,9 @@
 -- A segment of what was read of a file: it is laid out as the file.
-use Rattle.std.proofs.Common.{◌≡◌, ◌≢◌, ◌+◌, ◌<◌, ◌≤◌, ◌^◌, ℕ, zero, suc, List, [], ◌∷◌, length, map, get_or, Option, Some, None, refl, sym, ap, ◌∙◌, subst, arith}
+use Rattle.std.proofs.Common.{◌≡◌, ◌≢◌, ◌<◌, ◌≤◌, ◌^◌, ℕ, zero, suc, List, [], ◌∷◌, length, map, get_or, refl, sym, ap, ◌∙◌, subst, arith}
 use Rattle.std.specs.Prelude.{All}
-use Rattle.std.specs.List.{AllPairs, range_with_len}
-use Rattle.std.proofs.lemmas.List.{length-map, get_or-map, get_or_default, same_lists}
-use Rattle.std.proofs.lemmas.List.FromFn.{fill_by_all, length-map-range_with_len, get_or-map-range_with_len}
-use Rattle.std.proofs.lemmas.Simd.{map-map}
+use Rattle.std.specs.List.{AllPairs}
+use Rattle.std.proofs.lemmas.List.{length-map, get_or-map, same_lists}
+use Rattle.std.proofs.lemmas.List.FromFn.{fill_by_all}
 use Rattle.cat_model.specs.Text.{Text}
 use Rattle.cat_model.specs.Item.{Content, Field, Kind, Schema, Part, IsContent, AreParts}
 use Rattle.cat_model.specs.Forms.{IsFormed}
@@ -187,3 +186,16 @@ module _ (number : ℕ) (schema : Schema) (numbers : List ℕ) (ids : List Text)
     -- the segment is laid out as the file
     pub layout_read : layout_of segment ≡ layout
     layout_read = λ i. record { number = number; schema = schema; heads = heads_read i; columns = columns_read i }
+
+    -- the parts fit together
+    pub IsHeld-read : IsHeld held
+    IsHeld-read = record {
+      ids = is.each_id;
+      lengths = is.each_length;
+      columns = is.read.many;
+      contents = λ k d lt. (is.read.contents k no_field d (omega (arith, is.read.many))).long;
+      schema = is.fits.schema;
+      rows = rows_are;
+      formed = rows_formed;
+      words = read_words;
+    }

@@ -1,9 +1,6 @@
 -- What the lists of a column, as a file has them, say of the rows, and where they are no column.
-use Rattle.std.proofs.Common.{◌≡◌, ◌≢◌, ◌+◌, ◌<◌, ◌≤◌, ◌^◌, ℕ, ℤ, zero, suc, List, [], ◌∷◌, length, map, get_or, Option, Some, None, refl, sym, ap, ◌∙◌, subst, arith}
+use Rattle.std.proofs.Common.{◌≡◌, ◌≢◌, ◌<◌, ◌≤◌, ℕ, ℤ, zero, suc, List, [], ◌∷◌, length, map, get_or, Option, Some, None, refl, sym, ap, ◌∙◌, subst, arith}
 use Rattle.std.specs.Prelude.{All, IfSome, Contains}
-use Rattle.std.specs.Int.{w64}
-use Rattle.std.specs.Int.RustNames.{FitsSigned}
-use Rattle.std.specs.List.{flat_map}
 use Rattle.std.proofs.lemmas.List.{length-map, get_or-map}
 use Rattle.std.proofs.lemmas.List.Elements.{All-map, All-contains, Contains-get_or, Contains-append_left, Contains-append_right}
 use Rattle.cat_base.specs.Texts.{IsTextSet}
@@ -13,6 +10,7 @@ use Rattle.cat_model.specs.Item.{Content, Kind, IsContent, words_in, keyword_in,
 use Rattle.cat_model.specs.Forms.{IsFormed, IsWord, IsKeyword, IsLabel}
 use Rattle.cat_model.specs.Layout.{Laid, Posted, ordinal_in, code_in, posted_of, keywords_of, IsPosted, IsLaid}
 use Rattle.cat_model.specs.Ordinals.{dictionary_of, postings_of, texts_of}
+use Rattle.cat_values.proofs.Told.{same_labels}
 use Rattle.cat_segment.proofs.Formed.{seen, joined, label_counts}
 use Rattle.cat_segment.proofs.Layouts.{word_sets, label_sets, length-seen}
 use Rattle.cat_segment.specs.Laid.{AreContents, laid_out}
@@ -73,8 +71,7 @@ words_had texts ps same posted k d lt =
 
 pub words_read : (rows : ℕ) (texts : List (List Text)) (ps : List Posted) → length texts ≡ rows → All IsTextSet texts → posted_of texts ≡ ps → IsLaid rows Kind.text (Laid.words ps) → Read Kind.text rows (map Content.words texts) (Laid.words ps)
 words_read rows texts ps long sets same laid =
-    let words = all_of_dictionary IsWord texts (words_had texts ps same laid.1) in
-    (
+    let words = all_of_dictionary IsWord texts (words_had texts ps same laid.1) in (
       record {
         long = length-map texts Content.words ∙ long;
         kinds = All-map (IsContent Kind.text) Content.words texts (λ k d lt. IsContent.words (get_or texts k d) (sets k d lt));
@@ -86,8 +83,7 @@ words_read rows texts ps long sets same laid =
 pub keywords_read : (rows : ℕ) (values : List (Option Text)) (dictionary : List Text) (codes : List ℕ) → keywords_of values ≡ dictionary → map (code_in (keywords_of values)) values ≡ codes
     → IsLaid rows Kind.keyword (Laid.keywords dictionary codes) → Read Kind.keyword rows (map Content.keyword values) (Laid.keywords dictionary codes)
 keywords_read rows values dictionary codes same coded laid =
-    let texts = all_of_dictionary IsKeyword (map texts_of values) (subst (All IsKeyword) (sym same) laid.1) in
-    (
+    let texts = all_of_dictionary IsKeyword (map texts_of values) (subst (All IsKeyword) (sym same) laid.1) in (
       record {
         long = length-map values Content.keyword ∙ sym (length-map values (code_in (keywords_of values))) ∙ ap length coded ∙ laid.2;
         kinds = All-map (IsContent Kind.keyword) Content.keyword values (λ k d lt. IsContent.keyword (get_or values k d));
@@ -113,8 +109,7 @@ numbers_read rows values laid = (
 pub labels_read : (rows : ℕ) (sets : List (List Text)) (dictionary : List Text) (ordinals : List (List ℕ)) → All IsTextSet sets → All (λ set. length set ≤ 64) sets → dictionary_of sets ≡ dictionary
     → map (map (ordinal_in (dictionary_of sets))) sets ≡ ordinals → IsLaid rows Kind.facet (Laid.labels dictionary ordinals) → Read Kind.facet rows (map Content.labels sets) (Laid.labels dictionary ordinals)
 labels_read rows sets dictionary ordinals rising few same laid_same laid =
-    let labels = all_of_dictionary IsLabel sets (subst (All IsLabel) (sym same) laid.1) in
-    (
+    let labels = all_of_dictionary IsLabel sets (subst (All IsLabel) (sym same) laid.1) in (
       record {
         long = length-map sets Content.labels ∙ sym (length-map sets (map (ordinal_in (dictionary_of sets)))) ∙ ap length laid_same ∙ laid.2;
         kinds = All-map (IsContent Kind.facet) Content.labels sets (λ k d lt. IsContent.labels (get_or sets k d) (rising k d lt));
@@ -147,12 +142,11 @@ no_labels rows dictionary ordinals none contents are same =
     none sets (label_sets contents are.kinds) texts laid
 
 -- a row has at most 64 labels
-pub too_many_labels : (rows : ℕ) (dictionary : List Text) (ordinals : List (List ℕ)) (row : ℕ) → row < length ordinals → 64 < length (get_or ordinals row []) → (contents : List Content) → AreContents Kind.facet rows contents
-    → laid_out Kind.facet contents ≢ Laid.labels dictionary ordinals
-too_many_labels rows dictionary ordinals row lt many contents are same =
-    let sets : List (List Text) = map labels_in (seen contents) in
-    let laid : map (map (ordinal_in (dictionary_of sets))) sets ≡ ordinals = cc in
-    let within : row < length sets = omega (arith, ap length laid, length-map sets (map (ordinal_in (dictionary_of sets)))) in
-    let long = ap (λ l. length (get_or l row [])) (sym laid) ∙ ap length (get_or-map (map (ordinal_in (dictionary_of sets))) sets row [] [] within) ∙ length-map (get_or sets row []) (ordinal_in (dictionary_of sets)) in
-    let few : All (λ set. length set ≤ 64) sets = label_counts contents are.kinds are.formed in
-    absurd (omega (arith, long, few row [] within))
+pub long_labels : (rows : ℕ) (sets : List (List Text)) (dictionary : List Text) (ordinals : List (List ℕ)) → dictionary_of sets ≡ dictionary → map (map (ordinal_in (dictionary_of sets))) sets ≡ ordinals
+    → (All (λ set. length set ≤ 64) sets → ⊥) → (contents : List Content) → AreContents Kind.facet rows contents → laid_out Kind.facet contents ≢ Laid.labels dictionary ordinals
+long_labels rows sets dictionary ordinals texts laid long contents are same =
+    let others : List (List Text) = map labels_in (seen contents) in
+    let other_texts : dictionary_of others ≡ dictionary = cc in
+    let other_laid : map (map (ordinal_in (dictionary_of others))) others ≡ ordinals = cc in
+    let one : others ≡ sets = same_labels others sets (other_texts ∙ sym texts) (other_laid ∙ sym laid) in
+    absurd (long (subst (All (λ set. length set ≤ 64)) one (label_counts contents are.kinds are.formed)))

@@ -121,5 +121,8 @@ module _ (place : ℕ) (rows : List given.Row) where
   -- a field of another kind has none
   pub words_of_none : (kind : Kind) → kind ≢ Kind.text → All (λ r. IsFilled kind (content_in place r.item.now)) rows → length (dictionary_of (map words_in (contents_in place rows))) < 2 ^ 32
   words_of_none kind other filled =
-      omega (arith, length-dictionary 0 (map words_in (contents_in place rows))
-      (All-map (λ ws. length ws ≤ 0) words_in (contents_in place rows) (All-map (λ o. length (words_in o) ≤ 0) (λ r. content_in place r.item.now) rows (λ k d lt. no_words kind other (content_in place (get_or rows k d).item.now) (filled k d lt)))))
+      omega (
+        arith,
+        length-dictionary 0 (map words_in (contents_in place rows))
+            (All-map (λ ws. length ws ≤ 0) words_in (contents_in place rows) (All-map (λ o. length (words_in o) ≤ 0) (λ r. content_in place r.item.now) rows (λ k d lt. no_words kind other (content_in place (get_or rows k d).item.now) (filled k d lt)))),
+      )

@@ -1,21 +1,20 @@
 -- What rows have in a field can be laid out: its texts have their forms, and its numbers fit.
-use Rattle.std.proofs.Common.{◌≡◌, ◌≢◌, ◌+◌, ◌*◌, ◌<◌, ◌≤◌, ◌^◌, ℕ, ℤ, zero, suc, Bool, true, false, cond, not, List, [], ◌∷◌, ◌++◌, length, map, get_or, Option, Some, None, refl, sym, ap, ◌∙◌, subst, arith, inl, inr}
-use Rattle.std.specs.Prelude.{All, IfSome, Contains, filter}
+use Rattle.std.proofs.Common.{◌≡◌, ◌+◌, ◌*◌, ◌<◌, ◌≤◌, ◌^◌, ℕ, suc, Bool, not, List, [], ◌∷◌, length, map, get_or, Option, Some, None, ◌∙◌, arith}
+use Rattle.std.specs.Prelude.{All, IfSome}
 use Rattle.std.specs.Int.{w64}
 use Rattle.std.specs.Int.RustNames.{FitsSigned}
-use Rattle.std.specs.List.{flat_map, range_with_len, prefix_len, count_by, sum_by, list_any}
-use Rattle.std.proofs.lemmas.List.{length-map, get_or-map, length-append}
+use Rattle.std.specs.List.{flat_map, range_with_len, list_any}
+use Rattle.std.proofs.lemmas.List.{length-map}
 use Rattle.std.proofs.lemmas.List.Concat.{length-flat_map}
 use Rattle.std.proofs.lemmas.List.Elements.{All-map, All-append, All-contains, Contains-get_or, All-nil, All-cons, All-filter}
 use Rattle.std.proofs.lemmas.List.FromFn.{length-range_with_len, get_or-range_with_len}
 use Rattle.std.proofs.lemmas.List.Sums.{prefix_len-le-length, length-filter, count_by-le-length, sum_by-le}
-use Rattle.cat_base.specs.Texts.{sorted_set}
 use Rattle.cat_base.proofs.TextSets.{sorted_set_members}
 use Rattle.cat_values.proofs.Members.{length-sorted_set}
 use Rattle.cat_model.specs.Text.{Text, same_text}
 use Rattle.cat_model.specs.Item.{Content, Kind, IsContent, words_in, keyword_in, number_in, labels_in}
 use Rattle.cat_model.specs.Forms.{IsFormed, IsWord, IsKeyword, IsLabel}
-use Rattle.cat_model.specs.Layout.{Laid, Posted, ordinal_in, code_in, posted_of, keywords_of, laid_as, FitU32, IsPosted, IsLaid}
+use Rattle.cat_model.specs.Layout.{Posted, ordinal_in, code_in, keywords_of, FitU32, IsPosted, IsLaid}
 use Rattle.cat_model.specs.Ordinals.{dictionary_of, postings_of, texts_of, rows_having}
 use Rattle.cat_model.specs.RowSets.{places, has_row}
 use Rattle.cat_segment.specs.Laid.{AreContents, laid_out}
@@ -110,8 +109,7 @@ laid_words : (rows : ℕ) (contents : List Content) → AreContents Kind.text ro
 laid_words rows contents are few words =
     let wss : List (List Text) = map words_in (seen contents) in
     let long : length wss ≡ rows = length-read words_in contents ∙ are.long in
-    let formed : All IsWord (dictionary_of wss) = all_in_dictionary IsWord wss (all_read (All IsWord) words_in Kind.text words_formed contents are.kinds are.formed) in
-    (
+    let formed : All IsWord (dictionary_of wss) = all_in_dictionary IsWord wss (all_read (All IsWord) words_in Kind.text words_formed contents are.kinds are.formed) in (
       omega (arith, length-map {B = Posted} (dictionary_of wss) (λ w. record { word = w; rows = postings_of w wss })),
       All-map IsPosted (λ w. record { word = w; rows = postings_of w wss }) (dictionary_of wss)
           (λ k d lt. record { word = formed k d lt; rows = postings_fit (get_or (dictionary_of wss) k d) wss (omega arith) }),
@@ -122,8 +120,7 @@ laid_keywords rows contents are few =
     let ks : List (Option Text) = map keyword_in (seen contents) in
     let long : length ks ≡ rows = length-read keyword_in contents ∙ are.long in
     let sets : All (All IsKeyword) (map texts_of ks) = All-map (All IsKeyword) texts_of ks (λ k d lt. texts_formed (get_or ks k d) (all_read (λ o. IfSome o IsKeyword) keyword_in Kind.keyword keyword_formed contents are.kinds are.formed k d lt)) in
-    let most : length (keywords_of ks) ≤ 262144 = omega (arith, length-dictionary 1 (map texts_of ks) (All-map (λ row. length row ≤ 1) texts_of ks (λ k d lt. texts_few (get_or ks k d))), length-map ks texts_of) in
-    (
+    let most : length (keywords_of ks) ≤ 262144 = omega (arith, length-dictionary 1 (map texts_of ks) (All-map (λ row. length row ≤ 1) texts_of ks (λ k d lt. texts_few (get_or ks k d))), length-map ks texts_of) in (
       omega arith,
       all_in_dictionary IsKeyword (map texts_of ks) sets,
       length-map ks (code_in (keywords_of ks)) ∙ long,
@@ -139,8 +136,7 @@ laid_labels rows contents are few =
     let lss : List (List Text) = map labels_in (seen contents) in
     let long : length lss ≡ rows = length-read labels_in contents ∙ are.long in
     let short : All (λ row. length row ≤ 64) lss = label_counts contents are.kinds are.formed in
-    let most : length (dictionary_of lss) ≤ 16777216 = omega (arith, length-dictionary 64 lss short) in
-    (
+    let most : length (dictionary_of lss) ≤ 16777216 = omega (arith, length-dictionary 64 lss short) in (
       omega arith,
       all_in_dictionary IsLabel lss (all_read (All IsLabel) labels_in Kind.facet labels_formed contents are.kinds are.formed),
       length-map lss (map (ordinal_in (dictionary_of lss))) ∙ long,

@@ -1,18 +1,18 @@
 -- How a segment is laid out: its layout can be spelled, and tells the segment.
-use Rattle.std.proofs.Common.{◌≡◌, ◌≢◌, ◌+◌, ◌*◌, ◌<◌, ◌≤◌, ◌^◌, ℕ, ℤ, zero, suc, Bool, true, false, List, [], ◌∷◌, ◌++◌, length, map, get_or, Option, Some, None, refl, sym, ap, ◌∙◌, subst, arith}
-use Rattle.std.specs.Prelude.{All, IfSome}
-use Rattle.std.proofs.lemmas.List.{length-map, get_or-map, get_or_default, same_lists}
+use Rattle.std.proofs.Common.{◌≡◌, ◌<◌, ◌^◌, ℕ, suc, List, [], ◌∷◌, length, map, get_or, Option, Some, refl, sym, ap, ◌∙◌, subst, arith}
+use Rattle.std.specs.Prelude.{All}
+use Rattle.std.proofs.lemmas.List.{length-map, get_or-map, same_lists}
 use Rattle.std.proofs.lemmas.List.Elements.{All-map}
 use Rattle.std.proofs.lemmas.Simd.{map-map}
 use Rattle.cat_base.specs.Texts.{IsTextSet}
 use Rattle.cat_model.specs.Text.{Text}
 use Rattle.cat_model.specs.Files.{IsFileNumber}
-use Rattle.cat_model.specs.Item.{Content, Field, Kind, Schema, Part, IsContent, AreParts, IsSchema, content_of, words_in, keyword_in, number_in, labels_in}
-use Rattle.cat_model.specs.Layout.{Laid, Layout, Head, ordinal_in, code_in, posted_of, keywords_of, laid_as, column_of, head_of, layout_of, IsHead, IsLaid, AreLaid, IsLayout}
+use Rattle.cat_model.specs.Item.{Content, Field, Kind, Schema, Part, IsContent, AreParts, content_of, words_in, keyword_in, number_in, labels_in}
+use Rattle.cat_model.specs.Layout.{Laid, ordinal_in, code_in, posted_of, keywords_of, laid_as, column_of, head_of, layout_of, IsHead, IsLaid, AreLaid, IsLayout}
 use Rattle.cat_model.specs.Ordinals.{dictionary_of}
-use Rattle.cat_model.specs.View.{Row, Segment, item_in, AreRows, IsFormedRow, IsSegment, words_of_field}
+use Rattle.cat_model.specs.View.{Row, Segment, item_in, IsSegment}
 use Rattle.cat_segment.specs.Laid.{content_under, contents_under, AreContents, laid_out}
-use Rattle.cat_segment.proofs.Placed.{no_part, length-parts, part_placed, contents_named, AreContents-of}
+use Rattle.cat_segment.proofs.Placed.{no_part, contents_named, AreContents-of}
 use Rattle.cat_segment.proofs.Formed.{seen, IsLaid-of}
 
 -- ---- the column of a field

@@ -4,6 +4,8 @@ pub mod Columns
 pub mod Ends
 pub mod Filled
 pub mod Formed
+pub mod Inverted
+pub mod Judged
 pub mod Layouts
 pub mod LiveFiles
 pub mod Made

@@ -1,19 +1,17 @@
 -- What a row has in a field, by the field's name and by its place among the fields.
-use Rattle.std.proofs.Common.{◌≡◌, ◌≢◌, ◌+◌, ◌<◌, ◌≤◌, ℕ, zero, suc, Bool, true, false, cond, List, [], ◌∷◌, length, map, get_or, Option, Some, None, refl, sym, ap, ◌∙◌, subst, arith, Ordering, Less, Equal, nat_cmp}
+use Rattle.std.proofs.Common.{◌≡◌, ◌≢◌, ◌<◌, ℕ, zero, suc, Bool, true, false, cond, List, [], ◌∷◌, length, map, get_or, Some, refl, sym, ap, ◌∙◌, arith, Less, Equal, nat_cmp}
 use Rattle.std.specs.Prelude.{option_map, find, All}
 use Rattle.std.specs.Cmp.{tied_itself}
 use Rattle.std.specs.Cmp.Lexicographic.{slice_cmp, nat_list_cmp_total}
-use Rattle.std.specs.List.{AllByRecursion}
 use Rattle.std.specs.List.Sorted.{IsStrictlySortedBy}
-use Rattle.std.proofs.lemmas.List.{length-map, get_or-map, get_or_default}
-use Rattle.std.proofs.lemmas.List.Elements.{All-map, All-cons, All-tail}
+use Rattle.std.proofs.lemmas.List.{length-map, get_or-map}
+use Rattle.std.proofs.lemmas.List.Elements.{All-map}
 use Rattle.std.proofs.lemmas.Simd.{map-map}
 use Rattle.std.proofs.lemmas.Map.Keys.{Less-from_sorted}
 use Rattle.std.proofs.lemmas.Slice.Eq.{bytes_eq-Decides}
-use Rattle.std.proofs.lemmas.Bool.{true≢false}
 use Rattle.cat_base.specs.Texts.{IsTextSet}
 use Rattle.cat_model.specs.Text.{Text, same_text}
-use Rattle.cat_model.specs.Item.{Content, Field, Kind, Schema, Part, IsContent, AreParts, IsSchema, content_of}
+use Rattle.cat_model.specs.Item.{Content, Field, Schema, Part, IsContent, AreParts, content_of}
 use Rattle.cat_model.specs.Forms.{IsFormed}
 use Rattle.cat_model.specs.View.{Row, item_in, AreRows, IsFormedRow}
 use Rattle.cat_segment.proofs.Filled.{map_where}

@@ -1,5 +1,5 @@
 -- The words that rows have in a field: fewer than 2^32 where that holds of each text field.
-use Rattle.std.proofs.Common.{◌≡◌, ◌≢◌, ◌+◌, ◌*◌, ◌<◌, ◌≤◌, ◌^◌, ◌⊎◌, inl, inr, ℕ, zero, suc, Bool, true, false, cond, List, [], ◌∷◌, length, map, get_or, Option, Some, None, refl, sym, ap, ◌∙◌, subst, arith}
+use Rattle.std.proofs.Common.{◌≡◌, ◌≢◌, ◌<◌, ◌≤◌, ◌^◌, ◌⊎◌, inl, inr, ℕ, zero, suc, Bool, true, false, cond, List, [], ◌∷◌, length, map, get_or, Some, None, refl, sym, ap, ◌∙◌, arith}
 use Rattle.std.specs.Prelude.{option_map, find, All}
 use Rattle.std.proofs.lemmas.List.{length-map}
 use Rattle.std.proofs.lemmas.List.Elements.{All-map}
@@ -8,13 +8,12 @@ use Rattle.std.proofs.lemmas.Slice.Eq.{bytes_eq-Decides}
 use Rattle.cat_base.specs.Texts.{IsTextSet}
 use Rattle.cat_model.specs.Text.{Text, same_text}
 use Rattle.cat_model.specs.Item.{Content, Field, Kind, Schema, Part, IsContent, AreParts, content_of, words_in}
-use Rattle.cat_model.specs.Layout.{Posted, posted_of, IsLaid}
+use Rattle.cat_model.specs.Layout.{Posted, IsLaid}
 use Rattle.cat_model.specs.Ordinals.{dictionary_of, postings_of}
 use Rattle.cat_model.specs.View.{Row, item_in, words_of_field}
-use Rattle.cat_segment.proofs.Filled.{map_where}
 use Rattle.cat_segment.proofs.Formed.{seen, length-dictionary}
 use Rattle.cat_segment.proofs.Placed.{contents_named}
-use Rattle.cat_segment.specs.Laid.{contents_under, AreContents, laid_out}
+use Rattle.cat_segment.specs.Laid.{contents_under, laid_out}
 
 abbrev pub words_under : List Content → List (List Text)
 words_under contents = map words_in (seen contents)

@@ -1,5 +1,5 @@
 -- What the rows that a segment is made of have in the field of a place among the schema's fields.
-use Rattle.std.specs.Prelude.{◌≡◌, ◌<◌, ◌^◌, ℕ, List, [], Option, Some, None, map, length, option_map, slice_get, All, IfSome}
+use Rattle.std.specs.Prelude.{◌<◌, ◌^◌, ℕ, List, [], Option, Some, None, map, length, option_map, slice_get, All, IfSome}
 use Rattle.cat_model.specs.Text.{Text}
 use Rattle.cat_model.specs.Item.{Content, Item, Kind, IsContent, Record, words_in}
 use Rattle.cat_model.specs.Forms.{IsFormed}

@@ -1,6 +1,6 @@
 -- What rows have in a field, as a file lays it out.
 use Rattle.std.specs.Prelude.{◌≡◌, ◌<◌, ℕ, List, [], length, map, slice_index_or, Some, All}
-use Rattle.cat_model.specs.Item.{Content, Field, Kind, Part, Schema, IsContent}
+use Rattle.cat_model.specs.Item.{Content, Field, Kind, Schema, IsContent}
 use Rattle.cat_model.specs.Forms.{IsFormed}
 use Rattle.cat_model.specs.Layout.{Laid, laid_as}
 use Rattle.cat_model.specs.View.{Row}

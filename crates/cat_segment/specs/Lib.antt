@@ -1,4 +1,5 @@
 pub mod Contents
+pub mod Decoded
 pub mod Fields
 pub mod Index
 pub mod Laid

@@ -49,6 +49,14 @@ impl Keywords {
         })
     }
 
+    /// The column of these values, and the rows of each of their texts.
+    pub(crate) fn joined(values: KeywordColumn, terms: Terms) -> Keywords
+        requires { terms ≡ map texts_of values }
+        ensures { result ≡ values }
+    {
+        Keywords { values, terms }
+    }
+
     /// The text of each row.
     pub fn values(&self) -> &KeywordColumn
         ensures { result.now ≡ self.now }
@@ -95,6 +103,14 @@ impl Labels {
             labels: SetColumn::of(alloc, rows)?,
             terms,
         })
+    }
+
+    /// The column of these labels, and the rows of each of them.
+    pub(crate) fn joined(labels: SetColumn, terms: Terms) -> Labels
+        requires { terms ≡ labels }
+        ensures { result ≡ labels }
+    {
+        Labels { labels, terms }
     }
 
     /// The labels of each row.

@@ -1,19 +1,21 @@
 //! Segments in memory, whose rows never change, and which of these rows are live.
 #![tactic(auto)]
 
+mod assembly;
 mod building;
 mod column;
+mod decoding;
 mod encoding;
 mod gathering;
 mod index;
+mod inverting;
 mod live;
 mod live_file;
 mod segment;
 mod sources;
 
-mod trial;
-
 pub use column::{Column, Keywords, Labels};
+pub use decoding::{decode_seg, segments_are_told_by_their_bytes};
 pub use encoding::encode_seg;
 pub use live::Live;
 pub use live_file::{LiveFile, decode_liv, encode_liv, live_rows_are_told_by_their_bytes};

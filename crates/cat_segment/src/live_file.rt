@@ -96,11 +96,7 @@ fn may_stand(start: Start) -> bool
 /// (Lucene: `LiveDocsFormat.writeLiveDocs`). Some row isn't live: a segment without deleted rows has no such file.
 ///
 /// A refusal is [`Refusal::Memory`].
-pub fn encode_liv(
-    number: SegNo,
-    generation: Generation,
-    live: &Live,
-) -> Result<Vec<u8>, Refusal>
+pub fn encode_liv(number: SegNo, generation: Generation, live: &Live) -> Result<Vec<u8>, Refusal>
     requires { count_by (λ b. b) live.now < length live.now }
     ensures ok { IfOk result (λ b. SpellsLive b.items (record { number = number; generation = generation; live = live.now })) }
     ensures refusal { IfErr result (λ e. e ≡ Memory) }

@@ -9,6 +9,7 @@ ghost use Rattle.cat_model.specs.View.{row_of, item_in, AreRows, IsSegment};
 ghost use Rattle.cat_segment.specs.Contents.{contents_of};
 ghost use Rattle.cat_segment.specs.Fields.{record_of};
 ghost use Rattle.cat_segment.specs.Laid.{laid_in};
+ghost use Rattle.cat_segment.specs.Rows.{rows_of, IsHeld};
 ghost use Rattle.cat_segment.specs.Sources.{source_place};
 
 use crate::building::{columns_of, ids, sources, write_numbers};
@@ -90,6 +91,28 @@ impl Segment {
             sources: sources(alloc, rows)?,
             columns: columns_of(alloc, schema.fields(), rows)?,
         })
+    }
+
+    /// The segment of these parts, which fit together.
+    pub(crate) fn joined(
+        number: SegNo,
+        schema: Schema,
+        numbers: Vec<WriteNo>,
+        ids: Ids,
+        sources: Sources,
+        columns: Vec<Column>,
+    ) -> Segment
+        requires { IsHeld (record { schema = schema; numbers = numbers.items; ids = ids; lengths = sources; columns = columns.items }) }
+        ensures { result ≡ record { number = number; schema = schema; rows = rows_of (record { schema = schema; numbers = numbers.items; ids = ids; lengths = sources; columns = columns.items }) } }
+    {
+        Segment {
+            number,
+            schema,
+            numbers,
+            ids,
+            sources,
+            columns,
+        }
     }
 
     /// The number of the segment.

@@ -1,4 +1,4 @@
-use Rattle.std.proofs.Common.{◌≡◌, ◌++◌, List, length, map, ap, sym, ◌∙◌}
+use Rattle.std.proofs.Common.{◌++◌, length, map, ap, sym, ◌∙◌}
 use Rattle.std.specs.List.{flat_map}
 use Rattle.std.proofs.lemmas.List.{length-map}
 use Rattle.cat_codec.specs.Parts.{spelled_start}

@@ -1,4 +1,4 @@
-use Rattle.std.proofs.Common.{[], length, map, ap, sym, ◌∙◌, arith}
+use Rattle.std.proofs.Common.{[], map, ap, sym, ◌∙◌, arith}
 use Rattle.std.proofs.lemmas.List.{get_or-map, length-map}
 use Rattle.cat_model.specs.Layout.{Laid, spelled_column}
 use Rattle.cat_segment.proofs.Spelled.{spelled_next}

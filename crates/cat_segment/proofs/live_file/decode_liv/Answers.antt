@@ -1,4 +1,4 @@
-use Rattle.std.proofs.Common.{◌≡◌, ◌<◌, Bool, List, length, ap, sym, ◌∙◌, subst, arith}
+use Rattle.std.proofs.Common.{Bool, length, ap, sym, ◌∙◌, subst, arith}
 use Rattle.std.proofs.lemmas.List.{take_rest}
 use Rattle.cat_model.specs.RowSets.{IsPacked}
 use Rattle.std.specs.Prelude.{count_by}
