@@ -1,1 +1,2 @@
 pub mod SegmentRows
+pub mod ViewRows

@@ -11,7 +11,7 @@ use Rattle.cat_segment.specs.declared.segment.Row.{Row}
 abbrev pub Apart : Row → Row → Type 0
 Apart a b = (a.number < b.number) × (a.item.now.id ≢ b.item.now.id)
 
-pairs_map : {X Y : Type 0} (R : Y → Y → Type 0) (f : X → Y) (xs : List X) → AllPairs (λ a b. R (f a) (f b)) xs → AllPairs R (map f xs)
+pub pairs_map : {X Y : Type 0} (R : Y → Y → Type 0) (f : X → Y) (xs : List X) → AllPairs (λ a b. R (f a) (f b)) xs → AllPairs R (map f xs)
 pairs_map R f [] h i j d lt within = absurd (omega arith)
 pairs_map R f (x ∷ xs) h i j d lt within =
     let n : j < length (x ∷ xs) = omega (arith, within, length-map (x ∷ xs) f) in

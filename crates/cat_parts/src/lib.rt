@@ -1,4 +1,4 @@
-//! Tests that cross the crates below the protocol: schemas and items, query texts, segments and their files.
+//! Tests that cross the crates below the protocol: schemas and items, query texts, segments and their files, views.
 #![tactic(auto)]
 
 #[cfg(test)]
@@ -9,3 +9,5 @@ mod queries;
 mod schemas;
 #[cfg(test)]
 mod segments;
+#[cfg(test)]
+mod views;

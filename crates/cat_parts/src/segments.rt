@@ -11,7 +11,8 @@ use std::alloc::{AllocError, Global};
 use std::process::Abort;
 use std::test::Fail;
 
-const FIELDS: &[u8] = br#"{"brand":"keyword","color":"facet","price":"number","title":"text"}"#;
+pub(crate) const FIELDS: &[u8] =
+    br#"{"brand":"keyword","color":"facet","price":"number","title":"text"}"#;
 
 // What an item may have in each field.
 const BRANDS: [&str; 6] = [
@@ -177,7 +178,7 @@ fn is_behind(rows: &[Row<'_>], last: &Row<'_>) -> bool
 }
 
 /// Whether the numbers of the rows rise and their ids differ.
-fn are_apart(rows: &[Row<'_>]) -> bool
+pub(crate) fn are_apart(rows: &[Row<'_>]) -> bool
     ensures { result ≡ true → AllPairs (λ a b. (a.number < b.number) × (a.item.now.id ≢ b.item.now.id)) rows.now }
 {
     for place in 0..rows.len() {

@@ -1,4 +1,4 @@
-use Rattle.std.proofs.Common.{◌≡◌, ◌<◌, All, take, get_or, subst, arith, rules}
+use Rattle.std.proofs.Common.{◌≡◌, ◌<◌, All, subst, arith, rules}
 use Rattle.std.proofs.lemmas.List.{take_all}
 use Rattle.std.proofs.lemmas.List.Elements.{All-more}
 use Rattle.cat_parts.proofs.SegmentRows.{Apart}
