@@ -1,8 +1,10 @@
-//! Tests that cross the crates below the protocol: schemas and items, query texts, segments and their files, views.
+//! Tests that cross the crates below the protocol: schemas and items, query texts, segments, their files, and views.
 #![tactic(auto)]
 
 #[cfg(test)]
 mod faults;
+#[cfg(test)]
+mod files;
 #[cfg(test)]
 mod queries;
 #[cfg(test)]

@@ -6,7 +6,7 @@ ghost use Rattle.cat_model.specs.View.{row_of};
 
 use crate::segments::{FIELDS, are_apart};
 use cat_base::{Refusal, SegNo, Text, WriteNo};
-use cat_directory::FileName;
+use cat_directory::{Directory, FileName, MemoryDirectory};
 use cat_query::Query;
 use cat_schema::{Item, Schema};
 use cat_search::{Accepts, Entry, Key, Leaf, Numbered, Page, Prepared, Sort, View, page_of};
@@ -592,5 +592,49 @@ fn a_view_needs_two_files_of_each_segment(rt: HostRuntime) -> Result<(), Fail> {
         names.as_str(),
         "_1.seg _1.sto _2.seg _2.sto _3.seg _3.sto "
     );
+    Ok(())
+}
+
+/// Puts the texts into the file of a segment's sources, one behind the other.
+fn store(
+    alloc: Global,
+    files: &mut MemoryDirectory,
+    segment: SegNo,
+    texts: &[&str],
+) -> Result<(), Refusal> {
+    files.create(alloc, FileName::Source(segment))?;
+    for text in texts {
+        files.append(FileName::Source(segment), text.as_bytes())?;
+    }
+    Ok(())
+}
+
+#[test]
+fn a_view_gives_the_texts_of_live_ids(rt: HostRuntime) -> Result<(), Fail> {
+    let alloc = rt.alloc();
+    let schema = Schema::read(alloc, FIELDS)?;
+    let puts = read_puts(alloc, &schema, PRICED, false)?;
+    if !are_in_order(&puts) {
+        panic!(&rt; "no rows of a view");
+    }
+    let view = view_of(&rt, alloc, &schema, &puts, &[1, 3, 6])?;
+    let mut files = MemoryDirectory::new(alloc);
+    let (b, c) = (r#"{"id":"b"}"#, r#"{"id":"c","price":7}"#);
+    let (d, e) = (r#"{"id":"d","price":2}"#, r#"{"id":"e","price":3}"#);
+    store(alloc, &mut files, 2, &[b, c])?;
+    store(alloc, &mut files, 3, &[d, e, r#"{"id":"f","price":7}"#])?;
+    let found = view.get(alloc, &mut files, "c")?;
+    assert_eq!(rt; found.as_deref(), Some(c.as_bytes()));
+    let found = view.get(alloc, &mut files, "d")?;
+    assert_eq!(rt; found.as_deref(), Some(d.as_bytes()));
+    // The row of `e` is dead, and no row has `g`.
+    assert!(rt; view.get(alloc, &mut files, "e")?.is_none());
+    assert!(rt; view.get(alloc, &mut files, "g")?.is_none());
+    // The file of `a` was never made, and that of `c` is a byte short.
+    let absent = view.get(alloc, &mut files, "a");
+    assert!(rt; matches!(absent, Err(Refusal::Damaged)));
+    store(alloc, &mut files, 2, &[b, r#"{"id":"c","price":7"#])?;
+    let short = view.get(alloc, &mut files, "c");
+    assert!(rt; matches!(short, Err(Refusal::Damaged)));
     Ok(())
 }
