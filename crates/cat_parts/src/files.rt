@@ -25,6 +25,7 @@ const SEGMENT: [u8; 86] = [
 
 /// Where the column of the colors begins, and where it ends.
 const COLORS: usize = 58;
+
 const PRICES: usize = 77;
 
 /// The live rows of segment 1 in commit 2: of one row none.
@@ -154,15 +155,16 @@ fn live_rows_have_these_bytes(rt: HostRuntime) -> Result<(), Fail> {
 }
 
 #[test]
-fn live_rows_are_damaged_without_a_dead_one_or_past_the_last(
-    rt: HostRuntime,
-) -> Result<(), Fail> {
+fn live_rows_are_damaged_without_a_dead_one_or_past_the_last(rt: HostRuntime) -> Result<(), Fail> {
     let alloc = rt.alloc();
     // The one row is live; a row that isn't there is.
     for last in [1u8, 2] {
         let mut bytes = LIVE;
         bytes[25] = last;
-        assert!(rt; matches!(decode_liv(alloc, &bytes), Err(Refusal::Damaged)), "{last}");
+        assert!(rt;
+            matches!(decode_liv(alloc, &bytes), Err(Refusal::Damaged)),
+            "{last}"
+        );
     }
     for end in 0..LIVE.len() {
         let front = decode_liv(alloc, &LIVE[..end]);
