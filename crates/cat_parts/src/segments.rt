@@ -5,7 +5,7 @@ ghost use Rattle.cat_model.specs.Item.{IsItem};
 use cat_base::Refusal;
 use cat_query::{DocSet, Query};
 use cat_schema::{Item, Schema};
-use cat_segment::{Column, Row, Segment};
+use cat_segment::{Column, Row, Segment, decode_seg, encode_seg};
 use cat_values::SetColumn;
 use std::alloc::{AllocError, Global};
 use std::process::Abort;
@@ -382,6 +382,30 @@ fn sets_agree_with_items(rt: HostRuntime) -> Result<(), Fail> {
             size < matched && matched < size.saturating_mul(99),
             "{matched} of {size}"
         );
+    }
+    Ok(())
+}
+
+#[test]
+fn a_segment_is_read_as_it_was_written(rt: HostRuntime) -> Result<(), Fail> {
+    let alloc = rt.alloc();
+    let schema = Schema::read(alloc, FIELDS)?;
+    let mut dice = Dice { state: 2 };
+    for size in [1usize, 65, 1_000] {
+        let texts = item_texts(alloc, &mut dice, size)?;
+        let items = read_items(alloc, &schema, &texts)?;
+        let Some(segment) = segment_of(alloc, &schema, &items)? else {
+            panic!(rt; "no segment of {size}");
+        };
+        let bytes = encode_seg(alloc, &segment)?;
+        let read = decode_seg(alloc, &bytes)?;
+        let again = encode_seg(alloc, &read)?;
+        assert!(rt; again.as_slice() == bytes.as_slice(), "{size}");
+        for _ in 0..20 {
+            let text = query_text(alloc, &mut dice)?;
+            let found = rows_matched(alloc, &read, &items, &text)?;
+            assert!(rt; found.is_some(), "{text} of {size}");
+        }
     }
     Ok(())
 }
