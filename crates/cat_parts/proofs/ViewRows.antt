@@ -9,7 +9,7 @@ use Rattle.std.proofs.lemmas.List.Kept.{AllPairs-filter}
 use Rattle.cat_model.specs.Item.{Schema}
 use Rattle.cat_model.specs.View as model
 use Rattle.cat_model.specs.View.{Segment, Leaf, IsView, row_of, marked, live_rows}
-use Rattle.cat_parts.specs.declared.views.Put.{Put}
+use Rattle.cat_parts.specs.declared.put.Put.{Put}
 use Rattle.cat_parts.proofs.SegmentRows.{pairs_map}
 
 abbrev pub row_in : Put → model.Row

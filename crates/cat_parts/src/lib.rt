@@ -5,6 +5,7 @@
 mod faults;
 #[cfg(test)]
 mod files;
+mod put;
 #[cfg(test)]
 mod queries;
 #[cfg(test)]

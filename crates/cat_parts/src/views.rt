@@ -4,38 +4,19 @@ ghost use Rattle.std.specs.Prelude.{◌≡◌, ◌≢◌, ◌≤◌, ◌<◌, tr
 ghost use Rattle.cat_model.specs.Item.{IsItem};
 ghost use Rattle.cat_model.specs.View.{row_of};
 
+use crate::put::Put;
 use crate::segments::{FIELDS, are_apart};
 use cat_base::{Refusal, SegNo, Text, WriteNo};
 use cat_directory::{Directory, FileName, MemoryDirectory};
 use cat_query::Query;
 use cat_schema::{Item, Schema};
-use cat_search::{Accepts, Entry, Key, Leaf, Numbered, Page, Prepared, Sort, View, page_of};
+use cat_search::{Accepts, Entry, Key, Leaf, Page, Prepared, Sort, View, page_of};
 use cat_segment::{Live, Row, Segment};
 use std::alloc::{AllocError, Global};
 use std::fmt::Write;
 use std::process::Abort;
 use std::sync::Arc;
 use std::test::Fail;
-
-/// An item under the number of the write that put it, and whether its row is live.
-#[derive(Drop)]
-struct Put {
-    number: WriteNo,
-    item: Item,
-    live: bool,
-}
-
-impl Numbered for Put {
-    ghost meant = { λ p. record { number = p.number; item = p.item } };
-
-    fn number(&self) -> WriteNo {
-        self.number
-    }
-
-    fn item(&self) -> &Item {
-        &self.item
-    }
-}
 
 /// A query as the test that the hits of a page pass.
 #[derive(Drop)]

@@ -1,5 +1,5 @@
 use Rattle.std.proofs.Common.{ℕ, ◌<◌, All, take, get_or}
-use Rattle.cat_parts.specs.declared.views.Put.{Put}
+use Rattle.cat_parts.specs.declared.put.Put.{Put}
 use Rattle.cat_parts.proofs.ViewRows.{Beside}
 use Rattle.cat_parts.proofs.views.are_in_order.Given as goal
 
