@@ -8,6 +8,8 @@ use Rattle.cat_model.specs.Text.{Text, text_cmp}
 use Rattle.cat_model.specs.Item.{Field, Kind, Schema, is_id, is_name}
 use Rattle.cat_model.specs.Forms.{is_low_byte, is_plain_byte}
 use Rattle.cat_model.specs.Layout.{Posted, Laid, Head, Layout}
+use Rattle.cat_codec.specs.declared.lists.Form.{Form}
+use Rattle.cat_codec.specs.declared.lists.Form.TheVariants as forms
 use Rattle.cat_codec.specs.Reading.{Reader, ◌>>=◌, byte_at, u32_at, u64_at, where_at, both_at, many_at, counted_at, text_at}
 
 -- ---- forms, as tests of texts
@@ -20,6 +22,13 @@ is_keyword t = nat_le (length t) 128 && list_all is_plain_byte t
 
 abbrev pub is_label : Text → Bool
 is_label t = nat_lt 0 (length t) && is_keyword t
+
+-- the test of each form
+abbrev pub fits : Form → Text → Bool
+fits forms.Id = is_id
+fits forms.Word = is_word
+fits forms.Keyword = is_keyword
+fits forms.Label = is_label
 
 -- each text lies below those after it
 abbrev pub is_rising : List Text → Bool

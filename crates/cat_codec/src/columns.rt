@@ -8,7 +8,7 @@ ghost use Rattle.cat_codec.specs.Layouts.{list_at, posted_at, cell_at, column_at
 ghost use Rattle.cat_codec.specs.Parts.{column_in, IsColumnParts};
 
 use crate::cursor::{take_u8, take_u32, take_u64};
-use crate::lists::{read_keywords, read_labels, read_list, read_numbers, read_word};
+use crate::lists::{Form, read_list, read_numbers, read_text, read_texts};
 use crate::parts::ColumnParts;
 use cat_base::{Cursor, Refusal, Text};
 use cat_schema::{Field, Kind};
@@ -76,7 +76,7 @@ fn read_postings(alloc: Global, count: u32, cursor: &mut Cursor<'_>) -> Result<P
     let mut ends = Vec::new(alloc);
     let mut rows = Vec::new(alloc);
     for _ in 0..count {
-        let word = read_word(alloc, cursor)?;
+        let word = read_text(alloc, Form::Word, cursor)?;
         read_list(cursor, &mut rows)?;
         let end = end_of(&rows)?;
         words.push(word)?;
@@ -118,7 +118,7 @@ fn read_column(
         }
         Kind::Keyword => {
             let count = take_u32(cursor)?;
-            let dictionary = read_keywords(alloc, count, cursor)?;
+            let dictionary = read_texts(alloc, Form::Keyword, count, cursor)?;
             let codes = read_numbers(alloc, rows, cursor)?;
             Ok(ColumnParts::Keyword(dictionary, codes))
         }
@@ -128,7 +128,7 @@ fn read_column(
         }
         Kind::Facet => {
             let count = take_u32(cursor)?;
-            let dictionary = read_labels(alloc, count, cursor)?;
+            let dictionary = read_texts(alloc, Form::Label, count, cursor)?;
             let ordinals = read_ordinals(alloc, rows, cursor)?;
             Ok(ColumnParts::Facet(dictionary, ordinals.ends, ordinals.ordinals))
         }

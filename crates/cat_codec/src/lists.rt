@@ -1,101 +1,58 @@
 //! Texts of the forms, and lists of texts and of numbers, read.
 ghost use Rattle.std.specs.Prelude.{◌≡◌};
-ghost use Rattle.cat_model.specs.Item.{is_id};
 ghost use Rattle.cat_codec.specs.Reading.{Gives, u32_at, many_at, text_at, with_front};
-ghost use Rattle.cat_codec.specs.Layouts.{is_word, is_keyword, is_label, list_at};
+ghost use Rattle.cat_codec.specs.Layouts.{fits, list_at};
 
 use crate::cursor::{take_str, take_u32};
 use cat_base::{Cursor, Refusal, Text};
 use cat_schema::{id_ok, keyword_ok, label_ok, word_ok};
 use std::alloc::Global;
 
-fn is_word(text: &str) -> bool
-    ensures { result ≡ is_word text.now }
-{
-    word_ok(text)
+/// What a text in a file has to be.
+#[derive(Clone, Copy)]
+pub(crate) enum Form {
+    Id,
+    Word,
+    Keyword,
+    Label,
 }
 
-fn is_keyword(text: &str) -> bool
-    ensures { result ≡ is_keyword text.now }
-{
-    keyword_ok(text)
-}
-
-fn is_label(text: &str) -> bool
-    ensures { result ≡ is_label text.now }
-{
-    label_ok(text)
+impl Form {
+    /// Whether the text has the form.
+    fn fits(self, text: &str) -> bool
+        ensures { result ≡ fits self text.now }
+    {
+        match self {
+            Form::Id => id_ok(text),
+            Form::Word => word_ok(text),
+            Form::Keyword => keyword_ok(text),
+            Form::Label => label_ok(text),
+        }
+    }
 }
 
 #[tactic(auto, unfolding(crate::specs::Reading::where_at))]
-pub(crate) fn read_id(alloc: Global, cursor: &mut Cursor<'_>) -> Result<Text, Refusal>
-    ensures { Gives (λ t. (t, cursor.new)) result (text_at is_id cursor.old) }
+pub(crate) fn read_text(alloc: Global, form: Form, cursor: &mut Cursor<'_>) -> Result<Text, Refusal>
+    ensures { Gives (λ t. (t, cursor.new)) result (text_at (fits form) cursor.old) }
 {
     let text = take_str(cursor)?;
-    if !id_ok(text) {
+    if !form.fits(text) {
         return Err(Refusal::Damaged);
     }
     Text::from_str(alloc, text)
 }
 
-#[tactic(auto, unfolding(crate::specs::Reading::where_at))]
-pub(crate) fn read_word(alloc: Global, cursor: &mut Cursor<'_>) -> Result<Text, Refusal>
-    ensures { Gives (λ t. (t, cursor.new)) result (text_at is_word cursor.old) }
-{
-    let text = take_str(cursor)?;
-    if !is_word(text) {
-        return Err(Refusal::Damaged);
-    }
-    Text::from_str(alloc, text)
-}
-
-#[tactic(auto, unfolding(crate::specs::Reading::where_at))]
-fn read_keyword(alloc: Global, cursor: &mut Cursor<'_>) -> Result<Text, Refusal>
-    ensures { Gives (λ t. (t, cursor.new)) result (text_at is_keyword cursor.old) }
-{
-    let text = take_str(cursor)?;
-    if !is_keyword(text) {
-        return Err(Refusal::Damaged);
-    }
-    Text::from_str(alloc, text)
-}
-
-#[tactic(auto, unfolding(crate::specs::Reading::where_at))]
-fn read_label(alloc: Global, cursor: &mut Cursor<'_>) -> Result<Text, Refusal>
-    ensures { Gives (λ t. (t, cursor.new)) result (text_at is_label cursor.old) }
-{
-    let text = take_str(cursor)?;
-    if !is_label(text) {
-        return Err(Refusal::Damaged);
-    }
-    Text::from_str(alloc, text)
-}
-
-pub(crate) fn read_keywords(
+pub(crate) fn read_texts(
     alloc: Global,
+    form: Form,
     count: u32,
     cursor: &mut Cursor<'_>,
 ) -> Result<Vec<Text>, Refusal>
-    ensures { Gives (λ v. (v.items, cursor.new)) result (many_at (text_at is_keyword) count cursor.old) }
+    ensures { Gives (λ v. (v.items, cursor.new)) result (many_at (text_at (fits form)) count cursor.old) }
 {
     let mut out = Vec::new(alloc);
     for _ in 0..count {
-        let one = read_keyword(alloc, cursor)?;
-        out.push(one)?;
-    }
-    Ok(out)
-}
-
-pub(crate) fn read_labels(
-    alloc: Global,
-    count: u32,
-    cursor: &mut Cursor<'_>,
-) -> Result<Vec<Text>, Refusal>
-    ensures { Gives (λ v. (v.items, cursor.new)) result (many_at (text_at is_label) count cursor.old) }
-{
-    let mut out = Vec::new(alloc);
-    for _ in 0..count {
-        let one = read_label(alloc, cursor)?;
+        let one = read_text(alloc, form, cursor)?;
         out.push(one)?;
     }
     Ok(out)

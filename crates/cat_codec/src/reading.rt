@@ -9,7 +9,7 @@ ghost use Rattle.cat_codec.specs.Parts.{heads_in, layout_in, IsParts};
 use crate::columns::read_columns;
 use crate::cursor::{take_u8, take_u32, take_u64};
 use crate::fields::take_fields;
-use crate::lists::read_id;
+use crate::lists::{Form, read_text};
 use crate::parts::SegmentParts;
 use cat_base::{Cursor, LAST_NUMBER, MAX_ITEM_BYTES, MAX_ROWS, Refusal, SegNo, Text, WriteNo};
 use std::alloc::Global;
@@ -63,7 +63,7 @@ fn read_head(alloc: Global, cursor: &mut Cursor<'_>) -> Result<RowHead, Refusal>
     if number == 0 {
         return Err(Refusal::Damaged);
     }
-    let id = read_id(alloc, cursor)?;
+    let id = read_text(alloc, Form::Id, cursor)?;
     let length = take_u32(cursor)?;
     if length == 0 || length as usize > MAX_ITEM_BYTES {
         return Err(Refusal::Damaged);

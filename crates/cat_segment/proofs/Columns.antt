@@ -1,8 +1,9 @@
 -- What the columns of a segment say of its rows.
-use Rattle.std.proofs.Common.{◌≡◌, ◌+◌, ◌<◌, ◌≤◌, ℕ, suc, Bor, List, [], ◌∷◌, length, map, replicate, Bool, true, false, cond, not, Option, Some, None, refl, sym, ap, ◌∙◌, arith}
+use Rattle.std.proofs.Common.{◌≡◌, ◌+◌, ◌<◌, ◌≤◌, ℕ, suc, Bor, List, [], ◌∷◌, length, map, replicate, nat_lt, Bool, true, false, cond, not, Option, Some, None, refl, sym, ap, ◌∙◌, arith}
 use Rattle.std.specs.Prelude.{◌≢◌, option_map, slice_get, slice_index_or, find, All, IfSome, MatchOption}
-use Rattle.std.specs.List.{prefix_len, HoldsAt, range_with_len}
-use Rattle.std.proofs.lemmas.Option.{slice_get_past, slice_get_read}
+use Rattle.std.specs.List.{prefix_len, position, HoldsAt, range_with_len}
+use Rattle.std.proofs.lemmas.Bool.Decides.{nat_tests}
+use Rattle.std.proofs.lemmas.Option.{cond_some, none-some, slice_get_past, slice_get_read}
 use Rattle.std.proofs.lemmas.List.{length-map, length-replicate, get_or-map, get_or-replicate}
 use Rattle.std.proofs.lemmas.List.FromFn.{length-map-range_with_len, fill_by_all}
 use Rattle.std.proofs.lemmas.Simd.{map-map}
@@ -37,6 +38,18 @@ part_named name (f ∷ fs) (c ∷ cs) row e = at (same_text f.name name) (part_n
     at true h = refl
     at false h = let e : 1 + prefix_len (λ f. not (same_text f.name name)) fs ≡ suc (prefix_len (λ f. not (same_text f.name name)) fs) = omega arith in rw e h
 
+-- where no field has the name, the count of those before it is of all
+no_place : (n len : ℕ) → None ≡ cond (nat_lt n len) (Some n) None → len ≤ n
+no_place n len e = at (nat_lt n len) refl
+  where
+    at : (b : Bool) → nat_lt n len ≡ b → len ≤ n
+    at true is = absurd (none-some n (e ∙ ap (λ b. cond b (Some n) None) is))
+    at false is = grind (arith, nat_tests, is)
+
+-- the place of the first field of the name is the count of those before it
+pub placed_at : (name : Text) (fs : Schema) (place : ℕ) → Some place ≡ position (λ f. same_text f.name name) fs → place ≡ prefix_len (λ f. not (same_text f.name name)) fs
+placed_at name fs place e = sym (cond_some (nat_lt (prefix_len (λ f. not (same_text f.name name)) fs) (length fs)) (prefix_len (λ f. not (same_text f.name name)) fs) place (sym e)).1
+
 module _ (held : Held) (is : IsHeld held) (name : Text) (place : ℕ) (found : place ≡ prefix_len (λ f. not (same_text f.name name)) held.schema) where
   abbrev content_in : Row → Option Content
   content_in r = content_of name (item_in r)
@@ -60,6 +73,16 @@ module _ (held : Held) (is : IsHeld held) (name : Text) (place : ℕ) (found : p
       (length-map (contents_of c.now) (λ x. Some x) ∙ len)
       (λ k lt. get_or-map (λ x. Some x) (contents_of c.now) k (Content.words []) None (omega (arith, len)) ∙ sym (in_row k ∙ ap (option_map (λ c. content_at c k)) (slice_get_read held.columns (length held.columns) place c.now refl here.0 (here.1 c.now))))
       ∙ sym (map-rows_of content_in held)
+
+pub numbers_are : (held : Held) → map (λ r. r.number) (rows_of held) ≡ held.numbers
+numbers_are held = map-rows_of (λ r. r.number) held ∙ sym (fill_by_all (λ k. slice_index_or held.numbers k 0) held.numbers (length held.numbers) 0 refl (λ k lt. refl))
+
+-- no row has a part of a name that no field has
+pub column_missing : (held : Held) (is : IsHeld held) (name : Text) → None ≡ position (λ f. same_text f.name name) held.schema
+    → map (λ r. content_of name (item_in r)) (rows_of held) ≡ replicate (length (rows_of held)) None
+column_missing held is name e =
+    let past = no_place (prefix_len (λ f. not (same_text f.name name)) held.schema) (length held.schema) e in
+    column_named held is name _ refl None (rw is.columns past)
 
 module _ (held : Held) (is : IsHeld held) where
   pub ids_are : map (λ r. r.id) (rows_of held) ≡ held.ids

@@ -13,4 +13,5 @@ pub mod Ordered
 pub mod Placed
 pub mod Spelled
 pub mod Steps
+pub mod Through
 pub mod Worded

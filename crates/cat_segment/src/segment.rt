@@ -1,8 +1,8 @@
 //! Immutable segments.
-ghost use Rattle.std.specs.Prelude.{◌≡◌, ◌≢◌, ◌<◌, map, length, not, replicate, Some, None, MatchOption, IfSome, IfOk, IfErr, All};
-ghost use Rattle.std.specs.List.{prefix_len, HoldsAt};
+ghost use Rattle.std.specs.Prelude.{◌≡◌, ◌≢◌, ◌<◌, ◌≤◌, map, length, replicate, Some, None, MatchOption, IfSome, IfOk, IfErr, All, AllPairs};
+ghost use Rattle.std.specs.List.{HoldsAt};
+ghost use Rattle.std.specs.List.Sorted.{IsPartitionPoint};
 ghost use Rattle.cat_base.specs.declared.refusal.Refusal.TheVariants.{Memory};
-ghost use Rattle.cat_model.specs.Text.{same_text};
 ghost use Rattle.cat_model.specs.Item.{content_of};
 ghost use Rattle.cat_model.specs.Layout.{column_of};
 ghost use Rattle.cat_model.specs.View.{row_of, item_in, AreRows, IsSegment};
@@ -17,7 +17,7 @@ use crate::column::Column;
 use crate::index::Ids;
 use crate::sources::Sources;
 use cat_base::{Refusal, SegNo, WriteNo};
-use cat_schema::{Field, Item, Schema};
+use cat_schema::{Item, Schema, place_of};
 use std::alloc::Global;
 use std::marker::Model;
 
@@ -57,14 +57,13 @@ impl Model for Segment {
     ghost invariant = { λ s. IsHeld (held_in s) };
 }
 
-// How many fields stand before the one of the name.
-fn fields_before(fields: &[Field], name: &str) -> usize
-    ensures { result ≡ prefix_len (λ f. not (same_text f.name name.now)) fields.now }
+// How many of the numbers, which rise, are up to this one.
+fn count_through(numbers: &[WriteNo], number: WriteNo) -> usize
+    requires { AllPairs (λ a b. a < b) numbers.now }
+    ensures point { IsPartitionPoint (λ n. n ≤ number) (λ n. number < n) numbers.now result }
+    ensures bound { result ≤ length numbers.now }
 {
-    fields
-        .iter()
-        .take_while(|field| field.name() != name)
-        .count()
+    numbers.partition_point(|each| *each <= number)
 }
 
 impl Segment {
@@ -162,6 +161,16 @@ impl Segment {
         self.ids.row_of(id)
     }
 
+    /// How many rows the writes up to this number put, by binary search: the row of that place, if there is one, is the
+    /// first that a later write put. (Lucene: where `DocIdSetIterator.advance` goes behind a `FieldDoc` in index order.)
+    pub fn rows_through(&self, number: WriteNo) -> usize
+        ensures point { IsPartitionPoint (λ r. r.number ≤ number) (λ r. number < r.number) self.now.rows result }
+        ensures bound { result ≤ length self.now.rows }
+        ensures rising { AllPairs (λ a b. a.number < b.number) self.now.rows }
+    {
+        count_through(&self.numbers, number)
+    }
+
     /// The length of the text that the row's item came as, in bytes.
     pub fn source_length(&self, row: usize) -> u32
         requires { row < length self.now.rows }
@@ -192,8 +201,6 @@ impl Segment {
             (map (λ r. content_of name.now (item_in r)) self.now.rows ≡ replicate (length self.now.rows) None)
             (λ c. map (λ x. Some x) (contents_of c.now) ≡ map (λ r. content_of name.now (item_in r)) self.now.rows) }
     {
-        // Past the last column where no field has the name.
-        let place = fields_before(self.schema.fields(), name);
-        self.columns.get(place)
+        self.columns.get(place_of(self.schema.fields(), name)?)
     }
 }
