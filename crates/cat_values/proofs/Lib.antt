@@ -1,3 +1,4 @@
+pub mod Below
 pub mod Bits
 pub mod Bytes
 pub mod Codes

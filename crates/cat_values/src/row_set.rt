@@ -1,5 +1,5 @@
 //! A set of the rows of one segment.
-ghost use Rattle.std.specs.Prelude.{◌≡◌, ◌⊎◌, Bool, List, ℕ, ◌+◌, ◌*◌, ◌^◌, ◌<◌, ◌≤◌, true, false, length, replicate, slice_set, count_by, IfOk, IfErr, All};
+ghost use Rattle.std.specs.Prelude.{◌≡◌, ◌⊎◌, ◌++◌, Bool, List, ℕ, ◌+◌, ◌*◌, ◌^◌, ◌<◌, ◌≤◌, true, false, length, replicate, drop, slice_set, count_by, IfOk, IfErr, All};
 ghost use Rattle.cat_base.specs.declared.refusal.Refusal.TheVariants.{Damaged, Memory};
 ghost use Rattle.cat_model.specs.RowSets.{joined, both, either, first_only, has_row, places, with_rows, IsPacked};
 ghost use Rattle.cat_values.specs.Bits.{flags_of, IsBits};
@@ -7,8 +7,8 @@ ghost use Rattle.cat_values.specs.Bits.{flags_of, IsBits};
 use crate::packed::{bytes_of, is_clear_from, words_of};
 use crate::scan::Rows;
 use crate::words::{
-    and_words, clear_row, clear_words, count_words, full_words, has_row, or_words, set_row,
-    set_rows,
+    and_words, clear_below, clear_row, clear_words, count_words, full_words, has_row, or_words,
+    set_row, set_rows,
 };
 use cat_base::Refusal;
 use std::alloc::Global;
@@ -93,6 +93,14 @@ impl RowSet {
         ensures { self.new ≡ slice_set self.old row false }
     {
         clear_row(&mut self.words, row);
+    }
+
+    /// Takes the rows below this one out of the set (`FixedBitSet.clear(0, row)`), whole words at a time.
+    pub fn remove_below(&mut self, row: usize)
+        requires { row ≤ length self.old }
+        ensures { self.new ≡ replicate row false ++ drop row self.old }
+    {
+        clear_below(&mut self.words, row);
     }
 
     /// Puts all the rows into the set, in any order and some of them twice: `DocIdSetBuilder.add` over postings.

@@ -97,3 +97,21 @@ fn sets_are_made_of_bytes(rt: HostRuntime) -> Result<(), Fail> {
     assert!(rt; matches!(more, Err(Refusal::Damaged)));
     Ok(())
 }
+
+#[test]
+fn rows_below_one_are_removed(rt: HostRuntime) -> Result<(), Fail> {
+    let alloc = rt.alloc();
+    for len in [1, 64, 65, 200] {
+        for row in [0, 1, 63, 64, 65, 130, len] {
+            if row > len {
+                continue;
+            }
+            let mut set = RowSet::all(alloc, len)?;
+            set.remove_below(row);
+            let left: Vec<usize> = set.iter().collect(alloc)?;
+            let rows: Vec<usize> = (row..len).collect(alloc)?;
+            assert_eq!(rt; left.as_slice(), rows.as_slice());
+        }
+    }
+    Ok(())
+}

@@ -57,6 +57,19 @@ pub fn clear_row(words: &mut [u64], row: usize)
     words[row / 64] &= !(1u64 << (row % 64));
 }
 
+/// Takes the rows below this one out of the set.
+pub fn clear_below(words: &mut [u64], row: usize)
+    requires { row ≤ 64 * length words.old }
+    ensures { (r : ℕ) → is_set words.new r ≡ (if nat_lt r row then false else is_set words.old r) }
+{
+    let whole = row / 64;
+    words[..whole].fill(0);
+    // A row that starts a word has no bits below it there, and may lie past the last word.
+    if row % 64 != 0 {
+        words[whole] &= u64::MAX << (row % 64);
+    }
+}
+
 /// Keeps the rows that are in the other set too.
 pub fn and_words(words: &mut [u64], others: &[u64])
     requires { length words.old ≡ length others.now }
