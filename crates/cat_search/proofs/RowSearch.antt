@@ -16,45 +16,6 @@ use Rattle.cat_search.proofs.Marks.{before_or_at}
 abbrev pub NumbersRise : List Row → Type 0
 NumbersRise rows = AllPairs (λ a b. a.number < b.number) rows
 
--- ---- the search in one segment
-
--- the rows up to one that is below the number
-pub below_up_to : (number : ℕ) (rows : List Row) (m v : ℕ) → NumbersRise rows → m < length rows → HoldsAt (λ r. r.number ≡ v) rows m → v < number
-    → AllWithin (λ r. r.number < number) rows 0 (m + 1)
-below_up_to number rows m v rises h is less k d p q = elim (before_or_at k m (omega arith)) [
-  | inl e ↦
-      let up : (get_or rows k d).number < (get_or rows m d).number = rises k m d e h in
-      let at : (get_or rows m d).number ≡ v = is d in
-      omega (arith, up, at)
-  | inr e ↦
-      let at : (get_or rows m d).number ≡ v = is d in
-      subst (λ i. (get_or rows i d).number < number) (sym e) (omega (arith, at))
-]
-
--- the rows from one on that is above the number
-pub above_from : (number : ℕ) (rows : List Row) (m v : ℕ) → NumbersRise rows → m < length rows → HoldsAt (λ r. r.number ≡ v) rows m → number < v
-    → AllWithin (λ r. number < r.number) rows m (length rows)
-above_from number rows m v rises h is more k d p q = elim (before_or_at m k p) [
-  | inl e ↦
-      let up : (get_or rows m d).number < (get_or rows k d).number = rises m k d e q in
-      let at : (get_or rows m d).number ≡ v = is d in
-      omega (arith, up, at)
-  | inr e ↦
-      let at : (get_or rows m d).number ≡ v = is d in
-      subst (λ i. number < (get_or rows i d).number) e (omega (arith, at))
-]
-
--- where all are below or above, none has the number
-pub none_between : (number : ℕ) (rows : List Row) (low high : ℕ) → high ≤ low → AllWithin (λ r. r.number < number) rows 0 low → AllWithin (λ r. number < r.number) rows high (length rows)
-    → All (λ r. r.number ≢ number) rows
-none_between number rows low high met below above k d h e = elim (which_side k) [
-  | inl p ↦ (let b : (get_or rows k d).number < number = below k d (omega arith) p in omega (arith, b, e))
-  | inr p ↦ (let a : number < (get_or rows k d).number = above k d (omega arith) h in omega (arith, a, e))
-]
-  where
-    which_side : (i : ℕ) → (i < low) ⊎ (low ≤ i)
-    which_side i = cases_lt i low
-
 -- ---- the only row of a number
 
 -- no row has the number

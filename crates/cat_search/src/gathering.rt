@@ -16,11 +16,12 @@ ghost use Rattle.cat_search.specs.Views.{place_in};
 use crate::best::Best;
 use crate::leaf_ranks::LeafRanks;
 use crate::offers::{is_beyond, offer_hit};
-use crate::places::Candidate;
+use crate::places::{Candidate, Rank};
 use crate::sort::{Order, Sort};
 use crate::view::Leaf;
 use cat_base::Refusal;
 use cat_query::Query;
+use cat_segment::Segment;
 use cat_values::RowSet;
 use std::alloc::Global;
 
@@ -65,6 +66,21 @@ fn offer_rows<'a>(
         offer_hit(best, ranks.at(row), mark)?;
     }
     Ok(())
+}
+
+/// Takes those hits out that earlier pages in order of addition had, without a look at each.
+fn pass_mark(hits: &mut RowSet, segment: &Segment, mark: &Option<Candidate<'_>>)
+    requires { length hits.old ≡ length segment.now.rows }
+    ensures long { length hits.new ≡ length hits.old }
+    ensures passed { filter (beyond (option_map seen mark.now)) (marked hits.new (map (place_in Added model.Sort.added) segment.now.rows))
+        ≡ filter (beyond (option_map seen mark.now)) (marked hits.old (map (place_in Added model.Sort.added) segment.now.rows)) }
+{
+    // In order of addition no mark has a key.
+    if let Some(mark) = mark
+        && let Rank::Missing = mark.rank
+    {
+        hits.remove_below(segment.rows_through(mark.number));
+    }
 }
 
 /// Takes in the hits of a segment in their order, as far as the mark comes before them, until there are n. A refusal is
@@ -137,9 +153,11 @@ fn added_hits<'a>(
     let mut total = 0;
     let mut taken = Vec::new(alloc);
     for leaf in leaves {
-        let hits = hits_of(alloc, query, leaf)?;
+        let mut hits = hits_of(alloc, query, leaf)?;
         total = counted(total, &hits)?;
-        let ranks = LeafRanks::of(leaf.segment(), &Sort::Added, Order::Added);
+        let segment = leaf.segment();
+        pass_mark(&mut hits, segment, mark);
+        let ranks = LeafRanks::of(segment, &Sort::Added, Order::Added);
         take_rows(&mut taken, n, &ranks, &hits, mark)?;
     }
     Ok((total, taken))

@@ -14,7 +14,6 @@ use crate::sort::{Order, Sort};
 use crate::view::Leaf;
 use cat_base::{Refusal, WriteNo};
 use cat_segment::Segment;
-use std::cmp::Ordering;
 
 /// The row of the segment that the write of this number put, live or dead.
 fn row_of(segment: &Segment, number: WriteNo) -> Option<usize>
@@ -23,17 +22,12 @@ fn row_of(segment: &Segment, number: WriteNo) -> Option<usize>
         (All (λ r. r.number ≢ number) segment.now.rows)
         (λ row. (row < length segment.now.rows) × HoldsAt (λ r. r.number ≡ number) segment.now.rows row) }
 {
-    let mut low = 0;
-    let mut high = segment.len();
-    while low < high {
-        let middle = low + (high - low) / 2;
-        match segment.write_number(middle).cmp(&number) {
-            Ordering::Less => low = middle + 1,
-            Ordering::Equal => return Some(middle),
-            Ordering::Greater => high = middle,
-        }
+    let row = segment.rows_through(number).checked_sub(1)?;
+    if segment.write_number(row) == number {
+        Some(row)
+    } else {
+        None
     }
-    None
 }
 
 /// The only leaf that can have the row of this number: the last whose first row has no higher one.

@@ -1,8 +1,7 @@
 //! The sorts that a page can go by.
-ghost use Rattle.std.specs.Prelude.{◌≡◌, true, false, option_map, IfOk, IfErr, position};
+ghost use Rattle.std.specs.Prelude.{◌≡◌, true, false, option_map, IfOk, IfErr};
 ghost use Rattle.cat_base.specs.declared.refusal.Refusal.TheVariants.{SortField};
 ghost use Rattle.cat_model.specs.Answer.{can_sort};
-ghost use Rattle.cat_model.specs.Text.{same_text};
 ghost use Rattle.cat_search.specs.Keys.{key_seen};
 ghost use Rattle.cat_search.specs.Pages.{rank_with};
 ghost use Rattle.cat_search.specs.Seen.{seen_rank};
@@ -11,7 +10,7 @@ ghost use Rattle.cat_search.specs.Sorts.{sort_meant, order_of, place_named, can_
 use crate::keys::KeyRef;
 use crate::places::Rank;
 use cat_base::{Refusal, Text};
-use cat_schema::{Field, Kind, Schema};
+use cat_schema::{Kind, Schema, place_of};
 use std::cmp::Reverse;
 
 /// How the hits of a page are sorted (Lucene: `Sort`).
@@ -34,13 +33,6 @@ pub(crate) enum Order {
     Added,
     Rising(usize),
     Falling(usize),
-}
-
-/// The place of the field of this name.
-fn place_of(fields: &[Field], name: &str) -> Option<usize>
-    ensures { result ≡ position (λ f. same_text f.name name.now) fields.now }
-{
-    fields.iter().position(|field| field.name() == name)
 }
 
 /// The place of the field of this name, if one can sort by it.

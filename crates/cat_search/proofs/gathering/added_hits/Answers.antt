@@ -1,4 +1,4 @@
-use Rattle.std.proofs.Common.{◌∙◌, map, take, filter, option_map, ap}
+use Rattle.std.proofs.Common.{◌∙◌, ◌++◌, map, take, filter, option_map, ap}
 use Rattle.std.specs.List.{flat_map}
 use Rattle.cat_model.specs.Page as model
 use Rattle.cat_model.specs.View.{live_rows, row_matches}
@@ -20,5 +20,6 @@ loop-leaf-preserved c =
     record {
       total = total_more q leaves i c.leaf-item.result c.leaf-item.is c.loop-leaf-test.true c.in_ok-hits.hits c.in_ok-hits.ensures.ok c.in_ok-hits.ensures.long c.loop-leaf.total c.in_ok-total.total c.loop-leaf.invariant.total c.in_ok-total.ensures.ok;
       taken = c.in_ok-take_rows.ensures.taken places c.loop-leaf.invariant.taken
-          ∙ ap (take c.args.n) (places_more q leaves i c.leaf-item.result c.leaf-item.is c.loop-leaf-test.true c.in_ok-hits.hits c.in_ok-hits.ensures.ok mark Added model.Sort.added c.segment.result.now c.of-ranks.result c.segment.ensures c.of-ranks.ensures);
+          ∙ ap (λ qs. take c.args.n (places ++ qs)) (rw c.of-ranks.ensures c.pass_mark.ensures.passed)
+          ∙ ap (take c.args.n) (places_more q leaves i c.leaf-item.result c.leaf-item.is c.loop-leaf-test.true c.in_ok-hits.hits c.in_ok-hits.ensures.ok mark Added model.Sort.added c.segment-segment.result.now c.of-ranks.result c.segment-segment.ensures c.of-ranks.ensures);
     }

@@ -1,0 +1,34 @@
+-- The hits that stand before a mark in order of addition.
+use Rattle.std.proofs.Common.{◌≡◌, ℕ, zero, suc, ◌+◌, ◌<◌, ◌≤◌, List, [], ◌∷◌, ◌++◌, length, map, filter, replicate, drop, get_or, ltb, Bool, true, false, cond, refl, sym, ap, ◌∙◌, arith}
+use Rattle.std.proofs.lemmas.Bool.Decides.{nat_tests}
+use Rattle.cat_model.specs.Page.{Sort}
+use Rattle.cat_model.specs.View.{Row, marked}
+use Rattle.cat_model.proofs.HitOrder.{is_lt-nat_cmp}
+use Rattle.cat_search.specs.declared.sort.Order.TheVariants as order
+use Rattle.cat_search.specs.Keys.{Rank, Place, place_before}
+use Rattle.cat_search.specs.Views.{place_in}
+
+abbrev added : Row → Place
+added row = place_in order.Added Sort.added row
+
+-- a mark without a key doesn't come before a row that an earlier write put, or the same
+not_beyond : (m : Place) (row : Row) → m.rank ≡ Rank.missing → row.number ≤ m.number → place_before m (added row) ≡ false
+not_beyond m row is le =
+    let up : ltb m.number row.number ≡ false = grind (arith, nat_tests, le) in
+    rw is (is_lt-nat_cmp m.number row.number ∙ up)
+
+pub passed : (m : Place) (k : ℕ) (set : List Bool) (rows : List Row) → m.rank ≡ Rank.missing → ((i : ℕ) (d : Row) → i < k → i < length rows → (get_or rows i d).number ≤ m.number)
+    → filter (place_before m) (marked (replicate k false ++ drop k set) (map added rows)) ≡ filter (place_before m) (marked set (map added rows))
+passed m zero set rows is up_to = refl
+passed m (suc k) [] rows is up_to = none k rows
+  where
+    none : (j : ℕ) (rs : List Row) → filter (place_before m) (marked (replicate (suc j) false ++ []) (map added rs)) ≡ []
+    none j [] = refl
+    none zero (r ∷ rs) = refl
+    none (suc j) (r ∷ rs) = none j rs
+passed m (suc k) (b ∷ bs) [] is up_to = refl
+passed m (suc k) (true ∷ bs) (r ∷ rows) is up_to =
+    let here : place_before m (added r) ≡ false = not_beyond m r is (up_to 0 r (omega arith) (omega arith)) in
+    let rest = passed m k bs rows is (λ i d lt within. up_to (suc i) d (omega arith) (omega arith)) in
+    rw here rest
+passed m (suc k) (false ∷ bs) (r ∷ rows) is up_to = passed m k bs rows is (λ i d lt within. up_to (suc i) d (omega arith) (omega arith))
