@@ -1,15 +1,16 @@
 -- The rows of a set, one after another.
-use Rattle.std.proofs.Common.{◌≡◌, ℕ, zero, suc, ◌+◌, ◌-◌, ◌*◌, ◌/◌, ◌%◌, ◌^◌, ◌<◌, ◌≤◌, Bool, true, false, cond, eqb, List, [], ◌∷◌, ◌++◌, length, filter, get_or, refl, sym, ap, ◌∙◌, arith, inl, inr, eq-eqb, w64}
-use Rattle.std.specs.Int.{bit_at, trailing_zeros}
+use Rattle.std.proofs.Common.{◌≡◌, ℕ, zero, suc, ◌+◌, ◌-◌, ◌*◌, ◌/◌, ◌%◌, ◌^◌, ◌<◌, ◌≤◌, Bool, true, false, ◌&&◌, cond, eqb, List, [], ◌∷◌, ◌++◌, length, filter, get_or, refl, sym, ap, ◌∙◌, arith, inl, inr, eq-eqb}
+use Rattle.std.specs.Prelude.{bit_and}
+use Rattle.std.specs.Int.{bit_at}
 use Rattle.std.specs.List.{range_with_len}
-use Rattle.std.proofs.lemmas.Bool.{cases_lt, cond-true, cond-false}
-use Rattle.std.proofs.lemmas.Nat.{shr-shr, shr_le}
-use Rattle.std.proofs.lemmas.Nat.Bits.{bit_at_above, bit_at-zero, bit_at-trailing_zeros}
+use Rattle.std.proofs.lemmas.Bool.{cases_eq, cases_lt, ne_eqb, cond-true, cond-false}
+use Rattle.std.proofs.lemmas.Nat.{shr-shr}
+use Rattle.std.proofs.lemmas.Nat.Bits.{bit_at-zero, bit_at-suc, bit_at_lowest}
 use Rattle.std.proofs.lemmas.List.Elements.{filter-append}
 use Rattle.std.proofs.lemmas.List.{append-nil}
 use Rattle.cat_model.specs.RowSets.{places}
-use Rattle.cat_values.specs.Bits.{has_bit, is_set, flags_of, IsBits, rows_from, IsFirstFrom, NoneFrom}
-use Rattle.cat_values.proofs.Bits.{flags-length, flag_at}
+use Rattle.cat_values.specs.Bits.{has_bit, is_set, flags_of, IsBits, rows_from, is_left, rows_left, IsFirstWord, IsLowestBit, NoWordFrom}
+use Rattle.cat_values.proofs.Bits.{has_bit-and, has_bit-zero, flags-length, flag_at}
 use Rattle.cat_values.proofs.Counts.{range_split}
 
 pub shifted_bit : (w k i : ℕ) → bit_at (w / 2 ^ k) i ≡ bit_at w (k + i)
@@ -19,56 +20,6 @@ pub no_bit : (w k i : ℕ) → w / 2 ^ k ≡ 0 → k ≤ i → has_bit w i ≡ f
 no_bit w k i none le =
     let at : i ≡ k + (i - k) = omega arith in
     ap (has_bit w) at ∙ ap (λ n. eqb n 1) (sym (shifted_bit w k (i - k)) ∙ ap (λ n. bit_at n (i - k)) none ∙ bit_at-zero (i - k))
-
-record FirstBit (w k t : ℕ) : Type 0 where
-  within : k + t < 64
-  is_in : has_bit w (k + t) ≡ true
-  between : (i : ℕ) → k ≤ i → i < k + t → has_bit w i ≡ false
-
-first_bit : (w k : ℕ) → w < 2 ^ 64 → k < 64 → 0 < w / 2 ^ k → FirstBit w k (trailing_zeros w64 (w / 2 ^ k))
-first_bit w k fits lt some =
-    let t : ℕ = trailing_zeros w64 (w / 2 ^ k) in
-    let found = bit_at-trailing_zeros w64 (w / 2 ^ k) some (omega (arith, shr_le w k)) in
-    let here : bit_at w (k + t) ≡ 1 = sym (shifted_bit w k t) ∙ found.1 in record {
-      within = elim (cases_lt (k + t) 64) [
-        | inl small ↦ small
-        | inr large ↦ absurd (let gone : bit_at w (k + t) ≡ 0 = bit_at_above w 64 (k + t) fits large in omega arith)
-      ];
-      is_in = eq-eqb (bit_at w (k + t)) 1 here;
-      between = λ i low high.
-          let at : i ≡ k + (i - k) = omega arith in
-          ap (has_bit w) at ∙ ap (λ n. eqb n 1) (sym (shifted_bit w k (i - k)) ∙ found.2 (i - k) (omega arith));
-    }
-
--- A word is shifted until its first row stands lowest.
-pub first_in_word : (words : List ℕ) (from at : ℕ) → from ≤ at → at / 64 < length words → ((r : ℕ) → from ≤ r → r < at → is_set words r ≡ false)
-    → get_or words (at / 64) 0 < 2 ^ 64 → 0 < get_or words (at / 64) 0 / 2 ^ (at % 64)
-    → IsFirstFrom words from (at + trailing_zeros w64 (get_or words (at / 64) 0 / 2 ^ (at % 64)))
-first_in_word words from at le in_words passed fits some =
-    let w : ℕ = get_or words (at / 64) 0 in
-    let t : ℕ = trailing_zeros w64 (w / 2 ^ (at % 64)) in
-    let found : FirstBit w (at % 64) t = first_bit w (at % 64) fits (omega arith) some in
-    let small : at % 64 + t < 64 = found.within in
-    let row_of : (i : ℕ) → at ≤ i → i ≤ at + t → is_set words i ≡ has_bit w (i % 64) =
-    λ i low high. let same : i / 64 ≡ at / 64 = omega arith in ap (λ k. has_bit (get_or words k 0) (i % 64)) same in record {
-      after = omega arith;
-      within = omega arith;
-      is_in = let bit : (at + t) % 64 ≡ at % 64 + t = omega arith in row_of (at + t) (omega arith) (omega arith) ∙ ap (has_bit w) bit ∙ found.is_in;
-      between = λ r low high. elim (cases_lt r at) [
-        | inl before ↦ passed r low before
-        | inr later ↦ row_of r later (omega arith) ∙ found.between (r % 64) (omega arith) (omega arith)
-      ];
-    }
-
-pub none_in_word : (words : List ℕ) (from at : ℕ) → ((r : ℕ) → from ≤ r → r < at → is_set words r ≡ false)
-    → get_or words (at / 64) 0 / 2 ^ (at % 64) ≡ 0 → (r : ℕ) → from ≤ r → r < (at / 64 + 1) * 64 → is_set words r ≡ false
-none_in_word words from at passed none r low high =
-    elim (cases_lt r at) [
-      | inl before ↦ passed r low before
-      | inr later ↦
-          let same : r / 64 ≡ at / 64 = omega arith in
-          ap (λ k. has_bit (get_or words k 0) (r % 64)) same ∙ no_bit (get_or words (at / 64) 0) (at % 64) (r % 64) none (omega arith)
-    ]
 
 filter_none : (p : ℕ → Bool) (a n : ℕ) → ((r : ℕ) → a ≤ r → r < a + n → p r ≡ false) → filter p (range_with_len a n) ≡ []
 filter_none p a zero none = refl
@@ -86,20 +37,135 @@ filter_split : (p : ℕ → Bool) (a m n k : ℕ) → k ≡ m + n → filter p (
 filter_split p a m n k e =
     ap (λ j. filter p (range_with_len a j)) e ∙ ap (filter p) (range_split a m n) ∙ filter-append p (range_with_len a m) (range_with_len (a + m) n)
 
-pub rows_from-none : (words : List ℕ) (from : ℕ) → NoneFrom words from → rows_from words from ≡ []
-rows_from-none words from none = filter_none (is_set words) from (64 * length words - from) (λ r low high. none r low)
+-- A filter begins where it first may have a row.
+filter_from : (p : ℕ → Bool) (a n b : ℕ) → a ≤ b → b ≤ a + n → ((r : ℕ) → a ≤ r → r < b → p r ≡ false)
+    → filter p (range_with_len a n) ≡ filter p (range_with_len b (a + n - b))
+filter_from p a n b le within none =
+    let at : a + (b - a) ≡ b = omega arith in
+    filter_split p a (b - a) (a + n - b) n (omega arith)
+    ∙ ap (λ l. l ++ filter p (range_with_len (a + (b - a)) (a + n - b))) (filter_none p a (b - a) (λ r low high. none r low (omega arith)))
+    ∙ ap (λ k. filter p (range_with_len k (a + n - b))) at
 
-pub rows_from-first : (words : List ℕ) (from row : ℕ) → IsFirstFrom words from row → rows_from words from ≡ row ∷ rows_from words (row + 1)
-rows_from-first words from row is =
-    let p : ℕ → Bool = is_set words in
-    let le : from ≤ row = is.after in
-    let lt : row < 64 * length words = is.within in
-    let rest : ℕ = 64 * length words - (row + 1) in
-    let at : from + (row - from) ≡ row = omega arith in
-    filter_split p from (row - from) (suc rest) (64 * length words - from) (omega arith)
-    ∙ ap (λ l. l ++ filter p (range_with_len (from + (row - from)) (suc rest))) (filter_none p from (row - from) (λ r low high. is.between r low (omega arith)))
-    ∙ ap (λ k. filter p (range_with_len k (suc rest))) at
-    ∙ cond-true (p row) (row ∷ filter p (range_with_len (row + 1) rest)) (filter p (range_with_len (row + 1) rest)) is.is_in
+-- The first row that one filter has, and then those of another, which has the others.
+filter_first : (p q : ℕ → Bool) (a n row : ℕ) → a ≤ row → row < a + n → p row ≡ true
+    → ((r : ℕ) → a ≤ r → r < row → p r ≡ false) → ((r : ℕ) → a ≤ r → r < row + 1 → q r ≡ false) → ((r : ℕ) → row < r → p r ≡ q r)
+    → filter p (range_with_len a n) ≡ row ∷ filter q (range_with_len a n)
+filter_first p q a n row le within is_in before gone later =
+    let rest : ℕ = a + n - (row + 1) in
+    let more : a + n - row ≡ suc rest = omega arith in
+    filter_from p a n row le (omega arith) before
+    ∙ ap (λ k. filter p (range_with_len row k)) more
+    ∙ cond-true (p row) (row ∷ filter p (range_with_len (row + 1) rest)) (filter p (range_with_len (row + 1) rest)) is_in
+    ∙ ap (λ l. row ∷ l) (filter_same p q (row + 1) rest (λ r low high. later r (omega arith)) ∙ sym (filter_from q a n (row + 1) (omega arith) (omega arith) gone))
+
+-- What `n - 1` does to the bits of n from the lowest 1 on.
+borrowed : (t n : ℕ) → bit_at n t ≡ 1 → ((i : ℕ) → i < t → bit_at n i ≡ 0) → bit_at (n - 1) t ≡ 0
+borrowed zero n here below = bit_at_lowest (n - 1) ∙ omega (arith, sym (bit_at_lowest n) ∙ here)
+borrowed (suc t) n here below =
+    let half : (n - 1) / 2 ≡ n / 2 - 1 = omega (arith, sym (bit_at_lowest n) ∙ below 0 (omega arith)) in
+    bit_at-suc (n - 1) t ∙ ap (λ m. bit_at m t) half
+    ∙ borrowed t (n / 2) (sym (bit_at-suc n t) ∙ here) (λ i lt. sym (bit_at-suc n i) ∙ below (suc i) (omega arith))
+
+above_borrowed : (t n i : ℕ) → bit_at n t ≡ 1 → ((i : ℕ) → i < t → bit_at n i ≡ 0) → t < i → bit_at (n - 1) i ≡ bit_at n i
+above_borrowed t n zero here below lt = absurd (omega arith)
+above_borrowed zero n (suc i) here below lt =
+    let half : (n - 1) / 2 ≡ n / 2 = omega (arith, sym (bit_at_lowest n) ∙ here) in
+    bit_at-suc (n - 1) i ∙ ap (λ m. bit_at m i) half ∙ sym (bit_at-suc n i)
+above_borrowed (suc t) n (suc i) here below lt =
+    let half : (n - 1) / 2 ≡ n / 2 - 1 = omega (arith, sym (bit_at_lowest n) ∙ below 0 (omega arith)) in
+    bit_at-suc (n - 1) i ∙ ap (λ m. bit_at m i) half
+    ∙ above_borrowed t (n / 2) i (sym (bit_at-suc n t) ∙ here) (λ j le. sym (bit_at-suc n j) ∙ below (suc j) (omega arith)) (omega arith)
+    ∙ sym (bit_at-suc n i)
+
+-- `n & (n - 1)` has the bits of n but for the lowest 1.
+record Cleared (n t : ℕ) : Type 0 where
+  up_to : (i : ℕ) → i ≤ t → has_bit (bit_and n (n - 1)) i ≡ false
+  above : (i : ℕ) → t < i → has_bit n i ≡ has_bit (bit_and n (n - 1)) i
+
+lowest_cleared : (n t : ℕ) → bit_at n t ≡ 1 → ((i : ℕ) → i < t → bit_at n i ≡ 0) → Cleared n t
+lowest_cleared n t here below = record {
+  up_to = λ i le. has_bit-and n (n - 1) i ∙ elim (cases_lt i t) [
+    | inl lt ↦ ap (λ b. eqb b 1 && has_bit (n - 1) i) (below i lt)
+    | inr from ↦
+        let same : i ≡ t = omega arith in
+        ap (λ k. has_bit n k && has_bit (n - 1) k) same ∙ ap (λ b. eqb b 1 && has_bit (n - 1) t) here ∙ ap (λ b. eqb b 1) (borrowed t n here below)
+  ];
+  above = λ i lt. sym (has_bit-and n (n - 1) i ∙ ap (λ b. has_bit n i && eqb b 1) (above_borrowed t n i here below lt) ∙ twice (has_bit n i));
+}
+  where
+    twice : (b : Bool) → (b && b) ≡ b
+    twice true = refl
+    twice false = refl
+
+in_word : (words : List ℕ) (place left r : ℕ) → 64 * place ≤ r → r < 64 * place + 64 → is_left words place left r ≡ has_bit left (r - 64 * place)
+in_word words place left r low high =
+    let word : r / 64 ≡ place = omega arith in
+    let bit : r % 64 ≡ r - 64 * place = omega arith in
+    cond-true (eqb (r / 64) place) (has_bit left (r % 64)) (is_set words r) (eq-eqb (r / 64) place word) ∙ ap (has_bit left) bit
+
+behind_word : (words : List ℕ) (place left r : ℕ) → 64 * place + 64 ≤ r → is_left words place left r ≡ is_set words r
+behind_word words place left r low = cond-false (eqb (r / 64) place) (has_bit left (r % 64)) (is_set words r) (ne_eqb (r / 64) place (λ e. omega arith))
+
+whole_word : (words : List ℕ) (place r : ℕ) → is_left words place (get_or words place 0) r ≡ is_set words r
+whole_word words place r =
+    elim (cases_eq (r / 64) place) [
+      | inl same ↦
+          cond-true (eqb (r / 64) place) (has_bit (get_or words place 0) (r % 64)) (is_set words r) (eq-eqb (r / 64) place same)
+          ∙ ap (λ k. has_bit (get_or words k 0) (r % 64)) (sym same)
+      | inr apart ↦ cond-false (eqb (r / 64) place) (has_bit (get_or words place 0) (r % 64)) (is_set words r) (ne_eqb (r / 64) place apart)
+    ]
+
+none_between : (words : List ℕ) (place left next : ℕ) → left ≡ 0 → ((k : ℕ) → place + 1 ≤ k → k < next → get_or words k 0 ≡ 0)
+    → (r : ℕ) → 64 * place ≤ r → r < 64 * next → is_left words place left r ≡ false
+none_between words place left next none between r low high =
+    elim (cases_lt r (64 * place + 64)) [
+      | inl here ↦ in_word words place left r low here ∙ ap (λ w. has_bit w (r - 64 * place)) none ∙ has_bit-zero (r - 64 * place)
+      | inr behind ↦
+          behind_word words place left r behind ∙ ap (λ w. has_bit w (r % 64)) (between (r / 64) (omega arith) (omega arith)) ∙ has_bit-zero (r % 64)
+    ]
+
+pub rows_left-none : (words : List ℕ) (place left : ℕ) → left ≡ 0 → NoWordFrom words (place + 1) → rows_left words place left ≡ []
+rows_left-none words place left none past =
+    filter_none (is_left words place left) (64 * place) (64 * length words - 64 * place)
+    (λ r low high. none_between words place left (r / 64 + 1) none (λ k from below. past k from) r low (omega arith))
+
+-- The next word that has a row is taken in hand.
+pub rows_left-word : (words : List ℕ) (place left next word : ℕ) → left ≡ 0 → IsFirstWord words (place + 1) next word
+    → rows_left words place left ≡ rows_left words next word
+rows_left-word words place left next word none is =
+    let after : place + 1 ≤ next = is.after in
+    let within : next < length words = is.within in
+    let rest : 64 * place + (64 * length words - 64 * place) - 64 * next ≡ 64 * length words - 64 * next = omega arith in
+    filter_from (is_left words place left) (64 * place) (64 * length words - 64 * place) (64 * next) (omega arith) (omega arith)
+    (none_between words place left next none is.between)
+    ∙ ap (λ k. filter (is_left words place left) (range_with_len (64 * next) k)) rest
+    ∙ filter_same (is_left words place left) (is_left words next (get_or words next 0)) (64 * next) (64 * length words - 64 * next)
+    (λ r low high. behind_word words place left r (omega arith) ∙ sym (whole_word words next r))
+    ∙ ap (rows_left words next) is.is
+
+-- The lowest row of the word in hand is given.
+pub rows_left-row : (words : List ℕ) (place left bit : ℕ) → place < length words → IsLowestBit left bit
+    → rows_left words place left ≡ (64 * place + bit) ∷ rows_left words place (bit_and left (left - 1))
+rows_left-row words place left bit within is =
+    let small : bit < 64 = is.within in
+    let at : 64 * place + bit - 64 * place ≡ bit = omega arith in
+    let cleared : Cleared left bit = lowest_cleared left bit is.is_in is.below in
+    filter_first (is_left words place left) (is_left words place (bit_and left (left - 1))) (64 * place) (64 * length words - 64 * place) (64 * place + bit)
+    (omega arith) (omega arith)
+    (in_word words place left (64 * place + bit) (omega arith) (omega arith) ∙ ap (has_bit left) at ∙ ap (λ b. eqb b 1) is.is_in)
+    (λ r low high. in_word words place left r low (omega arith) ∙ ap (λ b. eqb b 1) (is.below (r - 64 * place) (omega arith)))
+    (λ r low high. in_word words place (bit_and left (left - 1)) r low (omega arith) ∙ cleared.up_to (r - 64 * place) (omega arith))
+    (λ r low. elim (cases_lt r (64 * place + 64)) [
+      | inl here ↦
+          in_word words place left r (omega arith) here ∙ cleared.above (r - 64 * place) (omega arith)
+          ∙ sym (in_word words place (bit_and left (left - 1)) r (omega arith) here)
+      | inr behind ↦ behind_word words place left r behind ∙ sym (behind_word words place (bit_and left (left - 1)) r behind)
+    ])
+
+pub rows_left-start : (words : List ℕ) (left : ℕ) → left ≡ get_or words 0 0 → rows_left words 0 left ≡ rows_from words 0
+rows_left-start words left e =
+    ap (λ w. rows_left words 0 w) e
+    ∙ filter_same (is_left words 0 (get_or words 0 0)) (is_set words) 0 (64 * length words - 0) (λ r low high. whole_word words 0 r)
 
 -- From the first row on, they are the places of the flags.
 pub rows_from-start : (rows : ℕ) (words words' : List ℕ) (v : List Bool) → IsBits rows words → flags_of rows words ≡ v → words' ≡ words → rows_from words' 0 ≡ places v

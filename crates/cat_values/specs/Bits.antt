@@ -1,5 +1,5 @@
 -- Sets of rows as words of 64 bits, lowest bit first, seen as one truth value for each row.
-use Rattle.std.specs.Prelude.{◌≡◌, ℕ, ◌+◌, ◌-◌, ◌*◌, ◌/◌, ◌%◌, ◌^◌, ◌<◌, ◌≤◌, Bool, true, false, ◌==◌, List, length, map, filter, slice_index}
+use Rattle.std.specs.Prelude.{◌≡◌, ℕ, ◌+◌, ◌-◌, ◌*◌, ◌/◌, ◌%◌, ◌^◌, ◌<◌, ◌≤◌, Bool, false, ◌==◌, List, length, map, filter, slice_index, if◌then◌else◌}
 use Rattle.std.specs.Int.{bit_at}
 use Rattle.std.specs.List.{range_with_len}
 
@@ -29,13 +29,28 @@ pub record IsBits (len : ℕ) (words : List ℕ) : Type 0 where
 abbrev pub rows_from : List ℕ → ℕ → List ℕ
 rows_from words from = filter (is_set words) (range_with_len from (64 * length words - from))
 
--- the first row of the set from a row on
-pub record IsFirstFrom (words : List ℕ) (from row : ℕ) : Type 0 where
-  pub after : from ≤ row
-  pub within : row < 64 * length words
-  pub is_in : is_set words row ≡ true
-  pub between : (r : ℕ) → from ≤ r → r < row → is_set words r ≡ false
+-- the row is in the set, and of the word at this place only these bits are left
+abbrev pub is_left : List ℕ → ℕ → ℕ → ℕ → Bool
+is_left words place left row = if row / 64 == place then has_bit left (row % 64) else is_set words row
 
--- no row of the set from a row on
-abbrev pub NoneFrom : List ℕ → ℕ → Type 0
-NoneFrom words from = (r : ℕ) → from ≤ r → is_set words r ≡ false
+-- the rows of these bits of the word at this place and of all words behind it, rising
+abbrev pub rows_left : List ℕ → ℕ → ℕ → List ℕ
+rows_left words place left = filter (is_left words place left) (range_with_len (64 * place) (64 * length words - 64 * place))
+
+-- the first word from a place on that has a row, and its place
+pub record IsFirstWord (words : List ℕ) (from place word : ℕ) : Type 0 where
+  pub after : from ≤ place
+  pub within : place < length words
+  pub is : slice_index words place ≡ word
+  pub some : 0 < word
+  pub between : (k : ℕ) → from ≤ k → k < place → slice_index words k ≡ 0
+
+-- no word from a place on has a row
+abbrev pub NoWordFrom : List ℕ → ℕ → Type 0
+NoWordFrom words from = (k : ℕ) → from ≤ k → slice_index words k ≡ 0
+
+-- the place of the lowest bit that is 1
+pub record IsLowestBit (word place : ℕ) : Type 0 where
+  pub within : place < 64
+  pub is_in : bit_at word place ≡ 1
+  pub below : (i : ℕ) → i < place → bit_at word i ≡ 0
