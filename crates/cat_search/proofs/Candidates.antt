@@ -58,7 +58,7 @@ ranks_alike Missing (Rising l) = refl
 ranks_alike Missing (Falling l) = refl
 ranks_alike Missing Missing = refl
 
-seen_before : (a b : Candidate) → comes_first a b ≡ place_before (seen a) (seen b)
+pub seen_before : (a b : Candidate) → comes_first a b ≡ place_before (seen a) (seen b)
 seen_before a b = ap (λ o. is_lt (ordering_then o (nat_cmp a.number b.number))) (ranks_alike a.rank b.rank)
 
 pub best_places : (kept : Kept Candidate) (places : List Place) → IsBestAt kept places → map seen kept.items ≡ take kept.limit (sorted place_before places)

@@ -2,6 +2,7 @@ pub mod InOrder
 pub mod Inserting
 pub mod Fields
 pub mod Candidates
+pub mod Bars
 pub mod Passed
 pub mod Passes
 pub mod Marks

@@ -4,3 +4,4 @@ pub mod Sorts
 pub mod Seen
 pub mod Pages
 pub mod Views
+pub mod Bars

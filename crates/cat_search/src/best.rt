@@ -1,5 +1,5 @@
 //! The least so many of what is offered, one after another.
-ghost use Rattle.std.specs.Prelude.{◌≡◌, ◌≤◌, ◌++◌, List, [], ◌∷◌, length, take, AllPairs, OnOk, IfErr, OnErr, IsTrue};
+ghost use Rattle.std.specs.Prelude.{◌≡◌, ◌≤◌, ◌++◌, List, [], ◌∷◌, length, take, false, AllPairs, OnOk, IfErr, OnErr, IfSome, IsTrue};
 ghost use Rattle.std.specs.List.{insert};
 ghost use Rattle.cat_base.specs.declared.refusal.Refusal.TheVariants.{Memory};
 ghost use Rattle.cat_model.specs.Page.{first_ranked};
@@ -54,6 +54,18 @@ impl<T: Ord + Drop> Best<T> {
             None => self.limit == 0,
             Some(last) => self.items.len() >= self.limit && item.cmp(last).is_ge(),
         }
+    }
+
+    /// The last item that is kept, where there is no room for more: what doesn't come before it would be left out.
+    pub(crate) fn last_if_full(&self) -> Option<&T>
+        ensures { IfSome result (λ last. (offered : List T) (item : T) → less T.cmp item last.now ≡ false
+            → IsBestOf (less T.cmp) self.now offered → IsBestOf (less T.cmp) self.now (offered ++ item ∷ [])) }
+    {
+        let last = self.items.back()?;
+        if self.items.len() < self.limit {
+            return None;
+        }
+        Some(last)
     }
 
     /// Where the item belongs: behind those that it doesn't come before.

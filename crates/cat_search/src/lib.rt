@@ -2,6 +2,7 @@
 //! by.
 #![tactic(auto)]
 
+mod bar;
 mod best;
 mod entries;
 mod gathering;

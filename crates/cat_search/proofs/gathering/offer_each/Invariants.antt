@@ -3,7 +3,7 @@ use Rattle.cat_model.specs.RowSets.{places}
 use Rattle.cat_search.specs.Keys.{Place}
 use Rattle.cat_search.specs.Seen.{seen, IsBestAt}
 use Rattle.cat_search.proofs.Gathered.{placed}
-use Rattle.cat_search.proofs.gathering.offer_rows.Given as goal
+use Rattle.cat_search.proofs.gathering.offer_each.Given as goal
 
 abbrev pub invariant-loop-row : goal.invariant-loop-row
 invariant-loop-row l = record {
