@@ -1,227 +1,98 @@
--- What a bar keeps out would come after all that is kept, or not after the mark.
-use Rattle.std.proofs.Common.{◌≡◌, ◌++◌, ◌∷◌, [], ◌&&◌, ℕ, zero, suc, get_or, ℤ, List, map, cond, Option, Some, None, option_map, Bool, true, false, is_none, is_some, length, inl, inr, ◌⊎◌, refl, sym, ◌∙◌, ap, subst, append-nil}
-use Rattle.std.specs.Prelude.{IfSome, not, slice_index_or}
+-- What a bar keeps out lies outside the ends, and how the columns rank the rows.
+use Rattle.std.proofs.Common.{◌≡◌, ◌∷◌, [], ◌&&◌, ℕ, zero, suc, get_or, ℤ, List, map, Option, Some, None, option_map, Bool, true, false, length, refl, sym, ◌∙◌, ap, arith}
+use Rattle.std.specs.Prelude.{slice_index_or}
 use Rattle.std.specs.Borrow.{Bor}
-use Rattle.std.proofs.Common.{arith}
+use Rattle.std.specs.Ordering.{is_le, int_cmp}
 use Rattle.std.proofs.lemmas.Int.{ints}
-use Rattle.std.proofs.lemmas.List.{length-map, map-append}
-use Rattle.std.specs.declared.cmp.Ordering.TheVariants.{Greater}
-use Rattle.std.specs.Ordering.{is_lt, int_cmp, nat_cmp, ordering_then}
+use Rattle.std.proofs.lemmas.List.{length-map}
 use Rattle.cat_model.specs.Item.{Content}
 use Rattle.cat_model.specs.Page.{Key, key_in}
 use Rattle.cat_model.specs.Query.{open_or, int_le}
+use Rattle.cat_model.specs.Text.{Text}
 use Rattle.cat_model.specs.View.{Row}
 use Rattle.cat_segment.specs.Contents.{contents_of}
 use Rattle.cat_segment.specs.declared.column.Column.{Column}
 use Rattle.cat_segment.specs.declared.column.Column.TheVariants as columns
-use Rattle.cat_search.specs.Bars.{AreRanked, HasNumber, MarkHas, LastHas, IsFullBy, IsBarOf, number_rank}
-use Rattle.cat_search.specs.declared.keys.KeyRef.{KeyRef}
-use Rattle.cat_search.specs.declared.keys.KeyRef.TheVariants.{Number, Keyword}
-use Rattle.cat_search.specs.declared.places.Candidate.{Candidate}
-use Rattle.cat_search.specs.declared.places.Rank as declared
-use Rattle.cat_search.specs.declared.places.Rank.TheVariants.{Rising, Falling, Missing}
+use Rattle.cat_search.specs.Bars.{AreRanked, AreEndsOf, IsBarOf, key_le, number_of}
+use Rattle.cat_search.specs.declared.ends.Ends.{Ends}
 use Rattle.cat_search.specs.declared.sort.Order.{Order}
 use Rattle.cat_search.specs.declared.sort.Order.TheVariants as order
-use Rattle.cat_search.specs.Keys.{Place, Rank, rank_cmp, place_before, key_seen}
-use Rattle.cat_search.specs.Kept.{Kept, IsBestOf}
-use Rattle.cat_search.specs.Pages.{beyond}
+use Rattle.cat_search.specs.Keys.{Place, Rank, key_seen}
+use Rattle.cat_search.specs.Kept.{Kept}
+use Rattle.cat_search.specs.Pages.{rank_with}
 use Rattle.cat_search.specs.Views.{keys_by, places_by}
-use Rattle.cat_search.specs.Seen.{seen, seen_rank, comes_first, IsBestAt}
-use Rattle.cat_search.proofs.Candidates.{seen_before}
+use Rattle.cat_search.specs.declared.places.Candidate.{Candidate}
 use Rattle.cat_search.proofs.Gathered.{none}
 
--- ---- a candidate that has the place
+-- ---- the bar of numbers
 
-abbrev key_of : Key → KeyRef
-key_of (Key.number z) = Number z
-key_of (Key.keyword t) = Keyword (record { ref_ptr = (0, 0); now = t })
+number_over : (a b : ℤ) → int_le a b ≡ false → is_le (int_cmp a b) ≡ false
+number_over a b e = grind (arith, ints, e)
 
-abbrev rank_of : Rank → declared.Rank
-rank_of (Rank.rising k) = Rising (key_of k)
-rank_of (Rank.falling k) = Falling (record { 0 = key_of k })
-rank_of Rank.missing = Missing
+low_over : (low : Option Key) (n : ℤ) → open_or (λ a. int_le a n) (number_of low) ≡ false → open_or (λ a. key_le a (Key.number n)) low ≡ false
+low_over None n e = e
+low_over (Some (Key.number a)) n e = number_over a n e
+low_over (Some (Key.keyword t)) n e = absurd (cc)
 
-abbrev candidate_of : Place → Candidate
-candidate_of p = record { rank = rank_of p.rank; number = p.number; id = record { ref_ptr = (0, 0); now = p.id } }
+high_under : (high : Option Key) (n : ℤ) → open_or (int_le n) (number_of high) ≡ false → open_or (key_le (Key.number n)) high ≡ false
+high_under None n e = e
+high_under (Some (Key.number a)) n e = number_over n a e
+high_under (Some (Key.keyword t)) n e = absurd (cc)
 
-key-of : (k : Key) → key_seen (key_of k) ≡ k
-key-of (Key.number z) = refl
-key-of (Key.keyword t) = refl
+-- what one of two tests refuses, a stricter pair refuses
+pub either_refuses : (a b c d : Bool) → (a ≡ false → c ≡ false) → (b ≡ false → d ≡ false) → (a && b) ≡ false → (c && d) ≡ false
+either_refuses true b c d f g e = ap (λ x. c && x) (g e) ∙ never c
+  where
+    never : (x : Bool) → (x && false) ≡ false
+    never true = refl
+    never false = refl
+either_refuses false b c d f g e = ap (λ x. x && d) (f refl)
 
-rank-of : (r : Rank) → seen_rank (rank_of r) ≡ r
-rank-of (Rank.rising k) = ap Rank.rising (key-of k)
-rank-of (Rank.falling k) = ap Rank.falling (key-of k)
-rank-of Rank.missing = refl
+pub bar_of : (o : Order) (mark : Option Place) (kept : Kept Candidate) (ends : Ends) (low high : Option ℤ) → AreEndsOf o mark kept ends
+    → low ≡ number_of (option_map key_seen ends.low) → high ≡ number_of (option_map key_seen ends.high) → IsBarOf o mark kept (record { low = low; high = high; missing = ends.missing })
+bar_of o mark kept ends low high h a b None e = h None e
+bar_of o mark kept ends low high h a b (Some n) e =
+    h (Some (Key.number n)) (either_refuses (open_or (λ x. int_le x n) low) (open_or (int_le n) high) (open_or (λ x. key_le x (Key.number n)) (option_map key_seen ends.low)) (open_or (key_le (Key.number n)) (option_map key_seen ends.high))
+    (λ x. low_over (option_map key_seen ends.low) n (ap (open_or (λ y. int_le y n)) (sym a) ∙ x)) (λ x. high_under (option_map key_seen ends.high) n (ap (open_or (int_le n)) (sym b) ∙ x)) e)
 
-place-of : (p : Place) → seen (candidate_of p) ≡ p
-place-of p = λ i. record { rank = (rank-of p.rank) i; number = p.number; id = p.id }
+-- ---- the ranks of a column of numbers or keywords
 
--- ---- a page that is full
+module _ {X : Type 0} (key : X → Key) (make : Option X → Content) (same : (v : Option X) → key_in (Some (make v)) ≡ option_map key v) (o : Order) where
+  ranks-by : (vs : List (Option X)) (rows : List Row) → length (map (λ x. key_in (Some x)) (map make vs)) ≡ length rows
+      → map (λ p. p.rank) (places_by o (map (λ x. key_in (Some x)) (map make vs)) rows) ≡ map (λ v. rank_with o (option_map key v)) vs
+  ranks-by [] rows e = refl
+  ranks-by (v ∷ vs) [] e = absurd (omega arith)
+  ranks-by (v ∷ vs) (row ∷ rows) e = ap (λ k. rank_with o k ∷ map (λ p. p.rank) (places_by o (map (λ x. key_in (Some x)) (map make vs)) rows)) (same v) ∙ ap (λ rs. rank_with o (option_map key v) ∷ rs) (ranks-by vs rows (omega arith))
 
-pub full_by : (kept : Kept Candidate) (last : Candidate) → ((offered : List Candidate) (item : Candidate) → comes_first item last ≡ false → IsBestOf comes_first kept offered → IsBestOf comes_first kept (offered ++ item ∷ [])) → IsFullBy kept (seen last)
-full_by kept last full p late places best =
-    let place : seen (candidate_of p) ≡ p = place-of p in (
-      best.0 ++ candidate_of p ∷ [],
-      map-append seen best.0 (candidate_of p ∷ []) ∙ ap (λ ps. ps ++ seen (candidate_of p) ∷ []) best.1 ∙ ap (λ q. places ++ q ∷ []) place,
-      full best.0 (candidate_of p) (seen_before (candidate_of p) last ∙ ap (λ q. place_before q (seen last)) place ∙ late) best.2,
-    )
+  are_ranked : (column : Option (Bor Column)) (c : Bor Column) (vs : List (Option X)) (rows : List Row) (places : List Place)
+      → column ≡ Some c → contents_of c.now ≡ map make vs → length (keys_by column (length rows)) ≡ length rows → places_by o (keys_by column (length rows)) rows ≡ places → AreRanked key o vs places
+  are_ranked column c vs rows places is made long e =
+      let keys : keys_by column (length rows) ≡ map (λ x. key_in (Some x)) (map make vs) = ap (λ k. keys_by k (length rows)) is ∙ ap (map (λ x. key_in (Some x))) made in
+      ap (map (λ p. p.rank)) (sym e) ∙ ap (λ ks. map (λ p. p.rank) (places_by o ks rows)) keys ∙ ranks-by vs rows (sym (ap length keys) ∙ long)
 
--- ---- numbers
+pub numbers_ranked : (o : Order) (column : Option (Bor Column)) (c : Bor Column) (ns : List (Option ℤ)) (rows : List Row) (places : List Place)
+    → column ≡ Some c → c.now ≡ columns.Number ns → length (keys_by column (length rows)) ≡ length rows → places_by o (keys_by column (length rows)) rows ≡ places → AreRanked Key.number o ns places
+numbers_ranked o column c ns rows places is at long e = are_ranked Key.number Content.number (λ v. refl) o column c ns rows places is (ap contents_of at) long e
 
-over : (a b : ℤ) → int_le a b ≡ false → int_cmp a b ≡ Greater
-over a b e = grind (arith, ints, e)
-
--- one of the ends keeps the number out
-which_end : (a b : Bool) → (a && b) ≡ false → (a ≡ false) ⊎ (b ≡ false)
-which_end true b e = inr e
-which_end false b e = inl refl
-
-abbrev IsFirst : Order → Option Place → Option ℤ → Type 0
-IsFirst o mark first = IfSome first (MarkHas o mark)
-
-abbrev IsLast : Order → Kept Candidate → Option ℤ → Type 0
-IsLast o kept last = IfSome last (LastHas o kept)
-
--- what is not before has a greater rank, or ties
-not_before : (p q : Place) → rank_cmp p.rank q.rank ≡ Greater → place_before p q ≡ false
-not_before p q e = ap (λ r. is_lt (ordering_then r (nat_cmp p.number q.number))) e
-
-module _ (kept : Kept Candidate) (mark : Option Place) (p : Place) (places : List Place) (best : IsBestAt kept places) where
-  abbrev Unchanged : Type 0
-  Unchanged = IsBestAt kept (places ++ cond (beyond mark p) (p ∷ []) [])
-
-  not_beyond : beyond mark p ≡ false → Unchanged
-  not_beyond e = subst (λ b. IsBestAt kept (places ++ cond b (p ∷ []) [])) (sym e) (subst (IsBestAt kept) (sym (append-nil places)) best)
-
-  too_late : (l : Place) → IsFullBy kept l → place_before p l ≡ false → Unchanged
-  too_late l full e = elim (beyond mark p) as (λ b. IsBestAt kept (places ++ cond b (p ∷ []) [])) [
-    | true ↦ full p e places best
-    | false ↦ subst (IsBestAt kept) (sym (append-nil places)) best
-  ]
-
-  -- before the mark
-  early : (m : Place) → mark ≡ Some m → rank_cmp m.rank p.rank ≡ Greater → Unchanged
-  early m is e = not_beyond (ap (λ o. beyond o p) is ∙ not_before m p e)
-
-  late : (l : Place) → IsFullBy kept l → rank_cmp p.rank l.rank ≡ Greater → Unchanged
-  late l full e = too_late l full (not_before p l e)
-
-  -- rows without a number come last
-  rising_missing : (f : ℕ) (last : Option ℤ) → IsLast (order.Rising f) kept last → p.rank ≡ Rank.missing → is_none last ≡ false → Unchanged
-  rising_missing f None is r e = absurd (cc)
-  rising_missing f (Some n) is r e = late is.0 is.2 (ap (λ q. rank_cmp q is.0.rank) r ∙ ap (rank_cmp Rank.missing) is.1)
-
-  falling_missing : (f : ℕ) (last : Option ℤ) → IsLast (order.Falling f) kept last → p.rank ≡ Rank.missing → is_none last ≡ false → Unchanged
-  falling_missing f None is r e = absurd (cc)
-  falling_missing f (Some n) is r e = late is.0 is.2 (ap (λ q. rank_cmp q is.0.rank) r ∙ ap (rank_cmp Rank.missing) is.1)
-
-  rising_low : (f : ℕ) (z : ℤ) (first : Option ℤ) → IsFirst (order.Rising f) mark first → p.rank ≡ Rank.rising (Key.number z) → open_or (λ a. int_le a z) first ≡ false → Unchanged
-  rising_low f z None is r e = absurd (cc)
-  rising_low f z (Some n) is r e = early is.0 is.1 (ap (λ q. rank_cmp q p.rank) is.2 ∙ ap (rank_cmp (Rank.rising (Key.number n))) r ∙ over n z e)
-
-  rising_high : (f : ℕ) (z : ℤ) (last : Option ℤ) → IsLast (order.Rising f) kept last → p.rank ≡ Rank.rising (Key.number z) → open_or (int_le z) last ≡ false → Unchanged
-  rising_high f z None is r e = absurd (cc)
-  rising_high f z (Some n) is r e = late is.0 is.2 (ap (λ q. rank_cmp q is.0.rank) r ∙ ap (rank_cmp (Rank.rising (Key.number z))) is.1 ∙ over z n e)
-
-  falling_low : (f : ℕ) (z : ℤ) (last : Option ℤ) → IsLast (order.Falling f) kept last → p.rank ≡ Rank.falling (Key.number z) → open_or (λ a. int_le a z) last ≡ false → Unchanged
-  falling_low f z None is r e = absurd (cc)
-  falling_low f z (Some n) is r e = late is.0 is.2 (ap (λ q. rank_cmp q is.0.rank) r ∙ ap (rank_cmp (Rank.falling (Key.number z))) is.1 ∙ over n z e)
-
-  falling_high : (f : ℕ) (z : ℤ) (first : Option ℤ) → IsFirst (order.Falling f) mark first → p.rank ≡ Rank.falling (Key.number z) → open_or (int_le z) first ≡ false → Unchanged
-  falling_high f z None is r e = absurd (cc)
-  falling_high f z (Some n) is r e = early is.0 is.1 (ap (λ q. rank_cmp q p.rank) is.2 ∙ ap (rank_cmp (Rank.falling (Key.number n))) r ∙ over z n e)
-
-pub rising_bar : (f : ℕ) (mark : Option Place) (kept : Kept Candidate) (first last : Option ℤ) → IsFirst (order.Rising f) mark first → IsLast (order.Rising f) kept last
-    → IsBarOf (order.Rising f) mark kept (record { low = first; high = last; missing = is_none last })
-rising_bar f mark kept first last a b None p r e places best = rising_missing kept mark p places best f last b r e
-rising_bar f mark kept first last a b (Some z) p r e places best = elim (which_end (open_or (λ n. int_le n z) first) (open_or (int_le z) last) e) [
-  | inl low ↦ rising_low kept mark p places best f z first a r low
-  | inr high ↦ rising_high kept mark p places best f z last b r high
-]
-
-pub falling_bar : (f : ℕ) (mark : Option Place) (kept : Kept Candidate) (first last : Option ℤ) → IsFirst (order.Falling f) mark first → IsLast (order.Falling f) kept last
-    → IsBarOf (order.Falling f) mark kept (record { low = last; high = first; missing = is_none last })
-falling_bar f mark kept first last a b None p r e places best = falling_missing kept mark p places best f last b r e
-falling_bar f mark kept first last a b (Some z) p r e places best = elim (which_end (open_or (λ n. int_le n z) last) (open_or (int_le z) first) e) [
-  | inl low ↦ falling_low kept mark p places best f z last b r low
-  | inr high ↦ falling_high kept mark p places best f z first a r high
-]
-
-pub added_bar : (mark : Option Place) (kept : Kept Candidate) (first last : Option ℤ) → IsFirst order.Added mark first → IsLast order.Added kept last
-    → IsBarOf order.Added mark kept (record { low = first; high = last; missing = is_none last })
-added_bar mark kept None None a b None p r e places best = absurd (cc)
-added_bar mark kept None None a b (Some z) p r e places best = absurd (cc)
-added_bar mark kept (Some n) last a b z p r e places best = absurd a.2
-added_bar mark kept None (Some n) a b z p r e places best = absurd b.1
-
-missing_is : (last : Option ℤ) (missing : Bool) → is_some last ≡ not missing → missing ≡ is_none last
-missing_is None true e = refl
-missing_is None false e = absurd (cc)
-missing_is (Some n) true e = absurd (cc)
-missing_is (Some n) false e = refl
-
-module _ (o : Order) (mark : Option Place) (kept : Kept Candidate) (first last : Option ℤ) (missing : Bool) (a : IsFirst o mark first) (b : IsLast o kept last) (e : is_some last ≡ not missing) where
-  abbrev IsBarWith : Option ℤ → Option ℤ → Bool → Type 0
-  IsBarWith low high m = IsBarOf o mark kept (record { low = low; high = high; missing = m })
-
-  pub bar_falling : (f : ℕ) → o ≡ order.Falling f → IsBarWith last first missing
-  bar_falling f is =
-      subst (IsBarWith last first) (sym (missing_is last missing e))
-      (subst (λ w. IsBarOf w mark kept (record { low = last; high = first; missing = is_none last })) (sym is)
-      (falling_bar f mark kept first last (subst (λ w. IsFirst w mark first) is a) (subst (λ w. IsLast w kept last) is b)))
-
-  pub bar_rising : (f : ℕ) → o ≡ order.Rising f → IsBarWith first last missing
-  bar_rising f is =
-      subst (IsBarWith first last) (sym (missing_is last missing e))
-      (subst (λ w. IsBarOf w mark kept (record { low = first; high = last; missing = is_none last })) (sym is)
-      (rising_bar f mark kept first last (subst (λ w. IsFirst w mark first) is a) (subst (λ w. IsLast w kept last) is b)))
-
-  pub bar_added : o ≡ order.Added → IsBarWith first last missing
-  bar_added is =
-      subst (IsBarWith first last) (sym (missing_is last missing e))
-      (subst (λ w. IsBarOf w mark kept (record { low = first; high = last; missing = is_none last })) (sym is)
-      (added_bar mark kept first last (subst (λ w. IsFirst w mark first) is a) (subst (λ w. IsLast w kept last) is b)))
-
--- ---- the ends
-
-pub first_of : (o : Order) (marks : Option Candidate) (mark : Candidate) (n : Option ℤ) → marks ≡ Some mark → IfSome n (HasNumber o (seen_rank mark.rank)) → IsFirst o (option_map seen marks) n
-first_of o marks mark None is h = h
-first_of o marks mark (Some n) is h = (seen mark, ap (option_map seen) is, h)
-
-pub last_of : (o : Order) (kept : Kept Candidate) (last : Candidate) (n : Option ℤ)
-    → ((offered : List Candidate) (item : Candidate) → comes_first item last ≡ false → IsBestOf comes_first kept offered → IsBestOf comes_first kept (offered ++ item ∷ []))
-    → IfSome n (HasNumber o (seen_rank last.rank)) → IsLast o kept n
-last_of o kept last None full h = h
-last_of o kept last (Some n) full h = (seen last, h, full_by kept last full)
-
--- ---- the ranks of a column of numbers
-
-ranks-by : (o : Order) (ns : List (Option ℤ)) (rows : List Row) → length (map (λ x. key_in (Some x)) (map Content.number ns)) ≡ length rows
-    → map (λ p. p.rank) (places_by o (map (λ x. key_in (Some x)) (map Content.number ns)) rows) ≡ map (number_rank o) ns
-ranks-by o [] rows e = refl
-ranks-by o (n ∷ ns) [] e = absurd (omega arith)
-ranks-by o (n ∷ ns) (row ∷ rows) e = ap (λ rs. number_rank o n ∷ rs) (ranks-by o ns rows (omega arith))
-
-pub are_ranked : (o : Order) (column : Option (Bor Column)) (c : Bor Column) (ns : List (Option ℤ)) (rows : List Row) (places : List Place)
-    → column ≡ Some c → c.now ≡ columns.Number ns → length (keys_by column (length rows)) ≡ length rows → places_by o (keys_by column (length rows)) rows ≡ places → AreRanked o ns places
-are_ranked o column c ns rows places is number long e =
-    let keys : keys_by column (length rows) ≡ map (λ x. key_in (Some x)) (map Content.number ns) = ap (λ k. keys_by k (length rows)) is ∙ ap (λ k. map (λ x. key_in (Some x)) (contents_of k)) number in
-    ap (map (λ p. p.rank)) (sym e) ∙ ap (λ ks. map (λ p. p.rank) (places_by o ks rows)) keys ∙ ranks-by o ns rows (sym (ap length keys) ∙ long)
+pub keywords_ranked : (o : Order) (column : Option (Bor Column)) (c : Bor Column) (ts vs : List (Option Text)) (rows : List Row) (places : List Place)
+    → column ≡ Some c → c.now ≡ columns.Keyword ts → vs ≡ ts → length (keys_by column (length rows)) ≡ length rows → places_by o (keys_by column (length rows)) rows ≡ places → AreRanked Key.keyword o vs places
+keywords_ranked o column c ts vs rows places is at same long e = are_ranked Key.keyword Content.keyword (λ v. refl) o column c vs rows places is (ap contents_of at ∙ ap (map Content.keyword) (sym same)) long e
 
 get_or-map : {X Y : Type 0} (f : X → Y) (xs : List X) (i : ℕ) (d : X) → get_or (map f xs) i (f d) ≡ f (get_or xs i d)
 get_or-map f [] i d = refl
 get_or-map f (x ∷ xs) zero d = refl
 get_or-map f (x ∷ xs) (suc i) d = get_or-map f xs i d
 
-no_number : (o : Order) → Rank.missing ≡ number_rank o None
-no_number order.Added = refl
-no_number (order.Rising f) = refl
-no_number (order.Falling f) = refl
+no_key : (o : Order) → Rank.missing ≡ rank_with o None
+no_key order.Added = refl
+no_key (order.Rising f) = refl
+no_key (order.Falling f) = refl
 
-pub rank-at : (o : Order) (ns : List (Option ℤ)) (places : List Place) (i : ℕ) (n : Option ℤ) → AreRanked o ns places → n ≡ slice_index_or ns i None → (get_or places i none).rank ≡ number_rank o n
-rank-at o ns places i n e is =
-    sym (get_or-map (λ p. p.rank) places i none) ∙ ap (λ rs. get_or rs i Rank.missing) e ∙ ap (get_or (map (number_rank o) ns) i) (no_number o)
-    ∙ get_or-map (number_rank o) ns i None ∙ ap (number_rank o) (sym is)
+module _ {X : Type 0} (key : X → Key) (o : Order) (vs : List (Option X)) (places : List Place) (e : AreRanked key o vs places) where
+  pub rank-at : (i : ℕ) (v : Option X) → v ≡ slice_index_or vs i None → (get_or places i none).rank ≡ rank_with o (option_map key v)
+  rank-at i v is =
+      sym (get_or-map (λ p. p.rank) places i none) ∙ ap (λ rs. get_or rs i Rank.missing) e ∙ ap (get_or (map (λ w. rank_with o (option_map key w)) vs) i) (no_key o)
+      ∙ get_or-map (λ w. rank_with o (option_map key w)) vs i None ∙ ap (λ w. rank_with o (option_map key w)) (sym is)
 
-pub length-ranked : (o : Order) (ns : List (Option ℤ)) (places : List Place) → AreRanked o ns places → length places ≡ length ns
-length-ranked o ns places e = sym (length-map places (λ p. p.rank)) ∙ ap length e ∙ length-map ns (number_rank o)
+  pub length-ranked : length places ≡ length vs
+  length-ranked = sym (length-map places (λ p. p.rank)) ∙ ap length e ∙ length-map vs (λ w. rank_with o (option_map key w))

@@ -2,7 +2,9 @@ pub mod InOrder
 pub mod Inserting
 pub mod Fields
 pub mod Candidates
+pub mod KeyEnds
 pub mod Bars
+pub mod OrdinalBars
 pub mod Passed
 pub mod Passes
 pub mod Marks

@@ -1,7 +1,6 @@
 -- Where a search finds the row of a number, in segments whose numbers rise.
-use Rattle.std.proofs.Common.{◌≡◌, ◌≢◌, ◌⊎◌, ℕ, zero, suc, ◌+◌, ◌<◌, ◌≤◌, List, [], ◌∷◌, ◌++◌, length, take, drop, get_or, AllPairs, Bool, true, false, cond, Option, Some, None, find, ◌==◌, refl, sym, ap, ◌∙◌, subst, inl, inr, arith}
-use Rattle.std.specs.List.{AllByRecursion, AllWithin, HoldsAt, All, flat_map}
-use Rattle.std.proofs.lemmas.Bool.{cases_lt}
+use Rattle.std.proofs.Common.{◌≡◌, ◌≢◌, ℕ, zero, suc, ◌<◌, ◌≤◌, List, [], ◌∷◌, ◌++◌, length, take, drop, get_or, AllPairs, Bool, true, false, cond, Option, Some, None, find, ◌==◌, refl, sym, ap, ◌∙◌, subst, arith}
+use Rattle.std.specs.List.{AllByRecursion, HoldsAt, All, flat_map}
 use Rattle.std.proofs.lemmas.Bool.Decides.{nat_tests}
 use Rattle.std.proofs.lemmas.List.Elements.{recursion_from_All}
 use Rattle.cat_model.specs.View.{Row, Leaf, Segment, marked, live_rows}
@@ -10,7 +9,6 @@ use Rattle.cat_model.proofs.Lists.{All-both, All-weaken}
 use Rattle.cat_model.proofs.Places.{EachPair, each_pair}
 use Rattle.cat_search.specs.Views.{first_in}
 use Rattle.cat_search.proofs.Marked.{All-marked, All-left, All-right, Pairs-right, All-pieces}
-use Rattle.cat_search.proofs.Marks.{before_or_at}
 
 -- the number of each row is below those behind it
 abbrev pub NumbersRise : List Row → Type 0

@@ -1,49 +1,82 @@
--- Rows that can't come into a page, by their numbers alone.
+-- Rows that can't come into a page, by their keys alone.
 use Rattle.std.specs.Prelude.{◌≡◌, ◌++◌, ℤ, Bool, false, ◌&&◌, List, [], ◌∷◌, map, cond, Option, Some, None, option_map}
-use Rattle.cat_model.specs.Page.{Key}
+use Rattle.std.specs.Ordering.{is_le}
+use Rattle.cat_model.specs.Page.{Key, key_cmp}
 use Rattle.cat_model.specs.Query.{open_or, int_le}
+use Rattle.cat_model.specs.Text.{Text}
 use Rattle.cat_search.specs.declared.bar.Bar.{Bar}
+use Rattle.cat_search.specs.declared.ends.Ends.{Ends}
 use Rattle.cat_search.specs.declared.places.Candidate.{Candidate}
 use Rattle.cat_search.specs.declared.sort.Order.{Order}
 use Rattle.cat_search.specs.declared.sort.Order.TheVariants as order
-use Rattle.cat_search.specs.Keys.{Place, Rank, place_before}
+use Rattle.cat_search.specs.Keys.{Place, Rank, place_before, key_seen}
 use Rattle.cat_search.specs.Kept.{Kept}
 use Rattle.cat_search.specs.Pages.{beyond, rank_with}
 use Rattle.cat_search.specs.Seen.{IsBestAt}
 
--- the rank is that of the number in the order of a field
-abbrev pub HasNumber : Order → Rank → ℤ → Type 0
-HasNumber order.Added rank n = ⊥
-HasNumber (order.Rising field) rank n = rank ≡ Rank.rising (Key.number n)
-HasNumber (order.Falling field) rank n = rank ≡ Rank.falling (Key.number n)
+-- the rank is that of the key in the order of a field
+abbrev pub HasKey : Order → Rank → Key → Type 0
+HasKey order.Added rank k = ⊥
+HasKey (order.Rising field) rank k = rank ≡ Rank.rising k
+HasKey (order.Falling field) rank k = rank ≡ Rank.falling k
 
--- the mark has the number in the order of a field
-abbrev pub MarkHas : Order → Option Place → ℤ → Type 0
-MarkHas o mark n = (place : Place) × (mark ≡ Some place) × HasNumber o place.rank n
+-- the mark has the key in the order of a field
+abbrev pub MarkHas : Order → Option Place → Key → Type 0
+MarkHas o mark k = (place : Place) × (mark ≡ Some place) × HasKey o place.rank k
 
 -- what doesn't come before the place leaves the page as it is
 abbrev pub IsFullBy : Kept Candidate → Place → Type 0
 IsFullBy kept last = (place : Place) → place_before place last ≡ false → (places : List Place) → IsBestAt kept places → IsBestAt kept (places ++ place ∷ [])
 
--- the last place of a page that is full has the number in the order of a field
-abbrev pub LastHas : Order → Kept Candidate → ℤ → Type 0
-LastHas o kept n = (last : Place) × HasNumber o last.rank n × IsFullBy kept last
+-- the last place of a page that is full has the key in the order of a field
+abbrev pub LastHas : Order → Kept Candidate → Key → Type 0
+LastHas o kept k = (last : Place) × HasKey o last.rank k × IsFullBy kept last
+
+-- a hit that has this key, or none, changes nothing in the page, whether the mark comes before it or not
+abbrev pub IsLeftOut : Order → Option Place → Kept Candidate → Option Key → Type 0
+IsLeftOut o mark kept k =
+    (place : Place) → place.rank ≡ rank_with o k → (places : List Place) → IsBestAt kept places → IsBestAt kept (places ++ cond (beyond mark place) (place ∷ []) [])
+
+-- ---- keys
+
+-- the first key is at most the second
+abbrev pub key_le : Key → Key → Bool
+key_le a b = is_le (key_cmp a b)
+
+-- a row with this key has to be looked at
+abbrev pub lies_within : Ends → Option Key → Bool
+lies_within ends None = ends.missing
+lies_within ends (Some k) = open_or (λ a. key_le a k) (option_map key_seen ends.low) && open_or (key_le k) (option_map key_seen ends.high)
+
+-- what doesn't lie within the ends is left out
+abbrev pub AreEndsOf : Order → Option Place → Kept Candidate → Ends → Type 0
+AreEndsOf o mark kept ends = (k : Option Key) → lies_within ends k ≡ false → IsLeftOut o mark kept k
+
+-- the number that is the key
+abbrev pub number_of : Option Key → Option ℤ
+number_of None = None
+number_of (Some (Key.number n)) = Some n
+number_of (Some (Key.keyword t)) = None
+
+-- the text that is the key
+abbrev pub keyword_of : Option Key → Option Text
+keyword_of None = None
+keyword_of (Some (Key.number n)) = None
+keyword_of (Some (Key.keyword t)) = Some t
+
+-- ---- numbers
 
 -- a row with this number has to be looked at
 abbrev pub lets_in : Bar → Option ℤ → Bool
 lets_in bar None = bar.missing
 lets_in bar (Some n) = open_or (λ a. int_le a n) bar.low && open_or (int_le n) bar.high
 
--- the rank of a row with this number
-abbrev pub number_rank : Order → Option ℤ → Rank
-number_rank o n = rank_with o (option_map Key.number n)
-
--- a hit whose number the bar keeps out changes nothing in the page, whether the mark comes before it or not
+-- what the bar keeps out by its number is left out
 abbrev pub IsBarOf : Order → Option Place → Kept Candidate → Bar → Type 0
-IsBarOf o mark kept bar =
-    (n : Option ℤ) (place : Place) → place.rank ≡ number_rank o n → lets_in bar n ≡ false
-    → (places : List Place) → IsBestAt kept places → IsBestAt kept (places ++ cond (beyond mark place) (place ∷ []) [])
+IsBarOf o mark kept bar = (n : Option ℤ) → lets_in bar n ≡ false → IsLeftOut o mark kept (option_map Key.number n)
 
--- the places have the ranks of the numbers
-abbrev pub AreRanked : Order → List (Option ℤ) → List Place → Type 0
-AreRanked o numbers places = map (λ p. p.rank) places ≡ map (number_rank o) numbers
+-- ---- rows
+
+-- the places have the ranks of the values, which are keys of one kind
+abbrev pub AreRanked : {X : Type 0} → (X → Key) → Order → List (Option X) → List Place → Type 0
+AreRanked key o values places = map (λ p. p.rank) places ≡ map (λ v. rank_with o (option_map key v)) values

@@ -5,3 +5,4 @@ pub mod Seen
 pub mod Pages
 pub mod Views
 pub mod Bars
+pub mod OrdinalBars

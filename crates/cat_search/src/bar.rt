@@ -1,14 +1,15 @@
 //! Rows that a page sorted by a number field needn't look at.
-ghost use Rattle.std.specs.Prelude.{◌≡◌, option_map, IfSome};
+ghost use Rattle.std.specs.Prelude.{◌≡◌, option_map};
 ghost use Rattle.cat_model.specs.Query.{open_or, int_le};
-ghost use Rattle.cat_search.specs.Bars.{lets_in, HasNumber, MarkHas, LastHas, IsBarOf};
-ghost use Rattle.cat_search.specs.Seen.{seen, seen_rank};
+ghost use Rattle.cat_search.specs.Bars.{lets_in, number_of, IsBarOf};
+ghost use Rattle.cat_search.specs.Keys.{key_seen};
+ghost use Rattle.cat_search.specs.Seen.{seen};
 
 use crate::best::Best;
+use crate::ends::Ends;
 use crate::keys::KeyRef;
-use crate::places::{Candidate, Rank};
+use crate::places::Candidate;
 use crate::sort::Order;
-use std::cmp::Reverse;
 
 /// Between which numbers a row may come into the page, both included; an absent end is open.
 ///
@@ -22,34 +23,13 @@ pub(crate) struct Bar {
     missing: bool,
 }
 
-/// The number that is the key of the rank, if the rank is one of this order and has a number.
-fn number_in(rank: &Rank, order: Order) -> Option<i64>
-    ensures { IfSome result (HasNumber order (seen_rank rank.now)) }
+/// The number that is the key, if it is one.
+fn number_of(key: Option<KeyRef>) -> Option<i64>
+    ensures { result ≡ number_of (option_map key_seen key.entry) }
 {
-    match (order, rank) {
-        (Order::Rising(_), Rank::Rising(KeyRef::Number(number))) => Some(*number),
-        (Order::Falling(_), Rank::Falling(Reverse(KeyRef::Number(number)))) => Some(*number),
+    match key {
+        Some(KeyRef::Number(number)) => Some(number),
         _ => None,
-    }
-}
-
-/// The number of the mark, if it has one in this order.
-fn marked_number(mark: &Option<Candidate>, order: Order) -> Option<i64>
-    ensures { IfSome result (MarkHas order (option_map seen mark.now)) }
-{
-    match mark {
-        Some(mark) => number_in(&mark.rank, order),
-        None => None,
-    }
-}
-
-/// The number of the last hit that is kept, if there is no room for more and it has one in this order.
-fn last_number(best: &Best<Candidate>, order: Order) -> Option<i64>
-    ensures { IfSome result (LastHas order best.now) }
-{
-    match best.last_if_full() {
-        Some(last) => number_in(&last.rank, order),
-        None => None,
     }
 }
 
@@ -75,23 +55,18 @@ fn is_up_to(high: Option<i64>, number: i64) -> bool
 
 impl Bar {
     /// The bar of the page as it is: nothing that it keeps out can come in, by the mark or by the last hit of a full page.
-    pub(crate) fn of(best: &Best<Candidate>, order: Order, mark: &Option<Candidate>) -> Bar
+    pub(crate) fn of<'a>(
+        best: &Best<Candidate<'a>>,
+        order: Order,
+        mark: &Option<Candidate<'a>>,
+    ) -> Bar
         ensures { IsBarOf order (option_map seen mark.now) best.now result }
     {
-        let first = marked_number(mark, order);
-        let last = last_number(best, order);
-        let missing = last.is_none();
-        match order {
-            Order::Falling(_) => Bar {
-                low: last,
-                high: first,
-                missing,
-            },
-            Order::Rising(_) | Order::Added => Bar {
-                low: first,
-                high: last,
-                missing,
-            },
+        let ends = Ends::of(best, order, mark);
+        Bar {
+            low: number_of(ends.low),
+            high: number_of(ends.high),
+            missing: ends.missing,
         }
     }
 

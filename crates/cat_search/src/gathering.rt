@@ -5,26 +5,24 @@ ghost use Rattle.cat_base.specs.declared.refusal.Refusal.TheVariants.{Memory};
 ghost use Rattle.cat_model.specs.Ranks.{sorted};
 ghost use Rattle.cat_model.specs.View.{live_rows, marked, row_matches};
 ghost use Rattle.cat_query.specs.View.{query_of};
-ghost use Rattle.cat_search.specs.Bars.{AreRanked};
 ghost use Rattle.cat_search.specs.Keys.{Place, place_before};
 ghost use Rattle.cat_search.specs.Pages.{beyond};
-ghost use Rattle.cat_search.specs.Seen.{seen, IsBestAt};
+ghost use Rattle.cat_search.specs.Seen.{seen};
 ghost use Rattle.cat_search.specs.Sorts.{sort_meant};
 ghost use Rattle.cat_model.specs.Page as model;
 ghost use Rattle.cat_search.specs.declared.sort.Order.TheVariants.{Added};
 ghost use Rattle.cat_search.specs.Views.{place_in};
 
-use crate::bar::Bar;
 use crate::best::Best;
 use crate::leaf_ranks::LeafRanks;
-use crate::offers::{is_beyond, offer_hit};
+use crate::offers::{is_beyond, offer_rows};
 use crate::places::{Candidate, Rank};
 use crate::sort::{Order, Sort};
 use crate::view::Leaf;
 use cat_base::Refusal;
 use cat_query::Query;
 use cat_segment::Segment;
-use cat_values::{NumberColumn, RowSet};
+use cat_values::RowSet;
 use std::alloc::Global;
 
 /// The live rows of the leaf that the query matches (Lucene: `BulkScorer.score` with the leaf's `liveDocs`). A refusal is
@@ -48,71 +46,6 @@ fn counted(total: usize, hits: &RowSet) -> Result<usize, Refusal>
     match total.checked_add(hits.count()) {
         Some(more) => Ok(more),
         None => Err(Refusal::Memory),
-    }
-}
-
-/// Offers each hit of a segment to the page, as far as the mark comes before it. A refusal is [`Refusal::Memory`].
-fn offer_each<'a>(
-    best: &mut Best<Candidate<'a>>,
-    ranks: &LeafRanks<'a>,
-    hits: &RowSet,
-    mark: &Option<Candidate<'a>>,
-) -> Result<(), Refusal>
-    requires { length hits.now ≡ length ranks.now }
-    ensures limit { best.new.limit ≡ best.old.limit }
-    ensures best { OnOk result ((places : List Place) → IsBestAt best.old places
-        → IsBestAt best.new (places ++ filter (beyond (option_map seen mark.now)) (marked hits.now ranks.now))) }
-    ensures refusal { IfErr result (λ e. e ≡ Memory) }
-{
-    for row in hits.iter() {
-        offer_hit(best, ranks.at(row), mark)?;
-    }
-    Ok(())
-}
-
-/// Offers the hits of a segment that these numbers rank, as far as the mark comes before them, with no look at those that
-/// can't come in by their numbers. A refusal is [`Refusal::Memory`].
-fn offer_numbers<'a>(
-    best: &mut Best<Candidate<'a>>,
-    ranks: &LeafRanks<'a>,
-    numbers: &NumberColumn,
-    order: Order,
-    hits: &RowSet,
-    mark: &Option<Candidate<'a>>,
-) -> Result<(), Refusal>
-    requires long { length hits.now ≡ length ranks.now }
-    requires ranked { AreRanked order numbers.now ranks.now }
-    ensures limit { best.new.limit ≡ best.old.limit }
-    ensures best { OnOk result ((places : List Place) → IsBestAt best.old places
-        → IsBestAt best.new (places ++ filter (beyond (option_map seen mark.now)) (marked hits.now ranks.now))) }
-    ensures refusal { IfErr result (λ e. e ≡ Memory) }
-{
-    let mut bar = Bar::of(best, order, mark);
-    for row in hits.iter() {
-        if bar.lets_in(numbers.value(row)) {
-            offer_hit(best, ranks.at(row), mark)?;
-            bar = Bar::of(best, order, mark);
-        }
-    }
-    Ok(())
-}
-
-/// Offers the hits of a segment to the page, as far as the mark comes before them. A refusal is [`Refusal::Memory`].
-fn offer_rows<'a>(
-    best: &mut Best<Candidate<'a>>,
-    ranks: &LeafRanks<'a>,
-    hits: &RowSet,
-    mark: &Option<Candidate<'a>>,
-) -> Result<(), Refusal>
-    requires { length hits.now ≡ length ranks.now }
-    ensures limit { best.new.limit ≡ best.old.limit }
-    ensures best { OnOk result ((places : List Place) → IsBestAt best.old places
-        → IsBestAt best.new (places ++ filter (beyond (option_map seen mark.now)) (marked hits.now ranks.now))) }
-    ensures refusal { IfErr result (λ e. e ≡ Memory) }
-{
-    match ranks.numbers() {
-        Some((numbers, order)) => offer_numbers(best, ranks, numbers, order, hits, mark),
-        None => offer_each(best, ranks, hits, mark),
     }
 }
 

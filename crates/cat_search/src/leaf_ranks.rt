@@ -1,7 +1,7 @@
 //! The rows of a segment as hits of a sort.
 ghost use Rattle.std.specs.Prelude.{◌≡◌, ◌<◌, length, map, option_map, slice_get, IfSome};
 ghost use Rattle.std.specs.List.{HoldsAt};
-ghost use Rattle.cat_model.specs.Page.{key, key_in};
+ghost use Rattle.cat_model.specs.Page.{Key, key, key_in};
 ghost use Rattle.cat_segment.specs.Contents.{contents_of};
 ghost use Rattle.cat_search.specs.Bars.{AreRanked};
 ghost use Rattle.cat_search.specs.Keys.{key_seen};
@@ -13,7 +13,7 @@ use crate::keys::KeyRef;
 use crate::places::Candidate;
 use crate::sort::{Order, Sort, rank_with};
 use cat_segment::{Column, Segment};
-use cat_values::NumberColumn;
+use cat_values::{KeywordColumn, NumberColumn};
 use std::marker::Model;
 
 /// The rows of a segment as hits of one sort, whose column is looked up once (Lucene: a `LeafFieldComparator` over the
@@ -100,11 +100,21 @@ impl<'a> LeafRanks<'a> {
 
     /// The numbers that rank the rows, and in which order, where the sort is by a number field.
     pub(crate) fn numbers(&self) -> Option<(&'a NumberColumn, Order)>
-        ensures { IfSome result (λ n. AreRanked n.1 n.0.now self.now) }
+        ensures { IfSome result (λ n. AreRanked Key.number n.1 n.0.now self.now) }
     {
         let Column::Number(numbers) = self.column? else {
             return None;
         };
         Some((numbers, self.order))
+    }
+
+    /// The keywords that rank the rows, and in which order, where the sort is by a keyword field.
+    pub(crate) fn keywords(&self) -> Option<(&'a KeywordColumn, Order)>
+        ensures { IfSome result (λ k. AreRanked Key.keyword k.1 k.0.now self.now) }
+    {
+        let Column::Keyword(keywords) = self.column? else {
+            return None;
+        };
+        Some((keywords.values(), self.order))
     }
 }

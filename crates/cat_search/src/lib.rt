@@ -4,12 +4,14 @@
 
 mod bar;
 mod best;
+mod ends;
 mod entries;
 mod gathering;
 mod keys;
 mod leaf_ranks;
 mod lookup;
 mod offers;
+mod ordinal_bar;
 mod pages;
 mod places;
 mod prepared;

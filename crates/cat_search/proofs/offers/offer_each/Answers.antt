@@ -2,7 +2,7 @@ use Rattle.std.proofs.Common.{◌≡◌, ◌∙◌, ◌++◌, ◌∷◌, [], opt
 use Rattle.cat_model.specs.RowSets.{places}
 use Rattle.cat_search.specs.Seen.{seen, IsBestAt}
 use Rattle.cat_search.proofs.Gathered.{none, one, placed, placed-more, placed-all, next_within}
-use Rattle.cat_search.proofs.gathering.offer_each.Goals as goal
+use Rattle.cat_search.proofs.offers.offer_each.Goals as goal
 
 pub at-requires : goal.at-requires
 at-requires c =

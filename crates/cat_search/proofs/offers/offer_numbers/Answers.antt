@@ -1,16 +1,17 @@
 use Rattle.std.proofs.Common.{◌≡◌, ◌∙◌, ◌++◌, ◌∷◌, [], false, option_map, get_or, sym, ap, subst, refl, arith, append-nil, append_assoc}
+use Rattle.cat_model.specs.Page.{Key}
 use Rattle.cat_model.specs.RowSets.{places}
 use Rattle.cat_search.specs.Bars.{lets_in}
 use Rattle.cat_search.specs.Seen.{seen, IsBestAt}
 use Rattle.cat_search.proofs.Bars.{rank-at, length-ranked}
 use Rattle.cat_search.proofs.Gathered.{none, one, placed, placed-more, placed-all, next_within}
-use Rattle.cat_search.proofs.gathering.offer_numbers.Goals as goal
+use Rattle.cat_search.proofs.offers.offer_numbers.Goals as goal
 
 pub value-requires : goal.value-requires
 value-requires c =
     let rest : c.loop-row.yielded ++ c.in-Some.row ∷ c.next.new.self ≡ places c.args.hits.now = rw c.in-Some.ensures.steps at c.loop-row.invariant.rows in
     let within = next_within c.args.hits.now c.args.ranks.now c.loop-row.yielded c.next.new.self c.in-Some.row rest c.requires.long in
-    let long = length-ranked c.args.order c.args.numbers.now c.args.ranks.now c.requires.ranked in
+    let long = length-ranked Key.number c.args.order c.args.numbers.now c.args.ranks.now c.requires.ranked in
     omega (arith, within, long)
 
 pub at-requires : goal.at-requires
@@ -43,7 +44,7 @@ loop-row-preserved c =
     let place = get_or ranks c.in-Some.row none in
     let more = placed-more mark ranks c.loop-row.yielded c.in-Some.row place refl in
     let out : lets_in c.loop-row.bar c.value.result ≡ false = sym c.lets_in.ensures ∙ c.if-lets_in.false in
-    let rank = rank-at c.args.order c.args.numbers.now ranks c.in-Some.row c.value.result c.requires.ranked c.value.ensures in
+    let rank = rank-at Key.number c.args.order c.args.numbers.now ranks c.requires.ranked c.in-Some.row c.value.result c.value.ensures in
     record {
       can = tt;
       finite = tt;
@@ -52,7 +53,7 @@ loop-row-preserved c =
       bar = c.loop-row.invariant.bar;
       best = λ ps h. subst (IsBestAt c.loop-row.best)
           (append_assoc ps (placed mark ranks c.loop-row.yielded) (one mark place) ∙ ap (λ qs. ps ++ qs) (sym more))
-          (c.loop-row.invariant.bar c.value.result place rank out (ps ++ placed mark ranks c.loop-row.yielded) (c.loop-row.invariant.best ps h));
+          (c.loop-row.invariant.bar c.value.result out place rank (ps ++ placed mark ranks c.loop-row.yielded) (c.loop-row.invariant.best ps h));
     }
 
 pub returns-clause-best : goal.returns-clause-best

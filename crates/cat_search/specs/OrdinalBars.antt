@@ -1,0 +1,40 @@
+-- Rows that can't come into a page, by the ordinals of their keywords.
+use Rattle.std.specs.Prelude.{◌≡◌, ℕ, ◌<◌, ◌≤◌, Bool, true, false, ◌&&◌, nat_le, nat_lt, List, length, Option, Some, None, option_map, IfSome}
+use Rattle.std.specs.Ordering.{is_lt}
+use Rattle.cat_model.specs.Ordinals.{text_at}
+use Rattle.cat_model.specs.Page.{Key}
+use Rattle.cat_model.specs.Text.{Text, text_cmp}
+use Rattle.cat_search.specs.declared.ordinal_bar.OrdinalBar.{OrdinalBar}
+use Rattle.cat_search.specs.declared.places.Candidate.{Candidate}
+use Rattle.cat_search.specs.declared.sort.Order.{Order}
+use Rattle.cat_search.specs.Bars.{IsLeftOut}
+use Rattle.cat_search.specs.Keys.{Place}
+use Rattle.cat_search.specs.Kept.{Kept}
+
+-- the text is below the end, and nothing is below an open one
+abbrev pub is_below : Text → Option Text → Bool
+is_below text None = false
+is_below text (Some low) = is_lt (text_cmp text low)
+
+-- the text is above the end, and nothing is above an open one
+abbrev pub is_above : Text → Option Text → Bool
+is_above text None = false
+is_above text (Some high) = is_lt (text_cmp high text)
+
+-- the texts before the place are below the end
+abbrev pub AreBelow : Option Text → List Text → ℕ → Type 0
+AreBelow low texts place = (i : ℕ) → i < place → i < length texts → is_below (text_at texts i) low ≡ true
+
+-- the texts from the place on are above the end
+abbrev pub AreAbove : Option Text → List Text → ℕ → Type 0
+AreAbove high texts place = (i : ℕ) → place ≤ i → i < length texts → is_above (text_at texts i) high ≡ true
+
+-- a row with the text of this ordinal has to be looked at
+abbrev pub lets_in : OrdinalBar → Option ℕ → Bool
+lets_in bar None = bar.missing
+lets_in bar (Some i) = nat_le bar.from i && nat_lt i bar.before
+
+-- what the bar keeps out by the ordinal of its text is left out
+abbrev pub IsOrdinalBarOf : Order → Option Place → Kept Candidate → List Text → OrdinalBar → Type 0
+IsOrdinalBarOf o mark kept texts bar =
+    (i : Option ℕ) → IfSome i (λ k. k < length texts) → lets_in bar i ≡ false → IsLeftOut o mark kept (option_map Key.keyword (option_map (text_at texts) i))

@@ -1,0 +1,105 @@
+//! Rows that a page sorted by a keyword field needn't look at.
+ghost use Rattle.std.specs.Prelude.{◌≡◌, option_map};
+ghost use Rattle.cat_search.specs.Bars.{keyword_of};
+ghost use Rattle.cat_search.specs.Keys.{key_seen};
+ghost use Rattle.cat_search.specs.OrdinalBars.{is_below, is_above, AreBelow, AreAbove, lets_in, IsOrdinalBarOf};
+ghost use Rattle.cat_search.specs.Seen.{seen};
+
+use crate::best::Best;
+use crate::ends::Ends;
+use crate::keys::KeyRef;
+use crate::places::Candidate;
+use crate::sort::Order;
+use cat_base::Text;
+use cat_values::Dictionary;
+
+/// From which ordinal on, and up to before which, a row of one segment may come into the page.
+///
+/// It costs two comparisons of integers, where an offer looks the row's text up and compares it. Lucene's
+/// `TermOrdValComparator` has the same two ends, as the ordinals that its `CompetitiveIterator` is given.
+#[derive(Clone, Copy)]
+pub(crate) struct OrdinalBar {
+    from: usize,
+    before: usize,
+    // Whether a row without a keyword may come in.
+    missing: bool,
+}
+
+/// The text that is the key, if it is one.
+fn keyword_of<'a>(key: Option<KeyRef<'a>>) -> Option<&'a str>
+    ensures { option_map (λ t. t.now) result ≡ keyword_of (option_map key_seen key.entry) }
+{
+    match key {
+        Some(KeyRef::Keyword(text)) => Some(text),
+        _ => None,
+    }
+}
+
+/// Whether the text is below the end.
+fn is_below(text: &Text, low: Option<&str>) -> bool
+    ensures { result ≡ is_below text.now (option_map (λ a. a.now) low.entry) }
+{
+    match low {
+        Some(low) => text.as_str() < low,
+        None => false,
+    }
+}
+
+/// Whether the text is above the end.
+fn is_above(text: &Text, high: Option<&str>) -> bool
+    ensures { result ≡ is_above text.now (option_map (λ a. a.now) high.entry) }
+{
+    match high {
+        Some(high) => high < text.as_str(),
+        None => false,
+    }
+}
+
+/// The ordinal of the first text that isn't below the end.
+fn first_from(dictionary: &Dictionary, low: Option<&str>) -> usize
+    ensures { AreBelow (option_map (λ a. a.now) low.entry) dictionary.now result }
+{
+    dictionary
+        .as_slice()
+        .partition_point(|text| is_below(text, low))
+}
+
+/// The ordinal of the first text that is above the end.
+fn first_above(dictionary: &Dictionary, high: Option<&str>) -> usize
+    ensures { AreAbove (option_map (λ a. a.now) high.entry) dictionary.now result }
+{
+    dictionary
+        .as_slice()
+        .partition_point(|text| !is_above(text, high))
+}
+
+impl OrdinalBar {
+    /// The bar of the page as it is, over the ordinals of this dictionary: nothing that it keeps out can come in, by the mark
+    /// or by the last hit of a full page.
+    pub(crate) fn of<'a>(
+        best: &Best<Candidate<'a>>,
+        order: Order,
+        mark: &Option<Candidate<'a>>,
+        dictionary: &Dictionary,
+    ) -> OrdinalBar
+        ensures { IsOrdinalBarOf order (option_map seen mark.now) best.now dictionary.now result }
+    {
+        let ends = Ends::of(best, order, mark);
+        OrdinalBar {
+            from: first_from(dictionary, keyword_of(ends.low)),
+            before: first_above(dictionary, keyword_of(ends.high)),
+            missing: ends.missing,
+        }
+    }
+
+    /// Whether a row with the text of this ordinal has to be looked at. A tie with an end has: there the write numbers
+    /// decide.
+    pub(crate) fn lets_in(self, ordinal: Option<usize>) -> bool
+        ensures { result ≡ lets_in self ordinal }
+    {
+        match ordinal {
+            Some(ordinal) => self.from <= ordinal && ordinal < self.before,
+            None => self.missing,
+        }
+    }
+}
