@@ -14,12 +14,13 @@ use Rattle.cat_model.specs.Page.{Key}
 use Rattle.cat_model.specs.Query.{open_or}
 use Rattle.cat_model.specs.Text.{Text, text_cmp, text_le}
 use Rattle.cat_search.specs.declared.ends.Ends.{Ends}
+use Rattle.cat_search.specs.declared.ordinal_bar.OrdinalBar.{OrdinalBar}
 use Rattle.cat_search.specs.declared.places.Candidate.{Candidate}
 use Rattle.cat_search.specs.declared.sort.Order.{Order}
 use Rattle.cat_search.specs.Bars.{AreEndsOf, key_le, keyword_of}
 use Rattle.cat_search.specs.Keys.{Place, key_seen}
 use Rattle.cat_search.specs.Kept.{Kept}
-use Rattle.cat_search.specs.OrdinalBars.{is_below, is_above, AreBelow, AreAbove, IsOrdinalBarOf}
+use Rattle.cat_search.specs.OrdinalBars.{is_below, is_above, AreBelow, AreAbove, AreOrdinalsOf, IsOrdinalBarOf}
 use Rattle.cat_search.proofs.Bars.{either_refuses}
 
 -- ---- the order of texts
@@ -96,13 +97,16 @@ not_from from i e = grind (arith, nat_tests)
 not_before : (i before : ℕ) → nat_lt i before ≡ false → before ≤ i
 not_before i before e = grind (arith, nat_tests)
 
-pub ordinal_bar_of : (o : Order) (mark : Option Place) (kept : Kept Candidate) (ends : Ends) (texts : List Text) (low high : Option Text) (from before : ℕ) → AreEndsOf o mark kept ends
-    → low ≡ keyword_of (option_map key_seen ends.low) → high ≡ keyword_of (option_map key_seen ends.high) → AreBelow low texts from → AreAbove high texts before
-    → IsOrdinalBarOf o mark kept texts (record { from = from; before = before; missing = ends.missing })
-ordinal_bar_of o mark kept ends texts low high from before h a b under over None within e = h None e
-ordinal_bar_of o mark kept ends texts low high from before h a b under over (Some i) within e =
+pub open_ordinals : (texts : List Text) (place : ℕ) → place ≡ length texts → AreOrdinalsOf texts (record { from = 0; before = place; missing = true; low = None; high = None })
+open_ordinals texts place e = record { below = λ i under lt. absurd (omega arith); above = λ i from lt. absurd (omega (arith, e)) }
+
+pub ordinal_bar_of : (o : Order) (mark : Option Place) (kept : Kept Candidate) (ends : Ends) (texts : List Text) (bar : OrdinalBar) → AreEndsOf o mark kept ends → bar.missing ≡ ends.missing
+    → option_map (λ t. t.now) bar.low ≡ keyword_of (option_map key_seen ends.low) → option_map (λ t. t.now) bar.high ≡ keyword_of (option_map key_seen ends.high) → AreOrdinalsOf texts bar
+    → IsOrdinalBarOf o mark kept texts bar
+ordinal_bar_of o mark kept ends texts bar h m a b are None within e = h None (sym m ∙ e)
+ordinal_bar_of o mark kept ends texts bar h m a b are (Some i) within e =
     let t : Text = text_at texts i in
     let first : Option Key = option_map key_seen ends.low in
     let last : Option Key = option_map key_seen ends.high in
-    h (Some (Key.keyword t)) (either_refuses (nat_le from i) (nat_lt i before) (open_or (λ x. key_le x (Key.keyword t)) first) (open_or (key_le (Key.keyword t)) last)
-    (λ x. low_over first t (sym (ap (is_below t) a) ∙ under i (not_from from i x) within)) (λ x. high_under last t (sym (ap (is_above t) b) ∙ over i (not_before i before x) within)) e)
+    h (Some (Key.keyword t)) (either_refuses (nat_le bar.from i) (nat_lt i bar.before) (open_or (λ x. key_le x (Key.keyword t)) first) (open_or (key_le (Key.keyword t)) last)
+    (λ x. low_over first t (sym (ap (is_below t) a) ∙ are.below i (not_from bar.from i x) within)) (λ x. high_under last t (sym (ap (is_above t) b) ∙ are.above i (not_before i bar.before x) within)) e)

@@ -29,6 +29,11 @@ AreBelow low texts place = (i : ℕ) → i < place → i < length texts → is_b
 abbrev pub AreAbove : Option Text → List Text → ℕ → Type 0
 AreAbove high texts place = (i : ℕ) → place ≤ i → i < length texts → is_above (text_at texts i) high ≡ true
 
+-- the bar's places are those of its texts
+pub record AreOrdinalsOf (texts : List Text) (bar : OrdinalBar) : Type 0 where
+  pub below : AreBelow (option_map (λ t. t.now) bar.low) texts bar.from
+  pub above : AreAbove (option_map (λ t. t.now) bar.high) texts bar.before
+
 -- a row with the text of this ordinal has to be looked at
 abbrev pub lets_in : OrdinalBar → Option ℕ → Bool
 lets_in bar None = bar.missing

@@ -108,11 +108,11 @@ fn offer_keywords<'a>(
     ensures refusal { IfErr result (λ e. e ≡ Memory) }
 {
     let dictionary = keywords.dictionary();
-    let mut bar = OrdinalBar::of(best, order, mark, dictionary);
+    let mut bar = OrdinalBar::open(dictionary).renewed(best, order, mark, dictionary);
     for row in hits.iter() {
         if bar.lets_in(keywords.ordinal(row)) {
             offer_hit(best, ranks.at(row), mark)?;
-            bar = OrdinalBar::of(best, order, mark, dictionary);
+            bar = bar.renewed(best, order, mark, dictionary);
         }
     }
     Ok(())

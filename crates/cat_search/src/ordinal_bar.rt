@@ -1,8 +1,8 @@
 //! Rows that a page sorted by a keyword field needn't look at.
-ghost use Rattle.std.specs.Prelude.{◌≡◌, option_map};
+ghost use Rattle.std.specs.Prelude.{◌≡◌, option_map, IsTrue};
 ghost use Rattle.cat_search.specs.Bars.{keyword_of};
 ghost use Rattle.cat_search.specs.Keys.{key_seen};
-ghost use Rattle.cat_search.specs.OrdinalBars.{is_below, is_above, AreBelow, AreAbove, lets_in, IsOrdinalBarOf};
+ghost use Rattle.cat_search.specs.OrdinalBars.{is_below, is_above, AreBelow, AreAbove, lets_in, AreOrdinalsOf, IsOrdinalBarOf};
 ghost use Rattle.cat_search.specs.Seen.{seen};
 
 use crate::best::Best;
@@ -18,11 +18,14 @@ use cat_values::Dictionary;
 /// It costs two comparisons of integers, where an offer looks the row's text up and compares it. Lucene's
 /// `TermOrdValComparator` has the same two ends, as the ordinals that its `CompetitiveIterator` is given.
 #[derive(Clone, Copy)]
-pub(crate) struct OrdinalBar {
+pub(crate) struct OrdinalBar<'a> {
     from: usize,
     before: usize,
     // Whether a row without a keyword may come in.
     missing: bool,
+    // The texts that `from` and `before` were found by.
+    low: Option<&'a str>,
+    high: Option<&'a str>,
 }
 
 /// The text that is the key, if it is one.
@@ -73,29 +76,82 @@ fn first_above(dictionary: &Dictionary, high: Option<&str>) -> usize
         .partition_point(|text| !is_above(text, high))
 }
 
-impl OrdinalBar {
+/// Whether the two ends are the same text, or both open.
+fn is_same(end: Option<&str>, other: Option<&str>) -> bool
+    ensures { IsTrue result → option_map (λ a. a.now) end.entry ≡ option_map (λ a. a.now) other.entry }
+{
+    match (end, other) {
+        (Some(end), Some(other)) => end == other,
+        (None, None) => true,
+        _ => false,
+    }
+}
+
+impl<'a> OrdinalBar<'a> {
+    /// A bar that lets everything in.
+    pub(crate) fn open(dictionary: &Dictionary) -> OrdinalBar<'a>
+        ensures { AreOrdinalsOf dictionary.now result }
+    {
+        OrdinalBar {
+            from: 0,
+            before: dictionary.len(),
+            missing: true,
+            low: None,
+            high: None,
+        }
+    }
+
+    /// The bar's `from` for this end, which is looked up only if it isn't the end that the bar has.
+    fn from_end(self, dictionary: &Dictionary, low: Option<&str>) -> usize
+        requires { AreOrdinalsOf dictionary.now self }
+        ensures { AreBelow (option_map (λ a. a.now) low.entry) dictionary.now result }
+    {
+        if is_same(self.low, low) {
+            return self.from;
+        }
+        first_from(dictionary, low)
+    }
+
+    /// The bar's `before` for this end, which is looked up only if it isn't the end that the bar has.
+    fn before_end(self, dictionary: &Dictionary, high: Option<&str>) -> usize
+        requires { AreOrdinalsOf dictionary.now self }
+        ensures { AreAbove (option_map (λ a. a.now) high.entry) dictionary.now result }
+    {
+        if is_same(self.high, high) {
+            return self.before;
+        }
+        first_above(dictionary, high)
+    }
+
     /// The bar of the page as it is, over the ordinals of this dictionary: nothing that it keeps out can come in, by the mark
-    /// or by the last hit of a full page.
-    pub(crate) fn of<'a>(
+    /// or by the last hit of a full page. Where an end is as it was, it isn't looked up again.
+    pub(crate) fn renewed(
+        self,
         best: &Best<Candidate<'a>>,
         order: Order,
         mark: &Option<Candidate<'a>>,
         dictionary: &Dictionary,
-    ) -> OrdinalBar
-        ensures { IsOrdinalBarOf order (option_map seen mark.now) best.now dictionary.now result }
+    ) -> OrdinalBar<'a>
+        requires { AreOrdinalsOf dictionary.now self }
+        ensures ordinals { AreOrdinalsOf dictionary.now result }
+        ensures bar { IsOrdinalBarOf order (option_map seen mark.now) best.now dictionary.now result }
     {
         let ends = Ends::of(best, order, mark);
+        let low = keyword_of(ends.low);
+        let high = keyword_of(ends.high);
         OrdinalBar {
-            from: first_from(dictionary, keyword_of(ends.low)),
-            before: first_above(dictionary, keyword_of(ends.high)),
+            from: self.from_end(dictionary, low),
+            before: self.before_end(dictionary, high),
             missing: ends.missing,
+            low,
+            high,
         }
     }
 
     /// Whether a row with the text of this ordinal has to be looked at. A tie with an end has: there the write numbers
     /// decide.
     pub(crate) fn lets_in(self, ordinal: Option<usize>) -> bool
-        ensures { result ≡ lets_in self ordinal }
+        ensures { result ≡ lets_in self.entry ordinal }
     {
         match ordinal {
             Some(ordinal) => self.from <= ordinal && ordinal < self.before,

@@ -32,7 +32,8 @@ loop-row-preserved-then-lets_in c =
       finite = tt;
       rows = append_assoc c.loop-row.yielded (c.in-Some.row ∷ []) c.next.new.self ∙ rest;
       limit = c.in_ok-offer_hit.ensures.limit ∙ c.loop-row.invariant.limit;
-      bar = c.of-bar-then-lets_in.ensures;
+      ordinals = c.renewed-bar-then-lets_in.ensures.ordinals;
+      bar = c.renewed-bar-then-lets_in.ensures.bar;
       best = λ ps h. subst (IsBestAt c.offer_hit.new.best)
           (append_assoc ps (placed mark ranks c.loop-row.yielded) (one mark (seen c.at.result)) ∙ ap (λ qs. ps ++ qs) (sym more))
           (c.in_ok-offer_hit.ensures.best (ps ++ placed mark ranks c.loop-row.yielded) (c.loop-row.invariant.best ps h));
@@ -55,6 +56,7 @@ loop-row-preserved c =
       finite = tt;
       rows = append_assoc c.loop-row.yielded (c.in-Some.row ∷ []) c.next.new.self ∙ rest;
       limit = c.loop-row.invariant.limit;
+      ordinals = c.loop-row.invariant.ordinals;
       bar = c.loop-row.invariant.bar;
       best = λ ps h. subst (IsBestAt c.loop-row.best)
           (append_assoc ps (placed mark ranks c.loop-row.yielded) (one mark place) ∙ ap (λ qs. ps ++ qs) (sym more))

@@ -1,7 +1,7 @@
 use Rattle.std.proofs.Common.{◌≡◌, ◌++◌, List, option_map}
 use Rattle.cat_model.specs.RowSets.{places}
 use Rattle.cat_search.specs.Keys.{Place}
-use Rattle.cat_search.specs.OrdinalBars.{IsOrdinalBarOf}
+use Rattle.cat_search.specs.OrdinalBars.{AreOrdinalsOf, IsOrdinalBarOf}
 use Rattle.cat_search.specs.Seen.{seen, IsBestAt}
 use Rattle.cat_search.proofs.Gathered.{placed}
 use Rattle.cat_search.proofs.offers.offer_keywords.Given as goal
@@ -12,6 +12,7 @@ invariant-loop-row l = record {
   finite : (goal.iterator-loop-row).is_finite l.row-iterator;
   rows : l.yielded ++ l.row-iterator ≡ places l.hits;
   limit : l.best.limit ≡ l.initial.best.limit;
+  ordinals : AreOrdinalsOf l.dictionary l.bar;
   bar : IsOrdinalBarOf l.order (option_map seen l.mark) l.best l.dictionary l.bar;
   best : (ps : List Place) → IsBestAt l.initial.best ps → IsBestAt l.best (ps ++ placed (option_map seen l.mark) l.ranks l.yielded);
 }
