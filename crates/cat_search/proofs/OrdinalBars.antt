@@ -1,5 +1,5 @@
 -- What a bar keeps out by ordinals lies outside the ends.
-use Rattle.std.proofs.Common.{◌≡◌, ℕ, ◌<◌, ◌≤◌, nat_le, nat_lt, Bool, true, false, not, List, [], length, get_or, Option, Some, None, option_map, inl, inr, refl, sym, ap, ◌∙◌, subst, arith}
+use Rattle.std.proofs.Common.{◌≡◌, ℕ, ◌<◌, ◌≤◌, nat_le, nat_lt, Bool, true, false, not, ◌&&◌, List, [], length, get_or, Option, Some, None, option_map, IfSome, inl, inr, refl, sym, ap, ◌∙◌, subst, arith}
 use Rattle.std.proofs.lemmas.Bool.{cases_lt, cases_Bool, true≢false}
 use Rattle.std.proofs.lemmas.Bool.Decides.{nat_tests}
 use Rattle.std.proofs.lemmas.Map.Keys.{Less-from_sorted}
@@ -15,12 +15,9 @@ use Rattle.cat_model.specs.Query.{open_or}
 use Rattle.cat_model.specs.Text.{Text, text_cmp, text_le}
 use Rattle.cat_search.specs.declared.ends.Ends.{Ends}
 use Rattle.cat_search.specs.declared.ordinal_bar.OrdinalBar.{OrdinalBar}
-use Rattle.cat_search.specs.declared.places.Candidate.{Candidate}
-use Rattle.cat_search.specs.declared.sort.Order.{Order}
-use Rattle.cat_search.specs.Bars.{AreEndsOf, key_le, keyword_of}
-use Rattle.cat_search.specs.Keys.{Place, key_seen}
-use Rattle.cat_search.specs.Kept.{Kept}
-use Rattle.cat_search.specs.OrdinalBars.{is_below, is_above, AreBelow, AreAbove, AreOrdinalsOf, IsOrdinalBarOf}
+use Rattle.cat_search.specs.Bars.{key_le, keyword_of, lies_within}
+use Rattle.cat_search.specs.Keys.{key_seen}
+use Rattle.cat_search.specs.OrdinalBars.{is_below, is_above, AreBelow, AreAbove, AreOrdinalsOf, keyword_key, lets_in}
 use Rattle.cat_search.proofs.Bars.{either_refuses}
 
 -- ---- the order of texts
@@ -97,16 +94,24 @@ not_from from i e = grind (arith, nat_tests)
 not_before : (i before : ℕ) → nat_lt i before ≡ false → before ≤ i
 not_before i before e = grind (arith, nat_tests)
 
-pub open_ordinals : (texts : List Text) (place : ℕ) → place ≡ length texts → AreOrdinalsOf texts (record { from = 0; before = place; missing = true; low = None; high = None })
-open_ordinals texts place e = record { below = λ i under lt. absurd (omega arith); above = λ i from lt. absurd (omega (arith, e)) }
+pub open_ordinals : (texts : List Text) (place n : ℕ) → place ≡ length texts → AreOrdinalsOf texts (record { from = 0; before = place; missing = true; low = None; high = None; lookups = n })
+open_ordinals texts place n e = record { below = λ i under lt. absurd (omega arith); above = λ i from lt. absurd (omega (arith, e)) }
 
-pub ordinal_bar_of : (o : Order) (mark : Option Place) (kept : Kept Candidate) (ends : Ends) (texts : List Text) (bar : OrdinalBar) → AreEndsOf o mark kept ends → bar.missing ≡ ends.missing
+pub open_lets_in : (texts : List Text) (place n : ℕ) → place ≡ length texts → (i : Option ℕ) → IfSome i (λ k. k < length texts)
+    → lets_in (record { from = 0; before = place; missing = true; low = None; high = None; lookups = n }) i ≡ true
+open_lets_in texts place n e None within = refl
+open_lets_in texts place n e (Some i) within = both i place (omega (arith, within, e))
+  where
+    both : (k m : ℕ) → k < m → (nat_le 0 k && nat_lt k m) ≡ true
+    both k m h = grind (arith, nat_tests)
+
+pub outside : (ends : Ends) (texts : List Text) (bar : OrdinalBar) → bar.missing ≡ ends.missing
     → option_map (λ t. t.now) bar.low ≡ keyword_of (option_map key_seen ends.low) → option_map (λ t. t.now) bar.high ≡ keyword_of (option_map key_seen ends.high) → AreOrdinalsOf texts bar
-    → IsOrdinalBarOf o mark kept texts bar
-ordinal_bar_of o mark kept ends texts bar h m a b are None within e = h None (sym m ∙ e)
-ordinal_bar_of o mark kept ends texts bar h m a b are (Some i) within e =
+    → (i : Option ℕ) → IfSome i (λ k. k < length texts) → lets_in bar i ≡ false → lies_within ends (keyword_key texts i) ≡ false
+outside ends texts bar m a b are None within e = sym m ∙ e
+outside ends texts bar m a b are (Some i) within e =
     let t : Text = text_at texts i in
     let first : Option Key = option_map key_seen ends.low in
     let last : Option Key = option_map key_seen ends.high in
-    h (Some (Key.keyword t)) (either_refuses (nat_le bar.from i) (nat_lt i bar.before) (open_or (λ x. key_le x (Key.keyword t)) first) (open_or (key_le (Key.keyword t)) last)
-    (λ x. low_over first t (sym (ap (is_below t) a) ∙ are.below i (not_from bar.from i x) within)) (λ x. high_under last t (sym (ap (is_above t) b) ∙ are.above i (not_before i bar.before x) within)) e)
+    either_refuses (nat_le bar.from i) (nat_lt i bar.before) (open_or (λ x. key_le x (Key.keyword t)) first) (open_or (key_le (Key.keyword t)) last)
+    (λ x. low_over first t (sym (ap (is_below t) a) ∙ are.below i (not_from bar.from i x) within)) (λ x. high_under last t (sym (ap (is_above t) b) ∙ are.above i (not_before i bar.before x) within)) e

@@ -39,7 +39,10 @@ abbrev pub lets_in : OrdinalBar → Option ℕ → Bool
 lets_in bar None = bar.missing
 lets_in bar (Some i) = nat_le bar.from i && nat_lt i bar.before
 
+-- the key of a row with the text of this ordinal
+abbrev pub keyword_key : List Text → Option ℕ → Option Key
+keyword_key texts i = option_map Key.keyword (option_map (text_at texts) i)
+
 -- what the bar keeps out by the ordinal of its text is left out
 abbrev pub IsOrdinalBarOf : Order → Option Place → Kept Candidate → List Text → OrdinalBar → Type 0
-IsOrdinalBarOf o mark kept texts bar =
-    (i : Option ℕ) → IfSome i (λ k. k < length texts) → lets_in bar i ≡ false → IsLeftOut o mark kept (option_map Key.keyword (option_map (text_at texts) i))
+IsOrdinalBarOf o mark kept texts bar = (i : Option ℕ) → IfSome i (λ k. k < length texts) → lets_in bar i ≡ false → IsLeftOut o mark kept (keyword_key texts i)

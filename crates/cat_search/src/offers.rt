@@ -108,7 +108,9 @@ fn offer_keywords<'a>(
     ensures refusal { IfErr result (λ e. e ≡ Memory) }
 {
     let dictionary = keywords.dictionary();
-    let mut bar = OrdinalBar::open(dictionary).renewed(best, order, mark, dictionary);
+    // One look-up for 16 rows adds little to the offers of these, in whatever order the rows come.
+    let open = OrdinalBar::open(dictionary, keywords.len() / 16);
+    let mut bar = open.renewed(best, order, mark, dictionary);
     for row in hits.iter() {
         if bar.lets_in(keywords.ordinal(row)) {
             offer_hit(best, ranks.at(row), mark)?;

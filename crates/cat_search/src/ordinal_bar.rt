@@ -1,8 +1,8 @@
 //! Rows that a page sorted by a keyword field needn't look at.
-ghost use Rattle.std.specs.Prelude.{◌≡◌, option_map, IsTrue};
-ghost use Rattle.cat_search.specs.Bars.{keyword_of};
+ghost use Rattle.std.specs.Prelude.{◌≡◌, ℕ, ◌<◌, true, false, length, Option, option_map, IfSome, IsTrue};
+ghost use Rattle.cat_search.specs.Bars.{keyword_of, lies_within};
 ghost use Rattle.cat_search.specs.Keys.{key_seen};
-ghost use Rattle.cat_search.specs.OrdinalBars.{is_below, is_above, AreBelow, AreAbove, lets_in, AreOrdinalsOf, IsOrdinalBarOf};
+ghost use Rattle.cat_search.specs.OrdinalBars.{is_below, is_above, AreBelow, AreAbove, lets_in, AreOrdinalsOf, IsOrdinalBarOf, keyword_key};
 ghost use Rattle.cat_search.specs.Seen.{seen};
 
 use crate::best::Best;
@@ -26,6 +26,9 @@ pub(crate) struct OrdinalBar<'a> {
     // The texts that `from` and `before` were found by.
     low: Option<&'a str>,
     high: Option<&'a str>,
+    // How often an end may still be looked up. Where nearly every row comes into the page, as by names that fall with
+    // the rows, the look-ups would cost more than the offers that they save.
+    lookups: usize,
 }
 
 /// The text that is the key, if it is one.
@@ -88,9 +91,10 @@ fn is_same(end: Option<&str>, other: Option<&str>) -> bool
 }
 
 impl<'a> OrdinalBar<'a> {
-    /// A bar that lets everything in.
-    pub(crate) fn open(dictionary: &Dictionary) -> OrdinalBar<'a>
-        ensures { AreOrdinalsOf dictionary.now result }
+    /// A bar that lets everything in, and that may be renewed by so many look-ups.
+    pub(crate) fn open(dictionary: &Dictionary, lookups: usize) -> OrdinalBar<'a>
+        ensures ordinals { AreOrdinalsOf dictionary.now result }
+        ensures open { (i : Option ℕ) → IfSome i (λ k. k < length dictionary.now) → lets_in result i ≡ true }
     {
         OrdinalBar {
             from: 0,
@@ -98,6 +102,7 @@ impl<'a> OrdinalBar<'a> {
             missing: true,
             low: None,
             high: None,
+            lookups,
         }
     }
 
@@ -123,6 +128,33 @@ impl<'a> OrdinalBar<'a> {
         first_above(dictionary, high)
     }
 
+    /// The bar between these ends.
+    fn between(self, ends: Ends<'a>, dictionary: &Dictionary) -> OrdinalBar<'a>
+        requires { AreOrdinalsOf dictionary.now self }
+        ensures ordinals { AreOrdinalsOf dictionary.now result }
+        ensures within { (i : Option ℕ) → IfSome i (λ k. k < length dictionary.now) → lets_in result i ≡ false → lies_within ends.entry (keyword_key dictionary.now i) ≡ false }
+    {
+        let low = keyword_of(ends.low);
+        let high = keyword_of(ends.high);
+        if is_same(self.low, low) && is_same(self.high, high) {
+            return OrdinalBar {
+                missing: ends.missing,
+                ..self
+            };
+        }
+        if self.lookups == 0 {
+            return OrdinalBar::open(dictionary, 0);
+        }
+        OrdinalBar {
+            from: self.from_end(dictionary, low),
+            before: self.before_end(dictionary, high),
+            missing: ends.missing,
+            low,
+            high,
+            lookups: self.lookups - 1,
+        }
+    }
+
     /// The bar of the page as it is, over the ordinals of this dictionary: nothing that it keeps out can come in, by the mark
     /// or by the last hit of a full page. Where an end is as it was, it isn't looked up again.
     pub(crate) fn renewed(
@@ -136,16 +168,7 @@ impl<'a> OrdinalBar<'a> {
         ensures ordinals { AreOrdinalsOf dictionary.now result }
         ensures bar { IsOrdinalBarOf order (option_map seen mark.now) best.now dictionary.now result }
     {
-        let ends = Ends::of(best, order, mark);
-        let low = keyword_of(ends.low);
-        let high = keyword_of(ends.high);
-        OrdinalBar {
-            from: self.from_end(dictionary, low),
-            before: self.before_end(dictionary, high),
-            missing: ends.missing,
-            low,
-            high,
-        }
+        self.between(Ends::of(best, order, mark), dictionary)
     }
 
     /// Whether a row with the text of this ordinal has to be looked at. A tie with an end has: there the write numbers
