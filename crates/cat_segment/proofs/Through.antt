@@ -39,6 +39,6 @@ module _ (rows : List Row) (numbers : List ℕ) (are : map (λ r. r.number) rows
   pub rows_parted : (number place : ℕ) → place ≤ length numbers → IsPartitionPoint (λ n. n ≤ number) (λ n. number < n) numbers place
       → IsPartitionPoint (λ r. r.number ≤ number) (λ r. number < r.number) rows place
   rows_parted number place bound at = (
-      (λ k d from to. subst (λ n. n ≤ number) (number_at k d 0 (omega (arith, as_many))) (at.0 k 0 from to)),
-      (λ k d from to. subst (λ n. number < n) (number_at k d 0 to) (at.1 k 0 from (omega (arith, as_many))))
+    (λ k d from to. subst (λ n. n ≤ number) (number_at k d 0 (omega (arith, as_many))) (at.0 k 0 from to)),
+    (λ k d from to. subst (λ n. number < n) (number_at k d 0 to) (at.1 k 0 from (omega (arith, as_many)))),
   )
