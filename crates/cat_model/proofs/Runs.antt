@@ -42,7 +42,7 @@ records-push start run e = records_from-push (start.token ∷ []) [] run e
 pub writes-push : (run : Run) (e : Exchange) → writes (run ++ e ∷ []) ≡ writes run ++ cons_option (accepted e) []
 writes-push run e = filter_map-append accepted run (e ∷ [])
 
-last_or-append : {A : Type 0} (o : Option A) (xs : List A) (x : A) → last_or o (xs ++ x ∷ []) ≡ Some x
+pub last_or-append : {A : Type 0} (o : Option A) (xs : List A) (x : A) → last_or o (xs ++ x ∷ []) ≡ Some x
 last_or-append o [] x = refl
 last_or-append o (y ∷ xs) x = last_or-append (Some y) xs x
 
@@ -74,7 +74,7 @@ pub or_true : (b : Bool) → (b || true) ≡ true
 or_true true = refl
 or_true false = refl
 
-greatest_up_to : (n : ℕ) (ts : List ℕ) → AllByRecursion (λ u. u ≤ n) ts → greatest ts ≤ n
+pub greatest_up_to : (n : ℕ) (ts : List ℕ) → AllByRecursion (λ u. u ≤ n) ts → greatest ts ≤ n
 greatest_up_to n [] a = omega arith
 greatest_up_to n (t ∷ ts) a = omega (arith, a.0, greatest_up_to n ts a.1)
 
@@ -104,7 +104,7 @@ has-filter p (u ∷ ts) t h k =
           elim (p u) as (λ b. has (cond b (u ∷ filter p ts) (filter p ts)) t ≡ true) [ true ↦ rw (e.0, rest) refl | false ↦ rest ]
     ]
 
-has_some : (ts : List ℕ) (t : ℕ) → has ts t ≡ true → 0 < length ts
+pub has_some : (ts : List ℕ) (t : ℕ) → has ts t ≡ true → 0 < length ts
 has_some [] t h = absurd (cc)
 has_some (u ∷ ts) t h = omega arith
 
@@ -134,7 +134,7 @@ none_greater g [] a = refl
 none_greater g (t ∷ ts) a = let e : ltb g t ≡ false = grind (arith, nat_tests, a.0) in rw e (none_greater g ts a.1)
 
 -- the greatest token is never pruned
-pruned_has : (held : ℕ → Bool) (n : ℕ) (ts : List ℕ) → 0 < length ts → has (pruned held n ts) (greatest ts) ≡ true
+pub pruned_has : (held : ℕ → Bool) (n : ℕ) (ts : List ℕ) → 0 < length ts → has (pruned held n ts) (greatest ts) ≡ true
 pruned_has held n ts h =
     has-filter _ ts (greatest ts) (greatest_in ts h)
     (let e : ltb (count_by (λ u. ltb (greatest ts) u) ts) (max n 1) ≡ true = rw (none_greater (greatest ts) ts (greatest_above ts)) (grind (arith, nat_tests)) in rw e (or_true (held (greatest ts))))
@@ -202,7 +202,7 @@ no_refusal : (c : Command) (a : Answer) → Refuses c (Ok a) → ⊥
 no_refusal c a f = let h : ◌≡◌ {A = Reply} (Ok a) (Err f.0) = f.1 in cc
 
 -- an OK is the answer
-answered : (from : Opened) (past : Run) (s : ℕ) (c : Command) (a : Answer) → Answers from past s c (Ok a) ⊎ Stops from past s c (Ok a) → Answers from past s c (Ok a)
+pub answered : (from : Opened) (past : Run) (s : ℕ) (c : Command) (a : Answer) → Answers from past s c (Ok a) ⊎ Stops from past s c (Ok a) → Answers from past s c (Ok a)
 answered from past s c a (inl f) = f
 answered from past s c a (inr f) = absurd (no_refusal c a (stops_refuse from past s c (Ok a) f))
 
@@ -269,14 +269,14 @@ pub bounded : RunsAreBounded
 bounded from run f = bounded_from from [] run (record { some_record = omega arith; recorded = (omega arith, tt); held = λ s t h. absurd (cc) }) f
 
 -- a held token lies within the run before the read, and the writes of the run go on from those before it
-held_low : (from : Opened) (run : Run) (t : ℕ) (asked : Read) (reply : Reply) (h : HeldRead from run t asked reply) → t ≤ now from.start h.past
+pub held_low : (from : Opened) (run : Run) (t : ℕ) (asked : Read) (reply : Reply) (h : HeldRead from run t asked reply) → t ≤ now from.start h.past
 held_low from run t asked reply h =
     let e : Exchange = record { line = record { session = h.session; command = Command.read t asked }; reply = reply } in
     let parts : IsRun from h.past × FitsFrom from h.past (e ∷ h.later) = FitsFrom-split from [] h.past (e ∷ h.later) (subst (IsRun from) h.place h.is_run) in
     let ok : IsBounded from.start h.past = bounded from h.past parts.0 in
     has_up_to _ t (records from.start h.past) ok.recorded (ok.held h.session t h.held)
 
-held_writes : (from : Opened) (run : Run) (t : ℕ) (asked : Read) (reply : Reply) (h : HeldRead from run t asked reply)
+pub held_writes : (from : Opened) (run : Run) (t : ℕ) (asked : Read) (reply : Reply) (h : HeldRead from run t asked reply)
     → writes run ≡ writes h.past ++ writes (record { line = record { session = h.session; command = Command.read t asked }; reply = reply } ∷ h.later)
 held_writes from run t asked reply h = ap writes h.place ∙ filter_map-append accepted h.past _
 
