@@ -183,7 +183,7 @@ shown : (line : Text) (s : ℕ) (said : Said) → SpellsLine line s said → Sho
 shown line s said a = record { small = a.small; place = inr (a.rest, a.session_first) }
 
 -- and spells nothing else that is without a form under the session that it shows
-no_form : (line : Text) (s t : ℕ) (said : Said) → SpellsLine line s said → Shows line t → ((said : Said) → SpellsLine line t said → ⊥) → ⊥
+pub no_form : (line : Text) (s t : ℕ) (said : Said) → SpellsLine line s said → Shows line t → ((said : Said) → SpellsLine line t said → ⊥) → ⊥
 no_form line s t said a b none = none said (subst (λ u. SpellsLine line u said) (one_session line s t (shown line s said a) b) a)
 
 -- a text is one query, or has one fault
@@ -200,7 +200,7 @@ one_text schema text ok = elim (texts_are_judged schema text ok) [
 ]
 
 -- what is said is one command
-one_command : (json : Json) (schema : Schema) (said : Said) (one two : Command) → IsSchema schema → IsCommand json schema said one → IsCommand json schema said two → one ≡ two
+pub one_command : (json : Json) (schema : Schema) (said : Said) (one two : Command) → IsSchema schema → IsCommand json schema said one → IsCommand json schema said two → one ≡ two
 one_command json schema (Said.put text) one two ok a b = a ∙ sym b
 one_command json schema (Said.delete text) one two ok a b = a ∙ sym b
 one_command json schema Said.refresh one two ok a b = a ∙ sym b

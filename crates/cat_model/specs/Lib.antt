@@ -28,3 +28,5 @@ pub mod Files
 pub mod View
 pub mod Layout
 pub mod LiveFile
+pub mod Talk
+pub mod TalkSample

@@ -2,6 +2,8 @@
 #![tactic(auto)]
 
 ghost use Rattle.cat_model.specs.Laws.{TableFollowsAfter, LaterWritesChangeNothing, RunsAreBounded, HeldReadIsOfItsTable, HeldReadsAgree, RunsGoOn, StepsKeepRuns, FreshStatesBeginRuns, LinesSayOneThing, SchemaLinesSayOneThing, EachTextIsAQueryOrNone, HearingIsOne, InputsAreHeardOneWay, WordsAreLongestRuns, WordsAreLoweredRuns};
+ghost use Rattle.cat_model.specs.Talk.{AnswersOfAnyStartAreTalks, TalksOfOneStartAgree};
+ghost use Rattle.cat_model.specs.TalkSample.{SampleIsJudged};
 ghost use Rattle.cat_model.specs.QueryLaws.{QueriesAreRead, FaultsAreFound, TextsSpellOneQuery, FaultsHaveOnePlace, TextsAreJudged, SpelledTextsHaveNoFault};
 ghost use Rattle.cat_model.specs.QuerySamples.{SamplesAreJudged};
 ghost use Rattle.cat_model.specs.RankLaws.{RanksFollowOrder, AddedStandFirst, SortsOrderRecords};
@@ -93,6 +95,30 @@ pub fn hearing_is_one()
 /// own.
 pub fn inputs_are_heard_one_way()
     ensures { InputsAreHeardOneWay }
+{}
+
+/// What answers lines is one talk: the lines that were read, each with its reply. The output is cut before
+/// each line whose second word is OK or NO, and no text of an item can make it look otherwise. It asks
+/// that no item is read with a line feed, and none stands in what was opened.
+///
+/// The protocol is our own.
+pub fn answers_are_talks()
+    ensures { AnswersOfAnyStartAreTalks }
+{}
+
+/// Over bytes alone: two services that open one table, and what was read and written by each. Where the
+/// writes that were answered a number up to t have the same text in both, a read under t has the same
+/// reply in both, for sessions that hold t, whatever else was said.
+///
+/// Lucene promises it of one searcher; that it holds between two runs is our own claim.
+pub fn talks_agree()
+    ensures { TalksOfOneStartAgree }
+{}
+
+/// A talk of seven lines is what a person judged it to be: which writes it shows, which session holds
+/// what, and what it reads. The talk is our own.
+pub fn talk_sample_is_judged()
+    ensures { SampleIsJudged }
 {}
 
 /// The runs of a text are its longest runs of word characters, and nothing else.

@@ -56,7 +56,7 @@ both_right : (a b : Option Refusal) → option_or a b ≡ None → (a ≡ None) 
 both_right None b e = (refl, e)
 both_right (Some r) b e = absurd (cc)
 
-each_right : (ds : Items) → labels_fault ds ≡ None → All (λ s. label_fault s ≡ None) (texts_of ds)
+pub each_right : (ds : Items) → labels_fault ds ≡ None → All (λ s. label_fault s ≡ None) (texts_of ds)
 each_right no_items right = All-nil (λ s. label_fault s ≡ None)
 each_right (item d ds) right = let h = both_right (some_label_fault d) (labels_fault ds) right in by (as_str d) h.0 (each_right ds h.1)
   where
@@ -144,7 +144,7 @@ member_right fs (member n d ms) name right =
     by Greater is here later = later
 
 -- the names differ, so each field is found by its own
-kinds : (fs : List Field) → IsTextSet (names fs) → AllByRecursion (λ f. kind_of fs f.name ≡ Some f.kind) fs
+pub kinds : (fs : List Field) → IsTextSet (names fs) → AllByRecursion (λ f. kind_of fs f.name ≡ Some f.kind) fs
 unfolding IsStrictlySortedBy
 kinds [] rising = tt
 kinds (f ∷ fs) rising = (
@@ -172,7 +172,7 @@ field_right fs name k None named kind right = refl
 field_right fs name k (Some d) named kind right =
     ap (λ found. field_fault found d) (sym kind) ∙ ap (λ b. cond b None (field_fault (kind_of fs name) d)) (sym (not_id name named)) ∙ right
 
-fields_right : (fs gs : List Field) (ms : Members) → first_fault fs ms ≡ None → AllByRecursion (λ g. is_name g.name ≡ true) gs → AllByRecursion (λ g. kind_of fs g.name ≡ Some g.kind) gs
+pub fields_right : (fs gs : List Field) (ms : Members) → first_fault fs ms ≡ None → AllByRecursion (λ g. is_name g.name ≡ true) gs → AllByRecursion (λ g. kind_of fs g.name ≡ Some g.kind) gs
     → AllByRecursion (λ g. IsRight g.kind (get_member g.name ms)) gs
 fields_right fs [] ms right named found = tt
 fields_right fs (g ∷ gs) ms right named found =

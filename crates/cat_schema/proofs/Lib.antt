@@ -7,3 +7,4 @@ pub mod Parts
 pub mod WholeItem
 pub mod SchemaTexts
 pub mod Formed
+pub mod TalkTexts

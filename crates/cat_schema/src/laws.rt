@@ -1,5 +1,5 @@
 //! The laws over what texts of JSON are read as.
-ghost use Rattle.cat_schema.specs.Laws.{TextsOfSchemasKeepTheRules, EveryLineIsHeardOneWay, EveryInputIsHeardOneWay};
+ghost use Rattle.cat_schema.specs.Laws.{TextsOfSchemasKeepTheRules, EveryLineIsHeardOneWay, EveryInputIsHeardOneWay, EveryAnswerIsOneTalk, HeldReadsAgreeInBytes};
 
 /// Each text that is read as a schema is one: it has at most 32 fields, each with the name of a field, and the names
 /// rise by bytes, whatever the order of the members and however often a name comes.
@@ -19,4 +19,22 @@ pub fn every_line_is_heard_one_way()
 /// differ in replies alone. The protocol is our own.
 pub fn every_input_is_heard_one_way()
     ensures { EveryInputIsHeardOneWay }
+{}
+
+/// What answers the lines of an input is one talk: the output can be cut into a reply for each line, and in one way
+/// only, since a line begins a reply exactly where its second word is OK or NO. No text of an item can forge one.
+///
+/// The protocol is our own.
+pub fn every_answer_is_one_talk()
+    ensures { EveryAnswerIsOneTalk }
+{}
+
+/// Over bytes alone. Take two inputs whose schema lines are read as one schema, and whatever answers them. Where each
+/// write that was answered OK and a number up to t has the same text in both, a FIND under t gets the same reply in
+/// both, but for the session's number, from sessions that hold t there; unless it was answered 30, 31 or 40, or the
+/// line couldn't be read.
+///
+/// Lucene promises it of one searcher; that it holds between two runs is our own claim.
+pub fn held_reads_agree_in_bytes()
+    ensures { HeldReadsAgreeInBytes }
 {}

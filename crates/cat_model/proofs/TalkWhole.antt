@@ -1,0 +1,156 @@
+-- What a service wrote is one talk, which shows its run.
+use Rattle.std.proofs.Common.{inl, inr, ◌≡◌, ◌≢◌, ℕ, List, [], ◌∷◌, ◌++◌, map, refl, sym, ◌∙◌, ap, subst, append_assoc, append-nil, arith, codes}
+use Rattle.std.specs.Prelude.{Option, None, Some, Ok}
+use Rattle.std.specs.List.{flat_map, cons_option, AllByRecursion}
+use Rattle.std.specs.Fmt.{decimal}
+use Rattle.std.proofs.lemmas.List.{append_cancel_right}
+use Rattle.cat_model.specs.Text.{Text}
+use Rattle.cat_model.specs.Item.{IsSchema}
+use Rattle.cat_model.specs.Write.{Write}
+use Rattle.cat_model.specs.Table.{Opened}
+use Rattle.cat_model.specs.Lines.{spaced, spelling, line_text}
+use Rattle.cat_model.specs.Run.{Exchange, Run, accepted, writes, Fits, FitsFrom, IsRun}
+use Rattle.cat_model.specs.Heard.{Json, Hears}
+use Rattle.cat_model.specs.Input.{lines_of, ended_lines}
+use Rattle.cat_model.specs.Served.{Opening, Begins, Told, heard, exchange, told_text, IsServed, Answered}
+use Rattle.cat_model.specs.Talk.{Pair, IsOneLine, IsReply, IsTalk, Answering, ReadsLines, AnswersAreTalks}
+use Rattle.cat_model.proofs.TalkOpenings.{OpensShown}
+use Rattle.cat_model.proofs.Lists.{All-both}
+use Rattle.cat_model.proofs.Runs.{writes-push}
+use Rattle.cat_model.proofs.TalkCuts.{same_line, talks_same}
+use Rattle.cat_model.proofs.TalkDigits.{decimal_one_line}
+use Rattle.cat_model.proofs.TalkHeard.{Entry, pair, run_of, Heeded, entries, heeded, entries_lines, entries_replies, entries_run, heard_line}
+use Rattle.cat_model.proofs.TalkWrites.{Makes, asks}
+use Rattle.cat_model.proofs.TalkLines.{Shown, is_reply, unreadable_is_reply}
+use Rattle.cat_model.proofs.TalkShown.{ShownRecord, ShownWrite, reply_shown, formless_shown}
+use Rattle.cat_model.proofs.TalkHolds.{all_split}
+use Rattle.cat_model.proofs.TalkInput.{ended_are_lines, lines_are_lines}
+
+-- what was told is shown in lines
+abbrev pub ShownTold : Told → Type 0
+ShownTold Told.unreadable = Unit {0}
+ShownTold (Told.replied x) = Shown x.reply
+
+told_is_reply : (told : Told) → ShownTold told → IsReply (told_text told)
+told_is_reply Told.unreadable a = unreadable_is_reply
+told_is_reply (Told.replied x) a = is_reply x.line.session x.reply a
+
+replies_of : (es : List Entry) → AllByRecursion (λ e. ShownTold e.told) es → AllByRecursion (λ p. IsReply p.reply) (map pair es)
+replies_of [] a = tt
+replies_of (e ∷ es) a = (told_is_reply e.told a.0, replies_of es a.1)
+
+module _ (json : Json) (from : Opened) (reads : ReadsLines json) (sound : IsSchema from.start.schema) (shown : AllByRecursion ShownRecord from.start.records) where
+  makes_shown : (text : Text) (w : Write) → IsOneLine text → Makes json from.start.schema text w → ShownWrite w
+  makes_shown text w one (Makes.put_it a i e k is) =
+      let whole : IsOneLine (codes "PUT " ++ a) = subst IsOneLine e one in
+      subst ShownWrite (sym is) (reads from.start.schema a i sound whole.1.1.1.1 k)
+  makes_shown text w one (Makes.delete_it a e is) = subst ShownWrite (sym is) tt
+
+  write_shown : (e : Entry) (x : Exchange) (w : Write) → Hears json from.start.schema e.line (heard e.told) → IsOneLine e.line → e.told ≡ Told.replied x → accepted x ≡ Some w → ShownWrite w
+  write_shown e x w h one is some =
+      elim (heard_line json from.start.schema e.line (heard e.told) x.line h (ap heard is)) [
+        | inl so ↦
+            let a = asks json from.start.schema so.said x.line.command x.reply w so.is some in
+            let whole : e.line ≡ decimal x.line.session ++ 32 ∷ spaced (spelling so.said) = so.spells.session_first ∙ ap (λ r. decimal x.line.session ++ 32 ∷ r) so.spells.says.spelled in
+            makes_shown (spaced (spelling so.said)) w (all_split (λ b. b ≢ 10) (decimal x.line.session) (32 ∷ spaced (spelling so.said)) (subst IsOneLine whole one)).1.1 a.makes
+        | inr nothing ↦ absurd (let k : ◌≡◌ {A = Option Write} None (Some w) = sym (nothing_accepted x nothing.is) ∙ some in cc k)
+      ]
+    where
+      nothing_accepted : (x : Exchange) → x.line.command ≡ Rattle.cat_model.specs.Run.Command.formless → accepted x ≡ None
+      nothing_accepted x k = ap (λ c. Rattle.cat_model.specs.Run.accepted_by c x.reply) k
+
+  told_shown : (past : Run) (e : Entry) (x : Exchange) → Hears json from.start.schema e.line (heard e.told) → Fits from past x → e.told ≡ Told.replied x → AllByRecursion ShownWrite (writes past) → Shown x.reply
+  told_shown past e x h f is puts =
+      elim (heard_line json from.start.schema e.line (heard e.told) x.line h (ap heard is)) [
+        | inl so ↦ reply_shown json from past x.line.session shown puts so.said x.line.command x.reply so.is f
+        | inr nothing ↦ formless_shown json from past x.line.session shown puts x.line.command x.reply nothing.is f
+      ]
+
+  next_puts : (past : Run) (e : Entry) (x : Exchange) → Hears json from.start.schema e.line (heard e.told) → IsOneLine e.line → e.told ≡ Told.replied x → AllByRecursion ShownWrite (writes past) → AllByRecursion ShownWrite (writes (past ++ x ∷ []))
+  next_puts past e x h one is puts = subst (AllByRecursion ShownWrite) (sym (writes-push past x)) (All-both ShownWrite (writes past) (cons_option (accepted x) []) puts (by (accepted x) refl))
+    where
+      by : (o : Option Write) → accepted x ≡ o → AllByRecursion ShownWrite (cons_option o [])
+      by None k = tt
+      by (Some w) k = (write_shown e x w h one is k, tt)
+
+  pub entries_shown : (past : Run) (es : List Entry) → Heeded json from.start.schema es → AllByRecursion (λ e. IsOneLine e.line) es → FitsFrom from past (run_of es) → AllByRecursion ShownWrite (writes past) → AllByRecursion (λ e. ShownTold e.told) es
+  entries_shown past [] h one f puts = tt
+  entries_shown past (e ∷ es) h one f puts = by (λ p g q. entries_shown p es h.1 one.1 g q) e.told refl f
+    where
+      by : ((p : Run) → FitsFrom from p (run_of es) → AllByRecursion ShownWrite (writes p) → AllByRecursion (λ e. ShownTold e.told) es)
+          → (told : Told) → e.told ≡ told → FitsFrom from past (cons_option (exchange told) (run_of es)) → ShownTold e.told × AllByRecursion (λ e. ShownTold e.told) es
+      by rest Told.unreadable is g = (subst ShownTold (sym is) tt, rest past g puts)
+      by rest (Told.replied x) is g = (subst ShownTold (sym is) (told_shown past e x h.0 g.0 is puts), rest (past ++ x ∷ []) g.1 (next_puts past e x h.0 one.0 is puts))
+
+-- ---- the whole
+
+-- the entries that a talk is of
+pub record Whole (json : Json) (opens : Opening) (first : Text) (talk : List Pair) : Type 0 where
+  pub from : Opened
+  pub begins : Begins json opens first (Ok from)
+  pub es : List Entry
+  pub heed : Heeded json from.start.schema es
+  pub is_run : IsRun from (run_of es)
+  pub shown : AllByRecursion (λ e. ShownTold e.told) es
+  pub is : talk ≡ map pair es
+
+-- what answers lines is served
+pub served : (json : Json) (opens : Opening) (input output : Text) (lines : List Text) → Answering json opens input output lines → Answered (IsServed json opens) lines output × AllByRecursion IsOneLine lines
+served json opens input output _ (Answering.to_the_end s) =
+    let same : input ≡ s.0 = s.1 ∙ append-nil s.0 in
+    (subst (λ bytes. Answered (IsServed json opens) (lines_of bytes) output) (sym same) (subst (Answered (IsServed json opens) (lines_of s.0)) (sym s.5) s.4), lines_are_lines input)
+served json opens input output _ (Answering.to_a_fault left s) =
+    let same : input ≡ s.0 = append_cancel_right input s.0 left s.1 in
+    (subst (λ bytes. Answered (IsServed json opens) (ended_lines bytes) output) (sym same) (subst (Answered (IsServed json opens) (ended_lines s.0)) (sym s.4) s.3), ended_are_lines input)
+
+lines_kept : (ls : List Text) (ts : List Told) → AllByRecursion IsOneLine ls → AllByRecursion (λ e. IsOneLine e.line) (entries ls ts)
+lines_kept [] ts a = tt
+lines_kept (l ∷ ls) [] a = tt
+lines_kept (l ∷ ls) (t ∷ ts) a = (a.0, lines_kept ls ts a.1)
+
+greeting : (t : ℕ) → IsOneLine (codes "OK" ++ 32 ∷ decimal t)
+greeting t = (λ e. omega (arith, e), (λ e. omega (arith, e), (λ e. omega (arith, e), decimal_one_line t)))
+
+greeted : (t : ℕ) (rest : Text) → line_text (codes "OK" ∷ decimal t ∷ []) ++ rest ≡ (codes "OK" ++ 32 ∷ decimal t) ++ 10 ∷ rest
+greeted t rest = append_assoc (codes "OK" ++ 32 ∷ decimal t) (10 ∷ []) rest
+
+module _ (json : Json) (opens : Opening) (reads : ReadsLines json) (opened : OpensShown json opens) (first : Text) (lines : List Text) (output : Text) (cut : AllByRecursion IsOneLine lines) (s : IsServed json opens first lines output) where
+  abbrev all : List Entry
+  all = entries lines s.tolds
+
+  all_heed : Heeded json s.from.start.schema all
+  all_heed = heeded json s.from.start.schema lines s.tolds s.heard_all
+
+  all_run : IsRun s.from (run_of all)
+  all_run = subst (IsRun s.from) (sym (entries_run json s.from.start.schema lines s.tolds s.heard_all)) s.is_run
+
+  all_shown : AllByRecursion (λ e. ShownTold e.told) all
+  all_shown = entries_shown json s.from reads (opened first s.from s.begins).schema (opened first s.from s.begins).records [] all all_heed (lines_kept lines s.tolds cut) all_run tt
+
+  written : output ≡ (codes "OK" ++ 32 ∷ decimal s.from.start.token) ++ 10 ∷ flat_map (λ p. p.reply) (map pair all)
+  written = s.whole ∙ greeted s.from.start.token (flat_map told_text s.tolds) ∙ ap (λ r. (codes "OK" ++ 32 ∷ decimal s.from.start.token) ++ 10 ∷ r) (sym (entries_replies json s.from.start.schema lines s.tolds s.heard_all))
+
+  pub the_talk : IsTalk (first ∷ lines) output (map pair all)
+  the_talk = record {
+    first = first;
+    opening = codes "OK" ++ 32 ∷ decimal s.from.start.token;
+    one_line = greeting s.from.start.token;
+    read = ap (λ ls. first ∷ ls) (sym (entries_lines json s.from.start.schema lines s.tolds s.heard_all));
+    replies = replies_of all all_shown;
+    written = written;
+  }
+
+  pub one_talk : (other : List Pair) → IsTalk (first ∷ lines) output other → other ≡ map pair all
+  one_talk other t =
+      let replies : flat_map (λ p. p.reply) other ≡ flat_map (λ p. p.reply) (map pair all) =
+      (same_line t.opening (codes "OK" ++ 32 ∷ decimal s.from.start.token) (flat_map (λ p. p.reply) other) (flat_map (λ p. p.reply) (map pair all)) t.one_line (greeting s.from.start.token) (sym t.written ∙ written)).1 in
+      let read : lines ≡ map (λ p. p.line) other = cc (t.read) in
+      talks_same other (map pair all) t.replies (replies_of all all_shown) (sym read ∙ sym (entries_lines json s.from.start.schema lines s.tolds s.heard_all)) replies
+
+  pub whole_of : (other : List Pair) → IsTalk (first ∷ lines) output other → Whole json opens first other
+  whole_of other t = record { from = s.from; begins = s.begins; es = all; heed = all_heed; is_run = all_run; shown = all_shown; is = one_talk other t }
+
+pub answers_are_talks : (json : Json) (opens : Opening) → ReadsLines json → OpensShown json opens → AnswersAreTalks json opens
+answers_are_talks json opens reads opened input output first lines a =
+    let s = served json opens input output (first ∷ lines) a in
+    (map pair (entries lines s.0.tolds), the_talk json opens reads opened first lines output s.1.1 s.0, one_talk json opens reads opened first lines output s.1.1 s.0)

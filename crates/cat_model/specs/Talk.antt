@@ -1,0 +1,186 @@
+-- The law of held reads over bytes: what a user can check by eye in what was read and what was written. The rules are our own.
+use Rattle.std.specs.Prelude.{◌≡◌, ◌≢◌, ℕ, ◌≤◌, ◌⊎◌, List, [], ◌∷◌, ◌++◌, codes, map, Contains, Some, None, Ok, Err}
+use Rattle.std.specs.List.{flat_map, AllByRecursion}
+use Rattle.std.specs.Fmt.{decimal}
+use Rattle.cat_model.specs.Text.{Text}
+use Rattle.cat_model.specs.Item.{Schema, IsSchema, Content, Item}
+use Rattle.cat_model.specs.Table.{Start, Opened}
+use Rattle.cat_model.specs.Run.{last_number}
+use Rattle.cat_model.specs.Lines.{Said, SpellsSaid, line_text, unreadable_text}
+use Rattle.cat_model.specs.Heard.{Json}
+use Rattle.cat_model.specs.Input.{lines_of, ended_lines}
+use Rattle.cat_model.specs.Served.{Opening, Ending, Serves}
+
+-- ---- a talk: the lines that were read, each with the bytes that answer it
+
+-- a line, and its reply
+pub record Pair : Type 0 where
+  pub line : Text
+  pub reply : Text
+
+-- a text without a line feed
+abbrev pub IsOneLine : Text → Type 0
+IsOneLine text = AllByRecursion (λ b. b ≢ 10) text
+
+-- a line that begins a reply: its second word is OK or NO
+pub record BeginsReply (line : Text) : Type 0 where
+  pub who : Text
+  pub rest : Text
+  pub one_word : AllByRecursion (λ b. b ≢ 32) who
+  pub whole : (line ≡ who ++ (codes " OK " ++ rest)) ⊎ (line ≡ who ++ (codes " NO " ++ rest))
+
+-- a reply: a line that begins one, and then lines that don't, each with its line feed
+pub record IsReply (text : Text) : Type 0 where
+  pub first : Text
+  pub more : List Text
+  pub begins : BeginsReply first
+  pub goes_on : AllByRecursion (λ line. BeginsReply line → ⊥) more
+  pub cut : AllByRecursion IsOneLine (first ∷ more)
+  pub whole : text ≡ flat_map (λ line. line ++ 10 ∷ []) (first ∷ more)
+
+-- The lines behind the first are those of the talk; the output is a line for the first one, and then the replies of the talk.
+pub record IsTalk (lines : List Text) (output : Text) (talk : List Pair) : Type 0 where
+  pub first : Text
+  pub opening : Text
+  pub one_line : IsOneLine opening
+  pub read : lines ≡ first ∷ map (λ p. p.line) talk
+  pub replies : AllByRecursion (λ p. IsReply p.reply) talk
+  pub written : output ≡ opening ++ 10 ∷ flat_map (λ p. p.reply) talk
+
+-- What was read and written by a service that answered these lines: all, at the end of the input; or those that had
+-- ended, where a read failed.
+pub data Answering (json : Json) (opens : Opening) (input output : Text) : List Text → Type 0 where
+  to_the_end : Serves json opens (Some input) (Some []) (Some []) (Some output) (Ok tt) → Answering json opens input output (lines_of input)
+  to_a_fault : (left : Text) → Serves json opens (Some (input ++ left)) (Some left) (Some []) (Some output) (Err Ending.read) → Answering json opens input output (ended_lines input)
+
+-- the talk of a service, with its bytes
+pub record Talked (json : Json) (opens : Opening) (talk : List Pair) : Type 0 where
+  pub input : Text
+  pub output : Text
+  pub lines : List Text
+  pub answering : Answering json opens input output lines
+  pub is_talk : IsTalk lines output talk
+
+-- ---- what stands in a talk
+
+-- a session says the text, and is answered OK and a number
+abbrev pub granted : ℕ → Text → ℕ → Pair
+granted s text n = record { line = decimal s ++ 32 ∷ text; reply = line_text (decimal s ∷ codes "OK" ∷ decimal n ∷ []) }
+
+-- some session's PUT or DEL of this text was answered OK n
+pub record IsWrite (talk : List Pair) (n : ℕ) (text : Text) : Type 0 where
+  pub session : ℕ
+  pub argument : Text
+  pub command : (text ≡ codes "PUT " ++ argument) ⊎ (text ≡ codes "DEL " ++ argument)
+  pub stands : Contains talk (granted session text n)
+
+-- up to t, the writes of one number have one text
+abbrev pub WritesAgree : ℕ → List Pair → List Pair → Type 0
+WritesAgree t one two = (n : ℕ) (text₁ text₂ : Text) → n ≤ t → IsWrite one n text₁ → IsWrite two n text₂ → text₁ ≡ text₂
+
+-- the session was answered t to an OPEN, and after that OK to no CLOSE t
+pub record Holds (past : List Pair) (s t : ℕ) : Type 0 where
+  pub before : List Pair
+  pub since : List Pair
+  pub text : Text
+  pub command : (text ≡ codes "OPEN") ⊎ (text ≡ codes "OPEN " ++ decimal t)
+  pub place : past ≡ before ++ granted s text t ∷ since
+  pub kept : Contains since (granted s (codes "CLOSE " ++ decimal t) t) → ⊥
+
+-- what is said is a read under t
+abbrev pub ReadsUnder : ℕ → Said → Type 0
+ReadsUnder t (Said.find u n sort mark query) = u ≡ t
+ReadsUnder t _ = ⊥
+
+-- the text is a read under t
+pub record IsRead (t : ℕ) (text : Text) : Type 0 where
+  pub said : Said
+  pub spells : SpellsSaid text said
+  pub under : ReadsUnder t said
+
+-- the refusal of a number
+abbrev pub refusal_text : ℕ → ℕ → Text
+refusal_text s n = line_text (decimal s ∷ codes "NO" ∷ decimal n ∷ [])
+
+-- the line is too long or no text, a device failed, a file is damaged, memory was wanting
+abbrev pub stops : ℕ → List Text
+stops s = unreadable_text ∷ refusal_text s 30 ∷ refusal_text s 31 ∷ refusal_text s 40 ∷ []
+
+-- a session that holds t says the text, and is answered so, which is no stop
+pub record HeldAsk (talk : List Pair) (t s : ℕ) (text reply : Text) : Type 0 where
+  pub small : s ≤ 9999
+  pub past : List Pair
+  pub later : List Pair
+  pub place : talk ≡ past ++ record { line = decimal s ++ 32 ∷ text; reply = reply } ∷ later
+  pub held : Holds past s t
+  pub undisturbed : AllByRecursion (λ stop. reply ≢ stop) (stops s)
+
+-- the same lines, each behind its session
+pub record AreAlike (s₁ s₂ : ℕ) (reply₁ reply₂ : Text) : Type 0 where
+  pub lines : List Text
+  pub cut : AllByRecursion IsOneLine lines
+  pub one : reply₁ ≡ flat_map (λ line. line_text (decimal s₁ ∷ line ∷ [])) lines
+  pub two : reply₂ ≡ flat_map (λ line. line_text (decimal s₂ ∷ line ∷ [])) lines
+
+-- ---- the laws
+
+-- The bytes that answer lines are a talk, and one only.
+abbrev pub AnswersAreTalks : Json → Opening → Type 0
+AnswersAreTalks json opens =
+    (input output first : Text) (lines : List Text) → Answering json opens input output (first ∷ lines)
+    → (talk : List Pair) × IsTalk (first ∷ lines) output talk × ((other : List Pair) → IsTalk (first ∷ lines) output other → other ≡ talk)
+
+-- For every two talks whose first lines are alike, and whose writes up to t have the same texts: a read under t has the
+-- same reply in both, for sessions that hold t.
+abbrev pub TalksAgree : Json → Opening → Opening → (Text → Text → Type 0) → Type 0
+TalksAgree json opens₁ opens₂ alike =
+    (talk₁ talk₂ : List Pair) (t s₁ s₂ : ℕ) (text reply₁ reply₂ : Text)
+    → (one : Talked json opens₁ talk₁) (two : Talked json opens₂ talk₂)
+    → alike one.is_talk.first two.is_talk.first
+    → WritesAgree t talk₁ talk₂
+    → IsRead t text
+    → HeldAsk talk₁ t s₁ text reply₁
+    → HeldAsk talk₂ t s₂ text reply₂
+    → AreAlike s₁ s₂ reply₁ reply₂
+
+-- ---- what is asked of texts of items, and of what a service opens with
+
+-- no text of the content has a line feed
+abbrev pub HasOneLines : Content → Type 0
+HasOneLines (Content.words ws) = Unit {0}
+HasOneLines (Content.keyword None) = Unit {0}
+HasOneLines (Content.keyword (Some k)) = IsOneLine k
+HasOneLines (Content.number z) = Unit {0}
+HasOneLines (Content.labels ls) = AllByRecursion IsOneLine ls
+
+-- no text that is shown of the item has a line feed
+pub record IsShownInLines (i : Item) : Type 0 where
+  pub id : IsOneLine i.id
+  pub source : IsOneLine i.source
+  pub parts : AllByRecursion (λ p. HasOneLines p.content) i.parts
+
+-- an item that is read from a line is shown in lines
+abbrev pub ReadsLines : Json → Type 0
+ReadsLines json = (schema : Schema) (text : Text) (i : Item) → IsSchema schema → IsOneLine text → json.item_of schema text ≡ Ok i → IsShownInLines i
+
+-- the schema is one, the token is a number of a write, and the records are shown in lines
+pub record IsShownStart (start : Start) : Type 0 where
+  pub schema : IsSchema start.schema
+  pub token : start.token ≤ last_number
+  pub records : AllByRecursion (λ r. IsShownInLines r.item) start.records
+
+-- ---- whatever is opened
+
+-- what opening gives where this is there to be opened: the newest commit of a directory, or nothing
+abbrev pub OpensAs : Opened → Opening
+OpensAs from schema (Ok opened) = (opened ≡ from) × (schema ≡ from.start.schema)
+OpensAs from schema (Err e) = Unit {0}
+
+-- The two laws for services that are opened so. The generations of the two opened commits may differ.
+abbrev pub AnswersOfAnyStartAreTalks : Type 0
+AnswersOfAnyStartAreTalks = (json : Json) (from : Opened) → ReadsLines json → IsShownStart from.start → AnswersAreTalks json (OpensAs from)
+
+abbrev pub TalksOfOneStartAgree : Type 0
+TalksOfOneStartAgree =
+    (json : Json) (from₁ from₂ : Opened) → ReadsLines json → IsShownStart from₁.start → from₁.start ≡ from₂.start
+    → TalksAgree json (OpensAs from₁) (OpensAs from₂) (λ first₁ first₂. Unit {0})
