@@ -1,0 +1,190 @@
+-- Live sets, and what is marked by them.
+use Rattle.std.proofs.Common.{◌≡◌, ℕ, zero, suc, List, [], ◌∷◌, ◌++◌, length, map, take, drop, Bool, true, false, cond, not, ◌&&◌, refl, sym, ◌∙◌, ap, ap₂, subst, arith}
+use Rattle.std.specs.List.{AllByRecursion}
+use Rattle.std.proofs.lemmas.List.{length-append}
+use Rattle.std.proofs.lemmas.List.Elements.{filter-append}
+use Rattle.cat_model.specs.Item.{Record}
+use Rattle.cat_model.specs.Write.{Write, removes}
+use Rattle.cat_model.specs.Table.{without}
+use Rattle.cat_model.specs.View.{marked}
+use Rattle.cat_ledger_model.specs.Portions.{Portion, live_records, records_of, rows_of, lives_of, Apart, live_after, portions_after, LessLive, Reduced}
+
+-- ---- marked
+
+pub marked-none : {A : Type 0} (bs : List Bool) → marked {A = A} bs [] ≡ []
+marked-none [] = refl
+marked-none (b ∷ bs) = refl
+
+pub marked-append : {A : Type 0} (bs cs : List Bool) (xs ys : List A) → length bs ≡ length xs → marked (bs ++ cs) (xs ++ ys) ≡ marked bs xs ++ marked cs ys
+marked-append [] cs [] ys e = refl
+marked-append [] cs (x ∷ xs) ys e = absurd (omega (arith, e))
+marked-append (b ∷ bs) cs [] ys e = absurd (omega (arith, e))
+marked-append (true ∷ bs) cs (x ∷ xs) ys e = ap (λ l. x ∷ l) (marked-append bs cs xs ys (omega (arith, e)))
+marked-append (false ∷ bs) cs (x ∷ xs) ys e = marked-append bs cs xs ys (omega (arith, e))
+
+pub marked-all : {A : Type 0} (xs : List A) → marked (map (λ x. true) xs) xs ≡ xs
+marked-all [] = refl
+marked-all (x ∷ xs) = ap (λ l. x ∷ l) (marked-all xs)
+
+pub All-marked : {X : Type 0} (P : X → Type 0) (bs : List Bool) (xs : List X) → AllByRecursion P xs → AllByRecursion P (marked bs xs)
+All-marked P [] xs a = tt
+All-marked P (b ∷ bs) [] a = tt
+All-marked P (true ∷ bs) (x ∷ xs) a = (a.0, All-marked P bs xs a.1)
+All-marked P (false ∷ bs) (x ∷ xs) a = All-marked P bs xs a.1
+
+pub Apart-marked : {X : Type 0} (R : X → X → Type 0) (bs : List Bool) (xs : List X) → Apart R xs → Apart R (marked bs xs)
+Apart-marked R [] xs a = tt
+Apart-marked R (b ∷ bs) [] a = tt
+Apart-marked R (true ∷ bs) (x ∷ xs) a = (All-marked (R x) bs xs a.0, Apart-marked R bs xs a.1)
+Apart-marked R (false ∷ bs) (x ∷ xs) a = Apart-marked R bs xs a.1
+
+pub marked-length : {A B : Type 0} (bs : List Bool) (xs : List A) (ys : List B) → length xs ≡ length ys → length (marked bs xs) ≡ length (marked bs ys)
+marked-length [] xs ys e = refl
+marked-length (b ∷ bs) [] [] e = refl
+marked-length (b ∷ bs) [] (y ∷ ys) e = absurd (omega (arith, e))
+marked-length (b ∷ bs) (x ∷ xs) [] e = absurd (omega (arith, e))
+marked-length (true ∷ bs) (x ∷ xs) (y ∷ ys) e = ap suc (marked-length bs xs ys (omega (arith, e)))
+marked-length (false ∷ bs) (x ∷ xs) (y ∷ ys) e = marked-length bs xs ys (omega (arith, e))
+
+-- what stands in the middle of a list may be thinned out
+thinned : {X : Type 0} (xs ys zs : List X) (bs : List Bool) → length bs ≡ length ys → marked (map (λ x. true) xs ++ (bs ++ map (λ x. true) zs)) (xs ++ (ys ++ zs)) ≡ xs ++ (marked bs ys ++ zs)
+thinned {X} xs ys zs bs e =
+    marked-append (map (λ x. true) xs) (bs ++ map (λ x. true) zs) xs (ys ++ zs) (length-map xs)
+    ∙ ap₂ (λ (a b : List X). a ++ b) (marked-all xs) (marked-append bs (map (λ x. true) zs) ys zs e ∙ ap (λ l. marked bs ys ++ l) (marked-all zs))
+  where
+    length-map : (l : List X) → length (map (λ x. true) l) ≡ length l
+    length-map [] = refl
+    length-map (y ∷ l) = ap suc (length-map l)
+
+pub Apart-thinned : {X : Type 0} (R : X → X → Type 0) (xs ys zs : List X) (bs : List Bool) → length bs ≡ length ys → Apart R (xs ++ (ys ++ zs)) → Apart R (xs ++ (marked bs ys ++ zs))
+Apart-thinned R xs ys zs bs e a = subst (Apart R) (thinned xs ys zs bs e) (Apart-marked R _ (xs ++ (ys ++ zs)) a)
+
+pub All-thinned : {X : Type 0} (P : X → Type 0) (xs ys zs : List X) (bs : List Bool) → length bs ≡ length ys → AllByRecursion P (xs ++ (ys ++ zs)) → AllByRecursion P (xs ++ (marked bs ys ++ zs))
+All-thinned P xs ys zs bs e a = subst (AllByRecursion P) (thinned xs ys zs bs e) (All-marked P _ (xs ++ (ys ++ zs)) a)
+
+-- ---- lists of portions as one
+
+abbrev pub Full : List Portion → Type 0
+Full ps = AllByRecursion (λ p. length p.live ≡ length p.records) ps
+
+pub lives-length : (ps : List Portion) → Full ps → length (lives_of ps) ≡ length (rows_of ps)
+lives-length [] f = refl
+lives-length (p ∷ ps) f = omega (arith, f.0, lives-length ps f.1, length-append p.live (lives_of ps), length-append p.records (rows_of ps))
+
+pub records-marked : (ps : List Portion) → Full ps → marked (lives_of ps) (rows_of ps) ≡ records_of ps
+records-marked [] f = refl
+records-marked (p ∷ ps) f = marked-append p.live (lives_of ps) p.records (rows_of ps) f.0 ∙ ap (λ l. live_records p ++ l) (records-marked ps f.1)
+
+-- ---- live sets that lost rows
+
+pub LessLive-length : (a b : List Bool) → LessLive a b → length a ≡ length b
+LessLive-length [] [] h = refl
+LessLive-length [] (c ∷ b) h = absurd h
+LessLive-length (x ∷ a) [] h = absurd h
+LessLive-length (x ∷ a) (c ∷ b) h = ap suc (LessLive-length a b h.1)
+
+pub LessLive-append : (a b c d : List Bool) → LessLive a b → LessLive c d → LessLive (a ++ c) (b ++ d)
+LessLive-append [] [] c d h k = k
+LessLive-append [] (y ∷ b) c d h k = absurd h
+LessLive-append (x ∷ a) [] c d h k = absurd h
+LessLive-append (x ∷ a) (y ∷ b) c d h k = (h.0, LessLive-append a b c d h.1 k)
+
+pub LessLive-then : (a b c : List Bool) → LessLive a b → LessLive b c → LessLive a c
+LessLive-then [] [] [] h k = tt
+LessLive-then [] [] (z ∷ c) h k = absurd k
+LessLive-then [] (y ∷ b) c h k = absurd h
+LessLive-then (x ∷ a) [] c h k = absurd h
+LessLive-then (x ∷ a) (y ∷ b) [] h k = absurd k
+LessLive-then (x ∷ a) (y ∷ b) (z ∷ c) h k = (λ e. h.0 (k.0 e), LessLive-then a b c h.1 k.1)
+
+-- the records kept at the beginning, live where they are live now, are those live now
+pub settle : {A : Type 0} (a b : List Bool) (xs : List A) → LessLive a b → marked (marked a b) (marked a xs) ≡ marked b xs
+settle [] [] xs h = refl
+settle [] (y ∷ b) xs h = absurd h
+settle (x ∷ a) [] xs h = absurd h
+settle (x ∷ a) (y ∷ b) [] h = marked-none (marked (x ∷ a) (y ∷ b))
+settle (true ∷ a) (true ∷ b) (z ∷ xs) h = ap (λ l. z ∷ l) (settle a b xs h.1)
+settle (true ∷ a) (false ∷ b) (z ∷ xs) h = settle a b xs h.1
+settle (false ∷ a) (true ∷ b) (z ∷ xs) h = absurd (let no : false ≡ true = h.0 refl in cc)
+settle (false ∷ a) (false ∷ b) (z ∷ xs) h = settle a b xs h.1
+
+pub Reduced-lives : (ps qs : List Portion) → Reduced ps qs → LessLive (lives_of ps) (lives_of qs)
+Reduced-lives [] [] h = tt
+Reduced-lives [] (q ∷ qs) h = absurd h
+Reduced-lives (p ∷ ps) [] h = absurd h
+Reduced-lives (p ∷ ps) (q ∷ qs) h = LessLive-append p.live q.live (lives_of ps) (lives_of qs) h.2 (Reduced-lives ps qs h.3)
+
+pub Reduced-rows : (ps qs : List Portion) → Reduced ps qs → rows_of qs ≡ rows_of ps
+Reduced-rows [] [] h = refl
+Reduced-rows [] (q ∷ qs) h = absurd h
+Reduced-rows (p ∷ ps) [] h = absurd h
+Reduced-rows (p ∷ ps) (q ∷ qs) h = ap₂ (λ (a b : List Record). a ++ b) h.1 (Reduced-rows ps qs h.3)
+
+pub Reduced-length : (ps qs : List Portion) → Reduced ps qs → length qs ≡ length ps
+Reduced-length [] [] h = refl
+Reduced-length [] (q ∷ qs) h = absurd h
+Reduced-length (p ∷ ps) [] h = absurd h
+Reduced-length (p ∷ ps) (q ∷ qs) h = ap suc (Reduced-length ps qs h.3)
+
+pub LessLive-same : (a : List Bool) → LessLive a a
+LessLive-same [] = tt
+LessLive-same (b ∷ a) = (λ e. e, LessLive-same a)
+
+pub Reduced-same : (ps : List Portion) → Reduced ps ps
+Reduced-same [] = tt
+Reduced-same (p ∷ ps) = (refl, refl, LessLive-same p.live, Reduced-same ps)
+
+pub Reduced-then : (a b c : List Portion) → Reduced a b → Reduced b c → Reduced a c
+Reduced-then [] [] [] h k = tt
+Reduced-then [] [] (z ∷ c) h k = absurd k
+Reduced-then [] (y ∷ b) c h k = absurd h
+Reduced-then (x ∷ a) [] c h k = absurd h
+Reduced-then (x ∷ a) (y ∷ b) [] h k = absurd k
+Reduced-then (x ∷ a) (y ∷ b) (z ∷ c) h k = (k.0 ∙ h.0, k.1 ∙ h.1, LessLive-then x.live y.live z.live h.2 k.2, Reduced-then a b c h.3 k.3)
+
+pub Reduced-take : (i : ℕ) (a b : List Portion) → Reduced a b → Reduced (take i a) (take i b)
+Reduced-take zero a b h = tt
+Reduced-take (suc i) [] [] h = tt
+Reduced-take (suc i) [] (y ∷ b) h = absurd h
+Reduced-take (suc i) (x ∷ a) [] h = absurd h
+Reduced-take (suc i) (x ∷ a) (y ∷ b) h = (h.0, h.1, h.2, Reduced-take i a b h.3)
+
+pub Reduced-drop : (i : ℕ) (a b : List Portion) → Reduced a b → Reduced (drop i a) (drop i b)
+Reduced-drop zero a b h = h
+Reduced-drop (suc i) [] [] h = tt
+Reduced-drop (suc i) [] (y ∷ b) h = absurd h
+Reduced-drop (suc i) (x ∷ a) [] h = absurd h
+Reduced-drop (suc i) (x ∷ a) (y ∷ b) h = Reduced-drop i a b h.3
+
+-- ---- a write's record is taken out
+
+pub live_after-less : (w : Write) (bs : List Bool) (rs : List Record) → LessLive bs (live_after w bs rs)
+live_after-less w [] rs = tt
+live_after-less w (b ∷ bs) [] = LessLive-same (b ∷ bs)
+live_after-less w (b ∷ bs) (r ∷ rs) = (and_left b (not (removes w r.item)), live_after-less w bs rs)
+  where
+    and_left : (x y : Bool) → (x && y) ≡ true → x ≡ true
+    and_left true y e = refl
+    and_left false y e = e
+
+pub Reduced-after : (w : Write) (ps : List Portion) → Reduced ps (portions_after w ps)
+Reduced-after w [] = tt
+Reduced-after w (p ∷ ps) = (refl, refl, live_after-less w p.live p.records, Reduced-after w ps)
+
+marked_after : (w : Write) (bs : List Bool) (rs : List Record) → marked (live_after w bs rs) rs ≡ without (marked bs rs) w
+marked_after w [] rs = refl
+marked_after w (b ∷ bs) [] = refl
+marked_after w (true ∷ bs) (r ∷ rs) = elim (not (removes w r.item)) as (λ x. marked (x ∷ live_after w bs rs) (r ∷ rs) ≡ cond x (r ∷ without (marked bs rs) w) (without (marked bs rs) w)) [
+  | true ↦ ap (λ l. r ∷ l) (marked_after w bs rs)
+  | false ↦ marked_after w bs rs
+]
+marked_after w (false ∷ bs) (r ∷ rs) = marked_after w bs rs
+
+pub records-after : (w : Write) (ps : List Portion) → records_of (portions_after w ps) ≡ without (records_of ps) w
+records-after w [] = refl
+records-after w (p ∷ ps) =
+    ap₂ (λ (a b : List Record). a ++ b) (marked_after w p.live p.records) (records-after w ps)
+    ∙ sym (filter-append (λ r. not (removes w r.item)) (live_records p) (records_of ps))
+
+pub rows-after : (w : Write) (ps : List Portion) → rows_of (portions_after w ps) ≡ rows_of ps
+rows-after w ps = Reduced-rows ps (portions_after w ps) (Reduced-after w ps)

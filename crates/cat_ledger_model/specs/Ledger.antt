@@ -1,0 +1,176 @@
+-- The ledger: the one state of the catalogue (IndexWriter with its deleter and its snapshots, SearcherLifetimeManager).
+use Rattle.std.specs.Prelude.{◌≢◌, ℕ, ◌+◌, ◌<◌, ◌≤◌, ◌==◌, List, [], ◌∷◌, ◌++◌, map, cond, Option, Some, None}
+use Rattle.std.specs.List.{flat_map, AllByRecursion}
+use Rattle.cat_model.specs.Item.{Schema, Record, IsItem}
+use Rattle.cat_model.specs.Files.{Name}
+use Rattle.cat_model.specs.Run.{last_number}
+use Rattle.cat_model.specs.State.{View, Hold, Commit, Taken, State, IsSound}
+use Rattle.cat_ledger_model.specs.Portions.{Portion, records_of, rows_of, Apart, ArePortions, Merging, IsMerging}
+use Rattle.cat_ledger_model.specs.Users.{Used, AreUsed}
+
+-- a recorded view: the portions under its token
+pub record Recorded : Type 0 where
+  pub token : ℕ
+  pub portions : List Portion
+
+-- a portion of a commit, and the generation of its live file: 0 where it has none
+pub record Listed : Type 0 where
+  pub portion : Portion
+  pub file : ℕ
+
+-- a commit: its generation, its token, the next segment number that it tells, and its portions
+pub record Written : Type 0 where
+  pub generation : ℕ
+  pub token : ℕ
+  pub next : ℕ
+  pub listed : List Listed
+
+-- the fields; the current portions and the buffered records; how many writes were accepted; the recorded views in rising
+-- order; the holds; the kept commits, the newest last; the snapshots; the merge in the making; the users of names; and the
+-- numbers that are taken next
+pub record Ledger : Type 0 where
+  pub schema : Schema
+  pub portions : List Portion
+  pub buffered : List Record
+  pub count : ℕ
+  pub views : List Recorded
+  pub holds : List Hold
+  pub commits : List Written
+  pub taken : List Taken
+  pub merging : Option Merging
+  pub users : List Used
+  pub next_segment : ℕ
+  pub next_generation : ℕ
+
+-- ---- what the ledger stands for
+
+-- the table now: the live records, and those that wait
+abbrev pub table_of : Ledger → List Record
+table_of l = records_of l.portions ++ l.buffered
+
+-- the portions of a commit
+abbrev pub portions_in : Written → List Portion
+portions_in c = map (λ x. x.portion) c.listed
+
+abbrev pub view_shown : Recorded → View
+view_shown v = record { token = v.token; table = records_of v.portions }
+
+abbrev pub commit_shown : Written → Commit
+commit_shown c = record { generation = c.generation; token = c.token; table = records_of (portions_in c) }
+
+-- the state that the ledger carries: segments, live sets, merges, numbers and users of names are in none of it
+abbrev pub state_of : Ledger → State
+state_of l = record { table = table_of l; count = l.count; views = map view_shown l.views; holds = l.holds; commits = map commit_shown l.commits; taken = l.taken }
+
+-- ---- the users of names
+
+abbrev pub names_of_portion : Portion → List Name
+names_of_portion p = Name.segment p.number ∷ Name.source p.number ∷ []
+
+abbrev pub names_of_view : Recorded → List Name
+names_of_view v = flat_map names_of_portion v.portions
+
+abbrev pub name_of_live : ℕ → ℕ → List Name
+name_of_live n d = cond (d == 0) [] (Name.live n d ∷ [])
+
+abbrev pub names_of_listed : Listed → List Name
+names_of_listed x = names_of_portion x.portion ++ name_of_live x.portion.number x.file
+
+abbrev pub names_of_commit : Written → List Name
+names_of_commit c = Name.commit c.generation ∷ flat_map names_of_listed c.listed
+
+abbrev pub names_of_merging : Option Merging → List Name
+names_of_merging None = []
+names_of_merging (Some m) = Name.source m.number ∷ []
+
+-- the users, each with its names
+abbrev pub users : Ledger → List (List Name)
+users l = flat_map names_of_portion l.portions ∷ (map names_of_view l.views ++ (map names_of_commit l.commits ++ names_of_merging l.merging ∷ []))
+
+-- the names of each user in turn: the current portions, the recorded views, the kept commits, the merge in the making
+abbrev pub names_used : Ledger → List Name
+names_used l = flat_map names_of_portion l.portions ++ (flat_map names_of_view l.views ++ (flat_map names_of_commit l.commits ++ names_of_merging l.merging))
+
+-- ---- what always holds
+
+-- the numbers in the name are below those that are taken next
+abbrev pub IsPast : ℕ → ℕ → Name → Type 0
+IsPast n g (Name.segment m) = m < n
+IsPast n g (Name.source m) = m < n
+IsPast n g (Name.live m d) = (m < n) × (d < g)
+IsPast n g (Name.commit d) = d < g
+
+-- the name has a number that is not taken yet
+abbrev pub IsNew : ℕ → ℕ → Name → Type 0
+IsNew n g (Name.segment m) = n ≤ m
+IsNew n g (Name.source m) = n ≤ m
+IsNew n g (Name.live m d) = g ≤ d
+IsNew n g (Name.commit d) = g ≤ d
+
+-- the name has not this number of a segment
+abbrev pub IsOther : ℕ → Name → Type 0
+IsOther n (Name.segment m) = m ≢ n
+IsOther n (Name.source m) = m ≢ n
+IsOther n (Name.live m d) = m ≢ n
+IsOther n (Name.commit d) = Unit {0}
+
+-- the name has not the number of the merge in the making
+abbrev pub NotOf : Option Merging → Name → Type 0
+NotOf None q = Unit {0}
+NotOf (Some m) q = IsOther m.number q
+
+-- the merge in the making has a number that no portion, view or commit has
+pub record IsAlone (o : Option Merging) (ps : List Portion) (vs : List Recorded) (cs : List Written) : Type 0 where
+  pub portions : AllByRecursion (NotOf o) (flat_map names_of_portion ps)
+  pub views : AllByRecursion (NotOf o) (flat_map names_of_view vs)
+  pub commits : AllByRecursion (NotOf o) (flat_map names_of_commit cs)
+
+-- the record was put by one of the writes, and its item has the fields
+pub record IsRow (schema : Schema) (count : ℕ) (r : Record) : Type 0 where
+  pub positive : 1 ≤ r.number
+  pub seen : r.number ≤ count
+  pub item : IsItem schema r.item
+
+-- Portions that are a table at so many writes: each record was put by one of them and has the fields, numbers rise over all
+-- records, dead ones too, and the ids of the live ones differ.
+pub record AreWhole (schema : Schema) (count : ℕ) (ps : List Portion) : Type 0 where
+  pub portions : ArePortions ps
+  pub rows : AllByRecursion (IsRow schema count) (rows_of ps)
+  pub rising : Apart (λ r s. r.number < s.number) (rows_of ps)
+  pub ids : Apart (λ r s. r.item.id ≢ s.item.id) (records_of ps)
+
+-- a recorded view is whole at its token, which the number of writes has reached
+abbrev pub IsRecorded : Schema → ℕ → Recorded → Type 0
+IsRecorded schema count v = (v.token ≤ count) × AreWhole schema v.token v.portions
+
+-- so is a commit
+abbrev pub IsWritten : Schema → ℕ → Written → Type 0
+IsWritten schema count c = (c.token ≤ count) × AreWhole schema c.token (portions_in c)
+
+-- the number of writes, and the numbers of segments and of commits that were taken, are at most the last number
+abbrev pub Fits : ℕ → ℕ → ℕ → Type 0
+Fits count segment generation = (count ≤ last_number) × (segment ≤ last_number + 1) × (generation ≤ last_number + 1)
+
+pub record IsLedger (l : Ledger) : Type 0 where
+  -- the current list is one of portions; each view and each commit is a table at its token
+  pub portions : ArePortions l.portions
+  pub views : AllByRecursion (IsRecorded l.schema l.count) l.views
+  pub commits : AllByRecursion (IsWritten l.schema l.count) l.commits
+  -- each record was put by a write so far and has the fields; numbers rise over all records, dead ones too
+  pub rows : AllByRecursion (IsRow l.schema l.count) (rows_of l.portions ++ l.buffered)
+  pub rising : Apart (λ r s. r.number < s.number) (rows_of l.portions ++ l.buffered)
+  -- the ids of the table differ
+  pub ids : Apart (λ r s. r.item.id ≢ s.item.id) (table_of l)
+  -- some view stands, and each held token has one
+  pub sound : IsSound (map view_shown l.views) l.holds
+  -- the inputs of the merge in the making stand in the list, with records taken out at most
+  pub merging : IsMerging l.portions l.merging
+  -- its number is no other user's
+  pub alone : IsAlone l.merging l.portions l.views l.commits
+  -- each name has as many users as have it
+  pub users : AreUsed l.users (names_used l)
+  -- the next numbers are above those of every name that is used
+  pub fresh : AllByRecursion (IsPast l.next_segment l.next_generation) (names_used l)
+  pub numbers : (0 < l.next_segment) × (0 < l.next_generation)
+  -- every number that was taken fits a file
+  pub fits : Fits l.count l.next_segment l.next_generation
