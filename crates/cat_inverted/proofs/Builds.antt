@@ -28,7 +28,7 @@ each_set [] h k d lt = absurd (omega arith)
 each_set (r ∷ rows) h zero d lt = h 0 r (omega arith)
 each_set (r ∷ rows) h (suc k) d lt = each_set rows (λ j e l. h (suc j) e (omega arith)) k d (omega arith)
 
-zip_kept : (f : Text → List ℕ) (test : List ℕ → Bool) (words : List Text) → map (λ e. e.0) (filter (λ e. test e.1) (zip words (map f words))) ≡ filter (λ w. test (f w)) words
+pub zip_kept : (f : Text → List ℕ) (test : List ℕ → Bool) (words : List Text) → map (λ e. e.0) (filter (λ e. test e.1) (zip words (map f words))) ≡ filter (λ w. test (f w)) words
 zip_kept f test [] = refl
 zip_kept f test (w ∷ words) =
     elim (test (f w)) as (λ b. map (λ e. e.0) (cond b ((w, f w) ∷ filter (λ e. test e.1) (zip words (map f words))) (filter (λ e. test e.1) (zip words (map f words)))) ≡ cond b (w ∷ filter (λ v. test (f v)) words) (filter (λ v. test (f v)) words)) [
@@ -36,7 +36,7 @@ zip_kept f test (w ∷ words) =
       | false ↦ zip_kept f test words
     ]
 
-implied : (a b : Bool) → (a ≡ true → b ≡ true) → (a && b) ≡ a
+pub implied : (a b : Bool) → (a ≡ true → b ≡ true) → (a && b) ≡ a
 implied true b h = h refl
 implied false b h = refl
 

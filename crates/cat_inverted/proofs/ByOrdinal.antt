@@ -85,7 +85,7 @@ rows_more o rows i lt =
 -- ---- of texts by their ordinals
 
 module _ (words : List Text) (sorted : IsTextSet words) where
-  same_place : (o k : ℕ) → o < length words → k < length words → (k == o) ≡ same_text (text_at words o) (text_at words k)
+  pub same_place : (o k : ℕ) → o < length words → k < length words → (k == o) ≡ same_text (text_at words o) (text_at words k)
   same_place o k lto ltk =
       both_ways (k == o) (same_text (text_at words o) (text_at words k))
       (λ e. (bytes_eq-Decides (text_at words o) (text_at words k)).1 (ap (text_at words) (sym (eqb-true k o e))))

@@ -31,7 +31,7 @@ module _ (words : List Text) (i : ℕ) (word : Text) (lt : i < length words) (at
   any_more : (q : Text) → list_any (same_text q) (take (i + 1) words) ≡ (list_any (same_text q) (take i words) || same_text q word)
   any_more q = list_any_more (same_text q) words i word lt ∙ ap (λ w. list_any (same_text q) (take i words) || same_text q w) (sym at)
 
-  new_word : IsTextSet words → (q : Text) → list_any (same_text q) (take i words) ≡ true → same_text q word ≡ false
+  pub new_word : IsTextSet words → (q : Text) → list_any (same_text q) (take i words) ≡ true → same_text q word ≡ false
   new_word sorted q h =
       elim (cases_Bool (same_text q word)) [
         | inl yes' ↦

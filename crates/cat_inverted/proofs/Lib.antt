@@ -1,6 +1,8 @@
 pub mod Builds
 pub mod ByOrdinal
 pub mod Gathering
+pub mod Merging
+pub mod Moved
 pub mod Parts
 pub mod Intervals
 pub mod Rising

@@ -2,6 +2,7 @@
 #![tactic(auto)]
 
 mod build;
+mod merge;
 mod ordinals;
 mod posted;
 mod ranges;
@@ -9,5 +10,6 @@ mod terms;
 #[cfg(test)]
 mod tests;
 
+pub use merge::Part;
 pub use posted::terms_are_told_by_their_postings;
 pub use terms::Terms;

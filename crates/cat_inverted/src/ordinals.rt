@@ -14,7 +14,7 @@ use cat_base::{Refusal, TextSet};
 use std::alloc::Global;
 
 /// As many lists as there are to be, each empty.
-fn empty_lists(alloc: Global, count: usize) -> Result<Vec<Vec<u32>>, Refusal>
+pub(crate) fn empty_lists(alloc: Global, count: usize) -> Result<Vec<Vec<u32>>, Refusal>
     ensures count { IfOk result (λ v. length v.items ≡ count) }
     ensures empty { IfOk result (λ v. All (λ list. list.items ≡ []) v.items) }
     ensures refusal { IfErr result (λ e. e ≡ Memory) }
@@ -66,7 +66,7 @@ fn gathered(
 }
 
 /// Where each list ends, and the lists, one behind another.
-fn laid(alloc: Global, lists: &[Vec<u32>]) -> Result<(Vec<u32>, Vec<u32>), Refusal>
+pub(crate) fn laid(alloc: Global, lists: &[Vec<u32>]) -> Result<(Vec<u32>, Vec<u32>), Refusal>
     ensures ends { IfOk result (λ p. p.0.items ≡ ends_from 0 (map (λ list. list.items) lists.now)) }
     ensures rows { IfOk result (λ p. p.1.items ≡ flat_map (λ list. list) (map (λ list. list.items) lists.now)) }
     ensures few { IfOk result (λ p. length p.1.items < 2 ^ 32) }

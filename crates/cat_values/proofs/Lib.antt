@@ -7,6 +7,7 @@ pub mod Cuts
 pub mod Fills
 pub mod Laid
 pub mod Members
+pub mod Merged
 pub mod Ordinals
 pub mod Packs
 pub mod Presence

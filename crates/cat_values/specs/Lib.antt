@@ -1,2 +1,3 @@
 pub mod Bits
 pub mod Columns
+pub mod Merged

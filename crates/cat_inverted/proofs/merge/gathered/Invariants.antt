@@ -1,0 +1,15 @@
+use Rattle.std.proofs.Common.{◌≡◌, ℕ, ◌<◌, length, take}
+use Rattle.std.specs.List.{flat_map}
+use Rattle.std.specs.Prelude.{All}
+use Rattle.cat_base.specs.Texts.{IsTextSet}
+use Rattle.cat_model.specs.Ordinals.{postings_of, text_at}
+use Rattle.cat_values.specs.Merged.{kept_of}
+use Rattle.cat_inverted.specs.Gathered.{list_at}
+use Rattle.cat_inverted.proofs.merge.gathered.Given as goal
+
+abbrev pub invariant-loop-part : goal.invariant-loop-part
+invariant-loop-part l = record {
+  count : length l.lists.items ≡ length l.words;
+  lists : (o : ℕ) → o < length l.words → list_at l.lists o ≡ postings_of (text_at l.words o) (flat_map (λ p. kept_of p.places.now p.terms.now) (take l.part-index l.parts));
+  sets : All (λ p. All IsTextSet p.terms.now) (take l.part-index l.parts);
+}
