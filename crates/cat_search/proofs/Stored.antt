@@ -1,10 +1,10 @@
 -- The stored source of the row of an id.
-use Rattle.std.proofs.Common.{◌≡◌, ◌≢◌, ℕ, zero, suc, ◌+◌, ◌<◌, ◌≤◌, List, [], ◌∷◌, ◌++◌, length, map, take, drop, get_or, sum, AllPairs, Bool, true, false, cond, ◌||◌, Option, Some, None, option_map, is_some, find, refl, sym, ap, ◌∙◌, subst, inl, inr, arith}
+use Rattle.std.proofs.Common.{◌≡◌, ◌≢◌, ℕ, zero, suc, ◌+◌, ◌-◌, ◌<◌, ◌≤◌, List, [], ◌∷◌, ◌++◌, length, map, take, drop, get_or, sum, AllPairs, Bool, true, false, cond, ◌||◌, Option, Some, None, option_map, is_some, find, refl, sym, ap, ◌∙◌, subst, inl, inr, arith}
 use Rattle.std.specs.Prelude.{slice_index, Contains}
 use Rattle.std.specs.Option.{option_or}
 use Rattle.std.specs.List.{AllByRecursion, HoldsAt, All, flat_map, list_any}
 use Rattle.std.proofs.lemmas.Bool.{cases_lt}
-use Rattle.std.proofs.lemmas.List.{drop-drop, take_more, flat_map_more}
+use Rattle.std.proofs.lemmas.List.{drop-drop, take_more, flat_map_more, length-drop, length-take-le}
 use Rattle.std.proofs.lemmas.List.Elements.{Contains-from_at, recursion_from_All}
 use Rattle.std.proofs.lemmas.List.Folds.{find-append}
 use Rattle.std.proofs.lemmas.List.Sums.{sum_by-cons}
@@ -252,3 +252,16 @@ long_enough files leaf s row place len is h p l holds short =
     let at : place ≡ source_place rows row = p ∙ ap (λ t. source_place t.rows row) is in
     let fits = place_within rows row h in
     omega (arith, long, at, fits, holds, short)
+
+-- what is as long as the row says has the length of the row's source
+pub length_is : (files : ℕ → List ℕ) (leaf : Leaf) (s : Segment) (row len : ℕ) (items : List ℕ) → s ≡ leaf.segment → row < length leaf.segment.rows
+    → HoldsAt (λ r. r.length ≡ len) s.rows row → sum (map (λ r. r.length) leaf.segment.rows) ≤ length (files leaf.segment.number) → length items ≡ len → length items ≡ length (source_in files leaf row)
+length_is files leaf s row len items is h l holds e =
+    let rows : List Row = leaf.segment.rows in
+    let bytes : List ℕ = files leaf.segment.number in
+    let n : ℕ = slice_index (map (λ r. r.length) rows) row in
+    let long : slice_index (map (λ r. r.length) rows) row ≡ len = length-at rows row len h (subst (λ t. HoldsAt (λ r. r.length ≡ len) t.rows row) is l) in
+    let fits = place_within rows row h in
+    let rest : length (drop (source_place rows row) bytes) ≡ length bytes - source_place rows row = length-drop (source_place rows row) bytes in
+    let taken : length (take n (drop (source_place rows row) bytes)) ≡ n = length-take-le n (drop (source_place rows row) bytes) (omega (arith, fits, holds, rest)) in
+    e ∙ sym long ∙ sym taken

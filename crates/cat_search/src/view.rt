@@ -173,6 +173,8 @@ impl View {
     ) -> Result<Option<Vec<u8>>, Refusal>
         ensures ok { IfOk result (λ found. (files : ℕ → List ℕ) → TellsSources (S.bytes shelf.old) files self.now
             → option_map (λ bytes. bytes.items) found ≡ stored (records_in files self.now) id.now) }
+        ensures length { IfOk result (λ found. (files : ℕ → List ℕ) → HoldSources files self.now
+            → option_map (λ bytes. length bytes.items) found ≡ option_map (λ text. length text) (stored (records_in files self.now) id.now)) }
         ensures there { IfOk result (λ found. is_some found ≡ list_any (has_id id.now) (rows_in self.now)) }
         ensures none { list_any (has_id id.now) (rows_in self.now) ≡ false → (result ≡ Ok None) × (S.fault_count shelf.new ≡ S.fault_count shelf.old) }
         ensures damaged { IfErr result (λ e. e ≡ Damaged → (files : ℕ → List ℕ) → TellsSources (S.bytes shelf.old) files self.now → HoldSources files self.now → ⊥) }

@@ -1,4 +1,4 @@
-use Rattle.std.proofs.Common.{◌≡◌, ◌≤◌, ◌∙◌, Some, length, map, sum, sym, ap, subst, false}
+use Rattle.std.proofs.Common.{option_map, ◌≡◌, ◌≤◌, ◌∙◌, Some, length, map, sum, sym, ap, subst, false}
 use Rattle.std.specs.Prelude.{Contains}
 use Rattle.std.specs.List.{list_any, flat_map}
 use Rattle.std.proofs.lemmas.List.Elements.{All-contains}
@@ -6,7 +6,7 @@ use Rattle.std.proofs.lemmas.Result.{err_from_is_err_and}
 use Rattle.cat_model.specs.View.{live_rows}
 use Rattle.cat_directory.specs.declared.name.FileName.TheVariants as file
 use Rattle.cat_search.specs.Views.{has_id, stored_in}
-use Rattle.cat_search.proofs.Stored.{none_stored, read_is, long_enough}
+use Rattle.cat_search.proofs.Stored.{none_stored, read_is, long_enough, length_is}
 use Rattle.cat_search.proofs.view.View.get.Goals as goal
 
 pub returns-in_default-clause-ok : goal.returns-in_default-clause-ok
@@ -39,3 +39,17 @@ returns-in_err-read-clause-damaged g c =
     let short = c.in_err-read.ensures.damaged e (files leaf.segment.number) (ap (λ n. told (file.Source n)) number ∙ tell) in
     let whole = All-contains (λ l. sum (map (λ r. r.length) l.segment.rows) ≤ length (files l.segment.number)) c.args.self.now.leaves leaf holds there in
     long_enough files leaf c.segment-segment.result.now c.in-Some.row c.source_place-place.result c.source_length.result c.segment-segment.ensures c.in-Some.ensures.0 c.source_place-place.ensures c.source_length.ensures whole short)
+
+pub returns-in_default-clause-length : goal.returns-in_default-clause-length
+returns-in_default-clause-length g c = λ files holds.
+    let leaves = c.deref-2.ensures.value ∙ ap (λ v. v.items) c.deref.ensures ∙ ap (λ v. v.leaves) c.self.view_is in
+    ap (option_map (λ text. length text)) (sym (none_stored files c.args.id.now c.args.self.now.leaves (subst (λ ls. list_any (has_id c.args.id.now) (flat_map live_rows ls) ≡ false) leaves c.in_default.ensures)))
+
+pub returns-clause-length : goal.returns-clause-length
+returns-clause-length g c = λ files holds.
+    let leaf = c.in-Some.leaf.now in
+    let leaves = c.deref-2.ensures.value ∙ ap (λ v. v.items) c.deref.ensures ∙ ap (λ v. v.leaves) c.self.view_is in
+    let there = subst (λ ls. Contains ls leaf) leaves c.in-Some.ensures.2 in
+    let whole = All-contains (λ l. sum (map (λ r. r.length) l.segment.rows) ≤ length (files l.segment.number)) c.args.self.now.leaves leaf holds there in
+    ap Some (length_is files leaf c.segment-segment.result.now c.in-Some.row c.source_length.result c.in_ok-read.field-0.items c.segment-segment.ensures c.in-Some.ensures.0 c.source_length.ensures whole c.in_ok-read.ensures.len)
+    ∙ ap (option_map (λ text. length text)) (sym (c.in-Some.ensures.3 files) ∙ ap (λ ls. stored_in files ls c.args.id.now) leaves)
