@@ -15,7 +15,7 @@ use Rattle.std.specs.Ordering.{is_lt}
 use Rattle.std.specs.List.Sorted.{IsStrictlySortedBy}
 use Rattle.cat_base.specs.Texts.{IsTextSet}
 use Rattle.cat_model.specs.Text.{Text, text_cmp, same_text}
-use Rattle.cat_model.specs.Item.{Field, Schema, IsSchema, is_id, is_name, is_name_byte, has_name_form}
+use Rattle.cat_model.specs.Item.{Field, Schema, IsSchema, is_id, is_field_name, is_name_byte, has_name_form}
 use Rattle.cat_model.specs.Forms.{IsWord, IsKeyword, IsLabel, is_low_byte, is_plain_byte}
 use Rattle.cat_codec.specs.Reading.{u32_at, where_at, both_at, many_at}
 use Rattle.cat_codec.specs.Layouts.{is_word, is_keyword, is_label, is_rising, is_schema, field_at, fields_at}
@@ -93,14 +93,14 @@ rising_to (t ∷ ts) h =
 
 pub schema_from : (fs : Schema) → is_schema fs ≡ true → IsSchema fs
 schema_from fs e =
-    let h = both_true (leb (length fs) 32) (is_rising (map (λ f. f.name) fs) && list_all (λ f. is_name f.name) fs) e in
-    let k = both_true (is_rising (map (λ f. f.name) fs)) (list_all (λ f. is_name f.name) fs) h.1 in
-    record { few = leb-true _ _ h.0; rising = rising_from (map (λ f. f.name) fs) k.0; named = all_from (λ (f : Field). is_name f.name) fs k.1 }
+    let h = both_true (leb (length fs) 32) (is_rising (map (λ f. f.name) fs) && list_all (λ f. is_field_name f.name) fs) e in
+    let k = both_true (is_rising (map (λ f. f.name) fs)) (list_all (λ f. is_field_name f.name) fs) h.1 in
+    record { few = leb-true _ _ h.0; rising = rising_from (map (λ f. f.name) fs) k.0; named = all_from (λ (f : Field). is_field_name f.name) fs k.1 }
 
 pub schema_to : (fs : Schema) → IsSchema fs → is_schema fs ≡ true
 schema_to fs s =
     both_hold (leb (length fs) 32) _ (le-leb _ _ s.few)
-    (both_hold (is_rising (map (λ f. f.name) fs)) _ (rising_to (map (λ f. f.name) fs) s.rising) (all_to (λ (f : Field). is_name f.name) fs s.named))
+    (both_hold (is_rising (map (λ f. f.name) fs)) _ (rising_to (map (λ f. f.name) fs) s.rising) (all_to (λ (f : Field). is_field_name f.name) fs s.named))
 
 -- what is read as fields, as far as the test of a schema
 fields_read : (old mid after : List ℕ) (n : ℕ) (fs : Schema) → u32_at old ≡ Some (n, mid) → many_at field_at n mid ≡ Some (fs, after) → fields_at old ≡ cond (is_schema fs) (Some (fs, after)) None
@@ -158,7 +158,7 @@ id_is_short t e =
     let le : length t ≤ 64 = leb-true _ _ k.1 in
     omega arith
 
-pub name_is_text : (t : Text) → is_name t ≡ true → (length t < 2 ^ 32) × (is_utf8 t ≡ true)
+pub name_is_text : (t : Text) → is_field_name t ≡ true → (length t < 2 ^ 32) × (is_utf8 t ≡ true)
 name_is_text [] e = absurd cc
 name_is_text (b ∷ bs) e =
     let h = both_true (has_name_form (b ∷ bs)) (not (same_text (b ∷ bs) (codes "id"))) e in

@@ -11,9 +11,9 @@ use Rattle.std.proofs.lemmas.Str.{IsUtf8-from_is_utf8, is_utf8-from_IsUtf8}
 use Rattle.std.proofs.lemmas.Int.{of_z-to_z, to_z-of_z, ints}
 use Rattle.cat_base.specs.Bytes.{spelled_u32, spelled_u64, spelled_bytes}
 use Rattle.cat_model.specs.Text.{Text}
-use Rattle.cat_model.specs.Item.{Field, Kind, Schema, IsSchema, is_id, is_name}
+use Rattle.cat_model.specs.Item.{Field, Kind, Schema, IsSchema, is_id, is_field_name}
 use Rattle.cat_model.specs.Forms.{IsWord, IsKeyword, IsLabel, IsSourceLength}
-use Rattle.cat_model.specs.Layout.{Posted, Head, kind_byte, spelled_field, spelled_fields, spelled_head, spelled_list, spelled_posted, spelled_number, IsHead, FitU32, IsPosted}
+use Rattle.cat_model.specs.Layout.{WordPostings, Head, kind_byte, spelled_field, spelled_fields, spelled_head, spelled_list, spelled_postings, spelled_number, IsHead, FitU32, IsWordPostings}
 use Rattle.cat_base.specs.declared.refusal.Refusal.{Refusal}
 use Rattle.cat_base.specs.declared.refusal.Refusal.TheVariants.{Damaged}
 use Rattle.cat_codec.specs.Reading.{Reader, Fails, ◌>>=◌, byte_at, u32_at, u64_at, where_at, counted_at, text_at}
@@ -93,7 +93,7 @@ reads_field = record {
 }
 
 -- the names of a schema are texts
-names_are_texts : (fs : Schema) → AllByRecursion (λ f. is_name f.name ≡ true) fs → All (λ f. IsText f.name) fs
+names_are_texts : (fs : Schema) → AllByRecursion (λ f. is_field_name f.name ≡ true) fs → All (λ f. IsText f.name) fs
 names_are_texts [] h = All-nil (λ (f : Field). IsText f.name)
 names_are_texts (f ∷ fs) h = All-cons (λ (g : Field). IsText g.name) f fs (name_is_text f.name h.0) (names_are_texts fs h.1)
 
@@ -169,12 +169,12 @@ pub reads_label : Reads (text_at is_label) spelled_bytes IsLabel
 reads_label = reads_as (text_at is_label) spelled_bytes (λ t. IsText t × (is_label t ≡ true)) IsLabel
     (λ t h. label_from t (IsUtf8-from_is_utf8 t h.0.1) h.1) (λ t l. (keyword_is_text t l.keyword, label_to t l)) (reads_text is_label)
 
-pub reads_posted : Reads posted_at spelled_posted IsPosted
+pub reads_posted : Reads posted_at spelled_postings IsWordPostings
 unfolding posted_at
 reads_posted = record {
   sound = λ bytes x e.
       let b = both_sound (text_at is_word) (λ word. list_at) (λ word rows. record { word = word; rows = rows }) spelled_bytes spelled_list IsWord (λ word rows. FitU32 rows) reads_word (λ word. reads_list) bytes x e in
-      subst (λ (p : Posted). (bytes ≡ spelled_posted p ++ x.1) × IsPosted p) b.made (b.spelled, record { word = b.holds; rows = b.both });
+      subst (λ (p : WordPostings). (bytes ≡ spelled_postings p ++ x.1) × IsWordPostings p) b.made (b.spelled, record { word = b.holds; rows = b.both });
   complete = λ p rest h. both_complete (text_at is_word) (λ word. list_at) (λ word rows. record { word = word; rows = rows }) spelled_bytes spelled_list IsWord (λ word rows. FitU32 rows) reads_word (λ word. reads_list) p.word p.rows rest h.word h.rows;
 }
 

@@ -3,7 +3,7 @@ use Rattle.std.proofs.Common.{◌≡◌, ℕ, suc, ◌+◌, ◌-◌, ◌≤◌, 
 use Rattle.std.proofs.lemmas.List.{take-append-le, drop-append-le}
 use Rattle.std.proofs.Math.Seq.{drop-append_seam, take-length}
 use Rattle.cat_model.specs.Text.{Text}
-use Rattle.cat_model.specs.Layout.{Posted, Head, AreEnds, pieces, posted}
+use Rattle.cat_model.specs.Layout.{WordPostings, Head, AreEnds, pieces, paired_postings}
 use Rattle.cat_codec.specs.Reading.{◌>>=◌, u32_at, many_at, both_at, text_at, with_front}
 use Rattle.cat_codec.specs.Layouts.{is_word, list_at, posted_at}
 use Rattle.cat_codec.specs.Parts.{heads_in}
@@ -39,19 +39,19 @@ pub length-pieces : {A : Type 0} (from : ℕ) (ends : List ℕ) (xs : List A) �
 length-pieces from [] xs = refl
 length-pieces from (e ∷ es) xs = ap suc (length-pieces e es xs)
 
-pub posted_push : (ws : List Text) (parts : List (List ℕ)) (w : Text) (rows : List ℕ) → length parts ≡ length ws → posted (ws ++ w ∷ []) (parts ++ rows ∷ []) ≡ posted ws parts ++ record { word = w; rows = rows } ∷ []
+pub posted_push : (ws : List Text) (parts : List (List ℕ)) (w : Text) (rows : List ℕ) → length parts ≡ length ws → paired_postings (ws ++ w ∷ []) (parts ++ rows ∷ []) ≡ paired_postings ws parts ++ record { word = w; rows = rows } ∷ []
 posted_push [] [] w rows same = refl
 posted_push [] (p ∷ ps) w rows same = absurd (omega arith)
 posted_push (x ∷ xs) [] w rows same = absurd (omega arith)
-posted_push (x ∷ xs) (p ∷ ps) w rows same = ap (λ (ts : List Posted). record { word = x; rows = p } ∷ ts) (posted_push xs ps w rows (omega arith))
+posted_push (x ∷ xs) (p ∷ ps) w rows same = ap (λ (ts : List WordPostings). record { word = x; rows = p } ∷ ts) (posted_push xs ps w rows (omega arith))
 
 -- one more word, with the rows that were put behind the others
 pub postings_push : (words : List Text) (ends rows : List ℕ) (w : Text) (more all : List ℕ) (e : ℕ) → length ends ≡ length words → AreEnds 0 ends (length rows) → all ≡ rows ++ more → e ≡ length all
-    → posted (words ++ w ∷ []) (pieces 0 (ends ++ e ∷ []) all) ≡ posted words (pieces 0 ends rows) ++ record { word = w; rows = more } ∷ []
+    → paired_postings (words ++ w ∷ []) (pieces 0 (ends ++ e ∷ []) all) ≡ paired_postings words (pieces 0 ends rows) ++ record { word = w; rows = more } ∷ []
 postings_push words ends rows w more all e even are is counted =
     let sum : e ≡ length rows + length more = counted ∙ ap length is ∙ length-append rows more in
-    ap (λ (zs : List ℕ). posted (words ++ w ∷ []) (pieces 0 (ends ++ e ∷ []) zs)) is
-    ∙ ap (posted (words ++ w ∷ [])) (pieces_push 0 ends rows more e sum are)
+    ap (λ (zs : List ℕ). paired_postings (words ++ w ∷ []) (pieces 0 (ends ++ e ∷ []) zs)) is
+    ∙ ap (paired_postings (words ++ w ∷ [])) (pieces_push 0 ends rows more e sum are)
     ∙ posted_push words (pieces 0 ends rows) w more (length-pieces 0 ends rows ∙ even)
 
 pub ordinals_push : (ends ordinals more all : List ℕ) (e : ℕ) → AreEnds 0 ends (length ordinals) → all ≡ ordinals ++ more → e ≡ length all → pieces 0 (ends ++ e ∷ []) all ≡ pieces 0 ends ordinals ++ more ∷ []

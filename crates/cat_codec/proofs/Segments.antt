@@ -12,7 +12,7 @@ use Rattle.cat_model.specs.Text.{Text}
 use Rattle.cat_model.specs.Item.{Kind, Schema}
 use Rattle.cat_model.specs.Forms.{IsKeyword, IsLabel}
 use Rattle.cat_model.specs.Files.{IsFileNumber}
-use Rattle.cat_model.specs.Layout.{Posted, Laid, Head, Layout, spelled_fields, spelled_head, spelled_list, spelled_texts, spelled_posted, spelled_number, spelled_column, spelled_layout, IsHead, FitU32, IsPosted, IsLaid, AreLaid, IsLayout}
+use Rattle.cat_model.specs.Layout.{WordPostings, Laid, Head, Layout, spelled_fields, spelled_head, spelled_list, spelled_texts, spelled_postings, spelled_number, spelled_column, spelled_layout, IsHead, FitU32, IsWordPostings, IsLaid, AreLaid, IsLayout}
 use Rattle.cat_codec.specs.Reading.{Reader, Fails, ◌>>=◌, byte_at, u32_at, u64_at, where_at, both_at, many_at, counted_at, text_at}
 use Rattle.cat_codec.specs.Layouts.{is_keyword, is_label, is_file_number, is_row_count, fields_at, head_at, list_at, posted_at, cell_at, column_at, columns_at, magic, start_at, layout_at}
 use Rattle.cat_codec.proofs.Numbers.{Reads, bind_some, bind_at, kept, both_true, some_is, at_some, then, reads_byte, reads_u32, reads_u64}
@@ -22,14 +22,14 @@ use Rattle.cat_codec.proofs.Layouts.{reads_fields, reads_head, reads_list, reads
 
 -- ---- columns
 
-abbrev spelled_words : List Posted → List ℕ
-spelled_words ps = spelled_u32 (length ps) ++ flat_map spelled_posted ps
+abbrev spelled_words : List WordPostings → List ℕ
+spelled_words ps = spelled_u32 (length ps) ++ flat_map spelled_postings ps
 
 abbrev AreTexts : (Text → Type 0) → List Text → Type 0
 AreTexts P texts = (length texts < 2 ^ 32) × All P texts
 
-reads_words : Reads (counted_at posted_at) spelled_words (λ ps. (length ps < 2 ^ 32) × All IsPosted ps)
-reads_words = reads_counted posted_at spelled_posted IsPosted reads_posted
+reads_words : Reads (counted_at posted_at) spelled_words (λ ps. (length ps < 2 ^ 32) × All IsWordPostings ps)
+reads_words = reads_counted posted_at spelled_postings IsWordPostings reads_posted
 
 reads_keywords : Reads (counted_at (text_at is_keyword)) spelled_texts (AreTexts IsKeyword)
 reads_keywords = reads_counted (text_at is_keyword) spelled_bytes IsKeyword reads_keyword

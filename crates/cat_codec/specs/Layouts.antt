@@ -5,9 +5,9 @@ use Rattle.std.specs.List.{list_all}
 use Rattle.std.specs.Int.{w64, cast_signed}
 use Rattle.std.specs.Ordering.{is_lt}
 use Rattle.cat_model.specs.Text.{Text, text_cmp}
-use Rattle.cat_model.specs.Item.{Field, Kind, Schema, is_id, is_name}
+use Rattle.cat_model.specs.Item.{Field, Kind, Schema, is_id, is_field_name}
 use Rattle.cat_model.specs.Forms.{is_low_byte, is_plain_byte}
-use Rattle.cat_model.specs.Layout.{Posted, Laid, Head, Layout}
+use Rattle.cat_model.specs.Layout.{WordPostings, Laid, Head, Layout}
 use Rattle.cat_codec.specs.declared.lists.Form.{Form}
 use Rattle.cat_codec.specs.declared.lists.Form.TheVariants as forms
 use Rattle.cat_codec.specs.Reading.{Reader, ◌>>=◌, byte_at, u32_at, u64_at, where_at, both_at, many_at, counted_at, text_at}
@@ -36,7 +36,7 @@ is_rising [] = true
 is_rising (t ∷ ts) = list_all (λ u. is_lt (text_cmp t u)) ts && is_rising ts
 
 abbrev pub is_schema : Schema → Bool
-is_schema fields = nat_le (length fields) 32 && (is_rising (map (λ f. f.name) fields) && list_all (λ f. is_name f.name) fields)
+is_schema fields = nat_le (length fields) 32 && (is_rising (map (λ f. f.name) fields) && list_all (λ f. is_field_name f.name) fields)
 
 abbrev pub is_file_number : ℕ → Bool
 is_file_number n = nat_lt 0 n && nat_lt n (2 ^ 63)
@@ -76,7 +76,7 @@ head_at bytes = do
 unfoldable pub list_at : Reader (List ℕ)
 list_at bytes = counted_at u32_at bytes
 
-unfoldable pub posted_at : Reader Posted
+unfoldable pub posted_at : Reader WordPostings
 posted_at bytes = both_at (text_at is_word) (λ word. list_at) (λ word rows. record { word = word; rows = rows }) bytes
 
 unfoldable pub cell_at : Reader (Option ℤ)

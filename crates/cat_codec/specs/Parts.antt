@@ -2,7 +2,7 @@
 use Rattle.std.specs.Prelude.{◌≡◌, ℕ, ◌^◌, ◌<◌, List, [], ◌∷◌, length, map, All, codes, ◌++◌}
 use Rattle.cat_base.specs.Bytes.{spelled_u32, spelled_u64}
 use Rattle.cat_model.specs.Text.{Text}
-use Rattle.cat_model.specs.Layout.{Laid, Head, Layout, AreEnds, pieces, posted}
+use Rattle.cat_model.specs.Layout.{Laid, Head, Layout, AreEnds, pieces, paired_postings}
 use Rattle.cat_codec.specs.declared.parts.ColumnParts.{ColumnParts}
 use Rattle.cat_codec.specs.declared.parts.ColumnParts.TheVariants.{Text as TextParts, Keyword, Number, Facet}
 use Rattle.cat_codec.specs.declared.parts.SegmentParts.{SegmentParts}
@@ -13,7 +13,7 @@ heads_in (n ∷ ns) (id ∷ ids) (long ∷ longs) = record { number = n; id = id
 heads_in ns ids longs = []
 
 abbrev pub column_in : ColumnParts → Laid
-column_in (TextParts words ends rows) = Laid.words (posted words.items (pieces 0 ends.items rows.items))
+column_in (TextParts words ends rows) = Laid.words (paired_postings words.items (pieces 0 ends.items rows.items))
 column_in (Keyword dictionary codes) = Laid.keywords dictionary.items codes.items
 column_in (Number numbers) = Laid.numbers numbers.items
 column_in (Facet dictionary ends ordinals) = Laid.labels dictionary.items (pieces 0 ends.items ordinals.items)

@@ -1,7 +1,7 @@
 //! The columns of a segment, read.
 ghost use Rattle.std.specs.Prelude.{◌≡◌, ℕ, ◌^◌, ◌<◌, length, map, IfOk, IfErr, All};
 ghost use Rattle.cat_base.specs.declared.refusal.Refusal.TheVariants.{Memory};
-ghost use Rattle.cat_model.specs.Layout.{AreEnds, pieces, posted};
+ghost use Rattle.cat_model.specs.Layout.{AreEnds, pieces, paired_postings};
 ghost use Rattle.cat_schema.specs.Kinds.{kind_meant};
 ghost use Rattle.cat_codec.specs.Reading.{Gives, many_at};
 ghost use Rattle.cat_codec.specs.Layouts.{list_at, posted_at, cell_at, column_at, columns_at};
@@ -67,7 +67,7 @@ fn end_of(list: &[u32]) -> Result<u32, Refusal>
 }
 
 fn read_postings(alloc: Global, count: u32, cursor: &mut Cursor<'_>) -> Result<Postings, Refusal>
-    ensures gives { Gives (λ p. (posted p.words.items (pieces 0 p.ends.items p.rows.items), cursor.new)) result (many_at posted_at count cursor.old) }
+    ensures gives { Gives (λ p. (paired_postings p.words.items (pieces 0 p.ends.items p.rows.items), cursor.new)) result (many_at posted_at count cursor.old) }
     ensures even { IfOk result (λ p. length p.ends.items ≡ length p.words.items) }
     ensures ends { IfOk result (λ p. AreEnds 0 p.ends.items (length p.rows.items)) }
     ensures few { IfOk result (λ p. length p.rows.items < 2 ^ 32) }

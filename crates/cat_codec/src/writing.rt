@@ -3,7 +3,7 @@ ghost use Rattle.std.specs.Prelude.{◌≡◌, ℕ, ◌^◌, ◌<◌, ◌++◌, 
 ghost use Rattle.std.specs.List.{flat_map};
 ghost use Rattle.cat_base.specs.Bytes.{spelled_u32, spelled_bytes};
 ghost use Rattle.cat_base.specs.declared.refusal.Refusal.TheVariants.{Memory};
-ghost use Rattle.cat_model.specs.Layout.{spelled_field, spelled_fields, spelled_head, spelled_list, spelled_texts, spelled_posted, spelled_number};
+ghost use Rattle.cat_model.specs.Layout.{spelled_field, spelled_fields, spelled_head, spelled_list, spelled_texts, spelled_postings, spelled_number};
 ghost use Rattle.cat_codec.specs.Parts.{spelled_start};
 
 use crate::reading::{MAGIC, VERSION};
@@ -161,7 +161,7 @@ pub fn put_number(out: &mut Vec<u8>, number: Option<i64>) -> Result<(), Refusal>
 /// A refusal is [`Refusal::Memory`], also of a word of 4,294,967,296 bytes or more and of as many rows; the list may have
 /// grown by some of the bytes.
 pub fn put_posted(out: &mut Vec<u8>, word: &str, rows: &[u32]) -> Result<(), Refusal>
-    ensures ok { OnOk result (out.new.items ≡ out.old.items ++ spelled_posted (record { word = word.now; rows = rows.now })) }
+    ensures ok { OnOk result (out.new.items ≡ out.old.items ++ spelled_postings (record { word = word.now; rows = rows.now })) }
     ensures refusal { IfErr result (λ e. e ≡ Memory) }
 {
     put_text(out, word)?;

@@ -14,7 +14,7 @@ use Rattle.std.specs.Prelude.{All, ◌==◌}
 use Rattle.cat_base.specs.Texts.{IsTextSet}
 use Rattle.cat_model.specs.Text.{Text, same_text}
 use Rattle.cat_model.specs.Layout.{pieces}
-use Rattle.cat_model.specs.RowSets.{places}
+use Rattle.cat_model.specs.RowSets.{indices}
 use Rattle.cat_model.specs.Ordinals.{dictionary_of, postings_of, text_at}
 use Rattle.cat_inverted.specs.Postings.{is_among, words_of_rows, IsTerms}
 use Rattle.cat_inverted.specs.Gathered.{rows_at, ends_from}
@@ -79,7 +79,7 @@ none_listed f (v ∷ lists) empty (suc q) = none_listed f lists (λ k d lt. empt
 
 pub rows_more : (o : ℕ) (rows : List (List ℕ)) (i : ℕ) → i < length rows → rows_at o (take (i + 1) rows) ≡ rows_at o (take i rows) ++ (if is_among (get_or rows i []) o then i ∷ [] else [])
 rows_more o rows i lt =
-    ap places (map_more (λ ordinals. is_among ordinals o) rows i [] lt)
+    ap indices (map_more (λ ordinals. is_among ordinals o) rows i [] lt)
     ∙ places_more (map (λ ordinals. is_among ordinals o) (take i rows)) (is_among (get_or rows i []) o) i (length-map (take i rows) (λ ordinals. is_among ordinals o) ∙ length-take-le i rows (omega arith))
 
 -- ---- of texts by their ordinals
@@ -106,7 +106,7 @@ module _ (words : List Text) (sorted : IsTextSet words) where
 
   -- the rows that have the ordinal are those that have its text
   pub rows_at_text : (o : ℕ) (rows : List (List ℕ)) → o < length words → All (All (λ k. k < length words)) rows → rows_at o rows ≡ postings_of (text_at words o) (map (map (text_at words)) rows)
-  rows_at_text o rows lt within = ap places (each_row_of o rows lt within)
+  rows_at_text o rows lt within = ap indices (each_row_of o rows lt within)
 
   -- texts of ordinals that rise are a set
   rising_texts : (ordinals : List ℕ) → IsStrictlySortedBy nat_cmp ordinals → All (λ k. k < length words) ordinals → IsTextSet (map (text_at words) ordinals)

@@ -12,7 +12,7 @@ use Rattle.std.specs.Prelude.{bytes_eq}
 use Rattle.cat_base.specs.Texts.{sorted_set, IsTextSet}
 use Rattle.cat_base.proofs.TextSets.{has-sorted_set}
 use Rattle.cat_model.specs.Text.{Text, same_text}
-use Rattle.cat_model.specs.RowSets.{has_row, places}
+use Rattle.cat_model.specs.RowSets.{has_row, indices}
 use Rattle.cat_model.specs.Ordinals.{postings_of, rows_having}
 use Rattle.cat_model.proofs.Lists.{filter_alike, list_any-append}
 use Rattle.cat_inverted.specs.Gathered.{ends_from}
@@ -73,7 +73,7 @@ filter_more f (y ∷ xs) x =
       | false ↦ filter_more f xs x
     ]
 
-pub places_more : (set : List Bool) (b : Bool) (n : ℕ) → length set ≡ n → places (set ++ b ∷ []) ≡ places set ++ (if b then n ∷ [] else [])
+pub places_more : (set : List Bool) (b : Bool) (n : ℕ) → length set ≡ n → indices (set ++ b ∷ []) ≡ indices set ++ (if b then n ∷ [] else [])
 places_more set b n e =
     ap (λ k. filter (has_row (set ++ b ∷ [])) (range_with_len 0 k)) (let long : length (set ++ b ∷ []) ≡ n + 1 = omega (arith, length-append set (b ∷ [])) in long)
     ∙ ap (filter (has_row (set ++ b ∷ []))) (range_more 0 n)
@@ -97,7 +97,7 @@ module _ (rows : List (Bor (List Text))) (i : ℕ) (row : Bor (List Text)) (lt :
 
   pub postings_more : (q : Text) → postings_of q (map (λ r. r.now) (take (i + 1) rows)) ≡ postings_of q so_far ++ (if list_any (same_text q) row.now then i ∷ [] else [])
   postings_more q =
-      ap (postings_of q) rows_more ∙ ap places (map_push (list_any (same_text q)) so_far row.now)
+      ap (postings_of q) rows_more ∙ ap indices (map_push (list_any (same_text q)) so_far row.now)
       ∙ places_more (rows_having q so_far) (list_any (same_text q) row.now) i (length-map so_far (list_any (same_text q)) ∙ length-map (take i rows) (λ r. r.now) ∙ length-take-le i rows (omega arith))
 
   pub keys_more : (q : Text) → list_any (list_any (same_text q)) (map (λ r. r.now) (take (i + 1) rows)) ≡ (list_any (list_any (same_text q)) so_far || list_any (same_text q) row.now)

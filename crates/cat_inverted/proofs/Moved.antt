@@ -6,7 +6,7 @@ use Rattle.std.proofs.lemmas.List.Folds.{flat_map-map}
 use Rattle.std.specs.List.{list_any, flat_map, filter, range_with_len}
 use Rattle.std.specs.Prelude.{All}
 use Rattle.cat_model.specs.Text.{Text, same_text}
-use Rattle.cat_model.specs.RowSets.{has_row, places}
+use Rattle.cat_model.specs.RowSets.{has_row, indices}
 use Rattle.cat_model.specs.Ordinals.{postings_of, rows_having}
 use Rattle.cat_values.specs.Merged.{kept_of, place_in, moved, AreNumbered}
 
@@ -39,14 +39,14 @@ later_places b bs a (suc n) =
       | false ↦ later_places b bs (a + 1) n
     ]
 
-pub places_first : (b : Bool) (bs : List Bool) → places (b ∷ bs) ≡ (if b then 0 ∷ [] else []) ++ map suc (places bs)
+pub places_first : (b : Bool) (bs : List Bool) → indices (b ∷ bs) ≡ (if b then 0 ∷ [] else []) ++ map suc (indices bs)
 places_first b bs =
-    elim b as (λ t. cond t (0 ∷ filter (has_row (b ∷ bs)) (range_with_len (0 + 1) (length bs))) (filter (has_row (b ∷ bs)) (range_with_len (0 + 1) (length bs))) ≡ (if t then 0 ∷ [] else []) ++ map suc (places bs)) [
+    elim b as (λ t. cond t (0 ∷ filter (has_row (b ∷ bs)) (range_with_len (0 + 1) (length bs))) (filter (has_row (b ∷ bs)) (range_with_len (0 + 1) (length bs))) ≡ (if t then 0 ∷ [] else []) ++ map suc (indices bs)) [
       | true ↦ ap (λ (l : List ℕ). 0 ∷ l) rest
       | false ↦ rest
     ]
   where
-    rest : filter (has_row (b ∷ bs)) (range_with_len (0 + 1) (length bs)) ≡ map suc (places bs)
+    rest : filter (has_row (b ∷ bs)) (range_with_len (0 + 1) (length bs)) ≡ map suc (indices bs)
     rest = ap (λ k. filter (has_row (b ∷ bs)) (range_with_len k (length bs))) (let e : 0 + 1 ≡ suc 0 = omega arith in e) ∙ later_places b bs 0 (length bs)
 
 -- ---- of the postings of rows one behind another

@@ -14,7 +14,7 @@ use Rattle.std.specs.Prelude.{All, ◌==◌, IfOk, Result, Ok, Err}
 use Rattle.cat_base.specs.Texts.{IsTextSet}
 use Rattle.cat_base.proofs.TextSets.{has, sorted_set_is}
 use Rattle.cat_model.specs.Text.{Text, same_text}
-use Rattle.cat_model.specs.RowSets.{has_row, places, with_rows}
+use Rattle.cat_model.specs.RowSets.{has_row, indices, with_rows}
 use Rattle.cat_model.specs.Ordinals.{dictionary_of, rows_having, postings_of}
 use Rattle.cat_model.proofs.Lists.{All-kept, All-both, filter_alike, list_any-append}
 use Rattle.cat_model.specs.Layout.{pieces}
@@ -103,7 +103,7 @@ pub kept_are_postings : (f : ℕ → Bool) (n : ℕ) → IsPostings n (filter f 
 kept_are_postings f n = filter_alike f (is_among (filter f (range_with_len 0 n))) (range_with_len 0 n) (each_row _ 0 n (λ k le lt. sym (among_kept f n k (omega arith))))
 
 -- the places of the rows that a test tells
-pub places_of_test : (f : ℕ → Bool) (n : ℕ) → places (map f (range_with_len 0 n)) ≡ filter f (range_with_len 0 n)
+pub places_of_test : (f : ℕ → Bool) (n : ℕ) → indices (map f (range_with_len 0 n)) ≡ filter f (range_with_len 0 n)
 places_of_test f n =
     ap (λ k. filter (has_row (map f (range_with_len 0 n))) (range_with_len 0 k)) (length-map-range_with_len f 0 n)
     ∙ filter_alike (has_row (map f (range_with_len 0 n))) f (range_with_len 0 n) (each_row _ 0 n (λ k le lt. get_or-map-range_with_len f 0 n k k false (omega arith) (omega arith)))
@@ -276,8 +276,8 @@ pub parts_below : (len : ℕ) (parts : List (List ℕ)) (first count : ℕ) → 
 parts_below len parts first count h = All-from_recursion (λ r. r < len) (joined (take count (drop first parts))) (joined_below len parts first count h)
 
 -- the places in a set are below its length
-pub places_below : (set : List Bool) → All (λ r. r < length set) (places set)
-places_below set = All-from_recursion (λ r. r < length set) (places set) (kept_below (has_row set) (length set))
+pub places_below : (set : List Bool) → All (λ r. r < length set) (indices set)
+places_below set = All-from_recursion (λ r. r < length set) (indices set) (kept_below (has_row set) (length set))
 
 -- a word has at most as many postings as there are rows
 pub few_postings : (word : Text) (texts : List (List Text)) → length (postings_of word texts) ≤ length texts
@@ -286,5 +286,5 @@ few_postings word texts =
     omega (arith, length-filter (has_row set) (range_with_len 0 (length set)), count_by-le-length (has_row set) (range_with_len 0 (length set)), length-range_with_len 0 (length set), length-map texts (list_any (same_text word)))
 
 -- a set is told by its places
-pub set_of_places : (set : List Bool) → set ≡ map (is_among (places set)) (range_with_len 0 (length set))
-set_of_places set = fill_by_all (is_among (places set)) set (length set) false refl (λ k lt. sym (among_kept (has_row set) (length set) k lt))
+pub set_of_places : (set : List Bool) → set ≡ map (is_among (indices set)) (range_with_len 0 (length set))
+set_of_places set = fill_by_all (is_among (indices set)) set (length set) false refl (λ k lt. sym (among_kept (has_row set) (length set) k lt))

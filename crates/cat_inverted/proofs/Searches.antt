@@ -10,7 +10,7 @@ use Rattle.std.specs.List.{filter, range_with_len}
 use Rattle.std.specs.Prelude.{Contains}
 use Rattle.cat_base.specs.Texts.{IsTextSet}
 use Rattle.cat_model.specs.Text.{Text, same_text}
-use Rattle.cat_model.specs.RowSets.{places}
+use Rattle.cat_model.specs.RowSets.{indices}
 use Rattle.cat_model.specs.Ordinals.{postings_of}
 use Rattle.cat_model.specs.Layout.{pieces}
 use Rattle.cat_inverted.specs.Postings.{is_among, IsPostings, words_of_rows, IsTerms}
@@ -75,7 +75,7 @@ module _ (len : ℕ) (words : List Text) (ends rows : List ℕ) (terms : IsTerms
 
   -- the rows of an interval that has just the word
   rows_are : (first count : ℕ) → IsInterval (same_text word) words first count → postings_of word (words_of_rows len words parts) ≡ filter (is_among (joined (take count (drop first parts)))) (range_with_len 0 len)
-  rows_are first count h = ap places (rows_of_interval (same_text word) len words parts first count h paired) ∙ places_of_test (is_among (joined (take count (drop first parts)))) len
+  rows_are first count h = ap indices (rows_of_interval (same_text word) len words parts first count h paired) ∙ places_of_test (is_among (joined (take count (drop first parts)))) len
 
   pub postings_are : (o : ℕ) → o < length words → get_or words o [] ≡ word → joined (take 1 (drop o parts)) ≡ postings_of word (words_of_rows len words parts)
   postings_are o lt at =

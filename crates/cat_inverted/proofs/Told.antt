@@ -6,7 +6,7 @@ use Rattle.std.specs.Prelude.{All}
 use Rattle.cat_base.specs.Texts.{sorted_set, IsTextSet}
 use Rattle.cat_base.proofs.TextSets.{has-sorted_set, IsTextSet-sorted_set, sorted_set_is}
 use Rattle.cat_model.specs.Text.{Text, same_text}
-use Rattle.cat_model.specs.Layout.{Posted, pieces, posted, posted_of}
+use Rattle.cat_model.specs.Layout.{WordPostings, pieces, paired_postings, word_postings_of}
 use Rattle.cat_model.specs.Ordinals.{dictionary_of, postings_of}
 use Rattle.cat_inverted.specs.Postings.{IsPart, words_of_rows, IsTerms}
 use Rattle.cat_inverted.proofs.Parts.{length-pieces}
@@ -20,22 +20,22 @@ postings_in texts = map (λ w. postings_of w texts) (dictionary_of texts)
 
 -- ---- words with their postings, taken apart
 
-words_out : (words : List Text) (parts : List (List ℕ)) → length parts ≡ length words → map (λ p. p.word) (posted words parts) ≡ words
+words_out : (words : List Text) (parts : List (List ℕ)) → length parts ≡ length words → map (λ p. p.word) (paired_postings words parts) ≡ words
 words_out [] parts e = refl
 words_out (w ∷ words) [] e = absurd (omega arith)
 words_out (w ∷ words) (rows ∷ parts) e = ap (λ (l : List Text). w ∷ l) (words_out words parts (omega arith))
 
-rows_out : (words : List Text) (parts : List (List ℕ)) → length parts ≡ length words → map (λ p. p.rows) (posted words parts) ≡ parts
+rows_out : (words : List Text) (parts : List (List ℕ)) → length parts ≡ length words → map (λ p. p.rows) (paired_postings words parts) ≡ parts
 rows_out [] [] e = refl
 rows_out [] (rows ∷ parts) e = absurd (omega arith)
 rows_out (w ∷ words) [] e = absurd (omega arith)
 rows_out (w ∷ words) (rows ∷ parts) e = ap (λ (l : List (List ℕ)). rows ∷ l) (rows_out words parts (omega arith))
 
-posted_each : (f : Text → List ℕ) (words : List Text) → posted words (map f words) ≡ map (λ w. record { word = w; rows = f w }) words
+posted_each : (f : Text → List ℕ) (words : List Text) → paired_postings words (map f words) ≡ map (λ w. record { word = w; rows = f w }) words
 posted_each f [] = refl
-posted_each f (w ∷ words) = ap (λ (l : List Posted). record { word = w; rows = f w } ∷ l) (posted_each f words)
+posted_each f (w ∷ words) = ap (λ (l : List WordPostings). record { word = w; rows = f w } ∷ l) (posted_each f words)
 
-same_posted : (words others : List Text) (parts rests : List (List ℕ)) → length parts ≡ length words → length rests ≡ length others → posted words parts ≡ posted others rests → (words ≡ others) × (parts ≡ rests)
+same_posted : (words others : List Text) (parts rests : List (List ℕ)) → length parts ≡ length words → length rests ≡ length others → paired_postings words parts ≡ paired_postings others rests → (words ≡ others) × (parts ≡ rests)
 same_posted words others parts rests e f same = (
   sym (words_out words parts e) ∙ ap (map (λ p. p.word)) same ∙ words_out others rests f,
   sym (rows_out words parts e) ∙ ap (map (λ p. p.rows)) same ∙ rows_out others rests f,
@@ -44,7 +44,7 @@ same_posted words others parts rests e f same = (
 -- ---- of rows with their texts
 
 module _ (texts : List (List Text)) where
-  pub posted_is : posted (dictionary_of texts) (postings_in texts) ≡ posted_of texts
+  pub posted_is : paired_postings (dictionary_of texts) (postings_in texts) ≡ word_postings_of texts
   posted_is = posted_each (λ w. postings_of w texts) (dictionary_of texts)
 
   as_many : length (postings_in texts) ≡ length (dictionary_of texts)
@@ -62,7 +62,7 @@ module _ (texts : List (List Text)) where
   pub rows_in : All IsTextSet texts → words_of_rows (length texts) (dictionary_of texts) (postings_in texts) ≡ texts
   rows_in = built.rows_are (length texts) texts (dictionary_of texts) (λ w. postings_of w texts) refl (λ q. refl) (IsTextSet-sorted_set (flat_map (λ l. l) texts)) members
 
-pub told : (a b : List (List Text)) → length a ≡ length b → All IsTextSet a → All IsTextSet b → posted_of a ≡ posted_of b → a ≡ b
+pub told : (a b : List (List Text)) → length a ≡ length b → All IsTextSet a → All IsTextSet b → word_postings_of a ≡ word_postings_of b → a ≡ b
 told a b long sets others e =
     let same = same_posted (dictionary_of a) (dictionary_of b) (postings_in a) (postings_in b) (as_many a) (as_many b) (posted_is a ∙ e ∙ sym (posted_is b)) in
     sym (rows_in a sets)
@@ -72,12 +72,12 @@ told a b long sets others e =
     ∙ rows_in b others
 
 -- what is told of rows with these terms holds of the words and the postings
-pub rising_words : (texts : List (List Text)) (words : List Text) (parts : List (List ℕ)) → length parts ≡ length words → posted_of texts ≡ posted words parts → IsTextSet words
+pub rising_words : (texts : List (List Text)) (words : List Text) (parts : List (List ℕ)) → length parts ≡ length words → word_postings_of texts ≡ paired_postings words parts → IsTextSet words
 rising_words texts words parts long e =
     let same = same_posted (dictionary_of texts) words (postings_in texts) parts (as_many texts) long (posted_is texts ∙ e) in
     subst IsTextSet same.0 (IsTextSet-sorted_set (flat_map (λ l. l) texts))
 
-pub posted_parts : (texts : List (List Text)) (words : List Text) (parts : List (List ℕ)) → length parts ≡ length words → posted_of texts ≡ posted words parts → All (IsPart (length texts)) parts
+pub posted_parts : (texts : List (List Text)) (words : List Text) (parts : List (List ℕ)) → length parts ≡ length words → word_postings_of texts ≡ paired_postings words parts → All (IsPart (length texts)) parts
 posted_parts texts words parts long e =
     let same = same_posted (dictionary_of texts) words (postings_in texts) parts (as_many texts) long (posted_is texts ∙ e) in
     subst (All (IsPart (length texts))) same.1 (parts_in texts)
@@ -105,8 +105,8 @@ module _ (len : ℕ) (words : List Text) (ends rows : List ℕ) (terms : IsTerms
           ∙ sym (postings_are len words ends rows terms (get_or words o []) o inside refl)
           ∙ one_part (pieces 0 ends rows) o (omega (arith, terms.paired, length-pieces 0 ends rows))
 
-  pub terms_posted : posted_of texts ≡ posted words (pieces 0 ends rows)
+  pub terms_posted : word_postings_of texts ≡ paired_postings words (pieces 0 ends rows)
   terms_posted =
       sym (posted_is texts)
-      ∙ ap (λ (ws : List Text). posted ws (map f ws)) (sym (words_are len words ends rows terms))
-      ∙ ap (posted words) each_part
+      ∙ ap (λ (ws : List Text). paired_postings ws (map f ws)) (sym (words_are len words ends rows terms))
+      ∙ ap (paired_postings words) each_part

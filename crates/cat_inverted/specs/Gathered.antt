@@ -5,7 +5,7 @@ use Rattle.std.specs.Option.{option_map_or}
 use Rattle.std.specs.HashMap.{HashMap, get_by}
 use Rattle.std.specs.Borrow.{Bor}
 use Rattle.std.specs.declared.vec.Vec.{Vec}
-use Rattle.cat_model.specs.RowSets.{places}
+use Rattle.cat_model.specs.RowSets.{indices}
 use Rattle.cat_model.specs.Text.{Text}
 use Rattle.cat_inverted.specs.Postings.{is_among}
 
@@ -32,4 +32,4 @@ list_at v place = slice_index_or (lists_in v) place []
 
 -- the rows whose ordinals have this one
 abbrev pub rows_at : ℕ → List (List ℕ) → List ℕ
-rows_at ordinal rows = places (map (λ ordinals. is_among ordinals ordinal) rows)
+rows_at ordinal rows = indices (map (λ ordinals. is_among ordinals ordinal) rows)

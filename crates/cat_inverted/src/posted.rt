@@ -5,7 +5,7 @@ ghost use Rattle.std.specs.Ordering.{nat_cmp};
 ghost use Rattle.cat_base.specs.Texts.{IsTextSet};
 ghost use Rattle.cat_base.specs.declared.refusal.Refusal.TheVariants.{Damaged};
 ghost use Rattle.cat_model.specs.Text.{Text};
-ghost use Rattle.cat_model.specs.Layout.{pieces, AreEnds, posted, posted_of};
+ghost use Rattle.cat_model.specs.Layout.{pieces, AreEnds, paired_postings, word_postings_of};
 ghost use Rattle.cat_inverted.specs.Postings.{IsPart};
 
 use crate::terms::Terms;
@@ -68,8 +68,8 @@ impl Terms {
         requires few { len < 2 ^ 32 }
         requires paired { length ends.items ≡ length words.items }
         requires parts { AreEnds 0 ends.items (length rows.items) }
-        ensures ok { IfOk result (λ t. (length t ≡ len) × (posted_of t ≡ posted words.items (pieces 0 ends.items rows.items))) }
-        ensures refusal { IfErr result (λ e. (e ≡ Damaged) × ((texts : List (List Text)) → length texts ≡ len → All IsTextSet texts → posted_of texts ≢ posted words.items (pieces 0 ends.items rows.items))) }
+        ensures ok { IfOk result (λ t. (length t ≡ len) × (word_postings_of t ≡ paired_postings words.items (pieces 0 ends.items rows.items))) }
+        ensures refusal { IfErr result (λ e. (e ≡ Damaged) × ((texts : List (List Text)) → length texts ≡ len → All IsTextSet texts → word_postings_of texts ≢ paired_postings words.items (pieces 0 ends.items rows.items))) }
     {
         if rise(&words) && are_parts(len, &ends, &rows) {
             Ok(Terms {
@@ -86,5 +86,5 @@ impl Terms {
 
 /// The rows of terms are told by how many they are and by the words with their postings.
 pub fn terms_are_told_by_their_postings()
-    ensures { (a b : List (List Text)) → length a ≡ length b → All IsTextSet a → All IsTextSet b → posted_of a ≡ posted_of b → a ≡ b }
+    ensures { (a b : List (List Text)) → length a ≡ length b → All IsTextSet a → All IsTextSet b → word_postings_of a ≡ word_postings_of b → a ≡ b }
 {}

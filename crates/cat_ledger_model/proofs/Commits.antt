@@ -9,7 +9,7 @@ use Rattle.std.proofs.lemmas.List.Kept.{AllPairs-cons}
 use Rattle.std.proofs.lemmas.Grind.{flat_map-append}
 use Rattle.cat_model.specs.Item.{Record}
 use Rattle.cat_model.specs.Files.{Name}
-use Rattle.cat_model.specs.View.{marked}
+use Rattle.cat_model.specs.View.{selected}
 use Rattle.cat_model.specs.State.{Commit, newest_of, is_newest, is_below, snapshots_in, commits_kept, commit_now, IsSound}
 use Rattle.cat_model.proofs.Lists.{All-weaken, All-both, All-kept}
 use Rattle.cat_model.proofs.Commits.{newest-pushed, filter_last, is_newest-self}
@@ -251,7 +251,7 @@ opened_are_fresh c l its whole used fresh numbers fits =
       numbers = numbers;
       fits = fits;
     } in
-    let live : records_of (portions_in c) ≡ marked (lives_of (portions_in c)) (rows_of (portions_in c)) = sym (records-marked (portions_in c) whole.portions.lengths) in
+    let live : records_of (portions_in c) ≡ selected (lives_of (portions_in c)) (rows_of (portions_in c)) = sym (records-marked (portions_in c) whole.portions.lengths) in
     let live_rows : AllByRecursion (IsRow l.schema l.count) (table_of l) = subst (AllByRecursion (IsRow l.schema l.count)) (sym (table ∙ live))
     (All-marked (IsRow l.schema l.count) (lives_of (portions_in c)) (rows_of (portions_in c)) (subst (λ n. AllByRecursion (IsRow l.schema n) (rows_of (portions_in c))) (sym its.count) whole.rows)) in
     let live_rising : Apart (λ r s. r.number < s.number) (table_of l) = subst (Apart (λ r s. r.number < s.number)) (sym (table ∙ live))

@@ -6,39 +6,39 @@ use Rattle.std.proofs.lemmas.List.Elements.{filter-append}
 use Rattle.cat_model.specs.Item.{Record}
 use Rattle.cat_model.specs.Write.{Write, removes}
 use Rattle.cat_model.specs.Table.{without}
-use Rattle.cat_model.specs.View.{marked}
+use Rattle.cat_model.specs.View.{selected}
 use Rattle.cat_ledger_model.specs.Portions.{Portion, live_records, records_of, rows_of, lives_of, Apart, live_after, portions_after, LessLive, Reduced}
 
 -- ---- marked
 
-pub marked-none : {A : Type 0} (bs : List Bool) → marked {A = A} bs [] ≡ []
+pub marked-none : {A : Type 0} (bs : List Bool) → selected {A = A} bs [] ≡ []
 marked-none [] = refl
 marked-none (b ∷ bs) = refl
 
-pub marked-append : {A : Type 0} (bs cs : List Bool) (xs ys : List A) → length bs ≡ length xs → marked (bs ++ cs) (xs ++ ys) ≡ marked bs xs ++ marked cs ys
+pub marked-append : {A : Type 0} (bs cs : List Bool) (xs ys : List A) → length bs ≡ length xs → selected (bs ++ cs) (xs ++ ys) ≡ selected bs xs ++ selected cs ys
 marked-append [] cs [] ys e = refl
 marked-append [] cs (x ∷ xs) ys e = absurd (omega (arith, e))
 marked-append (b ∷ bs) cs [] ys e = absurd (omega (arith, e))
 marked-append (true ∷ bs) cs (x ∷ xs) ys e = ap (λ l. x ∷ l) (marked-append bs cs xs ys (omega (arith, e)))
 marked-append (false ∷ bs) cs (x ∷ xs) ys e = marked-append bs cs xs ys (omega (arith, e))
 
-pub marked-all : {A : Type 0} (xs : List A) → marked (map (λ x. true) xs) xs ≡ xs
+pub marked-all : {A : Type 0} (xs : List A) → selected (map (λ x. true) xs) xs ≡ xs
 marked-all [] = refl
 marked-all (x ∷ xs) = ap (λ l. x ∷ l) (marked-all xs)
 
-pub All-marked : {X : Type 0} (P : X → Type 0) (bs : List Bool) (xs : List X) → AllByRecursion P xs → AllByRecursion P (marked bs xs)
+pub All-marked : {X : Type 0} (P : X → Type 0) (bs : List Bool) (xs : List X) → AllByRecursion P xs → AllByRecursion P (selected bs xs)
 All-marked P [] xs a = tt
 All-marked P (b ∷ bs) [] a = tt
 All-marked P (true ∷ bs) (x ∷ xs) a = (a.0, All-marked P bs xs a.1)
 All-marked P (false ∷ bs) (x ∷ xs) a = All-marked P bs xs a.1
 
-pub Apart-marked : {X : Type 0} (R : X → X → Type 0) (bs : List Bool) (xs : List X) → Apart R xs → Apart R (marked bs xs)
+pub Apart-marked : {X : Type 0} (R : X → X → Type 0) (bs : List Bool) (xs : List X) → Apart R xs → Apart R (selected bs xs)
 Apart-marked R [] xs a = tt
 Apart-marked R (b ∷ bs) [] a = tt
 Apart-marked R (true ∷ bs) (x ∷ xs) a = (All-marked (R x) bs xs a.0, Apart-marked R bs xs a.1)
 Apart-marked R (false ∷ bs) (x ∷ xs) a = Apart-marked R bs xs a.1
 
-pub marked-length : {A B : Type 0} (bs : List Bool) (xs : List A) (ys : List B) → length xs ≡ length ys → length (marked bs xs) ≡ length (marked bs ys)
+pub marked-length : {A B : Type 0} (bs : List Bool) (xs : List A) (ys : List B) → length xs ≡ length ys → length (selected bs xs) ≡ length (selected bs ys)
 marked-length [] xs ys e = refl
 marked-length (b ∷ bs) [] [] e = refl
 marked-length (b ∷ bs) [] (y ∷ ys) e = absurd (omega (arith, e))
@@ -47,19 +47,19 @@ marked-length (true ∷ bs) (x ∷ xs) (y ∷ ys) e = ap suc (marked-length bs x
 marked-length (false ∷ bs) (x ∷ xs) (y ∷ ys) e = marked-length bs xs ys (omega (arith, e))
 
 -- what stands in the middle of a list may be thinned out
-thinned : {X : Type 0} (xs ys zs : List X) (bs : List Bool) → length bs ≡ length ys → marked (map (λ x. true) xs ++ (bs ++ map (λ x. true) zs)) (xs ++ (ys ++ zs)) ≡ xs ++ (marked bs ys ++ zs)
+thinned : {X : Type 0} (xs ys zs : List X) (bs : List Bool) → length bs ≡ length ys → selected (map (λ x. true) xs ++ (bs ++ map (λ x. true) zs)) (xs ++ (ys ++ zs)) ≡ xs ++ (selected bs ys ++ zs)
 thinned {X} xs ys zs bs e =
     marked-append (map (λ x. true) xs) (bs ++ map (λ x. true) zs) xs (ys ++ zs) (length-map xs)
-    ∙ ap₂ (λ (a b : List X). a ++ b) (marked-all xs) (marked-append bs (map (λ x. true) zs) ys zs e ∙ ap (λ l. marked bs ys ++ l) (marked-all zs))
+    ∙ ap₂ (λ (a b : List X). a ++ b) (marked-all xs) (marked-append bs (map (λ x. true) zs) ys zs e ∙ ap (λ l. selected bs ys ++ l) (marked-all zs))
   where
     length-map : (l : List X) → length (map (λ x. true) l) ≡ length l
     length-map [] = refl
     length-map (y ∷ l) = ap suc (length-map l)
 
-pub Apart-thinned : {X : Type 0} (R : X → X → Type 0) (xs ys zs : List X) (bs : List Bool) → length bs ≡ length ys → Apart R (xs ++ (ys ++ zs)) → Apart R (xs ++ (marked bs ys ++ zs))
+pub Apart-thinned : {X : Type 0} (R : X → X → Type 0) (xs ys zs : List X) (bs : List Bool) → length bs ≡ length ys → Apart R (xs ++ (ys ++ zs)) → Apart R (xs ++ (selected bs ys ++ zs))
 Apart-thinned R xs ys zs bs e a = subst (Apart R) (thinned xs ys zs bs e) (Apart-marked R _ (xs ++ (ys ++ zs)) a)
 
-pub All-thinned : {X : Type 0} (P : X → Type 0) (xs ys zs : List X) (bs : List Bool) → length bs ≡ length ys → AllByRecursion P (xs ++ (ys ++ zs)) → AllByRecursion P (xs ++ (marked bs ys ++ zs))
+pub All-thinned : {X : Type 0} (P : X → Type 0) (xs ys zs : List X) (bs : List Bool) → length bs ≡ length ys → AllByRecursion P (xs ++ (ys ++ zs)) → AllByRecursion P (xs ++ (selected bs ys ++ zs))
 All-thinned P xs ys zs bs e a = subst (AllByRecursion P) (thinned xs ys zs bs e) (All-marked P _ (xs ++ (ys ++ zs)) a)
 
 -- ---- lists of portions as one
@@ -71,7 +71,7 @@ pub lives-length : (ps : List Portion) → Full ps → length (lives_of ps) ≡ 
 lives-length [] f = refl
 lives-length (p ∷ ps) f = omega (arith, f.0, lives-length ps f.1, length-append p.live (lives_of ps), length-append p.records (rows_of ps))
 
-pub records-marked : (ps : List Portion) → Full ps → marked (lives_of ps) (rows_of ps) ≡ records_of ps
+pub records-marked : (ps : List Portion) → Full ps → selected (lives_of ps) (rows_of ps) ≡ records_of ps
 records-marked [] f = refl
 records-marked (p ∷ ps) f = marked-append p.live (lives_of ps) p.records (rows_of ps) f.0 ∙ ap (λ l. live_records p ++ l) (records-marked ps f.1)
 
@@ -98,11 +98,11 @@ LessLive-then (x ∷ a) (y ∷ b) [] h k = absurd k
 LessLive-then (x ∷ a) (y ∷ b) (z ∷ c) h k = (λ e. h.0 (k.0 e), LessLive-then a b c h.1 k.1)
 
 -- the records kept at the beginning, live where they are live now, are those live now
-pub settle : {A : Type 0} (a b : List Bool) (xs : List A) → LessLive a b → marked (marked a b) (marked a xs) ≡ marked b xs
+pub settle : {A : Type 0} (a b : List Bool) (xs : List A) → LessLive a b → selected (selected a b) (selected a xs) ≡ selected b xs
 settle [] [] xs h = refl
 settle [] (y ∷ b) xs h = absurd h
 settle (x ∷ a) [] xs h = absurd h
-settle (x ∷ a) (y ∷ b) [] h = marked-none (marked (x ∷ a) (y ∷ b))
+settle (x ∷ a) (y ∷ b) [] h = marked-none (selected (x ∷ a) (y ∷ b))
 settle (true ∷ a) (true ∷ b) (z ∷ xs) h = ap (λ l. z ∷ l) (settle a b xs h.1)
 settle (true ∷ a) (false ∷ b) (z ∷ xs) h = settle a b xs h.1
 settle (false ∷ a) (true ∷ b) (z ∷ xs) h = absurd (let no : false ≡ true = h.0 refl in cc)
@@ -171,10 +171,10 @@ pub Reduced-after : (w : Write) (ps : List Portion) → Reduced ps (portions_aft
 Reduced-after w [] = tt
 Reduced-after w (p ∷ ps) = (refl, refl, live_after-less w p.live p.records, Reduced-after w ps)
 
-marked_after : (w : Write) (bs : List Bool) (rs : List Record) → marked (live_after w bs rs) rs ≡ without (marked bs rs) w
+marked_after : (w : Write) (bs : List Bool) (rs : List Record) → selected (live_after w bs rs) rs ≡ without (selected bs rs) w
 marked_after w [] rs = refl
 marked_after w (b ∷ bs) [] = refl
-marked_after w (true ∷ bs) (r ∷ rs) = elim (not (removes w r.item)) as (λ x. marked (x ∷ live_after w bs rs) (r ∷ rs) ≡ cond x (r ∷ without (marked bs rs) w) (without (marked bs rs) w)) [
+marked_after w (true ∷ bs) (r ∷ rs) = elim (not (removes w r.item)) as (λ x. selected (x ∷ live_after w bs rs) (r ∷ rs) ≡ cond x (r ∷ without (selected bs rs) w) (without (selected bs rs) w)) [
   | true ↦ ap (λ l. r ∷ l) (marked_after w bs rs)
   | false ↦ marked_after w bs rs
 ]

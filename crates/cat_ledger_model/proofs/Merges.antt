@@ -4,7 +4,7 @@ use Rattle.std.specs.List.{flat_map, AllByRecursion}
 use Rattle.std.proofs.lemmas.List.{take-append-drop, drop-drop}
 use Rattle.std.proofs.lemmas.Grind.{flat_map-append}
 use Rattle.cat_model.specs.Item.{Record}
-use Rattle.cat_model.specs.View.{marked}
+use Rattle.cat_model.specs.View.{selected}
 use Rattle.cat_model.proofs.Lists.{All-weaken, All-both}
 use Rattle.cat_ledger_model.specs.Portions.{Portion, live_records, records_of, rows_of, lives_of, Apart, ArePortions, Merging, window_now, IsMergingOf, IsMerging, settled, merged, installed}
 use Rattle.cat_model.specs.Files.{Name}
@@ -39,8 +39,8 @@ module _ (m : Merging) (ps : List Portion) (ok : IsMergingOf ps m) (full : Full 
   parts : ps ≡ before ++ (now ++ later)
   parts = three ps m.place (length m.inputs)
 
-  kept_all : m.kept ≡ marked (lives_of m.inputs) (rows_of m.inputs)
-  kept_all = ok.kept ∙ ap₂ (λ (a : List Bool) (b : List Record). marked a b)
+  kept_all : m.kept ≡ selected (lives_of m.inputs) (rows_of m.inputs)
+  kept_all = ok.kept ∙ ap₂ (λ (a : List Bool) (b : List Record). selected a b)
       (take_whole (lives_of m.inputs) m.passed (done ∙ sym (lives-length m.inputs ok.lengths)))
       (take_whole (rows_of m.inputs) m.passed done)
 
@@ -52,18 +52,18 @@ module _ (m : Merging) (ps : List Portion) (ok : IsMergingOf ps m) (full : Full 
   -- the live records of the new segment are those of its inputs now
   settled_live : live_records (settled m ps) ≡ records_of now
   settled_live =
-      ap (marked (marked (lives_of m.inputs) (lives_of now))) kept_all
+      ap (selected (selected (lives_of m.inputs) (lives_of now))) kept_all
       ∙ settle (lives_of m.inputs) (lives_of now) (rows_of m.inputs) (Reduced-lives m.inputs now ok.stand)
-      ∙ ap (marked (lives_of now)) (sym (Reduced-rows m.inputs now ok.stand))
+      ∙ ap (selected (lives_of now)) (sym (Reduced-rows m.inputs now ok.stand))
       ∙ records-marked now full_parts.1.0
 
   merged_live : (kept : List Record) → m.kept ≡ kept → records_of (merged kept (settled m ps)) ≡ records_of now
-  merged_live [] e = sym (sym settled_live ∙ ap (marked (settled m ps).live) e ∙ marked-none (settled m ps).live)
+  merged_live [] e = sym (sym settled_live ∙ ap (selected (settled m ps).live) e ∙ marked-none (settled m ps).live)
   merged_live (r ∷ rs) e = append-nil (live_records (settled m ps)) ∙ settled_live
 
-  merged_rows : (kept : List Record) → m.kept ≡ kept → rows_of (merged kept (settled m ps)) ≡ marked (lives_of m.inputs) (rows_of now)
-  merged_rows [] e = sym (ap (marked (lives_of m.inputs)) (Reduced-rows m.inputs now ok.stand) ∙ sym kept_all ∙ e)
-  merged_rows (r ∷ rs) e = append-nil m.kept ∙ kept_all ∙ ap (marked (lives_of m.inputs)) (sym (Reduced-rows m.inputs now ok.stand))
+  merged_rows : (kept : List Record) → m.kept ≡ kept → rows_of (merged kept (settled m ps)) ≡ selected (lives_of m.inputs) (rows_of now)
+  merged_rows [] e = sym (ap (selected (lives_of m.inputs)) (Reduced-rows m.inputs now ok.stand) ∙ sym kept_all ∙ e)
+  merged_rows (r ∷ rs) e = append-nil m.kept ∙ kept_all ∙ ap (selected (lives_of m.inputs)) (sym (Reduced-rows m.inputs now ok.stand))
 
   over : {B : Type 0} (f : Portion → List B) (mid : List Portion) → flat_map f (before ++ (mid ++ later)) ≡ flat_map f before ++ (flat_map f mid ++ flat_map f later)
   over f mid = flat_map-append f before (mid ++ later) ∙ ap (λ l. flat_map f before ++ l) (flat_map-append f mid later)
@@ -75,7 +75,7 @@ module _ (m : Merging) (ps : List Portion) (ok : IsMergingOf ps m) (full : Full 
       ∙ ap (λ l. records_of before ++ (l ++ records_of later)) (merged_live m.kept refl)
       ∙ sym (over live_records now) ∙ ap records_of (sym parts)
 
-  pub installed_rows : rows_of (installed m ps) ≡ rows_of before ++ (marked (lives_of m.inputs) (rows_of now) ++ rows_of later)
+  pub installed_rows : rows_of (installed m ps) ≡ rows_of before ++ (selected (lives_of m.inputs) (rows_of now) ++ rows_of later)
   installed_rows = over (λ p. p.records) (merged m.kept (settled m ps)) ∙ ap (λ l. rows_of before ++ (l ++ rows_of later)) (merged_rows m.kept refl)
 
   as_now : length (lives_of m.inputs) ≡ length (rows_of now)
@@ -88,11 +88,11 @@ module _ (m : Merging) (ps : List Portion) (ok : IsMergingOf ps m) (full : Full 
       ∙ append_assoc (rows_of before) (rows_of now ++ rows_of later) buffered
       ∙ ap (λ l. rows_of before ++ l) (append_assoc (rows_of now) (rows_of later) buffered)
 
-  thin_with : (buffered : List Record) → rows_of (installed m ps) ++ buffered ≡ rows_of before ++ (marked (lives_of m.inputs) (rows_of now) ++ (rows_of later ++ buffered))
+  thin_with : (buffered : List Record) → rows_of (installed m ps) ++ buffered ≡ rows_of before ++ (selected (lives_of m.inputs) (rows_of now) ++ (rows_of later ++ buffered))
   thin_with buffered =
       ap (λ l. l ++ buffered) installed_rows
-      ∙ append_assoc (rows_of before) (marked (lives_of m.inputs) (rows_of now) ++ rows_of later) buffered
-      ∙ ap (λ l. rows_of before ++ l) (append_assoc (marked (lives_of m.inputs) (rows_of now)) (rows_of later) buffered)
+      ∙ append_assoc (rows_of before) (selected (lives_of m.inputs) (rows_of now) ++ rows_of later) buffered
+      ∙ ap (λ l. rows_of before ++ l) (append_assoc (selected (lives_of m.inputs) (rows_of now)) (rows_of later) buffered)
 
   pub installed_all : (P : Record → Type 0) (buffered : List Record) → AllByRecursion P (rows_of ps ++ buffered) → AllByRecursion P (rows_of (installed m ps) ++ buffered)
   installed_all P buffered a = subst (AllByRecursion P) (sym (thin_with buffered))
@@ -111,7 +111,7 @@ module _ (m : Merging) (ps : List Portion) (ok : IsMergingOf ps m) (full : Full 
       let R : Record → Record → Type 0 = λ r s. r.number < s.number in
       let one = Apart-split R (rows_of before) (rows_of now ++ (rows_of later ++ buffered)) (subst (Apart R) (rows_with buffered) a) in
       let two = Apart-split R (rows_of now) (rows_of later ++ buffered) one.1 in
-      subst (Apart R) (sym (kept_all ∙ ap (marked (lives_of m.inputs)) (sym (Reduced-rows m.inputs now ok.stand)))) (Apart-marked R (lives_of m.inputs) (rows_of now) two.0)
+      subst (Apart R) (sym (kept_all ∙ ap (selected (lives_of m.inputs)) (sym (Reduced-rows m.inputs now ok.stand)))) (Apart-marked R (lives_of m.inputs) (rows_of now) two.0)
 
   -- the new segment is a portion, with a number of its own
   settled_full : length (settled m ps).live ≡ length m.kept

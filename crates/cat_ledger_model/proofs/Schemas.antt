@@ -1,7 +1,8 @@
 -- No call changes the fields.
 use Rattle.std.proofs.Common.{◌≡◌, ℕ, Bool, true, false, cond, ◌∙◌, ap, inl, inr, length, ltb}
 use Rattle.std.specs.Prelude.{◌==◌, Ok, Err}
-use Rattle.cat_model.specs.Run.{Chore, News, Command, Answer, Reply, last_number}
+use Rattle.cat_model.specs.Run.{Chore, News, Command, Answer, Reply}
+use Rattle.cat_model.specs.Limits.{last_number}
 use Rattle.cat_model.specs.State.{refuses_refresh, has_hold, snapshots_in}
 use Rattle.cat_ledger_model.specs.Ledger.{Ledger, state_of}
 use Rattle.cat_ledger_model.specs.Calls.{has_recorded, Flushes, Flushed, RecordsNow}

@@ -7,8 +7,9 @@ use Rattle.cat_base.specs.declared.refusal.Refusal.TheVariants.{Line as NoForm, 
 use Rattle.cat_model.specs.Text.{Text}
 use Rattle.cat_model.specs.Item.{Item, IsItem}
 use Rattle.cat_model.specs.Write.{Write}
-use Rattle.cat_model.specs.Run.{Chore, News, Command, Answer, Reply, last_number, greatest, may_tell, has}
-use Rattle.cat_model.specs.State.{State, View, Hold, tokens, has_view, has_hold, held_in, snapshots_in, newest_of, is_below, refuses_refresh, refreshed, views_pruned, written, opened, closed, committed, GivesSnapshot, Snapped, Moves, Halts, IsSound}
+use Rattle.cat_model.specs.Run.{Chore, News, Command, Answer, Reply, greatest, may_tell, has}
+use Rattle.cat_model.specs.Limits.{last_number}
+use Rattle.cat_model.specs.State.{State, RecordedTable, Hold, tokens, has_view, has_hold, held_in, snapshots_in, newest_of, is_below, refuses_refresh, refreshed, views_pruned, written, with_hold, without_hold, committed, GivesSnapshot, Snapped, Moves, Halts, IsSound}
 use Rattle.cat_model.proofs.Lists.{list_any-append}
 use Rattle.cat_model.proofs.Runs.{greatest_in, or_true}
 use Rattle.cat_ledger_model.specs.Ledger.{Ledger, Recorded, IsLedger, state_of, view_shown}
@@ -28,7 +29,7 @@ or_split true b e = inl refl
 or_split false b e = inr e
 
 -- a hold of a token that has a view
-sound_opened : (vs : List View) (hs : List Hold) (s t : ℕ) (b : Bool) → IsSound vs hs → has_view vs t ≡ true → IsSound vs (cond b hs (hs ++ record { session = s; token = t } ∷ []))
+sound_opened : (vs : List RecordedTable) (hs : List Hold) (s t : ℕ) (b : Bool) → IsSound vs hs → has_view vs t ≡ true → IsSound vs (cond b hs (hs ++ record { session = s; token = t } ∷ []))
 sound_opened vs hs s t true ok h = ok
 sound_opened vs hs s t false ok h = record {
   some_view = ok.some_view;
@@ -46,16 +47,16 @@ kept_held p (x ∷ hs) t h = at (p x) (kept_held p hs t) h
     at true f h = elim (or_split (x.token == t) (held_in (filter p hs) t) h) [ inl e ↦ or_left (x.token == t) (held_in hs t) e | inr e ↦ ap (λ b. (x.token == t) || b) (f e) ∙ or_true (x.token == t) ]
     at false f h = ap (λ b. (x.token == t) || b) (f h) ∙ or_true (x.token == t)
 
-sound_closed : (vs : List View) (hs : List Hold) (p : Hold → Bool) → IsSound vs hs → IsSound vs (filter p hs)
+sound_closed : (vs : List RecordedTable) (hs : List Hold) (p : Hold → Bool) → IsSound vs hs → IsSound vs (filter p hs)
 sound_closed vs hs p ok = record { some_view = ok.some_view; held = λ t h. ok.held t (kept_held p hs t h) }
 
-has-tokens : (vs : List View) (t : ℕ) → has (tokens vs) t ≡ has_view vs t
+has-tokens : (vs : List RecordedTable) (t : ℕ) → has (tokens vs) t ≡ has_view vs t
 has-tokens [] t = refl
 has-tokens (v ∷ vs) t = ap (λ b. (v.token == t) || b) (has-tokens vs t)
 
 newest_there : (l : Ledger) → IsLedger l → has_view (state_of l).views (greatest (tokens_in l.views)) ≡ true
 newest_there l ok =
-    let vs : List View = map view_shown l.views in
+    let vs : List RecordedTable = map view_shown l.views in
     sym (has-tokens vs (greatest (tokens_in l.views))) ∙ ap (λ ts. has ts (greatest (tokens_in l.views))) (tokens-shown l.views)
     ∙ greatest_in (tokens_in l.views) (omega (arith, length-map (λ (v : Recorded). v.token) l.views, length-map view_shown l.views, ok.sound.some_view))
 
@@ -105,17 +106,17 @@ module _ (l : Ledger) (s : ℕ) (r : Reply) (new : Ledger) (ok : IsLedger l) whe
       let v = views_are_recorded mid new k.0 k.2 rec in
       (v.0, e, v.1 ∙ ap refreshed k.1)
 
-  open_by : (t : ℕ) (b : Bool) → has_recorded l.views t ≡ b → cond b ((r ≡ Ok (Answer.number t)) × (new ≡ record l { holds = (opened (state_of l) s t).holds })) ((r ≡ Err Gone) × (new ≡ l))
-      → IsLedger new × (r ≡ cond b (Ok (Answer.number t)) (Err Gone)) × (state_of new ≡ cond b (opened (state_of l) s t) (state_of l))
+  open_by : (t : ℕ) (b : Bool) → has_recorded l.views t ≡ b → cond b ((r ≡ Ok (Answer.number t)) × (new ≡ record l { holds = (with_hold (state_of l) s t).holds })) ((r ≡ Err Gone) × (new ≡ l))
+      → IsLedger new × (r ≡ cond b (Ok (Answer.number t)) (Err Gone)) × (state_of new ≡ cond b (with_hold (state_of l) s t) (state_of l))
   open_by t true e m =
-      let h = holds_are_apart l (opened (state_of l) s t).holds ok (sound_opened (state_of l).views l.holds s t (has_hold l.holds s t) ok.sound (has-shown l.views t ∙ e)) in
+      let h = holds_are_apart l (with_hold (state_of l) s t).holds ok (sound_opened (state_of l).views l.holds s t (has_hold l.holds s t) ok.sound (has-shown l.views t ∙ e)) in
       (subst IsLedger (sym m.1) h.0, m.0, ap state_of m.1)
   open_by t false e m = let k = stays m.1 in (k.0, m.0, k.1)
 
-  close_by : (t : ℕ) (b : Bool) → cond b ((r ≡ Ok (Answer.number t)) × (new ≡ record l { holds = (closed (state_of l) s t).holds })) ((r ≡ Err NotHeld) × (new ≡ l))
-      → IsLedger new × (r ≡ cond b (Ok (Answer.number t)) (Err NotHeld)) × (state_of new ≡ cond b (closed (state_of l) s t) (state_of l))
+  close_by : (t : ℕ) (b : Bool) → cond b ((r ≡ Ok (Answer.number t)) × (new ≡ record l { holds = (without_hold (state_of l) s t).holds })) ((r ≡ Err NotHeld) × (new ≡ l))
+      → IsLedger new × (r ≡ cond b (Ok (Answer.number t)) (Err NotHeld)) × (state_of new ≡ cond b (without_hold (state_of l) s t) (state_of l))
   close_by t true m =
-      let h = holds_are_apart l (closed (state_of l) s t).holds ok (sound_closed (state_of l).views l.holds (λ h. not ((h.session == s) && (h.token == t))) ok.sound) in
+      let h = holds_are_apart l (without_hold (state_of l) s t).holds ok (sound_closed (state_of l).views l.holds (λ h. not ((h.session == s) && (h.token == t))) ok.sound) in
       (subst IsLedger (sym m.1) h.0, m.0, ap state_of m.1)
   close_by t false m = let k = stays m.1 in (k.0, m.0, k.1)
 
@@ -172,13 +173,13 @@ module _ (l : Ledger) (s : ℕ) (r : Reply) (new : Ledger) (ok : IsLedger l) whe
   serves Command.refresh m = let k = refresh_by (refuses_refresh (state_of l)) m in (k.0, (k.1, k.2))
   serves Command.open_newest m =
       let t : ℕ = greatest (tokens_in l.views) in
-      let h = holds_are_apart l (opened (state_of l) s t).holds ok (sound_opened (state_of l).views l.holds s t (has_hold l.holds s t) ok.sound (newest_there l ok)) in
+      let h = holds_are_apart l (with_hold (state_of l) s t).holds ok (sound_opened (state_of l).views l.holds s t (has_hold l.holds s t) ok.sound (newest_there l ok)) in
       let same : greatest (tokens_in l.views) ≡ greatest (tokens (state_of l).views) = ap greatest (sym (tokens-shown l.views)) in
-      (subst IsLedger (sym m.1) h.0, (m.0 ∙ ap (λ n. Ok (Answer.number n)) same, ap state_of m.1 ∙ ap (opened (state_of l) s) same))
+      (subst IsLedger (sym m.1) h.0, (m.0 ∙ ap (λ n. Ok (Answer.number n)) same, ap state_of m.1 ∙ ap (with_hold (state_of l) s) same))
   serves (Command.open_at t) m =
       let k = open_by t (has_recorded l.views t) refl m in
       let e : has_recorded l.views t ≡ has_view (state_of l).views t = sym (has-shown l.views t) in
-      (k.0, (k.1 ∙ ap (λ b. cond b (Ok (Answer.number t)) (Err Gone)) e, k.2 ∙ ap (λ b. cond b (opened (state_of l) s t) (state_of l)) e))
+      (k.0, (k.1 ∙ ap (λ b. cond b (Ok (Answer.number t)) (Err Gone)) e, k.2 ∙ ap (λ b. cond b (with_hold (state_of l) s t) (state_of l)) e))
   serves (Command.close t) m = let k = close_by t (has_hold l.holds s t) m in (k.0, (k.1, k.2))
   serves (Command.read t asked) m = let k = stays m.1 in (k.0, (m.0, k.1))
   serves (Command.files_of_token t) m = let k = stays m.1 in (k.0, (m.0, k.1))

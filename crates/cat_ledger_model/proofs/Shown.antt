@@ -4,14 +4,14 @@ use Rattle.std.specs.List.{flat_map, AllByRecursion}
 use Rattle.std.proofs.lemmas.List.{map-append}
 use Rattle.std.proofs.lemmas.List.Elements.{All-from_recursion}
 use Rattle.cat_model.specs.Item.{Schema, Record}
-use Rattle.cat_model.specs.View.{Row, row_of, Leaf, marked, live_rows}
+use Rattle.cat_model.specs.View.{Row, row_of, Leaf, selected, live_rows}
 use Rattle.cat_model.proofs.Lists.{All-weaken, All-each}
 use Rattle.cat_ledger_model.specs.Portions.{Portion, live_records, records_of, rows_of, Apart, leaf_of}
 use Rattle.cat_ledger_model.specs.Ledger.{AreWhole, IsWritten, portions_in}
 use Rattle.cat_ledger_model.specs.Laws.{WholeAreViews, KeptCommitsOpen}
 use Rattle.cat_ledger_model.proofs.Commits.{AllPairs-from_Apart, opened_are_fresh}
 
-marked-map : {A B : Type 0} (f : A → B) (bs : List Bool) (xs : List A) → map f (marked bs xs) ≡ marked bs (map f xs)
+marked-map : {A B : Type 0} (f : A → B) (bs : List Bool) (xs : List A) → map f (selected bs xs) ≡ selected bs (map f xs)
 marked-map f [] xs = refl
 marked-map f (b ∷ bs) [] = refl
 marked-map f (true ∷ bs) (x ∷ xs) = ap (λ l. f x ∷ l) (marked-map f bs xs)

@@ -6,8 +6,9 @@ use Rattle.std.proofs.lemmas.Bool.Decides.{eqb_tells}
 use Rattle.std.proofs.lemmas.List.{length-append, map-append}
 use Rattle.std.proofs.lemmas.Grind.{flat_map-append}
 use Rattle.cat_model.specs.Files.{Name}
-use Rattle.cat_model.specs.Run.{greatest, pruned, record_limit}
-use Rattle.cat_model.specs.State.{View, Hold, tokens, has_view, held_in, views_without_least_free, views_recorded, views_pruned, refreshed, IsSound}
+use Rattle.cat_model.specs.Run.{greatest, pruned}
+use Rattle.cat_model.specs.Limits.{view_limit}
+use Rattle.cat_model.specs.State.{RecordedTable, Hold, tokens, has_view, held_in, views_without_least_free, views_recorded, views_pruned, refreshed, IsSound}
 use Rattle.cat_model.proofs.Lists.{filter_alike, All-both, All-each, All-kept, list_any-append}
 use Rattle.cat_model.proofs.Runs.{pruned_has, has_some}
 use Rattle.cat_ledger_model.specs.Portions.{records_of, rows_of, Apart}
@@ -101,9 +102,9 @@ whole_now l ok empty =
 
 full_shown : (held : ℕ → Bool) (vs : List Recorded) → views_without_least_free held (map view_shown vs) ≡ map view_shown (filter (λ v. stays_full held (tokens_in vs) v.token) vs)
 full_shown held vs =
-    filter_alike _ (λ (v : View). stays_full held (tokens_in vs) v.token) (map view_shown vs)
-    (All-each _ (λ (v : View). ap (λ b. held v.token || b) (any-map view_shown (λ u. not (held u.token) && ltb u.token v.token) vs ∙ sym (any-map (λ (u : Recorded). u.token) (λ u. not (held u) && ltb u v.token) vs))) _)
-    ∙ sym (map-filter view_shown (λ (v : View). stays_full held (tokens_in vs) v.token) vs)
+    filter_alike _ (λ (v : RecordedTable). stays_full held (tokens_in vs) v.token) (map view_shown vs)
+    (All-each _ (λ (v : RecordedTable). ap (λ b. held v.token || b) (any-map view_shown (λ u. not (held u.token) && ltb u.token v.token) vs ∙ sym (any-map (λ (u : Recorded). u.token) (λ u. not (held u) && ltb u v.token) vs))) _)
+    ∙ sym (map-filter view_shown (λ (v : RecordedTable). stays_full held (tokens_in vs) v.token) vs)
 
 recorded_room : (held : ℕ → Bool) (vs : List Recorded) (b : Bool) → map view_shown (filter (λ v. b || stays_full held (tokens_in vs) v.token) vs) ≡ cond b (map view_shown vs) (views_without_least_free held (map view_shown vs))
 recorded_room held vs true = ap (map view_shown) (filter-true vs)
@@ -113,15 +114,15 @@ recorded_shown : (l : Ledger) → has_recorded l.views l.count ≡ false
     → map view_shown (views_that (stays_recorded (held_in l.holds) (tokens_in l.views)) l.views ++ view_now l ∷ []) ≡ views_recorded (held_in l.holds) (map view_shown l.views) (record { token = l.count; table = records_of l.portions })
 recorded_shown l none =
     let held : ℕ → Bool = held_in l.holds in
-    let vs : List View = map view_shown l.views in
-    let few : ltb (length (tokens_in l.views)) record_limit ≡ ltb (length vs) record_limit = ap (λ n. ltb n record_limit) (length-map (λ (v : Recorded). v.token) l.views ∙ sym (length-map view_shown l.views)) in
+    let vs : List RecordedTable = map view_shown l.views in
+    let few : ltb (length (tokens_in l.views)) view_limit ≡ ltb (length vs) view_limit = ap (λ n. ltb n view_limit) (length-map (λ (v : Recorded). v.token) l.views ∙ sym (length-map view_shown l.views)) in
     map-append view_shown (views_that (stays_recorded held (tokens_in l.views)) l.views) (view_now l ∷ [])
-    ∙ ap (λ us. us ++ view_shown (view_now l) ∷ []) (recorded_room held l.views (ltb (length (tokens_in l.views)) record_limit) ∙ ap (λ b. cond b vs (views_without_least_free held vs)) few)
-    ∙ sym (ap (λ b. cond b vs (cond (ltb (length vs) record_limit) vs (views_without_least_free held vs) ++ view_shown (view_now l) ∷ [])) (has-shown l.views l.count ∙ none))
+    ∙ ap (λ us. us ++ view_shown (view_now l) ∷ []) (recorded_room held l.views (ltb (length (tokens_in l.views)) view_limit) ∙ ap (λ b. cond b vs (views_without_least_free held vs)) few)
+    ∙ sym (ap (λ b. cond b vs (cond (ltb (length vs) view_limit) vs (views_without_least_free held vs) ++ view_shown (view_now l) ∷ [])) (has-shown l.views l.count ∙ none))
 
-recorded_already : (l : Ledger) (v : View) → v.token ≡ l.count → has_recorded l.views l.count ≡ true → map view_shown l.views ≡ views_recorded (held_in l.holds) (map view_shown l.views) v
+recorded_already : (l : Ledger) (v : RecordedTable) → v.token ≡ l.count → has_recorded l.views l.count ≡ true → map view_shown l.views ≡ views_recorded (held_in l.holds) (map view_shown l.views) v
 recorded_already l v e some =
-    sym (ap (λ b. cond b (map view_shown l.views) (cond (ltb (length (map view_shown l.views)) record_limit) (map view_shown l.views) (views_without_least_free (held_in l.holds) (map view_shown l.views)) ++ v ∷ []))
+    sym (ap (λ b. cond b (map view_shown l.views) (cond (ltb (length (map view_shown l.views)) view_limit) (map view_shown l.views) (views_without_least_free (held_in l.holds) (map view_shown l.views)) ++ v ∷ []))
     (ap (has_view (map view_shown l.views)) e ∙ has-shown l.views l.count ∙ some))
 
 records_now : (l new : Ledger) → IsLedger l → l.buffered ≡ [] → has_recorded l.views l.count ≡ false → RecordsNow l new → IsLedger new × (state_of new ≡ refreshed (state_of l))
@@ -154,7 +155,7 @@ records_now l new ok empty none call =
         ids = ok.ids;
         sound = record {
           some_view = omega (arith, length-map view_shown vs, length-append (views_that stays l.views) (view_now l ∷ []));
-          held = λ t h. has-shown vs t ∙ list_any-append (λ v. v.token == t) (views_that stays l.views) (view_now l ∷ []) ∙ or_left _ _ (held_stay stays l.views l.holds ok.sound (λ u k. or_any (ltb (length (tokens_in l.views)) record_limit) _ (or_left _ _ k)) t h);
+          held = λ t h. has-shown vs t ∙ list_any-append (λ v. v.token == t) (views_that stays l.views) (view_now l ∷ []) ∙ or_left _ _ (held_stay stays l.views l.holds ok.sound (λ u k. or_any (ltb (length (tokens_in l.views)) view_limit) _ (or_left _ _ k)) t h);
         };
         merging = ok.merging;
         alone = record {
@@ -191,8 +192,8 @@ views_are_recorded l new ok empty call = by (has_recorded l.views l.count) refl 
 
 pub pruned_shown : (held : ℕ → Bool) (n : ℕ) (vs : List Recorded) → map view_shown (views_that (stays_pruned held n (tokens_in vs)) vs) ≡ views_pruned held n (map view_shown vs)
 pruned_shown held n vs =
-    map-filter view_shown (λ (v : View). stays_pruned held n (tokens_in vs) v.token) vs
-    ∙ ap (λ ts. filter (λ (v : View). stays_pruned held n ts v.token) (map view_shown vs)) (sym (tokens-shown vs))
+    map-filter view_shown (λ (v : RecordedTable). stays_pruned held n (tokens_in vs) v.token) vs
+    ∙ ap (λ ts. filter (λ (v : RecordedTable). stays_pruned held n ts v.token) (map view_shown vs)) (sym (tokens-shown vs))
 
 some_stays : (held : ℕ → Bool) (n : ℕ) (vs : List Recorded) → 0 < length vs → 0 < length (views_that (stays_pruned held n (tokens_in vs)) vs)
 some_stays held n vs h =

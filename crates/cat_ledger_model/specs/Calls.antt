@@ -3,7 +3,7 @@ use Rattle.std.specs.Prelude.{◌≡◌, ◌⊎◌, ℕ, ◌+◌, ◌-◌, ◌<�
 use Rattle.std.specs.List.{flat_map, list_any, list_all, last_or}
 use Rattle.cat_model.specs.Write.{Write}
 use Rattle.cat_model.specs.Table.{without, put_last}
-use Rattle.cat_model.specs.Run.{record_limit, last_number}
+use Rattle.cat_model.specs.Limits.{view_limit, last_number}
 use Rattle.cat_model.specs.Files.{Name}
 use Rattle.cat_model.specs.State.{Taken, held_in, snapshots_in, newest_of, is_newest}
 use Rattle.cat_ledger_model.specs.Portions.{Portion, rows_of, all_live, portions_after, Merging, kept_by, window_now, settled, merged, installed}
@@ -44,7 +44,7 @@ stays_pruned held n ts t = held t || ltb (count_by (λ u. ltb t u) ts) (max n 1)
 
 -- whether a view stays as one more is recorded
 abbrev pub stays_recorded : (ℕ → Bool) → List ℕ → ℕ → Bool
-stays_recorded held ts t = ltb (length ts) record_limit || stays_full held ts t
+stays_recorded held ts t = ltb (length ts) view_limit || stays_full held ts t
 
 abbrev pub views_that : (ℕ → Bool) → List Recorded → List Recorded
 views_that stays vs = filter (λ v. stays v.token) vs

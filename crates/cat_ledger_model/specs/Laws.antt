@@ -6,7 +6,8 @@ use Rattle.std.specs.List.{AllByRecursion}
 use Rattle.cat_model.specs.Item.{Schema, IsItem}
 use Rattle.cat_model.specs.Write.{Write}
 use Rattle.cat_model.specs.Files.{Name}
-use Rattle.cat_model.specs.Run.{last_number, Line, Reply, Run, IsRun, Fits as FitsRun}
+use Rattle.cat_model.specs.Run.{Line, Reply, Run, IsRun, Fits as FitsRun}
+use Rattle.cat_model.specs.Limits.{last_number}
 use Rattle.cat_model.specs.Table.{Opened}
 use Rattle.cat_ledger_model.specs.Serves.{Calls}
 use Rattle.cat_model.specs.State.{StandsFor, Step, Hold, IsSound, held_in, written, refreshed, views_pruned, committed, is_below, newest_of, TakesSnapshot, GivesSnapshot, IsFresh}

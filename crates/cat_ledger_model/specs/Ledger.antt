@@ -3,8 +3,8 @@ use Rattle.std.specs.Prelude.{◌≢◌, ℕ, ◌+◌, ◌<◌, ◌≤◌, ◌==
 use Rattle.std.specs.List.{flat_map, AllByRecursion}
 use Rattle.cat_model.specs.Item.{Schema, Record, IsItem}
 use Rattle.cat_model.specs.Files.{Name}
-use Rattle.cat_model.specs.Run.{last_number}
-use Rattle.cat_model.specs.State.{View, Hold, Commit, Taken, State, IsSound}
+use Rattle.cat_model.specs.Limits.{last_number}
+use Rattle.cat_model.specs.State.{RecordedTable, Hold, Commit, Taken, State, IsSound}
 use Rattle.cat_ledger_model.specs.Portions.{Portion, records_of, rows_of, Apart, ArePortions, Merging, IsMerging}
 use Rattle.cat_ledger_model.specs.Users.{Used, AreUsed}
 
@@ -52,7 +52,7 @@ table_of l = records_of l.portions ++ l.buffered
 abbrev pub portions_in : Written → List Portion
 portions_in c = map (λ x. x.portion) c.listed
 
-abbrev pub view_shown : Recorded → View
+abbrev pub view_shown : Recorded → RecordedTable
 view_shown v = record { token = v.token; table = records_of v.portions }
 
 abbrev pub commit_shown : Written → Commit

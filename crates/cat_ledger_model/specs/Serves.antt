@@ -5,9 +5,10 @@ use Rattle.cat_model.specs.Text.{Text}
 use Rattle.cat_model.specs.Item.{IsItem}
 use Rattle.cat_model.specs.Write.{Write}
 use Rattle.cat_model.specs.Files.{Name}
-use Rattle.cat_model.specs.Answer.{answer, fault}
-use Rattle.cat_model.specs.Run.{Chore, News, Command, Line, Answer, Reply, last_number, greatest, may_tell, snapshot_of, told, or_not_held}
-use Rattle.cat_model.specs.State.{has_hold, has_commit, snapshots_in, table_under, refuses_refresh, opened, closed, Halts}
+use Rattle.cat_model.specs.Answer.{answer, query_refusal}
+use Rattle.cat_model.specs.Run.{Chore, News, Command, Line, Answer, Reply, greatest, may_tell, snapshot_of, found_reply, or_not_held}
+use Rattle.cat_model.specs.Limits.{last_number}
+use Rattle.cat_model.specs.State.{has_hold, has_commit, snapshots_in, table_under, refuses_refresh, with_hold, without_hold, Halts}
 use Rattle.cat_ledger_model.specs.Portions.{Merging}
 use Rattle.cat_ledger_model.specs.Ledger.{Ledger, state_of}
 use Rattle.cat_ledger_model.specs.Calls.{tokens_in, has_recorded, newest_in, wrote, Flushes, Flushed, Records, Pruned, Begun, Copied, passed_on, Installed, Committed, Snaps, Unsnapped, Refused, Ended}
@@ -43,10 +44,10 @@ Serves l s (Command.put (Err e)) r new = (r ≡ Err e) × (new ≡ l)
 Serves l s (Command.delete (Ok id)) r new = cond (ltb l.count last_number) ((r ≡ Ok (Answer.number (l.count + 1))) × (new ≡ wrote l (Write.delete id))) ((r ≡ Err Spent) × (new ≡ l))
 Serves l s (Command.delete (Err e)) r new = (r ≡ Err e) × (new ≡ l)
 Serves l s Command.refresh r new = cond (refuses_refresh (state_of l)) ((r ≡ Err Full) × (new ≡ l)) ((mid : Ledger) × Flushes l mid × Records mid new × (r ≡ Ok (Answer.number l.count)))
-Serves l s Command.open_newest r new = (r ≡ Ok (Answer.number (greatest (tokens_in l.views)))) × (new ≡ record l { holds = (opened (state_of l) s (greatest (tokens_in l.views))).holds })
-Serves l s (Command.open_at t) r new = cond (has_recorded l.views t) ((r ≡ Ok (Answer.number t)) × (new ≡ record l { holds = (opened (state_of l) s t).holds })) ((r ≡ Err Gone) × (new ≡ l))
-Serves l s (Command.close t) r new = cond (has_hold l.holds s t) ((r ≡ Ok (Answer.number t)) × (new ≡ record l { holds = (closed (state_of l) s t).holds })) ((r ≡ Err NotHeld) × (new ≡ l))
-Serves l s (Command.read t asked) r new = (r ≡ cond (has_hold l.holds s t) (told (answer l.schema (table_under (state_of l).views t) asked)) (or_not_held (fault asked))) × (new ≡ l)
+Serves l s Command.open_newest r new = (r ≡ Ok (Answer.number (greatest (tokens_in l.views)))) × (new ≡ record l { holds = (with_hold (state_of l) s (greatest (tokens_in l.views))).holds })
+Serves l s (Command.open_at t) r new = cond (has_recorded l.views t) ((r ≡ Ok (Answer.number t)) × (new ≡ record l { holds = (with_hold (state_of l) s t).holds })) ((r ≡ Err Gone) × (new ≡ l))
+Serves l s (Command.close t) r new = cond (has_hold l.holds s t) ((r ≡ Ok (Answer.number t)) × (new ≡ record l { holds = (without_hold (state_of l) s t).holds })) ((r ≡ Err NotHeld) × (new ≡ l))
+Serves l s (Command.read t asked) r new = (r ≡ cond (has_hold l.holds s t) (found_reply (answer l.schema (table_under (state_of l).views t) asked)) (or_not_held (query_refusal asked))) × (new ≡ l)
 Serves l s (Command.files_of_token t) r new = cond (has_hold l.holds s t) ((ns : List Text) × (r ≡ Ok (Answer.names ns))) (r ≡ Err NotHeld) × (new ≡ l)
 Serves l s (Command.chore c) r new = cond (s == 0) ((n : News) × (r ≡ Ok (Answer.news n)) × Maintains c n l new) ((r ≡ Err NoForm) × (new ≡ l))
 Serves l s (Command.prune n) r new = (r ≡ Ok (Answer.number (length l.views - length new.views))) × Pruned n l new

@@ -6,9 +6,9 @@ use Rattle.std.proofs.lemmas.Slice.Eq.{bytes_eq-Decides}
 use Rattle.std.specs.List.{AllByRecursion, starts_with, list_all, prefix_len}
 use Rattle.std.specs.Char.{is_ascii_lowercase, is_ascii_digit}
 use Rattle.cat_model.specs.Text.{Text, same_text}
-use Rattle.cat_model.specs.Item.{Schema, Field, IsSchema, Kind, kind_of, is_name, has_name_form, is_name_byte}
+use Rattle.cat_model.specs.Item.{Schema, Field, IsSchema, Kind, kind_of, is_field_name, has_name_form, is_name_byte}
 use Rattle.cat_model.specs.Query.{Query, Primary, Sign}
-use Rattle.cat_model.specs.Faults.{Next, is_sign, begins_primary, IsName, Reads, Fault}
+use Rattle.cat_model.specs.Faults.{Next, is_sign, begins_primary, IsWholeName, ReadsTo, Fault}
 use Rattle.cat_model.specs.Reader.{◌>>=◌, Inside, after_spaces, ends, sign_at, grouped, everything_at, leaf_at, primary_at, clause_at, gap_at, clauses_at, content_at, term_at, name_at, behind_name, whole}
 use Rattle.cat_model.proofs.QueryValues.{map_some, chosen, Stops}
 use Rattle.cat_model.proofs.QueryTerms.{Yields, yields_bind, option_cases, name_parts, name_all, name_stops, term_no_field, term_fails, term_sound}
@@ -22,14 +22,14 @@ pub record LowerFirst (name : Text) : Type 0 where
   pub parts : name ≡ first ∷ others
   pub lower : is_ascii_lowercase first ≡ true
 
-name_lower : (name : Text) → is_name name ≡ true → LowerFirst name
+name_lower : (name : Text) → is_field_name name ≡ true → LowerFirst name
 name_lower [] e = absurd cc
 name_lower (b ∷ bs) e =
     let form = (and_parts (has_name_form (b ∷ bs)) (not (same_text (b ∷ bs) (codes "id"))) e).0 in
     let bytes = (and_parts (is_ascii_lowercase b && list_all is_name_byte bs) (leb (length bs) 31) form).0 in
     record { first = b; others = bs; parts = refl; lower = (and_parts (is_ascii_lowercase b) (list_all is_name_byte bs) bytes).0 }
 
-found_lower : (fields : List Field) → AllByRecursion (λ f. IsTrue (is_name f.name)) fields → (name : Text) (f : Field) → find (λ f. same_text f.name name) fields ≡ Some f → LowerFirst name
+found_lower : (fields : List Field) → AllByRecursion (λ f. IsTrue (is_field_name f.name)) fields → (name : Text) (f : Field) → find (λ f. same_text f.name name) fields ≡ Some f → LowerFirst name
 found_lower [] all name f e = absurd cc
 found_lower (x ∷ fields) all name f e = elim (chosen (same_text x.name name) (Some x) (find (λ f. same_text f.name name) fields) (Some f) e) [
   | inl h ↦ subst LowerFirst ((bytes_eq-Decides x.name name).0 h.0) (name_lower x.name all.0)
@@ -57,22 +57,22 @@ no_term schema ok b bs e = elim (option_cases (kind_of schema (name_at (b ∷ bs
 
 -- ---- from left to right
 
-pub reads_parts : {schema : Schema} {text f r : Text} {next : Next} → Reads schema text f r next → text ≡ f ++ r
-reads_parts Reads.start = refl
-reads_parts (Reads.space f r c g new x) = reads_parts x ∙ sym (append_assoc f (32 ∷ []) r)
-reads_parts (Reads.sign f r b c g new x s l) = reads_parts x ∙ sym (append_assoc f (b ∷ []) r)
-reads_parts (Reads.no_sign f r b c g new x s l) = reads_parts x
-reads_parts (Reads.opened f r c g x l) = reads_parts x ∙ sym (append_assoc f (40 ∷ []) r)
-reads_parts (Reads.everything f r c g x) = reads_parts x ∙ sym (append_assoc f (42 ∷ 58 ∷ 42 ∷ []) r)
-reads_parts (Reads.term f name t r c g k a p x named field value means) = reads_parts x ∙ regrouped f name t r
+pub reads_parts : {schema : Schema} {text f r : Text} {next : Next} → ReadsTo schema text f r next → text ≡ f ++ r
+reads_parts ReadsTo.start = refl
+reads_parts (ReadsTo.space f r c g new x) = reads_parts x ∙ sym (append_assoc f (32 ∷ []) r)
+reads_parts (ReadsTo.sign f r b c g new x s l) = reads_parts x ∙ sym (append_assoc f (b ∷ []) r)
+reads_parts (ReadsTo.no_sign f r b c g new x s l) = reads_parts x
+reads_parts (ReadsTo.opened f r c g x l) = reads_parts x ∙ sym (append_assoc f (40 ∷ []) r)
+reads_parts (ReadsTo.everything f r c g x) = reads_parts x ∙ sym (append_assoc f (42 ∷ 58 ∷ 42 ∷ []) r)
+reads_parts (ReadsTo.term f name t r c g k a p x named field value means) = reads_parts x ∙ regrouped f name t r
   where
     regrouped : (f name t r : Text) → f ++ (name ++ (58 ∷ (t ++ r))) ≡ (f ++ (name ++ (58 ∷ t))) ++ r
     regrouped f name t r = simp append_assoc
-reads_parts (Reads.gap f r c g x) = reads_parts x ∙ sym (append_assoc f (32 ∷ []) r)
-reads_parts (Reads.shut f r c g x) = reads_parts x ∙ sym (append_assoc f (41 ∷ []) r)
-reads_parts (Reads.shut_behind_space f r c g x) = reads_parts x ∙ sym (append_assoc f (41 ∷ []) r)
+reads_parts (ReadsTo.gap f r c g x) = reads_parts x ∙ sym (append_assoc f (32 ∷ []) r)
+reads_parts (ReadsTo.shut f r c g x) = reads_parts x ∙ sym (append_assoc f (41 ∷ []) r)
+reads_parts (ReadsTo.shut_behind_space f r c g x) = reads_parts x ∙ sym (append_assoc f (41 ∷ []) r)
 
-pub reads_length : {schema : Schema} {text f r : Text} {next : Next} → Reads schema text f r next → length f + length r ≡ length text
+pub reads_length : {schema : Schema} {text f r : Text} {next : Next} → ReadsTo schema text f r next → length f + length r ≡ length text
 reads_length {schema} {text} {f} {r} {next} x = sym (ap length (reads_parts x) ∙ length-append f r)
 
 -- a fault with so many bytes left
@@ -89,7 +89,7 @@ judged_bind : {A B : Type 0} (schema : Schema) (text : Text) (P : A → Type 0) 
 judged_bind schema text P Q r f so go = yields_bind (Faulty schema text) P Q r f so go
 
 -- a fault at the byte that comes next
-faulty_here : {schema : Schema} {text f r : Text} {next : Next} → Reads schema text f r next → Fault schema text (length f) → Faulty schema text (length r)
+faulty_here : {schema : Schema} {text f r : Text} {next : Next} → ReadsTo schema text f r next → Fault schema text (length f) → Faulty schema text (length r)
 faulty_here {f = f} x fault = record { place = length f; fault = fault; total = reads_length x }
 
 -- ---- primaries that are no groups
@@ -97,7 +97,7 @@ faulty_here {f = f} x fault = record { place = length f; fault = fault; total = 
 -- the front up to the rest, after which this may come
 pub record Goes (schema : Schema) (text rest : Text) (next : Next) : Type 0 where
   pub front : Text
-  pub reads : Reads schema text front rest next
+  pub reads : ReadsTo schema text front rest next
 
 name_step : (b : ℕ) (bs : Text) → is_name_byte b ≡ true → (name_at (b ∷ bs) ≡ b ∷ name_at bs) × (behind_name (b ∷ bs) ≡ behind_name bs)
 name_step b bs e = step_with (prefix_len is_name_byte bs) (is_name_byte b) e
@@ -111,41 +111,41 @@ name_step b bs e = step_with (prefix_len is_name_byte bs) (is_name_byte b) e
 pub lower_name : (b : ℕ) → is_ascii_lowercase b ≡ true → is_name_byte b ≡ true
 lower_name b e = or_left (is_ascii_lowercase b || is_ascii_digit b) (eqb b 95) (or_left (is_ascii_lowercase b) (is_ascii_digit b) e)
 
-is_whole_name : (name rest : Text) → AllByRecursion (λ b. IsTrue (is_name_byte b)) name → Stops is_name_byte rest → IsName name rest
+is_whole_name : (name rest : Text) → AllByRecursion (λ b. IsTrue (is_name_byte b)) name → Stops is_name_byte rest → IsWholeName name rest
 is_whole_name name [] all stops = all
 is_whole_name name (b ∷ rest) all stops = (all, stops)
 
-term_goes : (schema : Schema) (text f : Text) (b : ℕ) (bs : Text) (c g : ℕ) → Reads schema text f (b ∷ bs) (Next.a_primary c g) → is_ascii_lowercase b ≡ true → (r : Result (Primary × Text) ℕ) → term_at schema (b ∷ bs) ≡ r
+term_goes : (schema : Schema) (text f : Text) (b : ℕ) (bs : Text) (c g : ℕ) → ReadsTo schema text f (b ∷ bs) (Next.a_primary c g) → is_ascii_lowercase b ≡ true → (r : Result (Primary × Text) ℕ) → term_at schema (b ∷ bs) ≡ r
     → Judged schema text (λ x. Goes schema text x.1 (Next.an_end c g)) r
 term_goes schema text f b bs c g reads lower (Ok x) e =
     let t = term_sound schema (b ∷ bs) x.0 x.1 e in
-    record { front = f ++ (t.name ++ (58 ∷ t.value)); reads = Reads.term f t.name t.value x.1 c g t.kind t.asks x.0 (subst (λ (r : Text). Reads schema text f r (Next.a_primary c g)) t.parts reads) t.named t.field t.whole t.means }
+    record { front = f ++ (t.name ++ (58 ∷ t.value)); reads = ReadsTo.term f t.name t.value x.1 c g t.kind t.asks x.0 (subst (λ (r : Text). ReadsTo schema text f r (Next.a_primary c g)) t.parts reads) t.named t.field t.whole t.means }
 term_goes schema text f b bs c g reads lower (Err n) e = elim (term_fails schema (b ∷ bs) n e) [
   | inl w ↦
       let named = name_step b bs (lower_name b lower) in
       let parts : b ∷ bs ≡ b ∷ name_at bs ++ behind_name bs = ap (λ (x : Text). b ∷ x) (name_parts bs) in
       let wrong : (kind_of schema (b ∷ name_at bs) ≡ None) ⊎ ((behind : Text) → behind_name bs ≢ 58 ∷ behind) =
       elim w.wrong [ inl h ↦ inl (ap (kind_of schema) (sym named.0) ∙ h) | inr h ↦ inr (λ behind x. h behind (named.1 ∙ x)) ] in
-      let fault = Fault.no_field f (name_at bs) (behind_name bs) b c g (subst (λ (r : Text). Reads schema text f r (Next.a_primary c g)) parts reads) lower
+      let fault = Fault.no_field f (name_at bs) (behind_name bs) b c g (subst (λ (r : Text). ReadsTo schema text f r (Next.a_primary c g)) parts reads) lower
       (is_whole_name (b ∷ name_at bs) (behind_name bs) (lower_name b lower, name_all bs) (name_stops bs)) wrong in
       subst (λ (left : ℕ). Faulty schema text left) (sym w.left) (faulty_here reads fault)
   | inr w ↦
       let name : Text = name_at (b ∷ bs) in
       let parts : b ∷ bs ≡ name ++ (58 ∷ w.behind) = name_parts (b ∷ bs) ∙ ap (λ (x : Text). name ++ x) w.colon in
-      let fault = Fault.no_value f name w.behind c g w.kind (subst (λ (r : Text). Reads schema text f r (Next.a_primary c g)) parts reads) (name_all (b ∷ bs)) w.field w.none in
+      let fault = Fault.no_value f name w.behind c g w.kind (subst (λ (r : Text). ReadsTo schema text f r (Next.a_primary c g)) parts reads) (name_all (b ∷ bs)) w.field w.none in
       let total : length f + length (b ∷ bs) ≡ length text = reads_length reads in
       let inner : length (b ∷ bs) ≡ length name + length (58 ∷ w.behind) = ap length parts ∙ length-append name (58 ∷ w.behind) in
       record { place = length f + length name + 1; fault = fault; total = omega (arith, w.left, total, inner) }
 ]
 
-star_goes : (schema : Schema) (text f bs : Text) (c g : ℕ) → Reads schema text f (42 ∷ bs) (Next.a_primary c g) → Judged schema text (λ x. Goes schema text x.1 (Next.an_end c g)) (everything_at (42 ∷ bs))
+star_goes : (schema : Schema) (text f bs : Text) (c g : ℕ) → ReadsTo schema text f (42 ∷ bs) (Next.a_primary c g) → Judged schema text (λ x. Goes schema text x.1 (Next.an_end c g)) (everything_at (42 ∷ bs))
 star_goes schema text f bs c g reads =
     cond_both (starts_with nat_eq (42 ∷ bs) (42 ∷ 58 ∷ 42 ∷ [])) (Ok (Primary.everything, drop 3 (42 ∷ bs))) (Err (length (42 ∷ bs))) (Judged schema text (λ x. Goes schema text x.1 (Next.an_end c g)))
-    (λ h. record { front = f ++ (42 ∷ 58 ∷ 42 ∷ []); reads = Reads.everything f (drop 3 (42 ∷ bs)) c g (subst (λ (r : Text). Reads schema text f r (Next.a_primary c g)) (everything_is (42 ∷ bs) h) reads) })
+    (λ h. record { front = f ++ (42 ∷ 58 ∷ 42 ∷ []); reads = ReadsTo.everything f (drop 3 (42 ∷ bs)) c g (subst (λ (r : Text). ReadsTo schema text f r (Next.a_primary c g)) (everything_is (42 ∷ bs) h) reads) })
     (λ h. faulty_here reads (Fault.star f bs c g reads (λ r e. true≢false (sym (ap (λ (x : Text). starts_with nat_eq (42 ∷ x) (42 ∷ 58 ∷ 42 ∷ [])) e) ∙ h))))
 
 -- where neither a primary nor a star begins, `no_primary` is left to the caller
-leaf_goes : (schema : Schema) (text f : Text) (b : ℕ) (bs : Text) (c g : ℕ) → IsSchema schema → Reads schema text f (b ∷ bs) (Next.a_primary c g) → eqb b 40 ≡ false → Judged schema text (λ x. Goes schema text x.1 (Next.an_end c g)) (leaf_at schema (b ∷ bs))
+leaf_goes : (schema : Schema) (text f : Text) (b : ℕ) (bs : Text) (c g : ℕ) → IsSchema schema → ReadsTo schema text f (b ∷ bs) (Next.a_primary c g) → eqb b 40 ≡ false → Judged schema text (λ x. Goes schema text x.1 (Next.an_end c g)) (leaf_at schema (b ∷ bs))
 unfolding leaf_at
 leaf_goes schema text f b bs c g ok reads no_open =
     cond_both (eqb b 42) (everything_at (b ∷ bs)) (term_at schema (b ∷ bs)) (Judged schema text (λ x. Goes schema text x.1 (Next.an_end c g)))
@@ -160,7 +160,7 @@ leaf_goes schema text f b bs c g ok reads no_open =
   where
     star : b ≡ 42 → Judged schema text (λ x. Goes schema text x.1 (Next.an_end c g)) (everything_at (b ∷ bs))
     star e = subst (λ (x : ℕ). Judged schema text (λ y. Goes schema text y.1 (Next.an_end c g)) (everything_at (x ∷ bs))) (sym e)
-        (star_goes schema text f bs c g (subst (λ (x : ℕ). Reads schema text f (x ∷ bs) (Next.a_primary c g)) e reads))
+        (star_goes schema text f bs c g (subst (λ (x : ℕ). ReadsTo schema text f (x ∷ bs) (Next.a_primary c g)) e reads))
 
 -- ---- primaries
 
@@ -171,18 +171,18 @@ pub record EndsSo (schema : Schema) (text : Text) (c g : ℕ) (x : Query × ℕ 
   pub used : count + x.1 ≡ 64
   pub front : Text
   pub stops : ends x.2 ≡ true
-  pub reads : Reads schema text front x.2 (Next.an_end count g) ⊎ Reads schema text front x.2 (Next.a_clause count g false)
+  pub reads : ReadsTo schema text front x.2 (Next.an_end count g) ⊎ ReadsTo schema text front x.2 (Next.a_clause count g false)
 
 record PrimaryGoes (schema : Schema) (text : Text) (c g : ℕ) (x : Primary × ℕ × Text) : Type 0 where
   count : ℕ
   more : c ≤ count
   used : count + x.1 ≡ 64
   front : Text
-  reads : Reads schema text front x.2 (Next.an_end count g)
+  reads : ReadsTo schema text front x.2 (Next.an_end count g)
 
 abbrev GoesInside : Schema → Text → Inside → ℕ → Type 0
 GoesInside schema text inside levels =
-    (f rest : Text) (c g left : ℕ) → Reads schema text f rest (Next.a_clause c g true) → c + left ≡ 64 → g + levels ≡ 9 → g ≤ 8 → Judged schema text (EndsSo schema text c g) (inside left rest)
+    (f rest : Text) (c g left : ℕ) → ReadsTo schema text f rest (Next.a_clause c g true) → c + left ≡ 64 → g + levels ≡ 9 → g ≤ 8 → Judged schema text (EndsSo schema text c g) (inside left rest)
 
 grouped_goes : (schema : Schema) (text : Text) (c g : ℕ) (x : Query × ℕ × Text) → EndsSo schema text c (g + 1) x → Judged schema text (PrimaryGoes schema text c g) (grouped x)
 grouped_goes schema text c g (q, left, []) so = elim so.reads [
@@ -197,30 +197,30 @@ grouped_goes schema text c g (q, left, b ∷ bs) so =
       used = so.used;
       front = so.front ++ 41 ∷ [];
       reads = elim so.reads [
-        | inl r ↦ Reads.shut so.front bs so.count g (subst (λ (x : ℕ). Reads schema text so.front (x ∷ bs) (Next.an_end so.count (g + 1))) is r)
-        | inr r ↦ Reads.shut_behind_space so.front bs so.count g (subst (λ (x : ℕ). Reads schema text so.front (x ∷ bs) (Next.a_clause so.count (g + 1) false)) is r)
+        | inl r ↦ ReadsTo.shut so.front bs so.count g (subst (λ (x : ℕ). ReadsTo schema text so.front (x ∷ bs) (Next.an_end so.count (g + 1))) is r)
+        | inr r ↦ ReadsTo.shut_behind_space so.front bs so.count g (subst (λ (x : ℕ). ReadsTo schema text so.front (x ∷ bs) (Next.a_clause so.count (g + 1) false)) is r)
       ];
     }
 
-group_goes : (schema : Schema) (text f : Text) (bs : Text) (c g left levels : ℕ) → GoesInside schema text (content_at schema levels) levels → Reads schema text f (40 ∷ bs) (Next.a_primary c g) → c + left ≡ 64 → g + levels ≡ 8
+group_goes : (schema : Schema) (text f : Text) (bs : Text) (c g left levels : ℕ) → GoesInside schema text (content_at schema levels) levels → ReadsTo schema text f (40 ∷ bs) (Next.a_primary c g) → c + left ≡ 64 → g + levels ≡ 8
     → Judged schema text (PrimaryGoes schema text c g) (content_at schema levels left bs >>= grouped)
 unfolding content_at
 group_goes schema text f bs c g left zero inside reads used deep =
     let eight : g ≡ 8 = omega arith in
     let k : length (40 ∷ bs) ≡ length bs + 1 = omega arith in
-    subst (Faulty schema text) k (faulty_here reads (Fault.too_deep f bs c (subst (λ (x : ℕ). Reads schema text f (40 ∷ bs) (Next.a_primary c x)) eight reads)))
+    subst (Faulty schema text) k (faulty_here reads (Fault.too_deep f bs c (subst (λ (x : ℕ). ReadsTo schema text f (40 ∷ bs) (Next.a_primary c x)) eight reads)))
 group_goes schema text f bs c g left (suc levels) inside reads used deep =
     judged_bind schema text (EndsSo schema text c (g + 1)) (PrimaryGoes schema text c g) (content_at schema (suc levels) left bs) grouped
-    (inside (f ++ 40 ∷ []) bs c (g + 1) left (Reads.opened f bs c g reads (omega arith)) used (omega arith) (omega arith))
+    (inside (f ++ 40 ∷ []) bs c (g + 1) left (ReadsTo.opened f bs c g reads (omega arith)) used (omega arith) (omega arith))
     (grouped_goes schema text c g)
 
-primary_goes : (schema : Schema) (text f rest : Text) (c g left levels : ℕ) → IsSchema schema → GoesInside schema text (content_at schema levels) levels → Reads schema text f rest (Next.a_primary c g) → c + left ≡ 64 → g + levels ≡ 8
+primary_goes : (schema : Schema) (text f rest : Text) (c g left levels : ℕ) → IsSchema schema → GoesInside schema text (content_at schema levels) levels → ReadsTo schema text f rest (Next.a_primary c g) → c + left ≡ 64 → g + levels ≡ 8
     → Judged schema text (PrimaryGoes schema text c g) (primary_at schema (content_at schema levels) left rest)
 unfolding primary_at
 primary_goes schema text f [] c g left levels ok inside reads used deep = faulty_here reads (Fault.stops_signed f c g reads)
 primary_goes schema text f (b ∷ bs) c g left levels ok inside reads used deep =
     cond_both (eqb b 40) (content_at schema levels left bs >>= grouped) (leaf_at schema (b ∷ bs) >>= λ p. Ok (p.0, left, p.1)) (Judged schema text (PrimaryGoes schema text c g))
-    (λ h. group_goes schema text f bs c g left levels inside (subst (λ (x : ℕ). Reads schema text f (x ∷ bs) (Next.a_primary c g)) (eqb-true b 40 h) reads) used deep)
+    (λ h. group_goes schema text f bs c g left levels inside (subst (λ (x : ℕ). ReadsTo schema text f (x ∷ bs) (Next.a_primary c g)) (eqb-true b 40 h) reads) used deep)
     (λ h. judged_bind schema text (λ x. Goes schema text x.1 (Next.an_end c g)) (PrimaryGoes schema text c g) (leaf_at schema (b ∷ bs)) (λ p. Ok (p.0, left, p.1))
     (leaf_goes schema text f b bs c g ok reads h)
     (λ x so. record { count = c; more = omega arith; used = used; front = so.front; reads = so.reads }))
@@ -232,10 +232,10 @@ record ClauseGoes (schema : Schema) (text : Text) (c g : ℕ) (x : Sign × Prima
   more : c < count
   used : count + x.2 ≡ 64
   front : Text
-  reads : Reads schema text front x.3 (Next.an_end count g)
+  reads : ReadsTo schema text front x.3 (Next.an_end count g)
 
 -- where a clause has to begin, and neither a space nor a `)` stands
-limit_fault : (schema : Schema) (text f : Text) (b : ℕ) (bs : Text) (g : ℕ) (new : Bool) → Reads schema text f (b ∷ bs) (Next.a_clause 64 g new) → eqb b 32 ≡ false → eqb b 41 ≡ false → Faulty schema text (length (b ∷ bs))
+limit_fault : (schema : Schema) (text f : Text) (b : ℕ) (bs : Text) (g : ℕ) (new : Bool) → ReadsTo schema text f (b ∷ bs) (Next.a_clause 64 g new) → eqb b 32 ≡ false → eqb b 41 ≡ false → Faulty schema text (length (b ∷ bs))
 limit_fault schema text f b bs g new reads no_space no_close = elim (cases_Bool (is_sign b || begins_primary b)) [
   | inl h ↦ faulty_here reads (Fault.too_many f bs b g new reads h)
   | inr h ↦
@@ -254,32 +254,32 @@ no_primary_at schema ok inside left b bs e =
     rw (no_open, no_star, t) refl
 
 -- a clause behind its sign
-behind_sign : (schema : Schema) (text f rest : Text) (s : Sign) (c g left levels : ℕ) → IsSchema schema → GoesInside schema text (content_at schema levels) levels → Reads schema text f rest (Next.a_primary (c + 1) g) → c + suc left ≡ 64 → g + levels ≡ 8
+behind_sign : (schema : Schema) (text f rest : Text) (s : Sign) (c g left levels : ℕ) → IsSchema schema → GoesInside schema text (content_at schema levels) levels → ReadsTo schema text f rest (Next.a_primary (c + 1) g) → c + suc left ≡ 64 → g + levels ≡ 8
     → Judged schema text (ClauseGoes schema text c g) (primary_at schema (content_at schema levels) left rest >>= λ p. Ok (s, p.0, p.1, p.2))
 behind_sign schema text f rest s c g left levels ok inside reads used deep =
     judged_bind schema text (PrimaryGoes schema text (c + 1) g) (ClauseGoes schema text c g) (primary_at schema (content_at schema levels) left rest) (λ p. Ok (s, p.0, p.1, p.2))
     (primary_goes schema text f rest (c + 1) g left levels ok inside reads (omega arith) deep)
     (λ x so. record { count = so.count; more = omega (arith, so.more); used = so.used; front = so.front; reads = so.reads })
 
-clause_goes : (schema : Schema) (text f : Text) (b : ℕ) (bs : Text) (c g left levels : ℕ) (new : Bool) → IsSchema schema → GoesInside schema text (content_at schema levels) levels → Reads schema text f (b ∷ bs) (Next.a_clause c g new) → eqb b 32 ≡ false → eqb b 41 ≡ false → c + left ≡ 64 → g + levels ≡ 8
+clause_goes : (schema : Schema) (text f : Text) (b : ℕ) (bs : Text) (c g left levels : ℕ) (new : Bool) → IsSchema schema → GoesInside schema text (content_at schema levels) levels → ReadsTo schema text f (b ∷ bs) (Next.a_clause c g new) → eqb b 32 ≡ false → eqb b 41 ≡ false → c + left ≡ 64 → g + levels ≡ 8
     → Judged schema text (ClauseGoes schema text c g) (clause_at schema (content_at schema levels) left (b ∷ bs))
 unfolding clause_at
 clause_goes schema text f b bs c g zero levels new ok inside reads no_space no_close used deep =
     let full : c ≡ 64 = omega arith in
-    limit_fault schema text f b bs g new (subst (λ (x : ℕ). Reads schema text f (b ∷ bs) (Next.a_clause x g new)) full reads) no_space no_close
+    limit_fault schema text f b bs g new (subst (λ (x : ℕ). ReadsTo schema text f (b ∷ bs) (Next.a_clause x g new)) full reads) no_space no_close
 clause_goes schema text f b bs c g (suc left) levels new ok inside reads no_space no_close used deep = elim (cases_Bool (eqb b 43)) [
   | inl h ↦
       let is : b ≡ 43 = eqb-true b 43 h in
       let e : sign_at (b ∷ bs) ≡ (Sign.must, bs) = rw h refl in
-      subst (goes-as) (sym e) (behind_sign schema text (f ++ b ∷ []) bs Sign.must c g left levels ok inside (Reads.sign f bs b c g new reads (or_left (eqb b 43) (eqb b 45) h) (omega arith)) used deep)
+      subst (goes-as) (sym e) (behind_sign schema text (f ++ b ∷ []) bs Sign.must c g left levels ok inside (ReadsTo.sign f bs b c g new reads (or_left (eqb b 43) (eqb b 45) h) (omega arith)) used deep)
   | inr h ↦ elim (cases_Bool (eqb b 45)) [
     | inl k ↦
         let e : sign_at (b ∷ bs) ≡ (Sign.must_not, bs) = rw (h, k) refl in
-        subst (goes-as) (sym e) (behind_sign schema text (f ++ b ∷ []) bs Sign.must_not c g left levels ok inside (Reads.sign f bs b c g new reads (or_right (eqb b 43) (eqb b 45) k) (omega arith)) used deep)
+        subst (goes-as) (sym e) (behind_sign schema text (f ++ b ∷ []) bs Sign.must_not c g left levels ok inside (ReadsTo.sign f bs b c g new reads (or_right (eqb b 43) (eqb b 45) k) (omega arith)) used deep)
     | inr k ↦
         let e : sign_at (b ∷ bs) ≡ (Sign.should, b ∷ bs) = rw (h, k) refl in
         elim (cases_Bool (begins_primary b)) [
-          | inl p ↦ subst (goes-as) (sym e) (behind_sign schema text f (b ∷ bs) Sign.should c g left levels ok inside (Reads.no_sign f bs b c g new reads p (omega arith)) used deep)
+          | inl p ↦ subst (goes-as) (sym e) (behind_sign schema text f (b ∷ bs) Sign.should c g left levels ok inside (ReadsTo.no_sign f bs b c g new reads p (omega arith)) used deep)
           | inr p ↦
               let n : primary_at schema (content_at schema levels) left (b ∷ bs) ≡ Err (length (b ∷ bs)) = no_primary_at schema ok (content_at schema levels) left b bs p in
               let none : IsTrue (not (is_sign b || begins_primary b || eqb b 32 || eqb b 41)) = rw (h, k, p, no_space, no_close) refl in
@@ -302,25 +302,25 @@ no_space_after : (text : Text) → NoSpace (after_spaces text)
 no_space_after [] = tt
 no_space_after (b ∷ bs) = cond_both (eqb b 32) (after_spaces bs) (b ∷ bs) NoSpace (λ h. no_space_after bs) (λ h. h)
 
-spaces_go : (schema : Schema) (text f rest : Text) (c g : ℕ) (new : Bool) → Reads schema text f rest (Next.a_clause c g new) → Goes schema text (after_spaces rest) (Next.a_clause c g new)
+spaces_go : (schema : Schema) (text f rest : Text) (c g : ℕ) (new : Bool) → ReadsTo schema text f rest (Next.a_clause c g new) → Goes schema text (after_spaces rest) (Next.a_clause c g new)
 spaces_go schema text f [] c g new reads = record { front = f; reads = reads }
 spaces_go schema text f (b ∷ bs) c g new reads =
     cond_both (eqb b 32) (after_spaces bs) (b ∷ bs) (λ x. Goes schema text x (Next.a_clause c g new))
-    (λ h. spaces_go schema text (f ++ 32 ∷ []) bs c g new (Reads.space f bs c g new (subst (λ (x : ℕ). Reads schema text f (x ∷ bs) (Next.a_clause c g new)) (eqb-true b 32 h) reads)))
+    (λ h. spaces_go schema text (f ++ 32 ∷ []) bs c g new (ReadsTo.space f bs c g new (subst (λ (x : ℕ). ReadsTo schema text f (x ∷ bs) (Next.a_clause c g new)) (eqb-true b 32 h) reads)))
     (λ h. record { front = f; reads = reads })
 
 -- behind a primary and the spaces after it
 record GapGoes (schema : Schema) (text : Text) (c g : ℕ) (rest : Text) : Type 0 where
   front : Text
-  reads : (Reads schema text front rest (Next.an_end c g) × (ends rest ≡ true)) ⊎ Reads schema text front rest (Next.a_clause c g false)
+  reads : (ReadsTo schema text front rest (Next.an_end c g) × (ends rest ≡ true)) ⊎ ReadsTo schema text front rest (Next.a_clause c g false)
   clean : NoSpace rest
 
-gap_goes : (schema : Schema) (text f rest : Text) (c g : ℕ) → Reads schema text f rest (Next.an_end c g) → Judged schema text (GapGoes schema text c g) (gap_at rest)
+gap_goes : (schema : Schema) (text f rest : Text) (c g : ℕ) → ReadsTo schema text f rest (Next.an_end c g) → Judged schema text (GapGoes schema text c g) (gap_at rest)
 gap_goes schema text f [] c g reads = record { front = f; reads = inl (reads, refl); clean = tt }
 gap_goes schema text f (b ∷ bs) c g reads = elim (cases_Bool (eqb b 32)) [
   | inl h ↦
       let is : b ≡ 32 = eqb-true b 32 h in
-      let so = spaces_go schema text (f ++ 32 ∷ []) bs c g false (Reads.gap f bs c g (subst (λ (x : ℕ). Reads schema text f (x ∷ bs) (Next.an_end c g)) is reads)) in
+      let so = spaces_go schema text (f ++ 32 ∷ []) bs c g false (ReadsTo.gap f bs c g (subst (λ (x : ℕ). ReadsTo schema text f (x ∷ bs) (Next.an_end c g)) is reads)) in
       let e : gap_at (b ∷ bs) ≡ Ok (after_spaces bs) = rw h refl in
       let found : GapGoes schema text c g (after_spaces bs) = record { front = so.front; reads = inr so.reads; clean = no_space_after bs } in
       subst (Judged schema text (GapGoes schema text c g)) (sym e) found
@@ -338,13 +338,13 @@ gap_goes schema text f (b ∷ bs) c g reads = elim (cases_Bool (eqb b 32)) [
 
 -- ---- clauses one after the other
 
-series_goes : (schema : Schema) (text : Text) (levels : ℕ) → IsSchema schema → GoesInside schema text (content_at schema levels) levels → (n : ℕ) (f rest : Text) (c g left : ℕ) (new : Bool) → Reads schema text f rest (Next.a_clause c g new) → ends rest ≡ false → NoSpace rest
+series_goes : (schema : Schema) (text : Text) (levels : ℕ) → IsSchema schema → GoesInside schema text (content_at schema levels) levels → (n : ℕ) (f rest : Text) (c g left : ℕ) (new : Bool) → ReadsTo schema text f rest (Next.a_clause c g new) → ends rest ≡ false → NoSpace rest
     → c + left ≡ 64 → left ≤ n → g + levels ≡ 8 → Judged schema text (EndsSo schema text c g) (clauses_at schema (content_at schema levels) n left rest)
 unfolding clauses_at
 series_goes schema text levels ok inside n f [] c g left new reads stop clean used few deep = absurd (true≢false stop)
 series_goes schema text levels ok inside zero f (b ∷ bs) c g left new reads stop clean used few deep =
     let full : c ≡ 64 = omega arith in
-    limit_fault schema text f b bs g new (subst (λ (x : ℕ). Reads schema text f (b ∷ bs) (Next.a_clause x g new)) full reads) clean stop
+    limit_fault schema text f b bs g new (subst (λ (x : ℕ). ReadsTo schema text f (b ∷ bs) (Next.a_clause x g new)) full reads) clean stop
 series_goes schema text levels ok inside (suc n) f (b ∷ bs) c g left new reads stop clean used few deep =
     judged_bind schema text (ClauseGoes schema text c g) (EndsSo schema text c g) (clause_at schema (content_at schema levels) left (b ∷ bs))
     (λ first. gap_at first.3 >>= λ rest. cond (ends rest) (Ok (Query.no_clause, first.2, rest)) (clauses_at schema (content_at schema levels) n first.2 rest) >>= λ others. Ok (Query.clause first.0 first.1 others.0, others.1, others.2))
@@ -359,23 +359,23 @@ series_goes schema text levels ok inside (suc n) f (b ∷ bs) c g left new reads
     (λ h. series_goes schema text levels ok inside n gap.front rest so.count g first.2 false (behind_gap h gap.reads) h gap.clean so.used (omega (arith, so.more, so.used)) deep))
     (λ others end. record { count = end.count; more = omega (arith, so.more, end.more); used = end.used; front = end.front; stops = end.stops; reads = end.reads })))
   where
-    either : {a d : ℕ} {front rest : Text} → (Reads schema text front rest (Next.an_end a d) × (ends rest ≡ true)) ⊎ Reads schema text front rest (Next.a_clause a d false) → Reads schema text front rest (Next.an_end a d) ⊎ Reads schema text front rest (Next.a_clause a d false)
+    either : {a d : ℕ} {front rest : Text} → (ReadsTo schema text front rest (Next.an_end a d) × (ends rest ≡ true)) ⊎ ReadsTo schema text front rest (Next.a_clause a d false) → ReadsTo schema text front rest (Next.an_end a d) ⊎ ReadsTo schema text front rest (Next.a_clause a d false)
     either (inl x) = inl x.0
     either (inr x) = inr x
 
-    behind_gap : {a d : ℕ} {front rest : Text} → ends rest ≡ false → (Reads schema text front rest (Next.an_end a d) × (ends rest ≡ true)) ⊎ Reads schema text front rest (Next.a_clause a d false) → Reads schema text front rest (Next.a_clause a d false)
+    behind_gap : {a d : ℕ} {front rest : Text} → ends rest ≡ false → (ReadsTo schema text front rest (Next.an_end a d) × (ends rest ≡ true)) ⊎ ReadsTo schema text front rest (Next.a_clause a d false) → ReadsTo schema text front rest (Next.a_clause a d false)
     behind_gap h (inl x) = absurd (true≢false (sym x.1 ∙ h))
     behind_gap h (inr x) = x
 
 -- ---- groups and the whole text
 
 -- the end of the text, or a `)`, where no clause came
-no_content : (schema : Schema) (text f rest : Text) (c g : ℕ) → Reads schema text f rest (Next.a_clause c g true) → ends rest ≡ true → Faulty schema text (length rest)
+no_content : (schema : Schema) (text f rest : Text) (c g : ℕ) → ReadsTo schema text f rest (Next.a_clause c g true) → ends rest ≡ true → Faulty schema text (length rest)
 no_content schema text f [] c zero reads stop = faulty_here reads (Fault.stops_empty f c reads)
 no_content schema text f [] c (suc g) reads stop =
     let k : suc g ≡ g + 1 = omega arith in
-    faulty_here reads (Fault.stops_open f c g true (inl (subst (λ (x : ℕ). Reads schema text f [] (Next.a_clause c x true)) k reads)))
-no_content schema text f (b ∷ bs) c g reads stop = faulty_here reads (Fault.empty f bs c g (subst (λ (x : ℕ). Reads schema text f (x ∷ bs) (Next.a_clause c g true)) (eqb-true b 41 stop) reads))
+    faulty_here reads (Fault.stops_open f c g true (inl (subst (λ (x : ℕ). ReadsTo schema text f [] (Next.a_clause c x true)) k reads)))
+no_content schema text f (b ∷ bs) c g reads stop = faulty_here reads (Fault.empty f bs c g (subst (λ (x : ℕ). ReadsTo schema text f (x ∷ bs) (Next.a_clause c g true)) (eqb-true b 41 stop) reads))
 
 content_goes : (schema : Schema) (text : Text) → IsSchema schema → (levels : ℕ) → GoesInside schema text (content_at schema levels) levels
 unfolding content_at
@@ -390,21 +390,21 @@ content_goes schema text ok (suc levels) f rest c g left reads used deep low =
 pub record Accepted (schema : Schema) (text : Text) : Type 0 where
   pub count : ℕ
   pub front : Text
-  pub reads : Reads schema text front [] (Next.an_end count 0) ⊎ Reads schema text front [] (Next.a_clause count 0 false)
+  pub reads : ReadsTo schema text front [] (Next.an_end count 0) ⊎ ReadsTo schema text front [] (Next.a_clause count 0 false)
 
 whole_goes : (schema : Schema) (text : Text) (x : Query × ℕ × Text) → EndsSo schema text 0 0 x → Judged schema text (λ q. Accepted schema text) (whole x)
 whole_goes schema text (q, left, []) so = record { count = so.count; front = so.front; reads = so.reads }
 whole_goes schema text (q, left, b ∷ bs) so = elim so.reads [
   | inl r ↦
-      let r' = subst (λ (x : ℕ). Reads schema text so.front (x ∷ bs) (Next.an_end so.count 0)) (eqb-true b 41 so.stops) r in
+      let r' = subst (λ (x : ℕ). ReadsTo schema text so.front (x ∷ bs) (Next.an_end so.count 0)) (eqb-true b 41 so.stops) r in
       faulty_here r (Fault.unopened so.front bs so.count false (inr r'))
   | inr r ↦
-      let r' = subst (λ (x : ℕ). Reads schema text so.front (x ∷ bs) (Next.a_clause so.count 0 false)) (eqb-true b 41 so.stops) r in
+      let r' = subst (λ (x : ℕ). ReadsTo schema text so.front (x ∷ bs) (Next.a_clause so.count 0 false)) (eqb-true b 41 so.stops) r in
       faulty_here r (Fault.unopened so.front bs so.count false (inl r'))
 ]
 
 pub text_goes : (schema : Schema) (text : Text) → IsSchema schema → Judged schema text (λ q. Accepted schema text) (content_at schema 9 64 text >>= whole)
 text_goes schema text ok =
     judged_bind schema text (EndsSo schema text 0 0) (λ q. Accepted schema text) (content_at schema 9 64 text) whole
-    (content_goes schema text ok 9 [] text 0 0 64 Reads.start refl refl (omega arith))
+    (content_goes schema text ok 9 [] text 0 0 64 ReadsTo.start refl refl (omega arith))
     (whole_goes schema text)

@@ -7,7 +7,7 @@ use Rattle.std.specs.Char.{is_ascii_lowercase}
 use Rattle.cat_model.specs.Text.{Text}
 use Rattle.cat_model.specs.Item.{Schema, IsSchema, Kind, kind_of, is_name_byte}
 use Rattle.cat_model.specs.Query.{Primary}
-use Rattle.cat_model.specs.Faults.{Next, is_sign, begins_primary, IsName, IsWhole, Reads, Fault}
+use Rattle.cat_model.specs.Faults.{Next, is_sign, begins_primary, IsWholeName, IsWhole, ReadsTo, Fault}
 use Rattle.cat_model.specs.Reader.{leaf_at, term_at, name_at, behind_name}
 use Rattle.cat_model.specs.Grammar.{Asks, Means}
 use Rattle.cat_model.proofs.QueryValues.{differs, Stops}
@@ -135,19 +135,19 @@ abbrev start : Next
 start = Next.a_clause 0 0 true
 
 -- however the rest comes out, so does the text
-reads_comes : {schema : Schema} {text f r : Text} {next : Next} {out : Option ℕ} → IsSchema schema → Reads schema text f r next → Comes schema next r out → Comes schema start text out
+reads_comes : {schema : Schema} {text f r : Text} {next : Next} {out : Option ℕ} → IsSchema schema → ReadsTo schema text f r next → Comes schema next r out → Comes schema start text out
 unfolding move
-reads_comes {schema} ok Reads.start x = x
-reads_comes {schema} ok (Reads.space f r c g new y) x = reads_comes ok y (later (Next.a_clause c g new) r refl x)
-reads_comes {schema} ok (Reads.sign f r b c g new y s l) x = reads_comes ok y (later (Next.a_primary (c + 1) g) r (sign_move schema c g b r new s l) x)
-reads_comes {schema} ok (Reads.no_sign f r b c g new y p l) x = reads_comes ok y (later (Next.a_primary (c + 1) g) (b ∷ r) (no_sign_move schema c g b r new p l) x)
-reads_comes {schema} ok (Reads.opened f r c g y l) x = reads_comes ok y (later (Next.a_clause c (g + 1) true) r (open_move schema c g r l) x)
-reads_comes {schema} ok (Reads.everything f r c g y) x = reads_comes ok y (later (Next.an_end c g) r (all_move schema c g r) x)
-reads_comes {schema} ok (Reads.term f name t r c g k a p y named field whole means) x =
+reads_comes {schema} ok ReadsTo.start x = x
+reads_comes {schema} ok (ReadsTo.space f r c g new y) x = reads_comes ok y (later (Next.a_clause c g new) r refl x)
+reads_comes {schema} ok (ReadsTo.sign f r b c g new y s l) x = reads_comes ok y (later (Next.a_primary (c + 1) g) r (sign_move schema c g b r new s l) x)
+reads_comes {schema} ok (ReadsTo.no_sign f r b c g new y p l) x = reads_comes ok y (later (Next.a_primary (c + 1) g) (b ∷ r) (no_sign_move schema c g b r new p l) x)
+reads_comes {schema} ok (ReadsTo.opened f r c g y l) x = reads_comes ok y (later (Next.a_clause c (g + 1) true) r (open_move schema c g r l) x)
+reads_comes {schema} ok (ReadsTo.everything f r c g y) x = reads_comes ok y (later (Next.an_end c g) r (all_move schema c g r) x)
+reads_comes {schema} ok (ReadsTo.term f name t r c g k a p y named field whole means) x =
     reads_comes ok y (later (Next.an_end c g) r (field_move schema c g name (58 ∷ (t ++ r)) k ok field ∙ ap (leaf_move c g) (term_complete schema name t r k a p named field whole means)) x)
-reads_comes {schema} ok (Reads.gap f r c g y) x = reads_comes ok y (later (Next.a_clause c g false) r refl x)
-reads_comes {schema} ok (Reads.shut f r c g y) x = reads_comes ok y (later (Next.an_end c g) r (end_shuts schema c g r) x)
-reads_comes {schema} ok (Reads.shut_behind_space f r c g y) x = reads_comes ok y (later (Next.an_end c g) r (space_shuts schema c g r) x)
+reads_comes {schema} ok (ReadsTo.gap f r c g y) x = reads_comes ok y (later (Next.a_clause c g false) r refl x)
+reads_comes {schema} ok (ReadsTo.shut f r c g y) x = reads_comes ok y (later (Next.an_end c g) r (end_shuts schema c g r) x)
+reads_comes {schema} ok (ReadsTo.shut_behind_space f r c g y) x = reads_comes ok y (later (Next.an_end c g) r (space_shuts schema c g r) x)
 
 -- ---- faults
 
@@ -156,7 +156,7 @@ record FailsAt (schema : Schema) (text : Text) (place : ℕ) : Type 0 where
   total : place + left ≡ length text
   comes : Comes schema start text (Some left)
 
-fails_here : {schema : Schema} {text f r : Text} {next : Next} → IsSchema schema → Reads schema text f r next → move schema next r ≡ fails r → FailsAt schema text (length f)
+fails_here : {schema : Schema} {text f r : Text} {next : Next} → IsSchema schema → ReadsTo schema text f r next → move schema next r ≡ fails r → FailsAt schema text (length f)
 fails_here {schema} {text} {f} {r} ok x e = record { left = length r; total = reads_length x; comes = reads_comes ok x (now e) }
 
 begins_clause : ℕ → Bool
@@ -200,11 +200,11 @@ star_fails schema c g bs none =
     behind : (a b : ℕ) (r t : Text) → a ∷ r ≡ b ∷ t → r ≡ t
     behind a b r t e = cc
 
-name_parts_of : (name rest : Text) → IsName name rest → AllByRecursion (λ b. IsTrue (is_name_byte b)) name × Stops is_name_byte rest
+name_parts_of : (name rest : Text) → IsWholeName name rest → AllByRecursion (λ b. IsTrue (is_name_byte b)) name × Stops is_name_byte rest
 name_parts_of name [] n = (n, tt)
 name_parts_of name (b ∷ rest) n = n
 
-no_field_fails : (schema : Schema) (c g b : ℕ) (name r : Text) → IsTrue (is_ascii_lowercase b) → IsName (b ∷ name) r → (kind_of schema (b ∷ name) ≡ None) ⊎ ((r' : Text) → r ≢ 58 ∷ r') → move schema (Next.a_primary c g) (b ∷ name ++ r) ≡ fails (b ∷ name ++ r)
+no_field_fails : (schema : Schema) (c g b : ℕ) (name r : Text) → IsTrue (is_ascii_lowercase b) → IsWholeName (b ∷ name) r → (kind_of schema (b ∷ name) ≡ None) ⊎ ((r' : Text) → r ≢ 58 ∷ r') → move schema (Next.a_primary c g) (b ∷ name ++ r) ≡ fails (b ∷ name ++ r)
 no_field_fails schema c g b name r lower n wrong =
     let parts = name_parts_of (b ∷ name) r n in
     let is : name_at (b ∷ name ++ r) ≡ b ∷ name = name_is (b ∷ name) r parts.0 parts.1 in

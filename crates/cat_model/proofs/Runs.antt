@@ -8,8 +8,9 @@ use Rattle.std.proofs.lemmas.List.{length-append}
 use Rattle.cat_base.specs.declared.refusal.Refusal.{Refusal}
 use Rattle.cat_base.specs.declared.refusal.Refusal.TheVariants.{Gone, Memory}
 use Rattle.cat_model.specs.Table.{Start, Opened, table, count, writes_up_to}
-use Rattle.cat_model.specs.Answer.{Read, answer, fault}
-use Rattle.cat_model.specs.Run.{Command, Answer, Reply, Exchange, Run, accepted, writes, now, hold_by, hold_change, began, holds, sessions, is_held, has, without_least_free, pruned, record_limit, recorded, records_by, records_from, records, greatest, told, or_not_held, Answers, Refuses, Stops, Fits, FitsFrom, IsRun}
+use Rattle.cat_model.specs.Answer.{Read, answer, query_refusal}
+use Rattle.cat_model.specs.Run.{Command, Answer, Reply, Exchange, Run, accepted, writes, now, hold_by, hold_change, began, holds, sessions, is_held, has, without_least_free, pruned, with_view, view_tokens_by, view_tokens_from, view_tokens, greatest, found_reply, or_not_held, Answers, Refuses, Stops, Fits, FitsFrom, IsRun}
+use Rattle.cat_model.specs.Limits.{view_limit}
 use Rattle.cat_model.specs.Laws.{RunsGoOn, IsBounded, RunsAreBounded, HeldRead, HeldReadIsOfItsTable, HeldReadsAgree}
 use Rattle.cat_model.proofs.Lists.{All-weaken, All-both, All-kept, list_any-append}
 use Rattle.cat_model.proofs.UpTo.{table-more, table-up_to}
@@ -29,14 +30,14 @@ pub runs_go_on : RunsGoOn
 runs_go_on from past e f g = FitsFrom-join from [] past (e ∷ []) f (g, tt)
 
 records_from-push : (ts : List ℕ) (past run : Run) (e : Exchange)
-    → records_from ts past (run ++ e ∷ []) ≡ records_by (is_held (past ++ run)) (records_from ts past run) e.line.command e.reply
+    → view_tokens_from ts past (run ++ e ∷ []) ≡ view_tokens_by (is_held (past ++ run)) (view_tokens_from ts past run) e.line.command e.reply
 records_from-push ts past [] e = rw (append-nil past) refl
 records_from-push ts past (x ∷ run) e =
-    records_from-push (records_by (is_held past) ts x.line.command x.reply) (past ++ x ∷ []) run e
-    ∙ ap (λ p. records_by (is_held p) (records_from ts past (x ∷ run)) e.line.command e.reply) (append_assoc past (x ∷ []) run)
+    records_from-push (view_tokens_by (is_held past) ts x.line.command x.reply) (past ++ x ∷ []) run e
+    ∙ ap (λ p. view_tokens_by (is_held p) (view_tokens_from ts past (x ∷ run)) e.line.command e.reply) (append_assoc past (x ∷ []) run)
 
 -- the records after one more exchange
-pub records-push : (start : Start) (run : Run) (e : Exchange) → records start (run ++ e ∷ []) ≡ records_by (is_held run) (records start run) e.line.command e.reply
+pub records-push : (start : Start) (run : Run) (e : Exchange) → view_tokens start (run ++ e ∷ []) ≡ view_tokens_by (is_held run) (view_tokens start run) e.line.command e.reply
 records-push start run e = records_from-push (start.token ∷ []) [] run e
 
 pub writes-push : (run : Run) (e : Exchange) → writes (run ++ e ∷ []) ≡ writes run ++ cons_option (accepted e) []
@@ -166,29 +167,29 @@ held_by_one s t run h =
     ]
 
 -- what is held stays recorded
-recorded_has : (held : ℕ → Bool) (ts : List ℕ) (u t : ℕ) → has ts t ≡ true → held t ≡ true → has (recorded held ts u) t ≡ true
+recorded_has : (held : ℕ → Bool) (ts : List ℕ) (u t : ℕ) → has ts t ≡ true → held t ≡ true → has (with_view held ts u) t ≡ true
 recorded_has held ts u t h k =
-    elim (has ts u) as (λ b. has (cond b ts (cond (ltb (length ts) record_limit) ts (without_least_free held ts) ++ u ∷ [])) t ≡ true) [
+    elim (has ts u) as (λ b. has (cond b ts (cond (ltb (length ts) view_limit) ts (without_least_free held ts) ++ u ∷ [])) t ≡ true) [
       | true ↦ h
       | false ↦
-          let kept : has (cond (ltb (length ts) record_limit) ts (without_least_free held ts)) t ≡ true =
-          elim (ltb (length ts) record_limit) as (λ b. has (cond b ts (without_least_free held ts)) t ≡ true) [ true ↦ h | false ↦ has-filter _ ts t h (rw k refl) ] in
-          rw (has-append (cond (ltb (length ts) record_limit) ts (without_least_free held ts)) (u ∷ []) t, kept) refl
+          let kept : has (cond (ltb (length ts) view_limit) ts (without_least_free held ts)) t ≡ true =
+          elim (ltb (length ts) view_limit) as (λ b. has (cond b ts (without_least_free held ts)) t ≡ true) [ true ↦ h | false ↦ has-filter _ ts t h (rw k refl) ] in
+          rw (has-append (cond (ltb (length ts) view_limit) ts (without_least_free held ts)) (u ∷ []) t, kept) refl
     ]
 
-recorded_some : (held : ℕ → Bool) (ts : List ℕ) (u : ℕ) → 0 < length ts → 0 < length (recorded held ts u)
+recorded_some : (held : ℕ → Bool) (ts : List ℕ) (u : ℕ) → 0 < length ts → 0 < length (with_view held ts u)
 recorded_some held ts u h =
-    elim (has ts u) as (λ b. 0 < length (cond b ts (cond (ltb (length ts) record_limit) ts (without_least_free held ts) ++ u ∷ []))) [
+    elim (has ts u) as (λ b. 0 < length (cond b ts (cond (ltb (length ts) view_limit) ts (without_least_free held ts) ++ u ∷ []))) [
       | true ↦ h
-      | false ↦ omega (arith, length-append (cond (ltb (length ts) record_limit) ts (without_least_free held ts)) (u ∷ []))
+      | false ↦ omega (arith, length-append (cond (ltb (length ts) view_limit) ts (without_least_free held ts)) (u ∷ []))
     ]
 
-keeps_held : (held : ℕ → Bool) (ts : List ℕ) (t : ℕ) (c : Command) (r : Reply) → has ts t ≡ true → held t ≡ true → has (records_by held ts c r) t ≡ true
+keeps_held : (held : ℕ → Bool) (ts : List ℕ) (t : ℕ) (c : Command) (r : Reply) → has ts t ≡ true → held t ≡ true → has (view_tokens_by held ts c r) t ≡ true
 keeps_held held ts t Command.refresh (Ok (Answer.number u)) h k = recorded_has held ts u t h k
 keeps_held held ts t (Command.prune n) (Ok x) h k = has-filter _ ts t h (rw k refl)
 keeps_held held ts t _ _ h k = h
 
-keeps_some : (held : ℕ → Bool) (ts : List ℕ) (c : Command) (r : Reply) → 0 < length ts → 0 < length (records_by held ts c r)
+keeps_some : (held : ℕ → Bool) (ts : List ℕ) (c : Command) (r : Reply) → 0 < length ts → 0 < length (view_tokens_by held ts c r)
 keeps_some held ts Command.refresh (Ok (Answer.number u)) h = recorded_some held ts u h
 keeps_some held ts (Command.prune n) (Ok x) h = has_some _ (greatest ts) (pruned_has held n ts h)
 keeps_some held ts _ _ h = h
@@ -208,37 +209,37 @@ answered from past s c a (inr f) = absurd (no_refusal c a (stops_refuse from pas
 
 -- the tokens of the records, and what is told to an OPEN
 module _ (from : Opened) (past : Run) (ok : IsBounded from.start past) where
-  recorded_up_to : (held : ℕ → Bool) (ts : List ℕ) (t n : ℕ) → t ≤ n → AllByRecursion (λ u. u ≤ n) ts → AllByRecursion (λ u. u ≤ n) (recorded held ts t)
+  recorded_up_to : (held : ℕ → Bool) (ts : List ℕ) (t n : ℕ) → t ≤ n → AllByRecursion (λ u. u ≤ n) ts → AllByRecursion (λ u. u ≤ n) (with_view held ts t)
   recorded_up_to held ts t n h a =
-      elim (has ts t) as (λ b. AllByRecursion (λ u. u ≤ n) (cond b ts (cond (ltb (length ts) record_limit) ts (without_least_free held ts) ++ t ∷ []))) [
+      elim (has ts t) as (λ b. AllByRecursion (λ u. u ≤ n) (cond b ts (cond (ltb (length ts) view_limit) ts (without_least_free held ts) ++ t ∷ []))) [
         | true ↦ a
-        | false ↦ All-both (λ u. u ≤ n) _ _ (elim (ltb (length ts) record_limit) as (λ b. AllByRecursion (λ u. u ≤ n) (cond b ts (without_least_free held ts))) [ true ↦ a | false ↦ All-kept _ _ ts a ]) (h, tt)
+        | false ↦ All-both (λ u. u ≤ n) _ _ (elim (ltb (length ts) view_limit) as (λ b. AllByRecursion (λ u. u ≤ n) (cond b ts (without_least_free held ts))) [ true ↦ a | false ↦ All-kept _ _ ts a ]) (h, tt)
       ]
 
-  pub records_fit : (s : ℕ) (c : Command) (r : Reply) → Answers from past s c r ⊎ Stops from past s c r → AllByRecursion (λ u. u ≤ now from.start past) (records_by (is_held past) (records from.start past) c r)
+  pub records_fit : (s : ℕ) (c : Command) (r : Reply) → Answers from past s c r ⊎ Stops from past s c r → AllByRecursion (λ u. u ≤ now from.start past) (view_tokens_by (is_held past) (view_tokens from.start past) c r)
   records_fit s Command.refresh (Ok (Answer.number t)) f =
       let e : t ≡ now from.start past = told_number _ _ t _ (Ok (Answer.number t)) refl (answered from past s Command.refresh (Answer.number t) f) in
-      recorded_up_to (is_held past) (records from.start past) t (now from.start past) (omega (arith, e)) ok.recorded
-  records_fit s (Command.prune n) (Ok x) f = All-kept _ _ (records from.start past) ok.recorded
+      recorded_up_to (is_held past) (view_tokens from.start past) t (now from.start past) (omega (arith, e)) ok.recorded
+  records_fit s (Command.prune n) (Ok x) f = All-kept _ _ (view_tokens from.start past) ok.recorded
   records_fit s _ _ f = ok.recorded
 
-  holds_fit : (s t : ℕ) (c : Command) (r : Reply) → Answers from past s c r ⊎ Stops from past s c r → hold_by t c r ≡ Some true → has (records_by (is_held past) (records from.start past) c r) t ≡ true
+  holds_fit : (s t : ℕ) (c : Command) (r : Reply) → Answers from past s c r ⊎ Stops from past s c r → hold_by t c r ≡ Some true → has (view_tokens_by (is_held past) (view_tokens from.start past) c r) t ≡ true
   holds_fit s t Command.open_newest (Ok (Answer.number u)) f h =
-      let k : ◌≡◌ {A = Reply} (Ok (Answer.number u)) (Ok (Answer.number (greatest (records from.start past)))) = answered from past s Command.open_newest (Answer.number u) f in
-      let e : u ≡ greatest (records from.start past) = cc in
+      let k : ◌≡◌ {A = Reply} (Ok (Answer.number u)) (Ok (Answer.number (greatest (view_tokens from.start past)))) = answered from past s Command.open_newest (Answer.number u) f in
+      let e : u ≡ greatest (view_tokens from.start past) = cc in
       let same : u ≡ t = grind (arith, nat_tests, h) in
-      ap (has (records from.start past)) (sym same ∙ e) ∙ greatest_in (records from.start past) ok.some_record
+      ap (has (view_tokens from.start past)) (sym same ∙ e) ∙ greatest_in (view_tokens from.start past) ok.some_record
   holds_fit s t (Command.open_at v) (Ok (Answer.number u)) f h =
       let same : u ≡ t = grind (arith, nat_tests, h) in
-      let k : (has (records from.start past) v ≡ true) × (v ≡ t) = opened (has (records from.start past) v) v u t (answered from past s (Command.open_at v) (Answer.number u) f) same in
-      ap (has (records from.start past)) (sym k.1) ∙ k.0
+      let k : (has (view_tokens from.start past) v ≡ true) × (v ≡ t) = opened (has (view_tokens from.start past) v) v u t (answered from past s (Command.open_at v) (Answer.number u) f) same in
+      ap (has (view_tokens from.start past)) (sym k.1) ∙ k.0
   holds_fit s t (Command.close u) (Ok a) f h = absurd (closed (u == t) h)
   holds_fit s t _ _ f h = absurd (cc)
 
 held_fit : (from : Opened) (past : Run) (e : Exchange) (s t : ℕ) → IsBounded from.start past
-    → (o : Option Bool) → (o ≡ Some true → has (records_by (is_held past) (records from.start past) e.line.command e.reply) t ≡ true) → changed o (holds s t past) ≡ true
-    → has (records_by (is_held past) (records from.start past) e.line.command e.reply) t ≡ true
-held_fit from past e s t ok None o h = keeps_held (is_held past) (records from.start past) t e.line.command e.reply (ok.held s t h) (held_by_one s t past h)
+    → (o : Option Bool) → (o ≡ Some true → has (view_tokens_by (is_held past) (view_tokens from.start past) e.line.command e.reply) t ≡ true) → changed o (holds s t past) ≡ true
+    → has (view_tokens_by (is_held past) (view_tokens from.start past) e.line.command e.reply) t ≡ true
+held_fit from past e s t ok None o h = keeps_held (is_held past) (view_tokens from.start past) t e.line.command e.reply (ok.held s t h) (held_by_one s t past h)
 held_fit from past e s t ok (Some true) o h = o refl
 held_fit from past e s t ok (Some false) o h = absurd (cc)
 
@@ -250,9 +251,9 @@ pub IsBounded-push : (from : Opened) (past : Run) (e : Exchange) → IsBounded f
 IsBounded-push from past e ok f =
     let start : Start = from.start in
     let more : now start past ≤ now start (past ++ e ∷ []) = now-push start past e in
-    let rs : records start (past ++ e ∷ []) ≡ records_by (is_held past) (records start past) e.line.command e.reply = records-push start past e in
+    let rs : view_tokens start (past ++ e ∷ []) ≡ view_tokens_by (is_held past) (view_tokens start past) e.line.command e.reply = records-push start past e in
     record {
-      some_record = subst (λ ts. 0 < length ts) (sym rs) (keeps_some (is_held past) (records start past) e.line.command e.reply ok.some_record);
+      some_record = subst (λ ts. 0 < length ts) (sym rs) (keeps_some (is_held past) (view_tokens start past) e.line.command e.reply ok.some_record);
       recorded = subst (AllByRecursion (λ u. u ≤ now start (past ++ e ∷ []))) (sym rs)
           (All-weaken (λ u. u ≤ now start past) (λ u. u ≤ now start (past ++ e ∷ [])) (λ u h. omega arith) _ (records_fit from past ok e.line.session e.line.command e.reply f));
       held = λ s t h.
@@ -274,7 +275,7 @@ held_low from run t asked reply h =
     let e : Exchange = record { line = record { session = h.session; command = Command.read t asked }; reply = reply } in
     let parts : IsRun from h.past × FitsFrom from h.past (e ∷ h.later) = FitsFrom-split from [] h.past (e ∷ h.later) (subst (IsRun from) h.place h.is_run) in
     let ok : IsBounded from.start h.past = bounded from h.past parts.0 in
-    has_up_to _ t (records from.start h.past) ok.recorded (ok.held h.session t h.held)
+    has_up_to _ t (view_tokens from.start h.past) ok.recorded (ok.held h.session t h.held)
 
 pub held_writes : (from : Opened) (run : Run) (t : ℕ) (asked : Read) (reply : Reply) (h : HeldRead from run t asked reply)
     → writes run ≡ writes h.past ++ writes (record { line = record { session = h.session; command = Command.read t asked }; reply = reply } ∷ h.later)
@@ -288,25 +289,25 @@ held_read_is_of_its_table from run t asked reply h =
     let parts : IsRun from h.past × FitsFrom from h.past (e ∷ h.later) = FitsFrom-split from [] h.past (e ∷ h.later) (subst (IsRun from) h.place h.is_run) in
     let same : table start (writes run) t ≡ table start (writes h.past) t =
     ap (λ ws. table start ws t) (held_writes from run t asked reply h) ∙ table-more start (writes h.past) (writes (e ∷ h.later)) t (held_low from run t asked reply h) in
-    let fits : reply ≡ cond (holds h.session t h.past) (told (answer start.schema (table start (writes h.past) t) asked)) (or_not_held (fault asked)) =
+    let fits : reply ≡ cond (holds h.session t h.past) (found_reply (answer start.schema (table start (writes h.past) t) asked)) (or_not_held (query_refusal asked)) =
     elim parts.1.0 [ inl a ↦ a | inr r ↦ absurd (h.undisturbed (stops_refuse from h.past h.session (Command.read t asked) reply r)) ] in
     fits
-    ∙ ap (λ b. cond b (told (answer start.schema (table start (writes h.past) t) asked)) (or_not_held (fault asked))) h.held
-    ∙ ap (λ rs. told (answer start.schema rs asked)) (sym same)
+    ∙ ap (λ b. cond b (found_reply (answer start.schema (table start (writes h.past) t) asked)) (or_not_held (query_refusal asked))) h.held
+    ∙ ap (λ rs. found_reply (answer start.schema rs asked)) (sym same)
 
 -- and by the writes up to the token alone
 held_reply : (from : Opened) (run : Run) (t : ℕ) (asked : Read) (reply : Reply) → HeldRead from run t asked reply
-    → reply ≡ told (answer from.start.schema (table from.start (writes_up_to from.start (writes run) t) t) asked)
+    → reply ≡ found_reply (answer from.start.schema (table from.start (writes_up_to from.start (writes run) t) t) asked)
 held_reply from run t asked reply h =
     let rest : Run = record { line = record { session = h.session; command = Command.read t asked }; reply = reply } ∷ h.later in
     let ws : writes run ≡ writes h.past ++ writes rest = held_writes from run t asked reply h in
     let low : t ≤ count from.start (writes run) = omega (arith, held_low from run t asked reply h, ap length ws, length-append (writes h.past) (writes rest)) in
     held_read_is_of_its_table from run t asked reply h
-    ∙ ap (λ rs. told (answer from.start.schema rs asked)) (sym (table-up_to from.start (writes run) t low))
+    ∙ ap (λ rs. found_reply (answer from.start.schema rs asked)) (sym (table-up_to from.start (writes run) t low))
 
 pub held_reads_agree : HeldReadsAgree
 held_reads_agree one two run₁ run₂ t asked reply₁ reply₂ same agree read₁ read₂ =
     held_reply one run₁ t asked reply₁ read₁
-    ∙ ap (λ ws. told (answer one.start.schema (table one.start ws t) asked)) agree
-    ∙ ap (λ start. told (answer start.schema (table start (writes_up_to two.start (writes run₂) t) t) asked)) same
+    ∙ ap (λ ws. found_reply (answer one.start.schema (table one.start ws t) asked)) agree
+    ∙ ap (λ start. found_reply (answer start.schema (table start (writes_up_to two.start (writes run₂) t) t) asked)) same
     ∙ sym (held_reply two run₂ t asked reply₂ read₂)

@@ -15,10 +15,10 @@ use Rattle.cat_model.specs.Query.{Query}
 use Rattle.cat_model.specs.Page.{Sort}
 use Rattle.cat_model.specs.Answer.{Read}
 use Rattle.cat_model.specs.Table.{Opened}
-use Rattle.cat_model.specs.Lines.{Said, spaced, spelling, sort_text, mark_text, HasForm, IsNumber, IsSort, IsMark, SpellsLine, Shows}
+use Rattle.cat_model.specs.Lines.{Said, spaced, spelling, sort_text, mark_text, HasForm, IsNumber, IsSort, IsMark, SpellsLine, ShowsSession}
 use Rattle.cat_model.specs.Run.{Command}
 use Rattle.cat_model.specs.Heard.{Json, Heard, Hears, IsCommand, IsQueryOf}
-use Rattle.cat_model.specs.Served.{Begins, OpensEmpty, Told, heard, HeardAll}
+use Rattle.cat_model.specs.Served.{Begins, OpensEmpty, Outcome, heard, HeardAll}
 use Rattle.cat_model.specs.Laws.{LinesSayOneThing, SchemaLinesSayOneThing, EachTextIsAQueryOrNone, HearingIsOne, ReadsSchemas, InputsAreHeardOneWay}
 use Rattle.cat_model.proofs.QueryFaults.{lower_name}
 use Rattle.cat_model.proofs.QueryLaws.{one_query, place_is_one, texts_are_judged, no_fault}
@@ -163,7 +163,7 @@ one_schema line f l g k text text' a b =
 -- ---- what is heard
 
 -- a line shows at most one session
-one_session : (line : Text) (s t : ℕ) → Shows line s → Shows line t → s ≡ t
+one_session : (line : Text) (s t : ℕ) → ShowsSession line s → ShowsSession line t → s ≡ t
 one_session line s t a b = decimal_injective s t (omega (arith, a.small)) (omega (arith, b.small)) (by a.place b.place)
   where
     quiet_s : NoSpace (decimal s)
@@ -179,11 +179,11 @@ one_session line s t a b = decimal_injective s t (omega (arith, a.small)) (omega
     by (inr p) (inr q) = (same_word (decimal s) (decimal t) p.0 q.0 quiet_s quiet_t (sym p.1 ∙ q.1)).0
 
 -- a line that spells something shows its session
-shown : (line : Text) (s : ℕ) (said : Said) → SpellsLine line s said → Shows line s
+shown : (line : Text) (s : ℕ) (said : Said) → SpellsLine line s said → ShowsSession line s
 shown line s said a = record { small = a.small; place = inr (a.rest, a.session_first) }
 
 -- and spells nothing else that is without a form under the session that it shows
-pub no_form : (line : Text) (s t : ℕ) (said : Said) → SpellsLine line s said → Shows line t → ((said : Said) → SpellsLine line t said → ⊥) → ⊥
+pub no_form : (line : Text) (s t : ℕ) (said : Said) → SpellsLine line s said → ShowsSession line t → ((said : Said) → SpellsLine line t said → ⊥) → ⊥
 no_form line s t said a b none = none said (subst (λ u. SpellsLine line u said) (one_session line s t (shown line s said a) b) a)
 
 -- a text is one query, or has one fault
@@ -225,7 +225,7 @@ one_hearing json schema bytes one two ok (Hears.unreadable none) (Hears.spelled 
 one_hearing json schema bytes one two ok (Hears.unreadable none) (Hears.formless s readable a none') = absurd (none readable s a)
 
 -- two accounts of what was told to the same lines heard the same of each
-lines_heard : (json : Json) (schema : Schema) (lines : List Text) (one two : List Told) → IsSchema schema → HeardAll json schema lines one → HeardAll json schema lines two → map heard one ≡ map heard two
+lines_heard : (json : Json) (schema : Schema) (lines : List Text) (one two : List Outcome) → IsSchema schema → HeardAll json schema lines one → HeardAll json schema lines two → map heard one ≡ map heard two
 lines_heard json schema [] [] [] ok a b = refl
 lines_heard json schema [] [] (t ∷ two) ok a b = absurd b
 lines_heard json schema [] (t ∷ one) two ok a b = absurd a

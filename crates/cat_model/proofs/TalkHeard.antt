@@ -8,20 +8,20 @@ use Rattle.std.proofs.lemmas.Str.Parse.{digit_at}
 use Rattle.cat_base.specs.declared.refusal.Refusal.{Refusal}
 use Rattle.cat_model.specs.Text.{Text}
 use Rattle.cat_model.specs.Item.{Schema}
-use Rattle.cat_model.specs.Lines.{Said, spaced, line_text, reply_text, refusal_words, unreadable_text, SpellsLine, Shows}
+use Rattle.cat_model.specs.Lines.{Said, spaced, line_text, reply_text, refusal_words, unreadable_text, SpellsLine, ShowsSession}
 use Rattle.cat_model.specs.Run.{Command, Line, Answer, Exchange, Run}
 use Rattle.cat_model.specs.Heard.{Json, Heard, Hears, IsCommand}
-use Rattle.cat_model.specs.Served.{Told, heard, exchange, told_text, HeardAll}
+use Rattle.cat_model.specs.Served.{Outcome, heard, exchange, outcome_text, HeardAll}
 use Rattle.cat_model.specs.Talk.{Pair}
 use Rattle.cat_model.proofs.Sayings.{NoSpace, decimal_no_space, same_word, one_thing, no_form}
 
 -- a line, and what was told to it
 pub record Entry : Type 0 where
   pub line : Text
-  pub told : Told
+  pub told : Outcome
 
 abbrev pub pair : Entry → Pair
-pair e = record { line = e.line; reply = told_text e.told }
+pair e = record { line = e.line; reply = outcome_text e.told }
 
 -- the exchange of the run, if it is one
 abbrev pub exchanged : Entry → Option Exchange
@@ -30,7 +30,7 @@ exchanged e = exchange e.told
 abbrev pub run_of : List Entry → Run
 run_of es = filter_map exchanged es
 
-abbrev pub entries : List Text → List Told → List Entry
+abbrev pub entries : List Text → List Outcome → List Entry
 entries [] tolds = []
 entries (l ∷ ls) [] = []
 entries (l ∷ ls) (t ∷ ts) = record { line = l; told = t } ∷ entries ls ts
@@ -40,30 +40,30 @@ abbrev pub Heeded : Json → Schema → List Entry → Type 0
 Heeded json schema es = AllByRecursion (λ e. Hears json schema e.line (heard e.told)) es
 
 module _ (json : Json) (schema : Schema) where
-  pub heeded : (ls : List Text) (ts : List Told) → HeardAll json schema ls ts → Heeded json schema (entries ls ts)
+  pub heeded : (ls : List Text) (ts : List Outcome) → HeardAll json schema ls ts → Heeded json schema (entries ls ts)
   heeded [] [] h = tt
   heeded [] (t ∷ ts) h = tt
   heeded (l ∷ ls) [] h = tt
   heeded (l ∷ ls) (t ∷ ts) h = (h.0, heeded ls ts h.1)
 
-  pub entries_lines : (ls : List Text) (ts : List Told) → HeardAll json schema ls ts → map (λ p. p.line) (map pair (entries ls ts)) ≡ ls
+  pub entries_lines : (ls : List Text) (ts : List Outcome) → HeardAll json schema ls ts → map (λ p. p.line) (map pair (entries ls ts)) ≡ ls
   entries_lines [] [] h = refl
   entries_lines [] (t ∷ ts) h = refl
   entries_lines (l ∷ ls) [] h = absurd h
   entries_lines (l ∷ ls) (t ∷ ts) h = ap (λ xs. l ∷ xs) (entries_lines ls ts h.1)
 
-  pub entries_replies : (ls : List Text) (ts : List Told) → HeardAll json schema ls ts → flat_map (λ p. p.reply) (map pair (entries ls ts)) ≡ flat_map told_text ts
+  pub entries_replies : (ls : List Text) (ts : List Outcome) → HeardAll json schema ls ts → flat_map (λ p. p.reply) (map pair (entries ls ts)) ≡ flat_map outcome_text ts
   entries_replies [] [] h = refl
   entries_replies [] (t ∷ ts) h = absurd h
   entries_replies (l ∷ ls) [] h = absurd h
-  entries_replies (l ∷ ls) (t ∷ ts) h = ap (λ xs. told_text t ++ xs) (entries_replies ls ts h.1)
+  entries_replies (l ∷ ls) (t ∷ ts) h = ap (λ xs. outcome_text t ++ xs) (entries_replies ls ts h.1)
 
-  pub entries_run : (ls : List Text) (ts : List Told) → HeardAll json schema ls ts → run_of (entries ls ts) ≡ filter_map exchange ts
+  pub entries_run : (ls : List Text) (ts : List Outcome) → HeardAll json schema ls ts → run_of (entries ls ts) ≡ filter_map exchange ts
   entries_run [] [] h = refl
   entries_run [] (t ∷ ts) h = absurd h
   entries_run (l ∷ ls) [] h = absurd h
-  entries_run (l ∷ ls) (Told.unreadable ∷ ts) h = entries_run ls ts h.1
-  entries_run (l ∷ ls) (Told.replied x ∷ ts) h = ap (λ xs. x ∷ xs) (entries_run ls ts h.1)
+  entries_run (l ∷ ls) (Outcome.unreadable ∷ ts) h = entries_run ls ts h.1
+  entries_run (l ∷ ls) (Outcome.replied x ∷ ts) h = ap (λ xs. x ∷ xs) (entries_run ls ts h.1)
 
 -- the parts of a list whose pairs have a place
 pub record IsPlace (es : List Entry) (a : List Pair) (p : Pair) (b : List Pair) : Type 0 where
@@ -94,7 +94,7 @@ pub record SaidSo (json : Json) (schema : Schema) (bytes : Text) (x : Line) : Ty
 
 -- or as one without a form
 pub record SaidNothing (bytes : Text) (x : Line) : Type 0 where
-  pub shows : Shows bytes x.session
+  pub shows : ShowsSession bytes x.session
   pub none : (said : Said) → SpellsLine bytes x.session said → ⊥
   pub is : x.command ≡ Command.formless
 
@@ -115,22 +115,22 @@ heard_line json schema bytes h x (Hears.unreadable none) e = absurd (cc e)
 -- an entry that was replied to as what it says
 pub record Understood (json : Json) (schema : Schema) (e : Entry) (s : ℕ) (said : Said) : Type 0 where
   pub x : Exchange
-  pub told : e.told ≡ Told.replied x
+  pub told : e.told ≡ Outcome.replied x
   pub session : x.line.session ≡ s
   pub is : IsCommand json schema said x.line.command
 
-pub understood : (json : Json) (schema : Schema) (e : Entry) (s : ℕ) (said : Said) → Hears json schema e.line (heard e.told) → SpellsLine e.line s said → told_text e.told ≢ unreadable_text → Understood json schema e s said
+pub understood : (json : Json) (schema : Schema) (e : Entry) (s : ℕ) (said : Said) → Hears json schema e.line (heard e.told) → SpellsLine e.line s said → outcome_text e.told ≢ unreadable_text → Understood json schema e s said
 understood json schema e s said h a readable = by e.told refl
   where
-    so : (x : Exchange) → e.told ≡ Told.replied x → SaidSo json schema e.line x.line ⊎ SaidNothing e.line x.line → Understood json schema e s said
+    so : (x : Exchange) → e.told ≡ Outcome.replied x → SaidSo json schema e.line x.line ⊎ SaidNothing e.line x.line → Understood json schema e s said
     so x is (inl b) =
         let same = one_thing e.line x.line.session s b.said said b.spells a in
         record { x = x; told = is; session = same.0; is = subst (λ said. IsCommand json schema said x.line.command) same.1 b.is }
     so x is (inr b) = absurd (no_form e.line s x.line.session said a b.shows b.none)
 
-    by : (t : Told) → e.told ≡ t → Understood json schema e s said
-    by Told.unreadable is = absurd (readable (ap told_text is))
-    by (Told.replied x) is = so x is (heard_line json schema e.line (heard e.told) x.line h (ap heard is))
+    by : (t : Outcome) → e.told ≡ t → Understood json schema e s said
+    by Outcome.unreadable is = absurd (readable (ap outcome_text is))
+    by (Outcome.replied x) is = so x is (heard_line json schema e.line (heard e.told) x.line h (ap heard is))
 
 -- ---- what a reply tells
 

@@ -14,9 +14,10 @@ use Rattle.cat_model.specs.Item.{Schema}
 use Rattle.cat_model.specs.Write.{Write}
 use Rattle.cat_model.specs.Table.{Opened}
 use Rattle.cat_model.specs.Lines.{Said, spaced, spelling, line_text, reply_text, HasForm}
-use Rattle.cat_model.specs.Run.{Command, Answer, Reply, Exchange, Run, accepted, accepted_by, writes, now, hold_by, hold_change, began, holds, has, records, greatest, last_number, Answers, Stops, Fits, FitsFrom, IsRun}
+use Rattle.cat_model.specs.Run.{Command, Answer, Reply, Exchange, Run, accepted, accepted_by, writes, now, hold_by, hold_change, began, holds, has, view_tokens, greatest, Answers, Stops, Fits, FitsFrom, IsRun}
+use Rattle.cat_model.specs.Limits.{last_number}
 use Rattle.cat_model.specs.Heard.{Json, Hears, IsCommand}
-use Rattle.cat_model.specs.Served.{Told, heard, exchange, told_text}
+use Rattle.cat_model.specs.Served.{Outcome, heard, exchange, outcome_text}
 use Rattle.cat_model.specs.Laws.{IsBounded}
 use Rattle.cat_model.specs.Talk.{granted, Holds}
 use Rattle.cat_model.proofs.Runs.{answered, greatest_up_to, writes-push, bounded, FitsFrom-split}
@@ -64,13 +65,13 @@ now_low from past (x ∷ run) h f = subst (λ p. now from.start p ≤ last_numbe
 
 -- ---- the OPEN
 
-opens_newest : (from : Opened) (past : Run) (v s t : ℕ) (r : Reply) → s ≤ 9999 → t < 2 ^ 63 → greatest (records from.start past) ≤ last_number
+opens_newest : (from : Opened) (past : Run) (v s t : ℕ) (r : Reply) → s ≤ 9999 → t < 2 ^ 63 → greatest (view_tokens from.start past) ≤ last_number
     → Answers from past v Command.open_newest r ⊎ Stops from past v Command.open_newest r
     → reply_text s r ≡ line_text (decimal s ∷ codes "OK" ∷ decimal t ∷ []) → hold_by t Command.open_newest r ≡ Some true
 opens_newest from past v s t (Err e) hs ht low f k = absurd (no_ok s e (decimal t ∷ []) hs k)
 opens_newest from past v s t (Ok (Answer.number u)) hs ht low f k =
-    let is : ◌≡◌ {A = Reply} (Ok (Answer.number u)) (Ok (Answer.number (greatest (records from.start past)))) = answered from past v Command.open_newest (Answer.number u) f in
-    let newest : u ≡ greatest (records from.start past) = cc is in
+    let is : ◌≡◌ {A = Reply} (Ok (Answer.number u)) (Ok (Answer.number (greatest (view_tokens from.start past)))) = answered from past v Command.open_newest (Answer.number u) f in
+    let newest : u ≡ greatest (view_tokens from.start past) = cc is in
     let same : u ≡ t = decimal_injective u t (omega (arith, newest, low)) (omega (arith, ht)) (same_text (told_decimal s u (decimal t) hs k)) in
     let yes : (u == t) ≡ true = eq-eqb u t same in
     ap (λ b. cond b (Some true) None) yes
@@ -78,14 +79,14 @@ opens_newest from past v s t (Ok (Answer.number u)) hs ht low f k =
     same_text : decimal u ++ 10 ∷ [] ≡ decimal t ++ 10 ∷ [] → decimal u ≡ decimal t
     same_text e = (same_line (decimal u) (decimal t) [] [] (decimal_one_line u) (decimal_one_line t) e).0
 opens_newest from past v s t (Ok a) hs ht low f k =
-    let is : ◌≡◌ {A = Reply} (Ok a) (Ok (Answer.number (greatest (records from.start past)))) = answered from past v Command.open_newest a f in absurd (cc is)
+    let is : ◌≡◌ {A = Reply} (Ok a) (Ok (Answer.number (greatest (view_tokens from.start past)))) = answered from past v Command.open_newest a f in absurd (cc is)
 
 opens_at : (from : Opened) (past : Run) (v s t : ℕ) (r : Reply) → s ≤ 9999
     → Answers from past v (Command.open_at t) r ⊎ Stops from past v (Command.open_at t) r
     → reply_text s r ≡ line_text (decimal s ∷ codes "OK" ∷ decimal t ∷ []) → hold_by t (Command.open_at t) r ≡ Some true
 opens_at from past v s t (Err e) hs f k = absurd (no_ok s e (decimal t ∷ []) hs k)
 opens_at from past v s t (Ok a) hs f k =
-    let is : (has (records from.start past) t ≡ true) × (a ≡ Answer.number t) = given_number (has (records from.start past) t) t a Gone (answered from past v (Command.open_at t) a f) in
+    let is : (has (view_tokens from.start past) t ≡ true) × (a ≡ Answer.number t) = given_number (has (view_tokens from.start past) t) t a Gone (answered from past v (Command.open_at t) a f) in
     ap (λ x. hold_by t (Command.open_at t) (Ok x)) is.1 ∙ ap (λ b. cond b (Some true) None) (eq-eqb t t refl)
 
 -- ---- the CLOSE
@@ -123,7 +124,7 @@ says_close json schema (Said.find u n sort mark text) t is = let e = is.2 in abs
 
 module _ (json : Json) (from : Opened) where
   -- the pair of an exchange that ends a hold
-  closing : (past : Run) (e : Entry) (x : Exchange) (s t : ℕ) → Hears json from.start.schema e.line (heard e.told) → Fits from past x → e.told ≡ Told.replied x → hold_change s t x ≡ Some false → pair e ≡ granted s (codes "CLOSE " ++ decimal t) t
+  closing : (past : Run) (e : Entry) (x : Exchange) (s t : ℕ) → Hears json from.start.schema e.line (heard e.told) → Fits from past x → e.told ≡ Outcome.replied x → hold_change s t x ≡ Some false → pair e ≡ granted s (codes "CLOSE " ++ decimal t) t
   closing past e x s t h f is changes =
       let ends : ((x.line.session == s) ≡ true) × (hold_by t x.line.command x.reply ≡ Some false) = closes (x.line.session == s) (hold_by t x.line.command x.reply) changes in
       let same : x.line.session ≡ s = grind (arith, nat_tests, ends.0) in
@@ -134,8 +135,8 @@ module _ (json : Json) (from : Opened) where
             let said : so.said ≡ Said.close t = says_close json from.start.schema so.said t (subst (IsCommand json from.start.schema so.said) c.command so.is) in
             let line : e.line ≡ decimal s ++ 32 ∷ spaced (spelling (Said.close t)) =
             so.spells.session_first ∙ (λ i. decimal (same i) ++ 32 ∷ so.spells.rest) ∙ ap (λ r. decimal s ++ 32 ∷ r) (so.spells.says.spelled ∙ ap (λ d. spaced (spelling d)) said) in
-            let reply : told_text e.told ≡ line_text (decimal s ∷ codes "OK" ∷ decimal t ∷ []) =
-            ap told_text is ∙ (λ i. reply_text (same i) (c.reply i)) ∙ ap (λ a. reply_text s (Ok a)) told ∙ append-nil (line_text (decimal s ∷ codes "OK" ∷ decimal t ∷ [])) in
+            let reply : outcome_text e.told ≡ line_text (decimal s ∷ codes "OK" ∷ decimal t ∷ []) =
+            ap outcome_text is ∙ (λ i. reply_text (same i) (c.reply i)) ∙ ap (λ a. reply_text s (Ok a)) told ∙ append-nil (line_text (decimal s ∷ codes "OK" ∷ decimal t ∷ [])) in
             λ i. record { line = line i; reply = reply i }
         | inr nothing ↦ absurd (let k : Command.close t ≡ Command.formless = sym c.command ∙ nothing.is in cc k)
       ]
@@ -154,9 +155,9 @@ module _ (json : Json) (from : Opened) where
       later : Contains (map pair es) (granted s (codes "CLOSE " ++ decimal t) t) → ⊥
       later c = never (Contains-append_right (pair e ∷ []) (map pair es) _ c)
 
-      by : ((p : Run) → FitsFrom from p (run_of es) → AllByRecursion (λ x. hold_change s t x ≢ Some false) (run_of es)) → (told : Told) → e.told ≡ told → FitsFrom from past (cons_option (exchange told) (run_of es)) → AllByRecursion (λ x. hold_change s t x ≢ Some false) (cons_option (exchange told) (run_of es))
-      by rest Told.unreadable is g = rest past g
-      by rest (Told.replied x) is g = (λ ends. never (here (closing past e x s t h.0 g.0 is ends)), rest (past ++ x ∷ []) g.1)
+      by : ((p : Run) → FitsFrom from p (run_of es) → AllByRecursion (λ x. hold_change s t x ≢ Some false) (run_of es)) → (told : Outcome) → e.told ≡ told → FitsFrom from past (cons_option (exchange told) (run_of es)) → AllByRecursion (λ x. hold_change s t x ≢ Some false) (cons_option (exchange told) (run_of es))
+      by rest Outcome.unreadable is g = rest past g
+      by rest (Outcome.replied x) is g = (λ ends. never (here (closing past e x s t h.0 g.0 is ends)), rest (past ++ x ∷ []) g.1)
         where
           here : pair e ≡ granted s (codes "CLOSE " ++ decimal t) t → Contains (map pair (e ∷ es)) (granted s (codes "CLOSE " ++ decimal t) t)
           here k = (0, omega arith, k)
@@ -164,16 +165,16 @@ module _ (json : Json) (from : Opened) where
   -- the exchange of the OPEN
   record IsOpened (e : Entry) (s t : ℕ) : Type 0 where
     x : Exchange
-    told : e.told ≡ Told.replied x
+    told : e.told ≡ Outcome.replied x
     begins : hold_change s t x ≡ Some true
 
   -- the run up to an entry, where its exchange fits
   FitsAt : Run → Entry → Type 0
-  FitsAt past e = (x : Exchange) → e.told ≡ Told.replied x → Fits from past x
+  FitsAt past e = (x : Exchange) → e.told ≡ Outcome.replied x → Fits from past x
 
   -- an exchange that says an OPEN, and is told its token
   opening_as : (past : Run) (e : Entry) (s t : ℕ) (said : Said) → s ≤ 9999 → HasForm said → Hears json from.start.schema e.line (heard e.told) → FitsAt past e
-      → e.line ≡ decimal s ++ 32 ∷ spaced (spelling said) → told_text e.told ≡ line_text (decimal s ∷ codes "OK" ∷ decimal t ∷ [])
+      → e.line ≡ decimal s ++ 32 ∷ spaced (spelling said) → outcome_text e.told ≡ line_text (decimal s ∷ codes "OK" ∷ decimal t ∷ [])
       → ((v : ℕ) (c : Command) (r : Reply) → IsCommand json from.start.schema said c → Answers from past v c r ⊎ Stops from past v c r → reply_text s r ≡ line_text (decimal s ∷ codes "OK" ∷ decimal t ∷ []) → hold_by t c r ≡ Some true)
       → IsOpened e s t
   unfolding FitsAt
@@ -181,14 +182,14 @@ module _ (json : Json) (from : Opened) where
       let u : Understood json from.start.schema e s said =
       understood json from.start.schema e s said h (record { small = hs; rest = spaced (spelling said); session_first = line; says = record { form = form; spelled = refl } }) (λ k. session_readable s (codes "OK") (decimal t ∷ []) hs (sym reply ∙ k)) in
       let yes : (u.x.line.session == s) ≡ true = eq-eqb u.x.line.session s u.session in
-      let said_reply : reply_text s u.x.reply ≡ line_text (decimal s ∷ codes "OK" ∷ decimal t ∷ []) = ap (λ v. reply_text v u.x.reply) (sym u.session) ∙ ap told_text (sym u.told) ∙ reply in
+      let said_reply : reply_text s u.x.reply ≡ line_text (decimal s ∷ codes "OK" ∷ decimal t ∷ []) = ap (λ v. reply_text v u.x.reply) (sym u.session) ∙ ap outcome_text (sym u.told) ∙ reply in
       record {
         x = u.x;
         told = u.told;
         begins = ap (λ b. cond b (hold_by t u.x.line.command u.x.reply) None) yes ∙ begins u.x.line.session u.x.line.command u.x.reply u.is (f u.x u.told) said_reply;
       }
 
-  opening : (past : Run) (e : Entry) (s t : ℕ) (text : Text) → s ≤ 9999 → t < 2 ^ 63 → greatest (records from.start past) ≤ last_number
+  opening : (past : Run) (e : Entry) (s t : ℕ) (text : Text) → s ≤ 9999 → t < 2 ^ 63 → greatest (view_tokens from.start past) ≤ last_number
       → Hears json from.start.schema e.line (heard e.told) → FitsAt past e → pair e ≡ granted s text t → (text ≡ codes "OPEN") ⊎ (text ≡ codes "OPEN " ++ decimal t) → IsOpened e s t
   opening past e s t text hs ht low h f is (inl o) =
       opening_as past e s t Said.open_newest hs tt h f (ap (λ p. p.line) is ∙ ap (λ v. decimal s ++ 32 ∷ v) o) (ap (λ p. p.reply) is)
@@ -198,7 +199,7 @@ module _ (json : Json) (from : Opened) where
       (λ v c r said fits k. ap (λ d. hold_by t d r) said ∙ opens_at from past v s t r hs (subst (λ d. Answers from past v d r ⊎ Stops from past v d r) said fits) k)
 
   -- the run of a list of entries around one of them
-  pub run_place : (past later : List Entry) (e : Entry) (x : Exchange) → e.told ≡ Told.replied x → run_of (past ++ e ∷ later) ≡ run_of past ++ x ∷ run_of later
+  pub run_place : (past later : List Entry) (e : Entry) (x : Exchange) → e.told ≡ Outcome.replied x → run_of (past ++ e ∷ later) ≡ run_of past ++ x ∷ run_of later
   run_place past later e x is = filter_map-append exchanged past (e ∷ later) ∙ ap (λ told. run_of past ++ cons_option (exchange told) (run_of later)) is
 
 -- the last change of a hold begins it
@@ -230,7 +231,7 @@ module _ (json : Json) (from : Opened) where
   pub around : (past later : List Entry) (e : Entry) → IsRun from (run_of (past ++ e ∷ later)) → IsRun from (run_of past) × FitsFrom from (run_of past) (run_of (e ∷ later))
   around past later e f = FitsFrom-split from [] (run_of past) (run_of (e ∷ later)) (subst (IsRun from) (filter_map-append exchanged past (e ∷ later)) f)
 
-  pub fits_from : (past later : List Entry) (e : Entry) (x : Exchange) → e.told ≡ Told.replied x → FitsFrom from (run_of past) (run_of (e ∷ later)) → Fits from (run_of past) x × FitsFrom from (run_of past ++ x ∷ []) (run_of later)
+  pub fits_from : (past later : List Entry) (e : Entry) (x : Exchange) → e.told ≡ Outcome.replied x → FitsFrom from (run_of past) (run_of (e ∷ later)) → Fits from (run_of past) x × FitsFrom from (run_of past ++ x ∷ []) (run_of later)
   fits_from past later e x is f = subst (λ told. FitsFrom from (run_of past) (cons_option (exchange told) (run_of later))) is f
 
   -- a hold that the bytes show
@@ -242,7 +243,7 @@ module _ (json : Json) (from : Opened) where
       let runs = around p.past p.later p.here (subst (λ v. IsRun from (run_of v)) p.whole f) in
       let bound : IsBounded from.start (run_of p.past) = bounded from (run_of p.past) runs.0 in
       let most : now from.start (run_of p.past) ≤ last_number = now_low from [] (run_of p.past) (omega (arith, small)) runs.0 in
-      let low : greatest (records from.start (run_of p.past)) ≤ last_number = omega (arith, most, greatest_up_to (now from.start (run_of p.past)) (records from.start (run_of p.past)) bound.recorded) in
+      let low : greatest (view_tokens from.start (run_of p.past)) ≤ last_number = omega (arith, most, greatest_up_to (now from.start (run_of p.past)) (view_tokens from.start (run_of p.past)) bound.recorded) in
       let o = opening json from (run_of p.past) p.here s t hold.text hs ht low heed.1.0 (λ x told. (fits_from p.past p.later p.here x told runs.1).0) p.here_is hold.command in
       let kept = kept_on json from (run_of p.past ++ o.x ∷ []) p.later s t heed.1.1 (fits_from p.past p.later p.here o.x o.told runs.1).1 (λ c. hold.kept (subst (λ ps. Contains ps (granted s (codes "CLOSE " ++ decimal t) t)) p.later_is c)) in
       ap (holds s t) (ap run_of p.whole ∙ run_place json from p.past p.later p.here o.x o.told) ∙ held_on s t (run_of p.past) o.x (run_of p.later) o.begins kept

@@ -10,8 +10,8 @@ use Rattle.cat_base.specs.Refusals.{number_of}
 use Rattle.cat_model.specs.Text.{Text}
 use Rattle.cat_model.specs.Page.{Key}
 use Rattle.cat_model.specs.Answer.{Found}
-use Rattle.cat_model.specs.Lines.{spaced, key_text, source_text, news_words, answer_words, entry_words, counted_words, part_words, further, refusal_words, line_text, reply_text, unreadable_text}
-use Rattle.cat_model.specs.Run.{Answer, News, Part, Reply}
+use Rattle.cat_model.specs.Lines.{spaced, key_text, source_text, news_words, answer_words, entry_words, counted_words, segment_words, further, refusal_words, line_text, reply_text, unreadable_text}
+use Rattle.cat_model.specs.Run.{Answer, News, SegmentStat, Reply}
 use Rattle.cat_model.specs.Talk.{IsOneLine, BeginsReply, IsReply}
 use Rattle.cat_model.proofs.Lists.{All-both, All-weaken}
 use Rattle.cat_model.proofs.TalkCuts.{ended}
@@ -44,7 +44,7 @@ further_lines s (Answer.news News.begun_warming) = refl
 further_lines s (Answer.news (News.warmed r)) = refl
 further_lines s (Answer.news News.stored) = refl
 further_lines s (Answer.news (News.swept n)) = refl
-further_lines s (Answer.news (News.state st)) = words_lines (λ p. decimal p.number) (λ p. decimal p.rows ∷ decimal p.live ∷ []) s st.parts
+further_lines s (Answer.news (News.state st)) = words_lines (λ p. decimal p.number) (λ p. decimal p.rows ∷ decimal p.live ∷ []) s st.segments
 
 pub reply_lines : (s : ℕ) (r : Reply) → reply_text s r ≡ flat_map (λ l. line_text (decimal s ∷ l ∷ [])) (lines_said r)
 reply_lines s (Ok a) = ap (λ t. line_text (decimal s ∷ codes "OK" ∷ answer_words a) ++ t) (further_lines s a)
@@ -134,7 +134,7 @@ news_lines News.begun_warming = (literal (codes "begun") refl, tt)
 news_lines (News.warmed r) = (literal (codes "warmed") refl, (decimal_one_line r, tt))
 news_lines News.stored = (literal (codes "stored") refl, tt)
 news_lines (News.swept n) = (decimal_one_line n, tt)
-news_lines (News.state st) = (decimal_one_line st.writes, (decimal_one_line st.buffered, (decimal_one_line (length st.parts), (decimal_one_line st.records, (decimal_one_line st.cached, (decimal_one_line st.pending, tt))))))
+news_lines (News.state st) = (decimal_one_line st.writes, (decimal_one_line st.buffered, (decimal_one_line (length st.segments), (decimal_one_line st.views, (decimal_one_line st.cached, (decimal_one_line st.pending, tt))))))
 
 answer_lines : (a : Answer) → ShownAnswer a → AllByRecursion IsOneLine (answer_words a)
 answer_lines (Answer.number n) h = (decimal_one_line n, tt)
@@ -148,7 +148,7 @@ each_further : {X : Type 0} (P : X → Type 0) (f : X → List Text) → ((x : X
 each_further P f g [] a = tt
 each_further P f g (x ∷ xs) a = (g x a.0, each_further P f g xs a.1)
 
-all_parts : (ps : List Part) → AllByRecursion (λ p. Unit {0}) ps
+all_parts : (ps : List SegmentStat) → AllByRecursion (λ p. Unit {0}) ps
 all_parts [] = tt
 all_parts (p ∷ ps) = (tt, all_parts ps)
 
@@ -167,7 +167,7 @@ further_shown (Answer.news News.begun_warming) h = tt
 further_shown (Answer.news (News.warmed r)) h = tt
 further_shown (Answer.news News.stored) h = tt
 further_shown (Answer.news (News.swept n)) h = tt
-further_shown (Answer.news (News.state st)) h = each_further (λ p. Unit {0}) part_words (λ p k. numbered_further p.number (decimal p.rows ∷ decimal p.live ∷ []) (decimal_one_line p.rows, (decimal_one_line p.live, tt))) st.parts (all_parts st.parts)
+further_shown (Answer.news (News.state st)) h = each_further (λ p. Unit {0}) segment_words (λ p k. numbered_further p.number (decimal p.rows ∷ decimal p.live ∷ []) (decimal_one_line p.rows, (decimal_one_line p.live, tt))) st.segments (all_parts st.segments)
 
 -- the lines of a reply, none of which has a line feed
 pub said_lines : (r : Reply) → Shown r → AllByRecursion IsOneLine (lines_said r)
@@ -228,7 +228,7 @@ news_begin s News.begun_warming = begins_ok s (codes "begun") []
 news_begin s (News.warmed r) = begins_ok s (codes "warmed") (decimal r ∷ [])
 news_begin s News.stored = begins_ok s (codes "stored") []
 news_begin s (News.swept n) = begins_ok s (decimal n) []
-news_begin s (News.state st) = begins_ok s (decimal st.writes) (decimal st.buffered ∷ decimal (length st.parts) ∷ decimal st.records ∷ decimal st.cached ∷ decimal st.pending ∷ [])
+news_begin s (News.state st) = begins_ok s (decimal st.writes) (decimal st.buffered ∷ decimal (length st.segments) ∷ decimal st.views ∷ decimal st.cached ∷ decimal st.pending ∷ [])
 
 answer_begins : (s : ℕ) (a : Answer) → BeginsReply (decimal s ++ 32 ∷ spaced (codes "OK" ∷ answer_words a))
 answer_begins s (Answer.number n) = begins_ok s (decimal n) []

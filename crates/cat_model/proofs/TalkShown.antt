@@ -5,14 +5,14 @@ use Rattle.std.specs.List.{flat_map, filter_map, cons_option, AllByRecursion}
 use Rattle.cat_base.specs.declared.refusal.Refusal.{Refusal}
 use Rattle.cat_base.specs.declared.refusal.Refusal.TheVariants.{Count, SortField, NotFacet, Mark, Full, Gone, Spent, NotHeld}
 use Rattle.cat_model.specs.Text.{Text, same_text}
-use Rattle.cat_model.specs.Item.{Item, Schema, Content, Part, Record, kind_of, content_of, labels_in}
+use Rattle.cat_model.specs.Item.{Item, Schema, Content, FieldContent, Record, kind_of, content_of, labels_in}
 use Rattle.cat_model.specs.Write.{Write}
 use Rattle.cat_model.specs.Query.{Query}
 use Rattle.cat_model.specs.Page.{Sort, hits, key, key_in, before, ranked, first_ranked, rest, page_of}
 use Rattle.cat_model.specs.Facets.{labels_of, distinct, counted, more, facets_in}
 use Rattle.cat_model.specs.Table.{Start, Opened, numbered, put_by, stands, table}
-use Rattle.cat_model.specs.Answer.{Read, Found, stored, can_sort, has_mark, is_facet_kind, answer, fault}
-use Rattle.cat_model.specs.Run.{Command, Answer, Reply, Run, writes, now, holds, has, is_held, is_full, records, told, or_not_held, Answers, Stops}
+use Rattle.cat_model.specs.Answer.{Read, Found, stored, can_sort, has_mark, is_facet_kind, answer, query_refusal}
+use Rattle.cat_model.specs.Run.{Command, Answer, Reply, Run, writes, now, holds, has, is_held, is_full, view_tokens, found_reply, or_not_held, Answers, Stops}
 use Rattle.cat_model.specs.Lines.{Said}
 use Rattle.cat_model.specs.Heard.{Json, IsCommand, id_of}
 use Rattle.cat_model.specs.Talk.{IsOneLine, HasOneLines, IsShownInLines}
@@ -60,7 +60,7 @@ mapped_of P Q f g None a = tt
 mapped_of P Q f g (Some x) a = g x a
 
 content_shown : (name : Text) (i : Item) → IsShownInLines i → OfOption HasOneLines (content_of name i)
-content_shown name i h = mapped_of {X = Part} (λ p. HasOneLines p.content) HasOneLines (λ p. p.content) (λ p k. k) _ (found_of (λ p. HasOneLines p.content) (λ p. same_text p.name name) i.parts h.parts)
+content_shown name i h = mapped_of {X = FieldContent} (λ p. HasOneLines p.content) HasOneLines (λ p. p.content) (λ p k. k) _ (found_of (λ p. HasOneLines p.content) (λ p. same_text p.name name) i.fields h.fields)
 
 key_in_shown : (c : Option Content) → OfOption HasOneLines c → ShownKey (key_in c)
 key_in_shown None a = tt
@@ -108,20 +108,20 @@ source_shown : (o : Option Text) → OfOption IsOneLine o → ShownSource o
 source_shown None a = tt
 source_shown (Some s) a = a
 
-read_shown : (schema : Schema) (rs : List Record) (asked : Read) → AllByRecursion ShownRecord rs → Shown (told (answer schema rs asked))
+read_shown : (schema : Schema) (rs : List Record) (asked : Read) → AllByRecursion ShownRecord rs → Shown (found_reply (answer schema rs asked))
 read_shown schema rs (Read.find n sort mark (Err e)) a = tt
 read_shown schema rs (Read.find n sort mark (Ok q)) a =
-    elim (ltb 1000 n) as (λ b. Shown (told (cond b (Err Count) (cond (can_sort schema sort) (cond (has_mark rs mark) (Ok (Found.page (page_of rs q sort mark n))) (Err Mark)) (Err SortField))))) [
+    elim (ltb 1000 n) as (λ b. Shown (found_reply (cond b (Err Count) (cond (can_sort schema sort) (cond (has_mark rs mark) (Ok (Found.page (page_of rs q sort mark n))) (Err Mark)) (Err SortField))))) [
       | true ↦ tt
-      | false ↦ elim (can_sort schema sort) as (λ b. Shown (told (cond b (cond (has_mark rs mark) (Ok (Found.page (page_of rs q sort mark n))) (Err Mark)) (Err SortField)))) [
-        | true ↦ elim (has_mark rs mark) as (λ b. Shown (told (cond b (Ok (Found.page (page_of rs q sort mark n))) (Err Mark)))) [ true ↦ page_shown rs q sort mark n a | false ↦ tt ]
+      | false ↦ elim (can_sort schema sort) as (λ b. Shown (found_reply (cond b (cond (has_mark rs mark) (Ok (Found.page (page_of rs q sort mark n))) (Err Mark)) (Err SortField)))) [
+        | true ↦ elim (has_mark rs mark) as (λ b. Shown (found_reply (cond b (Ok (Found.page (page_of rs q sort mark n))) (Err Mark)))) [ true ↦ page_shown rs q sort mark n a | false ↦ tt ]
         | false ↦ tt
       ]
     ]
 read_shown schema rs (Read.facets dim n (Err e)) a = tt
 read_shown schema rs (Read.facets dim n (Ok q)) a =
-    elim (is_facet_kind (kind_of schema dim)) as (λ b. Shown (told (cond b (cond (ltb 1000 n) (Err Count) (Ok (Found.facets (facets_in rs q dim n)))) (Err NotFacet)))) [
-      | true ↦ elim (ltb 1000 n) as (λ b. Shown (told (cond b (Err Count) (Ok (Found.facets (facets_in rs q dim n)))))) [ true ↦ tt | false ↦ facets_shown rs q dim n a ]
+    elim (is_facet_kind (kind_of schema dim)) as (λ b. Shown (found_reply (cond b (cond (ltb 1000 n) (Err Count) (Ok (Found.facets (facets_in rs q dim n)))) (Err NotFacet)))) [
+      | true ↦ elim (ltb 1000 n) as (λ b. Shown (found_reply (cond b (Err Count) (Ok (Found.facets (facets_in rs q dim n)))))) [ true ↦ tt | false ↦ facets_shown rs q dim n a ]
       | false ↦ tt
     ]
 read_shown schema rs (Read.get (Err e)) a = tt
@@ -166,17 +166,17 @@ module _ (json : Json) (from : Opened) (past : Run) (s : ℕ) (shown : AllByRecu
       by (Ok i) g = number_shown _ _ a Spent g
       by (Err e) g = subst Shown (sym g) tt
   answer_shown Said.refresh c a is f =
-      let g : ◌≡◌ {A = Reply} (Ok a) (cond (not (has (records from.start past) (now from.start past)) && is_full (is_held past) (records from.start past)) (Err Full) (Ok (Answer.number (now from.start past)))) = subst (λ d. Answers from past s d (Ok a)) is f in
-      subst Shown (sym g) (elim (not (has (records from.start past) (now from.start past)) && is_full (is_held past) (records from.start past)) as (λ b. Shown (cond b (Err Full) (Ok (Answer.number (now from.start past))))) [ true ↦ tt | false ↦ tt ])
+      let g : ◌≡◌ {A = Reply} (Ok a) (cond (not (has (view_tokens from.start past) (now from.start past)) && is_full (is_held past) (view_tokens from.start past)) (Err Full) (Ok (Answer.number (now from.start past)))) = subst (λ d. Answers from past s d (Ok a)) is f in
+      subst Shown (sym g) (elim (not (has (view_tokens from.start past) (now from.start past)) && is_full (is_held past) (view_tokens from.start past)) as (λ b. Shown (cond b (Err Full) (Ok (Answer.number (now from.start past))))) [ true ↦ tt | false ↦ tt ])
   answer_shown Said.open_newest c a is f = subst Shown (sym (subst (λ d. Answers from past s d (Ok a)) is f)) tt
   answer_shown (Said.open_at t) c a is f = number_shown _ _ a Gone (subst (λ d. Answers from past s d (Ok a)) is f)
   answer_shown (Said.close t) c a is f = number_shown _ _ a NotHeld (subst (λ d. Answers from past s d (Ok a)) is f)
   answer_shown (Said.find t n sort mark text) c a is f =
       let asked : Read = Read.find n sort mark is.0 in
-      let g : ◌≡◌ {A = Reply} (Ok a) (cond (holds s t past) (told (answer from.start.schema (table from.start (writes past) t) asked)) (or_not_held (fault asked))) = subst (λ d. Answers from past s d (Ok a)) is.2 f in
-      subst Shown (sym g) (elim (holds s t past) as (λ b. Shown (cond b (told (answer from.start.schema (table from.start (writes past) t) asked)) (or_not_held (fault asked)))) [
+      let g : ◌≡◌ {A = Reply} (Ok a) (cond (holds s t past) (found_reply (answer from.start.schema (table from.start (writes past) t) asked)) (or_not_held (query_refusal asked))) = subst (λ d. Answers from past s d (Ok a)) is.2 f in
+      subst Shown (sym g) (elim (holds s t past) as (λ b. Shown (cond b (found_reply (answer from.start.schema (table from.start (writes past) t) asked)) (or_not_held (query_refusal asked)))) [
         | true ↦ read_shown from.start.schema (table from.start (writes past) t) asked (table_shown from.start (writes past) t shown puts)
-        | false ↦ refused_shown (fault asked)
+        | false ↦ refused_shown (query_refusal asked)
       ])
 
   pub reply_shown : (said : Said) (c : Command) (r : Reply) → IsCommand json from.start.schema said c → Answers from past s c r ⊎ Stops from past s c r → Shown r

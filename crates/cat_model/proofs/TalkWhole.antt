@@ -12,7 +12,7 @@ use Rattle.cat_model.specs.Lines.{spaced, spelling, line_text}
 use Rattle.cat_model.specs.Run.{Exchange, Run, accepted, writes, Fits, FitsFrom, IsRun}
 use Rattle.cat_model.specs.Heard.{Json, Hears}
 use Rattle.cat_model.specs.Input.{lines_of, ended_lines}
-use Rattle.cat_model.specs.Served.{Opening, Begins, Told, heard, exchange, told_text, IsServed, Answered}
+use Rattle.cat_model.specs.Served.{Opening, Begins, Outcome, heard, exchange, outcome_text, IsServed, Answered}
 use Rattle.cat_model.specs.Talk.{Pair, IsOneLine, IsReply, IsTalk, Answering, ReadsLines, AnswersAreTalks}
 use Rattle.cat_model.proofs.TalkOpenings.{OpensShown}
 use Rattle.cat_model.proofs.Lists.{All-both}
@@ -27,13 +27,13 @@ use Rattle.cat_model.proofs.TalkHolds.{all_split}
 use Rattle.cat_model.proofs.TalkInput.{ended_are_lines, lines_are_lines}
 
 -- what was told is shown in lines
-abbrev pub ShownTold : Told → Type 0
-ShownTold Told.unreadable = Unit {0}
-ShownTold (Told.replied x) = Shown x.reply
+abbrev pub ShownTold : Outcome → Type 0
+ShownTold Outcome.unreadable = Unit {0}
+ShownTold (Outcome.replied x) = Shown x.reply
 
-told_is_reply : (told : Told) → ShownTold told → IsReply (told_text told)
-told_is_reply Told.unreadable a = unreadable_is_reply
-told_is_reply (Told.replied x) a = is_reply x.line.session x.reply a
+told_is_reply : (told : Outcome) → ShownTold told → IsReply (outcome_text told)
+told_is_reply Outcome.unreadable a = unreadable_is_reply
+told_is_reply (Outcome.replied x) a = is_reply x.line.session x.reply a
 
 replies_of : (es : List Entry) → AllByRecursion (λ e. ShownTold e.told) es → AllByRecursion (λ p. IsReply p.reply) (map pair es)
 replies_of [] a = tt
@@ -46,7 +46,7 @@ module _ (json : Json) (from : Opened) (reads : ReadsLines json) (sound : IsSche
       subst ShownWrite (sym is) (reads from.start.schema a i sound whole.1.1.1.1 k)
   makes_shown text w one (Makes.delete_it a e is) = subst ShownWrite (sym is) tt
 
-  write_shown : (e : Entry) (x : Exchange) (w : Write) → Hears json from.start.schema e.line (heard e.told) → IsOneLine e.line → e.told ≡ Told.replied x → accepted x ≡ Some w → ShownWrite w
+  write_shown : (e : Entry) (x : Exchange) (w : Write) → Hears json from.start.schema e.line (heard e.told) → IsOneLine e.line → e.told ≡ Outcome.replied x → accepted x ≡ Some w → ShownWrite w
   write_shown e x w h one is some =
       elim (heard_line json from.start.schema e.line (heard e.told) x.line h (ap heard is)) [
         | inl so ↦
@@ -59,14 +59,14 @@ module _ (json : Json) (from : Opened) (reads : ReadsLines json) (sound : IsSche
       nothing_accepted : (x : Exchange) → x.line.command ≡ Rattle.cat_model.specs.Run.Command.formless → accepted x ≡ None
       nothing_accepted x k = ap (λ c. Rattle.cat_model.specs.Run.accepted_by c x.reply) k
 
-  told_shown : (past : Run) (e : Entry) (x : Exchange) → Hears json from.start.schema e.line (heard e.told) → Fits from past x → e.told ≡ Told.replied x → AllByRecursion ShownWrite (writes past) → Shown x.reply
+  told_shown : (past : Run) (e : Entry) (x : Exchange) → Hears json from.start.schema e.line (heard e.told) → Fits from past x → e.told ≡ Outcome.replied x → AllByRecursion ShownWrite (writes past) → Shown x.reply
   told_shown past e x h f is puts =
       elim (heard_line json from.start.schema e.line (heard e.told) x.line h (ap heard is)) [
         | inl so ↦ reply_shown json from past x.line.session shown puts so.said x.line.command x.reply so.is f
         | inr nothing ↦ formless_shown json from past x.line.session shown puts x.line.command x.reply nothing.is f
       ]
 
-  next_puts : (past : Run) (e : Entry) (x : Exchange) → Hears json from.start.schema e.line (heard e.told) → IsOneLine e.line → e.told ≡ Told.replied x → AllByRecursion ShownWrite (writes past) → AllByRecursion ShownWrite (writes (past ++ x ∷ []))
+  next_puts : (past : Run) (e : Entry) (x : Exchange) → Hears json from.start.schema e.line (heard e.told) → IsOneLine e.line → e.told ≡ Outcome.replied x → AllByRecursion ShownWrite (writes past) → AllByRecursion ShownWrite (writes (past ++ x ∷ []))
   next_puts past e x h one is puts = subst (AllByRecursion ShownWrite) (sym (writes-push past x)) (All-both ShownWrite (writes past) (cons_option (accepted x) []) puts (by (accepted x) refl))
     where
       by : (o : Option Write) → accepted x ≡ o → AllByRecursion ShownWrite (cons_option o [])
@@ -78,9 +78,9 @@ module _ (json : Json) (from : Opened) (reads : ReadsLines json) (sound : IsSche
   entries_shown past (e ∷ es) h one f puts = by (λ p g q. entries_shown p es h.1 one.1 g q) e.told refl f
     where
       by : ((p : Run) → FitsFrom from p (run_of es) → AllByRecursion ShownWrite (writes p) → AllByRecursion (λ e. ShownTold e.told) es)
-          → (told : Told) → e.told ≡ told → FitsFrom from past (cons_option (exchange told) (run_of es)) → ShownTold e.told × AllByRecursion (λ e. ShownTold e.told) es
-      by rest Told.unreadable is g = (subst ShownTold (sym is) tt, rest past g puts)
-      by rest (Told.replied x) is g = (subst ShownTold (sym is) (told_shown past e x h.0 g.0 is puts), rest (past ++ x ∷ []) g.1 (next_puts past e x h.0 one.0 is puts))
+          → (told : Outcome) → e.told ≡ told → FitsFrom from past (cons_option (exchange told) (run_of es)) → ShownTold e.told × AllByRecursion (λ e. ShownTold e.told) es
+      by rest Outcome.unreadable is g = (subst ShownTold (sym is) tt, rest past g puts)
+      by rest (Outcome.replied x) is g = (subst ShownTold (sym is) (told_shown past e x h.0 g.0 is puts), rest (past ++ x ∷ []) g.1 (next_puts past e x h.0 one.0 is puts))
 
 -- ---- the whole
 
@@ -103,7 +103,7 @@ served json opens input output _ (Answering.to_a_fault left s) =
     let same : input ≡ s.0 = append_cancel_right input s.0 left s.1 in
     (subst (λ bytes. Answered (IsServed json opens) (ended_lines bytes) output) (sym same) (subst (Answered (IsServed json opens) (ended_lines s.0)) (sym s.4) s.3), ended_are_lines input)
 
-lines_kept : (ls : List Text) (ts : List Told) → AllByRecursion IsOneLine ls → AllByRecursion (λ e. IsOneLine e.line) (entries ls ts)
+lines_kept : (ls : List Text) (ts : List Outcome) → AllByRecursion IsOneLine ls → AllByRecursion (λ e. IsOneLine e.line) (entries ls ts)
 lines_kept [] ts a = tt
 lines_kept (l ∷ ls) [] a = tt
 lines_kept (l ∷ ls) (t ∷ ts) a = (a.0, lines_kept ls ts a.1)
@@ -128,7 +128,7 @@ module _ (json : Json) (opens : Opening) (reads : ReadsLines json) (opened : Ope
   all_shown = entries_shown json s.from reads (opened first s.from s.begins).schema (opened first s.from s.begins).records [] all all_heed (lines_kept lines s.tolds cut) all_run tt
 
   written : output ≡ (codes "OK" ++ 32 ∷ decimal s.from.start.token) ++ 10 ∷ flat_map (λ p. p.reply) (map pair all)
-  written = s.whole ∙ greeted s.from.start.token (flat_map told_text s.tolds) ∙ ap (λ r. (codes "OK" ++ 32 ∷ decimal s.from.start.token) ++ 10 ∷ r) (sym (entries_replies json s.from.start.schema lines s.tolds s.heard_all))
+  written = s.whole ∙ greeted s.from.start.token (flat_map outcome_text s.tolds) ∙ ap (λ r. (codes "OK" ++ 32 ∷ decimal s.from.start.token) ++ 10 ∷ r) (sym (entries_replies json s.from.start.schema lines s.tolds s.heard_all))
 
   pub the_talk : IsTalk (first ∷ lines) output (map pair all)
   the_talk = record {

@@ -14,7 +14,7 @@ use Rattle.cat_model.specs.Table.{Opened}
 use Rattle.cat_model.specs.Lines.{Said, spaced, spelling, line_text, reply_text}
 use Rattle.cat_model.specs.Run.{Command, Reply, Exchange, Run, accepted, accepted_by, writes, now, Fits, FitsFrom}
 use Rattle.cat_model.specs.Heard.{Json, Hears, IsCommand}
-use Rattle.cat_model.specs.Served.{Told, heard, exchange, told_text}
+use Rattle.cat_model.specs.Served.{Outcome, heard, exchange, outcome_text}
 use Rattle.cat_model.specs.Talk.{granted, IsWrite}
 use Rattle.cat_model.proofs.Runs.{writes-push}
 use Rattle.cat_model.proofs.TalkHeard.{Entry, pair, run_of, Heeded, heard_line}
@@ -80,7 +80,7 @@ stands_later json schema e es n m w same a = record {
 
 module _ (json : Json) (from : Opened) where
   -- the write of an exchange
-  stands_here : (past : Run) (e : Entry) (es : List Entry) (x : Exchange) (w : Write) → Hears json from.start.schema e.line (heard e.told) → Fits from past x → e.told ≡ Told.replied x → accepted x ≡ Some w → Stands json from.start.schema (e ∷ es) (now from.start past + 1) w
+  stands_here : (past : Run) (e : Entry) (es : List Entry) (x : Exchange) (w : Write) → Hears json from.start.schema e.line (heard e.told) → Fits from past x → e.told ≡ Outcome.replied x → accepted x ≡ Some w → Stands json from.start.schema (e ∷ es) (now from.start past + 1) w
   stands_here past e es x w h f is some =
       elim (heard_line json from.start.schema e.line (heard e.told) x.line h (ap heard is)) [
         | inl so ↦
@@ -88,8 +88,8 @@ module _ (json : Json) (from : Opened) where
             let next : IsNext from past x.reply = accepted_fits from past x.line.session x.line.command x.reply w f some in
             let n : ℕ = now from.start past + 1 in
             let line : e.line ≡ decimal x.line.session ++ 32 ∷ spaced (spelling so.said) = so.spells.session_first ∙ ap (λ r. decimal x.line.session ++ 32 ∷ r) so.spells.says.spelled in
-            let reply : told_text e.told ≡ line_text (decimal x.line.session ∷ codes "OK" ∷ decimal n ∷ []) =
-            ap told_text is ∙ ap (reply_text x.line.session) next.told ∙ append-nil (line_text (decimal x.line.session ∷ codes "OK" ∷ decimal n ∷ [])) in
+            let reply : outcome_text e.told ≡ line_text (decimal x.line.session ∷ codes "OK" ∷ decimal n ∷ []) =
+            ap outcome_text is ∙ ap (reply_text x.line.session) next.told ∙ append-nil (line_text (decimal x.line.session ∷ codes "OK" ∷ decimal n ∷ [])) in
             record {
               text = spaced (spelling so.said);
               written = record { session = x.line.session; argument = a.argument; command = a.command; stands = (0, omega arith, λ i. record { line = line i; reply = reply i }) };
@@ -106,7 +106,7 @@ module _ (json : Json) (from : Opened) where
       Rest : Type 0
       Rest = (p : Run) → FitsFrom from p (run_of es) → (c d : List Write) (v : Write) → writes (run_of es) ≡ c ++ v ∷ d → Stands json from.start.schema es (now from.start p + 1 + length c) v
 
-      more : (x : Exchange) (v : Write) → e.told ≡ Told.replied x → accepted x ≡ Some v → Fits from past x → FitsFrom from (past ++ x ∷ []) (run_of es) → now from.start (past ++ x ∷ []) ≡ now from.start past + 1
+      more : (x : Exchange) (v : Write) → e.told ≡ Outcome.replied x → accepted x ≡ Some v → Fits from past x → FitsFrom from (past ++ x ∷ []) (run_of es) → now from.start (past ++ x ∷ []) ≡ now from.start past + 1
           → ((p : Run) → FitsFrom from p (run_of es) → (c d : List Write) (v : Write) → writes (run_of es) ≡ c ++ v ∷ d → Stands json from.start.schema es (now from.start p + 1 + length c) v)
           → (c d : List Write) (u : Write) → v ∷ writes (run_of es) ≡ c ++ u ∷ d → Stands json from.start.schema (e ∷ es) (now from.start past + 1 + length c) u
       more x v is some g later n rest [] d u k =
@@ -117,9 +117,9 @@ module _ (json : Json) (from : Opened) where
           stands_later json from.start.schema e es (now from.start past + 1 + length (y ∷ c)) (now from.start (past ++ x ∷ []) + 1 + length c) u (omega (arith, n)) (rest (past ++ x ∷ []) later c d u (cc k))
 
       by : ((p : Run) → FitsFrom from p (run_of es) → (c d : List Write) (v : Write) → writes (run_of es) ≡ c ++ v ∷ d → Stands json from.start.schema es (now from.start p + 1 + length c) v)
-          → (told : Told) → e.told ≡ told → FitsFrom from past (cons_option (exchange told) (run_of es)) → writes (cons_option (exchange told) (run_of es)) ≡ a ++ w ∷ b → Stands json from.start.schema (e ∷ es) (now from.start past + 1 + length a) w
-      by rest Told.unreadable is g k = stands_later json from.start.schema e es _ _ w refl (rest past g a b w k)
-      by rest (Told.replied x) is g k = choose (accepted x) refl k
+          → (told : Outcome) → e.told ≡ told → FitsFrom from past (cons_option (exchange told) (run_of es)) → writes (cons_option (exchange told) (run_of es)) ≡ a ++ w ∷ b → Stands json from.start.schema (e ∷ es) (now from.start past + 1 + length a) w
+      by rest Outcome.unreadable is g k = stands_later json from.start.schema e es _ _ w refl (rest past g a b w k)
+      by rest (Outcome.replied x) is g k = choose (accepted x) refl k
         where
           choose : (o : Option Write) → accepted x ≡ o → cons_option o (writes (run_of es)) ≡ a ++ w ∷ b → Stands json from.start.schema (e ∷ es) (now from.start past + 1 + length a) w
           choose None none k' =

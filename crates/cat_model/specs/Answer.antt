@@ -9,6 +9,7 @@ use Rattle.cat_model.specs.Item.{Schema, Kind, kind_of, Record}
 use Rattle.cat_model.specs.Query.{Query}
 use Rattle.cat_model.specs.Page.{Sort, Page, page_of}
 use Rattle.cat_model.specs.Facets.{Facets, facets_in}
+use Rattle.cat_model.specs.Limits.{page_limit}
 
 -- A read without its token. A text that spells no query is the refusal of its fault, and so is a wrong id.
 pub data Read : Type 0 where
@@ -54,22 +55,22 @@ has_mark rs None = true
 has_mark rs (Some mark) = list_any (λ r. r.number == mark) rs
 
 -- the fault of the read's own texts, which is told before a token is looked at
-abbrev pub fault : Read → Option Refusal
-fault (Read.find n sort mark (Ok q)) = None
-fault (Read.find n sort mark (Err e)) = Some e
-fault (Read.facets dim n (Ok q)) = None
-fault (Read.facets dim n (Err e)) = Some e
-fault (Read.get (Ok id)) = None
-fault (Read.get (Err e)) = Some e
+abbrev pub query_refusal : Read → Option Refusal
+query_refusal (Read.find n sort mark (Ok q)) = None
+query_refusal (Read.find n sort mark (Err e)) = Some e
+query_refusal (Read.facets dim n (Ok q)) = None
+query_refusal (Read.facets dim n (Err e)) = Some e
+query_refusal (Read.get (Ok id)) = None
+query_refusal (Read.get (Err e)) = Some e
 
 -- the answer to a read: its fault comes first, then of a page the count, the sort field and the mark are looked at, in this
 -- order, and of counts the dimension and the count
 abbrev pub answer : Schema → List Record → Read → Result Found Refusal
 answer schema rs (Read.find n sort mark (Err e)) = Err e
 answer schema rs (Read.find n sort mark (Ok q)) =
-    cond (ltb 1000 n) (Err Count) (cond (can_sort schema sort) (cond (has_mark rs mark) (Ok (Found.page (page_of rs q sort mark n))) (Err Mark)) (Err SortField))
+    cond (ltb page_limit n) (Err Count) (cond (can_sort schema sort) (cond (has_mark rs mark) (Ok (Found.page (page_of rs q sort mark n))) (Err Mark)) (Err SortField))
 answer schema rs (Read.facets dim n (Err e)) = Err e
 answer schema rs (Read.facets dim n (Ok q)) =
-    cond (is_facet_kind (kind_of schema dim)) (cond (ltb 1000 n) (Err Count) (Ok (Found.facets (facets_in rs q dim n)))) (Err NotFacet)
+    cond (is_facet_kind (kind_of schema dim)) (cond (ltb page_limit n) (Err Count) (Ok (Found.facets (facets_in rs q dim n)))) (Err NotFacet)
 answer schema rs (Read.get (Err e)) = Err e
 answer schema rs (Read.get (Ok id)) = Ok (Found.source (stored rs id))

@@ -21,13 +21,13 @@ text_of_name (Name.commit g) = codes "segments_" ++ decimal g
 abbrev pub IsFileNumber : ℕ → Type 0
 IsFileNumber n = (0 < n) × (n < 2 ^ 63)
 
-abbrev pub IsName : Name → Type 0
-IsName (Name.segment n) = IsFileNumber n
-IsName (Name.source n) = IsFileNumber n
-IsName (Name.live n d) = IsFileNumber n × IsFileNumber d
-IsName (Name.commit g) = IsFileNumber g
+abbrev pub IsFileName : Name → Type 0
+IsFileName (Name.segment n) = IsFileNumber n
+IsFileName (Name.source n) = IsFileNumber n
+IsFileName (Name.live n d) = IsFileNumber n × IsFileNumber d
+IsFileName (Name.commit g) = IsFileNumber g
 
 -- the text is the name's
 pub record SpellsName (text : Text) (name : Name) : Type 0 where
-  pub form : IsName name
+  pub form : IsFileName name
   pub spelled : text ≡ text_of_name name

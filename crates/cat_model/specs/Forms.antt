@@ -7,6 +7,7 @@ use Rattle.std.specs.Int.RustNames.{FitsSigned}
 use Rattle.cat_model.specs.Text.{Text}
 use Rattle.cat_model.specs.Item.{Content, Item, is_id}
 use Rattle.cat_model.specs.Words.{is_word_byte}
+use Rattle.cat_model.specs.Limits.{keyword_limit, label_limit, source_limit}
 
 -- no control character
 abbrev pub is_plain_byte : ℕ → Bool
@@ -15,7 +16,7 @@ is_plain_byte b = nat_le 32 b && not (b == 127)
 -- a keyword: at most 128 bytes without control characters
 pub record IsKeyword (text : Text) : Type 0 where
   pub utf8 : IsUtf8 text
-  pub short : length text ≤ 128
+  pub short : length text ≤ keyword_limit
   pub plain : list_all is_plain_byte text ≡ true
 
 -- a label: a keyword that isn't empty
@@ -39,14 +40,14 @@ abbrev pub IsFormed : Content → Type 0
 IsFormed (Content.words ws) = All IsWord ws
 IsFormed (Content.keyword k) = IfSome k IsKeyword
 IsFormed (Content.number z) = IfSome z (FitsSigned w64)
-IsFormed (Content.labels ls) = (length ls ≤ 64) × All IsLabel ls
+IsFormed (Content.labels ls) = (length ls ≤ label_limit) × All IsLabel ls
 
 -- 1 to 8,192 bytes of JSON
 abbrev pub IsSourceLength : ℕ → Type 0
-IsSourceLength n = (1 ≤ n) × (n ≤ 8192)
+IsSourceLength n = (1 ≤ n) × (n ≤ source_limit)
 
 -- the item has the forms, whatever the schema is
 pub record IsFormedItem (i : Item) : Type 0 where
   pub id : is_id i.id ≡ true
   pub source : IsSourceLength (length i.source)
-  pub parts : All (λ p. IsFormed p.content) i.parts
+  pub fields : All (λ p. IsFormed p.content) i.fields

@@ -9,7 +9,7 @@ use Rattle.cat_model.specs.Grammar.{Spells}
 use Rattle.cat_model.specs.Faults.{Fault}
 use Rattle.cat_model.specs.Answer.{Read}
 use Rattle.cat_model.specs.Run.{Command, Line}
-use Rattle.cat_model.specs.Lines.{Said, Shows, SpellsLine, IsReadable}
+use Rattle.cat_model.specs.Lines.{Said, ShowsSession, SpellsLine, IsReadable}
 
 -- how texts of JSON are read, which cat_schema says
 pub record Json : Type 0 where
@@ -44,5 +44,5 @@ pub data Heard : Type 0 where
 -- or nothing that can be read.
 pub data Hears (json : Json) (schema : Schema) (bytes : Text) : Heard → Type 0 where
   spelled : (session : ℕ) (said : Said) (c : Command) → IsReadable bytes → SpellsLine bytes session said → IsCommand json schema said c → Hears json schema bytes (Heard.a_line (record { session = session; command = c }))
-  formless : (session : ℕ) → IsReadable bytes → Shows bytes session → ((said : Said) → SpellsLine bytes session said → ⊥) → Hears json schema bytes (Heard.a_line (record { session = session; command = Command.formless }))
-  unreadable : (IsReadable bytes → (session : ℕ) → Shows bytes session → ⊥) → Hears json schema bytes Heard.unreadable
+  formless : (session : ℕ) → IsReadable bytes → ShowsSession bytes session → ((said : Said) → SpellsLine bytes session said → ⊥) → Hears json schema bytes (Heard.a_line (record { session = session; command = Command.formless }))
+  unreadable : (IsReadable bytes → (session : ℕ) → ShowsSession bytes session → ⊥) → Hears json schema bytes Heard.unreadable

@@ -5,6 +5,7 @@ use Rattle.std.specs.List.{AllByRecursion, list_all}
 use Rattle.std.specs.Char.{is_ascii_graphic, is_ascii_digit, is_ascii_lowercase}
 use Rattle.cat_base.specs.Texts.{IsTextSet}
 use Rattle.cat_model.specs.Text.{Text, same_text}
+use Rattle.cat_model.specs.Limits.{field_limit, id_limit}
 
 -- the kinds of field
 pub data Kind : Type 0 where
@@ -28,8 +29,8 @@ has_name_form [] = false
 has_name_form (b ∷ bs) = is_ascii_lowercase b && list_all is_name_byte bs && leb (length bs) 31
 
 -- the name of a field has that form, and isn't `id`
-abbrev pub is_name : Text → Bool
-is_name t = has_name_form t && not (same_text t (codes "id"))
+abbrev pub is_field_name : Text → Bool
+is_field_name t = has_name_form t && not (same_text t (codes "id"))
 
 -- the fields in byte order of their names
 abbrev pub Schema : Type 0
@@ -37,9 +38,9 @@ Schema = List Field
 
 -- at most 32 fields, with the names of fields, which rise by bytes
 pub record IsSchema (schema : Schema) : Type 0 where
-  pub few : length schema ≤ 32
+  pub few : length schema ≤ field_limit
   pub rising : IsTextSet (map (λ f. f.name) schema)
-  pub named : AllByRecursion (λ f. IsTrue (is_name f.name)) schema
+  pub named : AllByRecursion (λ f. IsTrue (is_field_name f.name)) schema
 
 -- the kind of the field of this name, if there is one
 abbrev pub kind_of : Schema → Text → Option Kind
@@ -53,19 +54,19 @@ pub data Content : Type 0 where
   labels : List Text → Content
 
 -- a field of an item, and what the item has in it
-pub record Part : Type 0 where
+pub record FieldContent : Type 0 where
   pub name : Text
   pub content : Content
 
 -- an item: its id, its fields, and the text of JSON that it came as
 pub record Item : Type 0 where
   pub id : Text
-  pub parts : List Part
+  pub fields : List FieldContent
   pub source : Text
 
 -- an id has 1 to 64 bytes, each from `!` to `~`
 abbrev pub is_id : Text → Bool
-is_id t = ltb 0 (length t) && leb (length t) 64 && list_all is_ascii_graphic t
+is_id t = ltb 0 (length t) && leb (length t) id_limit && list_all is_ascii_graphic t
 
 -- the content is of the kind, and a set of words or of labels rises strictly
 pub data IsContent : Kind → Content → Type 0 where
@@ -75,19 +76,19 @@ pub data IsContent : Kind → Content → Type 0 where
   labels : (ls : List Text) → IsTextSet ls → IsContent Kind.facet (Content.labels ls)
 
 -- one part for each field, in the fields' order, under its name and of its kind
-abbrev pub AreParts : Schema → List Part → Type 0
-AreParts [] [] = Unit {0}
-AreParts [] (p ∷ ps) = ⊥
-AreParts (f ∷ fs) [] = ⊥
-AreParts (f ∷ fs) (p ∷ ps) = ((p.name ≡ f.name) × IsContent f.kind p.content) × AreParts fs ps
+abbrev pub AreFields : Schema → List FieldContent → Type 0
+AreFields [] [] = Unit {0}
+AreFields [] (p ∷ ps) = ⊥
+AreFields (f ∷ fs) [] = ⊥
+AreFields (f ∷ fs) (p ∷ ps) = ((p.name ≡ f.name) × IsContent f.kind p.content) × AreFields fs ps
 
 -- the item has the parts that the schema asks for
 abbrev pub IsItem : Schema → Item → Type 0
-IsItem schema i = AreParts schema i.parts
+IsItem schema i = AreFields schema i.fields
 
 -- what the item has in the field of this name
 abbrev pub content_of : Text → Item → Option Content
-content_of name i = option_map (λ p. p.content) (find (λ p. same_text p.name name) i.parts)
+content_of name i = option_map (λ p. p.content) (find (λ p. same_text p.name name) i.fields)
 
 -- the words of a text field, and none of another
 abbrev pub words_in : Option Content → List Text

@@ -11,17 +11,18 @@ use Rattle.cat_model.specs.Forms.{IsKeyword, IsLabel, IsWord, IsSourceLength}
 use Rattle.cat_model.specs.Ordinals.{dictionary_of, postings_of, texts_of}
 use Rattle.cat_model.specs.Files.{IsFileNumber}
 use Rattle.cat_model.specs.View.{Row, Segment, item_in}
+use Rattle.cat_model.specs.Limits.{row_limit}
 
 -- ---- what is laid out
 
 -- a word, and the places of the rows that have it
-pub record Posted : Type 0 where
+pub record WordPostings : Type 0 where
   pub word : Text
   pub rows : List ℕ
 
 -- a column, by the kind of its field
 pub data Laid : Type 0 where
-  words : List Posted → Laid
+  words : List WordPostings → Laid
   keywords : (dictionary : List Text) (codes : List ℕ) → Laid
   numbers : List (Option ℤ) → Laid
   labels : (dictionary : List Text) (ordinals : List (List ℕ)) → Laid
@@ -48,8 +49,8 @@ code_in dictionary None = 0
 code_in dictionary (Some text) = suc (ordinal_in dictionary text)
 
 -- the words of rows, each with its postings
-abbrev pub posted_of : List (List Text) → List Posted
-posted_of rows = map (λ w. record { word = w; rows = postings_of w rows }) (dictionary_of rows)
+abbrev pub word_postings_of : List (List Text) → List WordPostings
+word_postings_of rows = map (λ w. record { word = w; rows = postings_of w rows }) (dictionary_of rows)
 
 -- the dictionary of keywords
 abbrev pub keywords_of : List (Option Text) → List Text
@@ -57,7 +58,7 @@ keywords_of values = dictionary_of (map texts_of values)
 
 -- the column of what the rows have in a field of the kind
 abbrev pub laid_as : Kind → List (Option Content) → Laid
-laid_as Kind.text rows = Laid.words (posted_of (map words_in rows))
+laid_as Kind.text rows = Laid.words (word_postings_of (map words_in rows))
 laid_as Kind.keyword rows = Laid.keywords (keywords_of (map keyword_in rows)) (map (code_in (keywords_of (map keyword_in rows))) (map keyword_in rows))
 laid_as Kind.number rows = Laid.numbers (map number_in rows)
 laid_as Kind.facet rows = Laid.labels (dictionary_of (map labels_in rows)) (map (map (ordinal_in (dictionary_of (map labels_in rows)))) (map labels_in rows))
@@ -98,8 +99,8 @@ spelled_list ns = spelled_u32 (length ns) ++ flat_map spelled_u32 ns
 abbrev pub spelled_texts : List Text → List ℕ
 spelled_texts texts = spelled_u32 (length texts) ++ flat_map spelled_bytes texts
 
-abbrev pub spelled_posted : Posted → List ℕ
-spelled_posted p = spelled_bytes p.word ++ spelled_list p.rows
+abbrev pub spelled_postings : WordPostings → List ℕ
+spelled_postings p = spelled_bytes p.word ++ spelled_list p.rows
 
 -- 0 where the row has no number; else 1, and the number in two's complement
 abbrev pub spelled_number : Option ℤ → List ℕ
@@ -107,7 +108,7 @@ spelled_number None = 0 ∷ []
 spelled_number (Some z) = 1 ∷ spelled_u64 (cast_unsigned w64 z)
 
 abbrev pub spelled_column : Laid → List ℕ
-spelled_column (Laid.words ps) = spelled_u32 (length ps) ++ flat_map spelled_posted ps
+spelled_column (Laid.words ps) = spelled_u32 (length ps) ++ flat_map spelled_postings ps
 spelled_column (Laid.keywords dictionary codes) = spelled_texts dictionary ++ flat_map spelled_u32 codes
 spelled_column (Laid.numbers zs) = flat_map spelled_number zs
 spelled_column (Laid.labels dictionary ordinals) = spelled_texts dictionary ++ flat_map spelled_list ordinals
@@ -132,12 +133,12 @@ pub record IsHead (h : Head) : Type 0 where
 abbrev pub FitU32 : List ℕ → Type 0
 FitU32 ns = (length ns < 2 ^ 32) × All (λ n. n < 2 ^ 32) ns
 
-pub record IsPosted (p : Posted) : Type 0 where
+pub record IsWordPostings (p : WordPostings) : Type 0 where
   pub word : IsWord p.word
   pub rows : FitU32 p.rows
 
 abbrev pub IsLaid : ℕ → Kind → Laid → Type 0
-IsLaid rows Kind.text (Laid.words ps) = (length ps < 2 ^ 32) × All IsPosted ps
+IsLaid rows Kind.text (Laid.words ps) = (length ps < 2 ^ 32) × All IsWordPostings ps
 IsLaid rows Kind.keyword (Laid.keywords dictionary codes) = (length dictionary < 2 ^ 32) × All IsKeyword dictionary × (length codes ≡ rows) × FitU32 codes
 IsLaid rows Kind.number (Laid.numbers zs) = (length zs ≡ rows) × All (λ z. IfSome z (FitsSigned w64)) zs
 IsLaid rows Kind.facet (Laid.labels dictionary ordinals) = (length dictionary < 2 ^ 32) × All IsLabel dictionary × (length ordinals ≡ rows) × All FitU32 ordinals
@@ -153,7 +154,7 @@ pub record IsLayout (l : Layout) : Type 0 where
   pub number : IsFileNumber l.number
   pub schema : IsSchema l.schema
   pub some : 1 ≤ length l.heads
-  pub few : length l.heads ≤ 262144
+  pub few : length l.heads ≤ row_limit
   pub heads : All IsHead l.heads
   pub columns : AreLaid (length l.heads) l.schema l.columns
 
@@ -170,7 +171,7 @@ AreEnds from [] total = from ≡ total
 AreEnds from (e ∷ es) total = (from ≤ e) × AreEnds e es total
 
 -- the words, each with its piece of the rows
-abbrev pub posted : List Text → List (List ℕ) → List Posted
-posted [] parts = []
-posted (w ∷ ws) [] = []
-posted (w ∷ ws) (rows ∷ parts) = record { word = w; rows = rows } ∷ posted ws parts
+abbrev pub paired_postings : List Text → List (List ℕ) → List WordPostings
+paired_postings [] parts = []
+paired_postings (w ∷ ws) [] = []
+paired_postings (w ∷ ws) (rows ∷ parts) = record { word = w; rows = rows } ∷ paired_postings ws parts

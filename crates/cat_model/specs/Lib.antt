@@ -1,4 +1,5 @@
 pub mod Text
+pub mod Limits
 pub mod Words
 pub mod Item
 pub mod Query

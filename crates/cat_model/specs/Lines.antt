@@ -10,7 +10,8 @@ use Rattle.cat_model.specs.Item.{has_name_form}
 use Rattle.cat_model.specs.Page.{Sort, Key, Entry}
 use Rattle.cat_model.specs.Facets.{Counted}
 use Rattle.cat_model.specs.Answer.{Found}
-use Rattle.cat_model.specs.Run.{Answer, News, Part, Reply}
+use Rattle.cat_model.specs.Run.{Answer, News, SegmentStat, Reply}
+use Rattle.cat_model.specs.Limits.{line_limit, session_limit}
 
 -- ---- lines
 
@@ -78,20 +79,20 @@ pub record SpellsSaid (text : Text) (said : Said) : Type 0 where
   pub spelled : text ≡ spaced (spelling said)
 
 -- the session stands before the first space, or is the whole line
-pub record Shows (line : Text) (session : ℕ) : Type 0 where
-  pub small : session ≤ 9999
+pub record ShowsSession (line : Text) (session : ℕ) : Type 0 where
+  pub small : session ≤ session_limit
   pub place : (line ≡ decimal session) ⊎ ((rest : Text) × (line ≡ decimal session ++ 32 ∷ rest))
 
 -- the line spells the session, and what is said under it
 pub record SpellsLine (line : Text) (session : ℕ) (said : Said) : Type 0 where
-  pub small : session ≤ 9999
+  pub small : session ≤ session_limit
   pub rest : Text
   pub session_first : line ≡ decimal session ++ 32 ∷ rest
   pub says : SpellsSaid rest said
 
 -- a line that can be read at all: it isn't too long, and is UTF-8
 pub record IsReadable (line : Text) : Type 0 where
-  pub short : length line ≤ 10000
+  pub short : length line ≤ line_limit
   pub utf8 : IsUtf8 line
 
 -- ---- replies
@@ -118,7 +119,7 @@ news_words News.begun_warming = codes "begun" ∷ []
 news_words (News.warmed r) = codes "warmed" ∷ decimal r ∷ []
 news_words News.stored = codes "stored" ∷ []
 news_words (News.swept n) = decimal n ∷ []
-news_words (News.state st) = decimal st.writes ∷ decimal st.buffered ∷ decimal (length st.parts) ∷ decimal st.records ∷ decimal st.cached ∷ decimal st.pending ∷ []
+news_words (News.state st) = decimal st.writes ∷ decimal st.buffered ∷ decimal (length st.segments) ∷ decimal st.views ∷ decimal st.cached ∷ decimal st.pending ∷ []
 
 -- what stands behind OK
 abbrev pub answer_words : Answer → List Text
@@ -138,15 +139,15 @@ abbrev pub counted_words : Counted → List Text
 counted_words c = decimal c.count ∷ c.label ∷ []
 
 -- the line of a segment
-abbrev pub part_words : Part → List Text
-part_words p = decimal p.number ∷ decimal p.rows ∷ decimal p.live ∷ []
+abbrev pub segment_words : SegmentStat → List Text
+segment_words p = decimal p.number ∷ decimal p.rows ∷ decimal p.live ∷ []
 
 -- the further lines of an answer
 abbrev pub further : Answer → List (List Text)
 further (Answer.found (Found.page p)) = map entry_words p.entries
 further (Answer.found (Found.facets f)) = map counted_words f.counts
 further (Answer.names names) = map (λ name. name ∷ []) names
-further (Answer.news (News.state st)) = map part_words st.parts
+further (Answer.news (News.state st)) = map segment_words st.segments
 further _ = []
 
 -- the number of a refusal, and the place where a text is no query

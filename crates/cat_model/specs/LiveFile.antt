@@ -3,6 +3,7 @@ use Rattle.std.specs.Prelude.{◌≡◌, ℕ, ◌<◌, ◌≤◌, Bool, List, �
 use Rattle.cat_base.specs.Bytes.{spelled_u32, spelled_u64}
 use Rattle.cat_model.specs.Files.{IsFileNumber}
 use Rattle.cat_model.specs.RowSets.{IsPacked}
+use Rattle.cat_model.specs.Limits.{row_limit}
 
 -- the numbers of the segment and of the commit that wrote the file, and which rows are live
 pub record LiveRows : Type 0 where
@@ -15,7 +16,7 @@ pub record AreLiveRows (rows : LiveRows) : Type 0 where
   pub number : IsFileNumber rows.number
   pub generation : IsFileNumber rows.generation
   pub some : 1 ≤ length rows.live
-  pub few : length rows.live ≤ 262144
+  pub few : length rows.live ≤ row_limit
   pub dead : count_by (λ b. b) rows.live < length rows.live
 
 -- the magic word, the version 1, the two numbers, the number of rows, and the set

@@ -4,7 +4,7 @@ use Rattle.std.specs.Prelude.{◌≡◌, ℕ, ◌<◌, Bool, List, [], ◌∷◌
 use Rattle.std.specs.List.{flat_map, list_any}
 use Rattle.cat_base.specs.Texts.{sorted_set}
 use Rattle.cat_model.specs.Text.{Text, same_text}
-use Rattle.cat_model.specs.RowSets.{places}
+use Rattle.cat_model.specs.RowSets.{indices}
 
 -- the texts that some row has, each once, in byte order
 abbrev pub dictionary_of : List (List Text) → List Text
@@ -25,7 +25,7 @@ rows_having text rows = map (list_any (same_text text)) rows
 
 -- the places of the rows that have the text, rising
 abbrev pub postings_of : Text → List (List Text) → List ℕ
-postings_of text rows = places (rows_having text rows)
+postings_of text rows = indices (rows_having text rows)
 
 -- the text that a row has, as a list of one text or none
 abbrev pub texts_of : Option Text → List Text

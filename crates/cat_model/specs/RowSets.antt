@@ -26,8 +26,8 @@ abbrev pub has_row : List Bool → ℕ → Bool
 has_row set row = slice_index_or set row false
 
 -- the places of the rows that are in the set, rising from 0
-abbrev pub places : List Bool → List ℕ
-places set = filter (has_row set) (range_with_len 0 (length set))
+abbrev pub indices : List Bool → List ℕ
+indices set = filter (has_row set) (range_with_len 0 (length set))
 
 -- the set, and the rows of these places too
 abbrev pub with_rows : List ℕ → List Bool → List Bool

@@ -12,7 +12,8 @@ use Rattle.cat_model.specs.Text.{Text}
 use Rattle.cat_model.specs.Item.{Item}
 use Rattle.cat_model.specs.Write.{Write}
 use Rattle.cat_model.specs.Table.{Start, Opened, table, count}
-use Rattle.cat_model.specs.Answer.{Read, Found, answer, fault}
+use Rattle.cat_model.specs.Answer.{Read, Found, answer, query_refusal}
+use Rattle.cat_model.specs.Limits.{last_number, snapshot_limit, view_limit}
 
 -- the maintenance that session 0 alone may ask for
 pub data Chore : Type 0 where
@@ -46,7 +47,7 @@ pub record Line : Type 0 where
   pub command : Command
 
 -- a segment: its number, its rows, and those of them that are live
-pub record Part : Type 0 where
+pub record SegmentStat : Type 0 where
   pub number : ℕ
   pub rows : ℕ
   pub live : ℕ
@@ -55,10 +56,10 @@ pub record Part : Type 0 where
 pub record Stat : Type 0 where
   pub writes : ℕ
   pub buffered : ℕ
-  pub records : ℕ
+  pub views : ℕ
   pub cached : ℕ
   pub pending : ℕ
-  pub parts : List Part
+  pub segments : List SegmentStat
 
 -- what maintenance tells
 pub data News : Type 0 where
@@ -168,36 +169,24 @@ without_least_free held ts = filter (λ t. held t || list_any (λ u. not (held u
 abbrev pub pruned : (ℕ → Bool) → ℕ → List ℕ → List ℕ
 pruned held n ts = filter (λ t. held t || ltb (count_by (λ u. ltb t u) ts) (max n 1)) ts
 
--- the greatest number of a write or a commit
-abbrev pub last_number : ℕ
-last_number = 9223372036854775807
-
--- one commit may have so many snapshots
-abbrev pub snapshot_limit : ℕ
-snapshot_limit = 65535
-
--- at most so many records stand
-abbrev pub record_limit : ℕ
-record_limit = 64
-
 -- with this token recorded: nothing changes where it is so already, and at the limit the least one that is not held goes
-abbrev pub recorded : (ℕ → Bool) → List ℕ → ℕ → List ℕ
-recorded held ts t = cond (has ts t) ts (cond (ltb (length ts) record_limit) ts (without_least_free held ts) ++ t ∷ [])
+abbrev pub with_view : (ℕ → Bool) → List ℕ → ℕ → List ℕ
+with_view held ts t = cond (has ts t) ts (cond (ltb (length ts) view_limit) ts (without_least_free held ts) ++ t ∷ [])
 
 -- the tokens of the records after an exchange, by what was held before it
-abbrev pub records_by : (ℕ → Bool) → List ℕ → Command → Reply → List ℕ
-records_by held ts Command.refresh (Ok (Answer.number t)) = recorded held ts t
-records_by held ts (Command.prune n) (Ok a) = pruned held n ts
-records_by held ts _ _ = ts
+abbrev pub view_tokens_by : (ℕ → Bool) → List ℕ → Command → Reply → List ℕ
+view_tokens_by held ts Command.refresh (Ok (Answer.number t)) = with_view held ts t
+view_tokens_by held ts (Command.prune n) (Ok a) = pruned held n ts
+view_tokens_by held ts _ _ = ts
 
 -- the tokens after the rest of a run, where these stood after its past
-abbrev pub records_from : List ℕ → Run → Run → List ℕ
-records_from ts past [] = ts
-records_from ts past (e ∷ rest) = records_from (records_by (is_held past) ts e.line.command e.reply) (past ++ e ∷ []) rest
+abbrev pub view_tokens_from : List ℕ → Run → Run → List ℕ
+view_tokens_from ts past [] = ts
+view_tokens_from ts past (e ∷ rest) = view_tokens_from (view_tokens_by (is_held past) ts e.line.command e.reply) (past ++ e ∷ []) rest
 
 -- the tokens of the records at the end of the run, rising
-abbrev pub records : Start → Run → List ℕ
-records start run = records_from (start.token ∷ []) [] run
+abbrev pub view_tokens : Start → Run → List ℕ
+view_tokens start run = view_tokens_from (start.token ∷ []) [] run
 
 -- the generation that a COMMIT was answered
 abbrev pub generation_by : Command → Reply → Option ℕ
@@ -231,10 +220,10 @@ abbrev pub is_kept : Opened → Run → ℕ → Bool
 is_kept from run g = list_any (λ h. g == h) (option_to_list (newest_commit from run)) || ltb 0 (snapshots run g)
 
 -- whether the session's command is looked at at all
-abbrev pub has_form : ℕ → Command → Bool
-has_form s Command.formless = false
-has_form s (Command.chore c) = s == 0
-has_form s _ = true
+abbrev pub is_looked_at : ℕ → Command → Bool
+is_looked_at s Command.formless = false
+is_looked_at s (Command.chore c) = s == 0
+is_looked_at s _ = true
 
 -- want of memory, a failing device and a limit that is used up may refuse in place of the answer
 abbrev pub may_refuse : Command → Refusal → Bool
@@ -256,9 +245,9 @@ may_refuse (Command.chore Chore.sweep) Device = true
 may_refuse _ _ = false
 
 -- what was found is told, or why nothing was
-abbrev pub told : Result Found Refusal → Reply
-told (Ok f) = Ok (Answer.found f)
-told (Err e) = Err e
+abbrev pub found_reply : Result Found Refusal → Reply
+found_reply (Ok f) = Ok (Answer.found f)
+found_reply (Err e) = Err e
 
 -- a fault of the read comes before that its token is not held
 abbrev pub or_not_held : Option Refusal → Reply
@@ -272,7 +261,7 @@ snapshot_of taken (Some g) = cond (ltb (taken g) snapshot_limit) (Ok (Answer.num
 
 -- each of the tokens is held, and no more may stand
 abbrev pub is_full : (ℕ → Bool) → List ℕ → Bool
-is_full held ts = not (ltb (length ts) record_limit) && list_all held ts
+is_full held ts = not (ltb (length ts) view_limit) && list_all held ts
 
 -- the greatest of the tokens
 abbrev pub greatest : List ℕ → ℕ
@@ -287,14 +276,14 @@ Answers from past s (Command.put (Err e)) r = r ≡ Err e
 Answers from past s (Command.delete (Ok id)) r = r ≡ cond (ltb (now from.start past) last_number) (Ok (Answer.number (now from.start past + 1))) (Err Spent)
 Answers from past s (Command.delete (Err e)) r = r ≡ Err e
 Answers from past s Command.refresh r =
-    r ≡ cond (not (has (records from.start past) (now from.start past)) && is_full (is_held past) (records from.start past)) (Err Full) (Ok (Answer.number (now from.start past)))
-Answers from past s Command.open_newest r = r ≡ Ok (Answer.number (greatest (records from.start past)))
-Answers from past s (Command.open_at t) r = r ≡ cond (has (records from.start past) t) (Ok (Answer.number t)) (Err Gone)
+    r ≡ cond (not (has (view_tokens from.start past) (now from.start past)) && is_full (is_held past) (view_tokens from.start past)) (Err Full) (Ok (Answer.number (now from.start past)))
+Answers from past s Command.open_newest r = r ≡ Ok (Answer.number (greatest (view_tokens from.start past)))
+Answers from past s (Command.open_at t) r = r ≡ cond (has (view_tokens from.start past) t) (Ok (Answer.number t)) (Err Gone)
 Answers from past s (Command.close t) r = r ≡ cond (holds s t past) (Ok (Answer.number t)) (Err NotHeld)
 Answers from past s (Command.read t asked) r =
-    r ≡ cond (holds s t past) (told (answer from.start.schema (table from.start (writes past) t) asked)) (or_not_held (fault asked))
+    r ≡ cond (holds s t past) (found_reply (answer from.start.schema (table from.start (writes past) t) asked)) (or_not_held (query_refusal asked))
 Answers from past s (Command.prune n) r =
-    r ≡ Ok (Answer.number (length (records from.start past) - length (pruned (is_held past) n (records from.start past))))
+    r ≡ Ok (Answer.number (length (view_tokens from.start past) - length (pruned (is_held past) n (view_tokens from.start past))))
 Answers from past s Command.commit r = cond (list_all (λ h. ltb h last_number) (generations from past)) ((g : ℕ) × (r ≡ Ok (Answer.number g)) × (0 < g) × (g ≤ last_number) × IsTrue (list_all (λ h. ltb h g) (generations from past))) (r ≡ Err Spent)
 Answers from past s Command.snapshot r = r ≡ snapshot_of (snapshots past) (newest_commit from past)
 Answers from past s (Command.release_snapshot g) r = r ≡ cond (ltb 0 (snapshots past g)) (Ok (Answer.number (snapshots past g - 1))) (Err NoSnapshot)
@@ -308,7 +297,7 @@ Refuses c r = (e : Refusal) × (r ≡ Err e) × IsTrue (may_refuse c e)
 
 -- want of memory, or another such refusal, which comes last: an OK would fit
 abbrev pub Stops : Opened → Run → ℕ → Command → Reply → Type 0
-Stops from past s c r = ((r ≡ Err Memory) × IsTrue (has_form s c)) ⊎ (Refuses c r × ((a : Answer) × Answers from past s c (Ok a)))
+Stops from past s c r = ((r ≡ Err Memory) × IsTrue (is_looked_at s c)) ⊎ (Refuses c r × ((a : Answer) × Answers from past s c (Ok a)))
 
 -- the reply fits the run before it
 abbrev pub Fits : Opened → Run → Exchange → Type 0

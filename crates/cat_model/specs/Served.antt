@@ -41,27 +41,27 @@ pub data Begins (json : Json) (opens : Opening) (line : Text) : Result Opened Re
 -- ---- the lines behind it
 
 -- a line that was heard, and the reply to it
-pub data Told : Type 0 where
-  unreadable : Told
-  replied : Exchange → Told
+pub data Outcome : Type 0 where
+  unreadable : Outcome
+  replied : Exchange → Outcome
 
 -- what was heard of the line
-abbrev pub heard : Told → Heard
-heard Told.unreadable = Heard.unreadable
-heard (Told.replied e) = Heard.a_line e.line
+abbrev pub heard : Outcome → Heard
+heard Outcome.unreadable = Heard.unreadable
+heard (Outcome.replied e) = Heard.a_line e.line
 
 -- the exchange of the run, if it is one
-abbrev pub exchange : Told → Option Exchange
-exchange Told.unreadable = None
-exchange (Told.replied e) = Some e
+abbrev pub exchange : Outcome → Option Exchange
+exchange Outcome.unreadable = None
+exchange (Outcome.replied e) = Some e
 
 -- what was said to it
-abbrev pub told_text : Told → Text
-told_text Told.unreadable = unreadable_text
-told_text (Told.replied e) = reply_text e.line.session e.reply
+abbrev pub outcome_text : Outcome → Text
+outcome_text Outcome.unreadable = unreadable_text
+outcome_text (Outcome.replied e) = reply_text e.line.session e.reply
 
 -- each line was heard so, in order
-abbrev pub HeardAll : Json → Schema → List Text → List Told → Type 0
+abbrev pub HeardAll : Json → Schema → List Text → List Outcome → Type 0
 HeardAll json schema [] [] = Unit {0}
 HeardAll json schema (line ∷ lines) (told ∷ tolds) = Hears json schema line (heard told) × HeardAll json schema lines tolds
 HeardAll json schema [] (told ∷ tolds) = ⊥
@@ -71,10 +71,10 @@ HeardAll json schema (line ∷ lines) [] = ⊥
 pub record IsServed (json : Json) (opens : Opening) (first : Text) (lines : List Text) (text : Text) : Type 0 where
   pub from : Opened
   pub begins : Begins json opens first (Ok from)
-  pub tolds : List Told
+  pub tolds : List Outcome
   pub heard_all : HeardAll json from.start.schema lines tolds
   pub is_run : IsRun from (filter_map exchange tolds)
-  pub whole : text ≡ line_text (codes "OK" ∷ decimal from.start.token ∷ []) ++ flat_map told_text tolds
+  pub whole : text ≡ line_text (codes "OK" ∷ decimal from.start.token ∷ []) ++ flat_map outcome_text tolds
 
 -- The text answers the lines, the first of which is the schema's. Where none has come, nothing is said.
 abbrev pub Answered : (Text → List Text → Text → Type 0) → List Text → Text → Type 0

@@ -5,7 +5,7 @@ use Rattle.std.specs.Fmt.{decimal}
 use Rattle.cat_model.specs.Text.{Text}
 use Rattle.cat_model.specs.Item.{Schema, IsSchema, Content, Item}
 use Rattle.cat_model.specs.Table.{Start, Opened}
-use Rattle.cat_model.specs.Run.{last_number}
+use Rattle.cat_model.specs.Limits.{last_number}
 use Rattle.cat_model.specs.Lines.{Said, SpellsSaid, line_text, unreadable_text}
 use Rattle.cat_model.specs.Heard.{Json}
 use Rattle.cat_model.specs.Input.{lines_of, ended_lines}
@@ -103,8 +103,8 @@ abbrev pub refusal_text : ℕ → ℕ → Text
 refusal_text s n = line_text (decimal s ∷ codes "NO" ∷ decimal n ∷ [])
 
 -- the line is too long or no text, a device failed, a file is damaged, memory was wanting
-abbrev pub stops : ℕ → List Text
-stops s = unreadable_text ∷ refusal_text s 30 ∷ refusal_text s 31 ∷ refusal_text s 40 ∷ []
+abbrev pub is_excepted : ℕ → List Text
+is_excepted s = unreadable_text ∷ refusal_text s 30 ∷ refusal_text s 31 ∷ refusal_text s 40 ∷ []
 
 -- a session that holds t says the text, and is answered so, which is no stop
 pub record HeldAsk (talk : List Pair) (t s : ℕ) (text reply : Text) : Type 0 where
@@ -113,7 +113,7 @@ pub record HeldAsk (talk : List Pair) (t s : ℕ) (text reply : Text) : Type 0 w
   pub later : List Pair
   pub place : talk ≡ past ++ record { line = decimal s ++ 32 ∷ text; reply = reply } ∷ later
   pub held : Holds past s t
-  pub undisturbed : AllByRecursion (λ stop. reply ≢ stop) (stops s)
+  pub undisturbed : AllByRecursion (λ stop. reply ≢ stop) (is_excepted s)
 
 -- the same lines, each behind its session
 pub record AreAlike (s₁ s₂ : ℕ) (reply₁ reply₂ : Text) : Type 0 where
@@ -157,7 +157,7 @@ HasOneLines (Content.labels ls) = AllByRecursion IsOneLine ls
 pub record IsShownInLines (i : Item) : Type 0 where
   pub id : IsOneLine i.id
   pub source : IsOneLine i.source
-  pub parts : AllByRecursion (λ p. HasOneLines p.content) i.parts
+  pub fields : AllByRecursion (λ p. HasOneLines p.content) i.fields
 
 -- an item that is read from a line is shown in lines
 abbrev pub ReadsLines : Json → Type 0

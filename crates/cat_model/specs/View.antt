@@ -3,26 +3,27 @@
 use Rattle.std.specs.Prelude.{◌≡◌, ◌≢◌, ℕ, ◌≤◌, ◌<◌, ◌^◌, Bool, true, false, List, [], ◌∷◌, length, map, take, drop, All, AllPairs}
 use Rattle.std.specs.List.{flat_map}
 use Rattle.cat_model.specs.Text.{Text}
-use Rattle.cat_model.specs.Item.{Schema, Part, Item, Record, AreParts, IsSchema, is_id, content_of, words_in}
+use Rattle.cat_model.specs.Item.{Schema, FieldContent, Item, Record, AreFields, IsSchema, is_id, content_of, words_in}
 use Rattle.cat_model.specs.Forms.{IsFormed, IsSourceLength}
 use Rattle.cat_model.specs.Query.{Query, matches}
 use Rattle.cat_model.specs.Files.{Name}
 use Rattle.cat_model.specs.Ordinals.{dictionary_of}
+use Rattle.cat_model.specs.Limits.{row_limit}
 
 -- a row: a record, with the length of its item's source in bytes in place of the source
 pub record Row : Type 0 where
   pub number : ℕ
   pub id : Text
-  pub parts : List Part
+  pub fields : List FieldContent
   pub length : ℕ
 
 -- the row of a record
 abbrev pub row_of : Record → Row
-row_of r = record { number = r.number; id = r.item.id; parts = r.item.parts; length = length r.item.source }
+row_of r = record { number = r.number; id = r.item.id; fields = r.item.fields; length = length r.item.source }
 
 -- the item of a row, without its source, which no query asks for
 abbrev pub item_in : Row → Item
-item_in row = record { id = row.id; parts = row.parts; source = [] }
+item_in row = record { id = row.id; fields = row.fields; source = [] }
 
 -- the row's item matches the query
 abbrev pub row_matches : Query → Row → Bool
@@ -37,8 +38,8 @@ pub record Segment : Type 0 where
 -- 1 to 262,144 rows with the parts that the schema asks for; their numbers are at least 1 and rise, and their ids differ
 pub record AreRows (schema : Schema) (rows : List Row) : Type 0 where
   pub some : 1 ≤ length rows
-  pub few : length rows ≤ 262144
-  pub parts : All (λ r. AreParts schema r.parts) rows
+  pub few : length rows ≤ row_limit
+  pub fields : All (λ r. AreFields schema r.fields) rows
   pub positive : All (λ r. 1 ≤ r.number) rows
   pub rising : AllPairs (λ a b. a.number < b.number) rows
   pub distinct : AllPairs (λ a b. a.id ≢ b.id) rows
@@ -48,7 +49,7 @@ pub record IsFormedRow (row : Row) : Type 0 where
   pub number : row.number < 2 ^ 64
   pub id : is_id row.id ≡ true
   pub source : IsSourceLength row.length
-  pub parts : All (λ p. IsFormed p.content) row.parts
+  pub fields : All (λ p. IsFormed p.content) row.fields
 
 -- the words that rows have in the field of this name
 abbrev pub words_of_field : List Row → Text → List Text
@@ -75,15 +76,15 @@ pub record View : Type 0 where
   pub token : ℕ
 
 -- those that are marked by true
-abbrev pub marked : {A : Type 0} → List Bool → List A → List A
-marked [] xs = []
-marked (b ∷ bs) [] = []
-marked (true ∷ bs) (x ∷ xs) = x ∷ marked bs xs
-marked (false ∷ bs) (x ∷ xs) = marked bs xs
+abbrev pub selected : {A : Type 0} → List Bool → List A → List A
+selected [] xs = []
+selected (b ∷ bs) [] = []
+selected (true ∷ bs) (x ∷ xs) = x ∷ selected bs xs
+selected (false ∷ bs) (x ∷ xs) = selected bs xs
 
 -- the live rows of a leaf
 abbrev pub live_rows : Leaf → List Row
-live_rows leaf = marked leaf.live leaf.segment.rows
+live_rows leaf = selected leaf.live leaf.segment.rows
 
 -- the live rows of a view, in order
 abbrev pub rows_in : View → List Row
@@ -104,11 +105,11 @@ Shows view rs = map row_of rs ≡ rows_in view
 -- the records of rows, whose sources stand one after the other
 abbrev pub sourced : List Row → List ℕ → List Record
 sourced [] bytes = []
-sourced (row ∷ rows) bytes = record { number = row.number; item = record { id = row.id; parts = row.parts; source = take row.length bytes } } ∷ sourced rows (drop row.length bytes)
+sourced (row ∷ rows) bytes = record { number = row.number; item = record { id = row.id; fields = row.fields; source = take row.length bytes } } ∷ sourced rows (drop row.length bytes)
 
 -- the records of a view, where the files with the sources of its segments hold these bytes, by the numbers of the segments
 abbrev pub records_in : (ℕ → List ℕ) → View → List Record
-records_in files view = flat_map (λ leaf. marked leaf.live (sourced leaf.segment.rows (files leaf.segment.number))) view.leaves
+records_in files view = flat_map (λ leaf. selected leaf.live (sourced leaf.segment.rows (files leaf.segment.number))) view.leaves
 
 -- the names of the files that a searcher of the view needs
 abbrev pub needs : View → List Name

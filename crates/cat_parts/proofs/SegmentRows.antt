@@ -2,7 +2,7 @@
 use Rattle.std.proofs.Common.{◌≡◌, ◌≢◌, ℕ, ◌<◌, ◌≤◌, List, [], ◌∷◌, length, map, take, get_or, All, AllPairs, sym, ap, ◌∙◌, subst, arith}
 use Rattle.std.proofs.lemmas.List.{length-map, get_or-map, get_or-take, length-take-le}
 use Rattle.std.proofs.lemmas.List.Elements.{All-map}
-use Rattle.cat_model.specs.Item.{Schema, Item, AreParts, IsItem}
+use Rattle.cat_model.specs.Item.{Schema, Item, AreFields, IsItem}
 use Rattle.cat_model.specs.View as model
 use Rattle.cat_model.specs.View.{row_of, AreRows}
 use Rattle.cat_segment.specs.declared.segment.Row.{Row}
@@ -27,7 +27,7 @@ pub are_rows : (schema : Schema) (items : List Item) (rows : List Row) → 1 ≤
 are_rows schema items rows some few typed from positive apart = record {
   some = subst (λ n. 1 ≤ n) (sym (length-map rows meant)) some;
   few = subst (λ n. n ≤ 262144) (sym (length-map rows meant)) few;
-  parts = All-map (λ r. AreParts schema r.parts) meant rows (λ k d lt.
+  fields = All-map (λ r. AreFields schema r.fields) meant rows (λ k d lt.
       let within : k < length items = subst (λ n. k < n) (sym (length-map rows (λ r. r.item.now)) ∙ ap length from) lt in
       subst (IsItem schema) (ap (λ l. get_or l k d.item.now) (sym from) ∙ get_or-map (λ r. r.item.now) rows k d d.item.now lt) (typed k d.item.now within));
   positive = All-map (λ r. 1 ≤ r.number) meant rows positive;

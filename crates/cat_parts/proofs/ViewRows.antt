@@ -8,7 +8,7 @@ use Rattle.std.proofs.lemmas.List.Folds.{drop_split}
 use Rattle.std.proofs.lemmas.List.Kept.{AllPairs-filter}
 use Rattle.cat_model.specs.Item.{Schema}
 use Rattle.cat_model.specs.View as model
-use Rattle.cat_model.specs.View.{Segment, Leaf, IsView, row_of, marked, live_rows}
+use Rattle.cat_model.specs.View.{Segment, Leaf, IsView, row_of, selected, live_rows}
 use Rattle.cat_parts.specs.declared.put.Put.{Put}
 use Rattle.cat_parts.proofs.SegmentRows.{pairs_map}
 
@@ -25,12 +25,12 @@ pairs_by_last R xs place past each i j d lt within =
     let long : i < length (take j xs) = subst (λ n. i < n) (sym (length-take-le j xs (omega (arith, within)))) lt in
     subst (λ x. R x (get_or xs j d)) (get_or-take j xs i d lt) (each j d (omega (arith, within, past)) i d long)
 
-marked_first : (p : Put) (ps : List Put) → marked (map (λ q. q.live) ps) (map row_in ps) ≡ map row_in (filter (λ q. q.live) ps)
-    → (b : Bool) → marked (b ∷ map (λ q. q.live) ps) (map row_in (p ∷ ps)) ≡ map row_in (cond b (p ∷ filter (λ q. q.live) ps) (filter (λ q. q.live) ps))
+marked_first : (p : Put) (ps : List Put) → selected (map (λ q. q.live) ps) (map row_in ps) ≡ map row_in (filter (λ q. q.live) ps)
+    → (b : Bool) → selected (b ∷ map (λ q. q.live) ps) (map row_in (p ∷ ps)) ≡ map row_in (cond b (p ∷ filter (λ q. q.live) ps) (filter (λ q. q.live) ps))
 marked_first p ps rest true = ap (λ rs. row_in p ∷ rs) rest
 marked_first p ps rest false = rest
 
-marked_kept : (puts : List Put) → marked (map (λ p. p.live) puts) (map row_in puts) ≡ map row_in (filter (λ p. p.live) puts)
+marked_kept : (puts : List Put) → selected (map (λ p. p.live) puts) (map row_in puts) ≡ map row_in (filter (λ p. p.live) puts)
 marked_kept [] = refl
 marked_kept (p ∷ ps) = marked_first p ps (marked_kept ps) p.live
 

@@ -3,20 +3,20 @@ use Rattle.std.proofs.Common.{◌≡◌, ℕ, refl, sym, subst}
 use Rattle.std.specs.Prelude.{Option, Some, None}
 use Rattle.cat_model.specs.Text.{Text}
 use Rattle.cat_model.specs.Run.{Command, Reply}
-use Rattle.cat_model.specs.Lines.{Said, Shows, IsReadable}
+use Rattle.cat_model.specs.Lines.{Said, ShowsSession, IsReadable}
 use Rattle.cat_model.specs.Heard.{Hears, Heard}
-use Rattle.cat_model.specs.Served.{Told}
+use Rattle.cat_model.specs.Served.{Outcome}
 use Rattle.cat_schema.specs.Reading.{json}
 use Rattle.cat_protocol.specs.Line.{Reads}
 use Rattle.cat_protocol.specs.World.{Kept, IsCommandOf, Does, StepsSeen}
 
 -- a line that shows no session, or can't be read
-pub unheard : (old : Kept) (line : Text) → (IsReadable line → (session : ℕ) → Shows line session → ⊥) → StepsSeen old (Some line) Told.unreadable old
+pub unheard : (old : Kept) (line : Text) → (IsReadable line → (session : ℕ) → ShowsSession line session → ⊥) → StepsSeen old (Some line) Outcome.unreadable old
 unheard old line none = (Hears.unreadable none, refl)
 
 -- the exchange of a line with its reply
-abbrev pub told_to : ℕ → Command → Reply → Told
-told_to session c reply = Told.replied (record { line = record { session = session; command = c }; reply = reply })
+abbrev pub told_to : ℕ → Command → Reply → Outcome
+told_to session c reply = Outcome.replied (record { line = record { session = session; command = c }; reply = reply })
 
 read_as : (old new : Kept) (line : Text) (session : ℕ) (said : Option Said) (c : Command) (reply : Reply) → IsReadable line → Reads line session said → IsCommandOf old.schema said c → new.schema ≡ old.schema
     → Does old.schema old.state (record { session = session; command = c }) reply new.state → StepsSeen old (Some line) (told_to session c reply) new

@@ -10,7 +10,7 @@ use Rattle.cat_model.specs.Table.{Opened}
 use Rattle.cat_model.specs.Run.{Run, IsRun}
 use Rattle.cat_model.specs.Lines.{IsReadable}
 use Rattle.cat_model.specs.Heard.{Hears, Heard}
-use Rattle.cat_model.specs.Served.{Begins, OpensEmpty, Told, heard, exchange, HeardAll, IsServed, Answered, Refused, Ending, IsDue, ServesBy, Serves}
+use Rattle.cat_model.specs.Served.{Begins, OpensEmpty, Outcome, heard, exchange, HeardAll, IsServed, Answered, Refused, Ending, IsDue, ServesBy, Serves}
 use Rattle.cat_protocol.specs.Machine.{seen, Steps, IsAnswered}
 use Rattle.cat_protocol.specs.World.{Kept, opened_as, OpensWorld, OpensSeen, Changes, StepsSeen, Does}
 use Rattle.cat_protocol.proofs.ModelRuns.{Reaches, Reaches-start, Reaches-push}
@@ -45,7 +45,7 @@ too_long : (line : Text) → nat_lt 10000 (length line) ≡ true → IsReadable 
 too_long line long readable = absurd (grind (arith, nat_tests, readable.short))
 
 -- what the machine does with a line that may be too long, the world does with the line
-line_seen : (old new : Kept) (line : Text) (told : Told) (b : Bool) → nat_lt 10000 (length line) ≡ b
+line_seen : (old new : Kept) (line : Text) (told : Outcome) (b : Bool) → nat_lt 10000 (length line) ≡ b
     → StepsSeen old (if b then None else Some line) told new → Hears json old.schema line (heard told) × Changes old told new
 line_seen old new line told true long s =
     subst (λ t. Hears json old.schema line (heard t) × Changes old t new) (sym s.0) (Hears.unreadable (λ readable session shows. too_long line long readable), s.1)
@@ -64,18 +64,18 @@ refusal_seen line e false long o = o
 -- ---- the world serves
 
 -- The lines that the machine steps through are heard, and their exchanges go on with the run so far.
-steps_served : (from : Opened) (past : Run) (old new : Kept) (lines : List Text) (tolds : List Told)
+steps_served : (from : Opened) (past : Run) (old new : Kept) (lines : List Text) (tolds : List Outcome)
     → old.schema ≡ from.start.schema → Reaches from past old.state → Steps StepsSeen old (map seen lines) tolds new
     → HeardAll json from.start.schema lines tolds × IsRun from (past ++ filter_map exchange tolds)
 steps_served from past old new [] [] same reached s = (tt, subst (IsRun from) (sym (append-nil past)) reached.is_run)
 steps_served from past old new [] (told ∷ tolds) same reached s = absurd s
 steps_served from past old new (line ∷ lines) [] same reached s = absurd s
-steps_served from past old new (line ∷ lines) (Told.unreadable ∷ tolds) same reached (mid, step, steps) =
-    let here = line_seen old mid line Told.unreadable (nat_lt 10000 (length line)) refl step in
+steps_served from past old new (line ∷ lines) (Outcome.unreadable ∷ tolds) same reached (mid, step, steps) =
+    let here = line_seen old mid line Outcome.unreadable (nat_lt 10000 (length line)) refl step in
     let rest = steps_served from past mid new lines tolds (ap (λ w. w.schema) here.1 ∙ same) (subst (λ w. Reaches from past w.state) (sym here.1) reached) steps in
     ((subst (λ schema. Hears json schema line Heard.unreadable) same here.0, rest.0), rest.1)
-steps_served from past old new (line ∷ lines) (Told.replied e ∷ tolds) same reached (mid, step, steps) =
-    let here = line_seen old mid line (Told.replied e) (nat_lt 10000 (length line)) refl step in
+steps_served from past old new (line ∷ lines) (Outcome.replied e ∷ tolds) same reached (mid, step, steps) =
+    let here = line_seen old mid line (Outcome.replied e) (nat_lt 10000 (length line)) refl step in
     let longer = Reaches-push from past old.state mid.state e.line e.reply reached (subst (λ schema. Does schema old.state e.line e.reply mid.state) same here.1.1) in
     let rest = steps_served from (past ++ e ∷ []) mid new lines tolds (here.1.0 ∙ same) longer steps in
     ((subst (λ schema. Hears json schema line (Heard.a_line e.line)) same here.0, rest.0), subst (IsRun from) (append_assoc past (e ∷ []) (filter_map exchange tolds)) rest.1)

@@ -5,14 +5,14 @@ use Rattle.cat_base.specs.declared.refusal.Refusal.{Refusal}
 use Rattle.cat_base.specs.declared.refusal.Refusal.TheVariants.{Memory, NotHeld, Query as NoQuery}
 use Rattle.cat_model.specs.Text.{Text}
 use Rattle.cat_model.specs.Item.{Schema, Record}
-use Rattle.cat_model.specs.Answer.{Read, Found, answer, fault}
+use Rattle.cat_model.specs.Answer.{Read, Found, answer, query_refusal}
 use Rattle.cat_model.specs.Faults.{Fault}
 use Rattle.cat_model.specs.Grammar.{Spells}
 use Rattle.cat_model.specs.Heard.{IsQueryOf}
 use Rattle.cat_model.specs.Page.{Sort, Page}
 use Rattle.cat_model.specs.Query.{Query, matches}
 use Rattle.cat_model.specs.Run as run
-use Rattle.cat_model.specs.Run.{Command, told, or_not_held}
+use Rattle.cat_model.specs.Run.{Command, found_reply, or_not_held}
 use Rattle.cat_model.specs.State.{has_hold, table_under}
 use Rattle.cat_search.specs.Pages.{answer_where, as_found}
 use Rattle.cat_search.proofs.Finds.{pages_answer_finds}
@@ -65,7 +65,7 @@ module _ (w : Kept) (s t n : ℕ) (sort : Sort) (mark : Option ℕ) (text : Text
   -- the text is no query
   pub refuses_query : (e : Refusal) → (e ≡ Memory) ⊎ ((place : ℕ) × (e ≡ NoQuery place) × Fault w.schema text place) → (e ≡ Memory) ⊎ RefusesFind w s t n sort mark text e
   refuses_query e (inl memory) = inl memory
-  refuses_query e (inr (place, is, fault)) = inr (Err (NoQuery place), IsQueryOf.faulty place fault, either_way (has_hold w.state.holds s t) (NoQuery place) ∙ ap Err (sym is))
+  refuses_query e (inr (place, is, query_refusal)) = inr (Err (NoQuery place), IsQueryOf.faulty place query_refusal, either_way (has_hold w.state.holds s t) (NoQuery place) ∙ ap Err (sym is))
 
   -- the token is not held
   pub refuses_token : (q : Query) → Spells w.schema text q → has_hold w.state.holds s t ≡ false → RefusesFind w s t n sort mark text NotHeld
@@ -77,7 +77,7 @@ module _ (w : Kept) (s t n : ℕ) (sort : Sort) (mark : Option ℕ) (text : Text
   refuses_answer q rs e spells held same (inl memory) = inl memory
   refuses_answer q rs e spells held same (inr refused) =
       let there : answer w.schema (table_under w.state.views t) (Read.find n sort mark (Ok q)) ≡ Err e = ap (λ us. answer w.schema us (Read.find n sort mark (Ok q))) (sym same) ∙ refused in
-      inr (Ok q, IsQueryOf.spelled q spells, ap (λ b. cond b (told (answer w.schema (table_under w.state.views t) (Read.find n sort mark (Ok q)))) (or_not_held (fault (Read.find n sort mark (Ok q))))) held ∙ ap told there)
+      inr (Ok q, IsQueryOf.spelled q spells, ap (λ b. cond b (found_reply (answer w.schema (table_under w.state.views t) (Read.find n sort mark (Ok q)))) (or_not_held (query_refusal (Read.find n sort mark (Ok q))))) held ∙ ap found_reply there)
 
   pub refuses_page : (q : Query) (rs : List Record) (r : Result Page Refusal) → Spells w.schema text q → has_hold w.state.holds s t ≡ true → rs ≡ table_under w.state.views t
       → IfErr r (λ e. (e ≡ Memory) ⊎ (answer w.schema rs (Read.find n sort mark (Ok q)) ≡ Err e)) → IfErr r (λ e. (e ≡ Memory) ⊎ RefusesFind w s t n sort mark text e)

@@ -65,17 +65,17 @@ pub items-put : (schema : item.Schema) (p : item.Record → Bool) (rs : List ite
 items-put schema p rs r is a = All-both (λ r. item.IsItem schema r.item) (filter p rs) (r ∷ []) (items-filter schema p rs a) (is, tt)
 
 -- the table of the view that is found
-pub items-found : (schema : item.Schema) (vs : List state.View) (t : ℕ) → AreViews schema vs → AreItems schema (found_table (find (λ v. v.token == t) vs))
+pub items-found : (schema : item.Schema) (vs : List state.RecordedTable) (t : ℕ) → AreViews schema vs → AreItems schema (found_table (find (λ v. v.token == t) vs))
 items-found schema [] t a = tt
 items-found schema (v ∷ vs) t a = elim (v.token == t) as (λ b. AreItems schema (found_table (cond b (Some v) (find (λ v. v.token == t) vs)))) [ true ↦ a.0 | false ↦ items-found schema vs t a.1 ]
 
-pub items-of_found : (schema : item.Schema) (vs : List state.View) (t : ℕ) (v : state.View) → AreViews schema vs → Some v ≡ find (λ v. v.token == t) vs → AreItems schema v.table
+pub items-of_found : (schema : item.Schema) (vs : List state.RecordedTable) (t : ℕ) (v : state.RecordedTable) → AreViews schema vs → Some v ≡ find (λ v. v.token == t) vs → AreItems schema v.table
 items-of_found schema vs t v a e = subst (λ o. AreItems schema (found_table o)) (sym e) (items-found schema vs t a)
 
 -- with one view more, and perhaps one less
-views-without : (schema : item.Schema) (o : Option ℕ) (vs : List state.View) → AreViews schema vs → AreViews schema (without_token o vs)
+views-without : (schema : item.Schema) (o : Option ℕ) (vs : List state.RecordedTable) → AreViews schema vs → AreViews schema (without_token o vs)
 views-without schema None vs a = a
 views-without schema (Some t) vs a = All-kept (λ v. AreItems schema v.table) (λ v. not (v.token == t)) vs a
 
-pub views-recorded : (schema : item.Schema) (o : Option ℕ) (vs : List state.View) (v : state.View) → AreItems schema v.table → AreViews schema vs → AreViews schema (without_token o vs ++ v ∷ [])
+pub views-recorded : (schema : item.Schema) (o : Option ℕ) (vs : List state.RecordedTable) (v : state.RecordedTable) → AreItems schema v.table → AreViews schema vs → AreViews schema (without_token o vs ++ v ∷ [])
 views-recorded schema o vs v is a = All-both (λ v. AreItems schema v.table) (without_token o vs) (v ∷ []) (views-without schema o vs a) (is, tt)

@@ -7,7 +7,7 @@ use Rattle.std.proofs.KnownBytes.{Appends-trans, Appends-kept}
 use Rattle.cat_base.specs.declared.refusal.Refusal.{Refusal}
 use Rattle.cat_base.specs.declared.refusal.Refusal.TheVariants.{Memory}
 use Rattle.cat_model.specs.Text.{Text}
-use Rattle.cat_model.specs.Served.{Told, told_text, refused_text, AppendsFront, Answered, Refused, IsDue, ServesBy}
+use Rattle.cat_model.specs.Served.{Outcome, outcome_text, refused_text, AppendsFront, Answered, Refused, IsDue, ServesBy}
 use Rattle.cat_model.specs.Input.{HaveCome, ended_lines, rest_after, lines_of}
 use Rattle.cat_protocol.specs.Machine.{seen, Steps, IsAnswered}
 use Rattle.cat_protocol.specs.Serving.{Says, SaysAll, SaysUpTo, LinesEnd, ServesLines, OpensBy, IsRefusedAs, ended_as, opened_text, last_lines}
@@ -177,7 +177,7 @@ split_map f (x ∷ xs) (y ∷ front) behind e =
       taken_is = ap (λ l. f x ∷ l) more.taken_is ∙ ap (λ z. z ∷ front) (sym here);
     }
 
-module _ {S : Type 0} (opens : Option Text → Result S Refusal → Type 0) (step : S → Option Text → Told → S → Type 0) (token : S → ℕ) where
+module _ {S : Type 0} (opens : Option Text → Result S Refusal → Type 0) (step : S → Option Text → Outcome → S → Type 0) (token : S → ℕ) where
   abbrev says : Option S → Option Text → Text → Option S → Type 0
   says = Says opens step token
 
@@ -190,9 +190,9 @@ module _ {S : Type 0} (opens : Option Text → Result S Refusal → Type 0) (ste
   -- the replies to the lines behind the first
   record Replies (a : S) (ls : Seen) (t : Text) : Type 0 where
     left : S
-    tolds : List Told
+    tolds : List Outcome
     steps : Steps step a ls tolds left
-    text : t ≡ flat_map told_text tolds
+    text : t ≡ flat_map outcome_text tolds
 
   -- what is said behind the first line is replies
   replies : (a : S) (ls : Seen) (t : Text) (b : Option S) → SaysAll says (Some a) ls t b → Replies a ls t
@@ -203,7 +203,7 @@ module _ {S : Type 0} (opens : Option Text → Result S Refusal → Type 0) (ste
         left = more.left;
         tolds = so.3.0 ∷ more.tolds;
         steps = (so.2, so.3.1, more.steps);
-        text = so.5 ∙ ap (λ x. x ++ so.1) so.3.2 ∙ ap (λ x. told_text so.3.0 ++ x) more.text;
+        text = so.5 ∙ ap (λ x. x ++ so.1) so.3.2 ∙ ap (λ x. outcome_text so.3.0 ++ x) more.text;
       }
 
   -- what is said to all lines answers them

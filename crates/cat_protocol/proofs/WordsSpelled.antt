@@ -5,7 +5,7 @@ use Rattle.cat_base.specs.declared.refusal.Refusal.{Refusal}
 use Rattle.cat_base.specs.declared.refusal.Refusal.TheVariants.{Line}
 use Rattle.std.specs.Fmt.{decimal}
 use Rattle.cat_model.specs.Text.{Text}
-use Rattle.cat_model.specs.Lines.{Said, SpellsSaid, Shows}
+use Rattle.cat_model.specs.Lines.{Said, SpellsSaid, ShowsSession}
 use Rattle.cat_protocol.specs.Line.{Reads}
 use Rattle.cat_protocol.specs.Words.{HasNoSpace}
 use Rattle.cat_protocol.proofs.WordsSplit.{space_within, one_split, letters_no_space, one_number, decimal_no_space}
@@ -50,14 +50,14 @@ reads text rest session None small e found none = (
 )
 
 -- a word that is no session shows none
-pub no_session_alone : (text : Text) → HasNoSpace text → ((session : ℕ) → session ≤ 9999 → text ≡ decimal session → ⊥) → (session : ℕ) → Shows text session → ⊥
+pub no_session_alone : (text : Text) → HasNoSpace text → ((session : ℕ) → session ≤ 9999 → text ≡ decimal session → ⊥) → (session : ℕ) → ShowsSession text session → ⊥
 no_session_alone text none unread session h = elim h.place [
   | inl e ↦ unread session h.small e
   | inr p ↦ space_within (decimal session) p.0 (subst HasNoSpace p.1 none)
 ]
 
 -- nor does it with something behind it
-pub no_session : (text first rest : Text) → text ≡ first ++ 32 ∷ rest → HasNoSpace first → ((session : ℕ) → session ≤ 9999 → first ≡ decimal session → ⊥) → (session : ℕ) → Shows text session → ⊥
+pub no_session : (text first rest : Text) → text ≡ first ++ 32 ∷ rest → HasNoSpace first → ((session : ℕ) → session ≤ 9999 → first ≡ decimal session → ⊥) → (session : ℕ) → ShowsSession text session → ⊥
 no_session text first rest e none unread session h =
     let small : session ≤ 9999 = h.small in
     let plain = decimal_no_space session (omega arith) in

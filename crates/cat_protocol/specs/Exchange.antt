@@ -3,13 +3,13 @@ use Rattle.std.specs.Prelude.{◌≡◌, ℕ, List, [], ◌∷◌, Option, Resul
 use Rattle.cat_base.specs.declared.refusal.Refusal.{Refusal}
 use Rattle.cat_model.specs.Text.{Text}
 use Rattle.cat_model.specs.Item.{Schema}
-use Rattle.cat_model.specs.Answer.{Read, Found, answer, fault}
+use Rattle.cat_model.specs.Answer.{Read, Found, answer, query_refusal}
 use Rattle.cat_model.specs.Grammar.{Spells}
 use Rattle.cat_model.specs.Heard.{IsQueryOf}
 use Rattle.cat_model.specs.Page.{Sort, Page}
 use Rattle.cat_model.specs.Query.{Query}
 use Rattle.cat_model.specs.Run as run
-use Rattle.cat_model.specs.Run.{told, or_not_held}
+use Rattle.cat_model.specs.Run.{found_reply, or_not_held}
 use Rattle.cat_model.specs.State.{State, has_hold, table_under}
 use Rattle.cat_protocol.specs.declared.line.Line.{Line}
 use Rattle.cat_protocol.specs.declared.reply.Reply.{Reply}
@@ -39,7 +39,7 @@ AreExchanges schema _ _ _ = ⊥
 
 -- what the service replies to a read of the session under the token, want of memory apart
 abbrev pub read_reply : Kept → ℕ → ℕ → Read → run.Reply
-read_reply w s t asked = cond (has_hold w.state.holds s t) (told (answer w.schema (table_under w.state.views t) asked)) (or_not_held (fault asked))
+read_reply w s t asked = cond (has_hold w.state.holds s t) (found_reply (answer w.schema (table_under w.state.views t) asked)) (or_not_held (query_refusal asked))
 
 -- the page that a FIND of this text is answered
 abbrev pub FindsPage : Kept → ℕ → ℕ → ℕ → Sort → Option ℕ → Text → Page → Type 0

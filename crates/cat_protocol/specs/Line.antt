@@ -2,7 +2,7 @@
 use Rattle.std.specs.Prelude.{ℕ, Option, Some, None}
 use Rattle.cat_model.specs.Text.{Text}
 use Rattle.cat_model.specs.Page as model
-use Rattle.cat_model.specs.Lines.{Said, Shows, SpellsLine}
+use Rattle.cat_model.specs.Lines.{Said, ShowsSession, SpellsLine}
 use Rattle.cat_protocol.specs.declared.line.Sort.{Sort}
 use Rattle.cat_protocol.specs.declared.line.Sort.TheVariants.{Added, Rising, Falling}
 use Rattle.cat_protocol.specs.declared.line.Command.{Command}
@@ -28,4 +28,4 @@ said_of (Find token count sort after query) = Some (Said.find token count (sort_
 -- the line spells what is said under its session, or shows a session and spells nothing
 abbrev pub Reads : Text → ℕ → Option Said → Type 0
 Reads line session (Some said) = SpellsLine line session said
-Reads line session None = Shows line session × ((said : Said) → SpellsLine line session said → ⊥)
+Reads line session None = ShowsSession line session × ((said : Said) → SpellsLine line session said → ⊥)

@@ -5,24 +5,24 @@ use Rattle.std.specs.Fmt.{decimal}
 use Rattle.cat_base.specs.declared.refusal.Refusal.{Refusal}
 use Rattle.cat_model.specs.Text.{Text}
 use Rattle.cat_model.specs.Lines.{line_text}
-use Rattle.cat_model.specs.Served.{Told, told_text}
+use Rattle.cat_model.specs.Served.{Outcome, outcome_text}
 
 -- what is seen of a line: nothing of one that is longer than 10,000 bytes
 abbrev pub seen : Text → Option Text
 seen line = if nat_lt 10000 (length line) then None else Some line
 
 -- from old these lines may be told these replies, one step after another, and new be left
-abbrev pub Steps : {S : Type 0} → (S → Option Text → Told → S → Type 0) → S → List (Option Text) → List Told → S → Type 0
+abbrev pub Steps : {S : Type 0} → (S → Option Text → Outcome → S → Type 0) → S → List (Option Text) → List Outcome → S → Type 0
 Steps step old [] [] new = new ≡ old
 Steps {S = S} step old (line ∷ lines) (told ∷ tolds) new = (mid : S) × step old line told mid × Steps step mid lines tolds new
 Steps step old [] (told ∷ tolds) new = ⊥
 Steps step old (line ∷ lines) [] new = ⊥
 
 -- The text answers the first line, which opened the machine at a token, and the lines behind it.
-pub record IsAnswered {S : Type 0} (opens : Option Text → Result S Refusal → Type 0) (step : S → Option Text → Told → S → Type 0) (token : S → ℕ) (first : Text) (lines : List Text) (text : Text) : Type 0 where
+pub record IsAnswered {S : Type 0} (opens : Option Text → Result S Refusal → Type 0) (step : S → Option Text → Outcome → S → Type 0) (token : S → ℕ) (first : Text) (lines : List Text) (text : Text) : Type 0 where
   pub opened : S
   pub begins : opens (seen first) (Ok opened)
   pub left : S
-  pub tolds : List Told
+  pub tolds : List Outcome
   pub steps : Steps step opened (map seen lines) tolds left
-  pub whole : text ≡ line_text (codes "OK" ∷ decimal (token opened) ∷ []) ++ flat_map told_text tolds
+  pub whole : text ≡ line_text (codes "OK" ∷ decimal (token opened) ∷ []) ++ flat_map outcome_text tolds

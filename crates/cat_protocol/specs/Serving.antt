@@ -6,7 +6,7 @@ use Rattle.cat_base.specs.declared.refusal.Refusal.{Refusal}
 use Rattle.cat_model.specs.Text.{Text}
 use Rattle.cat_model.specs.Input.{last_line}
 use Rattle.cat_model.specs.Lines.{line_text}
-use Rattle.cat_model.specs.Served.{Told, told_text, refused_text, AppendsFront, Ending}
+use Rattle.cat_model.specs.Served.{Outcome, outcome_text, refused_text, AppendsFront, Ending}
 use Rattle.cat_protocol.specs.declared.serving.Came.{Came}
 use Rattle.cat_protocol.specs.declared.serving.Came.TheVariants as came
 use Rattle.cat_protocol.specs.declared.serving.ServeFault.{ServeFault}
@@ -32,10 +32,10 @@ abbrev pub opened_text : ℕ → Text
 opened_text token = line_text (codes "OK" ∷ decimal token ∷ [])
 
 -- What is said to a line, and which machine stands open behind it. Where none does before it, the line opens one or is refused.
-abbrev pub Says : {S : Type 0} → (Option Text → Result S Refusal → Type 0) → (S → Option Text → Told → S → Type 0) → (S → ℕ) → Option S → Option Text → Text → Option S → Type 0
+abbrev pub Says : {S : Type 0} → (Option Text → Result S Refusal → Type 0) → (S → Option Text → Outcome → S → Type 0) → (S → ℕ) → Option S → Option Text → Text → Option S → Type 0
 Says opens step token None line text (Some new) = opens line (Ok new) × (text ≡ opened_text (token new))
 Says opens step token None line text None = (e : Refusal) × opens line (Err e) × (text ≡ refused_text e)
-Says opens step token (Some old) line text (Some new) = (told : Told) × step old line told new × (text ≡ told_text told)
+Says opens step token (Some old) line text (Some new) = (told : Outcome) × step old line told new × (text ≡ outcome_text told)
 Says opens step token (Some old) line text None = ⊥
 
 -- a refusal is said: all of its text went out, or a front of it

@@ -19,7 +19,7 @@ abbrev pub AreItems : item.Schema → List item.Record → Type 0
 AreItems schema rs = AllByRecursion (λ r. item.IsItem schema r.item) rs
 
 -- so have those of each view
-abbrev pub AreViews : item.Schema → List state.View → Type 0
+abbrev pub AreViews : item.Schema → List state.RecordedTable → Type 0
 AreViews schema vs = AllByRecursion (λ v. AreItems schema v.table) vs
 
 -- the lesser of a number and another, if there is one
@@ -28,6 +28,6 @@ lesser_of None t = Some t
 lesser_of (Some u) t = Some (min u t)
 
 -- the views but for the one of that token
-abbrev pub without_token : Option ℕ → List state.View → List state.View
+abbrev pub without_token : Option ℕ → List state.RecordedTable → List state.RecordedTable
 without_token None vs = vs
 without_token (Some t) vs = filter (λ v. not (v.token == t)) vs

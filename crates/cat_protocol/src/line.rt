@@ -3,7 +3,7 @@ ghost use Rattle.std.specs.Prelude.{◌≡◌, ℕ, ◌≤◌, Option, IfSome, I
 ghost use Rattle.std.specs.Fmt.{decimal};
 ghost use Rattle.cat_model.specs.Text.{Text};
 ghost use Rattle.cat_model.specs.Page as model;
-ghost use Rattle.cat_model.specs.Lines.{Said, SpellsSaid, Shows};
+ghost use Rattle.cat_model.specs.Lines.{Said, SpellsSaid, ShowsSession};
 ghost use Rattle.cat_model.specs.Served.{SpellsSchema};
 ghost use Rattle.cat_protocol.specs.Line.{sort_of, said_of, Reads};
 ghost use Rattle.cat_protocol.specs.Words.{SpellsFind};
@@ -63,7 +63,7 @@ impl<'a> Line<'a> {
     /// `Refusal::Line` says that no session can be read.
     pub fn read(text: &'a str) -> Result<Line<'a>, Refusal>
         ensures found { IfOk result (λ line. Reads text.now line.session (said_of line.command)) }
-        ensures none { IfErr result (λ e. (e ≡ Refusal.Line) × ((session : ℕ) → Shows text.now session → ⊥)) }
+        ensures none { IfErr result (λ e. (e ≡ Refusal.Line) × ((session : ℕ) → ShowsSession text.now session → ⊥)) }
     {
         let Some((first, rest)) = split_word(text) else {
             let session = session_of(text)?;

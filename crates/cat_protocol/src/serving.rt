@@ -3,7 +3,7 @@ ghost use Rattle.std.specs.Prelude.{◌≡◌, ℕ, ◌<◌, ◌≤◌, [], ◌�
 ghost use Rattle.cat_base.specs.declared.refusal.Refusal.{Refusal};
 ghost use Rattle.cat_model.specs.Text.{Text};
 ghost use Rattle.cat_model.specs.Input.{ended_after, rest_after};
-ghost use Rattle.cat_model.specs.Served.{Told, told_text, refused_text, ServesBy};
+ghost use Rattle.cat_model.specs.Served.{Outcome, outcome_text, refused_text, ServesBy};
 ghost use Rattle.cat_protocol.specs.Machine.{seen, IsAnswered};
 ghost use Rattle.cat_protocol.specs.Out.{Sent};
 ghost use Rattle.cat_protocol.specs.Serving.{ended_as, Comes, IsRefusedAs, OpensBy, Says, ServesLines, last_lines};
@@ -20,7 +20,7 @@ pub(crate) trait Machine: Drop {
     ghost opens: { Option Text → Result Self Refusal → Type 0 };
 
     /// What a line may be told from one state, and the state that it leaves.
-    ghost step: { Self → Option Text → Told → Self → Type 0 };
+    ghost step: { Self → Option Text → Outcome → Self → Type 0 };
 
     /// The number that is said when the machine is opened.
     ghost token: { Self → ℕ };
@@ -33,8 +33,8 @@ pub(crate) trait Machine: Drop {
 
     /// Answers a line, and writes the reply.
     fn answer<W: Write>(&mut self, line: Option<&[u8]>, to: &mut W) -> Result<(), WriteFault>
-        ensures { (told : Told) × step self.old (option_map (λ l. l.now) line.entry) told self.new
-            × Sent (W.contents to.old) (W.contents to.new) result (told_text told) };
+        ensures { (told : Outcome) × step self.old (option_map (λ l. l.now) line.entry) told self.new
+            × Sent (W.contents to.old) (W.contents to.new) result (outcome_text told) };
 }
 
 /// Why serving ended before the end of the input.

@@ -2,7 +2,8 @@
 ghost use Rattle.std.specs.Prelude.{◌≡◌, ◌≤◌, ◌==◌, ◌&&◌, ◌++◌, ◌∷◌, [], true, false, cond, filter, find, length, ltb, not, option_map, vec_capacity, vec_len, IfOk, IfErr, OnOk, OnErr};
 ghost use Rattle.std.specs.List.{list_any};
 ghost use Rattle.cat_base.specs.declared.refusal.Refusal.TheVariants.{Full, Memory};
-ghost use Rattle.cat_model.specs.Run.{greatest, is_full, record_limit};
+ghost use Rattle.cat_model.specs.Run.{greatest, is_full};
+ghost use Rattle.cat_model.specs.Limits.{view_limit};
 ghost use Rattle.cat_model.specs.State.{IsLeastFree, has_hold, has_view, held_in, tokens, views_without_least_free};
 ghost use Rattle.cat_protocol.specs.Tables.{NumbersRise, lesser_of, without_token};
 
@@ -21,7 +22,7 @@ impl Model for View {
     ghost use Rattle.cat_model.specs.State as model;
     ghost use Rattle.cat_protocol.specs.Tables.{NumbersRise};
 
-    ghost Value = { model.View };
+    ghost Value = { model.RecordedTable };
 
     ghost view = { λ v. record { token = v.token; table = v.table.items } };
 
@@ -149,7 +150,7 @@ fn least_free(views: &[View], holds: &[Hold]) -> Option<Token>
 /// The token of the view that has to go before one more is recorded, if one has to.
 pub(crate) fn leaving(views: &[View], holds: &[Hold]) -> Result<Option<Token>, Refusal>
     ensures room { IfOk result (λ gone. is_full (held_in holds.now) (tokens views.now) ≡ false) }
-    ensures least { IfOk result (λ gone. without_token gone views.now ≡ cond (ltb (length views.now) record_limit) views.now (views_without_least_free (held_in holds.now) views.now)) }
+    ensures least { IfOk result (λ gone. without_token gone views.now ≡ cond (ltb (length views.now) view_limit) views.now (views_without_least_free (held_in holds.now) views.now)) }
     ensures err { IfErr result (λ e. (e ≡ Full) × (is_full (held_in holds.now) (tokens views.now) ≡ true)) }
 {
     if views.len() < MAX_RECORDS {

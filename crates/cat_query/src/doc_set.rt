@@ -1,7 +1,7 @@
 //! The rows of a segment that a query matches.
 ghost use Rattle.std.specs.Prelude.{◌≡◌, ◌^◌, ◌<◌, length, count_by, IfOk, IfErr};
 ghost use Rattle.cat_base.specs.declared.refusal.Refusal.TheVariants.{Memory};
-ghost use Rattle.cat_model.specs.RowSets.{has_row, places};
+ghost use Rattle.cat_model.specs.RowSets.{has_row, indices};
 
 use cat_base::Refusal;
 use cat_values::{RowSet, Rows};
@@ -57,7 +57,7 @@ impl DocSet {
 
     /// The rows that match, rising (`DocIdSet.iterator`).
     pub fn iter(&self) -> Rows<'_>
-        ensures { result ≡ places self.now }
+        ensures { result ≡ indices self.now }
     {
         self.rows.iter()
     }

@@ -21,7 +21,7 @@ use Rattle.cat_base.specs.declared.refusal.Refusal.{Refusal}
 use Rattle.cat_base.specs.declared.refusal.Refusal.TheVariants as refusal
 use Rattle.cat_base.specs.Texts.{sorted_set, IsTextSet}
 use Rattle.cat_model.specs.Text.{Text, same_text}
-use Rattle.cat_model.specs.Item.{Field, Kind, Schema, IsSchema, is_id, is_name, has_name_form, kind_of}
+use Rattle.cat_model.specs.Item.{Field, Kind, Schema, IsSchema, is_id, is_field_name, has_name_form, kind_of}
 use Rattle.cat_model.specs.Forms.{is_plain_byte, IsKeyword, IsLabel, IsFormed, IsFormedItem}
 use Rattle.cat_schema.specs.declared.item.FieldValue.{FieldValue}
 use Rattle.cat_schema.specs.Contents.{content_of, parts_with, IsTyped}
@@ -159,7 +159,7 @@ kinds (f ∷ fs) rising = (
       later gs above.1 found.1,
     )
 
-not_id : (name : Text) → is_name name ≡ true → bytes_eq name id_name ≡ false
+not_id : (name : Text) → is_field_name name ≡ true → bytes_eq name id_name ≡ false
 not_id name h = by (has_name_form name) (bytes_eq name id_name) h
   where
     by : (form same : Bool) → (form && not same) ≡ true → same ≡ false
@@ -167,12 +167,12 @@ not_id name h = by (has_name_form name) (bytes_eq name id_name) h
     by true false e = refl
     by false same e = absurd (cc)
 
-field_right : (fs : Schema) (name : Text) (k : Kind) (o : Option Data) → is_name name ≡ true → kind_of fs name ≡ Some k → option_map_or (member_fault fs name) o None ≡ None → IsRight k o
+field_right : (fs : Schema) (name : Text) (k : Kind) (o : Option Data) → is_field_name name ≡ true → kind_of fs name ≡ Some k → option_map_or (member_fault fs name) o None ≡ None → IsRight k o
 field_right fs name k None named kind right = refl
 field_right fs name k (Some d) named kind right =
     ap (λ found. field_fault found d) (sym kind) ∙ ap (λ b. cond b None (field_fault (kind_of fs name) d)) (sym (not_id name named)) ∙ right
 
-pub fields_right : (fs gs : List Field) (ms : Members) → first_fault fs ms ≡ None → AllByRecursion (λ g. is_name g.name ≡ true) gs → AllByRecursion (λ g. kind_of fs g.name ≡ Some g.kind) gs
+pub fields_right : (fs gs : List Field) (ms : Members) → first_fault fs ms ≡ None → AllByRecursion (λ g. is_field_name g.name ≡ true) gs → AllByRecursion (λ g. kind_of fs g.name ≡ Some g.kind) gs
     → AllByRecursion (λ g. IsRight g.kind (get_member g.name ms)) gs
 fields_right fs [] ms right named found = tt
 fields_right fs (g ∷ gs) ms right named found =
@@ -217,12 +217,12 @@ object_parts fs vs (object ns) ms ok obj right e typed =
 -- what the calls that make an item say: each name that ends in `_is` ties what was copied to what it came from
 pub IsFormedItem-read : (fs shared : Schema) (vs : List FieldValue) (bytes source form id : Text) (d : Data) (ms : Members) → IsSchema fs → shared ≡ fs → length bytes ≤ 8192 → source ≡ bytes → json_of bytes ≡ Some d → Some ms ≡ as_object d
     → first_fault fs ms ≡ None → map content_of vs ≡ map (λ f. value_of f.kind (get f.name d)) fs → All (λ v. IsTyped (content_of v)) vs → is_id form ≡ true → id ≡ form
-    → IsFormedItem (record { id = id; parts = parts_with shared vs; source = source })
+    → IsFormedItem (record { id = id; fields = parts_with shared vs; source = source })
 IsFormedItem-read fs shared vs bytes source form id d ms ok shared_is small source_is json obj right values typed formed id_is =
     let some = some_bytes bytes d json in
     let long = ap length source_is in
     record {
       id = ap is_id id_is ∙ formed;
       source = (omega arith, omega arith);
-      parts = subst (λ s. All (λ p. IsFormed p.content) (parts_with s vs)) (sym shared_is) (object_parts fs vs d ms ok obj right values typed);
+      fields = subst (λ s. All (λ p. IsFormed p.content) (parts_with s vs)) (sym shared_is) (object_parts fs vs d ms ok obj right values typed);
     }

@@ -16,7 +16,7 @@ use Rattle.serde_json.specs.Find.{as_str}
 use Rattle.serde_json.specs.View.{members_view}
 use Rattle.serde_json.specs.declared.value.Value.{Value}
 use Rattle.cat_base.specs.Texts.{IsTextSet}
-use Rattle.cat_model.specs.Item.{Field, Kind, is_name}
+use Rattle.cat_model.specs.Item.{Field, Kind, is_field_name}
 use Rattle.cat_schema.specs.Reading.{kind_named, field_of, fields_of}
 
 abbrev Entry : Type 0
@@ -67,8 +67,8 @@ made-name name true None f e = absurd (cc)
 made-name name true (Some k) f e = (let same : f ≡ record { name = name; kind = k } = (cc) in ap (λ g. g.name) same, refl)
 made-name name false o f e = absurd (cc)
 
-field_of-name : (name : List ℕ) (d : Data) (f : Field) → field_of name d ≡ Some f → (f.name ≡ name) × (is_name name ≡ true)
-field_of-name name d f e = made-name name (is_name name) (option_and_then kind_named (as_str d)) f e
+field_of-name : (name : List ℕ) (d : Data) (f : Field) → field_of name d ≡ Some f → (f.name ≡ name) × (is_field_name name ≡ true)
+field_of-name name d f e = made-name name (is_field_name name) (option_and_then kind_named (as_str d)) f e
 
 names_are : (ms : Members) (fs : List Field) → fields_of ms ≡ Some fs → names fs ≡ names_in ms
 names_are no_members fs e = let none : fs ≡ [] = (cc) in ap names none
@@ -79,12 +79,12 @@ names_are (member name d ms) fs e =
     ap names p.whole ∙ (λ i. first i ∷ rest i)
 
 -- each field's name has the form of one
-pub all_named : (ms : Members) (fs : List Field) → fields_of ms ≡ Some fs → AllByRecursion (λ f. is_name f.name ≡ true) fs
-all_named no_members fs e = let none : fs ≡ [] = (cc) in subst (AllByRecursion (λ f. is_name f.name ≡ true)) (sym none) tt
+pub all_named : (ms : Members) (fs : List Field) → fields_of ms ≡ Some fs → AllByRecursion (λ f. is_field_name f.name ≡ true) fs
+all_named no_members fs e = let none : fs ≡ [] = (cc) in subst (AllByRecursion (λ f. is_field_name f.name ≡ true)) (sym none) tt
 all_named (member name d ms) fs e =
     let p = parts (field_of name d) (fields_of ms) fs e in
     let n = field_of-name name d p.first p.is_first in
-    subst (AllByRecursion (λ f. is_name f.name ≡ true)) (sym p.whole) (ap is_name n.0 ∙ n.1, all_named ms p.rest p.is_rest)
+    subst (AllByRecursion (λ f. is_field_name f.name ≡ true)) (sym p.whole) (ap is_field_name n.0 ∙ n.1, all_named ms p.rest p.is_rest)
 
 -- the fields' names rise, since the members' do
 pub names_rise : (ms : Members) (fs : List Field) → IsTextSet (names_in ms) → fields_of ms ≡ Some fs → IsTextSet (names fs)

@@ -11,7 +11,7 @@ use Rattle.cat_base.specs.declared.refusal.Refusal.TheVariants as refusal
 use Rattle.cat_base.specs.Texts.{sorted_set, IsTextSet}
 use Rattle.cat_base.proofs.TextSets.{IsTextSet-nil, IsTextSet-sorted_set}
 use Rattle.cat_model.specs.Text.{Text, same_text}
-use Rattle.cat_model.specs.Item.{Field, Kind, Content, Item, Schema, IsContent, AreParts, IsItem, is_id}
+use Rattle.cat_model.specs.Item.{Field, Kind, Content, Item, Schema, IsContent, AreFields, IsItem, is_id}
 use Rattle.cat_model.specs.Words.{lowered, runs, words}
 use Rattle.cat_schema.specs.declared.item.FieldValue.{FieldValue}
 use Rattle.cat_schema.specs.Contents.{content_of, parts_with}
@@ -105,14 +105,14 @@ IsContent-value_of Kind.keyword d = IsContent.keyword _
 IsContent-value_of Kind.number d = IsContent.number _
 IsContent-value_of Kind.facet d = IsContent.labels _ (labels_set (option_and_then as_array d))
 
-AreParts-parts_of : (fs : Schema) (ms : Members) → AreParts fs (parts_of fs ms)
+AreParts-parts_of : (fs : Schema) (ms : Members) → AreFields fs (parts_of fs ms)
 AreParts-parts_of [] ms = tt
 AreParts-parts_of (f ∷ fs) ms = ((refl, IsContent-value_of f.kind (get_member f.name ms)), AreParts-parts_of fs ms)
 
 from_checked : (fs : Schema) (bytes : Text) (ms : Members) (id : Text) (o : Option Refusal) (i : Item) → checked fs bytes ms id o ≡ Ok i → IsItem fs i
 from_checked fs bytes ms id (Some e) i is = absurd (cc)
 from_checked fs bytes ms id None i is =
-    let same : record { id = id; parts = parts_of fs ms; source = bytes } ≡ i = (cc) in
+    let same : record { id = id; fields = parts_of fs ms; source = bytes } ≡ i = (cc) in
     subst (IsItem fs) same (AreParts-parts_of fs ms)
 
 from_form : (fs : Schema) (bytes : Text) (ms : Members) (id : Text) (b : Bool) (i : Item) → cond b (checked fs bytes ms id (first_fault fs ms)) (Err refusal.Id) ≡ Ok i → IsItem fs i

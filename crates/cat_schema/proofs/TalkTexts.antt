@@ -84,8 +84,8 @@ module _ (fs : Schema) (bytes : Text) (ok : IsSchema fs) (one : IsOneLine bytes)
   from_checked : (ms : Members) (id : Text) (o : Option Refusal) (i : Item) → is_id id ≡ true → first_fault fs ms ≡ o → checked fs bytes ms id o ≡ Ok i → IsShownInLines i
   from_checked ms id (Some e) i form right is = absurd (cc)
   from_checked ms id None i form right is =
-      let same : record { id = id; parts = parts_of fs ms; source = bytes } ≡ i = (cc) in
-      subst IsShownInLines same (record { id = id_line id form; source = one; parts = parts_line fs ms (fields_right fs fs ms right ok.named (kinds fs ok.rising)) })
+      let same : record { id = id; fields = parts_of fs ms; source = bytes } ≡ i = (cc) in
+      subst IsShownInLines same (record { id = id_line id form; source = one; fields = parts_line fs ms (fields_right fs fs ms right ok.named (kinds fs ok.rising)) })
 
   from_form : (ms : Members) (id : Text) (b : Bool) (i : Item) → is_id id ≡ b → cond b (checked fs bytes ms id (first_fault fs ms)) (Err refusal.Id) ≡ Ok i → IsShownInLines i
   from_form ms id true i form is = from_checked ms id (first_fault fs ms) i form refl is

@@ -20,7 +20,7 @@ within : (n : ℕ) → n ≤ 8192 → ltb 8192 n ≡ false
 within n h = grind (arith, rules)
 
 item_of_members : (fs : Schema) (bytes : Text) (ms : Members) (id : Text) → length bytes ≤ 8192 → json_of bytes ≡ Some (object ms) → option_and_then as_str (get id_name (object ms)) ≡ Some id → is_id id ≡ true → first_fault fs ms ≡ None
-    → item_of fs bytes ≡ Ok (record { id = id; parts = parts_of fs ms; source = bytes })
+    → item_of fs bytes ≡ Ok (record { id = id; fields = parts_of fs ms; source = bytes })
 item_of_members fs bytes ms id small json has_id form right =
     pick_else (ltb 8192 (length bytes)) (Err refusal.Large) (of_value fs bytes (json_of bytes)) (within (length bytes) small)
     ∙ ap (of_value fs bytes) json
@@ -30,7 +30,7 @@ item_of_members fs bytes ms id small json has_id form right =
 
 -- the clauses of the calls that make an item
 pub item_is : (fs : Schema) (bytes : Text) (d : Data) (ms : Members) (id : Text) → length bytes ≤ 8192 → json_of bytes ≡ Some d → Some ms ≡ as_object d → option_and_then as_str (get id_name d) ≡ Some id → is_id id ≡ true → first_fault fs ms ≡ None
-    → item_of fs bytes ≡ Ok (record { id = id; parts = map (λ f. record { name = f.name; content = value_of f.kind (get f.name d) }) fs; source = bytes })
+    → item_of fs bytes ≡ Ok (record { id = id; fields = map (λ f. record { name = f.name; content = value_of f.kind (get f.name d) }) fs; source = bytes })
 item_is fs bytes null ms id small json obj has_id form right = (cc)
 item_is fs bytes (boolean b) ms id small json obj has_id form right = (cc)
 item_is fs bytes (number n) ms id small json obj has_id form right = (cc)

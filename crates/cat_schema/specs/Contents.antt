@@ -16,7 +16,7 @@ content_of (value.Number n) = model.Content.number n
 content_of (value.Labels ls) = model.Content.labels ls
 
 -- each value under the name of its field
-abbrev pub parts_with : List model.Field → List FieldValue → List model.Part
+abbrev pub parts_with : List model.Field → List FieldValue → List model.FieldContent
 parts_with [] vs = []
 parts_with (f ∷ fs) [] = []
 parts_with (f ∷ fs) (v ∷ vs) = record { name = f.name; content = content_of v } ∷ parts_with fs vs
@@ -29,7 +29,7 @@ IsTyped (model.Content.number z) = IfSome z (FitsSigned w64)
 IsTyped (model.Content.labels ls) = All IsUtf8 ls
 
 abbrev pub item_in : Inside → model.Item
-item_in i = record { id = i.id; parts = parts_with (arc_value i.fields).items i.values.items; source = i.source.items }
+item_in i = record { id = i.id; fields = parts_with (arc_value i.fields).items i.values.items; source = i.source.items }
 
 -- what an item keeps: a value for each field, and the forms
 pub record IsKept (i : Inside) : Type 0 where

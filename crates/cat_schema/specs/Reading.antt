@@ -11,7 +11,7 @@ use Rattle.cat_base.specs.declared.refusal.Refusal.{Refusal}
 use Rattle.cat_base.specs.declared.refusal.Refusal.TheVariants as refusal
 use Rattle.cat_base.specs.Texts.{sorted_set}
 use Rattle.cat_model.specs.Text.{Text}
-use Rattle.cat_model.specs.Item.{Field, Kind, Schema, Content, Part, Item, kind_of, is_name, is_id}
+use Rattle.cat_model.specs.Item.{Field, Kind, Schema, Content, FieldContent, Item, kind_of, is_field_name, is_id}
 use Rattle.cat_model.specs.Words.{words}
 use Rattle.cat_model.specs.Forms.{is_plain_byte}
 use Rattle.cat_model.specs.Heard.{Json}
@@ -29,7 +29,7 @@ kind_named s =
     else None)))
 
 abbrev pub field_of : Text → Data → Option Field
-field_of name d = if is_name name then option_map (λ k. record { name = name; kind = k }) (option_and_then kind_named (as_str d)) else None
+field_of name d = if is_field_name name then option_map (λ k. record { name = name; kind = k }) (option_and_then kind_named (as_str d)) else None
 
 -- the fields, where every member is one
 abbrev pub fields_of : Members → Option Schema
@@ -105,14 +105,14 @@ value_of Kind.keyword d = Content.keyword (option_and_then as_str d)
 value_of Kind.number d = Content.number (option_and_then as_i64 (option_and_then as_number d))
 value_of Kind.facet d = Content.labels (option_map_or (λ ds. sorted_set (texts_of ds)) (option_and_then as_array d) [])
 
-abbrev pub parts_of : Schema → Members → List Part
+abbrev pub parts_of : Schema → Members → List FieldContent
 parts_of fs ms = map (λ f. record { name = f.name; content = value_of f.kind (get_member f.name ms) }) fs
 
 -- ---- the item
 
 abbrev pub checked : Schema → Text → Members → Text → Option Refusal → Result Item Refusal
 checked fs bytes ms id (Some e) = Err e
-checked fs bytes ms id None = Ok (record { id = id; parts = parts_of fs ms; source = bytes })
+checked fs bytes ms id None = Ok (record { id = id; fields = parts_of fs ms; source = bytes })
 
 abbrev pub with_id : Schema → Text → Members → Option (Text) → Result Item Refusal
 with_id fs bytes ms None = Err refusal.Id

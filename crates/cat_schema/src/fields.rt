@@ -4,7 +4,7 @@ ghost use Rattle.std.specs.List.{AllByRecursion};
 ghost use Rattle.serde_json.specs.View.{members_view, view};
 ghost use Rattle.cat_base.specs.Texts.{IsTextSet};
 ghost use Rattle.cat_base.specs.declared.refusal.Refusal.TheVariants.{Memory, Kind as WrongKind};
-ghost use Rattle.cat_model.specs.Item.{is_name};
+ghost use Rattle.cat_model.specs.Item.{is_field_name};
 ghost use Rattle.cat_schema.specs.Kinds.{kind_meant};
 ghost use Rattle.cat_schema.specs.Reading.{kind_named, field_of, fields_of};
 
@@ -22,7 +22,7 @@ pub(crate) fn read_fields(
     ensures err { IfErr result (λ e. e ≢ Memory → (e ≡ WrongKind)
         × (fields_of (members_view members.now.entries) ≡ None)) }
     ensures rising { IfOk result (λ v. IsTextSet (map (λ f. f.name) v.items)) }
-    ensures named { IfOk result (λ v. AllByRecursion (λ f. IsTrue (is_name f.name)) v.items) }
+    ensures named { IfOk result (λ v. AllByRecursion (λ f. IsTrue (is_field_name f.name)) v.items) }
 {
     let mut fields = Vec::new(alloc);
     for (name, value) in members.iter() {

@@ -2,7 +2,7 @@
 ghost use Rattle.std.specs.Prelude.{◌≡◌, ◌↔◌, IsTrue};
 ghost use Rattle.std.specs.List.{list_all};
 ghost use Rattle.std.specs.Char.{is_ascii_graphic};
-ghost use Rattle.cat_model.specs.Item.{is_id, is_name, is_name_byte, has_name_form};
+ghost use Rattle.cat_model.specs.Item.{is_id, is_field_name, is_name_byte, has_name_form};
 ghost use Rattle.cat_model.specs.Forms.{is_plain_byte, is_low_byte, IsKeyword, IsLabel, IsWord};
 ghost use Rattle.cat_schema.specs.Reading.{keyword_fault, label_fault};
 
@@ -49,7 +49,7 @@ pub fn has_name_form(name: &str) -> bool
 
 /// Whether a field may have the name.
 pub(crate) fn name_ok(name: &str) -> bool
-    ensures { result ≡ is_name name.now }
+    ensures { result ≡ is_field_name name.now }
 {
     has_name_form(name) && name != "id"
 }

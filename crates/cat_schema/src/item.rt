@@ -72,8 +72,8 @@ impl Item {
         source: Vec<u8>,
     ) -> Item
         requires each { length values.items ≡ length (arc_value fields).items }
-        requires formed { IsFormedItem (record { id = id; parts = parts_with (arc_value fields).items values.items; source = source.items }) }
-        ensures { result ≡ record { id = id; parts = parts_with (arc_value fields).items values.items; source = source.items } }
+        requires formed { IsFormedItem (record { id = id; fields = parts_with (arc_value fields).items values.items; source = source.items }) }
+        ensures { result ≡ record { id = id; fields = parts_with (arc_value fields).items values.items; source = source.items } }
     {
         Item {
             fields,
@@ -94,8 +94,8 @@ impl Item {
     /// What the item has in each field, in the order of the schema's fields. A word has 1 to 4,294,967,295 bytes, a
     /// keyword at most 128, a label 1 to 128, and labels are at most 64.
     pub fn values(&self) -> &[FieldValue]
-        ensures value { map content_of result.now ≡ map (λ p. p.content) self.now.parts }
-        ensures forms { All (λ p. IsFormed p.content) self.now.parts }
+        ensures value { map content_of result.now ≡ map (λ p. p.content) self.now.fields }
+        ensures forms { All (λ p. IsFormed p.content) self.now.fields }
     {
         self.values.as_slice()
     }

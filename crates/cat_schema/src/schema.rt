@@ -5,7 +5,7 @@ ghost use Rattle.std.specs.Arc.{arc_value};
 ghost use Rattle.cat_base.specs.Texts.{IsTextSet};
 ghost use Rattle.cat_base.specs.declared.refusal.Refusal.TheVariants.{Memory, Damaged};
 ghost use Rattle.cat_model.specs.Text.{same_text};
-ghost use Rattle.cat_model.specs.Item.{is_name};
+ghost use Rattle.cat_model.specs.Item.{is_field_name};
 
 use crate::fields::read_fields;
 use crate::forms::name_ok;
@@ -80,7 +80,7 @@ pub fn place_of(fields: &[Field], name: &str) -> Option<usize>
 }
 
 fn all_named(fields: &[Field]) -> bool
-    ensures { IsTrue result ↔ AllByRecursion (λ f. IsTrue (is_name f.name)) fields.now }
+    ensures { IsTrue result ↔ AllByRecursion (λ f. IsTrue (is_field_name f.name)) fields.now }
 {
     fields.iter().all(|field| name_ok(field.name()))
 }

@@ -7,7 +7,7 @@ use Rattle.std.proofs.lemmas.List.Elements.{recursion_from_All}
 use Rattle.std.proofs.lemmas.List.Folds.{find_at}
 use Rattle.std.proofs.lemmas.List.Recursion.{is_position_or_len}
 use Rattle.cat_model.specs.Answer.{can_sort, has_mark}
-use Rattle.cat_model.specs.Item.{Schema, Part, Item, Record, AreParts, IsItem, content_of}
+use Rattle.cat_model.specs.Item.{Schema, FieldContent, Item, Record, AreFields, IsItem, content_of}
 use Rattle.cat_model.specs.Page.{Sort, Key, Page, Entry, key, key_in, key_cmp, comes_before, before, rest, first_ranked}
 use Rattle.cat_model.specs.Ranks.{AreApart, sorted}
 use Rattle.cat_model.specs.Text.{Text, same_text}
@@ -40,7 +40,7 @@ first p (x ∷ xs) = cond (p x) 0 (1 + first p xs)
 first-is : {X : Type 0} (p : X → Bool) (xs : List X) → first p xs ≡ position_or_len p xs
 first-is p xs = is_position_or_len (first p) p refl (λ y ys. refl) xs
 
-names_alike : (name : Text) (fs : Schema) (ps : List Part) → AreParts fs ps → first (λ p. same_text p.name name) ps ≡ first (λ f. same_text f.name name) fs
+names_alike : (name : Text) (fs : Schema) (ps : List FieldContent) → AreFields fs ps → first (λ p. same_text p.name name) ps ≡ first (λ f. same_text f.name name) fs
 names_alike name [] [] a = refl
 names_alike name [] (p ∷ ps) a = absurd a
 names_alike name (f ∷ fs) [] a = absurd a
@@ -50,10 +50,10 @@ names_alike name (f ∷ fs) (p ∷ ps) a =
 
 key_found : (schema : Schema) (name : Text) (i : Item) → IsItem schema i → key_at (place_named name schema) i ≡ key_in (content_of name i)
 key_found schema name i a =
-    let named : Part → Bool = λ p. same_text p.name name in
-    let same : position_or_len (λ p. same_text p.name name) i.parts ≡ place_named name schema =
-    sym (first-is (λ p. same_text p.name name) i.parts) ∙ names_alike name schema i.parts a ∙ first-is (λ f. same_text f.name name) schema in
-    ap (λ o. key_in (option_map (λ p. p.content) o)) (ap (slice_get i.parts) (sym same) ∙ sym (find_at (λ p. same_text p.name name) i.parts))
+    let named : FieldContent → Bool = λ p. same_text p.name name in
+    let same : position_or_len (λ p. same_text p.name name) i.fields ≡ place_named name schema =
+    sym (first-is (λ p. same_text p.name name) i.fields) ∙ names_alike name schema i.fields a ∙ first-is (λ f. same_text f.name name) schema in
+    ap (λ o. key_in (option_map (λ p. p.content) o)) (ap (slice_get i.fields) (sym same) ∙ sym (find_at (λ p. same_text p.name name) i.fields))
 
 place_alike : (schema : Schema) (s : Sort) (r : Record) → IsItem schema r.item → place_at (order_of schema s) r ≡ place_of s r
 place_alike schema Sort.added r a = refl

@@ -7,7 +7,7 @@ use Rattle.std.proofs.lemmas.List.{length-map}
 use Rattle.std.proofs.lemmas.List.Folds.{find_at}
 use Rattle.std.proofs.lemmas.Option.{slice_get_past, slice_get-get_or}
 use Rattle.cat_model.specs.Text.{Text, same_text}
-use Rattle.cat_model.specs.Item.{Field, Schema, Part}
+use Rattle.cat_model.specs.Item.{Field, Schema, FieldContent}
 use Rattle.cat_model.specs.Page.{Key, key_in}
 use Rattle.cat_model.specs.Answer.{is_sort_kind}
 use Rattle.cat_schema.specs.declared.item.FieldValue.{FieldValue}
@@ -59,7 +59,7 @@ no_field name gs fs same e =
 
 -- ---- what an item has in the field
 
-pub part_is : (vs : List FieldValue) (ps : List Part) (i : ℕ) (v : FieldValue) → map content_of vs ≡ map (λ p. p.content) ps → nat_lt i (length vs) ≡ true → v ≡ get_or vs i v
+pub part_is : (vs : List FieldValue) (ps : List FieldContent) (i : ℕ) (v : FieldValue) → map content_of vs ≡ map (λ p. p.content) ps → nat_lt i (length vs) ≡ true → v ≡ get_or vs i v
     → Some (content_of v) ≡ option_map (λ p. p.content) (slice_get ps i)
 part_is [] ps i v e h at = absurd (let l : i < 0 = within i 0 h in omega (arith, l))
 part_is (w ∷ vs) [] i v e h at = absurd (cc)
@@ -72,7 +72,7 @@ part_is (w ∷ vs) (p ∷ ps) (suc i) v e h at =
     below : (m n : ℕ) → m < n → nat_lt m n ≡ true
     below m n q = grind (arith, nat_tests)
 
-pub no_part : (vs : List FieldValue) (ps : List Part) (i : ℕ) → map content_of vs ≡ map (λ p. p.content) ps → nat_lt i (length vs) ≡ false
+pub no_part : (vs : List FieldValue) (ps : List FieldContent) (i : ℕ) → map content_of vs ≡ map (λ p. p.content) ps → nat_lt i (length vs) ≡ false
     → ◌≡◌ {A = Option Key} None (key_in (option_map (λ p. p.content) (slice_get ps i)))
 no_part vs ps i e h =
     let long : length vs ≡ length ps = sym (length-map vs content_of) ∙ ap length e ∙ length-map ps (λ p. p.content) in

@@ -5,11 +5,11 @@ use Rattle.std.specs.List.{AllByRecursion, flat_map}
 use Rattle.std.proofs.lemmas.Bool.Decides.{nat_tests}
 use Rattle.std.proofs.lemmas.List.{map-append, length-take, take-append-le, take_all, take_more, flat_map_more}
 use Rattle.std.proofs.lemmas.List.Elements.{filter-append}
-use Rattle.cat_model.specs.RowSets.{places}
+use Rattle.cat_model.specs.RowSets.{indices}
 use Rattle.cat_model.specs.Page.{Sort}
 use Rattle.cat_model.specs.Query.{Query}
 use Rattle.cat_model.specs.Ranks.{sorted, insert_all}
-use Rattle.cat_model.specs.View.{Row, Leaf, Segment, marked, live_rows, row_matches}
+use Rattle.cat_model.specs.View.{Row, Leaf, Segment, selected, live_rows, row_matches}
 use Rattle.cat_model.proofs.HitOrder.{is_lt-nat_cmp}
 use Rattle.cat_model.proofs.Lists.{All-weaken}
 use Rattle.cat_model.proofs.Places.{EachPair, each_pair}
@@ -39,11 +39,11 @@ placed-more mark ranks rows row p e =
     ∙ filter-append (beyond mark) (map (λ i. get_or ranks i none) rows) (get_or ranks row none ∷ [])
     ∙ ap (λ q. placed mark ranks rows ++ one mark q) (sym e)
 
-pub placed-all : (mark : Option Place) (ranks : List Place) (set : List Bool) (rows : List ℕ) → length set ≡ length ranks → rows ≡ places set → placed mark ranks rows ≡ filter (beyond mark) (marked set ranks)
+pub placed-all : (mark : Option Place) (ranks : List Place) (set : List Bool) (rows : List ℕ) → length set ≡ length ranks → rows ≡ indices set → placed mark ranks rows ≡ filter (beyond mark) (selected set ranks)
 placed-all mark ranks set rows e is = ap (placed mark ranks) is ∙ ap (filter (beyond mark)) (at_places set ranks none e)
 
 -- the row that comes next is one of the segment
-pub next_within : (set : List Bool) (ranks : List Place) (before after : List ℕ) (row : ℕ) → before ++ row ∷ after ≡ places set → length set ≡ length ranks → row < length ranks
+pub next_within : (set : List Bool) (ranks : List Place) (before after : List ℕ) (row : ℕ) → before ++ row ∷ after ≡ indices set → length set ≡ length ranks → row < length ranks
 next_within set ranks before after row e long =
     let each : AllByRecursion (λ i. i < length set) (before ++ row ∷ after) = subst (AllByRecursion (λ i. i < length set)) (sym e) (places-within set) in
     let here : row < length set = (All-right (λ i. i < length set) before (row ∷ after) each).0 in
@@ -68,30 +68,30 @@ placed-append mark ranks xs ys =
 
 -- ---- one segment more
 
-module _ (q : Query) (ls : List Leaf) (i : ℕ) (leaf : Leaf) (at : leaf ≡ get_or ls i leaf) (h : i < length ls) (hits : List Bool) (is : marked hits leaf.segment.rows ≡ filter (row_matches q) (live_rows leaf)) where
+module _ (q : Query) (ls : List Leaf) (i : ℕ) (leaf : Leaf) (at : leaf ≡ get_or ls i leaf) (h : i < length ls) (hits : List Bool) (is : selected hits leaf.segment.rows ≡ filter (row_matches q) (live_rows leaf)) where
   rows_more : flat_map live_rows (take (i + 1) ls) ≡ flat_map live_rows (take i ls) ++ live_rows leaf
   rows_more = ap (flat_map live_rows) (take_more ls i leaf h ∙ ap (λ l. take i ls ++ l ∷ []) (sym at)) ∙ sym (flat_map_more live_rows [] (take i ls) leaf)
 
-  hits_more : filter (row_matches q) (flat_map live_rows (take (i + 1) ls)) ≡ filter (row_matches q) (flat_map live_rows (take i ls)) ++ marked hits leaf.segment.rows
+  hits_more : filter (row_matches q) (flat_map live_rows (take (i + 1) ls)) ≡ filter (row_matches q) (flat_map live_rows (take i ls)) ++ selected hits leaf.segment.rows
   hits_more = ap (filter (row_matches q)) rows_more ∙ filter-append (row_matches q) (flat_map live_rows (take i ls)) (live_rows leaf) ∙ ap (λ xs. filter (row_matches q) (flat_map live_rows (take i ls)) ++ xs) (sym is)
 
   pub total_more : length hits ≡ length leaf.segment.rows → (old new : ℕ) → old ≡ length (filter (row_matches q) (flat_map live_rows (take i ls))) → new ≡ old + count_by (λ b. b) hits
       → new ≡ length (filter (row_matches q) (flat_map live_rows (take (i + 1) ls)))
   total_more long old new e s =
       let count = count-marked hits leaf.segment.rows long in
-      let sum = length-append (filter (row_matches q) (flat_map live_rows (take i ls))) (marked hits leaf.segment.rows) in
+      let sum = length-append (filter (row_matches q) (flat_map live_rows (take i ls))) (selected hits leaf.segment.rows) in
       omega (arith, e, s, count, sum) ∙ sym (ap length hits_more)
 
   pub places_more : (mark : Option Place) (o : Order) (s : Sort) (segment : Segment) (ranks : List Place) → segment ≡ leaf.segment → ranks ≡ map (place_in o s) segment.rows
-      → filter (beyond mark) (map (place_in o s) (filter (row_matches q) (flat_map live_rows (take i ls)))) ++ filter (beyond mark) (marked hits ranks)
+      → filter (beyond mark) (map (place_in o s) (filter (row_matches q) (flat_map live_rows (take i ls)))) ++ filter (beyond mark) (selected hits ranks)
       ≡ filter (beyond mark) (map (place_in o s) (filter (row_matches q) (flat_map live_rows (take (i + 1) ls))))
   places_more mark o s segment ranks same e =
       let old : List Row = filter (row_matches q) (flat_map live_rows (take i ls)) in
-      let here : marked hits ranks ≡ map (place_in o s) (marked hits leaf.segment.rows) =
-      ap (marked hits) (e ∙ ap (λ t. map (place_in o s) t.rows) same) ∙ marked-map (place_in o s) hits leaf.segment.rows in
+      let here : selected hits ranks ≡ map (place_in o s) (selected hits leaf.segment.rows) =
+      ap (selected hits) (e ∙ ap (λ t. map (place_in o s) t.rows) same) ∙ marked-map (place_in o s) hits leaf.segment.rows in
       ap (λ ps. filter (beyond mark) (map (place_in o s) old) ++ filter (beyond mark) ps) here
-      ∙ sym (filter-append (beyond mark) (map (place_in o s) old) (map (place_in o s) (marked hits leaf.segment.rows)))
-      ∙ ap (filter (beyond mark)) (sym (map-append (place_in o s) old (marked hits leaf.segment.rows)))
+      ∙ sym (filter-append (beyond mark) (map (place_in o s) old) (map (place_in o s) (selected hits leaf.segment.rows)))
+      ∙ ap (filter (beyond mark)) (sym (map-append (place_in o s) old (selected hits leaf.segment.rows)))
       ∙ ap (λ rs. filter (beyond mark) (map (place_in o s) rs)) (sym hits_more)
 
 -- ---- in order of addition
@@ -121,13 +121,13 @@ pub first_added : (mark : Option Place) (o : Order) (s : Sort) (p : Row → Bool
     → take n (filter (beyond mark) (map (place_in order.Added Sort.added) (filter p rows))) ≡ take n (sorted place_before (filter (beyond mark) (map (place_in o s) (filter p rows))))
 first_added mark o s p rows n is rises =
     let hits : List Row = filter p rows in
-    let places : List Place = filter (beyond mark) (map added hits) in
+    let indices : List Place = filter (beyond mark) (map added hits) in
     let pairs : EachPair (λ a b. a.number < b.number) hits = each_pair-filter (λ a b. a.number < b.number) p rows (each_pair (λ a b. a.number < b.number) rows rises) in
-    let after : EachPair (λ a b. place_before b a ≡ false) places =
+    let after : EachPair (λ a b. place_before b a ≡ false) indices =
     each_pair-filter (λ a b. place_before b a ≡ false) (beyond mark) (map added hits)
     (each_pair-map added (λ a b. place_before b a ≡ false) hits (each_weaken hits pairs)) in
     let same : map added hits ≡ map (place_in o s) hits = sym (ap (λ w. map (place_in w s) hits) is ∙ ap (λ (f : Row → Place). map f hits) (λ i r. place_in order.Added s r)) in
-    ap (take n) (sym (in_order place_before [] places after)) ∙ ap (λ ps. take n (sorted place_before (filter (beyond mark) ps))) same
+    ap (take n) (sym (in_order place_before [] indices after)) ∙ ap (λ ps. take n (sorted place_before (filter (beyond mark) ps))) same
   where
     each_weaken : (rs : List Row) → EachPair (λ a b. a.number < b.number) rs → EachPair (λ a b. place_before (added b) (added a) ≡ false) rs
     each_weaken [] a = tt

@@ -3,22 +3,22 @@ use Rattle.std.proofs.Common.{◌≡◌, ℕ, zero, suc, ◌+◌, ◌<◌, List,
 use Rattle.std.specs.Prelude.{count_by}
 use Rattle.std.specs.List.{AllByRecursion, flat_map, range_with_len}
 use Rattle.std.proofs.lemmas.List.Sums.{length-filter}
-use Rattle.cat_model.specs.RowSets.{joined, both, has_row, places}
-use Rattle.cat_model.specs.View.{marked}
+use Rattle.cat_model.specs.RowSets.{joined, both, has_row, indices}
+use Rattle.cat_model.specs.View.{selected}
 use Rattle.cat_model.proofs.Lists.{All-both}
 use Rattle.cat_model.proofs.Places.{EachPair}
 
-pub marked-joined : {X : Type 0} (p : X → Bool) (set : List Bool) (xs : List X) → marked (joined both (map p xs) set) xs ≡ filter p (marked set xs)
+pub marked-joined : {X : Type 0} (p : X → Bool) (set : List Bool) (xs : List X) → selected (joined both (map p xs) set) xs ≡ filter p (selected set xs)
 marked-joined p [] [] = refl
 marked-joined p [] (x ∷ xs) = refl
 marked-joined p (b ∷ bs) [] = refl
 marked-joined {X} p (true ∷ bs) (x ∷ xs) =
-    elim (p x) as (λ t. marked ((t && true) ∷ joined both (map p xs) bs) (x ∷ xs) ≡ cond t (x ∷ filter p (marked bs xs)) (filter p (marked bs xs))) [
+    elim (p x) as (λ t. selected ((t && true) ∷ joined both (map p xs) bs) (x ∷ xs) ≡ cond t (x ∷ filter p (selected bs xs)) (filter p (selected bs xs))) [
       | true ↦ ap (λ ys. x ∷ ys) (marked-joined p bs xs)
       | false ↦ marked-joined p bs xs
     ]
 marked-joined {X} p (false ∷ bs) (x ∷ xs) =
-    elim (p x) as (λ t. marked ((t && false) ∷ joined both (map p xs) bs) (x ∷ xs) ≡ filter p (marked bs xs)) [
+    elim (p x) as (λ t. selected ((t && false) ∷ joined both (map p xs) bs) (x ∷ xs) ≡ filter p (selected bs xs)) [
       | true ↦ marked-joined p bs xs
       | false ↦ marked-joined p bs xs
     ]
@@ -29,21 +29,21 @@ length-joined f [] (y ∷ ys) e = absurd (omega arith)
 length-joined f (x ∷ xs) [] e = absurd (omega arith)
 length-joined f (x ∷ xs) (y ∷ ys) e = let h : length (joined f xs ys) ≡ length ys = length-joined f xs ys (omega arith) in omega (arith, h)
 
-pub marked-map : {X Y : Type 0} (f : X → Y) (set : List Bool) (xs : List X) → marked set (map f xs) ≡ map f (marked set xs)
+pub marked-map : {X Y : Type 0} (f : X → Y) (set : List Bool) (xs : List X) → selected set (map f xs) ≡ map f (selected set xs)
 marked-map f [] xs = refl
 marked-map f (b ∷ bs) [] = refl
 marked-map f (true ∷ bs) (x ∷ xs) = ap (λ ys. f x ∷ ys) (marked-map f bs xs)
 marked-map f (false ∷ bs) (x ∷ xs) = marked-map f bs xs
 
-filter-marked : {X : Type 0} (set : List Bool) (xs : List X) → length set ≡ length xs → length (filter (λ b. b) set) ≡ length (marked set xs)
+filter-marked : {X : Type 0} (set : List Bool) (xs : List X) → length set ≡ length xs → length (filter (λ b. b) set) ≡ length (selected set xs)
 filter-marked [] [] e = refl
 filter-marked [] (x ∷ xs) e = refl
 filter-marked (b ∷ bs) [] e = absurd (omega arith)
-filter-marked (true ∷ bs) (x ∷ xs) e = let h : length (filter (λ b. b) bs) ≡ length (marked bs xs) = filter-marked bs xs (omega arith) in omega (arith, h)
+filter-marked (true ∷ bs) (x ∷ xs) e = let h : length (filter (λ b. b) bs) ≡ length (selected bs xs) = filter-marked bs xs (omega arith) in omega (arith, h)
 filter-marked (false ∷ bs) (x ∷ xs) e = filter-marked bs xs (omega arith)
 
 -- as many are marked as the set has
-pub count-marked : {X : Type 0} (set : List Bool) (xs : List X) → length set ≡ length xs → count_by (λ b. b) set ≡ length (marked set xs)
+pub count-marked : {X : Type 0} (set : List Bool) (xs : List X) → length set ≡ length xs → count_by (λ b. b) set ≡ length (selected set xs)
 count-marked set xs e = sym (length-filter (λ b. b) set) ∙ filter-marked set xs e
 
 -- ---- by the places of the set
@@ -56,23 +56,23 @@ first a = omega arith
 
 picked : {X : Type 0} (f : ℕ → X) (t : ℕ → Bool) (a : ℕ) (bs : List Bool) (xs : List X) → length bs ≡ length xs
     → ((k : ℕ) → t (a + k) ≡ get_or bs k false) → ((k : ℕ) (d : X) → k < length xs → f (a + k) ≡ get_or xs k d)
-    → map f (filter t (range_with_len a (length bs))) ≡ marked bs xs
+    → map f (filter t (range_with_len a (length bs))) ≡ selected bs xs
 picked f t a [] xs e ts fs = refl
 picked f t a (b ∷ bs) [] e ts fs = absurd (omega arith)
 picked {X} f t a (true ∷ bs) (x ∷ xs) e ts fs =
-    let rest : map f (filter t (range_with_len (a + 1) (length bs))) ≡ marked bs xs =
+    let rest : map f (filter t (range_with_len (a + 1) (length bs))) ≡ selected bs xs =
     picked f t (a + 1) bs xs (omega arith) (λ k. ap t (next a k) ∙ ts (suc k)) (λ k d h. ap f (next a k) ∙ fs (suc k) d (omega arith)) in
     let here : t a ≡ true = ap t (sym (first a)) ∙ ts 0 in
     let item : f a ≡ x = ap f (sym (first a)) ∙ fs 0 x (omega arith) in
     rw (here, item, rest) refl
 picked {X} f t a (false ∷ bs) (x ∷ xs) e ts fs =
-    let rest : map f (filter t (range_with_len (a + 1) (length bs))) ≡ marked bs xs =
+    let rest : map f (filter t (range_with_len (a + 1) (length bs))) ≡ selected bs xs =
     picked f t (a + 1) bs xs (omega arith) (λ k. ap t (next a k) ∙ ts (suc k)) (λ k d h. ap f (next a k) ∙ fs (suc k) d (omega arith)) in
     let here : t a ≡ false = ap t (sym (first a)) ∙ ts 0 in
     rw here rest
 
 -- the elements at the places of the set
-pub at_places : {X : Type 0} (set : List Bool) (xs : List X) (d : X) → length set ≡ length xs → map (λ i. get_or xs i d) (places set) ≡ marked set xs
+pub at_places : {X : Type 0} (set : List Bool) (xs : List X) (d : X) → length set ≡ length xs → map (λ i. get_or xs i d) (indices set) ≡ selected set xs
 at_places set xs d e = picked (λ i. get_or xs i d) (has_row set) 0 set xs e (λ k. ap (has_row set) (zeroed k)) (λ k d' h. ap (λ i. get_or xs i d) (zeroed k) ∙ any_default xs k d d' h)
   where
     zeroed : (k : ℕ) → 0 + k ≡ k
@@ -92,12 +92,12 @@ within_range t a (suc n) top e =
     ]
 
 -- each place of the set is one of a row
-pub places-within : (set : List Bool) → AllByRecursion (λ i. i < length set) (places set)
+pub places-within : (set : List Bool) → AllByRecursion (λ i. i < length set) (indices set)
 places-within set = within_range (has_row set) 0 (length set) (length set) (omega arith)
 
 -- ---- what holds of each element holds of those that are marked
 
-pub All-marked : {X : Type 0} (P : X → Type 0) (set : List Bool) (xs : List X) → AllByRecursion P xs → AllByRecursion P (marked set xs)
+pub All-marked : {X : Type 0} (P : X → Type 0) (set : List Bool) (xs : List X) → AllByRecursion P xs → AllByRecursion P (selected set xs)
 All-marked P [] xs a = tt
 All-marked P (b ∷ bs) [] a = tt
 All-marked P (true ∷ bs) (x ∷ xs) a = (a.0, All-marked P bs xs a.1)
@@ -121,25 +121,25 @@ Pairs-right R (x ∷ xs) ys a = Pairs-right R xs ys a.1
 
 -- pieces of a list, each with a set
 module _ {L X : Type 0} (set : L → List Bool) (piece : L → List X) where
-  pub All-pieces : (P : X → Type 0) (ls : List L) → AllByRecursion P (flat_map piece ls) → AllByRecursion P (flat_map (λ l. marked (set l) (piece l)) ls)
+  pub All-pieces : (P : X → Type 0) (ls : List L) → AllByRecursion P (flat_map piece ls) → AllByRecursion P (flat_map (λ l. selected (set l) (piece l)) ls)
   All-pieces P [] a = tt
   All-pieces P (l ∷ ls) a =
-      All-both P (marked (set l) (piece l)) (flat_map (λ k. marked (set k) (piece k)) ls)
+      All-both P (selected (set l) (piece l)) (flat_map (λ k. selected (set k) (piece k)) ls)
       (All-marked P (set l) (piece l) (All-left P (piece l) (flat_map piece ls) a))
       (All-pieces P ls (All-right P (piece l) (flat_map piece ls) a))
 
-  cut : (R : X → X → Type 0) (ls : List L) (bs : List Bool) (xs : List X) → EachPair R (xs ++ flat_map piece ls) → EachPair R (flat_map (λ l. marked (set l) (piece l)) ls)
-      → EachPair R (marked bs xs ++ flat_map (λ l. marked (set l) (piece l)) ls)
+  cut : (R : X → X → Type 0) (ls : List L) (bs : List Bool) (xs : List X) → EachPair R (xs ++ flat_map piece ls) → EachPair R (flat_map (λ l. selected (set l) (piece l)) ls)
+      → EachPair R (selected bs xs ++ flat_map (λ l. selected (set l) (piece l)) ls)
   cut R ls [] xs a h = h
   cut R ls (b ∷ bs) [] a h = h
   cut R ls (true ∷ bs) (x ∷ xs) a h = (
-    All-both (R x) (marked bs xs) (flat_map (λ l. marked (set l) (piece l)) ls)
+    All-both (R x) (selected bs xs) (flat_map (λ l. selected (set l) (piece l)) ls)
         (All-marked (R x) bs xs (All-left (R x) xs (flat_map piece ls) a.0))
         (All-pieces (R x) ls (All-right (R x) xs (flat_map piece ls) a.0)),
     cut R ls bs xs a.1 h,
   )
   cut R ls (false ∷ bs) (x ∷ xs) a h = cut R ls bs xs a.1 h
 
-  pub Pairs-pieces : (R : X → X → Type 0) (ls : List L) → EachPair R (flat_map piece ls) → EachPair R (flat_map (λ l. marked (set l) (piece l)) ls)
+  pub Pairs-pieces : (R : X → X → Type 0) (ls : List L) → EachPair R (flat_map piece ls) → EachPair R (flat_map (λ l. selected (set l) (piece l)) ls)
   Pairs-pieces R [] a = tt
   Pairs-pieces R (l ∷ ls) a = cut R ls (set l) (piece l) a (Pairs-pieces R ls (Pairs-right R (piece l) (flat_map piece ls) a))

@@ -2,7 +2,7 @@
 use Rattle.std.proofs.Common.{◌≡◌, ℕ, zero, suc, ◌<◌, ◌≤◌, List, [], ◌∷◌, ◌++◌, length, map, filter, replicate, drop, get_or, ltb, Bool, true, false, refl, ◌∙◌, arith}
 use Rattle.std.proofs.lemmas.Bool.Decides.{nat_tests}
 use Rattle.cat_model.specs.Page.{Sort}
-use Rattle.cat_model.specs.View.{Row, marked}
+use Rattle.cat_model.specs.View.{Row, selected}
 use Rattle.cat_model.proofs.HitOrder.{is_lt-nat_cmp}
 use Rattle.cat_search.specs.declared.sort.Order.TheVariants as order
 use Rattle.cat_search.specs.Keys.{Rank, Place, place_before}
@@ -18,11 +18,11 @@ not_beyond m row is le =
     rw is (is_lt-nat_cmp m.number row.number ∙ up)
 
 pub passed : (m : Place) (k : ℕ) (set : List Bool) (rows : List Row) → m.rank ≡ Rank.missing → ((i : ℕ) (d : Row) → i < k → i < length rows → (get_or rows i d).number ≤ m.number)
-    → filter (place_before m) (marked (replicate k false ++ drop k set) (map added rows)) ≡ filter (place_before m) (marked set (map added rows))
+    → filter (place_before m) (selected (replicate k false ++ drop k set) (map added rows)) ≡ filter (place_before m) (selected set (map added rows))
 passed m zero set rows is up_to = refl
 passed m (suc k) [] rows is up_to = none k rows
   where
-    none : (j : ℕ) (rs : List Row) → filter (place_before m) (marked (replicate (suc j) false ++ []) (map added rs)) ≡ []
+    none : (j : ℕ) (rs : List Row) → filter (place_before m) (selected (replicate (suc j) false ++ []) (map added rs)) ≡ []
     none j [] = refl
     none zero (r ∷ rs) = refl
     none (suc j) (r ∷ rs) = none j rs

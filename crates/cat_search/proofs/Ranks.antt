@@ -103,7 +103,7 @@ no_key_in_labels (x ∷ xs) (suc i) = no_key_in_labels xs i
 -- ---- the row of the mark
 
 none : Row
-none = record { number = 0; id = []; parts = []; length = 0 }
+none = record { number = 0; id = []; fields = []; length = 0 }
 
 pub marked_place : (o : Order) (s : Sort) (rows : List Row) (mark : Option ℕ) (number : ℕ) → mark ≡ Some number
     → (ps : List Place) (here : List Row) (i : ℕ) (p : Place) → ps ≡ map (place_in o s) here

@@ -3,7 +3,7 @@ use Rattle.std.proofs.Common.{◌≡◌, ◌≢◌, ℕ, zero, suc, ◌<◌, ◌
 use Rattle.std.specs.List.{AllByRecursion, HoldsAt, All, flat_map}
 use Rattle.std.proofs.lemmas.Bool.Decides.{nat_tests}
 use Rattle.std.proofs.lemmas.List.Elements.{recursion_from_All}
-use Rattle.cat_model.specs.View.{Row, Leaf, Segment, marked, live_rows}
+use Rattle.cat_model.specs.View.{Row, Leaf, Segment, selected, live_rows}
 use Rattle.cat_model.specs.RowSets.{has_row}
 use Rattle.cat_model.proofs.Lists.{All-both, All-weaken}
 use Rattle.cat_model.proofs.Places.{EachPair, each_pair}
@@ -52,19 +52,19 @@ found-right number [] ys a = refl
 found-right number (x ∷ xs) ys a = let e : (x.number == number) ≡ false = a.0 in rw e (found-right number xs ys a.1)
 
 -- the live rows of a segment that has no row of the number
-pub none_live : (number : ℕ) (set : List Bool) (rows : List Row) → All (λ r. r.number ≢ number) rows → found number (marked set rows) ≡ None
+pub none_live : (number : ℕ) (set : List Bool) (rows : List Row) → All (λ r. r.number ≢ number) rows → found number (selected set rows) ≡ None
 none_live number set rows a =
-    lacking number (marked set rows) (All-marked (λ r. (r.number == number) ≡ false) set rows (All-weaken (λ r. r.number ≢ number) (λ r. (r.number == number) ≡ false) (λ r h. other r.number number h) rows (recursion_from_All (λ r. r.number ≢ number) rows a)))
+    lacking number (selected set rows) (All-marked (λ r. (r.number == number) ≡ false) set rows (All-weaken (λ r. r.number ≢ number) (λ r. (r.number == number) ≡ false) (λ r h. other r.number number h) rows (recursion_from_All (λ r. r.number ≢ number) rows a)))
 
 -- the row of the number, if it is marked
 found_at : (number : ℕ) (set : List Bool) (rows : List Row) (i : ℕ) (d : Row) → EachPair (λ a b. a.number < b.number) rows → i < length rows → (get_or rows i d).number ≡ number
-    → found number (marked set rows) ≡ cond (get_or set i false) (Some (get_or rows i d)) None
+    → found number (selected set rows) ≡ cond (get_or set i false) (Some (get_or rows i d)) None
 found_at number [] rows i d rises h e = refl
 found_at number (b ∷ bs) [] i d rises h e = absurd (omega arith)
 found_at number (true ∷ bs) (r ∷ rows) zero d rises h e = let t : (r.number == number) ≡ true = equal r.number number e in rw t refl
 found_at number (false ∷ bs) (r ∷ rows) zero d rises h e =
     let later : AllByRecursion (λ s. number < s.number) rows = subst (λ n. AllByRecursion (λ s. n < s.number) rows) e rises.0 in
-    lacking number (marked bs rows) (All-marked (λ s. (s.number == number) ≡ false) bs rows (above_lacks number rows later))
+    lacking number (selected bs rows) (All-marked (λ s. (s.number == number) ≡ false) bs rows (above_lacks number rows later))
 found_at number (true ∷ bs) (r ∷ rows) (suc i) d rises h e =
     let up : r.number < (get_or rows i d).number = at_index (λ s. r.number < s.number) rows i d (omega arith) rises.0 in
     let t : (r.number == number) ≡ false = other r.number number (λ q. omega (arith, up, e, q)) in
@@ -77,13 +77,13 @@ found_at number (true ∷ bs) (r ∷ rows) (suc i) d rises h e =
 found_at number (false ∷ bs) (r ∷ rows) (suc i) d rises h e = found_at number bs rows i d rises.1 (omega arith) e
 
 module _ (number : ℕ) (set : List Bool) (rows : List Row) (i : ℕ) (rises : NumbersRise rows) (h : i < length rows) (is : HoldsAt (λ r. r.number ≡ number) rows i) where
-  pub dead : has_row set i ≡ false → found number (marked set rows) ≡ None
-  dead e = elim rows as (λ rs. rs ≡ rows → found number (marked set rows) ≡ None) [
+  pub dead : has_row set i ≡ false → found number (selected set rows) ≡ None
+  dead e = elim rows as (λ rs. rs ≡ rows → found number (selected set rows) ≡ None) [
     | [] ↦ λ q. absurd (omega (arith, h, ap length (sym q)))
     | r ∷ rs ↦ λ q. found_at number set rows i r (each_pair (λ a b. a.number < b.number) rows rises) h (is r) ∙ ap (λ b. cond b (Some (get_or rows i r)) None) e
   ] refl
 
-  pub live : has_row set i ≡ true → HoldsAt (λ r. found number (marked set rows) ≡ Some r) rows i
+  pub live : has_row set i ≡ true → HoldsAt (λ r. found number (selected set rows) ≡ Some r) rows i
   live e d = found_at number set rows i d (each_pair (λ a b. a.number < b.number) rows rises) h (is d) ∙ ap (λ b. cond b (Some (get_or rows i d)) None) e
 
 -- ---- the search over segments

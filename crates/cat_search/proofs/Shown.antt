@@ -19,7 +19,7 @@ use Rattle.cat_search.proofs.Marks.{find-map}
 
 -- the item, and the record, without the source
 abbrev stripped : Item → Item
-stripped i = record { id = i.id; parts = i.parts; source = [] }
+stripped i = record { id = i.id; fields = i.fields; source = [] }
 
 abbrev strip : Record → Record
 strip r = record { number = r.number; item = stripped r.item }
@@ -139,13 +139,13 @@ due_shown P (Err e) h = h
 -- ---- records with these rows
 
 recorded : Row → Record
-recorded row = record { number = row.number; item = record { id = row.id; parts = row.parts; source = replicate row.length 0 } }
+recorded row = record { number = row.number; item = record { id = row.id; fields = row.fields; source = replicate row.length 0 } }
 
 rows-recorded : (rows : List Row) → map row_of (map recorded rows) ≡ rows
 unfolding recorded
 rows-recorded [] = refl
 rows-recorded (row ∷ rows) =
-    ap (λ n. record { number = row.number; id = row.id; parts = row.parts; length = n } ∷ map row_of (map recorded rows)) (length-replicate row.length 0)
+    ap (λ n. record { number = row.number; id = row.id; fields = row.fields; length = n } ∷ map row_of (map recorded rows)) (length-replicate row.length 0)
     ∙ ap (λ rs. row ∷ rs) (rows-recorded rows)
 
 pub views_show_records : ViewsShowRecords

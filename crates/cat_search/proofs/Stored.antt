@@ -13,7 +13,7 @@ use Rattle.cat_model.specs.Answer.{stored}
 use Rattle.cat_model.specs.Item.{Record}
 use Rattle.cat_model.specs.RowSets.{has_row}
 use Rattle.cat_model.specs.Text.{Text, same_text}
-use Rattle.cat_model.specs.View.{Row, Leaf, Segment, marked, live_rows, sourced}
+use Rattle.cat_model.specs.View.{Row, Leaf, Segment, selected, live_rows, sourced}
 use Rattle.cat_model.proofs.Insert.{which}
 use Rattle.cat_model.proofs.Lists.{list_any-append, list_any_none, All-weaken}
 use Rattle.cat_segment.specs.Sources.{source_place}
@@ -35,14 +35,14 @@ other a b h = elim (which (same_text a b)) [
 -- ---- the only element that passes, if it is marked
 
 module _ {X : Type 0} (p : X → Bool) where
-  none_marked : (set : List Bool) (xs : List X) (d : X) → ((k : ℕ) → k < length xs → p (get_or xs k d) ≡ false) → find p (marked set xs) ≡ None
+  none_marked : (set : List Bool) (xs : List X) (d : X) → ((k : ℕ) → k < length xs → p (get_or xs k d) ≡ false) → find p (selected set xs) ≡ None
   none_marked [] xs d h = refl
   none_marked (b ∷ bs) [] d h = refl
   none_marked (true ∷ bs) (x ∷ xs) d h = let e : p x ≡ false = h 0 (omega arith) in rw e (none_marked bs xs d (λ k l. h (suc k) (omega arith)))
   none_marked (false ∷ bs) (x ∷ xs) d h = none_marked bs xs d (λ k l. h (suc k) (omega arith))
 
   only_marked : (set : List Bool) (xs : List X) (i : ℕ) (d : X) → i < length xs → p (get_or xs i d) ≡ true → ((k : ℕ) → k < length xs → k ≢ i → p (get_or xs k d) ≡ false)
-      → find p (marked set xs) ≡ cond (get_or set i false) (Some (get_or xs i d)) None
+      → find p (selected set xs) ≡ cond (get_or set i false) (Some (get_or xs i d)) None
   only_marked [] xs i d h e o = refl
   only_marked (b ∷ bs) [] i d h e o = absurd (omega arith)
   only_marked (true ∷ bs) (x ∷ xs) zero d h e o = rw e refl
@@ -74,10 +74,10 @@ none_in id leaf rows is a =
 
 -- some row, for the reads of a list past its end
 abbrev no_row : Row
-no_row = record { number = 0; id = []; parts = []; length = 0 }
+no_row = record { number = 0; id = []; fields = []; length = 0 }
 
 found_row : (id : Text) (set : List Bool) (rows : List Row) (i : ℕ) → IdsDiffer rows → i < length rows → HoldsAt (λ r. r.id ≡ id) rows i
-    → find (has_id id) (marked set rows) ≡ cond (get_or set i false) (Some (get_or rows i no_row)) None
+    → find (has_id id) (selected set rows) ≡ cond (get_or set i false) (Some (get_or rows i no_row)) None
 found_row id set rows i apart h is =
     only_marked (has_id id) set rows i no_row h (same (get_or rows i no_row).id id (is no_row)) (λ k l n. differ_at id rows i k no_row apart h (is no_row) l n)
 
@@ -98,7 +98,7 @@ live_in id leaf i apart h is live =
 -- ---- the record of an id, with its source
 
 abbrev no_record : Record
-no_record = record { number = 0; item = record { id = []; parts = []; source = [] } }
+no_record = record { number = 0; item = record { id = []; fields = []; source = [] } }
 
 sum-cons : (x : ℕ) (xs : List ℕ) → sum (x ∷ xs) ≡ x + sum xs
 sum-cons x xs = sum_by-cons (λ n. n) x xs
@@ -124,7 +124,7 @@ source-sourced (r ∷ rows) bytes (suc k) h =
     ∙ ap (λ n. take len (drop n bytes)) place
 
 abbrev records : (ℕ → List ℕ) → Leaf → List Record
-records files leaf = marked leaf.live (sourced leaf.segment.rows (files leaf.segment.number))
+records files leaf = selected leaf.live (sourced leaf.segment.rows (files leaf.segment.number))
 
 found_record : (files : ℕ → List ℕ) (id : Text) (leaf : Leaf) (i : ℕ) → IdsDiffer leaf.segment.rows → i < length leaf.segment.rows → HoldsAt (λ r. r.id ≡ id) leaf.segment.rows i → has_row leaf.live i ≡ true
     → stored (records files leaf) id ≡ Some (source_in files leaf i)
@@ -139,7 +139,7 @@ found_record files id leaf i apart h is live =
     ap (option_map (λ r. r.item.source)) (only_marked (λ r. same_text r.item.id id) leaf.live all i no_record (omega (arith, h, long)) yes no ∙ ap (λ b. cond b (Some (get_or all i no_record)) None) live)
     ∙ ap Some (source-sourced rows bytes i h)
 
-alike : (id : Text) (set : List Bool) (rows : List Row) (bytes : List ℕ) → list_any (λ r. same_text r.item.id id) (marked set (sourced rows bytes)) ≡ list_any (has_id id) (marked set rows)
+alike : (id : Text) (set : List Bool) (rows : List Row) (bytes : List ℕ) → list_any (λ r. same_text r.item.id id) (selected set (sourced rows bytes)) ≡ list_any (has_id id) (selected set rows)
 alike id [] rows bytes = refl
 alike id (b ∷ bs) [] bytes = refl
 alike id (true ∷ bs) (r ∷ rows) bytes = ap (λ b. same_text r.id id || b) (alike id bs rows (drop r.length bytes))

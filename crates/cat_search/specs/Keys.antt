@@ -24,7 +24,7 @@ key_seen (borrowed.Keyword s) = model.Key.keyword s.now
 
 -- the sort key of an item in the field of this place
 abbrev pub key_at : ℕ → Item → Option model.Key
-key_at place i = key_in (option_map (λ p. p.content) (slice_get i.parts place))
+key_at place i = key_in (option_map (λ p. p.content) (slice_get i.fields place))
 
 -- where a key stands in its order
 pub data Rank : Type 0 where

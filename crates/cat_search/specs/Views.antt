@@ -8,7 +8,7 @@ use Rattle.cat_model.specs.Page as model
 use Rattle.cat_model.specs.Page.{key, key_in}
 use Rattle.cat_model.specs.Answer.{stored}
 use Rattle.cat_model.specs.Text.{Text, same_text}
-use Rattle.cat_model.specs.View.{Row, Leaf, View, Shows, item_in, marked, sourced}
+use Rattle.cat_model.specs.View.{Row, Leaf, View, Shows, item_in, selected, sourced}
 use Rattle.cat_query.specs.declared.query.Query.{Query}
 use Rattle.cat_segment.specs.Contents.{contents_of}
 use Rattle.cat_segment.specs.declared.column.Column.{Column}
@@ -77,7 +77,7 @@ source_in files leaf row =
 
 -- the source of the live row of this id
 abbrev pub stored_in : (ℕ → List ℕ) → List Leaf → Text → Option Text
-stored_in files leaves id = stored (flat_map (λ leaf. marked leaf.live (sourced leaf.segment.rows (files leaf.segment.number))) leaves) id
+stored_in files leaves id = stored (flat_map (λ leaf. selected leaf.live (sourced leaf.segment.rows (files leaf.segment.number))) leaves) id
 
 -- what a device tells of the files with the sources of the view's segments
 abbrev pub TellsSources : (FileName → Told) → (ℕ → List ℕ) → View → Type 0

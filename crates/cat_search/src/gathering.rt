@@ -3,7 +3,7 @@ ghost use Rattle.std.specs.Prelude.{◌≡◌, ◌<◌, ◌+◌, ◌++◌, List,
 ghost use Rattle.std.specs.List.{flat_map};
 ghost use Rattle.cat_base.specs.declared.refusal.Refusal.TheVariants.{Memory};
 ghost use Rattle.cat_model.specs.Ranks.{sorted};
-ghost use Rattle.cat_model.specs.View.{live_rows, marked, row_matches};
+ghost use Rattle.cat_model.specs.View.{live_rows, selected, row_matches};
 ghost use Rattle.cat_query.specs.View.{query_of};
 ghost use Rattle.cat_search.specs.Keys.{Place, place_before};
 ghost use Rattle.cat_search.specs.Pages.{beyond};
@@ -28,7 +28,7 @@ use std::alloc::Global;
 /// The live rows of the leaf that the query matches (Lucene: `BulkScorer.score` with the leaf's `liveDocs`). A refusal is
 /// [`Refusal::Memory`].
 fn hits_of(alloc: Global, query: &Query, leaf: &Leaf) -> Result<RowSet, Refusal>
-    ensures ok { IfOk result (λ s. marked s leaf.now.segment.rows ≡ filter (row_matches (query_of query.now)) (live_rows leaf.now)) }
+    ensures ok { IfOk result (λ s. selected s leaf.now.segment.rows ≡ filter (row_matches (query_of query.now)) (live_rows leaf.now)) }
     ensures long { IfOk result (λ s. length s ≡ length leaf.now.segment.rows) }
     ensures refusal { IfErr result (λ e. e ≡ Memory) }
 {
@@ -53,8 +53,8 @@ fn counted(total: usize, hits: &RowSet) -> Result<usize, Refusal>
 fn pass_mark(hits: &mut RowSet, segment: &Segment, mark: &Option<Candidate<'_>>)
     requires { length hits.old ≡ length segment.now.rows }
     ensures long { length hits.new ≡ length hits.old }
-    ensures passed { filter (beyond (option_map seen mark.now)) (marked hits.new (map (place_in Added model.Sort.added) segment.now.rows))
-        ≡ filter (beyond (option_map seen mark.now)) (marked hits.old (map (place_in Added model.Sort.added) segment.now.rows)) }
+    ensures passed { filter (beyond (option_map seen mark.now)) (selected hits.new (map (place_in Added model.Sort.added) segment.now.rows))
+        ≡ filter (beyond (option_map seen mark.now)) (selected hits.old (map (place_in Added model.Sort.added) segment.now.rows)) }
 {
     // In order of addition no mark has a key.
     if let Some(mark) = mark
@@ -75,7 +75,7 @@ fn take_rows<'a>(
 ) -> Result<(), Refusal>
     requires long { length hits.now ≡ length ranks.now }
     ensures taken { OnOk result ((places : List Place) → map seen taken.old.items ≡ take n places
-        → map seen taken.new.items ≡ take n (places ++ filter (beyond (option_map seen mark.now)) (marked hits.now ranks.now))) }
+        → map seen taken.new.items ≡ take n (places ++ filter (beyond (option_map seen mark.now)) (selected hits.now ranks.now))) }
     ensures refusal { IfErr result (λ e. e ≡ Memory) }
 {
     for row in hits.iter() {

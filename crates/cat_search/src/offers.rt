@@ -2,7 +2,7 @@
 ghost use Rattle.std.specs.Prelude.{◌≡◌, ◌++◌, [], ◌∷◌, List, length, filter, cond, option_map, OnOk, IfErr};
 ghost use Rattle.cat_base.specs.declared.refusal.Refusal.TheVariants.{Memory};
 ghost use Rattle.cat_model.specs.Page.{Key};
-ghost use Rattle.cat_model.specs.View.{marked};
+ghost use Rattle.cat_model.specs.View.{selected};
 ghost use Rattle.cat_search.specs.Bars.{AreRanked};
 ghost use Rattle.cat_search.specs.Keys.{Place};
 ghost use Rattle.cat_search.specs.Pages.{beyond};
@@ -54,7 +54,7 @@ fn offer_each<'a>(
     requires { length hits.now ≡ length ranks.now }
     ensures limit { best.new.limit ≡ best.old.limit }
     ensures best { OnOk result ((places : List Place) → IsBestAt best.old places
-        → IsBestAt best.new (places ++ filter (beyond (option_map seen mark.now)) (marked hits.now ranks.now))) }
+        → IsBestAt best.new (places ++ filter (beyond (option_map seen mark.now)) (selected hits.now ranks.now))) }
     ensures refusal { IfErr result (λ e. e ≡ Memory) }
 {
     for row in hits.iter() {
@@ -77,7 +77,7 @@ fn offer_numbers<'a>(
     requires ranked { AreRanked Key.number order numbers.now ranks.now }
     ensures limit { best.new.limit ≡ best.old.limit }
     ensures best { OnOk result ((places : List Place) → IsBestAt best.old places
-        → IsBestAt best.new (places ++ filter (beyond (option_map seen mark.now)) (marked hits.now ranks.now))) }
+        → IsBestAt best.new (places ++ filter (beyond (option_map seen mark.now)) (selected hits.now ranks.now))) }
     ensures refusal { IfErr result (λ e. e ≡ Memory) }
 {
     let mut bar = Bar::of(best, order, mark);
@@ -104,7 +104,7 @@ fn offer_keywords<'a>(
     requires ranked { AreRanked Key.keyword order keywords.now ranks.now }
     ensures limit { best.new.limit ≡ best.old.limit }
     ensures best { OnOk result ((places : List Place) → IsBestAt best.old places
-        → IsBestAt best.new (places ++ filter (beyond (option_map seen mark.now)) (marked hits.now ranks.now))) }
+        → IsBestAt best.new (places ++ filter (beyond (option_map seen mark.now)) (selected hits.now ranks.now))) }
     ensures refusal { IfErr result (λ e. e ≡ Memory) }
 {
     let dictionary = keywords.dictionary();
@@ -130,7 +130,7 @@ pub(crate) fn offer_rows<'a>(
     requires { length hits.now ≡ length ranks.now }
     ensures limit { best.new.limit ≡ best.old.limit }
     ensures best { OnOk result ((places : List Place) → IsBestAt best.old places
-        → IsBestAt best.new (places ++ filter (beyond (option_map seen mark.now)) (marked hits.now ranks.now))) }
+        → IsBestAt best.new (places ++ filter (beyond (option_map seen mark.now)) (selected hits.now ranks.now))) }
     ensures refusal { IfErr result (λ e. e ≡ Memory) }
 {
     if let Some((numbers, order)) = ranks.numbers() {

@@ -5,7 +5,7 @@ use Rattle.std.specs.List.{AllPairs}
 use Rattle.std.proofs.lemmas.List.{length-map, get_or-map, same_lists}
 use Rattle.std.proofs.lemmas.List.FromFn.{fill_by_all}
 use Rattle.cat_model.specs.Text.{Text}
-use Rattle.cat_model.specs.Item.{Content, Field, Kind, Schema, Part, IsContent, AreParts}
+use Rattle.cat_model.specs.Item.{Content, Field, Kind, Schema, FieldContent, IsContent, AreFields}
 use Rattle.cat_model.specs.Forms.{IsFormed}
 use Rattle.cat_model.specs.Layout.{Laid, Layout, Head, column_of, head_of, layout_of, IsHead, IsLaid, AreLaid, IsLayout}
 use Rattle.cat_model.specs.Ordinals.{dictionary_of}
@@ -29,7 +29,7 @@ laid_at rows (g ∷ fs) (m ∷ ls) zero f l are lt = are.0
 laid_at rows (g ∷ fs) (m ∷ ls) (suc place) f l are lt = laid_at rows fs ls place f l are.1 (omega arith)
 
 -- the part of a place among those of a row
-part_at : (fs : Schema) (cs : List Column) (row place : ℕ) (f : Field) (c : Column) (p : Part) → length cs ≡ length fs → place < length fs
+part_at : (fs : Schema) (cs : List Column) (row place : ℕ) (f : Field) (c : Column) (p : FieldContent) → length cs ≡ length fs → place < length fs
     → get_or (parts_at fs cs row) place p ≡ record { name = (get_or fs place f).name; content = content_at (get_or cs place c) row }
 part_at [] cs row place f c p many lt = absurd (omega arith)
 part_at (g ∷ fs) [] row place f c p many lt = absurd (omega arith)
@@ -42,7 +42,7 @@ length-parts_at (f ∷ fs) [] row many = absurd (omega arith)
 length-parts_at (f ∷ fs) (c ∷ cs) row many = ap suc (length-parts_at fs cs row (omega arith))
 
 parts_are : (fs : Schema) (cs : List Column) (row : ℕ) → length cs ≡ length fs
-    → ((place : ℕ) (f : Field) (c : Column) → place < length fs → IsContent (get_or fs place f).kind (content_at (get_or cs place c) row)) → AreParts fs (parts_at fs cs row)
+    → ((place : ℕ) (f : Field) (c : Column) → place < length fs → IsContent (get_or fs place f).kind (content_at (get_or cs place c) row)) → AreFields fs (parts_at fs cs row)
 parts_are [] cs row many each = tt
 parts_are (f ∷ fs) [] row many each = absurd (omega arith)
 parts_are (f ∷ fs) (c ∷ cs) row many each = ((refl, each 0 f c (omega arith)), parts_are fs cs row (omega arith) (λ place g d lt. each (suc place) g d (omega arith)))
@@ -137,7 +137,7 @@ module _ (number : ℕ) (schema : Schema) (numbers : List ℕ) (ids : List Text)
     rows_are = record {
       some = omega (arith, is.fits.some, is.each_head, length-rows_of held);
       few = omega (arith, is.fits.few, is.each_head, length-rows_of held);
-      parts = λ k d lt. subst (λ r. AreParts schema r.parts) (sym (row_is k d lt)) (parts_are schema columns k is.read.many (λ place f c within. content_is place k f c within (inside k lt)));
+      fields = λ k d lt. subst (λ r. AreFields schema r.fields) (sym (row_is k d lt)) (parts_are schema columns k is.read.many (λ place f c within. content_is place k f c within (inside k lt)));
       positive = λ k d lt. subst (λ r. 1 ≤ r.number) (sym (row_is k d lt)) (head_of_row k (inside k lt)).positive;
       rising = λ i j d lt within. subst (λ r. r.number < (get_or (rows_of held) j d).number) (sym (row_is i d (omega arith))) (subst (λ r. get_or numbers i 0 < r.number) (sym (row_is j d within)) (is.rising i j 0 lt (inside j within)));
       distinct = λ i j d lt within same. is.distinct i j [] lt (omega (arith, inside j within, is.each_id)) (ap (λ r. r.id) (sym (row_is i d (omega arith))) ∙ same ∙ ap (λ r. r.id) (row_is j d within));
@@ -152,10 +152,10 @@ module _ (number : ℕ) (schema : Schema) (numbers : List ℕ) (ids : List Text)
     pub rows_formed : All IsFormedRow (rows_of held)
     rows_formed k d lt =
         let head = head_of_row k (inside k lt) in
-        subst IsFormedRow (sym (row_is k d lt)) (record { number = head.fits; id = head.id; source = head.source; parts = parts_formed k (inside k lt) })
+        subst IsFormedRow (sym (row_is k d lt)) (record { number = head.fits; id = head.id; source = head.source; fields = parts_formed k (inside k lt) })
 
     pub read_words : (name : Text) → length (words_of_field (rows_of held) name) < 2 ^ 32
-    read_words name = words_few schema (rows_of held) is.fits.schema.rising rows_are.parts each name
+    read_words name = words_few schema (rows_of held) is.fits.schema.rising rows_are.fields each name
       where
         each : (place : ℕ) → place < length schema → length (dictionary_of (words_under (contents_under place (rows_of held)))) < 2 ^ 32
         each place lt =
@@ -172,7 +172,7 @@ module _ (number : ℕ) (schema : Schema) (numbers : List ℕ) (ids : List Text)
     heads_read =
         same_lists (map head_of (rows_of held)) heads (length-map (rows_of held) head_of ∙ length-rows_of held ∙ sym is.each_head)
         (λ k d lt. let within : k < length (rows_of held) = omega (arith, length-map (rows_of held) head_of) in
-        let r : Row = record { number = 0; id = []; parts = []; length = 0 } in
+        let r : Row = record { number = 0; id = []; fields = []; length = 0 } in
         get_or-map head_of (rows_of held) k r d within ∙ ap head_of (row_is k r within) ∙ sym (is.head k d (inside k within)))
 
     columns_read : map (column_of (rows_of held)) schema ≡ laid

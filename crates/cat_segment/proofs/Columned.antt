@@ -8,7 +8,7 @@ use Rattle.cat_base.proofs.TextSets.{sorted_set_members}
 use Rattle.cat_model.specs.Text.{Text}
 use Rattle.cat_model.specs.Item.{Content, Kind, IsContent, words_in, keyword_in, number_in, labels_in}
 use Rattle.cat_model.specs.Forms.{IsFormed, IsWord, IsKeyword, IsLabel}
-use Rattle.cat_model.specs.Layout.{Laid, Posted, ordinal_in, code_in, posted_of, keywords_of, IsPosted, IsLaid}
+use Rattle.cat_model.specs.Layout.{Laid, WordPostings, ordinal_in, code_in, word_postings_of, keywords_of, IsWordPostings, IsLaid}
 use Rattle.cat_model.specs.Ordinals.{dictionary_of, postings_of, texts_of}
 use Rattle.cat_values.proofs.Told.{same_labels}
 use Rattle.cat_segment.proofs.Formed.{seen, joined, label_counts}
@@ -45,8 +45,8 @@ seen_labels : (xs : List (List Text)) → map labels_in (seen (map Content.label
 seen_labels [] = refl
 seen_labels (x ∷ xs) = ap (λ l. x ∷ l) (seen_labels xs)
 
-pub words_laid : (xs : List (List Text)) → laid_out Kind.text (map Content.words xs) ≡ Laid.words (posted_of xs)
-words_laid xs = ap (λ l. Laid.words (posted_of l)) (seen_words xs)
+pub words_laid : (xs : List (List Text)) → laid_out Kind.text (map Content.words xs) ≡ Laid.words (word_postings_of xs)
+words_laid xs = ap (λ l. Laid.words (word_postings_of l)) (seen_words xs)
 
 pub keywords_laid : (xs : List (Option Text)) → laid_out Kind.keyword (map Content.keyword xs) ≡ Laid.keywords (keywords_of xs) (map (code_in (keywords_of xs)) xs)
 keywords_laid xs = ap (λ l. Laid.keywords (keywords_of l) (map (code_in (keywords_of l)) l)) (seen_keywords xs)
@@ -62,14 +62,14 @@ labels_laid xs = ap (λ l. Laid.labels (dictionary_of l) (map (map (ordinal_in (
 abbrev Read : Kind → ℕ → List Content → Laid → Type 0
 Read kind rows contents laid = AreContents kind rows contents × (laid_out kind contents ≡ laid)
 
-words_had : (texts : List (List Text)) (ps : List Posted) → posted_of texts ≡ ps → All IsPosted ps → All IsWord (dictionary_of texts)
+words_had : (texts : List (List Text)) (ps : List WordPostings) → word_postings_of texts ≡ ps → All IsWordPostings ps → All IsWord (dictionary_of texts)
 words_had texts ps same posted k d lt =
-    let make : Text → Posted = λ w. record { word = w; rows = postings_of w texts } in
-    let none : Posted = record { word = []; rows = [] } in
+    let make : Text → WordPostings = λ w. record { word = w; rows = postings_of w texts } in
+    let none : WordPostings = record { word = []; rows = [] } in
     let there : get_or ps k none ≡ make (get_or (dictionary_of texts) k d) = ap (λ l. get_or l k none) (sym same) ∙ get_or-map make (dictionary_of texts) k d none lt in
-    subst (λ p. IsWord p.word) there (posted k none (omega (arith, length-map {B = Posted} (dictionary_of texts) make, ap length same))).word
+    subst (λ p. IsWord p.word) there (posted k none (omega (arith, length-map {B = WordPostings} (dictionary_of texts) make, ap length same))).word
 
-pub words_read : (rows : ℕ) (texts : List (List Text)) (ps : List Posted) → length texts ≡ rows → All IsTextSet texts → posted_of texts ≡ ps → IsLaid rows Kind.text (Laid.words ps) → Read Kind.text rows (map Content.words texts) (Laid.words ps)
+pub words_read : (rows : ℕ) (texts : List (List Text)) (ps : List WordPostings) → length texts ≡ rows → All IsTextSet texts → word_postings_of texts ≡ ps → IsLaid rows Kind.text (Laid.words ps) → Read Kind.text rows (map Content.words texts) (Laid.words ps)
 words_read rows texts ps long sets same laid =
     let words = all_of_dictionary IsWord texts (words_had texts ps same laid.1) in (
       record {
@@ -120,9 +120,9 @@ labels_read rows sets dictionary ordinals rising few same laid_same laid =
 
 -- ---- what is no column
 
-pub no_words : (rows : ℕ) (ps : List Posted) → ((texts : List (List Text)) → length texts ≡ rows → All IsTextSet texts → posted_of texts ≢ ps) → (contents : List Content) → AreContents Kind.text rows contents → laid_out Kind.text contents ≢ Laid.words ps
+pub no_words : (rows : ℕ) (ps : List WordPostings) → ((texts : List (List Text)) → length texts ≡ rows → All IsTextSet texts → word_postings_of texts ≢ ps) → (contents : List Content) → AreContents Kind.text rows contents → laid_out Kind.text contents ≢ Laid.words ps
 no_words rows ps none contents are same =
-    let postings : posted_of (map words_in (seen contents)) ≡ ps = cc in
+    let postings : word_postings_of (map words_in (seen contents)) ≡ ps = cc in
     none (map words_in (seen contents)) (length-seen words_in contents ∙ are.long) (word_sets contents are.kinds) postings
 
 pub no_keywords : (rows : ℕ) (dictionary : List Text) (codes : List ℕ) → ((values : List (Option Text)) → keywords_of values ≡ dictionary → map (code_in (keywords_of values)) values ≢ codes)

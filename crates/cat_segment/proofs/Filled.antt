@@ -7,7 +7,7 @@ use Rattle.std.proofs.lemmas.Option.{slice_get-get_or}
 use Rattle.std.proofs.lemmas.Simd.{map-map}
 use Rattle.cat_base.specs.Texts.{IsTextSet}
 use Rattle.cat_model.specs.Text.{Text}
-use Rattle.cat_model.specs.Item.{Field, Kind, Content, Schema, Part, IsContent, AreParts, keyword_in, number_in, words_in}
+use Rattle.cat_model.specs.Item.{Field, Kind, Content, Schema, FieldContent, IsContent, AreFields, keyword_in, number_in, words_in}
 use Rattle.cat_model.specs.Forms.{IsFormed}
 use Rattle.cat_model.specs.Ordinals.{texts_of, dictionary_of}
 use Rattle.cat_segment.proofs.Formed.{length-dictionary}
@@ -76,7 +76,7 @@ module _ (place : ℕ) (rows : List given.Row) where
       ∙ sym (map-map texts_of (λ r. keyword_in (content_in place r.item.now)) rows)
 
 -- the part of a field's place is of the field's kind
-pub filled_at : (fs : Schema) (ps : List Part) (place : ℕ) (f : Field) → AreParts fs ps → place < length fs → f ≡ get_or fs place f → IsFilled f.kind (option_map (λ p. p.content) (slice_get ps place))
+pub filled_at : (fs : Schema) (ps : List FieldContent) (place : ℕ) (f : Field) → AreFields fs ps → place < length fs → f ≡ get_or fs place f → IsFilled f.kind (option_map (λ p. p.content) (slice_get ps place))
 filled_at [] ps place f parts lt is = absurd (omega arith)
 filled_at (g ∷ fs) [] place f parts lt is = absurd parts
 filled_at (g ∷ fs) (p ∷ ps) zero f parts lt is = subst (λ h. IsContent h.kind p.content) (sym is) parts.0.1
@@ -85,13 +85,13 @@ filled_at (g ∷ fs) (p ∷ ps) (suc place) f parts lt is = filled_at fs ps plac
 -- ---- forms
 
 -- what is in a place has its forms where each part has
-pub formed_in : (ps : List Part) (place : ℕ) → All (λ p. IsFormed p.content) ps → IfSome (option_map (λ p. p.content) (slice_get ps place)) IsFormed
+pub formed_in : (ps : List FieldContent) (place : ℕ) → All (λ p. IsFormed p.content) ps → IfSome (option_map (λ p. p.content) (slice_get ps place)) IsFormed
 formed_in [] place formed = tt
 formed_in (p ∷ ps) zero formed = formed 0 p (omega arith)
 formed_in (p ∷ ps) (suc place) formed = formed_in ps place (λ k d lt. formed (suc k) d (omega arith))
 
 -- and each part has where what is in each place has
-pub parts_formed : (ps : List Part) → ((place : ℕ) → place < length ps → IfSome (option_map (λ p. p.content) (slice_get ps place)) IsFormed) → All (λ p. IsFormed p.content) ps
+pub parts_formed : (ps : List FieldContent) → ((place : ℕ) → place < length ps → IfSome (option_map (λ p. p.content) (slice_get ps place)) IsFormed) → All (λ p. IsFormed p.content) ps
 parts_formed ps each k d lt = subst (λ o. IfSome (option_map (λ p. p.content) o) IsFormed) (slice_get-get_or ps k d lt) (each k lt)
 
 -- the words of a text field are its texts

@@ -14,9 +14,9 @@ use Rattle.cat_values.proofs.Members.{length-sorted_set}
 use Rattle.cat_model.specs.Text.{Text, same_text}
 use Rattle.cat_model.specs.Item.{Content, Kind, IsContent, words_in, keyword_in, number_in, labels_in}
 use Rattle.cat_model.specs.Forms.{IsFormed, IsWord, IsKeyword, IsLabel}
-use Rattle.cat_model.specs.Layout.{Posted, ordinal_in, code_in, keywords_of, FitU32, IsPosted, IsLaid}
+use Rattle.cat_model.specs.Layout.{WordPostings, ordinal_in, code_in, keywords_of, FitU32, IsWordPostings, IsLaid}
 use Rattle.cat_model.specs.Ordinals.{dictionary_of, postings_of, texts_of, rows_having}
-use Rattle.cat_model.specs.RowSets.{places, has_row}
+use Rattle.cat_model.specs.RowSets.{indices, has_row}
 use Rattle.cat_segment.specs.Laid.{AreContents, laid_out}
 
 -- ---- dictionaries
@@ -39,11 +39,11 @@ length-dictionary most rows few = omega (arith, length-sorted_set (joined rows),
 
 -- ---- postings
 
-length-places : (set : List Bool) → length (places set) ≤ length set
+length-places : (set : List Bool) → length (indices set) ≤ length set
 length-places set =
     omega (arith, length-filter (has_row set) (range_with_len 0 (length set)), count_by-le-length (has_row set) (range_with_len 0 (length set)), length-range_with_len 0 (length set))
 
-pub places_within : (set : List Bool) → All (λ row. row < length set) (places set)
+pub places_within : (set : List Bool) → All (λ row. row < length set) (indices set)
 places_within set =
     All-filter (has_row set) (λ row. row < length set) (range_with_len 0 (length set))
     (λ k d lt. omega (arith, get_or-range_with_len 0 (length set) k d (omega (arith, length-range_with_len 0 (length set))), length-range_with_len 0 (length set)))
@@ -110,8 +110,8 @@ laid_words rows contents are few words =
     let wss : List (List Text) = map words_in (seen contents) in
     let long : length wss ≡ rows = length-read words_in contents ∙ are.long in
     let formed : All IsWord (dictionary_of wss) = all_in_dictionary IsWord wss (all_read (All IsWord) words_in Kind.text words_formed contents are.kinds are.formed) in (
-      omega (arith, length-map {B = Posted} (dictionary_of wss) (λ w. record { word = w; rows = postings_of w wss })),
-      All-map IsPosted (λ w. record { word = w; rows = postings_of w wss }) (dictionary_of wss)
+      omega (arith, length-map {B = WordPostings} (dictionary_of wss) (λ w. record { word = w; rows = postings_of w wss })),
+      All-map IsWordPostings (λ w. record { word = w; rows = postings_of w wss }) (dictionary_of wss)
           (λ k d lt. record { word = formed k d lt; rows = postings_fit (get_or (dictionary_of wss) k d) wss (omega arith) }),
     )
 

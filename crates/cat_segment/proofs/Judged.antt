@@ -104,7 +104,7 @@ module _ (p : SegmentParts) (is : IsParts p) where
         ∙ head_at p.numbers.items p.ids.items p.lengths.items k no_head is.ids is.lengths (omega (arith, rows_many))
 
     abbrev no_row : Row
-    no_row = record { number = 0; id = []; parts = []; length = 0 }
+    no_row = record { number = 0; id = []; fields = []; length = 0 }
 
     pub numbers_rise : AllPairs (λ a b. a < b) p.numbers.items
     numbers_rise i j d lt within =

@@ -7,8 +7,8 @@ use Rattle.std.proofs.lemmas.Simd.{map-map}
 use Rattle.cat_base.specs.Texts.{IsTextSet}
 use Rattle.cat_model.specs.Text.{Text}
 use Rattle.cat_model.specs.Files.{IsFileNumber}
-use Rattle.cat_model.specs.Item.{Content, Field, Kind, Schema, Part, IsContent, AreParts, content_of, words_in, keyword_in, number_in, labels_in}
-use Rattle.cat_model.specs.Layout.{Laid, ordinal_in, code_in, posted_of, keywords_of, laid_as, column_of, head_of, layout_of, IsHead, IsLaid, AreLaid, IsLayout}
+use Rattle.cat_model.specs.Item.{Content, Field, Kind, Schema, FieldContent, IsContent, AreFields, content_of, words_in, keyword_in, number_in, labels_in}
+use Rattle.cat_model.specs.Layout.{Laid, ordinal_in, code_in, word_postings_of, keywords_of, laid_as, column_of, head_of, layout_of, IsHead, IsLaid, AreLaid, IsLayout}
 use Rattle.cat_model.specs.Ordinals.{dictionary_of}
 use Rattle.cat_model.specs.View.{Row, Segment, item_in, IsSegment}
 use Rattle.cat_segment.specs.Laid.{content_under, contents_under, AreContents, laid_out}
@@ -19,13 +19,13 @@ use Rattle.cat_segment.proofs.Formed.{seen, IsLaid-of}
 
 module _ (s : Segment) (is : IsSegment s) where
   pub column_placed : (place : ℕ) (f : Field) → place < length s.schema → column_of s.rows (get_or s.schema place f) ≡ laid_out (get_or s.schema place f).kind (contents_under place s.rows)
-  column_placed place f lt = ap (laid_as (get_or s.schema place f).kind) (contents_named s.schema s.rows place f is.schema.rising is.rows.parts lt)
+  column_placed place f lt = ap (laid_as (get_or s.schema place f).kind) (contents_named s.schema s.rows place f is.schema.rising is.rows.fields lt)
 
   words_few : (place : ℕ) (f : Field) → place < length s.schema → length (dictionary_of (map words_in (seen (contents_under place s.rows)))) < 2 ^ 32
   words_few place f lt =
       let name : Text = (get_or s.schema place f).name in
       let same : map (λ r. words_in (content_of name (item_in r))) s.rows ≡ map words_in (seen (contents_under place s.rows)) =
-      sym (map-map words_in (λ r. content_of name (item_in r)) s.rows) ∙ ap (map words_in) (contents_named s.schema s.rows place f is.schema.rising is.rows.parts lt) in
+      sym (map-map words_in (λ r. content_of name (item_in r)) s.rows) ∙ ap (map words_in) (contents_named s.schema s.rows place f is.schema.rising is.rows.fields lt) in
       omega (arith, is.words name, ap (λ (l : List (List Text)). length (dictionary_of l)) same)
 
   pub contents_are : (place : ℕ) (f : Field) → place < length s.schema → AreContents (get_or s.schema place f).kind (length s.rows) (contents_under place s.rows)
@@ -58,7 +58,7 @@ IsLayout-of s is number =
 
 -- what the laws of terms and of columns say
 pub record AreTold : Type 0 where
-  pub terms : (a b : List (List Text)) → length a ≡ length b → All IsTextSet a → All IsTextSet b → posted_of a ≡ posted_of b → a ≡ b
+  pub terms : (a b : List (List Text)) → length a ≡ length b → All IsTextSet a → All IsTextSet b → word_postings_of a ≡ word_postings_of b → a ≡ b
   pub keywords : (a b : List (Option Text)) → keywords_of a ≡ keywords_of b → map (code_in (keywords_of a)) a ≡ map (code_in (keywords_of b)) b → a ≡ b
   pub labels : (a b : List (List Text)) → dictionary_of a ≡ dictionary_of b → map (map (ordinal_in (dictionary_of a))) a ≡ map (map (ordinal_in (dictionary_of b))) b → a ≡ b
 
@@ -97,7 +97,7 @@ length-seen read contents = length-map (seen contents) read ∙ length-map conte
 
 column_told : AreTold → (kind : Kind) (rows : ℕ) (one other : List Content) → AreContents kind rows one → AreContents kind rows other → laid_out kind one ≡ laid_out kind other → one ≡ other
 column_told told Kind.text rows one other a b same =
-    let postings : posted_of (map words_in (seen one)) ≡ posted_of (map words_in (seen other)) = cc in
+    let postings : word_postings_of (map words_in (seen one)) ≡ word_postings_of (map words_in (seen other)) = cc in
     let words = told.terms (map words_in (seen one)) (map words_in (seen other)) (length-seen words_in one ∙ a.long ∙ sym (length-seen words_in other ∙ b.long)) (word_sets one a.kinds) (word_sets other b.kinds) postings in
     sym (read_back Kind.text Content.words words_in words_back one a.kinds) ∙ ap (map Content.words) words ∙ read_back Kind.text Content.words words_in words_back other b.kinds
 column_told told Kind.keyword rows one other a b same =
@@ -117,7 +117,7 @@ column_told told Kind.facet rows one other a b same =
     sym (read_back Kind.facet Content.labels labels_in labels_back one a.kinds) ∙ ap (map Content.labels) (told.labels ks ls dictionary ordinals) ∙ read_back Kind.facet Content.labels labels_in labels_back other b.kinds
 
 -- parts that have the same in each place are one
-parts_told : (fs : Schema) (ps qs : List Part) → AreParts fs ps → AreParts fs qs → ((place : ℕ) → place < length fs → (get_or ps place no_part).content ≡ (get_or qs place no_part).content) → ps ≡ qs
+parts_told : (fs : Schema) (ps qs : List FieldContent) → AreFields fs ps → AreFields fs qs → ((place : ℕ) → place < length fs → (get_or ps place no_part).content ≡ (get_or qs place no_part).content) → ps ≡ qs
 parts_told [] [] [] a b same = refl
 parts_told [] [] (q ∷ qs) a b same = absurd b
 parts_told [] (p ∷ ps) qs a b same = absurd a
@@ -159,11 +159,11 @@ module _ (told : AreTold) (s t : Segment) (a : IsSegment s) (b : IsSegment t) (s
   rows_at k d lt =
       let head = heads_at k d lt in
       let within : k < length t.rows = omega (arith, as_many) in
-      let parts = parts_told s.schema (get_or s.rows k d).parts (get_or t.rows k d).parts (a.rows.parts k d lt) (subst (λ fs. AreParts fs (get_or t.rows k d).parts) (sym schemas) (b.rows.parts k d within))
+      let fields = parts_told s.schema (get_or s.rows k d).fields (get_or t.rows k d).fields (a.rows.fields k d lt) (subst (λ fs. AreFields fs (get_or t.rows k d).fields) (sym schemas) (b.rows.fields k d within))
       (λ place inside. sym (get_or-map (content_under place) s.rows k d (content_under place d) lt)
       ∙ ap (λ l. get_or l k (content_under place d)) (columns_at place (record { name = []; kind = Kind.text }) inside)
       ∙ get_or-map (content_under place) t.rows k d (content_under place d) within) in
-      λ i. record { number = (head i).number; id = (head i).id; parts = parts i; length = (head i).length }
+      λ i. record { number = (head i).number; id = (head i).id; fields = parts i; length = (head i).length }
 
   pub segment_told : s ≡ t
   segment_told =

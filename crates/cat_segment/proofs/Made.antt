@@ -8,7 +8,7 @@ use Rattle.std.proofs.lemmas.Option.{slice_get-get_or}
 use Rattle.std.proofs.lemmas.Simd.{map-map}
 use Rattle.std.proofs.lemmas.List.FromFn.{length-map-range_with_len, get_or-map-range_with_len, fill_by_all, map-range_with_len_more}
 use Rattle.cat_model.specs.Text.{Text}
-use Rattle.cat_model.specs.Item.{Content, Schema, Part, AreParts, IsSchema, is_id, words_in}
+use Rattle.cat_model.specs.Item.{Content, Schema, FieldContent, AreFields, IsSchema, is_id, words_in}
 use Rattle.cat_model.specs.Forms.{IsSourceLength}
 use Rattle.cat_model.specs.Ordinals.{dictionary_of}
 use Rattle.cat_model.specs.View.{Row, row_of, AreRows, IsFormedRow, words_of_field}
@@ -41,7 +41,7 @@ columns_more rows old new c place pushed is before =
     ∙ sym (map-range_with_len_more (λ k. contents_in k rows) 0 place place (omega arith))
 
 -- the parts of a row, field by field
-parts_made : (fs : Schema) (cs : List Column) (ps : List Part) (row : ℕ) → AreParts fs ps → length cs ≡ length fs
+parts_made : (fs : Schema) (cs : List Column) (ps : List FieldContent) (row : ℕ) → AreFields fs ps → length cs ≡ length fs
     → ((j : ℕ) (d : Column) → j < length fs → Some (content_at (get_or cs j d) row) ≡ option_map (λ p. p.content) (slice_get ps j)) → parts_at fs cs row ≡ ps
 parts_made [] cs [] row parts e is = refl
 parts_made [] cs (p ∷ ps) row parts e is = absurd parts
@@ -54,14 +54,14 @@ parts_made (f ∷ fs) (c ∷ cs) (p ∷ ps) row parts e is =
     λ i. record { name = sym parts.0.0 i; content = here i } ∷ later i
 
 module _ (fs : Schema) (rows : List given.Row) (are : AreRows fs (map row_made rows)) where
-  parts_at_row : (k : ℕ) (d : given.Row) → k < length rows → AreParts fs (get_or rows k d).item.now.parts
-  parts_at_row k d lt = subst (λ r. AreParts fs r.parts) (get_or-map row_made rows k d (row_made d) lt) (are.parts k (row_made d) (omega (arith, length-map rows row_made)))
+  parts_at_row : (k : ℕ) (d : given.Row) → k < length rows → AreFields fs (get_or rows k d).item.now.fields
+  parts_at_row k d lt = subst (λ r. AreFields fs r.fields) (get_or-map row_made rows k d (row_made d) lt) (are.fields k (row_made d) (omega (arith, length-map rows row_made)))
 
   -- what the items have, place by place
   contents_placed : (place : ℕ) → place < length fs → contents_in place rows ≡ map (λ c. Some c) (contents_under place (map row_made rows))
   contents_placed place lt =
-      map_where (λ r. AreParts fs r.item.now.parts) (λ r. content_in place r.item.now) (λ r. Some (content_under place (row_made r)))
-      (λ r parts. ap (option_map (λ p. p.content)) (slice_get-get_or r.item.now.parts place no_part (omega (arith, length-parts fs r.item.now.parts parts)))) rows parts_at_row
+      map_where (λ r. AreFields fs r.item.now.fields) (λ r. content_in place r.item.now) (λ r. Some (content_under place (row_made r)))
+      (λ r parts. ap (option_map (λ p. p.content)) (slice_get-get_or r.item.now.fields place no_part (omega (arith, length-parts fs r.item.now.fields parts)))) rows parts_at_row
       ∙ sym (map-map (λ c. Some c) (λ r. content_under place (row_made r)) rows)
       ∙ ap (map (λ c. Some c)) (sym (map-map (content_under place) row_made rows))
 
@@ -73,17 +73,17 @@ module _ (fs : Schema) (rows : List given.Row) (are : AreRows fs (map row_made r
           number = numbers k d lt;
           id = ids k d lt;
           source = sizes k d lt;
-          parts = parts_formed (get_or rows k d).item.now.parts (λ place inside. (fitting place (omega (arith, length-parts fs (get_or rows k d).item.now.parts (parts_at_row k d lt)))).formed k d lt);
+          parts = parts_formed (get_or rows k d).item.now.fields (λ place inside. (fitting place (omega (arith, length-parts fs (get_or rows k d).item.now.fields (parts_at_row k d lt)))).formed k d lt);
         })
 
     pub rows_words : (name : Text) → length (words_of_field (map row_made rows) name) < 2 ^ 32
     rows_words name =
-        words_few fs (map row_made rows) schema.rising are.parts
+        words_few fs (map row_made rows) schema.rising are.fields
         (λ place lt. omega (arith, (fitting place lt).words, ap (λ l. length (dictionary_of (map words_in l))) (contents_placed place lt))) name
 
   -- each row has the parts that the schema asks for
-  pub parts_right : (k : ℕ) (d : given.Row) → k < length rows → AreParts fs (get_or rows k d).item.now.parts
-  parts_right k d lt = subst (λ r. AreParts fs r.parts) (get_or-map row_made rows k d (row_made d) lt) (are.parts k (row_made d) (omega (arith, length-map rows row_made)))
+  pub parts_right : (k : ℕ) (d : given.Row) → k < length rows → AreFields fs (get_or rows k d).item.now.fields
+  parts_right k d lt = subst (λ r. AreFields fs r.fields) (get_or-map row_made rows k d (row_made d) lt) (are.fields k (row_made d) (omega (arith, length-map rows row_made)))
 
   module _ (schema : IsSchema fs) (formed : All IsFormedRow (map row_made rows)) (words : (name : Text) → length (words_of_field (map row_made rows) name) < 2 ^ 32) (cs : List Column) (right : map seen cs ≡ map (λ k. contents_in k rows) (range_with_len 0 (length fs))) where
     abbrev made : Held
@@ -112,9 +112,9 @@ module _ (fs : Schema) (rows : List given.Row) (are : AreRows fs (map row_made r
     row_right k r lt =
         let number = get_or-map (λ r. r.number) rows k r 0 lt in
         let id = get_or-map (λ r. r.item.now.id) rows k r [] lt in
-        let parts = parts_made fs cs (get_or rows k r).item.now.parts k (parts_right k r lt) as_many (λ j d within. content_right j d k r within lt) in
+        let parts = parts_made fs cs (get_or rows k r).item.now.fields k (parts_right k r lt) as_many (λ j d within. content_right j d k r within lt) in
         let length = get_or-map (λ r. length r.item.now.source) rows k r 0 lt in
-        λ i. record { number = number i; id = id i; parts = parts i; length = length i }
+        λ i. record { number = number i; id = id i; fields = parts i; length = length i }
 
     rows_right : rows_of made ≡ map row_made rows
     rows_right = sym (by rows refl)

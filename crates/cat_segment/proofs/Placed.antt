@@ -11,24 +11,24 @@ use Rattle.std.proofs.lemmas.Map.Keys.{Less-from_sorted}
 use Rattle.std.proofs.lemmas.Slice.Eq.{bytes_eq-Decides}
 use Rattle.cat_base.specs.Texts.{IsTextSet}
 use Rattle.cat_model.specs.Text.{Text, same_text}
-use Rattle.cat_model.specs.Item.{Content, Field, Schema, Part, IsContent, AreParts, content_of}
+use Rattle.cat_model.specs.Item.{Content, Field, Schema, FieldContent, IsContent, AreFields, content_of}
 use Rattle.cat_model.specs.Forms.{IsFormed}
 use Rattle.cat_model.specs.View.{Row, item_in, AreRows, IsFormedRow}
 use Rattle.cat_segment.proofs.Filled.{map_where}
 use Rattle.cat_segment.specs.Laid.{content_under, contents_under, AreContents}
 
-abbrev pub no_part : Part
+abbrev pub no_part : FieldContent
 no_part = record { name = []; content = Content.words [] }
 
 -- as many parts as fields
-pub length-parts : (fs : Schema) (ps : List Part) → AreParts fs ps → length ps ≡ length fs
+pub length-parts : (fs : Schema) (ps : List FieldContent) → AreFields fs ps → length ps ≡ length fs
 length-parts [] [] are = refl
 length-parts [] (p ∷ ps) are = absurd are
 length-parts (f ∷ fs) [] are = absurd are
 length-parts (f ∷ fs) (p ∷ ps) are = ap suc (length-parts fs ps are.1)
 
 -- a part has its field's name and kind
-pub part_placed : (fs : Schema) (ps : List Part) (place : ℕ) (f : Field) (p : Part) → AreParts fs ps → place < length fs
+pub part_placed : (fs : Schema) (ps : List FieldContent) (place : ℕ) (f : Field) (p : FieldContent) → AreFields fs ps → place < length fs
     → ((get_or ps place p).name ≡ (get_or fs place f).name) × IsContent (get_or fs place f).kind (get_or ps place p).content
 part_placed [] ps place f p are lt = absurd (omega arith)
 part_placed (g ∷ fs) [] place f p are lt = absurd are
@@ -54,7 +54,7 @@ first_differs t ts place rising lt e =
     cc
 
 -- the first part of a field's name is that of the field's place
-pub part_found : (fs : Schema) (ps : List Part) (place : ℕ) (f : Field) → IsTextSet (map (λ g. g.name) fs) → AreParts fs ps → place < length fs
+pub part_found : (fs : Schema) (ps : List FieldContent) (place : ℕ) (f : Field) → IsTextSet (map (λ g. g.name) fs) → AreFields fs ps → place < length fs
     → find (λ p. same_text p.name (get_or fs place f).name) ps ≡ Some (get_or ps place no_part)
 unfolding IsStrictlySortedBy
 part_found [] ps place f rising are lt = absurd (omega arith)
@@ -70,11 +70,11 @@ part_found (g ∷ fs) (p ∷ ps) (suc place) f rising are lt =
     ap (λ b. cond b (Some p) (find (λ q. same_text q.name (get_or fs place f).name) ps)) other ∙ part_found fs ps place f rising.1 are.1 within
 
 -- what rows have in the field of a name
-pub contents_named : (schema : Schema) (rows : List Row) (place : ℕ) (f : Field) → IsTextSet (map (λ g. g.name) schema) → All (λ r. AreParts schema r.parts) rows → place < length schema
+pub contents_named : (schema : Schema) (rows : List Row) (place : ℕ) (f : Field) → IsTextSet (map (λ g. g.name) schema) → All (λ r. AreFields schema r.fields) rows → place < length schema
     → map (λ r. content_of (get_or schema place f).name (item_in r)) rows ≡ map (λ c. Some c) (contents_under place rows)
 contents_named schema rows place f rising parts lt =
-    map_where (λ r. AreParts schema r.parts) (λ r. content_of (get_or schema place f).name (item_in r)) (λ r. Some (content_under place r))
-    (λ r are. ap (option_map (λ p. p.content)) (part_found schema r.parts place f rising are lt)) rows parts
+    map_where (λ r. AreFields schema r.fields) (λ r. content_of (get_or schema place f).name (item_in r)) (λ r. Some (content_under place r))
+    (λ r are. ap (option_map (λ p. p.content)) (part_found schema r.fields place f rising are lt)) rows parts
     ∙ sym (map-map (λ c. Some c) (content_under place) rows)
 
 -- it is of the field's kind and formed
@@ -83,6 +83,6 @@ pub AreContents-of : (schema : Schema) (rows : List Row) (place : ℕ) (f : Fiel
 AreContents-of schema rows place f are formed lt =
     record {
       long = length-map rows (content_under place);
-      kinds = All-map (IsContent (get_or schema place f).kind) (content_under place) rows (λ k d within. (part_placed schema (get_or rows k d).parts place f no_part (are.parts k d within) lt).1);
-      formed = All-map IsFormed (content_under place) rows (λ k d within. (formed k d within).parts place no_part (omega (arith, length-parts schema (get_or rows k d).parts (are.parts k d within))));
+      kinds = All-map (IsContent (get_or schema place f).kind) (content_under place) rows (λ k d within. (part_placed schema (get_or rows k d).fields place f no_part (are.fields k d within) lt).1);
+      formed = All-map IsFormed (content_under place) rows (λ k d within. (formed k d within).fields place no_part (omega (arith, length-parts schema (get_or rows k d).fields (are.fields k d within))));
     }

@@ -7,8 +7,8 @@ use Rattle.std.proofs.lemmas.Simd.{map-map}
 use Rattle.std.proofs.lemmas.Slice.Eq.{bytes_eq-Decides}
 use Rattle.cat_base.specs.Texts.{IsTextSet}
 use Rattle.cat_model.specs.Text.{Text, same_text}
-use Rattle.cat_model.specs.Item.{Content, Field, Kind, Schema, Part, IsContent, AreParts, content_of, words_in}
-use Rattle.cat_model.specs.Layout.{Posted, IsLaid}
+use Rattle.cat_model.specs.Item.{Content, Field, Kind, Schema, FieldContent, IsContent, AreFields, content_of, words_in}
+use Rattle.cat_model.specs.Layout.{WordPostings, IsLaid}
 use Rattle.cat_model.specs.Ordinals.{dictionary_of, postings_of}
 use Rattle.cat_model.specs.View.{Row, item_in, words_of_field}
 use Rattle.cat_segment.proofs.Formed.{seen, length-dictionary}
@@ -33,7 +33,7 @@ wordless kind c (IsContent.labels ls rising) other = omega arith
 -- of what can be laid out
 pub words_fit : (kind : Kind) (rows : ℕ) (contents : List Content) → All (IsContent kind) contents → IsLaid rows kind (laid_out kind contents) → length (dictionary_of (words_under contents)) < 2 ^ 32
 words_fit Kind.text rows contents kinds laid =
-    omega (arith, laid.0, length-map {B = Posted} (dictionary_of (words_under contents)) (λ w. record { word = w; rows = postings_of w (words_under contents) }))
+    omega (arith, laid.0, length-map {B = WordPostings} (dictionary_of (words_under contents)) (λ w. record { word = w; rows = postings_of w (words_under contents) }))
 words_fit Kind.keyword rows contents kinds laid = no_words contents (λ k d lt. wordless Kind.keyword (get_or contents k d) (kinds k d lt) (λ e. (cc)))
 words_fit Kind.number rows contents kinds laid = no_words contents (λ k d lt. wordless Kind.number (get_or contents k d) (kinds k d lt) (λ e. (cc)))
 words_fit Kind.facet rows contents kinds laid = no_words contents (λ k d lt. wordless Kind.facet (get_or contents k d) (kinds k d lt) (λ e. (cc)))
@@ -58,7 +58,7 @@ named (g ∷ fs) name = by (same_text g.name name) refl (named fs name)
         other (suc place) f lt same = h place f (omega arith) same
 
 -- a row has nothing in a field that the schema doesn't have
-none_named : (fs : Schema) (ps : List Part) (name : Text) → AreParts fs ps → ((place : ℕ) (f : Field) → place < length fs → (get_or fs place f).name ≢ name) → find (λ p. same_text p.name name) ps ≡ None
+none_named : (fs : Schema) (ps : List FieldContent) (name : Text) → AreFields fs ps → ((place : ℕ) (f : Field) → place < length fs → (get_or fs place f).name ≢ name) → find (λ p. same_text p.name name) ps ≡ None
 none_named [] [] name are other = refl
 none_named [] (p ∷ ps) name are other = absurd are
 none_named (f ∷ fs) [] name are other = absurd are
@@ -68,7 +68,7 @@ none_named (f ∷ fs) (p ∷ ps) name are other = by (same_text p.name name) ref
     by true e later = absurd (other 0 f (omega arith) (sym are.0.0 ∙ (bytes_eq-Decides p.name name).0 e))
     by false e later = later
 
-pub words_few : (schema : Schema) (rows : List Row) → IsTextSet (map (λ g. g.name) schema) → All (λ r. AreParts schema r.parts) rows
+pub words_few : (schema : Schema) (rows : List Row) → IsTextSet (map (λ g. g.name) schema) → All (λ r. AreFields schema r.fields) rows
     → ((place : ℕ) → place < length schema → length (dictionary_of (words_under (contents_under place rows))) < 2 ^ 32) → (name : Text) → length (words_of_field rows name) < 2 ^ 32
 words_few schema rows rising parts each name = by (named schema name)
   where
@@ -82,5 +82,5 @@ words_few schema rows rising parts each name = by (named schema name)
     by (inr other) =
         let none : All (λ ws. length ws ≤ 0) (map (λ r. words_in (content_of name (item_in r))) rows) =
         All-map (λ ws. length ws ≤ 0) (λ r. words_in (content_of name (item_in r))) rows
-        (λ k d lt. omega (arith, ap (λ o. length (words_in (option_map (λ p. p.content) o))) (none_named schema (get_or rows k d).parts name (parts k d lt) other))) in
+        (λ k d lt. omega (arith, ap (λ o. length (words_in (option_map (λ p. p.content) o))) (none_named schema (get_or rows k d).fields name (parts k d lt) other))) in
         omega (arith, length-dictionary 0 (map (λ r. words_in (content_of name (item_in r))) rows) none)

@@ -12,7 +12,7 @@ record_of r = record { number = r.number; item = r.item.now }
 
 -- what the item has in the field of this place
 abbrev pub content_in : ℕ → Item → Option Content
-content_in place i = option_map (λ p. p.content) (slice_get i.parts place)
+content_in place i = option_map (λ p. p.content) (slice_get i.fields place)
 
 -- what each row has in the field of this place
 abbrev pub contents_in : ℕ → List given.Row → List (Option Content)

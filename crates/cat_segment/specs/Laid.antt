@@ -10,7 +10,7 @@ use Rattle.cat_segment.specs.declared.column.Column.TheVariants.{Text, Keyword, 
 
 -- what the row has in the field of this place among the schema's fields
 abbrev pub content_under : ℕ → Row → Content
-content_under place row = (slice_index_or row.parts place (record { name = []; content = Content.words [] })).content
+content_under place row = (slice_index_or row.fields place (record { name = []; content = Content.words [] })).content
 
 -- what each row has in the field of this place
 abbrev pub contents_under : ℕ → List Row → List Content

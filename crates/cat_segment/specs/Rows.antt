@@ -2,7 +2,7 @@
 use Rattle.std.specs.Prelude.{◌≡◌, ◌<◌, ◌^◌, ℕ, List, [], ◌∷◌, map, length, slice_index_or, All}
 use Rattle.std.specs.List.{range_with_len}
 use Rattle.cat_model.specs.Text.{Text}
-use Rattle.cat_model.specs.Item.{Content, Schema, Part, IsSchema}
+use Rattle.cat_model.specs.Item.{Content, Schema, FieldContent, IsSchema}
 use Rattle.cat_model.specs.View.{Row, AreRows, IsFormedRow, words_of_field}
 use Rattle.cat_segment.specs.Contents.{contents_of}
 use Rattle.cat_segment.specs.declared.column.Column.{Column}
@@ -13,7 +13,7 @@ abbrev pub content_at : Column → ℕ → Content
 content_at column row = slice_index_or (contents_of column) row (Content.words [])
 
 -- what the columns say of this row, each under the name of its field
-abbrev pub parts_at : Schema → List Column → ℕ → List Part
+abbrev pub parts_at : Schema → List Column → ℕ → List FieldContent
 parts_at [] columns row = []
 parts_at (f ∷ fs) [] row = []
 parts_at (f ∷ fs) (c ∷ cs) row = record { name = f.name; content = content_at c row } ∷ parts_at fs cs row

@@ -4,7 +4,7 @@ ghost use Rattle.std.specs.List.{range_with_len};
 ghost use Rattle.cat_base.specs.declared.refusal.Refusal.TheVariants.{Memory};
 ghost use Rattle.cat_base.specs.Texts.{IsTextSet};
 ghost use Rattle.cat_model.specs.Forms.{IsSourceLength};
-ghost use Rattle.cat_model.specs.Item.{AreParts, is_id};
+ghost use Rattle.cat_model.specs.Item.{AreFields, is_id};
 ghost use Rattle.cat_model.specs.Ordinals.{dictionary_of};
 ghost use Rattle.cat_schema.specs.Kinds.{kind_meant};
 ghost use Rattle.cat_segment.specs.Contents.{contents_of};
@@ -71,7 +71,7 @@ pub(crate) fn columns_of(
     rows: &[Row<'_>],
 ) -> Result<Vec<Column>, Refusal>
     requires few { length rows.now < 2 ^ 32 }
-    requires parts { All (λ r. AreParts fields.now r.item.now.parts) rows.now }
+    requires parts { All (λ r. AreFields fields.now r.item.now.fields) rows.now }
     ensures ok { IfOk result (λ cs. map (λ c. map (λ x. Some x) (contents_of c)) cs.items ≡ map (λ k. contents_in k rows.now) (range_with_len 0 (length fields.now))) }
     ensures fitting { IfOk result (λ cs. (place : ℕ) → place < length fields.now → AreFitting place rows.now) }
     ensures refusal { IfErr result (λ e. e ≡ Memory) }

@@ -2,7 +2,7 @@
 ghost use Rattle.std.specs.Prelude.{◌≡◌, ◌<◌, ◌^◌, ◌++◌, length, map, IfOk, IfErr, OnOk};
 ghost use Rattle.std.specs.List.{flat_map};
 ghost use Rattle.cat_base.specs.declared.refusal.Refusal.TheVariants.{Memory};
-ghost use Rattle.cat_model.specs.Layout.{Laid, posted_of, keywords_of, code_in, ordinal_in, head_of, spelled_head, spelled_column, spelled_segment};
+ghost use Rattle.cat_model.specs.Layout.{Laid, word_postings_of, keywords_of, code_in, ordinal_in, head_of, spelled_head, spelled_column, spelled_segment};
 ghost use Rattle.cat_model.specs.Ordinals.{dictionary_of};
 ghost use Rattle.cat_segment.specs.Laid.{laid_in};
 
@@ -18,7 +18,7 @@ use std::alloc::Global;
 
 /// Appends the words of a text field, each with its postings. A refusal is [`Refusal::Memory`].
 fn put_words(out: &mut Vec<u8>, terms: &Terms) -> Result<(), Refusal>
-    ensures ok { OnOk result (out.new.items ≡ out.old.items ++ spelled_column (Laid.words (posted_of terms.now))) }
+    ensures ok { OnOk result (out.new.items ≡ out.old.items ++ spelled_column (Laid.words (word_postings_of terms.now))) }
     ensures refusal { IfErr result (λ e. e ≡ Memory) }
 {
     let words = terms.words();

@@ -165,7 +165,7 @@ module _ (ds : List Text) (ends ordinals : List ℕ) (v : List (List Text)) (is 
   rows_ends = sym (ap length view) ∙ length-pieces 0 ends (map (text_at ds) ordinals)
 
   pub row_within : (row : ℕ) → row < length v → (get_or (0 ∷ ends) row 0 ≤ get_or ends row 0) × (get_or ends row 0 ≤ length ordinals)
-  row_within row lt = part_within 0 ends (length ordinals) row is.parts (omega (arith, rows_ends))
+  row_within row lt = part_within 0 ends (length ordinals) row is.fields (omega (arith, rows_ends))
 
   pub row_texts : (row : ℕ) (ends' ordinals' : List ℕ) (start end : ℕ) → row < length v → ends' ≡ ends → ordinals' ≡ ordinals → start ≡ get_or (0 ∷ ends') row 0
       → end ≡ get_or ends row end → map (text_at (dictionary_of v)) (take (end - start) (drop start ordinals')) ≡ get_or v row []

@@ -8,7 +8,7 @@ use Rattle.std.proofs.lemmas.Nat.{shr-shr}
 use Rattle.std.proofs.lemmas.Nat.Bits.{bit_at-zero, bit_at-suc, bit_at_lowest}
 use Rattle.std.proofs.lemmas.List.Elements.{filter-append}
 use Rattle.std.proofs.lemmas.List.{append-nil}
-use Rattle.cat_model.specs.RowSets.{places}
+use Rattle.cat_model.specs.RowSets.{indices}
 use Rattle.cat_values.specs.Bits.{has_bit, is_set, flags_of, IsBits, rows_from, is_left, rows_left, IsFirstWord, IsLowestBit, NoWordFrom}
 use Rattle.cat_values.proofs.Bits.{has_bit-and, has_bit-zero, flags-length, flag_at}
 use Rattle.cat_values.proofs.Counts.{range_split}
@@ -168,7 +168,7 @@ rows_left-start words left e =
     ∙ filter_same (is_left words 0 (get_or words 0 0)) (is_set words) 0 (64 * length words - 0) (λ r low high. whole_word words 0 r)
 
 -- From the first row on, they are the places of the flags.
-pub rows_from-start : (rows : ℕ) (words words' : List ℕ) (v : List Bool) → IsBits rows words → flags_of rows words ≡ v → words' ≡ words → rows_from words' 0 ≡ places v
+pub rows_from-start : (rows : ℕ) (words words' : List ℕ) (v : List Bool) → IsBits rows words → flags_of rows words ≡ v → words' ≡ words → rows_from words' 0 ≡ indices v
 rows_from-start rows words words' v is e same =
     let long : length v ≡ rows = flags-length rows words v e in
     let rest : ℕ = 64 * length words - length v in

@@ -1,7 +1,7 @@
 //! A set of the rows of one segment.
 ghost use Rattle.std.specs.Prelude.{◌≡◌, ◌⊎◌, ◌++◌, Bool, List, ℕ, ◌+◌, ◌*◌, ◌^◌, ◌<◌, ◌≤◌, true, false, length, replicate, drop, slice_set, count_by, IfOk, IfErr, All};
 ghost use Rattle.cat_base.specs.declared.refusal.Refusal.TheVariants.{Damaged, Memory};
-ghost use Rattle.cat_model.specs.RowSets.{joined, both, either, first_only, has_row, places, with_rows, IsPacked};
+ghost use Rattle.cat_model.specs.RowSets.{joined, both, either, first_only, has_row, indices, with_rows, IsPacked};
 ghost use Rattle.cat_values.specs.Bits.{flags_of, IsBits};
 
 use crate::packed::{bytes_of, is_clear_from, words_of};
@@ -144,7 +144,7 @@ impl RowSet {
 
     /// The rows of the set, rising.
     pub fn iter(&self) -> Rows<'_>
-        ensures { result ≡ places self.now }
+        ensures { result ≡ indices self.now }
     {
         Rows::of(&self.words)
     }

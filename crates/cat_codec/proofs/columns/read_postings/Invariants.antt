@@ -1,12 +1,12 @@
 use Rattle.std.proofs.Common.{◌≡◌, ◌-◌, ◌<◌, ◌^◌, length}
-use Rattle.cat_model.specs.Layout.{AreEnds, pieces, posted}
+use Rattle.cat_model.specs.Layout.{AreEnds, pieces, paired_postings}
 use Rattle.cat_codec.specs.Reading.{many_at, with_front}
 use Rattle.cat_codec.specs.Layouts.{posted_at}
 use Rattle.cat_codec.proofs.columns.read_postings.Given as goal
 
 abbrev pub invariant-loop : goal.invariant-loop
 invariant-loop l = record {
-  read : with_front (posted l.words.items (pieces 0 l.ends.items l.rows.items)) (many_at posted_at (l.count - l.counter) l.cursor) ≡ many_at posted_at l.count l.fn.cursor;
+  read : with_front (paired_postings l.words.items (pieces 0 l.ends.items l.rows.items)) (many_at posted_at (l.count - l.counter) l.cursor) ≡ many_at posted_at l.count l.fn.cursor;
   even : length l.ends.items ≡ length l.words.items;
   ends : AreEnds 0 l.ends.items (length l.rows.items);
   few : length l.rows.items < 2 ^ 32;

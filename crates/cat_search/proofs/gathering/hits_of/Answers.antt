@@ -1,7 +1,7 @@
 use Rattle.std.proofs.Common.{◌≡◌, ◌∙◌, length, map, ap, sym}
 use Rattle.std.proofs.lemmas.List.{length-map}
 use Rattle.cat_model.specs.RowSets.{joined, both}
-use Rattle.cat_model.specs.View.{marked, row_matches}
+use Rattle.cat_model.specs.View.{selected, row_matches}
 use Rattle.cat_query.specs.View.{query_of}
 use Rattle.cat_search.proofs.Marked.{marked-joined, length-joined}
 use Rattle.cat_search.proofs.gathering.hits_of.Goals as goal
@@ -12,7 +12,7 @@ returns-clause-ok c =
     let leaf = c.args.leaf.now in
     let matched = c.in_ok-hits.ensures.ok ∙ c.rows.ensures ∙ c.in_ok-matched.ensures.ok ∙ ap (λ s. map test s.rows) c.segment.ensures in
     let live = c.rows-2.ensures ∙ c.live.ensures.value in
-    ap (λ s. marked s leaf.segment.rows) (c.and_with.ensures ∙ ap (λ s. joined both s c.rows-2.result.now) matched ∙ ap (joined both (map test leaf.segment.rows)) live)
+    ap (λ s. selected s leaf.segment.rows) (c.and_with.ensures ∙ ap (λ s. joined both s c.rows-2.result.now) matched ∙ ap (joined both (map test leaf.segment.rows)) live)
     ∙ marked-joined test leaf.live leaf.segment.rows
 
 pub returns-clause-long : goal.returns-clause-long

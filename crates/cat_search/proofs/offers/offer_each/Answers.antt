@@ -1,19 +1,19 @@
 use Rattle.std.proofs.Common.{◌≡◌, ◌∙◌, ◌++◌, ◌∷◌, [], option_map, sym, ap, subst, append-nil, append_assoc}
-use Rattle.cat_model.specs.RowSets.{places}
+use Rattle.cat_model.specs.RowSets.{indices}
 use Rattle.cat_search.specs.Seen.{seen, IsBestAt}
 use Rattle.cat_search.proofs.Gathered.{none, one, placed, placed-more, placed-all, next_within}
 use Rattle.cat_search.proofs.offers.offer_each.Goals as goal
 
 pub at-requires : goal.at-requires
 at-requires c =
-    let rest : c.loop-row.yielded ++ c.in-Some.row ∷ c.next.new.self ≡ places c.args.hits.now = rw c.in-Some.ensures.steps at c.loop-row.invariant.rows in
+    let rest : c.loop-row.yielded ++ c.in-Some.row ∷ c.next.new.self ≡ indices c.args.hits.now = rw c.in-Some.ensures.steps at c.loop-row.invariant.rows in
     next_within c.args.hits.now c.args.ranks.now c.loop-row.yielded c.next.new.self c.in-Some.row rest c.requires
 
 pub loop-row-preserved : goal.loop-row-preserved
 loop-row-preserved c =
     let mark = option_map seen c.args.mark.now in
     let ranks = c.args.ranks.now in
-    let rest : c.loop-row.yielded ++ c.in-Some.row ∷ c.next.new.self ≡ places c.args.hits.now = rw c.in-Some.ensures.steps at c.loop-row.invariant.rows in
+    let rest : c.loop-row.yielded ++ c.in-Some.row ∷ c.next.new.self ≡ indices c.args.hits.now = rw c.in-Some.ensures.steps at c.loop-row.invariant.rows in
     let more = placed-more mark ranks c.loop-row.yielded c.in-Some.row (seen c.at.result) (c.at.ensures none) in
     record {
       can = tt;
@@ -29,5 +29,5 @@ pub returns-clause-best : goal.returns-clause-best
 returns-clause-best c = λ ps h.
     let mark = option_map seen c.args.mark.now in
     let ended : c.loop-row.row-iterator ≡ [] = c.in-None.ensures.steps.0 in
-    let all : c.loop-row.yielded ≡ places c.args.hits.now = sym (append-nil c.loop-row.yielded) ∙ rw ended at c.loop-row.invariant.rows in
+    let all : c.loop-row.yielded ≡ indices c.args.hits.now = sym (append-nil c.loop-row.yielded) ∙ rw ended at c.loop-row.invariant.rows in
     subst (IsBestAt c.loop-row.best) (ap (λ qs. ps ++ qs) (placed-all mark c.args.ranks.now c.args.hits.now c.loop-row.yielded c.requires all)) (c.loop-row.invariant.best ps h)

@@ -2,7 +2,7 @@ use Rattle.std.proofs.Common.{◌≡◌, ◌∙◌, ◌++◌, ◌∷◌, ◌<◌
 use Rattle.std.specs.Prelude.{IfSome, slice_index_or}
 use Rattle.cat_model.specs.Ordinals.{dictionary_of, text_at, texts_of}
 use Rattle.cat_model.specs.Page.{Key}
-use Rattle.cat_model.specs.RowSets.{places}
+use Rattle.cat_model.specs.RowSets.{indices}
 use Rattle.cat_search.specs.OrdinalBars.{lets_in}
 use Rattle.cat_search.specs.Seen.{seen, IsBestAt}
 use Rattle.cat_search.proofs.Bars.{rank-at, length-ranked}
@@ -11,21 +11,21 @@ use Rattle.cat_search.proofs.offers.offer_keywords.Goals as goal
 
 pub ordinal-requires : goal.ordinal-requires
 ordinal-requires c =
-    let rest : c.loop-row.yielded ++ c.in-Some.row ∷ c.next.new.self ≡ places c.args.hits.now = rw c.in-Some.ensures.steps at c.loop-row.invariant.rows in
+    let rest : c.loop-row.yielded ++ c.in-Some.row ∷ c.next.new.self ≡ indices c.args.hits.now = rw c.in-Some.ensures.steps at c.loop-row.invariant.rows in
     let within = next_within c.args.hits.now c.args.ranks.now c.loop-row.yielded c.next.new.self c.in-Some.row rest c.requires.long in
     let long = length-ranked Key.keyword c.args.order c.args.keywords.now c.args.ranks.now c.requires.ranked in
     omega (arith, within, long)
 
 pub at-requires : goal.at-requires
 at-requires c =
-    let rest : c.loop-row.yielded ++ c.in-Some.row ∷ c.next.new.self ≡ places c.args.hits.now = rw c.in-Some.ensures.steps at c.loop-row.invariant.rows in
+    let rest : c.loop-row.yielded ++ c.in-Some.row ∷ c.next.new.self ≡ indices c.args.hits.now = rw c.in-Some.ensures.steps at c.loop-row.invariant.rows in
     next_within c.args.hits.now c.args.ranks.now c.loop-row.yielded c.next.new.self c.in-Some.row rest c.requires.long
 
 pub loop-row-preserved-then-lets_in : goal.loop-row-preserved-then-lets_in
 loop-row-preserved-then-lets_in c =
     let mark = option_map seen c.args.mark.now in
     let ranks = c.args.ranks.now in
-    let rest : c.loop-row.yielded ++ c.in-Some.row ∷ c.next.new.self ≡ places c.args.hits.now = rw c.in-Some.ensures.steps at c.loop-row.invariant.rows in
+    let rest : c.loop-row.yielded ++ c.in-Some.row ∷ c.next.new.self ≡ indices c.args.hits.now = rw c.in-Some.ensures.steps at c.loop-row.invariant.rows in
     let more = placed-more mark ranks c.loop-row.yielded c.in-Some.row (seen c.at.result) (c.at.ensures none) in
     record {
       can = tt;
@@ -43,7 +43,7 @@ pub loop-row-preserved : goal.loop-row-preserved
 loop-row-preserved c =
     let mark = option_map seen c.args.mark.now in
     let ranks = c.args.ranks.now in
-    let rest : c.loop-row.yielded ++ c.in-Some.row ∷ c.next.new.self ≡ places c.args.hits.now = rw c.in-Some.ensures.steps at c.loop-row.invariant.rows in
+    let rest : c.loop-row.yielded ++ c.in-Some.row ∷ c.next.new.self ≡ indices c.args.hits.now = rw c.in-Some.ensures.steps at c.loop-row.invariant.rows in
     let place = get_or ranks c.in-Some.row none in
     let more = placed-more mark ranks c.loop-row.yielded c.in-Some.row place refl in
     let out : lets_in c.loop-row.bar c.ordinal.result ≡ false = sym c.lets_in.ensures ∙ c.if-lets_in.false in
@@ -67,5 +67,5 @@ pub returns-clause-best : goal.returns-clause-best
 returns-clause-best c = λ ps h.
     let mark = option_map seen c.args.mark.now in
     let ended : c.loop-row.row-iterator ≡ [] = c.in-None.ensures.steps.0 in
-    let all : c.loop-row.yielded ≡ places c.args.hits.now = sym (append-nil c.loop-row.yielded) ∙ rw ended at c.loop-row.invariant.rows in
+    let all : c.loop-row.yielded ≡ indices c.args.hits.now = sym (append-nil c.loop-row.yielded) ∙ rw ended at c.loop-row.invariant.rows in
     subst (IsBestAt c.loop-row.best) (ap (λ qs. ps ++ qs) (placed-all mark c.args.ranks.now c.args.hits.now c.loop-row.yielded c.requires.long all)) (c.loop-row.invariant.best ps h)

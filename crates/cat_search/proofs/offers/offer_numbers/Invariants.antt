@@ -1,5 +1,5 @@
 use Rattle.std.proofs.Common.{◌≡◌, ◌++◌, List, option_map}
-use Rattle.cat_model.specs.RowSets.{places}
+use Rattle.cat_model.specs.RowSets.{indices}
 use Rattle.cat_search.specs.Bars.{IsBarOf}
 use Rattle.cat_search.specs.Keys.{Place}
 use Rattle.cat_search.specs.Seen.{seen, IsBestAt}
@@ -10,7 +10,7 @@ abbrev pub invariant-loop-row : goal.invariant-loop-row
 invariant-loop-row l = record {
   can : (goal.iterator-loop-row).can_next l.row-iterator;
   finite : (goal.iterator-loop-row).is_finite l.row-iterator;
-  rows : l.yielded ++ l.row-iterator ≡ places l.hits;
+  rows : l.yielded ++ l.row-iterator ≡ indices l.hits;
   limit : l.best.limit ≡ l.initial.best.limit;
   bar : IsBarOf l.order (option_map seen l.mark) l.best l.bar;
   best : (ps : List Place) → IsBestAt l.initial.best ps → IsBestAt l.best (ps ++ placed (option_map seen l.mark) l.ranks l.yielded);

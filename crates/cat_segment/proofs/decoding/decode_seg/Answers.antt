@@ -15,4 +15,4 @@ pub returns-clause-damaged : goal.returns-clause-damaged
 returns-clause-damaged c =
     let read = c.in_ok-parts.ensures.ok in
     MatchResult-weaker c.assemble.result c.assemble.ensures.damaged (λ x t. t)
-    (λ e none is s segment number same. none is s segment (told_by_bytes (layout_of s) (layout_in c.in_ok-parts.parts) (IsLayout-of s segment number) read.1 (sym same ∙ read.2)))
+    (λ e none is s segment number same. none is s segment (told_by_bytes (layout_of s) (layout_in c.in_ok-parts.fields) (IsLayout-of s segment number) read.1 (sym same ∙ read.2)))

@@ -10,7 +10,7 @@ loop-row-preserved c =
     let rows = c.args.segment.now.rows in
     let i = c.loop-row.row in
     let none : Head = record { number = 0; id = []; length = 0 } in
-    let d : Row = record { number = 0; id = []; parts = []; length = 0 } in
+    let d : Row = record { number = 0; id = []; fields = []; length = 0 } in
     let within : i < length rows = omega (arith, c.loop-row-test.true, c.len-row-end.ensures.same) in
     let number = c.write_number.ensures d in
     let id = c.id.ensures d in

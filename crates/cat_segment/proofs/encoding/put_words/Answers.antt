@@ -2,7 +2,7 @@ use Rattle.std.proofs.Common.{◌≡◌, ◌<◌, ◌++◌, List, [], length, ge
 use Rattle.std.proofs.lemmas.List.{get_or-map, length-map, get_or_read}
 use Rattle.cat_base.specs.Bytes.{spelled_u32}
 use Rattle.cat_model.specs.Text.{Text}
-use Rattle.cat_model.specs.Layout.{Posted, posted_of, spelled_posted}
+use Rattle.cat_model.specs.Layout.{WordPostings, word_postings_of, spelled_postings}
 use Rattle.cat_model.specs.Ordinals.{dictionary_of, postings_of}
 use Rattle.cat_segment.proofs.Spelled.{spelled_next}
 use Rattle.cat_segment.proofs.encoding.put_words.Goals as goal
@@ -11,8 +11,8 @@ pub loop-ordinal-preserved : goal.loop-ordinal-preserved
 loop-ordinal-preserved c =
     let terms = c.args.terms.now in
     let words : List Text = dictionary_of terms in
-    let make : Text → Posted = λ w. record { word = w; rows = postings_of w terms } in
-    let none : Posted = record { word = []; rows = [] } in
+    let make : Text → WordPostings = λ w. record { word = w; rows = postings_of w terms } in
+    let none : WordPostings = record { word = []; rows = [] } in
     let i = c.loop-ordinal.ordinal in
     let within : i < length words = omega (arith, c.loop-ordinal-test.true, ap length c.words-words.ensures.value) in
     let word : c.index-words-ordinal.result ≡ get_or words i [] =
@@ -20,7 +20,7 @@ loop-ordinal-preserved c =
     let here = c.as_str.ensures ∙ word in
     let rows = c.postings_at.ensures.value in
     let made : record { word = c.as_str.result.now; rows = c.postings_at.result.now } ≡ make (get_or words i []) = λ j. record { word = here j; rows = rows j } in
-    spelled_next spelled_posted (posted_of terms) i _ none (c.args.out.now.items ++ spelled_u32 (length (posted_of terms))) c.loop-ordinal.out.items _
-    (omega (arith, within, length-map {B = Posted} words make))
+    spelled_next spelled_postings (word_postings_of terms) i _ none (c.args.out.now.items ++ spelled_u32 (length (word_postings_of terms))) c.loop-ordinal.out.items _
+    (omega (arith, within, length-map {B = WordPostings} words make))
     (made ∙ sym (get_or-map make words i [] none within))
     c.in_ok-put_posted.ensures.ok c.loop-ordinal.invariant

@@ -11,7 +11,7 @@ returns-clause-value c =
     content-got c.values.result.now c.args.place c.get.result c.get.ensures.lookup.3
     ∙ sym (slice_get-map content_of c.values.result.now c.args.place)
     ∙ ap (λ l. slice_get l c.args.place) c.values.ensures.value
-    ∙ slice_get-map (λ p. p.content) c.args.item.now.parts c.args.place
+    ∙ slice_get-map (λ p. p.content) c.args.item.now.fields c.args.place
 
 pub returns-clause-formed : goal.returns-clause-formed
-returns-clause-formed c = formed_in c.args.item.now.parts c.args.place c.values.ensures.forms
+returns-clause-formed c = formed_in c.args.item.now.fields c.args.place c.values.ensures.forms

@@ -4,7 +4,7 @@ use Rattle.std.proofs.lemmas.List.FromFn.{length-map-range_with_len}
 use Rattle.std.specs.Prelude.{All}
 use Rattle.cat_base.specs.Texts.{IsTextSet}
 use Rattle.cat_model.specs.Text.{Text}
-use Rattle.cat_model.specs.Layout.{pieces, posted}
+use Rattle.cat_model.specs.Layout.{pieces, paired_postings}
 use Rattle.cat_inverted.specs.Postings.{words_at, IsPart}
 use Rattle.cat_inverted.proofs.Parts.{length-pieces}
 use Rattle.cat_inverted.proofs.Told.{rising_words, posted_parts, terms_posted, rising_set}
@@ -32,7 +32,7 @@ returns-then-are_parts-clause-ok c =
     let sorted = subst IsTextSet c.deref.ensures.value (c.rise.ensures.0 c.if-rise.true) in
     let is = c.of.ensures ∙ rising_set c.args.words.items sorted in (
       length-map-range_with_len (words_at c.of.result parts) 0 c.args.len,
-      terms_posted c.args.len c.of.result c.args.ends.items c.args.rows.items (invariant_of-result c) ∙ ap (λ (words : List Text). posted words parts) is,
+      terms_posted c.args.len c.of.result c.args.ends.items c.args.rows.items (invariant_of-result c) ∙ ap (λ (words : List Text). paired_postings words parts) is,
     )
 
 pub returns-else-rise-clause-refusal : goal.returns-else-rise-clause-refusal

@@ -21,7 +21,7 @@ returns-in-Ok c =
     let at = c.in-Ok.ensures.position (λ y. slice_cmp nat_cmp y word) (always_returns_same _ _ _ (λ a r f' k. search rules)) in
     let inside = subst (λ (l : List (List ℕ)). o < length l) c.as_slice.ensures.value c.in-Ok.ensures.bound in
     let here = subst (λ (l : List (List ℕ)). get_or l o [] ≡ word) c.as_slice.ensures.value (exact_bytes _ _ (at [])) in
-    c.parts.ensures
+    c.fields.ensures
     ∙ ap (λ (ends : List ℕ). joined (take 1 (drop o (pieces 0 ends c.deref-in-Ok.result.now)))) c.deref.ensures.value
     ∙ ap (λ (rows : List ℕ). joined (take 1 (drop o (pieces 0 t.ends.items rows)))) c.deref-in-Ok.ensures.value
     ∙ postings_are t.len t.words t.ends.items t.rows.items c.self.invariant word o inside here

@@ -11,7 +11,7 @@ use Rattle.cat_inverted.proofs.Parts.{joined, length-pieces}
 use Rattle.cat_inverted.proofs.Rows.{if_ok, words_are, parts_below, rows_of_interval}
 use Rattle.cat_inverted.proofs.terms.Terms.rows_of_words.Goals as goal
 
-pub parts-requires-clause-within : goal.parts-requires-clause-within
+pub parts-requires-clause-within : goal.fields-requires-clause-within
 parts-requires-clause-within c =
     let t = c.self.inside in
     let whole = words_are t.len t.words t.ends.items t.rows.items c.self.invariant ∙ ap dictionary_of c.self.view_is in
@@ -23,7 +23,7 @@ set_of-requires c =
     let parts = pieces 0 t.ends.items t.rows.items in
     let long = sym (length-map-range_with_len (words_at t.words parts) 0 t.len) ∙ ap length c.self.view_is in
     let found =
-    c.parts.ensures
+    c.fields.ensures
     ∙ ap (λ (ends : List ℕ). joined (take c.args.count (drop c.args.first (pieces 0 ends c.deref-2.result.now)))) c.deref.ensures.value
     ∙ ap (λ (rows : List ℕ). joined (take c.args.count (drop c.args.first (pieces 0 t.ends.items rows)))) c.deref-2.ensures.value in
     subst (λ (rows : List ℕ). All (λ r. r < length c.args.self.now) rows) (sym found)
@@ -36,7 +36,7 @@ returns-clause-ok c =
     let whole = words_are t.len t.words t.ends.items t.rows.items c.self.invariant ∙ ap dictionary_of c.self.view_is in
     let long = sym (length-map-range_with_len (words_at t.words parts) 0 t.len) ∙ ap length c.self.view_is in
     let found =
-    c.parts.ensures
+    c.fields.ensures
     ∙ ap (λ (ends : List ℕ). joined (take c.args.count (drop c.args.first (pieces 0 ends c.deref-2.result.now)))) c.deref.ensures.value
     ∙ ap (λ (rows : List ℕ). joined (take c.args.count (drop c.args.first (pieces 0 t.ends.items rows)))) c.deref-2.ensures.value in
     if_ok _ _ (λ s set p interval.

@@ -1,6 +1,6 @@
 use Rattle.std.proofs.Common.{subst, sym}
-use Rattle.cat_model.specs.Lines.{Shows, reply_text}
-use Rattle.cat_model.specs.Served.{Told}
+use Rattle.cat_model.specs.Lines.{ShowsSession, reply_text}
+use Rattle.cat_model.specs.Served.{Outcome}
 use Rattle.cat_protocol.specs.Line.{said_of}
 use Rattle.cat_protocol.specs.Reply.{reply_of}
 use Rattle.cat_protocol.specs.Out.{Sent}
@@ -10,7 +10,7 @@ use Rattle.cat_protocol.proofs.machine.WorldMachine.answer.Goals as goal
 pub returns-in_default-text_of : goal.returns-in_default-text_of
 returns-in_default-text_of g c =
     rw c.in-Some.is
-    (Told.unreadable, unheard c.args.self.now c.in-Some.bytes.now (λ readable session shows. absurd (c.in_default-text_of.ensures.none readable)), c.send_unreadable-in_default-text_of.ensures)
+    (Outcome.unreadable, unheard c.args.self.now c.in-Some.bytes.now (λ readable session shows. absurd (c.in_default-text_of.ensures.none readable)), c.send_unreadable-in_default-text_of.ensures)
 
 pub returns-in-Ok : goal.returns-in-Ok
 returns-in-Ok g c =
@@ -31,8 +31,8 @@ returns-in-Ok g c =
 pub returns-in-Err : goal.returns-in-Err
 returns-in-Err g c =
     rw c.in-Some.is (
-      Told.unreadable,
+      Outcome.unreadable,
       unheard c.args.self.now c.in-Some.bytes.now
-          (λ readable session shows. c.in-Err.ensures.none.1 session (subst (λ t. Shows t session) (sym c.in-Some-text_of.ensures.found) shows)),
+          (λ readable session shows. c.in-Err.ensures.none.1 session (subst (λ t. ShowsSession t session) (sym c.in-Some-text_of.ensures.found) shows)),
       c.send_unreadable-in-Err.ensures,
     )

@@ -7,4 +7,4 @@ pub returns-clause-value : goal.returns-clause-value
 returns-clause-value c =
     ap (map content_of) c.as_slice.ensures.value
     ∙ contents-parts_with _ _ c.self.invariant.each
-    ∙ ap (λ i. map (λ p. p.content) i.parts) c.self.view_is
+    ∙ ap (λ i. map (λ p. p.content) i.fields) c.self.view_is

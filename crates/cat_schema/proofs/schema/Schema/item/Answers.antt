@@ -17,7 +17,7 @@ returns-clause-ok c =
     let made = item_is c.args.self.now c.args.bytes.now (view c.in_ok-root.root) _ _ (omega arith) c.in_ok-root.ensures.ok c.in-Some.ensures has_id form right in
     let values = c.in_ok-values.ensures.ok ∙ ap (map (λ f. value_of f.kind (get f.name (view c.in_ok-root.root)))) c.fields-fields.ensures.value in
     let parts = ap (λ fs. parts_with fs c.in_ok-values.values.items) c.in_ok-shared.ensures.ok ∙ parts_with-map _ c.args.self.now _ values in
-    made ∙ ap Ok (sym (c.new.ensures ∙ (λ i. record { id = c.in_ok-from_str.ensures.ok i; parts = parts i; source = c.in_ok-from_slice.ensures.items i })))
+    made ∙ ap Ok (sym (c.new.ensures ∙ (λ i. record { id = c.in_ok-from_str.ensures.ok i; fields = parts i; source = c.in_ok-from_slice.ensures.items i })))
 
 pub returns-clause-typed : goal.returns-clause-typed
 returns-clause-typed c = IsItem-item_of _ _ _ (returns-clause-ok c)
