@@ -163,7 +163,7 @@ module _ (told : AreTold) (s t : Segment) (a : IsSegment s) (b : IsSegment t) (s
       (λ place inside. sym (get_or-map (content_under place) s.rows k d (content_under place d) lt)
       ∙ ap (λ l. get_or l k (content_under place d)) (columns_at place (record { name = []; kind = Kind.text }) inside)
       ∙ get_or-map (content_under place) t.rows k d (content_under place d) within) in
-      λ i. record { number = (head i).number; id = (head i).id; fields = parts i; length = (head i).length }
+      λ i. record { number = (head i).number; id = (head i).id; fields = fields i; length = (head i).length }
 
   pub segment_told : s ≡ t
   segment_told =
