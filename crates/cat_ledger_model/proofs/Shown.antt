@@ -40,6 +40,7 @@ length-rows (x ∷ xs) = ap suc (length-rows xs)
 pub whole_are_views : WholeAreViews
 whole_are_views schema token ps ok = (
   record {
+    numbers = AllPairs-from_Apart (λ (a b : Leaf). a.segment.number ≢ b.segment.number) _ (Apart-map (λ (a b : Leaf). a.segment.number ≢ b.segment.number) (leaf_of schema) ps ok.portions.numbers);
     schemas = All-from_recursion (λ (leaf : Leaf). leaf.segment.schema ≡ schema) (map (leaf_of schema) ps) (All-map (λ (leaf : Leaf). leaf.segment.schema ≡ schema) (leaf_of schema) ps (All-each (λ p. schema ≡ schema) (λ p. refl) ps));
     live = All-from_recursion (λ (leaf : Leaf). length leaf.live ≡ length leaf.segment.rows) (map (leaf_of schema) ps)
         (All-map (λ (leaf : Leaf). length leaf.live ≡ length leaf.segment.rows) (leaf_of schema) ps (All-weaken (λ p. length p.live ≡ length p.records) (λ p. length p.live ≡ length (map row_of p.records)) (λ p e. e ∙ sym (length-rows p.records)) ps ok.portions.lengths));

@@ -10,7 +10,7 @@ use Rattle.cat_model.specs.Item.{Content, Field, Kind, Schema, IsSchema, is_id, 
 use Rattle.cat_model.specs.Forms.{IsKeyword, IsLabel, IsWord, IsSourceLength}
 use Rattle.cat_model.specs.Ordinals.{dictionary_of, postings_of, texts_of}
 use Rattle.cat_model.specs.Files.{IsFileNumber}
-use Rattle.cat_model.specs.View.{Row, Segment, item_in}
+use Rattle.cat_model.specs.View.{Row, Segment, IsSegment, item_in}
 use Rattle.cat_model.specs.Limits.{row_limit}
 
 -- ---- what is laid out
@@ -120,6 +120,12 @@ spelled_layout l = codes "CSEG" ++ (1 ∷ (spelled_u64 l.number ++ (spelled_u32 
 -- the bytes of a segment's file
 abbrev pub spelled_segment : Segment → List ℕ
 spelled_segment s = spelled_layout (layout_of s)
+
+-- the bytes are those of the segment's file, whose number a name can have
+pub record SpellsSegment (bytes : List ℕ) (s : Segment) : Type 0 where
+  pub number : IsFileNumber s.number
+  pub form : IsSegment s
+  pub spelled : bytes ≡ spelled_segment s
 
 -- ---- what can be laid out: texts with their forms, numbers that fit, one of each for each row
 

@@ -11,7 +11,7 @@ pub record LiveRows : Type 0 where
   pub generation : ℕ
   pub live : List Bool
 
--- 1 to 262,144 rows, of which some row isn't live: a segment without deleted rows has no such file
+-- There are rows, at most so many as a segment has, and some row isn't live: a segment without deleted rows has no such file.
 pub record AreLiveRows (rows : LiveRows) : Type 0 where
   pub number : IsFileNumber rows.number
   pub generation : IsFileNumber rows.generation
@@ -19,8 +19,9 @@ pub record AreLiveRows (rows : LiveRows) : Type 0 where
   pub few : length rows.live ≤ row_limit
   pub dead : count_by (λ b. b) rows.live < length rows.live
 
--- the magic word, the version 1, the two numbers, the number of rows, and the set
+-- the bytes are those of the file: the magic word, the version 1, the two numbers, the number of rows, and the set
 pub record SpellsLive (bytes : List ℕ) (rows : LiveRows) : Type 0 where
+  pub form : AreLiveRows rows
   pub packed : List ℕ
   pub set : IsPacked packed rows.live
   pub spelled : bytes ≡ codes "CLIV" ++ (1 ∷ (spelled_u64 rows.number ++ (spelled_u64 rows.generation ++ (spelled_u32 (length rows.live) ++ packed))))

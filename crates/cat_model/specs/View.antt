@@ -90,9 +90,10 @@ live_rows leaf = selected leaf.live leaf.segment.rows
 abbrev pub rows_in : View → List Row
 rows_in view = flat_map live_rows view.leaves
 
--- Each segment has the view's schema, and a live set with one value for each row; numbers rise over all rows, dead ones
--- too, and the ids of live rows differ.
+-- The segments have different numbers, the view's schema, and live sets with one value for each row; numbers rise over all
+-- rows, dead ones too, and the ids of live rows differ.
 pub record IsView (view : View) : Type 0 where
+  pub numbers : AllPairs (λ a b. a.segment.number ≢ b.segment.number) view.leaves
   pub schemas : All (λ leaf. leaf.segment.schema ≡ view.schema) view.leaves
   pub live : All (λ leaf. length leaf.live ≡ length leaf.segment.rows) view.leaves
   pub rising : AllPairs (λ a b. a.number < b.number) (flat_map (λ leaf. leaf.segment.rows) view.leaves)
