@@ -1,41 +1,39 @@
 //! Big-endian bytes: numbers and byte strings, appended to a list and taken from a slice.
 ghost use Rattle.std.specs.Prelude.{◌≡◌, ◌≢◌, ℕ, ◌^◌, ◌<◌, ◌≤◌, List, [], ◌∷◌, ◌++◌, length, OnOk, OnErr, IfOk, IfErr};
 ghost use Rattle.cat_base.specs.Bytes.{spelled_u32, spelled_u64, spelled_bytes, BeginsWithNo};
-ghost use Rattle.cat_base.specs.declared.refusal.Refusal.TheVariants.{Memory, Damaged};
+ghost use Rattle.cat_base.specs.declared.refusal.Refusal.TheVariants.{Damaged};
 
 use crate::refusal::Refusal;
+use std::alloc::AllocError;
 use std::marker::Model;
 
-/// Appends the number as 4 bytes, the high byte first. A refusal is [`Refusal::Memory`] and leaves the list as it was.
-pub fn put_u32(out: &mut Vec<u8>, n: u32) -> Result<(), Refusal>
+/// Appends the number as 4 bytes, the high byte first. An error leaves the list as it was.
+pub fn put_u32(out: &mut Vec<u8>, n: u32) -> Result<(), AllocError>
     ensures ok { OnOk result (out.new.items ≡ out.old.items ++ spelled_u32 n) }
     ensures err { OnErr result (out.new.items ≡ out.old.items) }
-    ensures refusal { IfErr result (λ e. e ≡ Memory) }
 {
     out.extend_from_slice(&n.to_be_bytes())?;
     Ok(())
 }
 
-/// Appends the number as 8 bytes, the high byte first. A refusal is [`Refusal::Memory`] and leaves the list as it was.
-pub fn put_u64(out: &mut Vec<u8>, n: u64) -> Result<(), Refusal>
+/// Appends the number as 8 bytes, the high byte first. An error leaves the list as it was.
+pub fn put_u64(out: &mut Vec<u8>, n: u64) -> Result<(), AllocError>
     ensures ok { OnOk result (out.new.items ≡ out.old.items ++ spelled_u64 n) }
     ensures err { OnErr result (out.new.items ≡ out.old.items) }
-    ensures refusal { IfErr result (λ e. e ≡ Memory) }
 {
     out.extend_from_slice(&n.to_be_bytes())?;
     Ok(())
 }
 
-/// Appends the number of bytes as [`put_u32`] does, and then the bytes, at most 4,294,967,295 of them.
-/// A refusal is [`Refusal::Memory`] and leaves the list as it was.
-pub fn put_bytes(out: &mut Vec<u8>, bytes: &[u8]) -> Result<(), Refusal>
+/// Appends the number of bytes as [`put_u32`] does, and then the bytes, at most 4,294,967,295 of them. An error leaves the
+/// list as it was.
+pub fn put_bytes(out: &mut Vec<u8>, bytes: &[u8]) -> Result<(), AllocError>
     requires { length bytes.now ≤ 4294967295 }
     ensures ok { OnOk result (out.new.items ≡ out.old.items ++ spelled_bytes bytes.now) }
     ensures err { OnErr result (out.new.items ≡ out.old.items) }
-    ensures refusal { IfErr result (λ e. e ≡ Memory) }
 {
     let len = bytes.len();
-    // Room for the whole is taken first, so that a refusal leaves no length without its bytes.
+    // Room for the whole is taken first, so that an error leaves no length without its bytes.
     out.reserve(len + 4)?;
     out.extend_from_slice(&(len as u32).to_be_bytes())?;
     out.extend_from_slice(bytes)?;

@@ -3,6 +3,7 @@
 
 mod codec;
 mod numbers;
+mod order;
 mod refusal;
 mod text;
 
@@ -14,5 +15,6 @@ pub use numbers::{
     MAX_LABELS, MAX_LINE_BYTES, MAX_NOTED_QUERIES, MAX_PAGE, MAX_RECORDS, MAX_ROWS, MAX_SEGMENTS,
     MAX_SNAPSHOTS, MAX_STEP_ROWS, SegNo, SessionNo, Token, WriteNo,
 };
+pub use order::rises;
 pub use refusal::Refusal;
 pub use text::{Text, TextSet, sorted_sets_are_sets};

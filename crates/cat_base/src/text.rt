@@ -1,10 +1,8 @@
 //! A text, which contracts see as its bytes, and a set of texts, which they see as a list of these in order.
-ghost use Rattle.std.specs.Prelude.{◌≡◌, ℕ, ◌↔◌, List, [], length, IfOk, IfErr, IsTrue, string_bytes, Contains};
+ghost use Rattle.std.specs.Prelude.{◌≡◌, ℕ, ◌↔◌, List, [], length, IfOk, IsTrue, string_bytes, Contains};
 ghost use Rattle.cat_base.specs.Texts.{sorted_set, IsTextSet};
-ghost use Rattle.cat_base.specs.declared.refusal.Refusal.TheVariants.{Memory};
 
-use crate::refusal::Refusal;
-use std::alloc::Global;
+use std::alloc::{AllocError, Global};
 use std::cmp::Ordering;
 use std::fmt;
 use std::marker::Model;
@@ -31,10 +29,9 @@ impl Text {
         Text { text }
     }
 
-    /// A copy of the text. A refusal is [`Refusal::Memory`].
-    pub fn from_str(alloc: Global, text: &str) -> Result<Self, Refusal>
+    /// A copy of the text.
+    pub fn from_str(alloc: Global, text: &str) -> Result<Self, AllocError>
         ensures ok { IfOk result (λ t. t ≡ text.now) }
-        ensures refusal { IfErr result (λ e. e ≡ Memory) }
     {
         Ok(Text {
             text: String::from_str(alloc, text)?,
@@ -48,10 +45,9 @@ impl Text {
         self.text.as_str()
     }
 
-    /// An equal text in memory of its own. A refusal is [`Refusal::Memory`].
-    pub fn copy(&self) -> Result<Self, Refusal>
+    /// An equal text in memory of its own.
+    pub fn copy(&self) -> Result<Self, AllocError>
         ensures ok { IfOk result (λ t. t ≡ self.now) }
-        ensures refusal { IfErr result (λ e. e ≡ Memory) }
     {
         Ok(Text {
             text: String::from_str(*self.text.allocator(), self.text.as_str())?,
@@ -193,10 +189,9 @@ impl TextSet {
             .is_ok()
     }
 
-    /// An equal set in memory of its own. A refusal is [`Refusal::Memory`].
-    pub fn copy(&self) -> Result<Self, Refusal>
+    /// An equal set in memory of its own.
+    pub fn copy(&self) -> Result<Self, AllocError>
         ensures ok { IfOk result (λ t. t ≡ self.now) }
-        ensures refusal { IfErr result (λ e. e ≡ Memory) }
     {
         let mut texts = Vec::with_capacity(*self.texts.allocator(), self.texts.len())?;
         for text in &self.texts {
