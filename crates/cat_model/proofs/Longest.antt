@@ -30,7 +30,7 @@ no_word_byte false e = refl
 -- the part, maybe an empty one, stands right behind `before`, up to a cut
 record IsPart (text part before : Text) : Type 0 where
   after : Text
-  place : text ≡ before ++ (part ++ after)
+  whole : text ≡ before ++ (part ++ after)
   of_words : AllOfWords part
   ends : IsCutAfter after
 
@@ -52,37 +52,37 @@ record AreParts (text : Text) (parts : List Text) : Type 0 where
 later_cons : (x : ℕ) (text part : Text) → IsLater text part → IsLater (x ∷ text) part
 later_cons x text part l =
     let p = l.part_is in
-    record { before = x ∷ l.before; cut = l.cut; no_word = l.no_word; part_is = record { after = p.after; place = ap (λ t. x ∷ t) p.place; of_words = p.of_words; ends = p.ends } }
+    record { before = x ∷ l.before; cut = l.cut; no_word = l.no_word; part_is = record { after = p.after; whole = ap (λ t. x ∷ t) p.whole; of_words = p.of_words; ends = p.ends } }
 
 all_later_cons : (x : ℕ) (text : Text) (parts : List Text) → AllByRecursion (IsLater text) parts → AllByRecursion (IsLater (x ∷ text)) parts
 all_later_cons x text [] all = tt
 all_later_cons x text (p ∷ ps) all = (later_cons x text p all.0, all_later_cons x text ps all.1)
 
 are_parts : (text : Text) → AreParts text (slice_split cuts text)
-are_parts [] = record { first = []; others = []; is = refl; is_first = record { after = []; place = refl; of_words = tt; ends = inl refl }; are_later = tt }
+are_parts [] = record { first = []; others = []; is = refl; is_first = record { after = []; whole = refl; of_words = tt; ends = inl refl }; are_later = tt }
 are_parts (x ∷ text) = by (are_parts text) (cuts x) refl
   where
     by : AreParts text (slice_split cuts text) → (b : Bool) → cuts x ≡ b → AreParts (x ∷ text) (cond b ([] ∷ slice_split cuts text) (onto_first x (slice_split cuts text)))
     by p true e =
         let none = no_word_byte (is_word_byte x) e in
-        let first : IsLater (x ∷ text) p.first = record { before = []; cut = x; no_word = none; part_is = record { after = p.is_first.after; place = ap (λ t. x ∷ t) p.is_first.place; of_words = p.is_first.of_words; ends = p.is_first.ends } } in
+        let first : IsLater (x ∷ text) p.first = record { before = []; cut = x; no_word = none; part_is = record { after = p.is_first.after; whole = ap (λ t. x ∷ t) p.is_first.whole; of_words = p.is_first.of_words; ends = p.is_first.ends } } in
         record {
           first = [];
           others = slice_split cuts text;
           is = refl;
-          is_first = record { after = x ∷ text; place = refl; of_words = tt; ends = inr (x, text, refl, none) };
+          is_first = record { after = x ∷ text; whole = refl; of_words = tt; ends = inr (x, text, refl, none) };
           are_later = subst (AllByRecursion (IsLater (x ∷ text))) (sym p.is) (first, all_later_cons x text p.others p.are_later);
         }
     by p false e = record {
       first = x ∷ p.first;
       others = p.others;
       is = ap (onto_first x) p.is;
-      is_first = record { after = p.is_first.after; place = ap (λ t. x ∷ t) p.is_first.place; of_words = (word_byte (is_word_byte x) e, p.is_first.of_words); ends = p.is_first.ends };
+      is_first = record { after = p.is_first.after; whole = ap (λ t. x ∷ t) p.is_first.whole; of_words = (word_byte (is_word_byte x) e, p.is_first.of_words); ends = p.is_first.ends };
       are_later = all_later_cons x text p.others p.are_later;
     }
 
 part_run : (text part before : Text) → IsPart text part before → IsCutBefore before → 0 < length part → IsRunOf text part
-part_run text part before p starts some = record { before = before; after = p.after; place = p.place; some = some; of_words = p.of_words; starts = starts; ends = p.ends }
+part_run text part before p starts some = record { before = before; after = p.after; whole = p.whole; some = some; of_words = p.of_words; starts = starts; ends = p.ends }
 
 -- a part is a longest run if it isn't empty
 abbrev IsRunIfSome : Text → Text → Type 0
@@ -149,7 +149,7 @@ behind_cut before rest run (inr (front, b, is, no_word)) c =
     subst (λ rs. Contains rs run) (sym all_runs) (Contains-append_right (runs front) (runs rest) run c)
 
 run_contained : (text run : Text) → IsRunOf text run → Contains (runs text) run
-run_contained text run r = subst (λ t. Contains (runs t) run) (sym r.place) (behind_cut r.before (run ++ r.after) run r.starts (at_front run r.after r.of_words r.some r.ends))
+run_contained text run r = subst (λ t. Contains (runs t) run) (sym r.whole) (behind_cut r.before (run ++ r.after) run r.starts (at_front run r.after r.of_words r.some r.ends))
 
 pub longest_runs : WordsAreLongestRuns
 longest_runs text run = (at_contained (IsRunOf text) (runs text) run (all_runs text), run_contained text run)

@@ -273,20 +273,20 @@ bounded from run f = bounded_from from [] run (record { some_record = omega arit
 pub held_low : (from : Opened) (run : Run) (t : ℕ) (asked : Read) (reply : Reply) (h : HeldRead from run t asked reply) → t ≤ now from.start h.past
 held_low from run t asked reply h =
     let e : Exchange = record { line = record { session = h.session; command = Command.read t asked }; reply = reply } in
-    let parts : IsRun from h.past × FitsFrom from h.past (e ∷ h.later) = FitsFrom-split from [] h.past (e ∷ h.later) (subst (IsRun from) h.place h.is_run) in
+    let parts : IsRun from h.past × FitsFrom from h.past (e ∷ h.later) = FitsFrom-split from [] h.past (e ∷ h.later) (subst (IsRun from) h.split h.is_run) in
     let ok : IsBounded from.start h.past = bounded from h.past parts.0 in
     has_up_to _ t (view_tokens from.start h.past) ok.recorded (ok.held h.session t h.held)
 
 pub held_writes : (from : Opened) (run : Run) (t : ℕ) (asked : Read) (reply : Reply) (h : HeldRead from run t asked reply)
     → writes run ≡ writes h.past ++ writes (record { line = record { session = h.session; command = Command.read t asked }; reply = reply } ∷ h.later)
-held_writes from run t asked reply h = ap writes h.place ∙ filter_map-append accepted h.past _
+held_writes from run t asked reply h = ap writes h.split ∙ filter_map-append accepted h.past _
 
 -- the reply to a read under a held token, over the whole run
 pub held_read_is_of_its_table : HeldReadIsOfItsTable
 held_read_is_of_its_table from run t asked reply h =
     let start : Start = from.start in
     let e : Exchange = record { line = record { session = h.session; command = Command.read t asked }; reply = reply } in
-    let parts : IsRun from h.past × FitsFrom from h.past (e ∷ h.later) = FitsFrom-split from [] h.past (e ∷ h.later) (subst (IsRun from) h.place h.is_run) in
+    let parts : IsRun from h.past × FitsFrom from h.past (e ∷ h.later) = FitsFrom-split from [] h.past (e ∷ h.later) (subst (IsRun from) h.split h.is_run) in
     let same : table start (writes run) t ≡ table start (writes h.past) t =
     ap (λ ws. table start ws t) (held_writes from run t asked reply h) ∙ table-more start (writes h.past) (writes (e ∷ h.later)) t (held_low from run t asked reply h) in
     let fits : reply ≡ cond (holds h.session t h.past) (found_reply (answer start.schema (table start (writes h.past) t) asked)) (or_not_held (query_refusal asked)) =

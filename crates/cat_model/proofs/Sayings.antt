@@ -164,7 +164,7 @@ one_schema line f l g k text text' a b =
 
 -- a line shows at most one session
 one_session : (line : Text) (s t : ℕ) → ShowsSession line s → ShowsSession line t → s ≡ t
-one_session line s t a b = decimal_injective s t (omega (arith, a.small)) (omega (arith, b.small)) (by a.place b.place)
+one_session line s t a b = decimal_injective s t (omega (arith, a.small)) (omega (arith, b.small)) (by a.split b.split)
   where
     quiet_s : NoSpace (decimal s)
     quiet_s = decimal_no_space s (omega (arith, a.small))
@@ -180,7 +180,7 @@ one_session line s t a b = decimal_injective s t (omega (arith, a.small)) (omega
 
 -- a line that spells something shows its session
 shown : (line : Text) (s : ℕ) (said : Said) → SpellsLine line s said → ShowsSession line s
-shown line s said a = record { small = a.small; place = inr (a.rest, a.session_first) }
+shown line s said a = record { small = a.small; split = inr (a.rest, a.session_first) }
 
 -- and spells nothing else that is without a form under the session that it shows
 pub no_form : (line : Text) (s t : ℕ) (said : Said) → SpellsLine line s said → ShowsSession line t → ((said : Said) → SpellsLine line t said → ⊥) → ⊥

@@ -238,7 +238,7 @@ module _ (json : Json) (from : Opened) where
   pub held_in : (es : List Entry) (s t : ℕ) → s ≤ 9999 → t < 2 ^ 63 → from.start.token ≤ last_number → Heeded json from.start.schema es → IsRun from (run_of es) → Holds (map pair es) s t → holds s t (run_of es) ≡ true
   unfolding FitsAt
   held_in es s t hs ht small h f hold =
-      let p : IsPlace es hold.before (granted s hold.text t) hold.since = place_of es hold.before (granted s hold.text t) hold.since hold.place in
+      let p : IsPlace es hold.before (granted s hold.text t) hold.since = place_of es hold.before (granted s hold.text t) hold.since hold.split in
       let heed = all_split _ p.past (p.here ∷ p.later) (subst (Heeded json from.start.schema) p.whole h) in
       let runs = around p.past p.later p.here (subst (λ v. IsRun from (run_of v)) p.whole f) in
       let bound : IsBounded from.start (run_of p.past) = bounded from (run_of p.past) runs.0 in

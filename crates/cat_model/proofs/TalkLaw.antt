@@ -66,7 +66,7 @@ record IsAsked (json : Json) (from : Opened) (es : List Entry) (t s : ℕ) (repl
   past : List Entry
   later : List Entry
   is : IsCommand json from.start.schema said x.line.command
-  place : run_of es ≡ run_of past ++ x ∷ run_of later
+  split : run_of es ≡ run_of past ++ x ∷ run_of later
   held : holds x.line.session t (run_of past) ≡ true
   text : reply ≡ reply_text s x.reply
   undisturbed : AllByRecursion (λ stop. reply_text s x.reply ≢ stop) (is_excepted s)
@@ -77,7 +77,7 @@ asked_in : (json : Json) (from : Opened) (es : List Entry) (talk : List Pair) (t
     → SpellsSaid text said → ReadsUnder t said → HeldAsk talk t s text reply → IsAsked json from es t s reply said
 asked_in json from es talk t s text reply said low heed is_run shown is spells under a =
     let here : Pair = record { line = decimal s ++ 32 ∷ text; reply = reply } in
-    let p : IsPlace es a.past here a.later = place_of es a.past here a.later (sym is ∙ a.place) in
+    let p : IsPlace es a.past here a.later = place_of es a.past here a.later (sym is ∙ a.split) in
     let heeds = all_split _ p.past (p.here ∷ p.later) (subst (Heeded json from.start.schema) p.whole heed) in
     let shows = all_split _ p.past (p.here ∷ p.later) (subst (AllByRecursion (λ e. ShownTold e.told)) p.whole shown) in
     let runs = around json from p.past p.later p.here (subst (λ v. IsRun from (run_of v)) p.whole is_run) in
@@ -92,7 +92,7 @@ asked_in json from es talk t s text reply said low heed is_run shown is spells u
       past = p.past;
       later = p.later;
       is = u.is;
-      place = ap run_of p.whole ∙ run_place json from p.past p.later p.here u.x u.told;
+      split = ap run_of p.whole ∙ run_place json from p.past p.later p.here u.x u.told;
       held = ap (λ v. holds v t (run_of p.past)) u.session ∙ held;
       text = said_reply;
       undisturbed = subst (λ r. AllByRecursion (λ stop. r ≢ stop) (is_excepted s)) said_reply a.undisturbed;
@@ -105,7 +105,7 @@ held_read json from es t s reply said asked is_run a c = record {
   session = a.x.line.session;
   past = run_of a.past;
   later = run_of a.later;
-  place = a.place ∙ (λ i. run_of a.past ++ record { line = record { session = a.x.line.session; command = c i }; reply = a.x.reply } ∷ run_of a.later);
+  split = a.split ∙ (λ i. run_of a.past ++ record { line = record { session = a.x.line.session; command = c i }; reply = a.x.reply } ∷ run_of a.later);
   held = a.held;
   undisturbed = λ r. stopped s t asked r.0 r.2 (subst (λ x. AllByRecursion (λ stop. reply_text s x ≢ stop) (is_excepted s)) r.1 a.undisturbed);
 }

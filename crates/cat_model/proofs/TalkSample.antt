@@ -41,7 +41,7 @@ others (a ∷ b ∷ c ∷ d ∷ f ∷ g ∷ rest) since text o e kept = more res
 
 closed : Holds said_before 8 1 → ⊥
 unfolding digits
-closed h = others h.before h.since h.text h.command h.place h.kept
+closed h = others h.before h.since h.text h.command h.split h.kept
 
 no_close : Contains (record { line = codes "8 OPEN 1"; reply = codes "8 OK 1\n" } ∷ record { line = codes "1 DEL a"; reply = codes "1 OK 2\n" } ∷ record { line = codes "8 CLOSE 1"; reply = codes "8 OK 1\n" } ∷ []) (granted 7 (codes "CLOSE " ++ decimal 1) 1) → ⊥
 unfolding digits
@@ -67,13 +67,13 @@ sample = record {
     small = omega arith;
     past = said_before;
     later = [];
-    place = refl;
+    split = refl;
     held = record {
       before = record { line = codes "1 PUT {\"id\":\"a\"}"; reply = codes "1 OK 1\n" } ∷ record { line = codes "1 REFRESH"; reply = codes "1 OK 1\n" } ∷ [];
       since = record { line = codes "8 OPEN 1"; reply = codes "8 OK 1\n" } ∷ record { line = codes "1 DEL a"; reply = codes "1 OK 2\n" } ∷ record { line = codes "8 CLOSE 1"; reply = codes "8 OK 1\n" } ∷ [];
       text = codes "OPEN";
       command = inl refl;
-      place = refl;
+      split = refl;
       kept = no_close;
     };
     undisturbed = (

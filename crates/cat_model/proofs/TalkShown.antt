@@ -4,12 +4,15 @@ use Rattle.std.specs.Prelude.{find, not, ◌&&◌, option_map, Option, None, Som
 use Rattle.std.specs.List.{flat_map, filter_map, cons_option, AllByRecursion}
 use Rattle.cat_base.specs.declared.refusal.Refusal.{Refusal}
 use Rattle.cat_base.specs.declared.refusal.Refusal.TheVariants.{Count, SortField, NotFacet, Mark, Full, Gone, Spent, NotHeld}
-use Rattle.cat_model.specs.Text.{Text, same_text}
+use Rattle.std.proofs.lemmas.List.Elements.{All-from_recursion, recursion_from_All}
+use Rattle.std.proofs.lemmas.Map.Views.{All-insert_key}
+use Rattle.cat_base.specs.Texts.{sorted_set}
+use Rattle.cat_model.specs.Text.{Text, same_text, text_cmp}
 use Rattle.cat_model.specs.Item.{Item, Schema, Content, FieldContent, Record, kind_of, content_of, labels_in}
 use Rattle.cat_model.specs.Write.{Write}
 use Rattle.cat_model.specs.Query.{Query}
 use Rattle.cat_model.specs.Page.{Sort, hits, key, key_in, before, ranked, first_ranked, rest, page_of}
-use Rattle.cat_model.specs.Facets.{labels_of, distinct, counted, more, facets_in}
+use Rattle.cat_model.specs.Facets.{labels_of, counted, more, facets_in}
 use Rattle.cat_model.specs.Table.{Start, Opened, numbered, put_by, stands, table}
 use Rattle.cat_model.specs.Answer.{Read, Found, stored, can_sort, has_mark, is_facet_kind, answer, query_refusal}
 use Rattle.cat_model.specs.Run.{Command, Answer, Reply, Run, writes, now, holds, has, is_held, is_full, view_tokens, found_reply, or_not_held, Answers, Stops}
@@ -94,15 +97,15 @@ page_shown rs q sort mark n a =
     map_of ShownRecord (λ e. IsOneLine e.id × ShownKey e.key) _ (λ r h. (h.id, key_shown sort r h)) _
     (ranked_of ShownRecord (before sort) (rest sort rs mark (hits rs q)) n (rest_shown sort rs mark (hits rs q) (All-kept ShownRecord _ rs a)))
 
-distinct_shown : (ls : List Text) → AllByRecursion IsOneLine ls → AllByRecursion IsOneLine (distinct ls)
-distinct_shown [] a = tt
-distinct_shown (l ∷ ls) a = (a.0, All-kept IsOneLine _ (distinct ls) (distinct_shown ls a.1))
+sorted_shown : (ls : List Text) → AllByRecursion IsOneLine ls → AllByRecursion IsOneLine (sorted_set ls)
+sorted_shown [] a = tt
+sorted_shown (l ∷ ls) a = recursion_from_All IsOneLine _ (All-insert_key text_cmp l IsOneLine (sorted_set ls) (All-from_recursion IsOneLine (sorted_set ls) (sorted_shown ls a.1)) a.0)
 
 facets_shown : (rs : List Record) (q : Query) (dim : Text) (n : ℕ) → AllByRecursion ShownRecord rs → ShownAnswer (Answer.found (Found.facets (facets_in rs q dim n)))
 facets_shown rs q dim n a =
     ranked_of (λ c. IsOneLine c.label) more _ n
     (map_of IsOneLine (λ c. IsOneLine c.label) (counted dim (hits rs q)) (λ l h. h) _
-    (distinct_shown (flat_map (labels_of dim) (hits rs q)) (flat_of ShownRecord IsOneLine (labels_of dim) (λ r h. labels_in_shown (content_of dim r.item) (content_shown dim r.item h)) (hits rs q) (All-kept ShownRecord _ rs a))))
+    (sorted_shown (flat_map (labels_of dim) (hits rs q)) (flat_of ShownRecord IsOneLine (labels_of dim) (λ r h. labels_in_shown (content_of dim r.item) (content_shown dim r.item h)) (hits rs q) (All-kept ShownRecord _ rs a))))
 
 source_shown : (o : Option Text) → OfOption IsOneLine o → ShownSource o
 source_shown None a = tt

@@ -54,7 +54,7 @@ abbrev pub has_mark : List Record → Option ℕ → Bool
 has_mark rs None = true
 has_mark rs (Some mark) = list_any (λ r. r.number == mark) rs
 
--- the fault of the read's own texts, which is told before a token is looked at
+-- the refusal that the read's own text deserves, its query or its id, which is told before a token is looked at
 abbrev pub query_refusal : Read → Option Refusal
 query_refusal (Read.find n sort mark (Ok q)) = None
 query_refusal (Read.find n sort mark (Err e)) = Some e
@@ -63,7 +63,7 @@ query_refusal (Read.facets dim n (Err e)) = Some e
 query_refusal (Read.get (Ok id)) = None
 query_refusal (Read.get (Err e)) = Some e
 
--- the answer to a read: its fault comes first, then of a page the count, the sort field and the mark are looked at, in this
+-- the answer to a read: the refusal of its text comes first, then of a page the count, the sort field and the mark are looked at, in this
 -- order, and of counts the dimension and the count
 abbrev pub answer : Schema → List Record → Read → Result Found Refusal
 answer schema rs (Read.find n sort mark (Err e)) = Err e

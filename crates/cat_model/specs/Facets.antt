@@ -1,8 +1,9 @@
 -- Counts over the labels of the hits: Lucene's SortedSetDocValuesFacetCounts.getTopChildren. Only the number of hits that
 -- have a label at all is our own.
-use Rattle.std.specs.Prelude.{ℕ, Bool, true, false, not, List, [], ◌∷◌, length, map, filter, count_by}
+use Rattle.std.specs.Prelude.{ℕ, Bool, true, false, not, List, [], ◌∷◌, length, map, count_by}
 use Rattle.std.specs.List.{list_any, flat_map}
 use Rattle.std.specs.Ordering.{nat_cmp, is_lt, ordering_then}
+use Rattle.cat_base.specs.Texts.{sorted_set}
 use Rattle.cat_model.specs.Text.{Text, text_cmp, same_text}
 use Rattle.cat_model.specs.Item.{Record, content_of, labels_in}
 use Rattle.cat_model.specs.Query.{Query}
@@ -13,7 +14,7 @@ pub record Counted : Type 0 where
   pub count : ℕ
   pub label : Text
 
--- the hits with a label in the dimension, the different labels that they have, and the first counts (FacetResult)
+-- how many hits have a label in the dimension, how many different labels they have, and the first counts (FacetResult)
 pub record Facets : Type 0 where
   pub matching : ℕ
   pub met : ℕ
@@ -28,10 +29,9 @@ abbrev pub is_empty : List Text → Bool
 is_empty [] = true
 is_empty (l ∷ ls) = false
 
--- the texts of the list, each once
-abbrev pub distinct : List Text → List Text
-distinct [] = []
-distinct (x ∷ xs) = x ∷ filter (λ y. not (same_text x y)) (distinct xs)
+-- the labels that the records have, each once, in byte order
+abbrev pub labels_met : Text → List Record → List Text
+labels_met dim rs = sorted_set (flat_map (labels_of dim) rs)
 
 -- the label with the number of the hits that have it
 abbrev pub counted : Text → List Record → Text → Counted
@@ -45,8 +45,8 @@ more a b = is_lt (ordering_then (nat_cmp b.count a.count) (text_cmp a.label b.la
 abbrev pub facets_of : List Record → Text → ℕ → Facets
 facets_of hs dim n = record {
   matching = count_by (λ h. not (is_empty (labels_of dim h))) hs;
-  met = length (distinct (flat_map (labels_of dim) hs));
-  counts = first_ranked more (map (counted dim hs) (distinct (flat_map (labels_of dim) hs))) n;
+  met = length (labels_met dim hs);
+  counts = first_ranked more (map (counted dim hs) (labels_met dim hs)) n;
 }
 
 -- the counts over the hits of the query

@@ -21,6 +21,7 @@ text_of_name (Name.commit g) = codes "segments_" ++ decimal g
 abbrev pub IsFileNumber : ℕ → Type 0
 IsFileNumber n = (0 < n) × (n < 2 ^ 63)
 
+-- the numbers are such
 abbrev pub IsFileName : Name → Type 0
 IsFileName (Name.segment n) = IsFileNumber n
 IsFileName (Name.source n) = IsFileNumber n

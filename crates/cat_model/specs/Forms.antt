@@ -1,4 +1,5 @@
--- The forms of what an item has. A file of a segment is judged by them too. They are our own.
+-- The forms of what an item has. A file of a segment is judged by them too. They are our own. Which refusal an item gets
+-- that hasn't these forms is said where texts of JSON are read, by cat_schema.
 use Rattle.std.specs.Prelude.{◌≡◌, ℕ, ◌<◌, ◌≤◌, ◌^◌, Bool, true, nat_le, ◌&&◌, ◌==◌, not, length, All, IfSome, IsUtf8}
 use Rattle.std.specs.List.{list_all}
 use Rattle.std.specs.Char.{is_ascii_uppercase}
@@ -9,11 +10,11 @@ use Rattle.cat_model.specs.Item.{Content, Item, is_id}
 use Rattle.cat_model.specs.Words.{is_word_byte}
 use Rattle.cat_model.specs.Limits.{keyword_limit, label_limit, source_limit}
 
--- no control character
+-- no control character of ASCII
 abbrev pub is_plain_byte : ℕ → Bool
 is_plain_byte b = nat_le 32 b && not (b == 127)
 
--- a keyword: at most 128 bytes without control characters
+-- a keyword: at most `keyword_limit` bytes, no control character of ASCII among them
 pub record IsKeyword (text : Text) : Type 0 where
   pub utf8 : IsUtf8 text
   pub short : length text ≤ keyword_limit
@@ -42,7 +43,7 @@ IsFormed (Content.keyword k) = IfSome k IsKeyword
 IsFormed (Content.number z) = IfSome z (FitsSigned w64)
 IsFormed (Content.labels ls) = (length ls ≤ label_limit) × All IsLabel ls
 
--- 1 to 8,192 bytes of JSON
+-- how many bytes a source has: 1 to `source_limit`
 abbrev pub IsSourceLength : ℕ → Type 0
 IsSourceLength n = (1 ≤ n) × (n ≤ source_limit)
 

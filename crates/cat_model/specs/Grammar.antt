@@ -6,22 +6,24 @@ use Rattle.std.specs.Char.{is_ascii_digit}
 use Rattle.cat_model.specs.Text.{Text}
 use Rattle.cat_model.specs.Item.{Schema, Kind, kind_of, is_name_byte}
 use Rattle.cat_model.specs.Query.{Query, Primary, Sign}
+use Rattle.cat_model.specs.Limits.{clause_limit, depth_limit}
 use Rattle.cat_model.specs.Words.{words, lowered, is_word_byte}
 
 -- none of: space ( ) [ ] " * \
 abbrev pub is_bare_byte : ℕ → Bool
 is_bare_byte b = not (b == 32 || b == 40 || b == 41 || b == 91 || b == 93 || b == 34 || b == 42 || b == 92)
 
--- spaces*
+-- any number of spaces
 abbrev pub AreSpaces : Text → Type 0
 AreSpaces = AllByRecursion (λ b. b ≡ 32)
 
--- What stands behind the first quote, up to the second, and the text that it is.
+-- what stands behind the first quote, up to the second, and the text that it is
 pub data Quotes : Text → Text → Type 0 where
   closed : Quotes (34 ∷ []) []
   plain : (b : ℕ) (t s : Text) → b ≢ 34 → b ≢ 92 → Quotes t s → Quotes (b ∷ t) (b ∷ s)
   escaped : (c : ℕ) (t s : Text) → (c ≡ 34) ⊎ (c ≡ 92) → Quotes t s → Quotes (92 ∷ c ∷ t) (c ∷ s)
 
+-- a text without quotes: one or more of these bytes
 abbrev pub IsBare : Text → Type 0
 IsBare t = (t ≢ []) × AllByRecursion (λ b. IsTrue (is_bare_byte b)) t
 
@@ -44,13 +46,16 @@ pub data IsValue : Text → Asks → Type 0 where
   range : (t u : Text) (low high : Option Text) → IsEnd t low → IsEnd u high → IsValue (91 ∷ (t ++ (32 ∷ 84 ∷ 79 ∷ 32 ∷ (u ++ 93 ∷ [])))) (between low high)
   prefix : (t : Text) → IsBare t → IsValue (t ++ 42 ∷ []) (begins t)
 
+-- the number that digits are, behind those that gave n
 abbrev pub value_from : ℕ → Text → ℕ
 value_from n [] = n
 value_from n (b ∷ bs) = value_from (n * 10 + (b - 48)) bs
 
+-- one or more digits
 abbrev pub AreDigits : Text → Type 0
 AreDigits t = (t ≢ []) × AllByRecursion (λ b. IsTrue (is_ascii_digit b)) t
 
+-- the number below zero
 abbrev pub negated : ℕ → ℤ
 negated zero = pos 0
 negated (suc n) = negsuc n
@@ -60,6 +65,7 @@ pub data IsInteger : Text → ℤ → Type 0 where
   not_below : (t : Text) → AreDigits t → value_from 0 t < 2 ^ 63 → IsInteger t (pos (value_from 0 t))
   below : (t : Text) → AreDigits t → value_from 0 t ≤ 2 ^ 63 → IsInteger (45 ∷ t) (negated (value_from 0 t))
 
+-- the number that an end of a range is; an open end is none
 abbrev pub IsBound : Option Text → Option ℤ → Type 0
 IsBound None None = Unit {0}
 IsBound None (Some z) = ⊥
@@ -123,8 +129,8 @@ abbrev mutual
   depth_in (Primary.group q) = 1 + depth q
   depth_in _ = 0
 
--- The text spells the query: by the grammar, with at most 64 clauses in all and 8 groups inside one another.
+-- The text spells the query: by the grammar, with no more clauses in all, and groups inside one another, than may be.
 pub record Spells (schema : Schema) (text : Text) (q : Query) : Type 0 where
   pub grammar : IsQuery schema text q
-  pub few : clauses q ≤ 64
-  pub shallow : depth q ≤ 8
+  pub few : clauses q ≤ clause_limit
+  pub shallow : depth q ≤ depth_limit

@@ -1,11 +1,11 @@
 -- Items and records: Lucene's documents. The kinds of field answer to its TextField, a StringField that is sorted by too
 -- (SortedDocValuesField), LongField and SortedSetDocValuesFacetField. Schemas, limits and the form of ids are our own.
-use Rattle.std.specs.Prelude.{◌≡◌, ℕ, ℤ, ◌≤◌, ◌&&◌, ◌||◌, ◌==◌, not, Bool, false, IsTrue, ltb, leb, length, map, codes, List, [], ◌∷◌, Option, Some, None, find, option_map}
+use Rattle.std.specs.Prelude.{◌≡◌, ℕ, ℤ, ◌≤◌, ◌-◌, ◌&&◌, ◌||◌, ◌==◌, not, Bool, false, IsTrue, ltb, leb, length, map, codes, List, [], ◌∷◌, Option, Some, None, find, option_map}
 use Rattle.std.specs.List.{AllByRecursion, list_all}
 use Rattle.std.specs.Char.{is_ascii_graphic, is_ascii_digit, is_ascii_lowercase}
 use Rattle.cat_base.specs.Texts.{IsTextSet}
 use Rattle.cat_model.specs.Text.{Text, same_text}
-use Rattle.cat_model.specs.Limits.{field_limit, id_limit}
+use Rattle.cat_model.specs.Limits.{field_limit, id_limit, name_limit}
 
 -- the kinds of field
 pub data Kind : Type 0 where
@@ -23,10 +23,10 @@ pub record Field : Type 0 where
 abbrev pub is_name_byte : ℕ → Bool
 is_name_byte b = is_ascii_lowercase b || is_ascii_digit b || b == 95
 
--- 1 to 32 bytes: a lower letter, then lower letters, digits and `_`
+-- 1 to `name_limit` bytes: a lower letter, then lower letters, digits and `_`
 abbrev pub has_name_form : Text → Bool
 has_name_form [] = false
-has_name_form (b ∷ bs) = is_ascii_lowercase b && list_all is_name_byte bs && leb (length bs) 31
+has_name_form (b ∷ bs) = is_ascii_lowercase b && list_all is_name_byte bs && leb (length bs) (name_limit - 1)
 
 -- the name of a field has that form, and isn't `id`
 abbrev pub is_field_name : Text → Bool
@@ -36,7 +36,7 @@ is_field_name t = has_name_form t && not (same_text t (codes "id"))
 abbrev pub Schema : Type 0
 Schema = List Field
 
--- at most 32 fields, with the names of fields, which rise by bytes
+-- at most `field_limit` fields, whose names have the form and rise by bytes
 pub record IsSchema (schema : Schema) : Type 0 where
   pub few : length schema ≤ field_limit
   pub rising : IsTextSet (map (λ f. f.name) schema)
@@ -58,13 +58,13 @@ pub record FieldContent : Type 0 where
   pub name : Text
   pub content : Content
 
--- an item: its id, its fields, and the text of JSON that it came as
+-- an item: its id, its fields, and its source, the text of JSON that it came as
 pub record Item : Type 0 where
   pub id : Text
   pub fields : List FieldContent
   pub source : Text
 
--- an id has 1 to 64 bytes, each from `!` to `~`
+-- an id has 1 to `id_limit` bytes, each from `!` to `~`
 abbrev pub is_id : Text → Bool
 is_id t = ltb 0 (length t) && leb (length t) id_limit && list_all is_ascii_graphic t
 
@@ -75,14 +75,14 @@ pub data IsContent : Kind → Content → Type 0 where
   number : (z : Option ℤ) → IsContent Kind.number (Content.number z)
   labels : (ls : List Text) → IsTextSet ls → IsContent Kind.facet (Content.labels ls)
 
--- one part for each field, in the fields' order, under its name and of its kind
+-- one for each field of the schema, in its order, under its name and of its kind
 abbrev pub AreFields : Schema → List FieldContent → Type 0
 AreFields [] [] = Unit {0}
 AreFields [] (p ∷ ps) = ⊥
 AreFields (f ∷ fs) [] = ⊥
 AreFields (f ∷ fs) (p ∷ ps) = ((p.name ≡ f.name) × IsContent f.kind p.content) × AreFields fs ps
 
--- the item has the parts that the schema asks for
+-- the item has the fields of the schema
 abbrev pub IsItem : Schema → Item → Type 0
 IsItem schema i = AreFields schema i.fields
 

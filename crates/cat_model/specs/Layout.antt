@@ -15,15 +15,16 @@ use Rattle.cat_model.specs.Limits.{row_limit}
 
 -- ---- what is laid out
 
--- a word, and the places of the rows that have it
+-- a word, and its postings: the indices of the rows that have it
 pub record WordPostings : Type 0 where
   pub word : Text
   pub rows : List ℕ
 
--- a column, by the kind of its field
+-- a column, by the kind of its field: words with their postings; a dictionary with a code for each row, as `code_in` says;
+-- a number or none for each row; or a dictionary with the ordinals of each row
 pub data Laid : Type 0 where
   words : List WordPostings → Laid
-  keywords : (dictionary : List Text) (codes : List ℕ) → Laid
+  keywords : (dictionary : List Text) (coded : List ℕ) → Laid
   numbers : List (Option ℤ) → Laid
   labels : (dictionary : List Text) (ordinals : List (List ℕ)) → Laid
 
@@ -33,6 +34,7 @@ pub record Head : Type 0 where
   pub id : Text
   pub length : ℕ
 
+-- a segment as its file has it: its number, the fields, what is said of each row, and the columns in the fields' order
 pub record Layout : Type 0 where
   pub number : ℕ
   pub schema : Schema
@@ -67,20 +69,24 @@ laid_as Kind.facet rows = Laid.labels (dictionary_of (map labels_in rows)) (map 
 abbrev pub column_of : List Row → Field → Laid
 column_of rows f = laid_as f.kind (map (λ r. content_of f.name (item_in r)) rows)
 
+-- what the file says of the row
 abbrev pub head_of : Row → Head
 head_of row = record { number = row.number; id = row.id; length = row.length }
 
+-- the layout of a segment
 abbrev pub layout_of : Segment → Layout
 layout_of s = record { number = s.number; schema = s.schema; heads = map head_of s.rows; columns = map (column_of s.rows) s.schema }
 
 -- ---- its bytes
 
+-- the byte of a kind
 abbrev pub kind_byte : Kind → ℕ
 kind_byte Kind.text = 1
 kind_byte Kind.keyword = 2
 kind_byte Kind.number = 3
 kind_byte Kind.facet = 4
 
+-- the name and the kind
 abbrev pub spelled_field : Field → List ℕ
 spelled_field f = spelled_bytes f.name ++ kind_byte f.kind ∷ []
 
@@ -88,6 +94,7 @@ spelled_field f = spelled_bytes f.name ++ kind_byte f.kind ∷ []
 abbrev pub spelled_fields : Schema → List ℕ
 spelled_fields schema = spelled_u32 (length schema) ++ flat_map spelled_field schema
 
+-- the number, the id, and how long the source is
 abbrev pub spelled_head : Head → List ℕ
 spelled_head h = spelled_u64 h.number ++ (spelled_bytes h.id ++ spelled_u32 h.length)
 
@@ -99,6 +106,7 @@ spelled_list ns = spelled_u32 (length ns) ++ flat_map spelled_u32 ns
 abbrev pub spelled_texts : List Text → List ℕ
 spelled_texts texts = spelled_u32 (length texts) ++ flat_map spelled_bytes texts
 
+-- the word, and its postings
 abbrev pub spelled_postings : WordPostings → List ℕ
 spelled_postings p = spelled_bytes p.word ++ spelled_list p.rows
 
@@ -107,9 +115,10 @@ abbrev pub spelled_number : Option ℤ → List ℕ
 spelled_number None = 0 ∷ []
 spelled_number (Some z) = 1 ∷ spelled_u64 (cast_unsigned w64 z)
 
+-- a column, by its kind
 abbrev pub spelled_column : Laid → List ℕ
 spelled_column (Laid.words ps) = spelled_u32 (length ps) ++ flat_map spelled_postings ps
-spelled_column (Laid.keywords dictionary codes) = spelled_texts dictionary ++ flat_map spelled_u32 codes
+spelled_column (Laid.keywords dictionary coded) = spelled_texts dictionary ++ flat_map spelled_u32 coded
 spelled_column (Laid.numbers zs) = flat_map spelled_number zs
 spelled_column (Laid.labels dictionary ordinals) = spelled_texts dictionary ++ flat_map spelled_list ordinals
 
@@ -129,6 +138,7 @@ pub record SpellsSegment (bytes : List ℕ) (s : Segment) : Type 0 where
 
 -- ---- what can be laid out: texts with their forms, numbers that fit, one of each for each row
 
+-- what is said of a row can be said
 pub record IsHead (h : Head) : Type 0 where
   pub positive : 1 ≤ h.number
   pub fits : h.number < 2 ^ 64
@@ -139,13 +149,15 @@ pub record IsHead (h : Head) : Type 0 where
 abbrev pub FitU32 : List ℕ → Type 0
 FitU32 ns = (length ns < 2 ^ 32) × All (λ n. n < 2 ^ 32) ns
 
+-- a word with its form, and postings that fit
 pub record IsWordPostings (p : WordPostings) : Type 0 where
   pub word : IsWord p.word
   pub rows : FitU32 p.rows
 
+-- a column of the kind, for as many rows
 abbrev pub IsLaid : ℕ → Kind → Laid → Type 0
 IsLaid rows Kind.text (Laid.words ps) = (length ps < 2 ^ 32) × All IsWordPostings ps
-IsLaid rows Kind.keyword (Laid.keywords dictionary codes) = (length dictionary < 2 ^ 32) × All IsKeyword dictionary × (length codes ≡ rows) × FitU32 codes
+IsLaid rows Kind.keyword (Laid.keywords dictionary coded) = (length dictionary < 2 ^ 32) × All IsKeyword dictionary × (length coded ≡ rows) × FitU32 coded
 IsLaid rows Kind.number (Laid.numbers zs) = (length zs ≡ rows) × All (λ z. IfSome z (FitsSigned w64)) zs
 IsLaid rows Kind.facet (Laid.labels dictionary ordinals) = (length dictionary < 2 ^ 32) × All IsLabel dictionary × (length ordinals ≡ rows) × All FitU32 ordinals
 IsLaid rows kind column = ⊥
@@ -156,6 +168,7 @@ AreLaid rows [] [] = Unit {0}
 AreLaid rows (f ∷ fs) (c ∷ cs) = IsLaid rows f.kind c × AreLaid rows fs cs
 AreLaid rows fs cs = ⊥
 
+-- 1 to `row_limit` rows under a schema, with their columns, and a number that a name can have
 pub record IsLayout (l : Layout) : Type 0 where
   pub number : IsFileNumber l.number
   pub schema : IsSchema l.schema
@@ -164,7 +177,7 @@ pub record IsLayout (l : Layout) : Type 0 where
   pub heads : All IsHead l.heads
   pub columns : AreLaid (length l.heads) l.schema l.columns
 
--- ---- pieces of one list
+-- ---- pieces of one list: nothing to believe, since they only serve the proofs of what reads a file
 
 -- the list from `from` to the first end, from there to the next, and so on
 abbrev pub pieces : {A : Type 0} → ℕ → List ℕ → List A → List (List A)
@@ -178,6 +191,6 @@ AreEnds from (e ∷ es) total = (from ≤ e) × AreEnds e es total
 
 -- the words, each with its piece of the rows
 abbrev pub paired_postings : List Text → List (List ℕ) → List WordPostings
-paired_postings [] parts = []
+paired_postings [] lists = []
 paired_postings (w ∷ ws) [] = []
-paired_postings (w ∷ ws) (rows ∷ parts) = record { word = w; rows = rows } ∷ paired_postings ws parts
+paired_postings (w ∷ ws) (rows ∷ lists) = record { word = w; rows = rows } ∷ paired_postings ws lists

@@ -1,33 +1,38 @@
+-- ---- What has to be believed. First what serving an input means, up to `Served`, on which the contract of `serve` rests;
+-- then what segments, their files and views are, which the program doesn't use yet. Each file stands on those before it.
 pub mod Text
 pub mod Limits
-pub mod Words
 pub mod Item
+pub mod Words
+pub mod Write
+pub mod Table
 pub mod Query
 pub mod Grammar
 pub mod Faults
-pub mod Write
-pub mod Table
 pub mod Page
 pub mod Facets
 pub mod Answer
 pub mod Run
-pub mod State
 pub mod Lines
 pub mod Heard
 pub mod Input
 pub mod Served
-pub mod Laws
+pub mod Forms
+pub mod RowSets
+pub mod Ordinals
+pub mod Files
+pub mod View
+pub mod Layout
+pub mod LiveFile
+-- ---- What needs no belief: laws, each proved as the contract of a public function, samples that were judged by hand, and
+-- what serves proofs (`Reader`, `Ranks`, `State`).
 pub mod Reader
 pub mod QueryLaws
 pub mod QuerySamples
 pub mod Ranks
 pub mod RankLaws
-pub mod RowSets
-pub mod Ordinals
-pub mod Forms
-pub mod Files
-pub mod View
-pub mod Layout
-pub mod LiveFile
+pub mod State
+pub mod Laws
 pub mod Talk
 pub mod TalkSample
+pub mod ViewLaws

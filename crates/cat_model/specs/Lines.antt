@@ -81,7 +81,7 @@ pub record SpellsSaid (text : Text) (said : Said) : Type 0 where
 -- the session stands before the first space, or is the whole line
 pub record ShowsSession (line : Text) (session : ℕ) : Type 0 where
   pub small : session ≤ session_limit
-  pub place : (line ≡ decimal session) ⊎ ((rest : Text) × (line ≡ decimal session ++ 32 ∷ rest))
+  pub split : (line ≡ decimal session) ⊎ ((rest : Text) × (line ≡ decimal session ++ 32 ∷ rest))
 
 -- the line spells the session, and what is said under it
 pub record SpellsLine (line : Text) (session : ℕ) (said : Said) : Type 0 where
@@ -97,13 +97,13 @@ pub record IsReadable (line : Text) : Type 0 where
 
 -- ---- replies
 
--- a sort key, or a point where there is none
+-- a sort key, or a dot where there is none
 abbrev pub key_text : Option Key → Text
 key_text None = codes "."
 key_text (Some (Key.number z)) = signed_decimal z
 key_text (Some (Key.keyword k)) = codes "=" ++ k
 
--- a stored item, or a point where there is none
+-- a stored item, or a dot where there is none
 abbrev pub source_text : Option Text → Text
 source_text None = codes "."
 source_text (Some source) = source

@@ -11,7 +11,7 @@ pub record LiveRows : Type 0 where
   pub generation : ℕ
   pub live : List Bool
 
--- There are rows, at most so many as a segment has, and some row isn't live: a segment without deleted rows has no such file.
+-- 1 to `row_limit` rows, of which some row isn't live: a segment without deleted rows has no such file
 pub record AreLiveRows (rows : LiveRows) : Type 0 where
   pub number : IsFileNumber rows.number
   pub generation : IsFileNumber rows.generation

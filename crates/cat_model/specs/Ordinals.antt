@@ -10,7 +10,7 @@ use Rattle.cat_model.specs.RowSets.{indices}
 abbrev pub dictionary_of : List (List Text) → List Text
 dictionary_of rows = sorted_set (flat_map (λ texts. texts) rows)
 
--- the text of an ordinal, which is a place in the dictionary
+-- the text of an ordinal, which is an index in the dictionary
 abbrev pub text_at : List Text → ℕ → Text
 text_at dictionary ordinal = slice_index_or dictionary ordinal []
 
@@ -23,7 +23,7 @@ IsOrdinal dictionary text (Some ordinal) = (ordinal < length dictionary) × (tex
 abbrev pub rows_having : Text → List (List Text) → List Bool
 rows_having text rows = map (list_any (same_text text)) rows
 
--- the places of the rows that have the text, rising
+-- the indices of the rows that have the text, rising
 abbrev pub postings_of : Text → List (List Text) → List ℕ
 postings_of text rows = indices (rows_having text rows)
 

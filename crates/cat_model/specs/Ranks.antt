@@ -1,4 +1,5 @@
--- Orders by a test "comes before", and lists put in such an order.
+-- Orders by a test "comes before", and lists put in such an order. Nothing to believe: the laws of ranks tie them to pages,
+-- and they serve the proofs of what ranks.
 use Rattle.std.specs.Prelude.{◌≡◌, ◌⊎◌, Bool, true, false, cond, List, [], ◌∷◌}
 
 -- nothing comes before itself, and what comes before an element comes before all that this one comes before

@@ -1,11 +1,12 @@
--- How a query text is read, as functions. No definition to believe: the laws of queries tie it to the grammar and to the
--- faults, and a parser in code is proved to give what it gives. Below `read_query` an Err is the number of bytes that are
+-- How a query text is read, as functions. Nothing to believe: the laws of queries tie it to the grammar and to the faults,
+-- and a parser in code is proved to give what it gives. Below `read_query` an Err is the number of bytes that are
 -- left from the fault on.
 use Rattle.std.specs.Prelude.{◌+◌, ◌-◌, ◌^◌, ℕ, ℤ, pos, zero, suc, List, [], ◌∷◌, length, take, drop, Option, Some, None, option_map, option_and_then, Result, Ok, Err, Bool, true, false, ◌&&◌, ◌||◌, ◌==◌, ltb, leb, nat_eq, if◌then◌else◌}
 use Rattle.std.specs.List.{prefix_len, starts_with, list_all}
 use Rattle.std.specs.Char.{is_ascii_digit}
 use Rattle.cat_model.specs.Text.{Text}
 use Rattle.cat_model.specs.Item.{Schema, Kind, kind_of, is_name_byte}
+use Rattle.cat_model.specs.Limits.{clause_limit, depth_limit}
 use Rattle.cat_model.specs.Query.{Query, Primary, Sign}
 use Rattle.cat_model.specs.Words.{words, lowered, is_word_byte}
 use Rattle.cat_model.specs.Grammar.{is_bare_byte, Asks, value_from, negated}
@@ -209,6 +210,6 @@ abbrev pub placed : ℕ → Result Query ℕ → Result Query ℕ
 placed total (Ok q) = Ok q
 placed total (Err left) = Err (total - left)
 
--- at most 64 clauses in all, and 8 groups in the text, which itself counts as one
+-- as many clauses in all as may be, and groups in the text, which itself counts as one
 unfoldable pub read_query : Schema → Text → Result Query ℕ
-read_query schema text = placed (length text) (content_at schema 9 64 text >>= whole)
+read_query schema text = placed (length text) (content_at schema (depth_limit + 1) clause_limit text >>= whole)

@@ -21,20 +21,20 @@ either a b = a || b
 abbrev pub first_only : Bool → Bool → Bool
 first_only a b = a && not b
 
--- the row of this place is in the set
+-- the row of this index is in the set
 abbrev pub has_row : List Bool → ℕ → Bool
 has_row set row = slice_index_or set row false
 
--- the places of the rows that are in the set, rising from 0
+-- the indices of the rows that are in the set, rising from 0
 abbrev pub indices : List Bool → List ℕ
 indices set = filter (has_row set) (range_with_len 0 (length set))
 
--- the set, and the rows of these places too
+-- the set, and the rows of these indices too
 abbrev pub with_rows : List ℕ → List Bool → List Bool
 with_rows rows set = map (λ row. has_row set row || list_any (λ r. r == row) rows) (range_with_len 0 (length set))
 
 -- The set as bytes: as few as have a bit for each row. The row r is in byte r / 8, at the bit of value 2 to the power of
--- r % 8; the bits past the last row are 0. (After FixedBitSet, whose words are longer.)
+-- r % 8; the bits past the last row are 0. (After FixedBitSet, whose bits stand in longs.)
 pub record IsPacked (packed : List ℕ) (set : List Bool) : Type 0 where
   pub long : length packed ≡ (length set + 7) / 8
   pub bytes : All (λ b. b < 256) packed

@@ -2,14 +2,21 @@
 --
 -- After Lucene: REFRESH, OPEN, CLOSE and PRUNE are record, acquire, release and prune of SearcherLifetimeManager; COMMIT is
 -- IndexWriter.commit under KeepOnlyLastCommitDeletionPolicy; SNAP and UNSNAP are snapshot and release of
--- SnapshotDeletionPolicy. Our own are: that a token is the number of writes, that at most 64 records stand, pruning by a
--- count, holds by session, and the order of the refusals.
+-- SnapshotDeletionPolicy. Our own are: that a token is the number of writes, that at most `view_limit` views are recorded,
+-- pruning by a count, holds by session, and the order of the refusals.
+--
+-- Some replies are left open on purpose. FILES may tell any names: which files are needed is said where files are. What
+-- maintenance tells is pinned by its form alone (`may_tell`), STAT's numbers too: when segments are merged, and what a cache
+-- keeps, is nobody's promise. A COMMIT may be told any generation above those before it.
+--
+-- No line says all of this yet (`Said` of Lines.antt): PRUNE, COMMIT, SNAP, UNSNAP, FILES and maintenance, and of the reads
+-- counts and stored items, are defined for the lines to come, with what they tell of.
 use Rattle.std.specs.Prelude.{◌≡◌, ◌⊎◌, ℕ, ◌+◌, ◌-◌, ◌<◌, ◌≤◌, Bool, true, false, not, ◌&&◌, ◌||◌, ltb, max, List, [], ◌∷◌, ◌++◌, length, filter, filter_map, map, count_by, Option, Some, None, option_to_list, Result, Ok, Err, cond, IsTrue, ◌==◌}
 use Rattle.std.specs.List.{list_any, list_all, last_or}
 use Rattle.cat_base.specs.declared.refusal.Refusal.{Refusal}
 use Rattle.cat_base.specs.declared.refusal.Refusal.TheVariants.{Line as NoForm, Spent, NotHeld, Gone, Full, NoCommit, NoSnapshot, Device, Damaged, Memory}
 use Rattle.cat_model.specs.Text.{Text}
-use Rattle.cat_model.specs.Item.{Item}
+use Rattle.cat_model.specs.Item.{Item, Record, Schema}
 use Rattle.cat_model.specs.Write.{Write}
 use Rattle.cat_model.specs.Table.{Start, Opened, table, count}
 use Rattle.cat_model.specs.Answer.{Read, Found, answer, query_refusal}
@@ -46,13 +53,14 @@ pub record Line : Type 0 where
   pub session : ℕ
   pub command : Command
 
--- a segment: its number, its rows, and those of them that are live
+-- what STAT tells of a segment: its number, how many rows it has, and how many of them are live
 pub record SegmentStat : Type 0 where
   pub number : ℕ
   pub rows : ℕ
   pub live : ℕ
 
--- what STAT tells
+-- what STAT tells: how many writes were accepted, records wait in the buffer, views are recorded, sets of rows are cached
+-- and files wait to be deleted; and each segment
 pub record Stat : Type 0 where
   pub writes : ℕ
   pub buffered : ℕ
@@ -173,7 +181,7 @@ pruned held n ts = filter (λ t. held t || ltb (count_by (λ u. ltb t u) ts) (ma
 abbrev pub with_view : (ℕ → Bool) → List ℕ → ℕ → List ℕ
 with_view held ts t = cond (has ts t) ts (cond (ltb (length ts) view_limit) ts (without_least_free held ts) ++ t ∷ [])
 
--- the tokens of the records after an exchange, by what was held before it
+-- the tokens of the recorded views after an exchange, by what was held before it
 abbrev pub view_tokens_by : (ℕ → Bool) → List ℕ → Command → Reply → List ℕ
 view_tokens_by held ts Command.refresh (Ok (Answer.number t)) = with_view held ts t
 view_tokens_by held ts (Command.prune n) (Ok a) = pruned held n ts
@@ -184,7 +192,7 @@ abbrev pub view_tokens_from : List ℕ → Run → Run → List ℕ
 view_tokens_from ts past [] = ts
 view_tokens_from ts past (e ∷ rest) = view_tokens_from (view_tokens_by (is_held past) ts e.line.command e.reply) (past ++ e ∷ []) rest
 
--- the tokens of the records at the end of the run, rising
+-- the tokens of the recorded views at the end of the run, rising; a service opens with one, of its start
 abbrev pub view_tokens : Start → Run → List ℕ
 view_tokens start run = view_tokens_from (start.token ∷ []) [] run
 
@@ -193,7 +201,7 @@ abbrev pub generation_by : Command → Reply → Option ℕ
 generation_by Command.commit (Ok (Answer.number g)) = Some g
 generation_by _ _ = None
 
--- the generations of the commits so far, the opened one first
+-- the generations of the commits so far, that of the opened one first, where one was opened
 abbrev pub generations : Opened → Run → List ℕ
 generations from run = option_to_list from.generation ++ filter_map (λ e. generation_by e.line.command e.reply) run
 
@@ -254,6 +262,14 @@ abbrev pub or_not_held : Option Refusal → Reply
 or_not_held None = Err NotHeld
 or_not_held (Some e) = Err e
 
+-- the reply to a read, by whether its token is held: the answer over the table at it
+abbrev pub read_reply : Bool → Schema → List Record → Read → Reply
+read_reply held schema rs asked = cond held (found_reply (answer schema rs asked)) (or_not_held (query_refusal asked))
+
+-- the reply to a write after so many
+abbrev pub write_reply : ℕ → Reply
+write_reply n = cond (ltb n last_number) (Ok (Answer.number (n + 1))) (Err Spent)
+
 -- the reply to SNAP: the newest commit, if there is one and it may have one snapshot more
 abbrev pub snapshot_of : (ℕ → ℕ) → Option ℕ → Reply
 snapshot_of taken None = Err NoCommit
@@ -271,9 +287,9 @@ greatest (t ∷ ts) = max t (greatest ts)
 -- the fitting replies, the causes of `may_refuse` apart
 abbrev pub Answers : Opened → Run → ℕ → Command → Reply → Type 0
 Answers from past s Command.formless r = r ≡ Err NoForm
-Answers from past s (Command.put (Ok i)) r = r ≡ cond (ltb (now from.start past) last_number) (Ok (Answer.number (now from.start past + 1))) (Err Spent)
+Answers from past s (Command.put (Ok i)) r = r ≡ write_reply (now from.start past)
 Answers from past s (Command.put (Err e)) r = r ≡ Err e
-Answers from past s (Command.delete (Ok id)) r = r ≡ cond (ltb (now from.start past) last_number) (Ok (Answer.number (now from.start past + 1))) (Err Spent)
+Answers from past s (Command.delete (Ok id)) r = r ≡ write_reply (now from.start past)
 Answers from past s (Command.delete (Err e)) r = r ≡ Err e
 Answers from past s Command.refresh r =
     r ≡ cond (not (has (view_tokens from.start past) (now from.start past)) && is_full (is_held past) (view_tokens from.start past)) (Err Full) (Ok (Answer.number (now from.start past)))
@@ -281,7 +297,7 @@ Answers from past s Command.open_newest r = r ≡ Ok (Answer.number (greatest (v
 Answers from past s (Command.open_at t) r = r ≡ cond (has (view_tokens from.start past) t) (Ok (Answer.number t)) (Err Gone)
 Answers from past s (Command.close t) r = r ≡ cond (holds s t past) (Ok (Answer.number t)) (Err NotHeld)
 Answers from past s (Command.read t asked) r =
-    r ≡ cond (holds s t past) (found_reply (answer from.start.schema (table from.start (writes past) t) asked)) (or_not_held (query_refusal asked))
+    r ≡ read_reply (holds s t past) from.start.schema (table from.start (writes past) t) asked
 Answers from past s (Command.prune n) r =
     r ≡ Ok (Answer.number (length (view_tokens from.start past) - length (pruned (is_held past) n (view_tokens from.start past))))
 Answers from past s Command.commit r = cond (list_all (λ h. ltb h last_number) (generations from past)) ((g : ℕ) × (r ≡ Ok (Answer.number g)) × (0 < g) × (g ≤ last_number) × IsTrue (list_all (λ h. ltb h g) (generations from past))) (r ≡ Err Spent)
@@ -295,7 +311,9 @@ Answers from past s (Command.chore c) r = cond (s == 0) ((n : News) × (r ≡ Ok
 abbrev pub Refuses : Command → Reply → Type 0
 Refuses c r = (e : Refusal) × (r ≡ Err e) × IsTrue (may_refuse c e)
 
--- want of memory, or another such refusal, which comes last: an OK would fit
+-- Want of memory may stop every line that is looked at, also one that is due another refusal. The other refusals of
+-- `may_refuse` come last: an OK would fit. So a COMMIT judges its generation before it does anything: where none is left it
+-- is 16, and never 30.
 abbrev pub Stops : Opened → Run → ℕ → Command → Reply → Type 0
 Stops from past s c r = ((r ≡ Err Memory) × IsTrue (is_looked_at s c)) ⊎ (Refuses c r × ((a : Answer) × Answers from past s c (Ok a)))
 

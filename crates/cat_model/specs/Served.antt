@@ -8,6 +8,7 @@ use Rattle.cat_base.specs.declared.refusal.Refusal.TheVariants.{Line as NoForm, 
 use Rattle.cat_model.specs.Text.{Text}
 use Rattle.cat_model.specs.Item.{Schema}
 use Rattle.cat_model.specs.Table.{Opened}
+use Rattle.cat_model.specs.Limits.{least_factor, greatest_factor, least_minimum, greatest_minimum}
 use Rattle.cat_model.specs.Run.{Exchange, IsRun}
 use Rattle.cat_model.specs.Lines.{spaced, IsReadable, reply_text, refusal_words, line_text, unreadable_text}
 use Rattle.cat_model.specs.Heard.{Json, Heard, Hears}
@@ -17,10 +18,10 @@ use Rattle.cat_model.specs.Input.{ended_lines, lines_of, HaveCome}
 
 -- The line spells a factor, a minimum and the text of a schema. The first two say when segments are merged.
 pub record SpellsSchema (line : Text) (factor least : ℕ) (text : Text) : Type 0 where
-  pub factor_low : 2 ≤ factor
-  pub factor_high : factor ≤ 100
-  pub least_low : 1 ≤ least
-  pub least_high : least ≤ 100000
+  pub factor_low : least_factor ≤ factor
+  pub factor_high : factor ≤ greatest_factor
+  pub least_low : least_minimum ≤ least
+  pub least_high : least ≤ greatest_minimum
   pub spelled : line ≡ spaced (codes "SCHEMA" ∷ decimal factor ∷ decimal least ∷ text ∷ [])
 
 -- what opening under a schema may answer

@@ -6,13 +6,14 @@ use Rattle.std.specs.List.{list_any}
 use Rattle.cat_model.specs.Item.{Schema, Record}
 use Rattle.cat_model.specs.Write.{Write, removes}
 
--- what a run begins with: the records of the opened commit and their token
+-- what a run begins with: the fields, and the table of the opened commit with its token, which is how many writes came
+-- before it; where no commit was opened, no record and 0
 pub record Start : Type 0 where
   pub schema : Schema
   pub records : List Record
   pub token : ℕ
 
--- how a service is opened: the start, and the generation of the opened commit, which no read depends on
+-- how a service is opened: the start, and the generation of the opened commit, if there is one. No read depends on it.
 pub record Opened : Type 0 where
   pub start : Start
   pub generation : Option ℕ
@@ -68,7 +69,7 @@ put_last rs n (Write.delete id) = rs
 abbrev pub after : List Record → ℕ → Write → List Record
 after rs n w = put_last (without rs w) n w
 
--- the number of writes
+-- how many writes there were, those before the start counted
 abbrev pub count : Start → List Write → ℕ
 count start writes = start.token + length writes
 

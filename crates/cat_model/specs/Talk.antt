@@ -5,7 +5,7 @@ use Rattle.std.specs.Fmt.{decimal}
 use Rattle.cat_model.specs.Text.{Text}
 use Rattle.cat_model.specs.Item.{Schema, IsSchema, Content, Item}
 use Rattle.cat_model.specs.Table.{Start, Opened}
-use Rattle.cat_model.specs.Limits.{last_number}
+use Rattle.cat_model.specs.Limits.{last_number, session_limit}
 use Rattle.cat_model.specs.Lines.{Said, SpellsSaid, line_text, unreadable_text}
 use Rattle.cat_model.specs.Heard.{Json}
 use Rattle.cat_model.specs.Input.{lines_of, ended_lines}
@@ -84,7 +84,7 @@ pub record Holds (past : List Pair) (s t : ℕ) : Type 0 where
   pub since : List Pair
   pub text : Text
   pub command : (text ≡ codes "OPEN") ⊎ (text ≡ codes "OPEN " ++ decimal t)
-  pub place : past ≡ before ++ granted s text t ∷ since
+  pub split : past ≡ before ++ granted s text t ∷ since
   pub kept : Contains since (granted s (codes "CLOSE " ++ decimal t) t) → ⊥
 
 -- what is said is a read under t
@@ -108,10 +108,10 @@ is_excepted s = unreadable_text ∷ refusal_text s 30 ∷ refusal_text s 31 ∷ 
 
 -- a session that holds t says the text, and is answered so, which is no stop
 pub record HeldAsk (talk : List Pair) (t s : ℕ) (text reply : Text) : Type 0 where
-  pub small : s ≤ 9999
+  pub small : s ≤ session_limit
   pub past : List Pair
   pub later : List Pair
-  pub place : talk ≡ past ++ record { line = decimal s ++ 32 ∷ text; reply = reply } ∷ later
+  pub split : talk ≡ past ++ record { line = decimal s ++ 32 ∷ text; reply = reply } ∷ later
   pub held : Holds past s t
   pub undisturbed : AllByRecursion (λ stop. reply ≢ stop) (is_excepted s)
 

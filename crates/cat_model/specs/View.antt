@@ -1,6 +1,6 @@
 -- Segments, which hold rows that never change, and views of them: Lucene's SegmentReader, whose deletions are kept beside
 -- it as live documents, and the DirectoryReader of a searcher.
-use Rattle.std.specs.Prelude.{◌≡◌, ◌≢◌, ℕ, ◌≤◌, ◌<◌, ◌^◌, Bool, true, false, List, [], ◌∷◌, length, map, take, drop, All, AllPairs}
+use Rattle.std.specs.Prelude.{◌≡◌, ◌≢◌, ℕ, ◌≤◌, ◌<◌, ◌^◌, Bool, true, false, List, [], ◌∷◌, length, map, take, drop, sum, All, AllPairs}
 use Rattle.std.specs.List.{flat_map}
 use Rattle.cat_model.specs.Text.{Text}
 use Rattle.cat_model.specs.Item.{Schema, FieldContent, Item, Record, AreFields, IsSchema, is_id, content_of, words_in}
@@ -35,7 +35,7 @@ pub record Segment : Type 0 where
   pub schema : Schema
   pub rows : List Row
 
--- 1 to 262,144 rows with the parts that the schema asks for; their numbers are at least 1 and rise, and their ids differ
+-- 1 to `row_limit` rows with the fields of the schema; their numbers are at least 1 and rise, and their ids differ
 pub record AreRows (schema : Schema) (rows : List Row) : Type 0 where
   pub some : 1 ≤ length rows
   pub few : length rows ≤ row_limit
@@ -75,7 +75,7 @@ pub record View : Type 0 where
   pub leaves : List Leaf
   pub token : ℕ
 
--- those that are marked by true
+-- those for which the set says true
 abbrev pub selected : {A : Type 0} → List Bool → List A → List A
 selected [] xs = []
 selected (b ∷ bs) [] = []
@@ -103,7 +103,7 @@ pub record IsView (view : View) : Type 0 where
 abbrev pub Shows : View → List Record → Type 0
 Shows view rs = map row_of rs ≡ rows_in view
 
--- the records of rows, whose sources stand one after the other
+-- the records of rows, whose sources stand one after the other, from the first byte on
 abbrev pub sourced : List Row → List ℕ → List Record
 sourced [] bytes = []
 sourced (row ∷ rows) bytes = record { number = row.number; item = record { id = row.id; fields = row.fields; source = take row.length bytes } } ∷ sourced rows (drop row.length bytes)
@@ -111,6 +111,11 @@ sourced (row ∷ rows) bytes = record { number = row.number; item = record { id 
 -- the records of a view, where the files with the sources of its segments hold these bytes, by the numbers of the segments
 abbrev pub records_in : (ℕ → List ℕ) → View → List Record
 records_in files view = flat_map (λ leaf. selected leaf.live (sourced leaf.segment.rows (files leaf.segment.number))) view.leaves
+
+-- No file is shorter than the sources of its segment's rows, so that each source ends within it. (A shorter one gives
+-- sources that are cut off, which no reader may show.)
+abbrev pub HoldSources : (ℕ → List ℕ) → View → Type 0
+HoldSources files view = All (λ leaf. sum (map (λ r. r.length) leaf.segment.rows) ≤ length (files leaf.segment.number)) view.leaves
 
 -- the names of the files that a searcher of the view needs
 abbrev pub needs : View → List Name

@@ -1,5 +1,6 @@
 -- The words of a text: its longest runs of word characters, with ASCII letters lowered. The rule is our own, in the manner
--- of Lucene's SimpleAnalyzer, which takes runs of letters and lowers them: here digits count too.
+-- of Lucene's SimpleAnalyzer, which takes runs of letters and lowers them. Here digits count too, and so does every
+-- character past ASCII, a letter or not, and these stay as they are: `ÉCLAIR` has the one word `Éclair`.
 use Rattle.std.specs.Prelude.{◌≡◌, ◌⊎◌, ◌<◌, ℕ, List, [], ◌∷◌, ◌++◌, map, filter, length, Bool, true, false, not, ◌||◌, nat_le, nat_lt}
 use Rattle.std.specs.List.{slice_split, AllByRecursion}
 use Rattle.std.specs.Char.{is_ascii_alphanumeric, to_ascii_lowercase}
@@ -40,7 +41,7 @@ IsCutAfter after = (after ≡ []) ⊎ ((b : ℕ) × (rest : Text) × (after ≡ 
 pub record IsRunOf (text run : Text) : Type 0 where
   pub before : Text
   pub after : Text
-  pub place : text ≡ before ++ (run ++ after)
+  pub whole : text ≡ before ++ (run ++ after)
   pub some : 0 < length run
   pub of_words : AllByRecursion (λ b. is_word_byte b ≡ true) run
   pub starts : IsCutBefore before

@@ -6,6 +6,7 @@ ghost use Rattle.cat_model.specs.Talk.{AnswersOfAnyStartAreTalks, TalksOfOneStar
 ghost use Rattle.cat_model.specs.TalkSample.{SampleIsJudged};
 ghost use Rattle.cat_model.specs.QueryLaws.{QueriesAreRead, FaultsAreFound, TextsSpellOneQuery, FaultsHaveOnePlace, TextsAreJudged, SpelledTextsHaveNoFault};
 ghost use Rattle.cat_model.specs.QuerySamples.{SamplesAreJudged};
+ghost use Rattle.cat_model.specs.ViewLaws.{SourcesAreShown};
 ghost use Rattle.cat_model.specs.RankLaws.{RanksFollowOrder, AddedStandFirst, SortsOrderRecords};
 
 /// One more write makes of the table the table after it: the item of its id goes, and an item that
@@ -193,4 +194,12 @@ pub fn added_stand_first()
 /// Lucene breaks the ties of a `Sort` by document number too.
 pub fn sorts_order_records()
     ensures { SortsOrderRecords }
+{}
+
+/// Where files hold the sources of a view's segments, the view shows the records that are read from them.
+/// So a page of the view and a stored item speak of one list of records.
+///
+/// Lucene's `StoredFields` of a reader gives the documents that its searcher finds.
+pub fn sources_are_shown()
+    ensures { SourcesAreShown }
 {}

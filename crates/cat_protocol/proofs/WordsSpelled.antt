@@ -44,14 +44,14 @@ pub reads : (text rest : Text) (session : ℕ) (said : Option Said) → session 
     → IfSome said (λ s. SpellsSaid rest s) → IfNone said ((s : Said) → SpellsSaid rest s → ⊥) → Reads text session said
 reads text rest session (Some s) small e found none = record { small = small; rest = rest; session_first = e; says = found }
 reads text rest session None small e found none = (
-  record { small = small; place = inr (rest, e) },
+  record { small = small; split = inr (rest, e) },
   λ s h. let behind = one_number session session h.rest rest (omega arith) (omega arith) (sym h.session_first ∙ e) in
       none s (subst (λ (t : Text). SpellsSaid t s) behind.1 h.says),
 )
 
 -- a word that is no session shows none
 pub no_session_alone : (text : Text) → HasNoSpace text → ((session : ℕ) → session ≤ 9999 → text ≡ decimal session → ⊥) → (session : ℕ) → ShowsSession text session → ⊥
-no_session_alone text none unread session h = elim h.place [
+no_session_alone text none unread session h = elim h.split [
   | inl e ↦ unread session h.small e
   | inr p ↦ space_within (decimal session) p.0 (subst HasNoSpace p.1 none)
 ]
@@ -61,7 +61,7 @@ pub no_session : (text first rest : Text) → text ≡ first ++ 32 ∷ rest → 
 no_session text first rest e none unread session h =
     let small : session ≤ 9999 = h.small in
     let plain = decimal_no_space session (omega arith) in
-    elim h.place [
+    elim h.split [
       | inl same ↦ space_within first rest (subst HasNoSpace (sym same ∙ e) plain)
       | inr p ↦ unread session small (one_split first (decimal session) rest p.0 none plain (sym e ∙ p.1)).0
     ]
