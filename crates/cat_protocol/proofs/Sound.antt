@@ -6,10 +6,10 @@ use Rattle.std.proofs.lemmas.Bool.Decides.{nat_tests, eqb_tells}
 use Rattle.std.proofs.lemmas.List.{length-append}
 use Rattle.cat_model.specs.Run.{greatest, has, is_full}
 use Rattle.cat_model.specs.Limits.{view_limit}
-use Rattle.cat_model.specs.State.{RecordedTable, Hold, tokens, has_view, held_in, IsSound, IsLeastFree, views_without_least_free}
+use Rattle.cat_model.specs.State.{RecordedTable, Hold, tokens, has_view, held_in, IsSound, views_without_least_free}
 use Rattle.cat_model.proofs.Lists.{filter_alike, All-weaken, list_any-append, list_any_none}
 use Rattle.cat_model.proofs.Runs.{greatest_in, or_true}
-use Rattle.cat_protocol.specs.Tables.{without_token}
+use Rattle.cat_protocol.specs.Tables.{IsLeastFree, without_token}
 
 has-tokens : (vs : List RecordedTable) (t : ℕ) → has (tokens vs) t ≡ has_view vs t
 has-tokens [] t = refl

@@ -6,8 +6,8 @@ use Rattle.std.proofs.lemmas.List.{take_more}
 use Rattle.std.proofs.lemmas.List.Recursion.{max_push}
 use Rattle.std.proofs.lemmas.Bool.Decides.{nat_tests, leb_tells}
 use Rattle.cat_model.specs.Run.{greatest}
-use Rattle.cat_model.specs.State.{RecordedTable, tokens, has_view, IsLeastFree}
-use Rattle.cat_protocol.specs.Tables.{lesser_of}
+use Rattle.cat_model.specs.State.{RecordedTable, tokens, has_view}
+use Rattle.cat_protocol.specs.Tables.{IsLeastFree, lesser_of}
 
 pub greatest_more : (vs : List RecordedTable) (i : ℕ) (d : RecordedTable) → i < length vs → greatest (tokens (take (i + 1) vs)) ≡ max (greatest (tokens (take i vs))) (get_or vs i d).token
 greatest_more vs i d h = ap (λ us. greatest (tokens us)) (take_more vs i d h) ∙ max_push (λ us. greatest (tokens us)) (λ v. v.token) refl (λ _ _. refl) (take i vs) (get_or vs i d)

@@ -1,6 +1,6 @@
 -- What is kept of tables and of views.
-use Rattle.std.specs.Prelude.{ℕ, ◌<◌, ◌≤◌, ◌==◌, min, not, List, [], ◌∷◌, filter, Option, None, Some}
-use Rattle.std.specs.List.{AllByRecursion}
+use Rattle.std.specs.Prelude.{◌≡◌, ℕ, ◌<◌, ◌≤◌, ◌==◌, min, not, Bool, true, false, List, [], ◌∷◌, filter, Option, None, Some}
+use Rattle.std.specs.List.{list_all, AllByRecursion}
 use Rattle.cat_model.specs.Item as item
 use Rattle.cat_model.specs.State as state
 
@@ -21,6 +21,11 @@ AreItems schema rs = AllByRecursion (λ r. item.IsItem schema r.item) rs
 -- so have those of each view
 abbrev pub AreViews : item.Schema → List state.RecordedTable → Type 0
 AreViews schema vs = AllByRecursion (λ v. AreItems schema v.table) vs
+
+-- the token is the least that no session holds, or there is none
+abbrev pub IsLeastFree : (ℕ → Bool) → List state.RecordedTable → Option ℕ → Type 0
+IsLeastFree held vs None = list_all held (state.tokens vs) ≡ true
+IsLeastFree held vs (Some t) = (state.has_view vs t ≡ true) × (held t ≡ false) × AllByRecursion (λ v. held v.token ≡ false → t ≤ v.token) vs
 
 -- the lesser of a number and another, if there is one
 abbrev pub lesser_of : Option ℕ → ℕ → Option ℕ

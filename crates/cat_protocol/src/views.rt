@@ -4,8 +4,8 @@ ghost use Rattle.std.specs.List.{list_any};
 ghost use Rattle.cat_base.specs.declared.refusal.Refusal.TheVariants.{Full, Memory};
 ghost use Rattle.cat_model.specs.Run.{greatest, is_full};
 ghost use Rattle.cat_model.specs.Limits.{view_limit};
-ghost use Rattle.cat_model.specs.State.{IsLeastFree, has_hold, has_view, held_in, tokens, views_without_least_free};
-ghost use Rattle.cat_protocol.specs.Tables.{NumbersRise, lesser_of, without_token};
+ghost use Rattle.cat_model.specs.State.{has_hold, has_view, held_in, tokens, views_without_least_free};
+ghost use Rattle.cat_protocol.specs.Tables.{IsLeastFree, NumbersRise, lesser_of, without_token};
 
 use crate::record::Record;
 use cat_base::{MAX_RECORDS, Refusal, SessionNo, Token};

@@ -1,5 +1,6 @@
 use Rattle.std.proofs.Common.{take}
-use Rattle.cat_model.specs.State.{held_in, IsLeastFree}
+use Rattle.cat_model.specs.State.{held_in}
+use Rattle.cat_protocol.specs.Tables.{IsLeastFree}
 use Rattle.cat_protocol.proofs.views.least_free.Given as goal
 
 abbrev pub invariant-loop-view : goal.invariant-loop-view
