@@ -2,7 +2,7 @@
 ghost use Rattle.std.specs.Prelude.{◌≡◌, ℕ, ◌^◌, ◌<◌, length, map, IfOk, IfErr, All};
 ghost use Rattle.cat_base.specs.declared.refusal.Refusal.TheVariants.{Memory};
 ghost use Rattle.cat_model.specs.Layout.{AreEnds, pieces, paired_postings};
-ghost use Rattle.cat_schema.specs.Kinds.{kind_meant};
+ghost use Rattle.cat_schema.specs.Kinds.{field_kind_of};
 ghost use Rattle.cat_codec.specs.Reading.{Gives, many_at};
 ghost use Rattle.cat_codec.specs.Layouts.{list_at, posted_at, cell_at, column_at, columns_at};
 ghost use Rattle.cat_codec.specs.Parts.{column_in, IsColumnParts};
@@ -107,7 +107,7 @@ fn read_column(
     rows: u32,
     cursor: &mut Cursor<'_>,
 ) -> Result<ColumnParts, Refusal>
-    ensures gives { Gives (λ c. (column_in c, cursor.new)) result (column_at (kind_meant kind) rows cursor.old) }
+    ensures gives { Gives (λ c. (column_in c, cursor.new)) result (column_at (field_kind_of kind) rows cursor.old) }
     ensures formed { IfOk result IsColumnParts }
 {
     match kind {

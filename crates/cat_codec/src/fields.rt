@@ -3,7 +3,7 @@ ghost use Rattle.std.specs.Prelude.{◌≡◌, ◌≢◌, ◌⊎◌, ℕ, List, 
 ghost use Rattle.cat_base.specs.declared.refusal.Refusal.TheVariants.{Memory, Damaged};
 ghost use Rattle.cat_model.specs.Item as model;
 ghost use Rattle.cat_model.specs.Layout.{spelled_fields};
-ghost use Rattle.cat_schema.specs.Kinds.{kind_meant};
+ghost use Rattle.cat_schema.specs.Kinds.{field_kind_of};
 ghost use Rattle.cat_codec.specs.Reading.{Gives, many_at};
 ghost use Rattle.cat_codec.specs.Layouts.{kind_at, field_at, fields_at};
 
@@ -14,7 +14,7 @@ use std::alloc::Global;
 
 #[tactic(auto, unfolding(crate::specs::Layouts::kind_at))]
 fn read_kind(cursor: &mut Cursor<'_>) -> Result<Kind, Refusal>
-    ensures { Gives (λ k. (kind_meant k, cursor.new)) result (kind_at cursor.old) }
+    ensures { Gives (λ k. (field_kind_of k, cursor.new)) result (kind_at cursor.old) }
 {
     match take_u8(cursor)? {
         1 => Ok(Kind::Text),

@@ -24,8 +24,8 @@ use Rattle.cat_model.specs.Text.{Text, same_text}
 use Rattle.cat_model.specs.Item.{Field, Kind, Schema, IsSchema, is_id, is_field_name, has_name_form, kind_of}
 use Rattle.cat_model.specs.Forms.{is_plain_byte, IsKeyword, IsLabel, IsFormed, IsFormedItem}
 use Rattle.cat_schema.specs.declared.item.FieldValue.{FieldValue}
-use Rattle.cat_schema.specs.Contents.{content_of, parts_with, IsTyped}
-use Rattle.cat_schema.specs.Reading.{id_name, json_of, keyword_fault, label_fault, some_label_fault, labels_fault, list_fault, field_fault, member_fault, first_fault, texts_of, value_of}
+use Rattle.cat_schema.specs.Contents.{field_content_of, named_contents, IsTyped}
+use Rattle.cat_schema.specs.Reading.{id_name, json_of, keyword_fault, label_fault, some_label_fault, labels_fault, list_fault, field_fault, member_fault, first_fault, label_texts, value_of}
 use Rattle.cat_schema.proofs.LoweredRuns.{All-sorted_set}
 use Rattle.cat_schema.proofs.Names.{names}
 
@@ -56,19 +56,19 @@ both_right : (a b : Option Refusal) → option_or a b ≡ None → (a ≡ None) 
 both_right None b e = (refl, e)
 both_right (Some r) b e = absurd (cc)
 
-pub each_right : (ds : Items) → labels_fault ds ≡ None → All (λ s. label_fault s ≡ None) (texts_of ds)
+pub each_right : (ds : Items) → labels_fault ds ≡ None → All (λ s. label_fault s ≡ None) (label_texts ds)
 each_right no_items right = All-nil (λ s. label_fault s ≡ None)
 each_right (item d ds) right = let h = both_right (some_label_fault d) (labels_fault ds) right in by (as_str d) h.0 (each_right ds h.1)
   where
-    by : (o : Option Text) → option_map_or label_fault o (Some refusal.Kind) ≡ None → All (λ s. label_fault s ≡ None) (texts_of ds) → All (λ s. label_fault s ≡ None) (option_map_or (λ s. s ∷ texts_of ds) o (texts_of ds))
+    by : (o : Option Text) → option_map_or label_fault o (Some refusal.Kind) ≡ None → All (λ s. label_fault s ≡ None) (label_texts ds) → All (λ s. label_fault s ≡ None) (option_map_or (λ s. s ∷ label_texts ds) o (label_texts ds))
     by None right rest = rest
-    by (Some s) right rest = All-cons (λ s. label_fault s ≡ None) s (texts_of ds) right rest
+    by (Some s) right rest = All-cons (λ s. label_fault s ≡ None) s (label_texts ds) right rest
 
-length-texts_of : (ds : Items) → length (texts_of ds) ≤ items_len ds
-length-texts_of no_items = omega arith
-length-texts_of (item d ds) = by (as_str d) (length-texts_of ds)
+length-label_texts : (ds : Items) → length (label_texts ds) ≤ items_len ds
+length-label_texts no_items = omega arith
+length-label_texts (item d ds) = by (as_str d) (length-label_texts ds)
   where
-    by : (o : Option Text) → length (texts_of ds) ≤ items_len ds → length (option_map_or (λ s. s ∷ texts_of ds) o (texts_of ds)) ≤ items_len (item d ds)
+    by : (o : Option Text) → length (label_texts ds) ≤ items_len ds → length (option_map_or (λ s. s ∷ label_texts ds) o (label_texts ds)) ≤ items_len (item d ds)
     by None le = omega arith
     by (Some s) le = omega arith
 
@@ -86,17 +86,17 @@ length-sorted_set : (xs : List Text) → length (sorted_set xs) ≤ length xs
 length-sorted_set [] = omega arith
 length-sorted_set (x ∷ xs) = let rest = length-sorted_set xs in let more = length-insert_key (sorted_set xs) x in omega arith
 
-labels_form : (ds : Items) → list_fault ds ≡ None → All IsUtf8 (sorted_set (texts_of ds)) → IsFormed (value_of Kind.facet (Some (array ds)))
+labels_form : (ds : Items) → list_fault ds ≡ None → All IsUtf8 (sorted_set (label_texts ds)) → IsFormed (value_of Kind.facet (Some (array ds)))
 labels_form ds right utf8 = by (ltb 64 (items_len ds)) refl right
   where
-    by : (many : Bool) → ltb 64 (items_len ds) ≡ many → cond many (Some refusal.Large) (labels_fault ds) ≡ None → (length (sorted_set (texts_of ds)) ≤ 64) × All IsLabel (sorted_set (texts_of ds))
+    by : (many : Bool) → ltb 64 (items_len ds) ≡ many → cond many (Some refusal.Large) (labels_fault ds) ≡ None → (length (sorted_set (label_texts ds)) ≤ 64) × All IsLabel (sorted_set (label_texts ds))
     by true is_many right = absurd (cc)
     by false is_many right =
         let few = at_most_64 (items_len ds) is_many in
-        let texts = length-texts_of ds in
-        let set = length-sorted_set (texts_of ds) in
-        let each = All-sorted_set (λ s. label_fault s ≡ None) (texts_of ds) (each_right ds right) in
-        (omega arith, λ k d lt. label_form (get_or (sorted_set (texts_of ds)) k d) (utf8 k d lt) (each k d lt))
+        let texts = length-label_texts ds in
+        let set = length-sorted_set (label_texts ds) in
+        let each = All-sorted_set (λ s. label_fault s ≡ None) (label_texts ds) (each_right ds right) in
+        (omega arith, λ k d lt. label_form (get_or (sorted_set (label_texts ds)) k d) (utf8 k d lt) (each k d lt))
 
 -- ---- the value of a member
 
@@ -180,15 +180,15 @@ fields_right fs (g ∷ gs) ms right named found =
 
 -- ---- the item
 
-parts_form : (g : Field → Option Data) (fs : List Field) (vs : List FieldValue) → map content_of vs ≡ map (λ f. value_of f.kind (g f)) fs → AllByRecursion (λ f. IsRight f.kind (g f)) fs → All (λ v. IsTyped (content_of v)) vs
-    → All (λ p. IsFormed p.content) (parts_with fs vs)
+parts_form : (g : Field → Option Data) (fs : List Field) (vs : List FieldValue) → map field_content_of vs ≡ map (λ f. value_of f.kind (g f)) fs → AllByRecursion (λ f. IsRight f.kind (g f)) fs → All (λ v. IsTyped (field_content_of v)) vs
+    → All (λ p. IsFormed p.content) (named_contents fs vs)
 parts_form g [] vs e right typed = All-nil (λ p. IsFormed p.content)
 parts_form g (f ∷ fs) [] e right typed = All-nil (λ p. IsFormed p.content)
 parts_form g (f ∷ fs) (v ∷ vs) e right typed =
-    let here : content_of v ≡ value_of f.kind (g f) = (cc) in
-    let later : map content_of vs ≡ map (λ f. value_of f.kind (g f)) fs = (cc) in
-    let formed = value_form f.kind (g f) right.0 (subst IsTyped here (All-head (λ v. IsTyped (content_of v)) v vs typed)) in
-    All-cons (λ p. IsFormed p.content) _ (parts_with fs vs) (subst IsFormed (sym here) formed) (parts_form g fs vs later right.1 (All-tail (λ v. IsTyped (content_of v)) v vs typed))
+    let here : field_content_of v ≡ value_of f.kind (g f) = (cc) in
+    let later : map field_content_of vs ≡ map (λ f. value_of f.kind (g f)) fs = (cc) in
+    let formed = value_form f.kind (g f) right.0 (subst IsTyped here (All-head (λ v. IsTyped (field_content_of v)) v vs typed)) in
+    All-cons (λ p. IsFormed p.content) _ (named_contents fs vs) (subst IsFormed (sym here) formed) (parts_form g fs vs later right.1 (All-tail (λ v. IsTyped (field_content_of v)) v vs typed))
 
 -- no bytes are no JSON
 read_none : read [] ≡ None
@@ -199,12 +199,12 @@ none_read : (b : Bool) → cond b (read []) None ≡ None
 none_read true = read_none
 none_read false = refl
 
-some_bytes : (bytes : Text) (d : Data) → json_of bytes ≡ Some d → 1 ≤ length bytes
+pub some_bytes : (bytes : Text) (d : Data) → json_of bytes ≡ Some d → 1 ≤ length bytes
 some_bytes [] d e = let none = none_read (is_utf8 []) in absurd (cc)
 some_bytes (b ∷ bytes) d e = omega arith
 
-object_parts : (fs : Schema) (vs : List FieldValue) (d : Data) (ms : Members) → IsSchema fs → Some ms ≡ as_object d → first_fault fs ms ≡ None → map content_of vs ≡ map (λ f. value_of f.kind (get f.name d)) fs → All (λ v. IsTyped (content_of v)) vs
-    → All (λ p. IsFormed p.content) (parts_with fs vs)
+object_parts : (fs : Schema) (vs : List FieldValue) (d : Data) (ms : Members) → IsSchema fs → Some ms ≡ as_object d → first_fault fs ms ≡ None → map field_content_of vs ≡ map (λ f. value_of f.kind (get f.name d)) fs → All (λ v. IsTyped (field_content_of v)) vs
+    → All (λ p. IsFormed p.content) (named_contents fs vs)
 object_parts fs vs null ms ok obj right e typed = absurd (cc)
 object_parts fs vs (boolean b) ms ok obj right e typed = absurd (cc)
 object_parts fs vs (number n) ms ok obj right e typed = absurd (cc)
@@ -216,13 +216,13 @@ object_parts fs vs (object ns) ms ok obj right e typed =
 
 -- what the calls that make an item say: each name that ends in `_is` ties what was copied to what it came from
 pub IsFormedItem-read : (fs shared : Schema) (vs : List FieldValue) (bytes source form id : Text) (d : Data) (ms : Members) → IsSchema fs → shared ≡ fs → length bytes ≤ 8192 → source ≡ bytes → json_of bytes ≡ Some d → Some ms ≡ as_object d
-    → first_fault fs ms ≡ None → map content_of vs ≡ map (λ f. value_of f.kind (get f.name d)) fs → All (λ v. IsTyped (content_of v)) vs → is_id form ≡ true → id ≡ form
-    → IsFormedItem (record { id = id; fields = parts_with shared vs; source = source })
+    → first_fault fs ms ≡ None → map field_content_of vs ≡ map (λ f. value_of f.kind (get f.name d)) fs → All (λ v. IsTyped (field_content_of v)) vs → is_id form ≡ true → id ≡ form
+    → IsFormedItem (record { id = id; fields = named_contents shared vs; source = source })
 IsFormedItem-read fs shared vs bytes source form id d ms ok shared_is small source_is json obj right values typed formed id_is =
     let some = some_bytes bytes d json in
     let long = ap length source_is in
     record {
       id = ap is_id id_is ∙ formed;
       source = (omega arith, omega arith);
-      fields = subst (λ s. All (λ p. IsFormed p.content) (parts_with s vs)) (sym shared_is) (object_parts fs vs d ms ok obj right values typed);
+      fields = subst (λ s. All (λ p. IsFormed p.content) (named_contents s vs)) (sym shared_is) (object_parts fs vs d ms ok obj right values typed);
     }

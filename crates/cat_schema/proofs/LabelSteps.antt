@@ -9,7 +9,7 @@ use Rattle.serde_json.proofs.Views.{items_len-items_view}
 use Rattle.cat_base.specs.declared.refusal.Refusal.{Refusal}
 use Rattle.cat_base.specs.declared.refusal.Refusal.TheVariants.{Large}
 use Rattle.cat_model.specs.Text.{Text}
-use Rattle.cat_schema.specs.Reading.{some_label_fault, labels_fault, list_fault, texts_of}
+use Rattle.cat_schema.specs.Reading.{some_label_fault, labels_fault, list_fault, label_texts}
 
 -- where the label at the front has a fault, it is the first
 pub faulty_label : (vs : List Value) (i : ℕ) (v : Value) (fault : Refusal) → i < length vs → v ≡ get_or vs i v → some_label_fault (view v) ≡ Some fault → labels_fault (items_view (drop i vs)) ≡ Some fault
@@ -41,14 +41,14 @@ list_within vs h = pick_else (ltb 64 (items_len (items_view vs))) (Some Large) (
 
 -- ---- the texts of the labels
 
-from_here : (vs : List Value) (i : ℕ) (v : Value) → i < length vs → v ≡ get_or vs i v → texts_of (items_view (v ∷ drop (i + 1) vs)) ≡ texts_of (items_view (drop i vs))
-from_here vs i v lt is = ap (λ j. texts_of (items_view (v ∷ drop j vs))) (add-one i) ∙ ap (λ x. texts_of (items_view (x ∷ drop (suc i) vs))) is ∙ ap (λ l. texts_of (items_view l)) (sym (drop-cons vs i v lt))
+from_here : (vs : List Value) (i : ℕ) (v : Value) → i < length vs → v ≡ get_or vs i v → label_texts (items_view (v ∷ drop (i + 1) vs)) ≡ label_texts (items_view (drop i vs))
+from_here vs i v lt is = ap (λ j. label_texts (items_view (v ∷ drop j vs))) (add-one i) ∙ ap (λ x. label_texts (items_view (x ∷ drop (suc i) vs))) is ∙ ap (λ l. label_texts (items_view l)) (sym (drop-cons vs i v lt))
 
 -- one more label
 pub label_taken : (old new : List Text) (vs : List Value) (i : ℕ) (v : Value) (label copy : Text) → i < length vs → v ≡ get_or vs i v → Some label ≡ as_str (view v) → copy ≡ label → new ≡ old ++ copy ∷ []
-    → new ++ texts_of (items_view (drop (i + 1) vs)) ≡ old ++ texts_of (items_view (drop i vs))
+    → new ++ label_texts (items_view (drop (i + 1) vs)) ≡ old ++ label_texts (items_view (drop i vs))
 label_taken old new vs i v label copy lt is has same pushed =
-    let rest = texts_of (items_view (drop (i + 1) vs)) in
+    let rest = label_texts (items_view (drop (i + 1) vs)) in
     ap (λ l. l ++ rest) (pushed ∙ ap (λ s. old ++ s ∷ []) same)
     ∙ append_assoc old (label ∷ []) rest
     ∙ ap (λ o. old ++ option_map_or (λ s. s ∷ rest) o rest) has
@@ -56,9 +56,9 @@ label_taken old new vs i v label copy lt is has same pushed =
 
 -- what is no text gives none
 pub label_passed : (old new : List Text) (vs : List Value) (i : ℕ) (v : Value) → i < length vs → v ≡ get_or vs i v → None ≡ as_str (view v) → new ≡ old
-    → new ++ texts_of (items_view (drop (i + 1) vs)) ≡ old ++ texts_of (items_view (drop i vs))
+    → new ++ label_texts (items_view (drop (i + 1) vs)) ≡ old ++ label_texts (items_view (drop i vs))
 label_passed old new vs i v lt is has same =
-    let rest = texts_of (items_view (drop (i + 1) vs)) in
+    let rest = label_texts (items_view (drop (i + 1) vs)) in
     ap (λ l. l ++ rest) same
     ∙ ap (λ o. old ++ option_map_or (λ s. s ∷ rest) o rest) has
     ∙ ap (λ l. old ++ l) (from_here vs i v lt is)

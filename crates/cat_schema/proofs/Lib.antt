@@ -3,8 +3,11 @@ pub mod MemberSteps
 pub mod LabelSteps
 pub mod Names
 pub mod LoweredRuns
-pub mod Parts
+pub mod Contents
 pub mod WholeItem
 pub mod SchemaTexts
 pub mod Formed
 pub mod TalkTexts
+pub mod Accepted
+pub mod SameFields
+pub mod JsonTexts

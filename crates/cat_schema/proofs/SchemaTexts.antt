@@ -95,7 +95,7 @@ at_most : (n : ℕ) → ltb 32 n ≡ false → n ≤ 32
 at_most n h = grind (arith, rules)
 
 -- fields of members whose names rise, where there are at most 32
-is_schema : (o : Option Members) (schema : Schema) → ((ms : Members) → Some ms ≡ o → NamesAreSet ms) → reading.at_most_32 (option_and_then reading.fields_of o) ≡ Ok schema → IsSchema schema
+is_schema : (o : Option Members) (schema : Schema) → ((ms : Members) → Some ms ≡ o → NamesAreSet ms) → reading.when_few (option_and_then reading.fields_of o) ≡ Ok schema → IsSchema schema
 is_schema None schema sets e = absurd (cc)
 is_schema (Some ms) schema sets e = of_fields (reading.fields_of ms) refl e
   where
@@ -110,7 +110,7 @@ is_schema (Some ms) schema sets e = of_fields (reading.fields_of ms) refl e
           named = all_named ms fs is;
         })
 
-    of_fields : (o : Option Schema) → reading.fields_of ms ≡ o → reading.at_most_32 o ≡ Ok schema → IsSchema schema
+    of_fields : (o : Option Schema) → reading.fields_of ms ≡ o → reading.when_few o ≡ Ok schema → IsSchema schema
     of_fields None is e = absurd (cc)
     of_fields (Some fs) is e = of_length fs (ltb 32 (length fs)) is refl e
 

@@ -20,7 +20,7 @@ use Rattle.cat_model.proofs.TalkOpenings.{OpensShown, OpenAlike}
 use Rattle.cat_model.proofs.Lists.{All-weaken}
 use Rattle.cat_model.proofs.TalkWhole.{answers_are_talks}
 use Rattle.cat_model.proofs.TalkLaw.{talks_agree}
-use Rattle.cat_schema.specs.Reading.{id_name, json_of, json, keyword_fault, label_fault, labels_fault, list_fault, first_fault, texts_of, value_of, parts_of, checked, with_id, of_members, of_value}
+use Rattle.cat_schema.specs.Reading.{id_name, json_of, json, keyword_fault, label_fault, labels_fault, list_fault, first_fault, label_texts, value_of, contents_in, checked, with_id, of_members, of_value}
 use Rattle.cat_schema.specs.Laws.{HaveOneSchema, EveryAnswerIsOneTalk, HeldReadsAgreeInBytes}
 use Rattle.cat_schema.proofs.LoweredRuns.{All-sorted_set}
 use Rattle.cat_schema.proofs.Formed.{IsRight, each_right, kinds, fields_right}
@@ -51,12 +51,12 @@ label_line t right = by (eqb (length t) 0) right
     by true right = absurd (cc)
     by false right = keyword_line t right
 
-labels_line : (ds : Items) → list_fault ds ≡ None → AllByRecursion IsOneLine (sorted_set (texts_of ds))
+labels_line : (ds : Items) → list_fault ds ≡ None → AllByRecursion IsOneLine (sorted_set (label_texts ds))
 labels_line ds right = by (ltb 64 (items_len ds)) right
   where
-    by : (many : Bool) → cond many (Some refusal.Large) (labels_fault ds) ≡ None → AllByRecursion IsOneLine (sorted_set (texts_of ds))
+    by : (many : Bool) → cond many (Some refusal.Large) (labels_fault ds) ≡ None → AllByRecursion IsOneLine (sorted_set (label_texts ds))
     by true right = absurd (cc)
-    by false right = All-weaken (λ s. label_fault s ≡ None) IsOneLine label_line (sorted_set (texts_of ds)) (recursion_from_All (λ s. label_fault s ≡ None) (sorted_set (texts_of ds)) (All-sorted_set (λ s. label_fault s ≡ None) (texts_of ds) (each_right ds right)))
+    by false right = All-weaken (λ s. label_fault s ≡ None) IsOneLine label_line (sorted_set (label_texts ds)) (recursion_from_All (λ s. label_fault s ≡ None) (sorted_set (label_texts ds)) (All-sorted_set (λ s. label_fault s ≡ None) (label_texts ds) (each_right ds right)))
 
 value_line : (k : Kind) (o : Option Data) → IsRight k o → HasOneLines (value_of k o)
 value_line Kind.text o right = tt
@@ -76,7 +76,7 @@ value_line Kind.facet (Some (string s)) right = tt
 value_line Kind.facet (Some (array ds)) right = labels_line ds right
 value_line Kind.facet (Some (object ms)) right = tt
 
-parts_line : (gs : List Field) (ms : Members) → AllByRecursion (λ g. IsRight g.kind (get_member g.name ms)) gs → AllByRecursion (λ p. HasOneLines p.content) (parts_of gs ms)
+parts_line : (gs : List Field) (ms : Members) → AllByRecursion (λ g. IsRight g.kind (get_member g.name ms)) gs → AllByRecursion (λ p. HasOneLines p.content) (contents_in gs ms)
 parts_line [] ms right = tt
 parts_line (g ∷ gs) ms right = (value_line g.kind (get_member g.name ms) right.0, parts_line gs ms right.1)
 
@@ -84,7 +84,7 @@ module _ (fs : Schema) (bytes : Text) (ok : IsSchema fs) (one : IsOneLine bytes)
   from_checked : (ms : Members) (id : Text) (o : Option Refusal) (i : Item) → is_id id ≡ true → first_fault fs ms ≡ o → checked fs bytes ms id o ≡ Ok i → IsShownInLines i
   from_checked ms id (Some e) i form right is = absurd (cc)
   from_checked ms id None i form right is =
-      let same : record { id = id; fields = parts_of fs ms; source = bytes } ≡ i = (cc) in
+      let same : record { id = id; fields = contents_in fs ms; source = bytes } ≡ i = (cc) in
       subst IsShownInLines same (record { id = id_line id form; source = one; fields = parts_line fs ms (fields_right fs fs ms right ok.named (kinds fs ok.rising)) })
 
   from_form : (ms : Members) (id : Text) (b : Bool) (i : Item) → is_id id ≡ b → cond b (checked fs bytes ms id (first_fault fs ms)) (Err refusal.Id) ≡ Ok i → IsShownInLines i

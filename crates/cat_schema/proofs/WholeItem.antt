@@ -6,7 +6,7 @@ use Rattle.serde_json.specs.Find.{get, as_object, as_str}
 use Rattle.cat_base.specs.declared.refusal.Refusal.TheVariants as refusal
 use Rattle.cat_model.specs.Text.{Text}
 use Rattle.cat_model.specs.Item.{Schema, is_id}
-use Rattle.cat_schema.specs.Reading.{id_name, json_of, first_fault, parts_of, value_of, checked, with_id, of_value, item_of}
+use Rattle.cat_schema.specs.Reading.{id_name, json_of, first_fault, contents_in, value_of, checked, with_id, of_value, item_of}
 
 pick_then : {X : Type 0} (b : Bool) (x y : X) → b ≡ true → cond b x y ≡ x
 pick_then true x y e = refl
@@ -20,7 +20,7 @@ within : (n : ℕ) → n ≤ 8192 → ltb 8192 n ≡ false
 within n h = grind (arith, rules)
 
 item_of_members : (fs : Schema) (bytes : Text) (ms : Members) (id : Text) → length bytes ≤ 8192 → json_of bytes ≡ Some (object ms) → option_and_then as_str (get id_name (object ms)) ≡ Some id → is_id id ≡ true → first_fault fs ms ≡ None
-    → item_of fs bytes ≡ Ok (record { id = id; fields = parts_of fs ms; source = bytes })
+    → item_of fs bytes ≡ Ok (record { id = id; fields = contents_in fs ms; source = bytes })
 item_of_members fs bytes ms id small json has_id form right =
     pick_else (ltb 8192 (length bytes)) (Err refusal.Large) (of_value fs bytes (json_of bytes)) (within (length bytes) small)
     ∙ ap (of_value fs bytes) json

@@ -1,11 +1,11 @@
 -- The schema and the item that a text is.
-use Rattle.std.specs.Prelude.{List, [], ◌∷◌, map, length, nat_lt, ◌==◌, if◌then◌else◌, Option, Some, None, is_some, option_map, option_and_then, Result, Ok, Err, bytes_eq, codes}
+use Rattle.std.specs.Prelude.{◌≡◌, ◌&&◌, true, List, [], ◌∷◌, map, length, nat_lt, ◌==◌, if◌then◌else◌, Option, Some, None, is_some, option_map, option_and_then, Result, Ok, Err, bytes_eq, codes}
 use Rattle.std.specs.List.{list_all}
 use Rattle.std.specs.Option.{option_or, option_map_or}
 use Rattle.std.specs.Str.{is_utf8}
 use Rattle.serde_json.specs.Data.{Data, Items, no_items, item, Members, no_members, member}
 use Rattle.serde_json.specs.Events.{items_len}
-use Rattle.serde_json.specs.Find.{as_object, as_str, as_null, as_number, as_array, as_i64, get_member}
+use Rattle.serde_json.specs.Find.{as_object, as_str, as_null, as_number, as_array, as_i64, get, get_member}
 use Rattle.serde_json.specs.Read.{read}
 use Rattle.cat_base.specs.declared.refusal.Refusal.{Refusal}
 use Rattle.cat_base.specs.declared.refusal.Refusal.TheVariants as refusal
@@ -15,10 +15,15 @@ use Rattle.cat_model.specs.Item.{Field, Kind, Schema, Content, FieldContent, Ite
 use Rattle.cat_model.specs.Words.{words}
 use Rattle.cat_model.specs.Forms.{is_plain_byte}
 use Rattle.cat_model.specs.Heard.{Json}
+use Rattle.cat_model.specs.Limits.{field_limit, keyword_limit, label_limit, source_limit}
 
 -- the JSON value that bytes are: none where they are no UTF-8, no JSON, or nest deeper than 127
 abbrev pub json_of : Text → Option Data
 json_of bytes = if is_utf8 bytes then read bytes else None
+
+-- what is wrong with bytes before they are read as JSON: none, or no UTF-8
+abbrev pub text_fault : Text → Option Refusal
+text_fault bytes = if is_utf8 bytes && nat_lt 0 (length bytes) then None else Some refusal.Json
 
 abbrev pub kind_named : Text → Option Kind
 kind_named s =
@@ -36,13 +41,13 @@ abbrev pub fields_of : Members → Option Schema
 fields_of no_members = Some []
 fields_of (member name d ms) = option_and_then (λ f. option_map (λ fs. f ∷ fs) (fields_of ms)) (field_of name d)
 
-abbrev pub at_most_32 : Option Schema → Result Schema Refusal
-at_most_32 None = Err refusal.Kind
-at_most_32 (Some fs) = if nat_lt 32 (length fs) then Err refusal.Kind else Ok fs
+abbrev pub when_few : Option Schema → Result Schema Refusal
+when_few None = Err refusal.Kind
+when_few (Some fs) = if nat_lt field_limit (length fs) then Err refusal.Kind else Ok fs
 
 abbrev pub schema_of_value : Option Data → Result Schema Refusal
 schema_of_value None = Err refusal.Json
-schema_of_value (Some d) = at_most_32 (option_and_then fields_of (as_object d))
+schema_of_value (Some d) = when_few (option_and_then fields_of (as_object d))
 
 -- the schema that bytes are, or why they are none
 abbrev pub schema_of : Text → Result Schema Refusal
@@ -54,7 +59,7 @@ abbrev pub id_name : Text
 id_name = codes "id"
 
 abbrev pub keyword_fault : Text → Option Refusal
-keyword_fault s = if nat_lt 128 (length s) then Some refusal.Large else (if list_all is_plain_byte s then None else Some refusal.Kind)
+keyword_fault s = if nat_lt keyword_limit (length s) then Some refusal.Large else (if list_all is_plain_byte s then None else Some refusal.Kind)
 
 -- a label is a keyword that isn't empty
 abbrev pub label_fault : Text → Option Refusal
@@ -71,7 +76,7 @@ labels_fault no_items = None
 labels_fault (item d ds) = option_or (some_label_fault d) (labels_fault ds)
 
 abbrev pub list_fault : Items → Option Refusal
-list_fault ds = if nat_lt 64 (items_len ds) then Some refusal.Large else labels_fault ds
+list_fault ds = if nat_lt label_limit (items_len ds) then Some refusal.Large else labels_fault ds
 
 abbrev pub value_fault : Kind → Data → Option Refusal
 value_fault Kind.text d = if is_some (as_str d) then None else Some refusal.Kind
@@ -94,25 +99,25 @@ first_fault fs (member name d ms) = option_or (member_fault fs name d) (first_fa
 
 -- ---- what a field has
 
-abbrev pub texts_of : Items → List Text
-texts_of no_items = []
-texts_of (item d ds) = option_map_or (λ s. s ∷ texts_of ds) (as_str d) (texts_of ds)
+abbrev pub label_texts : Items → List Text
+label_texts no_items = []
+label_texts (item d ds) = option_map_or (λ s. s ∷ label_texts ds) (as_str d) (label_texts ds)
 
 -- the value of a field whose member is right, or absent
 abbrev pub value_of : Kind → Option Data → Content
 value_of Kind.text d = Content.words (option_map_or words (option_and_then as_str d) [])
 value_of Kind.keyword d = Content.keyword (option_and_then as_str d)
 value_of Kind.number d = Content.number (option_and_then as_i64 (option_and_then as_number d))
-value_of Kind.facet d = Content.labels (option_map_or (λ ds. sorted_set (texts_of ds)) (option_and_then as_array d) [])
+value_of Kind.facet d = Content.labels (option_map_or (λ ds. sorted_set (label_texts ds)) (option_and_then as_array d) [])
 
-abbrev pub parts_of : Schema → Members → List FieldContent
-parts_of fs ms = map (λ f. record { name = f.name; content = value_of f.kind (get_member f.name ms) }) fs
+abbrev pub contents_in : Schema → Members → List FieldContent
+contents_in fs ms = map (λ f. record { name = f.name; content = value_of f.kind (get_member f.name ms) }) fs
 
 -- ---- the item
 
 abbrev pub checked : Schema → Text → Members → Text → Option Refusal → Result Item Refusal
 checked fs bytes ms id (Some e) = Err e
-checked fs bytes ms id None = Ok (record { id = id; fields = parts_of fs ms; source = bytes })
+checked fs bytes ms id None = Ok (record { id = id; fields = contents_in fs ms; source = bytes })
 
 abbrev pub with_id : Schema → Text → Members → Option (Text) → Result Item Refusal
 with_id fs bytes ms None = Err refusal.Id
@@ -126,9 +131,21 @@ abbrev pub of_value : Schema → Text → Option Data → Result Item Refusal
 of_value fs bytes None = Err refusal.Json
 of_value fs bytes (Some d) = of_members fs bytes (as_object d)
 
+-- what is wrong with the bytes of an item before they are read as JSON: too many, none, or no UTF-8
+abbrev pub source_fault : Text → Option Refusal
+source_fault bytes = if nat_lt source_limit (length bytes) then Some refusal.Large else text_fault bytes
+
+-- a value of JSON passed each check for an item: it is an object, with an id, and no member of it is wrong
+pub record IsJudged (fs : Schema) (d : Data) (id : Text) : Type 0 where
+  pub members : Members
+  pub object : Some members ≡ as_object d
+  pub has_id : option_and_then as_str (get id_name d) ≡ Some id
+  pub form : is_id id ≡ true
+  pub right : first_fault fs members ≡ None
+
 -- the item that bytes are under a schema, or the first refusal
 abbrev pub item_of : Schema → Text → Result Item Refusal
-item_of fs bytes = if nat_lt 8192 (length bytes) then Err refusal.Large else of_value fs bytes (json_of bytes)
+item_of fs bytes = if nat_lt source_limit (length bytes) then Err refusal.Large else of_value fs bytes (json_of bytes)
 
 -- how texts of JSON are read
 abbrev pub json : Json

@@ -1,16 +1,17 @@
 //! The words of a text: its longest runs of word characters, with ASCII letters lowered.
-ghost use Rattle.std.specs.Prelude.{◌≡◌, ◌<◌, ◌≤◌, ℕ, IfOk, IfErr, length, slice_index, true, false, All, IsUtf8};
-ghost use Rattle.cat_base.specs.declared.refusal.Refusal.TheVariants.{Memory};
+ghost use Rattle.std.specs.Prelude.{◌≡◌, ◌<◌, ◌≤◌, ℕ, IfOk, length, slice_index, true, false, All, IsUtf8};
 ghost use Rattle.cat_model.specs.Words.{is_word_byte, lowered, words};
 ghost use Rattle.cat_model.specs.Forms.{IsWord};
 
-use cat_base::{Refusal, Text, TextSet};
-use std::alloc::Global;
+use cat_base::{Text, TextSet};
+use std::alloc::{AllocError, Global};
 
 /// The first byte past ASCII: the bytes from it on are those of the other characters' UTF-8.
 const PAST_ASCII: u8 = 128;
 
-pub(crate) fn is_word_byte(b: u8) -> bool
+/// Whether the byte is one of a word: an ASCII letter or digit, or any byte of a character past ASCII. The rule is our own,
+/// in the manner of Lucene's `CharTokenizer.isTokenChar`.
+pub fn is_word_byte(b: u8) -> bool
     ensures { result ≡ is_word_byte b }
 {
     b.is_ascii_alphanumeric() || b >= PAST_ASCII
@@ -30,14 +31,15 @@ fn run_len(bytes: &[u8]) -> usize
     bytes.len()
 }
 
-fn lowered(alloc: Global, run: &str) -> Result<Text, Refusal>
-    ensures ok { IfOk result (λ t. t ≡ lowered run.now) }
+/// A copy of the text with its ASCII capitals lowered, and all else as it is. Lucene's `LowerCaseFilter` lowers the
+/// letters past ASCII too.
+pub fn lowered(alloc: Global, text: &str) -> Result<Text, AllocError>
+    ensures ok { IfOk result (λ t. t ≡ lowered text.now) }
     ensures utf8 { IfOk result (λ t. IsUtf8 t) }
-    ensures refusal { IfErr result (λ e. e ≡ Memory) }
 {
-    let mut text = String::from_str(alloc, run)?;
-    text.make_ascii_lowercase();
-    Ok(Text::new(text))
+    let mut copy = String::from_str(alloc, text)?;
+    copy.make_ascii_lowercase();
+    Ok(Text::new(copy))
 }
 
 /// The words of a text, each once and in byte order. A word is a longest run of ASCII letters, digits and characters
@@ -45,14 +47,13 @@ fn lowered(alloc: Global, run: &str) -> Result<Text, Refusal>
 ///
 /// Lucene's counterpart is an `Analyzer` of a tokenizer and a `LowerCaseFilter`; the rule is our own.
 ///
-/// A refusal is [`Refusal::Memory`]; it also stands for a text of 2^32 bytes or more, which no item has.
-pub fn words(alloc: Global, text: &str) -> Result<TextSet, Refusal>
+/// The error also stands for a text of 2^32 bytes or more, which no item has.
+pub fn words(alloc: Global, text: &str) -> Result<TextSet, AllocError>
     ensures ok { IfOk result (λ s. s ≡ words text.now) }
     ensures forms { IfOk result (λ s. All IsWord s) }
-    ensures refusal { IfErr result (λ e. e ≡ Memory) }
 {
     if text.len() > u32::MAX as usize {
-        return Err(Refusal::Memory);
+        return Err(AllocError);
     }
     let mut found = Vec::new(alloc);
     let mut rest = text;

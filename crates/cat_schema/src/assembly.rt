@@ -1,13 +1,14 @@
 //! From a text of JSON to an item.
-ghost use Rattle.std.specs.Prelude.{◌≡◌, ◌≢◌, map, Ok, Err, All, IfOk, IfErr, IsUtf8, option_map, option_and_then};
+ghost use Rattle.std.specs.Prelude.{◌≡◌, ◌≢◌, ◌≤◌, ℕ, List, length, map, Some, Ok, Err, All, IfOk, IfErr, IfSome, IsUtf8, option_map, option_and_then};
 ghost use Rattle.serde_json.specs.View.{view, items_view};
 ghost use Rattle.serde_json.specs.Find.{get, as_str};
 ghost use Rattle.cat_base.specs.Texts.{sorted_set};
 ghost use Rattle.cat_base.specs.declared.refusal.Refusal.TheVariants.{Memory};
 ghost use Rattle.cat_model.specs.Item.{IsItem};
-ghost use Rattle.cat_schema.specs.Contents.{content_of, IsTyped};
-ghost use Rattle.cat_schema.specs.Kinds.{kind_meant};
-ghost use Rattle.cat_schema.specs.Reading.{texts_of, value_of, item_of};
+ghost use Rattle.cat_model.specs.Limits.{source_limit};
+ghost use Rattle.cat_schema.specs.Contents.{field_content_of, IsTyped};
+ghost use Rattle.cat_schema.specs.Kinds.{field_kind_of};
+ghost use Rattle.cat_schema.specs.Reading.{label_texts, value_of, json_of, of_value, item_of, source_fault, IsJudged};
 
 use crate::analysis::words;
 use crate::faults::first_fault;
@@ -17,21 +18,19 @@ use crate::parsing::read_json;
 use crate::schema::{Field, Kind, Schema};
 use cat_base::{MAX_ITEM_BYTES, Refusal, Text, TextSet};
 use serde_json::Value;
-use std::alloc::Global;
+use std::alloc::{AllocError, Global};
 
 // A copy of the text, which is known to be UTF-8.
-fn copied(alloc: Global, text: &str) -> Result<Text, Refusal>
+fn copied(alloc: Global, text: &str) -> Result<Text, AllocError>
     ensures ok { IfOk result (λ t. t ≡ text.now) }
     ensures utf8 { IfOk result (λ t. IsUtf8 t) }
-    ensures refusal { IfErr result (λ e. e ≡ Memory) }
 {
     Text::from_str(alloc, text)
 }
 
-fn label_set(alloc: Global, labels: &Vec<Value>) -> Result<TextSet, Refusal>
-    ensures ok { IfOk result (λ s. s ≡ sorted_set (texts_of (items_view labels.now.items))) }
+fn label_set(alloc: Global, labels: &Vec<Value>) -> Result<TextSet, AllocError>
+    ensures ok { IfOk result (λ s. s ≡ sorted_set (label_texts (items_view labels.now.items))) }
     ensures utf8 { IfOk result (λ s. All IsUtf8 s) }
-    ensures refusal { IfErr result (λ e. e ≡ Memory) }
 {
     let mut texts = Vec::with_capacity(alloc, labels.len())?;
     for label in labels {
@@ -42,10 +41,9 @@ fn label_set(alloc: Global, labels: &Vec<Value>) -> Result<TextSet, Refusal>
     Ok(TextSet::of(texts))
 }
 
-fn value_of(alloc: Global, kind: Kind, member: Option<&Value>) -> Result<FieldValue, Refusal>
-    ensures ok { IfOk result (λ v. content_of v ≡ value_of (kind_meant kind) (option_map (λ d. view d.now) member.entry)) }
-    ensures typed { IfOk result (λ v. IsTyped (content_of v)) }
-    ensures refusal { IfErr result (λ e. e ≡ Memory) }
+fn value_of(alloc: Global, kind: Kind, member: Option<&Value>) -> Result<FieldValue, AllocError>
+    ensures ok { IfOk result (λ v. field_content_of v ≡ value_of (field_kind_of kind) (option_map (λ d. view d.now) member.entry)) }
+    ensures typed { IfOk result (λ v. IsTyped (field_content_of v)) }
 {
     match kind {
         Kind::Text => match member.and_then(Value::as_str) {
@@ -64,11 +62,10 @@ fn value_of(alloc: Global, kind: Kind, member: Option<&Value>) -> Result<FieldVa
     }
 }
 
-fn values_of(alloc: Global, fields: &[Field], root: &Value) -> Result<Vec<FieldValue>, Refusal>
-    ensures ok { IfOk result (λ v. map content_of v.items
+fn values_of(alloc: Global, fields: &[Field], root: &Value) -> Result<Vec<FieldValue>, AllocError>
+    ensures ok { IfOk result (λ v. map field_content_of v.items
         ≡ map (λ f. value_of f.kind (get f.name (view root.now))) fields.now) }
-    ensures typed { IfOk result (λ v. All (λ x. IsTyped (content_of x)) v.items) }
-    ensures refusal { IfErr result (λ e. e ≡ Memory) }
+    ensures typed { IfOk result (λ v. All (λ x. IsTyped (field_content_of x)) v.items) }
 {
     let mut values = Vec::with_capacity(alloc, fields.len())?;
     for field in fields {
@@ -86,43 +83,72 @@ fn text_member<'v>(root: &'v Value, name: &str) -> Option<&'v str>
     }
 }
 
+// The id of the item that a value of JSON is, where it is one; memory isn't needed to tell.
+fn judged_id<'v>(fields: &[Field], root: &'v Value) -> Result<&'v str, Refusal>
+    ensures ok { IfOk result (λ id. IsJudged fields.now (view root.now) id.now) }
+    ensures err { IfErr result (λ e. (bytes : List ℕ) → of_value fields.now bytes (Some (view root.now)) ≡ Err e) }
+{
+    let Some(members) = root.as_object() else {
+        return Err(Refusal::Kind);
+    };
+    let Some(id) = text_member(root, "id") else {
+        return Err(Refusal::Id);
+    };
+    if !id_ok(id) {
+        return Err(Refusal::Id);
+    }
+    match first_fault(fields, members) {
+        Some(fault) => Err(fault),
+        None => Ok(id),
+    }
+}
+
 impl Schema {
-    /// The item that a text of JSON is under the schema: an object with a member `id` and, for any of the fields, a
-    /// member of the field's name and kind. A member that is null is as if absent; of equal names the last counts.
-    ///
-    /// The first of these that is so is the refusal: `Refusal::Large` past 8,192 bytes, `Refusal::Json` where the bytes
-    /// are no JSON, `Refusal::Kind` where they are no object, `Refusal::Id` without an id of the right form, and then
-    /// that of the first wrong member in byte order of names: `Refusal::Member` where no field has the name,
-    /// `Refusal::Kind` or `Refusal::Large` where the value is wrong for the field. `Refusal::Memory` comes where memory
-    /// is refused.
-    pub fn item(&self, alloc: Global, bytes: &[u8]) -> Result<Item, Refusal>
+    // The item of a value that was judged to be one, which the bytes are read as.
+    fn assembled(
+        &self,
+        alloc: Global,
+        root: &Value,
+        id: &str,
+        bytes: &[u8],
+    ) -> Result<Item, AllocError>
+        requires judged { IsJudged self.now (view root.now) id.now }
+        requires small { length bytes.now ≤ source_limit }
+        requires read { json_of bytes.now ≡ Some (view root.now) }
         ensures ok { IfOk result (λ i. item_of self.now bytes.now ≡ Ok i) }
-        ensures err { IfErr result (λ e. e ≢ Memory → item_of self.now bytes.now ≡ Err e) }
         ensures typed { IfOk result (λ i. IsItem self.now i) }
     {
-        if bytes.len() > MAX_ITEM_BYTES {
-            return Err(Refusal::Large);
-        }
-        let root = read_json(alloc, bytes)?;
-        let Some(members) = root.as_object() else {
-            return Err(Refusal::Kind);
-        };
-        let fields = self.fields();
-        let Some(id) = text_member(&root, "id") else {
-            return Err(Refusal::Id);
-        };
-        if !id_ok(id) {
-            return Err(Refusal::Id);
-        }
-        if let Some(fault) = first_fault(fields, members) {
-            return Err(fault);
-        }
-        let values = values_of(alloc, fields, &root)?;
+        let values = values_of(alloc, self.fields(), root)?;
         Ok(Item::new(
             self.shared()?,
             Text::from_str(alloc, id)?,
             values,
             Vec::from_slice(alloc, bytes)?,
         ))
+    }
+
+    /// The item that a text of JSON is under the schema: an object with a member `id` and, for any of the fields, a
+    /// member of the field's name and kind. A member that is null is as if absent; of equal names the last counts.
+    ///
+    /// The first of these that is so is the refusal: `Refusal::Large` past 8,192 bytes, `Refusal::Json` where the bytes
+    /// are no JSON, `Refusal::Kind` where they are no object, `Refusal::Id` without an id of the right form, and then
+    /// that of the first wrong member in byte order of names: `Refusal::Member` where no field has the name,
+    /// `Refusal::Kind` or `Refusal::Large` where the value is wrong for the field.
+    ///
+    /// `Refusal::Memory` may come in place of the item, and also in place of a refusal that is known only once the text is
+    /// read as JSON, but never of too many bytes, of none, or of bytes that are no UTF-8.
+    pub fn item(&self, alloc: Global, bytes: &[u8]) -> Result<Item, Refusal>
+        ensures ok { IfOk result (λ i. item_of self.now bytes.now ≡ Ok i) }
+        ensures err { IfErr result (λ e. e ≢ Memory → item_of self.now bytes.now ≡ Err e) }
+        ensures due { IfSome (source_fault bytes.now) (λ e. result ≡ Err e) }
+        ensures typed { IfOk result (λ i. IsItem self.now i) }
+    {
+        if bytes.len() > MAX_ITEM_BYTES {
+            return Err(Refusal::Large);
+        }
+        let root = read_json(alloc, bytes)?;
+        // All is judged before the item grows, so that from here on no want of memory hides a fault.
+        let id = judged_id(self.fields(), &root)?;
+        Ok(self.assembled(alloc, &root, id, bytes)?)
     }
 }

@@ -1,12 +1,11 @@
 //! What is wrong with the members of an item.
-ghost use Rattle.std.specs.Prelude.{◌≡◌, option_map};
+ghost use Rattle.std.specs.Prelude.{◌≡◌};
 ghost use Rattle.serde_json.specs.View.{view, items_view, members_view};
-ghost use Rattle.cat_model.specs.Item.{kind_of};
-ghost use Rattle.cat_schema.specs.Kinds.{kind_meant};
+ghost use Rattle.cat_schema.specs.Kinds.{field_kind_of};
 ghost use Rattle.cat_schema.specs.Reading.{some_label_fault, list_fault, value_fault, member_fault, first_fault};
 
 use crate::forms::{keyword_fault, label_fault};
-use crate::schema::{Field, Kind};
+use crate::schema::{Field, Kind, kind_of};
 use cat_base::{MAX_LABELS, Refusal};
 use serde_json::{Map, Value};
 
@@ -34,7 +33,7 @@ fn list_fault(labels: &Vec<Value>) -> Option<Refusal>
 }
 
 fn value_fault(kind: Kind, value: &Value) -> Option<Refusal>
-    ensures { result ≡ value_fault (kind_meant kind) (view value.now) }
+    ensures { result ≡ value_fault (field_kind_of kind) (view value.now) }
 {
     match kind {
         Kind::Text if value.is_string() => None,
@@ -49,15 +48,6 @@ fn value_fault(kind: Kind, value: &Value) -> Option<Refusal>
             None => Some(Refusal::Kind),
         },
     }
-}
-
-fn kind_of(fields: &[Field], name: &str) -> Option<Kind>
-    ensures { option_map kind_meant result ≡ kind_of fields.now name.now }
-{
-    fields
-        .iter()
-        .find(|field| field.name() == name)
-        .map(Field::kind)
 }
 
 fn member_fault(fields: &[Field], name: &str, value: &Value) -> Option<Refusal>

@@ -5,7 +5,7 @@ ghost use Rattle.serde_json.specs.View.{members_view, view};
 ghost use Rattle.cat_base.specs.Texts.{IsTextSet};
 ghost use Rattle.cat_base.specs.declared.refusal.Refusal.TheVariants.{Memory, Kind as WrongKind};
 ghost use Rattle.cat_model.specs.Item.{is_field_name};
-ghost use Rattle.cat_schema.specs.Kinds.{kind_meant};
+ghost use Rattle.cat_schema.specs.Kinds.{field_kind_of};
 ghost use Rattle.cat_schema.specs.Reading.{kind_named, field_of, fields_of};
 
 use crate::forms::name_ok;
@@ -49,7 +49,7 @@ fn read_field(alloc: Global, name: &str, value: &Value) -> Result<Field, Refusal
 }
 
 fn kind_named(text: &str) -> Option<Kind>
-    ensures { option_map kind_meant result ≡ kind_named text.now }
+    ensures { option_map field_kind_of result ≡ kind_named text.now }
 {
     match text {
         "text" => Some(Kind::Text),

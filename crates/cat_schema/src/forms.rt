@@ -22,7 +22,8 @@ pub fn id_ok(id: &str) -> bool
     !id.is_empty() && id.len() <= MAX_ID_BYTES && all_graphic(id)
 }
 
-fn is_name_byte(b: u8) -> bool
+/// Whether the byte may stand in a field's name: a lower ASCII letter, a digit or `_`.
+pub fn is_name_byte(b: u8) -> bool
     ensures { result ≡ is_name_byte b }
 {
     b.is_ascii_lowercase() || b.is_ascii_digit() || b == b'_'
@@ -47,8 +48,8 @@ pub fn has_name_form(name: &str) -> bool
     }
 }
 
-/// Whether a field may have the name.
-pub(crate) fn name_ok(name: &str) -> bool
+/// Whether a field may have the name: it has the form of one and isn't `id`.
+pub fn name_ok(name: &str) -> bool
     ensures { result ≡ is_field_name name.now }
 {
     has_name_form(name) && name != "id"

@@ -1,12 +1,14 @@
 //! An item of the catalogue.
-ghost use Rattle.std.specs.Prelude.{◌≡◌, true, map, length, option_map, All, IfOk, IfErr};
+ghost use Rattle.std.specs.Prelude.{◌≡◌, ◌↔◌, true, map, length, option_map, All, IfOk, IsTrue};
 ghost use Rattle.std.specs.Arc.{arc_value};
-ghost use Rattle.cat_base.specs.declared.refusal.Refusal.TheVariants.{Memory};
-ghost use Rattle.cat_model.specs.Item.{is_id};
+ghost use Rattle.cat_model.specs.Item.{is_id, AreFields, IsContent};
 ghost use Rattle.cat_model.specs.Forms.{IsFormed, IsFormedItem, IsSourceLength};
+ghost use Rattle.cat_schema.specs.Contents.{field_content_of, IsHad};
+ghost use Rattle.cat_schema.specs.Kinds.{field_kind_of};
 
-use crate::schema::{Field, place_of};
-use cat_base::{Refusal, Text, TextSet};
+use crate::schema::{Field, Kind, index_of};
+use cat_base::{Text, TextSet};
+use std::alloc::AllocError;
 use std::marker::Model;
 use std::sync::Arc;
 
@@ -24,10 +26,29 @@ pub enum FieldValue {
 }
 
 impl FieldValue {
+    // Whether a field of the kind has such values.
+    fn is_of(&self, kind: Kind) -> bool
+        ensures { IsTrue result ↔ IsContent (field_kind_of kind) (field_content_of self.now) }
+    {
+        match self {
+            FieldValue::Words(words) => {
+                // The words rise.
+                let _rising = words.as_slice();
+                matches!(kind, Kind::Text)
+            }
+            FieldValue::Keyword(_) => matches!(kind, Kind::Keyword),
+            FieldValue::Number(_) => matches!(kind, Kind::Number),
+            FieldValue::Labels(labels) => {
+                // The labels rise.
+                let _rising = labels.as_slice();
+                matches!(kind, Kind::Facet)
+            }
+        }
+    }
+
     /// The same value once more.
-    pub fn copy(&self) -> Result<FieldValue, Refusal>
-        ensures ok { IfOk result (λ v. v ≡ self.now) }
-        ensures refusal { IfErr result (λ e. e ≡ Memory) }
+    pub fn copy(&self) -> Result<FieldValue, AllocError>
+        ensures { IfOk result (λ v. v ≡ self.now) }
     {
         match self {
             FieldValue::Words(set) => Ok(FieldValue::Words(set.copy()?)),
@@ -37,6 +58,13 @@ impl FieldValue {
             FieldValue::Labels(set) => Ok(FieldValue::Labels(set.copy()?)),
         }
     }
+}
+
+// Whether the field is the item's own, and the value is of its kind.
+fn is_had(field: &Field, own: &Field, value: &FieldValue) -> bool
+    ensures { IsTrue result ↔ IsHad field.now own.now value.now }
+{
+    own.name() == field.name() && value.is_of(field.kind())
 }
 
 /// An item as it was put: its id, what it has in each field, and the text that it was read from. Lucene's `Document`,
@@ -52,18 +80,18 @@ pub struct Item {
 
 impl Model for Item {
     ghost use Rattle.cat_model.specs.Item as model;
-    ghost use Rattle.cat_schema.specs.Contents.{item_in, IsKept};
+    ghost use Rattle.cat_schema.specs.Contents.{item_of_inside, IsKept};
 
     ghost Value = { model.Item };
 
-    ghost view = { item_in };
+    ghost view = { item_of_inside };
 
     ghost invariant = { IsKept };
 }
 
 impl Item {
     ghost use Rattle.cat_model.specs.Item as model;
-    ghost use Rattle.cat_schema.specs.Contents.{content_of, parts_with};
+    ghost use Rattle.cat_schema.specs.Contents.{named_contents};
 
     pub(crate) fn new(
         fields: Arc<Vec<Field>>,
@@ -72,8 +100,8 @@ impl Item {
         source: Vec<u8>,
     ) -> Item
         requires each { length values.items ≡ length (arc_value fields).items }
-        requires formed { IsFormedItem (record { id = id; fields = parts_with (arc_value fields).items values.items; source = source.items }) }
-        ensures { result ≡ record { id = id; fields = parts_with (arc_value fields).items values.items; source = source.items } }
+        requires formed { IsFormedItem (record { id = id; fields = named_contents (arc_value fields).items values.items; source = source.items }) }
+        ensures { result ≡ record { id = id; fields = named_contents (arc_value fields).items values.items; source = source.items } }
     {
         Item {
             fields,
@@ -94,7 +122,7 @@ impl Item {
     /// What the item has in each field, in the order of the schema's fields. A word has 1 to 4,294,967,295 bytes, a
     /// keyword at most 128, a label 1 to 128, and labels are at most 64.
     pub fn values(&self) -> &[FieldValue]
-        ensures value { map content_of result.now ≡ map (λ p. p.content) self.now.fields }
+        ensures value { map field_content_of result.now ≡ map (λ p. p.content) self.now.fields }
         ensures forms { All (λ p. IsFormed p.content) self.now.fields }
     {
         self.values.as_slice()
@@ -102,10 +130,27 @@ impl Item {
 
     /// What the item has in the field of the name, if it has such a field.
     pub fn value(&self, name: &str) -> Option<&FieldValue>
-        ensures { option_map (λ v. content_of v.now) result ≡ model.content_of name.now self.now }
+        ensures { option_map (λ v. field_content_of v.now) result ≡ model.content_of name.now self.now }
     {
-        let place = place_of(&self.fields, name)?;
-        self.values.get(place)
+        let index = index_of(&self.fields, name)?;
+        self.values.get(index)
+    }
+
+    /// Whether the item has a value of the kind of each of the fields, under its name, and no other.
+    pub(crate) fn has_fields(&self, fields: &[Field]) -> bool
+        ensures { IsTrue result ↔ AreFields fields.now self.now.fields }
+    {
+        let own = self.fields.as_slice();
+        let values = self.values.as_slice();
+        if fields.len() != own.len() {
+            return false;
+        }
+        for (i, field) in fields.iter().enumerate() {
+            if !is_had(field, &own[i], &values[i]) {
+                return false;
+            }
+        }
+        true
     }
 
     /// The bytes that the item was read from, as they came, 1 to 8,192.
@@ -117,9 +162,8 @@ impl Item {
     }
 
     /// The same item once more.
-    pub fn copy(&self) -> Result<Item, Refusal>
-        ensures ok { IfOk result (λ i. i ≡ self.now) }
-        ensures refusal { IfErr result (λ e. e ≡ Memory) }
+    pub fn copy(&self) -> Result<Item, AllocError>
+        ensures { IfOk result (λ i. i ≡ self.now) }
     {
         let alloc = *self.values.allocator();
         let mut values = Vec::with_capacity(alloc, self.values.len())?;

@@ -11,10 +11,10 @@ mod laws;
 mod parsing;
 mod schema;
 
-pub use analysis::words;
-pub use forms::{has_name_form, id_ok, keyword_ok, label_ok, word_ok};
+pub use analysis::{is_word_byte, lowered, words};
+pub use forms::{has_name_form, id_ok, is_name_byte, keyword_ok, label_ok, name_ok, word_ok};
 pub use item::{FieldValue, Item};
 pub use laws::{
     every_input_is_heard_one_way, every_line_is_heard_one_way, texts_of_schemas_keep_the_rules,
 };
-pub use schema::{Field, Kind, Schema, place_of};
+pub use schema::{Field, Kind, Schema, index_of, kind_of};

@@ -1,17 +1,21 @@
-use Rattle.std.proofs.Common.{◌≡◌, refl, Bool, true, false, Option, None, cond, sym}
-use Rattle.std.proofs.lemmas.Bool.{true≢false}
-use Rattle.std.specs.Str.{is_utf8}
-use Rattle.std.proofs.lemmas.Str.{is_utf8-from_IsUtf8, IsUtf8-from_is_utf8}
-use Rattle.serde_json.specs.Data.{Data}
+use Rattle.std.proofs.Common.{ap, ◌∙◌, sym, refl, length, arith}
 use Rattle.serde_json.specs.Read.{read}
+use Rattle.cat_schema.proofs.Formed.{some_bytes}
+use Rattle.cat_schema.proofs.JsonTexts.{json_of-text, json_of-other, no_text_fault}
 use Rattle.cat_schema.proofs.parsing.read_json.Goals as goal
 
-pub returns-in-Ok-clause-ok : goal.returns-in-Ok-clause-ok
-returns-in-Ok-clause-ok c = rw (is_utf8-from_IsUtf8 _ c.in-Ok.ensures.ok.0) c.in-Ok.ensures.ok.1
+pub returns-in_default-clause-err : goal.returns-in_default-clause-err
+returns-in_default-clause-err c = λ other. (refl, json_of-other c.args.bytes.now c.in_default.ensures.cases.0)
 
-refused : (b : Bool) (o : Option Data) → (b ≡ true → o ≡ None) → cond b o None ≡ None
-refused true o h = h refl
-refused false o h = refl
+pub returns-in-Ok-from_str-clause-ok : goal.returns-in-Ok-from_str-clause-ok
+returns-in-Ok-from_str-clause-ok c =
+    json_of-text c.args.bytes.now _ c.in-Ok.ensures.cases.1 (ap read (sym c.in-Ok.ensures.cases.0) ∙ c.in-Ok-from_str.ensures.ok)
 
-pub returns-in-Err-2-clause-err : goal.returns-in-Err-2-clause-err
-returns-in-Err-2-clause-err c = λ other. (refl, refused (is_utf8 c.args.bytes.now) (read c.args.bytes.now) (λ u. c.in-Err.ensures.err (λ m. true≢false (sym (c.if-is_memory.ensures.1 m))) (IsUtf8-from_is_utf8 _ u)))
+pub returns-in-Ok-from_str-clause-due : goal.returns-in-Ok-from_str-clause-due
+returns-in-Ok-from_str-clause-due c =
+    no_text_fault c.args.bytes.now _ c.in-Ok.ensures.cases.1 (some_bytes _ _ (returns-in-Ok-from_str-clause-ok c))
+
+pub returns-in-Err-clause-due : goal.returns-in-Err-clause-due
+returns-in-Err-clause-due c =
+    let some = c.in-Err.ensures.memory (c.is_memory.ensures.0 c.if-is_memory.true) in
+    no_text_fault c.args.bytes.now _ c.in-Ok.ensures.cases.1 (omega (arith, some, ap length c.in-Ok.ensures.cases.0))
