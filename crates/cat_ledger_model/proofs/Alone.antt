@@ -4,10 +4,10 @@ use Rattle.std.specs.List.{AllByRecursion}
 use Rattle.cat_model.specs.Files.{Name}
 use Rattle.cat_model.proofs.Lists.{All-each}
 use Rattle.cat_ledger_model.specs.Portions.{Portion, Merging}
-use Rattle.cat_ledger_model.specs.Ledger.{Recorded, Written, names_of_merging, IsPast, IsOther, NotOf, IsAlone}
+use Rattle.cat_ledger_model.specs.Ledger.{RecordedView, LedgerCommit, names_of_merging, IsPast, IsOther, NotOf, IsAlone}
 
 -- where no merge is in the making
-pub nobody_alone : (ps : List Portion) (vs : List Recorded) (cs : List Written) → IsAlone None ps vs cs
+pub nobody_alone : (ps : List Portion) (vs : List RecordedView) (cs : List LedgerCommit) → IsAlone None ps vs cs
 nobody_alone ps vs cs = record { portions = All-each (NotOf None) (λ q. tt) _; views = All-each (NotOf None) (λ q. tt) _; commits = All-each (NotOf None) (λ q. tt) _ }
 
 -- a name that is past has not the number that is taken next

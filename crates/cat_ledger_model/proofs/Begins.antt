@@ -32,18 +32,18 @@ some_apart ps i k buffered a =
     (Apart-split R (records_of (take k (drop i ps))) (records_of (drop (i + k) ps)) two.1).0
 
 pub begun_change_no_state : BegunChangeNoState
-begun_change_no_state place k l new ok call =
+begun_change_no_state index k l new ok call =
     let n : ℕ = l.next_segment in
     let P : Name → Type 0 = IsPast n l.next_generation in
     let Q : Name → Type 0 = IsPast (n + 1) l.next_generation in
-    let inputs : List Portion = take k (drop place l.portions) in
-    let m : Merging = record { number = n; place = place; inputs = inputs; passed = 0; kept = [] } in
+    let inputs : List Portion = take k (drop index l.portions) in
+    let m : Merging = record { number = n; index = index; inputs = inputs; passed = 0; kept = [] } in
     let portions : List Name = flat_map names_of_portion l.portions in
     let views : List Name = flat_map names_of_view l.views in
     let commits : List Name = flat_map names_of_commit l.commits in
     let past : Four P portions views commits (names_of_merging l.merging) = All-four P _ _ _ _ ok.fresh in
     let more : Four Q portions views commits (names_of_merging l.merging) = four_more n l.next_generation (n + 1) l.next_generation (omega arith) (omega arith) _ _ _ _ past in
-    let long : length inputs ≡ k = length-take-le k (drop place l.portions) (omega (arith, length-drop place l.portions, call.within)) in (
+    let long : length inputs ≡ k = length-take-le k (drop index l.portions) (omega (arith, length-drop index l.portions, call.within)) in (
       subst IsLedger (sym call.rest) (record {
         portions = ok.portions;
         views = ok.views;
@@ -54,11 +54,11 @@ begun_change_no_state place k l new ok call =
         sound = ok.sound;
         merging = record {
           some = omega (arith, long, call.some);
-          stand = subst (λ j. Reduced inputs (take j (drop place l.portions))) (sym long) (Reduced-same inputs);
-          lengths = some_full l.portions place k ok.portions.lengths;
+          stand = subst (λ j. Reduced inputs (take j (drop index l.portions))) (sym long) (Reduced-same inputs);
+          lengths = some_full l.portions index k ok.portions.lengths;
           within = omega arith;
           kept = refl;
-          ids = some_apart l.portions place k l.buffered ok.ids;
+          ids = some_apart l.portions index k l.buffered ok.ids;
           free = All-weaken (λ p. p.number < n) (λ p. p.number ≢ n) (λ p h e. let less : p.number < n = h in omega arith) l.portions (numbers_past n l.next_generation l.portions past.portions);
         };
         alone = record {

@@ -13,9 +13,9 @@ use Rattle.cat_model.specs.View.{selected}
 use Rattle.cat_model.specs.State.{Commit, newest_of, is_newest, is_below, snapshots_in, commits_kept, commit_now, IsSound}
 use Rattle.cat_model.proofs.Lists.{All-weaken, All-both, All-kept}
 use Rattle.cat_model.proofs.Commits.{newest-pushed, filter_last, is_newest-self}
-use Rattle.cat_ledger_model.specs.Portions.{Portion, records_of, rows_of, lives_of, Apart, Merging, IsMerging}
+use Rattle.cat_ledger_model.specs.Portions.{Portion, records_of, all_records, lives_of, Apart, Merging, IsMerging}
 use Rattle.cat_ledger_model.specs.Users.{times}
-use Rattle.cat_ledger_model.specs.Ledger.{Listed, Written, IsRow, AreWhole, IsLedger, IsRecorded, IsWritten, portions_in, state_of, table_of, names_used, names_of_portion, names_of_view, names_of_listed, name_of_live, names_of_commit, names_of_merging, IsPast, NotOf, IsAlone, view_shown, commit_shown}
+use Rattle.cat_ledger_model.specs.Ledger.{Listed, LedgerCommit, IsPutRecord, AreWhole, IsLedger, IsWholeView, IsWholeCommit, portions_in, state_of, table_of, names_used, names_of_portion, names_of_view, names_of_listed, name_of_live, names_of_commit, names_of_merging, IsPast, NotOf, IsAlone, view_shown, commit_shown}
 use Rattle.cat_ledger_model.specs.Calls.{all_alive, same_live, file_in, file_for, listed_in, newest_listed, commit_of, stays_kept, commits_that, commits_not, newest_in}
 use Rattle.cat_ledger_model.specs.Laws.{CommitsAreKept, SnapshotsAreTaken, SnapshotsAreGiven, OpenedAreFresh}
 use Rattle.cat_ledger_model.proofs.Alone.{nobody_alone}
@@ -30,11 +30,11 @@ last_below : (g : ℕ) (o : Option ℕ) (ks : List ℕ) → is_below o g ≡ tru
 last_below g o [] h a = h
 last_below g o (k ∷ ks) h a = last_below g (Some k) ks (let less : k < g = a.0 in grind (arith, nat_tests)) a.1
 
-generations_low : (n g : ℕ) (cs : List Written) → AllByRecursion (IsPast n g) (flat_map names_of_commit cs) → AllByRecursion (λ k. k < g) (map (λ (c : Commit). c.generation) (map commit_shown cs))
+generations_low : (n g : ℕ) (cs : List LedgerCommit) → AllByRecursion (IsPast n g) (flat_map names_of_commit cs) → AllByRecursion (λ k. k < g) (map (λ (c : Commit). c.generation) (map commit_shown cs))
 generations_low n g [] a = tt
 generations_low n g (c ∷ cs) a = let r = All-split (IsPast n g) (names_of_commit c) (flat_map names_of_commit cs) a in (r.0.0, generations_low n g cs r.1)
 
-newest_all : (P : Name → Type 0) (o : Option Written) (cs : List Written) → AllByRecursion P (flat_map names_of_listed (listed_in o)) → AllByRecursion P (flat_map names_of_commit cs) → AllByRecursion P (flat_map names_of_listed (listed_in (last_or o cs)))
+newest_all : (P : Name → Type 0) (o : Option LedgerCommit) (cs : List LedgerCommit) → AllByRecursion P (flat_map names_of_listed (listed_in o)) → AllByRecursion P (flat_map names_of_commit cs) → AllByRecursion P (flat_map names_of_listed (listed_in (last_or o cs)))
 newest_all P o [] h a = h
 newest_all P o (c ∷ cs) h a = let r = All-split P (names_of_commit c) (flat_map names_of_commit cs) a in newest_all P (Some c) cs r.0.1 r.1
 
@@ -104,8 +104,8 @@ commits_are_kept l new ok empty call =
     let P : Name → Type 0 = IsPast l.next_segment g in
     let Q : Name → Type 0 = IsPast l.next_segment (g + 1) in
     let stays : ℕ → Bool = stays_kept l.taken (Some g) in
-    let c : Written = commit_of l in
-    let cs : List Written = commits_that stays l.commits ++ c ∷ [] in
+    let c : LedgerCommit = commit_of l in
+    let cs : List LedgerCommit = commits_that stays l.commits ++ c ∷ [] in
     let portions : List Name = flat_map names_of_portion l.portions in
     let views : List Name = flat_map names_of_view l.views in
     let making : List Name = names_of_merging l.merging in
@@ -136,7 +136,7 @@ commits_are_kept l new ok empty call =
       subst IsLedger (sym call.rest) (record {
         portions = ok.portions;
         views = ok.views;
-        commits = All-both (IsWritten l.schema l.count) (commits_that stays l.commits) (c ∷ []) (All-kept (IsWritten l.schema l.count) _ l.commits ok.commits) ((omega arith, subst (AreWhole l.schema l.count) (sym its) (whole_now l ok empty)), tt);
+        commits = All-both (IsWholeCommit l.schema l.count) (commits_that stays l.commits) (c ∷ []) (All-kept (IsWholeCommit l.schema l.count) _ l.commits ok.commits) ((omega arith, subst (AreWhole l.schema l.count) (sym its) (whole_now l ok empty)), tt);
         rows = ok.rows;
         rising = ok.rising;
         ids = ok.ids;
@@ -191,7 +191,7 @@ pub snapshots_are_given : SnapshotsAreGiven
 snapshots_are_given g l new ok call =
     let P : Name → Type 0 = IsPast l.next_segment l.next_generation in
     let stays : ℕ → Bool = stays_kept new.taken (newest_in l.commits) in
-    let cs : List Written = commits_that stays l.commits in
+    let cs : List LedgerCommit = commits_that stays l.commits in
     let portions : List Name = flat_map names_of_portion l.portions in
     let views : List Name = flat_map names_of_view l.views in
     let making : List Name = names_of_merging l.merging in
@@ -207,7 +207,7 @@ snapshots_are_given g l new ok call =
       subst IsLedger (sym call.rest) (record {
         portions = ok.portions;
         views = ok.views;
-        commits = All-kept (IsWritten l.schema l.count) _ l.commits ok.commits;
+        commits = All-kept (IsWholeCommit l.schema l.count) _ l.commits ok.commits;
         rows = ok.rows;
         rising = ok.rising;
         ids = ok.ids;
@@ -229,33 +229,33 @@ AllPairs-from_Apart R [] a = λ i j d l m. absurd (omega (arith, m))
 AllPairs-from_Apart R (x ∷ xs) a = AllPairs-cons R x xs (All-from_recursion (R x) xs a.0) (AllPairs-from_Apart R xs a.1)
 
 pub opened_are_fresh : OpenedAreFresh
-opened_are_fresh c l its whole used fresh numbers fits =
-    let rows : rows_of l.portions ++ l.buffered ≡ rows_of (portions_in c) = ap₂ (λ (a : List Portion) (b : List Record). rows_of a ++ b) its.portions its.buffered ∙ append-nil (rows_of (portions_in c)) in
+opened_are_fresh c l its whole told =
+    let rows : all_records l.portions ++ l.buffered ≡ all_records (portions_in c) = ap₂ (λ (a : List Portion) (b : List Record). all_records a ++ b) its.portions its.buffered ∙ append-nil (all_records (portions_in c)) in
     let table : table_of l ≡ records_of (portions_in c) = ap₂ (λ (a : List Portion) (b : List Record). records_of a ++ b) its.portions its.buffered ∙ append-nil (records_of (portions_in c)) in
     let now_whole : AreWhole l.schema l.count l.portions = subst (λ ps. AreWhole l.schema l.count ps) (sym its.portions) (subst (λ n. AreWhole l.schema n (portions_in c)) (sym its.count) whole) in
-    let now_rows : AllByRecursion (IsRow l.schema l.count) (rows_of l.portions ++ l.buffered) = subst (AllByRecursion (IsRow l.schema l.count)) (sym rows) (subst (λ n. AllByRecursion (IsRow l.schema n) (rows_of (portions_in c))) (sym its.count) whole.rows) in
+    let now_rows : AllByRecursion (IsPutRecord l.schema l.count) (all_records l.portions ++ l.buffered) = subst (AllByRecursion (IsPutRecord l.schema l.count)) (sym rows) (subst (λ n. AllByRecursion (IsPutRecord l.schema n) (all_records (portions_in c))) (sym its.count) whole.rows) in
     let one_view : map view_shown l.views ≡ record { token = l.count; table = table_of l } ∷ [] =
     ap (map view_shown) its.views ∙ (λ i. record { token = l.count; table = (ap records_of its.portions ∙ sym table) i } ∷ []) in
     let ok : IsLedger l = record {
       portions = now_whole.portions;
-      views = subst (AllByRecursion (IsRecorded l.schema l.count)) (sym its.views) ((omega arith, now_whole), tt);
-      commits = subst (AllByRecursion (IsWritten l.schema l.count)) (sym its.commits) ((omega (arith, its.count), whole), tt);
+      views = subst (AllByRecursion (IsWholeView l.schema l.count)) (sym its.views) ((omega arith, now_whole), tt);
+      commits = subst (AllByRecursion (IsWholeCommit l.schema l.count)) (sym its.commits) ((omega (arith, its.count), whole), tt);
       rows = now_rows;
       rising = subst (Apart (λ r s. r.number < s.number)) (sym rows) whole.rising;
       ids = subst (Apart (λ r s. r.item.id ≢ s.item.id)) (sym table) whole.ids;
       sound = subst (λ vs. IsSound vs l.holds) (sym one_view) (subst (IsSound (record { token = l.count; table = table_of l } ∷ [])) (sym its.holds) (record { some_view = omega arith; held = λ t h. absurd (let no : false ≡ true = h in cc) }));
       merging = subst (IsMerging l.portions) (sym its.merging) tt;
       alone = subst (λ o. IsAlone o l.portions l.views l.commits) (sym its.merging) (nobody_alone l.portions l.views l.commits);
-      users = used;
-      fresh = fresh;
-      numbers = numbers;
-      fits = fits;
+      users = told.users;
+      fresh = told.fresh;
+      numbers = told.numbers;
+      fits = told.fits;
     } in
-    let live : records_of (portions_in c) ≡ selected (lives_of (portions_in c)) (rows_of (portions_in c)) = sym (records-marked (portions_in c) whole.portions.lengths) in
-    let live_rows : AllByRecursion (IsRow l.schema l.count) (table_of l) = subst (AllByRecursion (IsRow l.schema l.count)) (sym (table ∙ live))
-    (All-marked (IsRow l.schema l.count) (lives_of (portions_in c)) (rows_of (portions_in c)) (subst (λ n. AllByRecursion (IsRow l.schema n) (rows_of (portions_in c))) (sym its.count) whole.rows)) in
+    let live : records_of (portions_in c) ≡ selected (lives_of (portions_in c)) (all_records (portions_in c)) = sym (records-marked (portions_in c) whole.portions.lengths) in
+    let live_rows : AllByRecursion (IsPutRecord l.schema l.count) (table_of l) = subst (AllByRecursion (IsPutRecord l.schema l.count)) (sym (table ∙ live))
+    (All-marked (IsPutRecord l.schema l.count) (lives_of (portions_in c)) (all_records (portions_in c)) (subst (λ n. AllByRecursion (IsPutRecord l.schema n) (all_records (portions_in c))) (sym its.count) whole.rows)) in
     let live_rising : Apart (λ r s. r.number < s.number) (table_of l) = subst (Apart (λ r s. r.number < s.number)) (sym (table ∙ live))
-    (Apart-marked (λ r s. r.number < s.number) (lives_of (portions_in c)) (rows_of (portions_in c)) whole.rising) in (
+    (Apart-marked (λ r s. r.number < s.number) (lives_of (portions_in c)) (all_records (portions_in c)) whole.rising) in (
       ok,
       record {
         is_start = λ schema. record {

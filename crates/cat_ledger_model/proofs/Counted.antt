@@ -7,8 +7,8 @@ use Rattle.std.proofs.lemmas.List.Sums.{sum_by-append}
 use Rattle.cat_model.specs.Files.{Name}
 use Rattle.cat_model.proofs.Lists.{All-weaken, All-both}
 use Rattle.cat_ledger_model.specs.Portions.{Portion, Apart, ArePortions, Merging}
-use Rattle.cat_ledger_model.specs.Users.{same_name, has_name, times}
-use Rattle.cat_ledger_model.specs.Ledger.{Listed, Written, IsRecorded, IsWritten, portions_in, names_of_portion, names_of_view, names_of_listed, name_of_live, names_of_commit, names_of_merging, IsOther}
+use Rattle.cat_ledger_model.specs.Users.{same_file_name, has_name, times}
+use Rattle.cat_ledger_model.specs.Ledger.{Listed, LedgerCommit, IsWholeView, IsWholeCommit, portions_in, names_of_portion, names_of_view, names_of_listed, name_of_live, names_of_commit, names_of_merging, IsOther}
 use Rattle.cat_ledger_model.specs.Laws.{UsersAreCounted}
 use Rattle.cat_ledger_model.proofs.Users.{times-append, times-four, Apart-join}
 
@@ -28,17 +28,17 @@ and_both : (a b : Bool) → (a && b) ≡ true → (a ≡ true) × (b ≡ true)
 and_both true b e = (refl, e)
 and_both false b e = absurd (let no : false ≡ true = e in cc)
 
-same_name_is : (a b : Name) → same_name a b ≡ true → a ≡ b
+same_name_is : (a b : Name) → same_file_name a b ≡ true → a ≡ b
 same_name_is (Name.segment m) (Name.segment n) e = ap (λ k. Name.segment k) (same_number m n e)
 same_name_is (Name.source m) (Name.source n) e = ap (λ k. Name.source k) (same_number m n e)
 same_name_is (Name.live m d) (Name.live n g) e = let k = and_both (m == n) (d == g) e in ap₂ (λ (x y : ℕ). Name.live x y) (same_number m n k.0) (same_number d g k.1)
 same_name_is (Name.commit m) (Name.commit n) e = ap (λ k. Name.commit k) (same_number m n e)
 same_name_is _ _ e = absurd (let no : false ≡ true = e in cc)
 
-other_name : (q y : Name) → (q ≡ y → ⊥) → same_name q y ≡ false
-other_name q y n = by (same_name q y) refl
+other_name : (q y : Name) → (q ≡ y → ⊥) → same_file_name q y ≡ false
+other_name q y n = by (same_file_name q y) refl
   where
-    by : (b : Bool) → same_name q y ≡ b → b ≡ false
+    by : (b : Bool) → same_file_name q y ≡ b → b ≡ false
     by true e = absurd (n (same_name_is q y e))
     by false e = refl
 
@@ -47,14 +47,14 @@ count_by-cons p x xs = sum_by-append (λ y. cond (p y) 1 0) (x ∷ []) xs ∙ ap
 
 none_there : (q : Name) (xs : List Name) → AllByRecursion (λ y. q ≢ y) xs → times q xs ≡ 0
 none_there q [] a = refl
-none_there q (y ∷ xs) a = count_by-cons (same_name q) y xs ∙ (let e : same_name q y ≡ false = other_name q y a.0 in rw e (let r : times q xs ≡ 0 = none_there q xs a.1 in omega (arith, r)))
+none_there q (y ∷ xs) a = count_by-cons (same_file_name q) y xs ∙ (let e : same_file_name q y ≡ false = other_name q y a.0 in rw e (let r : times q xs ≡ 0 = none_there q xs a.1 in omega (arith, r)))
 
 once : (q : Name) (xs : List Name) → Distinct xs → times q xs ≡ cond (has_name q xs) 1 0
 unfolding Distinct
 once q [] d = refl
-once q (x ∷ xs) d = count_by-cons (same_name q) x xs ∙ by (same_name q x) refl (once q xs d.1)
+once q (x ∷ xs) d = count_by-cons (same_file_name q) x xs ∙ by (same_file_name q x) refl (once q xs d.1)
   where
-    by : (b : Bool) → same_name q x ≡ b → times q xs ≡ cond (has_name q xs) 1 0 → cond b 1 0 + times q xs ≡ cond (b || has_name q xs) 1 0
+    by : (b : Bool) → same_file_name q x ≡ b → times q xs ≡ cond (has_name q xs) 1 0 → cond b 1 0 + times q xs ≡ cond (b || has_name q xs) 1 0
     by true e r = let none : times q xs ≡ 0 = none_there q xs (subst (λ n. AllByRecursion (λ y. n ≢ y) xs) (sym (same_name_is q x e)) d.0) in omega (arith, none)
     by false e r = omega (arith, r)
 
@@ -127,7 +127,7 @@ listed_distinct (x ∷ xs) a =
     cross true o = tt
     cross false o = (other_differs x.portion.number (Name.live x.portion.number x.file) (λ h. h refl) _ o, tt)
 
-commit_distinct : (c : Written) → ArePortions (portions_in c) → Distinct (names_of_commit c)
+commit_distinct : (c : LedgerCommit) → ArePortions (portions_in c) → Distinct (names_of_commit c)
 unfolding Distinct kind
 commit_distinct c ok = (
   All-weaken (λ q. kind q < 3) (λ q. Name.commit c.generation ≢ q) (λ q h e. let k : 3 ≡ kind q = ap kind e in absurd (omega (arith, k, h))) (flat_map names_of_listed c.listed) (listed_kinds c.listed),
@@ -156,8 +156,8 @@ users_are_counted l ok q =
       ok.users q,
       times-four q (flat_map names_of_portion l.portions) (flat_map names_of_view l.views) (flat_map names_of_commit l.commits) ms,
       once q (flat_map names_of_portion l.portions) (portions_distinct l.portions ok.portions.numbers),
-      counted q names_of_view l.views (All-weaken (IsRecorded l.schema l.count) (λ v. Distinct (names_of_view v)) (λ v h. portions_distinct v.portions h.1.portions.numbers) l.views ok.views),
-      counted q names_of_commit l.commits (All-weaken (IsWritten l.schema l.count) (λ c. Distinct (names_of_commit c)) (λ c h. commit_distinct c h.1.portions) l.commits ok.commits),
+      counted q names_of_view l.views (All-weaken (IsWholeView l.schema l.count) (λ v. Distinct (names_of_view v)) (λ v h. portions_distinct v.portions h.1.portions.numbers) l.views ok.views),
+      counted q names_of_commit l.commits (All-weaken (IsWholeCommit l.schema l.count) (λ c. Distinct (names_of_commit c)) (λ c h. commit_distinct c h.1.portions) l.commits ok.commits),
       once q ms (merging_distinct l.merging),
       count_by-cons (has_name q) (flat_map names_of_portion l.portions) (vs ++ (cs ++ ms ∷ [])),
       count_by-cons (has_name q) ms [],

@@ -10,11 +10,11 @@ use Rattle.cat_model.specs.Write.{Write, removes}
 use Rattle.cat_model.specs.Table.{without, put_last, after}
 use Rattle.cat_model.specs.Files.{Name}
 use Rattle.cat_model.proofs.Lists.{All-weaken, All-both, All-kept}
-use Rattle.cat_ledger_model.specs.Portions.{Portion, live_records, records_of, rows_of, Apart, ArePortions, all_live, live_after, portions_after, Reduced, Merging, window_now, IsMergingOf, IsMerging}
+use Rattle.cat_ledger_model.specs.Portions.{Portion, live_records, records_of, all_records, Apart, ArePortions, all_live, live_after, portions_after, Reduced, Merging, window_now, IsMergingOf, IsMerging}
 use Rattle.cat_ledger_model.specs.Users.{times, AreUsed}
-use Rattle.cat_ledger_model.specs.Ledger.{Ledger, IsRow, IsLedger, IsRecorded, IsWritten, state_of, table_of, names_used, names_of_portion, names_of_view, names_of_commit, names_of_merging, IsPast, NotOf, view_shown, commit_shown}
+use Rattle.cat_ledger_model.specs.Ledger.{Ledger, IsPutRecord, IsLedger, IsWholeView, IsWholeCommit, state_of, table_of, names_used, names_of_portion, names_of_view, names_of_commit, names_of_merging, IsPast, NotOf, view_shown, commit_shown}
 use Rattle.cat_ledger_model.specs.Calls.{Flushed, wrote}
-use Rattle.cat_ledger_model.specs.Laws.{Fits, FlushesChangeNoState, WritesAreWritten}
+use Rattle.cat_ledger_model.specs.Laws.{PutsItem, FlushesChangeNoState, WritesAreWritten}
 use Rattle.cat_ledger_model.proofs.Users.{All-split, Apart-split, Apart-join, times-append, times-flat, times-four, Four, All-four, All-of_four, recounted}
 use Rattle.cat_ledger_model.proofs.Alone.{fresh_apart, source_apart}
 use Rattle.cat_ledger_model.proofs.Marked.{marked-all, Full, Reduced-then, Reduced-take, Reduced-drop, Reduced-length, Reduced-after, records-after, rows-after}
@@ -45,8 +45,8 @@ module _ (n : ℕ) (rs : List Record) (ps : List Portion) where
   pub new_records : records_of (ps ++ all_live n rs ∷ []) ++ [] ≡ records_of ps ++ rs
   new_records = append-nil (records_of (ps ++ all_live n rs ∷ [])) ∙ flat_map-append live_records ps (all_live n rs ∷ []) ∙ ap (λ l. records_of ps ++ l) (append-nil (live_records (all_live n rs)) ∙ marked-all rs)
 
-  pub new_rows : rows_of (ps ++ all_live n rs ∷ []) ++ [] ≡ rows_of ps ++ rs
-  new_rows = append-nil (rows_of (ps ++ all_live n rs ∷ [])) ∙ flat_map-append (λ p. p.records) ps (all_live n rs ∷ []) ∙ ap (λ l. rows_of ps ++ l) (append-nil rs)
+  pub new_rows : all_records (ps ++ all_live n rs ∷ []) ++ [] ≡ all_records ps ++ rs
+  new_rows = append-nil (all_records (ps ++ all_live n rs ∷ [])) ∙ flat_map-append (λ p. p.records) ps (all_live n rs ∷ []) ∙ ap (λ l. all_records ps ++ l) (append-nil rs)
 
   length-true : (xs : List Record) → length (map (λ r. true) xs) ≡ length xs
   length-true [] = refl
@@ -62,10 +62,10 @@ module _ (n : ℕ) (rs : List Record) (ps : List Portion) where
 -- the window stays where portions come after it
 pub window_stays : (m : Merging) (ps qs : List Portion) → IsMergingOf ps m → window_now m (ps ++ qs) ≡ window_now m ps
 window_stays m ps qs ok =
-    let whole : length (take (length m.inputs) (drop m.place ps)) ≡ length m.inputs = Reduced-length m.inputs (window_now m ps) ok.stand in
-    let left : length m.inputs ≤ length (drop m.place ps) = omega (arith, whole, length-take (length m.inputs) (drop m.place ps)) in
-    let within : m.place ≤ length ps = omega (arith, left, ok.some, length-drop m.place ps) in
-    ap (take (length m.inputs)) (drop-append-le m.place ps qs within) ∙ take-append-le (length m.inputs) (drop m.place ps) qs left
+    let whole : length (take (length m.inputs) (drop m.index ps)) ≡ length m.inputs = Reduced-length m.inputs (window_now m ps) ok.stand in
+    let left : length m.inputs ≤ length (drop m.index ps) = omega (arith, whole, length-take (length m.inputs) (drop m.index ps)) in
+    let within : m.index ≤ length ps = omega (arith, left, ok.some, length-drop m.index ps) in
+    ap (take (length m.inputs)) (drop-append-le m.index ps qs within) ∙ take-append-le (length m.inputs) (drop m.index ps) qs left
 
 merging_stays : (n : ℕ) (rs : List Record) (ps : List Portion) (o : Option Merging) → AllByRecursion (λ q. (k : ℕ) → q ≡ Name.source k → k < n) (names_of_merging o) → IsMerging ps o → IsMerging (ps ++ all_live n rs ∷ []) o
 merging_stays n rs ps None low ok = tt
@@ -104,7 +104,7 @@ flushed l new ok call =
         portions = new_portions n l.buffered l.portions ok.portions (numbers_past n l.next_generation l.portions past.portions);
         views = ok.views;
         commits = ok.commits;
-        rows = subst (AllByRecursion (IsRow l.schema l.count)) (sym (new_rows n l.buffered l.portions)) ok.rows;
+        rows = subst (AllByRecursion (IsPutRecord l.schema l.count)) (sym (new_rows n l.buffered l.portions)) ok.rows;
         rising = subst (Apart (λ r s. r.number < s.number)) (sym (new_rows n l.buffered l.portions)) ok.rising;
         ids = subst (Apart (λ r s. r.item.id ≢ s.item.id)) (sym (new_records n l.buffered l.portions)) ok.ids;
         sound = ok.sound;
@@ -209,7 +209,7 @@ merging_written : (w : Write) (ps : List Portion) (o : Option Merging) → IsMer
 merging_written w ps None ok = tt
 merging_written w ps (Some m) ok = record {
   some = ok.some;
-  stand = Reduced-then m.inputs (window_now m ps) (window_now m (portions_after w ps)) ok.stand (Reduced-take (length m.inputs) _ _ (Reduced-drop m.place ps (portions_after w ps) (portions_less w ps)));
+  stand = Reduced-then m.inputs (window_now m ps) (window_now m (portions_after w ps)) ok.stand (Reduced-take (length m.inputs) _ _ (Reduced-drop m.index ps (portions_after w ps) (portions_less w ps)));
   lengths = ok.lengths;
   within = ok.within;
   kept = ok.kept;
@@ -219,25 +219,25 @@ merging_written w ps (Some m) ok = record {
 
 pub writes_are_written : WritesAreWritten
 writes_are_written l w ok room fits =
-    let rows : AllByRecursion (IsRow l.schema l.count) (rows_of l.portions) × AllByRecursion (IsRow l.schema l.count) l.buffered = All-split (IsRow l.schema l.count) (rows_of l.portions) l.buffered ok.rows in
-    let later : (r : Record) → IsRow l.schema l.count r → IsRow l.schema (l.count + 1) r = λ r h. record { positive = h.positive; seen = omega (arith, h.seen); item = h.item } in
+    let rows : AllByRecursion (IsPutRecord l.schema l.count) (all_records l.portions) × AllByRecursion (IsPutRecord l.schema l.count) l.buffered = All-split (IsPutRecord l.schema l.count) (all_records l.portions) l.buffered ok.rows in
+    let later : (r : Record) → IsPutRecord l.schema l.count r → IsPutRecord l.schema (l.count + 1) r = λ r h. record { positive = h.positive; seen = omega (arith, h.seen); item = h.item } in
     let R : Record → Record → Type 0 = λ r s. r.number < s.number in
-    let rising = Apart-split R (rows_of l.portions) l.buffered ok.rising in
+    let rising = Apart-split R (all_records l.portions) l.buffered ok.rising in
     let rest : List Record = without l.buffered w in
-    let same : rows_of (portions_after w l.portions) ++ put_last rest (l.count + 1) w ≡ put_last (rows_of l.portions ++ rest) (l.count + 1) w =
-    ap (λ rs. rs ++ put_last rest (l.count + 1) w) (rows-after w l.portions) ∙ sym (put_last-append (rows_of l.portions) rest (l.count + 1) w) in
-    let kept_rows : AllByRecursion (IsRow l.schema l.count) (rows_of l.portions ++ rest) = All-both _ (rows_of l.portions) rest rows.0 (All-kept _ _ l.buffered rows.1) in (
+    let same : all_records (portions_after w l.portions) ++ put_last rest (l.count + 1) w ≡ put_last (all_records l.portions ++ rest) (l.count + 1) w =
+    ap (λ rs. rs ++ put_last rest (l.count + 1) w) (rows-after w l.portions) ∙ sym (put_last-append (all_records l.portions) rest (l.count + 1) w) in
+    let kept_rows : AllByRecursion (IsPutRecord l.schema l.count) (all_records l.portions ++ rest) = All-both _ (all_records l.portions) rest rows.0 (All-kept _ _ l.buffered rows.1) in (
       record {
         portions = portions_written w l.portions ok.portions;
-        views = All-weaken (IsRecorded l.schema l.count) (IsRecorded l.schema (l.count + 1)) (λ v h. (omega (arith, h.0), h.1)) l.views ok.views;
-        commits = All-weaken (IsWritten l.schema l.count) (IsWritten l.schema (l.count + 1)) (λ c h. (omega (arith, h.0), h.1)) l.commits ok.commits;
-        rows = subst (AllByRecursion (IsRow l.schema (l.count + 1))) (sym same)
-            (All-put_last (IsRow l.schema (l.count + 1)) (rows_of l.portions ++ rest) (l.count + 1) w (All-weaken (IsRow l.schema l.count) (IsRow l.schema (l.count + 1)) later _ kept_rows)
-            (λ i e. record { positive = omega arith; seen = omega arith; item = subst (Fits l.schema) e fits }));
+        views = All-weaken (IsWholeView l.schema l.count) (IsWholeView l.schema (l.count + 1)) (λ v h. (omega (arith, h.0), h.1)) l.views ok.views;
+        commits = All-weaken (IsWholeCommit l.schema l.count) (IsWholeCommit l.schema (l.count + 1)) (λ c h. (omega (arith, h.0), h.1)) l.commits ok.commits;
+        rows = subst (AllByRecursion (IsPutRecord l.schema (l.count + 1))) (sym same)
+            (All-put_last (IsPutRecord l.schema (l.count + 1)) (all_records l.portions ++ rest) (l.count + 1) w (All-weaken (IsPutRecord l.schema l.count) (IsPutRecord l.schema (l.count + 1)) later _ kept_rows)
+            (λ i e. record { positive = omega arith; seen = omega arith; item = subst (PutsItem l.schema) e fits }));
         rising = subst (Apart R) (sym same)
-            (Apart-put_last R (rows_of l.portions ++ rest) (l.count + 1) w
-            (Apart-join R (rows_of l.portions) rest rising.0 (Apart-filter R _ l.buffered rising.1) (All-weaken (λ r. AllByRecursion (R r) l.buffered) (λ r. AllByRecursion (R r) rest) (λ r a. All-kept (R r) _ l.buffered a) (rows_of l.portions) rising.2))
-            (λ i e. All-weaken (IsRow l.schema l.count) (λ r. r.number < l.count + 1) (λ r h. omega (arith, h.seen)) _ kept_rows));
+            (Apart-put_last R (all_records l.portions ++ rest) (l.count + 1) w
+            (Apart-join R (all_records l.portions) rest rising.0 (Apart-filter R _ l.buffered rising.1) (All-weaken (λ r. AllByRecursion (R r) l.buffered) (λ r. AllByRecursion (R r) rest) (λ r a. All-kept (R r) _ l.buffered a) (all_records l.portions) rising.2))
+            (λ i e. All-weaken (IsPutRecord l.schema l.count) (λ r. r.number < l.count + 1) (λ r h. omega (arith, h.seen)) _ kept_rows));
         ids = subst (Apart (λ r s. r.item.id ≢ s.item.id)) (sym (written_table l w))
             (Apart-put_last (λ r s. r.item.id ≢ s.item.id) (without (table_of l) w) (l.count + 1) w (Apart-filter (λ r s. r.item.id ≢ s.item.id) _ (table_of l) ok.ids)
             (λ i e. All-weaken (λ r. not (removes w r.item) ≡ true) (λ r. r.item.id ≢ i.id) (λ r h. other_id i r (subst (λ v. not (removes v r.item) ≡ true) e h)) _ (filter_passes (λ r. not (removes w r.item)) (table_of l))));

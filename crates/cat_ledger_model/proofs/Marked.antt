@@ -7,7 +7,7 @@ use Rattle.cat_model.specs.Item.{Record}
 use Rattle.cat_model.specs.Write.{Write, removes}
 use Rattle.cat_model.specs.Table.{without}
 use Rattle.cat_model.specs.View.{selected}
-use Rattle.cat_ledger_model.specs.Portions.{Portion, live_records, records_of, rows_of, lives_of, Apart, live_after, portions_after, LessLive, Reduced}
+use Rattle.cat_ledger_model.specs.Portions.{Portion, live_records, records_of, all_records, lives_of, Apart, live_after, portions_after, LessLive, Reduced}
 
 -- ---- marked
 
@@ -67,13 +67,13 @@ All-thinned P xs ys zs bs e a = subst (AllByRecursion P) (thinned xs ys zs bs e)
 abbrev pub Full : List Portion → Type 0
 Full ps = AllByRecursion (λ p. length p.live ≡ length p.records) ps
 
-pub lives-length : (ps : List Portion) → Full ps → length (lives_of ps) ≡ length (rows_of ps)
+pub lives-length : (ps : List Portion) → Full ps → length (lives_of ps) ≡ length (all_records ps)
 lives-length [] f = refl
-lives-length (p ∷ ps) f = omega (arith, f.0, lives-length ps f.1, length-append p.live (lives_of ps), length-append p.records (rows_of ps))
+lives-length (p ∷ ps) f = omega (arith, f.0, lives-length ps f.1, length-append p.live (lives_of ps), length-append p.records (all_records ps))
 
-pub records-marked : (ps : List Portion) → Full ps → selected (lives_of ps) (rows_of ps) ≡ records_of ps
+pub records-marked : (ps : List Portion) → Full ps → selected (lives_of ps) (all_records ps) ≡ records_of ps
 records-marked [] f = refl
-records-marked (p ∷ ps) f = marked-append p.live (lives_of ps) p.records (rows_of ps) f.0 ∙ ap (λ l. live_records p ++ l) (records-marked ps f.1)
+records-marked (p ∷ ps) f = marked-append p.live (lives_of ps) p.records (all_records ps) f.0 ∙ ap (λ l. live_records p ++ l) (records-marked ps f.1)
 
 -- ---- live sets that lost rows
 
@@ -114,7 +114,7 @@ Reduced-lives [] (q ∷ qs) h = absurd h
 Reduced-lives (p ∷ ps) [] h = absurd h
 Reduced-lives (p ∷ ps) (q ∷ qs) h = LessLive-append p.live q.live (lives_of ps) (lives_of qs) h.2 (Reduced-lives ps qs h.3)
 
-pub Reduced-rows : (ps qs : List Portion) → Reduced ps qs → rows_of qs ≡ rows_of ps
+pub Reduced-rows : (ps qs : List Portion) → Reduced ps qs → all_records qs ≡ all_records ps
 Reduced-rows [] [] h = refl
 Reduced-rows [] (q ∷ qs) h = absurd h
 Reduced-rows (p ∷ ps) [] h = absurd h
@@ -186,5 +186,5 @@ records-after w (p ∷ ps) =
     ap₂ (λ (a b : List Record). a ++ b) (marked_after w p.live p.records) (records-after w ps)
     ∙ sym (filter-append (λ r. not (removes w r.item)) (live_records p) (records_of ps))
 
-pub rows-after : (w : Write) (ps : List Portion) → rows_of (portions_after w ps) ≡ rows_of ps
+pub rows-after : (w : Write) (ps : List Portion) → all_records (portions_after w ps) ≡ all_records ps
 rows-after w ps = Reduced-rows ps (portions_after w ps) (Reduced-after w ps)

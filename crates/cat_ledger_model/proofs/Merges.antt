@@ -6,10 +6,10 @@ use Rattle.std.proofs.lemmas.Grind.{flat_map-append}
 use Rattle.cat_model.specs.Item.{Record}
 use Rattle.cat_model.specs.View.{selected}
 use Rattle.cat_model.proofs.Lists.{All-weaken, All-both}
-use Rattle.cat_ledger_model.specs.Portions.{Portion, live_records, records_of, rows_of, lives_of, Apart, ArePortions, Merging, window_now, IsMergingOf, IsMerging, settled, merged, installed}
+use Rattle.cat_ledger_model.specs.Portions.{Portion, live_records, records_of, all_records, lives_of, Apart, ArePortions, Merging, window_now, IsMergingOf, IsMerging, settled, merged, installed}
 use Rattle.cat_model.specs.Files.{Name}
 use Rattle.cat_ledger_model.specs.Users.{times}
-use Rattle.cat_ledger_model.specs.Ledger.{IsRow, IsLedger, state_of, names_used, names_of_portion, names_of_view, names_of_commit, names_of_merging, IsPast, view_shown, commit_shown}
+use Rattle.cat_ledger_model.specs.Ledger.{IsPutRecord, IsLedger, state_of, names_used, names_of_portion, names_of_view, names_of_commit, names_of_merging, IsPast, view_shown, commit_shown}
 use Rattle.cat_ledger_model.specs.Laws.{MergesChangeNoState, KeptMayStand}
 use Rattle.cat_ledger_model.proofs.Users.{All-split, Apart-split, Apart-join, times-append, times-flat, times-four, Four, All-four, All-of_four, recounted}
 use Rattle.cat_ledger_model.proofs.Alone.{nobody_alone}
@@ -26,23 +26,23 @@ take_whole (x ∷ xs) zero e = absurd (omega (arith, e))
 take_whole (x ∷ xs) (suc n) e = ap (λ l. x ∷ l) (take_whole xs n (omega (arith, e)))
 
 -- a merge that has passed all records
-module _ (m : Merging) (ps : List Portion) (ok : IsMergingOf ps m) (full : Full ps) (done : m.passed ≡ length (rows_of m.inputs)) where
+module _ (m : Merging) (ps : List Portion) (ok : IsMergingOf ps m) (full : Full ps) (done : m.passed ≡ length (all_records m.inputs)) where
   abbrev before : List Portion
-  before = take m.place ps
+  before = take m.index ps
 
   abbrev later : List Portion
-  later = drop (m.place + length m.inputs) ps
+  later = drop (m.index + length m.inputs) ps
 
   abbrev now : List Portion
   now = window_now m ps
 
   parts : ps ≡ before ++ (now ++ later)
-  parts = three ps m.place (length m.inputs)
+  parts = three ps m.index (length m.inputs)
 
-  kept_all : m.kept ≡ selected (lives_of m.inputs) (rows_of m.inputs)
+  kept_all : m.kept ≡ selected (lives_of m.inputs) (all_records m.inputs)
   kept_all = ok.kept ∙ ap₂ (λ (a : List Bool) (b : List Record). selected a b)
       (take_whole (lives_of m.inputs) m.passed (done ∙ sym (lives-length m.inputs ok.lengths)))
-      (take_whole (rows_of m.inputs) m.passed done)
+      (take_whole (all_records m.inputs) m.passed done)
 
   full_parts : Full before × (Full now × Full later)
   full_parts =
@@ -53,7 +53,7 @@ module _ (m : Merging) (ps : List Portion) (ok : IsMergingOf ps m) (full : Full 
   settled_live : live_records (settled m ps) ≡ records_of now
   settled_live =
       ap (selected (selected (lives_of m.inputs) (lives_of now))) kept_all
-      ∙ settle (lives_of m.inputs) (lives_of now) (rows_of m.inputs) (Reduced-lives m.inputs now ok.stand)
+      ∙ settle (lives_of m.inputs) (lives_of now) (all_records m.inputs) (Reduced-lives m.inputs now ok.stand)
       ∙ ap (selected (lives_of now)) (sym (Reduced-rows m.inputs now ok.stand))
       ∙ records-marked now full_parts.1.0
 
@@ -61,7 +61,7 @@ module _ (m : Merging) (ps : List Portion) (ok : IsMergingOf ps m) (full : Full 
   merged_live [] e = sym (sym settled_live ∙ ap (selected (settled m ps).live) e ∙ marked-none (settled m ps).live)
   merged_live (r ∷ rs) e = append-nil (live_records (settled m ps)) ∙ settled_live
 
-  merged_rows : (kept : List Record) → m.kept ≡ kept → rows_of (merged kept (settled m ps)) ≡ selected (lives_of m.inputs) (rows_of now)
+  merged_rows : (kept : List Record) → m.kept ≡ kept → all_records (merged kept (settled m ps)) ≡ selected (lives_of m.inputs) (all_records now)
   merged_rows [] e = sym (ap (selected (lives_of m.inputs)) (Reduced-rows m.inputs now ok.stand) ∙ sym kept_all ∙ e)
   merged_rows (r ∷ rs) e = append-nil m.kept ∙ kept_all ∙ ap (selected (lives_of m.inputs)) (sym (Reduced-rows m.inputs now ok.stand))
 
@@ -75,48 +75,48 @@ module _ (m : Merging) (ps : List Portion) (ok : IsMergingOf ps m) (full : Full 
       ∙ ap (λ l. records_of before ++ (l ++ records_of later)) (merged_live m.kept refl)
       ∙ sym (over live_records now) ∙ ap records_of (sym parts)
 
-  pub installed_rows : rows_of (installed m ps) ≡ rows_of before ++ (selected (lives_of m.inputs) (rows_of now) ++ rows_of later)
-  installed_rows = over (λ p. p.records) (merged m.kept (settled m ps)) ∙ ap (λ l. rows_of before ++ (l ++ rows_of later)) (merged_rows m.kept refl)
+  pub installed_rows : all_records (installed m ps) ≡ all_records before ++ (selected (lives_of m.inputs) (all_records now) ++ all_records later)
+  installed_rows = over (λ p. p.records) (merged m.kept (settled m ps)) ∙ ap (λ l. all_records before ++ (l ++ all_records later)) (merged_rows m.kept refl)
 
-  as_now : length (lives_of m.inputs) ≡ length (rows_of now)
+  as_now : length (lives_of m.inputs) ≡ length (all_records now)
   as_now = lives-length m.inputs ok.lengths ∙ ap length (sym (Reduced-rows m.inputs now ok.stand))
 
   -- with the records that wait
-  rows_with : (buffered : List Record) → rows_of ps ++ buffered ≡ rows_of before ++ (rows_of now ++ (rows_of later ++ buffered))
+  rows_with : (buffered : List Record) → all_records ps ++ buffered ≡ all_records before ++ (all_records now ++ (all_records later ++ buffered))
   rows_with buffered =
-      ap (λ l. l ++ buffered) (ap rows_of parts ∙ over (λ p. p.records) now)
-      ∙ append_assoc (rows_of before) (rows_of now ++ rows_of later) buffered
-      ∙ ap (λ l. rows_of before ++ l) (append_assoc (rows_of now) (rows_of later) buffered)
+      ap (λ l. l ++ buffered) (ap all_records parts ∙ over (λ p. p.records) now)
+      ∙ append_assoc (all_records before) (all_records now ++ all_records later) buffered
+      ∙ ap (λ l. all_records before ++ l) (append_assoc (all_records now) (all_records later) buffered)
 
-  thin_with : (buffered : List Record) → rows_of (installed m ps) ++ buffered ≡ rows_of before ++ (selected (lives_of m.inputs) (rows_of now) ++ (rows_of later ++ buffered))
+  thin_with : (buffered : List Record) → all_records (installed m ps) ++ buffered ≡ all_records before ++ (selected (lives_of m.inputs) (all_records now) ++ (all_records later ++ buffered))
   thin_with buffered =
       ap (λ l. l ++ buffered) installed_rows
-      ∙ append_assoc (rows_of before) (selected (lives_of m.inputs) (rows_of now) ++ rows_of later) buffered
-      ∙ ap (λ l. rows_of before ++ l) (append_assoc (selected (lives_of m.inputs) (rows_of now)) (rows_of later) buffered)
+      ∙ append_assoc (all_records before) (selected (lives_of m.inputs) (all_records now) ++ all_records later) buffered
+      ∙ ap (λ l. all_records before ++ l) (append_assoc (selected (lives_of m.inputs) (all_records now)) (all_records later) buffered)
 
-  pub installed_all : (P : Record → Type 0) (buffered : List Record) → AllByRecursion P (rows_of ps ++ buffered) → AllByRecursion P (rows_of (installed m ps) ++ buffered)
+  pub installed_all : (P : Record → Type 0) (buffered : List Record) → AllByRecursion P (all_records ps ++ buffered) → AllByRecursion P (all_records (installed m ps) ++ buffered)
   installed_all P buffered a = subst (AllByRecursion P) (sym (thin_with buffered))
-      (All-thinned P (rows_of before) (rows_of now) (rows_of later ++ buffered) (lives_of m.inputs) as_now (subst (AllByRecursion P) (rows_with buffered) a))
+      (All-thinned P (all_records before) (all_records now) (all_records later ++ buffered) (lives_of m.inputs) as_now (subst (AllByRecursion P) (rows_with buffered) a))
 
-  pub installed_apart : (R : Record → Record → Type 0) (buffered : List Record) → Apart R (rows_of ps ++ buffered) → Apart R (rows_of (installed m ps) ++ buffered)
+  pub installed_apart : (R : Record → Record → Type 0) (buffered : List Record) → Apart R (all_records ps ++ buffered) → Apart R (all_records (installed m ps) ++ buffered)
   installed_apart R buffered a = subst (Apart R) (sym (thin_with buffered))
-      (Apart-thinned R (rows_of before) (rows_of now) (rows_of later ++ buffered) (lives_of m.inputs) as_now (subst (Apart R) (rows_with buffered) a))
+      (Apart-thinned R (all_records before) (all_records now) (all_records later ++ buffered) (lives_of m.inputs) as_now (subst (Apart R) (rows_with buffered) a))
 
   -- the kept records may stand in one segment
   pub kept_apart : Apart (λ r s. r.item.id ≢ s.item.id) m.kept
   kept_apart = subst (Apart (λ r s. r.item.id ≢ s.item.id)) (sym (kept_all ∙ records-marked m.inputs ok.lengths)) ok.ids
 
-  kept_rising : (buffered : List Record) → Apart (λ r s. r.number < s.number) (rows_of ps ++ buffered) → Apart (λ r s. r.number < s.number) m.kept
+  kept_rising : (buffered : List Record) → Apart (λ r s. r.number < s.number) (all_records ps ++ buffered) → Apart (λ r s. r.number < s.number) m.kept
   kept_rising buffered a =
       let R : Record → Record → Type 0 = λ r s. r.number < s.number in
-      let one = Apart-split R (rows_of before) (rows_of now ++ (rows_of later ++ buffered)) (subst (Apart R) (rows_with buffered) a) in
-      let two = Apart-split R (rows_of now) (rows_of later ++ buffered) one.1 in
-      subst (Apart R) (sym (kept_all ∙ ap (selected (lives_of m.inputs)) (sym (Reduced-rows m.inputs now ok.stand)))) (Apart-marked R (lives_of m.inputs) (rows_of now) two.0)
+      let one = Apart-split R (all_records before) (all_records now ++ (all_records later ++ buffered)) (subst (Apart R) (rows_with buffered) a) in
+      let two = Apart-split R (all_records now) (all_records later ++ buffered) one.1 in
+      subst (Apart R) (sym (kept_all ∙ ap (selected (lives_of m.inputs)) (sym (Reduced-rows m.inputs now ok.stand)))) (Apart-marked R (lives_of m.inputs) (all_records now) two.0)
 
   -- the new segment is a portion, with a number of its own
   settled_full : length (settled m ps).live ≡ length m.kept
   settled_full =
-      marked-length (lives_of m.inputs) (lives_of now) (rows_of m.inputs) (sym (LessLive-length (lives_of m.inputs) (lives_of now) (Reduced-lives m.inputs now ok.stand)) ∙ lives-length m.inputs ok.lengths)
+      marked-length (lives_of m.inputs) (lives_of now) (all_records m.inputs) (sym (LessLive-length (lives_of m.inputs) (lives_of now) (Reduced-lives m.inputs now ok.stand)) ∙ lives-length m.inputs ok.lengths)
       ∙ ap length (sym kept_all)
 
   merged_each : (P : Portion → Type 0) (kept : List Record) → P (settled m ps) → AllByRecursion P (merged kept (settled m ps))
@@ -198,7 +198,7 @@ merges_change_no_state m l new ok call =
         portions = installed_portions m l.portions making full call.all ok.portions.numbers;
         views = ok.views;
         commits = ok.commits;
-        rows = installed_all m l.portions making full call.all (IsRow l.schema l.count) l.buffered ok.rows;
+        rows = installed_all m l.portions making full call.all (IsPutRecord l.schema l.count) l.buffered ok.rows;
         rising = installed_apart m l.portions making full call.all (λ r s. r.number < s.number) l.buffered ok.rising;
         ids = subst (λ rs. Apart (λ r s. r.item.id ≢ s.item.id) (rs ++ l.buffered)) (sym (installed_records m l.portions making full call.all)) ok.ids;
         sound = ok.sound;

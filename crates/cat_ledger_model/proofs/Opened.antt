@@ -4,33 +4,33 @@ use Rattle.std.specs.Prelude.{option_to_list}
 use Rattle.std.specs.List.{AllByRecursion}
 use Rattle.cat_model.specs.Item.{Record}
 use Rattle.cat_model.specs.State.{newest_of, commit_now, IsSound}
-use Rattle.cat_ledger_model.specs.Portions.{Portion, records_of, rows_of, Apart, IsMerging}
-use Rattle.cat_ledger_model.specs.Ledger.{Listed, IsRow, AreWhole, IsRecorded, IsWritten, IsAlone, state_of, table_of, view_shown, commit_shown}
-use Rattle.cat_ledger_model.specs.Files.{IsStored, IsCommitStored, IsMergeStored}
+use Rattle.cat_ledger_model.specs.Portions.{Portion, records_of, all_records, Apart, IsMerging}
+use Rattle.cat_ledger_model.specs.Ledger.{Listed, IsPutRecord, AreWhole, IsWholeView, IsWholeCommit, IsAlone, state_of, table_of, view_shown, commit_shown}
+use Rattle.cat_ledger_model.specs.Stored.{IsStored, IsCommitStored, IsMergeStored}
 use Rattle.cat_ledger_model.specs.Laws.{EmptyAreFresh, OpenedStore}
 use Rattle.cat_ledger_model.proofs.Alone.{nobody_alone}
 
 pub empty_are_fresh : EmptyAreFresh
-empty_are_fresh l its used fresh numbers fits =
-    let rows : rows_of l.portions ++ l.buffered ≡ [] = ap₂ (λ (a : List Portion) (b : List Record). rows_of a ++ b) its.portions its.buffered in
+empty_are_fresh l its told =
+    let rows : all_records l.portions ++ l.buffered ≡ [] = ap₂ (λ (a : List Portion) (b : List Record). all_records a ++ b) its.portions its.buffered in
     let table : table_of l ≡ [] = ap₂ (λ (a : List Portion) (b : List Record). records_of a ++ b) its.portions its.buffered in
     let whole : AreWhole l.schema l.count l.portions = subst (AreWhole l.schema l.count) (sym its.portions) (record { portions = record { lengths = tt; numbers = tt }; rows = tt; rising = tt; ids = tt }) in
     let one_view : map view_shown l.views ≡ record { token = l.count; table = table_of l } ∷ [] =
     ap (map view_shown) its.views ∙ (λ i. record { token = l.count; table = (ap records_of its.portions ∙ sym table) i } ∷ []) in (
       record {
         portions = whole.portions;
-        views = subst (AllByRecursion (IsRecorded l.schema l.count)) (sym its.views) ((omega arith, whole), tt);
-        commits = subst (AllByRecursion (IsWritten l.schema l.count)) (sym its.commits) tt;
-        rows = subst (AllByRecursion (IsRow l.schema l.count)) (sym rows) tt;
+        views = subst (AllByRecursion (IsWholeView l.schema l.count)) (sym its.views) ((omega arith, whole), tt);
+        commits = subst (AllByRecursion (IsWholeCommit l.schema l.count)) (sym its.commits) tt;
+        rows = subst (AllByRecursion (IsPutRecord l.schema l.count)) (sym rows) tt;
         rising = subst (Apart (λ r s. r.number < s.number)) (sym rows) tt;
         ids = subst (Apart (λ r s. r.item.id ≢ s.item.id)) (sym table) tt;
         sound = subst (λ vs. IsSound vs l.holds) (sym one_view) (subst (IsSound (record { token = l.count; table = table_of l } ∷ [])) (sym its.holds) (record { some_view = omega arith; held = λ t h. absurd (let no : false ≡ true = h in cc) }));
         merging = subst (IsMerging l.portions) (sym its.merging) tt;
         alone = subst (λ o. IsAlone o l.portions l.views l.commits) (sym its.merging) (nobody_alone l.portions l.views l.commits);
-        users = used;
-        fresh = fresh;
-        numbers = numbers;
-        fits = fits;
+        users = told.users;
+        fresh = told.fresh;
+        numbers = told.numbers;
+        fits = told.fits;
       },
       record {
         is_start = λ schema. record {

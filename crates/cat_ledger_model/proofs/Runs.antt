@@ -4,7 +4,7 @@ use Rattle.cat_model.specs.State.{Step}
 use Rattle.cat_model.proofs.States.{steps_keep_runs}
 use Rattle.cat_ledger_model.specs.Ledger.{state_of}
 use Rattle.cat_ledger_model.specs.Laws.{CallsKeepRuns}
-use Rattle.cat_ledger_model.proofs.Serves.{calls_are_steps}
+use Rattle.cat_ledger_model.proofs.Replies.{calls_are_steps}
 
 pub calls_keep_runs : CallsKeepRuns
 calls_keep_runs from run l new line r same is_run stands ok call =

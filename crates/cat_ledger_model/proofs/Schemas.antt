@@ -2,11 +2,11 @@
 use Rattle.std.proofs.Common.{◌≡◌, ℕ, Bool, true, false, cond, ◌∙◌, ap, inl, inr, length, ltb}
 use Rattle.std.specs.Prelude.{◌==◌, Ok, Err}
 use Rattle.cat_model.specs.Run.{Chore, News, Command, Answer, Reply}
-use Rattle.cat_model.specs.Limits.{last_number}
+use Rattle.cat_model.specs.Limits.{last_number, buffer_limit}
 use Rattle.cat_model.specs.State.{refuses_refresh, has_hold, snapshots_in}
 use Rattle.cat_ledger_model.specs.Ledger.{Ledger, state_of}
 use Rattle.cat_ledger_model.specs.Calls.{has_recorded, Flushes, Flushed, RecordsNow}
-use Rattle.cat_ledger_model.specs.Serves.{buffer_limit, Maintains, SnapsBy, Serves, IsLeft, FindsNone}
+use Rattle.cat_ledger_model.specs.Replies.{Maintains, SnapsBy, CarriesOut, IsLeft, FindsNone}
 use Rattle.cat_ledger_model.specs.Laws.{SchemasStay}
 
 same : (l new : Ledger) → new ≡ l → new.schema ≡ l.schema
@@ -44,7 +44,7 @@ module _ (l : Ledger) (s : ℕ) (r : Reply) (new : Ledger) where
   room_same true mid k = same l mid k
   room_same false mid k = ap (λ (x : Ledger). x.schema) k.rest
 
-  serves_same : (c : Command) → Serves l s c r new → new.schema ≡ l.schema
+  serves_same : (c : Command) → CarriesOut l s c r new → new.schema ≡ l.schema
   serves_same Command.formless m = same l new m.1
   serves_same (Command.put (Ok i)) m = by_bool (ltb l.count last_number) _ _ (λ x. ap (λ (y : Ledger). y.schema) x.4 ∙ room_same (ltb (length l.buffered) buffer_limit) x.0 x.1) (λ x. same l new x.1) m
   serves_same (Command.put (Err e)) m = same l new m.1
@@ -70,7 +70,7 @@ module _ (l : Ledger) (s : ℕ) (r : Reply) (new : Ledger) where
       ap (λ (x : Ledger). x.schema) h.rest.rest ∙ e ∙ f
 
   none_same : (c : Command) → FindsNone l c r new → new.schema ≡ l.schema
-  none_same Command.commit m = left_same m.2
+  none_same Command.commit m = same l new m.2
   none_same _ m = absurd m
 
 pub schemas_stay : SchemasStay

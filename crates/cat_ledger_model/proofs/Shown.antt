@@ -6,8 +6,8 @@ use Rattle.std.proofs.lemmas.List.Elements.{All-from_recursion}
 use Rattle.cat_model.specs.Item.{Schema, Record}
 use Rattle.cat_model.specs.View.{Row, row_of, Leaf, selected, live_rows}
 use Rattle.cat_model.proofs.Lists.{All-weaken, All-each}
-use Rattle.cat_ledger_model.specs.Portions.{Portion, live_records, records_of, rows_of, Apart, leaf_of}
-use Rattle.cat_ledger_model.specs.Ledger.{AreWhole, IsWritten, portions_in}
+use Rattle.cat_ledger_model.specs.Portions.{Portion, live_records, records_of, all_records, Apart, leaf_of}
+use Rattle.cat_ledger_model.specs.Ledger.{AreWhole, IsWholeCommit, portions_in}
 use Rattle.cat_ledger_model.specs.Laws.{WholeAreViews, KeptCommitsOpen}
 use Rattle.cat_ledger_model.proofs.Commits.{AllPairs-from_Apart, opened_are_fresh}
 
@@ -21,9 +21,9 @@ rows-shown : (schema : Schema) (ps : List Portion) → map row_of (records_of ps
 rows-shown schema [] = refl
 rows-shown schema (p ∷ ps) = map-append row_of (live_records p) (records_of ps) ∙ ap₂ (λ (a b : List Row). a ++ b) (marked-map row_of p.live p.records) (rows-shown schema ps)
 
-all-shown : (schema : Schema) (ps : List Portion) → map row_of (rows_of ps) ≡ flat_map (λ (leaf : Leaf). leaf.segment.rows) (map (leaf_of schema) ps)
+all-shown : (schema : Schema) (ps : List Portion) → map row_of (all_records ps) ≡ flat_map (λ (leaf : Leaf). leaf.segment.rows) (map (leaf_of schema) ps)
 all-shown schema [] = refl
-all-shown schema (p ∷ ps) = map-append row_of p.records (rows_of ps) ∙ ap (λ l. map row_of p.records ++ l) (all-shown schema ps)
+all-shown schema (p ∷ ps) = map-append row_of p.records (all_records ps) ∙ ap (λ l. map row_of p.records ++ l) (all-shown schema ps)
 
 All-map : {X Y : Type 0} (P : Y → Type 0) (f : X → Y) (xs : List X) → AllByRecursion (λ x. P (f x)) xs → AllByRecursion P (map f xs)
 All-map P f [] a = tt
@@ -44,13 +44,13 @@ whole_are_views schema token ps ok = (
     schemas = All-from_recursion (λ (leaf : Leaf). leaf.segment.schema ≡ schema) (map (leaf_of schema) ps) (All-map (λ (leaf : Leaf). leaf.segment.schema ≡ schema) (leaf_of schema) ps (All-each (λ p. schema ≡ schema) (λ p. refl) ps));
     live = All-from_recursion (λ (leaf : Leaf). length leaf.live ≡ length leaf.segment.rows) (map (leaf_of schema) ps)
         (All-map (λ (leaf : Leaf). length leaf.live ≡ length leaf.segment.rows) (leaf_of schema) ps (All-weaken (λ p. length p.live ≡ length p.records) (λ p. length p.live ≡ length (map row_of p.records)) (λ p e. e ∙ sym (length-rows p.records)) ps ok.portions.lengths));
-    rising = AllPairs-from_Apart (λ (a b : Row). a.number < b.number) _ (subst (Apart (λ (a b : Row). a.number < b.number)) (all-shown schema ps) (Apart-map (λ (a b : Row). a.number < b.number) row_of (rows_of ps) ok.rising));
+    rising = AllPairs-from_Apart (λ (a b : Row). a.number < b.number) _ (subst (Apart (λ (a b : Row). a.number < b.number)) (all-shown schema ps) (Apart-map (λ (a b : Row). a.number < b.number) row_of (all_records ps) ok.rising));
     distinct = AllPairs-from_Apart (λ (a b : Row). a.id ≢ b.id) _ (subst (Apart (λ (a b : Row). a.id ≢ b.id)) (rows-shown schema ps) (Apart-map (λ (a b : Row). a.id ≢ b.id) row_of (records_of ps) ok.ids));
   },
   rows-shown schema ps,
 )
 
 pub kept_commits_open : KeptCommitsOpen
-kept_commits_open l ok = All-weaken (IsWritten l.schema l.count) _ (λ c h opened same its used fresh numbers fits.
-    let k = opened_are_fresh c opened its (subst (λ schema. AreWhole schema c.token (portions_in c)) (sym same) h.1) used fresh numbers fits in
+kept_commits_open l ok = All-weaken (IsWholeCommit l.schema l.count) _ (λ c h opened same its told.
+    let k = opened_are_fresh c opened its (subst (λ schema. AreWhole schema c.token (portions_in c)) (sym same) h.1) told in
     (k.0, k.1, k.2, its.count)) l.commits ok.commits

@@ -6,14 +6,14 @@ use Rattle.cat_model.specs.Text.{Text}
 use Rattle.cat_model.specs.Item.{Record}
 use Rattle.cat_model.specs.View.{Leaf, row_of, sourced, selected}
 use Rattle.cat_ledger_model.specs.Portions.{records_of}
-use Rattle.cat_ledger_model.specs.Files.{sources_of, portion_in}
+use Rattle.cat_ledger_model.specs.Stored.{joined_sources, portion_in}
 use Rattle.cat_ledger_model.specs.Laws.{PortionsAreRead, ViewsAreRead}
 
-read_back : (rs : List Record) → sourced (map row_of rs) (sources_of rs) ≡ rs
+read_back : (rs : List Record) → sourced (map row_of rs) (joined_sources rs) ≡ rs
 read_back [] = refl
 read_back (r ∷ rs) =
-    let first : take (length r.item.source) (r.item.source ++ sources_of rs) ≡ r.item.source = take-append_seam r.item.source (sources_of rs) in
-    let rest : drop (length r.item.source) (r.item.source ++ sources_of rs) ≡ sources_of rs = drop-append_seam r.item.source (sources_of rs) in
+    let first : take (length r.item.source) (r.item.source ++ joined_sources rs) ≡ r.item.source = take-append_seam r.item.source (joined_sources rs) in
+    let rest : drop (length r.item.source) (r.item.source ++ joined_sources rs) ≡ joined_sources rs = drop-append_seam r.item.source (joined_sources rs) in
     let one : List Record → Text → List Record = λ l source. record { number = r.number; item = record { id = r.item.id; fields = r.item.fields; source = source } } ∷ l in
     ap₂ one (ap (sourced (map row_of rs)) rest ∙ read_back rs) first
 

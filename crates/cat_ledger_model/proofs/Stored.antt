@@ -9,9 +9,9 @@ use Rattle.cat_model.specs.Layout.{spelled_segment}
 use Rattle.cat_model.specs.LiveFile.{LiveRows, SpellsLive}
 use Rattle.cat_model.proofs.Lists.{All-weaken, All-both, All-kept}
 use Rattle.cat_ledger_model.specs.Portions.{Portion, all_live, portions_after, segment_of, Merging, settled, merged}
-use Rattle.cat_ledger_model.specs.Users.{same_name, has_name, times}
-use Rattle.cat_ledger_model.specs.Ledger.{Ledger, Recorded, Listed, Written, IsLedger, names_used, names_of_portion, names_of_view, names_of_listed, name_of_live, names_of_commit, names_of_merging, IsPast, IsNew, IsOther, IsAlone}
-use Rattle.cat_ledger_model.specs.Files.{Files, sources_of, IsStored, IsLiveStored, HasLive, IsCommitStored, IsMergeStored, AreStored, Spares, Leaves}
+use Rattle.cat_ledger_model.specs.Users.{same_file_name, has_name, times}
+use Rattle.cat_ledger_model.specs.Ledger.{Ledger, RecordedView, Listed, LedgerCommit, IsLedger, names_used, names_of_portion, names_of_view, names_of_listed, name_of_live, names_of_commit, names_of_merging, IsPast, IsNew, IsOther, IsAlone}
+use Rattle.cat_ledger_model.specs.Stored.{FileBytes, joined_sources, IsStored, IsLiveStored, HasLive, IsCommitStored, IsMergeStored, AreStored, Spares, ChangesOnly}
 use Rattle.cat_ledger_model.specs.Calls.{all_alive, same_live, file_in, file_for, listed_in, newest_listed, commit_of, view_now, files_begun}
 use Rattle.cat_ledger_model.specs.Laws.{FilesStay, WritesStore, FlushesStore, RecordsStore, PrunesStore, CommitsStore, UnsnapsStore, BegunStore, CopiesStore, MergesStore, EndsStore, RefusalsStore, SweepsSpare}
 use Rattle.cat_ledger_model.proofs.Users.{All-split, times-append, Four, All-four}
@@ -19,7 +19,7 @@ use Rattle.cat_ledger_model.proofs.Merges.{three}
 
 -- ---- files that stay
 
-module _ (fs gs : Files) where
+module _ (fs gs : FileBytes) where
   Same : Name → Type 0
   Same q = gs q ≡ fs q
 
@@ -30,7 +30,7 @@ module _ (fs gs : Files) where
   portions_stay schema [] s a = tt
   portions_stay schema (p ∷ ps) s a = (stored_stay schema p (s.0, (s.1.0, tt)) a.0, portions_stay schema ps s.1.1 a.1)
 
-  views_stay : (schema : Schema) (vs : List Recorded) → Spares (flat_map names_of_view vs) fs gs → AllByRecursion (λ v. AllByRecursion (IsStored fs schema) v.portions) vs → AllByRecursion (λ v. AllByRecursion (IsStored gs schema) v.portions) vs
+  views_stay : (schema : Schema) (vs : List RecordedView) → Spares (flat_map names_of_view vs) fs gs → AllByRecursion (λ v. AllByRecursion (IsStored fs schema) v.portions) vs → AllByRecursion (λ v. AllByRecursion (IsStored gs schema) v.portions) vs
   views_stay schema [] s a = tt
   views_stay schema (v ∷ vs) s a =
       let r = All-split (λ q. gs q ≡ fs q) (names_of_view v) (flat_map names_of_view vs) s in
@@ -51,7 +51,7 @@ module _ (fs gs : Files) where
       s_rest : Spares (names_of_listed x ++ flat_map names_of_listed xs) fs gs → Spares (name_of_live x.portion.number x.file ++ flat_map names_of_listed xs) fs gs
       s_rest s = s.1.1
 
-  commits_stay : (schema : Schema) (cs : List Written) → Spares (flat_map names_of_commit cs) fs gs → AllByRecursion (IsCommitStored fs schema) cs → AllByRecursion (IsCommitStored gs schema) cs
+  commits_stay : (schema : Schema) (cs : List LedgerCommit) → Spares (flat_map names_of_commit cs) fs gs → AllByRecursion (IsCommitStored fs schema) cs → AllByRecursion (IsCommitStored gs schema) cs
   commits_stay schema [] s a = tt
   commits_stay schema (c ∷ cs) s a =
       let r = All-split (λ q. gs q ≡ fs q) (names_of_commit c) (flat_map names_of_commit cs) s in
@@ -121,10 +121,10 @@ new_commit n g ps (Name.source m) p = new_live n g ps (Name.source m) p
 new_commit n g ps (Name.live m d) p = new_live n g ps (Name.live m d) p
 new_commit n g ps (Name.commit d) p = rw (less_differs d g p) (new_live n g ps (Name.commit d) p)
 
-spared : (P : Name → Type 0) (but names : List Name) (fs gs : Files) → Leaves but fs gs → ((q : Name) → P q → has_name q but ≡ false) → AllByRecursion P names → Spares names fs gs
+spared : (P : Name → Type 0) (but names : List Name) (fs gs : FileBytes) → ChangesOnly but fs gs → ((q : Name) → P q → has_name q but ≡ false) → AllByRecursion P names → Spares names fs gs
 spared P but names fs gs leaves new a = All-weaken P (λ q. gs q ≡ fs q) (λ q p. leaves q (new q p)) names a
 
-past_new : (n g : ℕ) (q b : Name) → IsPast n g q → IsNew n g b → same_name q b ≡ false
+past_new : (n g : ℕ) (q b : Name) → IsPast n g q → IsNew n g b → same_file_name q b ≡ false
 past_new n g (Name.segment m) (Name.segment k) p h = less_differs m k (omega (arith, p, h))
 past_new n g (Name.source m) (Name.source k) p h = less_differs m k (omega (arith, p, h))
 past_new n g (Name.live m d) (Name.live k e) p h = let less : d < e = (let d_low : d < g = p.1 in omega (arith, h)) in ap (λ b. (m == k) && b) (less_differs d e less) ∙ and_no (m == k)
@@ -195,12 +195,12 @@ unsnaps_store g l new fs ok call = subst (AreStored fs) (sym call.rest) (record 
 })
 
 pub begun_store : BegunStore
-begun_store place k l new fs gs sound ok call leaves there =
+begun_store index k l new fs gs sound ok call leaves there =
     let stays : AreStored gs l = files_stay l fs gs ok (spared (IsPast l.next_segment l.next_generation) (Name.source l.next_segment ∷ []) (names_used l) fs gs leaves (new_source l.next_segment l.next_generation) sound.fresh) in
     subst (AreStored gs) (sym call.rest) (record { portions = stays.portions; views = stays.views; commits = stays.commits; merging = there })
 
 -- what stays where only files of the merge in the making change
-module _ (m : Merging) (l : Ledger) (fs gs : Files) (but : List Name) (sound : IsLedger l) (ok : AreStored fs l) (making : l.merging ≡ Some m) (leaves : Leaves but fs gs) (new : (q : Name) → IsOther m.number q → has_name q but ≡ false) where
+module _ (m : Merging) (l : Ledger) (fs gs : FileBytes) (but : List Name) (sound : IsLedger l) (ok : AreStored fs l) (making : l.merging ≡ Some m) (leaves : ChangesOnly but fs gs) (new : (q : Name) → IsOther m.number q → has_name q but ≡ false) where
   alone : IsAlone (Some m) l.portions l.views l.commits
   alone = subst (λ o. IsAlone o l.portions l.views l.commits) making sound.alone
 
@@ -246,14 +246,14 @@ pub merges_store : MergesStore
 merges_store m l new fs gs sound ok call leaves there =
     let but : List Name = Name.segment m.number ∷ [] in
     let k : ℕ = length m.inputs in
-    let kept : fs (Name.source m.number) ≡ Some (sources_of m.kept) = subst (IsMergeStored fs) call.making ok.merging in
-    let source : gs (Name.source m.number) ≡ Some (sources_of m.kept) = leaves (Name.source m.number) refl ∙ kept in
+    let kept : fs (Name.source m.number) ≡ Some (joined_sources m.kept) = subst (IsMergeStored fs) call.making ok.merging in
+    let source : gs (Name.source m.number) ≡ Some (joined_sources m.kept) = leaves (Name.source m.number) refl ∙ kept in
     let P : Portion → Type 0 = IsStored gs l.schema in
     let all : AllByRecursion P l.portions = others_portions m l fs gs but sound ok call.making leaves (other_segment m.number) in
-    let one = All-split P (take m.place l.portions) _ (subst (AllByRecursion P) (three l.portions m.place k) all) in
-    let two = All-split P (take k (drop m.place l.portions)) (drop (m.place + k) l.portions) one.1 in
+    let one = All-split P (take m.index l.portions) _ (subst (AllByRecursion P) (three l.portions m.index k) all) in
+    let two = All-split P (take k (drop m.index l.portions)) (drop (m.index + k) l.portions) one.1 in
     subst (AreStored gs) (sym call.rest) (record {
-      portions = All-both P (take m.place l.portions) _ one.0 (All-both P (merged m.kept (settled m l.portions)) (drop (m.place + k) l.portions) (mid m.kept (λ s. record { segment = s; source = source }) there) two.1);
+      portions = All-both P (take m.index l.portions) _ one.0 (All-both P (merged m.kept (settled m l.portions)) (drop (m.index + k) l.portions) (mid m.kept (λ s. record { segment = s; source = source }) there) two.1);
       views = others_views m l fs gs but sound ok call.making leaves (other_segment m.number);
       commits = others_commits m l fs gs but sound ok call.making leaves (other_segment m.number);
       merging = tt;
@@ -289,7 +289,7 @@ same_live_is (b ∷ bs) (c ∷ cs) e = let k = and_both (cond b c (not c)) (same
 same_number : (a b : ℕ) → (a == b) ≡ true → a ≡ b
 same_number a b e = elim (eqb_tells a b) [ inl h ↦ h.1 | inr h ↦ absurd (let no : false ≡ true = sym h.0 ∙ e in cc) ]
 
-module _ (gs : Files) (p : Portion) where
+module _ (gs : FileBytes) (p : Portion) where
   stored_at : Listed → Type 0
   stored_at x = IsLiveStored gs x
 
@@ -324,7 +324,7 @@ module _ (gs : Files) (p : Portion) where
       by false e true k h = has_own (h refl)
       by false e false k h = subst (λ c. cond c (AllByRecursion (λ b. b ≡ true) p.live) (IsLiveStored gs (record { portion = p; file = file_in xs p }))) (sym k) (found xs a k)
 
-newest_live : (gs : Files) (schema : Schema) (o : Option Written) (cs : List Written) → AllByRecursion (HasLive gs) (listed_in o) → AllByRecursion (IsCommitStored gs schema) cs → AllByRecursion (HasLive gs) (listed_in (last_or o cs))
+newest_live : (gs : FileBytes) (schema : Schema) (o : Option LedgerCommit) (cs : List LedgerCommit) → AllByRecursion (HasLive gs) (listed_in o) → AllByRecursion (IsCommitStored gs schema) cs → AllByRecursion (HasLive gs) (listed_in (last_or o cs))
 newest_live gs schema o [] h a = h
 newest_live gs schema o (c ∷ cs) h a = newest_live gs schema (Some c) cs a.0.live a.1
 
@@ -353,7 +353,7 @@ commits_store l new fs gs sound ok call leaves there own =
 
 -- ---- sweeps
 
-same_self : (q : Name) → same_name q q ≡ true
+same_self : (q : Name) → same_file_name q q ≡ true
 same_self (Name.segment n) = grind (arith, nat_tests)
 same_self (Name.source n) = grind (arith, nat_tests)
 same_self (Name.live n d) = let a : (n == n) ≡ true = grind (arith, nat_tests) in let b : (d == d) ≡ true = grind (arith, nat_tests) in rw (a, b) refl

@@ -6,7 +6,7 @@ use Rattle.std.proofs.lemmas.Grind.{flat_map-append}
 use Rattle.cat_model.specs.Files.{Name}
 use Rattle.cat_model.proofs.Lists.{All-both}
 use Rattle.cat_ledger_model.specs.Portions.{Apart}
-use Rattle.cat_ledger_model.specs.Users.{Used, same_name, times, Changes, AreUsed}
+use Rattle.cat_ledger_model.specs.Users.{Used, same_file_name, times, Changes, AreUsed}
 
 pub All-split : {X : Type 0} (P : X → Type 0) (xs ys : List X) → AllByRecursion P (xs ++ ys) → AllByRecursion P xs × AllByRecursion P ys
 All-split P [] ys a = (tt, a)
@@ -28,7 +28,7 @@ All-flat P f [] a = tt
 All-flat P f (x ∷ xs) a = All-both P (f x) (flat_map f xs) a.0 (All-flat P f xs a.1)
 
 pub times-append : (q : Name) (xs ys : List Name) → times q (xs ++ ys) ≡ times q xs + times q ys
-times-append q xs ys = sum_by-append (λ n. cond (same_name q n) 1 0) xs ys
+times-append q xs ys = sum_by-append (λ n. cond (same_file_name q n) 1 0) xs ys
 
 pub times-flat : {X : Type 0} (q : Name) (f : X → List Name) (xs ys : List X) → times q (flat_map f (xs ++ ys)) ≡ times q (flat_map f xs) + times q (flat_map f ys)
 times-flat q f xs ys = ap (times q) (flat_map-append f xs ys) ∙ times-append q (flat_map f xs) (flat_map f ys)

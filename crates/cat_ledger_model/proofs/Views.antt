@@ -11,9 +11,9 @@ use Rattle.cat_model.specs.Limits.{view_limit}
 use Rattle.cat_model.specs.State.{RecordedTable, Hold, tokens, has_view, held_in, views_without_least_free, views_recorded, views_pruned, refreshed, IsSound}
 use Rattle.cat_model.proofs.Lists.{filter_alike, All-both, All-each, All-kept, list_any-append}
 use Rattle.cat_model.proofs.Runs.{pruned_has, has_some}
-use Rattle.cat_ledger_model.specs.Portions.{records_of, rows_of, Apart}
+use Rattle.cat_ledger_model.specs.Portions.{records_of, all_records, Apart}
 use Rattle.cat_ledger_model.specs.Users.{times}
-use Rattle.cat_ledger_model.specs.Ledger.{Ledger, Recorded, IsRow, AreWhole, IsLedger, IsRecorded, state_of, table_of, names_used, names_of_portion, names_of_view, names_of_commit, names_of_merging, IsPast, NotOf, view_shown, commit_shown}
+use Rattle.cat_ledger_model.specs.Ledger.{Ledger, RecordedView, IsPutRecord, AreWhole, IsLedger, IsWholeView, state_of, table_of, names_used, names_of_portion, names_of_view, names_of_commit, names_of_merging, IsPast, NotOf, view_shown, commit_shown}
 use Rattle.cat_ledger_model.specs.Calls.{tokens_in, has_recorded, stays_full, stays_pruned, stays_recorded, views_that, views_not, view_now, RecordsNow}
 use Rattle.cat_ledger_model.specs.Laws.{ViewsAreRecorded, ViewsArePruned}
 use Rattle.cat_ledger_model.proofs.Users.{All-split, All-flat, times-append, times-flat, times-four, Four, All-four, All-of_four, recounted}
@@ -59,14 +59,14 @@ All-flat_kept P f p xs a = All-flat P f (filter p xs) (All-kept (λ x. AllByRecu
 
 -- ---- views as they show
 
-pub has-shown : (vs : List Recorded) (t : ℕ) → has_view (map view_shown vs) t ≡ has_recorded vs t
+pub has-shown : (vs : List RecordedView) (t : ℕ) → has_view (map view_shown vs) t ≡ has_recorded vs t
 has-shown vs t = any-map view_shown (λ v. v.token == t) vs
 
-pub tokens-shown : (vs : List Recorded) → tokens (map view_shown vs) ≡ tokens_in vs
+pub tokens-shown : (vs : List RecordedView) → tokens (map view_shown vs) ≡ tokens_in vs
 tokens-shown [] = refl
 tokens-shown (v ∷ vs) = ap (λ ts. v.token ∷ ts) (tokens-shown vs)
 
-stays_at : (stays : ℕ → Bool) (vs : List Recorded) (t : ℕ) → stays t ≡ true → has_recorded vs t ≡ true → has_recorded (views_that stays vs) t ≡ true
+stays_at : (stays : ℕ → Bool) (vs : List RecordedView) (t : ℕ) → stays t ≡ true → has_recorded vs t ≡ true → has_recorded (views_that stays vs) t ≡ true
 stays_at stays [] t k h = h
 stays_at stays (v ∷ vs) t k h = elim (eqb_tells v.token t) [
   | inl e ↦ let yes : stays v.token ≡ true = ap stays e.1 ∙ k in rw (yes, e.0) refl
@@ -83,7 +83,7 @@ or_left true b e = refl
 or_left false b e = absurd (let no : false ≡ true = e in cc)
 
 -- what is held keeps its view
-held_stay : (stays : ℕ → Bool) (vs : List Recorded) (hs : List Hold) → IsSound (map view_shown vs) hs → ((t : ℕ) → held_in hs t ≡ true → stays t ≡ true) → (t : ℕ) → held_in hs t ≡ true → has_recorded (views_that stays vs) t ≡ true
+held_stay : (stays : ℕ → Bool) (vs : List RecordedView) (hs : List Hold) → IsSound (map view_shown vs) hs → ((t : ℕ) → held_in hs t ≡ true → stays t ≡ true) → (t : ℕ) → held_in hs t ≡ true → has_recorded (views_that stays vs) t ≡ true
 held_stay stays vs hs ok f t h = stays_at stays vs t (f t h) (sym (has-shown vs t) ∙ ok.held t h)
 
 -- ---- a view of now
@@ -91,22 +91,22 @@ held_stay stays vs hs ok f t h = stays_at stays vs t (f t h) (sym (has-shown vs 
 -- where nothing waits, the list is a table at the number of writes
 pub whole_now : (l : Ledger) → IsLedger l → l.buffered ≡ [] → AreWhole l.schema l.count l.portions
 whole_now l ok empty =
-    let rows : rows_of l.portions ++ l.buffered ≡ rows_of l.portions = ap (λ rs. rows_of l.portions ++ rs) empty ∙ append-nil (rows_of l.portions) in
+    let rows : all_records l.portions ++ l.buffered ≡ all_records l.portions = ap (λ rs. all_records l.portions ++ rs) empty ∙ append-nil (all_records l.portions) in
     let table : table_of l ≡ records_of l.portions = ap (λ rs. records_of l.portions ++ rs) empty ∙ append-nil (records_of l.portions) in
     record {
       portions = ok.portions;
-      rows = subst (AllByRecursion (IsRow l.schema l.count)) rows ok.rows;
+      rows = subst (AllByRecursion (IsPutRecord l.schema l.count)) rows ok.rows;
       rising = subst (Apart (λ r s. r.number < s.number)) rows ok.rising;
       ids = subst (Apart (λ r s. r.item.id ≢ s.item.id)) table ok.ids;
     }
 
-full_shown : (held : ℕ → Bool) (vs : List Recorded) → views_without_least_free held (map view_shown vs) ≡ map view_shown (filter (λ v. stays_full held (tokens_in vs) v.token) vs)
+full_shown : (held : ℕ → Bool) (vs : List RecordedView) → views_without_least_free held (map view_shown vs) ≡ map view_shown (filter (λ v. stays_full held (tokens_in vs) v.token) vs)
 full_shown held vs =
     filter_alike _ (λ (v : RecordedTable). stays_full held (tokens_in vs) v.token) (map view_shown vs)
-    (All-each _ (λ (v : RecordedTable). ap (λ b. held v.token || b) (any-map view_shown (λ u. not (held u.token) && ltb u.token v.token) vs ∙ sym (any-map (λ (u : Recorded). u.token) (λ u. not (held u) && ltb u v.token) vs))) _)
+    (All-each _ (λ (v : RecordedTable). ap (λ b. held v.token || b) (any-map view_shown (λ u. not (held u.token) && ltb u.token v.token) vs ∙ sym (any-map (λ (u : RecordedView). u.token) (λ u. not (held u) && ltb u v.token) vs))) _)
     ∙ sym (map-filter view_shown (λ (v : RecordedTable). stays_full held (tokens_in vs) v.token) vs)
 
-recorded_room : (held : ℕ → Bool) (vs : List Recorded) (b : Bool) → map view_shown (filter (λ v. b || stays_full held (tokens_in vs) v.token) vs) ≡ cond b (map view_shown vs) (views_without_least_free held (map view_shown vs))
+recorded_room : (held : ℕ → Bool) (vs : List RecordedView) (b : Bool) → map view_shown (filter (λ v. b || stays_full held (tokens_in vs) v.token) vs) ≡ cond b (map view_shown vs) (views_without_least_free held (map view_shown vs))
 recorded_room held vs true = ap (map view_shown) (filter-true vs)
 recorded_room held vs false = sym (full_shown held vs)
 
@@ -115,7 +115,7 @@ recorded_shown : (l : Ledger) → has_recorded l.views l.count ≡ false
 recorded_shown l none =
     let held : ℕ → Bool = held_in l.holds in
     let vs : List RecordedTable = map view_shown l.views in
-    let few : ltb (length (tokens_in l.views)) view_limit ≡ ltb (length vs) view_limit = ap (λ n. ltb n view_limit) (length-map (λ (v : Recorded). v.token) l.views ∙ sym (length-map view_shown l.views)) in
+    let few : ltb (length (tokens_in l.views)) view_limit ≡ ltb (length vs) view_limit = ap (λ n. ltb n view_limit) (length-map (λ (v : RecordedView). v.token) l.views ∙ sym (length-map view_shown l.views)) in
     map-append view_shown (views_that (stays_recorded held (tokens_in l.views)) l.views) (view_now l ∷ [])
     ∙ ap (λ us. us ++ view_shown (view_now l) ∷ []) (recorded_room held l.views (ltb (length (tokens_in l.views)) view_limit) ∙ ap (λ b. cond b vs (views_without_least_free held vs)) few)
     ∙ sym (ap (λ b. cond b vs (cond (ltb (length vs) view_limit) vs (views_without_least_free held vs) ++ view_shown (view_now l) ∷ [])) (has-shown l.views l.count ∙ none))
@@ -129,7 +129,7 @@ records_now : (l new : Ledger) → IsLedger l → l.buffered ≡ [] → has_reco
 records_now l new ok empty none call =
     let P : Name → Type 0 = IsPast l.next_segment l.next_generation in
     let stays : ℕ → Bool = stays_recorded (held_in l.holds) (tokens_in l.views) in
-    let vs : List Recorded = views_that stays l.views ++ view_now l ∷ [] in
+    let vs : List RecordedView = views_that stays l.views ++ view_now l ∷ [] in
     let portions : List Name = flat_map names_of_portion l.portions in
     let commits : List Name = flat_map names_of_commit l.commits in
     let making : List Name = names_of_merging l.merging in
@@ -148,7 +148,7 @@ records_now l new ok empty none call =
     recorded_shown l none ∙ ap (λ rs. views_recorded (held_in l.holds) (map view_shown l.views) (record { token = l.count; table = rs })) (sym table) in (
       subst IsLedger (sym call.rest) (record {
         portions = ok.portions;
-        views = All-both (IsRecorded l.schema l.count) (views_that stays l.views) (view_now l ∷ []) (All-kept (IsRecorded l.schema l.count) _ l.views ok.views) ((omega arith, whole_now l ok empty), tt);
+        views = All-both (IsWholeView l.schema l.count) (views_that stays l.views) (view_now l ∷ []) (All-kept (IsWholeView l.schema l.count) _ l.views ok.views) ((omega arith, whole_now l ok empty), tt);
         commits = ok.commits;
         rows = ok.rows;
         rising = ok.rising;
@@ -190,22 +190,22 @@ views_are_recorded l new ok empty call = by (has_recorded l.views l.count) refl 
 
 -- ---- PRUNE
 
-pub pruned_shown : (held : ℕ → Bool) (n : ℕ) (vs : List Recorded) → map view_shown (views_that (stays_pruned held n (tokens_in vs)) vs) ≡ views_pruned held n (map view_shown vs)
+pub pruned_shown : (held : ℕ → Bool) (n : ℕ) (vs : List RecordedView) → map view_shown (views_that (stays_pruned held n (tokens_in vs)) vs) ≡ views_pruned held n (map view_shown vs)
 pruned_shown held n vs =
     map-filter view_shown (λ (v : RecordedTable). stays_pruned held n (tokens_in vs) v.token) vs
     ∙ ap (λ ts. filter (λ (v : RecordedTable). stays_pruned held n ts v.token) (map view_shown vs)) (sym (tokens-shown vs))
 
-some_stays : (held : ℕ → Bool) (n : ℕ) (vs : List Recorded) → 0 < length vs → 0 < length (views_that (stays_pruned held n (tokens_in vs)) vs)
+some_stays : (held : ℕ → Bool) (n : ℕ) (vs : List RecordedView) → 0 < length vs → 0 < length (views_that (stays_pruned held n (tokens_in vs)) vs)
 some_stays held n vs h =
-    let same : tokens_in (views_that (stays_pruned held n (tokens_in vs)) vs) ≡ pruned held n (tokens_in vs) = map-filter (λ (v : Recorded). v.token) (stays_pruned held n (tokens_in vs)) vs in
-    let some : 0 < length (pruned held n (tokens_in vs)) = has_some _ (greatest (tokens_in vs)) (pruned_has held n (tokens_in vs) (omega (arith, h, length-map (λ (v : Recorded). v.token) vs))) in
-    omega (arith, some, ap length same, length-map (λ (v : Recorded). v.token) (views_that (stays_pruned held n (tokens_in vs)) vs))
+    let same : tokens_in (views_that (stays_pruned held n (tokens_in vs)) vs) ≡ pruned held n (tokens_in vs) = map-filter (λ (v : RecordedView). v.token) (stays_pruned held n (tokens_in vs)) vs in
+    let some : 0 < length (pruned held n (tokens_in vs)) = has_some _ (greatest (tokens_in vs)) (pruned_has held n (tokens_in vs) (omega (arith, h, length-map (λ (v : RecordedView). v.token) vs))) in
+    omega (arith, some, ap length same, length-map (λ (v : RecordedView). v.token) (views_that (stays_pruned held n (tokens_in vs)) vs))
 
 pub views_are_pruned : ViewsArePruned
 views_are_pruned n l new ok call =
     let P : Name → Type 0 = IsPast l.next_segment l.next_generation in
     let stays : ℕ → Bool = stays_pruned (held_in l.holds) n (tokens_in l.views) in
-    let vs : List Recorded = views_that stays l.views in
+    let vs : List RecordedView = views_that stays l.views in
     let portions : List Name = flat_map names_of_portion l.portions in
     let commits : List Name = flat_map names_of_commit l.commits in
     let making : List Name = names_of_merging l.merging in
@@ -219,7 +219,7 @@ views_are_pruned n l new ok call =
     ) in (
       subst IsLedger (sym call.rest) (record {
         portions = ok.portions;
-        views = All-kept (IsRecorded l.schema l.count) _ l.views ok.views;
+        views = All-kept (IsWholeView l.schema l.count) _ l.views ok.views;
         commits = ok.commits;
         rows = ok.rows;
         rising = ok.rising;

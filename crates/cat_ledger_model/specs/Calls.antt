@@ -1,14 +1,15 @@
--- What each call makes of the ledger.
+-- What each call makes of the ledger. Not to be believed: the laws tie it to the state of the service, and by it the calls in
+-- code are proved.
 use Rattle.std.specs.Prelude.{◌≡◌, ◌⊎◌, ℕ, ◌+◌, ◌-◌, ◌<◌, ◌≤◌, max, min, not, ◌&&◌, ◌||◌, ◌==◌, ltb, Bool, true, false, List, [], ◌∷◌, ◌++◌, length, map, filter, take, drop, count_by, cond, Option, Some, None}
 use Rattle.std.specs.List.{flat_map, list_any, list_all, last_or}
 use Rattle.cat_model.specs.Write.{Write}
 use Rattle.cat_model.specs.Table.{without, put_last}
-use Rattle.cat_model.specs.Limits.{view_limit, last_number}
+use Rattle.cat_model.specs.Limits.{view_limit, step_limit, last_number}
 use Rattle.cat_model.specs.Files.{Name}
 use Rattle.cat_model.specs.State.{Taken, held_in, snapshots_in, newest_of, is_newest}
-use Rattle.cat_ledger_model.specs.Portions.{Portion, rows_of, all_live, portions_after, Merging, kept_by, window_now, settled, merged, installed}
+use Rattle.cat_ledger_model.specs.Portions.{Portion, all_records, all_live, portions_after, Merging, kept_by, window_now, settled, merged, installed}
 use Rattle.cat_ledger_model.specs.Users.{users_of, is_known, has_name, Changes}
-use Rattle.cat_ledger_model.specs.Ledger.{Recorded, Listed, Written, Ledger, portions_in, commit_shown, names_of_portion, names_of_view, names_of_commit}
+use Rattle.cat_ledger_model.specs.Ledger.{RecordedView, Listed, LedgerCommit, Ledger, portions_in, commit_shown, names_of_portion, names_of_view, names_of_commit}
 
 -- ---- PUT and DEL, and the flush
 
@@ -28,10 +29,10 @@ Flushes l new = ((l.buffered ≡ []) × (new ≡ l)) ⊎ Flushed l new
 
 -- ---- REFRESH and PRUNE
 
-abbrev pub tokens_in : List Recorded → List ℕ
+abbrev pub tokens_in : List RecordedView → List ℕ
 tokens_in vs = map (λ v. v.token) vs
 
-abbrev pub has_recorded : List Recorded → ℕ → Bool
+abbrev pub has_recorded : List RecordedView → ℕ → Bool
 has_recorded vs t = list_any (λ v. v.token == t) vs
 
 -- a view stays where it is held, or another one that is not held has a lesser token
@@ -46,14 +47,14 @@ stays_pruned held n ts t = held t || ltb (count_by (λ u. ltb t u) ts) (max n 1)
 abbrev pub stays_recorded : (ℕ → Bool) → List ℕ → ℕ → Bool
 stays_recorded held ts t = ltb (length ts) view_limit || stays_full held ts t
 
-abbrev pub views_that : (ℕ → Bool) → List Recorded → List Recorded
+abbrev pub views_that : (ℕ → Bool) → List RecordedView → List RecordedView
 views_that stays vs = filter (λ v. stays v.token) vs
 
-abbrev pub views_not : (ℕ → Bool) → List Recorded → List Recorded
+abbrev pub views_not : (ℕ → Bool) → List RecordedView → List RecordedView
 views_not stays vs = filter (λ v. not (stays v.token)) vs
 
 -- the view of now
-abbrev pub view_now : Ledger → Recorded
+abbrev pub view_now : Ledger → RecordedView
 view_now l = record { token = l.count; portions = l.portions }
 
 -- after a flush, a view of now is recorded where none stands: its names are taken, those of the one that goes are given
@@ -61,8 +62,8 @@ pub record RecordsNow (l new : Ledger) : Type 0 where
   pub users : Changes (names_of_view (view_now l)) (flat_map names_of_view (views_not (stays_recorded (held_in l.holds) (tokens_in l.views)) l.views)) l.users new.users
   pub rest : new ≡ record l { views = views_that (stays_recorded (held_in l.holds) (tokens_in l.views)) l.views ++ view_now l ∷ []; users = new.users }
 
-abbrev pub Records : Ledger → Ledger → Type 0
-Records l new = cond (has_recorded l.views l.count) (new ≡ l) (RecordsNow l new)
+abbrev pub RecordsView : Ledger → Ledger → Type 0
+RecordsView l new = cond (has_recorded l.views l.count) (new ≡ l) (RecordsNow l new)
 
 pub record Pruned (n : ℕ) (l new : Ledger) : Type 0 where
   pub users : Changes [] (flat_map names_of_view (views_not (stays_pruned (held_in l.holds) n (tokens_in l.views)) l.views)) l.users new.users
@@ -70,28 +71,28 @@ pub record Pruned (n : ℕ) (l new : Ledger) : Type 0 where
 
 -- ---- a merge
 
--- a merge of k portions from a place on is begun
-pub record Begun (place k : ℕ) (l new : Ledger) : Type 0 where
+-- a merge of k portions from the one of this index on is begun
+pub record Begun (index k : ℕ) (l new : Ledger) : Type 0 where
   pub idle : l.merging ≡ None
   pub left : l.next_segment ≤ last_number
   pub some : 0 < k
-  pub within : place + k ≤ length l.portions
+  pub within : index + k ≤ length l.portions
   pub users : Changes (Name.source l.next_segment ∷ []) [] l.users new.users
-  pub rest : new ≡ record l { merging = Some (record { number = l.next_segment; place = place; inputs = take k (drop place l.portions); passed = 0; kept = [] }); users = new.users; next_segment = l.next_segment + 1 }
+  pub rest : new ≡ record l { merging = Some (record { number = l.next_segment; index = index; inputs = take k (drop index l.portions); passed = 0; kept = [] }); users = new.users; next_segment = l.next_segment + 1 }
 
--- with 256 records more passed, or all
+-- with as many records more passed as one step passes, or all
 abbrev pub passed_on : Merging → Merging
-passed_on m = record m { passed = m.passed + min 256 (length (rows_of m.inputs) - m.passed); kept = kept_by m.inputs (m.passed + min 256 (length (rows_of m.inputs) - m.passed)) }
+passed_on m = record m { passed = m.passed + min step_limit (length (all_records m.inputs) - m.passed); kept = kept_by m.inputs (m.passed + min step_limit (length (all_records m.inputs) - m.passed)) }
 
 pub record Copied (m : Merging) (l new : Ledger) : Type 0 where
   pub making : l.merging ≡ Some m
-  pub left : m.passed < length (rows_of m.inputs)
+  pub left : m.passed < length (all_records m.inputs)
   pub rest : new ≡ record l { merging = Some (passed_on m) }
 
 -- the new segment stands in the place of the inputs
 pub record Installed (m : Merging) (l new : Ledger) : Type 0 where
   pub making : l.merging ≡ Some m
-  pub all : m.passed ≡ length (rows_of m.inputs)
+  pub all : m.passed ≡ length (all_records m.inputs)
   pub users : Changes (flat_map names_of_portion (merged m.kept (settled m l.portions))) (flat_map names_of_portion (window_now m l.portions) ++ Name.source m.number ∷ []) l.users new.users
   pub rest : new ≡ record l { portions = installed m l.portions; merging = None; users = new.users }
 
@@ -116,29 +117,29 @@ all_alive live = list_all (λ b. b) live
 abbrev pub file_for : List Listed → ℕ → Portion → ℕ
 file_for xs g p = cond (all_alive p.live) 0 (cond (file_in xs p == 0) g (file_in xs p))
 
-abbrev pub listed_in : Option Written → List Listed
+abbrev pub listed_in : Option LedgerCommit → List Listed
 listed_in None = []
 listed_in (Some c) = c.listed
 
 -- what the newest commit lists
-abbrev pub newest_listed : List Written → List Listed
+abbrev pub newest_listed : List LedgerCommit → List Listed
 newest_listed cs = listed_in (last_or None cs)
 
 -- the commit of now, after a flush
-abbrev pub commit_of : Ledger → Written
+abbrev pub commit_of : Ledger → LedgerCommit
 commit_of l = record { generation = l.next_generation; token = l.count; next = l.next_segment; listed = map (λ p. record { portion = p; file = file_for (newest_listed l.commits) l.next_generation p }) l.portions }
 
 -- a commit stays that is the newest or has a snapshot
 abbrev pub stays_kept : List Taken → Option ℕ → ℕ → Bool
 stays_kept taken newest g = is_newest newest g || ltb 0 (snapshots_in taken g)
 
-abbrev pub commits_that : (ℕ → Bool) → List Written → List Written
+abbrev pub commits_that : (ℕ → Bool) → List LedgerCommit → List LedgerCommit
 commits_that stays cs = filter (λ c. stays c.generation) cs
 
-abbrev pub commits_not : (ℕ → Bool) → List Written → List Written
+abbrev pub commits_not : (ℕ → Bool) → List LedgerCommit → List LedgerCommit
 commits_not stays cs = filter (λ c. not (stays c.generation)) cs
 
-abbrev pub newest_in : List Written → Option ℕ
+abbrev pub newest_in : List LedgerCommit → Option ℕ
 newest_in cs = newest_of (map commit_shown cs)
 
 pub record Committed (l new : Ledger) : Type 0 where
@@ -163,9 +164,9 @@ files_begun l = Name.commit l.next_generation ∷ map (λ (p : Portion). Name.li
 
 -- ---- sweeps and refusals
 
--- A sweep asks for no more than a refusal: each name keeps its users, and names that nobody has are known or forgotten.
--- what a refusal may leave: names that were begun are known and have no users, numbers that were taken stay taken, and nothing else changed
-pub record Refused (begun : List Name) (l new : Ledger) : Type 0 where
+-- What a refusal may leave: names that were begun are known and have no users, numbers that were taken stay taken, and
+-- nothing else changed. A sweep asks for no more: each name keeps its users, and names that nobody has are known or forgotten.
+pub record MayLeave (begun : List Name) (l new : Ledger) : Type 0 where
   pub known : (q : Name) → has_name q begun ≡ true → is_known new.users q ≡ true
   pub users : (q : Name) → users_of new.users q ≡ users_of l.users q
   pub segments : l.next_segment ≤ new.next_segment
@@ -182,7 +183,7 @@ pub record Ended (m : Merging) (l new : Ledger) : Type 0 where
 -- ---- opening
 
 -- a ledger that was opened at this commit
-pub record IsOpened (c : Written) (l : Ledger) : Type 0 where
+pub record IsOpened (c : LedgerCommit) (l : Ledger) : Type 0 where
   pub portions : l.portions ≡ portions_in c
   pub buffered : l.buffered ≡ []
   pub count : l.count ≡ c.token

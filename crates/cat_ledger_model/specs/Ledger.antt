@@ -1,15 +1,16 @@
--- The ledger: the one state of the catalogue (IndexWriter with its deleter and its snapshots, SearcherLifetimeManager).
+-- The ledger: the one state of the catalogue (IndexWriter with its deleter and its snapshots, SearcherLifetimeManager). Not to
+-- be believed, but to prove by: the laws tie it to the state of the service (`state_of`), and that to runs.
 use Rattle.std.specs.Prelude.{◌≢◌, ℕ, ◌+◌, ◌<◌, ◌≤◌, ◌==◌, List, [], ◌∷◌, ◌++◌, map, cond, Option, Some, None}
 use Rattle.std.specs.List.{flat_map, AllByRecursion}
 use Rattle.cat_model.specs.Item.{Schema, Record, IsItem}
 use Rattle.cat_model.specs.Files.{Name}
 use Rattle.cat_model.specs.Limits.{last_number}
 use Rattle.cat_model.specs.State.{RecordedTable, Hold, Commit, Taken, State, IsSound}
-use Rattle.cat_ledger_model.specs.Portions.{Portion, records_of, rows_of, Apart, ArePortions, Merging, IsMerging}
+use Rattle.cat_ledger_model.specs.Portions.{Portion, records_of, all_records, Apart, ArePortions, Merging, IsMerging}
 use Rattle.cat_ledger_model.specs.Users.{Used, AreUsed}
 
 -- a recorded view: the portions under its token
-pub record Recorded : Type 0 where
+pub record RecordedView : Type 0 where
   pub token : ℕ
   pub portions : List Portion
 
@@ -19,7 +20,7 @@ pub record Listed : Type 0 where
   pub file : ℕ
 
 -- a commit: its generation, its token, the next segment number that it tells, and its portions
-pub record Written : Type 0 where
+pub record LedgerCommit : Type 0 where
   pub generation : ℕ
   pub token : ℕ
   pub next : ℕ
@@ -33,9 +34,9 @@ pub record Ledger : Type 0 where
   pub portions : List Portion
   pub buffered : List Record
   pub count : ℕ
-  pub views : List Recorded
+  pub views : List RecordedView
   pub holds : List Hold
-  pub commits : List Written
+  pub commits : List LedgerCommit
   pub taken : List Taken
   pub merging : Option Merging
   pub users : List Used
@@ -49,13 +50,15 @@ abbrev pub table_of : Ledger → List Record
 table_of l = records_of l.portions ++ l.buffered
 
 -- the portions of a commit
-abbrev pub portions_in : Written → List Portion
+abbrev pub portions_in : LedgerCommit → List Portion
 portions_in c = map (λ x. x.portion) c.listed
 
-abbrev pub view_shown : Recorded → RecordedTable
+-- what is recorded under the token: the table of the portions
+abbrev pub view_shown : RecordedView → RecordedTable
 view_shown v = record { token = v.token; table = records_of v.portions }
 
-abbrev pub commit_shown : Written → Commit
+-- what is committed: likewise
+abbrev pub commit_shown : LedgerCommit → Commit
 commit_shown c = record { generation = c.generation; token = c.token; table = records_of (portions_in c) }
 
 -- the state that the ledger carries: segments, live sets, merges, numbers and users of names are in none of it
@@ -64,19 +67,22 @@ state_of l = record { table = table_of l; count = l.count; views = map view_show
 
 -- ---- the users of names
 
+-- the names of a portion's files: its segment, its sources
 abbrev pub names_of_portion : Portion → List Name
 names_of_portion p = Name.segment p.number ∷ Name.source p.number ∷ []
 
-abbrev pub names_of_view : Recorded → List Name
+-- the names that a view uses, each as often as it has it, and so on for the other users
+abbrev pub names_of_view : RecordedView → List Name
 names_of_view v = flat_map names_of_portion v.portions
 
+-- the name of the live file of this generation, and none where that is 0
 abbrev pub name_of_live : ℕ → ℕ → List Name
 name_of_live n d = cond (d == 0) [] (Name.live n d ∷ [])
 
 abbrev pub names_of_listed : Listed → List Name
 names_of_listed x = names_of_portion x.portion ++ name_of_live x.portion.number x.file
 
-abbrev pub names_of_commit : Written → List Name
+abbrev pub names_of_commit : LedgerCommit → List Name
 names_of_commit c = Name.commit c.generation ∷ flat_map names_of_listed c.listed
 
 abbrev pub names_of_merging : Option Merging → List Name
@@ -120,13 +126,13 @@ NotOf None q = Unit {0}
 NotOf (Some m) q = IsOther m.number q
 
 -- the merge in the making has a number that no portion, view or commit has
-pub record IsAlone (o : Option Merging) (ps : List Portion) (vs : List Recorded) (cs : List Written) : Type 0 where
+pub record IsAlone (o : Option Merging) (ps : List Portion) (vs : List RecordedView) (cs : List LedgerCommit) : Type 0 where
   pub portions : AllByRecursion (NotOf o) (flat_map names_of_portion ps)
   pub views : AllByRecursion (NotOf o) (flat_map names_of_view vs)
   pub commits : AllByRecursion (NotOf o) (flat_map names_of_commit cs)
 
 -- the record was put by one of the writes, and its item has the fields
-pub record IsRow (schema : Schema) (count : ℕ) (r : Record) : Type 0 where
+pub record IsPutRecord (schema : Schema) (count : ℕ) (r : Record) : Type 0 where
   pub positive : 1 ≤ r.number
   pub seen : r.number ≤ count
   pub item : IsItem schema r.item
@@ -135,30 +141,31 @@ pub record IsRow (schema : Schema) (count : ℕ) (r : Record) : Type 0 where
 -- records, dead ones too, and the ids of the live ones differ.
 pub record AreWhole (schema : Schema) (count : ℕ) (ps : List Portion) : Type 0 where
   pub portions : ArePortions ps
-  pub rows : AllByRecursion (IsRow schema count) (rows_of ps)
-  pub rising : Apart (λ r s. r.number < s.number) (rows_of ps)
+  pub rows : AllByRecursion (IsPutRecord schema count) (all_records ps)
+  pub rising : Apart (λ r s. r.number < s.number) (all_records ps)
   pub ids : Apart (λ r s. r.item.id ≢ s.item.id) (records_of ps)
 
 -- a recorded view is whole at its token, which the number of writes has reached
-abbrev pub IsRecorded : Schema → ℕ → Recorded → Type 0
-IsRecorded schema count v = (v.token ≤ count) × AreWhole schema v.token v.portions
+abbrev pub IsWholeView : Schema → ℕ → RecordedView → Type 0
+IsWholeView schema count v = (v.token ≤ count) × AreWhole schema v.token v.portions
 
 -- so is a commit
-abbrev pub IsWritten : Schema → ℕ → Written → Type 0
-IsWritten schema count c = (c.token ≤ count) × AreWhole schema c.token (portions_in c)
+abbrev pub IsWholeCommit : Schema → ℕ → LedgerCommit → Type 0
+IsWholeCommit schema count c = (c.token ≤ count) × AreWhole schema c.token (portions_in c)
 
 -- the number of writes, and the numbers of segments and of commits that were taken, are at most the last number
-abbrev pub Fits : ℕ → ℕ → ℕ → Type 0
-Fits count segment generation = (count ≤ last_number) × (segment ≤ last_number + 1) × (generation ≤ last_number + 1)
+abbrev pub FitNumbers : ℕ → ℕ → ℕ → Type 0
+FitNumbers count segment generation = (count ≤ last_number) × (segment ≤ last_number + 1) × (generation ≤ last_number + 1)
 
+-- what holds of the ledger between two calls
 pub record IsLedger (l : Ledger) : Type 0 where
   -- the current list is one of portions; each view and each commit is a table at its token
   pub portions : ArePortions l.portions
-  pub views : AllByRecursion (IsRecorded l.schema l.count) l.views
-  pub commits : AllByRecursion (IsWritten l.schema l.count) l.commits
+  pub views : AllByRecursion (IsWholeView l.schema l.count) l.views
+  pub commits : AllByRecursion (IsWholeCommit l.schema l.count) l.commits
   -- each record was put by a write so far and has the fields; numbers rise over all records, dead ones too
-  pub rows : AllByRecursion (IsRow l.schema l.count) (rows_of l.portions ++ l.buffered)
-  pub rising : Apart (λ r s. r.number < s.number) (rows_of l.portions ++ l.buffered)
+  pub rows : AllByRecursion (IsPutRecord l.schema l.count) (all_records l.portions ++ l.buffered)
+  pub rising : Apart (λ r s. r.number < s.number) (all_records l.portions ++ l.buffered)
   -- the ids of the table differ
   pub ids : Apart (λ r s. r.item.id ≢ s.item.id) (table_of l)
   -- some view stands, and each held token has one
@@ -173,4 +180,4 @@ pub record IsLedger (l : Ledger) : Type 0 where
   pub fresh : AllByRecursion (IsPast l.next_segment l.next_generation) (names_used l)
   pub numbers : (0 < l.next_segment) × (0 < l.next_generation)
   -- every number that was taken fits a file
-  pub fits : Fits l.count l.next_segment l.next_generation
+  pub fits : FitNumbers l.count l.next_segment l.next_generation

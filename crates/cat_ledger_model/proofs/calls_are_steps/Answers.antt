@@ -1,4 +1,4 @@
-use Rattle.cat_ledger_model.proofs.Serves.{calls_are_steps}
+use Rattle.cat_ledger_model.proofs.Replies.{calls_are_steps}
 use Rattle.cat_ledger_model.proofs.calls_are_steps.Goals as goal
 
 pub returns : goal.returns

@@ -1,4 +1,5 @@
--- The files that the ledger needs, and what stands in them.
+-- The files that the ledger needs, and what stands in them. Of this the bytes of a commit's file are a definition to believe
+-- (`spelled_commit`), as those of segments and live sets are; the rest is there to prove by.
 use Rattle.std.specs.Prelude.{◌≡◌, ℕ, ◌==◌, true, false, List, ◌∷◌, ◌++◌, length, codes, cond, Option, Some, None}
 use Rattle.std.specs.List.{flat_map, AllByRecursion}
 use Rattle.cat_base.specs.Bytes.{spelled_u32, spelled_u64}
@@ -10,64 +11,66 @@ use Rattle.cat_model.specs.LiveFile.{SpellsLive}
 use Rattle.cat_model.specs.View.{Leaf, sourced}
 use Rattle.cat_ledger_model.specs.Portions.{Portion, segment_of, Merging}
 use Rattle.cat_ledger_model.specs.Users.{has_name}
-use Rattle.cat_ledger_model.specs.Ledger.{Listed, Written, Ledger}
+use Rattle.cat_ledger_model.specs.Ledger.{Listed, LedgerCommit, Ledger}
 
 -- what a directory tells that tells all its files: the bytes of each name, or that it is absent
-abbrev pub Files : Type 0
-Files = Name → Option Text
+abbrev pub FileBytes : Type 0
+FileBytes = Name → Option Text
 
 -- the sources of records, one after the other
-abbrev pub sources_of : List Record → Text
-sources_of rs = flat_map (λ r. r.item.source) rs
+abbrev pub joined_sources : List Record → Text
+joined_sources rs = flat_map (λ r. r.item.source) rs
 
--- the magic word, the version 1, the generation, the token, the next segment number, the fields, the number of segments, and
--- the numbers of each and of its live file
+-- the number of a portion's segment, and the generation of its live file
 abbrev pub spelled_listed : Listed → Text
 spelled_listed x = spelled_u64 x.portion.number ++ spelled_u64 x.file
 
-abbrev pub spelled_commit : Schema → Written → Text
+-- the magic word, the version 1, the generation, the token, the next segment number, the fields, the number of portions, and
+-- each of them
+abbrev pub spelled_commit : Schema → LedgerCommit → Text
 spelled_commit schema c =
     codes "CSGM" ++ (1 ∷ (spelled_u64 c.generation ++ (spelled_u64 c.token ++ (spelled_u64 c.next ++ (spelled_fields schema ++ (spelled_u32 (length c.listed) ++ flat_map spelled_listed c.listed))))))
 
 -- a portion's segment and sources stand in their files
-pub record IsStored (files : Files) (schema : Schema) (p : Portion) : Type 0 where
+pub record IsStored (files : FileBytes) (schema : Schema) (p : Portion) : Type 0 where
   pub segment : files (Name.segment p.number) ≡ Some (spelled_segment (segment_of schema p))
-  pub source : files (Name.source p.number) ≡ Some (sources_of p.records)
+  pub source : files (Name.source p.number) ≡ Some (joined_sources p.records)
 
 -- the live set stands in the file of this generation, or all is live where there is none
-pub record IsLiveStored (files : Files) (x : Listed) : Type 0 where
+pub record IsLiveStored (files : FileBytes) (x : Listed) : Type 0 where
   pub bytes : Text
   pub there : files (Name.live x.portion.number x.file) ≡ Some bytes
   pub spelled : SpellsLive bytes (record { number = x.portion.number; generation = x.file; live = x.portion.live })
 
-abbrev pub HasLive : Files → Listed → Type 0
+-- the live set of a portion of a commit stands in its file, if it has one
+abbrev pub HasLive : FileBytes → Listed → Type 0
 HasLive files x = cond (x.file == 0) (AllByRecursion (λ b. b ≡ true) x.portion.live) (IsLiveStored files x)
 
 -- a commit's file, and those of its portions and live sets, stand
-pub record IsCommitStored (files : Files) (schema : Schema) (c : Written) : Type 0 where
+pub record IsCommitStored (files : FileBytes) (schema : Schema) (c : LedgerCommit) : Type 0 where
   pub commit : files (Name.commit c.generation) ≡ Some (spelled_commit schema c)
   pub portions : AllByRecursion (λ x. IsStored files schema x.portion) c.listed
   pub live : AllByRecursion (HasLive files) c.listed
 
 -- the sources of the kept records stand in the file that the merge began
-abbrev pub IsMergeStored : Files → Option Merging → Type 0
+abbrev pub IsMergeStored : FileBytes → Option Merging → Type 0
 IsMergeStored files None = Unit {0}
-IsMergeStored files (Some m) = files (Name.source m.number) ≡ Some (sources_of m.kept)
+IsMergeStored files (Some m) = files (Name.source m.number) ≡ Some (joined_sources m.kept)
 
 -- every file that is needed is there with its bytes
-pub record AreStored (files : Files) (l : Ledger) : Type 0 where
+pub record AreStored (files : FileBytes) (l : Ledger) : Type 0 where
   pub portions : AllByRecursion (IsStored files l.schema) l.portions
   pub views : AllByRecursion (λ v. AllByRecursion (IsStored files l.schema) v.portions) l.views
   pub commits : AllByRecursion (IsCommitStored files l.schema) l.commits
   pub merging : IsMergeStored files l.merging
 
 -- these names' files stay as they are
-abbrev pub Spares : List Name → Files → Files → Type 0
+abbrev pub Spares : List Name → FileBytes → FileBytes → Type 0
 Spares names old new = AllByRecursion (λ q. new q ≡ old q) names
 
 -- all files stay as they are but those of these names
-abbrev pub Leaves : List Name → Files → Files → Type 0
-Leaves names old new = (q : Name) → has_name q names ≡ false → new q ≡ old q
+abbrev pub ChangesOnly : List Name → FileBytes → FileBytes → Type 0
+ChangesOnly names old new = (q : Name) → has_name q names ≡ false → new q ≡ old q
 
 -- a portion as the memory and the sources' files hold it together: the rows of a leaf, each with its source
 abbrev pub portion_in : (ℕ → Text) → Leaf → Portion

@@ -8,13 +8,13 @@ use Rattle.cat_model.specs.Text.{Text}
 use Rattle.cat_model.specs.Item.{Item, IsItem}
 use Rattle.cat_model.specs.Write.{Write}
 use Rattle.cat_model.specs.Run.{Chore, News, Command, Answer, Reply, greatest, may_tell, has}
-use Rattle.cat_model.specs.Limits.{last_number}
+use Rattle.cat_model.specs.Limits.{last_number, buffer_limit}
 use Rattle.cat_model.specs.State.{State, RecordedTable, Hold, tokens, has_view, has_hold, held_in, snapshots_in, newest_of, is_below, refuses_refresh, refreshed, views_pruned, written, with_hold, without_hold, committed, GivesSnapshot, Snapped, Moves, Halts, IsSound}
 use Rattle.cat_model.proofs.Lists.{list_any-append}
 use Rattle.cat_model.proofs.Runs.{greatest_in, or_true}
-use Rattle.cat_ledger_model.specs.Ledger.{Ledger, Recorded, IsLedger, state_of, view_shown}
-use Rattle.cat_ledger_model.specs.Calls.{tokens_in, has_recorded, wrote, Flushes, Flushed, Records, Pruned, views_that, stays_pruned, Committed, Unsnapped}
-use Rattle.cat_ledger_model.specs.Serves.{buffer_limit, MakesRoom, Maintains, SnapsBy, Serves, IsLeft, FindsNone}
+use Rattle.cat_ledger_model.specs.Ledger.{Ledger, RecordedView, IsLedger, state_of, view_shown}
+use Rattle.cat_ledger_model.specs.Calls.{tokens_in, has_recorded, wrote, Flushes, Flushed, RecordsView, Pruned, views_that, stays_pruned, Committed, Unsnapped}
+use Rattle.cat_ledger_model.specs.Replies.{MakesRoom, Maintains, SnapsBy, CarriesOut, IsLeft, FindsNone}
 use Rattle.cat_ledger_model.specs.Laws.{CallsAreSteps}
 use Rattle.cat_ledger_model.proofs.Flushes.{flushed, flushes_change_no_state, writes_are_written}
 use Rattle.cat_ledger_model.proofs.Merges.{merges_change_no_state}
@@ -58,7 +58,7 @@ newest_there : (l : Ledger) → IsLedger l → has_view (state_of l).views (grea
 newest_there l ok =
     let vs : List RecordedTable = map view_shown l.views in
     sym (has-tokens vs (greatest (tokens_in l.views))) ∙ ap (λ ts. has ts (greatest (tokens_in l.views))) (tokens-shown l.views)
-    ∙ greatest_in (tokens_in l.views) (omega (arith, length-map (λ (v : Recorded). v.token) l.views, length-map view_shown l.views, ok.sound.some_view))
+    ∙ greatest_in (tokens_in l.views) (omega (arith, length-map (λ (v : RecordedView). v.token) l.views, length-map view_shown l.views, ok.sound.some_view))
 
 below_less : (o : Option ℕ) (g h : ℕ) → is_below o g ≡ true → g ≤ h → is_below o h ≡ true
 below_less None g h e k = refl
@@ -98,7 +98,7 @@ module _ (l : Ledger) (s : ℕ) (r : Reply) (new : Ledger) (ok : IsLedger l) whe
   delete_by id true h m = let w = writes_are_written l (Write.delete id) ok (ltb-true l.count last_number h) tt in (subst IsLedger (sym m.1) w.0, m.0, ap state_of m.1 ∙ w.1)
   delete_by id false h m = let k = stays m.1 in (k.0, m.0, k.1)
 
-  refresh_by : (b : Bool) → cond b ((r ≡ Err Full) × (new ≡ l)) ((mid : Ledger) × Flushes l mid × Records mid new × (r ≡ Ok (Answer.number l.count)))
+  refresh_by : (b : Bool) → cond b ((r ≡ Err Full) × (new ≡ l)) ((mid : Ledger) × Flushes l mid × RecordsView mid new × (r ≡ Ok (Answer.number l.count)))
       → IsLedger new × (r ≡ cond b (Err Full) (Ok (Answer.number l.count))) × (state_of new ≡ cond b (state_of l) (refreshed (state_of l)))
   refresh_by true m = let k = stays m.1 in (k.0, m.0, k.1)
   refresh_by false (mid, f, rec, e) =
@@ -164,7 +164,7 @@ module _ (l : Ledger) (s : ℕ) (r : Reply) (new : Ledger) (ok : IsLedger l) whe
       ap (λ (x : Ledger). length x.views) call.rest ∙ sym (length-map view_shown (views_that (stays_pruned (held_in l.holds) n (tokens_in l.views)) l.views)) ∙ ap length (pruned_shown (held_in l.holds) n l.views) in
       (k.0, (e ∙ ap₂ (λ (a b : ℕ). Ok (Answer.number (a - b))) (sym (length-map view_shown l.views)) gone, k.1))
 
-  serves : (c : Command) → Serves l s c r new → IsLedger new × Moves l.schema (state_of l) s c r (state_of new)
+  serves : (c : Command) → CarriesOut l s c r new → IsLedger new × Moves l.schema (state_of l) s c r (state_of new)
   serves Command.formless m = let k = stays m.1 in (k.0, (m.0, k.1))
   serves (Command.put (Ok i)) m = let k = put_by i (ltb l.count last_number) refl m in (k.0, (k.1, k.2))
   serves (Command.put (Err e)) m = let k = stays m.1 in (k.0, (m.0, k.1))
@@ -223,7 +223,7 @@ module _ (l : Ledger) (s : ℕ) (r : Reply) (new : Ledger) (ok : IsLedger l) whe
   spent_by false e told' same = inl (subst (λ b. cond b ((g : ℕ) × (r ≡ Ok (Answer.number g)) × (0 < g) × (g ≤ last_number) × IsTrue (is_below (newest_of (state_of l).commits) g) × (state_of new ≡ committed (state_of l) g)) ((r ≡ Err Spent) × (state_of new ≡ state_of l))) (sym e) (told', same))
 
   finds_none : (c : Command) → FindsNone l c r new → IsLedger new × Stepped c
-  finds_none Command.commit m = let k = left l s r new ok m.2 in (k.0, spent_by (is_below (newest_of (state_of l).commits) last_number) refl m.0 k.1)
+  finds_none Command.commit m = (subst IsLedger (sym m.2) ok, spent_by (is_below (newest_of (state_of l).commits) last_number) refl m.0 (ap state_of m.2))
   finds_none _ m = absurd m
 
 pub calls_are_steps : CallsAreSteps
