@@ -15,13 +15,15 @@ use Rattle.cat_ledger_model.specs.Ledger.{RecordedView, Listed, LedgerCommit, Le
 
 -- with one write more
 abbrev pub wrote : Ledger → Write → Ledger
-wrote l w = record l { portions = portions_after w l.portions; buffered = put_last (without l.buffered w) (l.count + 1) w; count = l.count + 1 }
+wrote l w =
+    record l { portions = portions_after w l.portions; buffered = put_last (without l.buffered w) (l.count + 1) w; count = l.count + 1 }
 
 -- the records that wait are a new segment
 pub record Flushed (l new : Ledger) : Type 0 where
   pub left : l.next_segment ≤ last_number
   pub users : Changes (names_of_portion (all_live l.next_segment l.buffered)) [] l.users new.users
-  pub rest : new ≡ record l { portions = l.portions ++ all_live l.next_segment l.buffered ∷ []; buffered = []; users = new.users; next_segment = l.next_segment + 1 }
+  pub rest : new
+      ≡ record l { portions = l.portions ++ all_live l.next_segment l.buffered ∷ []; buffered = []; users = new.users; next_segment = l.next_segment + 1 }
 
 -- where none wait, nothing changes
 abbrev pub Flushes : Ledger → Ledger → Type 0
@@ -60,14 +62,16 @@ view_now l = record { token = l.count; portions = l.portions }
 -- after a flush, a view of now is recorded where none stands: its names are taken, those of the one that goes are given
 pub record RecordsNow (l new : Ledger) : Type 0 where
   pub users : Changes (names_of_view (view_now l)) (flat_map names_of_view (views_not (stays_recorded (held_in l.holds) (tokens_in l.views)) l.views)) l.users new.users
-  pub rest : new ≡ record l { views = views_that (stays_recorded (held_in l.holds) (tokens_in l.views)) l.views ++ view_now l ∷ []; users = new.users }
+  pub rest : new
+      ≡ record l { views = views_that (stays_recorded (held_in l.holds) (tokens_in l.views)) l.views ++ view_now l ∷ []; users = new.users }
 
 abbrev pub RecordsView : Ledger → Ledger → Type 0
 RecordsView l new = cond (has_recorded l.views l.count) (new ≡ l) (RecordsNow l new)
 
 pub record Pruned (n : ℕ) (l new : Ledger) : Type 0 where
   pub users : Changes [] (flat_map names_of_view (views_not (stays_pruned (held_in l.holds) n (tokens_in l.views)) l.views)) l.users new.users
-  pub rest : new ≡ record l { views = views_that (stays_pruned (held_in l.holds) n (tokens_in l.views)) l.views; users = new.users }
+  pub rest : new
+      ≡ record l { views = views_that (stays_pruned (held_in l.holds) n (tokens_in l.views)) l.views; users = new.users }
 
 -- ---- a merge
 
@@ -78,11 +82,13 @@ pub record Begun (index k : ℕ) (l new : Ledger) : Type 0 where
   pub some : 0 < k
   pub within : index + k ≤ length l.portions
   pub users : Changes (Name.source l.next_segment ∷ []) [] l.users new.users
-  pub rest : new ≡ record l { merging = Some (record { number = l.next_segment; index = index; inputs = take k (drop index l.portions); passed = 0; kept = [] }); users = new.users; next_segment = l.next_segment + 1 }
+  pub rest : new
+      ≡ record l { merging = Some (record { number = l.next_segment; index = index; inputs = take k (drop index l.portions); passed = 0; kept = [] }); users = new.users; next_segment = l.next_segment + 1 }
 
 -- with as many records more passed as one step passes, or all
 abbrev pub passed_on : Merging → Merging
-passed_on m = record m { passed = m.passed + min step_limit (length (all_records m.inputs) - m.passed); kept = kept_by m.inputs (m.passed + min step_limit (length (all_records m.inputs) - m.passed)) }
+passed_on m =
+    record m { passed = m.passed + min step_limit (length (all_records m.inputs) - m.passed); kept = kept_by m.inputs (m.passed + min step_limit (length (all_records m.inputs) - m.passed)) }
 
 pub record Copied (m : Merging) (l new : Ledger) : Type 0 where
   pub making : l.merging ≡ Some m
@@ -127,7 +133,8 @@ newest_listed cs = listed_in (last_or None cs)
 
 -- the commit of now, after a flush
 abbrev pub commit_of : Ledger → LedgerCommit
-commit_of l = record { generation = l.next_generation; token = l.count; next = l.next_segment; listed = map (λ p. record { portion = p; file = file_for (newest_listed l.commits) l.next_generation p }) l.portions }
+commit_of l =
+    record { generation = l.next_generation; token = l.count; next = l.next_segment; listed = map (λ p. record { portion = p; file = file_for (newest_listed l.commits) l.next_generation p }) l.portions }
 
 -- a commit stays that is the newest or has a snapshot
 abbrev pub stays_kept : List Taken → Option ℕ → ℕ → Bool
@@ -145,7 +152,8 @@ newest_in cs = newest_of (map commit_shown cs)
 pub record Committed (l new : Ledger) : Type 0 where
   pub left : l.next_generation ≤ last_number
   pub users : Changes (names_of_commit (commit_of l)) (flat_map names_of_commit (commits_not (stays_kept l.taken (Some l.next_generation)) l.commits)) l.users new.users
-  pub rest : new ≡ record l { commits = commits_that (stays_kept l.taken (Some l.next_generation)) l.commits ++ commit_of l ∷ []; users = new.users; next_generation = l.next_generation + 1 }
+  pub rest : new
+      ≡ record l { commits = commits_that (stays_kept l.taken (Some l.next_generation)) l.commits ++ commit_of l ∷ []; users = new.users; next_generation = l.next_generation + 1 }
 
 pub record Snaps (g : ℕ) (l new : Ledger) : Type 0 where
   pub newest : newest_in l.commits ≡ Some g
@@ -156,7 +164,8 @@ pub record Unsnapped (g : ℕ) (l new : Ledger) : Type 0 where
   pub some : 0 < snapshots_in l.taken g
   pub taken : (h : ℕ) → snapshots_in new.taken h ≡ snapshots_in l.taken h - cond (h == g) 1 0
   pub users : Changes [] (flat_map names_of_commit (commits_not (stays_kept new.taken (newest_in l.commits)) l.commits)) l.users new.users
-  pub rest : new ≡ record l { taken = new.taken; commits = commits_that (stays_kept new.taken (newest_in l.commits)) l.commits; users = new.users }
+  pub rest : new
+      ≡ record l { taken = new.taken; commits = commits_that (stays_kept new.taken (newest_in l.commits)) l.commits; users = new.users }
 
 -- the files that a commit may begin
 abbrev pub files_begun : Ledger → List Name

@@ -25,7 +25,8 @@ MergesChangeNoState = (m : Merging) (l new : Ledger) → IsLedger l → Installe
 
 -- A flush leaves the ledger sound, its state as it was, and nothing that waits.
 abbrev pub FlushesChangeNoState : Type 0
-FlushesChangeNoState = (l new : Ledger) → IsLedger l → Flushes l new → IsLedger new × (state_of new ≡ state_of l) × (new.buffered ≡ [])
+FlushesChangeNoState =
+    (l new : Ledger) → IsLedger l → Flushes l new → IsLedger new × (state_of new ≡ state_of l) × (new.buffered ≡ [])
 
 -- the item that a write puts, if it puts one, has the fields of the schema
 abbrev pub PutsItem : Schema → Write → Type 0
@@ -34,11 +35,15 @@ PutsItem schema (Write.delete id) = Unit {0}
 
 -- A write leaves the ledger sound, and its state is the one with that write.
 abbrev pub WritesAreWritten : Type 0
-WritesAreWritten = (l : Ledger) (w : Write) → IsLedger l → l.count < last_number → PutsItem l.schema w → IsLedger (wrote l w) × (state_of (wrote l w) ≡ written (state_of l) w)
+WritesAreWritten =
+    (l : Ledger) (w : Write) → IsLedger l → l.count < last_number → PutsItem l.schema w
+    → IsLedger (wrote l w) × (state_of (wrote l w) ≡ written (state_of l) w)
 
 -- Where nothing waits, a view of now is recorded, where it has none, as a REFRESH asks.
 abbrev pub ViewsAreRecorded : Type 0
-ViewsAreRecorded = (l new : Ledger) → IsLedger l → l.buffered ≡ [] → RecordsView l new → IsLedger new × (state_of new ≡ refreshed (state_of l))
+ViewsAreRecorded =
+    (l new : Ledger) → IsLedger l → l.buffered ≡ [] → RecordsView l new
+    → IsLedger new × (state_of new ≡ refreshed (state_of l))
 
 -- Views are dropped as a PRUNE asks.
 abbrev pub ViewsArePruned : Type 0
@@ -52,11 +57,14 @@ CommitsAreKept = (l new : Ledger) → IsLedger l → l.buffered ≡ [] → Commi
 
 -- A snapshot is counted, as a SNAP asks.
 abbrev pub SnapshotsAreTaken : Type 0
-SnapshotsAreTaken = (g : ℕ) (l new : Ledger) → IsLedger l → Snaps g l new → IsLedger new × TakesSnapshot (state_of l) g (state_of new)
+SnapshotsAreTaken =
+    (g : ℕ) (l new : Ledger) → IsLedger l → Snaps g l new → IsLedger new × TakesSnapshot (state_of l) g (state_of new)
 
 -- The files of a commit are given where its last snapshot is given back and it isn't the newest.
 abbrev pub SnapshotsAreGiven : Type 0
-SnapshotsAreGiven = (g : ℕ) (l new : Ledger) → IsLedger l → Unsnapped g l new → IsLedger new × GivesSnapshot (state_of l) g (state_of new)
+SnapshotsAreGiven =
+    (g : ℕ) (l new : Ledger) → IsLedger l → Unsnapped g l new
+    → IsLedger new × GivesSnapshot (state_of l) g (state_of new)
 
 -- the users and the numbers of a ledger are as they have to be, which is for who opens it
 pub record IsCountedRight (l : Ledger) : Type 0 where
@@ -72,7 +80,8 @@ OpenedAreFresh = (c : LedgerCommit) (l : Ledger) → IsOpened c l → AreWhole l
 
 -- A merge that is begun changes no state.
 abbrev pub BegunChangeNoState : Type 0
-BegunChangeNoState = (index k : ℕ) (l new : Ledger) → IsLedger l → Begun index k l new → IsLedger new × (state_of new ≡ state_of l)
+BegunChangeNoState =
+    (index k : ℕ) (l new : Ledger) → IsLedger l → Begun index k l new → IsLedger new × (state_of new ≡ state_of l)
 
 -- Nor does a step of it.
 abbrev pub CopiesChangeNoState : Type 0
@@ -84,11 +93,15 @@ EndsChangeNoState = (m : Merging) (l new : Ledger) → IsLedger l → Ended m l 
 
 -- A refusal that leaves files behind that were begun, and numbers that were taken, changes no state. Nor does a sweep.
 abbrev pub RefusalsChangeNoState : Type 0
-RefusalsChangeNoState = (begun : List Name) (l new : Ledger) → IsLedger l → MayLeave begun l new → IsLedger new × (state_of new ≡ state_of l)
+RefusalsChangeNoState =
+    (begun : List Name) (l new : Ledger) → IsLedger l → MayLeave begun l new
+    → IsLedger new × (state_of new ≡ state_of l)
 
 -- Holds concern the views alone.
 abbrev pub HoldsAreApart : Type 0
-HoldsAreApart = (l : Ledger) (hs : List Hold) → IsLedger l → IsSound (state_of l).views hs → IsLedger (record l { holds = hs }) × (state_of (record l { holds = hs }) ≡ record (state_of l) { holds = hs })
+HoldsAreApart =
+    (l : Ledger) (hs : List Hold) → IsLedger l → IsSound (state_of l).views hs
+    → IsLedger (record l { holds = hs }) × (state_of (record l { holds = hs }) ≡ record (state_of l) { holds = hs })
 
 -- ---- the files that are needed
 
@@ -116,7 +129,9 @@ PrunesStore = (n : ℕ) (l new : Ledger) (fs : FileBytes) → AreStored fs l →
 
 -- A commit touches files of its own generation alone, and writes its own file and that of each live set that no file has.
 abbrev pub CommitsStore : Type 0
-CommitsStore = (l new : Ledger) (fs gs : FileBytes) → IsLedger l → AreStored fs l → Committed l new → ChangesOnly (files_begun l) fs gs
+CommitsStore =
+    (l new : Ledger) (fs gs : FileBytes) → IsLedger l → AreStored fs l → Committed l new
+    → ChangesOnly (files_begun l) fs gs
     → gs (Name.commit l.next_generation) ≡ Some (spelled_commit l.schema (commit_of l))
     → AllByRecursion (λ p. file_for (newest_listed l.commits) l.next_generation p ≡ l.next_generation → IsLiveStored gs (record { portion = p; file = l.next_generation })) l.portions
     → AreStored gs new
@@ -127,21 +142,31 @@ UnsnapsStore = (g : ℕ) (l new : Ledger) (fs : FileBytes) → AreStored fs l �
 
 -- A merge that is begun touches its own sources alone, and leaves them empty.
 abbrev pub BegunStore : Type 0
-BegunStore = (index k : ℕ) (l new : Ledger) (fs gs : FileBytes) → IsLedger l → AreStored fs l → Begun index k l new → ChangesOnly (Name.source l.next_segment ∷ []) fs gs → gs (Name.source l.next_segment) ≡ Some [] → AreStored gs new
+BegunStore =
+    (index k : ℕ) (l new : Ledger) (fs gs : FileBytes) → IsLedger l → AreStored fs l → Begun index k l new
+    → ChangesOnly (Name.source l.next_segment ∷ []) fs gs → gs (Name.source l.next_segment) ≡ Some []
+    → AreStored gs new
 
 -- A step of it touches them alone, and leaves the sources of what it has kept.
 abbrev pub CopiesStore : Type 0
-CopiesStore = (m : Merging) (l new : Ledger) (fs gs : FileBytes) → IsLedger l → AreStored fs l → Copied m l new → ChangesOnly (Name.source m.number ∷ []) fs gs → gs (Name.source m.number) ≡ Some (joined_sources (passed_on m).kept) → AreStored gs new
+CopiesStore =
+    (m : Merging) (l new : Ledger) (fs gs : FileBytes) → IsLedger l → AreStored fs l → Copied m l new
+    → ChangesOnly (Name.source m.number ∷ []) fs gs
+    → gs (Name.source m.number) ≡ Some (joined_sources (passed_on m).kept) → AreStored gs new
 
 -- A merge that is installed touches its own segment alone, and leaves it in its file.
 abbrev pub MergesStore : Type 0
-MergesStore = (m : Merging) (l new : Ledger) (fs gs : FileBytes) → IsLedger l → AreStored fs l → Installed m l new → ChangesOnly (Name.segment m.number ∷ []) fs gs
+MergesStore =
+    (m : Merging) (l new : Ledger) (fs gs : FileBytes) → IsLedger l → AreStored fs l → Installed m l new
+    → ChangesOnly (Name.segment m.number ∷ []) fs gs
     → AllByRecursion (λ p. gs (Name.segment p.number) ≡ Some (spelled_segment (segment_of l.schema p))) (merged m.kept (settled m l.portions))
     → AreStored gs new
 
 -- A merge that is ended touches no other files than its own.
 abbrev pub EndsStore : Type 0
-EndsStore = (m : Merging) (l new : Ledger) (fs gs : FileBytes) → IsLedger l → AreStored fs l → Ended m l new → ChangesOnly (Name.source m.number ∷ Name.segment m.number ∷ []) fs gs → AreStored gs new
+EndsStore =
+    (m : Merging) (l new : Ledger) (fs gs : FileBytes) → IsLedger l → AreStored fs l → Ended m l new
+    → ChangesOnly (Name.source m.number ∷ Name.segment m.number ∷ []) fs gs → AreStored gs new
 
 -- A refused call touches files that it began alone, under numbers that were not taken before.
 abbrev pub RefusalsStore : Type 0
@@ -150,13 +175,17 @@ RefusalsStore = (begun : List Name) (l new : Ledger) (fs gs : FileBytes) → IsL
 
 -- A sweep that leaves each name that has users leaves each name that is used.
 abbrev pub SweepsSpare : Type 0
-SweepsSpare = (l : Ledger) (fs gs : FileBytes) → IsLedger l → ((q : Name) → 0 < users_of l.users q → gs q ≡ fs q) → Spares (names_used l) fs gs
+SweepsSpare =
+    (l : Ledger) (fs gs : FileBytes) → IsLedger l → ((q : Name) → 0 < users_of l.users q → gs q ≡ fs q)
+    → Spares (names_used l) fs gs
 
 -- ---- lines
 
 -- The ledger's calls for a line leave it sound, and are a step of the service from its state.
 abbrev pub CallsAreSteps : Type 0
-CallsAreSteps = (l new : Ledger) (line : Line) (r : Reply) → IsLedger l → Calls l line r new → IsLedger new × Step l.schema (state_of l) line r (state_of new)
+CallsAreSteps =
+    (l new : Ledger) (line : Line) (r : Reply) → IsLedger l → Calls l line r new
+    → IsLedger new × Step l.schema (state_of l) line r (state_of new)
 
 -- ---- what other crates ask for
 
@@ -167,7 +196,9 @@ KeptMayStand = (m : Merging) (l : Ledger) → IsLedger l → l.merging ≡ Some 
 
 -- Portions that are whole are a view, which shows their live records.
 abbrev pub WholeAreViews : Type 0
-WholeAreViews = (schema : Schema) (token : ℕ) (ps : List Portion) → AreWhole schema token ps → IsView (view_of schema token ps) × Shows (view_of schema token ps) (records_of ps)
+WholeAreViews =
+    (schema : Schema) (token : ℕ) (ps : List Portion) → AreWhole schema token ps
+    → IsView (view_of schema token ps) × Shows (view_of schema token ps) (records_of ps)
 
 -- A ledger that is opened at a kept commit has the table of that commit.
 abbrev pub KeptCommitsOpen : Type 0
@@ -194,7 +225,9 @@ OpenedStore = (c : LedgerCommit) (l : Ledger) (fs : FileBytes) → IsOpened c l 
 
 -- The rows of a portion, with the sources that stand one after the other in their file, are its records.
 abbrev pub PortionsAreRead : Type 0
-PortionsAreRead = (schema : Schema) (p : Portion) (sources : ℕ → Text) → sources p.number ≡ joined_sources p.records → portion_in sources (leaf_of schema p) ≡ p
+PortionsAreRead =
+    (schema : Schema) (p : Portion) (sources : ℕ → Text) → sources p.number ≡ joined_sources p.records
+    → portion_in sources (leaf_of schema p) ≡ p
 
 -- The records of a view over those files are the live records of its portions.
 abbrev pub ViewsAreRead : Type 0

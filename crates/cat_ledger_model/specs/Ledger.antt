@@ -63,7 +63,8 @@ commit_shown c = record { generation = c.generation; token = c.token; table = re
 
 -- the state that the ledger carries: segments, live sets, merges, numbers and users of names are in none of it
 abbrev pub state_of : Ledger → State
-state_of l = record { table = table_of l; count = l.count; views = map view_shown l.views; holds = l.holds; commits = map commit_shown l.commits; taken = l.taken }
+state_of l =
+    record { table = table_of l; count = l.count; views = map view_shown l.views; holds = l.holds; commits = map commit_shown l.commits; taken = l.taken }
 
 -- ---- the users of names
 
@@ -91,11 +92,14 @@ names_of_merging (Some m) = Name.source m.number ∷ []
 
 -- the users, each with its names
 abbrev pub users : Ledger → List (List Name)
-users l = flat_map names_of_portion l.portions ∷ (map names_of_view l.views ++ (map names_of_commit l.commits ++ names_of_merging l.merging ∷ []))
+users l =
+    flat_map names_of_portion l.portions ∷ (map names_of_view l.views ++ (map names_of_commit l.commits ++ names_of_merging l.merging ∷ []))
 
 -- the names of each user in turn: the current portions, the recorded views, the kept commits, the merge in the making
 abbrev pub names_used : Ledger → List Name
-names_used l = flat_map names_of_portion l.portions ++ (flat_map names_of_view l.views ++ (flat_map names_of_commit l.commits ++ names_of_merging l.merging))
+names_used l =
+    flat_map names_of_portion l.portions
+    ++ (flat_map names_of_view l.views ++ (flat_map names_of_commit l.commits ++ names_of_merging l.merging))
 
 -- ---- what always holds
 

@@ -74,4 +74,5 @@ ChangesOnly names old new = (q : Name) → has_name q names ≡ false → new q 
 
 -- a portion as the memory and the sources' files hold it together: the rows of a leaf, each with its source
 abbrev pub portion_in : (ℕ → Text) → Leaf → Portion
-portion_in sources leaf = record { number = leaf.segment.number; records = sourced leaf.segment.rows (sources leaf.segment.number); live = leaf.live }
+portion_in sources leaf =
+    record { number = leaf.segment.number; records = sourced leaf.segment.rows (sources leaf.segment.number); live = leaf.live }

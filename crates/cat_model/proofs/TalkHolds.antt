@@ -19,7 +19,7 @@ use Rattle.cat_model.specs.Limits.{last_number}
 use Rattle.cat_model.specs.Heard.{Json, Hears, IsCommand}
 use Rattle.cat_model.specs.Served.{Outcome, heard, exchange, outcome_text}
 use Rattle.cat_model.specs.Laws.{IsBounded}
-use Rattle.cat_model.specs.Talk.{granted, Holds}
+use Rattle.cat_model.specs.Talk.{granted, ShowsHold}
 use Rattle.cat_model.proofs.Runs.{answered, greatest_up_to, writes-push, bounded, FitsFrom-split}
 use Rattle.cat_model.proofs.TalkCuts.{same_line}
 use Rattle.cat_model.proofs.TalkDigits.{decimal_one_line}
@@ -235,7 +235,7 @@ module _ (json : Json) (from : Opened) where
   fits_from past later e x is f = subst (λ told. FitsFrom from (run_of past) (cons_option (exchange told) (run_of later))) is f
 
   -- a hold that the bytes show
-  pub held_in : (es : List Entry) (s t : ℕ) → s ≤ 9999 → t < 2 ^ 63 → from.start.token ≤ last_number → Heeded json from.start.schema es → IsRun from (run_of es) → Holds (map pair es) s t → holds s t (run_of es) ≡ true
+  pub held_in : (es : List Entry) (s t : ℕ) → s ≤ 9999 → t < 2 ^ 63 → from.start.token ≤ last_number → Heeded json from.start.schema es → IsRun from (run_of es) → ShowsHold (map pair es) s t → holds s t (run_of es) ≡ true
   unfolding FitsAt
   held_in es s t hs ht small h f hold =
       let p : IsPlace es hold.before (granted s hold.text t) hold.since = place_of es hold.before (granted s hold.text t) hold.since hold.split in

@@ -17,7 +17,7 @@ use Rattle.cat_model.specs.Limits.{last_number}
 use Rattle.cat_model.specs.Heard.{Json, IsCommand}
 use Rattle.cat_model.specs.Served.{Opening, Begins, Outcome, heard, outcome_text}
 use Rattle.cat_model.specs.Laws.{HeldRead}
-use Rattle.cat_model.specs.Talk.{Pair, Talked, IsTalk, IsWrite, WritesAgree, ReadsUnder, IsRead, HeldAsk, refusal_text, is_excepted, AreAlike, ReadsLines, IsShownStart, OpensAs, TalksAgree, AnswersOfAnyStartAreTalks, TalksOfOneStartAgree}
+use Rattle.cat_model.specs.Talk.{Pair, Talked, IsTalk, IsWrite, WritesAgree, ReadsUnder, IsRead, HeldAsk, refusal_text, excepted_replies, AreAlike, ReadsLines, IsShownStart, OpensAs, TalksAgree, AnswersOfAnyStartAreTalks, TalksOfOneStartAgree}
 use Rattle.cat_model.proofs.TalkOpenings.{OpensShown, OpenAlike}
 use Rattle.cat_model.proofs.Runs.{held_reads_agree, held_low, held_writes}
 use Rattle.cat_model.proofs.Sayings.{one_command}
@@ -53,7 +53,7 @@ token_small t (Said.open_at u) text h a = absurd h
 token_small t (Said.close u) text h a = absurd h
 
 -- a read is stopped by three refusals alone
-stopped : (s t : ℕ) (asked : Read) (e : Refusal) → IsTrue (may_refuse (Command.read t asked) e) → AllByRecursion (λ stop. reply_text s (Err e) ≢ stop) (is_excepted s) → ⊥
+stopped : (s t : ℕ) (asked : Read) (e : Refusal) → IsTrue (may_refuse (Command.read t asked) e) → AllByRecursion (λ stop. reply_text s (Err e) ≢ stop) (excepted_replies s) → ⊥
 stopped s t asked Memory h a = a.1.1.1.0 refl
 stopped s t asked Device h a = a.1.0 refl
 stopped s t asked Damaged h a = a.1.1.0 refl
@@ -69,7 +69,7 @@ record IsAsked (json : Json) (from : Opened) (es : List Entry) (t s : ℕ) (repl
   split : run_of es ≡ run_of past ++ x ∷ run_of later
   held : holds x.line.session t (run_of past) ≡ true
   text : reply ≡ reply_text s x.reply
-  undisturbed : AllByRecursion (λ stop. reply_text s x.reply ≢ stop) (is_excepted s)
+  undisturbed : AllByRecursion (λ stop. reply_text s x.reply ≢ stop) (excepted_replies s)
   shown : Shown x.reply
 
 asked_in : (json : Json) (from : Opened) (es : List Entry) (talk : List Pair) (t s : ℕ) (text reply : Text) (said : Said)
@@ -85,7 +85,7 @@ asked_in json from es talk t s text reply said low heed is_run shown is spells u
     let told : outcome_text p.here.told ≡ reply = ap (λ q. q.reply) p.here_is in
     let u : Understood json from.start.schema p.here s said =
     understood json from.start.schema p.here s said heeds.1.0 (record { small = a.small; rest = text; session_first = line; says = spells }) (λ k. a.undisturbed.0 (sym told ∙ k)) in
-    let held : holds s t (run_of p.past) ≡ true = held_in json from p.past s t a.small (token_small t said text under spells) low heeds.0 runs.0 (subst (λ ps. Rattle.cat_model.specs.Talk.Holds ps s t) (sym p.past_is) a.held) in
+    let held : holds s t (run_of p.past) ≡ true = held_in json from p.past s t a.small (token_small t said text under spells) low heeds.0 runs.0 (subst (λ ps. Rattle.cat_model.specs.Talk.ShowsHold ps s t) (sym p.past_is) a.held) in
     let said_reply : reply ≡ reply_text s u.x.reply = sym told ∙ ap outcome_text u.told ∙ ap (λ v. reply_text v u.x.reply) u.session in
     record {
       x = u.x;
@@ -95,7 +95,7 @@ asked_in json from es talk t s text reply said low heed is_run shown is spells u
       split = ap run_of p.whole ∙ run_place json from p.past p.later p.here u.x u.told;
       held = ap (λ v. holds v t (run_of p.past)) u.session ∙ held;
       text = said_reply;
-      undisturbed = subst (λ r. AllByRecursion (λ stop. r ≢ stop) (is_excepted s)) said_reply a.undisturbed;
+      undisturbed = subst (λ r. AllByRecursion (λ stop. r ≢ stop) (excepted_replies s)) said_reply a.undisturbed;
       shown = subst ShownTold u.told shows.1.0;
     }
 
@@ -107,7 +107,7 @@ held_read json from es t s reply said asked is_run a c = record {
   later = run_of a.later;
   split = a.split ∙ (λ i. run_of a.past ++ record { line = record { session = a.x.line.session; command = c i }; reply = a.x.reply } ∷ run_of a.later);
   held = a.held;
-  undisturbed = λ r. stopped s t asked r.0 r.2 (subst (λ x. AllByRecursion (λ stop. reply_text s x ≢ stop) (is_excepted s)) r.1 a.undisturbed);
+  undisturbed = λ r. stopped s t asked r.0 r.2 (subst (λ x. AllByRecursion (λ stop. reply_text s x ≢ stop) (excepted_replies s)) r.1 a.undisturbed);
 }
 
 -- ---- the writes

@@ -7,7 +7,7 @@ use Rattle.cat_model.specs.Page.{Sort}
 use Rattle.cat_model.specs.Lines.{Said, reply_text}
 use Rattle.cat_model.specs.Answer.{Found}
 use Rattle.cat_model.specs.Run.{Answer, Reply}
-use Rattle.cat_model.specs.Talk.{Pair, IsReply, granted, Holds}
+use Rattle.cat_model.specs.Talk.{Pair, IsReply, granted, ShowsHold}
 use Rattle.cat_model.specs.TalkSample.{said_before, SampleIsJudged}
 use Rattle.cat_model.proofs.TalkLines.{literal, is_reply}
 
@@ -39,7 +39,7 @@ others (a ∷ b ∷ c ∷ d ∷ f ∷ g ∷ rest) since text o e kept = more res
     more [] k = cc k
     more (p ∷ ps) k = cc k
 
-closed : Holds said_before 8 1 → ⊥
+closed : ShowsHold said_before 8 1 → ⊥
 unfolding digits
 closed h = others h.before h.since h.text h.command h.split h.kept
 

@@ -68,9 +68,13 @@ query_refusal (Read.get (Err e)) = Some e
 abbrev pub answer : Schema → List Record → Read → Result Found Refusal
 answer schema rs (Read.find n sort mark (Err e)) = Err e
 answer schema rs (Read.find n sort mark (Ok q)) =
-    cond (ltb page_limit n) (Err Count) (cond (can_sort schema sort) (cond (has_mark rs mark) (Ok (Found.page (page_of rs q sort mark n))) (Err Mark)) (Err SortField))
+    cond (ltb page_limit n)
+    (Err Count)
+    (cond (can_sort schema sort) (cond (has_mark rs mark) (Ok (Found.page (page_of rs q sort mark n))) (Err Mark)) (Err SortField))
 answer schema rs (Read.facets dim n (Err e)) = Err e
 answer schema rs (Read.facets dim n (Ok q)) =
-    cond (is_facet_kind (kind_of schema dim)) (cond (ltb page_limit n) (Err Count) (Ok (Found.facets (facets_in rs q dim n)))) (Err NotFacet)
+    cond (is_facet_kind (kind_of schema dim))
+    (cond (ltb page_limit n) (Err Count) (Ok (Found.facets (facets_in rs q dim n))))
+    (Err NotFacet)
 answer schema rs (Read.get (Err e)) = Err e
 answer schema rs (Read.get (Ok id)) = Ok (Found.source (stored rs id))

@@ -43,7 +43,8 @@ pub data Asks : Type 0 where
 pub data IsValue : Text → Asks → Type 0 where
   quoted : (t s : Text) → Quotes t s → IsValue (34 ∷ t) (is s)
   bare : (t : Text) → IsBare t → IsValue t (is t)
-  range : (t u : Text) (low high : Option Text) → IsEnd t low → IsEnd u high → IsValue (91 ∷ (t ++ (32 ∷ 84 ∷ 79 ∷ 32 ∷ (u ++ 93 ∷ [])))) (between low high)
+  range : (t u : Text) (low high : Option Text) → IsEnd t low → IsEnd u high
+      → IsValue (91 ∷ (t ++ (32 ∷ 84 ∷ 79 ∷ 32 ∷ (u ++ 93 ∷ [])))) (between low high)
   prefix : (t : Text) → IsBare t → IsValue (t ++ 42 ∷ []) (begins t)
 
 -- the number that digits are, behind those that gave n
@@ -75,28 +76,34 @@ IsBound (Some t) (Some z) = IsInteger t z
 -- what a value means in the field f of a kind: a constructor for each cell of the table that isn't "wrong"
 pub data Means (f : Text) : Kind → Asks → Primary → Type 0 where
   word : (t w : Text) → words t ≡ w ∷ [] → Means f Kind.text (is t) (Primary.word f w)
-  word_prefix : (t : Text) → AllByRecursion (λ b. IsTrue (is_word_byte b)) t → Means f Kind.text (begins t) (Primary.word_prefix f (lowered t))
+  word_prefix : (t : Text) → AllByRecursion (λ b. IsTrue (is_word_byte b)) t
+      → Means f Kind.text (begins t) (Primary.word_prefix f (lowered t))
   keyword : (t : Text) → Means f Kind.keyword (is t) (Primary.keyword f t)
   keyword_prefix : (t : Text) → Means f Kind.keyword (begins t) (Primary.keyword_prefix f t)
   keyword_range : (low high : Option Text) → Means f Kind.keyword (between low high) (Primary.keyword_range f low high)
   number : (t : Text) (z : ℤ) → IsInteger t z → Means f Kind.number (is t) (Primary.number f z)
-  number_range : (low high : Option Text) (a b : Option ℤ) → IsBound low a → IsBound high b → Means f Kind.number (between low high) (Primary.number_range f a b)
+  number_range : (low high : Option Text) (a b : Option ℤ) → IsBound low a → IsBound high b
+      → Means f Kind.number (between low high) (Primary.number_range f a b)
   label : (t : Text) → Means f Kind.facet (is t) (Primary.label f t)
   label_prefix : (t : Text) → Means f Kind.facet (begins t) (Primary.label_prefix f t)
 
 -- name ":" value, for a field of the schema
 pub data IsTerm (schema : Schema) : Text → Primary → Type 0 where
-  term : (f t : Text) (k : Kind) (a : Asks) (p : Primary) → AllByRecursion (λ b. IsTrue (is_name_byte b)) f → kind_of schema f ≡ Some k → IsValue t a → Means f k a p → IsTerm schema (f ++ 58 ∷ t) p
+  term : (f t : Text) (k : Kind) (a : Asks) (p : Primary) → AllByRecursion (λ b. IsTrue (is_name_byte b)) f
+      → kind_of schema f ≡ Some k → IsValue t a → Means f k a p → IsTerm schema (f ++ 58 ∷ t) p
 
 mutual
   -- query = spaces* clause (spaces clause)* spaces*
   pub data IsQuery (schema : Schema) : Text → Query → Type 0 where
-    query : (before text after : Text) (q : Query) → AreSpaces before → IsSeries schema text q → AreSpaces after → IsQuery schema (before ++ (text ++ after)) q
+    query : (before text after : Text) (q : Query) → AreSpaces before → IsSeries schema text q → AreSpaces after
+        → IsQuery schema (before ++ (text ++ after)) q
 
   -- clause (spaces clause)*
   pub data IsSeries (schema : Schema) : Text → Query → Type 0 where
     one : (t : Text) (s : Sign) (p : Primary) → IsClause schema t s p → IsSeries schema t (Query.clause s p Query.no_clause)
-    more : (t gap u : Text) (s : Sign) (p : Primary) (q : Query) → IsClause schema t s p → AreSpaces gap → gap ≢ [] → IsSeries schema u q → IsSeries schema (t ++ (gap ++ u)) (Query.clause s p q)
+    more :
+        (t gap u : Text) (s : Sign) (p : Primary) (q : Query) → IsClause schema t s p → AreSpaces gap → gap ≢ []
+        → IsSeries schema u q → IsSeries schema (t ++ (gap ++ u)) (Query.clause s p q)
 
   -- clause = [ "+" | "-" ] primary
   pub data IsClause (schema : Schema) : Text → Sign → Primary → Type 0 where

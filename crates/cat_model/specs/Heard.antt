@@ -33,7 +33,8 @@ IsCommand json schema Said.refresh c = c ≡ Command.refresh
 IsCommand json schema Said.open_newest c = c ≡ Command.open_newest
 IsCommand json schema (Said.open_at t) c = c ≡ Command.open_at t
 IsCommand json schema (Said.close t) c = c ≡ Command.close t
-IsCommand json schema (Said.find t n sort mark text) c = (q : Result Query Refusal) × IsQueryOf schema text q × (c ≡ Command.read t (Read.find n sort mark q))
+IsCommand json schema (Said.find t n sort mark text) c =
+    (q : Result Query Refusal) × IsQueryOf schema text q × (c ≡ Command.read t (Read.find n sort mark q))
 
 -- nothing that can be read, or a line
 pub data Heard : Type 0 where
@@ -43,6 +44,10 @@ pub data Heard : Type 0 where
 -- What is heard of the bytes of a line: what they spell; a line without a form, where they show a session and no more;
 -- or nothing that can be read.
 pub data Hears (json : Json) (schema : Schema) (bytes : Text) : Heard → Type 0 where
-  spelled : (session : ℕ) (said : Said) (c : Command) → IsReadable bytes → SpellsLine bytes session said → IsCommand json schema said c → Hears json schema bytes (Heard.a_line (record { session = session; command = c }))
-  formless : (session : ℕ) → IsReadable bytes → ShowsSession bytes session → ((said : Said) → SpellsLine bytes session said → ⊥) → Hears json schema bytes (Heard.a_line (record { session = session; command = Command.formless }))
+  spelled : (session : ℕ) (said : Said) (c : Command) → IsReadable bytes → SpellsLine bytes session said
+      → IsCommand json schema said c
+      → Hears json schema bytes (Heard.a_line (record { session = session; command = c }))
+  formless : (session : ℕ) → IsReadable bytes → ShowsSession bytes session
+      → ((said : Said) → SpellsLine bytes session said → ⊥)
+      → Hears json schema bytes (Heard.a_line (record { session = session; command = Command.formless }))
   unreadable : (IsReadable bytes → (session : ℕ) → ShowsSession bytes session → ⊥) → Hears json schema bytes Heard.unreadable

@@ -7,7 +7,8 @@ use Rattle.cat_model.specs.Text.{Text}
 -- The lines that a line feed ends, where `front` has come of the first one. A carriage return just before the line feed is dropped.
 abbrev pub ended_after : Text → Text → List Text
 ended_after front [] = []
-ended_after front (b ∷ bytes) = if b == 10 then strip_last 13 front ∷ ended_after [] bytes else ended_after (front ++ b ∷ []) bytes
+ended_after front (b ∷ bytes) =
+    if b == 10 then strip_last 13 front ∷ ended_after [] bytes else ended_after (front ++ b ∷ []) bytes
 
 -- what comes after the last line feed
 abbrev pub rest_after : Text → Text → Text

@@ -61,9 +61,11 @@ keywords_of values = dictionary_of (map texts_of values)
 -- the column of what the rows have in a field of the kind
 abbrev pub laid_as : Kind → List (Option Content) → Laid
 laid_as Kind.text rows = Laid.words (word_postings_of (map words_in rows))
-laid_as Kind.keyword rows = Laid.keywords (keywords_of (map keyword_in rows)) (map (code_in (keywords_of (map keyword_in rows))) (map keyword_in rows))
+laid_as Kind.keyword rows =
+    Laid.keywords (keywords_of (map keyword_in rows)) (map (code_in (keywords_of (map keyword_in rows))) (map keyword_in rows))
 laid_as Kind.number rows = Laid.numbers (map number_in rows)
-laid_as Kind.facet rows = Laid.labels (dictionary_of (map labels_in rows)) (map (map (ordinal_in (dictionary_of (map labels_in rows)))) (map labels_in rows))
+laid_as Kind.facet rows =
+    Laid.labels (dictionary_of (map labels_in rows)) (map (map (ordinal_in (dictionary_of (map labels_in rows)))) (map labels_in rows))
 
 -- the column of the field
 abbrev pub column_of : List Row → Field → Laid
@@ -75,7 +77,8 @@ head_of row = record { number = row.number; id = row.id; length = row.length }
 
 -- the layout of a segment
 abbrev pub layout_of : Segment → Layout
-layout_of s = record { number = s.number; schema = s.schema; heads = map head_of s.rows; columns = map (column_of s.rows) s.schema }
+layout_of s =
+    record { number = s.number; schema = s.schema; heads = map head_of s.rows; columns = map (column_of s.rows) s.schema }
 
 -- ---- its bytes
 
@@ -124,7 +127,9 @@ spelled_column (Laid.labels dictionary ordinals) = spelled_texts dictionary ++ f
 
 -- the magic word, the version 1, the number, the number of rows, the fields, the rows, the columns
 abbrev pub spelled_layout : Layout → List ℕ
-spelled_layout l = codes "CSEG" ++ (1 ∷ (spelled_u64 l.number ++ (spelled_u32 (length l.heads) ++ (spelled_fields l.schema ++ (flat_map spelled_head l.heads ++ flat_map spelled_column l.columns)))))
+spelled_layout l =
+    codes "CSEG" ++ (1 ∷ (spelled_u64 l.number ++ (spelled_u32 (length l.heads)
+    ++ (spelled_fields l.schema ++ (flat_map spelled_head l.heads ++ flat_map spelled_column l.columns)))))
 
 -- the bytes of a segment's file
 abbrev pub spelled_segment : Segment → List ℕ
@@ -157,9 +162,11 @@ pub record IsWordPostings (p : WordPostings) : Type 0 where
 -- a column of the kind, for as many rows
 abbrev pub IsLaid : ℕ → Kind → Laid → Type 0
 IsLaid rows Kind.text (Laid.words ps) = (length ps < 2 ^ 32) × All IsWordPostings ps
-IsLaid rows Kind.keyword (Laid.keywords dictionary coded) = (length dictionary < 2 ^ 32) × All IsKeyword dictionary × (length coded ≡ rows) × FitU32 coded
+IsLaid rows Kind.keyword (Laid.keywords dictionary coded) =
+    (length dictionary < 2 ^ 32) × All IsKeyword dictionary × (length coded ≡ rows) × FitU32 coded
 IsLaid rows Kind.number (Laid.numbers zs) = (length zs ≡ rows) × All (λ z. IfSome z (FitsSigned w64)) zs
-IsLaid rows Kind.facet (Laid.labels dictionary ordinals) = (length dictionary < 2 ^ 32) × All IsLabel dictionary × (length ordinals ≡ rows) × All FitU32 ordinals
+IsLaid rows Kind.facet (Laid.labels dictionary ordinals) =
+    (length dictionary < 2 ^ 32) × All IsLabel dictionary × (length ordinals ≡ rows) × All FitU32 ordinals
 IsLaid rows kind column = ⊥
 
 -- one column for each field, of its kind

@@ -119,7 +119,8 @@ news_words News.begun_warming = codes "begun" ∷ []
 news_words (News.warmed r) = codes "warmed" ∷ decimal r ∷ []
 news_words News.stored = codes "stored" ∷ []
 news_words (News.swept n) = decimal n ∷ []
-news_words (News.state st) = decimal st.writes ∷ decimal st.buffered ∷ decimal (length st.segments) ∷ decimal st.views ∷ decimal st.cached ∷ decimal st.pending ∷ []
+news_words (News.state st) =
+    decimal st.writes ∷ decimal st.buffered ∷ decimal (length st.segments) ∷ decimal st.views ∷ decimal st.cached ∷ decimal st.pending ∷ []
 
 -- what stands behind OK
 abbrev pub answer_words : Answer → List Text

@@ -62,7 +62,8 @@ comes_before cmp None None tie = tie
 abbrev pub before : Sort → Record → Record → Bool
 before Sort.added a b = ltb a.number b.number
 before (Sort.rising f) a b = comes_before key_cmp (key (Sort.rising f) a) (key (Sort.rising f) b) (ltb a.number b.number)
-before (Sort.falling f) a b = comes_before (λ x y. ordering_reverse (key_cmp x y)) (key (Sort.falling f) a) (key (Sort.falling f) b) (ltb a.number b.number)
+before (Sort.falling f) a b =
+    comes_before (λ x y. ordering_reverse (key_cmp x y)) (key (Sort.falling f) a) (key (Sort.falling f) b) (ltb a.number b.number)
 
 -- the one that exactly k others come before
 abbrev pub ranked : {X : Type 0} → (X → X → Bool) → List X → ℕ → Option X
@@ -92,5 +93,6 @@ rest sort rs (Some mark) hs = filter (λ h. list_any (λ m. (m.number == mark) &
 abbrev pub page_of : List Record → Query → Sort → Option ℕ → ℕ → Page
 page_of rs q sort mark n = record {
   total = length (hits rs q);
-  entries = map (λ h. record { number = h.number; id = h.item.id; key = key sort h }) (first_ranked (before sort) (rest sort rs mark (hits rs q)) n);
+  entries =
+      map (λ h. record { number = h.number; id = h.item.id; key = key sort h }) (first_ranked (before sort) (rest sort rs mark (hits rs q)) n);
 }

@@ -78,9 +78,11 @@ abbrev mutual
   primary_matches (Primary.word_prefix f p) i = list_any (has_prefix p) (words_in (content_of f i))
   primary_matches (Primary.keyword f k) i = has_some (same_text k) (keyword_in (content_of f i))
   primary_matches (Primary.keyword_prefix f p) i = has_some (has_prefix p) (keyword_in (content_of f i))
-  primary_matches (Primary.keyword_range f low high) i = has_some (λ k. open_or (λ a. text_le a k) low && open_or (text_le k) high) (keyword_in (content_of f i))
+  primary_matches (Primary.keyword_range f low high) i =
+      has_some (λ k. open_or (λ a. text_le a k) low && open_or (text_le k) high) (keyword_in (content_of f i))
   primary_matches (Primary.number f n) i = has_some (same_int n) (number_in (content_of f i))
-  primary_matches (Primary.number_range f low high) i = has_some (λ n. open_or (λ a. int_le a n) low && open_or (int_le n) high) (number_in (content_of f i))
+  primary_matches (Primary.number_range f low high) i =
+      has_some (λ n. open_or (λ a. int_le a n) low && open_or (int_le n) high) (number_in (content_of f i))
   primary_matches (Primary.label f l) i = list_any (same_text l) (labels_in (content_of f i))
   primary_matches (Primary.label_prefix f p) i = list_any (has_prefix p) (labels_in (content_of f i))
   primary_matches (Primary.group q) i = obeyed q i && supported q i

@@ -13,20 +13,29 @@ QueriesAreRead = (schema : Schema) (text : Text) (q : Query) → (read_query sch
 
 -- A text is refused at a place exactly where it has a fault there.
 abbrev pub FaultsAreFound : Type 0
-FaultsAreFound = (schema : Schema) (text : Text) (place : ℕ) → IsSchema schema → (read_query schema text ≡ Err place) ↔ Fault schema text place
+FaultsAreFound =
+    (schema : Schema) (text : Text) (place : ℕ) → IsSchema schema
+    → (read_query schema text ≡ Err place) ↔ Fault schema text place
 
 -- A text spells at most one query.
 abbrev pub TextsSpellOneQuery : Type 0
-TextsSpellOneQuery = (schema : Schema) (text : Text) (one two : Query) → Spells schema text one → Spells schema text two → one ≡ two
+TextsSpellOneQuery =
+    (schema : Schema) (text : Text) (one two : Query) → Spells schema text one → Spells schema text two → one ≡ two
 
 -- A text has a fault in at most one place.
 abbrev pub FaultsHaveOnePlace : Type 0
-FaultsHaveOnePlace = (schema : Schema) (text : Text) (one two : ℕ) → IsSchema schema → Fault schema text one → Fault schema text two → one ≡ two
+FaultsHaveOnePlace =
+    (schema : Schema) (text : Text) (one two : ℕ) → IsSchema schema → Fault schema text one → Fault schema text two
+    → one ≡ two
 
 -- A text spells a query or has a fault.
 abbrev pub TextsAreJudged : Type 0
-TextsAreJudged = (schema : Schema) (text : Text) → IsSchema schema → ((q : Query) × Spells schema text q) ⊎ ((place : ℕ) × Fault schema text place)
+TextsAreJudged =
+    (schema : Schema) (text : Text) → IsSchema schema
+    → ((q : Query) × Spells schema text q) ⊎ ((place : ℕ) × Fault schema text place)
 
 -- It doesn't do both.
 abbrev pub SpelledTextsHaveNoFault : Type 0
-SpelledTextsHaveNoFault = (schema : Schema) (text : Text) (q : Query) (place : ℕ) → IsSchema schema → Spells schema text q → Fault schema text place → ⊥
+SpelledTextsHaveNoFault =
+    (schema : Schema) (text : Text) (q : Query) (place : ℕ) → IsSchema schema → Spells schema text q
+    → Fault schema text place → ⊥

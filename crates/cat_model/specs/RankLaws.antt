@@ -21,7 +21,9 @@ RanksFollowOrder X = (lt : X → X → Bool) (xs : List X) (n : ℕ) → IsStric
 
 -- Of records whose numbers rise the first n in order of addition are those that stand first.
 abbrev pub AddedStandFirst : Type 0
-AddedStandFirst = (rs : List Record) (n : ℕ) → AllPairs (λ a b. a.number < b.number) rs → first_ranked (before Sort.added) rs n ≡ take n rs
+AddedStandFirst =
+    (rs : List Record) (n : ℕ) → AllPairs (λ a b. a.number < b.number) rs
+    → first_ranked (before Sort.added) rs n ≡ take n rs
 
 -- Each sort is a strict order, by which of two records of different numbers one comes before the other.
 pub record OrdersRecords (sort : Sort) : Type 0 where

@@ -33,11 +33,13 @@ with_byte b (Some x) = Some (b ∷ x.0, x.1)
 unfoldable pub quoted_at : Bool → Text → Option (Text × Text)
 quoted_at escaped [] = None
 quoted_at true (b ∷ bs) = if b == 34 || b == 92 then with_byte b (quoted_at false bs) else None
-quoted_at false (b ∷ bs) = if b == 34 then Some ([], bs) else if b == 92 then quoted_at true bs else with_byte b (quoted_at false bs)
+quoted_at false (b ∷ bs) =
+    if b == 34 then Some ([], bs) else if b == 92 then quoted_at true bs else with_byte b (quoted_at false bs)
 
 -- the longest bare text
 abbrev pub run_at : Text → Option (Text × Text)
-run_at text = if prefix_len is_bare_byte text == 0 then None else Some (take (prefix_len is_bare_byte text) text, drop (prefix_len is_bare_byte text) text)
+run_at text =
+    if prefix_len is_bare_byte text == 0 then None else Some (take (prefix_len is_bare_byte text) text, drop (prefix_len is_bare_byte text) text)
 
 -- a star at once behind a bare text makes it a prefix
 abbrev pub starred : Text → Text → Asks × Text
@@ -67,7 +69,8 @@ bracket_at (b ∷ bs) = if b == 93 then Some bs else None
 
 -- what stands behind ` TO `, up to `]`
 abbrev pub high_at : Option Text → Text → Option (Asks × Text)
-high_at low text = option_and_then (λ high. option_map (λ rest. (Asks.between low high.0, rest)) (bracket_at high.1)) (end_at text)
+high_at low text =
+    option_and_then (λ high. option_map (λ rest. (Asks.between low high.0, rest)) (bracket_at high.1)) (end_at text)
 
 -- what stands behind `[`, up to `]`
 unfoldable pub range_at : Text → Option (Asks × Text)
@@ -75,7 +78,8 @@ range_at text = option_and_then (λ low. option_and_then (high_at low.0) (to_at 
 
 unfoldable pub value_at : Text → Option (Asks × Text)
 value_at [] = None
-value_at (b ∷ bs) = if b == 34 then option_map (λ x. (Asks.is x.0, x.1)) (quoted_at false bs) else if b == 91 then range_at bs else bare_at (b ∷ bs)
+value_at (b ∷ bs) =
+    if b == 34 then option_map (λ x. (Asks.is x.0, x.1)) (quoted_at false bs) else if b == 91 then range_at bs else bare_at (b ∷ bs)
 
 -- ---- what a value means in a field
 
@@ -107,7 +111,8 @@ meaning f Kind.keyword (Asks.begins t) = Some (Primary.keyword_prefix f t)
 meaning f Kind.keyword (Asks.between low high) = Some (Primary.keyword_range f low high)
 meaning f Kind.number (Asks.is t) = option_map (λ z. Primary.number f z) (integer_of t)
 meaning f Kind.number (Asks.begins t) = None
-meaning f Kind.number (Asks.between low high) = option_and_then (λ a. option_map (λ b. Primary.number_range f a b) (bound_of high)) (bound_of low)
+meaning f Kind.number (Asks.between low high) =
+    option_and_then (λ a. option_map (λ b. Primary.number_range f a b) (bound_of high)) (bound_of low)
 meaning f Kind.facet (Asks.is t) = Some (Primary.label f t)
 meaning f Kind.facet (Asks.begins t) = Some (Primary.label_prefix f t)
 meaning f Kind.facet (Asks.between low high) = None
@@ -135,7 +140,8 @@ term_at schema text = do
   Ok (primary, value.1)
 
 abbrev pub everything_at : Text → Result (Primary × Text) ℕ
-everything_at text = if starts_with nat_eq text (42 ∷ 58 ∷ 42 ∷ []) then Ok (Primary.everything, drop 3 text) else Err (length text)
+everything_at text =
+    if starts_with nat_eq text (42 ∷ 58 ∷ 42 ∷ []) then Ok (Primary.everything, drop 3 text) else Err (length text)
 
 -- a primary that is no group
 unfoldable pub leaf_at : Schema → Text → Result (Primary × Text) ℕ
@@ -154,7 +160,8 @@ grouped (q, clauses, b ∷ bs) = Ok (Primary.group q, clauses, bs)
 
 unfoldable pub primary_at : Schema → Inside → ℕ → Text → Result (Primary × ℕ × Text) ℕ
 primary_at schema inside clauses [] = Err 0
-primary_at schema inside clauses (b ∷ bs) = if b == 40 then (inside clauses bs >>= grouped) else (leaf_at schema (b ∷ bs) >>= λ p. Ok (p.0, clauses, p.1))
+primary_at schema inside clauses (b ∷ bs) =
+    if b == 40 then (inside clauses bs >>= grouped) else (leaf_at schema (b ∷ bs) >>= λ p. Ok (p.0, clauses, p.1))
 
 -- ---- clauses
 
@@ -178,7 +185,8 @@ sign_at (b ∷ bs) = if b == 43 then (Sign.must, bs) else if b == 45 then (Sign.
 
 unfoldable pub clause_at : Schema → Inside → ℕ → Text → Result (Sign × Primary × ℕ × Text) ℕ
 clause_at schema inside zero text = Err (length text)
-clause_at schema inside (suc clauses) text = primary_at schema inside clauses (sign_at text).1 >>= λ p. Ok ((sign_at text).0, p.0, p.1, p.2)
+clause_at schema inside (suc clauses) text =
+    primary_at schema inside clauses (sign_at text).1 >>= λ p. Ok ((sign_at text).0, p.0, p.1, p.2)
 
 -- what stands behind the spaces after a primary
 abbrev pub gap_at : Text → Result Text ℕ

@@ -190,7 +190,8 @@ view_tokens_by held ts _ _ = ts
 -- the tokens after the rest of a run, where these stood after its past
 abbrev pub view_tokens_from : List ℕ → Run → Run → List ℕ
 view_tokens_from ts past [] = ts
-view_tokens_from ts past (e ∷ rest) = view_tokens_from (view_tokens_by (is_held past) ts e.line.command e.reply) (past ++ e ∷ []) rest
+view_tokens_from ts past (e ∷ rest) =
+    view_tokens_from (view_tokens_by (is_held past) ts e.line.command e.reply) (past ++ e ∷ []) rest
 
 -- the tokens of the recorded views at the end of the run, rising; a service opens with one, of its start
 abbrev pub view_tokens : Start → Run → List ℕ
@@ -221,7 +222,8 @@ gives_snapshot g _ _ = false
 
 -- snapshots of g that are taken and not released
 abbrev pub snapshots : Run → ℕ → ℕ
-snapshots run g = count_by (λ e. takes_snapshot g e.line.command e.reply) run - count_by (λ e. gives_snapshot g e.line.command e.reply) run
+snapshots run g =
+    count_by (λ e. takes_snapshot g e.line.command e.reply) run - count_by (λ e. gives_snapshot g e.line.command e.reply) run
 
 -- the commit is the newest, or has a snapshot
 abbrev pub is_kept : Opened → Run → ℕ → Bool
@@ -292,7 +294,9 @@ Answers from past s (Command.put (Err e)) r = r ≡ Err e
 Answers from past s (Command.delete (Ok id)) r = r ≡ write_reply (now from.start past)
 Answers from past s (Command.delete (Err e)) r = r ≡ Err e
 Answers from past s Command.refresh r =
-    r ≡ cond (not (has (view_tokens from.start past) (now from.start past)) && is_full (is_held past) (view_tokens from.start past)) (Err Full) (Ok (Answer.number (now from.start past)))
+    r ≡ cond (not (has (view_tokens from.start past) (now from.start past)) && is_full (is_held past) (view_tokens from.start past))
+    (Err Full)
+    (Ok (Answer.number (now from.start past)))
 Answers from past s Command.open_newest r = r ≡ Ok (Answer.number (greatest (view_tokens from.start past)))
 Answers from past s (Command.open_at t) r = r ≡ cond (has (view_tokens from.start past) t) (Ok (Answer.number t)) (Err Gone)
 Answers from past s (Command.close t) r = r ≡ cond (holds s t past) (Ok (Answer.number t)) (Err NotHeld)
@@ -300,12 +304,19 @@ Answers from past s (Command.read t asked) r =
     r ≡ read_reply (holds s t past) from.start.schema (table from.start (writes past) t) asked
 Answers from past s (Command.prune n) r =
     r ≡ Ok (Answer.number (length (view_tokens from.start past) - length (pruned (is_held past) n (view_tokens from.start past))))
-Answers from past s Command.commit r = cond (list_all (λ h. ltb h last_number) (generations from past)) ((g : ℕ) × (r ≡ Ok (Answer.number g)) × (0 < g) × (g ≤ last_number) × IsTrue (list_all (λ h. ltb h g) (generations from past))) (r ≡ Err Spent)
+Answers from past s Command.commit r =
+    cond (list_all (λ h. ltb h last_number) (generations from past))
+    ((g : ℕ) × (r ≡ Ok (Answer.number g)) × (0 < g) × (g ≤ last_number) × IsTrue (list_all (λ h. ltb h g) (generations from past)))
+    (r ≡ Err Spent)
 Answers from past s Command.snapshot r = r ≡ snapshot_of (snapshots past) (newest_commit from past)
-Answers from past s (Command.release_snapshot g) r = r ≡ cond (ltb 0 (snapshots past g)) (Ok (Answer.number (snapshots past g - 1))) (Err NoSnapshot)
-Answers from past s (Command.files_of_token t) r = cond (holds s t past) ((ns : List Text) × (r ≡ Ok (Answer.names ns))) (r ≡ Err NotHeld)
-Answers from past s (Command.files_of_commit g) r = cond (is_kept from past g) ((ns : List Text) × (r ≡ Ok (Answer.names ns))) (r ≡ Err NoCommit)
-Answers from past s (Command.chore c) r = cond (s == 0) ((n : News) × (r ≡ Ok (Answer.news n)) × IsTrue (may_tell c n)) (r ≡ Err NoForm)
+Answers from past s (Command.release_snapshot g) r =
+    r ≡ cond (ltb 0 (snapshots past g)) (Ok (Answer.number (snapshots past g - 1))) (Err NoSnapshot)
+Answers from past s (Command.files_of_token t) r =
+    cond (holds s t past) ((ns : List Text) × (r ≡ Ok (Answer.names ns))) (r ≡ Err NotHeld)
+Answers from past s (Command.files_of_commit g) r =
+    cond (is_kept from past g) ((ns : List Text) × (r ≡ Ok (Answer.names ns))) (r ≡ Err NoCommit)
+Answers from past s (Command.chore c) r =
+    cond (s == 0) ((n : News) × (r ≡ Ok (Answer.news n)) × IsTrue (may_tell c n)) (r ≡ Err NoForm)
 
 -- the exchange is a refusal that may stand in place of the answer
 abbrev pub Refuses : Command → Reply → Type 0
@@ -315,7 +326,8 @@ Refuses c r = (e : Refusal) × (r ≡ Err e) × IsTrue (may_refuse c e)
 -- `may_refuse` come last: an OK would fit. So a COMMIT judges its generation before it does anything: where none is left it
 -- is 16, and never 30.
 abbrev pub Stops : Opened → Run → ℕ → Command → Reply → Type 0
-Stops from past s c r = ((r ≡ Err Memory) × IsTrue (is_looked_at s c)) ⊎ (Refuses c r × ((a : Answer) × Answers from past s c (Ok a)))
+Stops from past s c r =
+    ((r ≡ Err Memory) × IsTrue (is_looked_at s c)) ⊎ (Refuses c r × ((a : Answer) × Answers from past s c (Ok a)))
 
 -- the reply fits the run before it
 abbrev pub Fits : Opened → Run → Exchange → Type 0

@@ -35,9 +35,13 @@ OpensEmpty schema (Err e) = e ≡ Memory
 
 -- what may come of the schema line: how the service is opened, or why it isn't
 pub data Begins (json : Json) (opens : Opening) (line : Text) : Result Opened Refusal → Type 0 where
-  opened : (factor least : ℕ) (text : Text) (schema : Schema) (r : Result Opened Refusal) → IsReadable line → SpellsSchema line factor least text → json.schema_of text ≡ Ok schema → opens schema r → Begins json opens line r
-  no_schema : (factor least : ℕ) (text : Text) (e : Refusal) → IsReadable line → SpellsSchema line factor least text → json.schema_of text ≡ Err e → Begins json opens line (Err e)
-  formless : (IsReadable line → (factor least : ℕ) (text : Text) → SpellsSchema line factor least text → ⊥) → Begins json opens line (Err NoForm)
+  opened : (factor least : ℕ) (text : Text) (schema : Schema) (r : Result Opened Refusal) → IsReadable line
+      → SpellsSchema line factor least text → json.schema_of text ≡ Ok schema → opens schema r
+      → Begins json opens line r
+  no_schema : (factor least : ℕ) (text : Text) (e : Refusal) → IsReadable line → SpellsSchema line factor least text
+      → json.schema_of text ≡ Err e → Begins json opens line (Err e)
+  formless : (IsReadable line → (factor least : ℕ) (text : Text) → SpellsSchema line factor least text → ⊥)
+      → Begins json opens line (Err NoForm)
 
 -- ---- the lines behind it
 
@@ -114,7 +118,9 @@ IsDue served refused lines text =
 
 -- What serving does, by how it ends: the reader goes from `input` to `left`, the writer from `before` to `after`. Two
 -- relations say which text answers a first line and the lines behind it, and which refusals a first line may get.
-abbrev pub ServesBy : (Text → List Text → Text → Type 0) → (Text → Refusal → Type 0) → (input left before after : Option Text) → Result (Unit {0}) Ending → Type 0
+abbrev pub ServesBy :
+    (Text → List Text → Text → Type 0) → (Text → Refusal → Type 0) → (input left before after : Option Text)
+    → Result (Unit {0}) Ending → Type 0
 -- the input is at its end, and all its lines are answered
 ServesBy served refused input left before after (Ok u) =
     (bytes : Text) × Consumes input left bytes × IsAtEnd left

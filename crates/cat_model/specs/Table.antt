@@ -54,7 +54,8 @@ stands t ws r = leb r.number t && not (list_any (replaces t r) ws)
 
 -- the table at the token t
 abbrev pub table : Start → List Write → ℕ → List Record
-table start writes t = filter (stands t (numbered start.token writes)) (start.records ++ filter_map put_by (numbered start.token writes))
+table start writes t =
+    filter (stands t (numbered start.token writes)) (start.records ++ filter_map put_by (numbered start.token writes))
 
 -- the records of other ids
 abbrev pub without : List Record → Write → List Record

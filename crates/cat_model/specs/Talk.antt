@@ -50,8 +50,11 @@ pub record IsTalk (lines : List Text) (output : Text) (talk : List Pair) : Type 
 -- What was read and written by a service that answered these lines: all, at the end of the input; or those that had
 -- ended, where a read failed.
 pub data Answering (json : Json) (opens : Opening) (input output : Text) : List Text → Type 0 where
-  to_the_end : Serves json opens (Some input) (Some []) (Some []) (Some output) (Ok tt) → Answering json opens input output (lines_of input)
-  to_a_fault : (left : Text) → Serves json opens (Some (input ++ left)) (Some left) (Some []) (Some output) (Err Ending.read) → Answering json opens input output (ended_lines input)
+  to_the_end : Serves json opens (Some input) (Some []) (Some []) (Some output) (Ok tt)
+      → Answering json opens input output (lines_of input)
+  to_a_fault :
+      (left : Text) → Serves json opens (Some (input ++ left)) (Some left) (Some []) (Some output) (Err Ending.read)
+      → Answering json opens input output (ended_lines input)
 
 -- the talk of a service, with its bytes
 pub record Talked (json : Json) (opens : Opening) (talk : List Pair) : Type 0 where
@@ -79,7 +82,7 @@ abbrev pub WritesAgree : ℕ → List Pair → List Pair → Type 0
 WritesAgree t one two = (n : ℕ) (text₁ text₂ : Text) → n ≤ t → IsWrite one n text₁ → IsWrite two n text₂ → text₁ ≡ text₂
 
 -- the session was answered t to an OPEN, and after that OK to no CLOSE t
-pub record Holds (past : List Pair) (s t : ℕ) : Type 0 where
+pub record ShowsHold (past : List Pair) (s t : ℕ) : Type 0 where
   pub before : List Pair
   pub since : List Pair
   pub text : Text
@@ -103,8 +106,8 @@ abbrev pub refusal_text : ℕ → ℕ → Text
 refusal_text s n = line_text (decimal s ∷ codes "NO" ∷ decimal n ∷ [])
 
 -- the line is too long or no text, a device failed, a file is damaged, memory was wanting
-abbrev pub is_excepted : ℕ → List Text
-is_excepted s = unreadable_text ∷ refusal_text s 30 ∷ refusal_text s 31 ∷ refusal_text s 40 ∷ []
+abbrev pub excepted_replies : ℕ → List Text
+excepted_replies s = unreadable_text ∷ refusal_text s 30 ∷ refusal_text s 31 ∷ refusal_text s 40 ∷ []
 
 -- a session that holds t says the text, and is answered so, which is no stop
 pub record HeldAsk (talk : List Pair) (t s : ℕ) (text reply : Text) : Type 0 where
@@ -112,8 +115,8 @@ pub record HeldAsk (talk : List Pair) (t s : ℕ) (text reply : Text) : Type 0 w
   pub past : List Pair
   pub later : List Pair
   pub split : talk ≡ past ++ record { line = decimal s ++ 32 ∷ text; reply = reply } ∷ later
-  pub held : Holds past s t
-  pub undisturbed : AllByRecursion (λ stop. reply ≢ stop) (is_excepted s)
+  pub held : ShowsHold past s t
+  pub undisturbed : AllByRecursion (λ stop. reply ≢ stop) (excepted_replies s)
 
 -- the same lines, each behind its session
 pub record AreAlike (s₁ s₂ : ℕ) (reply₁ reply₂ : Text) : Type 0 where
@@ -161,7 +164,9 @@ pub record IsShownInLines (i : Item) : Type 0 where
 
 -- an item that is read from a line is shown in lines
 abbrev pub ReadsLines : Json → Type 0
-ReadsLines json = (schema : Schema) (text : Text) (i : Item) → IsSchema schema → IsOneLine text → json.item_of schema text ≡ Ok i → IsShownInLines i
+ReadsLines json =
+    (schema : Schema) (text : Text) (i : Item) → IsSchema schema → IsOneLine text → json.item_of schema text ≡ Ok i
+    → IsShownInLines i
 
 -- the schema is one, the token is a number of a write, and the records are shown in lines
 pub record IsShownStart (start : Start) : Type 0 where
@@ -178,7 +183,8 @@ OpensAs from schema (Err e) = Unit {0}
 
 -- The two laws for services that are opened so. The generations of the two opened commits may differ.
 abbrev pub AnswersOfAnyStartAreTalks : Type 0
-AnswersOfAnyStartAreTalks = (json : Json) (from : Opened) → ReadsLines json → IsShownStart from.start → AnswersAreTalks json (OpensAs from)
+AnswersOfAnyStartAreTalks =
+    (json : Json) (from : Opened) → ReadsLines json → IsShownStart from.start → AnswersAreTalks json (OpensAs from)
 
 abbrev pub TalksOfOneStartAgree : Type 0
 TalksOfOneStartAgree =

@@ -1,7 +1,7 @@
 -- A talk that was judged by hand.
 use Rattle.std.specs.Prelude.{List, [], ◌∷◌, ◌++◌, codes}
 use Rattle.std.specs.List.{AllByRecursion}
-use Rattle.cat_model.specs.Talk.{Pair, IsReply, IsWrite, Holds, IsRead, HeldAsk}
+use Rattle.cat_model.specs.Talk.{Pair, IsReply, IsWrite, ShowsHold, IsRead, HeldAsk}
 
 -- what was said and replied before the read: session 7 holds 1, and session 8 held it
 abbrev pub said_before : List Pair
@@ -24,4 +24,4 @@ pub record SampleIsJudged : Type 0 where
   pub deleted : IsWrite said_at_all 2 (codes "DEL a")
   pub read : IsRead 1 (codes "FIND 1 10 . . *:*")
   pub asked : HeldAsk said_at_all 1 7 (codes "FIND 1 10 . . *:*") (codes "7 OK 1 1\n7 1 a .\n")
-  pub closed : Holds said_before 8 1 → ⊥
+  pub closed : ShowsHold said_before 8 1 → ⊥

@@ -106,7 +106,9 @@ Shows view rs = map row_of rs ≡ rows_in view
 -- the records of rows, whose sources stand one after the other, from the first byte on
 abbrev pub sourced : List Row → List ℕ → List Record
 sourced [] bytes = []
-sourced (row ∷ rows) bytes = record { number = row.number; item = record { id = row.id; fields = row.fields; source = take row.length bytes } } ∷ sourced rows (drop row.length bytes)
+sourced (row ∷ rows) bytes =
+    record { number = row.number; item = record { id = row.id; fields = row.fields; source = take row.length bytes } }
+    ∷ sourced rows (drop row.length bytes)
 
 -- the records of a view, where the files with the sources of its segments hold these bytes, by the numbers of the segments
 abbrev pub records_in : (ℕ → List ℕ) → View → List Record
@@ -115,7 +117,8 @@ records_in files view = flat_map (λ leaf. selected leaf.live (sourced leaf.segm
 -- No file is shorter than the sources of its segment's rows, so that each source ends within it. (A shorter one gives
 -- sources that are cut off, which no reader may show.)
 abbrev pub HoldSources : (ℕ → List ℕ) → View → Type 0
-HoldSources files view = All (λ leaf. sum (map (λ r. r.length) leaf.segment.rows) ≤ length (files leaf.segment.number)) view.leaves
+HoldSources files view =
+    All (λ leaf. sum (map (λ r. r.length) leaf.segment.rows) ≤ length (files leaf.segment.number)) view.leaves
 
 -- the names of the files that a searcher of the view needs
 abbrev pub needs : View → List Name
