@@ -15,57 +15,57 @@ and_true : (b : Bool) → (b && true) ≡ b
 and_true true = refl
 and_true false = refl
 
--- `word & (MAX << k)` has no bit below k, and the word's own from k on
-masked_bit : (word k i : ℕ) → k < 64 → i < 64 → has_bit (bit_and word ((2 ^ 64 - 1) * 2 ^ k % 2 ^ 64)) i ≡ cond (ltb i k) false (has_bit word i)
-masked_bit word k i within lt =
-    ap (λ mask. has_bit (bit_and word mask) i) (ones_shl 64 k (omega arith)) ∙ has_bit-and word (2 ^ 64 - 2 ^ k) i ∙ elim (cases_lt i k) [
+-- `block & (MAX << k)` has no bit below k, and the block's own from k on
+masked_bit : (block k i : ℕ) → k < 64 → i < 64 → has_bit (bit_and block ((2 ^ 64 - 1) * 2 ^ k % 2 ^ 64)) i ≡ cond (ltb i k) false (has_bit block i)
+masked_bit block k i within lt =
+    ap (λ mask. has_bit (bit_and block mask) i) (ones_shl 64 k (omega arith)) ∙ has_bit-and block (2 ^ 64 - 2 ^ k) i ∙ elim (cases_lt i k) [
       | inl below ↦
-          ap (λ n. has_bit word i && eqb n 1) (bit_at_mask_below k 64 i below) ∙ and_false (has_bit word i) ∙ sym (cond-true (ltb i k) false (has_bit word i) (lt-ltb i k below))
+          ap (λ n. has_bit block i && eqb n 1) (bit_at_mask_below k 64 i below) ∙ and_false (has_bit block i) ∙ sym (cond-true (ltb i k) false (has_bit block i) (lt-ltb i k below))
       | inr from ↦
-          ap (λ n. has_bit word i && eqb n 1) (bit_at_mask_inside k 64 i from lt) ∙ and_true (has_bit word i) ∙ sym (cond-false (ltb i k) false (has_bit word i) (le-ltb i k from))
+          ap (λ n. has_bit block i && eqb n 1) (bit_at_mask_inside k 64 i from lt) ∙ and_true (has_bit block i) ∙ sym (cond-false (ltb i k) false (has_bit block i) (le-ltb i k from))
     ]
 
--- The first words are 0, and the others stay.
-module _ (words zeros : List ℕ) (whole : ℕ) (within : whole ≤ length words) (e : zeros ≡ replicate (length (take whole words)) 0) where
+-- The first blocks are 0, and the others stay.
+module _ (blocks zeros : List ℕ) (whole : ℕ) (within : whole ≤ length blocks) (e : zeros ≡ replicate (length (take whole blocks)) 0) where
   zeros_long : length zeros ≡ whole
-  zeros_long = ap length e ∙ length-replicate {A = ℕ} (length (take whole words)) 0 ∙ length-take whole words ∙ omega arith
+  zeros_long = ap length e ∙ length-replicate {A = ℕ} (length (take whole blocks)) 0 ∙ length-take whole blocks ∙ omega arith
 
-  word_below : (k : ℕ) → k < whole → get_or (zeros ++ drop whole words) k 0 ≡ 0
-  word_below k lt =
-      get_or_append_left zeros (drop whole words) 0 k (omega (arith, zeros_long)) ∙ ap (λ l. get_or l k 0) e
-      ∙ get_or-replicate (length (take whole words)) k 0 0 (omega (arith, zeros_long, ap length e, length-replicate {A = ℕ} (length (take whole words)) 0))
+  block_below : (k : ℕ) → k < whole → get_or (zeros ++ drop whole blocks) k 0 ≡ 0
+  block_below k lt =
+      get_or_append_left zeros (drop whole blocks) 0 k (omega (arith, zeros_long)) ∙ ap (λ l. get_or l k 0) e
+      ∙ get_or-replicate (length (take whole blocks)) k 0 0 (omega (arith, zeros_long, ap length e, length-replicate {A = ℕ} (length (take whole blocks)) 0))
 
-  word_from : (k : ℕ) → whole ≤ k → get_or (zeros ++ drop whole words) k 0 ≡ get_or words k 0
-  word_from k from =
-      get_or-append_right zeros (drop whole words) whole k 0 zeros_long from ∙ get_or-drop whole words (k - whole) 0
-      ∙ ap (λ n. get_or words n 0) (omega arith)
+  block_from : (k : ℕ) → whole ≤ k → get_or (zeros ++ drop whole blocks) k 0 ≡ get_or blocks k 0
+  block_from k from =
+      get_or-append_right zeros (drop whole blocks) whole k 0 zeros_long from ∙ get_or-drop whole blocks (k - whole) 0
+      ∙ ap (λ n. get_or blocks n 0) (omega arith)
 
-  front_long : length (zeros ++ drop whole words) ≡ length words
-  front_long = length-append zeros (drop whole words) ∙ omega (arith, zeros_long, length-drop whole words)
+  front_long : length (zeros ++ drop whole blocks) ≡ length blocks
+  front_long = length-append zeros (drop whole blocks) ∙ omega (arith, zeros_long, length-drop whole blocks)
 
--- whole words are cleared, and the word of the row is masked
-pub below_cut : (words zeros : List ℕ) (row : ℕ) → row ≤ 64 * length words → zeros ≡ replicate (length (take (row / 64) words)) 0 → row % 64 ≢ 0
-    → (r : ℕ) → is_set (set (zeros ++ drop (row / 64) words) (row / 64) (bit_and (get_or (zeros ++ drop (row / 64) words) (row / 64) 0) ((2 ^ 64 - 1) * 2 ^ (row % 64) % 2 ^ 64))) r
-    ≡ cond (ltb r row) false (is_set words r)
-below_cut words zeros row le e cut r =
-    let front : List ℕ = zeros ++ drop (row / 64) words in
-    let word : ℕ = bit_and (get_or front (row / 64) 0) ((2 ^ 64 - 1) * 2 ^ (row % 64) % 2 ^ 64) in
-    let within : row / 64 ≤ length words = omega arith in
-    let long : length front ≡ length words = front_long words zeros (row / 64) within e in
+-- whole blocks are cleared, and the block of the row is masked
+pub below_cut : (blocks zeros : List ℕ) (row : ℕ) → row ≤ 64 * length blocks → zeros ≡ replicate (length (take (row / 64) blocks)) 0 → row % 64 ≢ 0
+    → (r : ℕ) → is_set (set (zeros ++ drop (row / 64) blocks) (row / 64) (bit_and (get_or (zeros ++ drop (row / 64) blocks) (row / 64) 0) ((2 ^ 64 - 1) * 2 ^ (row % 64) % 2 ^ 64))) r
+    ≡ cond (ltb r row) false (is_set blocks r)
+below_cut blocks zeros row le e cut r =
+    let front : List ℕ = zeros ++ drop (row / 64) blocks in
+    let block : ℕ = bit_and (get_or front (row / 64) 0) ((2 ^ 64 - 1) * 2 ^ (row % 64) % 2 ^ 64) in
+    let within : row / 64 ≤ length blocks = omega arith in
+    let long : length front ≡ length blocks = front_long blocks zeros (row / 64) within e in
     elim (cases_eq (r / 64) (row / 64)) [
       | inl same ↦
-          ap (λ n. has_bit n (r % 64)) (ap (λ n. get_or (set front (row / 64) word) n 0) same ∙ get_or-set_same front (row / 64) word 0 (omega arith))
+          ap (λ n. has_bit n (r % 64)) (ap (λ n. get_or (set front (row / 64) block) n 0) same ∙ get_or-set_same front (row / 64) block 0 (omega arith))
           ∙ masked_bit (get_or front (row / 64) 0) (row % 64) (r % 64) (omega arith) (omega arith)
-          ∙ ap (λ n. cond (ltb (r % 64) (row % 64)) false (has_bit n (r % 64))) (ap (λ n. get_or front n 0) (sym same) ∙ word_from words zeros (row / 64) within e (r / 64) (omega arith))
-          ∙ ap (λ b. cond b false (is_set words r)) (same_test (r / 64) (row / 64) (r % 64) (row % 64) r row same (omega arith) (omega arith))
+          ∙ ap (λ n. cond (ltb (r % 64) (row % 64)) false (has_bit n (r % 64))) (ap (λ n. get_or front n 0) (sym same) ∙ block_from blocks zeros (row / 64) within e (r / 64) (omega arith))
+          ∙ ap (λ b. cond b false (is_set blocks r)) (same_test (r / 64) (row / 64) (r % 64) (row % 64) r row same (omega arith) (omega arith))
       | inr away ↦
-          ap (λ n. has_bit n (r % 64)) (get_or-set_other front (row / 64) (r / 64) word 0 away) ∙ elim (cases_lt r row) [
+          ap (λ n. has_bit n (r % 64)) (get_or-set_other front (row / 64) (r / 64) block 0 away) ∙ elim (cases_lt r row) [
             | inl below ↦
-                ap (λ n. has_bit n (r % 64)) (word_below words zeros (row / 64) within e (r / 64) (omega arith)) ∙ has_bit-zero (r % 64)
-                ∙ sym (cond-true (ltb r row) false (is_set words r) (lt-ltb r row below))
+                ap (λ n. has_bit n (r % 64)) (block_below blocks zeros (row / 64) within e (r / 64) (omega arith)) ∙ has_bit-zero (r % 64)
+                ∙ sym (cond-true (ltb r row) false (is_set blocks r) (lt-ltb r row below))
             | inr from ↦
-                ap (λ n. has_bit n (r % 64)) (word_from words zeros (row / 64) within e (r / 64) (omega arith))
-                ∙ sym (cond-false (ltb r row) false (is_set words r) (le-ltb r row from))
+                ap (λ n. has_bit n (r % 64)) (block_from blocks zeros (row / 64) within e (r / 64) (omega arith))
+                ∙ sym (cond-false (ltb r row) false (is_set blocks r) (le-ltb r row from))
           ]
     ]
   where
@@ -78,25 +78,25 @@ below_cut words zeros row le e cut r =
 pub below_fits : (rows : ℕ) (old old' : List ℕ) (v : List Bool) (row : ℕ) → IsBits rows old → flags_of rows old ≡ v → old' ≡ old → row ≤ length v → row ≤ 64 * length old'
 below_fits rows old old' v row is e o le = omega (arith, flags-length rows old v e, is.long, ap length o)
 
--- the flags of the words from the row on
-flags-below : (rows : ℕ) (words new : List ℕ) (v : List Bool) (row : ℕ) → flags_of rows words ≡ v → row ≤ length v
-    → ((r : ℕ) → is_set new r ≡ cond (ltb r row) false (is_set words r)) → flags_of rows new ≡ replicate row false ++ drop row v
-flags-below rows words new v row e le each =
-    let long : length v ≡ rows = flags-length rows words v e in
+-- the flags of the blocks from the row on
+flags-below : (rows : ℕ) (blocks new : List ℕ) (v : List Bool) (row : ℕ) → flags_of rows blocks ≡ v → row ≤ length v
+    → ((r : ℕ) → is_set new r ≡ cond (ltb r row) false (is_set blocks r)) → flags_of rows new ≡ replicate row false ++ drop row v
+flags-below rows blocks new v row e le each =
+    let long : length v ≡ rows = flags-length rows blocks v e in
     are_flags rows new (replicate row false ++ drop row v)
     (length-append (replicate row false) (drop row v) ∙ omega (arith, length-replicate row false, length-drop row v))
     (λ r within. each r ∙ elim (cases_lt r row) [
       | inl below ↦
-          cond-true (ltb r row) false (is_set words r) (lt-ltb r row below)
+          cond-true (ltb r row) false (is_set blocks r) (lt-ltb r row below)
           ∙ sym (get_or_append_left (replicate row false) (drop row v) false r (omega (arith, length-replicate row false)) ∙ get_or-replicate row r false false below)
       | inr from ↦
-          cond-false (ltb r row) false (is_set words r) (le-ltb r row from) ∙ flag_at rows words v r e (omega arith)
+          cond-false (ltb r row) false (is_set blocks r) (le-ltb r row from) ∙ flag_at rows blocks v r e (omega arith)
           ∙ sym (get_or-append_right (replicate row false) (drop row v) row r false (length-replicate row false) from ∙ get_or-drop row v (r - row) false ∙ ap (λ n. get_or v n false) (omega arith))
     ])
 
-bits-below : (rows : ℕ) (words new : List ℕ) (row : ℕ) → IsBits rows words → length new ≡ length words
-    → ((r : ℕ) → is_set new r ≡ cond (ltb r row) false (is_set words r)) → IsBits rows new
-bits-below rows words new row is long each = record {
+bits-below : (rows : ℕ) (blocks new : List ℕ) (row : ℕ) → IsBits rows blocks → length new ≡ length blocks
+    → ((r : ℕ) → is_set new r ≡ cond (ltb r row) false (is_set blocks r)) → IsBits rows new
+bits-below rows blocks new row is long each = record {
   few = is.few;
   long = long ∙ is.long;
   clear = λ r past. each r ∙ ap (cond (ltb r row) false) (is.clear r past) ∙ by (ltb r row);

@@ -1,4 +1,4 @@
--- What a change of words does to the rows' flags.
+-- What a change of blocks does to the rows' flags.
 use Rattle.std.proofs.Common.{◌++◌, take, drop, ◌≡◌, ◌≢◌, ℕ, zero, suc, ◌+◌, ◌-◌, ◌*◌, ◌/◌, ◌%◌, ◌^◌, ◌<◌, ◌≤◌, min, max, Bool, true, false, not, ◌&&◌, ◌||◌, cond, eqb, ltb, List, [], ◌∷◌, length, map, set, get_or, refl, sym, ap, ◌∙◌, inl, inr, arith, eq-eqb, w64, replicate}
 use Rattle.std.specs.Prelude.{bit_and, bit_or}
 use Rattle.std.specs.Int.{bit_at, bit_not}
@@ -12,18 +12,18 @@ use Rattle.std.proofs.lemmas.Nat.Bits.{bit_at-lt, bit_at_and, bit_at_or, bit_at_
 use Rattle.cat_model.specs.RowSets.{joined, with_rows}
 use Rattle.cat_values.specs.Bits.{has_bit, is_set, flags_of, IsBits}
 
-pub length-flags_of : (rows : ℕ) (words : List ℕ) → length (flags_of rows words) ≡ rows
-length-flags_of rows words = length-map-range_with_len (is_set words) 0 rows
+pub length-flags_of : (rows : ℕ) (blocks : List ℕ) → length (flags_of rows blocks) ≡ rows
+length-flags_of rows blocks = length-map-range_with_len (is_set blocks) 0 rows
 
-pub get_or-flags_of : (rows : ℕ) (words : List ℕ) (row : ℕ) (d : Bool) → row < rows → get_or (flags_of rows words) row d ≡ is_set words row
-get_or-flags_of rows words row d lt = get_or-map-range_with_len (is_set words) 0 rows row row d lt (omega arith)
+pub get_or-flags_of : (rows : ℕ) (blocks : List ℕ) (row : ℕ) (d : Bool) → row < rows → get_or (flags_of rows blocks) row d ≡ is_set blocks row
+get_or-flags_of rows blocks row d lt = get_or-map-range_with_len (is_set blocks) 0 rows row row d lt (omega arith)
 
--- the words stand for the flags
-pub are_flags : (rows : ℕ) (words : List ℕ) (flags : List Bool) → length flags ≡ rows
-    → ((row : ℕ) → row < rows → is_set words row ≡ get_or flags row false) → flags_of rows words ≡ flags
-are_flags rows words flags long each =
-    ext_get_or false (flags_of rows words) flags (length-flags_of rows words ∙ sym long)
-    (λ row lt. let within : row < rows = omega (arith, length-flags_of rows words) in get_or-flags_of rows words row false within ∙ each row within)
+-- the blocks stand for the flags
+pub are_flags : (rows : ℕ) (blocks : List ℕ) (flags : List Bool) → length flags ≡ rows
+    → ((row : ℕ) → row < rows → is_set blocks row ≡ get_or flags row false) → flags_of rows blocks ≡ flags
+are_flags rows blocks flags long each =
+    ext_get_or false (flags_of rows blocks) flags (length-flags_of rows blocks ∙ sym long)
+    (λ row lt. let within : row < rows = omega (arith, length-flags_of rows blocks) in get_or-flags_of rows blocks row false within ∙ each row within)
 
 bit_and_test : (a b : ℕ) → a < 2 → b < 2 → eqb (min a b) 1 ≡ (eqb a 1 && eqb b 1)
 bit_and_test zero zero p q = refl
@@ -53,26 +53,26 @@ has_bit-not a i fits lt = ap (λ n. eqb n 1) (bit_at_not w64 a i fits lt) ∙ bi
 pub has_bit-zero : (i : ℕ) → has_bit 0 i ≡ false
 has_bit-zero i = ap (λ n. eqb n 1) (bit_at-zero i)
 
--- One word is written, and of its bits only that of the row changes.
-pub written : (words : List ℕ) (row word : ℕ) (b : Bool) → row / 64 < length words → has_bit word (row % 64) ≡ b
-    → ((i : ℕ) → i < 64 → i ≢ row % 64 → bit_at word i ≡ bit_at (get_or words (row / 64) 0) i)
-    → (r : ℕ) → is_set (set words (row / 64) word) r ≡ cond (eqb r row) b (is_set words r)
-written words row word b within here others r =
+-- One block is written, and of its bits only that of the row changes.
+pub written : (blocks : List ℕ) (row block : ℕ) (b : Bool) → row / 64 < length blocks → has_bit block (row % 64) ≡ b
+    → ((i : ℕ) → i < 64 → i ≢ row % 64 → bit_at block i ≡ bit_at (get_or blocks (row / 64) 0) i)
+    → (r : ℕ) → is_set (set blocks (row / 64) block) r ≡ cond (eqb r row) b (is_set blocks r)
+written blocks row block b within here others r =
     elim (cases_eq r row) [
-      | inl same ↦ rw (same, get_or-set_same words (row / 64) word 0 within) (here ∙ sym (cond-true (eqb row row) b (is_set words row) (eq-eqb row row refl)))
+      | inl same ↦ rw (same, get_or-set_same blocks (row / 64) block 0 within) (here ∙ sym (cond-true (eqb row row) b (is_set blocks row) (eq-eqb row row refl)))
       | inr apart ↦
           elim (cases_eq (r / 64) (row / 64)) [
-            | inl word_of ↦
-                ap (λ n. eqb (bit_at n (r % 64)) 1) (ap (λ n. get_or (set words (row / 64) word) n 0) word_of ∙ get_or-set_same words (row / 64) word 0 within)
-                ∙ ap (λ n. eqb n 1) (others (r % 64) (omega arith) (λ e. apart (omega arith)) ∙ ap (λ n. bit_at (get_or words n 0) (r % 64)) (sym word_of))
-                ∙ sym (cond-false (eqb r row) b (is_set words r) (ne_eqb r row apart))
+            | inl block_of ↦
+                ap (λ n. eqb (bit_at n (r % 64)) 1) (ap (λ n. get_or (set blocks (row / 64) block) n 0) block_of ∙ get_or-set_same blocks (row / 64) block 0 within)
+                ∙ ap (λ n. eqb n 1) (others (r % 64) (omega arith) (λ e. apart (omega arith)) ∙ ap (λ n. bit_at (get_or blocks n 0) (r % 64)) (sym block_of))
+                ∙ sym (cond-false (eqb r row) b (is_set blocks r) (ne_eqb r row apart))
             | inr away ↦
-                ap (λ n. eqb (bit_at n (r % 64)) 1) (get_or-set_other words (row / 64) (r / 64) word 0 away)
-                ∙ sym (cond-false (eqb r row) b (is_set words r) (ne_eqb r row apart))
+                ap (λ n. eqb (bit_at n (r % 64)) 1) (get_or-set_other blocks (row / 64) (r / 64) block 0 away)
+                ∙ sym (cond-false (eqb r row) b (is_set blocks r) (ne_eqb r row apart))
           ]
     ]
 
--- One operation on words does to each row what another does to flags.
+-- One operation on blocks does to each row what another does to flags.
 pub is_set_joined : (f : Bool → Bool → Bool) (g : ℕ → ℕ → ℕ) (old new other : List ℕ)
     → f false false ≡ false
     → ((a b i : ℕ) → i < 64 → b < 2 ^ 64 → has_bit (g a b) i ≡ f (has_bit a i) (has_bit b i))
@@ -83,8 +83,8 @@ pub is_set_joined : (f : Bool → Bool → Bool) (g : ℕ → ℕ → ℕ) (old 
 is_set_joined f g old new other none bits new_long other_long fits each row =
     elim (cases_lt (row / 64) (length old)) [
       | inr past ↦
-          let out : (words : List ℕ) → length words ≡ length old → is_set words row ≡ false =
-          λ words long. ap (λ n. has_bit n (row % 64)) (get_or_past words (row / 64) 0 (omega arith)) ∙ has_bit-zero (row % 64) in
+          let out : (blocks : List ℕ) → length blocks ≡ length old → is_set blocks row ≡ false =
+          λ blocks long. ap (λ n. has_bit n (row % 64)) (get_or_past blocks (row / 64) 0 (omega arith)) ∙ has_bit-zero (row % 64) in
           out new new_long ∙ sym (ap (λ b. f b (is_set other row)) (out old refl) ∙ ap (f false) (out other other_long) ∙ none)
       | inl within ↦
           ap (λ n. has_bit n (row % 64)) (each (row / 64) within) ∙ bits (get_or old (row / 64) 0) (get_or other (row / 64) 0) (row % 64) (omega arith) (fits (row / 64))
@@ -106,32 +106,32 @@ flags_of-joined f rows old new other each =
     map_same (is_set new) (λ row. f (is_set old row) (is_set other row)) each (range_with_len 0 rows)
     ∙ sym (joined-map f (is_set old) (is_set other) (range_with_len 0 rows))
 
-pub flags-length : (rows : ℕ) (words : List ℕ) (v : List Bool) → flags_of rows words ≡ v → length v ≡ rows
-flags-length rows words v e = sym (ap length e) ∙ length-flags_of rows words
+pub flags-length : (rows : ℕ) (blocks : List ℕ) (v : List Bool) → flags_of rows blocks ≡ v → length v ≡ rows
+flags-length rows blocks v e = sym (ap length e) ∙ length-flags_of rows blocks
 
-pub flag_at : (rows : ℕ) (words : List ℕ) (v : List Bool) (row : ℕ) → flags_of rows words ≡ v → row < length v → is_set words row ≡ get_or v row false
-flag_at rows words v row e lt =
-    let within : row < rows = omega (arith, flags-length rows words v e) in
-    sym (get_or-flags_of rows words row false within) ∙ ap (λ l. get_or l row false) e
+pub flag_at : (rows : ℕ) (blocks : List ℕ) (v : List Bool) (row : ℕ) → flags_of rows blocks ≡ v → row < length v → is_set blocks row ≡ get_or v row false
+flag_at rows blocks v row e lt =
+    let within : row < rows = omega (arith, flags-length rows blocks v e) in
+    sym (get_or-flags_of rows blocks row false within) ∙ ap (λ l. get_or l row false) e
 
 -- the set after one row is written
-pub flags-write : (rows : ℕ) (words new : List ℕ) (v : List Bool) (row : ℕ) (b : Bool) → flags_of rows words ≡ v → row < length v
-    → ((r : ℕ) → is_set new r ≡ cond (eqb r row) b (is_set words r)) → flags_of rows new ≡ set v row b
-flags-write rows words new v row b e lt each =
-    are_flags rows new (set v row b) (length-set v row b ∙ flags-length rows words v e)
+pub flags-write : (rows : ℕ) (blocks new : List ℕ) (v : List Bool) (row : ℕ) (b : Bool) → flags_of rows blocks ≡ v → row < length v
+    → ((r : ℕ) → is_set new r ≡ cond (eqb r row) b (is_set blocks r)) → flags_of rows new ≡ set v row b
+flags-write rows blocks new v row b e lt each =
+    are_flags rows new (set v row b) (length-set v row b ∙ flags-length rows blocks v e)
     (λ r within. each r ∙ elim (cases_eq r row) [
-      | inl same ↦ cond-true (eqb r row) b (is_set words r) (eq-eqb r row same) ∙ sym (ap (λ n. get_or (set v row b) n false) same ∙ get_or-set_same v row b false lt)
+      | inl same ↦ cond-true (eqb r row) b (is_set blocks r) (eq-eqb r row same) ∙ sym (ap (λ n. get_or (set v row b) n false) same ∙ get_or-set_same v row b false lt)
       | inr apart ↦
-          cond-false (eqb r row) b (is_set words r) (ne_eqb r row apart)
-          ∙ flag_at rows words v r e (omega (arith, flags-length rows words v e)) ∙ sym (get_or-set_other v row r b false apart)
+          cond-false (eqb r row) b (is_set blocks r) (ne_eqb r row apart)
+          ∙ flag_at rows blocks v r e (omega (arith, flags-length rows blocks v e)) ∙ sym (get_or-set_other v row r b false apart)
     ])
 
-pub bits-write : (rows : ℕ) (words new : List ℕ) (row : ℕ) (b : Bool) → IsBits rows words → length new ≡ length words → row < rows
-    → ((r : ℕ) → is_set new r ≡ cond (eqb r row) b (is_set words r)) → IsBits rows new
-bits-write rows words new row b is long lt each = record {
+pub bits-write : (rows : ℕ) (blocks new : List ℕ) (row : ℕ) (b : Bool) → IsBits rows blocks → length new ≡ length blocks → row < rows
+    → ((r : ℕ) → is_set new r ≡ cond (eqb r row) b (is_set blocks r)) → IsBits rows new
+bits-write rows blocks new row b is long lt each = record {
   few = is.few;
   long = long ∙ is.long;
-  clear = λ r past. each r ∙ cond-false (eqb r row) b (is_set words r) (ne_eqb r row (omega arith)) ∙ is.clear r past;
+  clear = λ r past. each r ∙ cond-false (eqb r row) b (is_set blocks r) (ne_eqb r row (omega arith)) ∙ is.clear r past;
 }
 
 pub flags-joined : (f : Bool → Bool → Bool) (rows rows' : ℕ) (old new other : List ℕ) (v u : List Bool)
@@ -155,31 +155,31 @@ pub same-long : (rows rows' : ℕ) (old other : List ℕ) → IsBits rows old �
 same-long rows rows' old other is is' same = is.long ∙ sym (ap (λ n. (n + 63) / 64) same) ∙ sym is'.long
 
 -- the set of no row, and of all rows
-pub bits-empty : (rows : ℕ) → rows < 2 ^ 32 → (words : List ℕ) → words ≡ replicate ((rows + 63) / 64) 0 → IsBits rows words × (flags_of rows words ≡ replicate rows false)
-bits-empty rows few words e =
-    let zeros : (k : ℕ) → get_or words k 0 ≡ 0 =
+pub bits-empty : (rows : ℕ) → rows < 2 ^ 32 → (blocks : List ℕ) → blocks ≡ replicate ((rows + 63) / 64) 0 → IsBits rows blocks × (flags_of rows blocks ≡ replicate rows false)
+bits-empty rows few blocks e =
+    let zeros : (k : ℕ) → get_or blocks k 0 ≡ 0 =
     λ k. ap (λ l. get_or l k 0) e ∙ elim (cases_lt k ((rows + 63) / 64)) [
       | inl within ↦ get_or-replicate ((rows + 63) / 64) k 0 0 within
       | inr past ↦ get_or_past (replicate ((rows + 63) / 64) 0) k 0 (omega (arith, length-replicate {A = ℕ} ((rows + 63) / 64) 0))
     ] in
-    let none : (r : ℕ) → is_set words r ≡ false = λ r. ap (λ n. has_bit n (r % 64)) (zeros (r / 64)) ∙ has_bit-zero (r % 64) in (
+    let none : (r : ℕ) → is_set blocks r ≡ false = λ r. ap (λ n. has_bit n (r % 64)) (zeros (r / 64)) ∙ has_bit-zero (r % 64) in (
       record { few = few; long = ap length e ∙ length-replicate {A = ℕ} ((rows + 63) / 64) 0; clear = λ r past. none r },
-      are_flags rows words (replicate rows false) (length-replicate rows false) (λ r lt. none r ∙ sym (get_or-replicate rows r false false lt)),
+      are_flags rows blocks (replicate rows false) (length-replicate rows false) (λ r lt. none r ∙ sym (get_or-replicate rows r false false lt)),
     )
 
-pub bits-full : (rows : ℕ) → rows < 2 ^ 32 → (words : List ℕ) → length words ≡ (rows + 63) / 64 → ((r : ℕ) → is_set words r ≡ ltb r rows)
-    → IsBits rows words × (flags_of rows words ≡ replicate rows true)
-bits-full rows few words long each = (
+pub bits-full : (rows : ℕ) → rows < 2 ^ 32 → (blocks : List ℕ) → length blocks ≡ (rows + 63) / 64 → ((r : ℕ) → is_set blocks r ≡ ltb r rows)
+    → IsBits rows blocks × (flags_of rows blocks ≡ replicate rows true)
+bits-full rows few blocks long each = (
   record { few = few; long = long; clear = λ r past. each r ∙ le-ltb r rows past },
-  are_flags rows words (replicate rows true) (length-replicate rows true) (λ r lt. each r ∙ lt-ltb r rows lt ∙ sym (get_or-replicate rows r true false lt)),
+  are_flags rows blocks (replicate rows true) (length-replicate rows true) (λ r lt. each r ∙ lt-ltb r rows lt ∙ sym (get_or-replicate rows r true false lt)),
 )
 
 ones_bit : (r : ℕ) → r < 64 → has_bit (2 ^ 64 - 1) r ≡ true
 ones_bit r lt = eq-eqb (bit_at (2 ^ 64 - 1) r) 1 (bit_at_ones 64 r lt)
 
--- words of ones, the last one cut
-pub full_whole : (rows : ℕ) (words : List ℕ) → words ≡ replicate ((rows + 63) / 64) (2 ^ 64 - 1) → rows % 64 ≡ 0 → (r : ℕ) → is_set words r ≡ ltb r rows
-full_whole rows words e whole r =
+-- blocks of ones, the last one cut
+pub full_whole : (rows : ℕ) (blocks : List ℕ) → blocks ≡ replicate ((rows + 63) / 64) (2 ^ 64 - 1) → rows % 64 ≡ 0 → (r : ℕ) → is_set blocks r ≡ ltb r rows
+full_whole rows blocks e whole r =
     elim (cases_lt r rows) [
       | inl within ↦
           ap (λ n. has_bit n (r % 64)) (ap (λ l. get_or l (r / 64) 0) e ∙ get_or-replicate ((rows + 63) / 64) (r / 64) (2 ^ 64 - 1) 0 (omega arith))
@@ -189,19 +189,19 @@ full_whole rows words e whole r =
           ∙ has_bit-zero (r % 64) ∙ sym (le-ltb r rows past)
     ]
 
-pub full_cut : (rows : ℕ) (old words : List ℕ) → old ≡ replicate ((rows + 63) / 64) (2 ^ 64 - 1) → rows % 64 ≢ 0
-    → words ≡ set old (rows / 64) (2 ^ (rows % 64) - 1) → (r : ℕ) → is_set words r ≡ ltb r rows
-full_cut rows old words e cut written r =
+pub full_cut : (rows : ℕ) (old blocks : List ℕ) → old ≡ replicate ((rows + 63) / 64) (2 ^ 64 - 1) → rows % 64 ≢ 0
+    → blocks ≡ set old (rows / 64) (2 ^ (rows % 64) - 1) → (r : ℕ) → is_set blocks r ≡ ltb r rows
+full_cut rows old blocks e cut written r =
     let long : length old ≡ (rows + 63) / 64 = ap length e ∙ length-replicate ((rows + 63) / 64) (2 ^ 64 - 1) in
     elim (cases_eq (r / 64) (rows / 64)) [
       | inl last ↦
-          let here : get_or words (r / 64) 0 ≡ 2 ^ (rows % 64) - 1 = ap (λ l. get_or l (r / 64) 0) written ∙ ap (λ n. get_or (set old (rows / 64) (2 ^ (rows % 64) - 1)) n 0) last ∙ get_or-set_same old (rows / 64) (2 ^ (rows % 64) - 1) 0 (omega arith) in
+          let here : get_or blocks (r / 64) 0 ≡ 2 ^ (rows % 64) - 1 = ap (λ l. get_or l (r / 64) 0) written ∙ ap (λ n. get_or (set old (rows / 64) (2 ^ (rows % 64) - 1)) n 0) last ∙ get_or-set_same old (rows / 64) (2 ^ (rows % 64) - 1) 0 (omega arith) in
           ap (λ n. has_bit n (r % 64)) here ∙ elim (cases_lt r rows) [
             | inl within ↦ eq-eqb (bit_at (2 ^ (rows % 64) - 1) (r % 64)) 1 (bit_at_ones (rows % 64) (r % 64) (omega arith)) ∙ sym (lt-ltb r rows within)
             | inr past ↦ ap (λ n. eqb n 1) (bit_at_ones_above (rows % 64) (r % 64) (omega arith)) ∙ sym (le-ltb r rows past)
           ]
       | inr away ↦
-          let there : get_or words (r / 64) 0 ≡ get_or (replicate ((rows + 63) / 64) (2 ^ 64 - 1)) (r / 64) 0 = ap (λ l. get_or l (r / 64) 0) written ∙ get_or-set_other old (rows / 64) (r / 64) (2 ^ (rows % 64) - 1) 0 away ∙ ap (λ l. get_or l (r / 64) 0) e in
+          let there : get_or blocks (r / 64) 0 ≡ get_or (replicate ((rows + 63) / 64) (2 ^ 64 - 1)) (r / 64) 0 = ap (λ l. get_or l (r / 64) 0) written ∙ get_or-set_other old (rows / 64) (r / 64) (2 ^ (rows % 64) - 1) 0 away ∙ ap (λ l. get_or l (r / 64) 0) e in
           ap (λ n. has_bit n (r % 64)) there ∙ elim (cases_lt r rows) [
             | inl within ↦
                 ap (λ n. has_bit n (r % 64)) (get_or-replicate ((rows + 63) / 64) (r / 64) (2 ^ 64 - 1) 0 (omega arith))
@@ -215,20 +215,20 @@ full_cut rows old words e cut written r =
 pub has_bit-and_not : (a b i : ℕ) → b < 2 ^ 64 → i < 64 → has_bit (bit_and a (bit_not w64 b)) i ≡ (has_bit a i && not (has_bit b i))
 has_bit-and_not a b i fits lt = has_bit-and a (bit_not w64 b) i ∙ ap (λ x. has_bit a i && x) (has_bit-not b i fits lt)
 
--- `|= 1 << k` and `&= !(1 << k)` in one word
-pub row_set : (words : List ℕ) (row : ℕ) → row < 64 * length words → (r : ℕ)
-    → is_set (set words (row / 64) (bit_or (get_or words (row / 64) 0) (1 * 2 ^ (row % 64) % 2 ^ 64))) r ≡ cond (eqb r row) true (is_set words r)
-row_set words row lt =
-    let w : ℕ = get_or words (row / 64) 0 in
-    written words row (bit_or w (1 * 2 ^ (row % 64) % 2 ^ 64)) true (omega arith)
+-- `|= 1 << k` and `&= !(1 << k)` in one block
+pub row_set : (blocks : List ℕ) (row : ℕ) → row < 64 * length blocks → (r : ℕ)
+    → is_set (set blocks (row / 64) (bit_or (get_or blocks (row / 64) 0) (1 * 2 ^ (row % 64) % 2 ^ 64))) r ≡ cond (eqb r row) true (is_set blocks r)
+row_set blocks row lt =
+    let w : ℕ = get_or blocks (row / 64) 0 in
+    written blocks row (bit_or w (1 * 2 ^ (row % 64) % 2 ^ 64)) true (omega arith)
     (eq-eqb (bit_at (bit_or w (1 * 2 ^ (row % 64) % 2 ^ 64)) (row % 64)) 1 (bit_at_set_same w64 w (row % 64) (omega arith)))
     (λ i within apart. bit_at_set_other w64 w (row % 64) (omega arith) i apart)
 
-pub row_cleared : (words : List ℕ) (row : ℕ) → row < 64 * length words → (r : ℕ)
-    → is_set (set words (row / 64) (bit_and (get_or words (row / 64) 0) (bit_not w64 (1 * 2 ^ (row % 64) % 2 ^ 64)))) r ≡ cond (eqb r row) false (is_set words r)
-row_cleared words row lt =
-    let w : ℕ = get_or words (row / 64) 0 in
-    written words row (bit_and w (bit_not w64 (1 * 2 ^ (row % 64) % 2 ^ 64))) false (omega arith)
+pub row_cleared : (blocks : List ℕ) (row : ℕ) → row < 64 * length blocks → (r : ℕ)
+    → is_set (set blocks (row / 64) (bit_and (get_or blocks (row / 64) 0) (bit_not w64 (1 * 2 ^ (row % 64) % 2 ^ 64)))) r ≡ cond (eqb r row) false (is_set blocks r)
+row_cleared blocks row lt =
+    let w : ℕ = get_or blocks (row / 64) 0 in
+    written blocks row (bit_and w (bit_not w64 (1 * 2 ^ (row % 64) % 2 ^ 64))) false (omega arith)
     (ap (λ n. eqb n 1) (bit_at_clear_same w64 w (row % 64) (omega arith)))
     (λ i within apart. bit_at_clear_other w64 w (row % 64) (omega arith) i within apart)
 
@@ -268,9 +268,9 @@ write_back rows n old old' new v row b is e lt o same len each =
 pub row_fits : (rows : ℕ) (old old' : List ℕ) (v : List Bool) (row : ℕ) → IsBits rows old → flags_of rows old ≡ v → old' ≡ old → row < length v → row < 64 * length old'
 row_fits rows old old' v row is e o lt = omega (arith, flags-length rows old v e, is.long, ap length o)
 
-pub length-full : (n w i x : ℕ) (words : List ℕ) → words ≡ replicate n w → (length words ≡ n) × (length (set words i x) ≡ n)
-length-full n w i x words e =
-    let long : length words ≡ n = ap length e ∙ length-replicate {A = ℕ} n w in (long, length-set words i x ∙ long)
+pub length-full : (n w i x : ℕ) (blocks : List ℕ) → blocks ≡ replicate n w → (length blocks ≡ n) × (length (set blocks i x) ≡ n)
+length-full n w i x blocks e =
+    let long : length blocks ≡ n = ap length e ∙ length-replicate {A = ℕ} n w in (long, length-set blocks i x ∙ long)
 
 eqb_sym : (a b : ℕ) → eqb a b ≡ eqb b a
 eqb_sym a b = elim (cases_eq a b) [
@@ -291,15 +291,15 @@ any_push p (y ∷ ys) x = ap (λ b. p y || b) (any_push p ys x) ∙ by (p y)
     by false = refl
 
 -- the bits after one more row is put in
-pub set_more : (rows : List ℕ) (i row : ℕ) (words old new : List ℕ) → i < length rows → row ≡ get_or rows i 0
-    → ((r : ℕ) → is_set old r ≡ (is_set words r || list_any (λ k. eqb k r) (take i rows)))
+pub set_more : (rows : List ℕ) (i row : ℕ) (blocks old new : List ℕ) → i < length rows → row ≡ get_or rows i 0
+    → ((r : ℕ) → is_set old r ≡ (is_set blocks r || list_any (λ k. eqb k r) (take i rows)))
     → ((r : ℕ) → is_set new r ≡ cond (eqb r row) true (is_set old r))
-    → (r : ℕ) → is_set new r ≡ (is_set words r || list_any (λ k. eqb k r) (take (i + 1) rows))
-set_more rows i row words old new lt is before step r =
+    → (r : ℕ) → is_set new r ≡ (is_set blocks r || list_any (λ k. eqb k r) (take (i + 1) rows))
+set_more rows i row blocks old new lt is before step r =
     let all : list_any (λ k. eqb k r) (take (i + 1) rows) ≡ (list_any (λ k. eqb k r) (take i rows) || eqb row r) =
     ap (list_any (λ k. eqb k r)) (take_more rows i 0 lt ∙ ap (λ x. take i rows ++ x ∷ []) (sym is)) ∙ any_push (λ k. eqb k r) (take i rows) row in
-    step r ∙ ap (λ b. cond (eqb r row) true b) (before r) ∙ by (eqb r row) (eqb row r) (is_set words r) (list_any (λ k. eqb k r) (take i rows)) (eqb_sym r row)
-    ∙ ap (λ b. is_set words r || b) (sym all)
+    step r ∙ ap (λ b. cond (eqb r row) true b) (before r) ∙ by (eqb r row) (eqb row r) (is_set blocks r) (list_any (λ k. eqb k r) (take i rows)) (eqb_sym r row)
+    ∙ ap (λ b. is_set blocks r || b) (sym all)
   where
     by : (a a' b d : Bool) → a ≡ a' → cond a true (b || d) ≡ (b || (d || a'))
     by true true true d e = refl
@@ -318,7 +318,7 @@ none_past (x ∷ xs) len r below past =
     ap (λ b. b || list_any (λ k. eqb k r) xs) (ne_eqb x r (λ e. absurd (omega arith)))
     ∙ none_past xs len r (λ k lt. below (suc k) (omega arith)) past
 
--- the rows fit into the words
+-- the rows fit into the blocks
 pub rows_fit : (len : ℕ) (old old' : List ℕ) (v : List Bool) (rows : List ℕ) → IsBits len old → flags_of len old ≡ v → old' ≡ old
     → All (λ r. r < length v) rows → All (λ r. r < 64 * length old') rows
 rows_fit len old old' v rows is e o below k d lt = row_fits len old old' v (get_or rows k d) is e o (below k d lt)

@@ -8,14 +8,14 @@ use Rattle.cat_base.specs.Texts.{sorted_set}
 use Rattle.cat_base.proofs.TextSets.{has-sorted_set, has-Decides}
 use Rattle.cat_model.specs.Text.{Text, same_text}
 use Rattle.cat_model.specs.Ordinals.{texts_of, dictionary_of}
-use Rattle.cat_values.specs.Columns.{texts_seen, HasLabel, label_at, IsKeywords}
+use Rattle.cat_values.specs.Columns.{texts_behind, HasText, text_of_code, IsKeywords}
 use Rattle.cat_values.proofs.Members.{length-sorted_set, gathered_all}
 
 -- the texts behind references are those of the rows
-pub seen_texts : (vs : List (Option (Bor Text))) → flat_map texts_seen vs ≡ flat_map (λ texts. texts) (map texts_of (map (option_map (λ t. t.now)) vs))
-seen_texts [] = refl
-seen_texts (None ∷ vs) = seen_texts vs
-seen_texts (Some t ∷ vs) = ap (λ l. t.now ∷ l) (seen_texts vs)
+pub texts_behind-all : (vs : List (Option (Bor Text))) → flat_map texts_behind vs ≡ flat_map (λ texts. texts) (map texts_of (map (option_map (λ t. t.now)) vs))
+texts_behind-all [] = refl
+texts_behind-all (None ∷ vs) = texts_behind-all vs
+texts_behind-all (Some t ∷ vs) = ap (λ l. t.now ∷ l) (texts_behind-all vs)
 
 pub length-texts_of : (vs : List (Option Text)) → length (flat_map (λ texts. texts) (map texts_of vs)) ≤ length vs
 length-texts_of [] = omega arith
@@ -25,44 +25,44 @@ length-texts_of (Some t ∷ vs) = omega (arith, length-texts_of vs)
 pub length-dictionary_of : (vs : List (Option Text)) → length (dictionary_of (map texts_of vs)) ≤ length vs
 length-dictionary_of vs = omega (arith, length-sorted_set (flat_map (λ texts. texts) (map texts_of vs)), length-texts_of vs)
 
-label_more : (t : Text) (xs : List Text) (o : Option Text) → HasLabel xs o → HasLabel (t ∷ xs) o
-label_more t xs None h = tt
-label_more t xs (Some u) h = (suc h.0, (let lt = h.1 in omega arith), h.2)
+text_more : (t : Text) (xs : List Text) (o : Option Text) → HasText xs o → HasText (t ∷ xs) o
+text_more t xs None h = tt
+text_more t xs (Some u) h = (suc h.0, (let lt = h.1 in omega arith), h.2)
 
-has_texts : (vs : List (Option (Bor Text))) → All (λ v. HasLabel (flat_map texts_seen vs) (option_map (λ t. t.now) v)) vs
+has_texts : (vs : List (Option (Bor Text))) → All (λ v. HasText (flat_map texts_behind vs) (option_map (λ t. t.now) v)) vs
 has_texts [] k d lt = absurd (omega arith)
 has_texts (None ∷ vs) zero d lt = tt
 has_texts (None ∷ vs) (suc k) d lt = has_texts vs k d (omega arith)
 has_texts (Some t ∷ vs) zero d lt = (0, omega arith, refl)
-has_texts (Some t ∷ vs) (suc k) d lt = label_more t.now (flat_map texts_seen vs) (option_map (λ t. t.now) (get_or vs k d)) (has_texts vs k d (omega arith))
+has_texts (Some t ∷ vs) (suc k) d lt = text_more t.now (flat_map texts_behind vs) (option_map (λ t. t.now) (get_or vs k d)) (has_texts vs k d (omega arith))
 
-label_sorted : (xs : List Text) (o : Option Text) → HasLabel xs o → HasLabel (sorted_set xs) o
-label_sorted xs None h = tt
-label_sorted xs (Some t) h = (has-Decides t (sorted_set xs)).0 (has-sorted_set t xs ∙ (has-Decides t xs).1 h)
+text_sorted : (xs : List Text) (o : Option Text) → HasText xs o → HasText (sorted_set xs) o
+text_sorted xs None h = tt
+text_sorted xs (Some t) h = (has-Decides t (sorted_set xs)).0 (has-sorted_set t xs ∙ (has-Decides t xs).1 h)
 
 -- the dictionary of the rows has each row's text
-pub each_label : (vs : List (Option (Bor Text))) → All (λ v. HasLabel (sorted_set (flat_map texts_seen vs)) (option_map (λ t. t.now) v)) vs
-each_label vs k d lt = label_sorted (flat_map texts_seen vs) (option_map (λ t. t.now) (get_or vs k d)) (has_texts vs k d lt)
+pub each_text : (vs : List (Option (Bor Text))) → All (λ v. HasText (sorted_set (flat_map texts_behind vs)) (option_map (λ t. t.now) v)) vs
+each_text vs k d lt = text_sorted (flat_map texts_behind vs) (option_map (λ t. t.now) (get_or vs k d)) (has_texts vs k d lt)
 
 -- the dictionary of the labels that were gathered is that of the rows
 module _ (vs : List (Option (Bor Text))) (ks : List (Bor Text)) (ds : List Text) (of : ds ≡ sorted_set (map (λ k. k.now) ks))
-    (gathered : (q : Text) → list_any (λ k. same_text q k.now) ks ≡ list_any (same_text q) (flat_map texts_seen vs)) where
-  seen_dictionary : ds ≡ sorted_set (flat_map texts_seen vs)
-  seen_dictionary = of ∙ gathered_all ks (flat_map texts_seen vs) gathered
+    (gathered : (q : Text) → list_any (λ k. same_text q k.now) ks ≡ list_any (same_text q) (flat_map texts_behind vs)) where
+  gathered_dictionary : ds ≡ sorted_set (flat_map texts_behind vs)
+  gathered_dictionary = of ∙ gathered_all ks (flat_map texts_behind vs) gathered
 
   pub keywords_dictionary : ds ≡ dictionary_of (map texts_of (map (option_map (λ t. t.now)) vs))
-  keywords_dictionary = seen_dictionary ∙ ap sorted_set (seen_texts vs)
+  keywords_dictionary = gathered_dictionary ∙ ap sorted_set (texts_behind-all vs)
 
   pub keywords_few : length vs < 2 ^ 32 → length ds < 2 ^ 32
   keywords_few few =
       omega (arith, ap length keywords_dictionary, length-dictionary_of (map (option_map (λ t. t.now)) vs), length-map vs (option_map {T = Bor Text} {U = Text} (λ t. t.now)))
 
-  pub keywords_there : All (λ v. HasLabel ds (option_map (λ t. t.now) v)) vs
-  keywords_there = subst (λ (l : List Text). All (λ v. HasLabel l (option_map (λ t. t.now) v)) vs) (sym seen_dictionary) (each_label vs)
+  pub keywords_there : All (λ v. HasText ds (option_map (λ t. t.now) v)) vs
+  keywords_there = subst (λ (l : List Text). All (λ v. HasText l (option_map (λ t. t.now) v)) vs) (sym gathered_dictionary) (each_text vs)
 
-  pub IsKeywords-of : (codes : List ℕ) → length vs < 2 ^ 32 → map (label_at ds) codes ≡ map (option_map (λ t. t.now)) vs → All (λ code. code ≤ length ds) codes → IsKeywords ds codes
+  pub IsKeywords-of : (codes : List ℕ) → length vs < 2 ^ 32 → map (text_of_code ds) codes ≡ map (option_map (λ t. t.now)) vs → All (λ code. code ≤ length ds) codes → IsKeywords ds codes
   IsKeywords-of codes few values bound = record {
-    few = omega (arith, length-map codes (label_at ds), ap length values, length-map vs (option_map {T = Bor Text} {U = Text} (λ t. t.now)));
+    few = omega (arith, length-map codes (text_of_code ds), ap length values, length-map vs (option_map {T = Bor Text} {U = Text} (λ t. t.now)));
     within = bound;
     whole = keywords_dictionary ∙ sym (ap (λ (l : List (Option Text)). dictionary_of (map texts_of l)) values);
   }

@@ -23,8 +23,8 @@ mask_is n w fits =
     same_from_bits_below n (mask_l ms) w (subst (λ k. mask_l ms < 2 ^ k) (length-map-range_with_len (has_bit w) 0 n) (mask_l-lt ms)) fits
     (λ i lt. bit_mask_l ms i ∙ ap (λ b. cond b 1 0) (get_or-map-range_with_len (has_bit w) 0 n i i false lt (omega arith)) ∙ bit_back (bit_at w i) (bit_at-lt w i))
 
-ones_in_word : (n w : ℕ) → w < 2 ^ n → count_ones w ≡ count_by (has_bit w) (range_with_len 0 n)
-ones_in_word n w fits = ap count_ones (sym (mask_is n w fits)) ∙ ones-mask_l (has_bit w) (range_with_len 0 n)
+ones_in_block : (n w : ℕ) → w < 2 ^ n → count_ones w ≡ count_by (has_bit w) (range_with_len 0 n)
+ones_in_block n w fits = ap count_ones (sym (mask_is n w fits)) ∙ ones-mask_l (has_bit w) (range_with_len 0 n)
 
 pub range_split : (a m n : ℕ) → range_with_len a (m + n) ≡ range_with_len a m ++ range_with_len (a + m) n
 range_split a zero n =
@@ -61,30 +61,30 @@ count_none p a (suc n) none =
     sum_by-cons (λ x. cond (p x) 1 0) a (range_with_len (a + 1) n)
     ∙ ap (λ k. cond (p a) 1 0 + k) (count_none p (a + 1) n (λ i le. none i (omega arith))) ∙ ap (λ t. cond t 1 0 + 0) (none a (omega arith))
 
-first_word : (w : ℕ) (ws : List ℕ) (row : ℕ) → row < 64 → is_set (w ∷ ws) row ≡ has_bit w row
-first_word w ws row lt =
-    let word : row / 64 ≡ 0 = omega arith in
+first_block : (w : ℕ) (ws : List ℕ) (row : ℕ) → row < 64 → is_set (w ∷ ws) row ≡ has_bit w row
+first_block w ws row lt =
+    let block : row / 64 ≡ 0 = omega arith in
     let bit : row % 64 ≡ row = omega arith in
-    ap (λ k. has_bit (get_or (w ∷ ws) k 0) (row % 64)) word ∙ ap (has_bit w) bit
+    ap (λ k. has_bit (get_or (w ∷ ws) k 0) (row % 64)) block ∙ ap (has_bit w) bit
 
-later_word : (w : ℕ) (ws : List ℕ) (row : ℕ) → is_set (w ∷ ws) (64 + row) ≡ is_set ws row
-later_word w ws row =
-    let word : (64 + row) / 64 ≡ suc (row / 64) = omega arith in
+later_block : (w : ℕ) (ws : List ℕ) (row : ℕ) → is_set (w ∷ ws) (64 + row) ≡ is_set ws row
+later_block w ws row =
+    let block : (64 + row) / 64 ≡ suc (row / 64) = omega arith in
     let bit : (64 + row) % 64 ≡ row % 64 = omega arith in
-    ap (λ k. has_bit (get_or (w ∷ ws) k 0) ((64 + row) % 64)) word ∙ ap (has_bit (get_or ws (row / 64) 0)) bit
+    ap (λ k. has_bit (get_or (w ∷ ws) k 0) ((64 + row) % 64)) block ∙ ap (has_bit (get_or ws (row / 64) 0)) bit
 
--- word by word
-pub count_rows : (n : ℕ) → n ≡ 64 → (words : List ℕ) → ((k : ℕ) → get_or words k 0 < 2 ^ n)
-    → sum_by count_ones words ≡ count_by (is_set words) (range_with_len 0 (n * length words))
+-- block by block
+pub count_rows : (n : ℕ) → n ≡ 64 → (blocks : List ℕ) → ((k : ℕ) → get_or blocks k 0 < 2 ^ n)
+    → sum_by count_ones blocks ≡ count_by (is_set blocks) (range_with_len 0 (n * length blocks))
 count_rows n e [] fits =
     let none : 0 ≡ n * 0 = omega arith in ap (λ k. count_by (is_set []) (range_with_len 0 k)) none
 count_rows n e (w ∷ ws) fits =
     let all : n + n * length ws ≡ n * suc (length ws) = omega (arith, mul-suc n (length ws)) in
     sum_by-cons count_ones w ws
-    ∙ ap (λ k. k + sum_by count_ones ws) (ones_in_word n w (fits 0) ∙ sym (count_moved (is_set (w ∷ ws)) (has_bit w) 0 0 n (λ i lt. first_word w ws (0 + i) (omega arith))))
+    ∙ ap (λ k. k + sum_by count_ones ws) (ones_in_block n w (fits 0) ∙ sym (count_moved (is_set (w ∷ ws)) (has_bit w) 0 0 n (λ i lt. first_block w ws (0 + i) (omega arith))))
     ∙ ap (λ k. count_by (is_set (w ∷ ws)) (range_with_len 0 n) + k)
     (count_rows n e ws (λ k. fits (suc k)) ∙ sym (count_moved (is_set (w ∷ ws)) (is_set ws) (0 + n) 0 (n * length ws) (λ i lt.
-    let at : 0 + n + i ≡ 64 + (0 + i) = omega arith in ap (is_set (w ∷ ws)) at ∙ later_word w ws (0 + i))))
+    let at : 0 + n + i ≡ 64 + (0 + i) = omega arith in ap (is_set (w ∷ ws)) at ∙ later_block w ws (0 + i))))
     ∙ sym (count_split (is_set (w ∷ ws)) 0 n (n * length ws))
     ∙ ap (λ k. count_by (is_set (w ∷ ws)) (range_with_len 0 k)) all
 
@@ -93,16 +93,16 @@ count_of_map p [] = refl
 count_of_map p (x ∷ xs) =
     sum_by-cons (λ b. cond b 1 0) (p x) (map p xs) ∙ ap (λ k. cond (p x) 1 0 + k) (count_of_map p xs) ∙ sym (sum_by-cons (λ y. cond (p y) 1 0) x xs)
 
-pub count_flags : (rows : ℕ) (words words' : List ℕ) (v : List Bool) → IsBits rows words → flags_of rows words ≡ v → words' ≡ words
-    → count_by (is_set words') (range_with_len 0 (64 * length words')) ≡ count_by (λ b. b) v
-count_flags rows words words' v is e same =
-    let more : rows + (64 * length words - rows) ≡ 64 * length words = omega (arith, is.long) in
+pub count_flags : (rows : ℕ) (blocks blocks' : List ℕ) (v : List Bool) → IsBits rows blocks → flags_of rows blocks ≡ v → blocks' ≡ blocks
+    → count_by (is_set blocks') (range_with_len 0 (64 * length blocks')) ≡ count_by (λ b. b) v
+count_flags rows blocks blocks' v is e same =
+    let more : rows + (64 * length blocks - rows) ≡ 64 * length blocks = omega (arith, is.long) in
     ap (λ l. count_by (is_set l) (range_with_len 0 (64 * length l))) same
-    ∙ ap (λ k. count_by (is_set words) (range_with_len 0 k)) (sym more)
-    ∙ count_split (is_set words) 0 rows (64 * length words - rows)
-    ∙ ap (λ k. count_by (is_set words) (range_with_len 0 rows) + k) (count_none (is_set words) (0 + rows) (64 * length words - rows) (λ i le. is.clear i (omega arith)))
+    ∙ ap (λ k. count_by (is_set blocks) (range_with_len 0 k)) (sym more)
+    ∙ count_split (is_set blocks) 0 rows (64 * length blocks - rows)
+    ∙ ap (λ k. count_by (is_set blocks) (range_with_len 0 rows) + k) (count_none (is_set blocks) (0 + rows) (64 * length blocks - rows) (λ i le. is.clear i (omega arith)))
     ∙ omega arith
-    ∙ sym (count_of_map (is_set words) (range_with_len 0 rows)) ∙ ap (count_by (λ b. b)) e
+    ∙ sym (count_of_map (is_set blocks) (range_with_len 0 rows)) ∙ ap (count_by (λ b. b)) e
 
 -- all are counted where each is true
 pub all_counted : (set : List Bool) → length set ≤ count_by (λ b. b) set → (k : ℕ) → k < length set → get_or set k false ≡ true

@@ -135,13 +135,13 @@ rows_sets (r ∷ rows) all (suc k) d lt = rows_sets rows (λ j e l. all (suc j) 
 -- the dictionary of the labels that were gathered is that of the rows
 module _ (rows : List (Bor (List Text))) (ks : List (Bor Text)) (ds : List Text) (of : ds ≡ sorted_set (map (λ k. k.now) ks))
     (gathered : (q : Text) → list_any (λ k. same_text q k.now) ks ≡ list_any (same_text q) (flat_map (λ row. row.now) rows)) where
-  seen_dictionary : ds ≡ sorted_set (flat_map (λ row. row.now) rows)
-  seen_dictionary = of ∙ gathered_all ks (flat_map (λ row. row.now) rows) gathered
+  gathered_dictionary : ds ≡ sorted_set (flat_map (λ row. row.now) rows)
+  gathered_dictionary = of ∙ gathered_all ks (flat_map (λ row. row.now) rows) gathered
 
   pub sets_there : All (λ row. All (Contains ds) row.now) rows
   sets_there k d lt j e l =
       let q : Text = get_or (get_or rows k d).now j e in
-      subst (λ (xs : List Text). Contains xs q) (sym seen_dictionary) (sorted_has (flat_map (λ row. row.now) rows) q (each_joined rows k d lt j e l))
+      subst (λ (xs : List Text). Contains xs q) (sym gathered_dictionary) (sorted_has (flat_map (λ row. row.now) rows) q (each_joined rows k d lt j e l))
 
   module _ (ends ordinals : List ℕ) (ends_is : ends ≡ ends_from 0 (map (λ row. row.now) rows)) (texts_are : map (text_at ds) ordinals ≡ flat_map (λ row. row.now) rows) where
     pub laid_rows : pieces 0 ends (map (text_at ds) ordinals) ≡ map (λ row. row.now) rows
@@ -155,7 +155,7 @@ module _ (rows : List (Bor (List Text))) (ks : List (Bor Text)) (ds : List Text)
       parts = subst (λ es. AreEnds 0 es (length ordinals)) (sym ends_is)
           (AreEnds-ends_from (map (λ row. row.now) rows) (length ordinals) (sym (length-map ordinals (text_at ds)) ∙ ap length (texts_are ∙ joined_now rows)));
       within = bound;
-      whole = seen_dictionary ∙ ap sorted_set (joined_now rows) ∙ sym (ap dictionary_of laid_rows);
+      whole = gathered_dictionary ∙ ap sorted_set (joined_now rows) ∙ sym (ap dictionary_of laid_rows);
       sets = subst (λ l. All IsTextSet l) (sym laid_rows) (rows_sets rows sets);
     }
 
@@ -165,7 +165,7 @@ module _ (ds : List Text) (ends ordinals : List ℕ) (v : List (List Text)) (is 
   rows_ends = sym (ap length view) ∙ length-pieces 0 ends (map (text_at ds) ordinals)
 
   pub row_within : (row : ℕ) → row < length v → (get_or (0 ∷ ends) row 0 ≤ get_or ends row 0) × (get_or ends row 0 ≤ length ordinals)
-  row_within row lt = part_within 0 ends (length ordinals) row is.fields (omega (arith, rows_ends))
+  row_within row lt = part_within 0 ends (length ordinals) row is.parts (omega (arith, rows_ends))
 
   pub row_texts : (row : ℕ) (ends' ordinals' : List ℕ) (start end : ℕ) → row < length v → ends' ≡ ends → ordinals' ≡ ordinals → start ≡ get_or (0 ∷ ends') row 0
       → end ≡ get_or ends row end → map (text_at (dictionary_of v)) (take (end - start) (drop start ordinals')) ≡ get_or v row []

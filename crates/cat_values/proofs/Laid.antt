@@ -15,7 +15,7 @@ use Rattle.cat_base.proofs.TextSets.{sorted_set_members, sorted_set_only}
 use Rattle.cat_model.specs.Text.{Text}
 use Rattle.cat_model.specs.Layout.{ordinal_in, code_in, keywords_of, pieces, AreEnds}
 use Rattle.cat_model.specs.Ordinals.{text_at, texts_of, dictionary_of}
-use Rattle.cat_values.specs.Columns.{label_at, HasLabel, IsKeywords, IsSets, AreCodes, AreOrdinals}
+use Rattle.cat_values.specs.Columns.{text_of_code, HasText, IsKeywords, IsSets, AreCodes, AreOrdinals, HasNoKeywords, HasNoSets}
 use Rattle.cat_values.proofs.Codes.{length-dictionary_of}
 use Rattle.cat_values.proofs.Cuts.{joined_rows}
 use Rattle.cat_values.proofs.Members.{length-sorted_set}
@@ -63,14 +63,14 @@ dictionary_had rows t h = (sorted_set_members (joined_rows rows) t).0 h
 
 -- ---- keywords
 
-keyword_there : (vs : List (Option Text)) (v : Option Text) → Contains vs v → HasLabel (keywords_of vs) v
+keyword_there : (vs : List (Option Text)) (v : Option Text) → Contains vs v → HasText (keywords_of vs) v
 keyword_there vs None h = tt
 keyword_there vs (Some t) h = dictionary_has (map texts_of vs) t (texts_have vs t h)
 
-pub keywords_there : (vs : List (Option Text)) → All (HasLabel (keywords_of vs)) vs
+pub keywords_there : (vs : List (Option Text)) → All (HasText (keywords_of vs)) vs
 keywords_there vs k d lt = keyword_there vs (get_or vs k d) (Contains-get_or vs k d lt)
 
-code_within : (ds : List Text) (v : Option Text) → HasLabel ds v → code_in ds v ≤ length ds
+code_within : (ds : List Text) (v : Option Text) → HasText ds v → code_in ds v ≤ length ds
 code_within ds None h = omega arith
 code_within ds (Some t) h = omega (arith, ordinal_within ds t h)
 
@@ -96,46 +96,53 @@ keywords_rise ds vs e = subst (λ (l : List Text). IsTextSet l) e (dictionary_ri
 pub AreCodes-of : (ds : List Text) (codes : List ℕ) (vs : List (Option Text)) → keywords_of vs ≡ ds → map (code_in (keywords_of vs)) vs ≡ codes → AreCodes (length ds) codes
 AreCodes-of ds codes vs e laid = subst (λ (l : List ℕ). AreCodes (length ds) l) laid (subst (λ (l : List Text). AreCodes (length l) (map (code_in (keywords_of vs)) vs)) e (codes_of vs))
 
-label_had : (ds : List Text) (code : ℕ) (t : Text) → code ≤ length ds → label_at ds code ≡ Some t → Contains ds t
+label_had : (ds : List Text) (code : ℕ) (t : Text) → code ≤ length ds → text_of_code ds code ≡ Some t → Contains ds t
 label_had ds zero t le e = absurd (cc)
 label_had ds (suc o) t le e = let same : text_at ds o ≡ t = cc in subst (λ (s : Text). Contains ds s) same (Contains-get_or ds o [] (omega arith))
 
 -- and each such pair makes a column
 module _ (ds : List Text) (codes : List ℕ) (sorted : IsTextSet ds) (are : AreCodes (length ds) codes) where
-  labels_have : (t : Text) → Contains ds t → Contains (joined_rows (map texts_of (map (label_at ds) codes))) t
+  labels_have : (t : Text) → Contains ds t → Contains (joined_rows (map texts_of (map (text_of_code ds) codes))) t
   labels_have t h =
       let o : ℕ = ordinal_in ds t in
       let code : o + 1 ≡ suc o = omega arith in
       let there : Contains codes (suc o) = subst (λ k. Contains codes k) code (are.used o (ordinal_within ds t h)) in
-      texts_have (map (label_at ds) codes) t (subst (λ (s : Text). Contains (map (label_at ds) codes) (Some s)) (text_back ds t h) (mapped (label_at ds) codes (suc o) there))
+      texts_have (map (text_of_code ds) codes) t (subst (λ (s : Text). Contains (map (text_of_code ds) codes) (Some s)) (text_back ds t h) (mapped (text_of_code ds) codes (suc o) there))
 
-  labels_had : (t : Text) → Contains (joined_rows (map texts_of (map (label_at ds) codes))) t → Contains ds t
+  labels_had : (t : Text) → Contains (joined_rows (map texts_of (map (text_of_code ds) codes))) t → Contains ds t
   labels_had t h =
-      let g = unmapped (label_at ds) codes (Some t) (had_texts (map (label_at ds) codes) t h) in
+      let g = unmapped (text_of_code ds) codes (Some t) (had_texts (map (text_of_code ds) codes) t h) in
       label_had ds g.0 t (All-contains (λ code. code ≤ length ds) codes g.0 are.within g.1) g.2
 
   pub IsKeywords-from : length codes < 2 ^ 32 → IsKeywords ds codes
   IsKeywords-from few = record {
     few = few;
     within = are.within;
-    whole = sorted_set_only (joined_rows (map texts_of (map (label_at ds) codes))) ds sorted (λ t. (labels_have t, labels_had t));
+    whole = sorted_set_only (joined_rows (map texts_of (map (text_of_code ds) codes))) ds sorted (λ t. (labels_have t, labels_had t));
   }
-
--- where the dictionary and the codes came from a file
-module _ (ds ds' : List Text) (codes codes' : List ℕ) (n : ℕ) (same : ds ≡ ds') (same' : codes' ≡ codes) (long : n ≡ length ds) where
-  pub AreCodes-laid : (vs : List (Option Text)) → keywords_of vs ≡ ds' → map (code_in (keywords_of vs)) vs ≡ codes → AreCodes n codes'
-  AreCodes-laid vs e laid =
-      subst (λ (l : List ℕ). AreCodes n l) (sym same') (subst (λ k. AreCodes k codes) (sym (long ∙ ap length same)) (AreCodes-of ds' codes vs e laid))
-
-  pub IsKeywords-laid : IsTextSet ds' → AreCodes n codes' → length codes < 2 ^ 32 → IsKeywords ds codes
-  IsKeywords-laid sorted are few =
-      IsKeywords-from ds codes (subst (λ (l : List Text). IsTextSet l) (sym same) sorted)
-      (subst (λ (l : List ℕ). AreCodes (length ds) l) same' (subst (λ k. AreCodes k codes') long are)) few
 
 -- what is read is what was laid out
 pub keywords_read : (ds ds' : List Text) (codes : List ℕ) → ds ≡ ds' → IsKeywords ds codes
-    → (keywords_of (map (label_at ds) codes) ≡ ds') × (map (code_in (keywords_of (map (label_at ds) codes))) (map (label_at ds) codes) ≡ codes)
-keywords_read ds ds' codes same is = (sym is.whole ∙ same, sym (codes_laid ds codes (map (label_at ds) codes) is refl))
+    → (keywords_of (map (text_of_code ds) codes) ≡ ds') × (map (code_in (keywords_of (map (text_of_code ds) codes))) (map (text_of_code ds) codes) ≡ codes)
+keywords_read ds ds' codes same is = (sym is.whole ∙ same, sym (codes_laid ds codes (map (text_of_code ds) codes) is refl))
+
+-- codes that have each number from 1 on, which the ordinals are shifted to
+pub codes_covered : (len : ℕ) (codes : List ℕ) → AreCodes len codes → (n : ℕ) → 1 ≤ n → n < len + 1 → Contains codes n
+codes_covered len codes are zero low lt = absurd (omega arith)
+codes_covered len codes are (suc o) low lt = subst (λ k. Contains codes k) (let at : o + 1 ≡ suc o = omega arith in at) (are.used o (omega arith))
+
+pub covered_codes : (len : ℕ) (codes : List ℕ) → len ≤ length codes → All (λ code. code ≤ len) codes → ((n : ℕ) → 1 ≤ n → n < len + 1 → Contains codes n) → AreCodes len codes
+covered_codes len codes few within there = record {
+  few = few;
+  within = within;
+  used = λ o lt. there (o + 1) (omega arith) (omega arith);
+}
+
+-- codes that a column may have are of some column
+pub some_keywords : (ds : List Text) (codes : List ℕ) → IsTextSet ds → AreCodes (length ds) codes → length codes < 2 ^ 32 → HasNoKeywords ds codes → ⊥
+some_keywords ds codes sorted are few none =
+    let h = keywords_read ds ds codes refl (IsKeywords-from ds codes sorted are few) in
+    none (map (text_of_code ds) codes) h.0 h.1
 
 -- ---- labels
 
@@ -272,19 +279,10 @@ module _ (ds : List Text) (ends ordinals : List ℕ) (sorted : IsTextSet ds) (pa
         (λ k d lt. texts_rise ds (get_or (pieces 0 ends ordinals) k d) sorted (all_pieces (λ o. o < length ds) 0 ends ordinals are.within k d lt) (are.rise k d lt)));
   }
 
--- where the dictionary and the ordinals came from a file
-module _ (ds ds' : List Text) (ends ends' ordinals ordinals' : List ℕ) (n : ℕ) (same : ds ≡ ds') (same_ends : ends' ≡ ends) (same_ordinals : ordinals' ≡ ordinals) (long : n ≡ length ds) (parts : AreEnds 0 ends (length ordinals)) where
-  are_same : (k : ℕ) → k ≡ n → AreOrdinals k ends ordinals → AreOrdinals n ends' ordinals'
-  are_same k e are =
-      subst (λ (l : List ℕ). AreOrdinals n ends' l) (sym same_ordinals) (subst (λ (l : List ℕ). AreOrdinals n l ordinals) (sym same_ends) (subst (λ j. AreOrdinals j ends ordinals) e are))
-
-  pub AreOrdinals-laid : (rows : List (List Text)) → All IsTextSet rows → dictionary_of rows ≡ ds' → map (map (ordinal_in (dictionary_of rows))) rows ≡ pieces 0 ends ordinals → AreOrdinals n ends' ordinals'
-  AreOrdinals-laid rows sets e laid = are_same (length ds') (sym (long ∙ ap length same)) (AreOrdinals-of ds' ends ordinals rows parts sets e laid)
-
-  pub IsSets-laid : IsTextSet ds' → AreOrdinals n ends' ordinals' → length ends < 2 ^ 32 → IsSets ds ends ordinals
-  IsSets-laid sorted are few =
-      IsSets-from ds ends ordinals (subst (λ (l : List Text). IsTextSet l) (sym same) sorted) parts
-      (subst (λ (l : List ℕ). AreOrdinals (length ds) ends l) same_ordinals (subst (λ (l : List ℕ). AreOrdinals (length ds) l ordinals') same_ends (subst (λ j. AreOrdinals j ends' ordinals') long are))) few
+-- of lists that are the same
+pub AreOrdinals-moved : {m n : ℕ} {ends ends' ordinals ordinals' : List ℕ} → m ≡ n → ends ≡ ends' → ordinals ≡ ordinals' → AreOrdinals m ends ordinals → AreOrdinals n ends' ordinals'
+AreOrdinals-moved {m} {n} {ends} {ends'} {ordinals} {ordinals'} long same_ends same_ordinals are =
+    subst (λ k. AreOrdinals k ends' ordinals') long (subst (λ (l : List ℕ). AreOrdinals m l ordinals') same_ends (subst (λ (l : List ℕ). AreOrdinals m ends l) same_ordinals are))
 
 -- what is read is what was laid out
 maps_back : (ds : List Text) (pss : List (List ℕ)) → IsTextSet ds → All (All (λ o. o < length ds)) pss → map (map (ordinal_in ds)) (map (map (text_at ds)) pss) ≡ pss
@@ -302,3 +300,10 @@ labels_read ds ds' ends ordinals v same is view =
       ap (λ (l : List Text). map (map (ordinal_in l)) v) (sym whole) ∙ ap (map (map (ordinal_in ds))) (sym view ∙ pieces-map (text_at ds) 0 ends ordinals)
           ∙ maps_back ds (pieces 0 ends ordinals) sorted (all_pieces (λ o. o < length ds) 0 ends ordinals is.within),
     )
+
+pub some_sets : (ds : List Text) (ends ordinals : List ℕ) → IsTextSet ds → AreEnds 0 ends (length ordinals) → AreOrdinals (length ds) ends ordinals → length ends < 2 ^ 32 → HasNoSets ds ends ordinals → ⊥
+some_sets ds ends ordinals sorted parts are few none =
+    let is : IsSets ds ends ordinals = IsSets-from ds ends ordinals sorted parts are few in
+    let rows : List (List Text) = pieces 0 ends (map (text_at ds) ordinals) in
+    let h = labels_read ds ds ends ordinals rows refl is refl in
+    none rows is.sets h.0 h.1

@@ -6,6 +6,7 @@ pub mod Counts
 pub mod Cuts
 pub mod Fills
 pub mod Laid
+pub mod Marks
 pub mod Members
 pub mod Merged
 pub mod Ordinals
@@ -16,4 +17,3 @@ pub mod RowTests
 pub mod Scans
 pub mod Searches
 pub mod Told
-pub mod Uses

@@ -17,14 +17,14 @@ pub same_text_sym : (a b : Text) → same_text a b ≡ same_text b a
 same_text_sym a b = nat_list_eq_equiv.symm a b
 
 -- a label more
-pub label_more : (a b c d : Bool) → d ≡ a → c ≡ cond a true b → c ≡ (b || d)
-label_more true true c d e h = h ∙ by d
+pub text_more : (a b c d : Bool) → d ≡ a → c ≡ cond a true b → c ≡ (b || d)
+text_more true true c d e h = h ∙ by d
   where
     by : (d : Bool) → true ≡ (true || d)
     by d = refl
-label_more true false c d e h = h ∙ sym e
-label_more false true c d e h = h
-label_more false false c d e h = h ∙ sym e
+text_more true false c d e h = h ∙ sym e
+text_more false true c d e h = h
+text_more false false c d e h = h ∙ sym e
 
 or_regrouped : (a b c : Bool) → ((a || b) || c) ≡ (a || (b || c))
 or_regrouped true b c = refl
@@ -45,9 +45,9 @@ any_seen_more f p rows i d lt =
     ∙ list_any-append p (flat_map f (take i rows)) (f (get_or rows i d) ++ [])
     ∙ ap (λ l. list_any p (flat_map f (take i rows)) || list_any p l) (append-nil (f (get_or rows i d)))
 
-pub any_label_more : (p : Text → Bool) (row : List Text) (i : ℕ) (d : Text) (a b c : Bool) → i < length row → b ≡ (a || list_any p (take i row)) → c ≡ (b || p (get_or row i d))
+pub any_text_more : (p : Text → Bool) (row : List Text) (i : ℕ) (d : Text) (a b c : Bool) → i < length row → b ≡ (a || list_any p (take i row)) → c ≡ (b || p (get_or row i d))
     → c ≡ (a || list_any p (take (i + 1) row))
-any_label_more p row i d a b c lt before step =
+any_text_more p row i d a b c lt before step =
     step ∙ ap (λ t. t || p (get_or row i d)) before ∙ or_regrouped a (list_any p (take i row)) (p (get_or row i d))
     ∙ ap (λ t. a || t) (sym (ap (list_any p) (take_more row i d lt) ∙ list_any-append p (take i row) (get_or row i d ∷ []) ∙ ap (λ t. list_any p (take i row) || t) (any_one p (get_or row i d))))
 

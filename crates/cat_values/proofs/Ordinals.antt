@@ -10,7 +10,7 @@ use Rattle.cat_base.proofs.TextSets.{IsTextSet-sorted_set}
 use Rattle.cat_model.specs.Text.{Text, same_text}
 use Rattle.cat_model.specs.Layout.{ordinal_in, code_in, keywords_of}
 use Rattle.cat_model.specs.Ordinals.{text_at, texts_of, dictionary_of}
-use Rattle.cat_values.specs.Columns.{label_at, IsKeywords}
+use Rattle.cat_values.specs.Columns.{text_of_code, IsKeywords}
 use Rattle.cat_values.proofs.Searches.{one_place}
 
 itself : (t : Text) → same_text t t ≡ true
@@ -35,14 +35,14 @@ ordinals_back ds (o ∷ os) sorted within =
     ap (λ k. k ∷ map (ordinal_in ds) (map (text_at ds) os)) (ordinal_back ds o sorted (within 0 0 (omega arith)))
     ∙ ap (λ l. o ∷ l) (ordinals_back ds os sorted (λ k d lt. within (suc k) d (omega arith)))
 
-code_back : (ds : List Text) (code : ℕ) → IsTextSet ds → code ≤ length ds → code_in ds (label_at ds code) ≡ code
+code_back : (ds : List Text) (code : ℕ) → IsTextSet ds → code ≤ length ds → code_in ds (text_of_code ds code) ≡ code
 code_back ds zero sorted le = refl
 code_back ds (suc o) sorted le = ap suc (ordinal_back ds o sorted (omega arith))
 
-pub codes_back : (ds : List Text) (codes : List ℕ) → IsTextSet ds → All (λ code. code ≤ length ds) codes → map (code_in ds) (map (label_at ds) codes) ≡ codes
+pub codes_back : (ds : List Text) (codes : List ℕ) → IsTextSet ds → All (λ code. code ≤ length ds) codes → map (code_in ds) (map (text_of_code ds) codes) ≡ codes
 codes_back ds [] sorted within = refl
 codes_back ds (code ∷ codes) sorted within =
-    ap (λ k. k ∷ map (code_in ds) (map (label_at ds) codes)) (code_back ds code sorted (within 0 0 (omega arith)))
+    ap (λ k. k ∷ map (code_in ds) (map (text_of_code ds) codes)) (code_back ds code sorted (within 0 0 (omega arith)))
     ∙ ap (λ l. code ∷ l) (codes_back ds codes sorted (λ k d lt. within (suc k) d (omega arith)))
 
 -- the text of a text's ordinal
@@ -70,10 +70,10 @@ pub dictionary_rises : (rows : List (List Text)) → IsTextSet (dictionary_of ro
 dictionary_rises rows = IsTextSet-sorted_set (flat_map (λ texts. texts) rows)
 
 -- the codes of a column are those that its keywords have in a file
-pub codes_laid : (ds : List Text) (codes : List ℕ) (v : List (Option Text)) → IsKeywords ds codes → map (label_at ds) codes ≡ v → codes ≡ map (code_in (keywords_of v)) v
+pub codes_laid : (ds : List Text) (codes : List ℕ) (v : List (Option Text)) → IsKeywords ds codes → map (text_of_code ds) codes ≡ v → codes ≡ map (code_in (keywords_of v)) v
 codes_laid ds codes v is view =
     let whole : ds ≡ keywords_of v = is.whole ∙ ap keywords_of view in
-    let sorted : IsTextSet ds = subst (λ (l : List Text). IsTextSet l) (sym is.whole) (dictionary_rises (map texts_of (map (label_at ds) codes))) in
+    let sorted : IsTextSet ds = subst (λ (l : List Text). IsTextSet l) (sym is.whole) (dictionary_rises (map texts_of (map (text_of_code ds) codes))) in
     sym (ap (λ (l : List Text). map (code_in l) v) (sym whole) ∙ ap (map (code_in ds)) (sym view) ∙ codes_back ds codes sorted is.within)
 
 -- and so are the ordinals of a row

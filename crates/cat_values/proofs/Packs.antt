@@ -1,4 +1,4 @@
--- Tests that are packed into words, 64 in each.
+-- Tests that are packed into blocks, 64 in each.
 use Rattle.std.proofs.Common.{◌≡◌, ℕ, ℤ, pos, ◌+◌, ◌-◌, ◌*◌, ◌/◌, ◌%◌, ◌^◌, ◌<◌, ◌≤◌, min, Bool, true, false, ◌||◌, eqb, not, ◌&&◌, negsuc, unwrap_or, Option, Some, None, List, [], ◌∷◌, ◌++◌, length, map, get_or, drop, refl, sym, ap, ◌∙◌, inl, inr, arith, eq-eqb, w64, subst}
 use Rattle.std.specs.Prelude.{bit_or}
 use mir.Val.{bool_byte}
@@ -16,7 +16,7 @@ or_false : (b : Bool) → (b || false) ≡ b
 or_false true = refl
 or_false false = refl
 
--- the bit of one place after a test is put there
+-- the bit of one index after a test is put there
 pub bit_put-same : (w k : ℕ) (b : Bool) → k < 64 → has_bit w k ≡ false → has_bit (bit_or w (bool_byte b * 2 ^ k % 2 ^ 64)) k ≡ b
 bit_put-same w k true lt none = eq-eqb _ 1 (bit_at_set_same w64 w k lt)
 bit_put-same w k false lt none =
@@ -30,7 +30,7 @@ bit_put-other w k i false lt apart =
     let nothing : 0 * 2 ^ k % 2 ^ 64 ≡ 0 = omega arith in
     ap (λ n. has_bit (bit_or w n) i) nothing ∙ has_bit-or w 0 i ∙ ap (λ b. has_bit w i || b) (has_bit-zero i) ∙ or_false (has_bit w i)
 
--- one test more in a word
+-- one test more in a block
 pub bits_done : (test : ℤ → Bool) (values : List ℤ) (w k : ℕ) (b : Bool) → k < 64 → b ≡ test (get_or values k (pos 0))
     → ((i : ℕ) → i < k → has_bit w i ≡ test (get_or values i (pos 0))) → ((i : ℕ) → k ≤ i → has_bit w i ≡ false)
     → (i : ℕ) → i < k + 1 → has_bit (bit_or w (bool_byte b * 2 ^ k % 2 ^ 64)) i ≡ test (get_or values i (pos 0))
@@ -44,7 +44,7 @@ pub bits_left : (w k : ℕ) (b : Bool) → k < 64 → ((i : ℕ) → k ≤ i →
     → (i : ℕ) → k + 1 ≤ i → has_bit (bit_or w (bool_byte b * 2 ^ k % 2 ^ 64)) i ≡ false
 bits_left w k b lt left i past = bit_put-other w k i b lt (λ e. absurd (omega arith)) ∙ left i (omega arith)
 
--- a word of all tests
+-- a block of all tests
 pub bits_all : (test : ℤ → Bool) (values : List ℤ) (w k : ℕ) → length values ≤ k
     → ((i : ℕ) → i < k → has_bit w i ≡ test (get_or values i (pos 0))) → ((i : ℕ) → k ≤ i → has_bit w i ≡ false) → k ≤ length values
     → (i : ℕ) → has_bit w i ≡ get_or (map test values) i false
@@ -54,46 +54,46 @@ bits_all test values w k all done left le i =
       | inr past ↦ left i past ∙ sym (get_or_past (map test values) i false (omega (arith, length-map values test)))
     ]
 
--- one word more, of the next 64 tests or of those that are left
-pub words_more : (tests cs rest : List Bool) (words : List ℕ) (w : ℕ) → drop (64 * length words) tests ≡ cs ++ rest → length cs ≡ min 64 (length (drop (64 * length words) tests))
-    → ((i : ℕ) → has_bit w i ≡ get_or cs i false) → ((row : ℕ) → row < 64 * length words → is_set words row ≡ get_or tests row false)
-    → (row : ℕ) → row < 64 * (length words + 1) → is_set (words ++ w ∷ []) row ≡ get_or tests row false
-words_more tests cs rest words w parts long bits old row below =
-    elim (cases_lt row (64 * length words)) [
-      | inl within ↦ ap (λ n. has_bit n (row % 64)) (get_or_append_left words (w ∷ []) 0 (row / 64) (omega arith)) ∙ old row within
+-- one block more, of the next 64 tests or of those that are left
+pub blocks_more : (tests cs rest : List Bool) (blocks : List ℕ) (w : ℕ) → drop (64 * length blocks) tests ≡ cs ++ rest → length cs ≡ min 64 (length (drop (64 * length blocks) tests))
+    → ((i : ℕ) → has_bit w i ≡ get_or cs i false) → ((row : ℕ) → row < 64 * length blocks → is_set blocks row ≡ get_or tests row false)
+    → (row : ℕ) → row < 64 * (length blocks + 1) → is_set (blocks ++ w ∷ []) row ≡ get_or tests row false
+blocks_more tests cs rest blocks w parts long bits old row below =
+    elim (cases_lt row (64 * length blocks)) [
+      | inl within ↦ ap (λ n. has_bit n (row % 64)) (get_or_append_left blocks (w ∷ []) 0 (row / 64) (omega arith)) ∙ old row within
       | inr past ↦
-          let word : row / 64 ≡ length words = omega arith in
+          let block : row / 64 ≡ length blocks = omega arith in
           let bit : ℕ = row % 64 in
-          let place : row ≡ 64 * length words + bit = omega arith in
-          ap (λ k. has_bit (get_or (words ++ w ∷ []) k 0) bit) word ∙ ap (λ n. has_bit n bit) (get_or-append_seam words w [] 0)
+          let index : row ≡ 64 * length blocks + bit = omega arith in
+          ap (λ k. has_bit (get_or (blocks ++ w ∷ []) k 0) bit) block ∙ ap (λ n. has_bit n bit) (get_or-append_seam blocks w [] 0)
           ∙ bits bit
           ∙ elim (cases_lt bit (length cs)) [
             | inl here ↦ sym (get_or_append_left cs rest false bit here) ∙ ap (λ l. get_or l bit false) (sym parts)
             | inr out ↦
                 get_or_past cs bit false out
-                ∙ sym (get_or_past (drop (64 * length words) tests) bit false (omega arith))
+                ∙ sym (get_or_past (drop (64 * length blocks) tests) bit false (omega arith))
           ]
-          ∙ get_or-drop (64 * length words) tests bit false ∙ ap (λ k. get_or tests k false) (sym place)
+          ∙ get_or-drop (64 * length blocks) tests bit false ∙ ap (λ k. get_or tests k false) (sym index)
     ]
 
--- the words of all tests
-pub words_all : (tests : List Bool) (words : List ℕ) → length tests ≤ 64 * length words → ((row : ℕ) → row < 64 * length words → is_set words row ≡ get_or tests row false)
-    → (row : ℕ) → is_set words row ≡ get_or tests row false
-words_all tests words all old row =
-    elim (cases_lt row (64 * length words)) [
+-- the blocks of all tests
+pub blocks_all : (tests : List Bool) (blocks : List ℕ) → length tests ≤ 64 * length blocks → ((row : ℕ) → row < 64 * length blocks → is_set blocks row ≡ get_or tests row false)
+    → (row : ℕ) → is_set blocks row ≡ get_or tests row false
+blocks_all tests blocks all old row =
+    elim (cases_lt row (64 * length blocks)) [
       | inl within ↦ old row within
       | inr past ↦
-          ap (λ n. has_bit n (row % 64)) (get_or_past words (row / 64) 0 (omega arith)) ∙ has_bit-zero (row % 64)
+          ap (λ n. has_bit n (row % 64)) (get_or_past blocks (row / 64) 0 (omega arith)) ∙ has_bit-zero (row % 64)
           ∙ sym (get_or_past tests row false (omega arith))
     ]
 
--- words whose bits are tests are the set of these tests
-pub IsBits-tests : (tests : List Bool) (words : List ℕ) → length tests < 2 ^ 32 → length words ≡ (length tests + 63) / 64
-    → ((row : ℕ) → is_set words row ≡ get_or tests row false) → IsBits (length tests) words
-IsBits-tests tests words few long bits = record { few = few; long = long; clear = λ row past. bits row ∙ get_or_past tests row false past }
+-- blocks whose bits are tests are the set of these tests
+pub IsBits-tests : (tests : List Bool) (blocks : List ℕ) → length tests < 2 ^ 32 → length blocks ≡ (length tests + 63) / 64
+    → ((row : ℕ) → is_set blocks row ≡ get_or tests row false) → IsBits (length tests) blocks
+IsBits-tests tests blocks few long bits = record { few = few; long = long; clear = λ row past. bits row ∙ get_or_past tests row false past }
 
-pub flags_of-tests : (tests : List Bool) (words : List ℕ) → ((row : ℕ) → is_set words row ≡ get_or tests row false) → flags_of (length tests) words ≡ tests
-flags_of-tests tests words bits = are_flags (length tests) words tests refl (λ row lt. bits row)
+pub flags_of-tests : (tests : List Bool) (blocks : List ℕ) → ((row : ℕ) → is_set blocks row ≡ get_or tests row false) → flags_of (length tests) blocks ≡ tests
+flags_of-tests tests blocks bits = are_flags (length tests) blocks tests refl (λ row lt. bits row)
 
 -- open ends are the least and the greatest number
 open_low : (low : Option ℤ) (n : ℤ) → SFits w64 n → int_le (unwrap_or low (negsuc 9223372036854775807)) n ≡ open_or (λ a. int_le a n) low
@@ -113,22 +113,22 @@ within_between low high n a b fits ea eb =
     ∙ ap (λ t. t && int_le n (unwrap_or high (pos 9223372036854775807))) (open_low low n fits)
     ∙ ap (λ t. open_or (λ a. int_le a n) low && t) (open_high high n fits)
 
--- the set of the numbers that pass a test, from words whose bits say so
-pub rows_of_tests : (test : ℤ → Bool) (ns : List ℤ) (words : List ℕ) → length ns < 2 ^ 32
-    → length words ≡ (length ns + 63) / 64 → ((row : ℕ) → is_set words row ≡ get_or (map test ns) row false)
-    → IsBits (length ns) words × (flags_of (length ns) words ≡ map test ns)
-rows_of_tests test ns words few long bits =
+-- the set of the numbers that pass a test, from blocks whose bits say so
+pub rows_of_tests : (test : ℤ → Bool) (ns : List ℤ) (blocks : List ℕ) → length ns < 2 ^ 32
+    → length blocks ≡ (length ns + 63) / 64 → ((row : ℕ) → is_set blocks row ≡ get_or (map test ns) row false)
+    → IsBits (length ns) blocks × (flags_of (length ns) blocks ≡ map test ns)
+rows_of_tests test ns blocks few long bits =
     let tests : List Bool = map test ns in
     let same : length tests ≡ length ns = length-map ns test in (
-      subst (λ n. IsBits n words) same (IsBits-tests tests words (omega arith) (long ∙ ap (λ n. (n + 63) / 64) (sym same)) bits),
-      subst (λ n. flags_of n words ≡ tests) same (flags_of-tests tests words bits),
+      subst (λ n. IsBits n blocks) same (IsBits-tests tests blocks (omega arith) (long ∙ ap (λ n. (n + 63) / 64) (sym same)) bits),
+      subst (λ n. flags_of n blocks ≡ tests) same (flags_of-tests tests blocks bits),
     )
 
 -- what a scan of 64 numbers after another keeps
-pub record Packed (test : ℤ → Bool) (ns rest : List ℤ) (words : List ℕ) : Type 0 where
-  pub rest_is : rest ≡ drop (64 * length words) ns
-  pub near : 64 * length words < length ns + 64
-  pub bits : (row : ℕ) → row < 64 * length words → is_set words row ≡ get_or (map test ns) row false
+pub record Packed (test : ℤ → Bool) (ns rest : List ℤ) (blocks : List ℕ) : Type 0 where
+  pub rest_is : rest ≡ drop (64 * length blocks) ns
+  pub near : 64 * length blocks < length ns + 64
+  pub bits : (row : ℕ) → row < 64 * length blocks → is_set blocks row ≡ get_or (map test ns) row false
 
 drop_chunk : (chunk rest : List ℤ) → length chunk ≡ min 64 (length (chunk ++ rest)) → drop 64 (chunk ++ rest) ≡ rest
 drop_chunk chunk rest long =
@@ -141,31 +141,31 @@ drop_chunk chunk rest long =
           ap (λ k. drop k (chunk ++ rest)) whole ∙ drop-append_seam chunk rest
     ]
 
-pub packed_more : (test : ℤ → Bool) (ns rest chunk rest' : List ℤ) (words words' : List ℕ) (w size : ℕ) → Packed test ns rest words → size ≡ 64
-    → rest ≡ chunk ++ rest' → length chunk ≡ min size (length rest) → 0 < length rest → words' ≡ words ++ w ∷ []
-    → ((i : ℕ) → has_bit w i ≡ get_or (map test chunk) i false) → Packed test ns rest' words'
-packed_more test ns rest chunk rest' words words' w size p full parts long some push bits =
-    let n : ℕ = 64 * length words in
-    let more : length words' ≡ length words + 1 = ap length push ∙ length_push words w in
+pub packed_more : (test : ℤ → Bool) (ns rest chunk rest' : List ℤ) (blocks blocks' : List ℕ) (w size : ℕ) → Packed test ns rest blocks → size ≡ 64
+    → rest ≡ chunk ++ rest' → length chunk ≡ min size (length rest) → 0 < length rest → blocks' ≡ blocks ++ w ∷ []
+    → ((i : ℕ) → has_bit w i ≡ get_or (map test chunk) i false) → Packed test ns rest' blocks'
+packed_more test ns rest chunk rest' blocks blocks' w size p full parts long some push bits =
+    let n : ℕ = 64 * length blocks in
+    let more : length blocks' ≡ length blocks + 1 = ap length push ∙ length_push blocks w in
     let left : length rest ≡ length ns - n = ap length p.rest_is ∙ length-drop n ns in
     let size_is : length chunk ≡ min 64 (length rest) = long ∙ ap (λ k. min k (length rest)) full in
-    let next : n + 64 ≡ 64 * length words' = omega arith in
+    let next : n + 64 ≡ 64 * length blocks' = omega arith in
     let there : drop n (map test ns) ≡ map test chunk ++ map test rest' = drop-map test n ns ∙ ap (map test) (sym p.rest_is ∙ parts) ∙ map-append test chunk rest' in
     let as_long : length (map test chunk) ≡ min 64 (length (drop n (map test ns))) =
     length-map chunk test ∙ size_is ∙ ap (min 64) (left ∙ sym (length-drop n (map test ns) ∙ ap (λ k. k - n) (length-map ns test))) in record {
       rest_is = sym (drop_chunk chunk rest' (size_is ∙ ap (λ l. min 64 (length l)) parts)) ∙ ap (drop 64) (sym parts ∙ p.rest_is) ∙ drop-drop 64 n ns ∙ ap (λ k. drop k ns) next;
       near = omega arith;
-      bits = λ row lt. ap (λ l. is_set l row) push ∙ words_more (map test ns) (map test chunk) (map test rest') words w there as_long bits p.bits row (omega arith);
+      bits = λ row lt. ap (λ l. is_set l row) push ∙ blocks_more (map test ns) (map test chunk) (map test rest') blocks w there as_long bits p.bits row (omega arith);
     }
 
-pub packed_all : (test : ℤ → Bool) (ns rest : List ℤ) (words : List ℕ) → Packed test ns rest words → length rest ≡ 0
-    → (length words ≡ (length ns + 63) / 64) × ((row : ℕ) → is_set words row ≡ get_or (map test ns) row false)
-packed_all test ns rest words p none =
-    let left : 0 ≡ length ns - 64 * length words = sym none ∙ ap length p.rest_is ∙ length-drop (64 * length words) ns in
-    (let near : 64 * length words < length ns + 64 = p.near in omega arith, words_all (map test ns) words (omega (arith, length-map ns test)) p.bits)
+pub packed_all : (test : ℤ → Bool) (ns rest : List ℤ) (blocks : List ℕ) → Packed test ns rest blocks → length rest ≡ 0
+    → (length blocks ≡ (length ns + 63) / 64) × ((row : ℕ) → is_set blocks row ≡ get_or (map test ns) row false)
+packed_all test ns rest blocks p none =
+    let left : 0 ≡ length ns - 64 * length blocks = sym none ∙ ap length p.rest_is ∙ length-drop (64 * length blocks) ns in
+    (let near : 64 * length blocks < length ns + 64 = p.near in omega arith, blocks_all (map test ns) blocks (omega (arith, length-map ns test)) p.bits)
 
-pub packed_none : (test : ℤ → Bool) (ns rest : List ℤ) (words : List ℕ) → words ≡ [] → rest ≡ ns → Packed test ns rest words
-packed_none test ns rest words none all = record {
+pub packed_none : (test : ℤ → Bool) (ns rest : List ℤ) (blocks : List ℕ) → blocks ≡ [] → rest ≡ ns → Packed test ns rest blocks
+packed_none test ns rest blocks none all = record {
   rest_is = all ∙ ap (λ l. drop (64 * length l) ns) (sym none);
   near = omega (arith, ap length none);
   bits = λ row lt. absurd (omega (arith, ap length none));

@@ -1,16 +1,11 @@
 -- What is tested of the rows' ordinals.
-use Rattle.std.proofs.Common.{◌≡◌, ℕ, suc, ◌+◌, ◌-◌, ◌<◌, ◌≤◌, ◌↔◌, ◌||◌, Bool, false, eqb, List, [], ◌∷◌, length, get_or, take, drop, replicate, count_by, sym, ap, ◌∙◌, arith, eq-eqb, IsTrue, subst}
-use Rattle.std.proofs.lemmas.Bool.Decides.{Decides-eqb}
-use Rattle.std.proofs.lemmas.List.{get_or-replicate, length-replicate, take_all}
+use Rattle.std.proofs.Common.{◌≡◌, ℕ, suc, ◌+◌, ◌-◌, ◌<◌, ◌≤◌, List, [], ◌∷◌, length, get_or, take, drop, sym, ap, ◌∙◌, arith, subst}
+use Rattle.std.proofs.lemmas.List.{take_all}
 use Rattle.std.proofs.lemmas.List.Elements.{All-more, All-same}
-use Rattle.std.proofs.lemmas.List.FromFn.{length-map-range_with_len, get_or-map-range_with_len}
-use Rattle.std.specs.List.{list_any}
 use Rattle.std.specs.List.Sorted.{IsStrictlyIncreasing}
-use Rattle.std.specs.Prelude.{All, Contains}
+use Rattle.std.specs.Prelude.{All}
 use Rattle.cat_model.specs.Layout.{pieces, AreEnds}
-use Rattle.cat_model.specs.RowSets.{with_rows}
 use Rattle.cat_values.proofs.Cuts.{length-pieces, get_or-pieces, part_within}
-use Rattle.cat_values.proofs.Uses.{used_counted, counted_used}
 
 module _ (ends ordinals : List ℕ) (parts : AreEnds 0 ends (length ordinals)) where
   pub row_bounds : (row from : ℕ) → row < length ends → from ≡ get_or (0 ∷ ends) row 0 → (from ≤ get_or ends row 0) × (get_or ends row 0 ≤ length ordinals)
@@ -46,17 +41,3 @@ next_start ends row = let next : suc row ≡ row + 1 = omega arith in ap (λ k. 
 pub total_below : (bound n : ℕ) (ends : List ℕ) (total : ℕ) → AreEnds n ends total → n < bound → ((k : ℕ) → get_or ends k 0 < bound) → total < bound
 total_below bound n [] total is lt below = omega (arith, is)
 total_below bound n (e ∷ es) total is lt below = total_below bound e es total is.1 (below 0) (λ k. below (suc k))
-
--- the count of those that are marked is that of all
-pub all_marked : (len : ℕ) (numbers : List ℕ) (none set : List Bool) (n : ℕ) → none ≡ replicate len false → set ≡ with_rows numbers none → n ≡ count_by (λ b. b) set
-    → IsTrue (eqb n len) ↔ ((o : ℕ) → o < len → Contains numbers o)
-all_marked len numbers none set n e f counted =
-    let empty : length none ≡ len = ap length e ∙ length-replicate len false in
-    let long : length set ≡ len = ap length f ∙ length-map-range_with_len (λ row. get_or none row false || list_any (λ r. eqb r row) numbers) 0 (length none) ∙ empty in
-    let marked : (o : ℕ) → o < len → get_or set o false ≡ list_any (λ r. eqb r o) numbers =
-    λ o lt. ap (λ l. get_or l o false) f
-    ∙ get_or-map-range_with_len (λ row. get_or none row false || list_any (λ r. eqb r row) numbers) 0 (length none) o o false (omega arith) (omega arith)
-    ∙ ap (λ b. b || list_any (λ r. eqb r o) numbers) (ap (λ l. get_or l o false) e ∙ get_or-replicate len o false false lt) in (
-      λ t. counted_used (λ o. o) len numbers set long marked (let same : n ≡ len = (Decides-eqb n len).0 t in omega arith),
-      λ used. eq-eqb n len (counted ∙ used_counted (λ o. o) len numbers set long marked used),
-    )

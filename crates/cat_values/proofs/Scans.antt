@@ -9,7 +9,7 @@ use Rattle.std.proofs.lemmas.Nat.Bits.{bit_at-zero, bit_at-suc, bit_at_lowest}
 use Rattle.std.proofs.lemmas.List.Elements.{filter-append}
 use Rattle.std.proofs.lemmas.List.{append-nil}
 use Rattle.cat_model.specs.RowSets.{indices}
-use Rattle.cat_values.specs.Bits.{has_bit, is_set, flags_of, IsBits, rows_from, is_left, rows_left, IsFirstWord, IsLowestBit, NoWordFrom}
+use Rattle.cat_values.specs.Bits.{has_bit, is_set, flags_of, IsBits, rows_from, is_left, rows_left, IsFirstBlock, IsLowestBit, NoBlockFrom}
 use Rattle.cat_values.proofs.Bits.{has_bit-and, has_bit-zero, flags-length, flag_at}
 use Rattle.cat_values.proofs.Counts.{range_split}
 
@@ -97,83 +97,83 @@ lowest_cleared n t here below = record {
     twice true = refl
     twice false = refl
 
-in_word : (words : List ℕ) (place left r : ℕ) → 64 * place ≤ r → r < 64 * place + 64 → is_left words place left r ≡ has_bit left (r - 64 * place)
-in_word words place left r low high =
-    let word : r / 64 ≡ place = omega arith in
-    let bit : r % 64 ≡ r - 64 * place = omega arith in
-    cond-true (eqb (r / 64) place) (has_bit left (r % 64)) (is_set words r) (eq-eqb (r / 64) place word) ∙ ap (has_bit left) bit
+in_block : (blocks : List ℕ) (index left r : ℕ) → 64 * index ≤ r → r < 64 * index + 64 → is_left blocks index left r ≡ has_bit left (r - 64 * index)
+in_block blocks index left r low high =
+    let block : r / 64 ≡ index = omega arith in
+    let bit : r % 64 ≡ r - 64 * index = omega arith in
+    cond-true (eqb (r / 64) index) (has_bit left (r % 64)) (is_set blocks r) (eq-eqb (r / 64) index block) ∙ ap (has_bit left) bit
 
-behind_word : (words : List ℕ) (place left r : ℕ) → 64 * place + 64 ≤ r → is_left words place left r ≡ is_set words r
-behind_word words place left r low = cond-false (eqb (r / 64) place) (has_bit left (r % 64)) (is_set words r) (ne_eqb (r / 64) place (λ e. omega arith))
+behind_block : (blocks : List ℕ) (index left r : ℕ) → 64 * index + 64 ≤ r → is_left blocks index left r ≡ is_set blocks r
+behind_block blocks index left r low = cond-false (eqb (r / 64) index) (has_bit left (r % 64)) (is_set blocks r) (ne_eqb (r / 64) index (λ e. omega arith))
 
-whole_word : (words : List ℕ) (place r : ℕ) → is_left words place (get_or words place 0) r ≡ is_set words r
-whole_word words place r =
-    elim (cases_eq (r / 64) place) [
+whole_block : (blocks : List ℕ) (index r : ℕ) → is_left blocks index (get_or blocks index 0) r ≡ is_set blocks r
+whole_block blocks index r =
+    elim (cases_eq (r / 64) index) [
       | inl same ↦
-          cond-true (eqb (r / 64) place) (has_bit (get_or words place 0) (r % 64)) (is_set words r) (eq-eqb (r / 64) place same)
-          ∙ ap (λ k. has_bit (get_or words k 0) (r % 64)) (sym same)
-      | inr apart ↦ cond-false (eqb (r / 64) place) (has_bit (get_or words place 0) (r % 64)) (is_set words r) (ne_eqb (r / 64) place apart)
+          cond-true (eqb (r / 64) index) (has_bit (get_or blocks index 0) (r % 64)) (is_set blocks r) (eq-eqb (r / 64) index same)
+          ∙ ap (λ k. has_bit (get_or blocks k 0) (r % 64)) (sym same)
+      | inr apart ↦ cond-false (eqb (r / 64) index) (has_bit (get_or blocks index 0) (r % 64)) (is_set blocks r) (ne_eqb (r / 64) index apart)
     ]
 
-none_between : (words : List ℕ) (place left next : ℕ) → left ≡ 0 → ((k : ℕ) → place + 1 ≤ k → k < next → get_or words k 0 ≡ 0)
-    → (r : ℕ) → 64 * place ≤ r → r < 64 * next → is_left words place left r ≡ false
-none_between words place left next none between r low high =
-    elim (cases_lt r (64 * place + 64)) [
-      | inl here ↦ in_word words place left r low here ∙ ap (λ w. has_bit w (r - 64 * place)) none ∙ has_bit-zero (r - 64 * place)
+none_between : (blocks : List ℕ) (index left next : ℕ) → left ≡ 0 → ((k : ℕ) → index + 1 ≤ k → k < next → get_or blocks k 0 ≡ 0)
+    → (r : ℕ) → 64 * index ≤ r → r < 64 * next → is_left blocks index left r ≡ false
+none_between blocks index left next none between r low high =
+    elim (cases_lt r (64 * index + 64)) [
+      | inl here ↦ in_block blocks index left r low here ∙ ap (λ w. has_bit w (r - 64 * index)) none ∙ has_bit-zero (r - 64 * index)
       | inr behind ↦
-          behind_word words place left r behind ∙ ap (λ w. has_bit w (r % 64)) (between (r / 64) (omega arith) (omega arith)) ∙ has_bit-zero (r % 64)
+          behind_block blocks index left r behind ∙ ap (λ w. has_bit w (r % 64)) (between (r / 64) (omega arith) (omega arith)) ∙ has_bit-zero (r % 64)
     ]
 
-pub rows_left-none : (words : List ℕ) (place left : ℕ) → left ≡ 0 → NoWordFrom words (place + 1) → rows_left words place left ≡ []
-rows_left-none words place left none past =
-    filter_none (is_left words place left) (64 * place) (64 * length words - 64 * place)
-    (λ r low high. none_between words place left (r / 64 + 1) none (λ k from below. past k from) r low (omega arith))
+pub rows_left-none : (blocks : List ℕ) (index left : ℕ) → left ≡ 0 → NoBlockFrom blocks (index + 1) → rows_left blocks index left ≡ []
+rows_left-none blocks index left none past =
+    filter_none (is_left blocks index left) (64 * index) (64 * length blocks - 64 * index)
+    (λ r low high. none_between blocks index left (r / 64 + 1) none (λ k from below. past k from) r low (omega arith))
 
--- The next word that has a row is taken in hand.
-pub rows_left-word : (words : List ℕ) (place left next word : ℕ) → left ≡ 0 → IsFirstWord words (place + 1) next word
-    → rows_left words place left ≡ rows_left words next word
-rows_left-word words place left next word none is =
-    let after : place + 1 ≤ next = is.after in
-    let within : next < length words = is.within in
-    let rest : 64 * place + (64 * length words - 64 * place) - 64 * next ≡ 64 * length words - 64 * next = omega arith in
-    filter_from (is_left words place left) (64 * place) (64 * length words - 64 * place) (64 * next) (omega arith) (omega arith)
-    (none_between words place left next none is.between)
-    ∙ ap (λ k. filter (is_left words place left) (range_with_len (64 * next) k)) rest
-    ∙ filter_same (is_left words place left) (is_left words next (get_or words next 0)) (64 * next) (64 * length words - 64 * next)
-    (λ r low high. behind_word words place left r (omega arith) ∙ sym (whole_word words next r))
-    ∙ ap (rows_left words next) is.is
+-- The next block that has a row is taken in hand.
+pub rows_left-block : (blocks : List ℕ) (index left next block : ℕ) → left ≡ 0 → IsFirstBlock blocks (index + 1) next block
+    → rows_left blocks index left ≡ rows_left blocks next block
+rows_left-block blocks index left next block none is =
+    let after : index + 1 ≤ next = is.after in
+    let within : next < length blocks = is.within in
+    let rest : 64 * index + (64 * length blocks - 64 * index) - 64 * next ≡ 64 * length blocks - 64 * next = omega arith in
+    filter_from (is_left blocks index left) (64 * index) (64 * length blocks - 64 * index) (64 * next) (omega arith) (omega arith)
+    (none_between blocks index left next none is.between)
+    ∙ ap (λ k. filter (is_left blocks index left) (range_with_len (64 * next) k)) rest
+    ∙ filter_same (is_left blocks index left) (is_left blocks next (get_or blocks next 0)) (64 * next) (64 * length blocks - 64 * next)
+    (λ r low high. behind_block blocks index left r (omega arith) ∙ sym (whole_block blocks next r))
+    ∙ ap (rows_left blocks next) is.is
 
--- The lowest row of the word in hand is given.
-pub rows_left-row : (words : List ℕ) (place left bit : ℕ) → place < length words → IsLowestBit left bit
-    → rows_left words place left ≡ (64 * place + bit) ∷ rows_left words place (bit_and left (left - 1))
-rows_left-row words place left bit within is =
+-- The lowest row of the block in hand is given.
+pub rows_left-row : (blocks : List ℕ) (index left bit : ℕ) → index < length blocks → IsLowestBit left bit
+    → rows_left blocks index left ≡ (64 * index + bit) ∷ rows_left blocks index (bit_and left (left - 1))
+rows_left-row blocks index left bit within is =
     let small : bit < 64 = is.within in
-    let at : 64 * place + bit - 64 * place ≡ bit = omega arith in
+    let at : 64 * index + bit - 64 * index ≡ bit = omega arith in
     let cleared : Cleared left bit = lowest_cleared left bit is.is_in is.below in
-    filter_first (is_left words place left) (is_left words place (bit_and left (left - 1))) (64 * place) (64 * length words - 64 * place) (64 * place + bit)
+    filter_first (is_left blocks index left) (is_left blocks index (bit_and left (left - 1))) (64 * index) (64 * length blocks - 64 * index) (64 * index + bit)
     (omega arith) (omega arith)
-    (in_word words place left (64 * place + bit) (omega arith) (omega arith) ∙ ap (has_bit left) at ∙ ap (λ b. eqb b 1) is.is_in)
-    (λ r low high. in_word words place left r low (omega arith) ∙ ap (λ b. eqb b 1) (is.below (r - 64 * place) (omega arith)))
-    (λ r low high. in_word words place (bit_and left (left - 1)) r low (omega arith) ∙ cleared.up_to (r - 64 * place) (omega arith))
-    (λ r low. elim (cases_lt r (64 * place + 64)) [
+    (in_block blocks index left (64 * index + bit) (omega arith) (omega arith) ∙ ap (has_bit left) at ∙ ap (λ b. eqb b 1) is.is_in)
+    (λ r low high. in_block blocks index left r low (omega arith) ∙ ap (λ b. eqb b 1) (is.below (r - 64 * index) (omega arith)))
+    (λ r low high. in_block blocks index (bit_and left (left - 1)) r low (omega arith) ∙ cleared.up_to (r - 64 * index) (omega arith))
+    (λ r low. elim (cases_lt r (64 * index + 64)) [
       | inl here ↦
-          in_word words place left r (omega arith) here ∙ cleared.above (r - 64 * place) (omega arith)
-          ∙ sym (in_word words place (bit_and left (left - 1)) r (omega arith) here)
-      | inr behind ↦ behind_word words place left r behind ∙ sym (behind_word words place (bit_and left (left - 1)) r behind)
+          in_block blocks index left r (omega arith) here ∙ cleared.above (r - 64 * index) (omega arith)
+          ∙ sym (in_block blocks index (bit_and left (left - 1)) r (omega arith) here)
+      | inr behind ↦ behind_block blocks index left r behind ∙ sym (behind_block blocks index (bit_and left (left - 1)) r behind)
     ])
 
-pub rows_left-start : (words : List ℕ) (left : ℕ) → left ≡ get_or words 0 0 → rows_left words 0 left ≡ rows_from words 0
-rows_left-start words left e =
-    ap (λ w. rows_left words 0 w) e
-    ∙ filter_same (is_left words 0 (get_or words 0 0)) (is_set words) 0 (64 * length words - 0) (λ r low high. whole_word words 0 r)
+pub rows_left-start : (blocks : List ℕ) (left : ℕ) → left ≡ get_or blocks 0 0 → rows_left blocks 0 left ≡ rows_from blocks 0
+rows_left-start blocks left e =
+    ap (λ w. rows_left blocks 0 w) e
+    ∙ filter_same (is_left blocks 0 (get_or blocks 0 0)) (is_set blocks) 0 (64 * length blocks - 0) (λ r low high. whole_block blocks 0 r)
 
--- From the first row on, they are the places of the flags.
-pub rows_from-start : (rows : ℕ) (words words' : List ℕ) (v : List Bool) → IsBits rows words → flags_of rows words ≡ v → words' ≡ words → rows_from words' 0 ≡ indices v
-rows_from-start rows words words' v is e same =
-    let long : length v ≡ rows = flags-length rows words v e in
-    let rest : ℕ = 64 * length words - length v in
+-- From the first row on, they are the indices of the flags.
+pub rows_from-start : (rows : ℕ) (blocks blocks' : List ℕ) (v : List Bool) → IsBits rows blocks → flags_of rows blocks ≡ v → blocks' ≡ blocks → rows_from blocks' 0 ≡ indices v
+rows_from-start rows blocks blocks' v is e same =
+    let long : length v ≡ rows = flags-length rows blocks v e in
+    let rest : ℕ = 64 * length blocks - length v in
     ap (λ l. rows_from l 0) same
-    ∙ filter_split (is_set words) 0 (length v) rest (64 * length words - 0) (omega (arith, is.long))
-    ∙ ap (λ l. filter (is_set words) (range_with_len 0 (length v)) ++ l) (filter_none (is_set words) (0 + length v) rest (λ r low high. is.clear r (omega arith)))
-    ∙ append-nil (filter (is_set words) (range_with_len 0 (length v)))
-    ∙ filter_same (is_set words) (λ row. get_or v row false) 0 (length v) (λ r low high. flag_at rows words v r e (omega arith))
+    ∙ filter_split (is_set blocks) 0 (length v) rest (64 * length blocks - 0) (omega (arith, is.long))
+    ∙ ap (λ l. filter (is_set blocks) (range_with_len 0 (length v)) ++ l) (filter_none (is_set blocks) (0 + length v) rest (λ r low high. is.clear r (omega arith)))
+    ∙ append-nil (filter (is_set blocks) (range_with_len 0 (length v)))
+    ∙ filter_same (is_set blocks) (λ row. get_or v row false) 0 (length v) (λ r low high. flag_at rows blocks v r e (omega arith))

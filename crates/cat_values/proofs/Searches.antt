@@ -32,7 +32,7 @@ found ds t sorted (Err i) within parted = λ has.
       | inr after ↦ apart_over t (sym (ap (λ y. order y t) has.2) ∙ p.1 has.0 t after has.1)
     ]
 
--- a text has one place
+-- a text has one index
 pub one_place : (ds : List (List ℕ)) (j k : ℕ) → IsTextSet ds → j < length ds → k < length ds → get_or ds j [] ≡ get_or ds k [] → j ≡ k
 one_place ds j k sorted ltj ltk e =
     elim (cases_order j k) [

@@ -10,20 +10,20 @@ use Rattle.cat_model.specs.Layout.{ordinal_in, code_in, keywords_of}
 use Rattle.cat_model.specs.Ordinals.{text_at, dictionary_of}
 use Rattle.cat_model.specs.RowSets.{IsPacked}
 use Rattle.cat_values.specs.Bits.{has_bit, has_row_bit}
-use Rattle.cat_values.specs.Columns.{label_at, HasLabel}
+use Rattle.cat_values.specs.Columns.{text_of_code, HasText}
 use Rattle.cat_values.proofs.Laid.{keywords_there, rows_there}
 use Rattle.cat_values.proofs.Ordinals.{text_back}
 
 -- ---- columns
 
-label_back : (ds : List Text) (v : Option Text) → HasLabel ds v → label_at ds (code_in ds v) ≡ v
+label_back : (ds : List Text) (v : Option Text) → HasText ds v → text_of_code ds (code_in ds v) ≡ v
 label_back ds None h = refl
 label_back ds (Some t) h = ap Some (text_back ds t h)
 
-labels_back : (ds : List Text) (vs : List (Option Text)) → All (HasLabel ds) vs → map (label_at ds) (map (code_in ds) vs) ≡ vs
+labels_back : (ds : List Text) (vs : List (Option Text)) → All (HasText ds) vs → map (text_of_code ds) (map (code_in ds) vs) ≡ vs
 labels_back ds [] all = refl
 labels_back ds (v ∷ vs) all =
-    ap (λ w. w ∷ map (label_at ds) (map (code_in ds) vs)) (label_back ds v (all 0 v (omega arith))) ∙ ap (λ l. v ∷ l) (labels_back ds vs (λ k d lt. all (suc k) d (omega arith)))
+    ap (λ w. w ∷ map (text_of_code ds) (map (code_in ds) vs)) (label_back ds v (all 0 v (omega arith))) ∙ ap (λ l. v ∷ l) (labels_back ds vs (λ k d lt. all (suc k) d (omega arith)))
 
 texts_back : (ds row : List Text) → All (Contains ds) row → map (text_at ds) (map (ordinal_in ds) row) ≡ row
 texts_back ds [] all = refl
@@ -37,8 +37,8 @@ rows_back ds (row ∷ rows) all =
 
 pub same_keywords : (a b : List (Option Text)) → keywords_of a ≡ keywords_of b → map (code_in (keywords_of a)) a ≡ map (code_in (keywords_of b)) b → a ≡ b
 same_keywords a b same codes =
-    sym (labels_back (keywords_of a) a (keywords_there a)) ∙ ap (map (label_at (keywords_of a))) codes
-    ∙ ap (λ (ds : List Text). map (label_at ds) (map (code_in (keywords_of b)) b)) same ∙ labels_back (keywords_of b) b (keywords_there b)
+    sym (labels_back (keywords_of a) a (keywords_there a)) ∙ ap (map (text_of_code (keywords_of a))) codes
+    ∙ ap (λ (ds : List Text). map (text_of_code ds) (map (code_in (keywords_of b)) b)) same ∙ labels_back (keywords_of b) b (keywords_there b)
 
 pub same_labels : (a b : List (List Text)) → dictionary_of a ≡ dictionary_of b → map (map (ordinal_in (dictionary_of a))) a ≡ map (map (ordinal_in (dictionary_of b))) b → a ≡ b
 same_labels a b same ordinals =

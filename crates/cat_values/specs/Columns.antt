@@ -1,12 +1,12 @@
 -- How the lists of a column stand for what each row has.
-use Rattle.std.specs.Prelude.{◌≡◌, ℕ, zero, suc, ◌+◌, ◌^◌, ◌<◌, ◌≤◌, ℤ, Bool, true, false, ◌&&◌, List, [], ◌∷◌, length, map, Option, Some, None, All, Contains, ⊤}
+use Rattle.std.specs.Prelude.{◌≡◌, ◌≢◌, ℕ, zero, suc, ◌+◌, ◌^◌, ◌<◌, ◌≤◌, ℤ, Bool, true, false, ◌&&◌, List, [], ◌∷◌, length, map, Option, Some, None, All, Contains, ⊤}
 use Rattle.std.specs.Borrow.{Bor}
 use Rattle.std.specs.HashSet.{HashSet, keys}
 use Rattle.std.specs.List.{list_any}
 use Rattle.std.specs.List.Sorted.{IsStrictlyIncreasing}
 use Rattle.cat_base.specs.Texts.{IsTextSet}
 use Rattle.cat_model.specs.Text.{Text, same_text}
-use Rattle.cat_model.specs.Layout.{pieces, AreEnds}
+use Rattle.cat_model.specs.Layout.{pieces, AreEnds, ordinal_in, code_in, keywords_of}
 use Rattle.cat_model.specs.Query.{open_or, int_le}
 use Rattle.cat_model.specs.Ordinals.{text_at, texts_of, dictionary_of}
 
@@ -29,37 +29,37 @@ is_within low high n = int_le low n && int_le n high
 abbrev pub is_between : Option ℤ → Option ℤ → ℤ → Bool
 is_between low high n = open_or (λ a. int_le a n) low && open_or (int_le n) high
 
--- fewer than 2^32 rows, each with a place for its number
+-- fewer than 2^32 rows, each with a value, which counts where the number is present
 pub record IsNumbers (present : List Bool) (values : List ℤ) : Type 0 where
   pub few : length present < 2 ^ 32
   pub same : length present ≡ length values
 
--- the set has the label
-abbrev pub has_label : {S : Type 0} → Text → HashSet (Bor Text) S → Bool
-has_label text labels = list_any (λ k. same_text text k.now) (keys labels)
+-- the set has the text
+abbrev pub has_text : {S : Type 0} → Text → HashSet (Bor Text) S → Bool
+has_text text texts = list_any (λ k. same_text text k.now) (keys texts)
 
 -- the text behind the reference, as a list of one text or none
-abbrev pub texts_seen : Option (Bor Text) → List Text
-texts_seen None = []
-texts_seen (Some t) = t.now ∷ []
+abbrev pub texts_behind : Option (Bor Text) → List Text
+texts_behind None = []
+texts_behind (Some t) = t.now ∷ []
 
 -- the dictionary has the text, if there is one
-abbrev pub HasLabel : List Text → Option Text → Type 0
-HasLabel dictionary None = ⊤
-HasLabel dictionary (Some text) = Contains dictionary text
+abbrev pub HasText : List Text → Option Text → Type 0
+HasText dictionary None = ⊤
+HasText dictionary (Some text) = Contains dictionary text
 
 -- the text of a code, which is 0 for none and else an ordinal plus 1
-abbrev pub label_at : List Text → ℕ → Option Text
-label_at dictionary zero = None
-label_at dictionary (suc ordinal) = Some (text_at dictionary ordinal)
+abbrev pub text_of_code : List Text → ℕ → Option Text
+text_of_code dictionary zero = None
+text_of_code dictionary (suc ordinal) = Some (text_at dictionary ordinal)
 
 -- fewer than 2^32 codes, each of no text or of one of the dictionary, which has the rows' texts alone
 pub record IsKeywords (dictionary : List Text) (codes : List ℕ) : Type 0 where
   pub few : length codes < 2 ^ 32
   pub within : All (λ code. code ≤ length dictionary) codes
-  pub whole : dictionary ≡ dictionary_of (map texts_of (map (label_at dictionary) codes))
+  pub whole : dictionary ≡ dictionary_of (map texts_of (map (text_of_code dictionary) codes))
 
--- the place behind each row's last text, once the rows stand one behind another, the first from `from` on
+-- the index behind each row's last text, once the rows stand one behind another, the first from `from` on
 abbrev pub ends_from : ℕ → List (List Text) → List ℕ
 ends_from from [] = []
 ends_from from (row ∷ rows) = (from + length row) ∷ ends_from (from + length row) rows
@@ -85,3 +85,20 @@ pub record AreOrdinals (len : ℕ) (ends ordinals : List ℕ) : Type 0 where
   pub within : All (λ o. o < len) ordinals
   pub used : (ordinal : ℕ) → ordinal < len → Contains ordinals ordinal
   pub rise : All IsStrictlyIncreasing (pieces 0 ends ordinals)
+
+-- the column is laid out as this dictionary and these codes
+abbrev pub IsLaidAsKeywords : List (Option Text) → List Text → List ℕ → Type 0
+IsLaidAsKeywords values dictionary codes = (keywords_of values ≡ dictionary) × (map (code_in (keywords_of values)) values ≡ codes)
+
+-- no column is
+abbrev pub HasNoKeywords : List Text → List ℕ → Type 0
+HasNoKeywords dictionary codes = (values : List (Option Text)) → keywords_of values ≡ dictionary → map (code_in (keywords_of values)) values ≢ codes
+
+-- the column is laid out as this dictionary and these ordinals, cut where the rows' end
+abbrev pub IsLaidAsSets : List (List Text) → List Text → List ℕ → List ℕ → Type 0
+IsLaidAsSets rows dictionary ends ordinals = (dictionary_of rows ≡ dictionary) × (map (map (ordinal_in (dictionary_of rows))) rows ≡ pieces 0 ends ordinals)
+
+-- no column is
+abbrev pub HasNoSets : List Text → List ℕ → List ℕ → Type 0
+HasNoSets dictionary ends ordinals = (rows : List (List Text)) → All IsTextSet rows → dictionary_of rows ≡ dictionary
+    → map (map (ordinal_in (dictionary_of rows))) rows ≢ pieces 0 ends ordinals

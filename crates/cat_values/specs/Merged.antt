@@ -1,5 +1,5 @@
 -- Lists that are merged one behind another, with some elements left out. Each element has a code: 0 where it is left out, else
--- its place in the result plus 1.
+-- its index in the result plus 1.
 use Rattle.std.specs.Prelude.{◌≡◌, ℕ, zero, suc, ◌+◌, List, [], ◌∷◌, slice_index_or}
 use Rattle.std.specs.List.{flat_map}
 
@@ -8,19 +8,19 @@ abbrev pub kept_of : {X : Type 0} → List ℕ → List X → List X
 kept_of [] xs = []
 kept_of (c ∷ codes) [] = []
 kept_of (zero ∷ codes) (x ∷ xs) = kept_of codes xs
-kept_of (suc place ∷ codes) (x ∷ xs) = x ∷ kept_of codes xs
+kept_of (suc index ∷ codes) (x ∷ xs) = x ∷ kept_of codes xs
 
--- the place of the code, if it is one's
-abbrev pub place_in : ℕ → List ℕ
-place_in zero = []
-place_in (suc place) = place ∷ []
+-- the index of the code, if it is one's
+abbrev pub row_in : ℕ → List ℕ
+row_in zero = []
+row_in (suc index) = index ∷ []
 
--- the places in the result of the elements at these places
+-- the indices in the result of the elements at these indices
 abbrev pub moved : List ℕ → List ℕ → List ℕ
-moved codes places = flat_map (λ p. place_in (slice_index_or codes p 0)) places
+moved codes indices = flat_map (λ p. row_in (slice_index_or codes p 0)) indices
 
--- the places of the codes are `from` and those behind it, each once
+-- the indices of the codes are `from` and those behind it, each once
 abbrev pub AreNumbered : ℕ → List ℕ → Type 0
 AreNumbered from [] = Unit {0}
 AreNumbered from (zero ∷ codes) = AreNumbered from codes
-AreNumbered from (suc place ∷ codes) = (place ≡ from) × AreNumbered (from + 1) codes
+AreNumbered from (suc index ∷ codes) = (index ≡ from) × AreNumbered (from + 1) codes

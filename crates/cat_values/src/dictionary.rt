@@ -1,45 +1,38 @@
 //! A dictionary: the texts of a field in byte order, each found by its ordinal, and each ordinal by its text.
-ghost use Rattle.std.specs.Prelude.{◌≡◌, ℕ, ◌<◌, ◌^◌, ◌++◌, ◌↔◌, List, length, map, All, Contains, IfOk, IfErr, IfSome, OnOk, IsTrue};
+ghost use Rattle.std.specs.Prelude.{◌≡◌, ℕ, ◌<◌, ◌^◌, ◌++◌, ◌↔◌, List, length, map, All, Contains, IfOk, IfSome, OnOk};
 ghost use Rattle.std.specs.List.{flat_map};
 ghost use Rattle.cat_base.specs.Texts.{sorted_set, IsTextSet};
-ghost use Rattle.cat_base.specs.declared.refusal.Refusal.TheVariants.{Damaged, Memory};
 ghost use Rattle.cat_model.specs.Ordinals.{dictionary_of, text_at, IsOrdinal};
 
-use cat_base::{Refusal, Text, TextSet};
-use std::alloc::Global;
+use cat_base::{Text, TextSet};
+use std::alloc::{AllocError, Global};
 use std::marker::Model;
+use std::sync::Arc;
 
-/// Texts in byte order, each once. The ordinal of a text is its place, from 0 on: Lucene's `SortedDocValues`, without the
-/// rows.
+/// Texts in byte order, each once. The ordinal of a text is how many texts stand before it: Lucene's `SortedDocValues`,
+/// without the rows. Copies made by [`Dictionary::share`] hold the texts once.
 ///
 /// Contracts see it as the list of its texts.
 #[derive(Debug, Drop)]
 pub struct Dictionary {
-    texts: TextSet,
+    texts: Arc<TextSet>,
 }
 
 impl Model for Dictionary {
     ghost use Rattle.std.specs.Prelude.{ℕ, List};
+    ghost use Rattle.std.specs.Arc.{arc_value};
     ghost use Rattle.cat_base.specs.Texts.{IsTextSet};
 
     ghost Value = { List (List ℕ) };
 
-    ghost view = { λ d. d.texts };
+    ghost view = { λ d. arc_value d.texts };
 
-    ghost invariant = { λ d. IsTextSet d.texts };
-}
-
-/// Whether each text is below the next by bytes.
-fn rises(texts: &[Text]) -> bool
-    ensures { IsTrue result ↔ IsTextSet texts.now }
-{
-    texts.is_sorted_by(|text, next| text < next)
+    ghost invariant = { λ d. IsTextSet (arc_value d.texts) };
 }
 
 /// Adds the texts of the set.
-fn add_texts<'a>(texts: &mut Vec<&'a Text>, set: &'a [Text]) -> Result<(), Refusal>
+fn add_texts<'a>(texts: &mut Vec<&'a Text>, set: &'a [Text]) -> Result<(), AllocError>
     ensures ok { OnOk result (map (λ t. t.now) texts.new.items ≡ map (λ t. t.now) texts.old.items ++ set.now) }
-    ensures refusal { IfErr result (λ e. e ≡ Memory) }
 {
     for text in set {
         texts.push(text)?;
@@ -48,9 +41,8 @@ fn add_texts<'a>(texts: &mut Vec<&'a Text>, set: &'a [Text]) -> Result<(), Refus
 }
 
 /// The texts of the sets, one set behind another.
-fn texts_in<'a>(alloc: Global, sets: &[&'a [Text]]) -> Result<Vec<&'a Text>, Refusal>
+fn texts_in<'a>(alloc: Global, sets: &[&'a [Text]]) -> Result<Vec<&'a Text>, AllocError>
     ensures ok { IfOk result (λ v. map (λ t. t.now) v.items ≡ flat_map (λ s. s.now) sets.now) }
-    ensures refusal { IfErr result (λ e. e ≡ Memory) }
 {
     let mut texts = Vec::new(alloc);
     for set in sets {
@@ -60,9 +52,9 @@ fn texts_in<'a>(alloc: Global, sets: &[&'a [Text]]) -> Result<Vec<&'a Text>, Ref
 }
 
 /// Copies of the texts, each text once. Texts that come as a few runs in byte order are merged run by run.
-fn united(alloc: Global, mut texts: Vec<&Text>) -> Result<Vec<Text>, Refusal>
-    ensures ok { IfOk result (λ v. (text : List ℕ) → Contains v.items text ↔ Contains (map (λ t. t.now) texts.entry.items) text) }
-    ensures refusal { IfErr result (λ e. e ≡ Memory) }
+fn united(alloc: Global, mut texts: Vec<&Text>) -> Result<Vec<Text>, AllocError>
+    ensures ok { IfOk result (λ v. (text : List ℕ)
+        → Contains v.items text ↔ Contains (map (λ t. t.now) texts.entry.items) text) }
 {
     texts.sort()?;
     texts.dedup();
@@ -70,9 +62,8 @@ fn united(alloc: Global, mut texts: Vec<&Text>) -> Result<Vec<Text>, Refusal>
 }
 
 /// Copies of the texts.
-fn copied(alloc: Global, texts: &[&Text]) -> Result<Vec<Text>, Refusal>
+fn copied(alloc: Global, texts: &[&Text]) -> Result<Vec<Text>, AllocError>
     ensures ok { IfOk result (λ v. v.items ≡ map (λ t. t.now) texts.now) }
-    ensures refusal { IfErr result (λ e. e ≡ Memory) }
 {
     let mut copies = Vec::with_capacity(alloc, texts.len())?;
     for text in texts {
@@ -81,51 +72,77 @@ fn copied(alloc: Global, texts: &[&Text]) -> Result<Vec<Text>, Refusal>
     Ok(copies)
 }
 
-/// How many places are looked at one by one before a binary search.
+/// How many texts are looked at one by one before a binary search.
 const NEAR: usize = 16;
 
-/// The place of the text, if it is one of a few from `from` on.
+/// The ordinal of the text, if it is one of a few from `from` on.
 fn near(texts: &[Text], from: usize, text: &Text) -> Option<usize>
-    ensures { IfSome result (λ place. (place < length texts.now) × (text_at texts.now place ≡ text.now)) }
+    ensures { IfSome result (λ ordinal. (ordinal < length texts.now) × (text_at texts.now ordinal ≡ text.now)) }
 {
-    for place in from..texts.len().min(from.saturating_add(NEAR)) {
-        if texts[place] == *text {
-            return Some(place);
+    for ordinal in from..texts.len().min(from.saturating_add(NEAR)) {
+        if texts[ordinal] == *text {
+            return Some(ordinal);
         }
     }
     None
 }
 
 impl Dictionary {
-    /// The dictionary of the texts of all the sets, as Lucene's `OrdinalMap` has it. The texts of each set are in byte order,
-    /// and so are merged and not sorted anew; each distinct text is copied once. A refusal is [`Refusal::Memory`].
-    pub fn union(alloc: Global, sets: &[&[Text]]) -> Result<Self, Refusal>
-        ensures ok { IfOk result (λ d. d ≡ dictionary_of (map (λ s. s.now) sets.now)) }
-        ensures refusal { IfErr result (λ e. e ≡ Memory) }
+    /// The dictionary of the texts, which may come in any order and more than once. The time is linear where they rise, and
+    /// the texts are taken over.
+    pub fn of(alloc: Global, texts: Vec<Text>) -> Result<Self, AllocError>
+        ensures ok { IfOk result (λ d. d ≡ sorted_set texts.items) }
     {
-        Ok(Dictionary::of(united(alloc, texts_in(alloc, sets)?)?))
+        Ok(Dictionary {
+            texts: Arc::new(alloc, TextSet::of(texts))?,
+        })
     }
 
-    /// The ordinal of a text that the dictionary has, which is looked for from a place on first.
+    /// The dictionary of texts that rise by bytes, each once, as a file has them (see [`rises`](cat_base::rises)). They are
+    /// taken over.
+    pub fn from_sorted(alloc: Global, texts: Vec<Text>) -> Result<Self, AllocError>
+        requires { IsTextSet texts.items }
+        ensures ok { IfOk result (λ d. d ≡ texts.items) }
+    {
+        Dictionary::of(alloc, texts)
+    }
+
+    /// The dictionary of the texts of all the sets, as Lucene's `OrdinalMap` has it. The texts of each set are in byte order,
+    /// and so are merged and not sorted anew; each distinct text is copied once.
+    pub fn union(alloc: Global, sets: &[&[Text]]) -> Result<Self, AllocError>
+        ensures ok { IfOk result (λ d. d ≡ dictionary_of (map (λ s. s.now) sets.now)) }
+    {
+        Dictionary::of(alloc, united(alloc, texts_in(alloc, sets)?)?)
+    }
+
+    /// The same dictionary once more; the texts are shared and not copied.
+    pub fn share(&self) -> Result<Self, AllocError>
+        ensures ok { IfOk result (λ d. d ≡ self.now) }
+    {
+        Ok(Dictionary {
+            texts: Arc::try_clone(&self.texts)?,
+        })
+    }
+
+    /// The ordinal of a text that the dictionary has, which is looked for from an ordinal on first.
     fn ordinal_from(&self, from: usize, text: &Text) -> usize
         requires { Contains self.now text.now }
         ensures value { text_at self.now result ≡ text.now }
         ensures bound { result < length self.now }
     {
         match near(self.as_slice(), from, text) {
-            Some(place) => place,
+            Some(ordinal) => ordinal,
             None => self.ordinal(text.as_str()).unwrap_or(0),
         }
     }
 
     /// The ordinal of each of the texts, all of which the dictionary has (`OrdinalMap.getGlobalOrds`). It is fast for texts in
-    /// byte order. A refusal is [`Refusal::Memory`].
-    pub fn remap(&self, alloc: Global, texts: &[Text]) -> Result<Vec<u32>, Refusal>
+    /// byte order.
+    pub fn remap(&self, alloc: Global, texts: &[Text]) -> Result<Vec<u32>, AllocError>
         requires few { length self.now < 2 ^ 32 }
         requires there { All (Contains self.now) texts.now }
         ensures texts { IfOk result (λ v. map (text_at self.now) v.items ≡ texts.now) }
         ensures bound { IfOk result (λ v. All (λ o. o < length self.now) v.items) }
-        ensures refusal { IfErr result (λ e. e ≡ Memory) }
     {
         let mut ordinals = Vec::with_capacity(alloc, texts.len())?;
         let mut from = 0;
@@ -135,27 +152,6 @@ impl Dictionary {
             from = ordinal + 1;
         }
         Ok(ordinals)
-    }
-
-    /// The dictionary of the texts, which may come in any order and more than once. It takes no memory.
-    pub fn of(texts: Vec<Text>) -> Self
-        ensures { result ≡ sorted_set texts.items }
-    {
-        Dictionary {
-            texts: TextSet::of(texts),
-        }
-    }
-
-    /// The dictionary of texts that a file has in byte order, each once. It takes no memory, and its time is linear, as a sort
-    /// of what is sorted is. A refusal is [`Refusal::Damaged`]: some text isn't below the next.
-    pub fn from_sorted(texts: Vec<Text>) -> Result<Self, Refusal>
-        ensures ok { IfOk result (λ d. (d ≡ texts.items) × IsTextSet texts.items) }
-        ensures refusal { IfErr result (λ e. (e ≡ Damaged) × (IsTextSet texts.items → ⊥)) }
-    {
-        if !rises(&texts) {
-            return Err(Refusal::Damaged);
-        }
-        Ok(Dictionary::of(texts))
     }
 
     /// How many texts there are (`SortedDocValues.getValueCount`).
@@ -174,7 +170,7 @@ impl Dictionary {
     }
 
     /// The text of the ordinal (`SortedDocValues.lookupOrd`).
-    pub fn label(&self, ordinal: usize) -> &Text
+    pub fn text(&self, ordinal: usize) -> &Text
         requires { ordinal < length self.now }
         ensures { result.now ≡ text_at self.now ordinal }
     {

@@ -1,18 +1,18 @@
-//! A column of keywords: a dictionary, and the place in it of each row's keyword.
-ghost use Rattle.std.specs.Prelude.{◌≡◌, ◌≢◌, ◌↔◌, ◌==◌, ◌⊎◌, ℕ, ◌+◌, ◌^◌, ◌<◌, ◌≤◌, List, length, map, Option, option_map, None, IfOk, IfErr, OnOk, IfSome, All, IsTrue, slice_index_or};
+//! A column of keywords: a dictionary, and the ordinal in it of each row's keyword.
+ghost use Rattle.std.specs.Prelude.{◌≡◌, ◌≢◌, ◌↔◌, ◌==◌, ◌⊎◌, ℕ, ◌+◌, Err, ◌^◌, ◌<◌, ◌≤◌, List, length, map, Option, option_map, None, IfOk, IfErr, OnOk, IfSome, All, IsTrue, slice_index_or};
 ghost use Rattle.std.specs.List.{list_any, flat_map};
 ghost use Rattle.cat_base.specs.declared.refusal.Refusal.TheVariants.{Damaged, Memory};
 ghost use Rattle.cat_model.specs.Text.{Text, same_text};
 ghost use Rattle.cat_model.specs.Layout.{code_in, keywords_of};
 ghost use Rattle.cat_model.specs.Ordinals.{dictionary_of, text_at, texts_of};
 ghost use Rattle.cat_model.specs.RowSets.{has_row};
-ghost use Rattle.cat_values.specs.Columns.{has_label, HasLabel, label_at, texts_seen, AreCodes};
+ghost use Rattle.cat_values.specs.Columns.{has_text, HasText, text_of_code, texts_behind, AreCodes, IsLaidAsKeywords, HasNoKeywords};
 
+use crate::covering::covers;
 use crate::dictionary::Dictionary;
-use crate::labels::{add_label, dictionary_from};
-use crate::row_set::RowSet;
-use cat_base::{Refusal, Text};
-use std::alloc::Global;
+use crate::gathering::{add_text, dictionary_from};
+use cat_base::{Refusal, Text, rises};
+use std::alloc::{AllocError, Global};
 use std::collections::HashSet;
 use std::marker::Model;
 
@@ -28,34 +28,36 @@ pub struct KeywordColumn {
 
 impl Model for KeywordColumn {
     ghost use Rattle.std.specs.Prelude.{List, Option, ℕ, map};
-    ghost use Rattle.cat_values.specs.Columns.{label_at, IsKeywords};
+    ghost use Rattle.cat_values.specs.Columns.{text_of_code, IsKeywords};
 
     ghost Value = { List (Option (List ℕ)) };
 
-    ghost view = { λ c. map (label_at c.dictionary) c.codes.items };
+    ghost view = { λ c. map (text_of_code c.dictionary) c.codes.items };
 
     ghost invariant = { λ c. IsKeywords c.dictionary c.codes.items };
 }
 
 /// The distinct keywords of the rows.
-fn keywords_in<'a>(alloc: Global, values: &[Option<&'a Text>]) -> Result<HashSet<&'a str>, Refusal>
-    ensures ok { IfOk result (λ s. (text : Text) → has_label text s ≡ list_any (same_text text) (flat_map texts_seen values.now)) }
-    ensures refusal { IfErr result (λ e. e ≡ Memory) }
+fn keywords_in<'a>(
+    alloc: Global,
+    values: &[Option<&'a Text>],
+) -> Result<HashSet<&'a str>, AllocError>
+    ensures ok { IfOk result (λ s. (text : Text) → has_text text s ≡ list_any (same_text text) (flat_map texts_behind values.now)) }
 {
-    let mut labels = HashSet::new(alloc);
+    let mut keywords = HashSet::new(alloc);
     for value in values {
         if let Some(text) = value {
-            add_label(&mut labels, text)?;
+            add_text(&mut keywords, text)?;
         }
     }
-    Ok(labels)
+    Ok(keywords)
 }
 
 /// 0 for no keyword, else its ordinal plus 1.
 fn code_of(dictionary: &Dictionary, value: Option<&Text>) -> u32
     requires few { length dictionary.now < 2 ^ 32 }
-    requires there { HasLabel dictionary.now (option_map (λ t. t.now) value) }
-    ensures value { label_at dictionary.now result ≡ option_map (λ t. t.now) value.entry }
+    requires there { HasText dictionary.now (option_map (λ t. t.now) value) }
+    ensures value { text_of_code dictionary.now result ≡ option_map (λ t. t.now) value.entry }
     ensures bound { result ≤ length dictionary.now }
 {
     let Some(text) = value else {
@@ -72,12 +74,11 @@ fn codes_of(
     alloc: Global,
     dictionary: &Dictionary,
     values: &[Option<&Text>],
-) -> Result<Vec<u32>, Refusal>
+) -> Result<Vec<u32>, AllocError>
     requires few { length dictionary.now < 2 ^ 32 }
-    requires there { All (λ v. HasLabel dictionary.now (option_map (λ t. t.now) v)) values.now }
-    ensures values { IfOk result (λ v. map (label_at dictionary.now) v.items ≡ map (option_map (λ t. t.now)) values.now) }
+    requires there { All (λ v. HasText dictionary.now (option_map (λ t. t.now) v)) values.now }
+    ensures values { IfOk result (λ v. map (text_of_code dictionary.now) v.items ≡ map (option_map (λ t. t.now)) values.now) }
     ensures bound { IfOk result (λ v. All (λ code. code ≤ length dictionary.now) v.items) }
-    ensures refusal { IfErr result (λ e. e ≡ Memory) }
 {
     let mut codes = Vec::with_capacity(alloc, values.len())?;
     for value in values {
@@ -93,47 +94,26 @@ fn codes_are_within(len: usize, codes: &[u32]) -> bool
     codes.iter().all(|code| *code as usize <= len)
 }
 
-/// The ordinals below `len` that some code is of, out of codes that are of no others.
-fn ordinals_used(alloc: Global, len: usize, codes: &[u32]) -> Result<RowSet, Refusal>
-    requires few { len < 2 ^ 32 }
-    requires within { All (λ code. code ≤ len) codes.now }
-    ensures long { IfOk result (λ s. length s ≡ len) }
-    ensures used { IfOk result (λ s. (ordinal : ℕ) → ordinal < len → has_row s ordinal ≡ list_any (λ code. code == ordinal + 1) codes.now) }
-    ensures refusal { IfErr result (λ e. e ≡ Memory) }
+/// Whether a column with `len` keywords may have the codes: none is past the last keyword, and each keyword has one.
+fn are_codes(len: usize, codes: &[u32]) -> bool
+    requires { length codes.now < 2 ^ 32 }
+    ensures { IsTrue result ↔ AreCodes len codes.now }
 {
-    let mut used = RowSet::none(alloc, len)?;
-    for code in codes {
-        if *code != 0 {
-            used.insert(*code as usize - 1);
-        }
+    if len > codes.len() {
+        return false;
     }
-    Ok(used)
-}
-
-/// Refuses codes that no column with `len` keywords has: with [`Refusal::Damaged`] where one is past the last keyword, or a
-/// keyword has none.
-fn check_codes(alloc: Global, len: usize, codes: &[u32]) -> Result<(), Refusal>
-    requires few { length codes.now < 2 ^ 32 }
-    ensures ok { OnOk result (AreCodes len codes.now) }
-    ensures damaged { IfErr result (λ e. e ≡ Damaged → AreCodes len codes.now → ⊥) }
-    ensures refusal { IfErr result (λ e. (e ≡ Damaged) ⊎ (e ≡ Memory)) }
-{
-    if len > codes.len() || !codes_are_within(len, codes) {
-        return Err(Refusal::Damaged);
+    if !codes_are_within(len, codes) {
+        return false;
     }
-    if ordinals_used(alloc, len, codes)?.count() < len {
-        return Err(Refusal::Damaged);
-    }
-    Ok(())
+    covers(codes, 1, len + 1)
 }
 
 impl KeywordColumn {
     /// The column of the rows' keywords, as Lucene's `SortedDocValuesWriter` makes it: each distinct keyword is copied
-    /// once, and they are sorted once. A refusal is [`Refusal::Memory`].
-    pub fn of(alloc: Global, values: &[Option<&Text>]) -> Result<Self, Refusal>
+    /// once, and they are sorted once.
+    pub fn of(alloc: Global, values: &[Option<&Text>]) -> Result<Self, AllocError>
         requires few { length values.now < 2 ^ 32 }
         ensures ok { IfOk result (λ c. c ≡ map (option_map (λ t. t.now)) values.now) }
-        ensures refusal { IfErr result (λ e. e ≡ Memory) }
     {
         let dictionary = dictionary_from(alloc, &keywords_in(alloc, values)?)?;
         let codes = codes_of(alloc, &dictionary, values)?;
@@ -141,21 +121,28 @@ impl KeywordColumn {
     }
 
     /// The column that a file has as a dictionary and the code of each row's keyword, which is 0 for none, else the ordinal
-    /// plus 1 (`DocValuesProducer.getSorted`). Both are taken over, in linear time. A refusal is [`Refusal::Memory`], or
-    /// [`Refusal::Damaged`] where no column is laid out so: the dictionary doesn't rise by bytes, a code is past it, or no row
-    /// has one of its keywords.
+    /// plus 1 (`DocValuesProducer.getSorted`). Both are taken over, in linear time.
+    ///
+    /// [`Refusal::Damaged`] exactly where no column is laid out so: the dictionary doesn't rise by bytes, a code is past it,
+    /// or no row has one of its keywords. That is judged before memory is asked for.
     pub fn from_codes(
         alloc: Global,
         dictionary: Vec<Text>,
         codes: Vec<u32>,
     ) -> Result<Self, Refusal>
         requires few { length codes.items < 2 ^ 32 }
-        ensures ok { IfOk result (λ c. (keywords_of c ≡ dictionary.items) × (map (code_in (keywords_of c)) c ≡ codes.items)) }
-        ensures damaged { IfErr result (λ e. e ≡ Damaged → (values : List (Option Text)) → keywords_of values ≡ dictionary.items → map (code_in (keywords_of values)) values ≢ codes.items) }
+        ensures ok { IfOk result (λ c. IsLaidAsKeywords c dictionary.items codes.items) }
+        ensures damaged { IfErr result (λ e. e ≡ Damaged → HasNoKeywords dictionary.items codes.items) }
+        ensures due { HasNoKeywords dictionary.items codes.items → result ≡ Err Damaged }
         ensures refusal { IfErr result (λ e. (e ≡ Damaged) ⊎ (e ≡ Memory)) }
     {
-        let dictionary = Dictionary::from_sorted(dictionary)?;
-        check_codes(alloc, dictionary.len(), &codes)?;
+        if !rises(&dictionary) {
+            return Err(Refusal::Damaged);
+        }
+        if !are_codes(dictionary.len(), &codes) {
+            return Err(Refusal::Damaged);
+        }
+        let dictionary = Dictionary::from_sorted(alloc, dictionary)?;
         Ok(KeywordColumn { dictionary, codes })
     }
 
@@ -199,7 +186,7 @@ impl KeywordColumn {
         ensures { option_map (λ t. t.now) result ≡ slice_index_or self.now row None }
     {
         match self.ordinal(row) {
-            Some(ordinal) => Some(self.dictionary.label(ordinal)),
+            Some(ordinal) => Some(self.dictionary.text(ordinal)),
             None => None,
         }
     }

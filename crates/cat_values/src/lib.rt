@@ -1,9 +1,11 @@
 //! The values of a segment's rows: sets of rows, dictionaries with dense ordinals, and columns.
 #![tactic(auto)]
 
+mod blocks;
+mod covering;
 mod dictionary;
+mod gathering;
 mod keywords;
-mod labels;
 mod laws;
 mod numbers;
 mod packed;
@@ -12,7 +14,6 @@ mod scan;
 mod sets;
 #[cfg(test)]
 mod tests;
-mod words;
 
 pub use dictionary::Dictionary;
 pub use keywords::KeywordColumn;

@@ -6,8 +6,7 @@ ghost use Rattle.cat_values.specs.Bits.{has_bit, is_set};
 ghost use Rattle.cat_values.specs.Columns.{is_within, is_between};
 
 use crate::row_set::RowSet;
-use cat_base::Refusal;
-use std::alloc::Global;
+use std::alloc::{AllocError, Global};
 use std::marker::Model;
 
 /// A number for each row, or none: Lucene's `NumericDocValues`.
@@ -40,35 +39,34 @@ fn within(low: i64, high: i64, value: i64) -> bool
 
 /// One bit for each of at most 64 values, from the lowest: whether it lies between the two, where an absent end is open.
 /// No branch depends on a value.
-fn word_between(values: &[i64], low: Option<i64>, high: Option<i64>) -> u64
+fn block_between(values: &[i64], low: Option<i64>, high: Option<i64>) -> u64
     requires { length values.now ≤ 64 }
     ensures { (i : ℕ) → has_bit result i ≡ slice_index_or (map (is_between low high) values.now) i false }
 {
     let low = low.unwrap_or(i64::MIN);
     let high = high.unwrap_or(i64::MAX);
-    let mut word = 0u64;
+    let mut block = 0u64;
     for (bit, value) in values.iter().enumerate() {
-        word |= (within(low, high, *value) as u64) << bit;
+        block |= (within(low, high, *value) as u64) << bit;
     }
-    word
+    block
 }
 
-/// The words of the set of the values that lie between the two.
-fn words_between(
+/// The blocks of the set of the values that lie between the two.
+fn blocks_between(
     alloc: Global,
     values: &[i64],
     low: Option<i64>,
     high: Option<i64>,
-) -> Result<Vec<u64>, Refusal>
+) -> Result<Vec<u64>, AllocError>
     ensures long { IfOk result (λ v. length v.items ≡ (length values.now + 63) / 64) }
     ensures bits { IfOk result (λ v. (row : ℕ) → is_set v.items row ≡ slice_index_or (map (is_between low high) values.now) row false) }
-    ensures refusal { IfErr result (λ e. e ≡ Memory) }
 {
-    let mut words = Vec::with_capacity(alloc, values.len() / 64 + 1)?;
+    let mut blocks = Vec::with_capacity(alloc, values.len() / 64 + 1)?;
     for chunk in values.chunks(64) {
-        words.push(word_between(chunk, low, high))?;
+        blocks.push(block_between(chunk, low, high))?;
     }
-    Ok(words)
+    Ok(blocks)
 }
 
 /// The rows whose value lies between the two, where an absent end is open.
@@ -77,20 +75,18 @@ fn rows_between(
     values: &[i64],
     low: Option<i64>,
     high: Option<i64>,
-) -> Result<RowSet, Refusal>
+) -> Result<RowSet, AllocError>
     requires { length values.now < 2 ^ 32 }
     ensures ok { IfOk result (λ s. s ≡ map (is_between low high) values.now) }
-    ensures refusal { IfErr result (λ e. e ≡ Memory) }
 {
-    let words = words_between(alloc, values, low, high)?;
-    Ok(RowSet::from_words(values.len(), words))
+    let blocks = blocks_between(alloc, values, low, high)?;
+    Ok(RowSet::from_blocks(values.len(), blocks))
 }
 
 /// The rows that have a number.
-fn rows_with_number(alloc: Global, values: &[Option<i64>]) -> Result<RowSet, Refusal>
+fn rows_with_number(alloc: Global, values: &[Option<i64>]) -> Result<RowSet, AllocError>
     requires { length values.now < 2 ^ 32 }
     ensures ok { IfOk result (λ s. s ≡ map is_some values.now) }
-    ensures refusal { IfErr result (λ e. e ≡ Memory) }
 {
     let mut set = RowSet::none(alloc, values.len())?;
     for (row, value) in values.iter().enumerate() {
@@ -102,9 +98,8 @@ fn rows_with_number(alloc: Global, values: &[Option<i64>]) -> Result<RowSet, Ref
 }
 
 /// The numbers, with 0 for none.
-fn plain(alloc: Global, values: &[Option<i64>]) -> Result<Vec<i64>, Refusal>
+fn plain(alloc: Global, values: &[Option<i64>]) -> Result<Vec<i64>, AllocError>
     ensures ok { IfOk result (λ v. v.items ≡ map (λ n. unwrap_or n (pos 0)) values.now) }
-    ensures refusal { IfErr result (λ e. e ≡ Memory) }
 {
     let numbers = values
         .iter()
@@ -115,10 +110,9 @@ fn plain(alloc: Global, values: &[Option<i64>]) -> Result<Vec<i64>, Refusal>
 
 impl NumberColumn {
     /// The column of the rows' numbers. A refusal is [`Refusal::Memory`].
-    pub fn of(alloc: Global, values: &[Option<i64>]) -> Result<Self, Refusal>
+    pub fn of(alloc: Global, values: &[Option<i64>]) -> Result<Self, AllocError>
         requires few { length values.now < 2 ^ 32 }
         ensures ok { IfOk result (λ c. c ≡ values.now) }
-        ensures refusal { IfErr result (λ e. e ≡ Memory) }
     {
         let present = rows_with_number(alloc, values)?;
         let values = plain(alloc, values)?;
@@ -148,9 +142,8 @@ impl NumberColumn {
     /// The rows whose number lies between the two, both included, where an absent end is open: Lucene's
     /// `NumericDocValuesField.newSlowRangeQuery`. A row without a number lies in no range. A refusal is
     /// [`Refusal::Memory`].
-    pub fn between(&self, low: Option<i64>, high: Option<i64>) -> Result<RowSet, Refusal>
+    pub fn between(&self, low: Option<i64>, high: Option<i64>) -> Result<RowSet, AllocError>
         ensures ok { IfOk result (λ s. s ≡ map (has_some (λ n. open_or (λ a. int_le a n) low && open_or (int_le n) high)) self.now) }
-        ensures refusal { IfErr result (λ e. e ≡ Memory) }
     {
         let mut set = rows_between(*self.values.allocator(), &self.values, low, high)?;
         set.and_with(&self.present);

@@ -1,17 +1,17 @@
 //! A set of the rows of one segment.
-ghost use Rattle.std.specs.Prelude.{◌≡◌, ◌⊎◌, ◌++◌, Bool, List, ℕ, ◌+◌, ◌*◌, ◌^◌, ◌<◌, ◌≤◌, true, false, length, replicate, drop, slice_set, count_by, IfOk, IfErr, All};
+ghost use Rattle.std.specs.Prelude.{◌≡◌, ◌⊎◌, ◌++◌, Bool, List, ℕ, ◌+◌, ◌*◌, ◌^◌, ◌<◌, ◌≤◌, true, false, length, replicate, drop, slice_set, count_by, IfOk, IfErr, Err, All};
 ghost use Rattle.cat_base.specs.declared.refusal.Refusal.TheVariants.{Damaged, Memory};
 ghost use Rattle.cat_model.specs.RowSets.{joined, both, either, first_only, has_row, indices, with_rows, IsPacked};
-ghost use Rattle.cat_values.specs.Bits.{flags_of, IsBits};
+ghost use Rattle.cat_values.specs.Bits.{flags_of, IsBits, HasNoSet};
 
-use crate::packed::{bytes_of, is_clear_from, words_of};
-use crate::scan::Rows;
-use crate::words::{
-    and_words, clear_below, clear_row, clear_words, count_words, full_words, has_row, or_words,
-    set_row, set_rows,
+use crate::blocks::{
+    and_blocks, clear_below, clear_blocks, clear_row, count_blocks, full_blocks, has_row,
+    or_blocks, set_row, set_rows,
 };
+use crate::packed::{blocks_of, bytes_of, is_clear_from};
+use crate::scan::Rows;
 use cat_base::Refusal;
-use std::alloc::Global;
+use std::alloc::{AllocError, Global};
 use std::marker::Model;
 
 /// A set of rows out of `len`, the rows of a segment, one bit for each: Lucene's `FixedBitSet`.
@@ -20,7 +20,7 @@ use std::marker::Model;
 #[derive(Debug, Drop)]
 pub struct RowSet {
     len: usize,
-    words: Vec<u64>,
+    blocks: Vec<u64>,
 }
 
 impl Model for RowSet {
@@ -29,38 +29,36 @@ impl Model for RowSet {
 
     ghost Value = { List Bool };
 
-    ghost view = { λ s. flags_of s.len s.words.items };
+    ghost view = { λ s. flags_of s.len s.blocks.items };
 
-    ghost invariant = { λ s. IsBits s.len s.words.items };
+    ghost invariant = { λ s. IsBits s.len s.blocks.items };
 }
 
 impl RowSet {
-    /// The set of no row out of `len`. A refusal is [`Refusal::Memory`].
-    pub fn none(alloc: Global, len: usize) -> Result<Self, Refusal>
+    /// The set of no row out of `len`.
+    pub fn none(alloc: Global, len: usize) -> Result<Self, AllocError>
         requires { len < 2 ^ 32 }
         ensures ok { IfOk result (λ s. s ≡ replicate len false) }
-        ensures refusal { IfErr result (λ e. e ≡ Memory) }
     {
-        let words = vec![in alloc; 0u64; (len + 63) / 64]?;
-        Ok(RowSet { len, words })
+        let blocks = vec![in alloc; 0u64; (len + 63) / 64]?;
+        Ok(RowSet { len, blocks })
     }
 
-    /// The set of all `len` rows (`FixedBitSet.set(0, len)`). A refusal is [`Refusal::Memory`].
-    pub fn all(alloc: Global, len: usize) -> Result<Self, Refusal>
+    /// The set of all `len` rows (`FixedBitSet.set(0, len)`).
+    pub fn all(alloc: Global, len: usize) -> Result<Self, AllocError>
         requires { len < 2 ^ 32 }
         ensures ok { IfOk result (λ s. s ≡ replicate len true) }
-        ensures refusal { IfErr result (λ e. e ≡ Memory) }
     {
-        let words = full_words(alloc, len)?;
-        Ok(RowSet { len, words })
+        let blocks = full_blocks(alloc, len)?;
+        Ok(RowSet { len, blocks })
     }
 
-    /// The set of the rows whose bits are 1 in the words.
-    pub(crate) fn from_words(len: usize, words: Vec<u64>) -> Self
-        requires { IsBits len words.items }
-        ensures { result ≡ flags_of len words.items }
+    /// The set of the rows whose bits are 1 in the blocks.
+    pub(crate) fn from_blocks(len: usize, blocks: Vec<u64>) -> Self
+        requires { IsBits len blocks.items }
+        ensures { result ≡ flags_of len blocks.items }
     {
-        RowSet { len, words }
+        RowSet { len, blocks }
     }
 
     /// How many rows there are to choose from, in the set or not (`FixedBitSet.length`).
@@ -76,7 +74,7 @@ impl RowSet {
         requires { row < length self.now }
         ensures { result ≡ has_row self.now row }
     {
-        has_row(&self.words, row)
+        has_row(&self.blocks, row)
     }
 
     /// Puts the row into the set (`FixedBitSet.set`).
@@ -84,7 +82,7 @@ impl RowSet {
         requires { row < length self.old }
         ensures { self.new ≡ slice_set self.old row true }
     {
-        set_row(&mut self.words, row);
+        set_row(&mut self.blocks, row);
     }
 
     /// Takes the row out of the set (`FixedBitSet.clear`).
@@ -92,15 +90,15 @@ impl RowSet {
         requires { row < length self.old }
         ensures { self.new ≡ slice_set self.old row false }
     {
-        clear_row(&mut self.words, row);
+        clear_row(&mut self.blocks, row);
     }
 
-    /// Takes the rows below this one out of the set (`FixedBitSet.clear(0, row)`), whole words at a time.
+    /// Takes the rows below this one out of the set (`FixedBitSet.clear(0, row)`), whole blocks at a time.
     pub fn remove_below(&mut self, row: usize)
         requires { row ≤ length self.old }
         ensures { self.new ≡ replicate row false ++ drop row self.old }
     {
-        clear_below(&mut self.words, row);
+        clear_below(&mut self.blocks, row);
     }
 
     /// Puts all the rows into the set, in any order and some of them twice: `DocIdSetBuilder.add` over postings.
@@ -108,14 +106,14 @@ impl RowSet {
         requires { All (λ r. r < length self.old) rows.now }
         ensures { self.new ≡ with_rows rows.now self.old }
     {
-        set_rows(&mut self.words, rows);
+        set_rows(&mut self.blocks, rows);
     }
 
     /// How many rows are in the set (`FixedBitSet.cardinality`).
     pub fn count(&self) -> usize
         ensures { result ≡ count_by (λ b. b) self.now }
     {
-        count_words(&self.words)
+        count_blocks(&self.blocks)
     }
 
     /// Keeps the rows that are in the other set too (`FixedBitSet.and`).
@@ -123,7 +121,7 @@ impl RowSet {
         requires { length self.old ≡ length other.now }
         ensures { self.new ≡ joined both self.old other.now }
     {
-        and_words(&mut self.words, &other.words);
+        and_blocks(&mut self.blocks, &other.blocks);
     }
 
     /// Adds the rows of the other set (`FixedBitSet.or`).
@@ -131,7 +129,7 @@ impl RowSet {
         requires { length self.old ≡ length other.now }
         ensures { self.new ≡ joined either self.old other.now }
     {
-        or_words(&mut self.words, &other.words);
+        or_blocks(&mut self.blocks, &other.blocks);
     }
 
     /// Takes the rows of the other set out (`FixedBitSet.andNot`).
@@ -139,50 +137,50 @@ impl RowSet {
         requires { length self.old ≡ length other.now }
         ensures { self.new ≡ joined first_only self.old other.now }
     {
-        clear_words(&mut self.words, &other.words);
+        clear_blocks(&mut self.blocks, &other.blocks);
     }
 
     /// The rows of the set, rising.
     pub fn iter(&self) -> Rows<'_>
         ensures { result ≡ indices self.now }
     {
-        Rows::of(&self.words)
+        Rows::of(&self.blocks)
     }
 
     /// The set as the bytes of a file: row r is bit r % 8, from the lowest, of byte r / 8, and the bits past the last row are 0
-    /// (`Lucene90LiveDocsFormat.writeBits`, which writes longer words). A refusal is [`Refusal::Memory`].
-    pub fn to_bytes(&self) -> Result<Vec<u8>, Refusal>
+    /// (`Lucene90LiveDocsFormat.writeBits`, which writes longs).
+    pub fn to_bytes(&self) -> Result<Vec<u8>, AllocError>
         ensures ok { IfOk result (λ b. IsPacked b.items self.now) }
-        ensures refusal { IfErr result (λ e. e ≡ Memory) }
     {
-        bytes_of(*self.words.allocator(), &self.words, (self.len + 7) / 8)
+        bytes_of(*self.blocks.allocator(), &self.blocks, (self.len + 7) / 8)
     }
 
-    /// The set of rows out of `len` that [`RowSet::to_bytes`] writes as these bytes (`Lucene90LiveDocsFormat.readBits`). A
-    /// refusal is [`Refusal::Memory`], or [`Refusal::Damaged`] where no set is written so: there are more bytes or fewer than
-    /// the rows take, or a bit past the last row is 1.
+    /// The set of rows out of `len` that [`RowSet::to_bytes`] writes as these bytes (`Lucene90LiveDocsFormat.readBits`).
+    ///
+    /// [`Refusal::Damaged`] exactly where no set is written so: there are more bytes or fewer than the rows take, or a bit past
+    /// the last row is 1. That is judged before memory is asked for.
     pub fn from_bytes(alloc: Global, len: usize, bytes: &[u8]) -> Result<RowSet, Refusal>
         requires { len < 2 ^ 32 }
         ensures ok { IfOk result (λ s. (length s ≡ len) × IsPacked bytes.now s) }
-        ensures damaged { IfErr result (λ e. e ≡ Damaged → (set : List Bool) → length set ≡ len → IsPacked bytes.now set → ⊥) }
+        ensures damaged { IfErr result (λ e. e ≡ Damaged → HasNoSet len bytes.now) }
+        ensures due { HasNoSet len bytes.now → result ≡ Err Damaged }
         ensures refusal { IfErr result (λ e. (e ≡ Damaged) ⊎ (e ≡ Memory)) }
     {
         if bytes.len() != (len + 7) / 8 || !is_clear_from(bytes, len) {
             return Err(Refusal::Damaged);
         }
-        let words = words_of(alloc, bytes)?;
-        Ok(RowSet { len, words })
+        let blocks = blocks_of(alloc, bytes)?;
+        Ok(RowSet { len, blocks })
     }
 
-    /// An equal set in memory of its own. A refusal is [`Refusal::Memory`].
-    pub fn copy(&self) -> Result<Self, Refusal>
+    /// An equal set in memory of its own.
+    pub fn copy(&self) -> Result<Self, AllocError>
         ensures ok { IfOk result (λ s. s ≡ self.now) }
-        ensures refusal { IfErr result (λ e. e ≡ Memory) }
     {
-        let words = Vec::from_slice(*self.words.allocator(), &self.words)?;
+        let blocks = Vec::from_slice(*self.blocks.allocator(), &self.blocks)?;
         Ok(RowSet {
             len: self.len,
-            words,
+            blocks,
         })
     }
 }

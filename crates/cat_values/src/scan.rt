@@ -1,47 +1,51 @@
-//! The rows of a set, one after another; words without rows are passed whole.
+//! The rows of a set, one after another; blocks without rows are passed whole.
 ghost use Rattle.std.specs.Prelude.{◌≡◌, ℕ, ◌^◌, ◌<◌, length, slice_index, MatchOption};
 ghost use Rattle.std.specs.Iterator.{YieldsFirst, item_count};
-ghost use Rattle.cat_values.specs.Bits.{rows_from, IsFirstWord, IsLowestBit, NoWordFrom};
+ghost use Rattle.cat_values.specs.Bits.{rows_from, IsFirstBlock, IsLowestBit, NoBlockFrom};
 
 use std::marker::Model;
 
-/// The first word from this place on that has a row, with its place.
-fn first_word_from(words: &[u64], from: usize) -> Option<(usize, u64)>
-    ensures { MatchOption result (NoWordFrom words.now from) (λ found. IsFirstWord words.now from found.0 found.1) }
+/// The first block from this index on that has a row, with its index.
+fn first_block_from(blocks: &[u64], from: usize) -> Option<(usize, u64)>
+    ensures { MatchOption result (NoBlockFrom blocks.now from) (λ found. IsFirstBlock blocks.now from found.0 found.1) }
 {
-    let mut place = from;
-    while place < words.len() {
-        let word = words[place];
-        if word != 0 {
-            return Some((place, word));
+    let mut index = from;
+    while index < blocks.len() {
+        let block = blocks[index];
+        if block != 0 {
+            return Some((index, block));
         }
-        place += 1;
+        index += 1;
     }
     None
 }
 
-/// The word at this place, 0 past the last one.
-fn word_at(words: &[u64], place: usize) -> u64
-    ensures { result ≡ slice_index words.now place }
+/// The block at this index, 0 past the last one.
+fn block_at(blocks: &[u64], index: usize) -> u64
+    ensures { result ≡ slice_index blocks.now index }
 {
-    if place < words.len() { words[place] } else { 0 }
+    if index < blocks.len() {
+        blocks[index]
+    } else {
+        0
+    }
 }
 
-/// The place of the lowest bit that is 1.
-fn lowest_bit(word: u64) -> usize
-    requires { 0 < word }
-    ensures { IsLowestBit word result }
+/// The index of the lowest bit that is 1.
+fn lowest_bit(block: u64) -> usize
+    requires { 0 < block }
+    ensures { IsLowestBit block result }
 {
-    word.trailing_zeros() as usize
+    block.trailing_zeros() as usize
 }
 
 /// The rows of a set that are still to come, rising, as Lucene's `BitSetIterator` (`DocIdSetIterator.nextDoc`) gives them.
 #[derive(Drop)]
 pub struct Rows<'a> {
-    words: &'a [u64],
-    /// The place of the word in hand.
-    place: usize,
-    /// The bits of the word in hand whose rows are still to come.
+    blocks: &'a [u64],
+    /// The index of the block in hand.
+    index: usize,
+    /// The bits of the block in hand whose rows are still to come.
     left: u64,
 }
 
@@ -51,21 +55,21 @@ impl<'a> Model for Rows<'a> {
 
     ghost Value = { List ℕ };
 
-    ghost view = { λ s. rows_left s.words.now s.place s.left };
+    ghost view = { λ s. rows_left s.blocks.now s.index s.left };
 
-    ghost invariant = { λ s. (length s.words.now < 2 ^ 32) × (s.place < 2 ^ 32) × (0 < s.left → s.place < length s.words.now) };
+    ghost invariant = { λ s. (length s.blocks.now < 2 ^ 32) × (s.index < 2 ^ 32) × (0 < s.left → s.index < length s.blocks.now) };
 }
 
 impl<'a> Rows<'a> {
-    /// The rows of the words.
-    pub(crate) fn of(words: &'a [u64]) -> Self
-        requires { length words.now < 2 ^ 32 }
-        ensures { result ≡ rows_from words.now 0 }
+    /// The rows of the blocks.
+    pub(crate) fn of(blocks: &'a [u64]) -> Self
+        requires { length blocks.now < 2 ^ 32 }
+        ensures { result ≡ rows_from blocks.now 0 }
     {
         Rows {
-            words,
-            place: 0,
-            left: word_at(words, 0),
+            blocks,
+            index: 0,
+            left: block_at(blocks, 0),
         }
     }
 }
@@ -79,15 +83,15 @@ impl<'a> Iterator for Rows<'a> {
 
     fn next(&mut self) -> Option<usize> {
         if self.left == 0 {
-            match first_word_from(self.words, self.place + 1) {
+            match first_block_from(self.blocks, self.index + 1) {
                 None => return None,
-                Some((place, word)) => {
-                    self.place = place;
-                    self.left = word;
+                Some((index, block)) => {
+                    self.index = index;
+                    self.left = block;
                 }
             }
         }
-        let row = 64 * self.place + lowest_bit(self.left);
+        let row = 64 * self.index + lowest_bit(self.left);
         // Clears the lowest bit that is 1.
         self.left &= self.left - 1;
         Some(row)

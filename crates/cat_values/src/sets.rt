@@ -1,5 +1,5 @@
 //! A column of sets of labels: a dictionary, the ordinals of each row's labels, and where each row's end.
-ghost use Rattle.std.specs.Prelude.{◌≡◌, ◌≢◌, ◌↔◌, ◌⊎◌, ℕ, ◌+◌, ◌^◌, ◌<◌, ◌≤◌, ◌++◌, ◌∷◌, List, [], length, map, IfOk, IfErr, OnOk, All, Contains, IsTrue, slice_index, slice_index_or};
+ghost use Rattle.std.specs.Prelude.{◌≡◌, ◌≢◌, ◌↔◌, ◌⊎◌, ℕ, ◌+◌, Err, ◌^◌, ◌<◌, ◌≤◌, ◌++◌, ◌∷◌, List, [], length, map, IfOk, IfErr, OnOk, All, Contains, IsTrue, slice_index, slice_index_or};
 ghost use Rattle.std.specs.List.{list_any, flat_map};
 ghost use Rattle.std.specs.List.Sorted.{IsStrictlyIncreasing};
 ghost use Rattle.cat_base.specs.Texts.{IsTextSet};
@@ -7,13 +7,13 @@ ghost use Rattle.cat_base.specs.declared.refusal.Refusal.TheVariants.{Damaged, M
 ghost use Rattle.cat_model.specs.Text.{Text, same_text};
 ghost use Rattle.cat_model.specs.Layout.{ordinal_in, pieces, AreEnds};
 ghost use Rattle.cat_model.specs.Ordinals.{dictionary_of, text_at};
-ghost use Rattle.cat_values.specs.Columns.{has_label, ends_from, AreOrdinals};
+ghost use Rattle.cat_values.specs.Columns.{has_text, ends_from, AreOrdinals, IsLaidAsSets, HasNoSets};
 
+use crate::covering::covers;
 use crate::dictionary::Dictionary;
-use crate::labels::{add_labels, dictionary_from};
-use crate::row_set::RowSet;
-use cat_base::{Refusal, Text};
-use std::alloc::Global;
+use crate::gathering::{add_texts, dictionary_from};
+use cat_base::{Refusal, Text, rises};
+use std::alloc::{AllocError, Global};
 use std::collections::HashSet;
 use std::marker::Model;
 
@@ -43,13 +43,12 @@ impl Model for SetColumn {
 }
 
 /// The distinct labels of the rows.
-fn labels_in<'a>(alloc: Global, rows: &[&'a [Text]]) -> Result<HashSet<&'a str>, Refusal>
-    ensures ok { IfOk result (λ s. (text : Text) → has_label text s ≡ list_any (same_text text) (flat_map (λ row. row.now) rows.now)) }
-    ensures refusal { IfErr result (λ e. e ≡ Memory) }
+fn labels_in<'a>(alloc: Global, rows: &[&'a [Text]]) -> Result<HashSet<&'a str>, AllocError>
+    ensures ok { IfOk result (λ s. (text : Text) → has_text text s ≡ list_any (same_text text) (flat_map (λ row. row.now) rows.now)) }
 {
     let mut labels = HashSet::new(alloc);
     for row in rows {
-        add_labels(&mut labels, row)?;
+        add_texts(&mut labels, row)?;
     }
     Ok(labels)
 }
@@ -72,13 +71,12 @@ fn add_ordinals(
     ordinals: &mut Vec<u32>,
     dictionary: &Dictionary,
     row: &[Text],
-) -> Result<(), Refusal>
+) -> Result<(), AllocError>
     requires few { length dictionary.now < 2 ^ 32 }
     requires there { All (Contains dictionary.now) row.now }
     requires old { All (λ o. o < length dictionary.now) ordinals.old.items }
     ensures value { OnOk result (map (text_at dictionary.now) ordinals.new.items ≡ map (text_at dictionary.now) ordinals.old.items ++ row.now) }
     ensures bound { OnOk result (All (λ o. o < length dictionary.now) ordinals.new.items) }
-    ensures refusal { IfErr result (λ e. e ≡ Memory) }
 {
     for label in row {
         ordinals.push(ordinal_of(dictionary, label))?;
@@ -91,20 +89,19 @@ fn laid(
     alloc: Global,
     dictionary: &Dictionary,
     rows: &[&[Text]],
-) -> Result<(Vec<u32>, Vec<u32>), Refusal>
+) -> Result<(Vec<u32>, Vec<u32>), AllocError>
     requires few { length dictionary.now < 2 ^ 32 }
     requires there { All (λ row. All (Contains dictionary.now) row.now) rows.now }
     ensures ends { IfOk result (λ p. p.0.items ≡ ends_from 0 (map (λ row. row.now) rows.now)) }
     ensures ordinals { IfOk result (λ p. map (text_at dictionary.now) p.1.items ≡ flat_map (λ row. row.now) rows.now) }
     ensures bound { IfOk result (λ p. All (λ o. o < length dictionary.now) p.1.items) }
-    ensures refusal { IfErr result (λ e. e ≡ Memory) }
 {
     let mut ends = Vec::with_capacity(alloc, rows.len())?;
     let mut ordinals = Vec::new(alloc);
     for row in rows {
         add_ordinals(&mut ordinals, dictionary, row)?;
         if ordinals.len() > u32::MAX as usize {
-            return Err(Refusal::Memory);
+            return Err(AllocError);
         }
         ends.push(ordinals.len() as u32)?;
     }
@@ -126,13 +123,6 @@ fn ordinals_are_within(len: usize, ordinals: &[u32]) -> bool
     ordinals.iter().all(|ordinal| (*ordinal as usize) < len)
 }
 
-/// Whether each ordinal is below the next.
-fn ordinals_rise(ordinals: &[u32]) -> bool
-    ensures { IsTrue result ↔ IsStrictlyIncreasing ordinals.now }
-{
-    ordinals.is_sorted_by(|ordinal, next| ordinal < next)
-}
-
 /// Whether the ordinals of each row rise.
 fn rows_rise(ends: &[u32], ordinals: &[u32]) -> bool
     requires parts { AreEnds 0 ends.now (length ordinals.now) }
@@ -141,7 +131,7 @@ fn rows_rise(ends: &[u32], ordinals: &[u32]) -> bool
     let mut from = 0;
     for end in ends {
         let to = *end as usize;
-        if !ordinals_rise(&ordinals[from..to]) {
+        if !rises(&ordinals[from..to]) {
             return false;
         }
         from = to;
@@ -149,47 +139,35 @@ fn rows_rise(ends: &[u32], ordinals: &[u32]) -> bool
     true
 }
 
-/// Whether each ordinal below `len` is among the ordinals, which have no other.
-fn all_occur(alloc: Global, len: usize, ordinals: &[u32]) -> Result<bool, Refusal>
-    requires few { len < 2 ^ 32 }
-    requires within { All (λ o. o < len) ordinals.now }
-    ensures ok { IfOk result (λ b. IsTrue b ↔ ((ordinal : ℕ) → ordinal < len → Contains ordinals.now ordinal)) }
-    ensures refusal { IfErr result (λ e. e ≡ Memory) }
+/// Whether a column with `len` labels may have the ordinals: none is past the last label, each label has one, and those of
+/// each row rise.
+fn are_ordinals(len: usize, ends: &[u32], ordinals: &[u32]) -> bool
+    requires { AreEnds 0 ends.now (length ordinals.now) }
+    ensures { IsTrue result ↔ AreOrdinals len ends.now ordinals.now }
 {
-    let mut used = RowSet::none(alloc, len)?;
-    used.insert_all(ordinals);
-    Ok(used.count() == len)
-}
-
-/// Refuses ordinals that no column with `len` labels has: with [`Refusal::Damaged`] where one is past the last label, a label
-/// has none, or those of a row don't rise.
-fn check_ordinals(alloc: Global, len: usize, ends: &[u32], ordinals: &[u32]) -> Result<(), Refusal>
-    requires parts { AreEnds 0 ends.now (length ordinals.now) }
-    ensures ok { OnOk result (AreOrdinals len ends.now ordinals.now) }
-    ensures damaged { IfErr result (λ e. e ≡ Damaged → AreOrdinals len ends.now ordinals.now → ⊥) }
-    ensures refusal { IfErr result (λ e. (e ≡ Damaged) ⊎ (e ≡ Memory)) }
-{
-    if len > ordinals.len() || !ordinals_are_within(len, ordinals) || !rows_rise(ends, ordinals) {
-        return Err(Refusal::Damaged);
+    if len > ordinals.len() {
+        return false;
     }
-    if !all_occur(alloc, len, ordinals)? {
-        return Err(Refusal::Damaged);
+    if !ordinals_are_within(len, ordinals) {
+        return false;
     }
-    Ok(())
+    if !rows_rise(ends, ordinals) {
+        return false;
+    }
+    covers(ordinals, 0, len)
 }
 
 impl SetColumn {
     /// The column of the rows' sets, as Lucene's `SortedSetDocValuesWriter` makes it: each distinct label is copied once, and
-    /// they are sorted once. A refusal is [`Refusal::Memory`], also where the rows have 2^32 labels or more.
-    pub fn of(alloc: Global, rows: &[&[Text]]) -> Result<Self, Refusal>
+    /// they are sorted once. An error also where the rows have 2^32 labels or more.
+    pub fn of(alloc: Global, rows: &[&[Text]]) -> Result<Self, AllocError>
         requires few { length rows.now < 2 ^ 32 }
         requires sets { All (λ row. IsTextSet row.now) rows.now }
         ensures ok { IfOk result (λ c. c ≡ map (λ row. row.now) rows.now) }
-        ensures refusal { IfErr result (λ e. e ≡ Memory) }
     {
         let dictionary = dictionary_from(alloc, &labels_in(alloc, rows)?)?;
         if dictionary.len() > u32::MAX as usize {
-            return Err(Refusal::Memory);
+            return Err(AllocError);
         }
         let (ends, ordinals) = laid(alloc, &dictionary, rows)?;
         Ok(SetColumn {
@@ -200,9 +178,10 @@ impl SetColumn {
     }
 
     /// The column that a file has as a dictionary and the ordinals of the rows' labels, one row behind another, each up to its
-    /// end (`DocValuesProducer.getSortedSet`). All three are taken over, in linear time. A refusal is [`Refusal::Memory`], or
-    /// [`Refusal::Damaged`] where no column is laid out so: the dictionary doesn't rise by bytes, an ordinal is past it, those
-    /// of a row don't rise, or no row has one of its labels.
+    /// end (`DocValuesProducer.getSortedSet`). All three are taken over, in linear time.
+    ///
+    /// [`Refusal::Damaged`] exactly where no column is laid out so: the dictionary doesn't rise by bytes, an ordinal is past
+    /// it, those of a row don't rise, or no row has one of its labels. That is judged before memory is asked for.
     pub fn from_ordinals(
         alloc: Global,
         dictionary: Vec<Text>,
@@ -211,18 +190,32 @@ impl SetColumn {
     ) -> Result<Self, Refusal>
         requires few { length ends.items < 2 ^ 32 }
         requires parts { AreEnds 0 ends.items (length ordinals.items) }
-        ensures ok { IfOk result (λ c. (dictionary_of c ≡ dictionary.items) × (map (map (ordinal_in (dictionary_of c))) c ≡ pieces 0 ends.items ordinals.items)) }
-        ensures damaged { IfErr result (λ e. e ≡ Damaged → (rows : List (List Text)) → All IsTextSet rows → dictionary_of rows ≡ dictionary.items
-            → map (map (ordinal_in (dictionary_of rows))) rows ≢ pieces 0 ends.items ordinals.items) }
+        ensures ok { IfOk result (λ c. IsLaidAsSets c dictionary.items ends.items ordinals.items) }
+        ensures damaged { IfErr result (λ e. e ≡ Damaged → HasNoSets dictionary.items ends.items ordinals.items) }
+        ensures due { HasNoSets dictionary.items ends.items ordinals.items → result ≡ Err Damaged }
         ensures refusal { IfErr result (λ e. (e ≡ Damaged) ⊎ (e ≡ Memory)) }
     {
-        let dictionary = Dictionary::from_sorted(dictionary)?;
-        check_ordinals(alloc, dictionary.len(), &ends, &ordinals)?;
+        if !rises(&dictionary) {
+            return Err(Refusal::Damaged);
+        }
+        if !are_ordinals(dictionary.len(), &ends, &ordinals) {
+            return Err(Refusal::Damaged);
+        }
+        let dictionary = Dictionary::from_sorted(alloc, dictionary)?;
         Ok(SetColumn {
             dictionary,
             ends,
             ordinals,
         })
+    }
+
+    /// Where each row's ordinals end, and the ordinals of all rows, one row behind another, as a file has them.
+    pub fn layout(&self) -> (&[u32], &[u32])
+        ensures parts { AreEnds 0 result.0.now (length result.1.now) }
+        ensures laid { pieces 0 result.0.now result.1.now ≡ map (map (ordinal_in (dictionary_of self.now))) self.now }
+        ensures rows { length result.0.now ≡ length self.now }
+    {
+        (&self.ends, &self.ordinals)
     }
 
     /// How many rows there are.

@@ -3,9 +3,9 @@ use Rattle.std.specs.Prelude.{All}
 use Rattle.cat_values.specs.Bits.{is_set, has_row_bit}
 use Rattle.cat_values.proofs.packed.bytes_of.Given as goal
 
-abbrev pub invariant-loop-place : goal.invariant-loop-place
-invariant-loop-place l = record {
-  long : length l.bytes.items ≡ l.place;
+abbrev pub invariant-loop-index : goal.invariant-loop-index
+invariant-loop-index l = record {
+  long : length l.bytes.items ≡ l.index;
   fits : All (λ b. b < 256) l.bytes.items;
-  bits : (row : ℕ) → row < 8 * l.place → has_row_bit l.bytes.items row ≡ is_set l.words row;
+  bits : (row : ℕ) → row < 8 * l.index → has_row_bit l.bytes.items row ≡ is_set l.blocks row;
 }

@@ -8,4 +8,4 @@ use Rattle.cat_values.proofs.dictionary.Dictionary.ordinal.Goals as goal
 pub returns : goal.returns
 returns c =
     let at = c.binary_search_by.ensures.position (λ y. slice_cmp nat_cmp y c.args.text.now) (always_returns_same _ _ _ (λ a r f' k. search rules)) in
-    rw (c.ok.ensures.value, ← c.self.view_is, ← c.as_slice.ensures.value) (found _ _ (rw c.as_slice.ensures.value c.as_slice.ensures.sorted) _ c.binary_search_by.ensures.bound at)
+    rw (c.ok.ensures.value, ← c.self.view_is, ← c.deref.ensures, ← c.as_slice.ensures.value) (found _ _ (rw c.as_slice.ensures.value c.as_slice.ensures.sorted) _ c.binary_search_by.ensures.bound at)

@@ -5,8 +5,10 @@ use Rattle.cat_values.specs.Columns.{numbers}
 use Rattle.cat_values.proofs.Presence.{numbers_there}
 use Rattle.cat_values.proofs.numbers.NumberColumn.of.Goals as goal
 
-pub returns-clause-ok : goal.returns-clause-ok
-returns-clause-ok c = ap (λ b. numbers b c.in_ok-values.values.items) c.in_ok-present.ensures.ok ∙ ap (numbers (map is_some c.args.values.now)) c.in_ok-values.ensures.ok ∙ numbers_there c.args.values.now
+pub returns : goal.returns
+returns c = record {
+  ok = (ap (λ b. numbers b c.in_ok-values.values.items) c.in_ok-present.ensures.ok ∙ ap (numbers (map is_some c.args.values.now)) c.in_ok-values.ensures.ok ∙ numbers_there c.args.values.now);
+}
 
 pub invariant_of-result : goal.invariant_of-result
 invariant_of-result c = record {

@@ -5,9 +5,9 @@ use Rattle.cat_values.proofs.row_set.RowSet.contains.Goals as goal
 
 pub has_row-requires : goal.has_row-requires
 has_row-requires c =
-    omega (arith, flags-length c.self.inside.len c.self.inside.words.items c.args.self.now c.self.view_is, ap length c.deref.ensures.value)
+    omega (arith, flags-length c.self.inside.len c.self.inside.blocks.items c.args.self.now c.self.view_is, ap length c.deref.ensures.value)
 
 pub returns : goal.returns
 returns c =
-    c.has_row.ensures ∙ ap (λ words. is_set words c.args.row) c.deref.ensures.value
-    ∙ flag_at c.self.inside.len c.self.inside.words.items c.args.self.now c.args.row c.self.view_is c.requires
+    c.has_row.ensures ∙ ap (λ blocks. is_set blocks c.args.row) c.deref.ensures.value
+    ∙ flag_at c.self.inside.len c.self.inside.blocks.items c.args.self.now c.args.row c.self.view_is c.requires

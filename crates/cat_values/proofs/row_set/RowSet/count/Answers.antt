@@ -3,4 +3,4 @@ use Rattle.cat_values.proofs.Counts.{count_flags}
 use Rattle.cat_values.proofs.row_set.RowSet.count.Goals as goal
 
 pub returns : goal.returns
-returns c = c.count_words.ensures ∙ count_flags _ _ _ _ c.self.invariant c.self.view_is c.deref.ensures.value
+returns c = c.count_blocks.ensures ∙ count_flags _ _ _ _ c.self.invariant c.self.view_is c.deref.ensures.value

@@ -7,8 +7,8 @@ set_row-requires c = row_fits _ _ _ _ _ c.self.invariant c.self.view_is c.deref_
 
 pub invariant_of-self : goal.invariant_of-self
 invariant_of-self c =
-    (write_back _ _ _ _ _ _ _ true c.self.invariant c.self.view_is c.requires c.deref_mut.ensures.value c.set_row.auto.words c.deref_mut.ensures.len c.set_row.ensures).0
+    (write_back _ _ _ _ _ _ _ true c.self.invariant c.self.view_is c.requires c.deref_mut.ensures.value c.set_row.auto.blocks c.deref_mut.ensures.len c.set_row.ensures).0
 
 pub returns : goal.returns
 returns c =
-    (write_back _ _ _ _ _ _ _ true c.self.invariant c.self.view_is c.requires c.deref_mut.ensures.value c.set_row.auto.words c.deref_mut.ensures.len c.set_row.ensures).1
+    (write_back _ _ _ _ _ _ _ true c.self.invariant c.self.view_is c.requires c.deref_mut.ensures.value c.set_row.auto.blocks c.deref_mut.ensures.len c.set_row.ensures).1

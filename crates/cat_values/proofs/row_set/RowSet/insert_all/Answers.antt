@@ -6,8 +6,8 @@ set_rows-requires c = rows_fit _ _ _ _ _ c.self.invariant c.self.view_is c.deref
 
 pub invariant_of-self : goal.invariant_of-self
 invariant_of-self c =
-    (all_back _ _ _ _ _ _ _ c.self.invariant c.self.view_is c.requires c.deref_mut.ensures.value c.set_rows.auto.words c.deref_mut.ensures.len c.set_rows.ensures).0
+    (all_back _ _ _ _ _ _ _ c.self.invariant c.self.view_is c.requires c.deref_mut.ensures.value c.set_rows.auto.blocks c.deref_mut.ensures.len c.set_rows.ensures).0
 
 pub returns : goal.returns
 returns c =
-    (all_back _ _ _ _ _ _ _ c.self.invariant c.self.view_is c.requires c.deref_mut.ensures.value c.set_rows.auto.words c.deref_mut.ensures.len c.set_rows.ensures).1
+    (all_back _ _ _ _ _ _ _ c.self.invariant c.self.view_is c.requires c.deref_mut.ensures.value c.set_rows.auto.blocks c.deref_mut.ensures.len c.set_rows.ensures).1

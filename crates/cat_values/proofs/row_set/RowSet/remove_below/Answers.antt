@@ -6,8 +6,8 @@ clear_below-requires c = below_fits _ _ _ _ _ c.self.invariant c.self.view_is c.
 
 pub invariant_of-self : goal.invariant_of-self
 invariant_of-self c =
-    (below_back _ _ _ _ _ _ _ c.self.invariant c.self.view_is c.requires c.deref_mut.ensures.value c.clear_below.auto.words c.deref_mut.ensures.len c.clear_below.ensures).0
+    (below_back _ _ _ _ _ _ _ c.self.invariant c.self.view_is c.requires c.deref_mut.ensures.value c.clear_below.auto.blocks c.deref_mut.ensures.len c.clear_below.ensures).0
 
 pub returns : goal.returns
 returns c =
-    (below_back _ _ _ _ _ _ _ c.self.invariant c.self.view_is c.requires c.deref_mut.ensures.value c.clear_below.auto.words c.deref_mut.ensures.len c.clear_below.ensures).1
+    (below_back _ _ _ _ _ _ _ c.self.invariant c.self.view_is c.requires c.deref_mut.ensures.value c.clear_below.auto.blocks c.deref_mut.ensures.len c.clear_below.ensures).1

@@ -9,7 +9,8 @@ invariant_of-result c =
     IsSets-of c.args.rows.now c.in_ok-labels_in.field-0.keys _ c.in_ok-dictionary.ensures.ok c.in_ok-labels_in.ensures.ok
     c.in_ok-ends.ends.items c.in_ok-ends.ordinals.items c.in_ok-ends.ensures.ends c.in_ok-ends.ensures.ordinals c.requires.few c.requires.sets c.in_ok-ends.ensures.bound
 
-pub returns-clause-ok : goal.returns-clause-ok
-returns-clause-ok c =
-    laid_rows c.args.rows.now c.in_ok-labels_in.field-0.keys _ c.in_ok-dictionary.ensures.ok c.in_ok-labels_in.ensures.ok
-    c.in_ok-ends.ends.items c.in_ok-ends.ordinals.items c.in_ok-ends.ensures.ends c.in_ok-ends.ensures.ordinals
+pub returns : goal.returns
+returns c = record {
+  ok = (laid_rows c.args.rows.now c.in_ok-labels_in.field-0.keys _ c.in_ok-dictionary.ensures.ok c.in_ok-labels_in.ensures.ok
+      c.in_ok-ends.ends.items c.in_ok-ends.ordinals.items c.in_ok-ends.ensures.ends c.in_ok-ends.ensures.ordinals);
+}
