@@ -6,6 +6,7 @@ use Rattle.std.specs.Int.{w32, w64, from_be_bytes}
 use Rattle.cat_base.specs.Bytes.{spelled_u32, spelled_u64}
 use Rattle.cat_base.specs.declared.refusal.Refusal.{Refusal}
 use Rattle.cat_base.specs.declared.refusal.Refusal.TheVariants.{Damaged, Memory}
+use Rattle.cat_codec.specs.declared.cursor.Unreadable.{Unreadable}
 
 abbrev pub Reader : Type 0 → Type 0
 Reader A = List ℕ → Option (A × List ℕ)
@@ -14,6 +15,11 @@ infixl 10 ◌>>=◌
 abbrev pub ◌>>=◌ : {A B : Type 0} → Option A → (A → Option B) → Option B
 (Some x) >>= f = f x
 None >>= f = None
+
+-- what a function that takes no memory returned, seen by `view`, is what reading gives
+abbrev pub Finds : {X Y : Type 0} → (X → Y) → Result X Unreadable → Option Y → Type 0
+Finds view (Ok x) read = read ≡ Some (view x)
+Finds view (Err e) read = read ≡ None
 
 -- a refusal stands where nothing is read, or memory ran out
 abbrev pub Fails : {Y : Type 0} → Refusal → Option Y → Type 0

@@ -1,18 +1,17 @@
 //! The columns of a segment, read.
-ghost use Rattle.std.specs.Prelude.{◌≡◌, ℕ, ◌^◌, ◌<◌, length, map, IfOk, IfErr, All};
-ghost use Rattle.cat_base.specs.declared.refusal.Refusal.TheVariants.{Memory};
+ghost use Rattle.std.specs.Prelude.{◌≡◌, ℕ, ◌^◌, ◌<◌, length, map, IfOk, All};
 ghost use Rattle.cat_model.specs.Layout.{AreEnds, pieces, paired_postings};
 ghost use Rattle.cat_schema.specs.Kinds.{field_kind_of};
-ghost use Rattle.cat_codec.specs.Reading.{Gives, many_at};
+ghost use Rattle.cat_codec.specs.Reading.{Finds, Gives, many_at};
 ghost use Rattle.cat_codec.specs.Layouts.{list_at, posted_at, cell_at, column_at, columns_at};
 ghost use Rattle.cat_codec.specs.Parts.{column_in, IsColumnParts};
 
-use crate::cursor::{take_u8, take_u32, take_u64};
+use crate::cursor::{Unreadable, take_u8, take_u32, take_u64};
 use crate::lists::{Form, read_list, read_numbers, read_text, read_texts};
 use crate::parts::ColumnParts;
 use cat_base::{Cursor, Refusal, Text};
 use cat_schema::{Field, Kind};
-use std::alloc::Global;
+use std::alloc::{AllocError, Global};
 
 // The words of a column, where the rows of each end, and the rows.
 #[derive(Drop)]
@@ -30,8 +29,8 @@ struct RowOrdinals {
 }
 
 #[tactic(auto, unfolding(crate::specs::Layouts::cell_at))]
-fn read_cell(cursor: &mut Cursor<'_>) -> Result<Option<i64>, Refusal>
-    ensures { Gives (λ z. (z, cursor.new)) result (cell_at cursor.old) }
+fn read_cell(cursor: &mut Cursor<'_>) -> Result<Option<i64>, Unreadable>
+    ensures { Finds (λ z. (z, cursor.new)) result (cell_at cursor.old) }
 {
     match take_u8(cursor)? {
         0 => Ok(None),
@@ -39,7 +38,7 @@ fn read_cell(cursor: &mut Cursor<'_>) -> Result<Option<i64>, Refusal>
             let bits = take_u64(cursor)?;
             Ok(Some(bits.cast_signed()))
         }
-        _ => Err(Refusal::Damaged),
+        _ => Err(Unreadable),
     }
 }
 
@@ -58,12 +57,11 @@ fn read_cells(
     Ok(out)
 }
 
-// Where the list ends, in 32 bits.
-fn end_of(list: &[u32]) -> Result<u32, Refusal>
-    ensures ok { IfOk result (λ n. n ≡ length list.now) }
-    ensures refusal { IfErr result (λ e. e ≡ Memory) }
+// Where the list ends, in 32 bits; a longer list is refused as if memory were.
+fn end_of(list: &[u32]) -> Result<u32, AllocError>
+    ensures { IfOk result (λ n. n ≡ length list.now) }
 {
-    u32::try_from(list.len()).map_err(|_| Refusal::Memory)
+    u32::try_from(list.len()).map_err(|_| AllocError)
 }
 
 fn read_postings(alloc: Global, count: u32, cursor: &mut Cursor<'_>) -> Result<Postings, Refusal>

@@ -4,24 +4,24 @@ ghost use Rattle.cat_base.specs.declared.refusal.Refusal.TheVariants.{Memory, Da
 ghost use Rattle.cat_model.specs.Item as model;
 ghost use Rattle.cat_model.specs.Layout.{spelled_fields};
 ghost use Rattle.cat_schema.specs.Kinds.{field_kind_of};
-ghost use Rattle.cat_codec.specs.Reading.{Gives, many_at};
+ghost use Rattle.cat_codec.specs.Reading.{Finds, Gives, many_at};
 ghost use Rattle.cat_codec.specs.Layouts.{kind_at, field_at, fields_at};
 
-use crate::cursor::{take_str, take_u8, take_u32};
+use crate::cursor::{Unreadable, take_str, take_u8, take_u32};
 use cat_base::{Cursor, Refusal, Text};
 use cat_schema::{Field, Kind, Schema};
 use std::alloc::Global;
 
 #[tactic(auto, unfolding(crate::specs::Layouts::kind_at))]
-fn read_kind(cursor: &mut Cursor<'_>) -> Result<Kind, Refusal>
-    ensures { Gives (λ k. (field_kind_of k, cursor.new)) result (kind_at cursor.old) }
+fn read_kind(cursor: &mut Cursor<'_>) -> Result<Kind, Unreadable>
+    ensures { Finds (λ k. (field_kind_of k, cursor.new)) result (kind_at cursor.old) }
 {
     match take_u8(cursor)? {
         1 => Ok(Kind::Text),
         2 => Ok(Kind::Keyword),
         3 => Ok(Kind::Number),
         4 => Ok(Kind::Facet),
-        _ => Err(Refusal::Damaged),
+        _ => Err(Unreadable),
     }
 }
 

@@ -39,7 +39,7 @@ pub(crate) fn read_text(alloc: Global, form: Form, cursor: &mut Cursor<'_>) -> R
     if !form.fits(text) {
         return Err(Refusal::Damaged);
     }
-    Text::from_str(alloc, text)
+    Ok(Text::from_str(alloc, text)?)
 }
 
 pub(crate) fn read_texts(

@@ -6,7 +6,7 @@ use cat_schema::Schema;
 /// with the end of each: the first begins at 0, each other where the one before it ends.
 #[derive(Drop)]
 pub enum ColumnParts {
-    /// The words of a text field, where the rows of each end in the last list, and the places of these rows. Lucene's
+    /// The words of a text field, where the rows of each end in the last list, and the indices of these rows. Lucene's
     /// `PostingsFormat` holds them.
     Text(Vec<Text>, Vec<u32>, Vec<u32>),
     /// The texts of a keyword field, and for each row 0 where it has none, else 1 more than the ordinal of its text.

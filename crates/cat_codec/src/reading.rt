@@ -2,12 +2,12 @@
 ghost use Rattle.std.specs.Prelude.{◌≡◌, ◌≢◌, ◌⊎◌, length, IfOk, IfErr};
 ghost use Rattle.cat_base.specs.declared.refusal.Refusal.TheVariants.{Memory, Damaged};
 ghost use Rattle.cat_model.specs.Layout.{Layout, IsLayout, spelled_layout};
-ghost use Rattle.cat_codec.specs.Reading.{Gives, many_at, where_at};
+ghost use Rattle.cat_codec.specs.Reading.{Finds, Gives, many_at, where_at};
 ghost use Rattle.cat_codec.specs.Layouts.{head_at, start_at, layout_at};
 ghost use Rattle.cat_codec.specs.Parts.{heads_in, layout_in, IsParts};
 
 use crate::columns::read_columns;
-use crate::cursor::{take_u8, take_u32, take_u64};
+use crate::cursor::{Unreadable, take_u8, take_u32, take_u64};
 use crate::fields::take_fields;
 use crate::lists::{Form, read_text};
 use crate::parts::SegmentParts;
@@ -36,21 +36,21 @@ struct Heads {
 }
 
 #[tactic(auto, unfolding(crate::specs::Layouts::start_at, crate::specs::Reading::both_at, crate::specs::Reading::where_at))]
-fn read_start(cursor: &mut Cursor<'_>) -> Result<(SegNo, u32), Refusal>
-    ensures { Gives (λ s. ((s.0, s.1), cursor.new)) result (start_at cursor.old) }
+fn read_start(cursor: &mut Cursor<'_>) -> Result<(SegNo, u32), Unreadable>
+    ensures { Finds (λ s. ((s.0, s.1), cursor.new)) result (start_at cursor.old) }
 {
     let magic = take_u32(cursor)?;
     let version = take_u8(cursor)?;
     if magic != MAGIC || version != VERSION {
-        return Err(Refusal::Damaged);
+        return Err(Unreadable);
     }
     let number = take_u64(cursor)?;
     if number == 0 || number > LAST_NUMBER {
-        return Err(Refusal::Damaged);
+        return Err(Unreadable);
     }
     let rows = take_u32(cursor)?;
     if rows == 0 || rows as usize > MAX_ROWS {
-        return Err(Refusal::Damaged);
+        return Err(Unreadable);
     }
     Ok((number, rows))
 }

@@ -1,22 +1,21 @@
 //! The parts of a segment's file, written one after the other.
-ghost use Rattle.std.specs.Prelude.{◌≡◌, ℕ, ◌^◌, ◌<◌, ◌++◌, length, IfErr, OnOk};
+ghost use Rattle.std.specs.Prelude.{◌≡◌, ℕ, ◌^◌, ◌<◌, ◌++◌, length, OnOk};
 ghost use Rattle.std.specs.List.{flat_map};
 ghost use Rattle.cat_base.specs.Bytes.{spelled_u32, spelled_bytes};
-ghost use Rattle.cat_base.specs.declared.refusal.Refusal.TheVariants.{Memory};
 ghost use Rattle.cat_model.specs.Layout.{spelled_field, spelled_fields, spelled_head, spelled_list, spelled_texts, spelled_postings, spelled_number};
 ghost use Rattle.cat_codec.specs.Parts.{spelled_start};
 
 use crate::reading::{MAGIC, VERSION};
-use cat_base::{Refusal, SegNo, Text, WriteNo, put_bytes, put_u32, put_u64};
+use cat_base::{SegNo, Text, WriteNo, put_bytes, put_u32, put_u64};
 use cat_schema::{Field, Kind, Schema};
+use std::alloc::AllocError;
 
 /// Appends how a segment's file begins: `CSEG`, the version 1, the number of the segment and the number of its rows.
 /// Lucene's `CodecUtil.writeIndexHeader` writes a magic word, a version and an id.
 ///
-/// A refusal is [`Refusal::Memory`]; the list may have grown by some of the bytes.
-pub fn put_start(out: &mut Vec<u8>, number: SegNo, rows: u32) -> Result<(), Refusal>
-    ensures ok { OnOk result (out.new.items ≡ out.old.items ++ spelled_start number rows) }
-    ensures refusal { IfErr result (λ e. e ≡ Memory) }
+/// An error may leave some of the bytes behind the list.
+pub fn put_start(out: &mut Vec<u8>, number: SegNo, rows: u32) -> Result<(), AllocError>
+    ensures { OnOk result (out.new.items ≡ out.old.items ++ spelled_start number rows) }
 {
     put_u32(out, MAGIC)?;
     out.push(VERSION)?;
@@ -25,33 +24,30 @@ pub fn put_start(out: &mut Vec<u8>, number: SegNo, rows: u32) -> Result<(), Refu
     Ok(())
 }
 
-// A text of 2^32 bytes or more is refused as `Memory`.
-fn put_text(out: &mut Vec<u8>, text: &str) -> Result<(), Refusal>
-    ensures ok { OnOk result (out.new.items ≡ out.old.items ++ spelled_bytes text.now) }
-    ensures refusal { IfErr result (λ e. e ≡ Memory) }
+// A text of 2^32 bytes or more is refused as if memory were.
+fn put_text(out: &mut Vec<u8>, text: &str) -> Result<(), AllocError>
+    ensures { OnOk result (out.new.items ≡ out.old.items ++ spelled_bytes text.now) }
 {
     if text.len() > u32::MAX as usize {
-        return Err(Refusal::Memory);
+        return Err(AllocError);
     }
     put_bytes(out, text.as_bytes())?;
     Ok(())
 }
 
-// How many there are: 2^32 or more are refused as `Memory`.
-fn put_count(out: &mut Vec<u8>, count: usize) -> Result<(), Refusal>
-    ensures ok { OnOk result (out.new.items ≡ out.old.items ++ spelled_u32 count) }
-    ensures refusal { IfErr result (λ e. e ≡ Memory) }
+// How many there are: 2^32 or more are refused as if memory were.
+fn put_count(out: &mut Vec<u8>, count: usize) -> Result<(), AllocError>
+    ensures { OnOk result (out.new.items ≡ out.old.items ++ spelled_u32 count) }
 {
     let Ok(short) = u32::try_from(count) else {
-        return Err(Refusal::Memory);
+        return Err(AllocError);
     };
     put_u32(out, short)?;
     Ok(())
 }
 
-fn put_field(out: &mut Vec<u8>, field: &Field) -> Result<(), Refusal>
-    ensures ok { OnOk result (out.new.items ≡ out.old.items ++ spelled_field field.now) }
-    ensures refusal { IfErr result (λ e. e ≡ Memory) }
+fn put_field(out: &mut Vec<u8>, field: &Field) -> Result<(), AllocError>
+    ensures { OnOk result (out.new.items ≡ out.old.items ++ spelled_field field.now) }
 {
     put_text(out, field.name())?;
     let kind = match field.kind() {
@@ -66,10 +62,9 @@ fn put_field(out: &mut Vec<u8>, field: &Field) -> Result<(), Refusal>
 
 /// Appends the fields as [`read_fields`](crate::read_fields) takes them. Lucene's `FieldInfosFormat.write`.
 ///
-/// A refusal is [`Refusal::Memory`]; the list may have grown by some of the bytes.
-pub fn put_fields(out: &mut Vec<u8>, schema: &Schema) -> Result<(), Refusal>
-    ensures ok { OnOk result (out.new.items ≡ out.old.items ++ spelled_fields schema.now) }
-    ensures refusal { IfErr result (λ e. e ≡ Memory) }
+/// An error may leave some of the bytes behind the list.
+pub fn put_fields(out: &mut Vec<u8>, schema: &Schema) -> Result<(), AllocError>
+    ensures { OnOk result (out.new.items ≡ out.old.items ++ spelled_fields schema.now) }
 {
     let fields = schema.fields();
     put_count(out, fields.len())?;
@@ -82,11 +77,9 @@ pub fn put_fields(out: &mut Vec<u8>, schema: &Schema) -> Result<(), Refusal>
 /// Appends what a file says of a row beside its columns: the number of its write, its id, and the length of its source
 /// in bytes. Lucene keeps an id as a stored field.
 ///
-/// A refusal is [`Refusal::Memory`], also where the id has 4,294,967,296 bytes or more; the list may have grown by some
-/// of the bytes.
-pub fn put_head(out: &mut Vec<u8>, number: WriteNo, id: &str, length: u32) -> Result<(), Refusal>
-    ensures ok { OnOk result (out.new.items ≡ out.old.items ++ spelled_head (record { number = number; id = id.now; length = length })) }
-    ensures refusal { IfErr result (λ e. e ≡ Memory) }
+/// The error also stands for an id of 4,294,967,296 bytes or more. It may leave some of the bytes behind the list.
+pub fn put_head(out: &mut Vec<u8>, number: WriteNo, id: &str, length: u32) -> Result<(), AllocError>
+    ensures { OnOk result (out.new.items ≡ out.old.items ++ spelled_head (record { number = number; id = id.now; length = length })) }
 {
     put_u64(out, number)?;
     put_text(out, id)?;
@@ -97,11 +90,10 @@ pub fn put_head(out: &mut Vec<u8>, number: WriteNo, id: &str, length: u32) -> Re
 /// Appends how many texts there are, and each with its length before it, as a dictionary stands in a file. Lucene's
 /// `DocValuesConsumer` writes the terms of a dictionary in order too, in blocks that share prefixes.
 ///
-/// A refusal is [`Refusal::Memory`], also of 4,294,967,296 texts or more and of a text of as many bytes; the list may
-/// have grown by some of the bytes.
-pub fn put_texts(out: &mut Vec<u8>, texts: &[Text]) -> Result<(), Refusal>
-    ensures ok { OnOk result (out.new.items ≡ out.old.items ++ spelled_texts texts.now) }
-    ensures refusal { IfErr result (λ e. e ≡ Memory) }
+/// The error also stands for 4,294,967,296 texts or more, and for a text of as many bytes. It may leave some of the bytes
+/// behind the list.
+pub fn put_texts(out: &mut Vec<u8>, texts: &[Text]) -> Result<(), AllocError>
+    ensures { OnOk result (out.new.items ≡ out.old.items ++ spelled_texts texts.now) }
 {
     put_count(out, texts.len())?;
     for text in texts {
@@ -113,10 +105,9 @@ pub fn put_texts(out: &mut Vec<u8>, texts: &[Text]) -> Result<(), Refusal>
 /// Appends the numbers alone, 4 bytes each; how many they are is known from elsewhere in the file. Room for all of them
 /// is taken first.
 ///
-/// A refusal is [`Refusal::Memory`]; the list may have grown by some of the bytes.
-pub fn put_numbers(out: &mut Vec<u8>, numbers: &[u32]) -> Result<(), Refusal>
-    ensures ok { OnOk result (out.new.items ≡ out.old.items ++ flat_map spelled_u32 numbers.now) }
-    ensures refusal { IfErr result (λ e. e ≡ Memory) }
+/// An error may leave some of the bytes behind the list.
+pub fn put_numbers(out: &mut Vec<u8>, numbers: &[u32]) -> Result<(), AllocError>
+    ensures { OnOk result (out.new.items ≡ out.old.items ++ flat_map spelled_u32 numbers.now) }
 {
     out.reserve(numbers.len().saturating_mul(4))?;
     for number in numbers {
@@ -127,10 +118,9 @@ pub fn put_numbers(out: &mut Vec<u8>, numbers: &[u32]) -> Result<(), Refusal>
 
 /// Appends how many numbers there are, and the numbers, 4 bytes each.
 ///
-/// A refusal is [`Refusal::Memory`], also of 4,294,967,296 numbers or more; the list may have grown by some of the bytes.
-pub fn put_list(out: &mut Vec<u8>, numbers: &[u32]) -> Result<(), Refusal>
-    ensures ok { OnOk result (out.new.items ≡ out.old.items ++ spelled_list numbers.now) }
-    ensures refusal { IfErr result (λ e. e ≡ Memory) }
+/// The error also stands for 4,294,967,296 numbers or more. It may leave some of the bytes behind the list.
+pub fn put_list(out: &mut Vec<u8>, numbers: &[u32]) -> Result<(), AllocError>
+    ensures { OnOk result (out.new.items ≡ out.old.items ++ spelled_list numbers.now) }
 {
     put_count(out, numbers.len())?;
     put_numbers(out, numbers)?;
@@ -140,10 +130,9 @@ pub fn put_list(out: &mut Vec<u8>, numbers: &[u32]) -> Result<(), Refusal>
 /// Appends the number of a row: a byte 0 where it has none, else a byte 1 and its 8 bytes. Lucene's `DocValuesConsumer`
 /// writes the rows that have a number apart from the numbers.
 ///
-/// A refusal is [`Refusal::Memory`]; the list may have grown by some of the bytes.
-pub fn put_number(out: &mut Vec<u8>, number: Option<i64>) -> Result<(), Refusal>
-    ensures ok { OnOk result (out.new.items ≡ out.old.items ++ spelled_number number) }
-    ensures refusal { IfErr result (λ e. e ≡ Memory) }
+/// An error may leave some of the bytes behind the list.
+pub fn put_number(out: &mut Vec<u8>, number: Option<i64>) -> Result<(), AllocError>
+    ensures { OnOk result (out.new.items ≡ out.old.items ++ spelled_number number) }
 {
     match number {
         None => out.push(0)?,
@@ -155,14 +144,13 @@ pub fn put_number(out: &mut Vec<u8>, number: Option<i64>) -> Result<(), Refusal>
     Ok(())
 }
 
-/// Appends a word and the places of the rows that have it. Lucene's `PostingsWriterBase` writes a term's postings so, as
+/// Appends a word and the indices of the rows that have it. Lucene's `PostingsWriterBase` writes a term's postings so, as
 /// differences in blocks.
 ///
-/// A refusal is [`Refusal::Memory`], also of a word of 4,294,967,296 bytes or more and of as many rows; the list may have
-/// grown by some of the bytes.
-pub fn put_posted(out: &mut Vec<u8>, word: &str, rows: &[u32]) -> Result<(), Refusal>
-    ensures ok { OnOk result (out.new.items ≡ out.old.items ++ spelled_postings (record { word = word.now; rows = rows.now })) }
-    ensures refusal { IfErr result (λ e. e ≡ Memory) }
+/// The error also stands for a word of 4,294,967,296 bytes or more, and for as many rows. It may leave some of the bytes
+/// behind the list.
+pub fn put_posted(out: &mut Vec<u8>, word: &str, rows: &[u32]) -> Result<(), AllocError>
+    ensures { OnOk result (out.new.items ≡ out.old.items ++ spelled_postings (record { word = word.now; rows = rows.now })) }
 {
     put_text(out, word)?;
     put_list(out, rows)?;

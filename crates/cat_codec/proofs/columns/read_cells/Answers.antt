@@ -1,4 +1,5 @@
 use Rattle.std.proofs.lemmas.Result.{err_from_is_err_and}
+use Rattle.cat_base.specs.declared.refusal.Refusal.TheVariants.{Damaged}
 use Rattle.cat_codec.specs.Layouts.{cell_at}
 use Rattle.cat_codec.specs.Reading.{many_at}
 use Rattle.cat_codec.proofs.Loop.{goes_on, ends, is_done}
@@ -7,7 +8,7 @@ use Rattle.cat_codec.proofs.columns.read_cells.Goals as goal
 pub returns-in_err-one : goal.returns-in_err-one
 returns-in_err-one c =
     let p = err_from_is_err_and c.from_residual.result c.from_residual.ensures.1 in
-    rw (p.1, p.2) (ends cell_at c.in_err-one.field-0.0 c.loop.out.items c.args.count c.loop.counter c.loop.cursor (many_at cell_at c.args.count c.args.cursor.now) c.loop-test.true c.in_err-one.ensures c.loop.invariant)
+    rw (p.1, p.2) (ends cell_at Damaged c.loop.out.items c.args.count c.loop.counter c.loop.cursor (many_at cell_at c.args.count c.args.cursor.now) c.loop-test.true c.in_err-one.ensures c.loop.invariant)
 
 pub loop-preserved : goal.loop-preserved
 loop-preserved c =

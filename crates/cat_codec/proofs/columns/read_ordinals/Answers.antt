@@ -16,7 +16,7 @@ returns-in_err-read_list-clause-gives c =
 pub loop-preserved : goal.loop-preserved
 loop-preserved c =
     let b = read_behind c.loop.ordinals.items c.read_list.new.out.items c.read_list.new.cursor (list_at c.loop.cursor) c.in_ok-read_list.ensures in
-    let counted : c.in_ok-end.end ≡ length c.read_list.new.out.items = c.in_ok-end.ensures.ok ∙ ap length c.deref.ensures.value in
+    let counted : c.in_ok-end.end ≡ length c.read_list.new.out.items = c.in_ok-end.ensures ∙ ap length c.deref.ensures.value in
     let grown : length c.loop.ordinals.items ≤ c.in_ok-end.end = omega (arith, counted, ap length b.is, length-append c.loop.ordinals.items b.more) in
     let pushed = ordinals_push c.loop.ends.items c.loop.ordinals.items b.more c.read_list.new.out.items c.in_ok-end.end c.loop.invariant.ends b.is counted in
     record {

@@ -23,7 +23,7 @@ returns-in_err-read_list-clause-gives c =
 pub loop-preserved : goal.loop-preserved
 loop-preserved c =
     let b = read_behind c.loop.rows.items c.read_list.new.out.items c.read_list.new.cursor (list_at c.read_text.new.cursor) c.in_ok-read_list.ensures in
-    let counted : c.in_ok-end.end ≡ length c.read_list.new.out.items = c.in_ok-end.ensures.ok ∙ ap length c.deref.ensures.value in
+    let counted : c.in_ok-end.end ≡ length c.read_list.new.out.items = c.in_ok-end.ensures ∙ ap length c.deref.ensures.value in
     let grown : length c.loop.rows.items ≤ c.in_ok-end.end = omega (arith, counted, ap length b.is, length-append c.loop.rows.items b.more) in
     let pushed = postings_push c.loop.words.items c.loop.ends.items c.loop.rows.items c.in_ok-word.word b.more c.read_list.new.out.items c.in_ok-end.end c.loop.invariant.even c.loop.invariant.ends b.is counted in
     let one = posted_here c.loop.cursor c.read_text.new.cursor c.read_list.new.cursor c.in_ok-word.word b.more c.in_ok-word.ensures b.read in

@@ -1,12 +1,9 @@
 use Rattle.std.proofs.Common.{arith}
-use Rattle.std.proofs.lemmas.Result.{err_from_is_err_and}
 use Rattle.cat_codec.proofs.Numbers.{u64_here, u64_not}
 use Rattle.cat_codec.proofs.cursor.take_u64.Goals as goal
 
-pub returns-in_err-number : goal.returns-in_err-number
-returns-in_err-number c =
-    let p = err_from_is_err_and c.from_residual.result c.from_residual.ensures.1 in
-    rw (p.1, p.2, c.in_err-number.ensures.err.0) (u64_not c.args.cursor.now c.in_err-number.ensures.err.2)
+pub returns-in-Err : goal.returns-in-Err
+returns-in-Err c = u64_not c.args.cursor.now c.in-Err.ensures.err.2
 
-pub returns : goal.returns
-returns c = u64_here c.args.cursor.now c.take_u64.new.self c.in_ok-number.number (omega arith) c.in_ok-number.ensures.ok
+pub returns-in-Ok : goal.returns-in-Ok
+returns-in-Ok c = u64_here c.args.cursor.now c.take_u64.new.self c.in-Ok.found (omega arith) c.in-Ok.ensures.ok

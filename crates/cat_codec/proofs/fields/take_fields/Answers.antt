@@ -1,6 +1,7 @@
 use Rattle.std.proofs.Common.{subst}
 use Rattle.cat_model.specs.Item.{IsSchema}
 use Rattle.std.proofs.lemmas.Result.{err_from_is_err_and}
+use Rattle.cat_base.specs.declared.refusal.Refusal.TheVariants.{Damaged}
 use Rattle.cat_codec.specs.Reading.{u32_at, many_at}
 use Rattle.cat_codec.specs.Layouts.{field_at, fields_at}
 use Rattle.cat_codec.proofs.Loop.{fails_none, fails_of}
@@ -10,7 +11,7 @@ use Rattle.cat_codec.proofs.fields.take_fields.Goals as goal
 pub returns-in_err-count : goal.returns-in_err-count
 returns-in_err-count c =
     let p = err_from_is_err_and c.from_residual.result c.from_residual.ensures.1 in
-    rw (p.1, p.2) (fails_none c.in_err-count.field-0.0 (u32_at c.args.cursor.now) (fields_at c.args.cursor.now) c.in_err-count.ensures (fields_not_count c.args.cursor.now))
+    rw (p.1, p.2) (fails_none Damaged (u32_at c.args.cursor.now) (fields_at c.args.cursor.now) c.in_err-count.ensures (fields_not_count c.args.cursor.now))
 
 pub returns-in_err-fields : goal.returns-in_err-fields
 returns-in_err-fields c =

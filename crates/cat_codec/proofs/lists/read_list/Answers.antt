@@ -1,4 +1,5 @@
 use Rattle.std.proofs.lemmas.Result.{err_from_is_err_and}
+use Rattle.cat_base.specs.declared.refusal.Refusal.TheVariants.{Damaged}
 use Rattle.cat_codec.specs.Reading.{u32_at, with_front}
 use Rattle.cat_codec.specs.Layouts.{list_at}
 use Rattle.cat_codec.proofs.Loop.{fails_none}
@@ -8,7 +9,7 @@ use Rattle.cat_codec.proofs.lists.read_list.Goals as goal
 pub returns-in_err-count : goal.returns-in_err-count
 returns-in_err-count c =
     let p = err_from_is_err_and c.from_residual.result c.from_residual.ensures.1 in
-    rw (p.1, p.2) (fails_none c.in_err-count.field-0.0 (u32_at c.args.cursor.now) (with_front c.args.out.now.items (list_at c.args.cursor.now)) c.in_err-count.ensures (list_not c.args.out.now.items c.args.cursor.now))
+    rw (p.1, p.2) (fails_none Damaged (u32_at c.args.cursor.now) (with_front c.args.out.now.items (list_at c.args.cursor.now)) c.in_err-count.ensures (list_not c.args.out.now.items c.args.cursor.now))
 
 pub returns-in_err-read_onto : goal.returns-in_err-read_onto
 returns-in_err-read_onto c =

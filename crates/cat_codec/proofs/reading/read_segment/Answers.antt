@@ -4,7 +4,7 @@ use Rattle.cat_codec.proofs.Segments.{layout_sound, never_laid}
 use Rattle.cat_codec.proofs.reading.read_segment.Goals as goal
 
 pub returns-clause-ok : goal.returns-clause-ok
-returns-clause-ok c = let s = layout_sound c.args.bytes.now (layout_in c.in_ok-parts.fields) c.in_ok-parts.ensures.gives in (c.in_ok-parts.ensures.formed, s.0, s.1)
+returns-clause-ok c = let s = layout_sound c.args.bytes.now (layout_in c.in_ok-parts.parts) c.in_ok-parts.ensures.gives in (c.in_ok-parts.ensures.formed, s.0, s.1)
 
 pub returns-in_err-parts-clause-damaged : goal.returns-in_err-parts-clause-damaged
 returns-in_err-parts-clause-damaged c =
