@@ -228,7 +228,7 @@ module _ (from : Opened) (past : Run) (ok : IsBounded from.start past) where
       let k : ◌≡◌ {A = Reply} (Ok (Answer.number u)) (Ok (Answer.number (greatest (view_tokens from.start past)))) = answered from past s Command.open_newest (Answer.number u) f in
       let e : u ≡ greatest (view_tokens from.start past) = cc in
       let same : u ≡ t = grind (arith, nat_tests, h) in
-      ap (has (view_tokens from.start past)) (sym same ∙ e) ∙ greatest_in (view_tokens from.start past) ok.some_record
+      ap (has (view_tokens from.start past)) (sym same ∙ e) ∙ greatest_in (view_tokens from.start past) ok.some_view
   holds_fit s t (Command.open_at v) (Ok (Answer.number u)) f h =
       let same : u ≡ t = grind (arith, nat_tests, h) in
       let k : (has (view_tokens from.start past) v ≡ true) × (v ≡ t) = opened (has (view_tokens from.start past) v) v u t (answered from past s (Command.open_at v) (Answer.number u) f) same in
@@ -253,7 +253,7 @@ IsBounded-push from past e ok f =
     let more : now start past ≤ now start (past ++ e ∷ []) = now-push start past e in
     let rs : view_tokens start (past ++ e ∷ []) ≡ view_tokens_by (is_held past) (view_tokens start past) e.line.command e.reply = records-push start past e in
     record {
-      some_record = subst (λ ts. 0 < length ts) (sym rs) (keeps_some (is_held past) (view_tokens start past) e.line.command e.reply ok.some_record);
+      some_view = subst (λ ts. 0 < length ts) (sym rs) (keeps_some (is_held past) (view_tokens start past) e.line.command e.reply ok.some_view);
       recorded = subst (AllByRecursion (λ u. u ≤ now start (past ++ e ∷ []))) (sym rs)
           (All-weaken (λ u. u ≤ now start past) (λ u. u ≤ now start (past ++ e ∷ [])) (λ u h. omega arith) _ (records_fit from past ok e.line.session e.line.command e.reply f));
       held = λ s t h.
@@ -267,7 +267,7 @@ bounded_from from past (e ∷ run) ok f =
     subst (IsBounded from.start) (append_assoc past (e ∷ []) run) (bounded_from from (past ++ e ∷ []) run (IsBounded-push from past e ok f.0) f.1)
 
 pub bounded : RunsAreBounded
-bounded from run f = bounded_from from [] run (record { some_record = omega arith; recorded = (omega arith, tt); held = λ s t h. absurd (cc) }) f
+bounded from run f = bounded_from from [] run (record { some_view = omega arith; recorded = (omega arith, tt); held = λ s t h. absurd (cc) }) f
 
 -- a held token lies within the run before the read, and the writes of the run go on from those before it
 pub held_low : (from : Opened) (run : Run) (t : ℕ) (asked : Read) (reply : Reply) (h : HeldRead from run t asked reply) → t ≤ now from.start h.past

@@ -26,10 +26,10 @@ pub fn later_writes_change_nothing()
     ensures { LaterWritesChangeNothing }
 {}
 
-/// In a fitting run some record stands, none lies past the number of writes, and each token that a
-/// session holds is recorded.
+/// In a fitting run some view is recorded, none past the number of writes, and so is each token that
+/// a session holds.
 ///
-/// The rule that nothing takes a held record away is our own. In Lucene's
+/// The rule that nothing takes a held view away is our own. In Lucene's
 /// `SearcherLifetimeManager`, `prune` drops a searcher from the records also while it is in use, and
 /// only closes it after its last `release`.
 pub fn runs_are_bounded()
