@@ -8,7 +8,7 @@ use Rattle.std.specs.Prelude.{All}
 use Rattle.cat_model.specs.Text.{Text, same_text}
 use Rattle.cat_model.specs.RowSets.{has_row, indices}
 use Rattle.cat_model.specs.Ordinals.{postings_of, rows_having}
-use Rattle.cat_values.specs.Merged.{kept_of, place_in, moved, AreNumbered}
+use Rattle.cat_values.specs.Merged.{kept_of, row_in, moved, AreNumbered}
 
 -- ---- of lists
 
@@ -87,7 +87,7 @@ no_posting w xs e = nothing (postings_of w xs) (some_posting w xs ∙ e)
 -- ---- of the postings of rows that are kept
 
 later_moved : (c : ℕ) (codes rows : List ℕ) → moved (c ∷ codes) (map suc rows) ≡ moved codes rows
-later_moved c codes rows = flat_map-map (λ r. place_in (get_or (c ∷ codes) r 0)) suc rows
+later_moved c codes rows = flat_map-map (λ r. row_in (get_or (c ∷ codes) r 0)) suc rows
 
 module _ (w : Text) where
   pub kept_moved : (n : ℕ) (codes : List ℕ) (ts : List (List Text)) → length codes ≡ length ts → AreNumbered n codes → moved codes (postings_of w ts) ≡ map (λ r. n + r) (postings_of w (kept_of codes ts))

@@ -1,16 +1,17 @@
 -- Terms are told by their words and the postings of each.
-use Rattle.std.proofs.Common.{◌≡◌, ℕ, ◌<◌, List, [], ◌∷◌, length, get_or, map, refl, sym, ap, ◌∙◌, arith, subst}
+use Rattle.std.proofs.Common.{◌≡◌, ℕ, ◌<◌, ◌^◌, List, [], ◌∷◌, length, get_or, map, refl, sym, ap, ◌∙◌, arith, subst}
 use Rattle.std.proofs.lemmas.List.{length-map, get_or-map, map-id, ext_get_or}
+use Rattle.std.proofs.lemmas.List.FromFn.{length-map-range_with_len}
 use Rattle.std.specs.List.{list_any, flat_map}
 use Rattle.std.specs.Prelude.{All}
 use Rattle.cat_base.specs.Texts.{sorted_set, IsTextSet}
 use Rattle.cat_base.proofs.TextSets.{has-sorted_set, IsTextSet-sorted_set, sorted_set_is}
 use Rattle.cat_model.specs.Text.{Text, same_text}
-use Rattle.cat_model.specs.Layout.{WordPostings, pieces, paired_postings, word_postings_of}
+use Rattle.cat_model.specs.Layout.{WordPostings, pieces, AreEnds, paired_postings, word_postings_of}
 use Rattle.cat_model.specs.Ordinals.{dictionary_of, postings_of}
-use Rattle.cat_inverted.specs.Postings.{IsPart, words_of_rows, IsTerms}
+use Rattle.cat_inverted.specs.Postings.{IsPart, words_at, words_of_rows, IsTerms, HasNoTerms}
 use Rattle.cat_inverted.proofs.Parts.{length-pieces}
-use Rattle.cat_inverted.proofs.Rows.{same_has, any_joined, words_are}
+use Rattle.cat_inverted.proofs.Rows.{same_has, any_joined, words_are, rows_are_sets}
 use Rattle.cat_inverted.proofs.Searches.{one_part, postings_are}
 use Rattle.cat_inverted.proofs.Builds as built
 
@@ -110,3 +111,21 @@ module _ (len : ℕ) (words : List Text) (ends rows : List ℕ) (terms : IsTerms
       sym (posted_is texts)
       ∙ ap (λ (ws : List Text). paired_postings ws (map f ws)) (sym (words_are len words ends rows terms))
       ∙ ap (paired_postings words) each_part
+
+-- words that rise, and pieces that are postings, make terms
+pub terms_from : (len : ℕ) (words : List Text) (ends rows ends' rows' : List ℕ) → ends' ≡ ends → rows' ≡ rows → len < 2 ^ 32 → length rows' < 2 ^ 32 → IsTextSet words → length ends ≡ length words → AreEnds 0 ends (length rows)
+    → All (IsPart len) (pieces 0 ends' rows') → IsTerms len words ends rows
+terms_from len words ends rows ends' rows' same_ends same_rows few fits sorted paired parts posted = record {
+  few = few;
+  fits = subst (λ (l : List ℕ). length l < 2 ^ 32) same_rows fits;
+  sorted = sorted;
+  paired = paired;
+  ended = parts;
+  posted = subst (All (IsPart len)) (ap (λ (l : List ℕ). pieces 0 l rows') same_ends ∙ ap (pieces 0 ends) same_rows) posted;
+}
+
+-- such terms are of some rows
+pub some_terms : (len : ℕ) (words : List Text) (ends rows : List ℕ) → IsTerms len words ends rows → HasNoTerms len words (pieces 0 ends rows) → ⊥
+some_terms len words ends rows terms none =
+    none (words_of_rows len words (pieces 0 ends rows)) (length-map-range_with_len (words_at words (pieces 0 ends rows)) 0 len)
+    (rows_are_sets len words (pieces 0 ends rows) terms.sorted) (terms_posted len words ends rows terms)

@@ -26,9 +26,9 @@ ends_from from (list ∷ lists) = (from + length list) ∷ ends_from (from + len
 abbrev pub lists_in : {Z S : Type 0} → Vec (Vec ℕ Z) S → List (List ℕ)
 lists_in v = map (λ list. list.items) v.items
 
--- the list at the place
+-- the list of the ordinal
 abbrev pub list_at : {Z S : Type 0} → Vec (Vec ℕ Z) S → ℕ → List ℕ
-list_at v place = slice_index_or (lists_in v) place []
+list_at v ordinal = slice_index_or (lists_in v) ordinal []
 
 -- the rows whose ordinals have this one
 abbrev pub rows_at : ℕ → List (List ℕ) → List ℕ

@@ -1,16 +1,16 @@
 -- Words with the rows that each is in: how a list of words and one list of rows, cut into a part for each word, stand for
 -- the texts of each row.
-use Rattle.std.specs.Prelude.{◌≡◌, ℕ, zero, suc, ◌<◌, ◌^◌, Bool, List, [], ◌∷◌, length, map, filter, All, ◌==◌}
+use Rattle.std.specs.Prelude.{◌≡◌, ◌≢◌, ℕ, zero, suc, ◌<◌, ◌^◌, Bool, List, [], ◌∷◌, length, map, filter, All, ◌==◌}
 use Rattle.std.specs.List.{list_any, range_with_len, zip}
 use Rattle.cat_base.specs.Texts.{IsTextSet}
 use Rattle.cat_model.specs.Text.{Text}
-use Rattle.cat_model.specs.Layout.{pieces, AreEnds}
+use Rattle.cat_model.specs.Layout.{pieces, AreEnds, word_postings_of, paired_postings}
 
--- where the part of a place begins: at the end before it, the first part at `from`
+-- where the piece of an ordinal begins: at the end before it, the first piece at `from`
 abbrev pub start_of : ℕ → List ℕ → ℕ → ℕ
 start_of from ends zero = from
-start_of from [] (suc place) = from
-start_of from (e ∷ es) (suc place) = start_of e es place
+start_of from [] (suc ordinal) = from
+start_of from (e ∷ es) (suc ordinal) = start_of e es ordinal
 
 -- whether the row is among the rows
 abbrev pub is_among : List ℕ → ℕ → Bool
@@ -40,3 +40,11 @@ pub record IsTerms (len : ℕ) (words : List Text) (ends rows : List ℕ) : Type
   pub paired : length ends ≡ length words
   pub ended : AreEnds 0 ends (length rows)
   pub posted : All (IsPart len) (pieces 0 ends rows)
+
+-- so many rows have the words, each with its piece as its postings
+abbrev pub HaveTerms : ℕ → List Text → List (List ℕ) → List (List Text) → Type 0
+HaveTerms len words parts texts = (length texts ≡ len) × (word_postings_of texts ≡ paired_postings words parts)
+
+-- no rows have
+abbrev pub HasNoTerms : ℕ → List Text → List (List ℕ) → Type 0
+HasNoTerms len words parts = (texts : List (List Text)) → length texts ≡ len → All IsTextSet texts → word_postings_of texts ≢ paired_postings words parts

@@ -1,15 +1,15 @@
 //! How the terms of a segment are built from the words of its rows, as Lucene's `FreqProxTermsWriter` does.
-ghost use Rattle.std.specs.Prelude.{◌≡◌, ℕ, ◌^◌, ◌<◌, ◌++◌, ◌∷◌, ◌||◌, [], length, map, All, IfOk, IfErr, OnOk, OnErr, is_some, if◌then◌else◌};
+ghost use Rattle.std.specs.Prelude.{◌≡◌, ◌^◌, ◌<◌, ◌++◌, ◌∷◌, ◌||◌, [], length, map, All, IfOk, OnOk, is_some, if◌then◌else◌};
 ghost use Rattle.std.specs.List.{flat_map, list_any};
 ghost use Rattle.cat_base.specs.Texts.{IsTextSet};
-ghost use Rattle.cat_base.specs.declared.refusal.Refusal.TheVariants.{Memory};
 ghost use Rattle.cat_model.specs.Text.{Text, same_text};
 ghost use Rattle.cat_model.specs.Ordinals.{postings_of};
 ghost use Rattle.cat_inverted.specs.Gathered.{found, listed, ends_from};
 
 use crate::terms::Terms;
-use cat_base::{Refusal, Text, TextSet};
-use std::alloc::Global;
+use cat_base::Text;
+use cat_values::Dictionary;
+use std::alloc::{AllocError, Global};
 use std::collections::HashMap;
 
 /// Adds the row behind the postings of the word.
@@ -18,10 +18,9 @@ fn add_posting<'a>(
     postings: &mut HashMap<&'a str, Vec<u32>>,
     row: u32,
     word: &'a str,
-) -> Result<(), Refusal>
+) -> Result<(), AllocError>
     ensures lists { OnOk result ((other : Text) → listed other postings.new ≡ listed other postings.old ++ (if same_text other word.now then row ∷ [] else [])) }
     ensures keys { OnOk result ((other : Text) → is_some (found other postings.new) ≡ (is_some (found other postings.old) || same_text other word.now)) }
-    ensures refusal { IfErr result (λ e. e ≡ Memory) }
 {
     match postings.get_mut(word) {
         Some(rows) => rows.push(row)?,
@@ -40,11 +39,10 @@ fn add_row<'a>(
     postings: &mut HashMap<&'a str, Vec<u32>>,
     row: u32,
     words: &'a [Text],
-) -> Result<(), Refusal>
+) -> Result<(), AllocError>
     requires { IsTextSet words.now }
     ensures lists { OnOk result ((word : Text) → listed word postings.new ≡ listed word postings.old ++ (if list_any (same_text word) words.now then row ∷ [] else [])) }
     ensures keys { OnOk result ((word : Text) → is_some (found word postings.new) ≡ (is_some (found word postings.old) || list_any (same_text word) words.now)) }
-    ensures refusal { IfErr result (λ e. e ≡ Memory) }
 {
     for word in words {
         add_posting(alloc, postings, row, word.as_str())?;
@@ -53,12 +51,14 @@ fn add_row<'a>(
 }
 
 /// The postings of each word.
-fn gathered<'a>(alloc: Global, rows: &[&'a [Text]]) -> Result<HashMap<&'a str, Vec<u32>>, Refusal>
+fn gathered<'a>(
+    alloc: Global,
+    rows: &[&'a [Text]],
+) -> Result<HashMap<&'a str, Vec<u32>>, AllocError>
     requires few { length rows.now < 2 ^ 32 }
     requires sets { All (λ r. IsTextSet r.now) rows.now }
     ensures lists { IfOk result (λ m. (word : Text) → listed word m ≡ postings_of word (map (λ r. r.now) rows.now)) }
     ensures keys { IfOk result (λ m. (word : Text) → is_some (found word m) ≡ list_any (list_any (same_text word)) (map (λ r. r.now) rows.now)) }
-    ensures refusal { IfErr result (λ e. e ≡ Memory) }
 {
     let mut postings = HashMap::new(alloc);
     for (row, words) in rows.iter().enumerate() {
@@ -68,16 +68,15 @@ fn gathered<'a>(alloc: Global, rows: &[&'a [Text]]) -> Result<HashMap<&'a str, V
 }
 
 /// The words that have postings.
-fn words_of(alloc: Global, postings: &HashMap<&str, Vec<u32>>) -> Result<TextSet, Refusal>
+fn words_of(alloc: Global, postings: &HashMap<&str, Vec<u32>>) -> Result<Dictionary, AllocError>
     ensures ok { IfOk result (λ s. (word : Text) → list_any (same_text word) s ≡ is_some (found word postings.now)) }
     ensures sorted { IfOk result (λ s. IsTextSet s) }
-    ensures refusal { IfErr result (λ e. e ≡ Memory) }
 {
     let mut words = Vec::with_capacity(alloc, postings.len())?;
     for word in postings.keys() {
         words.push(Text::from_str(alloc, word)?)?;
     }
-    Ok(TextSet::of(words))
+    Dictionary::of(alloc, words)
 }
 
 /// The rows that the word has gathered.
@@ -95,18 +94,17 @@ fn laid(
     alloc: Global,
     words: &[Text],
     postings: &HashMap<&str, Vec<u32>>,
-) -> Result<(Vec<u32>, Vec<u32>), Refusal>
+) -> Result<(Vec<u32>, Vec<u32>), AllocError>
     ensures ends { IfOk result (λ p. p.0.items ≡ ends_from 0 (map (λ word. listed word postings.now) words.now)) }
     ensures rows { IfOk result (λ p. p.1.items ≡ flat_map (λ part. part) (map (λ word. listed word postings.now) words.now)) }
     ensures few { IfOk result (λ p. length p.1.items < 2 ^ 32) }
-    ensures refusal { IfErr result (λ e. e ≡ Memory) }
 {
     let mut ends = Vec::with_capacity(alloc, words.len())?;
     let mut rows = Vec::new(alloc);
     for word in words {
         rows.extend_from_slice(rows_of(postings, word.as_str()))?;
         if rows.len() > u32::MAX as usize {
-            return Err(Refusal::Memory);
+            return Err(AllocError);
         }
         ends.push(rows.len() as u32)?;
     }
@@ -115,13 +113,11 @@ fn laid(
 
 impl Terms {
     /// The terms of rows that have these sets of words, as Lucene's `FieldsConsumer.write` takes them. Each distinct word is
-    /// copied once and the words are sorted once. A refusal is [`Refusal::Memory`], also where there are 2^32 postings or
-    /// more.
-    pub fn build(alloc: Global, rows: &[&[Text]]) -> Result<Self, Refusal>
+    /// copied once and the words are sorted once. An error also where there are 2^32 postings or more.
+    pub fn build(alloc: Global, rows: &[&[Text]]) -> Result<Self, AllocError>
         requires few { length rows.now < 2 ^ 32 }
         requires sets { All (λ r. IsTextSet r.now) rows.now }
         ensures ok { IfOk result (λ t. t ≡ map (λ r. r.now) rows.now) }
-        ensures refusal { IfErr result (λ e. e ≡ Memory) }
     {
         let postings = gathered(alloc, rows)?;
         let words = words_of(alloc, &postings)?;

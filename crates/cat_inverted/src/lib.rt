@@ -10,6 +10,6 @@ mod terms;
 #[cfg(test)]
 mod tests;
 
-pub use merge::Part;
+pub use merge::MergeInput;
 pub use posted::terms_are_told_by_their_postings;
 pub use terms::Terms;

@@ -1,36 +1,22 @@
 //! Terms of words that come with their postings, as they stand in a file.
-ghost use Rattle.std.specs.Prelude.{◌≡◌, ◌≢◌, ℕ, ◌^◌, ◌<◌, ◌↔◌, List, length, All, IfOk, IfErr, IsTrue};
-ghost use Rattle.std.specs.List.Sorted.{IsStrictlySortedBy};
-ghost use Rattle.std.specs.Ordering.{nat_cmp};
+ghost use Rattle.std.specs.Prelude.{◌≡◌, ◌⊎◌, ◌^◌, ◌<◌, ◌↔◌, List, length, All, Err, IfOk, IfErr, IsTrue};
 ghost use Rattle.cat_base.specs.Texts.{IsTextSet};
-ghost use Rattle.cat_base.specs.declared.refusal.Refusal.TheVariants.{Damaged};
+ghost use Rattle.cat_base.specs.declared.refusal.Refusal.TheVariants.{Damaged, Memory};
 ghost use Rattle.cat_model.specs.Text.{Text};
-ghost use Rattle.cat_model.specs.Layout.{pieces, AreEnds, paired_postings, word_postings_of};
-ghost use Rattle.cat_inverted.specs.Postings.{IsPart};
+ghost use Rattle.cat_model.specs.Layout.{pieces, AreEnds, word_postings_of};
+ghost use Rattle.cat_inverted.specs.Postings.{IsPart, HaveTerms, HasNoTerms};
 
 use crate::terms::Terms;
-use cat_base::{Refusal, Text, TextSet};
-
-/// Whether each word comes before the next by its bytes.
-fn rise(words: &[Text]) -> bool
-    ensures { IsTrue result ↔ IsTextSet words.now }
-{
-    words.is_sorted_by(|word, next| word < next)
-}
-
-/// Whether each row comes before the next.
-fn are_rising(rows: &[u32]) -> bool
-    ensures { IsTrue result ↔ IsStrictlySortedBy nat_cmp rows.now }
-{
-    rows.is_sorted_by(|row, next| row < next)
-}
+use cat_base::{Refusal, Text, rises};
+use cat_values::Dictionary;
+use std::alloc::Global;
 
 /// Whether these are the postings of a word that some of `len` rows has: at least one, rising, each below `len`.
 fn is_part(len: usize, rows: &[u32]) -> bool
     ensures { IsTrue result ↔ IsPart len rows.now }
 {
     match rows.last() {
-        Some(last) => (*last as usize) < len && are_rising(rows),
+        Some(last) => (*last as usize) < len && rises(rows),
         None => false,
     }
 }
@@ -54,12 +40,14 @@ fn are_parts(len: usize, ends: &[u32], rows: &[u32]) -> bool
 
 impl Terms {
     /// The terms of `len` rows with these words, each of which has its piece of `rows` as its postings. The pieces stand one
-    /// behind another and `ends` says where each ends. So Lucene's `FieldsProducer` makes the `Terms` that a file holds.
+    /// behind another and `ends` says where each ends. So Lucene's `FieldsProducer` makes the `Terms` that a file holds. The
+    /// lists are taken over, in time in proportion to the words and the postings.
     ///
-    /// It checks that the words rise by their bytes, and that each piece has at least one row, rises, and stays below `len`.
-    /// Where this fails, [`Refusal::Damaged`]: then no rows have such terms. It takes over the lists and takes no memory, and
-    /// it takes time in proportion to the words and the postings.
+    /// [`Refusal::Damaged`] exactly where no rows have such terms: the words don't rise by their bytes, or a piece has no row,
+    /// doesn't rise, or has a row that isn't below `len`. That is judged before memory is asked for, which the sharing of the
+    /// words takes.
     pub fn from_postings(
+        alloc: Global,
         len: usize,
         words: Vec<Text>,
         ends: Vec<u32>,
@@ -68,19 +56,24 @@ impl Terms {
         requires few { len < 2 ^ 32 }
         requires paired { length ends.items ≡ length words.items }
         requires parts { AreEnds 0 ends.items (length rows.items) }
-        ensures ok { IfOk result (λ t. (length t ≡ len) × (word_postings_of t ≡ paired_postings words.items (pieces 0 ends.items rows.items))) }
-        ensures refusal { IfErr result (λ e. (e ≡ Damaged) × ((texts : List (List Text)) → length texts ≡ len → All IsTextSet texts → word_postings_of texts ≢ paired_postings words.items (pieces 0 ends.items rows.items))) }
+        ensures ok { IfOk result (λ t. HaveTerms len words.items (pieces 0 ends.items rows.items) t) }
+        ensures damaged { IfErr result (λ e. e ≡ Damaged → HasNoTerms len words.items (pieces 0 ends.items rows.items)) }
+        ensures due { HasNoTerms len words.items (pieces 0 ends.items rows.items) → result ≡ Err Damaged }
+        ensures refusal { IfErr result (λ e. (e ≡ Damaged) ⊎ (e ≡ Memory)) }
     {
-        if rise(&words) && are_parts(len, &ends, &rows) {
-            Ok(Terms {
-                len,
-                words: TextSet::of(words),
-                ends,
-                rows,
-            })
-        } else {
-            Err(Refusal::Damaged)
+        if !rises(&words) {
+            return Err(Refusal::Damaged);
         }
+        if !are_parts(len, &ends, &rows) {
+            return Err(Refusal::Damaged);
+        }
+        let words = Dictionary::from_sorted(alloc, words)?;
+        Ok(Terms {
+            len,
+            words,
+            ends,
+            rows,
+        })
     }
 }
 

@@ -1,17 +1,17 @@
 //! The rows that have some word of a range, as sets.
-ghost use Rattle.std.specs.Prelude.{◌≡◌, ℕ, ◌<◌, ◌≤◌, ◌&&◌, true, false, not, length, map, All, IfOk, IfErr};
+ghost use Rattle.std.specs.Prelude.{◌≡◌, ◌<◌, ◌≤◌, ◌&&◌, true, false, not, length, map, All, IfOk};
 ghost use Rattle.std.specs.List.{list_any};
 ghost use Rattle.std.specs.List.Sorted.{IsPartitionPoint};
 ghost use Rattle.std.specs.Option.{option_map};
 ghost use Rattle.cat_base.specs.Texts.{IsTextSet};
-ghost use Rattle.cat_base.specs.declared.refusal.Refusal.TheVariants.{Memory};
 ghost use Rattle.cat_model.specs.Text.{text_le, has_prefix};
 ghost use Rattle.cat_model.specs.Query.{open_or};
 ghost use Rattle.cat_model.specs.Ordinals.{rows_having};
 
 use crate::terms::Terms;
-use cat_base::{Refusal, Text};
+use cat_base::Text;
 use cat_values::RowSet;
+use std::alloc::AllocError;
 
 fn as_str<'a>(text: Option<&'a Text>) -> Option<&'a str>
     ensures { option_map (λ t. t.now) result ≡ option_map (λ t. t.now) text.entry }
@@ -74,19 +74,16 @@ fn count_with_prefix(words: &[Text], prefix: &str) -> usize
 }
 
 impl Terms {
-    /// The rows that have the word, as Lucene's `TermQuery` finds them. A refusal is [`Refusal::Memory`].
-    pub fn rows_with(&self, word: &str) -> Result<RowSet, Refusal>
+    /// The rows that have the word, as Lucene's `TermQuery` finds them.
+    pub fn rows_with(&self, word: &str) -> Result<RowSet, AllocError>
         ensures ok { IfOk result (λ s. s ≡ rows_having word.now self.now) }
-        ensures refusal { IfErr result (λ e. e ≡ Memory) }
     {
         self.set_of(self.postings(word))
     }
 
-    /// The rows that have a word that begins with the prefix, as Lucene's `PrefixQuery` finds them. A refusal is
-    /// [`Refusal::Memory`].
-    pub fn prefix(&self, prefix: &str) -> Result<RowSet, Refusal>
+    /// The rows that have a word that begins with the prefix, as Lucene's `PrefixQuery` finds them.
+    pub fn prefix(&self, prefix: &str) -> Result<RowSet, AllocError>
         ensures ok { IfOk result (λ s. s ≡ map (list_any (has_prefix prefix.now)) self.now) }
-        ensures refusal { IfErr result (λ e. e ≡ Memory) }
     {
         let words = self.words();
         let first = first_from(words, Some(prefix));
@@ -95,10 +92,9 @@ impl Terms {
     }
 
     /// The rows that have a word from `low` to `high`, both included, as Lucene's `TermRangeQuery` finds them. An end that is
-    /// absent bounds nothing. A refusal is [`Refusal::Memory`].
-    pub fn between(&self, low: Option<&Text>, high: Option<&Text>) -> Result<RowSet, Refusal>
+    /// absent bounds nothing.
+    pub fn between(&self, low: Option<&Text>, high: Option<&Text>) -> Result<RowSet, AllocError>
         ensures ok { IfOk result (λ s. s ≡ map (list_any (λ k. open_or (λ a. text_le a k) (option_map (λ a. a.now) low.entry) && open_or (text_le k) (option_map (λ a. a.now) high.entry))) self.now) }
-        ensures refusal { IfErr result (λ e. e ≡ Memory) }
     {
         let words = self.words();
         let first = first_from(words, as_str(low));

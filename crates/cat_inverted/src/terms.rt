@@ -1,16 +1,16 @@
 //! The terms of a field and their postings, looked up by a word.
-ghost use Rattle.std.specs.Prelude.{◌≡◌, ℕ, ◌+◌, ◌^◌, ◌<◌, ◌≤◌, Bool, length, take, drop, map, All, IfOk, IfErr};
+ghost use Rattle.std.specs.Prelude.{◌≡◌, ◌+◌, ◌^◌, ◌<◌, ◌≤◌, Bool, length, take, drop, map, All, IfOk};
 ghost use Rattle.std.specs.List.{flat_map, list_any, range_with_len};
 ghost use Rattle.cat_base.specs.Texts.{IsTextSet};
-ghost use Rattle.cat_base.specs.declared.refusal.Refusal.TheVariants.{Memory};
 ghost use Rattle.cat_model.specs.Text.{Text};
 ghost use Rattle.cat_model.specs.Ordinals.{dictionary_of, postings_of, text_at};
 ghost use Rattle.cat_model.specs.Layout.{pieces, AreEnds};
 ghost use Rattle.cat_inverted.specs.Postings.{start_of, is_among};
 ghost use Rattle.cat_inverted.specs.Intervals.{IsInterval};
 
-use cat_base::{Refusal, Text, TextSet};
-use cat_values::RowSet;
+use cat_base::Text;
+use cat_values::{Dictionary, RowSet};
+use std::alloc::AllocError;
 use std::marker::Model;
 
 /// The words of one field of a segment, each with its postings: the rows that have the word. Lucene's `Terms`, whose
@@ -20,7 +20,7 @@ use std::marker::Model;
 pub struct Terms {
     /// How many rows the segment has, below 2^32.
     pub(crate) len: usize,
-    pub(crate) words: TextSet,
+    pub(crate) words: Dictionary,
     /// Where the postings of each word end in `rows`; they begin where those of the word before end.
     pub(crate) ends: Vec<u32>,
     /// The postings of all words, one word behind another.
@@ -72,7 +72,7 @@ impl Terms {
         self.len
     }
 
-    /// The words that some row has, in byte order. The place of a word is its ordinal, as that of Lucene's
+    /// The words that some row has, in byte order. How many words stand before a word is its ordinal, as that of Lucene's
     /// `TermsEnum.ord`. There are fewer than 2^32.
     pub fn words(&self) -> &[Text]
         ensures value { result.now ≡ dictionary_of self.now }
@@ -99,21 +99,16 @@ impl Terms {
     pub fn postings(&self, word: &str) -> &[u32]
         ensures { result.now ≡ postings_of word.now self.now }
     {
-        match self
-            .words
-            .as_slice()
-            .binary_search_by(|other| other.as_str().cmp(word))
-        {
-            Ok(ordinal) => parts(&self.ends, &self.rows, ordinal, 1),
-            Err(_) => &[],
+        match self.words.ordinal(word) {
+            Some(ordinal) => parts(&self.ends, &self.rows, ordinal, 1),
+            None => &[],
         }
     }
 
     /// The set of these rows.
-    pub(crate) fn set_of(&self, rows: &[u32]) -> Result<RowSet, Refusal>
+    pub(crate) fn set_of(&self, rows: &[u32]) -> Result<RowSet, AllocError>
         requires { All (λ r. r < length self.now) rows.now }
         ensures ok { IfOk result (λ s. s ≡ map (is_among rows.now) (range_with_len 0 (length self.now))) }
-        ensures refusal { IfErr result (λ e. e ≡ Memory) }
     {
         let mut set = RowSet::none(*self.rows.allocator(), self.len())?;
         set.insert_all(rows);
@@ -121,10 +116,9 @@ impl Terms {
     }
 
     /// The rows that have some of the `count` words from the ordinal `first` on, whose postings stand one behind another.
-    pub(crate) fn rows_of_words(&self, first: usize, count: usize) -> Result<RowSet, Refusal>
+    pub(crate) fn rows_of_words(&self, first: usize, count: usize) -> Result<RowSet, AllocError>
         requires { first + count ≤ length (dictionary_of self.now) }
         ensures ok { IfOk result (λ s. (p : Text → Bool) → IsInterval p (dictionary_of self.now) first count → s ≡ map (list_any p) self.now) }
-        ensures refusal { IfErr result (λ e. e ≡ Memory) }
     {
         self.set_of(parts(&self.ends, &self.rows, first, count))
     }

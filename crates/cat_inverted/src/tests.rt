@@ -4,8 +4,8 @@ ghost use Rattle.cat_model.specs.Layout.{AreEnds};
 
 use crate::Terms;
 use cat_base::{Refusal, Text, TextSet};
-use cat_values::RowSet;
-use std::alloc::Global;
+use cat_values::{Dictionary, RowSet};
+use std::alloc::{AllocError, Global};
 use std::test::Fail;
 
 fn set(alloc: Global, words: &[&str]) -> Result<TextSet, Fail> {
@@ -37,8 +37,8 @@ fn terms(alloc: Global) -> Result<Terms, Fail> {
 }
 
 fn shown(alloc: Global, rows: &RowSet) -> Result<String, Fail> {
-    let places: Vec<usize> = rows.iter().collect(alloc)?;
-    Ok(format!(in alloc; "{places:?}")?)
+    let indices: Vec<usize> = rows.iter().collect(alloc)?;
+    Ok(format!(in alloc; "{indices:?}")?)
 }
 
 #[test]
@@ -128,7 +128,7 @@ fn read(
     }
     let ends = Vec::from_slice(alloc, ends)?;
     let rows = Vec::from_slice(alloc, rows)?;
-    Terms::from_postings(len, texts, ends, rows)
+    Terms::from_postings(alloc, len, texts, ends, rows)
 }
 
 /// Whether the terms were refused as damaged.
@@ -172,10 +172,10 @@ fn postings_of_no_rows_are_damaged(rt: HostRuntime) -> Result<(), Fail> {
 }
 
 /// The terms of three rows of which the second alone has the word.
-fn of_one_word(alloc: Global, word: &str) -> Result<Terms, Refusal> {
+fn of_one_word(alloc: Global, word: &str) -> Result<Terms, AllocError> {
     let mut texts = Vec::new(alloc);
     texts.push(Text::from_str(alloc, word)?)?;
-    Terms::from_ordinals(alloc, TextSet::of(texts), &[0, 1, 1], &[0])
+    Terms::from_ordinals(alloc, Dictionary::of(alloc, texts)?, &[0, 1, 1], &[0])
 }
 
 #[test]

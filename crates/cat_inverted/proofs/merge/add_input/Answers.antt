@@ -7,13 +7,13 @@ use Rattle.cat_model.specs.Ordinals.{dictionary_of, text_at, postings_of}
 use Rattle.cat_values.specs.Merged.{moved}
 use Rattle.cat_inverted.specs.Gathered.{list_at}
 use Rattle.cat_inverted.proofs.Merging.{part_more, part_whole}
-use Rattle.cat_inverted.proofs.merge.add_part.Goals as goal
+use Rattle.cat_inverted.proofs.merge.add_input.Goals as goal
 
 pub loop-word-preserved : goal.loop-word-preserved
 loop-word-preserved c =
     let words = c.args.words.now in
-    let texts = c.args.part.now.terms.now in
-    let codes = c.args.part.now.places.now in
+    let texts = c.args.input.now.terms.now in
+    let codes = c.args.input.now.row_map.now in
     let ordinals = c.deref-ordinal-items.result.now in
     let j = c.loop-word.word in
     let o = get_or ordinals j 0 in
@@ -30,11 +30,11 @@ loop-word-preserved c =
 pub returns-clause-lists : goal.returns-clause-lists
 returns-clause-lists c = λ q lt.
     let words = c.args.words.now in
-    let texts = c.args.part.now.terms.now in
+    let texts = c.args.input.now.terms.now in
     let ordinals = c.deref-ordinal-items.result.now in
     let rising = subst IsTextSet c.words.ensures.value c.words.ensures.sorted in
     let same = ap (map (text_at words)) c.deref-ordinal-items.ensures.value ∙ c.in_ok-ordinals.ensures.texts ∙ c.words.ensures.value in
     let long = sym (length-map ordinals (text_at words)) ∙ ap length same in
     c.loop-word.invariant.lists q lt
-    ∙ ap (λ (ws : List Text). list_at c.args.lists.now q ++ (if list_any (same_text (text_at words q)) ws then moved c.args.part.now.places.now (postings_of (text_at words q) texts) else [])) (take_all c.loop-word.word (dictionary_of texts) (omega (arith, c.loop-word-test.false, long)))
-    ∙ ap (λ (l : List ℕ). list_at c.args.lists.now q ++ l) (part_whole words texts c.args.part.now.places.now ordinals c.requires.sorted rising same (text_at words q))
+    ∙ ap (λ (ws : List Text). list_at c.args.lists.now q ++ (if list_any (same_text (text_at words q)) ws then moved c.args.input.now.row_map.now (postings_of (text_at words q) texts) else [])) (take_all c.loop-word.word (dictionary_of texts) (omega (arith, c.loop-word-test.false, long)))
+    ∙ ap (λ (l : List ℕ). list_at c.args.lists.now q ++ l) (part_whole words texts c.args.input.now.row_map.now ordinals c.requires.sorted rising same (text_at words q))

@@ -4,10 +4,10 @@ use Rattle.cat_model.specs.Text.{same_text}
 use Rattle.cat_model.specs.Ordinals.{dictionary_of, postings_of, text_at}
 use Rattle.cat_values.specs.Merged.{moved}
 use Rattle.cat_inverted.specs.Gathered.{list_at}
-use Rattle.cat_inverted.proofs.merge.add_part.Given as goal
+use Rattle.cat_inverted.proofs.merge.add_input.Given as goal
 
 abbrev pub invariant-loop-word : goal.invariant-loop-word
 invariant-loop-word l = record {
   count : length l.lists.items ≡ length l.fn.lists.items;
-  lists : (o : ℕ) → o < length l.words → list_at l.lists o ≡ list_at l.fn.lists o ++ (if list_any (same_text (text_at l.words o)) (take l.word (dictionary_of l.part.terms.now)) then moved l.part.places.now (postings_of (text_at l.words o) l.part.terms.now) else []);
+  lists : (o : ℕ) → o < length l.words → list_at l.lists o ≡ list_at l.fn.lists o ++ (if list_any (same_text (text_at l.words o)) (take l.word (dictionary_of l.input.terms.now)) then moved l.input.row_map.now (postings_of (text_at l.words o) l.input.terms.now) else []);
 }

@@ -3,4 +3,4 @@ use Rattle.cat_values.specs.Merged.{moved}
 use Rattle.cat_inverted.proofs.merge.add_moved.Given as goal
 
 abbrev pub invariant-loop-row : goal.invariant-loop-row
-invariant-loop-row l = l.list.items ≡ l.fn.list.items ++ moved l.places (take l.row-index l.rows)
+invariant-loop-row l = l.list.items ≡ l.fn.list.items ++ moved l.row_map (take l.row-index l.rows)

@@ -7,9 +7,9 @@ use Rattle.cat_values.specs.Merged.{kept_of}
 use Rattle.cat_inverted.specs.Gathered.{list_at}
 use Rattle.cat_inverted.proofs.merge.gathered.Given as goal
 
-abbrev pub invariant-loop-part : goal.invariant-loop-part
-invariant-loop-part l = record {
+abbrev pub invariant-loop-input : goal.invariant-loop-input
+invariant-loop-input l = record {
   count : length l.lists.items ≡ length l.words;
-  lists : (o : ℕ) → o < length l.words → list_at l.lists o ≡ postings_of (text_at l.words o) (flat_map (λ p. kept_of p.places.now p.terms.now) (take l.part-index l.parts));
-  sets : All (λ p. All IsTextSet p.terms.now) (take l.part-index l.parts);
+  lists : (o : ℕ) → o < length l.words → list_at l.lists o ≡ postings_of (text_at l.words o) (flat_map (λ p. kept_of p.row_map.now p.terms.now) (take l.input-index l.inputs));
+  sets : All (λ p. All IsTextSet p.terms.now) (take l.input-index l.inputs);
 }

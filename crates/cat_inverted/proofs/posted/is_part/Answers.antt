@@ -4,7 +4,7 @@ use Rattle.cat_inverted.proofs.Rising.{part_by_order, no_part}
 use Rattle.cat_inverted.proofs.posted.is_part.Goals as goal
 
 pub returns-then-last-len : goal.returns-then-last-len
-returns-then-last-len c = part_by_order c.args.len c.args.rows.now c.in-Some.last.now c.in-Some.ensures.value c.if-last-len.true c.are_rising.result c.are_rising.ensures
+returns-then-last-len c = part_by_order c.args.len c.args.rows.now c.in-Some.last.now c.in-Some.ensures.value c.if-last-len.true c.rises.result c.rises.ensures
 
 pub returns-else-last-len : goal.returns-else-last-len
 returns-else-last-len c = (

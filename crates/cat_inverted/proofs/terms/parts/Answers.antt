@@ -1,7 +1,7 @@
 use Rattle.std.proofs.Common.{◌+◌, ◌-◌, ◌≤◌, length, take, drop, sym, ap, ◌∙◌, arith, rules}
 use Rattle.cat_inverted.specs.Postings.{start_of}
 use Rattle.cat_inverted.proofs.Parts.{starts_rise, starts_within, parts_are}
-use Rattle.cat_inverted.proofs.terms.fields.Goals as goal
+use Rattle.cat_inverted.proofs.terms.parts.Goals as goal
 
 pub slice_bounds-result-count : goal.slice_bounds-result-count
 slice_bounds-result-count c = omega (arith, c.start_of.ensures.value, c.start_of-2.ensures.value, starts_rise 0 c.args.ends.now (length c.args.rows.now) c.args.first (c.args.first + c.args.count) c.requires.ends)

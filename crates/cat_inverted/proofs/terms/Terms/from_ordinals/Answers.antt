@@ -20,16 +20,17 @@ invariant_of-result c =
     (c.in_ok-ends_of_words.ensures.rows ∙ ap (λ (l : List (Vec ℕ Global)). joined (map f l)) c.deref.ensures.value)
     c.requires.few c.in_ok-ends_of_words.ensures.few
 
-pub returns-clause-ok : goal.returns-clause-ok
-returns-clause-ok c =
-    let words = c.args.words in
-    let ends = c.args.ends.now in
-    let rows = pieces 0 ends c.args.ordinals.now in
-    let f = λ (v : Vec ℕ Global). v.items in
-    let lists = c.in_ok-lists.lists.items in
-    let sorted = dictionary_rises words (map (map (text_at words)) rows) c.requires.occur in
-    let are = lists_are_postings f lists words rows sorted c.requires.within (c.in_ok-lists.ensures.count ∙ c.len.ensures) (λ o lt. c.in_ok-lists.ensures.lists o (omega (arith, lt, c.len.ensures))) in
-    rows_gathered (length ends) words rows (length-pieces 0 ends c.args.ordinals.now) c.requires.occur c.in_ok-ends_of_words.ends_of_words.items c.in_ok-ends_of_words.rows.items (map f lists) are
-    (c.in_ok-ends_of_words.ensures.ends ∙ ap (λ (l : List (Vec ℕ Global)). ends_from 0 (map f l)) c.deref.ensures.value)
-    (c.in_ok-ends_of_words.ensures.rows ∙ ap (λ (l : List (Vec ℕ Global)). joined (map f l)) c.deref.ensures.value)
-    c.requires.rising c.requires.within
+pub returns : goal.returns
+returns c = record {
+  ok = (let words = c.args.words in
+      let ends = c.args.ends.now in
+      let rows = pieces 0 ends c.args.ordinals.now in
+      let f = λ (v : Vec ℕ Global). v.items in
+      let lists = c.in_ok-lists.lists.items in
+      let sorted = dictionary_rises words (map (map (text_at words)) rows) c.requires.occur in
+      let are = lists_are_postings f lists words rows sorted c.requires.within (c.in_ok-lists.ensures.count ∙ c.len.ensures) (λ o lt. c.in_ok-lists.ensures.lists o (omega (arith, lt, c.len.ensures))) in
+      rows_gathered (length ends) words rows (length-pieces 0 ends c.args.ordinals.now) c.requires.occur c.in_ok-ends_of_words.ends_of_words.items c.in_ok-ends_of_words.rows.items (map f lists) are
+      (c.in_ok-ends_of_words.ensures.ends ∙ ap (λ (l : List (Vec ℕ Global)). ends_from 0 (map f l)) c.deref.ensures.value)
+      (c.in_ok-ends_of_words.ensures.rows ∙ ap (λ (l : List (Vec ℕ Global)). joined (map f l)) c.deref.ensures.value)
+      c.requires.rising c.requires.within);
+}

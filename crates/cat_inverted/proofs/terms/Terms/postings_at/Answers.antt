@@ -10,7 +10,7 @@ use Rattle.cat_inverted.proofs.Rows.{words_are, parts_below, few_postings}
 use Rattle.cat_inverted.proofs.Searches.{postings_are}
 use Rattle.cat_inverted.proofs.terms.Terms.postings_at.Goals as goal
 
-pub parts-requires-clause-within : goal.fields-requires-clause-within
+pub parts-requires-clause-within : goal.parts-requires-clause-within
 parts-requires-clause-within c =
     let t = c.self.inside in
     let whole = words_are t.len t.words t.ends.items t.rows.items c.self.invariant ∙ ap dictionary_of c.self.view_is in
@@ -24,7 +24,7 @@ returns c =
     let whole = words_are t.len t.words t.ends.items t.rows.items c.self.invariant ∙ ap dictionary_of c.self.view_is in
     let long = sym (length-map-range_with_len (words_at t.words parts) 0 t.len) ∙ ap length c.self.view_is in
     let found =
-    c.fields.ensures
+    c.parts.ensures
     ∙ ap (λ (ends : List ℕ). joined (take 1 (drop o (pieces 0 ends c.deref-2.result.now)))) c.deref.ensures.value
     ∙ ap (λ (rows : List ℕ). joined (take 1 (drop o (pieces 0 t.ends.items rows)))) c.deref-2.ensures.value in
     let inside : o < length t.words = omega (arith, c.requires, ap length whole) in
@@ -32,7 +32,7 @@ returns c =
     found ∙ postings_are t.len t.words t.ends.items t.rows.items c.self.invariant (text_at t.words o) o inside refl
     ∙ ap (postings_of (text_at t.words o)) c.self.view_is
     ∙ ap (λ (words : List Text). postings_of (text_at words o) c.args.self.now) whole in
-    let count : length c.fields.result.now ≤ length c.args.self.now = omega (arith, ap length value, few_postings (text_at (dictionary_of c.args.self.now) o) c.args.self.now) in
+    let count : length c.parts.result.now ≤ length c.args.self.now = omega (arith, ap length value, few_postings (text_at (dictionary_of c.args.self.now) o) c.args.self.now) in
     record {
       value = value;
       within = subst (λ (rows : List ℕ). All (λ r. r < length c.args.self.now) rows) (sym found)

@@ -12,12 +12,13 @@ pub count_with_prefix-count-requires-clause-sorted : goal.count_with_prefix-coun
 count_with_prefix-count-requires-clause-sorted c =
     subst IsTextSet (sym (take_rest c.words-words.result.now c.first_from-first.result)) (set_behind c.first_from-first.result c.words-words.result.now c.words-words.ensures.sorted)
 
-pub returns-clause-ok : goal.returns-clause-ok
-returns-clause-ok c =
-    let words = c.words-words.result.now in
-    let first = c.first_from-first.result in
-    let count = c.count_with_prefix-count.result in
-    let prefix = c.args.prefix.now in
-    let end = subst (λ (rest : List Text). IsPartitionPoint (λ w. has_prefix prefix w ≡ true) (λ w. has_prefix prefix w ≡ false) rest count) (take_rest words first) c.count_with_prefix-count.ensures.point in
-    let interval = interval_of (has_prefix prefix) (text_le prefix) (has_prefix prefix) (prefix_is prefix) words first count c.first_from-first.ensures.point end in
-    if_ok _ _ (λ s is. is (has_prefix prefix) (subst (λ (ws : List Text). IsInterval (has_prefix prefix) ws first count) c.words-words.ensures.value interval)) c.rows_of_words.result c.rows_of_words.ensures.ok
+pub returns : goal.returns
+returns c = record {
+  ok = (let words = c.words-words.result.now in
+      let first = c.first_from-first.result in
+      let count = c.count_with_prefix-count.result in
+      let prefix = c.args.prefix.now in
+      let end = subst (λ (rest : List Text). IsPartitionPoint (λ w. has_prefix prefix w ≡ true) (λ w. has_prefix prefix w ≡ false) rest count) (take_rest words first) c.count_with_prefix-count.ensures.point in
+      let interval = interval_of (has_prefix prefix) (text_le prefix) (has_prefix prefix) (prefix_is prefix) words first count c.first_from-first.ensures.point end in
+      if_ok _ _ (λ s is. is (has_prefix prefix) (subst (λ (ws : List Text). IsInterval (has_prefix prefix) ws first count) c.words-words.ensures.value interval)) c.rows_of_words.result c.rows_of_words.ensures.ok);
+}

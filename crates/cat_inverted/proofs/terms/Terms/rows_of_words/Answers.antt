@@ -11,7 +11,7 @@ use Rattle.cat_inverted.proofs.Parts.{joined, length-pieces}
 use Rattle.cat_inverted.proofs.Rows.{if_ok, words_are, parts_below, rows_of_interval}
 use Rattle.cat_inverted.proofs.terms.Terms.rows_of_words.Goals as goal
 
-pub parts-requires-clause-within : goal.fields-requires-clause-within
+pub parts-requires-clause-within : goal.parts-requires-clause-within
 parts-requires-clause-within c =
     let t = c.self.inside in
     let whole = words_are t.len t.words t.ends.items t.rows.items c.self.invariant ∙ ap dictionary_of c.self.view_is in
@@ -23,24 +23,25 @@ set_of-requires c =
     let parts = pieces 0 t.ends.items t.rows.items in
     let long = sym (length-map-range_with_len (words_at t.words parts) 0 t.len) ∙ ap length c.self.view_is in
     let found =
-    c.fields.ensures
+    c.parts.ensures
     ∙ ap (λ (ends : List ℕ). joined (take c.args.count (drop c.args.first (pieces 0 ends c.deref-2.result.now)))) c.deref.ensures.value
     ∙ ap (λ (rows : List ℕ). joined (take c.args.count (drop c.args.first (pieces 0 t.ends.items rows)))) c.deref-2.ensures.value in
     subst (λ (rows : List ℕ). All (λ r. r < length c.args.self.now) rows) (sym found)
     (subst (λ (n : ℕ). All (λ r. r < n) (joined (take c.args.count (drop c.args.first parts)))) long (parts_below t.len parts c.args.first c.args.count c.self.invariant.posted))
 
-pub returns-clause-ok : goal.returns-clause-ok
-returns-clause-ok c =
-    let t = c.self.inside in
-    let parts = pieces 0 t.ends.items t.rows.items in
-    let whole = words_are t.len t.words t.ends.items t.rows.items c.self.invariant ∙ ap dictionary_of c.self.view_is in
-    let long = sym (length-map-range_with_len (words_at t.words parts) 0 t.len) ∙ ap length c.self.view_is in
-    let found =
-    c.fields.ensures
-    ∙ ap (λ (ends : List ℕ). joined (take c.args.count (drop c.args.first (pieces 0 ends c.deref-2.result.now)))) c.deref.ensures.value
-    ∙ ap (λ (rows : List ℕ). joined (take c.args.count (drop c.args.first (pieces 0 t.ends.items rows)))) c.deref-2.ensures.value in
-    if_ok _ _ (λ s set p interval.
-    set ∙ ap (λ (rows : List ℕ). map (is_among rows) (range_with_len 0 (length c.args.self.now))) found
-    ∙ ap (λ (n : ℕ). map (is_among (joined (take c.args.count (drop c.args.first parts)))) (range_with_len 0 n)) (sym long)
-    ∙ sym (rows_of_interval p t.len t.words parts c.args.first c.args.count (subst (λ (words : List Text). IsInterval p words c.args.first c.args.count) (sym whole) interval) (length-pieces 0 t.ends.items t.rows.items ∙ c.self.invariant.paired))
-    ∙ ap (map (list_any p)) c.self.view_is) c.set_of.result c.set_of.ensures.ok
+pub returns : goal.returns
+returns c = record {
+  ok = (let t = c.self.inside in
+      let parts = pieces 0 t.ends.items t.rows.items in
+      let whole = words_are t.len t.words t.ends.items t.rows.items c.self.invariant ∙ ap dictionary_of c.self.view_is in
+      let long = sym (length-map-range_with_len (words_at t.words parts) 0 t.len) ∙ ap length c.self.view_is in
+      let found =
+      c.parts.ensures
+      ∙ ap (λ (ends : List ℕ). joined (take c.args.count (drop c.args.first (pieces 0 ends c.deref-2.result.now)))) c.deref.ensures.value
+      ∙ ap (λ (rows : List ℕ). joined (take c.args.count (drop c.args.first (pieces 0 t.ends.items rows)))) c.deref-2.ensures.value in
+      if_ok _ _ (λ s set p interval.
+      set ∙ ap (λ (rows : List ℕ). map (is_among rows) (range_with_len 0 (length c.args.self.now))) found
+      ∙ ap (λ (n : ℕ). map (is_among (joined (take c.args.count (drop c.args.first parts)))) (range_with_len 0 n)) (sym long)
+      ∙ sym (rows_of_interval p t.len t.words parts c.args.first c.args.count (subst (λ (words : List Text). IsInterval p words c.args.first c.args.count) (sym whole) interval) (length-pieces 0 t.ends.items t.rows.items ∙ c.self.invariant.paired))
+      ∙ ap (map (list_any p)) c.self.view_is) c.set_of.result c.set_of.ensures.ok);
+}

@@ -15,10 +15,11 @@ set_of-requires c =
     subst (λ (rows : List ℕ). All (λ r. r < length c.args.self.now) rows) (sym c.postings.ensures)
     (subst (λ (n : ℕ). All (λ r. r < n) (indices set)) (length-map c.args.self.now (list_any (same_text c.args.word.now))) (places_below set))
 
-pub returns-clause-ok : goal.returns-clause-ok
-returns-clause-ok c =
-    let set = rows_having c.args.word.now c.args.self.now in
-    if_ok _ _ (λ s is.
-    is ∙ ap (λ (rows : List ℕ). map (is_among rows) (range_with_len 0 (length c.args.self.now))) c.postings.ensures
-    ∙ ap (λ (n : ℕ). map (is_among (indices set)) (range_with_len 0 n)) (sym (length-map c.args.self.now (list_any (same_text c.args.word.now))))
-    ∙ sym (set_of_places set)) c.set_of.result c.set_of.ensures.ok
+pub returns : goal.returns
+returns c = record {
+  ok = (let set = rows_having c.args.word.now c.args.self.now in
+      if_ok _ _ (λ s is.
+      is ∙ ap (λ (rows : List ℕ). map (is_among rows) (range_with_len 0 (length c.args.self.now))) c.postings.ensures
+      ∙ ap (λ (n : ℕ). map (is_among (indices set)) (range_with_len 0 n)) (sym (length-map c.args.self.now (list_any (same_text c.args.word.now))))
+      ∙ sym (set_of_places set)) c.set_of.result c.set_of.ensures.ok);
+}

@@ -3,7 +3,8 @@ use Rattle.cat_model.specs.RowSets.{with_rows}
 use Rattle.cat_inverted.proofs.Rows.{with_rows_of_none}
 use Rattle.cat_inverted.proofs.terms.Terms.set_of.Goals as goal
 
-pub returns-clause-ok : goal.returns-clause-ok
-returns-clause-ok c =
-    c.insert_all.ensures ∙ ap (with_rows c.args.rows.now) (c.in_ok-set.ensures.ok ∙ ap (λ (n : ℕ). replicate n false) c.len.ensures.value)
-    ∙ with_rows_of_none c.args.rows.now (length c.args.self.now)
+pub returns : goal.returns
+returns c = record {
+  ok = (c.insert_all.ensures ∙ ap (with_rows c.args.rows.now) (c.in_ok-set.ensures.ok ∙ ap (λ (n : ℕ). replicate n false) c.len.ensures.value)
+      ∙ with_rows_of_none c.args.rows.now (length c.args.self.now));
+}
