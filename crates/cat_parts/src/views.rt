@@ -583,9 +583,13 @@ fn store(
     segment: SegNo,
     texts: &[&str],
 ) -> Result<(), Refusal> {
-    files.create(alloc, FileName::Source(segment))?;
+    let name = FileName::Source(segment);
+    if !name.has_form() {
+        return Err(Refusal::Damaged);
+    }
+    files.create(alloc, name)?;
     for text in texts {
-        files.append(FileName::Source(segment), text.as_bytes())?;
+        files.append(name, text.as_bytes())?;
     }
     Ok(())
 }

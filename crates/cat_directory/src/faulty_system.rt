@@ -1,0 +1,188 @@
+//! A system for tests: it writes two bytes at a time, notes what is synced, and fails where it is told to.
+use std::alloc::{Allocator, Global};
+use std::cell::Cell;
+use std::fs::{Files, Metadata, OpenFile, OpenOptions};
+use std::io;
+use std::io::{ErrorKind, Read, Seek, SeekFrom, Write};
+use std::rc::Rc;
+
+/// What calls meet, and which files were synced.
+#[derive(Drop)]
+pub(crate) struct Notes {
+    /// The kind of error that each call of this name meets.
+    pub(crate) opening: Cell<Option<ErrorKind>>,
+    pub(crate) reading: Cell<Option<ErrorKind>>,
+    pub(crate) syncing: Cell<Option<ErrorKind>>,
+    /// 1 for a segment's file, 2 for one of sources, 4 for the folder.
+    pub(crate) synced: Cell<u8>,
+}
+
+impl Notes {
+    pub(crate) fn new() -> Notes {
+        Notes {
+            opening: Cell::new(None),
+            reading: Cell::new(None),
+            syncing: Cell::new(None),
+            synced: Cell::new(0),
+        }
+    }
+}
+
+/// The names of any folder, of which one isn't UTF-8.
+const NAMES: &[u8] = b"_1.seg\0\xff\xfe\0_2.sto\0";
+
+/// A system over the true one.
+#[derive(Clone, Drop)]
+pub(crate) struct FaultySystem<R> {
+    pub(crate) rt: R,
+    pub(crate) notes: Rc<Notes>,
+}
+
+#[derive(Drop)]
+pub(crate) struct FaultyFile<F> {
+    file: F,
+    notes: Rc<Notes>,
+    mark: u8,
+}
+
+/// The listing of any folder.
+#[derive(Drop)]
+pub(crate) struct Names {
+    is_read: bool,
+}
+
+impl Read for Names {
+    fn read(&mut self, buf: &mut [u8]) -> io::Result<usize> {
+        let count = NAMES.len();
+        if self.is_read || buf.len() < count {
+            return Ok(0);
+        }
+        self.is_read = true;
+        buf[..count].copy_from_slice(NAMES);
+        Ok(count)
+    }
+}
+
+fn meet(fault: &Cell<Option<ErrorKind>>) -> io::Result<()> {
+    match fault.get() {
+        Some(kind) => Err(kind.into()),
+        None => Ok(()),
+    }
+}
+
+fn mark_of(path: &str) -> u8 {
+    if path.ends_with(".seg") {
+        1
+    } else if path.ends_with(".sto") {
+        2
+    } else {
+        4
+    }
+}
+
+impl<F: Read> Read for FaultyFile<F> {
+    fn read(&mut self, buf: &mut [u8]) -> io::Result<usize> {
+        meet(&self.notes.reading)?;
+        self.file.read(buf)
+    }
+}
+
+impl<F: Write> Write for FaultyFile<F> {
+    fn write(&mut self, buf: &[u8]) -> io::Result<usize> {
+        if buf.len() > 2 {
+            self.file.write(&buf[..2])
+        } else {
+            self.file.write(buf)
+        }
+    }
+
+    fn flush(&mut self) -> io::Result<()> {
+        self.file.flush()
+    }
+}
+
+impl<F: Seek> Seek for FaultyFile<F> {
+    fn seek(&mut self, to: SeekFrom) -> io::Result<u64> {
+        self.file.seek(to)
+    }
+}
+
+impl<F: OpenFile> OpenFile for FaultyFile<F> {
+    fn metadata(&self) -> io::Result<Metadata> {
+        self.file.metadata()
+    }
+
+    fn set_len(&self, size: u64) -> io::Result<()> {
+        self.file.set_len(size)
+    }
+
+    fn sync_all(&self) -> io::Result<()> {
+        meet(&self.notes.syncing)?;
+        self.notes.synced.set(self.notes.synced.get() | self.mark);
+        self.file.sync_all()
+    }
+
+    fn sync_data(&self) -> io::Result<()> {
+        Err(ErrorKind::Unsupported.into())
+    }
+}
+
+impl<R: Alloc<A = Global>> Alloc for FaultySystem<R> {
+    type A = Global;
+
+    fn alloc(&self) -> Global {
+        self.rt.alloc()
+    }
+}
+
+impl<R: Files> Files for FaultySystem<R> {
+    type File = FaultyFile<R::File>;
+
+    type Dir = Names;
+
+    fn open_file(&self, how: &OpenOptions, path: &str) -> io::Result<FaultyFile<R::File>> {
+        meet(&self.notes.opening)?;
+        Ok(FaultyFile {
+            file: self.rt.open_file(how, path)?,
+            notes: self.notes.clone()?,
+            mark: mark_of(path),
+        })
+    }
+
+    fn open_dir(&self, _path: &str) -> io::Result<Names> {
+        meet(&self.notes.opening)?;
+        Ok(Names { is_read: false })
+    }
+
+    fn metadata(&self, path: &str) -> io::Result<Metadata> {
+        self.rt.metadata(path)
+    }
+
+    fn symlink_metadata(&self, path: &str) -> io::Result<Metadata> {
+        self.rt.symlink_metadata(path)
+    }
+
+    fn copy(&self, from: &str, to: &str) -> io::Result<u64> {
+        self.rt.copy(from, to)
+    }
+
+    fn rename(&self, from: &str, to: &str) -> io::Result<()> {
+        self.rt.rename(from, to)
+    }
+
+    fn remove_file(&self, path: &str) -> io::Result<()> {
+        self.rt.remove_file(path)
+    }
+
+    fn create_dir(&self, path: &str) -> io::Result<()> {
+        self.rt.create_dir(path)
+    }
+
+    fn remove_dir(&self, path: &str) -> io::Result<()> {
+        self.rt.remove_dir(path)
+    }
+
+    fn remove_dir_all<B: Allocator>(&self, alloc: B, path: &str) -> io::Result<()> {
+        self.rt.remove_dir_all(alloc, path)
+    }
+}
