@@ -5,13 +5,12 @@ use Rattle.std.specs.List.{flat_map, list_all, last_or, AllByRecursion}
 use Rattle.std.proofs.lemmas.Bool.Decides.{nat_tests, eqb_tells}
 use Rattle.cat_model.specs.Item.{Schema, Record}
 use Rattle.cat_model.specs.Files.{Name}
-use Rattle.cat_model.specs.Layout.{spelled_segment}
 use Rattle.cat_model.specs.LiveFile.{LiveRows, SpellsLive}
 use Rattle.cat_model.proofs.Lists.{All-weaken, All-both, All-kept}
-use Rattle.cat_ledger_model.specs.Portions.{Portion, all_live, portions_after, segment_of, Merging, settled, merged}
+use Rattle.cat_ledger_model.specs.Portions.{Portion, all_live, portions_after, Merging, settled, merged}
 use Rattle.cat_ledger_model.specs.Users.{same_file_name, has_name, times}
 use Rattle.cat_ledger_model.specs.Ledger.{Ledger, RecordedView, Listed, LedgerCommit, IsLedger, names_used, names_of_portion, names_of_view, names_of_listed, name_of_live, names_of_commit, names_of_merging, IsPast, IsNew, IsOther, IsAlone}
-use Rattle.cat_ledger_model.specs.Stored.{FileBytes, joined_sources, IsStored, IsLiveStored, HasLive, IsCommitStored, IsMergeStored, AreStored, Spares, ChangesOnly}
+use Rattle.cat_ledger_model.specs.Stored.{FileBytes, joined_sources, IsStored, IsSegmentStored, IsLiveStored, HasLive, IsCommitStored, IsMergeStored, AreStored, Spares, ChangesOnly}
 use Rattle.cat_ledger_model.specs.Calls.{all_alive, same_live, file_in, file_for, listed_in, newest_listed, commit_of, view_now, files_begun}
 use Rattle.cat_ledger_model.specs.Laws.{FilesStay, WritesStore, FlushesStore, RecordsStore, PrunesStore, CommitsStore, UnsnapsStore, BegunStore, CopiesStore, MergesStore, EndsStore, RefusalsStore, SweepsSpare}
 use Rattle.cat_ledger_model.proofs.Users.{All-split, times-append, Four, All-four}
@@ -24,7 +23,7 @@ module _ (fs gs : FileBytes) where
   Same q = gs q ≡ fs q
 
   stored_stay : (schema : Schema) (p : Portion) → Spares (names_of_portion p) fs gs → IsStored fs schema p → IsStored gs schema p
-  stored_stay schema p s ok = record { segment = s.0 ∙ ok.segment; source = s.1.0 ∙ ok.source }
+  stored_stay schema p s ok = record { segment = record { bytes = ok.segment.bytes; there = s.0 ∙ ok.segment.there; spelled = ok.segment.spelled }; source = s.1.0 ∙ ok.source }
 
   portions_stay : (schema : Schema) (ps : List Portion) → Spares (flat_map names_of_portion ps) fs gs → AllByRecursion (IsStored fs schema) ps → AllByRecursion (IsStored gs schema) ps
   portions_stay schema [] s a = tt
@@ -158,7 +157,7 @@ writes_store l w fs ok = record { portions = written l.portions ok.portions; vie
   where
     written : (ps : List Portion) → AllByRecursion (IsStored fs l.schema) ps → AllByRecursion (IsStored fs l.schema) (portions_after w ps)
     written [] a = tt
-    written (p ∷ ps) a = (record { segment = a.0.segment; source = a.0.source }, written ps a.1)
+    written (p ∷ ps) a = (record { segment = record { bytes = a.0.segment.bytes; there = a.0.segment.there; spelled = a.0.segment.spelled }; source = a.0.source }, written ps a.1)
 
 pub flushes_store : FlushesStore
 flushes_store l new fs gs sound ok call leaves there =
@@ -259,8 +258,8 @@ merges_store m l new fs gs sound ok call leaves there =
       merging = tt;
     })
   where
-    mid : (rs : List Record) → (gs (Name.segment m.number) ≡ Some (spelled_segment (segment_of l.schema (settled m l.portions))) → IsStored gs l.schema (settled m l.portions))
-        → AllByRecursion (λ p. gs (Name.segment p.number) ≡ Some (spelled_segment (segment_of l.schema p))) (merged rs (settled m l.portions)) → AllByRecursion (IsStored gs l.schema) (merged rs (settled m l.portions))
+    mid : (rs : List Record) → (IsSegmentStored gs l.schema (settled m l.portions) → IsStored gs l.schema (settled m l.portions))
+        → AllByRecursion (IsSegmentStored gs l.schema) (merged rs (settled m l.portions)) → AllByRecursion (IsStored gs l.schema) (merged rs (settled m l.portions))
     mid [] f a = tt
     mid (r ∷ rs) f a = (f a.0, tt)
 

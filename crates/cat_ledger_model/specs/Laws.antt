@@ -12,11 +12,10 @@ use Rattle.cat_model.specs.Limits.{last_number}
 use Rattle.cat_model.specs.Table.{Opened}
 use Rattle.cat_ledger_model.specs.Replies.{Calls}
 use Rattle.cat_model.specs.State.{StandsFor, Step, Hold, IsSound, held_in, written, refreshed, views_pruned, committed, is_below, newest_of, TakesSnapshot, GivesSnapshot, IsFresh}
-use Rattle.cat_ledger_model.specs.Portions.{Portion, Apart, all_records, leaf_of, view_of, records_of, Merging, all_live, segment_of, settled, merged}
-use Rattle.cat_model.specs.Layout.{spelled_segment}
+use Rattle.cat_ledger_model.specs.Portions.{Portion, Apart, all_records, leaf_of, view_of, records_of, Merging, all_live, settled, merged}
 use Rattle.cat_ledger_model.specs.Ledger.{users, commit_shown, Ledger, LedgerCommit, names_of_portion, AreWhole, IsLedger, FitNumbers, IsPast, IsNew, portions_in, names_used, table_of, state_of}
 use Rattle.cat_ledger_model.specs.Users.{AreUsed, users_of, has_name}
-use Rattle.cat_ledger_model.specs.Stored.{FileBytes, portion_in, IsCommitStored, AreStored, IsStored, IsLiveStored, spelled_commit, joined_sources, Spares, ChangesOnly}
+use Rattle.cat_ledger_model.specs.Stored.{FileBytes, portion_in, IsCommitStored, AreStored, IsStored, IsSegmentStored, IsLiveStored, spelled_commit, joined_sources, Spares, ChangesOnly}
 use Rattle.cat_ledger_model.specs.Calls.{files_begun, commit_of, file_for, newest_listed, passed_on, RecordsNow, wrote, Ended, MayLeave, RecordsView, Pruned, Committed, Snaps, Unsnapped, IsOpened, IsEmpty, Flushes, Flushed, Installed, Begun, Copied}
 
 -- A merge that is installed, whatever was deleted since its beginning, leaves the ledger sound and its state as it was.
@@ -159,7 +158,7 @@ abbrev pub MergesStore : Type 0
 MergesStore =
     (m : Merging) (l new : Ledger) (fs gs : FileBytes) → IsLedger l → AreStored fs l → Installed m l new
     → ChangesOnly (Name.segment m.number ∷ []) fs gs
-    → AllByRecursion (λ p. gs (Name.segment p.number) ≡ Some (spelled_segment (segment_of l.schema p))) (merged m.kept (settled m l.portions))
+    → AllByRecursion (IsSegmentStored gs l.schema) (merged m.kept (settled m l.portions))
     → AreStored gs new
 
 -- A merge that is ended touches no other files than its own.

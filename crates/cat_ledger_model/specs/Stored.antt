@@ -6,7 +6,7 @@ use Rattle.cat_base.specs.Bytes.{spelled_u32, spelled_u64}
 use Rattle.cat_model.specs.Text.{Text}
 use Rattle.cat_model.specs.Item.{Schema, Record}
 use Rattle.cat_model.specs.Files.{Name}
-use Rattle.cat_model.specs.Layout.{spelled_fields, spelled_segment}
+use Rattle.cat_model.specs.Layout.{spelled_fields, SpellsSegment}
 use Rattle.cat_model.specs.LiveFile.{SpellsLive}
 use Rattle.cat_model.specs.View.{Leaf, sourced}
 use Rattle.cat_ledger_model.specs.Portions.{Portion, segment_of, Merging}
@@ -31,9 +31,15 @@ abbrev pub spelled_commit : Schema → LedgerCommit → Text
 spelled_commit schema c =
     codes "CSGM" ++ (1 ∷ (spelled_u64 c.generation ++ (spelled_u64 c.token ++ (spelled_u64 c.next ++ (spelled_fields schema ++ (spelled_u32 (length c.listed) ++ flat_map spelled_listed c.listed))))))
 
+-- a portion's segment stands in its file
+pub record IsSegmentStored (files : FileBytes) (schema : Schema) (p : Portion) : Type 0 where
+  pub bytes : Text
+  pub there : files (Name.segment p.number) ≡ Some bytes
+  pub spelled : SpellsSegment bytes (segment_of schema p)
+
 -- a portion's segment and sources stand in their files
 pub record IsStored (files : FileBytes) (schema : Schema) (p : Portion) : Type 0 where
-  pub segment : files (Name.segment p.number) ≡ Some (spelled_segment (segment_of schema p))
+  pub segment : IsSegmentStored files schema p
   pub source : files (Name.source p.number) ≡ Some (joined_sources p.records)
 
 -- the live set stands in the file of this generation, or all is live where there is none
