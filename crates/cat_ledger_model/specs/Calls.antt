@@ -6,7 +6,8 @@ use Rattle.cat_model.specs.Write.{Write}
 use Rattle.cat_model.specs.Table.{without, put_last}
 use Rattle.cat_model.specs.Limits.{view_limit, step_limit, last_number}
 use Rattle.cat_model.specs.Files.{Name}
-use Rattle.cat_model.specs.State.{Taken, held_in, snapshots_in, newest_of, is_newest}
+use Rattle.cat_model.specs.Run.{is_newest}
+use Rattle.cat_model.specs.State.{Taken, held_in, snapshots_in, newest_of}
 use Rattle.cat_ledger_model.specs.Portions.{Portion, all_records, all_live, portions_after, Merging, kept_by, window_now, settled, merged, installed}
 use Rattle.cat_ledger_model.specs.Users.{users_of, is_known, has_name, Changes}
 use Rattle.cat_ledger_model.specs.Ledger.{RecordedView, Listed, LedgerCommit, Ledger, portions_in, commit_shown, names_of_portion, names_of_view, names_of_commit}

@@ -225,9 +225,13 @@ abbrev pub snapshots : Run → ℕ → ℕ
 snapshots run g =
     count_by (λ e. takes_snapshot g e.line.command e.reply) run - count_by (λ e. gives_snapshot g e.line.command e.reply) run
 
+-- the generation is the newest
+abbrev pub is_newest : Option ℕ → ℕ → Bool
+is_newest newest g = list_any (λ h. g == h) (option_to_list newest)
+
 -- the commit is the newest, or has a snapshot
 abbrev pub is_kept : Opened → Run → ℕ → Bool
-is_kept from run g = list_any (λ h. g == h) (option_to_list (newest_commit from run)) || ltb 0 (snapshots run g)
+is_kept from run g = is_newest (newest_commit from run) g || ltb 0 (snapshots run g)
 
 -- whether the session's command is looked at at all
 abbrev pub is_looked_at : ℕ → Command → Bool
