@@ -1,21 +1,21 @@
 //! How the program ends.
 ghost use Rattle.std.specs.Prelude.{◌≡◌};
-ghost use Rattle.catalogue.specs.Ended.{ending_of, message_of};
+ghost use Rattle.cat_program.specs.Ended.{ending_of, message_of, status_of};
 
 use cat_protocol::ServeFault;
 
-/// The exit statuses.
+/// The ways in which the program ends.
 #[derive(Clone, Copy, Debug, PartialEq, Eq)]
-pub enum Ending {
-    EndOfInput = 0,
-    WrongArguments = 1,
-    SchemaRefused = 2,
+pub(crate) enum Ending {
+    EndOfInput,
+    WrongArguments,
+    SchemaRefused,
     /// A read or a write failed.
-    Fault = 3,
+    Fault,
 }
 
 impl Ending {
-    pub fn of(served: Result<(), ServeFault>) -> Ending
+    pub(crate) fn of(served: Result<(), ServeFault>) -> Ending
         ensures { result ≡ ending_of served }
     {
         match served {
@@ -24,10 +24,22 @@ impl Ending {
             Err(ServeFault::Read | ServeFault::Write) => Ending::Fault,
         }
     }
+
+    /// The exit status.
+    pub(crate) fn status(self) -> u8
+        ensures { result ≡ status_of self }
+    {
+        match self {
+            Ending::EndOfInput => 0,
+            Ending::WrongArguments => 1,
+            Ending::SchemaRefused => 2,
+            Ending::Fault => 3,
+        }
+    }
 }
 
 /// What the program says of a fault.
-pub fn message(fault: ServeFault) -> &'static str
+pub(crate) fn message(fault: ServeFault) -> &'static str
     ensures { result.now ≡ message_of fault }
 {
     match fault {

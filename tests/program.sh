@@ -1,0 +1,93 @@
+#!/usr/bin/env bash
+# program.sh [PROGRAM]: starts the built program, or the one that is named, and holds its status, its replies and what it says on standard error against what is wanted:
+# what no contract can say, and no stored run looks at.
+set -euo pipefail
+
+program=${1:-$(cd "$(dirname "${BASH_SOURCE[0]}")/.." && pwd)/crates/catalogue/out/catalogue}
+if [ ! -x "$program" ]; then
+  echo "program.sh: $program isn't built (./run builds it)" >&2
+  exit 1
+fi
+room=$(mktemp -d)
+trap 'rm -rf "$room"' EXIT
+failed=0
+
+usage='usage: catalogue [run [FOLDER] | threads FOLDER]'
+schema='SCHEMA 2 1 {"title":"text"}'
+
+# expect WHAT STATUS REPLIES SAID: how the last run ended, wrote and complained
+expect() {
+  local status=$2 replies=$3 said=$4
+  if [ "$(cat "$room/status")" != "$status" ] || [ "$(cat "$room/out")" != "$replies" ] ||
+    [ "$(cat "$room/err")" != "$said" ]; then
+    echo "program.sh: $1 FAILED: status $(cat "$room/status"), wanted $status" >&2
+    diff <(printf '%s\n' "$replies") "$room/out" >&2 || true
+    diff <(printf '%s\n' "$said") "$room/err" >&2 || true
+    failed=1
+  fi
+}
+
+# starts the program with these arguments, on the input that is given
+start() {
+  local status=0
+  "$program" "$@" >"$room/out" 2>"$room/err" || status=$?
+  echo "$status" >"$room/status"
+}
+
+printf '%s\n' "$schema" '1 PUT {"id":"a","title":"Red"}' | start
+expect 'no argument' 0 $'OK 0\n1 OK 1' ''
+
+printf '%s\n' "$schema" | start run
+expect 'run' 0 'OK 0' ''
+
+# what is asked for wrongly is refused before anything is read
+for words in serve 'run here' 'run run' 'threads here' ''; do
+  # shellcheck disable=SC2086
+  if [ -n "$words" ]; then set -- $words; else set -- ''; fi
+  printf '%s\n' "$schema" | start "$@"
+  expect "arguments '$words'" 1 '' "$usage"
+done
+
+start $'\xff' <<<"$schema"
+expect 'an argument that is no text' 1 '' "$usage"
+
+printf '%s\n' 'SCHEMA 2 1 {"title":"words"}' '1 OPEN' | start
+expect 'a refused schema' 2 'NO 13' '[ERROR catalogue] schema refused'
+
+start </dev/null
+expect 'no input' 2 'NO 10' '[ERROR catalogue] schema refused'
+
+# a folder can be opened and not read
+status=0
+"$program" <"$room" >"$room/out" 2>"$room/err" || status=$?
+echo "$status" >"$room/status"
+expect 'a reader that fails' 3 '' '[ERROR catalogue] read fault'
+
+status=0
+printf '%s\n' "$schema" | "$program" >/dev/full 2>"$room/err" || status=$?
+echo "$status" >"$room/status"
+: >"$room/out"
+expect 'a writer that fails' 3 '' '[ERROR catalogue] write fault'
+
+status=0
+printf '%s\n' 'SCHEMA 2 1 {}x' | "$program" >/dev/full 2>"$room/err" || status=$?
+echo "$status" >"$room/status"
+expect 'a refusal that cannot be written' 3 '' '[ERROR catalogue] write fault'
+
+# a reply goes out before the next line is read
+mkfifo "$room/lines" "$room/replies"
+"$program" <"$room/lines" >"$room/replies" &
+exec 3>"$room/lines" 4<"$room/replies"
+for asked in "$schema|OK 0" '1 OPEN|1 OK 0' '1 CLOSE 0|1 OK 0'; do
+  printf '%s\n' "${asked%|*}" >&3
+  reply=
+  IFS= read -r -t 60 -u 4 reply || true
+  if [ "$reply" != "${asked#*|}" ]; then
+    echo "program.sh: before the next line '${asked%|*}' FAILED: it was answered '$reply'" >&2
+    failed=1
+  fi
+done
+exec 3>&- 4<&-
+wait $! || failed=1
+
+[ "$failed" -eq 0 ] && echo "program.sh: the program passed"
