@@ -4,7 +4,6 @@ use Rattle.std.specs.List.{flat_map, AllByRecursion}
 use Rattle.std.proofs.lemmas.List.{map-append, length-drop, length-take-le}
 use Rattle.std.proofs.lemmas.List.Elements.{recursion_from_All}
 use Rattle.std.proofs.lemmas.List.Sums.{sum_by-cons}
-use Rattle.cat_model.specs.Item.{Record}
 use Rattle.cat_model.specs.View.{Row, Leaf, row_of, live_rows, selected, sourced}
 use Rattle.cat_model.specs.ViewLaws.{SourcesAreShown}
 

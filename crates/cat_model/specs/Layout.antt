@@ -1,6 +1,6 @@
 -- How a segment is laid out in a file, and the bytes of each part. The layouts are our own; they hold what Lucene's codec
 -- holds in its FieldInfosFormat, PostingsFormat and DocValuesFormat.
-use Rattle.std.specs.Prelude.{◌≡◌, ℕ, zero, suc, ◌+◌, ◌-◌, ◌<◌, ◌≤◌, ◌^◌, ℤ, not, true, List, [], ◌∷◌, ◌++◌, length, map, codes, take, drop, Option, Some, None, IfSome, All}
+use Rattle.std.specs.Prelude.{◌≡◌, ℕ, suc, ◌-◌, ◌<◌, ◌≤◌, ◌^◌, ℤ, not, true, List, [], ◌∷◌, ◌++◌, length, map, codes, take, drop, Option, Some, None, IfSome, All}
 use Rattle.std.specs.List.{flat_map, prefix_len}
 use Rattle.std.specs.Int.{w64, cast_unsigned}
 use Rattle.std.specs.Int.RustNames.{FitsSigned}

@@ -52,7 +52,7 @@ spelling (Said.open_at t) = codes "OPEN" ∷ decimal t ∷ []
 spelling (Said.close t) = codes "CLOSE" ∷ decimal t ∷ []
 spelling (Said.find t n sort mark query) = codes "FIND" ∷ decimal t ∷ decimal n ∷ sort_text sort ∷ mark_text mark ∷ query ∷ []
 
--- a number that may be said
+-- a number that may be said: at most `last_number`
 abbrev pub IsNumber : ℕ → Type 0
 IsNumber n = n < 2 ^ 63
 
@@ -62,6 +62,7 @@ IsSort Sort.added = Unit {0}
 IsSort (Sort.rising name) = IsTrue (has_name_form name)
 IsSort (Sort.falling name) = IsTrue (has_name_form name)
 
+-- a mark that may be said
 abbrev pub IsMark : Option ℕ → Type 0
 IsMark None = Unit {0}
 IsMark (Some n) = IsNumber n

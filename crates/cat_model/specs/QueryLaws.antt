@@ -1,4 +1,4 @@
--- The laws of query texts, each the contract of a public function.
+-- The laws of query texts. Nothing to believe: each is the contract of a public function, and so proved.
 use Rattle.std.specs.Prelude.{◌≡◌, ◌↔◌, ◌⊎◌, ℕ, Ok, Err}
 use Rattle.cat_model.specs.Text.{Text}
 use Rattle.cat_model.specs.Item.{Schema, IsSchema}

@@ -1,4 +1,4 @@
--- The laws of ranks and of the order of hits, each the contract of a public function.
+-- The laws of ranks and of the order of hits. Nothing to believe: each is the contract of a public function, and so proved.
 use Rattle.std.specs.Prelude.{◌≡◌, ◌≢◌, ◌<◌, ℕ, Bool, true, List, length, take, min, AllPairs, IsPermutation}
 use Rattle.cat_model.specs.Item.{Record}
 use Rattle.cat_model.specs.Page.{Sort, before, first_ranked}

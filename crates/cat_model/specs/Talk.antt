@@ -1,4 +1,5 @@
--- The law of held reads over bytes: what a user can check by eye in what was read and what was written. The rules are our own.
+-- The law of held reads over bytes: what a user can check by eye in what was read and what was written. Nothing to believe
+-- of the service: the two laws are proved. The rules are our own.
 use Rattle.std.specs.Prelude.{◌≡◌, ◌≢◌, ℕ, ◌≤◌, ◌⊎◌, List, [], ◌∷◌, ◌++◌, codes, map, Contains, Some, None, Ok, Err}
 use Rattle.std.specs.List.{flat_map, AllByRecursion}
 use Rattle.std.specs.Fmt.{decimal}

@@ -1,4 +1,4 @@
--- The laws of views, each the contract of a public function.
+-- The laws of views. Nothing to believe: each is the contract of a public function, and so proved.
 use Rattle.std.specs.Prelude.{ℕ, List}
 use Rattle.cat_model.specs.View.{View, Shows, HoldSources, records_in}
 
