@@ -32,9 +32,11 @@ Flushes l new = ((l.buffered ≡ []) × (new ≡ l)) ⊎ Flushed l new
 
 -- ---- REFRESH and PRUNE
 
+-- the tokens of the recorded views
 abbrev pub tokens_in : List RecordedView → List ℕ
 tokens_in vs = map (λ v. v.token) vs
 
+-- a view of the token is recorded
 abbrev pub has_recorded : List RecordedView → ℕ → Bool
 has_recorded vs t = list_any (λ v. v.token == t) vs
 
@@ -50,9 +52,11 @@ stays_pruned held n ts t = held t || ltb (count_by (λ u. ltb t u) ts) (max n 1)
 abbrev pub stays_recorded : (ℕ → Bool) → List ℕ → ℕ → Bool
 stays_recorded held ts t = ltb (length ts) view_limit || stays_full held ts t
 
+-- the views whose tokens pass the test
 abbrev pub views_that : (ℕ → Bool) → List RecordedView → List RecordedView
 views_that stays vs = filter (λ v. stays v.token) vs
 
+-- the views whose tokens don't
 abbrev pub views_not : (ℕ → Bool) → List RecordedView → List RecordedView
 views_not stays vs = filter (λ v. not (stays v.token)) vs
 
@@ -66,9 +70,11 @@ pub record RecordsNow (l new : Ledger) : Type 0 where
   pub rest : new
       ≡ record l { views = views_that (stays_recorded (held_in l.holds) (tokens_in l.views)) l.views ++ view_now l ∷ []; users = new.users }
 
+-- after a flush, a view of now is recorded, or stands already
 abbrev pub RecordsView : Ledger → Ledger → Type 0
 RecordsView l new = cond (has_recorded l.views l.count) (new ≡ l) (RecordsNow l new)
 
+-- the views go that a PRUNE n takes out, and their names are given
 pub record Pruned (n : ℕ) (l new : Ledger) : Type 0 where
   pub users : Changes [] (flat_map names_of_view (views_not (stays_pruned (held_in l.holds) n (tokens_in l.views)) l.views)) l.users new.users
   pub rest : new
@@ -91,6 +97,7 @@ abbrev pub passed_on : Merging → Merging
 passed_on m =
     record m { passed = m.passed + min step_limit (length (all_records m.inputs) - m.passed); kept = kept_by m.inputs (m.passed + min step_limit (length (all_records m.inputs) - m.passed)) }
 
+-- a merge has passed one step more
 pub record Copied (m : Merging) (l new : Ledger) : Type 0 where
   pub making : l.merging ≡ Some m
   pub left : m.passed < length (all_records m.inputs)
@@ -117,6 +124,7 @@ abbrev pub file_in : List Listed → Portion → ℕ
 file_in [] p = 0
 file_in (x ∷ xs) p = cond ((x.portion.number == p.number) && same_live x.portion.live p.live) x.file (file_in xs p)
 
+-- no row is dead
 abbrev pub all_alive : List Bool → Bool
 all_alive live = list_all (λ b. b) live
 
@@ -124,6 +132,7 @@ all_alive live = list_all (λ b. b) live
 abbrev pub file_for : List Listed → ℕ → Portion → ℕ
 file_for xs g p = cond (all_alive p.live) 0 (cond (file_in xs p == 0) g (file_in xs p))
 
+-- the portions of a commit, with their live files, if there is a commit
 abbrev pub listed_in : Option LedgerCommit → List Listed
 listed_in None = []
 listed_in (Some c) = c.listed
@@ -141,26 +150,32 @@ commit_of l =
 abbrev pub stays_kept : List Taken → Option ℕ → ℕ → Bool
 stays_kept taken newest g = is_newest newest g || ltb 0 (snapshots_in taken g)
 
+-- the commits whose generations pass the test
 abbrev pub commits_that : (ℕ → Bool) → List LedgerCommit → List LedgerCommit
 commits_that stays cs = filter (λ c. stays c.generation) cs
 
+-- the commits whose generations don't
 abbrev pub commits_not : (ℕ → Bool) → List LedgerCommit → List LedgerCommit
 commits_not stays cs = filter (λ c. not (stays c.generation)) cs
 
+-- the generation of the newest commit
 abbrev pub newest_in : List LedgerCommit → Option ℕ
 newest_in cs = newest_of (map commit_shown cs)
 
+-- after a flush, a commit of now is kept: its names are taken, those of the commits that go are given
 pub record Committed (l new : Ledger) : Type 0 where
   pub left : l.next_generation ≤ last_number
   pub users : Changes (names_of_commit (commit_of l)) (flat_map names_of_commit (commits_not (stays_kept l.taken (Some l.next_generation)) l.commits)) l.users new.users
   pub rest : new
       ≡ record l { commits = commits_that (stays_kept l.taken (Some l.next_generation)) l.commits ++ commit_of l ∷ []; users = new.users; next_generation = l.next_generation + 1 }
 
+-- one snapshot more of the newest commit, which is g
 pub record Snaps (g : ℕ) (l new : Ledger) : Type 0 where
   pub newest : newest_in l.commits ≡ Some g
   pub taken : (h : ℕ) → snapshots_in new.taken h ≡ snapshots_in l.taken h + cond (h == g) 1 0
   pub rest : new ≡ record l { taken = new.taken }
 
+-- one snapshot less of g: where that was the last one and g isn't the newest, its commit goes and gives its names
 pub record Unsnapped (g : ℕ) (l new : Ledger) : Type 0 where
   pub some : 0 < snapshots_in l.taken g
   pub taken : (h : ℕ) → snapshots_in new.taken h ≡ snapshots_in l.taken h - cond (h == g) 1 0

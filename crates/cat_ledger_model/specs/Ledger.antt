@@ -80,12 +80,15 @@ names_of_view v = flat_map names_of_portion v.portions
 abbrev pub name_of_live : ℕ → ℕ → List Name
 name_of_live n d = cond (d == 0) [] (Name.live n d ∷ [])
 
+-- the names of a portion of a commit, and of its live file
 abbrev pub names_of_listed : Listed → List Name
 names_of_listed x = names_of_portion x.portion ++ name_of_live x.portion.number x.file
 
+-- the name of a commit's own file, and those of its portions
 abbrev pub names_of_commit : LedgerCommit → List Name
 names_of_commit c = Name.commit c.generation ∷ flat_map names_of_listed c.listed
 
+-- the name of the sources that a merge writes
 abbrev pub names_of_merging : Option Merging → List Name
 names_of_merging None = []
 names_of_merging (Some m) = Name.source m.number ∷ []

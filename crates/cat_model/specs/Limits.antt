@@ -78,16 +78,18 @@ step_limit = code.MAX_STEP_ROWS
 abbrev pub snapshot_limit : ℕ
 snapshot_limit = code.MAX_SNAPSHOTS
 
--- how many segments a merge joins
+-- a merge joins at least so many segments
 abbrev pub least_factor : ℕ
 least_factor = code.LEAST_MERGE_FACTOR
 
+-- at most so many
 abbrev pub greatest_factor : ℕ
 greatest_factor = code.GREATEST_MERGE_FACTOR
 
--- the rows of a segment of the lowest level
+-- the rows of a segment of the lowest level are bounded by at least so many
 abbrev pub least_minimum : ℕ
 least_minimum = code.LEAST_MERGE_MINIMUM
 
+-- at most so many
 abbrev pub greatest_minimum : ℕ
 greatest_minimum = code.GREATEST_MERGE_MINIMUM

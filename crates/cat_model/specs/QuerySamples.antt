@@ -7,6 +7,7 @@ use Rattle.cat_model.specs.Query.{Query, Primary, Sign}
 use Rattle.cat_model.specs.Grammar.{Spells}
 use Rattle.cat_model.specs.Faults.{Fault}
 
+-- a field of each kind
 abbrev pub sample_schema : Schema
 sample_schema =
     record { name = codes "brand"; kind = Kind.keyword }
@@ -19,10 +20,12 @@ sample_schema =
 abbrev pub sample_text : Text
 sample_text = codes "+price:[-5 TO *] -title:Re* ( color:\"a \\\"b\\\"\" brand:a )"
 
+-- two SHOULD
 abbrev pub sample_group : Query
 sample_group =
     Query.clause Sign.should (Primary.label (codes "color") (codes "a \"b\"")) (Query.clause Sign.should (Primary.keyword (codes "brand") (codes "a")) Query.no_clause)
 
+-- what the text spells
 abbrev pub sample_query : Query
 sample_query =
     Query.clause Sign.must (Primary.number_range (codes "price") (Some (negsuc 4)) None)

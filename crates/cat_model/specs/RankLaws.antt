@@ -16,6 +16,7 @@ pub record AreRanked {X : Type 0} (lt : X → X → Bool) (xs : List X) (n : ℕ
   pub first : (ys : List X) → IsArrangement lt xs ys → first_ranked lt xs n ≡ take n ys
   pub many : length (first_ranked lt xs n) ≡ min n (length xs)
 
+-- every list under every such order is so
 abbrev pub RanksFollowOrder : Type 0 → Type 0
 RanksFollowOrder X = (lt : X → X → Bool) (xs : List X) (n : ℕ) → IsStrictOrder lt → AllPairs (AreApart lt) xs → AreRanked lt xs n
 
@@ -30,5 +31,6 @@ pub record OrdersRecords (sort : Sort) : Type 0 where
   pub strict : IsStrictOrder (before sort)
   pub apart : (a b : Record) → a.number ≢ b.number → AreApart (before sort) a b
 
+-- each sort does so
 abbrev pub SortsOrderRecords : Type 0
 SortsOrderRecords = (sort : Sort) → OrdersRecords sort

@@ -46,6 +46,7 @@ abbrev pub starred : Text → Text → Asks × Text
 starred t [] = (Asks.is t, [])
 starred t (b ∷ bs) = if b == 42 then (Asks.begins t, bs) else (Asks.is t, b ∷ bs)
 
+-- a value without quotes: a text, or a prefix with its star
 abbrev pub bare_at : Text → Option (Asks × Text)
 bare_at text = option_map (λ x. starred x.0 x.1) (run_at text)
 
@@ -54,6 +55,7 @@ abbrev pub closed_end_at : Text → Option (Text × Text)
 closed_end_at [] = None
 closed_end_at (b ∷ bs) = if b == 34 then quoted_at false bs else run_at (b ∷ bs)
 
+-- an end of a range: open, or a text
 unfoldable pub end_at : Text → Option (Option Text × Text)
 end_at [] = None
 end_at (b ∷ bs) = if b == 42 then Some (None, bs) else option_map (λ x. (Some x.0, x.1)) (closed_end_at (b ∷ bs))
@@ -76,6 +78,7 @@ high_at low text =
 unfoldable pub range_at : Text → Option (Asks × Text)
 range_at text = option_and_then (λ low. option_and_then (high_at low.0) (to_at low.1)) (end_at text)
 
+-- a value, by its first byte
 unfoldable pub value_at : Text → Option (Asks × Text)
 value_at [] = None
 value_at (b ∷ bs) =
@@ -83,14 +86,17 @@ value_at (b ∷ bs) =
 
 -- ---- what a value means in a field
 
+-- a text is a word where it has one word and no more
 abbrev pub only_word : Text → List Text → Option Primary
 only_word f [] = None
 only_word f (w ∷ []) = Some (Primary.word f w)
 only_word f (w ∷ v ∷ ws) = None
 
+-- one or more digits
 abbrev pub are_digits : Text → Bool
 are_digits t = ltb 0 (length t) && list_all is_ascii_digit t
 
+-- the number of 64 bits that a text is, if it is one
 unfoldable pub integer_of : Text → Option ℤ
 integer_of [] = None
 integer_of (b ∷ bs) =
@@ -102,6 +108,7 @@ abbrev pub bound_of : Option Text → Option (Option ℤ)
 bound_of None = Some None
 bound_of (Some t) = option_map (λ z. Some z) (integer_of t)
 
+-- what a value means in the field f of a kind, if it means anything
 unfoldable pub meaning : Text → Kind → Asks → Option Primary
 meaning f Kind.text (Asks.is t) = only_word f (words t)
 meaning f Kind.text (Asks.begins t) = if list_all is_word_byte t then Some (Primary.word_prefix f (lowered t)) else None
@@ -123,6 +130,7 @@ meaning f Kind.facet (Asks.between low high) = None
 abbrev pub name_at : Text → Text
 name_at text = take (prefix_len is_name_byte text) text
 
+-- what stands behind the longest name
 abbrev pub behind_name : Text → Text
 behind_name text = drop (prefix_len is_name_byte text) text
 
@@ -131,6 +139,7 @@ abbrev pub colon_at : ℕ → Text → Result Text ℕ
 colon_at left [] = Err left
 colon_at left (b ∷ bs) = if b == 58 then Ok bs else Err left
 
+-- a name, a colon and a value that the field can have
 unfoldable pub term_at : Schema → Text → Result (Primary × Text) ℕ
 term_at schema text = do
   kind ← or_fault (length text) (kind_of schema (name_at text))
@@ -139,6 +148,7 @@ term_at schema text = do
   primary ← or_fault (length behind) (meaning (name_at text) kind value.0)
   Ok (primary, value.1)
 
+-- `*:*`
 abbrev pub everything_at : Text → Result (Primary × Text) ℕ
 everything_at text =
     if starts_with nat_eq text (42 ∷ 58 ∷ 42 ∷ []) then Ok (Primary.everything, drop 3 text) else Err (length text)
@@ -158,6 +168,7 @@ abbrev pub grouped : Query × ℕ × Text → Result (Primary × ℕ × Text) �
 grouped (q, clauses, []) = Err 0
 grouped (q, clauses, b ∷ bs) = Ok (Primary.group q, clauses, bs)
 
+-- a primary, from the number of clauses that may still come and the text on
 unfoldable pub primary_at : Schema → Inside → ℕ → Text → Result (Primary × ℕ × Text) ℕ
 primary_at schema inside clauses [] = Err 0
 primary_at schema inside clauses (b ∷ bs) =
@@ -165,6 +176,7 @@ primary_at schema inside clauses (b ∷ bs) =
 
 -- ---- clauses
 
+-- what stands behind the spaces
 abbrev pub after_spaces : Text → Text
 after_spaces [] = []
 after_spaces (b ∷ bs) = if b == 32 then after_spaces bs else b ∷ bs
@@ -179,10 +191,12 @@ abbrev pub breaks : Text → Bool
 breaks [] = true
 breaks (b ∷ bs) = b == 32 || b == 41
 
+-- a sign, and what stands behind it; no sign is a SHOULD
 abbrev pub sign_at : Text → Sign × Text
 sign_at [] = (Sign.should, [])
 sign_at (b ∷ bs) = if b == 43 then (Sign.must, bs) else if b == 45 then (Sign.must_not, bs) else (Sign.should, b ∷ bs)
 
+-- a clause, where one more may come
 unfoldable pub clause_at : Schema → Inside → ℕ → Text → Result (Sign × Primary × ℕ × Text) ℕ
 clause_at schema inside zero text = Err (length text)
 clause_at schema inside (suc clauses) text =
@@ -209,6 +223,7 @@ content_at schema (suc groups) clauses text =
 
 -- ---- the whole text
 
+-- nothing stands behind the query
 abbrev pub whole : Query × ℕ × Text → Result Query ℕ
 whole (q, clauses, []) = Ok q
 whole (q, clauses, b ∷ bs) = Err (length (b ∷ bs))

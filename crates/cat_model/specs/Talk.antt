@@ -182,11 +182,12 @@ abbrev pub OpensAs : Opened → Opening
 OpensAs from schema (Ok opened) = (opened ≡ from) × (schema ≡ from.start.schema)
 OpensAs from schema (Err e) = Unit {0}
 
--- The two laws for services that are opened so. The generations of the two opened commits may differ.
+-- The first law for a service that is opened so.
 abbrev pub AnswersOfAnyStartAreTalks : Type 0
 AnswersOfAnyStartAreTalks =
     (json : Json) (from : Opened) → ReadsLines json → IsShownStart from.start → AnswersAreTalks json (OpensAs from)
 
+-- The second for two services that are opened with one start; the generations of their opened commits may differ.
 abbrev pub TalksOfOneStartAgree : Type 0
 TalksOfOneStartAgree =
     (json : Json) (from₁ from₂ : Opened) → ReadsLines json → IsShownStart from₁.start → from₁.start ≡ from₂.start

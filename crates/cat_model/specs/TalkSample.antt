@@ -14,6 +14,7 @@ said_before =
     ∷ record { line = codes "8 CLOSE 1"; reply = codes "8 OK 1\n" }
     ∷ []
 
+-- and the read
 abbrev pub said_at_all : List Pair
 said_at_all = said_before ++ record { line = codes "7 FIND 1 10 . . *:*"; reply = codes "7 OK 1 1\n7 1 a .\n" } ∷ []
 
