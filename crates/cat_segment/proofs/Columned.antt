@@ -8,12 +8,16 @@ use Rattle.cat_base.proofs.TextSets.{sorted_set_members}
 use Rattle.cat_model.specs.Text.{Text}
 use Rattle.cat_model.specs.Item.{Content, Kind, IsContent, words_in, keyword_in, number_in, labels_in}
 use Rattle.cat_model.specs.Forms.{IsFormed, IsWord, IsKeyword, IsLabel}
-use Rattle.cat_model.specs.Layout.{Laid, WordPostings, ordinal_in, code_in, word_postings_of, keywords_of, IsWordPostings, IsLaid}
+use Rattle.cat_model.specs.Layout.{Laid, WordPostings, pieces, ordinal_in, code_in, word_postings_of, keywords_of, IsWordPostings, IsLaid}
 use Rattle.cat_model.specs.Ordinals.{dictionary_of, postings_of, texts_of}
-use Rattle.cat_values.proofs.Told.{same_labels}
+use Rattle.cat_codec.specs.Parts.{column_in}
+use Rattle.cat_codec.specs.declared.parts.ColumnParts.{ColumnParts}
+use Rattle.cat_codec.specs.declared.parts.ColumnParts.TheVariants as parts
 use Rattle.cat_segment.proofs.Formed.{seen, joined, label_counts}
 use Rattle.cat_segment.proofs.Layouts.{word_sets, label_sets, length-seen}
+use Rattle.cat_segment.proofs.Few.{few_mapped, few_unmapped}
 use Rattle.cat_segment.specs.Laid.{AreContents, laid_out}
+use Rattle.cat_segment.specs.Parts.{kind_in, HasFewLabels}
 
 -- ---- what a dictionary says of its rows
 
@@ -106,14 +110,14 @@ numbers_read rows values laid = (
   numbers_laid values,
 )
 
-pub labels_read : (rows : ℕ) (sets : List (List Text)) (dictionary : List Text) (ordinals : List (List ℕ)) → All IsTextSet sets → All (λ set. length set ≤ 64) sets → dictionary_of sets ≡ dictionary
+pub labels_read : (rows : ℕ) (sets : List (List Text)) (dictionary : List Text) (ordinals : List (List ℕ)) → All IsTextSet sets → All (λ set. length set ≤ 64) ordinals → dictionary_of sets ≡ dictionary
     → map (map (ordinal_in (dictionary_of sets))) sets ≡ ordinals → IsLaid rows Kind.facet (Laid.labels dictionary ordinals) → Read Kind.facet rows (map Content.labels sets) (Laid.labels dictionary ordinals)
 labels_read rows sets dictionary ordinals rising few same laid_same laid =
     let labels = all_of_dictionary IsLabel sets (subst (All IsLabel) (sym same) laid.1) in (
       record {
         long = length-map sets Content.labels ∙ sym (length-map sets (map (ordinal_in (dictionary_of sets)))) ∙ ap length laid_same ∙ laid.2;
         kinds = All-map (IsContent Kind.facet) Content.labels sets (λ k d lt. IsContent.labels (get_or sets k d) (rising k d lt));
-        formed = All-map IsFormed Content.labels sets (λ k d lt. (few k d lt, labels k d lt));
+        formed = All-map IsFormed Content.labels sets (λ k d lt. (few_unmapped (ordinal_in (dictionary_of sets)) sets (subst (All (λ set. length set ≤ 64)) (sym laid_same) few) k d lt, labels k d lt));
       },
       labels_laid sets ∙ (λ i. Laid.labels (same i) (laid_same i)),
     )
@@ -141,12 +145,12 @@ no_labels rows dictionary ordinals none contents are same =
     let laid : map (map (ordinal_in (dictionary_of sets))) sets ≡ ordinals = cc in
     none sets (label_sets contents are.kinds) texts laid
 
--- a row has at most 64 labels
-pub long_labels : (rows : ℕ) (sets : List (List Text)) (dictionary : List Text) (ordinals : List (List ℕ)) → dictionary_of sets ≡ dictionary → map (map (ordinal_in (dictionary_of sets))) sets ≡ ordinals
-    → (All (λ set. length set ≤ 64) sets → ⊥) → (contents : List Content) → AreContents Kind.facet rows contents → laid_out Kind.facet contents ≢ Laid.labels dictionary ordinals
-long_labels rows sets dictionary ordinals texts laid long contents are same =
-    let others : List (List Text) = map labels_in (seen contents) in
-    let other_texts : dictionary_of others ≡ dictionary = cc in
-    let other_laid : map (map (ordinal_in (dictionary_of others))) others ≡ ordinals = cc in
-    let one : others ≡ sets = same_labels others sets (other_texts ∙ sym texts) (other_laid ∙ sym laid) in
-    absurd (long (subst (All (λ set. length set ≤ 64)) one (label_counts contents are.kinds are.formed)))
+-- what is laid out has as few labels in each row as it may
+pub few_told : (rows : ℕ) (part : ColumnParts) (contents : List Content) → AreContents (kind_in part) rows contents → laid_out (kind_in part) contents ≡ column_in part → HasFewLabels part
+few_told rows (parts.Text words ends postings) contents are same = tt
+few_told rows (parts.Keyword dictionary codes) contents are same = tt
+few_told rows (parts.Number numbers) contents are same = tt
+few_told rows (parts.Facet dictionary ends ordinals) contents are same =
+    let sets : List (List Text) = map labels_in (seen contents) in
+    let laid : map (map (ordinal_in (dictionary_of sets))) sets ≡ pieces 0 ends.items ordinals.items = cc in
+    subst (All (λ set. length set ≤ 64)) laid (few_mapped (ordinal_in (dictionary_of sets)) sets (label_counts contents are.kinds are.formed))

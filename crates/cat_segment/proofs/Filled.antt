@@ -1,24 +1,16 @@
 -- The content of a field is told by its texts, its keyword or its number, since it is of the field's kind.
 use Rattle.std.proofs.Common.{◌≡◌, ◌≢◌, ◌<◌, ◌≤◌, ◌^◌, ℕ, zero, suc, get_or, List, [], ◌∷◌, length, map, Option, Some, None, refl, sym, ap, ◌∙◌, subst, arith}
-use Rattle.std.specs.Prelude.{ℤ, option_map, slice_get, All, IfSome, MatchOption}
-use Rattle.std.specs.List.Sorted.{IsStrictlySortedBy}
+use Rattle.std.specs.Prelude.{ℤ, option_map, slice_get, All, IfSome}
 use Rattle.std.proofs.lemmas.List.Elements.{All-map}
 use Rattle.std.proofs.lemmas.Option.{slice_get-get_or}
 use Rattle.std.proofs.lemmas.Simd.{map-map}
-use Rattle.cat_base.specs.Texts.{IsTextSet}
 use Rattle.cat_model.specs.Text.{Text}
 use Rattle.cat_model.specs.Item.{Field, Kind, Content, Schema, FieldContent, IsContent, AreFields, keyword_in, number_in, words_in}
 use Rattle.cat_model.specs.Forms.{IsFormed}
-use Rattle.cat_model.specs.Ordinals.{texts_of, dictionary_of}
+use Rattle.cat_model.specs.Ordinals.{dictionary_of}
 use Rattle.cat_segment.proofs.Formed.{length-dictionary}
 use Rattle.cat_segment.specs.Fields.{content_in, contents_in, IsFilled, texts_in}
 use Rattle.cat_segment.specs.declared.segment.Row as given
-
--- one text or none is a set
-pub IsTextSet-texts_of : (o : Option Text) (ts : List Text) → MatchOption o (ts ≡ []) (λ t. ts ≡ t ∷ []) → IsTextSet ts
-unfolding IsStrictlySortedBy
-IsTextSet-texts_of None ts e = subst IsTextSet (sym e) tt
-IsTextSet-texts_of (Some t) ts e = subst IsTextSet (sym e) (tt, tt)
 
 -- what agrees at each element of a list
 pub map_where : {X Y : Type 0} (P : X → Type 0) (f g : X → Y) → ((x : X) → P x → f x ≡ g x) → (xs : List X) → All P xs → map f xs ≡ map g xs
@@ -33,10 +25,6 @@ keyword_told : (o : Option Content) → IsFilled Kind.keyword o → Some (Conten
 keyword_told None none = absurd none
 keyword_told (Some c) (IsContent.keyword k) = refl
 
-keyword_texts : (o : Option Content) → IsFilled Kind.keyword o → texts_in o ≡ texts_of (keyword_in o)
-keyword_texts None none = absurd none
-keyword_texts (Some c) (IsContent.keyword k) = refl
-
 number_told : (o : Option Content) → IsFilled Kind.number o → Some (Content.number (number_in o)) ≡ o
 number_told None none = absurd none
 number_told (Some c) (IsContent.number z) = refl
@@ -45,54 +33,48 @@ facet_told : (o : Option Content) → IsFilled Kind.facet o → Some (Content.la
 facet_told None none = absurd none
 facet_told (Some c) (IsContent.labels ls sorted) = refl
 
-module _ (place : ℕ) (rows : List given.Row) where
+module _ (index : ℕ) (rows : List given.Row) where
   abbrev AreFilled : Kind → Type 0
-  AreFilled kind = All (λ r. IsFilled kind (content_in place r.item.now)) rows
+  AreFilled kind = All (λ r. IsFilled kind (content_in index r.item.now)) rows
 
   told : {X : Type 0} (kind : Kind) (make : X → Content) (read : Option Content → X) → ((o : Option Content) → IsFilled kind o → Some (make (read o)) ≡ o)
-      → AreFilled kind → (xs : List X) → xs ≡ map (λ r. read (content_in place r.item.now)) rows → map (λ x. Some x) (map make xs) ≡ contents_in place rows
+      → AreFilled kind → (xs : List X) → xs ≡ map (λ r. read (content_in index r.item.now)) rows → map (λ x. Some x) (map make xs) ≡ contents_in index rows
   told kind make read same filled xs is =
       ap (λ l. map (λ x. Some x) (map make l)) is
-      ∙ map-map (λ x. Some x) make (map (λ r. read (content_in place r.item.now)) rows)
-      ∙ map-map (λ x. Some (make x)) (λ r. read (content_in place r.item.now)) rows
-      ∙ map_where (λ r. IsFilled kind (content_in place r.item.now)) (λ r. Some (make (read (content_in place r.item.now)))) (λ r. content_in place r.item.now) (λ r f. same (content_in place r.item.now) f) rows filled
+      ∙ map-map (λ x. Some x) make (map (λ r. read (content_in index r.item.now)) rows)
+      ∙ map-map (λ x. Some (make x)) (λ r. read (content_in index r.item.now)) rows
+      ∙ map_where (λ r. IsFilled kind (content_in index r.item.now)) (λ r. Some (make (read (content_in index r.item.now)))) (λ r. content_in index r.item.now) (λ r f. same (content_in index r.item.now) f) rows filled
 
-  pub texts_told : AreFilled Kind.text → (xs : List (List Text)) → xs ≡ map (λ r. texts_in (content_in place r.item.now)) rows → map (λ x. Some x) (map (λ x. Content.words x) xs) ≡ contents_in place rows
+  pub texts_told : AreFilled Kind.text → (xs : List (List Text)) → xs ≡ map (λ r. texts_in (content_in index r.item.now)) rows → map (λ x. Some x) (map (λ x. Content.words x) xs) ≡ contents_in index rows
   texts_told = told Kind.text (λ x. Content.words x) texts_in text_told
 
-  pub keywords_told : AreFilled Kind.keyword → (xs : List (Option Text)) → xs ≡ map (λ r. keyword_in (content_in place r.item.now)) rows → map (λ x. Some x) (map (λ x. Content.keyword x) xs) ≡ contents_in place rows
+  pub keywords_told : AreFilled Kind.keyword → (xs : List (Option Text)) → xs ≡ map (λ r. keyword_in (content_in index r.item.now)) rows → map (λ x. Some x) (map (λ x. Content.keyword x) xs) ≡ contents_in index rows
   keywords_told = told Kind.keyword (λ x. Content.keyword x) keyword_in keyword_told
 
-  pub numbers_told : AreFilled Kind.number → (xs : List (Option ℤ)) → xs ≡ map (λ r. number_in (content_in place r.item.now)) rows → map (λ x. Some x) (map (λ x. Content.number x) xs) ≡ contents_in place rows
+  pub numbers_told : AreFilled Kind.number → (xs : List (Option ℤ)) → xs ≡ map (λ r. number_in (content_in index r.item.now)) rows → map (λ x. Some x) (map (λ x. Content.number x) xs) ≡ contents_in index rows
   numbers_told = told Kind.number (λ x. Content.number x) number_in number_told
 
-  pub labels_told : AreFilled Kind.facet → (xs : List (List Text)) → xs ≡ map (λ r. texts_in (content_in place r.item.now)) rows → map (λ x. Some x) (map (λ x. Content.labels x) xs) ≡ contents_in place rows
+  pub labels_told : AreFilled Kind.facet → (xs : List (List Text)) → xs ≡ map (λ r. texts_in (content_in index r.item.now)) rows → map (λ x. Some x) (map (λ x. Content.labels x) xs) ≡ contents_in index rows
   labels_told = told Kind.facet (λ x. Content.labels x) texts_in facet_told
 
-  -- the texts of a keyword field are its keywords
-  pub keywords_as_texts : AreFilled Kind.keyword → map (λ r. texts_in (content_in place r.item.now)) rows ≡ map texts_of (map (λ r. keyword_in (content_in place r.item.now)) rows)
-  keywords_as_texts filled =
-      map_where (λ r. IsFilled Kind.keyword (content_in place r.item.now)) (λ r. texts_in (content_in place r.item.now)) (λ r. texts_of (keyword_in (content_in place r.item.now))) (λ r f. keyword_texts (content_in place r.item.now) f) rows filled
-      ∙ sym (map-map texts_of (λ r. keyword_in (content_in place r.item.now)) rows)
-
--- the part of a field's place is of the field's kind
-pub filled_at : (fs : Schema) (ps : List FieldContent) (place : ℕ) (f : Field) → AreFields fs ps → place < length fs → f ≡ get_or fs place f → IsFilled f.kind (option_map (λ p. p.content) (slice_get ps place))
-filled_at [] ps place f parts lt is = absurd (omega arith)
-filled_at (g ∷ fs) [] place f parts lt is = absurd parts
+-- what stands at a field's index is of the field's kind
+pub filled_at : (fs : Schema) (ps : List FieldContent) (index : ℕ) (f : Field) → AreFields fs ps → index < length fs → f ≡ get_or fs index f → IsFilled f.kind (option_map (λ p. p.content) (slice_get ps index))
+filled_at [] ps index f parts lt is = absurd (omega arith)
+filled_at (g ∷ fs) [] index f parts lt is = absurd parts
 filled_at (g ∷ fs) (p ∷ ps) zero f parts lt is = subst (λ h. IsContent h.kind p.content) (sym is) parts.0.1
-filled_at (g ∷ fs) (p ∷ ps) (suc place) f parts lt is = filled_at fs ps place f parts.1 (omega arith) is
+filled_at (g ∷ fs) (p ∷ ps) (suc index) f parts lt is = filled_at fs ps index f parts.1 (omega arith) is
 
 -- ---- forms
 
--- what is in a place has its forms where each part has
-pub formed_in : (ps : List FieldContent) (place : ℕ) → All (λ p. IsFormed p.content) ps → IfSome (option_map (λ p. p.content) (slice_get ps place)) IsFormed
-formed_in [] place formed = tt
+-- what stands at an index has its forms where each has
+pub formed_in : (ps : List FieldContent) (index : ℕ) → All (λ p. IsFormed p.content) ps → IfSome (option_map (λ p. p.content) (slice_get ps index)) IsFormed
+formed_in [] index formed = tt
 formed_in (p ∷ ps) zero formed = formed 0 p (omega arith)
-formed_in (p ∷ ps) (suc place) formed = formed_in ps place (λ k d lt. formed (suc k) d (omega arith))
+formed_in (p ∷ ps) (suc index) formed = formed_in ps index (λ k d lt. formed (suc k) d (omega arith))
 
--- and each part has where what is in each place has
-pub parts_formed : (ps : List FieldContent) → ((place : ℕ) → place < length ps → IfSome (option_map (λ p. p.content) (slice_get ps place)) IsFormed) → All (λ p. IsFormed p.content) ps
-parts_formed ps each k d lt = subst (λ o. IfSome (option_map (λ p. p.content) o) IsFormed) (slice_get-get_or ps k d lt) (each k lt)
+-- and each has where what stands at each index has
+pub fields_formed : (ps : List FieldContent) → ((index : ℕ) → index < length ps → IfSome (option_map (λ p. p.content) (slice_get ps index)) IsFormed) → All (λ p. IsFormed p.content) ps
+fields_formed ps each k d lt = subst (λ o. IfSome (option_map (λ p. p.content) o) IsFormed) (slice_get-get_or ps k d lt) (each k lt)
 
 -- the words of a text field are its texts
 pub words_are_texts : (o : Option Content) → IsFilled Kind.text o → words_in o ≡ texts_in o
@@ -107,22 +89,22 @@ no_words kind other (Some c) (IsContent.keyword k) = omega arith
 no_words kind other (Some c) (IsContent.number z) = omega arith
 no_words kind other (Some c) (IsContent.labels ls sorted) = omega arith
 
-module _ (place : ℕ) (rows : List given.Row) where
+module _ (index : ℕ) (rows : List given.Row) where
   -- the words of a text field are those of its terms
-  pub words_of_terms : All (λ r. IsFilled Kind.text (content_in place r.item.now)) rows → (terms : List (List Text)) → terms ≡ map (λ r. texts_in (content_in place r.item.now)) rows
-      → length (dictionary_of terms) < 2 ^ 32 → length (dictionary_of (map words_in (contents_in place rows))) < 2 ^ 32
+  pub words_of_terms : All (λ r. IsFilled Kind.text (content_in index r.item.now)) rows → (terms : List (List Text)) → terms ≡ map (λ r. texts_in (content_in index r.item.now)) rows
+      → length (dictionary_of terms) < 2 ^ 32 → length (dictionary_of (map words_in (contents_in index rows))) < 2 ^ 32
   words_of_terms filled terms same few =
-      let words : map words_in (contents_in place rows) ≡ terms =
-      map-map words_in (λ r. content_in place r.item.now) rows
-      ∙ map_where (λ r. IsFilled Kind.text (content_in place r.item.now)) (λ r. words_in (content_in place r.item.now)) (λ r. texts_in (content_in place r.item.now)) (λ r f. words_are_texts (content_in place r.item.now) f) rows filled
+      let words : map words_in (contents_in index rows) ≡ terms =
+      map-map words_in (λ r. content_in index r.item.now) rows
+      ∙ map_where (λ r. IsFilled Kind.text (content_in index r.item.now)) (λ r. words_in (content_in index r.item.now)) (λ r. texts_in (content_in index r.item.now)) (λ r f. words_are_texts (content_in index r.item.now) f) rows filled
       ∙ sym same in
       omega (arith, few, ap (λ (l : List (List Text)). length (dictionary_of l)) words)
 
   -- a field of another kind has none
-  pub words_of_none : (kind : Kind) → kind ≢ Kind.text → All (λ r. IsFilled kind (content_in place r.item.now)) rows → length (dictionary_of (map words_in (contents_in place rows))) < 2 ^ 32
+  pub words_of_none : (kind : Kind) → kind ≢ Kind.text → All (λ r. IsFilled kind (content_in index r.item.now)) rows → length (dictionary_of (map words_in (contents_in index rows))) < 2 ^ 32
   words_of_none kind other filled =
       omega (
         arith,
-        length-dictionary 0 (map words_in (contents_in place rows))
-            (All-map (λ ws. length ws ≤ 0) words_in (contents_in place rows) (All-map (λ o. length (words_in o) ≤ 0) (λ r. content_in place r.item.now) rows (λ k d lt. no_words kind other (content_in place (get_or rows k d).item.now) (filled k d lt)))),
+        length-dictionary 0 (map words_in (contents_in index rows))
+            (All-map (λ ws. length ws ≤ 0) words_in (contents_in index rows) (All-map (λ o. length (words_in o) ≤ 0) (λ r. content_in index r.item.now) rows (λ k d lt. no_words kind other (content_in index (get_or rows k d).item.now) (filled k d lt)))),
       )

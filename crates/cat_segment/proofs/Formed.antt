@@ -39,12 +39,12 @@ length-dictionary most rows few = omega (arith, length-sorted_set (joined rows),
 
 -- ---- postings
 
-length-places : (set : List Bool) → length (indices set) ≤ length set
-length-places set =
+length-indices : (set : List Bool) → length (indices set) ≤ length set
+length-indices set =
     omega (arith, length-filter (has_row set) (range_with_len 0 (length set)), count_by-le-length (has_row set) (range_with_len 0 (length set)), length-range_with_len 0 (length set))
 
-pub places_within : (set : List Bool) → All (λ row. row < length set) (indices set)
-places_within set =
+pub indices_within : (set : List Bool) → All (λ row. row < length set) (indices set)
+indices_within set =
     All-filter (has_row set) (λ row. row < length set) (range_with_len 0 (length set))
     (λ k d lt. omega (arith, get_or-range_with_len 0 (length set) k d (omega (arith, length-range_with_len 0 (length set))), length-range_with_len 0 (length set)))
 
@@ -56,7 +56,7 @@ pub postings_fit : (word : Text) (rows : List (List Text)) → length rows ≤ 2
 postings_fit word rows few =
     let set = rows_having word rows in
     let long : length set ≡ length rows = length-map rows (list_any (same_text word)) in
-    fit 262144 262144 (postings_of word rows) (omega arith) (omega arith) (omega (arith, length-places set, long)) (λ k d lt. let low = places_within set k d lt in omega arith)
+    fit 262144 262144 (postings_of word rows) (omega arith) (omega arith) (omega (arith, length-indices set, long)) (λ k d lt. let low = indices_within set k d lt in omega arith)
 
 -- ---- each kind of column
 

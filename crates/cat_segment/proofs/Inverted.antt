@@ -5,8 +5,7 @@ use Rattle.std.specs.List.Sorted.{IsStrictlySortedBy, IsStrictlyIncreasing}
 use Rattle.std.proofs.lemmas.List.{length-append, length-map, map_more}
 use Rattle.std.proofs.lemmas.List.Elements.{All-weaker, All-map}
 use Rattle.std.proofs.lemmas.Map.Keys.{sorted_from_strictly_increasing}
-use Rattle.cat_base.specs.Texts.{sorted_set, IsTextSet}
-use Rattle.cat_base.proofs.TextSets.{sorted_set_only}
+use Rattle.cat_base.specs.Texts.{IsTextSet}
 use Rattle.cat_codec.proofs.Pieces.{ends_push, pieces_push, length-pieces}
 use Rattle.cat_model.specs.Text.{Text}
 use Rattle.cat_model.specs.Layout.{ordinal_in, code_in, keywords_of, pieces, AreEnds}
@@ -14,11 +13,7 @@ use Rattle.cat_model.specs.Ordinals.{dictionary_of, text_at, texts_of}
 use Rattle.cat_values.specs.Columns.{AreOrdinals}
 use Rattle.cat_values.proofs.Laid.{rows_there, all_pieces, AreOrdinals-of}
 use Rattle.cat_values.proofs.Ordinals.{text_back}
-use Rattle.cat_segment.specs.Decoded.{ordinals_of}
-
--- a set is its own set
-pub set_itself : (texts : List Text) → IsTextSet texts → sorted_set texts ≡ texts
-set_itself texts sorted = sym (sorted_set_only texts texts sorted (λ q. (λ h. h, λ h. h)))
+use Rattle.cat_segment.specs.Parts.{ordinals_of}
 
 -- ---- from ordinals back to texts
 

@@ -12,9 +12,10 @@ use Rattle.cat_model.specs.Item.{Content, Field, Kind, Schema}
 use Rattle.cat_model.specs.Layout.{Laid, Head, column_of, head_of, layout_of, IsLaid, AreLaid, IsLayout}
 use Rattle.cat_model.specs.View.{Row, Segment, IsSegment}
 use Rattle.cat_segment.proofs.Assembled.{laid_at, IsRead}
+use Rattle.cat_segment.proofs.Columned.{few_told}
 use Rattle.cat_segment.proofs.Layouts.{column_placed, contents_are}
 use Rattle.cat_segment.specs.Contents.{contents_of}
-use Rattle.cat_segment.specs.Decoded.{kind_in, IsColumnOf, HasNoColumn, AreColumnsOf}
+use Rattle.cat_segment.specs.Parts.{kind_in, IsColumnOf, HasNoColumn, IsFit, AreColumnsOf}
 use Rattle.cat_segment.specs.Laid.{contents_under, AreContents, laid_out}
 use Rattle.cat_segment.specs.declared.column.Column.{Column}
 
@@ -38,11 +39,11 @@ columns_many rows [] (c ∷ cs) are = absurd are
 columns_many rows (p ∷ ps) [] are = absurd are
 columns_many rows (p ∷ ps) (c ∷ cs) are = ap suc (columns_many rows ps cs are.1)
 
-column_at : (rows : ℕ) (ps : List ColumnParts) (cs : List Column) (place : ℕ) (p : ColumnParts) (c : Column) → AreColumnsOf rows ps cs → place < length ps → IsColumnOf rows (get_or ps place p) (get_or cs place c)
-column_at rows [] cs place p c are lt = absurd (omega arith)
-column_at rows (q ∷ ps) [] place p c are lt = absurd are
+column_at : (rows : ℕ) (ps : List ColumnParts) (cs : List Column) (index : ℕ) (p : ColumnParts) (c : Column) → AreColumnsOf rows ps cs → index < length ps → IsColumnOf rows (get_or ps index p) (get_or cs index c)
+column_at rows [] cs index p c are lt = absurd (omega arith)
+column_at rows (q ∷ ps) [] index p c are lt = absurd are
 column_at rows (q ∷ ps) (d ∷ cs) zero p c are lt = are.0
-column_at rows (q ∷ ps) (d ∷ cs) (suc place) p c are lt = column_at rows ps cs place p c are.1 (omega arith)
+column_at rows (q ∷ ps) (d ∷ cs) (suc index) p c are lt = column_at rows ps cs index p c are.1 (omega arith)
 
 laid_many : (rows : ℕ) (fs : Schema) (ls : List Laid) → AreLaid rows fs ls → length ls ≡ length fs
 laid_many rows [] [] are = refl
@@ -121,23 +122,41 @@ module _ (p : SegmentParts) (is : IsParts p) where
         (first ∙ get_or_default p.ids.items i [] d (omega arith) ∙ equal ∙ get_or_default p.ids.items j d [] within ∙ sym second)
 
     -- has a column for each of the parts
-    pub columns_stand : IsLayout (layout_in p) → Any (HasNoColumn (length p.numbers.items)) p.columns.items → ⊥
-    columns_stand layout (place, part, lt, here, none) =
+    column_stands : IsLayout (layout_in p) → (index : ℕ) (part : ColumnParts) → index < length p.columns.items → get_or p.columns.items index part ≡ part
+        → (contents : List Content) × AreContents (kind_in part) (length p.numbers.items) contents × (laid_out (kind_in part) contents ≡ column_in part)
+    column_stands layout index part lt here =
         let f : Field = record { name = []; kind = Kind.text } in
         let l : Laid = Laid.numbers [] in
         let laid : List Laid = map column_in p.columns.items in
         let many : length laid ≡ length p.schema = laid_many _ p.schema laid layout.columns in
-        let within : place < length p.schema = omega (arith, many, length-map p.columns.items column_in) in
+        let within : index < length p.schema = omega (arith, many, length-map p.columns.items column_in) in
         let schemas : s.schema ≡ p.schema = ap (λ m. m.schema) same in
-        let inside : place < length s.schema = omega (arith, ap length schemas) in
-        let column : get_or laid place l ≡ column_in part = get_or-map column_in p.columns.items place part l lt ∙ ap column_in here in
-        let fits = subst (IsLaid _ (get_or p.schema place f).kind) column (laid_at _ p.schema laid place f l layout.columns within) in
-        let kind : (get_or s.schema place f).kind ≡ kind_in part = ap (λ fs. (get_or fs place f).kind) schemas ∙ kind_is _ (get_or p.schema place f).kind part fits in
-        let contents : List Content = contents_under place s.rows in
-        let are : AreContents (kind_in part) (length p.numbers.items) contents = subst (λ n. AreContents (kind_in part) n contents) rows_many (subst (λ k. AreContents k (length s.rows) contents) kind (contents_are s segment place f inside)) in
-        none contents are
-        (ap (λ k. laid_out k contents) (sym kind) ∙ sym (column_placed s segment place f inside)
-        ∙ sym (get_or-map (column_of s.rows) s.schema place f l inside) ∙ ap (λ m. get_or m.columns place l) same ∙ column)
+        let inside : index < length s.schema = omega (arith, ap length schemas) in
+        let column : get_or laid index l ≡ column_in part = get_or-map column_in p.columns.items index part l lt ∙ ap column_in here in
+        let fits = subst (IsLaid _ (get_or p.schema index f).kind) column (laid_at _ p.schema laid index f l layout.columns within) in
+        let kind : (get_or s.schema index f).kind ≡ kind_in part = ap (λ fs. (get_or fs index f).kind) schemas ∙ kind_is _ (get_or p.schema index f).kind part fits in
+        let contents : List Content = contents_under index s.rows in
+        let are : AreContents (kind_in part) (length p.numbers.items) contents = subst (λ n. AreContents (kind_in part) n contents) rows_many (subst (λ k. AreContents k (length s.rows) contents) kind (contents_are s segment index f inside)) in (
+          contents,
+          are,
+          ap (λ k. laid_out k contents) (sym kind) ∙ sym (column_placed s segment index f inside)
+              ∙ sym (get_or-map (column_of s.rows) s.schema index f l inside) ∙ ap (λ m. get_or m.columns index l) same ∙ column,
+        )
+
+    pub columns_stand : IsLayout (layout_in p) → Any (HasNoColumn (length p.numbers.items)) p.columns.items → ⊥
+    columns_stand layout (index, part, lt, here, none) =
+        let there = column_stands layout index part lt here in
+        none there.0 there.1 there.2
+
+    -- and is fit
+    pub fit : IsLayout (layout_in p) → IsFit p
+    fit layout = record {
+      rising = numbers_rise;
+      labels = λ k d lt.
+          let part : ColumnParts = get_or p.columns.items k d in
+          let there = column_stands layout k part lt (get_or_default p.columns.items k part d lt) in
+          few_told (length p.numbers.items) part there.0 there.1 there.2;
+    }
 
   -- ---- what is read of them
 
@@ -175,24 +194,24 @@ module _ (p : SegmentParts) (is : IsParts p) where
       parts_many = sym (length-map p.columns.items column_in) ∙ many
 
       -- the column of a place is that of the part of the place
-      column_read : (place : ℕ) (q : ColumnParts) (f : Field) (c : Column) (l : Laid) → q ≡ get_or p.columns.items place q → place < length p.schema
-          → AreContents (get_or p.schema place f).kind (length p.numbers.items) (contents_of (get_or columns place c)) × (laid_out (get_or p.schema place f).kind (contents_of (get_or columns place c)) ≡ get_or laid place l)
-      column_read place q f c l here lt =
-          let within : place < length p.columns.items = omega (arith, parts_many) in
-          let one = column_at (length p.numbers.items) p.columns.items columns place q c are within in
-          let column : get_or laid place l ≡ column_in (get_or p.columns.items place q) = get_or-map column_in p.columns.items place q l within in
-          let fits = subst (IsLaid (length (heads_in p.numbers.items p.ids.items p.lengths.items)) (get_or p.schema place f).kind) column
-          (laid_at (length (heads_in p.numbers.items p.ids.items p.lengths.items)) p.schema laid place f l layout.columns lt) in
-          let kind : (get_or p.schema place f).kind ≡ kind_in (get_or p.columns.items place q) = kind_is (length (heads_in p.numbers.items p.ids.items p.lengths.items)) (get_or p.schema place f).kind (get_or p.columns.items place q) fits in (
-            subst (λ k. AreContents k (length p.numbers.items) (contents_of (get_or columns place c))) (sym kind) one.contents,
-            ap (λ k. laid_out k (contents_of (get_or columns place c))) kind ∙ one.spelled ∙ sym column,
+      column_read : (index : ℕ) (q : ColumnParts) (f : Field) (c : Column) (l : Laid) → q ≡ get_or p.columns.items index q → index < length p.schema
+          → AreContents (get_or p.schema index f).kind (length p.numbers.items) (contents_of (get_or columns index c)) × (laid_out (get_or p.schema index f).kind (contents_of (get_or columns index c)) ≡ get_or laid index l)
+      column_read index q f c l here lt =
+          let within : index < length p.columns.items = omega (arith, parts_many) in
+          let one = column_at (length p.numbers.items) p.columns.items columns index q c are within in
+          let column : get_or laid index l ≡ column_in (get_or p.columns.items index q) = get_or-map column_in p.columns.items index q l within in
+          let fits = subst (IsLaid (length (heads_in p.numbers.items p.ids.items p.lengths.items)) (get_or p.schema index f).kind) column
+          (laid_at (length (heads_in p.numbers.items p.ids.items p.lengths.items)) p.schema laid index f l layout.columns lt) in
+          let kind : (get_or p.schema index f).kind ≡ kind_in (get_or p.columns.items index q) = kind_is (length (heads_in p.numbers.items p.ids.items p.lengths.items)) (get_or p.schema index f).kind (get_or p.columns.items index q) fits in (
+            subst (λ k. AreContents k (length p.numbers.items) (contents_of (get_or columns index c))) (sym kind) one.contents,
+            ap (λ k. laid_out k (contents_of (get_or columns index c))) kind ∙ one.spelled ∙ sym column,
           )
 
       -- some part stands there
-      part_there : (qs : List ColumnParts) (place : ℕ) → place < length qs → (q : ColumnParts) × (q ≡ get_or qs place q)
-      part_there [] place lt = absurd (omega arith)
+      part_there : (qs : List ColumnParts) (index : ℕ) → index < length qs → (q : ColumnParts) × (q ≡ get_or qs index q)
+      part_there [] index lt = absurd (omega arith)
       part_there (q ∷ qs) zero lt = (q, refl)
-      part_there (q ∷ qs) (suc place) lt = part_there qs place (omega arith)
+      part_there (q ∷ qs) (suc index) lt = part_there qs index (omega arith)
 
       pub parts_read : IsRead p.number p.schema p.numbers.items ids lengths columns (heads_in p.numbers.items p.ids.items p.lengths.items) laid
       parts_read = record {
@@ -206,7 +225,7 @@ module _ (p : SegmentParts) (is : IsParts p) where
         read = record {
           many = columns_many (length p.numbers.items) p.columns.items columns are ∙ parts_many;
           as_many = many;
-          contents = λ place f c lt. let q = part_there p.columns.items place (omega (arith, parts_many)) in (column_read place q.0 f c (Laid.numbers []) q.1 lt).0;
-          spelled = λ place f c l lt. let q = part_there p.columns.items place (omega (arith, parts_many)) in (column_read place q.0 f c l q.1 lt).1;
+          contents = λ index f c lt. let q = part_there p.columns.items index (omega (arith, parts_many)) in (column_read index q.0 f c (Laid.numbers []) q.1 lt).0;
+          spelled = λ index f c l lt. let q = part_there p.columns.items index (omega (arith, parts_many)) in (column_read index q.0 f c l q.1 lt).1;
         };
       }

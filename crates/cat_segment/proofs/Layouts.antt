@@ -12,33 +12,33 @@ use Rattle.cat_model.specs.Layout.{Laid, ordinal_in, code_in, word_postings_of, 
 use Rattle.cat_model.specs.Ordinals.{dictionary_of}
 use Rattle.cat_model.specs.View.{Row, Segment, item_in, IsSegment}
 use Rattle.cat_segment.specs.Laid.{content_under, contents_under, AreContents, laid_out}
-use Rattle.cat_segment.proofs.Placed.{no_part, contents_named, AreContents-of}
+use Rattle.cat_segment.proofs.Placed.{no_content, contents_named, AreContents-of}
 use Rattle.cat_segment.proofs.Formed.{seen, IsLaid-of}
 
 -- ---- the column of a field
 
 module _ (s : Segment) (is : IsSegment s) where
-  pub column_placed : (place : ℕ) (f : Field) → place < length s.schema → column_of s.rows (get_or s.schema place f) ≡ laid_out (get_or s.schema place f).kind (contents_under place s.rows)
-  column_placed place f lt = ap (laid_as (get_or s.schema place f).kind) (contents_named s.schema s.rows place f is.schema.rising is.rows.fields lt)
+  pub column_placed : (index : ℕ) (f : Field) → index < length s.schema → column_of s.rows (get_or s.schema index f) ≡ laid_out (get_or s.schema index f).kind (contents_under index s.rows)
+  column_placed index f lt = ap (laid_as (get_or s.schema index f).kind) (contents_named s.schema s.rows index f is.schema.rising is.rows.fields lt)
 
-  words_few : (place : ℕ) (f : Field) → place < length s.schema → length (dictionary_of (map words_in (seen (contents_under place s.rows)))) < 2 ^ 32
-  words_few place f lt =
-      let name : Text = (get_or s.schema place f).name in
-      let same : map (λ r. words_in (content_of name (item_in r))) s.rows ≡ map words_in (seen (contents_under place s.rows)) =
-      sym (map-map words_in (λ r. content_of name (item_in r)) s.rows) ∙ ap (map words_in) (contents_named s.schema s.rows place f is.schema.rising is.rows.fields lt) in
+  words_few : (index : ℕ) (f : Field) → index < length s.schema → length (dictionary_of (map words_in (seen (contents_under index s.rows)))) < 2 ^ 32
+  words_few index f lt =
+      let name : Text = (get_or s.schema index f).name in
+      let same : map (λ r. words_in (content_of name (item_in r))) s.rows ≡ map words_in (seen (contents_under index s.rows)) =
+      sym (map-map words_in (λ r. content_of name (item_in r)) s.rows) ∙ ap (map words_in) (contents_named s.schema s.rows index f is.schema.rising is.rows.fields lt) in
       omega (arith, is.words name, ap (λ (l : List (List Text)). length (dictionary_of l)) same)
 
-  pub contents_are : (place : ℕ) (f : Field) → place < length s.schema → AreContents (get_or s.schema place f).kind (length s.rows) (contents_under place s.rows)
-  contents_are place f lt = AreContents-of s.schema s.rows place f is.rows is.formed lt
+  pub contents_are : (index : ℕ) (f : Field) → index < length s.schema → AreContents (get_or s.schema index f).kind (length s.rows) (contents_under index s.rows)
+  contents_are index f lt = AreContents-of s.schema s.rows index f is.rows is.formed lt
 
-  column_fits : (place : ℕ) (f : Field) → place < length s.schema → IsLaid (length s.rows) (get_or s.schema place f).kind (column_of s.rows (get_or s.schema place f))
-  column_fits place f lt =
-      subst (IsLaid (length s.rows) (get_or s.schema place f).kind) (sym (column_placed place f lt))
-      (IsLaid-of (get_or s.schema place f).kind (length s.rows) (contents_under place s.rows) (contents_are place f lt) is.rows.few (words_few place f lt))
+  column_fits : (index : ℕ) (f : Field) → index < length s.schema → IsLaid (length s.rows) (get_or s.schema index f).kind (column_of s.rows (get_or s.schema index f))
+  column_fits index f lt =
+      subst (IsLaid (length s.rows) (get_or s.schema index f).kind) (sym (column_placed index f lt))
+      (IsLaid-of (get_or s.schema index f).kind (length s.rows) (contents_under index s.rows) (contents_are index f lt) is.rows.few (words_few index f lt))
 
-all_laid : (rows : ℕ) (column : Field → Laid) (fs : Schema) → ((place : ℕ) (f : Field) → place < length fs → IsLaid rows (get_or fs place f).kind (column (get_or fs place f))) → AreLaid rows fs (map column fs)
+all_laid : (rows : ℕ) (column : Field → Laid) (fs : Schema) → ((index : ℕ) (f : Field) → index < length fs → IsLaid rows (get_or fs index f).kind (column (get_or fs index f))) → AreLaid rows fs (map column fs)
 all_laid rows column [] each = tt
-all_laid rows column (f ∷ fs) each = (each 0 f (omega arith), all_laid rows column fs (λ place g lt. each (suc place) g (omega arith)))
+all_laid rows column (f ∷ fs) each = (each 0 f (omega arith), all_laid rows column fs (λ index g lt. each (suc index) g (omega arith)))
 
 -- ---- a segment can be laid out
 
@@ -117,16 +117,16 @@ column_told told Kind.facet rows one other a b same =
     sym (read_back Kind.facet Content.labels labels_in labels_back one a.kinds) ∙ ap (map Content.labels) (told.labels ks ls dictionary ordinals) ∙ read_back Kind.facet Content.labels labels_in labels_back other b.kinds
 
 -- parts that have the same in each place are one
-parts_told : (fs : Schema) (ps qs : List FieldContent) → AreFields fs ps → AreFields fs qs → ((place : ℕ) → place < length fs → (get_or ps place no_part).content ≡ (get_or qs place no_part).content) → ps ≡ qs
-parts_told [] [] [] a b same = refl
-parts_told [] [] (q ∷ qs) a b same = absurd b
-parts_told [] (p ∷ ps) qs a b same = absurd a
-parts_told (f ∷ fs) [] qs a b same = absurd a
-parts_told (f ∷ fs) (p ∷ ps) [] a b same = absurd b
-parts_told (f ∷ fs) (p ∷ ps) (q ∷ qs) a b same =
+fields_told : (fs : Schema) (ps qs : List FieldContent) → AreFields fs ps → AreFields fs qs → ((index : ℕ) → index < length fs → (get_or ps index no_content).content ≡ (get_or qs index no_content).content) → ps ≡ qs
+fields_told [] [] [] a b same = refl
+fields_told [] [] (q ∷ qs) a b same = absurd b
+fields_told [] (p ∷ ps) qs a b same = absurd a
+fields_told (f ∷ fs) [] qs a b same = absurd a
+fields_told (f ∷ fs) (p ∷ ps) [] a b same = absurd b
+fields_told (f ∷ fs) (p ∷ ps) (q ∷ qs) a b same =
     let content = same 0 (omega arith) in
     let name : p.name ≡ q.name = a.0.0 ∙ sym b.0.0 in
-    let later = parts_told fs ps qs a.1 b.1 (λ place lt. same (suc place) (omega arith)) in
+    let later = fields_told fs ps qs a.1 b.1 (λ index lt. same (suc index) (omega arith)) in
     λ i. record { name = name i; content = content i } ∷ later i
 
 module _ (told : AreTold) (s t : Segment) (a : IsSegment s) (b : IsSegment t) (same : layout_of s ≡ layout_of t) where
@@ -140,29 +140,29 @@ module _ (told : AreTold) (s t : Segment) (a : IsSegment s) (b : IsSegment t) (s
   heads_at k d lt =
       sym (get_or-map head_of s.rows k d (head_of d) lt) ∙ ap (λ l. get_or l.heads k (head_of d)) same ∙ get_or-map head_of t.rows k d (head_of d) (omega (arith, as_many))
 
-  columns_at : (place : ℕ) (f : Field) → place < length s.schema → contents_under place s.rows ≡ contents_under place t.rows
-  columns_at place f lt =
-      let g : Field = get_or s.schema place f in
-      let h : Field = get_or t.schema place f in
-      let within : place < length t.schema = omega (arith, ap length schemas) in
-      let field : g ≡ h = ap (λ l. get_or l place f) schemas in
+  columns_at : (index : ℕ) (f : Field) → index < length s.schema → contents_under index s.rows ≡ contents_under index t.rows
+  columns_at index f lt =
+      let g : Field = get_or s.schema index f in
+      let h : Field = get_or t.schema index f in
+      let within : index < length t.schema = omega (arith, ap length schemas) in
+      let field : g ≡ h = ap (λ l. get_or l index f) schemas in
       let none : Laid = Laid.numbers [] in
       let laid : column_of s.rows g ≡ column_of t.rows h =
-      sym (get_or-map (column_of s.rows) s.schema place f none lt) ∙ ap (λ l. get_or l.columns place none) same ∙ get_or-map (column_of t.rows) t.schema place f none within in
-      let here : laid_out g.kind (contents_under place s.rows) ≡ laid_out g.kind (contents_under place t.rows) =
-      sym (column_placed s a place f lt) ∙ laid ∙ column_placed t b place f within ∙ ap (λ e. laid_out e.kind (contents_under place t.rows)) (sym field) in
-      column_told told g.kind (length s.rows) (contents_under place s.rows) (contents_under place t.rows) (contents_are s a place f lt)
-      (subst (λ e. AreContents e.kind (length s.rows) (contents_under place t.rows)) (sym field) (subst (λ n. AreContents h.kind n (contents_under place t.rows)) (sym as_many) (contents_are t b place f within)))
+      sym (get_or-map (column_of s.rows) s.schema index f none lt) ∙ ap (λ l. get_or l.columns index none) same ∙ get_or-map (column_of t.rows) t.schema index f none within in
+      let here : laid_out g.kind (contents_under index s.rows) ≡ laid_out g.kind (contents_under index t.rows) =
+      sym (column_placed s a index f lt) ∙ laid ∙ column_placed t b index f within ∙ ap (λ e. laid_out e.kind (contents_under index t.rows)) (sym field) in
+      column_told told g.kind (length s.rows) (contents_under index s.rows) (contents_under index t.rows) (contents_are s a index f lt)
+      (subst (λ e. AreContents e.kind (length s.rows) (contents_under index t.rows)) (sym field) (subst (λ n. AreContents h.kind n (contents_under index t.rows)) (sym as_many) (contents_are t b index f within)))
       here
 
   rows_at : (k : ℕ) (d : Row) → k < length s.rows → get_or s.rows k d ≡ get_or t.rows k d
   rows_at k d lt =
       let head = heads_at k d lt in
       let within : k < length t.rows = omega (arith, as_many) in
-      let fields = parts_told s.schema (get_or s.rows k d).fields (get_or t.rows k d).fields (a.rows.fields k d lt) (subst (λ fs. AreFields fs (get_or t.rows k d).fields) (sym schemas) (b.rows.fields k d within))
-      (λ place inside. sym (get_or-map (content_under place) s.rows k d (content_under place d) lt)
-      ∙ ap (λ l. get_or l k (content_under place d)) (columns_at place (record { name = []; kind = Kind.text }) inside)
-      ∙ get_or-map (content_under place) t.rows k d (content_under place d) within) in
+      let fields = fields_told s.schema (get_or s.rows k d).fields (get_or t.rows k d).fields (a.rows.fields k d lt) (subst (λ fs. AreFields fs (get_or t.rows k d).fields) (sym schemas) (b.rows.fields k d within))
+      (λ index inside. sym (get_or-map (content_under index) s.rows k d (content_under index d) lt)
+      ∙ ap (λ l. get_or l k (content_under index d)) (columns_at index (record { name = []; kind = Kind.text }) inside)
+      ∙ get_or-map (content_under index) t.rows k d (content_under index d) within) in
       λ i. record { number = (head i).number; id = (head i).id; fields = fields i; length = (head i).length }
 
   pub segment_told : s ≡ t

@@ -2,6 +2,7 @@ pub mod Assembled
 pub mod Columned
 pub mod Columns
 pub mod Ends
+pub mod Few
 pub mod Filled
 pub mod Formed
 pub mod Inverted

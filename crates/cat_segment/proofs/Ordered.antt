@@ -114,14 +114,14 @@ module _ (ids : List Text) (by_id : List ℕ) (is : IsIndex ids by_id) where
   at k d lt = get_or-map (text_at ids) by_id k d [] lt
 
   -- a search that finds nothing proves that no row has the id
-  pub id_absent : (id : Text) (place : ℕ) → IsBinarySearchResult (λ row. text_cmp (text_at ids row) id) by_id (Err place) → All (λ i. i ≢ id) ids
-  id_absent id place parted k d lt same =
+  pub id_absent : (id : Text) (index : ℕ) → IsBinarySearchResult (λ row. text_cmp (text_at ids row) id) by_id (Err index) → All (λ i. i ≢ id) ids
+  id_absent id index parted k d lt same =
       let has = Contains-permutation ids (map (text_at ids) by_id) id is.same (k, lt, get_or_default ids k id d lt ∙ same) in
       let within : has.0 < length by_id = omega (arith, has.1, length-map by_id (text_at ids)) in
       let here : text_at ids (get_or by_id has.0 0) ≡ id = sym (at has.0 0 within) ∙ get_or_default (map (text_at ids) by_id) has.0 [] id has.1 ∙ has.2 in
       let tie : text_cmp (text_at ids (get_or by_id has.0 0)) id ≡ Equal = ap (λ x. text_cmp x id) here ∙ tied_itself nat_list_cmp_total id in
       let parts = parted (searchable_from_sorted nat_list_cmp_total (text_at ids) by_id id is.rising) in
-      elim (cases_lt has.0 place) [
+      elim (cases_lt has.0 index) [
         | inl under ↦ let less = parts.0 has.0 0 (omega arith) under in cc
         | inr over ↦ let more = parts.1 has.0 0 over within in cc
       ]

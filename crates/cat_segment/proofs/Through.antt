@@ -1,5 +1,5 @@
 -- How many rows were put up to a number, where the numbers of rows rise.
-use Rattle.std.proofs.Common.{◌≡◌, ◌⊎◌, ℕ, suc, ◌<◌, ◌≤◌, List, length, map, get_or, AllPairs, true, false, nat_le, sym, ap, ◌∙◌, subst, inl, inr, arith}
+use Rattle.std.proofs.Common.{◌≡◌, ◌⊎◌, ℕ, ◌<◌, ◌≤◌, List, length, map, get_or, AllPairs, true, false, nat_le, sym, ap, ◌∙◌, subst, inl, inr, arith}
 use Rattle.std.specs.List.Sorted.{IsPartitionedBy, IsPartitionPoint}
 use Rattle.std.proofs.lemmas.Bool.Decides.{nat_tests}
 use Rattle.std.proofs.lemmas.List.{length-map, get_or-map}
@@ -36,9 +36,9 @@ module _ (rows : List Row) (numbers : List ℕ) (are : map (λ r. r.number) rows
       let up = rises i j r less (omega (arith, as_many)) in
       omega (arith, up, number_at i r d (omega (arith, as_many)), number_at j r d (omega (arith, as_many)))
 
-  pub rows_parted : (number place : ℕ) → place ≤ length numbers → IsPartitionPoint (λ n. n ≤ number) (λ n. number < n) numbers place
-      → IsPartitionPoint (λ r. r.number ≤ number) (λ r. number < r.number) rows place
-  rows_parted number place bound at = (
+  pub rows_parted : (number index : ℕ) → index ≤ length numbers → IsPartitionPoint (λ n. n ≤ number) (λ n. number < n) numbers index
+      → IsPartitionPoint (λ r. r.number ≤ number) (λ r. number < r.number) rows index
+  rows_parted number index bound at = (
     (λ k d from to. subst (λ n. n ≤ number) (number_at k d 0 (omega (arith, as_many))) (at.0 k 0 from to)),
     (λ k d from to. subst (λ n. number < n) (number_at k d 0 to) (at.1 k 0 from (omega (arith, as_many)))),
   )

@@ -42,10 +42,10 @@ words_fit Kind.facet rows contents kinds laid = no_words contents (λ k d lt. wo
 
 -- some field has the name, or none
 abbrev Named : Schema → Text → Type 0
-Named fs name = ((place : ℕ) × (place < length fs) × ((f : Field) → (get_or fs place f).name ≡ name)) ⊎ ((place : ℕ) (f : Field) → place < length fs → (get_or fs place f).name ≢ name)
+Named fs name = ((index : ℕ) × (index < length fs) × ((f : Field) → (get_or fs index f).name ≡ name)) ⊎ ((index : ℕ) (f : Field) → index < length fs → (get_or fs index f).name ≢ name)
 
 named : (fs : Schema) (name : Text) → Named fs name
-named [] name = inr (λ place f lt. absurd (omega arith))
+named [] name = inr (λ index f lt. absurd (omega arith))
 named (g ∷ fs) name = by (same_text g.name name) refl (named fs name)
   where
     by : (b : Bool) → same_text g.name name ≡ b → Named fs name → Named (g ∷ fs) name
@@ -53,23 +53,23 @@ named (g ∷ fs) name = by (same_text g.name name) refl (named fs name)
     by false e (inl h) = inl (suc h.0, (let lt = h.1 in omega arith), h.2)
     by false e (inr h) = inr other
       where
-        other : (place : ℕ) (f : Field) → place < length (g ∷ fs) → (get_or (g ∷ fs) place f).name ≢ name
+        other : (index : ℕ) (f : Field) → index < length (g ∷ fs) → (get_or (g ∷ fs) index f).name ≢ name
         other zero f lt same = let both : true ≡ false = sym ((bytes_eq-Decides g.name name).1 same) ∙ e in cc
-        other (suc place) f lt same = h place f (omega arith) same
+        other (suc index) f lt same = h index f (omega arith) same
 
 -- a row has nothing in a field that the schema doesn't have
-none_named : (fs : Schema) (ps : List FieldContent) (name : Text) → AreFields fs ps → ((place : ℕ) (f : Field) → place < length fs → (get_or fs place f).name ≢ name) → find (λ p. same_text p.name name) ps ≡ None
+none_named : (fs : Schema) (ps : List FieldContent) (name : Text) → AreFields fs ps → ((index : ℕ) (f : Field) → index < length fs → (get_or fs index f).name ≢ name) → find (λ p. same_text p.name name) ps ≡ None
 none_named [] [] name are other = refl
 none_named [] (p ∷ ps) name are other = absurd are
 none_named (f ∷ fs) [] name are other = absurd are
-none_named (f ∷ fs) (p ∷ ps) name are other = by (same_text p.name name) refl (none_named fs ps name are.1 (λ place g lt. other (suc place) g (omega arith)))
+none_named (f ∷ fs) (p ∷ ps) name are other = by (same_text p.name name) refl (none_named fs ps name are.1 (λ index g lt. other (suc index) g (omega arith)))
   where
     by : (b : Bool) → same_text p.name name ≡ b → find (λ q. same_text q.name name) ps ≡ None → cond b (Some p) (find (λ q. same_text q.name name) ps) ≡ None
     by true e later = absurd (other 0 f (omega arith) (sym are.0.0 ∙ (bytes_eq-Decides p.name name).0 e))
     by false e later = later
 
 pub words_few : (schema : Schema) (rows : List Row) → IsTextSet (map (λ g. g.name) schema) → All (λ r. AreFields schema r.fields) rows
-    → ((place : ℕ) → place < length schema → length (dictionary_of (words_under (contents_under place rows))) < 2 ^ 32) → (name : Text) → length (words_of_field rows name) < 2 ^ 32
+    → ((index : ℕ) → index < length schema → length (dictionary_of (words_under (contents_under index rows))) < 2 ^ 32) → (name : Text) → length (words_of_field rows name) < 2 ^ 32
 words_few schema rows rising parts each name = by (named schema name)
   where
     by : Named schema name → length (words_of_field rows name) < 2 ^ 32

@@ -1,41 +1,51 @@
--- What the rows that a segment is made of have in the field of a place among the schema's fields.
+-- What the rows that a segment is made of have in the field of an index among the schema's fields.
 use Rattle.std.specs.Prelude.{◌<◌, ◌^◌, ℕ, List, [], Option, Some, None, map, length, option_map, slice_get, All, IfSome}
+use Rattle.std.specs.List.{range_with_len}
 use Rattle.cat_model.specs.Text.{Text}
 use Rattle.cat_model.specs.Item.{Content, Item, Kind, IsContent, Record, words_in}
 use Rattle.cat_model.specs.Forms.{IsFormed}
-use Rattle.cat_model.specs.Ordinals.{texts_of, dictionary_of}
+use Rattle.cat_model.specs.Ordinals.{dictionary_of}
+use Rattle.cat_model.specs.View.{Row, row_of}
 use Rattle.cat_segment.specs.declared.segment.Row as given
 
 -- the record of a row that a segment is made of
 abbrev pub record_of : given.Row → Record
 record_of r = record { number = r.number; item = r.item.now }
 
--- what the item has in the field of this place
-abbrev pub content_in : ℕ → Item → Option Content
-content_in place i = option_map (λ p. p.content) (slice_get i.fields place)
+-- the rows of a segment that is made of them
+abbrev pub rows_made : List given.Row → List Row
+rows_made rows = map (λ r. row_of (record_of r)) rows
 
--- what each row has in the field of this place
+-- what the item has in the field of this index
+abbrev pub content_in : ℕ → Item → Option Content
+content_in index i = option_map (λ p. p.content) (slice_get i.fields index)
+
+-- what each row has in the field of this index
 abbrev pub contents_in : ℕ → List given.Row → List (Option Content)
-contents_in place rows = map (λ r. content_in place r.item.now) rows
+contents_in index rows = map (λ r. content_in index r.item.now) rows
+
+-- what each row has in each of so many fields
+abbrev pub contents_by_field : ℕ → List given.Row → List (List (Option Content))
+contents_by_field fields rows = map (λ k. contents_in k rows) (range_with_len 0 fields)
 
 -- the item has something in the field, of the field's kind
 abbrev pub IsFilled : Kind → Option Content → Type 0
 IsFilled kind None = ⊥
 IsFilled kind (Some c) = IsContent kind c
 
--- the texts that a field has, by which its rows are found: words, labels, or the text of a keyword
+-- the texts of a text or facet field: words or labels
 abbrev pub texts_in : Option Content → List Text
 texts_in None = []
 texts_in (Some (Content.words ws)) = ws
-texts_in (Some (Content.keyword k)) = texts_of k
+texts_in (Some (Content.keyword k)) = []
 texts_in (Some (Content.number n)) = []
 texts_in (Some (Content.labels ls)) = ls
 
--- what the item has in the field of this place, if there is one, has its forms
+-- what the item has in the field of this index, if there is one, has its forms
 abbrev pub IsFormedIn : ℕ → given.Row → Type 0
-IsFormedIn place r = IfSome (content_in place r.item.now) IsFormed
+IsFormedIn index r = IfSome (content_in index r.item.now) IsFormed
 
--- what the rows have in the field of this place: it has its forms, and fewer than 2^32 different words
-pub record AreFitting (place : ℕ) (rows : List given.Row) : Type 0 where
-  pub formed : All (IsFormedIn place) rows
-  pub words : length (dictionary_of (map words_in (contents_in place rows))) < 2 ^ 32
+-- what the rows have in the field of this index: it has its forms, and fewer than 2^32 different words
+pub record AreFitting (index : ℕ) (rows : List given.Row) : Type 0 where
+  pub formed : All (IsFormedIn index) rows
+  pub words : length (dictionary_of (map words_in (contents_in index rows))) < 2 ^ 32

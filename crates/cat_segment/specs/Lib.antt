@@ -1,8 +1,8 @@
+pub mod Body
 pub mod Contents
-pub mod Decoded
 pub mod Fields
 pub mod Index
 pub mod Laid
 pub mod LiveStart
-pub mod Rows
+pub mod Parts
 pub mod Sources

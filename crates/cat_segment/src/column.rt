@@ -1,13 +1,11 @@
 //! The columns of a segment: what its rows have in one field, with the terms of that field.
-ghost use Rattle.std.specs.Prelude.{◌≡◌, ◌<◌, ◌^◌, map, length, option_map, IfOk, IfErr, All};
-ghost use Rattle.cat_base.specs.Texts.{IsTextSet};
-ghost use Rattle.cat_base.specs.declared.refusal.Refusal.TheVariants.{Memory};
+ghost use Rattle.std.specs.Prelude.{◌≡◌, ◌<◌, ◌^◌, map, length, IfOk};
 ghost use Rattle.cat_model.specs.Ordinals.{texts_of};
 
-use cat_base::{Refusal, Text};
+use crate::inverting::{terms_of_keywords, terms_of_labels};
 use cat_inverted::Terms;
 use cat_values::{KeywordColumn, NumberColumn, SetColumn};
-use std::alloc::Global;
+use std::alloc::{AllocError, Global};
 use std::marker::Model;
 
 /// What each row has in a keyword field, and the rows of each text (Lucene: the field's `SortedDocValues`, and its
@@ -30,31 +28,13 @@ impl Model for Keywords {
 }
 
 impl Keywords {
-    /// The column of the rows' values, which are given as texts too. A refusal is [`Refusal::Memory`].
-    pub(crate) fn of(
-        alloc: Global,
-        values: &[Option<&Text>],
-        texts: &[&[Text]],
-    ) -> Result<Keywords, Refusal>
-        requires few { length values.now < 2 ^ 32 }
-        requires same { map (λ t. t.now) texts.now ≡ map (λ v. texts_of (option_map (λ t. t.now) v)) values.now }
-        requires sets { All (λ t. IsTextSet t.now) texts.now }
-        ensures ok { IfOk result (λ k. k ≡ map (option_map (λ t. t.now)) values.now) }
-        ensures refusal { IfErr result (λ e. e ≡ Memory) }
+    /// The column of the rows' values, and the rows of each of their texts. Each text is hashed and sorted once, and kept
+    /// once.
+    pub(crate) fn joined(alloc: Global, values: KeywordColumn) -> Result<Keywords, AllocError>
+        ensures ok { IfOk result (λ k. k ≡ values) }
     {
-        let terms = Terms::build(alloc, texts)?;
-        Ok(Keywords {
-            values: KeywordColumn::of(alloc, values)?,
-            terms,
-        })
-    }
-
-    /// The column of these values, and the rows of each of their texts.
-    pub(crate) fn joined(values: KeywordColumn, terms: Terms) -> Keywords
-        requires { terms ≡ map texts_of values }
-        ensures { result ≡ values }
-    {
-        Keywords { values, terms }
+        let terms = terms_of_keywords(alloc, &values)?;
+        Ok(Keywords { values, terms })
     }
 
     /// The text of each row.
@@ -91,26 +71,12 @@ impl Model for Labels {
 }
 
 impl Labels {
-    /// The column of the rows' labels. A refusal is [`Refusal::Memory`].
-    pub(crate) fn of(alloc: Global, rows: &[&[Text]]) -> Result<Labels, Refusal>
-        requires few { length rows.now < 2 ^ 32 }
-        requires sets { All (λ t. IsTextSet t.now) rows.now }
-        ensures ok { IfOk result (λ l. l ≡ map (λ t. t.now) rows.now) }
-        ensures refusal { IfErr result (λ e. e ≡ Memory) }
+    /// The column of these labels, and the rows of each of them. Each label is hashed and sorted once, and kept once.
+    pub(crate) fn joined(alloc: Global, labels: SetColumn) -> Result<Labels, AllocError>
+        ensures ok { IfOk result (λ l. l ≡ labels) }
     {
-        let terms = Terms::build(alloc, rows)?;
-        Ok(Labels {
-            labels: SetColumn::of(alloc, rows)?,
-            terms,
-        })
-    }
-
-    /// The column of these labels, and the rows of each of them.
-    pub(crate) fn joined(labels: SetColumn, terms: Terms) -> Labels
-        requires { terms ≡ labels }
-        ensures { result ≡ labels }
-    {
-        Labels { labels, terms }
+        let terms = terms_of_labels(alloc, &labels)?;
+        Ok(Labels { labels, terms })
     }
 
     /// The labels of each row.

@@ -1,25 +1,23 @@
 //! The bytes of a segment's file.
-ghost use Rattle.std.specs.Prelude.{◌≡◌, ◌<◌, ◌^◌, ◌++◌, length, map, IfOk, IfErr, OnOk};
+ghost use Rattle.std.specs.Prelude.{◌≡◌, ◌<◌, ◌^◌, ◌++◌, length, map, IfOk, OnOk};
 ghost use Rattle.std.specs.List.{flat_map};
-ghost use Rattle.cat_base.specs.declared.refusal.Refusal.TheVariants.{Memory};
-ghost use Rattle.cat_model.specs.Layout.{Laid, word_postings_of, keywords_of, code_in, ordinal_in, head_of, spelled_head, spelled_column, spelled_segment};
-ghost use Rattle.cat_model.specs.Ordinals.{dictionary_of};
-ghost use Rattle.cat_segment.specs.Laid.{laid_in};
+ghost use Rattle.cat_model.specs.Files.{IsFileNumber};
+ghost use Rattle.cat_model.specs.Layout.{Laid, word_postings_of, head_of, spelled_head, spelled_column, SpellsSegment};
+ghost use Rattle.cat_segment.specs.Laid.{laid_in, laid_keywords, laid_labels};
 
 use crate::column::Column;
 use crate::segment::Segment;
-use cat_base::{Refusal, put_u32};
+use cat_base::put_u32;
 use cat_codec::{
     put_fields, put_head, put_list, put_number, put_numbers, put_posted, put_start, put_texts,
 };
 use cat_inverted::Terms;
 use cat_values::{KeywordColumn, NumberColumn, SetColumn};
-use std::alloc::Global;
+use std::alloc::{AllocError, Global};
 
-/// Appends the words of a text field, each with its postings. A refusal is [`Refusal::Memory`].
-fn put_words(out: &mut Vec<u8>, terms: &Terms) -> Result<(), Refusal>
+/// Appends the words of a text field, each with its postings.
+fn put_words(out: &mut Vec<u8>, terms: &Terms) -> Result<(), AllocError>
     ensures ok { OnOk result (out.new.items ≡ out.old.items ++ spelled_column (Laid.words (word_postings_of terms.now))) }
-    ensures refusal { IfErr result (λ e. e ≡ Memory) }
 {
     let words = terms.words();
     put_u32(out, words.len() as u32)?;
@@ -29,20 +27,18 @@ fn put_words(out: &mut Vec<u8>, terms: &Terms) -> Result<(), Refusal>
     Ok(())
 }
 
-/// Appends the texts of a keyword field, and the code of each row's text. A refusal is [`Refusal::Memory`].
-fn put_keywords(out: &mut Vec<u8>, values: &KeywordColumn) -> Result<(), Refusal>
-    ensures ok { OnOk result (out.new.items ≡ out.old.items ++ spelled_column (Laid.keywords (keywords_of values.now) (map (code_in (keywords_of values.now)) values.now))) }
-    ensures refusal { IfErr result (λ e. e ≡ Memory) }
+/// Appends the texts of a keyword field, and the code of each row's text.
+fn put_keywords(out: &mut Vec<u8>, values: &KeywordColumn) -> Result<(), AllocError>
+    ensures ok { OnOk result (out.new.items ≡ out.old.items ++ spelled_column (laid_keywords values.now)) }
 {
     put_texts(out, values.dictionary().as_slice())?;
     put_numbers(out, values.codes())?;
     Ok(())
 }
 
-/// Appends the integer of each row of a number field. A refusal is [`Refusal::Memory`].
-fn put_integers(out: &mut Vec<u8>, values: &NumberColumn) -> Result<(), Refusal>
+/// Appends the integer of each row of a number field.
+fn put_integers(out: &mut Vec<u8>, values: &NumberColumn) -> Result<(), AllocError>
     ensures ok { OnOk result (out.new.items ≡ out.old.items ++ spelled_column (Laid.numbers values.now)) }
-    ensures refusal { IfErr result (λ e. e ≡ Memory) }
 {
     for row in 0..values.len() {
         put_number(out, values.value(row))?;
@@ -50,10 +46,9 @@ fn put_integers(out: &mut Vec<u8>, values: &NumberColumn) -> Result<(), Refusal>
     Ok(())
 }
 
-/// Appends the labels of a facet field, and the ordinals of each row's labels. A refusal is [`Refusal::Memory`].
-fn put_labels(out: &mut Vec<u8>, labels: &SetColumn) -> Result<(), Refusal>
-    ensures ok { OnOk result (out.new.items ≡ out.old.items ++ spelled_column (Laid.labels (dictionary_of labels.now) (map (map (ordinal_in (dictionary_of labels.now))) labels.now))) }
-    ensures refusal { IfErr result (λ e. e ≡ Memory) }
+/// Appends the labels of a facet field, and the ordinals of each row's labels.
+fn put_labels(out: &mut Vec<u8>, labels: &SetColumn) -> Result<(), AllocError>
+    ensures ok { OnOk result (out.new.items ≡ out.old.items ++ spelled_column (laid_labels labels.now)) }
 {
     put_texts(out, labels.dictionary().as_slice())?;
     for row in 0..labels.len() {
@@ -62,10 +57,9 @@ fn put_labels(out: &mut Vec<u8>, labels: &SetColumn) -> Result<(), Refusal>
     Ok(())
 }
 
-/// Appends the column. A refusal is [`Refusal::Memory`].
-fn put_column(out: &mut Vec<u8>, column: &Column) -> Result<(), Refusal>
+/// Appends the column.
+fn put_column(out: &mut Vec<u8>, column: &Column) -> Result<(), AllocError>
     ensures ok { OnOk result (out.new.items ≡ out.old.items ++ spelled_column (laid_in column.now)) }
-    ensures refusal { IfErr result (λ e. e ≡ Memory) }
 {
     match column {
         Column::Text(terms) => put_words(out, terms),
@@ -75,10 +69,9 @@ fn put_column(out: &mut Vec<u8>, column: &Column) -> Result<(), Refusal>
     }
 }
 
-/// Appends the columns. A refusal is [`Refusal::Memory`].
-fn put_columns(out: &mut Vec<u8>, columns: &[Column]) -> Result<(), Refusal>
+/// Appends the columns.
+fn put_columns(out: &mut Vec<u8>, columns: &[Column]) -> Result<(), AllocError>
     ensures ok { OnOk result (out.new.items ≡ out.old.items ++ flat_map spelled_column (map laid_in columns.now)) }
-    ensures refusal { IfErr result (λ e. e ≡ Memory) }
 {
     for column in columns {
         put_column(out, column)?;
@@ -86,10 +79,9 @@ fn put_columns(out: &mut Vec<u8>, columns: &[Column]) -> Result<(), Refusal>
     Ok(())
 }
 
-/// Appends what a file says of each row beside its columns. A refusal is [`Refusal::Memory`].
-fn put_heads(out: &mut Vec<u8>, segment: &Segment) -> Result<(), Refusal>
+/// Appends what a file says of each row beside its columns.
+fn put_heads(out: &mut Vec<u8>, segment: &Segment) -> Result<(), AllocError>
     ensures ok { OnOk result (out.new.items ≡ out.old.items ++ flat_map spelled_head (map head_of segment.now.rows)) }
-    ensures refusal { IfErr result (λ e. e ≡ Memory) }
 {
     for row in 0..segment.len() {
         put_head(
@@ -103,12 +95,10 @@ fn put_heads(out: &mut Vec<u8>, segment: &Segment) -> Result<(), Refusal>
 }
 
 /// The bytes of the segment's file: its number, its fields, its rows and its columns (Lucene: what the formats of a
-/// `Codec` write of a segment). Whether the number may stand in the name of a file is not judged here.
-///
-/// A refusal is [`Refusal::Memory`].
-pub fn encode_seg(alloc: Global, segment: &Segment) -> Result<Vec<u8>, Refusal>
-    ensures ok { IfOk result (λ b. b.items ≡ spelled_segment segment.now) }
-    ensures refusal { IfErr result (λ e. e ≡ Memory) }
+/// `Codec` write of a segment). It asks for a segment whose number a file's name can have.
+pub fn encode_seg(alloc: Global, segment: &Segment) -> Result<Vec<u8>, AllocError>
+    requires { IsFileNumber segment.now.number }
+    ensures ok { IfOk result (λ b. SpellsSegment b.items segment.now) }
 {
     let mut out = Vec::new(alloc);
     put_start(&mut out, segment.number(), segment.len() as u32)?;

@@ -4,16 +4,18 @@
 mod assembly;
 mod building;
 mod column;
+mod column_parts;
 mod decoding;
 mod encoding;
-mod gathering;
-mod index;
+mod field_values;
+mod ids;
 mod inverting;
 mod live;
 mod live_file;
 mod segment;
 mod sources;
 
+pub use assembly::assemble;
 pub use column::{Column, Keywords, Labels};
 pub use decoding::{decode_seg, segments_are_told_by_their_bytes};
 pub use encoding::encode_seg;

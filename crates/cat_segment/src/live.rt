@@ -1,11 +1,9 @@
 //! Live sets: which rows of a segment are live.
-ghost use Rattle.std.specs.Prelude.{◌≡◌, ◌<◌, ◌^◌, true, false, length, count_by, replicate, slice_set, IfOk, IfErr};
-ghost use Rattle.cat_base.specs.declared.refusal.Refusal.TheVariants.{Memory};
+ghost use Rattle.std.specs.Prelude.{◌≡◌, ◌<◌, ◌^◌, true, false, length, count_by, replicate, slice_set, IfOk};
 ghost use Rattle.cat_model.specs.RowSets.{has_row};
 
-use cat_base::Refusal;
 use cat_values::RowSet;
-use std::alloc::Global;
+use std::alloc::{AllocError, Global};
 use std::marker::Model;
 
 /// Which rows of a segment are live, where the others are deleted (Lucene: the `liveDocs` of a segment). It is kept
@@ -25,11 +23,10 @@ impl Model for Live {
 }
 
 impl Live {
-    /// The live set of a new segment of this many rows, which all are live. A refusal is [`Refusal::Memory`].
-    pub fn all(alloc: Global, rows: usize) -> Result<Self, Refusal>
+    /// The live set of a new segment of this many rows, which all are live.
+    pub fn all(alloc: Global, rows: usize) -> Result<Self, AllocError>
         requires { rows < 2 ^ 32 }
         ensures ok { IfOk result (λ l. l ≡ replicate rows true) }
-        ensures refusal { IfErr result (λ e. e ≡ Memory) }
     {
         Ok(Live {
             rows: RowSet::all(alloc, rows)?,
@@ -81,10 +78,9 @@ impl Live {
         &self.rows
     }
 
-    /// An equal live set in memory of its own. A refusal is [`Refusal::Memory`].
-    pub fn copy(&self) -> Result<Self, Refusal>
+    /// An equal live set in memory of its own.
+    pub fn copy(&self) -> Result<Self, AllocError>
         ensures ok { IfOk result (λ l. l ≡ self.now) }
-        ensures refusal { IfErr result (λ e. e ≡ Memory) }
     {
         Ok(Live {
             rows: self.rows.copy()?,

@@ -1,5 +1,5 @@
 //! The file of the live rows of a segment, as a commit writes it.
-ghost use Rattle.std.specs.Prelude.{◌≡◌, ◌⊎◌, ◌<◌, ◌^◌, ◌++◌, ◌∷◌, ℕ, List, ◌↔◌, length, count_by, IfOk, IfErr, IsTrue};
+ghost use Rattle.std.specs.Prelude.{◌≡◌, ◌⊎◌, ◌<◌, ◌^◌, ◌++◌, ◌∷◌, ℕ, List, ◌↔◌, length, IfOk, IfErr, IsTrue};
 ghost use Rattle.cat_base.specs.Bytes.{spelled_u32, spelled_u64};
 ghost use Rattle.cat_base.specs.declared.refusal.Refusal.TheVariants.{Damaged, Memory};
 ghost use Rattle.cat_model.specs.LiveFile.{LiveRows, AreLiveRows, SpellsLive};
@@ -9,7 +9,7 @@ ghost use Rattle.cat_segment.specs.LiveStart.{MayStand};
 use crate::live::Live;
 use cat_base::{Cursor, Generation, LAST_NUMBER, MAX_ROWS, Refusal, SegNo, put_u32, put_u64};
 use cat_values::{RowSet, sets_are_told_by_their_bytes};
-use std::alloc::Global;
+use std::alloc::{AllocError, Global};
 use std::marker::Model;
 
 /// The first four bytes of the file, `CLIV`.
@@ -93,13 +93,11 @@ fn may_stand(start: Start) -> bool
 }
 
 /// The bytes of the file of the live rows of the segment of the number, as the commit of the generation writes it
-/// (Lucene: `LiveDocsFormat.writeLiveDocs`). Some row isn't live: a segment without deleted rows has no such file.
-///
-/// A refusal is [`Refusal::Memory`].
-pub fn encode_liv(number: SegNo, generation: Generation, live: &Live) -> Result<Vec<u8>, Refusal>
-    requires { count_by (λ b. b) live.now < length live.now }
+/// (Lucene: `LiveDocsFormat.writeLiveDocs`). It asks for numbers that the file's name can have, and for a row that isn't
+/// live: a segment without deleted rows has no such file.
+pub fn encode_liv(number: SegNo, generation: Generation, live: &Live) -> Result<Vec<u8>, AllocError>
+    requires { AreLiveRows (record { number = number; generation = generation; live = live.now }) }
     ensures ok { IfOk result (λ b. SpellsLive b.items (record { number = number; generation = generation; live = live.now })) }
-    ensures refusal { IfErr result (λ e. e ≡ Memory) }
 {
     let packed = live.rows().to_bytes()?;
     let mut out = Vec::new(*packed.allocator());
@@ -117,8 +115,8 @@ pub fn encode_liv(number: SegNo, generation: Generation, live: &Live) -> Result<
 /// [`Refusal::Damaged`] where the bytes are those of no such file: none is written in two ways, and every row set but the
 /// whole one has its one file. [`Refusal::Memory`] where memory is refused.
 pub fn decode_liv(alloc: Global, bytes: &[u8]) -> Result<LiveFile, Refusal>
-    ensures ok { IfOk result (λ f. AreLiveRows f × SpellsLive bytes.now f) }
-    ensures damaged { IfErr result (λ e. e ≡ Damaged → (rows : LiveRows) → AreLiveRows rows → SpellsLive bytes.now rows → ⊥) }
+    ensures ok { IfOk result (SpellsLive bytes.now) }
+    ensures damaged { IfErr result (λ e. e ≡ Damaged → (rows : LiveRows) → SpellsLive bytes.now rows → ⊥) }
     ensures refusal { IfErr result (λ e. (e ≡ Damaged) ⊎ (e ≡ Memory)) }
 {
     let mut cursor = Cursor::new(bytes);
@@ -142,7 +140,7 @@ pub fn decode_liv(alloc: Global, bytes: &[u8]) -> Result<LiveFile, Refusal>
 /// nothing else has it.
 pub fn live_rows_are_told_by_their_bytes()
     ensures bytes { (a b : List ℕ) (r : LiveRows) → SpellsLive a r → SpellsLive b r → a ≡ b }
-    ensures rows { (a : List ℕ) (r s : LiveRows) → AreLiveRows r → AreLiveRows s → SpellsLive a r → SpellsLive a s → r ≡ s }
+    ensures rows { (a : List ℕ) (r s : LiveRows) → SpellsLive a r → SpellsLive a s → r ≡ s }
 {
     sets_are_told_by_their_bytes();
 }

@@ -1,24 +1,22 @@
 //! Immutable segments.
-ghost use Rattle.std.specs.Prelude.{◌≡◌, ◌≢◌, ◌<◌, ◌≤◌, map, length, replicate, Some, None, MatchOption, IfSome, IfOk, IfErr, All, AllPairs};
+ghost use Rattle.std.specs.Prelude.{◌≡◌, ◌≢◌, ◌<◌, ◌≤◌, map, length, replicate, None, MatchOption, IfSome, IfOk, All, AllPairs};
 ghost use Rattle.std.specs.List.{HoldsAt};
 ghost use Rattle.std.specs.List.Sorted.{IsPartitionPoint};
-ghost use Rattle.cat_base.specs.declared.refusal.Refusal.TheVariants.{Memory};
-ghost use Rattle.cat_model.specs.Item.{content_of};
 ghost use Rattle.cat_model.specs.Layout.{column_of};
-ghost use Rattle.cat_model.specs.View.{row_of, item_in, AreRows, IsSegment};
-ghost use Rattle.cat_segment.specs.Contents.{contents_of};
-ghost use Rattle.cat_segment.specs.Fields.{record_of};
+ghost use Rattle.cat_model.specs.View.{AreRows, IsSegment};
+ghost use Rattle.cat_segment.specs.Contents.{contents_told, contents_under_name};
+ghost use Rattle.cat_segment.specs.Fields.{rows_made};
 ghost use Rattle.cat_segment.specs.Laid.{laid_in};
-ghost use Rattle.cat_segment.specs.Rows.{rows_of, IsHeld};
-ghost use Rattle.cat_segment.specs.Sources.{source_place};
+ghost use Rattle.cat_segment.specs.Body.{body_with, rows_of, IsBody};
+ghost use Rattle.cat_segment.specs.Sources.{source_offset};
 
 use crate::building::{columns_of, ids, sources, write_numbers};
 use crate::column::Column;
-use crate::index::Ids;
+use crate::ids::Ids;
 use crate::sources::Sources;
-use cat_base::{Refusal, SegNo, WriteNo};
-use cat_schema::{Item, Schema, place_of};
-use std::alloc::Global;
+use cat_base::{SegNo, WriteNo};
+use cat_schema::{Item, Schema, index_of};
+use std::alloc::{AllocError, Global};
 use std::marker::Model;
 
 /// A row that a segment is made of: an item under the number of the write that put it.
@@ -30,10 +28,10 @@ pub struct Row<'a> {
     pub item: &'a Item,
 }
 
-/// A segment: 1 to 262,144 rows that never change, held by columns (Lucene: a `SegmentReader` of a flushed or merged
+/// A segment: 1 to [`MAX_ROWS`](cat_base::MAX_ROWS) rows that never change, kept by columns (Lucene: a `SegmentReader` of a flushed or merged
 /// segment, whose live documents are kept beside it).
 ///
-/// The texts that the items came as are held elsewhere; a segment knows their lengths.
+/// The texts that the items came as are kept elsewhere; a segment knows their lengths.
 #[derive(Drop)]
 pub struct Segment {
     number: SegNo,
@@ -48,13 +46,13 @@ pub struct Segment {
 
 impl Model for Segment {
     ghost use Rattle.cat_model.specs.View as model;
-    ghost use Rattle.cat_segment.specs.Rows.{held_in, rows_of, IsHeld};
+    ghost use Rattle.cat_segment.specs.Body.{body_of, rows_of, IsBody};
 
     ghost Value = { model.Segment };
 
-    ghost view = { λ s. record { number = s.number; schema = s.schema; rows = rows_of (held_in s) } };
+    ghost view = { λ s. record { number = s.number; schema = s.schema; rows = rows_of (body_of s) } };
 
-    ghost invariant = { λ s. IsHeld (held_in s) };
+    ghost invariant = { λ s. IsBody (body_of s) };
 }
 
 // How many of the numbers, which rise, are up to this one.
@@ -68,19 +66,16 @@ fn count_through(numbers: &[WriteNo], number: WriteNo) -> usize
 
 impl Segment {
     /// The segment of the rows, under the number, over the fields that the items were read under (Lucene: what
-    /// `DocumentsWriterPerThread.flush` makes). The rows are 1 to 262,144, their numbers rise from at least 1, and their
-    /// ids differ.
-    ///
-    /// A refusal is [`Refusal::Memory`].
+    /// `DocumentsWriterPerThread.flush` makes). The rows are 1 to [`MAX_ROWS`](cat_base::MAX_ROWS), their numbers rise
+    /// from at least 1, and their ids differ.
     pub fn of(
         alloc: Global,
         number: SegNo,
         schema: &Schema,
         rows: &[Row<'_>],
-    ) -> Result<Segment, Refusal>
-        requires rows { AreRows schema.now (map (λ r. row_of (record_of r)) rows.now) }
-        ensures ok { IfOk result (λ s. s ≡ record { number = number; schema = schema.now; rows = map (λ r. row_of (record_of r)) rows.now }) }
-        ensures refusal { IfErr result (λ e. e ≡ Memory) }
+    ) -> Result<Segment, AllocError>
+        requires rows { AreRows schema.now (rows_made rows.now) }
+        ensures ok { IfOk result (λ s. s ≡ record { number = number; schema = schema.now; rows = rows_made rows.now }) }
     {
         Ok(Segment {
             number,
@@ -101,8 +96,8 @@ impl Segment {
         sources: Sources,
         columns: Vec<Column>,
     ) -> Segment
-        requires { IsHeld (record { schema = schema; numbers = numbers.items; ids = ids; lengths = sources; columns = columns.items }) }
-        ensures { result ≡ record { number = number; schema = schema; rows = rows_of (record { schema = schema; numbers = numbers.items; ids = ids; lengths = sources; columns = columns.items }) } }
+        requires { IsBody (body_with schema numbers.items ids sources columns.items) }
+        ensures { result ≡ record { number = number; schema = schema; rows = rows_of (body_with schema numbers.items ids sources columns.items) } }
     {
         Segment {
             number,
@@ -121,7 +116,7 @@ impl Segment {
         self.number
     }
 
-    /// How many rows there are, 1 to 262,144, deleted ones counted (Lucene: `maxDoc`).
+    /// How many rows there are, 1 to [`MAX_ROWS`](cat_base::MAX_ROWS), deleted ones counted (Lucene: `maxDoc`).
     pub fn len(&self) -> usize
         ensures same { result ≡ length self.now.rows }
         ensures rows { AreRows self.now.schema self.now.rows }
@@ -161,7 +156,7 @@ impl Segment {
         self.ids.row_of(id)
     }
 
-    /// How many rows the writes up to this number put, by binary search: the row of that place, if there is one, is the
+    /// How many rows the writes up to this number put, by binary search: the row of that index, if there is one, is the
     /// first that a later write put. (Lucene: where `DocIdSetIterator.advance` goes behind a `FieldDoc` in index order.)
     pub fn rows_through(&self, number: WriteNo) -> usize
         ensures point { IsPartitionPoint (λ r. r.number ≤ number) (λ r. number < r.number) self.now.rows result }
@@ -181,11 +176,11 @@ impl Segment {
 
     /// Where the text that the row's item came as begins, where these texts stand one after the other in the rows' order:
     /// the sum of the lengths of those before it, in bytes.
-    pub fn source_place(&self, row: usize) -> u64
+    pub fn source_offset(&self, row: usize) -> u64
         requires { row < length self.now.rows }
-        ensures { result ≡ source_place self.now.rows row }
+        ensures { result ≡ source_offset self.now.rows row }
     {
-        u64::from(self.sources.place(row))
+        u64::from(self.sources.offset(row))
     }
 
     /// The columns, in the fields' order.
@@ -198,9 +193,9 @@ impl Segment {
     /// The column of the field of the name, if there is such a field.
     pub fn column(&self, name: &str) -> Option<&Column>
         ensures { MatchOption result
-            (map (λ r. content_of name.now (item_in r)) self.now.rows ≡ replicate (length self.now.rows) None)
-            (λ c. map (λ x. Some x) (contents_of c.now) ≡ map (λ r. content_of name.now (item_in r)) self.now.rows) }
+            (contents_under_name name.now self.now.rows ≡ replicate (length self.now.rows) None)
+            (λ c. contents_told c.now ≡ contents_under_name name.now self.now.rows) }
     {
-        self.columns.get(place_of(self.schema.fields(), name)?)
+        self.columns.get(index_of(self.schema.fields(), name)?)
     }
 }

@@ -1,9 +1,7 @@
 //! Where the texts that the items of a segment came as stand, one after the other.
-ghost use Rattle.std.specs.Prelude.{◌≡◌, ◌+◌, ◌<◌, ◌≤◌, ◌^◌, ◌++◌, ◌∷◌, [], length, take, sum, IfOk, OnOk, OnErr, IfErr, slice_index};
-ghost use Rattle.cat_base.specs.declared.refusal.Refusal.TheVariants.{Memory};
+ghost use Rattle.std.specs.Prelude.{◌≡◌, ◌+◌, ◌<◌, ◌≤◌, ◌^◌, ◌++◌, ◌∷◌, [], length, take, sum, IfOk, OnOk, OnErr, slice_index};
 
-use cat_base::Refusal;
-use std::alloc::Global;
+use std::alloc::{AllocError, Global};
 use std::marker::Model;
 
 /// The lengths of the texts that the rows' items came as, in bytes, held as where each text ends among them all.
@@ -27,31 +25,29 @@ impl Model for Sources {
 }
 
 impl Sources {
-    /// No text, with memory for as many as this. A refusal is [`Refusal::Memory`].
-    pub(crate) fn with_capacity(alloc: Global, texts: usize) -> Result<Sources, Refusal>
+    /// No text, with memory for as many as this.
+    pub(crate) fn with_capacity(alloc: Global, texts: usize) -> Result<Sources, AllocError>
         ensures ok { IfOk result (λ s. s ≡ []) }
-        ensures refusal { IfErr result (λ e. e ≡ Memory) }
     {
         Ok(Sources {
             ends: Vec::with_capacity(alloc, texts)?,
         })
     }
 
-    /// Adds the text of the next row. A refusal is [`Refusal::Memory`], and leaves the texts as they were.
-    pub(crate) fn push(&mut self, len: u32) -> Result<(), Refusal>
+    /// Adds the text of the next row. An error and leaves the texts as they were.
+    pub(crate) fn push(&mut self, len: u32) -> Result<(), AllocError>
         requires { sum self.old + len < 2 ^ 32 }
         ensures ok { OnOk result (self.new ≡ self.old ++ len ∷ []) }
         ensures err { OnErr result (self.new ≡ self.old) }
-        ensures refusal { IfErr result (λ e. e ≡ Memory) }
     {
-        let start = self.place(self.ends.len());
+        let start = self.offset(self.ends.len());
         self.ends.push(start + len)?;
         Ok(())
     }
 
     /// Where the text of the row begins: the sum of the lengths before it. That of the row after the last is where all
     /// texts end.
-    pub(crate) fn place(&self, row: usize) -> u32
+    pub(crate) fn offset(&self, row: usize) -> u32
         requires { row ≤ length self.now }
         ensures { result ≡ sum (take row self.now) }
     {
@@ -63,7 +59,7 @@ impl Sources {
         requires { row < length self.now }
         ensures { result ≡ slice_index self.now row }
     {
-        let start = self.place(row);
+        let start = self.offset(row);
         self.ends[row] - start
     }
 }

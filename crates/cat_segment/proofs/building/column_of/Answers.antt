@@ -1,65 +1,53 @@
-use Rattle.std.proofs.Common.{sym, ap, map, ◌∙◌, option_map}
-use Rattle.std.proofs.lemmas.Simd.{map-map}
-use Rattle.cat_model.specs.Ordinals.{texts_of}
+use Rattle.std.proofs.Common.{ap, map, ◌∙◌, option_map}
 use Rattle.cat_model.specs.Item.{Kind}
-use Rattle.cat_segment.proofs.Filled.{texts_told, keywords_told, numbers_told, labels_told, keywords_as_texts, words_of_terms, words_of_none}
+use Rattle.cat_segment.proofs.Filled.{texts_told, keywords_told, numbers_told, labels_told, words_of_terms, words_of_none}
 use Rattle.cat_segment.proofs.building.column_of.Goals as goal
-
-pub of-requires-clause-same : goal.of-requires-clause-same
-of-requires-clause-same c =
-    let filled = rw c.in-Keyword.is at c.requires.filled in
-    ap (map (λ t. t.now)) c.deref-in-Keyword-2.ensures.value
-    ∙ c.in_ok-texts-in-Keyword.ensures.ok
-    ∙ keywords_as_texts c.args.place c.args.rows.now filled
-    ∙ ap (map texts_of) (sym c.in_ok-values-in-Keyword.ensures.ok)
-    ∙ map-map texts_of (option_map (λ t. t.now)) c.in_ok-values-in-Keyword.values.items
-    ∙ ap (map (λ v. texts_of (option_map (λ t. t.now) v))) (sym c.deref-in-Keyword.ensures.value)
 
 pub returns-in_ok-terms-in-Text-clause-ok : goal.returns-in_ok-terms-in-Text-clause-ok
 returns-in_ok-terms-in-Text-clause-ok c =
     let filled = rw c.in-Text.is at c.requires.filled in
-    texts_told c.args.place c.args.rows.now filled _ (c.in_ok-terms-in-Text.ensures.ok ∙ ap (map (λ t. t.now)) c.deref.ensures.value ∙ c.in_ok-texts-in-Text.ensures.ok)
+    texts_told c.args.index c.args.rows.now filled _ (c.in_ok-terms-in-Text.ensures.ok ∙ ap (map (λ t. t.now)) c.deref.ensures.value ∙ c.in_ok-texts-in-Text.ensures.ok)
 
-pub returns-in_ok-of-in-Keyword-clause-ok : goal.returns-in_ok-of-in-Keyword-clause-ok
-returns-in_ok-of-in-Keyword-clause-ok c =
+pub returns-in_ok-joined-in-Keyword-clause-ok : goal.returns-in_ok-joined-in-Keyword-clause-ok
+returns-in_ok-joined-in-Keyword-clause-ok c =
     let filled = rw c.in-Keyword.is at c.requires.filled in
-    keywords_told c.args.place c.args.rows.now filled _ (c.in_ok-of-in-Keyword.ensures.ok ∙ ap (map (option_map (λ t. t.now))) c.deref-in-Keyword.ensures.value ∙ c.in_ok-values-in-Keyword.ensures.ok)
+    keywords_told c.args.index c.args.rows.now filled _ (c.in_ok-joined-in-Keyword.ensures.ok ∙ c.in_ok-values-in-Keyword.ensures.ok ∙ ap (map (option_map (λ t. t.now))) c.deref-in-Keyword.ensures.value ∙ c.in_ok-keywords-in-Keyword.ensures.ok)
 
 pub returns-in_ok-of-in-Number-clause-ok : goal.returns-in_ok-of-in-Number-clause-ok
 returns-in_ok-of-in-Number-clause-ok c =
     let filled = rw c.in-Number.is at c.requires.filled in
-    numbers_told c.args.place c.args.rows.now filled _ (c.in_ok-of-in-Number.ensures.ok ∙ c.deref-in-Number.ensures.value ∙ c.in_ok-numbers-in-Number.ensures.ok)
+    numbers_told c.args.index c.args.rows.now filled _ (c.in_ok-of-in-Number.ensures.ok ∙ c.deref-in-Number.ensures.value ∙ c.in_ok-numbers-in-Number.ensures.ok)
 
-pub returns-in_ok-of-in-Facet-clause-ok : goal.returns-in_ok-of-in-Facet-clause-ok
-returns-in_ok-of-in-Facet-clause-ok c =
+pub returns-in_ok-joined-in-Facet-clause-ok : goal.returns-in_ok-joined-in-Facet-clause-ok
+returns-in_ok-joined-in-Facet-clause-ok c =
     let filled = rw c.in-Facet.is at c.requires.filled in
-    labels_told c.args.place c.args.rows.now filled _ (c.in_ok-of-in-Facet.ensures.ok ∙ ap (map (λ t. t.now)) c.deref-in-Facet.ensures.value ∙ c.in_ok-texts-in-Facet.ensures.ok)
+    labels_told c.args.index c.args.rows.now filled _ (c.in_ok-joined-in-Facet.ensures.ok ∙ c.in_ok-labels-in-Facet.ensures.ok ∙ ap (map (λ t. t.now)) c.deref-in-Facet.ensures.value ∙ c.in_ok-texts-in-Facet.ensures.ok)
 
 pub returns-in_ok-terms-in-Text-clause-fitting : goal.returns-in_ok-terms-in-Text-clause-fitting
 returns-in_ok-terms-in-Text-clause-fitting c =
     let filled = rw c.in-Text.is at c.requires.filled in
     record {
       formed = c.in_ok-texts-in-Text.ensures.formed;
-      words = words_of_terms c.args.place c.args.rows.now filled _ (c.in_ok-terms-in-Text.ensures.ok ∙ ap (map (λ t. t.now)) c.deref.ensures.value ∙ c.in_ok-texts-in-Text.ensures.ok) c.in_ok-terms-in-Text.ensures.few;
+      words = words_of_terms c.args.index c.args.rows.now filled _ (c.in_ok-terms-in-Text.ensures.ok ∙ ap (map (λ t. t.now)) c.deref.ensures.value ∙ c.in_ok-texts-in-Text.ensures.ok) c.in_ok-terms-in-Text.ensures.few;
     }
 
-pub returns-in_ok-of-in-Keyword-clause-fitting : goal.returns-in_ok-of-in-Keyword-clause-fitting
-returns-in_ok-of-in-Keyword-clause-fitting c =
+pub returns-in_ok-joined-in-Keyword-clause-fitting : goal.returns-in_ok-joined-in-Keyword-clause-fitting
+returns-in_ok-joined-in-Keyword-clause-fitting c =
     record {
-      formed = c.in_ok-texts-in-Keyword.ensures.formed;
-      words = words_of_none c.args.place c.args.rows.now Kind.keyword (λ e. (cc)) (rw c.in-Keyword.is at c.requires.filled);
+      formed = c.in_ok-keywords-in-Keyword.ensures.formed;
+      words = words_of_none c.args.index c.args.rows.now Kind.keyword (λ e. (cc)) (rw c.in-Keyword.is at c.requires.filled);
     }
 
 pub returns-in_ok-of-in-Number-clause-fitting : goal.returns-in_ok-of-in-Number-clause-fitting
 returns-in_ok-of-in-Number-clause-fitting c =
     record {
       formed = c.in_ok-numbers-in-Number.ensures.formed;
-      words = words_of_none c.args.place c.args.rows.now Kind.number (λ e. (cc)) (rw c.in-Number.is at c.requires.filled);
+      words = words_of_none c.args.index c.args.rows.now Kind.number (λ e. (cc)) (rw c.in-Number.is at c.requires.filled);
     }
 
-pub returns-in_ok-of-in-Facet-clause-fitting : goal.returns-in_ok-of-in-Facet-clause-fitting
-returns-in_ok-of-in-Facet-clause-fitting c =
+pub returns-in_ok-joined-in-Facet-clause-fitting : goal.returns-in_ok-joined-in-Facet-clause-fitting
+returns-in_ok-joined-in-Facet-clause-fitting c =
     record {
       formed = c.in_ok-texts-in-Facet.ensures.formed;
-      words = words_of_none c.args.place c.args.rows.now Kind.facet (λ e. (cc)) (rw c.in-Facet.is at c.requires.filled);
+      words = words_of_none c.args.index c.args.rows.now Kind.facet (λ e. (cc)) (rw c.in-Facet.is at c.requires.filled);
     }

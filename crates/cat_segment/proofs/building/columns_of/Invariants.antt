@@ -4,8 +4,8 @@ use Rattle.cat_segment.specs.Contents.{contents_of}
 use Rattle.cat_segment.specs.Fields.{contents_in, AreFitting}
 use Rattle.cat_segment.proofs.building.columns_of.Given as goal
 
-abbrev pub invariant-loop-place : goal.invariant-loop-place
-invariant-loop-place l = record {
-  same : map (λ c. map (λ x. Some x) (contents_of c)) l.columns.items ≡ map (λ k. contents_in k l.rows) (range_with_len 0 l.place);
-  fitting : (k : ℕ) → k < l.place → AreFitting k l.rows;
+abbrev pub invariant-loop-index : goal.invariant-loop-index
+invariant-loop-index l = record {
+  same : map (λ c. map (λ x. Some x) (contents_of c)) l.columns.items ≡ map (λ k. contents_in k l.rows) (range_with_len 0 l.index);
+  fitting : (k : ℕ) → k < l.index → AreFitting k l.rows;
 }

@@ -1,3 +1,4 @@
+use Rattle.std.proofs.Common.{sym, ◌∙◌}
 use Rattle.cat_model.specs.Layout.{layout_of}
 use Rattle.cat_inverted.proofs.Told.{told as told_terms}
 use Rattle.cat_values.proofs.Told.{same_keywords, same_labels}
@@ -5,6 +6,6 @@ use Rattle.cat_segment.proofs.Layouts.{AreTold, IsLayout-of, segment_told}
 use Rattle.cat_segment.proofs.decoding.segments_are_told_by_their_bytes.Goals as goal
 
 pub returns : goal.returns
-returns c = λ s t a number b number' same.
+returns c = λ bytes s t a b.
     let told : AreTold = record { terms = told_terms; keywords = same_keywords; labels = same_labels } in
-    segment_told told s t a b (c.layouts_are_told_by_their_bytes.ensures (layout_of s) (layout_of t) (IsLayout-of s a number) (IsLayout-of t b number') same)
+    segment_told told s t a.form b.form (c.layouts_are_told_by_their_bytes.ensures (layout_of s) (layout_of t) (IsLayout-of s a.form a.number) (IsLayout-of t b.form b.number) (sym a.spelled ∙ b.spelled))

@@ -19,4 +19,4 @@ loop-row-preserved c =
     spelled_next spelled_head (map head_of rows) i _ none c.args.out.now.items c.loop-row.out.items _
     (omega (arith, within, length-map rows head_of))
     (head ∙ sym (get_or-map head_of rows i d none within))
-    c.in_ok-put_head.ensures.ok c.loop-row.invariant
+    c.in_ok-put_head.ensures c.loop-row.invariant

@@ -12,4 +12,4 @@ loop-row-preserved c =
     spelled_next spelled_list laid c.loop-row.row c.ordinals.result.now [] (c.args.out.now.items ++ spelled_texts (dictionary_of labels)) c.loop-row.out.items _
     (omega (arith, c.loop-row-test.true, c.len-row-end.ensures.value, length-map labels (map (ordinal_in (dictionary_of labels)))))
     (c.ordinals.ensures.laid ∙ sym (get_or-map (map (ordinal_in (dictionary_of labels))) labels c.loop-row.row [] [] (omega (arith, c.loop-row-test.true, c.len-row-end.ensures.value))))
-    c.in_ok-put_list.ensures.ok c.loop-row.invariant
+    c.in_ok-put_list.ensures c.loop-row.invariant

@@ -23,4 +23,4 @@ loop-ordinal-preserved c =
     spelled_next spelled_postings (word_postings_of terms) i _ none (c.args.out.now.items ++ spelled_u32 (length (word_postings_of terms))) c.loop-ordinal.out.items _
     (omega (arith, within, length-map {B = WordPostings} words make))
     (made ∙ sym (get_or-map make words i [] none within))
-    c.in_ok-put_posted.ensures.ok c.loop-ordinal.invariant
+    c.in_ok-put_posted.ensures c.loop-ordinal.invariant

@@ -1,6 +1,6 @@
 use Rattle.std.proofs.Common.{◌≡◌, ◌≤◌, map, take, length}
 use Rattle.cat_model.specs.Layout.{pieces, AreEnds}
-use Rattle.cat_segment.specs.Decoded.{ordinals_of}
+use Rattle.cat_segment.specs.Parts.{ordinals_of}
 use Rattle.cat_segment.proofs.inverting.ordinals_of.Given as goal
 
 abbrev pub invariant-loop-code : goal.invariant-loop-code

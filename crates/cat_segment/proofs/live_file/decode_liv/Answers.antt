@@ -6,7 +6,8 @@ use Rattle.cat_segment.proofs.LiveFiles.{live_told}
 use Rattle.cat_segment.proofs.live_file.decode_liv.Goals as goal
 
 pub returns-then-count-len-clause-damaged : goal.returns-then-count-len-clause-damaged
-returns-then-count-len-clause-damaged c = λ same rows are spells.
+returns-then-count-len-clause-damaged c = λ same rows spells.
+    let are = spells.form in
     let start = c.in_ok-start.start in
     let fits = c.in_ok-start.ensures.fits in
     let live = live_told c.args.bytes.now start.magic start.version start.number start.generation start.rows c.take_start.new.cursor rows c.in_ok-rows.rows

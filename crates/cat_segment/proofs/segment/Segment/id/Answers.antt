@@ -1,13 +1,13 @@
 use Rattle.std.proofs.Common.{sym, ap, ◌∙◌, arith}
-use Rattle.cat_segment.specs.Rows.{held_in}
+use Rattle.cat_segment.specs.Body.{body_of}
 use Rattle.cat_segment.proofs.Columns.{row_within}
 use Rattle.cat_segment.proofs.Made.{row_here}
 use Rattle.cat_segment.proofs.segment.Segment.id.Goals as goal
 
 pub id-requires : goal.id-requires
-id-requires c = omega (arith, row_within (held_in c.self.inside) c.args.row (rw (← c.self.view_is) at c.requires), c.self.invariant.ids)
+id-requires c = omega (arith, row_within (body_of c.self.inside) c.args.row (rw (← c.self.view_is) at c.requires), c.self.invariant.ids)
 
 pub returns : goal.returns
 returns c =
-    let held = held_in c.self.inside in
-    rw (← c.self.view_is) (λ d. ap (λ r. r.id) (row_here held c.args.row d (row_within held c.args.row (rw (← c.self.view_is) at c.requires))) ∙ sym c.id.ensures)
+    let body = body_of c.self.inside in
+    rw (← c.self.view_is) (λ d. ap (λ r. r.id) (row_here body c.args.row d (row_within body c.args.row (rw (← c.self.view_is) at c.requires))) ∙ sym c.id.ensures)

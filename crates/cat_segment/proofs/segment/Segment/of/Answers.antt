@@ -4,15 +4,15 @@ use Rattle.std.specs.List.{range_with_len}
 use Rattle.cat_model.specs.Text.{Text}
 use Rattle.cat_model.specs.View.{row_of, IsFormedRow, words_of_field}
 use Rattle.cat_segment.specs.Fields.{contents_in, record_of}
-use Rattle.cat_segment.proofs.Made.{parts_right, rows_formed, rows_words, IsMade, rows_held, IsHeld-made}
+use Rattle.cat_segment.proofs.Made.{fields_right, rows_formed, rows_words, IsMade, rows_in_body, IsBody-made}
 use Rattle.cat_segment.proofs.segment.Segment.of.Goals as goal
 
-pub columns_of-requires-clause-parts : goal.columns_of-requires-clause-parts
-columns_of-requires-clause-parts c = rw c.fields.ensures.value (parts_right c.args.schema.now c.args.rows.now c.requires.rows)
+pub columns_of-requires-clause-typed : goal.columns_of-requires-clause-typed
+columns_of-requires-clause-typed c = rw c.fields.ensures.value (fields_right c.args.schema.now c.args.rows.now c.requires.rows)
 
 made : (c : goal.In_ok-columns_of) → IsMade c.args.schema.now c.args.rows.now (record { schema = c.in_ok-copy.field-0; numbers = c.in_ok-write_numbers.field-0.items; ids = c.in_ok-ids.field-0; lengths = c.in_ok-sources.field-0; columns = c.in_ok-columns_of.field-0.items })
 made c = record {
-  schema = c.in_ok-copy.ensures.ok;
+  schema = c.in_ok-copy.ensures;
   numbers = c.in_ok-write_numbers.ensures.ok;
   ids = c.in_ok-ids.ensures.ok;
   lengths = c.in_ok-sources.ensures.ok;
@@ -26,9 +26,9 @@ words : (c : goal.In_ok-columns_of) → (name : Text) → length (words_of_field
 words c = rows_words c.args.schema.now c.args.rows.now c.requires.rows c.fields.ensures.valid c.in_ok-write_numbers.ensures.fit c.in_ok-ids.ensures.forms c.in_ok-sources.ensures.sizes (rw (← c.fields.ensures.value) c.in_ok-columns_of.ensures.fitting)
 
 pub invariant_of-result : goal.invariant_of-result
-invariant_of-result c = IsHeld-made c.args.schema.now c.args.rows.now c.requires.rows c.fields.ensures.valid (formed c) (words c) _ (made c)
+invariant_of-result c = IsBody-made c.args.schema.now c.args.rows.now c.requires.rows c.fields.ensures.valid (formed c) (words c) _ (made c)
 
-pub returns-clause-ok : goal.returns-clause-ok
-returns-clause-ok c =
-    let rows = rows_held c.args.schema.now c.args.rows.now c.requires.rows c.fields.ensures.valid (formed c) (words c) _ (made c) in
-    λ i. record { number = c.args.number; schema = c.in_ok-copy.ensures.ok i; rows = rows i }
+pub returns : goal.returns
+returns c =
+    let rows = rows_in_body c.args.schema.now c.args.rows.now c.requires.rows c.fields.ensures.valid (formed c) (words c) _ (made c) in
+    record { ok = λ i. record { number = c.args.number; schema = c.in_ok-copy.ensures i; rows = rows i } }

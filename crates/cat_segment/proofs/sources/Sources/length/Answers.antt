@@ -19,7 +19,7 @@ ends_after c =
     ∙ omega (arith, sum_by_more (λ n. n) c.args.self.now c.args.row 0 c.requires)
 
 pub overflow_sub-result : goal.overflow_sub-result
-overflow_sub-result c = omega (arith, ends_after c, c.place-start.ensures)
+overflow_sub-result c = omega (arith, ends_after c, c.offset-start.ensures)
 
 pub returns : goal.returns
-returns c = omega (arith, ends_after c, c.place-start.ensures)
+returns c = omega (arith, ends_after c, c.offset-start.ensures)

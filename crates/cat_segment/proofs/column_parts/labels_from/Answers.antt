@@ -1,0 +1,23 @@
+use Rattle.std.proofs.Common.{List, sym, subst, arith}
+use Rattle.std.proofs.lemmas.Result.{err_from_is_err_and}
+use Rattle.cat_codec.proofs.Pieces.{length-pieces}
+use Rattle.cat_codec.specs.declared.parts.ColumnParts.TheVariants as parts
+use Rattle.cat_model.specs.Text.{Text}
+use Rattle.cat_model.specs.Layout.{pieces}
+use Rattle.cat_segment.proofs.Columned.{labels_read, no_labels}
+use Rattle.cat_segment.specs.Parts.{IsColumnOf}
+use Rattle.cat_segment.specs.declared.column.Column.TheVariants.{Facet}
+use Rattle.cat_segment.proofs.column_parts.labels_from.Goals as goal
+
+pub from_ordinals-requires-clause-few : goal.from_ordinals-requires-clause-few
+from_ordinals-requires-clause-few c = omega (arith, length-pieces 0 c.args.ends.items c.args.ordinals.items, c.requires.laid.2, c.requires.few)
+
+pub returns-in_err-labels-clause-damaged : goal.returns-in_err-labels-clause-damaged
+returns-in_err-labels-clause-damaged c =
+    let p = err_from_is_err_and c.from_residual.result c.from_residual.ensures.1 in
+    rw (p.1, p.2) (λ is contents are. no_labels c.args.rows c.args.dictionary.items (pieces 0 c.args.ends.items c.args.ordinals.items) (c.in_err-labels.ensures.damaged is) contents are)
+
+pub returns-clause-ok : goal.returns-clause-ok
+returns-clause-ok c =
+    let read = labels_read c.args.rows c.in_ok-labels.labels c.args.dictionary.items (pieces 0 c.args.ends.items c.args.ordinals.items) c.len-rows.ensures.sets c.requires.labels c.in_ok-labels.ensures.ok.0 c.in_ok-labels.ensures.ok.1 c.requires.laid in
+    subst (λ (ls : List (List Text)). IsColumnOf c.args.rows (parts.Facet c.args.dictionary c.args.ends c.args.ordinals) (Facet ls)) (sym c.in_ok-joined.ensures.ok) (record { contents = read.0; spelled = read.1 })

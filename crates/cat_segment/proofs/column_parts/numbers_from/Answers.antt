@@ -1,0 +1,11 @@
+use Rattle.std.proofs.Common.{ℤ, List, Option, sym, ◌∙◌, subst}
+use Rattle.cat_segment.proofs.Columned.{numbers_read}
+use Rattle.cat_segment.specs.Parts.{IsColumnOf}
+use Rattle.cat_segment.specs.declared.column.Column.TheVariants.{Number}
+use Rattle.cat_codec.specs.declared.parts.ColumnParts.TheVariants as parts
+use Rattle.cat_segment.proofs.column_parts.numbers_from.Goals as goal
+
+pub returns : goal.returns
+returns c =
+    let read = numbers_read c.args.rows c.args.numbers.items c.requires.laid in
+    record { ok = subst (λ (zs : List (Option ℤ)). IsColumnOf c.args.rows (parts.Number c.args.numbers) (Number zs)) (sym (c.in_ok-of.ensures.ok ∙ c.deref.ensures.value)) (record { contents = read.0; spelled = read.1 }) }

@@ -1,0 +1,13 @@
+use Rattle.cat_model.specs.Item.{number_in}
+use Rattle.cat_segment.specs.Fields.{content_in, IsFormedIn}
+use Rattle.cat_segment.proofs.Steps.{made_more, holds_more}
+use Rattle.cat_segment.proofs.field_values.numbers.Goals as goal
+
+pub loop-row-preserved : goal.loop-row-preserved
+loop-row-preserved c =
+    let rows = c.args.rows.now in
+    let i = c.loop-row.row-index in
+    record {
+      same = made_more rows i c.row-item.result c.loop-row-test.true c.row-item.is (λ r. number_in (content_in c.args.index r.item.now)) c.loop-row.numbers.items _ _ c.in_ok-push.ensures.items c.number_at.ensures.value c.loop-row.invariant.same;
+      formed = holds_more rows i c.row-item.result c.loop-row-test.true c.row-item.is (IsFormedIn c.args.index) c.loop-row.invariant.formed c.number_at.ensures.formed;
+    }
