@@ -1,80 +1,111 @@
-//! The one state of the catalogue, and the laws about what each call makes of it.
+//! The ledger as a model: the one state of the catalogue, and the laws about what each call makes of it. A ledger in code has
+//! to make each call as `Calls` says; that its replies are those of a run then follows from `calls_keep_runs`.
 #![tactic(auto)]
 
 ghost use Rattle.cat_ledger_model.specs.Laws.{CallsKeepRuns, RefusalsStore, ViewsAreRead, PortionsAreRead, OpenedStore, EmptyAreFresh, SchemasStay, UsersAreCounted, KeptCommitsOpen, WholeAreViews, KeptMayStand, CallsAreSteps, SweepsSpare, EndsStore, MergesStore, CopiesStore, BegunStore, UnsnapsStore, CommitsStore, PrunesStore, RecordsStore, FlushesStore, WritesStore, FilesStay, HoldsAreApart, RefusalsChangeNoState, EndsChangeNoState, CopiesChangeNoState, BegunChangeNoState, OpenedAreFresh, SnapshotsAreGiven, SnapshotsAreTaken, CommitsAreKept, ViewsArePruned, ViewsAreRecorded, WritesAreWritten, FlushesChangeNoState, MergesChangeNoState};
 
 /// A merge that is installed leaves the table, each view and each commit as they were, whatever was
 /// deleted since it began.
+///
+/// Lucene's `IndexWriter.commitMerge` carries deletes that came meanwhile over to the merged segment.
 pub fn merges_change_no_state()
     ensures { MergesChangeNoState }
 {}
 
 /// A flush leaves the table, each view and each commit as they were, and no record that waits.
+///
+/// A flush of Lucene's `IndexWriter` changes nothing that a reader of it sees, either.
 pub fn flushes_change_no_state()
     ensures { FlushesChangeNoState }
 {}
 
 /// A write that is accepted makes of the table the table after it, and changes nothing else that shows.
+///
+/// Lucene's `IndexWriter.updateDocument` deletes the documents of a term and then adds the new one.
 pub fn writes_are_written()
     ensures { WritesAreWritten }
 {}
 
 /// Recording the view of now keeps each held view, and takes and gives its names.
+///
+/// Lucene's `SearcherLifetimeManager.record`; that a held view isn't dropped is our own.
 pub fn views_are_recorded()
     ensures { ViewsAreRecorded }
 {}
 
 /// Pruning keeps each held view, and gives the names of those that go.
+///
+/// Lucene's `SearcherLifetimeManager.prune`, which drops views in use too; here it doesn't.
 pub fn views_are_pruned()
     ensures { ViewsArePruned }
 {}
 
 /// A commit of now is kept, and commits without a snapshot that are no longer the newest go.
+///
+/// Lucene's `IndexWriter.commit` under a `SnapshotDeletionPolicy` over `KeepOnlyLastCommitDeletionPolicy`.
 pub fn commits_are_kept()
     ensures { CommitsAreKept }
 {}
 
 /// A snapshot changes nothing but the count of snapshots.
+///
+/// Lucene's `SnapshotDeletionPolicy.snapshot`.
 pub fn snapshots_are_taken()
     ensures { SnapshotsAreTaken }
 {}
 
 /// A snapshot that is given back lets its commit go, where that was the last one and another is the newest.
+///
+/// Lucene's `SnapshotDeletionPolicy.release`, after which the deleter may drop the commit.
 pub fn snapshots_are_given()
     ensures { SnapshotsAreGiven }
 {}
 
 /// A ledger that is opened at a whole commit has its table, one view, no hold and no snapshot.
+///
+/// Lucene's `IndexWriter` opens at the newest commit of its directory.
 pub fn opened_are_fresh()
     ensures { OpenedAreFresh }
 {}
 
 /// A merge that is begun changes nothing that shows.
+///
+/// Lucene's `IndexWriter.registerMerge` only notes which segments are being merged.
 pub fn begun_change_no_state()
     ensures { BegunChangeNoState }
 {}
 
 /// A copy step changes nothing that shows.
+///
+/// That a merge is made in steps between lines is our own; Lucene merges in threads of its own.
 pub fn copies_change_no_state()
     ensures { CopiesChangeNoState }
 {}
 
 /// A refused merge step ends the merge and changes nothing that shows.
+///
+/// Lucene's `OneMerge` that is aborted leaves the segments as they were.
 pub fn ends_change_no_state()
     ensures { EndsChangeNoState }
 {}
 
 /// A refusal that leaves begun files and taken numbers behind changes nothing that shows; nor does a sweep.
+///
+/// Lucene's `IndexWriter` closes itself after some failures; that it goes on is our own.
 pub fn refusals_change_no_state()
     ensures { RefusalsChangeNoState }
 {}
 
 /// Holds concern the views alone.
+///
+/// Lucene's `SearcherLifetimeManager.acquire` and `release`.
 pub fn holds_are_apart()
     ensures { HoldsAreApart }
 {}
 
 /// Every file that is needed is there, where each name that is used keeps its file.
+///
+/// Lucene's `IndexFileDeleter` deletes no file that has a reference.
 pub fn files_stay()
     ensures { FilesStay }
 {}
@@ -130,6 +161,8 @@ pub fn ends_store()
 {}
 
 /// A sweep that leaves names with users leaves every file that is needed.
+///
+/// Lucene's `IndexFileDeleter` deletes the files whose `RefCount` is 0.
 pub fn sweeps_spare()
     ensures { SweepsSpare }
 {}
@@ -145,16 +178,22 @@ pub fn kept_may_stand()
 {}
 
 /// Portions that are a table are a view that shows it.
+///
+/// Lucene's `StandardDirectoryReader` is opened over the `SegmentInfos` of a commit or of the writer.
 pub fn whole_are_views()
     ensures { WholeAreViews }
 {}
 
 /// A ledger that is opened at a kept commit has the table of that commit.
+///
+/// Lucene's `DirectoryReader.open(IndexCommit)`.
 pub fn kept_commits_open()
     ensures { KeptCommitsOpen }
 {}
 
 /// The count of a name is the number of users that have it.
+///
+/// Lucene's `IndexFileDeleter.RefCount`.
 pub fn users_are_counted()
     ensures { UsersAreCounted }
 {}
@@ -175,11 +214,15 @@ pub fn opened_store()
 {}
 
 /// The rows of a portion with the bytes of its sources are its records.
+///
+/// Lucene's `StoredFields` of a segment.
 pub fn portions_are_read()
     ensures { PortionsAreRead }
 {}
 
 /// The records of a view over those bytes are the live records of its portions.
+///
+/// Lucene's `StoredFields` of a reader.
 pub fn views_are_read()
     ensures { ViewsAreRead }
 {}
