@@ -1,4 +1,4 @@
-//! Tests that cross the crates below the protocol: schemas and items, query texts, segments, their files, and views.
+//! Tests that cross the crates below the protocol: query texts, segments, their files, and views.
 #![tactic(auto)]
 
 #[cfg(test)]
@@ -8,8 +8,6 @@ mod files;
 mod put;
 #[cfg(test)]
 mod queries;
-#[cfg(test)]
-mod schemas;
 #[cfg(test)]
 mod segments;
 #[cfg(test)]

@@ -1,0 +1,133 @@
+//! Schemas: the refusals of texts, and the fields of a schema.
+use crate::texts::{Parts, SHOP, number, whole};
+use cat_schema::{Kind, Schema};
+use std::alloc::Global;
+use std::process::Abort;
+use std::test::Fail;
+
+/// Reads each text as a schema: its refusal has the number beside it, or 0 where it is a schema.
+fn expect_schemas(rt: &impl Abort, alloc: Global, rows: &[(&str, u8)]) -> Result<(), Fail> {
+    for (text, want) in rows {
+        let got = number(&Schema::read(alloc, text.as_bytes()));
+        assert_eq!(rt; got, *want, "{text}");
+    }
+    Ok(())
+}
+
+#[test]
+fn schema_texts(rt: HostRuntime) -> Result<(), Fail> {
+    const ROWS: &[(&str, u8)] = &[
+        ("{}", 0),
+        (SHOP, 0),
+        (" {\n\"a_1\" : \"text\"\t} ", 0),
+        ("", 11),
+        ("{", 11),
+        (r#"{"a":"text",}"#, 11),
+        (r#"{"a":"text"} {}"#, 11),
+        ("[]", 13),
+        ("null", 13),
+        (r#"["text"]"#, 13),
+        (r#"{"id":"text"}"#, 13),
+        (r#"{"a":null}"#, 13),
+        (r#"{"a":1}"#, 13),
+        (r#"{"a":"foo"}"#, 13),
+        (r#"{"a":"Text"}"#, 13),
+        (r#"{"a":"text","b":"foo"}"#, 13),
+        (r#"{"":"text"}"#, 13),
+        (r#"{"A":"text"}"#, 13),
+        (r#"{"aB":"text"}"#, 13),
+        (r#"{"1a":"text"}"#, 13),
+        (r#"{"_a":"text"}"#, 13),
+        (r#"{"a-b":"text"}"#, 13),
+        (r#"{"é":"text"}"#, 13),
+        (r#"{"a":"foo","a":"text"}"#, 0),
+        (r#"{"a":"text","a":"foo"}"#, 13),
+    ];
+    expect_schemas(&rt, rt.alloc(), ROWS)
+}
+
+/// The same of texts in parts.
+fn expect_long_schemas(
+    rt: &impl Abort,
+    alloc: Global,
+    rows: &[(Parts<'_>, u8)],
+) -> Result<(), Fail> {
+    for (parts, want) in rows {
+        let text = whole(alloc, parts)?;
+        let got = number(&Schema::read(alloc, text.as_bytes()));
+        assert_eq!(rt; got, *want, "{}", text.as_str());
+    }
+    Ok(())
+}
+
+#[test]
+fn names_of_32_bytes(rt: HostRuntime) -> Result<(), Fail> {
+    const ROWS: &[(Parts<'static>, u8)] = &[
+        (("{\"", ("n", 32), "\":\"text\"}"), 0),
+        (("{\"", ("n", 33), "\":\"text\"}"), 13),
+    ];
+    expect_long_schemas(&rt, rt.alloc(), ROWS)
+}
+
+/// The text of a schema of so many fields.
+fn fields_text(alloc: Global, count: u32) -> Result<String, Fail> {
+    let mut text = String::from_str(alloc, "{\"n\":\"text\"")?;
+    for n in 1..count {
+        text.push_str(format!(in alloc; ",\"n{n}\":\"number\"")?.as_str())?;
+    }
+    text.push_str("}")?;
+    Ok(text)
+}
+
+#[test]
+fn schemas_of_32_fields(rt: HostRuntime) -> Result<(), Fail> {
+    let alloc = rt.alloc();
+    let most = Schema::read(alloc, fields_text(alloc, 32)?.as_bytes())?;
+    assert_eq!(rt; most.fields().len(), 32);
+    let more = Schema::read(alloc, fields_text(alloc, 33)?.as_bytes());
+    assert_eq!(rt; number(&more), 13);
+    Ok(())
+}
+
+#[test]
+fn schema_fields(rt: HostRuntime) -> Result<(), Fail> {
+    let alloc = rt.alloc();
+    let text = r#"{"title":"text","b_2":"number","b":"keyword","color":"number","color":"facet"}"#;
+    let schema = Schema::read(alloc, text.as_bytes())?.copy()?;
+    let want = [
+        ("b", Kind::Keyword),
+        ("b_2", Kind::Number),
+        ("color", Kind::Facet),
+        ("title", Kind::Text),
+    ];
+    assert_eq!(rt; schema.fields().len(), want.len());
+    for (field, (name, kind)) in schema.fields().iter().zip(want) {
+        assert_eq!(rt; field.name(), name);
+        assert_eq!(rt; field.kind(), kind, "of {name}");
+    }
+    Ok(())
+}
+
+/// Arrays nest at most 127 deep.
+fn expect_nesting(rt: &impl Abort, alloc: Global, count: u32, want: u8) -> Result<(), Fail> {
+    let closing = whole(alloc, &("", ("]", count), ""))?;
+    let text = whole(alloc, &("", ("[", count), closing.as_str()))?;
+    let schema = Schema::read(alloc, SHOP.as_bytes())?;
+    assert_eq!(rt;
+        number(&schema.item(alloc, text.as_bytes())),
+        want,
+        "an item {count} deep"
+    );
+    assert_eq!(rt;
+        number(&Schema::read(alloc, text.as_bytes())),
+        want,
+        "a schema {count} deep"
+    );
+    Ok(())
+}
+
+#[test]
+fn nesting(rt: HostRuntime) -> Result<(), Fail> {
+    expect_nesting(&rt, rt.alloc(), 127, 13)?;
+    expect_nesting(&rt, rt.alloc(), 128, 11)
+}
