@@ -1,5 +1,5 @@
 -- What the write buffer holds: Lucene's documents of a DocumentsWriterPerThread that are not yet flushed.
-use Rattle.std.specs.Prelude.{◌≡◌, ◌≢◌, ◌<◌, ◌≤◌, Bool, List, length, All, AllPairs, String, string_bytes}
+use Rattle.std.specs.Prelude.{◌≡◌, ◌≢◌, ℕ, ◌<◌, ◌≤◌, Bool, List, length, All, AllPairs, String, string_bytes}
 use Rattle.std.specs.List.{AllByRecursion, list_any, flat_map}
 use Rattle.cat_model.specs.Text.{Text, same_text}
 use Rattle.cat_model.specs.Item.{Schema, Record, IsItem}
@@ -9,9 +9,13 @@ pub record Buffered : Type 0 where
   pub schema : Schema
   pub records : List Record
 
--- at most 1,024 items of the schema; their numbers are at least 1 and rise, and their ids differ
+-- how many items wait at most (MAX_BUFFERED_ITEMS)
+abbrev pub buffer_limit : ℕ
+buffer_limit = 1024
+
+-- items of the schema, at most so many as may wait; their numbers are at least 1 and rise, and their ids differ
 pub record IsBuffered (b : Buffered) : Type 0 where
-  pub few : length b.records ≤ 1024
+  pub few : length b.records ≤ buffer_limit
   pub items : All (λ r. IsItem b.schema r.item) b.records
   pub positive : All (λ r. 1 ≤ r.number) b.records
   pub rising : AllPairs (λ r s. r.number < s.number) b.records

@@ -1,22 +1,21 @@
 //! The items put since the last flush, in the order of their writes.
-ghost use Rattle.std.specs.Prelude.{◌≡◌, ◌<◌, ◌≤◌, ◌↔◌, [], ◌∷◌, ◌++◌, filter, not, map, length, find, option_map, All, IsTrue, OnErr, IfOk, IfErr, OnOk};
+ghost use Rattle.std.specs.Prelude.{◌≡◌, ◌<◌, ◌≤◌, ◌↔◌, [], ◌∷◌, ◌++◌, filter, not, map, length, find, option_map, All, IsTrue, OnErr, IfOk, OnOk};
 ghost use Rattle.std.specs.String.{string_eq};
 ghost use Rattle.indexmap.specs.IndexMap.{values};
-ghost use Rattle.cat_base.specs.declared.refusal.Refusal.TheVariants.{Memory};
 ghost use Rattle.cat_model.specs.Text.{same_text};
 ghost use Rattle.cat_model.specs.Item.{IsItem};
 ghost use Rattle.cat_model.specs.Write as write;
 ghost use Rattle.cat_model.specs.Table.{without, after};
 ghost use Rattle.cat_model.specs.View.{row_of};
 ghost use Rattle.cat_segment.specs.Fields.{record_of};
-ghost use Rattle.cat_flush.specs.Buffered.{IsBuffered, has_id, sources_of};
+ghost use Rattle.cat_flush.specs.Buffered.{IsBuffered, buffer_limit, has_id, sources_of};
 
 use crate::record::Record;
-use cat_base::{MAX_BUFFERED_ITEMS, Refusal, SegNo, WriteNo};
+use cat_base::{MAX_BUFFERED_ITEMS, SegNo, WriteNo};
 use cat_schema::{Item, Schema};
 use cat_segment::{Row, Segment};
 use indexmap::IndexMap;
-use std::alloc::Global;
+use std::alloc::{AllocError, Global};
 use std::marker::Model;
 
 /// What a flush makes of the buffer: the segment, and the texts of its items for the segment's file.
@@ -35,6 +34,17 @@ pub struct Sealed {
 ///
 /// Lucene's `DocumentsWriterPerThread` with its `BufferedUpdates`. A deletion of what is buffered takes effect at once
 /// here, where Lucene's waits for the flush.
+///
+/// ```text
+/// let mut buffer = Buffer::new(alloc, &schema)?;
+/// let item = schema.item(alloc, line)?;
+/// if buffer.is_full() {
+///     let sealed = buffer.seal(segment_number)?;
+///     // The files of the segment and of its sources are written; then:
+///     buffer.clear();
+/// }
+/// buffer.put(write_number, item)?;
+/// ```
 #[derive(Drop)]
 pub struct Buffer {
     schema: Schema,
@@ -54,15 +64,21 @@ impl Model for Buffer {
 }
 
 impl Buffer {
-    /// An empty buffer for items of the schema, of which it keeps a copy. A refusal is [`Refusal::Memory`].
-    pub fn new(alloc: Global, schema: &Schema) -> Result<Buffer, Refusal>
+    /// An empty buffer for items of the schema, of which it keeps a copy. What it holds is taken from the allocator.
+    pub fn new(alloc: Global, schema: &Schema) -> Result<Buffer, AllocError>
         ensures ok { IfOk result (λ b. b ≡ record { schema = schema.now; records = [] }) }
-        ensures refusal { IfErr result (λ e. e ≡ Memory) }
     {
         Ok(Buffer {
             schema: schema.copy()?,
             entries: IndexMap::new(alloc),
         })
+    }
+
+    /// The fields of the items.
+    pub fn schema(&self) -> &Schema
+        ensures { result.now ≡ self.now.schema }
+    {
+        &self.schema
     }
 
     /// How many items wait, 0 to [`MAX_BUFFERED_ITEMS`](cat_base::MAX_BUFFERED_ITEMS) (Lucene: `getNumDocsInRAM`).
@@ -83,7 +99,7 @@ impl Buffer {
     /// Whether as many items wait as may, so that a flush is due (Lucene: `FlushByRamOrCountsPolicy` by
     /// `maxBufferedDocs`).
     pub fn is_full(&self) -> bool
-        ensures { IsTrue result ↔ (1024 ≤ length self.now.records) }
+        ensures { IsTrue result ↔ (buffer_limit ≤ length self.now.records) }
     {
         self.entries.len() >= MAX_BUFFERED_ITEMS
     }
@@ -95,18 +111,17 @@ impl Buffer {
         self.entries.get(id)
     }
 
-    /// Puts the item last, in the place of the one of its id (Lucene: `IndexWriter.updateDocument`). A refusal is
-    /// [`Refusal::Memory`] and changes nothing.
-    pub fn put(&mut self, alloc: Global, number: WriteNo, item: Item) -> Result<(), Refusal>
-        requires space { length self.old.records < 1024 }
+    /// Puts the item last, and takes the one of its id out, if there is one (Lucene: `IndexWriter.updateDocument`). An
+    /// error changes nothing.
+    pub fn put(&mut self, number: WriteNo, item: Item) -> Result<(), AllocError>
+        requires space { length self.old.records < buffer_limit }
         requires positive { 1 ≤ number }
         requires newest { All (λ r. r.number < number) self.old.records }
         requires item { IsItem self.old.schema item }
         ensures ok { OnOk result (self.new ≡ record { schema = self.old.schema; records = after self.old.records number (write.Write.put item) }) }
         ensures err { OnErr result (self.new ≡ self.old) }
-        ensures refusal { IfErr result (λ e. e ≡ Memory) }
     {
-        let id = String::from_str(alloc, item.id())?;
+        let id = String::from_str(*self.entries.allocator(), item.id())?;
         put_last(&mut self.entries, id, Record::new(number, item))?;
         Ok(())
     }
@@ -121,14 +136,13 @@ impl Buffer {
     }
 
     /// The segment of the items that wait, under the number, with the texts that they came as (Lucene:
-    /// `DocumentsWriterPerThread.flush`). The buffer stays as it is, until it is cleared. A refusal is
-    /// [`Refusal::Memory`].
-    pub fn seal(&self, alloc: Global, number: SegNo) -> Result<Sealed, Refusal>
+    /// `DocumentsWriterPerThread.flush`). The buffer stays as it is, until it is cleared.
+    pub fn seal(&self, number: SegNo) -> Result<Sealed, AllocError>
         requires some { 1 ≤ length self.now.records }
         ensures segment { IfOk result (λ s. s.segment ≡ record { number = number; schema = self.now.schema; rows = map row_of self.now.records }) }
         ensures sources { IfOk result (λ s. s.sources.items ≡ sources_of self.now.records) }
-        ensures refusal { IfErr result (λ e. e ≡ Memory) }
     {
+        let alloc = *self.entries.allocator();
         let rows = rows_in(alloc, &self.entries)?;
         Ok(Sealed {
             segment: Segment::of(alloc, number, &self.schema, rows.as_slice())?,
@@ -144,26 +158,28 @@ impl Buffer {
     }
 }
 
-/// Puts the record last, in the place of the one of the id. A refusal is [`Refusal::Memory`] and leaves the entries.
-fn put_last(entries: &mut IndexMap<String, Record>, id: String, last: Record) -> Result<(), Refusal>
+/// Puts the record last, and takes the one of the id out. An error leaves the entries as they were.
+fn put_last(
+    entries: &mut IndexMap<String, Record>,
+    id: String,
+    last: Record,
+) -> Result<(), AllocError>
     ensures ok { OnOk result (entries.new.entries ≡ filter (λ e. not (string_eq id e.0)) entries.old.entries ++ (id, last) ∷ []) }
     ensures err { OnErr result (entries.new.entries ≡ entries.old.entries) }
-    ensures refusal { IfErr result (λ e. e ≡ Memory) }
 {
-    // Room is taken first, so that a refusal leaves the record that would go.
+    // Room is taken first, so that an error leaves the record that would go.
     entries.reserve(1)?;
     entries.shift_remove(&id);
     entries.insert(id, last)?;
     Ok(())
 }
 
-/// The entries as rows, in order. A refusal is [`Refusal::Memory`].
+/// The entries as rows, in order.
 fn rows_in<'a>(
     alloc: Global,
     entries: &'a IndexMap<String, Record>,
-) -> Result<Vec<Row<'a>>, Refusal>
+) -> Result<Vec<Row<'a>>, AllocError>
     ensures ok { IfOk result (λ rows. map record_of rows.items ≡ values entries.now) }
-    ensures refusal { IfErr result (λ e. e ≡ Memory) }
 {
     let mut rows = Vec::with_capacity(alloc, entries.len())?;
     for record in entries.values() {
@@ -176,10 +192,9 @@ fn rows_in<'a>(
     Ok(rows)
 }
 
-/// The texts that the items came as, one after the other. A refusal is [`Refusal::Memory`].
-fn sources_in(alloc: Global, entries: &IndexMap<String, Record>) -> Result<Vec<u8>, Refusal>
+/// The texts that the items came as, one after the other.
+fn sources_in(alloc: Global, entries: &IndexMap<String, Record>) -> Result<Vec<u8>, AllocError>
     ensures ok { IfOk result (λ sources. sources.items ≡ sources_of (values entries.now)) }
-    ensures refusal { IfErr result (λ e. e ≡ Memory) }
 {
     let mut sources = Vec::with_capacity(alloc, source_bytes(entries)?)?;
     for record in entries.values() {
@@ -188,15 +203,14 @@ fn sources_in(alloc: Global, entries: &IndexMap<String, Record>) -> Result<Vec<u
     Ok(sources)
 }
 
-/// The length of the texts together. A refusal is [`Refusal::Memory`], where no memory has as many bytes.
-fn source_bytes(entries: &IndexMap<String, Record>) -> Result<usize, Refusal>
+/// The length of the texts together, and an error where no memory has as many bytes.
+fn source_bytes(entries: &IndexMap<String, Record>) -> Result<usize, AllocError>
     ensures ok { IfOk result (λ n. n ≡ length (sources_of (values entries.now))) }
-    ensures refusal { IfErr result (λ e. e ≡ Memory) }
 {
     let mut bytes = 0usize;
     for record in entries.values() {
         let Some(sum) = bytes.checked_add(record.item().source().len()) else {
-            return Err(Refusal::Memory);
+            return Err(AllocError);
         };
         bytes = sum;
     }

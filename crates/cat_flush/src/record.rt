@@ -1,11 +1,14 @@
-//! An item under the number of the write that put it.
+//! What waits in a buffer.
 ghost use Rattle.std.specs.Prelude.{◌≡◌};
 
 use cat_base::WriteNo;
 use cat_schema::Item;
 use std::marker::Model;
 
-/// An item under the number of the write that put it.
+/// An item that waits for a flush, under the number of the write that put it (Lucene: a document in the buffer, under its
+/// sequence number).
+///
+/// Contracts see it as the record that the table of the catalogue has for the item's id.
 #[derive(Drop)]
 pub struct Record {
     number: WriteNo,
