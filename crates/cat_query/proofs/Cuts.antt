@@ -12,7 +12,8 @@ use Rattle.std.proofs.lemmas.Str.Pattern.{starts_text}
 use Rattle.cat_model.specs.Text.{Text}
 use Rattle.cat_model.specs.Item.{is_name_byte}
 use Rattle.cat_model.specs.Grammar.{is_bare_byte}
-use Rattle.cat_query.specs.Reading.{behind_byte, behind_mark, is_plain_byte}
+use Rattle.cat_query.specs.Reading.{behind_byte, behind_mark}
+use Rattle.cat_query.specs.Escapes.{is_no_backslash}
 
 -- a text is cut at a byte of ASCII
 at_stop : (p : ℕ → Bool) → ((b : ℕ) → 128 ≤ b → p b ≡ true) → (bs : Text) → IsCharBoundary bs (prefix_len p bs)
@@ -24,11 +25,11 @@ bare_past b h = rw (ne_eqb b 32 (omega arith), ne_eqb b 40 (omega arith), ne_eqb
 pub bare_cut : (bs : Text) → IsCharBoundary bs (prefix_len is_bare_byte bs)
 bare_cut bs = at_stop is_bare_byte bare_past bs
 
-plain_past : (b : ℕ) → 128 ≤ b → is_plain_byte b ≡ true
-plain_past b h = rw (ne_eqb b 34 (omega arith), ne_eqb b 92 (omega arith)) refl
+no_backslash_past : (b : ℕ) → 128 ≤ b → is_no_backslash b ≡ true
+no_backslash_past b h = rw (ne_eqb b 92 (omega arith)) refl
 
-pub plain_cut : (bs : Text) → IsCharBoundary bs (prefix_len is_plain_byte bs)
-plain_cut bs = at_stop is_plain_byte plain_past bs
+pub plain_cut : (bs : Text) → IsCharBoundary bs (prefix_len is_no_backslash bs)
+plain_cut bs = at_stop is_no_backslash no_backslash_past bs
 
 name_past : (b : ℕ) → 128 ≤ b → is_name_byte b ≡ true → ⊥
 name_past b h e = grind (arith, common_steps)

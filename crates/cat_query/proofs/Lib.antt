@@ -1,10 +1,13 @@
-pub mod Sets
-pub mod SameLists
 pub mod Cuts
-pub mod Quotes
+pub mod Backslashes
+pub mod OneWord
 pub mod Integers
+pub mod Meanings
 pub mod ValueSteps
 pub mod Series
 pub mod Groups
 pub mod Judging
+pub mod Sets
+pub mod SameLists
 pub mod RowTests
+pub mod Everything

@@ -7,7 +7,7 @@ use Rattle.std.specs.List.{list_any}
 use Rattle.std.proofs.lemmas.Simd.{map-map}
 use Rattle.std.proofs.lemmas.List.{drop_more, drop_all, length-map}
 use Rattle.std.proofs.lemmas.List.Folds.{list_any_at}
-use Rattle.cat_base.specs.declared.refusal.Refusal.{Refusal}
+use Rattle.std.specs.declared.alloc.AllocError.{AllocError}
 use Rattle.cat_model.specs.Text.{Text, text_le}
 use Rattle.cat_model.specs.Item.{Content, content_of}
 use Rattle.cat_model.specs.Query as model
@@ -24,10 +24,10 @@ use Rattle.cat_query.specs.declared.query.Primary.TheVariants.{Everything, Group
 use Rattle.cat_query.specs.declared.query.Primary.TheOpen.{Primary-F}
 use Rattle.cat_query.specs.declared.query.Primary.TheFolds.{fold_out-Clause, fold-roll-Primary}
 use Rattle.cat_query.specs.View.{sign_of, tested, primary_of, Signed, primary_step, clause_step, signed, clauses_of}
-use Rattle.cat_query.specs.Matching.{passes}
+use Rattle.cat_query.specs.Tests.{passes}
 
 -- a set that is answered says the same in other words
-pub retold : {a b : List Bool} (r : Result (List Bool) Refusal) → a ≡ b → IfOk r (λ s. s ≡ a) → IfOk r (λ s. s ≡ b)
+pub retold : {E : Type 0} {a b : List Bool} (r : Result (List Bool) E) → a ≡ b → IfOk r (λ s. s ≡ a) → IfOk r (λ s. s ≡ b)
 retold (Ok s) e is = is ∙ e
 retold (Err x) e is = tt
 
@@ -277,7 +277,7 @@ copied_is (Some t) = refl
 abbrev pub in_range : Option Text → Option Text → Text → Bool
 in_range low high k = open_or (λ a. text_le a k) low && open_or (text_le k) high
 
-pub range_rows : (low high : Option (Bor Text)) (low' high' : Option Text) (terms : List (List Text)) (keywords : List (Option Text)) (r : Result (List Bool) Refusal)
+pub range_rows : (low high : Option (Bor Text)) (low' high' : Option Text) (terms : List (List Text)) (keywords : List (Option Text)) (r : Result (List Bool) AllocError)
     → option_copied low ≡ low' → option_copied high ≡ high' → terms ≡ map texts_of keywords
     → IfOk r (λ s. s ≡ map (list_any (in_range (option_map (λ t. t.now) low) (option_map (λ t. t.now) high))) terms)
     → IfOk r (λ s. s ≡ map (has_some (in_range low' high')) keywords)

@@ -4,34 +4,43 @@ use Rattle.cat_model.specs.Text.{Text}
 use Rattle.cat_model.specs.Item.{Schema}
 use Rattle.cat_model.specs.Query.{Query, Primary, Sign}
 use Rattle.cat_model.specs.Reader.{◌>>=◌, Inside, content_at, clauses_at, clause_at, gap_at, ends, after_spaces}
-use Rattle.cat_query.specs.View.{signed, clauses_of}
-use Rattle.cat_query.specs.Reading.{Stops}
+use Rattle.cat_query.specs.View.{sign_of, primary_of, Signed, primary_step, clause_step, signed, clauses_of}
+use Rattle.cat_query.specs.declared.query.Primary.TheFolds.{fold_out-Clause}
+use Rattle.cat_query.specs.Reading.{then_clause}
 use Rattle.cat_query.specs.declared.query.Clause.{Clause}
-use Rattle.cat_query.specs.declared.stop.Stop.{Stop}
-use Rattle.cat_query.specs.declared.stop.Stop.TheVariants as stop
 
 -- some clauses and then others
-abbrev pub joined : Query → Query → Query
-joined Query.no_clause r = r
-joined (Query.clause s p q) r = Query.clause s p (joined q r)
+abbrev pub appended : Query → Query → Query
+appended Query.no_clause r = r
+appended (Query.clause s p q) r = Query.clause s p (appended q r)
 
-abbrev pub just : Sign → Primary → Query
-just s p = Query.clause s p Query.no_clause
+appended-then : (q : Query) (s : Sign) (p : Primary) (r : Query) → appended q (Query.clause s p r) ≡ appended (then_clause q s p) r
+appended-then Query.no_clause s p r = refl
+appended-then (Query.clause t x q) s p r = ap (λ (y : Query). Query.clause t x y) (appended-then q s p r)
 
-joined-just : (q : Query) (s : Sign) (p : Primary) (r : Query) → joined q (Query.clause s p r) ≡ joined (joined q (just s p)) r
-joined-just Query.no_clause s p r = refl
-joined-just (Query.clause t x q) s p r = ap (λ (y : Query). Query.clause t x y) (joined-just q s p r)
+appended-one : (q : Query) (s : Sign) (p : Primary) → appended q (Query.clause s p Query.no_clause) ≡ then_clause q s p
+appended-one Query.no_clause s p = refl
+appended-one (Query.clause t x q) s p = ap (λ (y : Query). Query.clause t x y) (appended-one q s p)
 
-pub clauses_of-push : (cs : List Clause) (c : Clause) → clauses_of (cs ++ c ∷ []) ≡ joined (clauses_of cs) (just (signed c).0 (signed c).1)
+clauses_of-push : (cs : List Clause) (c : Clause) → clauses_of (cs ++ c ∷ []) ≡ then_clause (clauses_of cs) (signed c).0 (signed c).1
 clauses_of-push [] c = refl
 clauses_of-push (d ∷ cs) c = ap (λ (y : Query). Query.clause (signed d).0 (signed d).1 y) (clauses_of-push cs c)
+
+signed_is : (c : Clause) → signed c ≡ (sign_of c.sign, primary_of c.primary)
+signed_is c = fold_out-Clause Primary Signed primary_step clause_step c
+
+-- clauses with one more at their end
+pub pushed_is : (cs items : List Clause) (c : Clause) (q : Query) (p : Primary) → items ≡ cs ++ c ∷ [] → clauses_of cs ≡ q → primary_of c.primary ≡ p → clauses_of items ≡ then_clause q (sign_of c.sign) p
+pushed_is cs items c q p pushed front last =
+    ap clauses_of pushed ∙ clauses_of-push cs c ∙ ap (λ (x : Signed). then_clause (clauses_of cs) x.0 x.1) (signed_is c)
+    ∙ ap (λ (x : Query). then_clause x (sign_of c.sign) (primary_of c.primary)) front ∙ ap (then_clause q (sign_of c.sign)) last
 
 abbrev pub Group : Type 0
 Group = Result (Query × ℕ × Text) ℕ
 
 -- what was read before, and what is still read
 abbrev pub with_front : Query → Group → Group
-with_front front read = read >>= λ x. Ok (joined front x.0, x.1, x.2)
+with_front front read = read >>= λ x. Ok (appended front x.0, x.1, x.2)
 
 pub with_front-nothing : (read : Group) → with_front Query.no_clause read ≡ read
 with_front-nothing (Ok x) = refl
@@ -49,8 +58,8 @@ unfolding content_at
 content_empty schema zero left text ne e = absurd (ne refl)
 content_empty schema (suc levels) left text ne e = rw e refl
 
-regroup : (front : Query) (s : Sign) (p : Primary) (read : Group) → with_front front (read >>= λ others. Ok (Query.clause s p others.0, others.1, others.2)) ≡ with_front (joined front (just s p)) read
-regroup front s p (Ok x) = ap (λ (q : Query). Ok (q, x.1, x.2)) (joined-just front s p x.0)
+regroup : (front : Query) (s : Sign) (p : Primary) (read : Group) → with_front front (read >>= λ others. Ok (Query.clause s p others.0, others.1, others.2)) ≡ with_front (then_clause front s p) read
+regroup front s p (Ok x) = ap (λ (q : Query). Ok (q, x.1, x.2)) (appended-then front s p x.0)
 regroup front s p (Err n) = refl
 
 module _ (schema : Schema) (inside : Inside) (front : Query) (count turn still : ℕ) (text : Text) (total : Group) where
@@ -60,32 +69,30 @@ module _ (schema : Schema) (inside : Inside) (front : Query) (count turn still :
       let k : count - turn ≡ 0 = omega arith in
       sym h ∙ rw k refl
 
-  pub clause_fails : (e : Stop) → turn < count → Stops e (clause_at schema inside still text) → with_front front (clauses_at schema inside (count - turn) still text) ≡ total → Stops e total
+  pub clause_fails : (n : ℕ) → turn < count → clause_at schema inside still text ≡ Err n → with_front front (clauses_at schema inside (count - turn) still text) ≡ total → total ≡ Err n
   unfolding clauses_at
-  clause_fails stop.Memory lt f h = tt
-  clause_fails (stop.Fault n) lt f h =
+  clause_fails n lt f h =
       let k : count - turn ≡ suc (count - (turn + 1)) = omega arith in
       sym h ∙ rw (k, f) refl
 
   module _ (s : Sign) (p : Primary) (after : ℕ) (more : Text) (lt : turn < count) (first : clause_at schema inside still text ≡ Ok (s, p, after, more)) where
-    pub gap_fails : (e : Stop) → Stops e (gap_at more) → with_front front (clauses_at schema inside (count - turn) still text) ≡ total → Stops e total
+    pub gap_fails : (n : ℕ) → gap_at more ≡ Err n → with_front front (clauses_at schema inside (count - turn) still text) ≡ total → total ≡ Err n
     unfolding clauses_at
-    gap_fails stop.Memory f h = tt
-    gap_fails (stop.Fault n) f h =
+    gap_fails n f h =
         let k : count - turn ≡ suc (count - (turn + 1)) = omega arith in
         sym h ∙ rw (k, first, f) refl
 
-    pub is_last : (rest : Text) → gap_at more ≡ Ok rest → ends rest ≡ true → with_front front (clauses_at schema inside (count - turn) still text) ≡ total → total ≡ Ok (joined front (just s p), after, rest)
+    pub is_last : (rest : Text) → gap_at more ≡ Ok rest → ends rest ≡ true → with_front front (clauses_at schema inside (count - turn) still text) ≡ total → total ≡ Ok (then_clause front s p, after, rest)
     unfolding clauses_at
     is_last rest g e h =
         let k : count - turn ≡ suc (count - (turn + 1)) = omega arith in
-        sym h ∙ rw (k, first, g, e) refl
+        sym h ∙ rw (k, first, g, e) (ap (λ (q : Query). Ok (q, after, rest)) (appended-one front s p))
 
     pub goes_on : (rest : Text) → gap_at more ≡ Ok rest → ends rest ≡ false → with_front front (clauses_at schema inside (count - turn) still text) ≡ total
-        → with_front (joined front (just s p)) (clauses_at schema inside (count - (turn + 1)) after rest) ≡ total
+        → with_front (then_clause front s p) (clauses_at schema inside (count - (turn + 1)) after rest) ≡ total
     unfolding clauses_at
     goes_on rest g e h =
         let k : count - turn ≡ suc (count - (turn + 1)) = omega arith in
-        let step : with_front front (clauses_at schema inside (count - turn) still text) ≡ with_front (joined front (just s p)) (clauses_at schema inside (count - (turn + 1)) after rest) =
+        let step : with_front front (clauses_at schema inside (count - turn) still text) ≡ with_front (then_clause front s p) (clauses_at schema inside (count - (turn + 1)) after rest) =
         rw (k, first, g, e) (regroup front s p (clauses_at schema inside (count - (turn + 1)) after rest)) in
         sym step ∙ h

@@ -1,5 +1,7 @@
 pub mod View
-pub mod Matching
+pub mod Tests
 pub mod Same
 pub mod Fed
 pub mod Reading
+pub mod Escapes
+pub mod Runs

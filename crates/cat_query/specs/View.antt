@@ -1,5 +1,5 @@
 -- The query that a parsed query stands for.
-use Rattle.std.specs.Prelude.{List, [], ◌∷◌, map}
+use Rattle.std.specs.Prelude.{List, [], ◌∷◌, map, Bool, true, false}
 use Rattle.cat_model.specs.Text.{Text}
 use Rattle.cat_model.specs.Query as model
 use Rattle.cat_query.specs.declared.query.Sign.{Sign}
@@ -33,13 +33,14 @@ tested f (test.LabelPrefix p) = model.Primary.label_prefix f p
 abbrev pub Signed : Type 0
 Signed = model.Sign × model.Primary
 
-abbrev pub listed : List Signed → model.Query
-listed [] = model.Query.no_clause
-listed (c ∷ cs) = model.Query.clause c.0 c.1 (listed cs)
+-- the query of these clauses
+abbrev pub query_from : List Signed → model.Query
+query_from [] = model.Query.no_clause
+query_from (c ∷ cs) = model.Query.clause c.0 c.1 (query_from cs)
 
 abbrev pub primary_step : Primary-F model.Primary Signed → model.Primary
 primary_step Primary-F.Everything = model.Primary.everything
-primary_step (Primary-F.Group clauses) = model.Primary.group (listed clauses.items)
+primary_step (Primary-F.Group clauses) = model.Primary.group (query_from clauses.items)
 primary_step (Primary-F.Field name t) = tested name t
 
 abbrev pub clause_step : Clause-F model.Primary Signed → Signed
@@ -52,7 +53,13 @@ abbrev pub signed : Clause → Signed
 signed = fold-Clause model.Primary Signed primary_step clause_step
 
 abbrev pub clauses_of : List Clause → model.Query
-clauses_of cs = listed (map signed cs)
+clauses_of cs = query_from (map signed cs)
 
 abbrev pub query_of : Query → model.Query
 query_of q = clauses_of q.clauses.items
+
+-- the query is the one clause *:*, which no - stands before
+abbrev pub is_everything : model.Query → Bool
+is_everything (model.Query.clause model.Sign.must model.Primary.everything model.Query.no_clause) = true
+is_everything (model.Query.clause model.Sign.should model.Primary.everything model.Query.no_clause) = true
+is_everything _ = false

@@ -1,27 +1,24 @@
 //! Copies of queries.
-ghost use Rattle.std.specs.Prelude.{◌≡◌, IfOk, IfErr};
-ghost use Rattle.cat_base.specs.declared.refusal.Refusal.TheVariants.{Memory};
+ghost use Rattle.std.specs.Prelude.{◌≡◌, IfOk};
 ghost use Rattle.cat_query.specs.View.{primary_of, clauses_of, query_of};
 
 use crate::query::{Clause, Primary, Query, Test};
-use cat_base::{Refusal, Text};
-use std::alloc::Global;
+use cat_base::Text;
+use std::alloc::{AllocError, Global};
 
 impl Query {
-    /// The same query once more. A refusal is [`Refusal::Memory`].
-    pub fn copy(&self) -> Result<Query, Refusal>
-        ensures ok { IfOk result (λ q. query_of q ≡ query_of self.now) }
-        ensures refusal { IfErr result (λ e. e ≡ Memory) }
-    {
+    /// An equal query in memory of its own.
+    pub fn copy(&self) -> Result<Query, AllocError>
+        ensures { IfOk result (λ q. query_of q ≡ query_of self.now) }
+        {
         let clauses = copy_clauses(*self.clauses.allocator(), &self.clauses)?;
         Ok(Query { clauses })
     }
 }
 
 #[cycle(copying)]
-fn copy_clauses(alloc: Global, clauses: &[Clause]) -> Result<Vec<Clause>, Refusal>
-    ensures ok { IfOk result (λ v. clauses_of v.items ≡ clauses_of clauses.now) }
-    ensures refusal { IfErr result (λ e. e ≡ Memory) }
+fn copy_clauses(alloc: Global, clauses: &[Clause]) -> Result<Vec<Clause>, AllocError>
+    ensures { IfOk result (λ v. clauses_of v.items ≡ clauses_of clauses.now) }
 {
     let mut copied = Vec::with_capacity(alloc, clauses.len())?;
     for clause in clauses {
@@ -35,9 +32,8 @@ fn copy_clauses(alloc: Global, clauses: &[Clause]) -> Result<Vec<Clause>, Refusa
 }
 
 #[cycle(copying)]
-fn copy_primary(alloc: Global, primary: &Primary) -> Result<Primary, Refusal>
-    ensures ok { IfOk result (λ p. primary_of p ≡ primary_of primary.now) }
-    ensures refusal { IfErr result (λ e. e ≡ Memory) }
+fn copy_primary(alloc: Global, primary: &Primary) -> Result<Primary, AllocError>
+    ensures { IfOk result (λ p. primary_of p ≡ primary_of primary.now) }
 {
     match primary {
         Primary::Everything => Ok(Primary::Everything),
@@ -46,9 +42,8 @@ fn copy_primary(alloc: Global, primary: &Primary) -> Result<Primary, Refusal>
     }
 }
 
-fn copy_test(test: &Test) -> Result<Test, Refusal>
-    ensures ok { IfOk result (λ t. t ≡ test.now) }
-    ensures refusal { IfErr result (λ e. e ≡ Memory) }
+fn copy_test(test: &Test) -> Result<Test, AllocError>
+    ensures { IfOk result (λ t. t ≡ test.now) }
 {
     match test {
         Test::Word(text) => Ok(Test::Word(text.copy()?)),
@@ -63,9 +58,8 @@ fn copy_test(test: &Test) -> Result<Test, Refusal>
     }
 }
 
-fn copy_end(end: &Option<Text>) -> Result<Option<Text>, Refusal>
-    ensures ok { IfOk result (λ o. o ≡ end.now) }
-    ensures refusal { IfErr result (λ e. e ≡ Memory) }
+fn copy_end(end: &Option<Text>) -> Result<Option<Text>, AllocError>
+    ensures { IfOk result (λ o. o ≡ end.now) }
 {
     match end {
         Some(text) => Ok(Some(text.copy()?)),

@@ -1,10 +1,9 @@
 //! The rows of a segment that a query matches.
-ghost use Rattle.std.specs.Prelude.{◌≡◌, ◌^◌, ◌<◌, length, count_by, IfOk, IfErr};
-ghost use Rattle.cat_base.specs.declared.refusal.Refusal.TheVariants.{Memory};
+ghost use Rattle.std.specs.Prelude.{◌≡◌, ◌^◌, ◌<◌, length, count_by, IfOk};
 ghost use Rattle.cat_model.specs.RowSets.{has_row, indices};
 
-use cat_base::Refusal;
 use cat_values::{RowSet, Rows};
+use std::alloc::AllocError;
 use std::marker::Model;
 
 /// The rows of one segment that a query matches, deleted rows too: Lucene's `DocIdSet`, as `LRUQueryCache` keeps it for
@@ -69,10 +68,9 @@ impl DocSet {
         &self.rows
     }
 
-    /// An equal set in memory of its own. A refusal is [`Refusal::Memory`].
-    pub fn copy(&self) -> Result<Self, Refusal>
-        ensures ok { IfOk result (λ s. s ≡ self.now) }
-        ensures refusal { IfErr result (λ e. e ≡ Memory) }
+    /// An equal set in memory of its own.
+    pub fn copy(&self) -> Result<Self, AllocError>
+        ensures { IfOk result (λ s. s ≡ self.now) }
     {
         let rows = self.rows.copy()?;
         Ok(DocSet { rows })

@@ -2,19 +2,20 @@
 //! they compare as what they ask.
 #![tactic(auto)]
 
+mod accepting;
 mod copies;
 mod doc_set;
 mod equality;
+mod escapes;
 mod hashing;
 mod matching;
 mod meaning;
 mod parsing;
 mod query;
 mod reading;
+mod runs;
 mod scanning;
-mod segments;
-mod stop;
 mod values;
 
 pub use doc_set::DocSet;
-pub use query::{Clause, Primary, Query, Sign, Test};
+pub use query::Query;

@@ -1,176 +1,148 @@
-//! Which items a query accepts.
-ghost use Rattle.std.specs.Prelude.{◌≡◌, ◌&&◌, Some};
+//! Which rows of a segment a query matches: its clauses one after another, each over the whole segment.
+ghost use Rattle.std.specs.Prelude.{◌≡◌, map, false, Some, IfOk};
 ghost use Rattle.std.specs.List.{list_any};
-ghost use Rattle.cat_model.specs.Text.{same_text, text_le, has_prefix};
 ghost use Rattle.cat_model.specs.Item as model;
-ghost use Rattle.cat_model.specs.Query.{matches, primary_matches, open_or, int_le};
-ghost use Rattle.cat_schema.specs.Contents.{content_of};
-ghost use Rattle.cat_query.specs.View.{tested, primary_of, clauses_of, query_of};
-ghost use Rattle.cat_query.specs.Matching.{passes};
+ghost use Rattle.cat_model.specs.Query.{matches, supports, supported, primary_matches};
+ghost use Rattle.cat_model.specs.View.{item_in, row_matches};
+ghost use Rattle.cat_segment.specs.Contents.{contents_of};
+ghost use Rattle.cat_query.specs.View.{sign_of, tested, primary_of, clauses_of, query_of};
+ghost use Rattle.cat_query.specs.Tests.{passes};
 
+use crate::doc_set::DocSet;
 use crate::query::{Clause, Primary, Query, Sign, Test};
-use cat_base::{Text, TextSet};
-use cat_schema::{FieldValue, Item};
+use cat_base::Text;
+use cat_inverted::Terms;
+use cat_segment::{Column, Keywords, Labels, Segment};
+use cat_values::{NumberColumn, RowSet};
+use std::alloc::{AllocError, Global};
 
 impl Query {
-    /// Whether the item matches each `+` clause and no `-` clause and, where there is no `+` clause, some clause without
-    /// a sign: Lucene's `BooleanQuery`.
-    pub fn accepts(&self, item: &Item) -> bool
-        ensures { result ≡ matches (query_of self.now) item.now }
+    /// The rows of the segment that the query matches, as [`Query::accepts`] says of the item of each; deleted rows too,
+    /// since a segment doesn't know which of its rows live: Lucene's `BooleanWeight.scorer` for one leaf, before its
+    /// `liveDocs` are asked.
+    pub fn matches(&self, alloc: Global, segment: &Segment) -> Result<DocSet, AllocError>
+        ensures { IfOk result (λ s. s ≡ map (row_matches (query_of self.now)) segment.now.rows) }
     {
-        clauses_accept(&self.clauses, item)
+        let rows = clauses_set(alloc, &self.clauses, segment)?;
+        Ok(DocSet::of(rows))
     }
 }
 
-#[cycle(matching)]
-fn clauses_accept(clauses: &[Clause], item: &Item) -> bool
-    ensures { result ≡ matches (clauses_of clauses.now) item.now }
+/// The rows that the clauses accept.
+#[cycle(rows)]
+fn clauses_set(alloc: Global, clauses: &[Clause], segment: &Segment) -> Result<RowSet, AllocError>
+    ensures { IfOk result (λ s. s ≡ map (λ r. matches (clauses_of clauses.now) (item_in r)) segment.now.rows) }
 {
-    let mut supported = false;
+    let mut rows = supported_set(alloc, clauses, segment)?;
     for clause in clauses {
-        let found = primary_accepts(&clause.primary, item);
         match clause.sign {
-            Sign::Must => {
-                if !found {
-                    return false;
-                }
-                supported = true;
-            }
-            Sign::MustNot => {
-                if found {
-                    return false;
-                }
-            }
-            Sign::Should => supported = supported || found,
+            Sign::Must => rows.and_with(&primary_set(alloc, &clause.primary, segment)?),
+            Sign::MustNot => rows.and_not(&primary_set(alloc, &clause.primary, segment)?),
+            Sign::Should => {}
         }
     }
-    supported
+    Ok(rows)
 }
 
-#[cycle(matching)]
-fn primary_accepts(primary: &Primary, item: &Item) -> bool
-    ensures { result ≡ primary_matches (primary_of primary.now) item.now }
+/// The rows that some `+` clause or some clause without a sign speaks for: all rows where there is a `+` clause, and then
+/// no clause without a sign is looked at.
+#[cycle(rows)]
+fn supported_set(alloc: Global, clauses: &[Clause], segment: &Segment) -> Result<RowSet, AllocError>
+    ensures { IfOk result (λ s. s ≡ map (λ r. supported (clauses_of clauses.now) (item_in r)) segment.now.rows) }
+{
+    if has_must(clauses) {
+        return RowSet::all(alloc, segment.len());
+    }
+    let mut rows = RowSet::none(alloc, segment.len())?;
+    for clause in clauses {
+        match clause.sign {
+            Sign::Should => rows.or_with(&primary_set(alloc, &clause.primary, segment)?),
+            _ => {}
+        }
+    }
+    Ok(rows)
+}
+
+/// Whether some clause is a `+` clause, which speaks even for rows that it doesn't match.
+fn has_must(clauses: &[Clause]) -> bool
+    ensures { result ≡ list_any (λ c. supports (sign_of c.sign) false) clauses.now }
+{
+    clauses
+        .iter()
+        .any(|clause| matches!(clause.sign, Sign::Must))
+}
+
+/// The rows that the primary matches.
+#[cycle(rows)]
+fn primary_set(alloc: Global, primary: &Primary, segment: &Segment) -> Result<RowSet, AllocError>
+    ensures { IfOk result (λ s. s ≡ map (λ r. primary_matches (primary_of primary.now) (item_in r)) segment.now.rows) }
 {
     match primary {
-        Primary::Everything => true,
-        Primary::Group(clauses) => clauses_accept(clauses, item),
-        Primary::Field(name, test) => field_accepts(name, test, item),
+        Primary::Everything => RowSet::all(alloc, segment.len()),
+        Primary::Group(clauses) => clauses_set(alloc, clauses, segment),
+        Primary::Field(name, test) => field_set(alloc, name, test, segment),
     }
 }
 
-fn field_accepts(name: &Text, test: &Test, item: &Item) -> bool
-    ensures { result ≡ primary_matches (tested name.now test.now) item.now }
+/// The rows whose field of the name passes the test; none where the segment has no such field.
+fn field_set(alloc: Global, name: &Text, test: &Test, segment: &Segment) -> Result<RowSet, AllocError>
+    ensures { IfOk result (λ s. s ≡ map (λ r. primary_matches (tested name.now test.now) (item_in r)) segment.now.rows) }
 {
-    match item.value(name.as_str()) {
-        Some(value) => value_accepts(test, value),
-        None => false,
+    match segment.column(name.as_str()) {
+        Some(column) => column_set(alloc, test, column),
+        None => RowSet::none(alloc, segment.len()),
     }
 }
 
-fn value_accepts(test: &Test, value: &FieldValue) -> bool
-    ensures { result ≡ passes test.now (Some (content_of value.now)) }
+/// The rows of the column that pass the test. A test of another kind of field passes none.
+fn column_set(alloc: Global, test: &Test, column: &Column) -> Result<RowSet, AllocError>
+    ensures { IfOk result (λ s. s ≡ map (λ c. passes test.now (Some c)) (contents_of column.now)) }
 {
-    match value {
-        FieldValue::Words(words) => words_accept(test, words),
-        FieldValue::Keyword(Some(keyword)) => keyword_accepts(test, keyword),
-        FieldValue::Number(Some(number)) => number_accepts(test, *number),
-        FieldValue::Labels(labels) => labels_accept(test, labels),
-        FieldValue::Keyword(None) | FieldValue::Number(None) => false,
+    match column {
+        Column::Text(terms) => words_set(alloc, test, terms),
+        Column::Keyword(keywords) => keywords_set(alloc, test, keywords),
+        Column::Number(numbers) => numbers_set(alloc, test, numbers),
+        Column::Facet(labels) => labels_set(alloc, test, labels),
     }
 }
 
-fn words_accept(test: &Test, words: &TextSet) -> bool
-    ensures { result ≡ passes test.now (Some (model.Content.words words.now)) }
+fn words_set(alloc: Global, test: &Test, terms: &Terms) -> Result<RowSet, AllocError>
+    ensures { IfOk result (λ s. s ≡ map (λ ws. passes test.now (Some (model.Content.words ws))) terms.now) }
 {
     match test {
-        Test::Word(word) => has(words, word),
-        Test::WordPrefix(prefix) => has_prefixed(words, prefix),
-        _ => false,
+        Test::Word(word) => terms.rows_with(word.as_str()),
+        Test::WordPrefix(prefix) => terms.prefix(prefix.as_str()),
+        _ => RowSet::none(alloc, terms.len()),
     }
 }
 
-fn labels_accept(test: &Test, labels: &TextSet) -> bool
-    ensures { result ≡ passes test.now (Some (model.Content.labels labels.now)) }
+fn keywords_set(alloc: Global, test: &Test, keywords: &Keywords) -> Result<RowSet, AllocError>
+    ensures { IfOk result (λ s. s ≡ map (λ k. passes test.now (Some (model.Content.keyword k))) keywords.now) }
 {
     match test {
-        Test::Label(label) => has(labels, label),
-        Test::LabelPrefix(prefix) => has_prefixed(labels, prefix),
-        _ => false,
+        Test::Keyword(text) => keywords.terms().rows_with(text.as_str()),
+        Test::KeywordPrefix(prefix) => keywords.terms().prefix(prefix.as_str()),
+        Test::KeywordRange(low, high) => keywords.terms().between(low.as_ref(), high.as_ref()),
+        _ => RowSet::none(alloc, keywords.terms().len()),
     }
 }
 
-fn keyword_accepts(test: &Test, keyword: &Text) -> bool
-    ensures { result ≡ passes test.now (Some (model.Content.keyword (Some keyword.now))) }
+fn numbers_set(alloc: Global, test: &Test, numbers: &NumberColumn) -> Result<RowSet, AllocError>
+    ensures { IfOk result (λ s. s ≡ map (λ n. passes test.now (Some (model.Content.number n))) numbers.now) }
 {
     match test {
-        Test::Keyword(text) => text == keyword,
-        Test::KeywordPrefix(prefix) => begins(prefix, keyword),
-        Test::KeywordRange(low, high) => is_from(low, keyword) && is_to(high, keyword),
-        _ => false,
+        Test::Number(wanted) => numbers.between(Some(*wanted), Some(*wanted)),
+        Test::NumberRange(low, high) => numbers.between(*low, *high),
+        _ => RowSet::none(alloc, numbers.len()),
     }
 }
 
-fn number_accepts(test: &Test, number: i64) -> bool
-    ensures { result ≡ passes test.now (Some (model.Content.number (Some number))) }
+fn labels_set(alloc: Global, test: &Test, labels: &Labels) -> Result<RowSet, AllocError>
+    ensures { IfOk result (λ s. s ≡ map (λ ls. passes test.now (Some (model.Content.labels ls))) labels.now) }
 {
     match test {
-        Test::Number(wanted) => *wanted <= number && number <= *wanted,
-        Test::NumberRange(low, high) => is_at_least(*low, number) && is_at_most(*high, number),
-        _ => false,
-    }
-}
-
-fn has(texts: &TextSet, text: &Text) -> bool
-    ensures { result ≡ list_any (same_text text.now) texts.now }
-{
-    texts.contains(text.as_str())
-}
-
-fn has_prefixed(texts: &TextSet, prefix: &Text) -> bool
-    ensures { result ≡ list_any (has_prefix prefix.now) texts.now }
-{
-    texts.as_slice().iter().any(|text| begins(prefix, text))
-}
-
-fn begins(prefix: &Text, text: &Text) -> bool
-    ensures { result ≡ has_prefix prefix.now text.now }
-{
-    let prefix = prefix.as_str().as_bytes();
-    text.as_str().as_bytes().starts_with(prefix)
-}
-
-fn is_from(low: &Option<Text>, text: &Text) -> bool
-    ensures { result ≡ open_or (λ a. text_le a text.now) low.now }
-{
-    match low {
-        Some(low) => low.cmp(text).is_le(),
-        None => true,
-    }
-}
-
-fn is_to(high: &Option<Text>, text: &Text) -> bool
-    ensures { result ≡ open_or (text_le text.now) high.now }
-{
-    match high {
-        Some(high) => text.cmp(high).is_le(),
-        None => true,
-    }
-}
-
-fn is_at_least(low: Option<i64>, number: i64) -> bool
-    ensures { result ≡ open_or (λ a. int_le a number) low }
-{
-    match low {
-        Some(low) => low <= number,
-        None => true,
-    }
-}
-
-fn is_at_most(high: Option<i64>, number: i64) -> bool
-    ensures { result ≡ open_or (int_le number) high }
-{
-    match high {
-        Some(high) => number <= high,
-        None => true,
+        Test::Label(label) => labels.terms().rows_with(label.as_str()),
+        Test::LabelPrefix(prefix) => labels.terms().prefix(prefix.as_str()),
+        _ => RowSet::none(alloc, labels.terms().len()),
     }
 }

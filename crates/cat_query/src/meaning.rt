@@ -1,88 +1,81 @@
-//! What a value means in a field, by the field's kind.
-ghost use Rattle.std.specs.Prelude.{◌≡◌, ◌≢◌, ℕ, List, Some, Ok, IfErr};
-ghost use Rattle.std.specs.List.{list_all};
-ghost use Rattle.cat_model.specs.Words.{is_word_byte, lowered, words};
-ghost use Rattle.cat_model.specs.Item as model;
-ghost use Rattle.cat_model.specs.Reader.{or_fault, integer_of, bound_of, meaning, only_word};
-ghost use Rattle.cat_schema.specs.Kinds.{kind_meant};
-ghost use Rattle.cat_query.specs.View.{tested};
-ghost use Rattle.cat_query.specs.Reading.{Gives, asks_of};
-ghost use Rattle.cat_query.specs.declared.stop.Stop.TheVariants.{Memory};
+//! What a value means in a field, by the field's kind. It is judged before memory is asked for.
+ghost use Rattle.std.specs.Prelude.{◌≡◌, ℕ, List, Some, true, IfOk, option_map};
+ghost use Rattle.cat_model.specs.Words.{lowered};
+ghost use Rattle.cat_model.specs.Item as item;
+ghost use Rattle.cat_model.specs.Query as model;
+ghost use Rattle.cat_model.specs.Reader.{integer_of, bound_of, meaning};
+ghost use Rattle.cat_schema.specs.Kinds.{field_kind_of};
+ghost use Rattle.cat_query.specs.Escapes.{unescaped, is_escaped};
+ghost use Rattle.cat_query.specs.View.{tested, primary_of};
+ghost use Rattle.cat_query.specs.Reading.{JudgesAs, IsEscaped, IsEscapedEnd, asks_of, end_of};
 
-use crate::query::Test;
-use crate::scanning::{behind, copied};
-use crate::stop::Stop;
+use crate::escapes::unescape;
+use crate::query::{Primary, Test};
+use crate::runs::{all_word_bytes, only_run};
+use crate::scanning::behind;
 use crate::values::Value;
 use cat_base::Text;
-use cat_schema::{Kind, words};
-use std::alloc::Global;
+use cat_schema::{Kind, lowered};
+use std::alloc::{AllocError, Global};
 
-/// The first byte past ASCII: the bytes from it on are those of the other characters' UTF-8.
-const PAST_ASCII: u8 = 128;
+/// What was built, unless memory was refused.
+pub(crate) type Built<T> = Result<T, AllocError>;
 
-fn is_word_byte(b: u8) -> bool
-    ensures { result ≡ is_word_byte b }
+fn word(alloc: Global, text: &str) -> Built<Test>
+    ensures { (f : List ℕ) → IfOk result (λ t. tested f t ≡ model.Primary.word f (lowered text.now)) }
 {
-    b.is_ascii_alphanumeric() || b >= PAST_ASCII
+    Ok(Test::Word(lowered(alloc, text)?))
 }
 
-fn all_word_bytes(bytes: &[u8]) -> bool
-    ensures { result ≡ list_all is_word_byte bytes.now }
+fn word_prefix(alloc: Global, text: &str) -> Built<Test>
+    ensures { (f : List ℕ) → IfOk result (λ t. tested f t ≡ model.Primary.word_prefix f (lowered text.now)) }
 {
-    bytes.iter().all(|b| is_word_byte(*b))
+    Ok(Test::WordPrefix(lowered(alloc, text)?))
 }
 
-fn lowered(alloc: Global, text: &str) -> Result<Text, Stop>
-    ensures { Gives (λ t. t) result (Ok (lowered text.now)) }
-{
-    let mut text = String::from_str(alloc, text)?;
-    text.make_ascii_lowercase();
-    Ok(Text::new(text))
-}
-
-// The text's only word.
-fn only_word(alloc: Global, fault: usize, text: &str) -> Result<Test, Stop>
-    ensures { (f : List ℕ) → Gives (tested f) result (or_fault fault (only_word f (words text.now))) }
-{
-    let Ok(found) = words(alloc, text) else {
-        return Err(Stop::Memory);
-    };
-    match found.as_slice() {
-        [word] => Ok(Test::Word(copied(alloc, word.as_str())?)),
-        _ => Err(Stop::Fault(fault)),
-    }
-}
-
-#[tactic(auto, unfolding(cat_model::specs::Reader::meaning))]
-fn in_text(alloc: Global, fault: usize, value: Value) -> Result<Test, Stop>
-    ensures { (f : List ℕ) → Gives (tested f) result (or_fault fault (meaning f model.Kind.text (asks_of value))) }
+fn in_text(alloc: Global, value: Value<'_>) -> Option<Built<Test>>
+    requires { IsEscaped value }
+    ensures { (f : List ℕ) → JudgesAs (tested f) result (meaning f item.Kind.text (asks_of value.entry)) }
 {
     match value {
-        Value::Is(text) => only_word(alloc, fault, text.as_str()),
-        Value::Begins(text) => {
-            if !all_word_bytes(text.as_str().as_bytes()) {
-                return Err(Stop::Fault(fault));
-            }
-            Ok(Test::WordPrefix(lowered(alloc, text.as_str())?))
+        Value::Is(text) => {
+            let run = only_run(text)?;
+            Some(word(alloc, run))
         }
-        Value::Between(_, _) => Err(Stop::Fault(fault)),
+        Value::Begins(text) => {
+            if !all_word_bytes(text.as_bytes()) {
+                return None;
+            }
+            Some(word_prefix(alloc, text))
+        }
+        Value::Between(_, _) => None,
+    }
+}
+
+fn end(alloc: Global, end: Option<&str>) -> Built<Option<Text>>
+    ensures { IfOk result (λ t. t ≡ end_of end.entry) }
+{
+    match end {
+        None => Ok(None),
+        Some(text) => Ok(Some(unescape(alloc, text)?)),
     }
 }
 
 #[tactic(auto, unfolding(cat_model::specs::Reader::meaning))]
-fn in_keyword(value: Value) -> Test
-    ensures { (f : List ℕ) → meaning f model.Kind.keyword (asks_of value) ≡ Some (tested f result) }
+fn in_keyword(alloc: Global, value: Value<'_>) -> Built<Test>
+    ensures { (f : List ℕ) → IfOk result (λ t. meaning f item.Kind.keyword (asks_of value.entry) ≡ Some (tested f t)) }
 {
     match value {
-        Value::Is(text) => Test::Keyword(text),
-        Value::Begins(text) => Test::KeywordPrefix(text),
-        Value::Between(low, high) => Test::KeywordRange(low, high),
+        Value::Is(text) => Ok(Test::Keyword(unescape(alloc, text)?)),
+        Value::Begins(text) => Ok(Test::KeywordPrefix(Text::from_str(alloc, text)?)),
+        Value::Between(low, high) => Ok(Test::KeywordRange(end(alloc, low)?, end(alloc, high)?)),
     }
 }
 
-// The integer that a text is: digits, after a `-` or not.
+// The integer that a text is: digits, after a `-` or not. An escaped byte is no digit.
 fn integer(text: &str) -> Option<i64>
-    ensures { result ≡ integer_of text.now }
+    requires { is_escaped text.now ≡ true }
+    ensures { result ≡ integer_of (unescaped text.now) }
 {
     match behind(text, '+') {
         // `parse` would take it.
@@ -91,57 +84,80 @@ fn integer(text: &str) -> Option<i64>
     }
 }
 
-fn bound(end: &Option<Text>) -> Option<Option<i64>>
-    ensures { result ≡ bound_of end.now }
+fn bound(end: Option<&str>) -> Option<Option<i64>>
+    requires { IsEscapedEnd end }
+    ensures { result ≡ bound_of (end_of end.entry) }
 {
     match end {
         None => Some(None),
-        Some(text) => match integer(text.as_str()) {
-            Some(number) => Some(Some(number)),
-            None => None,
-        },
+        Some(text) => {
+            let number = integer(text)?;
+            Some(Some(number))
+        }
     }
 }
 
 #[tactic(auto, unfolding(cat_model::specs::Reader::meaning))]
-fn in_number(fault: usize, value: &Value) -> Result<Test, Stop>
-    ensures gives { (f : List ℕ) → Gives (tested f) result (or_fault fault (meaning f model.Kind.number (asks_of value.now))) }
-    ensures stop { IfErr result (λ e. e ≢ Memory) }
+fn in_number(value: Value<'_>) -> Option<Test>
+    requires { IsEscaped value }
+    ensures { (f : List ℕ) → option_map (tested f) result ≡ meaning f item.Kind.number (asks_of value.entry) }
 {
     match value {
-        Value::Is(text) => match integer(text.as_str()) {
-            Some(number) => Ok(Test::Number(number)),
-            None => Err(Stop::Fault(fault)),
-        },
-        Value::Begins(_) => Err(Stop::Fault(fault)),
-        Value::Between(low, high) => match (bound(low), bound(high)) {
-            (Some(low), Some(high)) => Ok(Test::NumberRange(low, high)),
-            _ => Err(Stop::Fault(fault)),
-        },
+        Value::Is(text) => {
+            let number = integer(text)?;
+            Some(Test::Number(number))
+        }
+        Value::Begins(_) => None,
+        Value::Between(low, high) => {
+            let low = bound(low)?;
+            let high = bound(high)?;
+            Some(Test::NumberRange(low, high))
+        }
     }
 }
 
-#[tactic(auto, unfolding(cat_model::specs::Reader::meaning))]
-fn in_facet(fault: usize, value: Value) -> Result<Test, Stop>
-    ensures gives { (f : List ℕ) → Gives (tested f) result (or_fault fault (meaning f model.Kind.facet (asks_of value))) }
-    ensures stop { IfErr result (λ e. e ≢ Memory) }
+fn label(alloc: Global, text: &str) -> Built<Test>
+    ensures { (f : List ℕ) → IfOk result (λ t. tested f t ≡ model.Primary.label f (unescaped text.now)) }
+{
+    Ok(Test::Label(unescape(alloc, text)?))
+}
+
+fn label_prefix(alloc: Global, text: &str) -> Built<Test>
+    ensures { (f : List ℕ) → IfOk result (λ t. tested f t ≡ model.Primary.label_prefix f text.now) }
+{
+    Ok(Test::LabelPrefix(Text::from_str(alloc, text)?))
+}
+
+fn in_facet(alloc: Global, value: Value<'_>) -> Option<Built<Test>>
+    ensures { (f : List ℕ) → JudgesAs (tested f) result (meaning f item.Kind.facet (asks_of value.entry)) }
 {
     match value {
-        Value::Is(text) => Ok(Test::Label(text)),
-        Value::Begins(text) => Ok(Test::LabelPrefix(text)),
-        Value::Between(_, _) => Err(Stop::Fault(fault)),
+        Value::Is(text) => Some(label(alloc, text)),
+        Value::Begins(text) => Some(label_prefix(alloc, text)),
+        Value::Between(_, _) => None,
     }
 }
 
-/// The test that a value is in a field of the kind, or a fault.
-#[tactic(auto, unfolding(cat_model::specs::Reader::meaning))]
-pub(crate) fn test(alloc: Global, fault: usize, kind: Kind, value: Value) -> Result<Test, Stop>
-    ensures { (f : List ℕ) → Gives (tested f) result (or_fault fault (meaning f (kind_meant kind) (asks_of value))) }
+/// The test that a value is in a field of the kind; none where it is wrong there.
+pub(crate) fn test(alloc: Global, kind: Kind, value: Value<'_>) -> Option<Built<Test>>
+    requires { IsEscaped value }
+    ensures { (f : List ℕ) → JudgesAs (tested f) result (meaning f (field_kind_of kind) (asks_of value.entry)) }
 {
     match kind {
-        Kind::Text => in_text(alloc, fault, value),
-        Kind::Keyword => Ok(in_keyword(value)),
-        Kind::Number => in_number(fault, &value),
-        Kind::Facet => in_facet(fault, value),
+        Kind::Text => in_text(alloc, value),
+        Kind::Keyword => Some(in_keyword(alloc, value)),
+        Kind::Number => {
+            let test = in_number(value)?;
+            Some(Ok(test))
+        }
+        Kind::Facet => in_facet(alloc, value),
     }
+}
+
+/// The test of the field of the name.
+pub(crate) fn field_test(alloc: Global, name: &str, test: Built<Test>) -> Built<Primary>
+    ensures { (p : model.Primary) → IfOk test (λ t. tested name.now t ≡ p) → IfOk result (λ x. primary_of x ≡ p) }
+{
+    let test = test?;
+    Ok(Primary::Field(Text::from_str(alloc, name)?, test))
 }

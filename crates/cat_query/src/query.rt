@@ -1,10 +1,13 @@
 //! The parsed query: signed clauses in their order.
+ghost use Rattle.std.specs.Prelude.{◌≡◌, true, IsTrue};
+ghost use Rattle.cat_model.specs.Query as model;
+ghost use Rattle.cat_query.specs.View.{sign_of, primary_of, is_everything};
 
 use cat_base::Text;
 
 /// How a clause counts: `BooleanClause.Occur` in Lucene, without its `FILTER`.
 #[derive(Clone, Copy, Debug, Drop, PartialEq, Eq)]
-pub enum Sign {
+pub(crate) enum Sign {
     /// `+`: an item that is accepted matches the clause.
     Must,
     /// `-`: an item that is accepted doesn't match the clause.
@@ -15,7 +18,7 @@ pub enum Sign {
 
 /// What is asked of a field. The end of a range that is `None` is open; both ends are part of the range.
 #[derive(Debug, Drop)]
-pub enum Test {
+pub(crate) enum Test {
     /// The text has the word, as by Lucene's `TermQuery`.
     Word(Text),
     /// The text has a word that begins so, as by `PrefixQuery`.
@@ -39,7 +42,7 @@ pub enum Test {
 /// What a clause asks.
 #[derive(Debug, Drop)]
 #[cycle(query)]
-pub enum Primary {
+pub(crate) enum Primary {
     /// Any item matches, as by `MatchAllDocsQuery`.
     Everything,
     /// An item matches that the clauses accept.
@@ -51,14 +54,41 @@ pub enum Primary {
 /// A signed primary: Lucene's `BooleanClause`.
 #[derive(Debug, Drop)]
 #[cycle(query)]
-pub struct Clause {
-    pub sign: Sign,
-    pub primary: Primary,
+pub(crate) struct Clause {
+    pub(crate) sign: Sign,
+    pub(crate) primary: Primary,
 }
 
 /// A query: Lucene's `BooleanQuery`, without scores. Contracts see it as the tree of its clauses, `query_of`; equality
 /// and hashes go by the tree.
 #[derive(Debug, Drop)]
 pub struct Query {
-    pub clauses: Vec<Clause>,
+    pub(crate) clauses: Vec<Clause>,
+}
+
+impl Query {
+    ghost use Rattle.cat_model.specs.Item as item;
+    ghost use Rattle.cat_model.specs.Query.{matches};
+    ghost use Rattle.cat_query.specs.View.{query_of, is_everything};
+
+    /// Whether the query is `*:*` alone, with `+` or without a sign, as is asked of Lucene's `MatchAllDocsQuery` by
+    /// `instanceof`. Every item matches it then. Other queries may match every item too.
+    pub fn is_everything(&self) -> bool
+        ensures value { result ≡ is_everything (query_of self.now) }
+        ensures all { IsTrue result → (i : item.Item) → matches (query_of self.now) i ≡ true }
+    {
+        match self.clauses.as_slice() {
+            [clause] => is_lone_everything(clause),
+            _ => false,
+        }
+    }
+}
+
+fn is_lone_everything(clause: &Clause) -> bool
+    ensures { result ≡ is_everything (model.Query.clause (sign_of clause.now.sign) (primary_of clause.now.primary) model.Query.no_clause) }
+{
+    match clause.primary {
+        Primary::Everything => !matches!(clause.sign, Sign::MustNot),
+        _ => false,
+    }
 }

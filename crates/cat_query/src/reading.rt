@@ -1,65 +1,61 @@
-//! Queries are read from left to right; the first fault that is met stops it.
-ghost use Rattle.std.specs.Prelude.{◌≡◌, ◌≢◌, true, option_map, IfOk, IfErr};
-ghost use Rattle.cat_model.specs.Item.{kind_of};
+//! Queries are read from left to right, up to the first fault. Where memory is refused, the text is read on all the
+//! same, so that a fault that comes later is told; an error is how many bytes are left from the fault on.
+ghost use Rattle.std.specs.Prelude.{◌≡◌, true, Ok, Err, IfOk, MatchResult};
 ghost use Rattle.cat_model.specs.Query as model;
 ghost use Rattle.cat_model.specs.Reader.{ends, gap_at, term_at, everything_at, leaf_at, sign_at, primary_at, clause_at, content_at};
-ghost use Rattle.cat_schema.specs.Kinds.{kind_meant};
-ghost use Rattle.cat_query.specs.View.{sign_of, primary_of, signed, clauses_of};
-ghost use Rattle.cat_query.specs.Reading.{Gives};
-ghost use Rattle.cat_query.specs.declared.stop.Stop.TheVariants.{Memory};
+ghost use Rattle.cat_query.specs.View.{sign_of, primary_of, clauses_of};
+ghost use Rattle.cat_query.specs.Reading.{ReadsLeaf, ReadsPrimary, ReadsClause, ReadsClauses, then_clause};
 
-use crate::meaning::test;
+use crate::meaning::{Built, field_test, test};
 use crate::query::{Clause, Primary, Sign};
-use crate::scanning::{behind, behind_all, copied, name, without_spaces};
-use crate::stop::Stop;
+use crate::scanning::{behind, behind_all, name, without_spaces};
 use crate::values::read_value;
-use cat_schema::{Field, Kind};
+use cat_schema::{Field, kind_of};
 use std::alloc::Global;
 
-fn kind_of(fields: &[Field], name: &str) -> Option<Kind>
-    ensures { option_map kind_meant result ≡ kind_of fields.now name.now }
-{
-    for field in fields {
-        if field.name() == name {
-            return Some(field.kind());
-        }
-    }
-    None
-}
-
-#[tactic(auto, unfolding(cat_model::specs::Reader::term_at))]
-fn term<'a>(alloc: Global, fields: &[Field], text: &'a str) -> Result<(Primary, &'a str), Stop>
-    ensures { Gives (λ x. (primary_of x.0, x.1.now)) result (term_at fields.now text.now) }
+fn term<'a>(
+    alloc: Global,
+    fields: &[Field],
+    text: &'a str,
+) -> Result<(Built<Primary>, &'a str), usize>
+    ensures { ReadsLeaf result (term_at fields.now text.now) }
 {
     let (name, rest) = name(text);
     let Some(kind) = kind_of(fields, name) else {
-        return Err(Stop::Fault(text.len()));
+        return Err(text.len());
     };
     let Some(rest) = behind(rest, ':') else {
-        return Err(Stop::Fault(text.len()));
+        return Err(text.len());
     };
-    let (value, behind_value) = read_value(alloc, rest)?;
-    let test = test(alloc, rest.len(), kind, value)?;
-    Ok((Primary::Field(copied(alloc, name)?, test), behind_value))
+    let Some((value, behind_value)) = read_value(rest) else {
+        return Err(rest.len());
+    };
+    let Some(test) = test(alloc, kind, value) else {
+        return Err(rest.len());
+    };
+    Ok((field_test(alloc, name, test), behind_value))
 }
 
-fn everything(text: &str) -> Result<(Primary, &str), Stop>
-    ensures gives { Gives (λ x. (primary_of x.0, x.1.now)) result (everything_at text.now) }
-    ensures stop { IfErr result (λ e. e ≢ Memory) }
+fn everything(text: &str) -> Result<(Built<Primary>, &str), usize>
+    ensures { ReadsLeaf result (everything_at text.now) }
 {
     match behind_all(text, "*:*") {
-        Some(rest) => Ok((Primary::Everything, rest)),
-        None => Err(Stop::Fault(text.len())),
+        Some(rest) => Ok((Ok(Primary::Everything), rest)),
+        None => Err(text.len()),
     }
 }
 
 // A primary that is no group.
 #[tactic(auto, unfolding(cat_model::specs::Reader::leaf_at))]
-fn leaf<'a>(alloc: Global, fields: &[Field], text: &'a str) -> Result<(Primary, &'a str), Stop>
-    ensures { Gives (λ x. (primary_of x.0, x.1.now)) result (leaf_at fields.now text.now) }
+fn leaf<'a>(
+    alloc: Global,
+    fields: &[Field],
+    text: &'a str,
+) -> Result<(Built<Primary>, &'a str), usize>
+    ensures { ReadsLeaf result (leaf_at fields.now text.now) }
 {
     match text.as_bytes() {
-        [] => Err(Stop::Fault(0)),
+        [] => Err(0),
         [b'*', ..] => everything(text),
         _ => term(alloc, fields, text),
     }
@@ -87,20 +83,36 @@ fn is_end(text: &str) -> bool
 }
 
 // What stands behind the spaces after a primary.
-fn gap(text: &str) -> Result<&str, Stop>
-    ensures gives { Gives (λ t. t.now) result (gap_at text.now) }
-    ensures stop { IfErr result (λ e. e ≢ Memory) }
+fn gap(text: &str) -> Result<&str, usize>
+    ensures { MatchResult result (λ rest. gap_at text.now ≡ Ok rest.now) (λ left. gap_at text.now ≡ Err left) }
 {
     match text.as_bytes() {
         [] | [b' ' | b')', ..] => Ok(without_spaces(text)),
-        _ => Err(Stop::Fault(text.len())),
+        _ => Err(text.len()),
     }
 }
 
-fn group(clauses: Vec<Clause>) -> Primary
-    ensures { primary_of result ≡ model.Primary.group (clauses_of clauses.items) }
+fn group(clauses: Built<Vec<Clause>>) -> Built<Primary>
+    ensures { (q : model.Query) → IfOk clauses (λ v. clauses_of v.items ≡ q)
+        → IfOk result (λ p. primary_of p ≡ model.Primary.group q) }
 {
-    Primary::Group(clauses)
+    let clauses = clauses?;
+    Ok(Primary::Group(clauses))
+}
+
+fn with_clause(
+    clauses: Built<Vec<Clause>>,
+    sign: Sign,
+    primary: Built<Primary>,
+) -> Built<Vec<Clause>>
+    ensures { (q : model.Query) (p : model.Primary) → IfOk clauses (λ v. clauses_of v.items ≡ q)
+        → IfOk primary (λ x. primary_of x ≡ p)
+        → IfOk result (λ v. clauses_of v.items ≡ then_clause q (sign_of sign) p) }
+{
+    let mut clauses = clauses?;
+    let primary = primary?;
+    clauses.push(Clause { sign, primary })?;
+    Ok(clauses)
 }
 
 #[cycle(parser)]
@@ -110,8 +122,8 @@ fn primary<'a>(
     levels: usize,
     left: usize,
     text: &'a str,
-) -> Result<(Primary, usize, &'a str), Stop>
-    ensures { Gives (λ x. (primary_of x.0, x.1, x.2.now)) result
+) -> Result<(Built<Primary>, usize, &'a str), usize>
+    ensures { ReadsPrimary result
         (primary_at fields.now (content_at fields.now levels) left text.now) }
 {
     let Some(inner) = behind(text, '(') else {
@@ -121,28 +133,26 @@ fn primary<'a>(
     let (clauses, left, rest) = content(alloc, fields, levels, left, inner)?;
     match behind(rest, ')') {
         Some(rest) => Ok((group(clauses), left, rest)),
-        None => Err(Stop::Fault(0)),
+        None => Err(0),
     }
 }
 
 #[cycle(parser)]
-#[tactic(auto, unfolding(cat_model::specs::Reader::clause_at))]
 fn clause<'a>(
     alloc: Global,
     fields: &[Field],
     levels: usize,
     left: usize,
     text: &'a str,
-) -> Result<(Clause, usize, &'a str), Stop>
-    ensures { Gives (λ x. ((signed x.0).0, (signed x.0).1, x.1, x.2.now)) result
-        (clause_at fields.now (content_at fields.now levels) left text.now) }
+) -> Result<(Sign, Built<Primary>, usize, &'a str), usize>
+    ensures { ReadsClause result (clause_at fields.now (content_at fields.now levels) left text.now) }
 {
     if left == 0 {
-        return Err(Stop::Fault(text.len()));
+        return Err(text.len());
     }
     let (sign, rest) = sign(text);
     let (primary, left, rest) = primary(alloc, fields, levels, left - 1, rest)?;
-    Ok((Clause { sign, primary }, left, rest))
+    Ok((sign, primary, left, rest))
 }
 
 /// The clauses of a group, or of the whole text, and the rest, which is nothing or begins with `)`. So many groups may
@@ -155,28 +165,28 @@ pub(crate) fn content<'a>(
     levels: usize,
     left: usize,
     text: &'a str,
-) -> Result<(Vec<Clause>, usize, &'a str), Stop>
-    ensures gives { Gives (λ x. (clauses_of x.0.items, x.1, x.2.now)) result
+) -> Result<(Built<Vec<Clause>>, usize, &'a str), usize>
+    ensures gives { ReadsClauses result
         (content_at fields.now levels left text.now) }
     ensures ended { IfOk result (λ x. ends x.2.now ≡ true) }
 {
     if levels == 0 {
-        return Err(Stop::Fault(text.len() + 1));
+        return Err(text.len() + 1);
     }
     let mut rest = without_spaces(text);
     if is_end(rest) {
-        return Err(Stop::Fault(rest.len()));
+        return Err(rest.len());
     }
-    let mut clauses = Vec::new(alloc);
+    let mut clauses: Built<Vec<Clause>> = Ok(Vec::new(alloc));
     let mut still = left;
     for _turn in 0..left {
-        let (first, after, more) = clause(alloc, fields, levels - 1, still, rest)?;
-        clauses.push(first)?;
+        let (sign, first, after, more) = clause(alloc, fields, levels - 1, still, rest)?;
+        clauses = with_clause(clauses, sign, first);
         still = after;
         rest = gap(more)?;
         if is_end(rest) {
             return Ok((clauses, still, rest));
         }
     }
-    Err(Stop::Fault(rest.len()))
+    Err(rest.len())
 }

@@ -1,108 +1,105 @@
-//! Values of a query text, and what they mean in a field.
-ghost use Rattle.std.specs.Prelude.{◌≢◌, length, IfErr};
-ghost use Rattle.cat_model.specs.Reader.{or_fault, end_at, closed_end_at, run_at, to_at, bracket_at, range_at, bare_at, value_at};
-ghost use Rattle.cat_query.specs.Reading.{Gives, asks_of};
-ghost use Rattle.cat_query.specs.declared.stop.Stop.TheVariants.{Memory};
+//! Values of a query text. No memory is taken here: a value is the parts of the text that it stands in.
+ghost use Rattle.std.specs.Prelude.{◌≡◌, true, IfSome, option_map};
+ghost use Rattle.cat_model.specs.Reader.{end_at, closed_end_at, run_at, to_at, bracket_at, range_at, bare_at, value_at};
+ghost use Rattle.cat_query.specs.Escapes.{unescaped, is_escaped};
+ghost use Rattle.cat_query.specs.Reading.{asks_of, end_of, IsEscaped, IsEscapedEnd};
 
-use crate::query::Test;
-use crate::scanning::{bare, behind, behind_all, copied, quoted};
-use crate::stop::Stop;
-use cat_base::Text;
-use std::alloc::Global;
+use crate::escapes::quoted;
+use crate::scanning::{bare, behind, behind_all};
 
-/// What a value asks, whatever its field.
-#[derive(Drop)]
-pub(crate) enum Value {
+/// What a value asks, whatever its field. A text has a backslash before each quote and each backslash, as it has between
+/// quotes.
+#[derive(Clone, Copy, Drop)]
+pub(crate) enum Value<'a> {
     /// This text.
-    Is(Text),
-    /// A text that begins so.
-    Begins(Text),
+    Is(&'a str),
+    /// A text that begins so; this one has no backslash.
+    Begins(&'a str),
     /// A text of the range; an end that is `None` is open.
-    Between(Option<Text>, Option<Text>),
+    Between(Option<&'a str>, Option<&'a str>),
 }
 
-fn run(alloc: Global, fault: usize, text: &str) -> Result<(Text, &str), Stop>
-    ensures { Gives (λ x. (x.0, x.1.now)) result (or_fault fault (run_at text.now)) }
+// The longest bare text, which isn't empty.
+fn run(text: &str) -> Option<(&str, &str)>
+    ensures parts { option_map (λ x. (x.0.now, x.1.now)) result ≡ run_at text.now }
+    ensures plain { IfSome result (λ x. unescaped x.0.now ≡ x.0.now) }
+    ensures escaped { IfSome result (λ x. is_escaped x.0.now ≡ true) }
 {
     let (front, rest) = bare(text);
     if front.is_empty() {
-        return Err(Stop::Fault(fault));
+        return None;
     }
-    Ok((copied(alloc, front)?, rest))
+    Some((front, rest))
 }
 
-fn closed_end(alloc: Global, fault: usize, text: &str) -> Result<(Text, &str), Stop>
-    ensures { Gives (λ x. (x.0, x.1.now)) result (or_fault fault (closed_end_at text.now)) }
+fn closed_end(text: &str) -> Option<(&str, &str)>
+    ensures parts { option_map (λ x. (unescaped x.0.now, x.1.now)) result ≡ closed_end_at text.now }
+    ensures escaped { IfSome result (λ x. is_escaped x.0.now ≡ true) }
 {
     match behind(text, '"') {
-        Some(inner) => quoted(alloc, fault, inner),
-        None => run(alloc, fault, text),
+        Some(inner) => quoted(inner),
+        None => run(text),
     }
 }
 
-fn end(alloc: Global, fault: usize, text: &str) -> Result<(Option<Text>, &str), Stop>
-    ensures { Gives (λ x. (x.0, x.1.now)) result (or_fault fault (end_at text.now)) }
+fn end(text: &str) -> Option<(Option<&str>, &str)>
+    ensures parts { option_map (λ x. (end_of x.0, x.1.now)) result ≡ end_at text.now }
+    ensures escaped { IfSome result (λ x. IsEscapedEnd x.0) }
 {
     if let Some(rest) = behind(text, '*') {
-        return Ok((None, rest));
+        return Some((None, rest));
     }
-    let (text, rest) = closed_end(alloc, fault, text)?;
-    Ok((Some(text), rest))
+    let (text, rest) = closed_end(text)?;
+    Some((Some(text), rest))
 }
 
-fn to(fault: usize, text: &str) -> Result<&str, Stop>
-    ensures gives { Gives (λ x. x.now) result (or_fault fault (to_at text.now)) }
-    ensures stop { IfErr result (λ e. e ≢ Memory) }
+fn to(text: &str) -> Option<&str>
+    ensures { option_map (λ x. x.now) result ≡ to_at text.now }
 {
-    match behind_all(text, " TO ") {
-        Some(rest) => Ok(rest),
-        None => Err(Stop::Fault(fault)),
-    }
+    behind_all(text, " TO ")
 }
 
-fn bracket(fault: usize, text: &str) -> Result<&str, Stop>
-    ensures gives { Gives (λ x. x.now) result (or_fault fault (bracket_at text.now)) }
-    ensures stop { IfErr result (λ e. e ≢ Memory) }
+fn bracket(text: &str) -> Option<&str>
+    ensures { option_map (λ x. x.now) result ≡ bracket_at text.now }
 {
-    match behind(text, ']') {
-        Some(rest) => Ok(rest),
-        None => Err(Stop::Fault(fault)),
-    }
+    behind(text, ']')
 }
 
 // What stands behind the `[` of a range.
 #[tactic(auto, unfolding(cat_model::specs::Reader::range_at))]
-fn range(alloc: Global, fault: usize, text: &str) -> Result<(Value, &str), Stop>
-    ensures { Gives (λ x. (asks_of x.0, x.1.now)) result (or_fault fault (range_at text.now)) }
+fn range(text: &str) -> Option<(Value<'_>, &str)>
+    ensures parts { option_map (λ x. (asks_of x.0, x.1.now)) result ≡ range_at text.now }
+    ensures escaped { IfSome result (λ x. IsEscaped x.0) }
 {
-    let (low, rest) = end(alloc, fault, text)?;
-    let rest = to(fault, rest)?;
-    let (high, rest) = end(alloc, fault, rest)?;
-    let rest = bracket(fault, rest)?;
-    Ok((Value::Between(low, high), rest))
+    let (low, rest) = end(text)?;
+    let rest = to(rest)?;
+    let (high, rest) = end(rest)?;
+    let rest = bracket(rest)?;
+    Some((Value::Between(low, high), rest))
 }
 
-fn bare_value(alloc: Global, fault: usize, text: &str) -> Result<(Value, &str), Stop>
-    ensures { Gives (λ x. (asks_of x.0, x.1.now)) result (or_fault fault (bare_at text.now)) }
+fn bare_value(text: &str) -> Option<(Value<'_>, &str)>
+    ensures parts { option_map (λ x. (asks_of x.0, x.1.now)) result ≡ bare_at text.now }
+    ensures escaped { IfSome result (λ x. IsEscaped x.0) }
 {
-    let (text, rest) = run(alloc, fault, text)?;
+    let (text, rest) = run(text)?;
     match behind(rest, '*') {
-        Some(more) => Ok((Value::Begins(text), more)),
-        None => Ok((Value::Is(text), rest)),
+        Some(more) => Some((Value::Begins(text), more)),
+        None => Some((Value::Is(text), rest)),
     }
 }
 
-/// The value at the front and what stands behind it, or a fault at its first byte.
-pub(crate) fn read_value(alloc: Global, text: &str) -> Result<(Value, &str), Stop>
-    ensures { Gives (λ x. (asks_of x.0, x.1.now)) result (or_fault (length text.now) (value_at text.now)) }
+/// The value at the front, and what stands behind it.
+pub(crate) fn read_value(text: &str) -> Option<(Value<'_>, &str)>
+    ensures parts { option_map (λ x. (asks_of x.0, x.1.now)) result ≡ value_at text.now }
+    ensures escaped { IfSome result (λ x. IsEscaped x.0) }
 {
-    let fault = text.len();
     if let Some(inner) = behind(text, '"') {
-        let (text, rest) = quoted(alloc, fault, inner)?;
-        return Ok((Value::Is(text), rest));
+        let (text, rest) = quoted(inner)?;
+        return Some((Value::Is(text), rest));
     }
-    if let Some(inner) = behind(text, '[') {
-        return range(alloc, fault, inner);
+    match behind(text, '[') {
+        Some(inner) => range(inner),
+        None => bare_value(text),
     }
-    bare_value(alloc, fault, text)
 }
