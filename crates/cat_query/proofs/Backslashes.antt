@@ -192,21 +192,30 @@ same_filtered xs ys s = ap (filter is_some_text) s.one ∙ ap (λ (r : List Text
 
 split_byte : (b : ℕ) (xs ys : Text) (v : Bool) → cuts b ≡ v → SameRuns (slice_split cuts xs) (slice_split cuts ys) → SameRuns (slice_split cuts (b ∷ xs)) (slice_split cuts (b ∷ ys))
 split_byte b xs ys true e s = record {
-  head = []; left = slice_split cuts xs; right = slice_split cuts ys;
-  one = slice_split-cons_yes cuts b xs e; other = slice_split-cons_yes cuts b ys e;
+  head = [];
+  left = slice_split cuts xs;
+  right = slice_split cuts ys;
+  one = slice_split-cons_yes cuts b xs e;
+  other = slice_split-cons_yes cuts b ys e;
   tails = same_filtered (slice_split cuts xs) (slice_split cuts ys) s;
 }
 split_byte b xs ys false e s = record {
-  head = b ∷ s.head; left = s.left; right = s.right;
-  one = slice_split-cons_no cuts b xs e ∙ rw s.one refl; other = slice_split-cons_no cuts b ys e ∙ rw s.other refl;
+  head = b ∷ s.head;
+  left = s.left;
+  right = s.right;
+  one = slice_split-cons_no cuts b xs e ∙ rw s.one refl;
+  other = slice_split-cons_no cuts b ys e ∙ rw s.other refl;
   tails = s.tails;
 }
 
 -- an escaped byte cuts as the backslash before it does
 split_escaped : (b : ℕ) (xs ys : Text) → cuts b ≡ true → SameRuns (slice_split cuts xs) (slice_split cuts ys) → SameRuns (slice_split cuts (92 ∷ b ∷ xs)) (slice_split cuts (b ∷ ys))
 split_escaped b xs ys e s = record {
-  head = []; left = slice_split cuts (b ∷ xs); right = slice_split cuts ys;
-  one = slice_split-cons_yes cuts 92 (b ∷ xs) refl; other = slice_split-cons_yes cuts b ys e;
+  head = [];
+  left = slice_split cuts (b ∷ xs);
+  right = slice_split cuts ys;
+  one = slice_split-cons_yes cuts 92 (b ∷ xs) refl;
+  other = slice_split-cons_yes cuts b ys e;
   tails = ap (filter is_some_text) (slice_split-cons_yes cuts b xs e) ∙ same_filtered (slice_split cuts xs) (slice_split cuts ys) s;
 }
 
@@ -217,7 +226,7 @@ after_flag false t = t
 
 same_runs_from : (v : Bool) (t : Text) → is_escaped_from v t ≡ true → SameRuns (slice_split cuts (after_flag v t)) (slice_split cuts (unescaped_from v t))
 same_runs_from true [] e = absurd cc
-same_runs_from false [] e = record { head = []; left = []; right = []; one = refl; other = refl; tails = refl; }
+same_runs_from false [] e = record { head = []; left = []; right = []; one = refl; other = refl; tails = refl }
 same_runs_from true (b ∷ bs) e =
     let parts = and_parts (eqb b 34 || eqb b 92) (is_escaped bs) e in
     split_escaped b bs (unescaped bs) (ap not (no_word b parts.0)) (same_runs_from false bs parts.1)

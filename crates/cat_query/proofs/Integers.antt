@@ -82,6 +82,7 @@ digits_or_escapes (b ∷ bs) e = at (digits_or_escapes bs) (eqb b 92) refl e
         → (b ∷ unescaped bs ≡ b ∷ bs) ⊎ ((list_all is_ascii_digit (b ∷ bs) ≡ false) × (list_all is_ascii_digit (b ∷ unescaped bs) ≡ false))
     more (inl same) = inl (ap (λ (x : Text). b ∷ x) same)
     more (inr (p, q)) = inr (rw p (and_false (is_ascii_digit b)), rw q (and_false (is_ascii_digit b)))
+
     at : (is_escaped bs ≡ true → (unescaped bs ≡ bs) ⊎ ((list_all is_ascii_digit bs ≡ false) × (list_all is_ascii_digit (unescaped bs) ≡ false)))
         → (v : Bool) → eqb b 92 ≡ v → cond v (is_escaped_from true bs) (is_escaped bs) ≡ true
         → (cond v (unescaped_from true bs) (b ∷ unescaped bs) ≡ b ∷ bs) ⊎ ((list_all is_ascii_digit (b ∷ bs) ≡ false) × (list_all is_ascii_digit (cond v (unescaped_from true bs) (b ∷ unescaped bs)) ≡ false))

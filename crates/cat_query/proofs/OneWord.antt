@@ -79,8 +79,8 @@ more_one : (w v : Text) (ws : List Text) (o : Ordering) → order w v ≡ o → 
 more_one w v ws Equal e one =
     let same : w ≡ v = is_one w v (told w v Equal e) in
     inl (record {
-        set = ap (λ (s : List Text). insert_key order s w) one.set ∙ ap (λ (o : Ordering). match_ordering o (w ∷ v ∷ []) (v ∷ []) (v ∷ w ∷ [])) e ∙ ap (λ (x : Text). x ∷ []) (sym same);
-        ends = λ u. ap (λ (x : Option Text). cond (same_text u w) x None) (one.ends u) ∙ same_tests (same_text u w) (same_text u v) (Some u) (ap (same_text u) same);
+      set = ap (λ (s : List Text). insert_key order s w) one.set ∙ ap (λ (o : Ordering). match_ordering o (w ∷ v ∷ []) (v ∷ []) (v ∷ w ∷ [])) e ∙ ap (λ (x : Text). x ∷ []) (sym same);
+      ends = λ u. ap (λ (x : Option Text). cond (same_text u w) x None) (one.ends u) ∙ same_tests (same_text u w) (same_text u v) (Some u) (ap (same_text u) same);
     })
 more_one w v ws Less e one =
     let set : sorted_set (w ∷ ws) ≡ w ∷ v ∷ [] = ap (λ (s : List Text). insert_key order s w) one.set ∙ ap (λ (o : Ordering). match_ordering o (w ∷ v ∷ []) (v ∷ []) (v ∷ w ∷ [])) e in

@@ -9,8 +9,8 @@ use std::alloc::{AllocError, Global};
 impl Query {
     /// An equal query in memory of its own.
     pub fn copy(&self) -> Result<Query, AllocError>
-        ensures { IfOk result (λ q. query_of q ≡ query_of self.now) }
-        {
+        ensures ok { IfOk result (λ q. query_of q ≡ query_of self.now) }
+    {
         let clauses = copy_clauses(*self.clauses.allocator(), &self.clauses)?;
         Ok(Query { clauses })
     }

@@ -70,7 +70,7 @@ impl DocSet {
 
     /// An equal set in memory of its own.
     pub fn copy(&self) -> Result<Self, AllocError>
-        ensures { IfOk result (λ s. s ≡ self.now) }
+        ensures ok { IfOk result (λ s. s ≡ self.now) }
     {
         let rows = self.rows.copy()?;
         Ok(DocSet { rows })

@@ -21,7 +21,7 @@ impl Query {
     /// since a segment doesn't know which of its rows live: Lucene's `BooleanWeight.scorer` for one leaf, before its
     /// `liveDocs` are asked.
     pub fn matches(&self, alloc: Global, segment: &Segment) -> Result<DocSet, AllocError>
-        ensures { IfOk result (λ s. s ≡ map (row_matches (query_of self.now)) segment.now.rows) }
+        ensures ok { IfOk result (λ s. s ≡ map (row_matches (query_of self.now)) segment.now.rows) }
     {
         let rows = clauses_set(alloc, &self.clauses, segment)?;
         Ok(DocSet::of(rows))
@@ -85,7 +85,12 @@ fn primary_set(alloc: Global, primary: &Primary, segment: &Segment) -> Result<Ro
 }
 
 /// The rows whose field of the name passes the test; none where the segment has no such field.
-fn field_set(alloc: Global, name: &Text, test: &Test, segment: &Segment) -> Result<RowSet, AllocError>
+fn field_set(
+    alloc: Global,
+    name: &Text,
+    test: &Test,
+    segment: &Segment,
+) -> Result<RowSet, AllocError>
     ensures { IfOk result (λ s. s ≡ map (λ r. primary_matches (tested name.now test.now) (item_in r)) segment.now.rows) }
 {
     match segment.column(name.as_str()) {

@@ -20,11 +20,12 @@ clause-returns-in_err-primary t c =
 
 pub clause-returns : goal.clause-returns
 clause-returns t c =
-    let read = c.in_ok-primary.ensures in
-    (read.0,
-    clause_read c.args.fields.now (content_at c.args.fields.now c.args.levels) c.args.text.now (sign_of c.sign-sign.result.0) c.sign-sign.result.1.now c.sign-sign.ensures
-    c.args.left c.in_ok-primary.left read.0 c.in_ok-primary.rest.now c.if-left-eq0.false read.1,
-    read.2)
+    let read = c.in_ok-primary.ensures in (
+      read.0,
+      clause_read c.args.fields.now (content_at c.args.fields.now c.args.levels) c.args.text.now (sign_of c.sign-sign.result.0) c.sign-sign.result.1.now c.sign-sign.ensures
+          c.args.left c.in_ok-primary.left read.0 c.in_ok-primary.rest.now c.if-left-eq0.false read.1,
+      read.2,
+    )
 
 pub content-returns-then-levels-eq0-clause-gives : goal.content-returns-then-levels-eq0-clause-gives
 content-returns-then-levels-eq0-clause-gives t c = content_zero c.args.fields.now c.args.levels c.args.left c.args.text.now c.if-levels-eq0.true
@@ -41,8 +42,11 @@ content-loop-turn-init t c =
     let all : c.args.left - 0 ≡ c.args.left = omega arith in
     record {
       text = c.without_spaces-rest.utf8;
-      so = (model.Query.no_clause, rw c.new.ensures.items refl,
-          rw (all, c.without_spaces-rest.ensures) (with_front-nothing (clauses_at schema (content_at schema (c.args.levels - 1)) c.args.left c.args.left (after_spaces c.args.text.now)) ∙ sym begun));
+      so = (
+        model.Query.no_clause,
+        rw c.new.ensures.items refl,
+        rw (all, c.without_spaces-rest.ensures) (with_front-nothing (clauses_at schema (content_at schema (c.args.levels - 1)) c.args.left c.args.left (after_spaces c.args.text.now)) ∙ sym begun),
+      );
     }
 
 pub content-returns-in_err-sign-clause-gives : goal.content-returns-in_err-sign-clause-gives
@@ -66,11 +70,12 @@ pub content-returns-then-is_end-2-clause-gives : goal.content-returns-then-is_en
 content-returns-then-is_end-2-clause-gives t c =
     let schema : Schema = c.args.fields.now in
     let so = c.loop-turn.invariant.so in
-    let read = c.in_ok-sign.ensures in
-    (then_clause so.0 (sign_of c.in_ok-sign.sign) read.0,
-    is_last schema (content_at schema (c.args.levels - 1)) so.0 c.args.left c.loop-turn._turn c.loop-turn.still c.loop-turn.rest.now
-    (content_at schema c.args.levels c.args.left c.args.text.now) (sign_of c.in_ok-sign.sign) read.0 c.in_ok-sign.after c.in_ok-sign.more.now c.loop-turn-test.true read.1 c.in_ok-rest.rest.now c.in_ok-rest.ensures (sym c.if-is_end-2.ensures) so.2,
-    c.with_clause-clauses.ensures so.0 read.0 so.1 read.2)
+    let read = c.in_ok-sign.ensures in (
+      then_clause so.0 (sign_of c.in_ok-sign.sign) read.0,
+      is_last schema (content_at schema (c.args.levels - 1)) so.0 c.args.left c.loop-turn._turn c.loop-turn.still c.loop-turn.rest.now
+          (content_at schema c.args.levels c.args.left c.args.text.now) (sign_of c.in_ok-sign.sign) read.0 c.in_ok-sign.after c.in_ok-sign.more.now c.loop-turn-test.true read.1 c.in_ok-rest.rest.now c.in_ok-rest.ensures (sym c.if-is_end-2.ensures) so.2,
+      c.with_clause-clauses.ensures so.0 read.0 so.1 read.2,
+    )
 
 pub content-loop-turn-preserved : goal.content-loop-turn-preserved
 content-loop-turn-preserved t c =
@@ -79,10 +84,12 @@ content-loop-turn-preserved t c =
     let read = c.in_ok-sign.ensures in
     record {
       text = search rules;
-      so = (then_clause so.0 (sign_of c.in_ok-sign.sign) read.0,
-          c.with_clause-clauses.ensures so.0 read.0 so.1 read.2,
-          goes_on schema (content_at schema (c.args.levels - 1)) so.0 c.args.left c.loop-turn._turn c.loop-turn.still c.loop-turn.rest.now
-          (content_at schema c.args.levels c.args.left c.args.text.now) (sign_of c.in_ok-sign.sign) read.0 c.in_ok-sign.after c.in_ok-sign.more.now c.loop-turn-test.true read.1 c.in_ok-rest.rest.now c.in_ok-rest.ensures (sym c.if-is_end-2.ensures) so.2);
+      so = (
+        then_clause so.0 (sign_of c.in_ok-sign.sign) read.0,
+        c.with_clause-clauses.ensures so.0 read.0 so.1 read.2,
+        goes_on schema (content_at schema (c.args.levels - 1)) so.0 c.args.left c.loop-turn._turn c.loop-turn.still c.loop-turn.rest.now
+            (content_at schema c.args.levels c.args.left c.args.text.now) (sign_of c.in_ok-sign.sign) read.0 c.in_ok-sign.after c.in_ok-sign.more.now c.loop-turn-test.true read.1 c.in_ok-rest.rest.now c.in_ok-rest.ensures (sym c.if-is_end-2.ensures) so.2,
+      );
     }
 
 pub content-returns-clause-gives : goal.content-returns-clause-gives
@@ -109,10 +116,11 @@ primary-returns-in_err-clauses t c =
 
 pub primary-returns-in-Some-behind : goal.primary-returns-in-Some-behind
 primary-returns-in-Some-behind t c =
-    let read = c.in_ok-clauses.ensures.gives in
-    (model.Primary.group read.0,
-    group_read c.args.fields.now (content_at c.args.fields.now c.args.levels) c.args.left c.args.text.now c.in-Some.inner.now c.in-Some.ensures read.0 c.in_ok-clauses.left c.in_ok-clauses.rest.now c.in-Some-behind.rest.now read.1 c.in-Some-behind.ensures,
-    c.group.ensures read.0 read.2)
+    let read = c.in_ok-clauses.ensures.gives in (
+      model.Primary.group read.0,
+      group_read c.args.fields.now (content_at c.args.fields.now c.args.levels) c.args.left c.args.text.now c.in-Some.inner.now c.in-Some.ensures read.0 c.in_ok-clauses.left c.in_ok-clauses.rest.now c.in-Some-behind.rest.now read.1 c.in-Some-behind.ensures,
+      c.group.ensures read.0 read.2,
+    )
 
 pub primary-returns-in-None : goal.primary-returns-in-None
 primary-returns-in-None t c =

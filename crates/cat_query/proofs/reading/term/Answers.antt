@@ -26,8 +26,9 @@ returns-in_default-test c =
 
 pub returns : goal.returns
 returns c =
-    let judged = judged_is c.in-Some-test.test c.name.result.0.now (meaning c.name.result.0.now (field_kind_of c.in-Some.kind) (asks_of c.in-Some-read_value.value)) (c.in-Some-test.ensures c.name.result.0.now) in
-    (judged.0,
-    term_read c.args.fields.now c.args.text.now c.name.result.0.now c.name.result.1.now c.name.ensures.front c.name.ensures.behind (field_kind_of c.in-Some.kind) c.in-Some.ensures
-    c.in-Some-behind.rest.now c.in-Some-behind.ensures (asks_of c.in-Some-read_value.value) c.in-Some-read_value.behind_value.now c.in-Some-read_value.ensures.parts judged.0 judged.1,
-    c.field_test.ensures judged.0 judged.2)
+    let judged = judged_is c.in-Some-test.test c.name.result.0.now (meaning c.name.result.0.now (field_kind_of c.in-Some.kind) (asks_of c.in-Some-read_value.value)) (c.in-Some-test.ensures c.name.result.0.now) in (
+      judged.0,
+      term_read c.args.fields.now c.args.text.now c.name.result.0.now c.name.result.1.now c.name.ensures.front c.name.ensures.behind (field_kind_of c.in-Some.kind) c.in-Some.ensures
+          c.in-Some-behind.rest.now c.in-Some-behind.ensures (asks_of c.in-Some-read_value.value) c.in-Some-read_value.behind_value.now c.in-Some-read_value.ensures.parts judged.0 judged.1,
+      c.field_test.ensures judged.0 judged.2,
+    )
