@@ -1,5 +1,5 @@
 -- The two ways of saying that a file can have a name.
-use Rattle.std.proofs.Common.{◌≡◌, ◌<◌, ◌^◌, ℕ, Bool, true, false, true≢false, refl, sym, subst, List}
+use Rattle.std.proofs.Common.{◌≡◌, ◌^◌, ℕ, Bool, true, false, true≢false, refl, sym, subst, List}
 use Rattle.std.specs.Prelude.{◌&&◌, nat_lt, Contains}
 use Rattle.std.specs.BTreeSet.{insert_key}
 use Rattle.std.proofs.lemmas.List.Elements.{All-contains}
