@@ -1,6 +1,6 @@
 #!/usr/bin/env bash
-# program.sh [PROGRAM]: starts the built program, or the one that is named, and holds its status, its replies and what it says on standard error against what is wanted:
-# what no contract can say, and no stored run looks at.
+# program.sh [PROGRAM]: starts the built program, or the one that is named, and holds its status, its replies and what it
+# says on standard error against what is wanted: what no contract can say, and no stored run looks at.
 set -euo pipefail
 
 program=${1:-$(cd "$(dirname "${BASH_SOURCE[0]}")/.." && pwd)/crates/catalogue/out/catalogue}
@@ -34,24 +34,24 @@ start() {
   echo "$status" >"$room/status"
 }
 
-printf '%s\n' "$schema" '1 PUT {"id":"a","title":"Red"}' | start
+start <<<"$schema"$'\n''1 PUT {"id":"a","title":"Red"}'
 expect 'no argument' 0 $'OK 0\n1 OK 1' ''
 
-printf '%s\n' "$schema" | start run
+start run <<<"$schema"
 expect 'run' 0 'OK 0' ''
 
 # what is asked for wrongly is refused before anything is read
 for words in serve 'run here' 'run run' 'threads here' ''; do
   # shellcheck disable=SC2086
   if [ -n "$words" ]; then set -- $words; else set -- ''; fi
-  printf '%s\n' "$schema" | start "$@"
+  start "$@" <<<"$schema"
   expect "arguments '$words'" 1 '' "$usage"
 done
 
 start $'\xff' <<<"$schema"
 expect 'an argument that is no text' 1 '' "$usage"
 
-printf '%s\n' 'SCHEMA 2 1 {"title":"words"}' '1 OPEN' | start
+start <<<'SCHEMA 2 1 {"title":"words"}'$'\n''1 OPEN'
 expect 'a refused schema' 2 'NO 13' '[ERROR catalogue] schema refused'
 
 start </dev/null
@@ -64,13 +64,13 @@ echo "$status" >"$room/status"
 expect 'a reader that fails' 3 '' '[ERROR catalogue] read fault'
 
 status=0
-printf '%s\n' "$schema" | "$program" >/dev/full 2>"$room/err" || status=$?
+"$program" <<<"$schema" >/dev/full 2>"$room/err" || status=$?
 echo "$status" >"$room/status"
 : >"$room/out"
 expect 'a writer that fails' 3 '' '[ERROR catalogue] write fault'
 
 status=0
-printf '%s\n' 'SCHEMA 2 1 {}x' | "$program" >/dev/full 2>"$room/err" || status=$?
+"$program" <<<'SCHEMA 2 1 {}x' >/dev/full 2>"$room/err" || status=$?
 echo "$status" >"$room/status"
 expect 'a refusal that cannot be written' 3 '' '[ERROR catalogue] write fault'
 
