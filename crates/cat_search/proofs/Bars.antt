@@ -1,5 +1,5 @@
 -- What a bar keeps out lies outside the ends, and how the columns rank the rows.
-use Rattle.std.proofs.Common.{◌≡◌, ◌∷◌, [], ◌&&◌, ℕ, zero, suc, get_or, ℤ, List, map, Option, Some, None, option_map, Bool, true, false, length, refl, sym, ◌∙◌, ap, arith}
+use Rattle.std.proofs.Common.{◌≡◌, ◌∷◌, [], ◌&&◌, ℕ, zero, suc, get_or, ℤ, List, map, Option, Some, None, option_map, Bool, true, false, length, refl, sym, ◌∙◌, ap, subst, arith}
 use Rattle.std.specs.Prelude.{slice_index_or}
 use Rattle.std.specs.Borrow.{Bor}
 use Rattle.std.specs.Ordering.{is_le, int_cmp}
@@ -13,15 +13,17 @@ use Rattle.cat_model.specs.View.{Row}
 use Rattle.cat_segment.specs.Contents.{contents_of}
 use Rattle.cat_segment.specs.declared.column.Column.{Column}
 use Rattle.cat_segment.specs.declared.column.Column.TheVariants as columns
-use Rattle.cat_search.specs.Bars.{AreRanked, AreEndsOf, IsBarOf, key_le, number_of}
+use Rattle.cat_search.specs.Bars.{HaveRanks, HaveRanksOf, AreEndsOf, IsBarOf, IsLeftOut, key_le, number_of}
 use Rattle.cat_search.specs.declared.ends.Ends.{Ends}
 use Rattle.cat_search.specs.declared.sort.Order.{Order}
 use Rattle.cat_search.specs.declared.sort.Order.TheVariants as order
-use Rattle.cat_search.specs.Keys.{Place, Rank, key_seen}
-use Rattle.cat_search.specs.Kept.{Kept}
+use Rattle.cat_search.specs.Keys.{key_ref_of}
+use Rattle.cat_search.specs.Standings.{Standing, Rank}
+use Rattle.cat_search.specs.BestItems.{BestItems}
 use Rattle.cat_search.specs.Pages.{rank_with}
-use Rattle.cat_search.specs.Views.{keys_by, places_by}
-use Rattle.cat_search.specs.declared.places.Candidate.{Candidate}
+use Rattle.cat_search.specs.Rows.{keys_by, keyed_standings}
+use Rattle.cat_search.specs.declared.standings.Candidate.{Candidate}
+use Rattle.cat_search.proofs.Defined.{map_map}
 use Rattle.cat_search.proofs.Gathered.{none}
 
 -- ---- the bar of numbers
@@ -48,35 +50,35 @@ either_refuses true b c d f g e = ap (λ x. c && x) (g e) ∙ never c
     never false = refl
 either_refuses false b c d f g e = ap (λ x. x && d) (f refl)
 
-pub bar_of : (o : Order) (mark : Option Place) (kept : Kept Candidate) (ends : Ends) (low high : Option ℤ) → AreEndsOf o mark kept ends
-    → low ≡ number_of (option_map key_seen ends.low) → high ≡ number_of (option_map key_seen ends.high) → IsBarOf o mark kept (record { low = low; high = high; missing = ends.missing })
+pub bar_of : (o : Order) (mark : Option Standing) (kept : BestItems Candidate) (ends : Ends) (low high : Option ℤ) → AreEndsOf o mark kept ends
+    → low ≡ number_of (option_map key_ref_of ends.low) → high ≡ number_of (option_map key_ref_of ends.high) → IsBarOf o mark kept (record { low = low; high = high; missing = ends.missing })
 bar_of o mark kept ends low high h a b None e = h None e
 bar_of o mark kept ends low high h a b (Some n) e =
-    h (Some (Key.number n)) (either_refuses (open_or (λ x. int_le x n) low) (open_or (int_le n) high) (open_or (λ x. key_le x (Key.number n)) (option_map key_seen ends.low)) (open_or (key_le (Key.number n)) (option_map key_seen ends.high))
-    (λ x. low_over (option_map key_seen ends.low) n (ap (open_or (λ y. int_le y n)) (sym a) ∙ x)) (λ x. high_under (option_map key_seen ends.high) n (ap (open_or (int_le n)) (sym b) ∙ x)) e)
+    h (Some (Key.number n)) (either_refuses (open_or (λ x. int_le x n) low) (open_or (int_le n) high) (open_or (λ x. key_le x (Key.number n)) (option_map key_ref_of ends.low)) (open_or (key_le (Key.number n)) (option_map key_ref_of ends.high))
+    (λ x. low_over (option_map key_ref_of ends.low) n (ap (open_or (λ y. int_le y n)) (sym a) ∙ x)) (λ x. high_under (option_map key_ref_of ends.high) n (ap (open_or (int_le n)) (sym b) ∙ x)) e)
 
 -- ---- the ranks of a column of numbers or keywords
 
 module _ {X : Type 0} (key : X → Key) (make : Option X → Content) (same : (v : Option X) → key_in (Some (make v)) ≡ option_map key v) (o : Order) where
   ranks-by : (vs : List (Option X)) (rows : List Row) → length (map (λ x. key_in (Some x)) (map make vs)) ≡ length rows
-      → map (λ p. p.rank) (places_by o (map (λ x. key_in (Some x)) (map make vs)) rows) ≡ map (λ v. rank_with o (option_map key v)) vs
+      → map (λ p. p.rank) (keyed_standings o (map (λ x. key_in (Some x)) (map make vs)) rows) ≡ map (λ v. rank_with o (option_map key v)) vs
   ranks-by [] rows e = refl
   ranks-by (v ∷ vs) [] e = absurd (omega arith)
-  ranks-by (v ∷ vs) (row ∷ rows) e = ap (λ k. rank_with o k ∷ map (λ p. p.rank) (places_by o (map (λ x. key_in (Some x)) (map make vs)) rows)) (same v) ∙ ap (λ rs. rank_with o (option_map key v) ∷ rs) (ranks-by vs rows (omega arith))
+  ranks-by (v ∷ vs) (row ∷ rows) e = ap (λ k. rank_with o k ∷ map (λ p. p.rank) (keyed_standings o (map (λ x. key_in (Some x)) (map make vs)) rows)) (same v) ∙ ap (λ rs. rank_with o (option_map key v) ∷ rs) (ranks-by vs rows (omega arith))
 
-  are_ranked : (column : Option (Bor Column)) (c : Bor Column) (vs : List (Option X)) (rows : List Row) (places : List Place)
-      → column ≡ Some c → contents_of c.now ≡ map make vs → length (keys_by column (length rows)) ≡ length rows → places_by o (keys_by column (length rows)) rows ≡ places → AreRanked key o vs places
-  are_ranked column c vs rows places is made long e =
+  are_ranked : (column : Option (Bor Column)) (c : Bor Column) (vs : List (Option X)) (rows : List Row) (standings : List Standing)
+      → column ≡ Some c → contents_of c.now ≡ map make vs → length (keys_by column (length rows)) ≡ length rows → keyed_standings o (keys_by column (length rows)) rows ≡ standings → HaveRanks key o vs standings
+  are_ranked column c vs rows standings is made long e =
       let keys : keys_by column (length rows) ≡ map (λ x. key_in (Some x)) (map make vs) = ap (λ k. keys_by k (length rows)) is ∙ ap (map (λ x. key_in (Some x))) made in
-      ap (map (λ p. p.rank)) (sym e) ∙ ap (λ ks. map (λ p. p.rank) (places_by o ks rows)) keys ∙ ranks-by vs rows (sym (ap length keys) ∙ long)
+      ap (map (λ p. p.rank)) (sym e) ∙ ap (λ ks. map (λ p. p.rank) (keyed_standings o ks rows)) keys ∙ ranks-by vs rows (sym (ap length keys) ∙ long)
 
-pub numbers_ranked : (o : Order) (column : Option (Bor Column)) (c : Bor Column) (ns : List (Option ℤ)) (rows : List Row) (places : List Place)
-    → column ≡ Some c → c.now ≡ columns.Number ns → length (keys_by column (length rows)) ≡ length rows → places_by o (keys_by column (length rows)) rows ≡ places → AreRanked Key.number o ns places
-numbers_ranked o column c ns rows places is at long e = are_ranked Key.number Content.number (λ v. refl) o column c ns rows places is (ap contents_of at) long e
+pub numbers_ranked : (o : Order) (column : Option (Bor Column)) (c : Bor Column) (ns : List (Option ℤ)) (rows : List Row) (standings : List Standing)
+    → column ≡ Some c → c.now ≡ columns.Number ns → length (keys_by column (length rows)) ≡ length rows → keyed_standings o (keys_by column (length rows)) rows ≡ standings → HaveRanks Key.number o ns standings
+numbers_ranked o column c ns rows standings is at long e = are_ranked Key.number Content.number (λ v. refl) o column c ns rows standings is (ap contents_of at) long e
 
-pub keywords_ranked : (o : Order) (column : Option (Bor Column)) (c : Bor Column) (ts vs : List (Option Text)) (rows : List Row) (places : List Place)
-    → column ≡ Some c → c.now ≡ columns.Keyword ts → vs ≡ ts → length (keys_by column (length rows)) ≡ length rows → places_by o (keys_by column (length rows)) rows ≡ places → AreRanked Key.keyword o vs places
-keywords_ranked o column c ts vs rows places is at same long e = are_ranked Key.keyword Content.keyword (λ v. refl) o column c vs rows places is (ap contents_of at ∙ ap (map Content.keyword) (sym same)) long e
+pub keywords_ranked : (o : Order) (column : Option (Bor Column)) (c : Bor Column) (ts vs : List (Option Text)) (rows : List Row) (standings : List Standing)
+    → column ≡ Some c → c.now ≡ columns.Keyword ts → vs ≡ ts → length (keys_by column (length rows)) ≡ length rows → keyed_standings o (keys_by column (length rows)) rows ≡ standings → HaveRanks Key.keyword o vs standings
+keywords_ranked o column c ts vs rows standings is at same long e = are_ranked Key.keyword Content.keyword (λ v. refl) o column c vs rows standings is (ap contents_of at ∙ ap (map Content.keyword) (sym same)) long e
 
 get_or-map : {X Y : Type 0} (f : X → Y) (xs : List X) (i : ℕ) (d : X) → get_or (map f xs) i (f d) ≡ f (get_or xs i d)
 get_or-map f [] i d = refl
@@ -88,11 +90,37 @@ no_key order.Added = refl
 no_key (order.Rising f) = refl
 no_key (order.Falling f) = refl
 
-module _ {X : Type 0} (key : X → Key) (o : Order) (vs : List (Option X)) (places : List Place) (e : AreRanked key o vs places) where
-  pub rank-at : (i : ℕ) (v : Option X) → v ≡ slice_index_or vs i None → (get_or places i none).rank ≡ rank_with o (option_map key v)
+module _ {X : Type 0} (key : X → Key) (o : Order) (vs : List (Option X)) (standings : List Standing) (e : HaveRanks key o vs standings) where
+  pub rank-at : (i : ℕ) (v : Option X) → v ≡ slice_index_or vs i None → (get_or standings i none).rank ≡ rank_with o (option_map key v)
   rank-at i v is =
-      sym (get_or-map (λ p. p.rank) places i none) ∙ ap (λ rs. get_or rs i Rank.missing) e ∙ ap (get_or (map (λ w. rank_with o (option_map key w)) vs) i) (no_key o)
+      sym (get_or-map (λ p. p.rank) standings i none) ∙ ap (λ rs. get_or rs i Rank.missing) e ∙ ap (get_or (map (λ w. rank_with o (option_map key w)) vs) i) (no_key o)
       ∙ get_or-map (λ w. rank_with o (option_map key w)) vs i None ∙ ap (λ w. rank_with o (option_map key w)) (sym is)
 
-  pub length-ranked : length places ≡ length vs
-  length-ranked = sym (length-map places (λ p. p.rank)) ∙ ap length e ∙ length-map vs (λ w. rank_with o (option_map key w))
+  pub length-ranked : length standings ≡ length vs
+  length-ranked = sym (length-map standings (λ p. p.rank)) ∙ ap length e ∙ length-map vs (λ w. rank_with o (option_map key w))
+
+-- ---- the keys of a bar
+
+module _ (o : Order) (ks : List (Option Key)) (standings : List Standing) (e : HaveRanksOf o ks standings) where
+  pub rank_of_key : (i : ℕ) → (get_or standings i none).rank ≡ rank_with o (slice_index_or ks i None)
+  rank_of_key i =
+      sym (get_or-map (λ p. p.rank) standings i none) ∙ ap (λ rs. get_or rs i Rank.missing) e ∙ ap (get_or (map (rank_with o) ks) i) (no_key o) ∙ get_or-map (rank_with o) ks i None
+
+  pub length-keyed : length standings ≡ length ks
+  length-keyed = sym (length-map standings (λ p. p.rank)) ∙ ap length e ∙ length-map ks (rank_with o)
+
+pub keyed_ranks : {X : Type 0} (key : X → Key) (o : Order) (vs : List (Option X)) (standings : List Standing) → HaveRanks key o vs standings → HaveRanksOf o (map (option_map key) vs) standings
+keyed_ranks key o vs standings e = e ∙ sym (map_map (rank_with o) (option_map key) (λ v. rank_with o (option_map key v)) (λ v. refl) vs)
+
+-- a bar that is renewed has its order and its keys
+module _ (o old : Order) (ks before : List (Option Key)) (same : o ≡ old) (alike : ks ≡ before) where
+  pub renewed_ranks : (standings : List Standing) → HaveRanksOf old before standings → HaveRanksOf o ks standings
+  renewed_ranks standings h = subst (λ w. HaveRanksOf w ks standings) (sym same) (subst (λ w. HaveRanksOf old w standings) (sym alike) h)
+
+  pub renewed_left_out : (mark : Option Standing) (kept : BestItems Candidate) (row : ℕ) → IsLeftOut old mark kept (slice_index_or before row None) → IsLeftOut o mark kept (slice_index_or ks row None)
+  renewed_left_out mark kept row h =
+      subst (λ w. IsLeftOut w mark kept (slice_index_or ks row None)) (sym same) (subst (λ w. IsLeftOut old mark kept (slice_index_or w row None)) (sym alike) h)
+
+-- the key of a row of a column
+pub key-of_row : {X : Type 0} (key : X → Key) (vs : List (Option X)) (row : ℕ) → option_map key (slice_index_or vs row None) ≡ slice_index_or (map (option_map key) vs) row None
+key-of_row key vs row = sym (get_or-map (option_map key) vs row None)

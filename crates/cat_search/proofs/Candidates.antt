@@ -1,18 +1,19 @@
--- Candidates compare as their places do, so the best candidates have the best places.
+-- Candidates compare as their standings do, so the best candidates have the best standings.
 use Rattle.std.proofs.Common.{◌≡◌, ℕ, zero, suc, List, [], ◌∷◌, take, map, Bool, true, false, cond, refl, ◌∙◌, ap}
 use Rattle.std.specs.Ordering.{is_lt, nat_cmp, ordering_then}
 use Rattle.cat_model.specs.Page.{key_cmp}
 use Rattle.cat_model.specs.Ranks.{insert_by, insert_all, sorted}
-use Rattle.cat_search.specs.Kept.{Kept}
-use Rattle.cat_search.specs.Keys.{Place, rank_cmp, place_before, key_seen}
-use Rattle.cat_search.specs.Seen.{seen, seen_rank, comes_first, IsBestAt}
+use Rattle.cat_search.specs.BestItems.{BestItems}
+use Rattle.cat_search.specs.Keys.{key_ref_of}
+use Rattle.cat_search.specs.Standings.{Standing, rank_cmp, standing_before}
+use Rattle.cat_search.specs.Candidates.{standing_of, rank_of, comes_first, IsBestAt}
 use Rattle.cat_search.specs.contracts.keys.KeyRefOrd.TheImpl as by_key
-use Rattle.cat_search.specs.contracts.places.RankOrd.TheImpl as by_rank
+use Rattle.cat_search.specs.contracts.standings.RankOrd.TheImpl as by_rank
 use Rattle.cat_search.specs.declared.keys.KeyRef.{KeyRef}
 use Rattle.cat_search.specs.declared.keys.KeyRef.TheVariants.{Number, Keyword}
-use Rattle.cat_search.specs.declared.places.Rank.{Rank}
-use Rattle.cat_search.specs.declared.places.Rank.TheVariants.{Rising, Falling, Missing}
-use Rattle.cat_search.specs.declared.places.Candidate.{Candidate}
+use Rattle.cat_search.specs.declared.standings.Rank.{Rank}
+use Rattle.cat_search.specs.declared.standings.Rank.TheVariants.{Rising, Falling, Missing}
+use Rattle.cat_search.specs.declared.standings.Candidate.{Candidate}
 
 -- ---- lists in order, through a function that keeps the order
 
@@ -39,15 +40,15 @@ module _ {X Y : Type 0} (f : X → Y) (lt : X → X → Bool) (mt : Y → Y → 
   pub map-first : (n : ℕ) (xs : List X) → map f (take n (sorted lt xs)) ≡ take n (sorted mt (map f xs))
   map-first n xs = map-take f n (sorted lt xs) ∙ ap (take n) (map-insert_all [] xs)
 
--- ---- the order of candidates, which is derived, is the order of their places
+-- ---- the order of candidates, which is derived, is the order of their standings
 
-keys_alike : (k l : KeyRef) → by_key.ghosts.cmp k l ≡ key_cmp (key_seen k) (key_seen l)
+keys_alike : (k l : KeyRef) → by_key.ghosts.cmp k l ≡ key_cmp (key_ref_of k) (key_ref_of l)
 keys_alike (Number a) (Number b) = refl
 keys_alike (Number a) (Keyword b) = refl
 keys_alike (Keyword a) (Number b) = refl
 keys_alike (Keyword a) (Keyword b) = refl
 
-ranks_alike : (r s : Rank) → by_rank.ghosts.cmp r s ≡ rank_cmp (seen_rank r) (seen_rank s)
+ranks_alike : (r s : Rank) → by_rank.ghosts.cmp r s ≡ rank_cmp (rank_of r) (rank_of s)
 ranks_alike (Rising k) (Rising l) = keys_alike k l
 ranks_alike (Rising k) (Falling l) = refl
 ranks_alike (Rising k) Missing = refl
@@ -58,9 +59,9 @@ ranks_alike Missing (Rising l) = refl
 ranks_alike Missing (Falling l) = refl
 ranks_alike Missing Missing = refl
 
-pub seen_before : (a b : Candidate) → comes_first a b ≡ place_before (seen a) (seen b)
-seen_before a b = ap (λ o. is_lt (ordering_then o (nat_cmp a.number b.number))) (ranks_alike a.rank b.rank)
+pub comes_first-is : (a b : Candidate) → comes_first a b ≡ standing_before (standing_of a) (standing_of b)
+comes_first-is a b = ap (λ o. is_lt (ordering_then o (nat_cmp a.number b.number))) (ranks_alike a.rank b.rank)
 
-pub best_places : (kept : Kept Candidate) (places : List Place) → IsBestAt kept places → map seen kept.items ≡ take kept.limit (sorted place_before places)
-best_places kept places h =
-    ap (map seen) h.2 ∙ map-first seen comes_first place_before seen_before kept.limit h.0 ∙ ap (λ ps. take kept.limit (sorted place_before ps)) h.1
+pub best_standings : (kept : BestItems Candidate) (standings : List Standing) → IsBestAt kept standings → map standing_of kept.items ≡ take kept.limit (sorted standing_before standings)
+best_standings kept standings h =
+    ap (map standing_of) h.2 ∙ map-first standing_of comes_first standing_before comes_first-is kept.limit h.0 ∙ ap (λ ps. take kept.limit (sorted standing_before ps)) h.1

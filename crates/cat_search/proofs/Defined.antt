@@ -8,6 +8,7 @@ use Rattle.std.proofs.lemmas.List.Folds.{find_at}
 use Rattle.std.proofs.lemmas.List.Recursion.{is_position_or_len}
 use Rattle.cat_model.specs.Answer.{can_sort, has_mark}
 use Rattle.cat_model.specs.Item.{Schema, FieldContent, Item, Record, AreFields, IsItem, content_of}
+use Rattle.cat_model.specs.Limits.{page_limit}
 use Rattle.cat_model.specs.Page.{Sort, Key, Page, Entry, key, key_in, key_cmp, comes_before, before, rest, first_ranked}
 use Rattle.cat_model.specs.Ranks.{AreApart, sorted}
 use Rattle.cat_model.specs.Text.{Text, same_text}
@@ -16,23 +17,26 @@ use Rattle.cat_model.proofs.Insert.{which}
 use Rattle.cat_model.proofs.Lists.{All-kept, All-weaken}
 use Rattle.cat_model.proofs.Places.{EachPair, AllApart, each_pair}
 use Rattle.cat_model.proofs.Ranked.{first_sorted}
-use Rattle.cat_search.specs.Keys.{Rank, Place, rank_cmp, place_before, key_at, key_shown, entry_shown}
-use Rattle.cat_search.specs.Pages.{accepted, page_where, answer_where, rank_by, place_at, mark_at, beyond, places_behind}
-use Rattle.cat_search.specs.Sorts.{place_named, order_of}
+use Rattle.cat_search.specs.Keys.{key_at}
+use Rattle.cat_search.specs.Standings.{Rank, Standing, rank_cmp, standing_before, key_shown, entry_shown}
+use Rattle.cat_search.specs.Pages.{hits_where, page_where, answer_where, rank_by, record_standing, mark_in_records, behind, beyond}
+use Rattle.cat_search.specs.Sorts.{IsOrderOf, HasIndex, index_named, sort_in}
+use Rattle.cat_search.specs.declared.sort.Order.{Order}
+use Rattle.cat_search.specs.declared.sort.Order.TheVariants as order
 use Rattle.cat_search.proofs.Candidates.{map-first}
 use Rattle.cat_search.proofs.Marks.{any-is_some}
 
--- ---- the place of a record, by the name of the sort's field
+-- ---- the standing of a record, by the name of the sort's field
 
 abbrev pub way : Sort → Key → Rank
 way Sort.added k = Rank.missing
 way (Sort.rising f) k = Rank.rising k
 way (Sort.falling f) k = Rank.falling k
 
-abbrev pub place_of : Sort → Record → Place
-place_of s r = record { rank = rank_by (way s) (key s r); number = r.number; id = r.item.id }
+abbrev pub named_standing : Sort → Record → Standing
+named_standing s r = record { rank = rank_by (way s) (key s r); number = r.number; id = r.item.id }
 
--- the first place that passes, by recursion on the list
+-- the first standing that passes, by recursion on the list
 abbrev first : {X : Type 0} → (X → Bool) → List X → ℕ
 first p [] = 0
 first p (x ∷ xs) = cond (p x) 0 (1 + first p xs)
@@ -48,19 +52,22 @@ names_alike name (f ∷ fs) (p ∷ ps) a =
     ap (λ t. cond (same_text t name) 0 (1 + first (λ q. same_text q.name name) ps)) a.0.0
     ∙ ap (λ n. cond (same_text f.name name) 0 (1 + n)) (names_alike name fs ps a.1)
 
-key_found : (schema : Schema) (name : Text) (i : Item) → IsItem schema i → key_at (place_named name schema) i ≡ key_in (content_of name i)
+key_found : (schema : Schema) (name : Text) (i : Item) → IsItem schema i → key_at (index_named name schema) i ≡ key_in (content_of name i)
 key_found schema name i a =
     let named : FieldContent → Bool = λ p. same_text p.name name in
-    let same : position_or_len (λ p. same_text p.name name) i.fields ≡ place_named name schema =
+    let same : position_or_len (λ p. same_text p.name name) i.fields ≡ index_named name schema =
     sym (first-is (λ p. same_text p.name name) i.fields) ∙ names_alike name schema i.fields a ∙ first-is (λ f. same_text f.name name) schema in
     ap (λ o. key_in (option_map (λ p. p.content) o)) (ap (slice_get i.fields) (sym same) ∙ sym (find_at (λ p. same_text p.name name) i.fields))
 
-place_alike : (schema : Schema) (s : Sort) (r : Record) → IsItem schema r.item → place_at (order_of schema s) r ≡ place_of s r
-place_alike schema Sort.added r a = refl
-place_alike schema (Sort.rising f) r a = ap (λ k. record { rank = rank_by Rank.rising k; number = r.number; id = r.item.id }) (key_found schema f r.item a)
-place_alike schema (Sort.falling f) r a = ap (λ k. record { rank = rank_by Rank.falling k; number = r.number; id = r.item.id }) (key_found schema f r.item a)
+standing_alike : (schema : Schema) (s : Sort) (o : Order) (r : Record) → IsOrderOf schema s o → IsItem schema r.item → record_standing o r ≡ named_standing s r
+standing_alike schema s o r is a = by_order o is.index ∙ ap (λ t. named_standing t r) is.sort
+  where
+    by_order : (w : Order) → HasIndex schema w → record_standing w r ≡ named_standing (sort_in w) r
+    by_order order.Added i = refl
+    by_order (order.Rising f) i = ap (λ k. record { rank = rank_by Rank.rising k; number = r.number; id = r.item.id }) (ap (λ n. key_at n r.item) i ∙ key_found schema f.name.now r.item a)
+    by_order (order.Falling f) i = ap (λ k. record { rank = rank_by Rank.falling k; number = r.number; id = r.item.id }) (ap (λ n. key_at n r.item) i ∙ key_found schema f.name.now r.item a)
 
--- ---- places compare as records do
+-- ---- standings compare as records do
 
 rising : (k l : Option Key) (m n : ℕ) → is_lt (ordering_then (rank_cmp (rank_by Rank.rising k) (rank_by Rank.rising l)) (nat_cmp m n)) ≡ comes_before key_cmp k l (ltb m n)
 rising None None m n = is_lt-nat_cmp m n
@@ -74,7 +81,7 @@ falling None (Some l) m n = refl
 falling (Some k) None m n = refl
 falling (Some k) (Some l) m n = ap (λ o. is_lt (ordering_then o (nat_cmp m n))) (key_antisymm l k) ∙ is_lt-then (ordering_reverse (key_cmp k l)) m n
 
-before-is : (s : Sort) (a b : Record) → before s a b ≡ place_before (place_of s a) (place_of s b)
+before-is : (s : Sort) (a b : Record) → before s a b ≡ standing_before (named_standing s a) (named_standing s b)
 before-is Sort.added a b = sym (is_lt-nat_cmp a.number b.number)
 before-is (Sort.rising f) a b = sym (rising (key (Sort.rising f) a) (key (Sort.rising f) b) a.number b.number)
 before-is (Sort.falling f) a b = sym (falling (key (Sort.falling f) a) (key (Sort.falling f) b) a.number b.number)
@@ -93,7 +100,7 @@ key-is (Sort.falling f) r = shown_key Rank.falling (λ k. refl) (key (Sort.falli
 abbrev entry_of : Sort → Record → Entry
 entry_of s r = record { number = r.number; id = r.item.id; key = key s r }
 
-entry-is : (s : Sort) (r : Record) → entry_shown (place_of s r) ≡ entry_of s r
+entry-is : (s : Sort) (r : Record) → entry_shown (named_standing s r) ≡ entry_of s r
 entry-is s r = ap (λ k. record { number = r.number; id = r.item.id; key = k }) (key-is s r)
 
 -- ---- lists
@@ -164,9 +171,9 @@ same_number m k e = grind (arith, nat_tests)
 
 -- ---- what the mark comes before
 
-abbrev pub mark_of : Sort → List Record → Option ℕ → Option Place
-mark_of s rs None = None
-mark_of s rs (Some mark) = option_map (place_of s) (find (λ r. r.number == mark) rs)
+abbrev pub named_mark : Sort → List Record → Option ℕ → Option Standing
+named_mark s rs None = None
+named_mark s rs (Some mark) = option_map (named_standing s) (find (λ r. r.number == mark) rs)
 
 -- no record behind has the number
 none_behind : (mark : ℕ) (f : Record → Bool) (rs : List Record) → AllByRecursion (λ r. mark < r.number) rs → list_any (λ r. (r.number == mark) && f r) rs ≡ false
@@ -190,70 +197,70 @@ mark_alone mark f (t ∷ rs) r a e = elim (which (t.number == mark)) [
 ]
 
 found : (s : Sort) (rs : List Record) (mark : ℕ) → NumbersRise rs → (o : Option Record) → find (λ r. r.number == mark) rs ≡ o → is_some o ≡ true
-    → ◌≡◌ {A = Record → Bool} (λ h. beyond (option_map (place_of s) (find (λ r. r.number == mark) rs)) (place_of s h)) (λ h. list_any (λ r. (r.number == mark) && before s r h) rs)
+    → ◌≡◌ {A = Record → Bool} (λ h. beyond (option_map (named_standing s) (find (λ r. r.number == mark) rs)) (named_standing s h)) (λ h. list_any (λ r. (r.number == mark) && before s r h) rs)
 found s rs mark a None e t = absurd (cc)
-found s rs mark a (Some r) e t = λ i h. (ap (λ o. beyond (option_map (place_of s) o) (place_of s h)) e ∙ sym (before-is s r h) ∙ sym (mark_alone mark (λ u. before s u h) rs r a e)) i
+found s rs mark a (Some r) e t = λ i h. (ap (λ o. beyond (option_map (named_standing s) o) (named_standing s h)) e ∙ sym (before-is s r h) ∙ sym (mark_alone mark (λ u. before s u h) rs r a e)) i
 
-rest-is : (s : Sort) (rs : List Record) (m : Option ℕ) (hs : List Record) → NumbersRise rs → has_mark rs m ≡ true → filter (λ h. beyond (mark_of s rs m) (place_of s h)) hs ≡ rest s rs m hs
+rest-is : (s : Sort) (rs : List Record) (m : Option ℕ) (hs : List Record) → NumbersRise rs → has_mark rs m ≡ true → filter (λ h. beyond (named_mark s rs m) (named_standing s h)) hs ≡ rest s rs m hs
 rest-is s rs None hs a e = filter_all hs
 rest-is s rs (Some mark) hs a e =
     ap (λ p. filter p hs) (found s rs mark a (find (λ r. r.number == mark) rs) refl (sym (any-is_some (λ r. r.number == mark) rs) ∙ e))
 
-marks_alike : (place place' : Record → Place) (rs : List Record) (m : ℕ) → AllByRecursion (λ r. place r ≡ place' r) rs → option_map place (find (λ r. r.number == m) rs) ≡ option_map place' (find (λ r. r.number == m) rs)
-marks_alike place place' rs m a = find_alike place place' (λ r. r.number == m) rs a
+marks_alike : (standing standing' : Record → Standing) (rs : List Record) (m : ℕ) → AllByRecursion (λ r. standing r ≡ standing' r) rs → option_map standing (find (λ r. r.number == m) rs) ≡ option_map standing' (find (λ r. r.number == m) rs)
+marks_alike standing standing' rs m a = find_alike standing standing' (λ r. r.number == m) rs a
 
 -- ---- the page
 
 module _ (rs : List Record) (accepts : Item → Bool) (s : Sort) (n : ℕ) (rises : NumbersRise rs) where
   entries-by : (m : Option ℕ) → has_mark rs m ≡ true
-      → map entry_shown (take n (sorted place_before (filter (beyond (mark_of s rs m)) (map (place_of s) (accepted accepts rs))))) ≡ map (entry_of s) (first_ranked (before s) (rest s rs m (accepted accepts rs)) n)
+      → map entry_shown (take n (sorted standing_before (filter (beyond (named_mark s rs m)) (map (named_standing s) (hits_where accepts rs))))) ≡ map (entry_of s) (first_ranked (before s) (rest s rs m (hits_where accepts rs)) n)
   entries-by m marked =
-      let hs : List Record = accepted accepts rs in
-      let test : Record → Bool = λ h. beyond (mark_of s rs m) (place_of s h) in
+      let hs : List Record = hits_where accepts rs in
+      let test : Record → Bool = λ h. beyond (named_mark s rs m) (named_standing s h) in
       let after : List Record = filter test hs in
       let apart : AllApart (before s) after = all_apart s after (each_pair-filter (λ a b. a.number < b.number) test hs (each_pair-filter (λ a b. a.number < b.number) (λ r. accepts r.item) rs rises)) in
-      ap (λ ps. map entry_shown (take n (sorted place_before ps))) (filter-map (beyond (mark_of s rs m)) (place_of s) hs)
-      ∙ ap (map entry_shown) (sym (map-first (place_of s) (before s) place_before (before-is s) n after))
-      ∙ map_map entry_shown (place_of s) (entry_of s) (entry-is s) (take n (sorted (before s) after))
+      ap (λ ps. map entry_shown (take n (sorted standing_before ps))) (filter-map (beyond (named_mark s rs m)) (named_standing s) hs)
+      ∙ ap (map entry_shown) (sym (map-first (named_standing s) (before s) standing_before (before-is s) n after))
+      ∙ map_map entry_shown (named_standing s) (entry_of s) (entry-is s) (take n (sorted (before s) after))
       ∙ ap (map (entry_of s)) (sym (first_sorted (before s) (sorts_order_records s).strict after n apart))
       ∙ ap (λ hs'. map (entry_of s) (first_ranked (before s) hs' n)) (rest-is s rs m hs rises marked)
 
-  page-by : (m : Option ℕ) (total : ℕ) (entries : List Entry) → has_mark rs m ≡ true → total ≡ length (accepted accepts rs)
-      → entries ≡ map entry_shown (take n (sorted place_before (filter (beyond (mark_of s rs m)) (map (place_of s) (accepted accepts rs)))))
+  page-by : (m : Option ℕ) (total : ℕ) (entries : List Entry) → has_mark rs m ≡ true → total ≡ length (hits_where accepts rs)
+      → entries ≡ map entry_shown (take n (sorted standing_before (filter (beyond (named_mark s rs m)) (map (named_standing s) (hits_where accepts rs)))))
       → ◌≡◌ {A = Page} (record { total = total; entries = entries }) (page_where rs accepts s m n)
   page-by m total entries marked t e = λ i. record { total = t i; entries = (e ∙ entries-by m marked) i }
 
-  few : n ≤ 1000 → ltb 1000 n ≡ false
-  few h = grind (arith, nat_tests)
+  few : (most : ℕ) → n ≤ most → ltb most n ≡ false
+  few most h = grind (arith, nat_tests)
 
-  -- the answer, where places go by the name of the sort's field
-  pub answered_by : (schema : Schema) (m : Option ℕ) (total : ℕ) (entries : List Entry) → n ≤ 1000 → can_sort schema s ≡ true → has_mark rs m ≡ true → total ≡ length (accepted accepts rs)
-      → entries ≡ map entry_shown (take n (sorted place_before (filter (beyond (mark_of s rs m)) (map (place_of s) (accepted accepts rs)))))
+  -- the answer, where standings go by the name of the sort's field
+  pub answered_by : (schema : Schema) (m : Option ℕ) (total : ℕ) (entries : List Entry) → n ≤ page_limit → can_sort schema s ≡ true → has_mark rs m ≡ true → total ≡ length (hits_where accepts rs)
+      → entries ≡ map entry_shown (take n (sorted standing_before (filter (beyond (named_mark s rs m)) (map (named_standing s) (hits_where accepts rs)))))
       → answer_where schema rs accepts s m n ≡ Ok (record { total = total; entries = entries })
-  answered_by schema m total entries h sorts marked t e = rw (few h, sorts, marked) (ap Ok (sym (page-by m total entries marked t e)))
+  answered_by schema m total entries h sorts marked t e = rw (few page_limit h, sorts, marked) (ap Ok (sym (page-by m total entries marked t e)))
 
-module _ (schema : Schema) (rs : List Record) (accepts : Item → Bool) (s : Sort) (items : AllByRecursion (λ r. IsItem schema r.item) rs) where
-  alike : AllByRecursion (λ r. place_at (order_of schema s) r ≡ place_of s r) rs
-  alike = All-weaken (λ r. IsItem schema r.item) (λ r. place_at (order_of schema s) r ≡ place_of s r) (λ r a. place_alike schema s r a) rs items
+module _ (schema : Schema) (rs : List Record) (test : Item → Bool) (s : Sort) (o : Order) (is : IsOrderOf schema s o) (items : AllByRecursion (λ r. IsItem schema r.item) rs) where
+  alike : AllByRecursion (λ r. record_standing o r ≡ named_standing s r) rs
+  alike = All-weaken (λ r. IsItem schema r.item) (λ r. record_standing o r ≡ named_standing s r) (λ r a. standing_alike schema s o r is a) rs items
 
-  mark-is : (m : Option ℕ) → mark_at (order_of schema s) rs m ≡ mark_of s rs m
+  mark-is : (m : Option ℕ) → mark_in_records o rs m ≡ named_mark s rs m
   mark-is None = refl
-  mark-is (Some mark) = marks_alike (place_at (order_of schema s)) (place_of s) rs mark alike
+  mark-is (Some mark) = marks_alike (record_standing o) (named_standing s) rs mark alike
 
-  places-are : (m : Option ℕ) → places_behind (order_of schema s) (mark_at (order_of schema s) rs m) accepts rs ≡ filter (beyond (mark_of s rs m)) (map (place_of s) (accepted accepts rs))
-  places-are m =
-      ap (λ o. places_behind (order_of schema s) o accepts rs) (mark-is m)
-      ∙ ap (filter (beyond (mark_of s rs m))) (map_alike (place_at (order_of schema s)) (place_of s) (accepted accepts rs) (All-kept (λ r. place_at (order_of schema s) r ≡ place_of s r) (λ r. accepts r.item) rs alike))
+  standings-are : (m : Option ℕ) → behind (mark_in_records o rs m) (map (record_standing o) (hits_where test rs)) ≡ behind (named_mark s rs m) (map (named_standing s) (hits_where test rs))
+  standings-are m =
+      ap (λ k. behind k (map (record_standing o) (hits_where test rs))) (mark-is m)
+      ∙ ap (behind (named_mark s rs m)) (map_alike (record_standing o) (named_standing s) (hits_where test rs) (All-kept (λ r. record_standing o r ≡ named_standing s r) (λ r. test r.item) rs alike))
 
 -- the answer over whatever stands for records
-pub answered : {X : Type 0} (meant : X → Record) (schema : Schema) (xs : List X) (accepts : Item → Bool) (s : Sort) (m : Option ℕ) (n total : ℕ) (entries : List Entry)
-    → AllPairs (λ a b. (meant a).number < (meant b).number) xs → All (λ x. IsItem schema (meant x).item) xs
-    → n ≤ 1000 → can_sort schema s ≡ true → has_mark (map meant xs) m ≡ true
-    → total ≡ length (accepted accepts (map meant xs))
-    → entries ≡ map entry_shown (take n (sorted place_before (places_behind (order_of schema s) (mark_at (order_of schema s) (map meant xs) m) accepts (map meant xs))))
-    → answer_where schema (map meant xs) accepts s m n ≡ Ok (record { total = total; entries = entries })
-answered meant schema xs accepts s m n total entries rises items h sorts marked t e =
-    let rs : List Record = map meant xs in
-    let up : NumbersRise rs = each_pair-map meant (λ a b. a.number < b.number) xs (each_pair (λ a b. (meant a).number < (meant b).number) xs rises) in
-    let each : AllByRecursion (λ r. IsItem schema r.item) rs = each_map meant (λ r. IsItem schema r.item) xs (recursion_from_All (λ x. IsItem schema (meant x).item) xs items) in
-    answered_by rs accepts s n up schema m total entries h sorts marked t (e ∙ ap (λ ps. map entry_shown (take n (sorted place_before ps))) (places-are schema rs accepts s each m))
+pub answered : {X : Type 0} (record_of : X → Record) (schema : Schema) (xs : List X) (test : Item → Bool) (s : Sort) (o : Order) (m : Option ℕ) (n total : ℕ) (entries : List Entry)
+    → AllPairs (λ a b. (record_of a).number < (record_of b).number) xs → All (λ x. IsItem schema (record_of x).item) xs
+    → n ≤ page_limit → IsOrderOf schema s o → can_sort schema s ≡ true → has_mark (map record_of xs) m ≡ true
+    → total ≡ length (hits_where test (map record_of xs))
+    → entries ≡ map entry_shown (take n (sorted standing_before (behind (mark_in_records o (map record_of xs) m) (map (record_standing o) (hits_where test (map record_of xs))))))
+    → answer_where schema (map record_of xs) test s m n ≡ Ok (record { total = total; entries = entries })
+answered record_of schema xs test s o m n total entries rises items h is sorts marked t e =
+    let rs : List Record = map record_of xs in
+    let up : NumbersRise rs = each_pair-map record_of (λ a b. a.number < b.number) xs (each_pair (λ a b. (record_of a).number < (record_of b).number) xs rises) in
+    let each : AllByRecursion (λ r. IsItem schema r.item) rs = each_map record_of (λ r. IsItem schema r.item) xs (recursion_from_All (λ x. IsItem schema (record_of x).item) xs items) in
+    answered_by rs test s n up schema m total entries h sorts marked t (e ∙ ap (λ ps. map entry_shown (take n (sorted standing_before ps))) (standings-are schema rs test s o is each m))

@@ -11,10 +11,10 @@ use Rattle.cat_model.specs.Item.{Field, Schema, FieldContent}
 use Rattle.cat_model.specs.Page.{Key, key_in}
 use Rattle.cat_model.specs.Answer.{is_sort_kind}
 use Rattle.cat_schema.specs.declared.item.FieldValue.{FieldValue}
-use Rattle.cat_schema.specs.Contents.{content_of}
-use Rattle.cat_search.specs.Sorts.{place_named, can_sort_by}
+use Rattle.cat_schema.specs.Contents.{field_content_of}
+use Rattle.cat_search.specs.Sorts.{index_named, can_sort_by}
 
--- ---- the place of a field
+-- ---- the index of a field
 
 within : (i n : ℕ) → nat_lt i n ≡ true → i < n
 within i n e = grind (arith, nat_tests)
@@ -45,11 +45,11 @@ module _ {X : Type 0} (p : X → Bool) (xs : List X) where
   pub found_none : position p xs ≡ None → find p xs ≡ None
   found_none e = find_at p xs ∙ slice_get_past xs (position_or_len p xs) (none_at (nat_lt (position_or_len p xs) (length xs)) (position_or_len p xs) (length xs) refl e)
 
--- a field that was found by its name is where the name's place is, and tells whether one can sort by it
+-- a field that was found by its name is where the name's index is, and tells whether one can sort by it
 pub named_field : (name : Text) (gs fs : Schema) (i : ℕ) (x : Field) → gs ≡ fs → Some i ≡ position (λ f. same_text f.name name) gs → x ≡ get_or gs i x
-    → (i ≡ place_named name fs) × (can_sort_by fs name ≡ is_sort_kind (Some x.kind))
+    → (i ≡ index_named name fs) × (can_sort_by fs name ≡ is_sort_kind (Some x.kind))
 named_field name gs fs i x same e at = (
-  (position-is (λ f. same_text f.name name) gs i (sym e)).0 ∙ ap (place_named name) same,
+  (position-is (λ f. same_text f.name name) gs i (sym e)).0 ∙ ap (index_named name) same,
   ap (λ hs. can_sort_by hs name) (sym same) ∙ ap (λ o. is_sort_kind (option_map (λ f. f.kind) o)) (found_at (λ f. same_text f.name name) gs i x (sym e) at),
 )
 
@@ -59,22 +59,22 @@ no_field name gs fs same e =
 
 -- ---- what an item has in the field
 
-pub part_is : (vs : List FieldValue) (ps : List FieldContent) (i : ℕ) (v : FieldValue) → map content_of vs ≡ map (λ p. p.content) ps → nat_lt i (length vs) ≡ true → v ≡ get_or vs i v
-    → Some (content_of v) ≡ option_map (λ p. p.content) (slice_get ps i)
+pub part_is : (vs : List FieldValue) (ps : List FieldContent) (i : ℕ) (v : FieldValue) → map field_content_of vs ≡ map (λ p. p.content) ps → nat_lt i (length vs) ≡ true → v ≡ get_or vs i v
+    → Some (field_content_of v) ≡ option_map (λ p. p.content) (slice_get ps i)
 part_is [] ps i v e h at = absurd (let l : i < 0 = within i 0 h in omega (arith, l))
 part_is (w ∷ vs) [] i v e h at = absurd (cc)
-part_is (w ∷ vs) (p ∷ ps) zero v e h at = let here : content_of w ≡ p.content = (cc) in ap (λ x. Some (content_of x)) at ∙ ap Some here
+part_is (w ∷ vs) (p ∷ ps) zero v e h at = let here : field_content_of w ≡ p.content = (cc) in ap (λ x. Some (field_content_of x)) at ∙ ap Some here
 part_is (w ∷ vs) (p ∷ ps) (suc i) v e h at =
-    let later : map content_of vs ≡ map (λ q. q.content) ps = (cc) in
+    let later : map field_content_of vs ≡ map (λ q. q.content) ps = (cc) in
     let l : suc i < suc (length vs) = within (suc i) (suc (length vs)) h in
     part_is vs ps i v later (below i (length vs) (omega (arith, l))) at
   where
     below : (m n : ℕ) → m < n → nat_lt m n ≡ true
     below m n q = grind (arith, nat_tests)
 
-pub no_part : (vs : List FieldValue) (ps : List FieldContent) (i : ℕ) → map content_of vs ≡ map (λ p. p.content) ps → nat_lt i (length vs) ≡ false
+pub no_part : (vs : List FieldValue) (ps : List FieldContent) (i : ℕ) → map field_content_of vs ≡ map (λ p. p.content) ps → nat_lt i (length vs) ≡ false
     → ◌≡◌ {A = Option Key} None (key_in (option_map (λ p. p.content) (slice_get ps i)))
 no_part vs ps i e h =
-    let long : length vs ≡ length ps = sym (length-map vs content_of) ∙ ap length e ∙ length-map ps (λ p. p.content) in
+    let long : length vs ≡ length ps = sym (length-map vs field_content_of) ∙ ap length e ∙ length-map ps (λ p. p.content) in
     let far : length vs ≤ i = past i (length vs) h in
     ap (λ o. key_in (option_map (λ p. p.content) o)) (sym (slice_get_past ps i (omega (arith, long, far))))

@@ -1,4 +1,4 @@
--- The answer over accepted records is the answer to a FIND.
+-- The answer over hits_where records is the answer to a FIND.
 use Rattle.std.proofs.Common.{◌≡◌, Bool, true, false, cond, Ok, Err, ltb, refl}
 use Rattle.cat_base.specs.declared.refusal.Refusal.{Refusal}
 use Rattle.cat_model.specs.Answer.{Found, can_sort, has_mark}

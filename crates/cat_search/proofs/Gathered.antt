@@ -1,5 +1,5 @@
 -- The hits of a segment that are passed one after another.
-use Rattle.std.proofs.Common.{◌≡◌, ℕ, ◌+◌, ◌<◌, ◌≤◌, min, List, [], ◌∷◌, ◌++◌, length, map, filter, take, get_or, AllPairs, ltb, Option, Result, Ok, Err, IfOk, Bool, false, cond, sym, ◌∙◌, ap, subst, arith, append-nil, append_assoc, length-append}
+use Rattle.std.proofs.Common.{◌≡◌, ℕ, ◌+◌, ◌<◌, ◌≤◌, min, List, [], ◌∷◌, ◌++◌, length, map, filter, take, get_or, AllPairs, ltb, Option, Result, Ok, Err, IfOk, Bool, false, true, cond, refl, sym, ◌∙◌, ap, subst, arith, append-nil, append_assoc, length-append}
 use Rattle.std.specs.Prelude.{count_by}
 use Rattle.std.specs.List.{AllByRecursion, flat_map}
 use Rattle.std.proofs.lemmas.Bool.Decides.{nat_tests}
@@ -7,45 +7,46 @@ use Rattle.std.proofs.lemmas.List.{map-append, length-take, take-append-le, take
 use Rattle.std.proofs.lemmas.List.Elements.{filter-append}
 use Rattle.cat_model.specs.RowSets.{indices}
 use Rattle.cat_model.specs.Page.{Sort}
-use Rattle.cat_model.specs.Query.{Query}
+use Rattle.cat_model.specs.Item.{Item}
+use Rattle.cat_model.specs.Query.{Query, matches}
 use Rattle.cat_model.specs.Ranks.{sorted, insert_all}
-use Rattle.cat_model.specs.View.{Row, Leaf, Segment, selected, live_rows, row_matches}
+use Rattle.cat_model.specs.View.{Row, Leaf, Segment, item_in, selected, live_rows, row_matches}
 use Rattle.cat_model.proofs.HitOrder.{is_lt-nat_cmp}
 use Rattle.cat_model.proofs.Lists.{All-weaken}
 use Rattle.cat_model.proofs.Places.{EachPair, each_pair}
 use Rattle.cat_search.specs.declared.sort.Order.{Order}
 use Rattle.cat_search.specs.declared.sort.Order.TheVariants as order
-use Rattle.cat_search.specs.Keys.{Rank, Place, place_before}
+use Rattle.cat_search.specs.Standings.{Rank, Standing, standing_before}
 use Rattle.cat_search.specs.Pages.{beyond}
-use Rattle.cat_search.specs.Views.{place_in}
+use Rattle.cat_search.specs.Rows.{row_standing}
 use Rattle.cat_search.proofs.Defined.{each_pair-filter, each_pair-map}
 use Rattle.cat_search.proofs.InOrder.{insert_last}
-use Rattle.cat_search.proofs.Marked.{All-right, at_places, places-within, count-marked, marked-map}
+use Rattle.cat_search.proofs.Selected.{All-right, at_indices, indices-within, count-selected, selected-map}
 
-abbrev pub none : Place
+abbrev pub none : Standing
 none = record { rank = Rank.missing; number = 0; id = [] }
 
--- the places of these rows, as far as the mark comes before them
-abbrev pub placed : Option Place → List Place → List ℕ → List Place
-placed mark ranks rows = filter (beyond mark) (map (λ i. get_or ranks i none) rows)
+-- the standings of these rows, as far as the mark comes before them
+abbrev pub standings_at : Option Standing → List Standing → List ℕ → List Standing
+standings_at mark ranks rows = filter (beyond mark) (map (λ i. get_or ranks i none) rows)
 
--- the one place, if the mark comes before it
-abbrev pub one : Option Place → Place → List Place
+-- the one standing, if the mark comes before it
+abbrev pub one : Option Standing → Standing → List Standing
 one mark p = cond (beyond mark p) (p ∷ []) []
 
-pub placed-more : (mark : Option Place) (ranks : List Place) (rows : List ℕ) (row : ℕ) (p : Place) → p ≡ get_or ranks row none → placed mark ranks (rows ++ row ∷ []) ≡ placed mark ranks rows ++ one mark p
-placed-more mark ranks rows row p e =
+pub standings_at-more : (mark : Option Standing) (ranks : List Standing) (rows : List ℕ) (row : ℕ) (p : Standing) → p ≡ get_or ranks row none → standings_at mark ranks (rows ++ row ∷ []) ≡ standings_at mark ranks rows ++ one mark p
+standings_at-more mark ranks rows row p e =
     ap (filter (beyond mark)) (map-append (λ i. get_or ranks i none) rows (row ∷ []))
     ∙ filter-append (beyond mark) (map (λ i. get_or ranks i none) rows) (get_or ranks row none ∷ [])
-    ∙ ap (λ q. placed mark ranks rows ++ one mark q) (sym e)
+    ∙ ap (λ q. standings_at mark ranks rows ++ one mark q) (sym e)
 
-pub placed-all : (mark : Option Place) (ranks : List Place) (set : List Bool) (rows : List ℕ) → length set ≡ length ranks → rows ≡ indices set → placed mark ranks rows ≡ filter (beyond mark) (selected set ranks)
-placed-all mark ranks set rows e is = ap (placed mark ranks) is ∙ ap (filter (beyond mark)) (at_places set ranks none e)
+pub standings_at-all : (mark : Option Standing) (ranks : List Standing) (set : List Bool) (rows : List ℕ) → length set ≡ length ranks → rows ≡ indices set → standings_at mark ranks rows ≡ filter (beyond mark) (selected set ranks)
+standings_at-all mark ranks set rows e is = ap (standings_at mark ranks) is ∙ ap (filter (beyond mark)) (at_indices set ranks none e)
 
 -- the row that comes next is one of the segment
-pub next_within : (set : List Bool) (ranks : List Place) (before after : List ℕ) (row : ℕ) → before ++ row ∷ after ≡ indices set → length set ≡ length ranks → row < length ranks
+pub next_within : (set : List Bool) (ranks : List Standing) (before after : List ℕ) (row : ℕ) → before ++ row ∷ after ≡ indices set → length set ≡ length ranks → row < length ranks
 next_within set ranks before after row e long =
-    let each : AllByRecursion (λ i. i < length set) (before ++ row ∷ after) = subst (AllByRecursion (λ i. i < length set)) (sym e) (places-within set) in
+    let each : AllByRecursion (λ i. i < length set) (before ++ row ∷ after) = subst (AllByRecursion (λ i. i < length set)) (sym e) (indices-within set) in
     let here : row < length set = (All-right (λ i. i < length set) before (row ∷ after) each).0 in
     omega (arith, here, long)
 
@@ -62,8 +63,8 @@ room n ts xs x e h =
     let more : length (xs ++ x ∷ []) ≡ length xs + 1 = length-append xs (x ∷ []) in
     ap (λ zs. zs ++ x ∷ []) (e ∙ take_all n xs (omega (arith, long))) ∙ sym (take_all n (xs ++ x ∷ []) (omega (arith, long, more)))
 
-pub placed-append : (mark : Option Place) (ranks : List Place) (xs ys : List ℕ) → placed mark ranks (xs ++ ys) ≡ placed mark ranks xs ++ placed mark ranks ys
-placed-append mark ranks xs ys =
+pub standings_at-append : (mark : Option Standing) (ranks : List Standing) (xs ys : List ℕ) → standings_at mark ranks (xs ++ ys) ≡ standings_at mark ranks xs ++ standings_at mark ranks ys
+standings_at-append mark ranks xs ys =
     ap (filter (beyond mark)) (map-append (λ i. get_or ranks i none) xs ys) ∙ filter-append (beyond mark) (map (λ i. get_or ranks i none) xs) (map (λ i. get_or ranks i none) ys)
 
 -- ---- one segment more
@@ -78,21 +79,21 @@ module _ (q : Query) (ls : List Leaf) (i : ℕ) (leaf : Leaf) (at : leaf ≡ get
   pub total_more : length hits ≡ length leaf.segment.rows → (old new : ℕ) → old ≡ length (filter (row_matches q) (flat_map live_rows (take i ls))) → new ≡ old + count_by (λ b. b) hits
       → new ≡ length (filter (row_matches q) (flat_map live_rows (take (i + 1) ls)))
   total_more long old new e s =
-      let count = count-marked hits leaf.segment.rows long in
+      let count = count-selected hits leaf.segment.rows long in
       let sum = length-append (filter (row_matches q) (flat_map live_rows (take i ls))) (selected hits leaf.segment.rows) in
       omega (arith, e, s, count, sum) ∙ sym (ap length hits_more)
 
-  pub places_more : (mark : Option Place) (o : Order) (s : Sort) (segment : Segment) (ranks : List Place) → segment ≡ leaf.segment → ranks ≡ map (place_in o s) segment.rows
-      → filter (beyond mark) (map (place_in o s) (filter (row_matches q) (flat_map live_rows (take i ls)))) ++ filter (beyond mark) (selected hits ranks)
-      ≡ filter (beyond mark) (map (place_in o s) (filter (row_matches q) (flat_map live_rows (take (i + 1) ls))))
-  places_more mark o s segment ranks same e =
+  pub standings_more : (mark : Option Standing) (o : Order) (segment : Segment) (ranks : List Standing) → segment ≡ leaf.segment → ranks ≡ map (row_standing o) segment.rows
+      → filter (beyond mark) (map (row_standing o) (filter (row_matches q) (flat_map live_rows (take i ls)))) ++ filter (beyond mark) (selected hits ranks)
+      ≡ filter (beyond mark) (map (row_standing o) (filter (row_matches q) (flat_map live_rows (take (i + 1) ls))))
+  standings_more mark o segment ranks same e =
       let old : List Row = filter (row_matches q) (flat_map live_rows (take i ls)) in
-      let here : selected hits ranks ≡ map (place_in o s) (selected hits leaf.segment.rows) =
-      ap (selected hits) (e ∙ ap (λ t. map (place_in o s) t.rows) same) ∙ marked-map (place_in o s) hits leaf.segment.rows in
-      ap (λ ps. filter (beyond mark) (map (place_in o s) old) ++ filter (beyond mark) ps) here
-      ∙ sym (filter-append (beyond mark) (map (place_in o s) old) (map (place_in o s) (selected hits leaf.segment.rows)))
-      ∙ ap (filter (beyond mark)) (sym (map-append (place_in o s) old (selected hits leaf.segment.rows)))
-      ∙ ap (λ rs. filter (beyond mark) (map (place_in o s) rs)) (sym hits_more)
+      let here : selected hits ranks ≡ map (row_standing o) (selected hits leaf.segment.rows) =
+      ap (selected hits) (e ∙ ap (λ t. map (row_standing o) t.rows) same) ∙ selected-map (row_standing o) hits leaf.segment.rows in
+      ap (λ ps. filter (beyond mark) (map (row_standing o) old) ++ filter (beyond mark) ps) here
+      ∙ sym (filter-append (beyond mark) (map (row_standing o) old) (map (row_standing o) (selected hits leaf.segment.rows)))
+      ∙ ap (filter (beyond mark)) (sym (map-append (row_standing o) old (selected hits leaf.segment.rows)))
+      ∙ ap (λ rs. filter (beyond mark) (map (row_standing o) rs)) (sym hits_more)
 
 -- ---- in order of addition
 
@@ -107,32 +108,37 @@ in_order lt ys (x ∷ xs) a =
     let rest = append_assoc ys (x ∷ []) xs in
     ap (λ zs. insert_all lt zs xs) last ∙ in_order lt (ys ++ x ∷ []) xs (subst (EachPair (λ a b. lt b a ≡ false)) (sym rest) a) ∙ rest
 
-abbrev added : Row → Place
-added row = place_in order.Added Sort.added row
+abbrev added : Row → Standing
+added row = row_standing order.Added row
 
-added_after : (a b : Row) → a.number < b.number → place_before (added b) (added a) ≡ false
+added_after : (a b : Row) → a.number < b.number → standing_before (added b) (added a) ≡ false
 added_after a b h = is_lt-nat_cmp b.number a.number ∙ not_below b.number a.number h
   where
     not_below : (m n : ℕ) → n < m → ltb m n ≡ false
     not_below m n k = grind (arith, nat_tests)
 
 -- rows in order of addition stand in order
-pub first_added : (mark : Option Place) (o : Order) (s : Sort) (p : Row → Bool) (rows : List Row) (n : ℕ) → o ≡ order.Added → AllPairs (λ a b. a.number < b.number) rows
-    → take n (filter (beyond mark) (map (place_in order.Added Sort.added) (filter p rows))) ≡ take n (sorted place_before (filter (beyond mark) (map (place_in o s) (filter p rows))))
-first_added mark o s p rows n is rises =
+pub first_added : (mark : Option Standing) (o : Order) (p : Row → Bool) (rows : List Row) (n : ℕ) → o ≡ order.Added → AllPairs (λ a b. a.number < b.number) rows
+    → take n (filter (beyond mark) (map (row_standing order.Added) (filter p rows))) ≡ take n (sorted standing_before (filter (beyond mark) (map (row_standing o) (filter p rows))))
+first_added mark o p rows n is rises =
     let hits : List Row = filter p rows in
-    let indices : List Place = filter (beyond mark) (map added hits) in
+    let indices : List Standing = filter (beyond mark) (map added hits) in
     let pairs : EachPair (λ a b. a.number < b.number) hits = each_pair-filter (λ a b. a.number < b.number) p rows (each_pair (λ a b. a.number < b.number) rows rises) in
-    let after : EachPair (λ a b. place_before b a ≡ false) indices =
-    each_pair-filter (λ a b. place_before b a ≡ false) (beyond mark) (map added hits)
-    (each_pair-map added (λ a b. place_before b a ≡ false) hits (each_weaken hits pairs)) in
-    let same : map added hits ≡ map (place_in o s) hits = sym (ap (λ w. map (place_in w s) hits) is ∙ ap (λ (f : Row → Place). map f hits) (λ i r. place_in order.Added s r)) in
-    ap (take n) (sym (in_order place_before [] indices after)) ∙ ap (λ ps. take n (sorted place_before (filter (beyond mark) ps))) same
+    let after : EachPair (λ a b. standing_before b a ≡ false) indices =
+    each_pair-filter (λ a b. standing_before b a ≡ false) (beyond mark) (map added hits)
+    (each_pair-map added (λ a b. standing_before b a ≡ false) hits (each_weaken hits pairs)) in
+    let same : map added hits ≡ map (row_standing o) hits = ap (λ w. map (row_standing w) hits) (sym is) in
+    ap (take n) (sym (in_order standing_before [] indices after)) ∙ ap (λ ps. take n (sorted standing_before (filter (beyond mark) ps))) same
   where
-    each_weaken : (rs : List Row) → EachPair (λ a b. a.number < b.number) rs → EachPair (λ a b. place_before (added b) (added a) ≡ false) rs
+    each_weaken : (rs : List Row) → EachPair (λ a b. a.number < b.number) rs → EachPair (λ a b. standing_before (added b) (added a) ≡ false) rs
     each_weaken [] a = tt
-    each_weaken (r ∷ rs) a = (All-weaken (λ t. r.number < t.number) (λ t. place_before (added t) (added r) ≡ false) (λ t h. added_after r t h) rs a.0, each_weaken rs a.1)
+    each_weaken (r ∷ rs) a = (All-weaken (λ t. r.number < t.number) (λ t. standing_before (added t) (added r) ≡ false) (λ t h. added_after r t h) rs a.0, each_weaken rs a.1)
 
 pub if_ok : {A E : Type 0} (P Q : A → Type 0) → ((x : A) → P x → Q x) → (r : Result A E) → IfOk r P → IfOk r Q
 if_ok P Q f (Ok x) h = f x h
 if_ok P Q f (Err e) h = tt
+
+-- a query that matches every item matches every row
+pub everything : (q : Query) → ((i : Item) → matches q i ≡ true) → (rows : List Row) → filter (row_matches q) rows ≡ rows
+everything q all [] = refl
+everything q all (row ∷ rows) = rw (all (item_in row)) (ap (λ rs. row ∷ rs) (everything q all rows))

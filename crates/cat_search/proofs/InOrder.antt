@@ -9,7 +9,7 @@ use Rattle.cat_model.proofs.Insert.{which, each_insert, sorted-push, take-insert
 use Rattle.cat_model.proofs.Lists.{All-weaken}
 use Rattle.cat_model.proofs.Places.{each_pair}
 use Rattle.cat_model.proofs.Ranked.{first_sorted}
-use Rattle.cat_search.specs.Kept.{Kept, IsBestOf, InOrder, IsWithin}
+use Rattle.cat_search.specs.BestItems.{BestItems, IsBestOf, InOrder, IsWithin}
 
 each_take : {X : Type 0} (P : X → Type 0) (n : ℕ) (xs : List X) → AllByRecursion P xs → AllByRecursion P (take n xs)
 each_take P zero xs a = tt
@@ -28,7 +28,7 @@ take_first (suc n) [] x e = absurd (omega arith)
 take_first (suc n) (y ∷ ys) x e = let h : length ys ≡ n = omega arith in ap (λ zs. y ∷ zs) (take_first n ys x h)
 
 -- one more is offered
-pub best_more : {X : Type 0} (lt : X → X → Bool) (kept : Kept X) (offered : List X) (x : X) (items : List X) → IsBestOf lt kept offered → items ≡ take kept.limit (insert_by lt x kept.items)
+pub best_more : {X : Type 0} (lt : X → X → Bool) (kept : BestItems X) (offered : List X) (x : X) (items : List X) → IsBestOf lt kept offered → items ≡ take kept.limit (insert_by lt x kept.items)
     → items ≡ take kept.limit (sorted lt (offered ++ x ∷ []))
 best_more lt kept offered x items b e =
     e ∙ ap (λ ys. take kept.limit (insert_by lt x ys)) b ∙ take-insert lt kept.limit x (sorted lt offered) ∙ ap (take kept.limit) (sym (sorted-push lt [] offered x))
@@ -50,14 +50,14 @@ module _ {X : Type 0} (lt : X → X → Bool) (o : IsStrictWeakOrder lt) where
   in_order-insert_all ys [] a = a
   in_order-insert_all ys (x ∷ xs) a = in_order-insert_all (insert_by lt x ys) xs (in_order-insert x ys a)
 
-  pub best_in_order : (kept : Kept X) (offered : List X) → IsBestOf lt kept offered → InOrder lt kept.items
+  pub best_in_order : (kept : BestItems X) (offered : List X) → IsBestOf lt kept offered → InOrder lt kept.items
   best_in_order kept offered b = subst (InOrder lt) (sym b) (in_order-take kept.limit (sorted lt offered) (in_order-insert_all [] offered tt))
 
-  pub best_within : (kept : Kept X) (offered : List X) → IsBestOf lt kept offered → IsWithin kept
+  pub best_within : (kept : BestItems X) (offered : List X) → IsBestOf lt kept offered → IsWithin kept
   best_within kept offered b =
       let long : length kept.items ≡ min kept.limit (length (sorted lt offered)) = ap length b ∙ length-take kept.limit (sorted lt offered) in
       omega (arith, long)
 
   -- where one of any two comes before the other, they are the first by rank
-  pub best_ranked : (kept : Kept X) (offered : List X) → IsBestOf lt kept offered → AllPairs (AreApart lt) offered → kept.items ≡ first_ranked lt offered kept.limit
+  pub best_ranked : (kept : BestItems X) (offered : List X) → IsBestOf lt kept offered → AllPairs (AreApart lt) offered → kept.items ≡ first_ranked lt offered kept.limit
   best_ranked kept offered b apart = b ∙ sym (first_sorted lt (strict_from_weak lt o) offered kept.limit (each_pair (AreApart lt) offered apart))

@@ -7,7 +7,7 @@ use Rattle.std.specs.declared.cmp.Ordering.{Ordering}
 use Rattle.std.specs.declared.cmp.Ordering.TheVariants.{Less, Equal, Greater}
 use Rattle.std.specs.Ordering.{is_lt, is_ge}
 use Rattle.cat_model.specs.Ranks.{insert_by}
-use Rattle.cat_search.specs.Kept.{InOrder}
+use Rattle.cat_search.specs.BestItems.{InOrder}
 use Rattle.cat_search.proofs.InOrder.{insert_last, take_first}
 
 pub not_less : (o : Ordering) → is_ge o ≡ not (is_lt o)

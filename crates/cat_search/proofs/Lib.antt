@@ -8,7 +8,7 @@ pub mod OrdinalBars
 pub mod Passed
 pub mod Passes
 pub mod Marks
-pub mod Marked
+pub mod Selected
 pub mod RowSearch
 pub mod Defined
 pub mod Finds

@@ -16,8 +16,8 @@ use Rattle.cat_model.specs.Text.{Text, text_cmp, text_le}
 use Rattle.cat_search.specs.declared.ends.Ends.{Ends}
 use Rattle.cat_search.specs.declared.ordinal_bar.OrdinalBar.{OrdinalBar}
 use Rattle.cat_search.specs.Bars.{key_le, keyword_of, lies_within}
-use Rattle.cat_search.specs.Keys.{key_seen}
-use Rattle.cat_search.specs.OrdinalBars.{is_below, is_above, AreBelow, AreAbove, AreOrdinalsOf, keyword_key, lets_in}
+use Rattle.cat_search.specs.Keys.{key_ref_of}
+use Rattle.cat_search.specs.OrdinalBars.{is_below_end, is_above_end, AreBelow, AreAbove, AreOrdinalsOf, keyword_key, lets_in}
 use Rattle.cat_search.proofs.Bars.{either_refuses}
 
 -- ---- the order of texts
@@ -50,11 +50,11 @@ module _ (texts : List Text) (sorted : IsTextSet texts) where
         | inr at ↦ let same : i ≡ j = omega arith in ap (λ k. p (get_or texts k d)) same ∙ h
       ]
 
-  pub parted_low : (low : Option Text) → IsPartitionedBy (λ t. is_below t low) texts
+  pub parted_low : (low : Option Text) → IsPartitionedBy (λ t. is_below_end t low) texts
   parted_low None = λ i j d le lt h. h
   parted_low (Some a) = parted (λ t. is_lt (text_cmp t a)) (λ x y lt h. ap is_lt (nat_list_cmp_total.trans x y a lt (less (text_cmp y a) h)))
 
-  pub parted_high : (high : Option Text) → IsPartitionedBy (λ t. not (is_above t high)) texts
+  pub parted_high : (high : Option Text) → IsPartitionedBy (λ t. not (is_above_end t high)) texts
   parted_high None = λ i j d le lt h. h
   parted_high (Some a) = parted (λ t. not (is_lt (text_cmp a t))) (λ x y lt h. elim (cases_Bool (is_lt (text_cmp a x))) [
     | inl under ↦ absurd (true≢false (sym (ap is_lt (nat_list_cmp_total.trans a x y (less (text_cmp a x) under) lt)) ∙ not_true (is_lt (text_cmp a y)) h))
@@ -65,12 +65,12 @@ module _ (texts : List Text) (sorted : IsTextSet texts) where
       not_true true h = absurd (cc)
       not_true false h = refl
 
-pub below_before : (low : Option Text) (texts dictionary : List Text) (place : ℕ) → texts ≡ dictionary → IsPartitionPoint (λ t. is_below t low ≡ true) (λ t. is_below t low ≡ false) texts place → AreBelow low dictionary place
-below_before low texts dictionary place e point = subst (λ ts. AreBelow low ts place) e (λ i under lt. point.0 i [] (omega arith) under)
+pub below_before : (low : Option Text) (texts dictionary : List Text) (ordinal : ℕ) → texts ≡ dictionary → IsPartitionPoint (λ t. is_below_end t low ≡ true) (λ t. is_below_end t low ≡ false) texts ordinal → AreBelow low dictionary ordinal
+below_before low texts dictionary ordinal e point = subst (λ ts. AreBelow low ts ordinal) e (λ i under lt. point.0 i [] (omega arith) under)
 
-pub above_from : (high : Option Text) (texts dictionary : List Text) (place : ℕ) → texts ≡ dictionary
-    → IsPartitionPoint (λ t. not (is_above t high) ≡ true) (λ t. not (is_above t high) ≡ false) texts place → AreAbove high dictionary place
-above_from high texts dictionary place e point = subst (λ ts. AreAbove high ts place) e (λ i from lt. not_false (is_above (text_at texts i) high) (point.1 i [] from lt))
+pub above_from : (high : Option Text) (texts dictionary : List Text) (ordinal : ℕ) → texts ≡ dictionary
+    → IsPartitionPoint (λ t. not (is_above_end t high) ≡ true) (λ t. not (is_above_end t high) ≡ false) texts ordinal → AreAbove high dictionary ordinal
+above_from high texts dictionary ordinal e point = subst (λ ts. AreAbove high ts ordinal) e (λ i from lt. not_false (is_above_end (text_at texts i) high) (point.1 i [] from lt))
   where
     not_false : (b : Bool) → not b ≡ false → b ≡ true
     not_false true h = refl
@@ -78,12 +78,12 @@ above_from high texts dictionary place e point = subst (λ ts. AreAbove high ts 
 
 -- ---- the bar of ordinals
 
-low_over : (low : Option Key) (t : Text) → is_below t (keyword_of low) ≡ true → open_or (λ a. key_le a (Key.keyword t)) low ≡ false
+low_over : (low : Option Key) (t : Text) → is_below_end t (keyword_of low) ≡ true → open_or (λ a. key_le a (Key.keyword t)) low ≡ false
 low_over None t e = absurd (cc)
 low_over (Some (Key.number n)) t e = absurd (cc)
 low_over (Some (Key.keyword a)) t e = not_le a t e
 
-high_under : (high : Option Key) (t : Text) → is_above t (keyword_of high) ≡ true → open_or (key_le (Key.keyword t)) high ≡ false
+high_under : (high : Option Key) (t : Text) → is_above_end t (keyword_of high) ≡ true → open_or (key_le (Key.keyword t)) high ≡ false
 high_under None t e = absurd (cc)
 high_under (Some (Key.number n)) t e = absurd (cc)
 high_under (Some (Key.keyword a)) t e = not_le t a e
@@ -94,24 +94,24 @@ not_from from i e = grind (arith, nat_tests)
 not_before : (i before : ℕ) → nat_lt i before ≡ false → before ≤ i
 not_before i before e = grind (arith, nat_tests)
 
-pub open_ordinals : (texts : List Text) (place n : ℕ) → place ≡ length texts → AreOrdinalsOf texts (record { from = 0; before = place; missing = true; low = None; high = None; lookups = n })
-open_ordinals texts place n e = record { below = λ i under lt. absurd (omega arith); above = λ i from lt. absurd (omega (arith, e)) }
+pub open_ordinals : (texts : List Text) (ordinal n : ℕ) → ordinal ≡ length texts → AreOrdinalsOf texts (record { from = 0; before = ordinal; missing = true; low = None; high = None; lookups = n })
+open_ordinals texts ordinal n e = record { below = λ i under lt. absurd (omega arith); above = λ i from lt. absurd (omega (arith, e)) }
 
-pub open_lets_in : (texts : List Text) (place n : ℕ) → place ≡ length texts → (i : Option ℕ) → IfSome i (λ k. k < length texts)
-    → lets_in (record { from = 0; before = place; missing = true; low = None; high = None; lookups = n }) i ≡ true
-open_lets_in texts place n e None within = refl
-open_lets_in texts place n e (Some i) within = both i place (omega (arith, within, e))
+pub open_lets_in : (texts : List Text) (ordinal n : ℕ) → ordinal ≡ length texts → (i : Option ℕ) → IfSome i (λ k. k < length texts)
+    → lets_in (record { from = 0; before = ordinal; missing = true; low = None; high = None; lookups = n }) i ≡ true
+open_lets_in texts ordinal n e None within = refl
+open_lets_in texts ordinal n e (Some i) within = both i ordinal (omega (arith, within, e))
   where
     both : (k m : ℕ) → k < m → (nat_le 0 k && nat_lt k m) ≡ true
     both k m h = grind (arith, nat_tests)
 
 pub outside : (ends : Ends) (texts : List Text) (bar : OrdinalBar) → bar.missing ≡ ends.missing
-    → option_map (λ t. t.now) bar.low ≡ keyword_of (option_map key_seen ends.low) → option_map (λ t. t.now) bar.high ≡ keyword_of (option_map key_seen ends.high) → AreOrdinalsOf texts bar
+    → option_map (λ t. t.now) bar.low ≡ keyword_of (option_map key_ref_of ends.low) → option_map (λ t. t.now) bar.high ≡ keyword_of (option_map key_ref_of ends.high) → AreOrdinalsOf texts bar
     → (i : Option ℕ) → IfSome i (λ k. k < length texts) → lets_in bar i ≡ false → lies_within ends (keyword_key texts i) ≡ false
 outside ends texts bar m a b are None within e = sym m ∙ e
 outside ends texts bar m a b are (Some i) within e =
     let t : Text = text_at texts i in
-    let first : Option Key = option_map key_seen ends.low in
-    let last : Option Key = option_map key_seen ends.high in
+    let first : Option Key = option_map key_ref_of ends.low in
+    let last : Option Key = option_map key_ref_of ends.high in
     either_refuses (nat_le bar.from i) (nat_lt i bar.before) (open_or (λ x. key_le x (Key.keyword t)) first) (open_or (key_le (Key.keyword t)) last)
-    (λ x. low_over first t (sym (ap (is_below t) a) ∙ are.below i (not_from bar.from i x) within)) (λ x. high_under last t (sym (ap (is_above t) b) ∙ are.above i (not_before i bar.before x) within)) e
+    (λ x. low_over first t (sym (ap (is_below_end t) a) ∙ are.below i (not_from bar.from i x) within)) (λ x. high_under last t (sym (ap (is_above_end t) b) ∙ are.above i (not_before i bar.before x) within)) e

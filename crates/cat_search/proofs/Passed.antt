@@ -5,30 +5,30 @@ use Rattle.cat_model.specs.Page.{Sort}
 use Rattle.cat_model.specs.View.{Row, selected}
 use Rattle.cat_model.proofs.HitOrder.{is_lt-nat_cmp}
 use Rattle.cat_search.specs.declared.sort.Order.TheVariants as order
-use Rattle.cat_search.specs.Keys.{Rank, Place, place_before}
-use Rattle.cat_search.specs.Views.{place_in}
+use Rattle.cat_search.specs.Standings.{Rank, Standing, standing_before}
+use Rattle.cat_search.specs.Rows.{row_standing}
 
-abbrev added : Row → Place
-added row = place_in order.Added Sort.added row
+abbrev added : Row → Standing
+added row = row_standing order.Added row
 
 -- a mark without a key doesn't come before a row that an earlier write put, or the same
-not_beyond : (m : Place) (row : Row) → m.rank ≡ Rank.missing → row.number ≤ m.number → place_before m (added row) ≡ false
+not_beyond : (m : Standing) (row : Row) → m.rank ≡ Rank.missing → row.number ≤ m.number → standing_before m (added row) ≡ false
 not_beyond m row is le =
     let up : ltb m.number row.number ≡ false = grind (arith, nat_tests, le) in
     rw is (is_lt-nat_cmp m.number row.number ∙ up)
 
-pub passed : (m : Place) (k : ℕ) (set : List Bool) (rows : List Row) → m.rank ≡ Rank.missing → ((i : ℕ) (d : Row) → i < k → i < length rows → (get_or rows i d).number ≤ m.number)
-    → filter (place_before m) (selected (replicate k false ++ drop k set) (map added rows)) ≡ filter (place_before m) (selected set (map added rows))
+pub passed : (m : Standing) (k : ℕ) (set : List Bool) (rows : List Row) → m.rank ≡ Rank.missing → ((i : ℕ) (d : Row) → i < k → i < length rows → (get_or rows i d).number ≤ m.number)
+    → filter (standing_before m) (selected (replicate k false ++ drop k set) (map added rows)) ≡ filter (standing_before m) (selected set (map added rows))
 passed m zero set rows is up_to = refl
 passed m (suc k) [] rows is up_to = none k rows
   where
-    none : (j : ℕ) (rs : List Row) → filter (place_before m) (selected (replicate (suc j) false ++ []) (map added rs)) ≡ []
+    none : (j : ℕ) (rs : List Row) → filter (standing_before m) (selected (replicate (suc j) false ++ []) (map added rs)) ≡ []
     none j [] = refl
     none zero (r ∷ rs) = refl
     none (suc j) (r ∷ rs) = none j rs
 passed m (suc k) (b ∷ bs) [] is up_to = refl
 passed m (suc k) (true ∷ bs) (r ∷ rows) is up_to =
-    let here : place_before m (added r) ≡ false = not_beyond m r is (up_to 0 r (omega arith) (omega arith)) in
+    let here : standing_before m (added r) ≡ false = not_beyond m r is (up_to 0 r (omega arith) (omega arith)) in
     let rest = passed m k bs rows is (λ i d lt within. up_to (suc i) d (omega arith) (omega arith)) in
     rw here rest
 passed m (suc k) (false ∷ bs) (r ∷ rows) is up_to = passed m k bs rows is (λ i d lt within. up_to (suc i) d (omega arith) (omega arith))

@@ -4,35 +4,39 @@ use Rattle.std.proofs.lemmas.List.{map-append, take_more}
 use Rattle.std.proofs.lemmas.List.Elements.{filter-append}
 use Rattle.cat_model.specs.Item.{Item, Record}
 use Rattle.cat_search.specs.declared.sort.Order.{Order}
-use Rattle.cat_search.specs.Keys.{Place}
-use Rattle.cat_search.specs.Pages.{accepted, beyond, place_at, places_behind}
+use Rattle.cat_search.specs.Standings.{Standing}
+use Rattle.cat_search.specs.Pages.{hits_where, behind, beyond, record_standing}
 
-pub meant_more : {X : Type 0} (meant : X → Record) (xs : List X) (i : ℕ) (x : X) → x ≡ get_or xs i x → i < length xs → map meant (take (i + 1) xs) ≡ map meant (take i xs) ++ meant x ∷ []
-meant_more meant xs i x at h = ap (map meant) (take_more xs i x h ∙ ap (λ y. take i xs ++ y ∷ []) (sym at)) ∙ map-append meant (take i xs) (x ∷ [])
+-- the standings of the hits that the mark comes before
+abbrev pub standings_behind : Order → Option Standing → (Item → Bool) → List Record → List Standing
+standings_behind o mark test rs = behind mark (map (record_standing o) (hits_where test rs))
+
+pub records_more : {X : Type 0} (record_of : X → Record) (xs : List X) (i : ℕ) (x : X) → x ≡ get_or xs i x → i < length xs → map record_of (take (i + 1) xs) ≡ map record_of (take i xs) ++ record_of x ∷ []
+records_more record_of xs i x at h = ap (map record_of) (take_more xs i x h ∙ ap (λ y. take i xs ++ y ∷ []) (sym at)) ∙ map-append record_of (take i xs) (x ∷ [])
 
 module _ (accepts : Item → Bool) (rs : List Record) (r : Record) where
-  hits_more : (b : Bool) → accepts r.item ≡ b → accepted accepts (rs ++ r ∷ []) ≡ accepted accepts rs ++ cond b (r ∷ []) []
-  hits_more b e = filter-append (λ s. accepts s.item) rs (r ∷ []) ∙ ap (λ c. accepted accepts rs ++ cond c (r ∷ []) []) e
+  hits_more : (b : Bool) → accepts r.item ≡ b → hits_where accepts (rs ++ r ∷ []) ≡ hits_where accepts rs ++ cond b (r ∷ []) []
+  hits_more b e = filter-append (λ s. accepts s.item) rs (r ∷ []) ∙ ap (λ c. hits_where accepts rs ++ cond c (r ∷ []) []) e
 
-  -- an accepted record counts
+  -- an hits_where record counts
 
-  pub total_hit : (t : ℕ) → accepts r.item ≡ true → t ≡ length (accepted accepts rs) → t + 1 ≡ length (accepted accepts (rs ++ r ∷ []))
-  total_hit t e s = omega (arith, s, length-append (accepted accepts rs) (r ∷ [])) ∙ ap length (sym (hits_more true e))
+  pub total_hit : (t : ℕ) → accepts r.item ≡ true → t ≡ length (hits_where accepts rs) → t + 1 ≡ length (hits_where accepts (rs ++ r ∷ []))
+  total_hit t e s = omega (arith, s, length-append (hits_where accepts rs) (r ∷ [])) ∙ ap length (sym (hits_more true e))
 
-  pub total_other : (t : ℕ) → accepts r.item ≡ false → t ≡ length (accepted accepts rs) → t ≡ length (accepted accepts (rs ++ r ∷ []))
-  total_other t e s = s ∙ ap length (sym (append-nil (accepted accepts rs)) ∙ sym (hits_more false e))
+  pub total_other : (t : ℕ) → accepts r.item ≡ false → t ≡ length (hits_where accepts rs) → t ≡ length (hits_where accepts (rs ++ r ∷ []))
+  total_other t e s = s ∙ ap length (sym (append-nil (hits_where accepts rs)) ∙ sym (hits_more false e))
 
-  module _ (o : Order) (mark : Option Place) where
-    places_more : (b : Bool) → accepts r.item ≡ b → places_behind o mark accepts (rs ++ r ∷ []) ≡ places_behind o mark accepts rs ++ filter (beyond mark) (map (place_at o) (cond b (r ∷ []) []))
-    places_more b e =
-        ap (λ hs. filter (beyond mark) (map (place_at o) hs)) (hits_more b e)
-        ∙ ap (filter (beyond mark)) (map-append (place_at o) (accepted accepts rs) (cond b (r ∷ []) []))
-        ∙ filter-append (beyond mark) (map (place_at o) (accepted accepts rs)) (map (place_at o) (cond b (r ∷ []) []))
+  module _ (o : Order) (mark : Option Standing) where
+    standings_more : (b : Bool) → accepts r.item ≡ b → standings_behind o mark accepts (rs ++ r ∷ []) ≡ standings_behind o mark accepts rs ++ filter (beyond mark) (map (record_standing o) (cond b (r ∷ []) []))
+    standings_more b e =
+        ap (λ hs. filter (beyond mark) (map (record_standing o) hs)) (hits_more b e)
+        ∙ ap (filter (beyond mark)) (map-append (record_standing o) (hits_where accepts rs) (cond b (r ∷ []) []))
+        ∙ filter-append (beyond mark) (map (record_standing o) (hits_where accepts rs)) (map (record_standing o) (cond b (r ∷ []) []))
 
-    -- an accepted record has a place, if the mark comes before it
+    -- an hits_where record has a standing, if the mark comes before it
 
-    pub places_hit : accepts r.item ≡ true → places_behind o mark accepts (rs ++ r ∷ []) ≡ places_behind o mark accepts rs ++ cond (beyond mark (place_at o r)) (place_at o r ∷ []) []
-    places_hit e = places_more true e
+    pub standings_hit : accepts r.item ≡ true → standings_behind o mark accepts (rs ++ r ∷ []) ≡ standings_behind o mark accepts rs ++ cond (beyond mark (record_standing o r)) (record_standing o r ∷ []) []
+    standings_hit e = standings_more true e
 
-    pub places_other : accepts r.item ≡ false → places_behind o mark accepts (rs ++ r ∷ []) ≡ places_behind o mark accepts rs
-    places_other e = places_more false e ∙ append-nil (places_behind o mark accepts rs)
+    pub standings_other : accepts r.item ≡ false → standings_behind o mark accepts (rs ++ r ∷ []) ≡ standings_behind o mark accepts rs
+    standings_other e = standings_more false e ∙ append-nil (standings_behind o mark accepts rs)

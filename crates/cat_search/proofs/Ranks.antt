@@ -12,9 +12,10 @@ use Rattle.cat_model.specs.View.{Row, item_in}
 use Rattle.cat_segment.specs.Contents.{contents_of}
 use Rattle.cat_segment.specs.declared.column.Column.{Column}
 use Rattle.cat_search.specs.declared.sort.Order.{Order}
-use Rattle.cat_search.specs.Keys.{Place}
+use Rattle.cat_search.specs.Standings.{Standing}
 use Rattle.cat_search.specs.Pages.{rank_with}
-use Rattle.cat_search.specs.Views.{bare, keys_by, mark_in, place_in, places_by}
+use Rattle.cat_search.specs.Sorts.{sort_in}
+use Rattle.cat_search.specs.Rows.{bare_record, keys_by, mark_in_rows, row_standing, keyed_standings}
 use Rattle.cat_search.proofs.Defined.{map_map}
 use Rattle.cat_search.proofs.Marks.{has}
 
@@ -42,33 +43,33 @@ pub column_keys : (name : Text) (rows : List Row) (o : Option (Bor Column))
 column_keys name rows None h = no_column name rows h
 column_keys name rows (Some c) h = some_column name rows c h
 
-pub no_keys : (rows : List Row) → replicate (length rows) None ≡ map (λ r. key Sort.added (bare r)) rows
+pub no_keys : (rows : List Row) → replicate (length rows) None ≡ map (λ r. key Sort.added (bare_record r)) rows
 no_keys [] = refl
 no_keys (r ∷ rows) = ap (λ ks. None ∷ ks) (no_keys rows)
 
--- ---- places
+-- ---- standings
 
-pub places-by_keys : (o : Order) (s : Sort) (rows : List Row) → places_by o (map (λ r. key s (bare r)) rows) rows ≡ map (place_in o s) rows
-places-by_keys o s [] = refl
-places-by_keys o s (r ∷ rows) = ap (λ ps. place_in o s r ∷ ps) (places-by_keys o s rows)
+pub standings-by_keys : (o : Order) (rows : List Row) → keyed_standings o (map (λ r. key (sort_in o) (bare_record r)) rows) rows ≡ map (row_standing o) rows
+standings-by_keys o [] = refl
+standings-by_keys o (r ∷ rows) = ap (λ ps. row_standing o r ∷ ps) (standings-by_keys o rows)
 
-pub length-places : (o : Order) (ks : List (Option Key)) (rows : List Row) → length ks ≡ length rows → length (places_by o ks rows) ≡ length rows
-length-places o [] [] e = refl
-length-places o [] (r ∷ rows) e = absurd (omega arith)
-length-places o (k ∷ ks) [] e = absurd (omega arith)
-length-places o (k ∷ ks) (r ∷ rows) e = let h : length (places_by o ks rows) ≡ length rows = length-places o ks rows (omega arith) in omega (arith, h)
+pub length-standings : (o : Order) (ks : List (Option Key)) (rows : List Row) → length ks ≡ length rows → length (keyed_standings o ks rows) ≡ length rows
+length-standings o [] [] e = refl
+length-standings o [] (r ∷ rows) e = absurd (omega arith)
+length-standings o (k ∷ ks) [] e = absurd (omega arith)
+length-standings o (k ∷ ks) (r ∷ rows) e = let h : length (keyed_standings o ks rows) ≡ length rows = length-standings o ks rows (omega arith) in omega (arith, h)
 
-pub place-at : (o : Order) (ks : List (Option Key)) (rows : List Row) (i : ℕ) (d : Place) (k : Option Key) (number : ℕ) (id : Text) → length ks ≡ length rows → i < length rows
+pub keyed-at : (o : Order) (ks : List (Option Key)) (rows : List Row) (i : ℕ) (d : Standing) (k : Option Key) (number : ℕ) (id : Text) → length ks ≡ length rows → i < length rows
     → get_or ks i None ≡ k → HoldsAt (λ r. r.number ≡ number) rows i → HoldsAt (λ r. r.id ≡ id) rows i
-    → ◌≡◌ {A = Place} (record { rank = rank_with o k; number = number; id = id }) (get_or (places_by o ks rows) i d)
-place-at o [] [] i d k number id e h at n t = absurd (omega arith)
-place-at o [] (r ∷ rows) i d k number id e h at n t = absurd (omega arith)
-place-at o (x ∷ ks) [] i d k number id e h at n t = absurd (omega arith)
-place-at o (x ∷ ks) (r ∷ rows) zero d k number id e h at n t =
+    → ◌≡◌ {A = Standing} (record { rank = rank_with o k; number = number; id = id }) (get_or (keyed_standings o ks rows) i d)
+keyed-at o [] [] i d k number id e h at n t = absurd (omega arith)
+keyed-at o [] (r ∷ rows) i d k number id e h at n t = absurd (omega arith)
+keyed-at o (x ∷ ks) [] i d k number id e h at n t = absurd (omega arith)
+keyed-at o (x ∷ ks) (r ∷ rows) zero d k number id e h at n t =
     let numbered : r.number ≡ number = n r in
     let named : r.id ≡ id = t r in
     λ j. record { rank = rank_with o ((sym at) j); number = (sym numbered) j; id = (sym named) j }
-place-at o (x ∷ ks) (r ∷ rows) (suc i) d k number id e h at n t = place-at o ks rows i d k number id (omega arith) (omega arith) at n t
+keyed-at o (x ∷ ks) (r ∷ rows) (suc i) d k number id e h at n t = keyed-at o ks rows i d k number id (omega arith) (omega arith) at n t
 
 -- ---- keys
 
@@ -105,14 +106,14 @@ no_key_in_labels (x ∷ xs) (suc i) = no_key_in_labels xs i
 none : Row
 none = record { number = 0; id = []; fields = []; length = 0 }
 
-pub marked_place : (o : Order) (s : Sort) (rows : List Row) (mark : Option ℕ) (number : ℕ) → mark ≡ Some number
-    → (ps : List Place) (here : List Row) (i : ℕ) (p : Place) → ps ≡ map (place_in o s) here
+pub found_mark : (o : Order) (rows : List Row) (mark : Option ℕ) (number : ℕ) → mark ≡ Some number
+    → (ps : List Standing) (here : List Row) (i : ℕ) (p : Standing) → ps ≡ map (row_standing o) here
     → (i < length here) × HoldsAt (λ r. find (λ t. t.number == number) rows ≡ Some r) here i → HoldsAt (λ q. p ≡ q) ps i
-    → (Some p ≡ mark_in o s rows mark) × (has_mark (map bare rows) mark ≡ true)
-marked_place o s rows mark number is ps here i p e h at =
+    → (Some p ≡ mark_in_rows o rows mark) × (has_mark (map bare_record rows) mark ≡ true)
+found_mark o rows mark number is ps here i p e h at =
     let there : find (λ t. t.number == number) rows ≡ Some (get_or here i none) = h.1 none in
-    let place : p ≡ place_in o s (get_or here i none) = at (place_in o s none) ∙ ap (λ qs. get_or qs i (place_in o s none)) e ∙ get_or-map (place_in o s) here i none h.0 in
-    (ap Some place ∙ sym (ap (mark_in o s rows) is ∙ ap (option_map (place_in o s)) there), has bare rows mark number is (Some (get_or here i none)) there)
+    let standing : p ≡ row_standing o (get_or here i none) = at (row_standing o none) ∙ ap (λ qs. get_or qs i (row_standing o none)) e ∙ get_or-map (row_standing o) here i none h.0 in
+    (ap Some standing ∙ sym (ap (mark_in_rows o rows) is ∙ ap (option_map (row_standing o)) there), has bare_record rows mark number is (Some (get_or here i none)) there)
   where
     get_or-map : {X Y : Type 0} (f : X → Y) (xs : List X) (k : ℕ) (d : X) → k < length xs → get_or (map f xs) k (f d) ≡ f (get_or xs k d)
     get_or-map f [] k d q = absurd (omega arith)

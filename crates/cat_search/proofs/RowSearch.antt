@@ -7,8 +7,8 @@ use Rattle.cat_model.specs.View.{Row, Leaf, Segment, selected, live_rows}
 use Rattle.cat_model.specs.RowSets.{has_row}
 use Rattle.cat_model.proofs.Lists.{All-both, All-weaken}
 use Rattle.cat_model.proofs.Places.{EachPair, each_pair}
-use Rattle.cat_search.specs.Views.{first_in}
-use Rattle.cat_search.proofs.Marked.{All-marked, All-left, All-right, Pairs-right, All-pieces}
+use Rattle.cat_search.specs.Rows.{all_rows, first_in}
+use Rattle.cat_search.proofs.Selected.{All-selected, All-left, All-right, Pairs-right, All-pieces}
 
 -- the number of each row is below those behind it
 abbrev pub NumbersRise : List Row → Type 0
@@ -54,7 +54,7 @@ found-right number (x ∷ xs) ys a = let e : (x.number == number) ≡ false = a.
 -- the live rows of a segment that has no row of the number
 pub none_live : (number : ℕ) (set : List Bool) (rows : List Row) → All (λ r. r.number ≢ number) rows → found number (selected set rows) ≡ None
 none_live number set rows a =
-    lacking number (selected set rows) (All-marked (λ r. (r.number == number) ≡ false) set rows (All-weaken (λ r. r.number ≢ number) (λ r. (r.number == number) ≡ false) (λ r h. other r.number number h) rows (recursion_from_All (λ r. r.number ≢ number) rows a)))
+    lacking number (selected set rows) (All-selected (λ r. (r.number == number) ≡ false) set rows (All-weaken (λ r. r.number ≢ number) (λ r. (r.number == number) ≡ false) (λ r h. other r.number number h) rows (recursion_from_All (λ r. r.number ≢ number) rows a)))
 
 -- the row of the number, if it is marked
 found_at : (number : ℕ) (set : List Bool) (rows : List Row) (i : ℕ) (d : Row) → EachPair (λ a b. a.number < b.number) rows → i < length rows → (get_or rows i d).number ≡ number
@@ -64,7 +64,7 @@ found_at number (b ∷ bs) [] i d rises h e = absurd (omega arith)
 found_at number (true ∷ bs) (r ∷ rows) zero d rises h e = let t : (r.number == number) ≡ true = equal r.number number e in rw t refl
 found_at number (false ∷ bs) (r ∷ rows) zero d rises h e =
     let later : AllByRecursion (λ s. number < s.number) rows = subst (λ n. AllByRecursion (λ s. n < s.number) rows) e rises.0 in
-    lacking number (selected bs rows) (All-marked (λ s. (s.number == number) ≡ false) bs rows (above_lacks number rows later))
+    lacking number (selected bs rows) (All-selected (λ s. (s.number == number) ≡ false) bs rows (above_lacks number rows later))
 found_at number (true ∷ bs) (r ∷ rows) (suc i) d rises h e =
     let up : r.number < (get_or rows i d).number = at_index (λ s. r.number < s.number) rows i d (omega arith) rises.0 in
     let t : (r.number == number) ≡ false = other r.number number (λ q. omega (arith, up, e, q)) in
@@ -91,9 +91,6 @@ module _ (number : ℕ) (set : List Bool) (rows : List Row) (i : ℕ) (rises : N
 pub first-at : (rows : List Row) (v : ℕ) → 0 < length rows → HoldsAt (λ r. r.number ≡ v) rows 0 → v ≡ first_in rows
 first-at [] v h is = absurd (omega arith)
 first-at (r ∷ rows) v h is = sym (is r)
-
-abbrev pub all_rows : List Leaf → List Row
-all_rows ls = flat_map (λ l. l.segment.rows) ls
 
 abbrev pub Rise : List Row → Type 0
 Rise rows = EachPair (λ a b. a.number < b.number) rows
@@ -149,7 +146,7 @@ found_in number [] m l h at below above = absurd (omega arith)
 found_in number (k ∷ ks) zero l h at below above =
     found-left number (live_rows k) (flat_map live_rows ks) (lacks_live number ks (above_lacks number (all_rows ks) above)) ∙ ap (λ j. found number (live_rows j)) (sym at)
 found_in number (k ∷ ks) (suc m) l h at below above =
-    found-right number (live_rows k) (flat_map live_rows ks) (All-marked (λ r. (r.number == number) ≡ false) k.live k.segment.rows (below_lacks number k.segment.rows (All-left (λ r. r.number < number) k.segment.rows (all_rows (take m ks)) below)))
+    found-right number (live_rows k) (flat_map live_rows ks) (All-selected (λ r. (r.number == number) ≡ false) k.live k.segment.rows (below_lacks number k.segment.rows (All-left (λ r. r.number < number) k.segment.rows (all_rows (take m ks)) below)))
     ∙ found_in number ks m l (omega arith) at (All-right (λ r. r.number < number) k.segment.rows (all_rows (take m ks)) below) above
 
 -- ---- the row that is found, in a segment that the code has by another name

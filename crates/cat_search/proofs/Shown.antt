@@ -1,4 +1,4 @@
--- An answer to a FIND asks for no source, so over the records that a view shows it is the answer over its bare rows.
+-- An answer to a FIND asks for no source, so over the records that a view shows it is the answer over its bare_record rows.
 use Rattle.std.proofs.Common.{◌≡◌, ℕ, min, List, [], ◌∷◌, length, map, filter, Bool, cond, ltb, Option, Some, None, option_map, find, ◌&&◌, ◌||◌, ◌==◌, Result, Ok, Err, IfErr, refl, sym, ap, ◌∙◌}
 use Rattle.std.specs.Prelude.{filter_map, count_by, replicate}
 use Rattle.std.specs.List.{list_any, cons_option, range_with_len}
@@ -12,7 +12,8 @@ use Rattle.cat_model.specs.Page.{Sort, Page, Entry, key, hits, before, ranked, f
 use Rattle.cat_model.specs.Query.{Query, Primary, obeys, supports, obeyed, supported, primary_matches, matches}
 use Rattle.cat_model.specs.View.{Row, View, Shows, row_of, rows_in}
 use Rattle.cat_search.specs.Pages.{answer_where, as_found}
-use Rattle.cat_search.specs.Views.{bare, ViewsShowRecords}
+use Rattle.cat_search.specs.Views.{ViewsShowRecords}
+use Rattle.cat_search.specs.Rows.{bare_record}
 use Rattle.cat_search.proofs.Defined.{filter-map, map_map}
 use Rattle.cat_search.proofs.Finds.{pages_answer_finds}
 use Rattle.cat_search.proofs.Marks.{find-map}
@@ -124,12 +125,12 @@ answer_alike schema rs q s m n =
     ∙ ap (λ b. cond (ltb 1000 n) (Err Count) (cond (can_sort schema s) (cond b (Ok (Found.page (page_of rs q s m n))) (Err Mark)) (Err SortField))) (marks_alike rs m)
 
 pub answers_shown : (view : View) (q : Query) (s : Sort) (m : Option ℕ) (n : ℕ) (rs : List Record) → Shows view rs
-    → answer view.schema rs (Read.find n s m (Ok q)) ≡ as_found (answer_where view.schema (map bare (rows_in view)) (matches q) s m n)
+    → answer view.schema rs (Read.find n s m (Ok q)) ≡ as_found (answer_where view.schema (map bare_record (rows_in view)) (matches q) s m n)
 answers_shown view q s m n rs shows =
-    let rows : map strip rs ≡ map bare (rows_in view) = sym (map_map bare row_of strip (λ r. refl) rs) ∙ ap (map bare) shows in
+    let rows : map strip rs ≡ map bare_record (rows_in view) = sym (map_map bare_record row_of strip (λ r. refl) rs) ∙ ap (map bare_record) shows in
     sym (answer_alike view.schema rs q s m n)
     ∙ ap (λ ts. answer view.schema ts (Read.find n s m (Ok q))) rows
-    ∙ sym (pages_answer_finds view.schema (map bare (rows_in view)) q s m n)
+    ∙ sym (pages_answer_finds view.schema (map bare_record (rows_in view)) q s m n)
 
 -- a refusal that is due of the one is due of the other
 pub due_shown : (P : Refusal → Type 0) (r : Result Page Refusal) → IfErr r P → IfErr (as_found r) P

@@ -1,18 +1,19 @@
 -- Rows that can't come into a page, by their keys alone.
-use Rattle.std.specs.Prelude.{◌≡◌, ◌++◌, ℤ, Bool, false, ◌&&◌, List, [], ◌∷◌, map, cond, Option, Some, None, option_map}
+use Rattle.std.specs.Prelude.{◌≡◌, ℤ, Bool, false, ◌&&◌, List, [], ◌∷◌, map, Option, Some, None, option_map}
 use Rattle.std.specs.Ordering.{is_le}
 use Rattle.cat_model.specs.Page.{Key, key_cmp}
 use Rattle.cat_model.specs.Query.{open_or, int_le}
 use Rattle.cat_model.specs.Text.{Text}
-use Rattle.cat_search.specs.declared.bar.Bar.{Bar}
+use Rattle.cat_search.specs.declared.number_bar.NumberBar.{NumberBar}
 use Rattle.cat_search.specs.declared.ends.Ends.{Ends}
-use Rattle.cat_search.specs.declared.places.Candidate.{Candidate}
+use Rattle.cat_search.specs.declared.standings.Candidate.{Candidate}
 use Rattle.cat_search.specs.declared.sort.Order.{Order}
 use Rattle.cat_search.specs.declared.sort.Order.TheVariants as order
-use Rattle.cat_search.specs.Keys.{Place, Rank, place_before, key_seen}
-use Rattle.cat_search.specs.Kept.{Kept}
-use Rattle.cat_search.specs.Pages.{beyond, rank_with}
-use Rattle.cat_search.specs.Seen.{IsBestAt}
+use Rattle.cat_search.specs.Keys.{key_ref_of}
+use Rattle.cat_search.specs.Standings.{Standing, Rank, standing_before}
+use Rattle.cat_search.specs.BestItems.{BestItems}
+use Rattle.cat_search.specs.Pages.{if_behind, rank_with}
+use Rattle.cat_search.specs.Candidates.{TakesIn}
 
 -- the rank is that of the key in the order of a field
 abbrev pub HasKey : Order → Rank → Key → Type 0
@@ -21,21 +22,21 @@ HasKey (order.Rising field) rank k = rank ≡ Rank.rising k
 HasKey (order.Falling field) rank k = rank ≡ Rank.falling k
 
 -- the mark has the key in the order of a field
-abbrev pub MarkHas : Order → Option Place → Key → Type 0
-MarkHas o mark k = (place : Place) × (mark ≡ Some place) × HasKey o place.rank k
+abbrev pub MarkHas : Order → Option Standing → Key → Type 0
+MarkHas o mark k = (standing : Standing) × (mark ≡ Some standing) × HasKey o standing.rank k
 
--- what doesn't come before the place leaves the page as it is
-abbrev pub IsFullBy : Kept Candidate → Place → Type 0
-IsFullBy kept last = (place : Place) → place_before place last ≡ false → (places : List Place) → IsBestAt kept places → IsBestAt kept (places ++ place ∷ [])
+-- what doesn't come before the standing leaves the page as it is
+abbrev pub IsFullBy : BestItems Candidate → Standing → Type 0
+IsFullBy kept last = (standing : Standing) → standing_before standing last ≡ false → TakesIn kept kept (standing ∷ [])
 
--- the last place of a page that is full has the key in the order of a field
-abbrev pub LastHas : Order → Kept Candidate → Key → Type 0
-LastHas o kept k = (last : Place) × HasKey o last.rank k × IsFullBy kept last
+-- the last standing of a page that is full has the key in the order of a field
+abbrev pub LastHas : Order → BestItems Candidate → Key → Type 0
+LastHas o kept k = (last : Standing) × HasKey o last.rank k × IsFullBy kept last
 
 -- a hit that has this key, or none, changes nothing in the page, whether the mark comes before it or not
-abbrev pub IsLeftOut : Order → Option Place → Kept Candidate → Option Key → Type 0
+abbrev pub IsLeftOut : Order → Option Standing → BestItems Candidate → Option Key → Type 0
 IsLeftOut o mark kept k =
-    (place : Place) → place.rank ≡ rank_with o k → (places : List Place) → IsBestAt kept places → IsBestAt kept (places ++ cond (beyond mark place) (place ∷ []) [])
+    (standing : Standing) → standing.rank ≡ rank_with o k → TakesIn kept kept (if_behind mark standing)
 
 -- ---- keys
 
@@ -46,10 +47,10 @@ key_le a b = is_le (key_cmp a b)
 -- a row with this key has to be looked at
 abbrev pub lies_within : Ends → Option Key → Bool
 lies_within ends None = ends.missing
-lies_within ends (Some k) = open_or (λ a. key_le a k) (option_map key_seen ends.low) && open_or (key_le k) (option_map key_seen ends.high)
+lies_within ends (Some k) = open_or (λ a. key_le a k) (option_map key_ref_of ends.low) && open_or (key_le k) (option_map key_ref_of ends.high)
 
 -- what doesn't lie within the ends is left out
-abbrev pub AreEndsOf : Order → Option Place → Kept Candidate → Ends → Type 0
+abbrev pub AreEndsOf : Order → Option Standing → BestItems Candidate → Ends → Type 0
 AreEndsOf o mark kept ends = (k : Option Key) → lies_within ends k ≡ false → IsLeftOut o mark kept k
 
 -- the number that is the key
@@ -67,16 +68,20 @@ keyword_of (Some (Key.keyword t)) = Some t
 -- ---- numbers
 
 -- a row with this number has to be looked at
-abbrev pub lets_in : Bar → Option ℤ → Bool
+abbrev pub lets_in : NumberBar → Option ℤ → Bool
 lets_in bar None = bar.missing
 lets_in bar (Some n) = open_or (λ a. int_le a n) bar.low && open_or (int_le n) bar.high
 
 -- what the bar keeps out by its number is left out
-abbrev pub IsBarOf : Order → Option Place → Kept Candidate → Bar → Type 0
+abbrev pub IsBarOf : Order → Option Standing → BestItems Candidate → NumberBar → Type 0
 IsBarOf o mark kept bar = (n : Option ℤ) → lets_in bar n ≡ false → IsLeftOut o mark kept (option_map Key.number n)
 
 -- ---- rows
 
--- the places have the ranks of the values, which are keys of one kind
-abbrev pub AreRanked : {X : Type 0} → (X → Key) → Order → List (Option X) → List Place → Type 0
-AreRanked key o values places = map (λ p. p.rank) places ≡ map (λ v. rank_with o (option_map key v)) values
+-- the standings have the ranks of the values, which are keys of one kind
+abbrev pub HaveRanks : {X : Type 0} → (X → Key) → Order → List (Option X) → List Standing → Type 0
+HaveRanks key o values standings = map (λ p. p.rank) standings ≡ map (λ v. rank_with o (option_map key v)) values
+
+-- the standings have the ranks of these keys
+abbrev pub HaveRanksOf : Order → List (Option Key) → List Standing → Type 0
+HaveRanksOf o keys standings = map (λ p. p.rank) standings ≡ map (rank_with o) keys

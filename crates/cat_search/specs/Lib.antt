@@ -1,8 +1,12 @@
-pub mod Kept
-pub mod Keys
+pub mod BestItems
 pub mod Sorts
-pub mod Seen
+pub mod Keys
+pub mod Standings
+pub mod Candidates
 pub mod Pages
+pub mod Asks
 pub mod Views
+pub mod Rows
+pub mod Sources
 pub mod Bars
 pub mod OrdinalBars

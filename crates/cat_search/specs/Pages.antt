@@ -1,33 +1,35 @@
--- Pages of the records that a test accepts.
-use Rattle.std.specs.Prelude.{◌≡◌, ℕ, Bool, true, ltb, List, length, filter, map, Option, Some, None, option_map, find, cond, Result, Ok, Err, ◌==◌}
+-- Pages of the records that pass a test.
+use Rattle.std.specs.Prelude.{◌≡◌, ℕ, Bool, true, ltb, List, [], ◌∷◌, length, filter, map, Option, Some, None, option_map, find, cond, Result, Ok, Err, ◌==◌}
 use Rattle.cat_base.specs.declared.refusal.Refusal.{Refusal}
 use Rattle.cat_base.specs.declared.refusal.Refusal.TheVariants.{Count, SortField, Mark}
 use Rattle.cat_model.specs.Item.{Schema, Item, Record}
 use Rattle.cat_model.specs.Answer.{Read, Found, can_sort, has_mark, answer}
+use Rattle.cat_model.specs.Limits.{page_limit}
 use Rattle.cat_model.specs.Query.{Query, matches}
 use Rattle.cat_model.specs.Page as model
 use Rattle.cat_model.specs.Page.{key, before, rest, first_ranked}
 use Rattle.cat_search.specs.declared.sort.Order.{Order}
 use Rattle.cat_search.specs.declared.sort.Order.TheVariants as order
-use Rattle.cat_search.specs.Keys.{Rank, Place, place_before, key_at}
+use Rattle.cat_search.specs.Keys.{key_at}
+use Rattle.cat_search.specs.Standings.{Rank, Standing, standing_before}
 
--- the records whose items are accepted
-abbrev pub accepted : (Item → Bool) → List Record → List Record
-accepted accepts rs = filter (λ r. accepts r.item) rs
+-- the records whose items pass the test
+abbrev pub hits_where : (Item → Bool) → List Record → List Record
+hits_where test rs = filter (λ r. test r.item) rs
 
--- the page of the first n accepted records behind the mark
+-- the page of the first n of them behind the mark
 abbrev pub page_where : List Record → (Item → Bool) → model.Sort → Option ℕ → ℕ → model.Page
-page_where rs accepts sort mark n = record {
-  total = length (accepted accepts rs);
-  entries = map (λ h. record { number = h.number; id = h.item.id; key = key sort h }) (first_ranked (before sort) (rest sort rs mark (accepted accepts rs)) n);
+page_where rs test sort mark n = record {
+  total = length (hits_where test rs);
+  entries = map (λ h. record { number = h.number; id = h.item.id; key = key sort h }) (first_ranked (before sort) (rest sort rs mark (hits_where test rs)) n);
 }
 
 -- the page, or the first refusal: of the count, of the sort field, of the mark
 abbrev pub answer_where : Schema → List Record → (Item → Bool) → model.Sort → Option ℕ → ℕ → Result model.Page Refusal
-answer_where schema rs accepts sort mark n =
-    cond (ltb 1000 n) (Err Count) (cond (can_sort schema sort) (cond (has_mark rs mark) (Ok (page_where rs accepts sort mark n)) (Err Mark)) (Err SortField))
+answer_where schema rs test sort mark n =
+    cond (ltb page_limit n) (Err Count) (cond (can_sort schema sort) (cond (has_mark rs mark) (Ok (page_where rs test sort mark n)) (Err Mark)) (Err SortField))
 
--- ---- places in a pass over the records
+-- ---- standings in a pass over the records
 
 -- the rank of a key that may be missing
 abbrev pub rank_by : (model.Key → Rank) → Option model.Key → Rank
@@ -43,26 +45,30 @@ rank_with (order.Falling field) k = rank_by Rank.falling k
 -- the rank of an item
 abbrev pub rank_at : Order → Item → Rank
 rank_at order.Added i = Rank.missing
-rank_at (order.Rising field) i = rank_by Rank.rising (key_at field i)
-rank_at (order.Falling field) i = rank_by Rank.falling (key_at field i)
+rank_at (order.Rising field) i = rank_by Rank.rising (key_at field.index i)
+rank_at (order.Falling field) i = rank_by Rank.falling (key_at field.index i)
 
--- the place of a record
-abbrev pub place_at : Order → Record → Place
-place_at o r = record { rank = rank_at o r.item; number = r.number; id = r.item.id }
+-- the standing of a record
+abbrev pub record_standing : Order → Record → Standing
+record_standing o r = record { rank = rank_at o r.item; number = r.number; id = r.item.id }
 
--- the place of the mark's record, where there is a mark
-abbrev pub mark_at : Order → List Record → Option ℕ → Option Place
-mark_at o rs None = None
-mark_at o rs (Some mark) = option_map (place_at o) (find (λ r. r.number == mark) rs)
+-- the standing of the mark's record, where there is a mark
+abbrev pub mark_in_records : Order → List Record → Option ℕ → Option Standing
+mark_in_records o rs None = None
+mark_in_records o rs (Some mark) = option_map (record_standing o) (find (λ r. r.number == mark) rs)
 
 -- what the mark comes before, and all without a mark
-abbrev pub beyond : Option Place → Place → Bool
+abbrev pub beyond : Option Standing → Standing → Bool
 beyond None p = true
-beyond (Some m) p = place_before m p
+beyond (Some m) p = standing_before m p
 
--- the places of the accepted records that the mark comes before
-abbrev pub places_behind : Order → Option Place → (Item → Bool) → List Record → List Place
-places_behind o mark accepts rs = filter (beyond mark) (map (place_at o) (accepted accepts rs))
+-- the standings that the mark comes before
+abbrev pub behind : Option Standing → List Standing → List Standing
+behind mark standings = filter (beyond mark) standings
+
+-- the standing alone, if the mark comes before it
+abbrev pub if_behind : Option Standing → Standing → List Standing
+if_behind mark p = cond (beyond mark p) (p ∷ []) []
 
 -- ---- the law
 

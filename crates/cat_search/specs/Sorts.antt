@@ -1,5 +1,5 @@
 -- Sorts, and the fields that they go by.
-use Rattle.std.specs.Prelude.{ℕ, Bool}
+use Rattle.std.specs.Prelude.{◌≡◌, ℕ, Bool}
 use Rattle.std.specs.List.{position_or_len}
 use Rattle.cat_model.specs.Text.{Text, same_text}
 use Rattle.cat_model.specs.Item.{Schema, kind_of}
@@ -7,25 +7,41 @@ use Rattle.cat_model.specs.Answer.{is_sort_kind}
 use Rattle.cat_model.specs.Page as model
 use Rattle.cat_search.specs.declared.sort.Sort.{Sort}
 use Rattle.cat_search.specs.declared.sort.Sort.TheVariants as sort
+use Rattle.cat_search.specs.declared.sort.OrderField.{OrderField}
 use Rattle.cat_search.specs.declared.sort.Order.{Order}
 use Rattle.cat_search.specs.declared.sort.Order.TheVariants as order
 
 -- what a sort means
-abbrev pub sort_meant : Sort → model.Sort
-sort_meant sort.Added = model.Sort.added
-sort_meant (sort.Rising f) = model.Sort.rising f
-sort_meant (sort.Falling f) = model.Sort.falling f
+abbrev pub sort_of : Sort → model.Sort
+sort_of sort.Added = model.Sort.added
+sort_of (sort.Rising name) = model.Sort.rising name.now
+sort_of (sort.Falling name) = model.Sort.falling name.now
 
--- the place of the field of this name, and past the last one where there is none
-abbrev pub place_named : Text → Schema → ℕ
-place_named name schema = position_or_len (λ f. same_text f.name name) schema
+-- the sort that the order is of
+abbrev pub sort_in : Order → model.Sort
+sort_in order.Added = model.Sort.added
+sort_in (order.Rising field) = model.Sort.rising field.name.now
+sort_in (order.Falling field) = model.Sort.falling field.name.now
+
+-- the index of the field of this name, and past the last one where there is none
+abbrev pub index_named : Text → Schema → ℕ
+index_named name schema = position_or_len (λ f. same_text f.name name) schema
 
 -- one can sort by the field of this name
 abbrev pub can_sort_by : Schema → Text → Bool
 can_sort_by schema name = is_sort_kind (kind_of schema name)
 
--- the sort by the place of its field
-abbrev pub order_of : Schema → model.Sort → Order
-order_of schema model.Sort.added = order.Added
-order_of schema (model.Sort.rising f) = order.Rising (place_named f schema)
-order_of schema (model.Sort.falling f) = order.Falling (place_named f schema)
+-- the field has its index in the schema
+abbrev pub IsIndexed : Schema → OrderField → Type 0
+IsIndexed schema field = field.index ≡ index_named field.name.now schema
+
+-- the field of the order, if it goes by one, has its index in the schema
+abbrev pub HasIndex : Schema → Order → Type 0
+HasIndex schema order.Added = Unit {0}
+HasIndex schema (order.Rising field) = IsIndexed schema field
+HasIndex schema (order.Falling field) = IsIndexed schema field
+
+-- the order is the sort's, by the field's index in the schema
+pub record IsOrderOf (schema : Schema) (s : model.Sort) (o : Order) : Type 0 where
+  pub sort : sort_in o ≡ s
+  pub index : HasIndex schema o

@@ -1,12 +1,10 @@
 //! The least so many of what is offered, one after another.
-ghost use Rattle.std.specs.Prelude.{◌≡◌, ◌≤◌, ◌++◌, List, [], ◌∷◌, length, take, false, AllPairs, OnOk, IfErr, OnErr, IfSome, IsTrue};
+ghost use Rattle.std.specs.Prelude.{◌≡◌, ◌≤◌, ◌++◌, List, [], ◌∷◌, length, take, false, AllPairs, OnOk, OnErr, IfSome, IsTrue};
 ghost use Rattle.std.specs.List.{insert};
-ghost use Rattle.cat_base.specs.declared.refusal.Refusal.TheVariants.{Memory};
 ghost use Rattle.cat_model.specs.Page.{first_ranked};
 ghost use Rattle.cat_model.specs.Ranks.{AreApart, insert_by};
 
-use cat_base::Refusal;
-use std::alloc::Global;
+use std::alloc::{AllocError, Global};
 use std::collections::VecDeque;
 use std::marker::Model;
 
@@ -24,15 +22,15 @@ pub struct Best<T> {
 }
 
 impl<T> Model for Best<T> {
-    ghost use Rattle.cat_search.specs.Kept.{Kept};
+    ghost use Rattle.cat_search.specs.BestItems.{BestItems};
 
-    ghost Value = { Kept T };
+    ghost Value = { BestItems T };
 
     ghost view = { λ b. record { limit = b.limit; items = b.items.items } };
 }
 
 impl<T: Ord + Drop> Best<T> {
-    ghost use Rattle.cat_search.specs.Kept.{IsBestOf, less, InOrder, IsWithin};
+    ghost use Rattle.cat_search.specs.BestItems.{IsBestOf, less, InOrder, IsWithin};
 
     /// Nothing is offered yet, and at most `limit` items will be kept.
     pub fn new(alloc: Global, limit: usize) -> Best<T>
@@ -69,26 +67,24 @@ impl<T: Ord + Drop> Best<T> {
     }
 
     /// Where the item belongs: behind those that it doesn't come before.
-    fn place_of(&self, item: &T) -> usize
+    fn index_of(&self, item: &T) -> usize
         ensures within { result ≤ length self.now.items }
-        ensures place { InOrder (less T.cmp) self.now.items → insert self.now.items result item.now ≡ insert_by (less T.cmp) item.now self.now.items }
+        ensures index { InOrder (less T.cmp) self.now.items → insert self.now.items result item.now ≡ insert_by (less T.cmp) item.now self.now.items }
     {
         self.items.partition_point(|kept| item.cmp(kept).is_ge())
     }
 
-    /// Keeps the item if it is one of the least. A refusal is [`Refusal::Memory`], and then the item is dropped and all
-    /// that was kept stays.
-    pub fn offer(&mut self, item: T) -> Result<(), Refusal>
+    /// Keeps the item if it is one of the least. Where memory fails the item is dropped, and all that was kept stays.
+    pub fn offer(&mut self, item: T) -> Result<(), AllocError>
         ensures limit { self.new.limit ≡ self.old.limit }
         ensures best { OnOk result ((offered : List T) → IsBestOf (less T.cmp) self.old offered → IsBestOf (less T.cmp) self.new (offered ++ item ∷ [])) }
         ensures unchanged { OnErr result (self.new ≡ self.old) }
-        ensures refusal { IfErr result (λ e. e ≡ Memory) }
     {
         if self.is_beaten(&item) {
             return Ok(());
         }
-        let place = self.place_of(&item);
-        self.items.insert(place, item)?;
+        let index = self.index_of(&item);
+        self.items.insert(index, item)?;
         self.items.truncate(self.limit);
         Ok(())
     }

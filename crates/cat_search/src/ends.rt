@@ -1,13 +1,13 @@
 //! Keys that a page needn't look at.
-ghost use Rattle.std.specs.Prelude.{option_map, IfSome};
+ghost use Rattle.std.specs.Prelude.{IfSome};
 ghost use Rattle.cat_search.specs.Bars.{HasKey, MarkHas, LastHas, AreEndsOf};
-ghost use Rattle.cat_search.specs.Keys.{key_seen};
-ghost use Rattle.cat_search.specs.Seen.{seen, seen_rank};
+ghost use Rattle.cat_search.specs.Keys.{key_ref_of};
+ghost use Rattle.cat_search.specs.Candidates.{mark_standing, rank_of};
 
 use crate::best::Best;
 use crate::keys::KeyRef;
-use crate::places::{Candidate, Rank};
 use crate::sort::Order;
+use crate::standings::{Candidate, Rank};
 use std::cmp::Reverse;
 
 /// Between which keys a row may come into the page, both included; an absent end is open.
@@ -21,7 +21,7 @@ pub(crate) struct Ends<'a> {
 
 /// The key of the rank, if the rank is one of this order.
 fn key_in<'a>(rank: &Rank<'a>, order: Order) -> Option<KeyRef<'a>>
-    ensures { IfSome result (λ k. HasKey order (seen_rank rank.now) (key_seen k)) }
+    ensures { IfSome result (λ k. HasKey order.entry (rank_of rank.now) (key_ref_of k)) }
 {
     match (order, rank) {
         (Order::Rising(_), Rank::Rising(key)) => Some(*key),
@@ -31,8 +31,8 @@ fn key_in<'a>(rank: &Rank<'a>, order: Order) -> Option<KeyRef<'a>>
 }
 
 /// The key of the mark, if it has one in this order.
-fn marked_key<'a>(mark: &Option<Candidate<'a>>, order: Order) -> Option<KeyRef<'a>>
-    ensures { IfSome result (λ k. MarkHas order (option_map seen mark.now) (key_seen k)) }
+fn mark_key<'a>(mark: &Option<Candidate<'a>>, order: Order) -> Option<KeyRef<'a>>
+    ensures { IfSome result (λ k. MarkHas order.entry (mark_standing mark.now) (key_ref_of k)) }
 {
     match mark {
         Some(mark) => key_in(&mark.rank, order),
@@ -42,7 +42,7 @@ fn marked_key<'a>(mark: &Option<Candidate<'a>>, order: Order) -> Option<KeyRef<'
 
 /// The key of the last hit that is kept, if there is no room for more and it has one in this order.
 fn last_key<'a>(best: &Best<Candidate<'a>>, order: Order) -> Option<KeyRef<'a>>
-    ensures { IfSome result (λ k. LastHas order best.now (key_seen k)) }
+    ensures { IfSome result (λ k. LastHas order.entry best.now (key_ref_of k)) }
 {
     match best.last_if_full() {
         Some(last) => key_in(&last.rank, order),
@@ -57,9 +57,9 @@ impl<'a> Ends<'a> {
         order: Order,
         mark: &Option<Candidate<'a>>,
     ) -> Ends<'a>
-        ensures { AreEndsOf order (option_map seen mark.now) best.now result }
+        ensures { AreEndsOf order.entry (mark_standing mark.now) best.now result }
     {
-        let first = marked_key(mark, order);
+        let first = mark_key(mark, order);
         let last = last_key(best, order);
         let missing = last.is_none();
         match order {

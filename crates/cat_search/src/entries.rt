@@ -1,13 +1,13 @@
 //! Pages, and the entries that they show.
-ghost use Rattle.std.specs.Prelude.{◌≡◌, map, option_map, IfOk, IfErr};
-ghost use Rattle.cat_base.specs.declared.refusal.Refusal.TheVariants.{Memory};
-ghost use Rattle.cat_search.specs.Keys.{key_meant, key_shown, entry_shown};
-ghost use Rattle.cat_search.specs.Seen.{seen, seen_rank};
+ghost use Rattle.std.specs.Prelude.{◌≡◌, map, option_map, IfOk};
+ghost use Rattle.cat_search.specs.Keys.{key_of};
+ghost use Rattle.cat_search.specs.Standings.{key_shown, entry_shown};
+ghost use Rattle.cat_search.specs.Candidates.{standing_of, rank_of};
 
 use crate::keys::{Key, KeyRef};
-use crate::places::{Candidate, Rank};
-use cat_base::{Refusal, Text, WriteNo};
-use std::alloc::Global;
+use crate::standings::{Candidate, Rank};
+use cat_base::{Text, WriteNo};
+use std::alloc::{AllocError, Global};
 use std::marker::Model;
 
 /// A hit as a page shows it (Lucene: a `FieldDoc`).
@@ -21,16 +21,16 @@ pub struct Entry {
 impl Model for Entry {
     ghost use Rattle.std.specs.Prelude.{option_map};
     ghost use Rattle.cat_model.specs.Page as model;
-    ghost use Rattle.cat_search.specs.Keys.{key_meant};
+    ghost use Rattle.cat_search.specs.Keys.{key_of};
 
     ghost Value = { model.Entry };
 
-    ghost view = { λ e. record { number = e.number; id = e.id; key = option_map key_meant e.key } };
+    ghost view = { λ e. record { number = e.number; id = e.id; key = option_map key_of e.key } };
 }
 
 impl Entry {
     ghost use Rattle.std.specs.Prelude.{◌≡◌, option_map};
-    ghost use Rattle.cat_search.specs.Keys.{key_meant};
+    ghost use Rattle.cat_search.specs.Keys.{key_of};
 
     /// The number of the write that put the item, which a later page takes as its mark.
     pub fn number(&self) -> WriteNo
@@ -48,7 +48,7 @@ impl Entry {
 
     /// What the hit was sorted by: none in order of addition, and none where the item has no value.
     pub fn key(&self) -> Option<&Key>
-        ensures { option_map (λ k. key_meant k.now) result ≡ self.now.key }
+        ensures { option_map (λ k. key_of k.now) result ≡ self.now.key }
     {
         self.key.as_ref()
     }
@@ -93,9 +93,9 @@ impl Page {
     }
 }
 
-fn key_in(alloc: Global, rank: &Rank) -> Result<Option<Key>, Refusal>
-    ensures ok { IfOk result (λ k. option_map key_meant k ≡ key_shown (seen_rank rank.now)) }
-    ensures refusal { IfErr result (λ e. e ≡ Memory) }
+/// The key that the rank shows, in memory of its own.
+fn shown_key(alloc: Global, rank: &Rank) -> Result<Option<Key>, AllocError>
+    ensures ok { IfOk result (λ k. option_map key_of k ≡ key_shown (rank_of rank.now)) }
 {
     match rank {
         Rank::Rising(key) => Ok(Some(key.to_key(alloc)?)),
@@ -104,22 +104,20 @@ fn key_in(alloc: Global, rank: &Rank) -> Result<Option<Key>, Refusal>
     }
 }
 
-/// The hit as a page shows it. A refusal is [`Refusal::Memory`].
-pub(crate) fn entry_of(alloc: Global, candidate: &Candidate) -> Result<Entry, Refusal>
-    ensures ok { IfOk result (λ e. e ≡ entry_shown (seen candidate.now)) }
-    ensures refusal { IfErr result (λ e. e ≡ Memory) }
+/// The hit as a page shows it.
+pub(crate) fn entry_of(alloc: Global, candidate: &Candidate) -> Result<Entry, AllocError>
+    ensures ok { IfOk result (λ e. e ≡ entry_shown (standing_of candidate.now)) }
 {
     Ok(Entry {
         number: candidate.number,
         id: Text::from_str(alloc, candidate.id)?,
-        key: key_in(alloc, &candidate.rank)?,
+        key: shown_key(alloc, &candidate.rank)?,
     })
 }
 
-/// The hits as a page shows them. A refusal is [`Refusal::Memory`].
-pub(crate) fn entries_of(alloc: Global, candidates: &[Candidate]) -> Result<Vec<Entry>, Refusal>
-    ensures ok { IfOk result (λ v. v.items ≡ map entry_shown (map seen candidates.now)) }
-    ensures refusal { IfErr result (λ e. e ≡ Memory) }
+/// The hits as a page shows them.
+pub(crate) fn entries_of(alloc: Global, candidates: &[Candidate]) -> Result<Vec<Entry>, AllocError>
+    ensures ok { IfOk result (λ v. v.items ≡ map entry_shown (map standing_of candidates.now)) }
 {
     let mut entries = Vec::with_capacity(alloc, candidates.len())?;
     for candidate in candidates {

@@ -1,36 +1,31 @@
 //! The pass over the segments of a view.
-ghost use Rattle.std.specs.Prelude.{◌≡◌, ◌<◌, ◌+◌, ◌++◌, List, count_by, length, take, filter, map, option_map, AllPairs, IfOk, IfErr, OnOk};
+ghost use Rattle.std.specs.Prelude.{◌≡◌, ◌<◌, ◌+◌, ◌++◌, List, count_by, length, take, map, AllPairs, IfOk, OnOk};
 ghost use Rattle.std.specs.List.{flat_map};
-ghost use Rattle.cat_base.specs.declared.refusal.Refusal.TheVariants.{Memory};
-ghost use Rattle.cat_model.specs.Ranks.{sorted};
-ghost use Rattle.cat_model.specs.View.{live_rows, selected, row_matches};
+ghost use Rattle.cat_model.specs.View.{live_rows, selected};
 ghost use Rattle.cat_query.specs.View.{query_of};
-ghost use Rattle.cat_search.specs.Keys.{Place, place_before};
-ghost use Rattle.cat_search.specs.Pages.{beyond};
-ghost use Rattle.cat_search.specs.Seen.{seen};
-ghost use Rattle.cat_search.specs.Sorts.{sort_meant};
-ghost use Rattle.cat_model.specs.Page as model;
 ghost use Rattle.cat_search.specs.declared.sort.Order.TheVariants.{Added};
-ghost use Rattle.cat_search.specs.Views.{place_in};
+ghost use Rattle.cat_search.specs.Asks.{first_wanted};
+ghost use Rattle.cat_search.specs.Candidates.{mark_standing, standing_of};
+ghost use Rattle.cat_search.specs.Pages.{behind};
+ghost use Rattle.cat_search.specs.Rows.{hits_in, leaf_hits, row_standing};
+ghost use Rattle.cat_search.specs.Standings.{Standing};
 
+use crate::ask::Wanted;
 use crate::best::Best;
 use crate::leaf_ranks::LeafRanks;
 use crate::offers::{is_beyond, offer_rows};
-use crate::places::{Candidate, Rank};
-use crate::sort::{Order, Sort};
+use crate::sort::Order;
+use crate::standings::{Candidate, Rank};
 use crate::view::Leaf;
-use cat_base::Refusal;
 use cat_query::Query;
 use cat_segment::Segment;
 use cat_values::RowSet;
-use std::alloc::Global;
+use std::alloc::{AllocError, Global};
 
-/// The live rows of the leaf that the query matches (Lucene: `BulkScorer.score` with the leaf's `liveDocs`). A refusal is
-/// [`Refusal::Memory`].
-fn hits_of(alloc: Global, query: &Query, leaf: &Leaf) -> Result<RowSet, Refusal>
-    ensures ok { IfOk result (λ s. selected s leaf.now.segment.rows ≡ filter (row_matches (query_of query.now)) (live_rows leaf.now)) }
+/// The live ones of the rows that the query matches, live or dead.
+fn matched_rows(alloc: Global, query: &Query, leaf: &Leaf) -> Result<RowSet, AllocError>
+    ensures ok { IfOk result (λ s. selected s leaf.now.segment.rows ≡ leaf_hits leaf.now (query_of query.now)) }
     ensures long { IfOk result (λ s. length s ≡ length leaf.now.segment.rows) }
-    ensures refusal { IfErr result (λ e. e ≡ Memory) }
 {
     let matched = query.matches(alloc, leaf.segment())?;
     let mut hits = matched.rows().copy()?;
@@ -38,23 +33,32 @@ fn hits_of(alloc: Global, query: &Query, leaf: &Leaf) -> Result<RowSet, Refusal>
     Ok(hits)
 }
 
-/// As many hits more. What a `usize` can't count doesn't fit in memory either, so the refusal is [`Refusal::Memory`].
-fn counted(total: usize, hits: &RowSet) -> Result<usize, Refusal>
-    ensures ok { IfOk result (λ n. n ≡ total + count_by (λ b. b) hits.now) }
-    ensures refusal { IfErr result (λ e. e ≡ Memory) }
+/// The live rows of the leaf that the query matches (Lucene: `BulkScorer.score` with the leaf's `liveDocs`). Where it
+/// matches everything they are all the live rows, and no postings are looked at.
+pub(crate) fn hits_of(alloc: Global, query: &Query, leaf: &Leaf) -> Result<RowSet, AllocError>
+    ensures ok { IfOk result (λ s. selected s leaf.now.segment.rows ≡ leaf_hits leaf.now (query_of query.now)) }
+    ensures long { IfOk result (λ s. length s ≡ length leaf.now.segment.rows) }
 {
-    match total.checked_add(hits.count()) {
-        Some(more) => Ok(more),
-        None => Err(Refusal::Memory),
+    if query.is_everything() {
+        let hits = leaf.live().rows().copy()?;
+        return Ok(hits);
     }
+    matched_rows(alloc, query, leaf)
+}
+
+/// As many hits more. What a `usize` can't count doesn't fit in memory either.
+fn counted(total: usize, hits: &RowSet) -> Result<usize, AllocError>
+    ensures ok { IfOk result (λ n. n ≡ total + count_by (λ b. b) hits.now) }
+{
+    total.checked_add(hits.count()).ok_or(AllocError)
 }
 
 /// Takes those hits out that earlier pages in order of addition had, without a look at each.
 fn pass_mark(hits: &mut RowSet, segment: &Segment, mark: &Option<Candidate<'_>>)
     requires { length hits.old ≡ length segment.now.rows }
     ensures long { length hits.new ≡ length hits.old }
-    ensures passed { filter (beyond (option_map seen mark.now)) (selected hits.new (map (place_in Added model.Sort.added) segment.now.rows))
-        ≡ filter (beyond (option_map seen mark.now)) (selected hits.old (map (place_in Added model.Sort.added) segment.now.rows)) }
+    ensures passed { behind (mark_standing mark.now) (selected hits.new (map (row_standing Added) segment.now.rows))
+        ≡ behind (mark_standing mark.now) (selected hits.old (map (row_standing Added) segment.now.rows)) }
 {
     // In order of addition no mark has a key.
     if let Some(mark) = mark
@@ -64,19 +68,17 @@ fn pass_mark(hits: &mut RowSet, segment: &Segment, mark: &Option<Candidate<'_>>)
     }
 }
 
-/// Takes in the hits of a segment in their order, as far as the mark comes before them, until there are n. A refusal is
-/// [`Refusal::Memory`].
+/// Takes in the hits of a segment in their order, as far as the mark comes before them, until there are n.
 fn take_rows<'a>(
     taken: &mut Vec<Candidate<'a>>,
     n: usize,
     ranks: &LeafRanks<'a>,
     hits: &RowSet,
     mark: &Option<Candidate<'a>>,
-) -> Result<(), Refusal>
+) -> Result<(), AllocError>
     requires long { length hits.now ≡ length ranks.now }
-    ensures taken { OnOk result ((places : List Place) → map seen taken.old.items ≡ take n places
-        → map seen taken.new.items ≡ take n (places ++ filter (beyond (option_map seen mark.now)) (selected hits.now ranks.now))) }
-    ensures refusal { IfErr result (λ e. e ≡ Memory) }
+    ensures taken { OnOk result ((standings : List Standing) → map standing_of taken.old.items ≡ take n standings
+        → map standing_of taken.new.items ≡ take n (standings ++ behind (mark_standing mark.now) (selected hits.now ranks.now))) }
 {
     for row in hits.iter() {
         if taken.len() >= n {
@@ -90,46 +92,38 @@ fn take_rows<'a>(
     Ok(())
 }
 
-/// How many hits the leaves have, and the first n by the sort's field of those that the mark comes before. A refusal is
-/// [`Refusal::Memory`].
+/// How many hits the leaves have, and the first that are wanted by the order's field.
 fn best_hits<'a>(
     alloc: Global,
     leaves: &'a [Leaf],
     query: &Query,
-    sort: &Sort,
-    order: Order,
-    mark: &Option<Candidate<'a>>,
-    n: usize,
-) -> Result<(usize, Vec<Candidate<'a>>), Refusal>
-    ensures total { IfOk result (λ r. r.0 ≡ length (filter (row_matches (query_of query.now)) (flat_map live_rows leaves.now))) }
-    ensures best { IfOk result (λ r. map seen r.1.items
-        ≡ take n (sorted place_before (filter (beyond (option_map seen mark.now)) (map (place_in order (sort_meant sort.now)) (filter (row_matches (query_of query.now)) (flat_map live_rows leaves.now)))))) }
-    ensures refusal { IfErr result (λ e. e ≡ Memory) }
+    wanted: &Wanted<'a>,
+) -> Result<(usize, Vec<Candidate<'a>>), AllocError>
+    ensures total { IfOk result (λ r. r.0 ≡ length (hits_in leaves.now (query_of query.now))) }
+    ensures best { IfOk result (λ r. map standing_of r.1.items
+        ≡ first_wanted wanted.now (map (row_standing wanted.now.order) (hits_in leaves.now (query_of query.now)))) }
 {
     let mut total = 0;
-    let mut best = Best::new(alloc, n);
+    let mut best = Best::new(alloc, wanted.count);
     for leaf in leaves {
         let hits = hits_of(alloc, query, leaf)?;
         total = counted(total, &hits)?;
-        let ranks = LeafRanks::of(leaf.segment(), sort, order);
-        offer_rows(&mut best, &ranks, &hits, mark)?;
+        let ranks = LeafRanks::of(leaf.segment(), wanted.order);
+        offer_rows(&mut best, &ranks, &hits, &wanted.mark)?;
     }
     Ok((total, best.into_items()))
 }
 
-/// How many hits the leaves have, and the first n in order of addition of those that the mark comes before. A refusal
-/// is [`Refusal::Memory`].
+/// How many hits the leaves have, and the first that are wanted in order of addition.
 fn added_hits<'a>(
     alloc: Global,
     leaves: &'a [Leaf],
     query: &Query,
-    mark: &Option<Candidate<'a>>,
-    n: usize,
-) -> Result<(usize, Vec<Candidate<'a>>), Refusal>
-    ensures total { IfOk result (λ r. r.0 ≡ length (filter (row_matches (query_of query.now)) (flat_map live_rows leaves.now))) }
-    ensures first { IfOk result (λ r. map seen r.1.items
-        ≡ take n (filter (beyond (option_map seen mark.now)) (map (place_in Added model.Sort.added) (filter (row_matches (query_of query.now)) (flat_map live_rows leaves.now))))) }
-    ensures refusal { IfErr result (λ e. e ≡ Memory) }
+    wanted: &Wanted<'a>,
+) -> Result<(usize, Vec<Candidate<'a>>), AllocError>
+    ensures total { IfOk result (λ r. r.0 ≡ length (hits_in leaves.now (query_of query.now))) }
+    ensures first { IfOk result (λ r. map standing_of r.1.items
+        ≡ take wanted.now.count (behind (mark_standing wanted.now.mark) (map (row_standing Added) (hits_in leaves.now (query_of query.now))))) }
 {
     let mut total = 0;
     let mut taken = Vec::new(alloc);
@@ -137,32 +131,27 @@ fn added_hits<'a>(
         let mut hits = hits_of(alloc, query, leaf)?;
         total = counted(total, &hits)?;
         let segment = leaf.segment();
-        pass_mark(&mut hits, segment, mark);
-        let ranks = LeafRanks::of(segment, &Sort::Added, Order::Added);
-        take_rows(&mut taken, n, &ranks, &hits, mark)?;
+        pass_mark(&mut hits, segment, &wanted.mark);
+        let ranks = LeafRanks::of(segment, Order::Added);
+        take_rows(&mut taken, wanted.count, &ranks, &hits, &wanted.mark)?;
     }
     Ok((total, taken))
 }
 
-/// How many hits the leaves have, and the first n in the order of the sort of those that the mark comes before. A refusal
-/// is [`Refusal::Memory`].
+/// How many hits the leaves have, and the first that are wanted.
 pub(crate) fn first_hits<'a>(
     alloc: Global,
     leaves: &'a [Leaf],
     query: &Query,
-    sort: &Sort,
-    order: Order,
-    mark: &Option<Candidate<'a>>,
-    n: usize,
-) -> Result<(usize, Vec<Candidate<'a>>), Refusal>
+    wanted: &Wanted<'a>,
+) -> Result<(usize, Vec<Candidate<'a>>), AllocError>
     requires { AllPairs (λ a b. a.number < b.number) (flat_map live_rows leaves.now) }
-    ensures total { IfOk result (λ r. r.0 ≡ length (filter (row_matches (query_of query.now)) (flat_map live_rows leaves.now))) }
-    ensures first { IfOk result (λ r. map seen r.1.items
-        ≡ take n (sorted place_before (filter (beyond (option_map seen mark.now)) (map (place_in order (sort_meant sort.now)) (filter (row_matches (query_of query.now)) (flat_map live_rows leaves.now)))))) }
-    ensures refusal { IfErr result (λ e. e ≡ Memory) }
+    ensures total { IfOk result (λ r. r.0 ≡ length (hits_in leaves.now (query_of query.now))) }
+    ensures first { IfOk result (λ r. map standing_of r.1.items
+        ≡ first_wanted wanted.now (map (row_standing wanted.now.order) (hits_in leaves.now (query_of query.now)))) }
 {
-    match order {
-        Order::Added => added_hits(alloc, leaves, query, mark, n),
-        _ => best_hits(alloc, leaves, query, sort, order, mark, n),
+    match wanted.order {
+        Order::Added => added_hits(alloc, leaves, query, wanted),
+        _ => best_hits(alloc, leaves, query, wanted),
     }
 }

@@ -1,17 +1,16 @@
 //! The sort keys of items, borrowed and owned.
-ghost use Rattle.std.specs.Prelude.{◌≡◌, Some, option_map, IfOk, IfErr};
-ghost use Rattle.cat_base.specs.declared.refusal.Refusal.TheVariants.{Memory};
+ghost use Rattle.std.specs.Prelude.{◌≡◌, Some, option_map, IfOk};
 ghost use Rattle.cat_model.specs.Page.{key_in};
-ghost use Rattle.cat_schema.specs.Contents.{content_of};
-ghost use Rattle.cat_search.specs.Keys.{key_meant, key_seen, key_at};
+ghost use Rattle.cat_schema.specs.Contents.{field_content_of};
+ghost use Rattle.cat_search.specs.Keys.{key_of, key_ref_of, key_at};
 
-use cat_base::{Refusal, Text};
+use cat_base::Text;
 use cat_schema::{FieldValue, Item};
-use std::alloc::Global;
+use std::alloc::{AllocError, Global};
 
 /// What a hit is sorted by, borrowed from its item: numbers as numbers, keywords by their bytes.
 #[derive(Clone, Copy, PartialEq, Eq, PartialOrd, Ord)]
-pub enum KeyRef<'a> {
+pub(crate) enum KeyRef<'a> {
     /// The value of a number field.
     Number(i64),
     /// The value of a keyword field.
@@ -31,7 +30,7 @@ pub enum Key {
 
 /// The value as a sort key: none in a text or facet field.
 fn key_in(value: &FieldValue) -> Option<KeyRef>
-    ensures { option_map key_seen result ≡ key_in (Some (content_of value.now)) }
+    ensures { option_map key_ref_of result ≡ key_in (Some (field_content_of value.now)) }
 {
     match value {
         FieldValue::Number(Some(number)) => Some(KeyRef::Number(*number)),
@@ -40,10 +39,10 @@ fn key_in(value: &FieldValue) -> Option<KeyRef>
     }
 }
 
-/// The sort key of the item in the field of this place, from 0 in the schema's order: none where the item has no value
+/// The sort key of the item in the field of this index, from 0 in the schema's order: none where the item has no value
 /// there, and none in a text or facet field.
-pub fn key_of(item: &Item, field: usize) -> Option<KeyRef>
-    ensures { option_map key_seen result ≡ key_at field item.now }
+pub(crate) fn key_of(item: &Item, field: usize) -> Option<KeyRef>
+    ensures { option_map key_ref_of result ≡ key_at field item.now }
 {
     match item.values().get(field) {
         Some(value) => key_in(value),
@@ -52,10 +51,9 @@ pub fn key_of(item: &Item, field: usize) -> Option<KeyRef>
 }
 
 impl<'a> KeyRef<'a> {
-    /// The same key in memory of its own. A refusal is [`Refusal::Memory`].
-    pub fn to_key(self, alloc: Global) -> Result<Key, Refusal>
-        ensures ok { IfOk result (λ k. key_meant k ≡ key_seen self.entry) }
-        ensures refusal { IfErr result (λ e. e ≡ Memory) }
+    /// The same key in memory of its own.
+    pub(crate) fn to_key(self, alloc: Global) -> Result<Key, AllocError>
+        ensures ok { IfOk result (λ k. key_of k ≡ key_ref_of self.entry) }
     {
         match self {
             KeyRef::Number(number) => Ok(Key::Number(number)),

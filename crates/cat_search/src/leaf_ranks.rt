@@ -3,15 +3,15 @@ ghost use Rattle.std.specs.Prelude.{◌≡◌, ◌<◌, length, map, option_map,
 ghost use Rattle.std.specs.List.{HoldsAt};
 ghost use Rattle.cat_model.specs.Page.{Key, key, key_in};
 ghost use Rattle.cat_segment.specs.Contents.{contents_of};
-ghost use Rattle.cat_search.specs.Bars.{AreRanked};
-ghost use Rattle.cat_search.specs.Keys.{key_seen};
-ghost use Rattle.cat_search.specs.Seen.{seen};
-ghost use Rattle.cat_search.specs.Sorts.{sort_meant};
-ghost use Rattle.cat_search.specs.Views.{bare, keys_by, place_in};
+ghost use Rattle.cat_search.specs.Bars.{HaveRanks};
+ghost use Rattle.cat_search.specs.Candidates.{standing_of};
+ghost use Rattle.cat_search.specs.Keys.{key_ref_of};
+ghost use Rattle.cat_search.specs.Rows.{bare_record, keys_by, row_standing};
+ghost use Rattle.cat_search.specs.Sorts.{sort_in};
 
 use crate::keys::KeyRef;
-use crate::places::Candidate;
-use crate::sort::{Order, Sort, rank_with};
+use crate::sort::{Order, rank_with};
+use crate::standings::Candidate;
 use cat_segment::{Column, Segment};
 use cat_values::{KeywordColumn, NumberColumn};
 use std::marker::Model;
@@ -19,35 +19,35 @@ use std::marker::Model;
 /// The rows of a segment as hits of one sort, whose column is looked up once (Lucene: a `LeafFieldComparator` over the
 /// doc values of its leaf).
 ///
-/// Contracts see it as the place of each row.
+/// Contracts see it as the standing of each row.
 #[derive(Drop)]
 pub(crate) struct LeafRanks<'a> {
     segment: &'a Segment,
-    order: Order,
+    order: Order<'a>,
     // None in order of addition, and where the segment has no field of the name.
     column: Option<&'a Column>,
 }
 
 impl<'a> Model for LeafRanks<'a> {
     ghost use Rattle.std.specs.Prelude.{◌≡◌, List, length};
-    ghost use Rattle.cat_search.specs.Keys.{Place};
-    ghost use Rattle.cat_search.specs.Views.{keys_by, places_by};
+    ghost use Rattle.cat_search.specs.Rows.{keyed_standings, keys_by};
+    ghost use Rattle.cat_search.specs.Standings.{Standing};
 
-    ghost Value = { List Place };
+    ghost Value = { List Standing };
 
-    ghost view = { λ r. places_by r.order (keys_by r.column (length r.segment.now.rows)) r.segment.now.rows };
+    ghost view = { λ r. keyed_standings r.order (keys_by r.column (length r.segment.now.rows)) r.segment.now.rows };
 
     ghost invariant = { λ r. length (keys_by r.column (length r.segment.now.rows)) ≡ length r.segment.now.rows };
 }
 
-/// The column of the sort's field: none in order of addition, and none where the segment has no field of the name.
-fn column_by<'a>(sort: &Sort, segment: &'a Segment) -> Option<&'a Column>
-    ensures { keys_by result (length segment.now.rows) ≡ map (λ r. key (sort_meant sort.now) (bare r)) segment.now.rows }
+/// The column of the order's field: none in order of addition, and none where the segment has no field of the name.
+fn column_by<'a>(order: Order, segment: &'a Segment) -> Option<&'a Column>
+    ensures { keys_by result (length segment.now.rows) ≡ map (λ r. key (sort_in order.entry) (bare_record r)) segment.now.rows }
 {
-    match sort {
-        Sort::Added => None,
-        Sort::Rising(name) => segment.column(name.as_str()),
-        Sort::Falling(name) => segment.column(name.as_str()),
+    match order {
+        Order::Added => None,
+        Order::Rising(field) => segment.column(field.name),
+        Order::Falling(field) => segment.column(field.name),
     }
 }
 
@@ -55,7 +55,7 @@ fn column_by<'a>(sort: &Sort, segment: &'a Segment) -> Option<&'a Column>
 /// field.
 fn key_at(column: &Column, row: usize) -> Option<KeyRef>
     requires { row < length (contents_of column.now) }
-    ensures { option_map key_seen result ≡ key_in (slice_get (contents_of column.now) row) }
+    ensures { option_map key_ref_of result ≡ key_in (slice_get (contents_of column.now) row) }
 {
     match column {
         Column::Number(numbers) => match numbers.value(row) {
@@ -71,21 +71,21 @@ fn key_at(column: &Column, row: usize) -> Option<KeyRef>
 }
 
 impl<'a> LeafRanks<'a> {
-    /// The rows of the segment, in the order that is the sort's.
-    pub(crate) fn of(segment: &'a Segment, sort: &Sort, order: Order) -> LeafRanks<'a>
-        ensures { result ≡ map (place_in order (sort_meant sort.now)) segment.now.rows }
+    /// The rows of the segment, in this order.
+    pub(crate) fn of(segment: &'a Segment, order: Order<'a>) -> LeafRanks<'a>
+        ensures { result ≡ map (row_standing order.entry) segment.now.rows }
     {
         LeafRanks {
             segment,
             order,
-            column: column_by(sort, segment),
+            column: column_by(order, segment),
         }
     }
 
     /// The row as a hit.
     pub(crate) fn at(&self, row: usize) -> Candidate<'a>
         requires { row < length self.now }
-        ensures { HoldsAt (λ place. seen result ≡ place) self.now row }
+        ensures { HoldsAt (λ standing. standing_of result ≡ standing) self.now row }
     {
         let key = match self.column {
             Some(column) => key_at(column, row),
@@ -99,8 +99,8 @@ impl<'a> LeafRanks<'a> {
     }
 
     /// The numbers that rank the rows, and in which order, where the sort is by a number field.
-    pub(crate) fn numbers(&self) -> Option<(&'a NumberColumn, Order)>
-        ensures { IfSome result (λ n. AreRanked Key.number n.1 n.0.now self.now) }
+    pub(crate) fn numbers(&self) -> Option<(&'a NumberColumn, Order<'a>)>
+        ensures { IfSome result (λ n. HaveRanks Key.number n.1 n.0.now self.now) }
     {
         let Column::Number(numbers) = self.column? else {
             return None;
@@ -109,8 +109,8 @@ impl<'a> LeafRanks<'a> {
     }
 
     /// The keywords that rank the rows, and in which order, where the sort is by a keyword field.
-    pub(crate) fn keywords(&self) -> Option<(&'a KeywordColumn, Order)>
-        ensures { IfSome result (λ k. AreRanked Key.keyword k.1 k.0.now self.now) }
+    pub(crate) fn keywords(&self) -> Option<(&'a KeywordColumn, Order<'a>)>
+        ensures { IfSome result (λ k. HaveRanks Key.keyword k.1 k.0.now self.now) }
     {
         let Column::Keyword(keywords) = self.column? else {
             return None;

@@ -2,6 +2,7 @@
 //! by.
 #![tactic(auto)]
 
+mod ask;
 mod bar;
 mod best;
 mod ends;
@@ -10,18 +11,20 @@ mod gathering;
 mod keys;
 mod leaf_ranks;
 mod lookup;
+mod mark_rows;
+mod number_bar;
 mod offers;
 mod ordinal_bar;
 mod pages;
-mod places;
 mod prepared;
-mod row_marks;
 mod sort;
+mod standings;
 mod view;
 
+pub use ask::Ask;
 pub use best::Best;
 pub use entries::{Entry, Page};
-pub use keys::{Key, KeyRef, key_of};
+pub use keys::Key;
 pub use pages::{Accepts, Numbered, page_of, pages_answer_finds};
 pub use prepared::{Prepared, views_show_records};
 pub use sort::Sort;

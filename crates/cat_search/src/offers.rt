@@ -1,25 +1,22 @@
 //! Hits that are offered to a page.
-ghost use Rattle.std.specs.Prelude.{◌≡◌, ◌++◌, [], ◌∷◌, List, length, filter, cond, option_map, OnOk, IfErr};
-ghost use Rattle.cat_base.specs.declared.refusal.Refusal.TheVariants.{Memory};
-ghost use Rattle.cat_model.specs.Page.{Key};
+ghost use Rattle.std.specs.Prelude.{◌≡◌, length, OnOk};
 ghost use Rattle.cat_model.specs.View.{selected};
-ghost use Rattle.cat_search.specs.Bars.{AreRanked};
-ghost use Rattle.cat_search.specs.Keys.{Place};
-ghost use Rattle.cat_search.specs.Pages.{beyond};
-ghost use Rattle.cat_search.specs.Seen.{seen, IsBestAt};
+ghost use Rattle.cat_search.specs.Bars.{HaveRanksOf};
+ghost use Rattle.cat_search.specs.Pages.{behind, beyond, if_behind};
+ghost use Rattle.cat_search.specs.Candidates.{TakesIn, mark_standing, standing_of};
 
 use crate::bar::Bar;
 use crate::best::Best;
 use crate::leaf_ranks::LeafRanks;
-use crate::ordinal_bar::OrdinalBar;
-use crate::places::Candidate;
-use crate::sort::Order;
-use cat_base::Refusal;
-use cat_values::{KeywordColumn, NumberColumn, RowSet};
+use crate::number_bar::NumberRows;
+use crate::ordinal_bar::KeywordRows;
+use crate::standings::Candidate;
+use cat_values::RowSet;
+use std::alloc::AllocError;
 
 /// Whether the mark comes before the hit; so it is where there is no mark.
 pub(crate) fn is_beyond(mark: &Option<Candidate>, candidate: &Candidate) -> bool
-    ensures { result ≡ beyond (option_map seen mark.now) (seen candidate.now) }
+    ensures { result ≡ beyond (mark_standing mark.now) (standing_of candidate.now) }
 {
     match mark {
         None => true,
@@ -27,16 +24,14 @@ pub(crate) fn is_beyond(mark: &Option<Candidate>, candidate: &Candidate) -> bool
     }
 }
 
-/// Offers the hit to the page, if the mark comes before it. A refusal is [`Refusal::Memory`].
+/// Offers the hit to the page, if the mark comes before it.
 pub(crate) fn offer_hit<'a>(
     best: &mut Best<Candidate<'a>>,
     candidate: Candidate<'a>,
     mark: &Option<Candidate<'a>>,
-) -> Result<(), Refusal>
+) -> Result<(), AllocError>
     ensures limit { best.new.limit ≡ best.old.limit }
-    ensures best { OnOk result ((places : List Place) → IsBestAt best.old places
-        → IsBestAt best.new (places ++ cond (beyond (option_map seen mark.now) (seen candidate.entry)) (seen candidate.entry ∷ []) [])) }
-    ensures refusal { IfErr result (λ e. e ≡ Memory) }
+    ensures best { OnOk result (TakesIn best.old best.new (if_behind (mark_standing mark.now) (standing_of candidate.entry))) }
 {
     if is_beyond(mark, &candidate) {
         best.offer(candidate)?;
@@ -44,18 +39,16 @@ pub(crate) fn offer_hit<'a>(
     Ok(())
 }
 
-/// Offers each hit of a segment to the page, as far as the mark comes before it. A refusal is [`Refusal::Memory`].
+/// Offers each hit of a segment to the page, as far as the mark comes before it.
 fn offer_each<'a>(
     best: &mut Best<Candidate<'a>>,
     ranks: &LeafRanks<'a>,
     hits: &RowSet,
     mark: &Option<Candidate<'a>>,
-) -> Result<(), Refusal>
+) -> Result<(), AllocError>
     requires { length hits.now ≡ length ranks.now }
     ensures limit { best.new.limit ≡ best.old.limit }
-    ensures best { OnOk result ((places : List Place) → IsBestAt best.old places
-        → IsBestAt best.new (places ++ filter (beyond (option_map seen mark.now)) (selected hits.now ranks.now))) }
-    ensures refusal { IfErr result (λ e. e ≡ Memory) }
+    ensures best { OnOk result (TakesIn best.old best.new (behind (mark_standing mark.now) (selected hits.now ranks.now))) }
 {
     for row in hits.iter() {
         offer_hit(best, ranks.at(row), mark)?;
@@ -63,81 +56,59 @@ fn offer_each<'a>(
     Ok(())
 }
 
-/// Offers the hits of a segment that these numbers rank, as far as the mark comes before them, with no look at those that
-/// can't come in by their numbers. A refusal is [`Refusal::Memory`].
-fn offer_numbers<'a>(
+/// Offers the hits of a segment to the page, as far as the mark comes before them, with no look at those that the bar
+/// keeps out.
+fn offer_by<'a, B: Bar<'a>>(
     best: &mut Best<Candidate<'a>>,
     ranks: &LeafRanks<'a>,
-    numbers: &NumberColumn,
-    order: Order,
+    bar: &mut B,
     hits: &RowSet,
     mark: &Option<Candidate<'a>>,
-) -> Result<(), Refusal>
+) -> Result<(), AllocError>
+    requires sound { B.is_sound bar.old }
     requires long { length hits.now ≡ length ranks.now }
-    requires ranked { AreRanked Key.number order numbers.now ranks.now }
+    requires ranked { HaveRanksOf (B.order bar.old) (B.keys bar.old) ranks.now }
     ensures limit { best.new.limit ≡ best.old.limit }
-    ensures best { OnOk result ((places : List Place) → IsBestAt best.old places
-        → IsBestAt best.new (places ++ filter (beyond (option_map seen mark.now)) (selected hits.now ranks.now))) }
-    ensures refusal { IfErr result (λ e. e ≡ Memory) }
+    ensures best { OnOk result (TakesIn best.old best.new (behind (mark_standing mark.now) (selected hits.now ranks.now))) }
 {
-    let mut bar = Bar::of(best, order, mark);
+    bar.renew(best, mark);
     for row in hits.iter() {
-        if bar.lets_in(numbers.value(row)) {
+        if bar.lets_in(row) {
             offer_hit(best, ranks.at(row), mark)?;
-            bar = Bar::of(best, order, mark);
+            bar.renew(best, mark);
         }
     }
     Ok(())
 }
 
-/// Offers the hits of a segment that these keywords rank, as far as the mark comes before them, with no look at those that
-/// can't come in by their ordinals. A refusal is [`Refusal::Memory`].
-fn offer_keywords<'a>(
-    best: &mut Best<Candidate<'a>>,
-    ranks: &LeafRanks<'a>,
-    keywords: &KeywordColumn,
-    order: Order,
-    hits: &RowSet,
-    mark: &Option<Candidate<'a>>,
-) -> Result<(), Refusal>
-    requires long { length hits.now ≡ length ranks.now }
-    requires ranked { AreRanked Key.keyword order keywords.now ranks.now }
-    ensures limit { best.new.limit ≡ best.old.limit }
-    ensures best { OnOk result ((places : List Place) → IsBestAt best.old places
-        → IsBestAt best.new (places ++ filter (beyond (option_map seen mark.now)) (selected hits.now ranks.now))) }
-    ensures refusal { IfErr result (λ e. e ≡ Memory) }
-{
-    let dictionary = keywords.dictionary();
-    // One look-up for 16 rows adds little to the offers of these, in whatever order the rows come.
-    let open = OrdinalBar::open(dictionary, keywords.len() / 16);
-    let mut bar = open.renewed(best, order, mark, dictionary);
-    for row in hits.iter() {
-        if bar.lets_in(keywords.ordinal(row)) {
-            offer_hit(best, ranks.at(row), mark)?;
-            bar = bar.renewed(best, order, mark, dictionary);
-        }
-    }
-    Ok(())
-}
-
-/// Offers the hits of a segment to the page, as far as the mark comes before them. A refusal is [`Refusal::Memory`].
+/// Offers the hits of a segment to the page, as far as the mark comes before them.
 pub(crate) fn offer_rows<'a>(
     best: &mut Best<Candidate<'a>>,
     ranks: &LeafRanks<'a>,
     hits: &RowSet,
     mark: &Option<Candidate<'a>>,
-) -> Result<(), Refusal>
+) -> Result<(), AllocError>
     requires { length hits.now ≡ length ranks.now }
     ensures limit { best.new.limit ≡ best.old.limit }
-    ensures best { OnOk result ((places : List Place) → IsBestAt best.old places
-        → IsBestAt best.new (places ++ filter (beyond (option_map seen mark.now)) (selected hits.now ranks.now))) }
-    ensures refusal { IfErr result (λ e. e ≡ Memory) }
+    ensures best { OnOk result (TakesIn best.old best.new (behind (mark_standing mark.now) (selected hits.now ranks.now))) }
 {
     if let Some((numbers, order)) = ranks.numbers() {
-        return offer_numbers(best, ranks, numbers, order, hits, mark);
+        return offer_by(
+            best,
+            ranks,
+            &mut NumberRows::open(numbers, order),
+            hits,
+            mark,
+        );
     }
     if let Some((keywords, order)) = ranks.keywords() {
-        return offer_keywords(best, ranks, keywords, order, hits, mark);
+        return offer_by(
+            best,
+            ranks,
+            &mut KeywordRows::open(keywords, order),
+            hits,
+            mark,
+        );
     }
     offer_each(best, ranks, hits, mark)
 }

@@ -1,17 +1,18 @@
-//! Rows that a page sorted by a keyword field needn't look at.
+//! The rows of a column of keywords that a page needn't look at.
 ghost use Rattle.std.specs.Prelude.{◌≡◌, ℕ, ◌<◌, true, false, length, Option, option_map, IfSome, IsTrue};
 ghost use Rattle.cat_search.specs.Bars.{keyword_of, lies_within};
-ghost use Rattle.cat_search.specs.Keys.{key_seen};
-ghost use Rattle.cat_search.specs.OrdinalBars.{is_below, is_above, AreBelow, AreAbove, lets_in, AreOrdinalsOf, IsOrdinalBarOf, keyword_key};
-ghost use Rattle.cat_search.specs.Seen.{seen};
+ghost use Rattle.cat_search.specs.Keys.{key_ref_of};
+ghost use Rattle.cat_search.specs.OrdinalBars.{is_below_end, is_above_end, AreBelow, AreAbove, lets_in, AreOrdinalsOf, IsOrdinalBarOf, keyword_key};
+ghost use Rattle.cat_search.specs.Candidates.{mark_standing};
 
+use crate::bar::Bar;
 use crate::best::Best;
 use crate::ends::Ends;
 use crate::keys::KeyRef;
-use crate::places::Candidate;
 use crate::sort::Order;
+use crate::standings::Candidate;
 use cat_base::Text;
-use cat_values::Dictionary;
+use cat_values::{Dictionary, KeywordColumn};
 
 /// From which ordinal on, and up to before which, a row of one segment may come into the page.
 ///
@@ -33,7 +34,7 @@ pub(crate) struct OrdinalBar<'a> {
 
 /// The text that is the key, if it is one.
 fn keyword_of<'a>(key: Option<KeyRef<'a>>) -> Option<&'a str>
-    ensures { option_map (λ t. t.now) result ≡ keyword_of (option_map key_seen key.entry) }
+    ensures { option_map (λ t. t.now) result ≡ keyword_of (option_map key_ref_of key.entry) }
 {
     match key {
         Some(KeyRef::Keyword(text)) => Some(text),
@@ -42,8 +43,8 @@ fn keyword_of<'a>(key: Option<KeyRef<'a>>) -> Option<&'a str>
 }
 
 /// Whether the text is below the end.
-fn is_below(text: &Text, low: Option<&str>) -> bool
-    ensures { result ≡ is_below text.now (option_map (λ a. a.now) low.entry) }
+fn is_below_end(text: &Text, low: Option<&str>) -> bool
+    ensures { result ≡ is_below_end text.now (option_map (λ a. a.now) low.entry) }
 {
     match low {
         Some(low) => text.as_str() < low,
@@ -52,8 +53,8 @@ fn is_below(text: &Text, low: Option<&str>) -> bool
 }
 
 /// Whether the text is above the end.
-fn is_above(text: &Text, high: Option<&str>) -> bool
-    ensures { result ≡ is_above text.now (option_map (λ a. a.now) high.entry) }
+fn is_above_end(text: &Text, high: Option<&str>) -> bool
+    ensures { result ≡ is_above_end text.now (option_map (λ a. a.now) high.entry) }
 {
     match high {
         Some(high) => high < text.as_str(),
@@ -67,7 +68,7 @@ fn first_from(dictionary: &Dictionary, low: Option<&str>) -> usize
 {
     dictionary
         .as_slice()
-        .partition_point(|text| is_below(text, low))
+        .partition_point(|text| is_below_end(text, low))
 }
 
 /// The ordinal of the first text that is above the end.
@@ -76,7 +77,7 @@ fn first_above(dictionary: &Dictionary, high: Option<&str>) -> usize
 {
     dictionary
         .as_slice()
-        .partition_point(|text| !is_above(text, high))
+        .partition_point(|text| !is_above_end(text, high))
 }
 
 /// Whether the two ends are the same text, or both open.
@@ -166,7 +167,7 @@ impl<'a> OrdinalBar<'a> {
     ) -> OrdinalBar<'a>
         requires { AreOrdinalsOf dictionary.now self }
         ensures ordinals { AreOrdinalsOf dictionary.now result }
-        ensures bar { IsOrdinalBarOf order (option_map seen mark.now) best.now dictionary.now result }
+        ensures bar { IsOrdinalBarOf order.entry (mark_standing mark.now) best.now dictionary.now result }
     {
         self.between(Ends::of(best, order, mark), dictionary)
     }
@@ -180,5 +181,55 @@ impl<'a> OrdinalBar<'a> {
             Some(ordinal) => self.from <= ordinal && ordinal < self.before,
             None => self.missing,
         }
+    }
+}
+
+/// The rows of a column of keywords, with the ordinals that may come into the page.
+#[derive(Drop)]
+pub(crate) struct KeywordRows<'a> {
+    column: &'a KeywordColumn,
+    order: Order<'a>,
+    bar: OrdinalBar<'a>,
+}
+
+impl<'a> KeywordRows<'a> {
+    ghost use Rattle.std.specs.Prelude.{◌≡◌, map};
+    ghost use Rattle.cat_model.specs.Ordinals.{dictionary_of, texts_of};
+    ghost use Rattle.cat_search.specs.OrdinalBars.{AreOrdinalsOf};
+
+    /// The rows of the column, none of which is kept out yet.
+    pub(crate) fn open(column: &'a KeywordColumn, order: Order<'a>) -> KeywordRows<'a>
+        ensures order { result.order ≡ order.entry }
+        ensures column { result.column.now ≡ column.now }
+        ensures ordinals { AreOrdinalsOf (dictionary_of (map texts_of result.column.now)) result.bar }
+    {
+        // One look-up for 16 rows adds little to the offers of these, in whatever order the rows come.
+        let bar = OrdinalBar::open(column.dictionary(), column.len() / 16);
+        KeywordRows { column, order, bar }
+    }
+}
+
+impl<'a> Bar<'a> for KeywordRows<'a> {
+    ghost use Rattle.std.specs.Prelude.{None, map, option_map, slice_index_or};
+    ghost use Rattle.cat_model.specs.Ordinals.{dictionary_of, texts_of};
+    ghost use Rattle.cat_model.specs.Page.{Key};
+    ghost use Rattle.cat_search.specs.OrdinalBars.{AreOrdinalsOf, KeepsOut};
+
+    ghost is_sound = { λ b. AreOrdinalsOf (dictionary_of (map texts_of b.column.now)) b.bar };
+
+    ghost order = { λ b. b.order };
+
+    ghost keys = { λ b. map (option_map Key.keyword) b.column.now };
+
+    ghost keeps_out = { λ b row. KeepsOut (dictionary_of (map texts_of b.column.now)) b.bar (slice_index_or b.column.now row None) };
+
+    fn lets_in(&self, row: usize) -> bool {
+        self.bar.lets_in(self.column.ordinal(row))
+    }
+
+    fn renew(&mut self, best: &Best<Candidate<'a>>, mark: &Option<Candidate<'a>>) {
+        self.bar = self
+            .bar
+            .renewed(best, self.order, mark, self.column.dictionary());
     }
 }

@@ -1,27 +1,32 @@
 //! Queries that are put to views.
-ghost use Rattle.std.specs.Prelude.{◌≡◌, ◌≢◌, List, Ok, Err, map, IfOk, IfErr};
+ghost use Rattle.std.specs.Prelude.{◌≡◌, ◌≢◌, List, Ok, Err, length, map, IfOk, IfErr};
 ghost use Rattle.cat_base.specs.declared.refusal.Refusal.TheVariants.{Memory};
-ghost use Rattle.cat_model.specs.Answer.{Read, Found, answer};
+ghost use Rattle.cat_model.specs.Answer.{Found};
 ghost use Rattle.cat_model.specs.Item.{Record};
 ghost use Rattle.cat_model.specs.Query.{matches};
-ghost use Rattle.cat_model.specs.View.{Shows, rows_in};
+ghost use Rattle.cat_model.specs.View.{Shows, rows_in, selected};
 ghost use Rattle.cat_query.specs.View.{query_of};
-ghost use Rattle.cat_search.specs.Pages.{answer_where};
-ghost use Rattle.cat_search.specs.Sorts.{sort_meant};
-ghost use Rattle.cat_search.specs.Views.{ViewsShowRecords, bare};
+ghost use Rattle.cat_search.specs.Asks.{page_to};
+ghost use Rattle.cat_search.specs.Rows.{bare_record, leaf_hits};
+ghost use Rattle.cat_search.specs.Views.{IsAnswerTo, ViewsShowRecords, answer_over};
 
+use crate::ask::{Ask, Wanted};
 use crate::entries::{Page, entries_of};
-use crate::gathering::first_hits;
-use crate::row_marks::mark_of;
-use crate::sort::Sort;
-use crate::view::View;
-use cat_base::{MAX_PAGE, Refusal, WriteNo};
+use crate::gathering::{first_hits, hits_of};
+use crate::mark_rows::mark_in_leaves;
+use crate::view::{Leaf, View};
+use cat_base::Refusal;
 use cat_query::Query;
-use std::alloc::Global;
+use cat_values::RowSet;
+use std::alloc::{AllocError, Global};
 use std::marker::Model;
 
 /// A query made ready for a view (Lucene: an `IndexSearcher` over a reader, with a `Query` that it rewrote, as a
 /// `Weight`). It owns its parts, so a cache may hand it out and forget it.
+///
+///     let prepared = Prepared::of(&view, Query::parse(view.schema(), alloc, "color:red")?)?;
+///     let ask = Ask { sort: Sort::Rising("price"), after: None, count: 10 };
+///     let page = prepared.page(alloc, ask)?;
 #[derive(Drop)]
 pub struct Prepared {
     view: View,
@@ -41,10 +46,9 @@ impl Model for Prepared {
 }
 
 impl Prepared {
-    /// The query, to be put to the view, whose segments are shared. A refusal is [`Refusal::Memory`].
-    pub fn of(view: &View, query: Query) -> Result<Prepared, Refusal>
+    /// The query, to be put to the view, all of which is shared.
+    pub fn of(view: &View, query: Query) -> Result<Prepared, AllocError>
         ensures ok { IfOk result (λ p. p ≡ record { view = view.now; query = query }) }
-        ensures refusal { IfErr result (λ e. e ≡ Memory) }
     {
         Ok(Prepared {
             view: view.copy()?,
@@ -66,54 +70,47 @@ impl Prepared {
         &self.query
     }
 
-    /// The first n live rows of the view that the query matches and that come behind the mark, in the order of the sort,
-    /// and how many it matches at all. The mark is the number of any live row, matched or not; without one the page is
-    /// the first.
+    /// The live rows of the leaf, of this view or another, that the query matches, as a set of the rows of its segment
+    /// (Lucene: `Weight.bulkScorer` over a `LeafReaderContext`, with the leaf's `liveDocs`).
+    pub fn hits(&self, alloc: Global, leaf: &Leaf) -> Result<RowSet, AllocError>
+        ensures ok { IfOk result (λ s. selected s leaf.now.segment.rows ≡ leaf_hits leaf.now (query_of self.now.query)) }
+        ensures long { IfOk result (λ s. length s ≡ length leaf.now.segment.rows) }
+    {
+        hits_of(alloc, &self.query, leaf)
+    }
+
+    /// The page that is asked for of the live rows of the view that the query matches: the first of them behind the mark,
+    /// in the order of the sort, and how many it matches at all. The mark is the number of any live row, matched or not;
+    /// without one the page is the first.
     ///
     /// Lucene: `IndexSearcher.searchAfter` with a `Sort`, where the mark is the `FieldDoc` of the last hit before. In
-    /// order of addition it gathers no more than n hits and counts the others by words of 64 rows.
+    /// order of addition it gathers no more hits than are asked for, and counts the others by blocks of 64 rows.
     ///
-    /// The first of these refusals that is due comes: [`Refusal::Count`] if n is above [`MAX_PAGE`],
-    /// [`Refusal::SortField`] if the sort is not by a number or keyword field of the schema, [`Refusal::Mark`] if the
-    /// mark is the number of no live row. Where none of them is due, [`Refusal::Memory`] may come in place of the page.
-    pub fn page(
-        &self,
-        alloc: Global,
-        sort: &Sort,
-        mark: Option<WriteNo>,
-        n: usize,
-    ) -> Result<Page, Refusal>
-        ensures ok { IfOk result (λ p. (rs : List Record) → Shows self.now.view rs
-            → answer self.now.view.schema rs (Read.find n (sort_meant sort.now) mark (Ok (query_of self.now.query))) ≡ Ok (Found.page p)) }
-        ensures err { IfErr result (λ e. e ≢ Memory → (rs : List Record) → Shows self.now.view rs
-            → answer self.now.view.schema rs (Read.find n (sort_meant sort.now) mark (Ok (query_of self.now.query))) ≡ Err e) }
-        ensures due { (rs : List Record) → Shows self.now.view rs
-            → IfErr (answer self.now.view.schema rs (Read.find n (sort_meant sort.now) mark (Ok (query_of self.now.query)))) (λ e. result ≡ Err e) }
+    /// The first of these refusals that is due comes: [`Refusal::Count`] if more hits are asked for than
+    /// [`MAX_PAGE`](cat_base::MAX_PAGE), [`Refusal::SortField`] if the sort is not by a number or keyword field of the
+    /// schema, [`Refusal::Mark`] if the mark is the number of no live row. Where none of them is due,
+    /// [`Refusal::Memory`] may come instead of the page.
+    pub fn page(&self, alloc: Global, ask: Ask<'_>) -> Result<Page, Refusal>
+        ensures ok { IfOk result (λ page. IsAnswerTo self.now ask.entry (Ok (Found.page page))) }
+        ensures err { IfErr result (λ e. e ≢ Memory → IsAnswerTo self.now ask.entry (Err e)) }
+        ensures due { (rs : List Record) → Shows self.now.view rs → IfErr (answer_over self.now ask.entry rs) (λ e. result ≡ Err e) }
     {
-        page_over(alloc, &self.view, &self.query, sort, mark, n)
+        page_over(alloc, &self.view, &self.query, ask)
     }
 }
 
 /// The page over the live rows of the view.
-fn page_over(
-    alloc: Global,
-    view: &View,
-    query: &Query,
-    sort: &Sort,
-    mark: Option<WriteNo>,
-    n: usize,
-) -> Result<Page, Refusal>
-    ensures ok { IfOk result (λ p. answer_where view.now.schema (map bare (rows_in view.now)) (matches (query_of query.now)) (sort_meant sort.now) mark n ≡ Ok p) }
-    ensures err { IfErr result (λ e. e ≢ Memory → answer_where view.now.schema (map bare (rows_in view.now)) (matches (query_of query.now)) (sort_meant sort.now) mark n ≡ Err e) }
-    ensures due { IfErr (answer_where view.now.schema (map bare (rows_in view.now)) (matches (query_of query.now)) (sort_meant sort.now) mark n) (λ e. result ≡ Err e) }
+fn page_over(alloc: Global, view: &View, query: &Query, ask: Ask<'_>) -> Result<Page, Refusal>
+    ensures ok { IfOk result (λ p. page_to view.now.schema (map bare_record (rows_in view.now)) (matches (query_of query.now)) ask.entry ≡ Ok p) }
+    ensures err { IfErr result (λ e. e ≢ Memory
+        → page_to view.now.schema (map bare_record (rows_in view.now)) (matches (query_of query.now)) ask.entry ≡ Err e) }
+    ensures due { IfErr (page_to view.now.schema (map bare_record (rows_in view.now)) (matches (query_of query.now)) ask.entry) (λ e. result ≡ Err e) }
 {
-    if n > MAX_PAGE {
-        return Err(Refusal::Count);
-    }
-    let order = sort.resolve(view.schema())?;
+    let (order, count) = ask.resolve(view.schema())?;
     let leaves = view.leaves();
-    let mark = mark_of(leaves, sort, order, mark)?;
-    let (total, hits) = first_hits(alloc, leaves, query, sort, order, &mark, n)?;
+    let mark = mark_in_leaves(leaves, order, ask.after)?;
+    let wanted = Wanted { order, mark, count };
+    let (total, hits) = first_hits(alloc, leaves, query, &wanted)?;
     let entries = entries_of(alloc, &hits)?;
     Ok(Page::new(total, entries))
 }

@@ -2,72 +2,78 @@
 ghost use Rattle.std.specs.Prelude.{◌≡◌, true, false, option_map, IfOk, IfErr};
 ghost use Rattle.cat_base.specs.declared.refusal.Refusal.TheVariants.{SortField};
 ghost use Rattle.cat_model.specs.Answer.{can_sort};
-ghost use Rattle.cat_search.specs.Keys.{key_seen};
+ghost use Rattle.cat_search.specs.Keys.{key_ref_of};
+ghost use Rattle.cat_search.specs.Candidates.{rank_of};
 ghost use Rattle.cat_search.specs.Pages.{rank_with};
-ghost use Rattle.cat_search.specs.Seen.{seen_rank};
-ghost use Rattle.cat_search.specs.Sorts.{sort_meant, order_of, place_named, can_sort_by};
+ghost use Rattle.cat_search.specs.Sorts.{IsOrderOf, can_sort_by, index_named, sort_of};
 
 use crate::keys::KeyRef;
-use crate::places::Rank;
-use cat_base::{Refusal, Text};
-use cat_schema::{Kind, Schema, place_of};
+use crate::standings::Rank;
+use cat_base::Refusal;
+use cat_schema::{Kind, Schema, index_of};
 use std::cmp::Reverse;
 
-/// How the hits of a page are sorted (Lucene: `Sort`).
+/// How the hits of a page are sorted (Lucene: `Sort`). A name is a field's, and no schema has been looked at.
 ///
 /// Hits without a value come last, rising and falling; Lucene says that for each field by
 /// `SortField.setMissingValue`. Hits that tie stand in order of addition, both ways.
-#[derive(Drop)]
-pub enum Sort {
+#[derive(Clone, Copy, Debug, PartialEq, Eq)]
+pub enum Sort<'a> {
     /// In order of addition (Lucene: `Sort.INDEXORDER`).
     Added,
     /// By the number or keyword field of this name, the least value first (Lucene: `SortField`).
-    Rising(Text),
+    Rising(&'a str),
     /// By the number or keyword field of this name, the greatest value first (Lucene: a reversed `SortField`).
-    Falling(Text),
+    Falling(&'a str),
 }
 
-/// A sort whose field is given by its place in the schema.
-#[derive(Clone, Copy, PartialEq, Eq)]
-pub(crate) enum Order {
+/// A field that one can sort by: its name, and its index in the schema.
+#[derive(Clone, Copy)]
+pub(crate) struct OrderField<'a> {
+    pub(crate) name: &'a str,
+    pub(crate) index: usize,
+}
+
+/// A sort whose field is found in the schema.
+#[derive(Clone, Copy)]
+pub(crate) enum Order<'a> {
     Added,
-    Rising(usize),
-    Falling(usize),
+    Rising(OrderField<'a>),
+    Falling(OrderField<'a>),
 }
 
-/// The place of the field of this name, if one can sort by it.
-fn sort_field(schema: &Schema, name: &str) -> Result<usize, Refusal>
-    ensures ok { IfOk result (λ i. (i ≡ place_named name.now schema.now) × (can_sort_by schema.now name.now ≡ true)) }
-    ensures err { IfErr result (λ e. (e ≡ SortField) × (can_sort_by schema.now name.now ≡ false)) }
+/// The field of this name, if one can sort by it.
+fn order_field<'a>(schema: &Schema, name: &'a str) -> Result<OrderField<'a>, Refusal>
+    ensures ok { IfOk result (λ f. (f.name.now ≡ name.entry.now) × (f.index ≡ index_named name.entry.now schema.now) × (can_sort_by schema.now name.entry.now ≡ true)) }
+    ensures err { IfErr result (λ e. (e ≡ SortField) × (can_sort_by schema.now name.entry.now ≡ false)) }
 {
     let fields = schema.fields();
-    let Some(place) = place_of(fields, name) else {
+    let Some(index) = index_of(fields, name) else {
         return Err(Refusal::SortField);
     };
-    match fields[place].kind() {
-        Kind::Number | Kind::Keyword => Ok(place),
+    match fields[index].kind() {
+        Kind::Number | Kind::Keyword => Ok(OrderField { name, index }),
         Kind::Text | Kind::Facet => Err(Refusal::SortField),
     }
 }
 
-impl Sort {
-    /// The sort with the place of its field. [`Refusal::SortField`] if the field is not a number or keyword field of the
-    /// schema.
-    pub(crate) fn resolve(&self, schema: &Schema) -> Result<Order, Refusal>
-        ensures ok { IfOk result (λ o. (o ≡ order_of schema.now (sort_meant self.now)) × (can_sort schema.now (sort_meant self.now) ≡ true)) }
-        ensures err { IfErr result (λ e. (e ≡ SortField) × (can_sort schema.now (sort_meant self.now) ≡ false)) }
+impl<'a> Sort<'a> {
+    /// The sort by its field in the schema. [`Refusal::SortField`] if that is not a number or keyword field.
+    pub(crate) fn resolve(self, schema: &Schema) -> Result<Order<'a>, Refusal>
+        ensures ok { IfOk result (λ o. IsOrderOf schema.now (sort_of self.entry) o × (can_sort schema.now (sort_of self.entry) ≡ true)) }
+        ensures err { IfErr result (λ e. (e ≡ SortField) × (can_sort schema.now (sort_of self.entry) ≡ false)) }
     {
         match self {
             Sort::Added => Ok(Order::Added),
-            Sort::Rising(name) => Ok(Order::Rising(sort_field(schema, name.as_str())?)),
-            Sort::Falling(name) => Ok(Order::Falling(sort_field(schema, name.as_str())?)),
+            Sort::Rising(name) => Ok(Order::Rising(order_field(schema, name)?)),
+            Sort::Falling(name) => Ok(Order::Falling(order_field(schema, name)?)),
         }
     }
 }
 
 /// Where a hit of this key stands in the order.
-pub(crate) fn rank_with(key: Option<KeyRef>, order: Order) -> Rank
-    ensures { seen_rank result ≡ rank_with order (option_map key_seen key.entry) }
+pub(crate) fn rank_with<'a>(key: Option<KeyRef<'a>>, order: Order) -> Rank<'a>
+    ensures { rank_of result ≡ rank_with order.entry (option_map key_ref_of key.entry) }
 {
     match (order, key) {
         (Order::Rising(_), Some(key)) => Rank::Rising(key),

@@ -1,20 +1,22 @@
 //! Views: segments with their live rows, as a searcher sees them.
-ghost use Rattle.std.specs.Prelude.{◌≡◌, ◌<◌, ℕ, List, length, map, option_map, is_some, false, Ok, None, IfOk, IfErr};
+ghost use Rattle.std.specs.Prelude.{◌≡◌, ◌<◌, ℕ, List, length, map, option_map, Ok, None, IfOk, IfErr};
 ghost use Rattle.std.specs.Arc.{arc_value};
-ghost use Rattle.std.specs.List.{flat_map, list_any};
-ghost use Rattle.cat_base.specs.declared.refusal.Refusal.TheVariants.{Memory, Device, Damaged};
+ghost use Rattle.std.specs.List.{flat_map};
+ghost use Rattle.cat_base.specs.declared.refusal.Refusal.TheVariants.{Device, Damaged};
 ghost use Rattle.cat_model.specs.Answer.{stored};
-ghost use Rattle.cat_model.specs.View.{IsView, needs, records_in, rows_in};
+ghost use Rattle.cat_model.specs.View.{IsView, needs, records_in};
 ghost use Rattle.cat_directory.specs.Devices.{CountsReading};
 ghost use Rattle.cat_directory.specs.Names.{name_of};
-ghost use Rattle.cat_search.specs.Views.{first_in, has_id, leaf_names, HoldSources, TellsSources};
+ghost use Rattle.cat_search.specs.Rows.{first_in};
+ghost use Rattle.cat_search.specs.Sources.{HoldsSource, TellsSource, stored_length};
+ghost use Rattle.cat_search.specs.Views.{leaf_names};
 
-use crate::lookup::holder_of;
+use crate::lookup::live_row_with;
 use cat_base::{Refusal, Token, WriteNo};
 use cat_directory::{FileName, Shelf};
 use cat_schema::Schema;
 use cat_segment::{Live, Segment};
-use std::alloc::Global;
+use std::alloc::{AllocError, Global};
 use std::marker::Model;
 use std::sync::Arc;
 
@@ -47,6 +49,15 @@ impl Leaf {
         Leaf { segment, live }
     }
 
+    /// The same leaf once more; all in it is shared. The error also stands for a full count of users.
+    pub fn copy(&self) -> Result<Leaf, AllocError>
+        ensures ok { IfOk result (λ l. l ≡ self.now) }
+    {
+        let segment = Arc::try_clone(&self.segment)?;
+        let live = Arc::try_clone(&self.live)?;
+        Ok(Leaf { segment, live })
+    }
+
     /// The segment.
     pub fn segment(&self) -> &Segment
         ensures { result.now ≡ self.now.segment }
@@ -76,7 +87,7 @@ impl Leaf {
 /// (Lucene: a `DirectoryReader`, as an `IndexSearcher` is made over it). It never changes, whatever is written later.
 #[derive(Drop)]
 pub struct View {
-    schema: Schema,
+    schema: Arc<Schema>,
     leaves: Arc<Vec<Leaf>>,
     token: Token,
 }
@@ -87,26 +98,24 @@ impl Model for View {
 
     ghost Value = { model.View };
 
-    ghost view = { λ v. record { schema = v.schema; leaves = (arc_value v.leaves).items; token = v.token } };
+    ghost view = { λ v. record { schema = arc_value v.schema; leaves = (arc_value v.leaves).items; token = v.token } };
 
-    ghost invariant = { λ v. model.IsView (record { schema = v.schema; leaves = (arc_value v.leaves).items; token = v.token }) };
+    ghost invariant = { λ v. model.IsView (record { schema = arc_value v.schema; leaves = (arc_value v.leaves).items; token = v.token }) };
 }
 
 impl View {
-    /// The view of these segments, in order, at the token. Each segment has the fields of the schema; the numbers of
+    /// The view of these segments, in order, at the token. Their numbers differ, and each has the fields of the schema; the numbers of
     /// the writes that put their rows rise over all segments, dead rows too, and the ids of live rows differ.
-    ///
-    /// A refusal is [`Refusal::Memory`].
     pub fn of(
         alloc: Global,
         schema: Schema,
         leaves: Vec<Leaf>,
         token: Token,
-    ) -> Result<View, Refusal>
+    ) -> Result<View, AllocError>
         requires { IsView (record { schema = schema; leaves = leaves.items; token = token }) }
         ensures ok { IfOk result (λ v. v ≡ record { schema = schema; leaves = leaves.items; token = token }) }
-        ensures refusal { IfErr result (λ e. e ≡ Memory) }
     {
+        let schema = Arc::new(alloc, schema)?;
         let leaves = Arc::new(alloc, leaves)?;
         Ok(View {
             schema,
@@ -137,25 +146,24 @@ impl View {
         self.token
     }
 
-    /// The same view once more; the segments are shared (Lucene: `IndexReader.incRef`). A refusal is
-    /// [`Refusal::Memory`]; it also stands for a full count of users.
-    pub fn copy(&self) -> Result<View, Refusal>
+    /// The same view once more; all in it is shared (Lucene: `IndexReader.incRef`). The error also stands for a full count
+    /// of users.
+    pub fn copy(&self) -> Result<View, AllocError>
         ensures ok { IfOk result (λ v. v ≡ self.now) }
-        ensures refusal { IfErr result (λ e. e ≡ Memory) }
     {
+        let schema = Arc::try_clone(&self.schema)?;
         let leaves = Arc::try_clone(&self.leaves)?;
         Ok(View {
-            schema: self.schema.copy()?,
+            schema,
             leaves,
             token: self.token,
         })
     }
 
     /// The names of the files that a searcher of the view needs, those of each segment in turn (Lucene: what
-    /// `IndexCommit.getFileNames` lists, without the files of a commit). A refusal is [`Refusal::Memory`].
-    pub fn files(&self, alloc: Global) -> Result<Vec<FileName>, Refusal>
+    /// `IndexCommit.getFileNames` lists, without the files of a commit).
+    pub fn files(&self, alloc: Global) -> Result<Vec<FileName>, AllocError>
         ensures ok { IfOk result (λ names. map name_of names.items ≡ needs self.now) }
-        ensures refusal { IfErr result (λ e. e ≡ Memory) }
     {
         files_of(alloc, &self.leaves)
     }
@@ -163,39 +171,38 @@ impl View {
     /// The text that the item of this id came as, read from the file of its segment's sources; none where no live row has
     /// the id, and then no file is read. (Lucene: `StoredFields.document` of the document that a primary key finds.)
     ///
-    /// [`Refusal::Damaged`] if the file is absent, or shorter than the sources of its rows; [`Refusal::Device`] if the
-    /// shelf fails; else [`Refusal::Memory`].
+    /// [`Refusal::Damaged`] if that file is absent, or ends before the text does; what other files hold is not looked at.
+    /// [`Refusal::Device`] if the shelf fails; else [`Refusal::Memory`].
     pub fn get<S: Shelf>(
         &self,
         alloc: Global,
         shelf: &mut S,
         id: &str,
     ) -> Result<Option<Vec<u8>>, Refusal>
-        ensures ok { IfOk result (λ found. (files : ℕ → List ℕ) → TellsSources (S.bytes shelf.old) files self.now
+        ensures ok { IfOk result (λ found. (files : ℕ → List ℕ) → TellsSource (S.bytes shelf.old) files self.now id.now
             → option_map (λ bytes. bytes.items) found ≡ stored (records_in files self.now) id.now) }
-        ensures length { IfOk result (λ found. (files : ℕ → List ℕ) → HoldSources files self.now
-            → option_map (λ bytes. length bytes.items) found ≡ option_map (λ text. length text) (stored (records_in files self.now) id.now)) }
-        ensures there { IfOk result (λ found. is_some found ≡ list_any (has_id id.now) (rows_in self.now)) }
-        ensures none { list_any (has_id id.now) (rows_in self.now) ≡ false → (result ≡ Ok None) × (S.fault_count shelf.new ≡ S.fault_count shelf.old) }
-        ensures damaged { IfErr result (λ e. e ≡ Damaged → (files : ℕ → List ℕ) → TellsSources (S.bytes shelf.old) files self.now → HoldSources files self.now → ⊥) }
+        ensures whole { IfOk result (λ found. option_map (λ bytes. length bytes.items) found ≡ stored_length self.now id.now) }
+        ensures none { stored_length self.now id.now ≡ None → (result ≡ Ok None) × (S.fault_count shelf.new ≡ S.fault_count shelf.old) }
+        ensures damaged { IfErr result (λ e. e ≡ Damaged → (files : ℕ → List ℕ) → TellsSource (S.bytes shelf.old) files self.now id.now
+            → HoldsSource files self.now id.now → ⊥) }
         ensures device { IfErr result (λ e. e ≡ Device → S.can_fail shelf.old) }
         ensures same { (q : FileName) → S.bytes shelf.new q ≡ S.bytes shelf.old q }
+        ensures can { S.can_fail shelf.new → S.can_fail shelf.old }
         ensures counted { CountsReading (S.fault_count shelf.old) (S.fault_count shelf.new) result }
     {
-        let Some((leaf, row)) = holder_of(&self.leaves, id) else {
+        let Some((leaf, row)) = live_row_with(&self.leaves, id) else {
             return Ok(None);
         };
         let segment = leaf.segment();
         let name = FileName::Source(segment.number());
-        let place = segment.source_place(row);
-        Ok(Some(shelf.read(alloc, name, place, segment.source_length(row))?))
+        let offset = segment.source_offset(row);
+        Ok(Some(shelf.read(alloc, name, offset, segment.source_length(row))?))
     }
 }
 
 /// The names of the files of the leaves' segments.
-fn files_of(alloc: Global, leaves: &[Leaf]) -> Result<Vec<FileName>, Refusal>
+fn files_of(alloc: Global, leaves: &[Leaf]) -> Result<Vec<FileName>, AllocError>
     ensures ok { IfOk result (λ names. map name_of names.items ≡ flat_map leaf_names leaves.now) }
-    ensures refusal { IfErr result (λ e. e ≡ Memory) }
 {
     let mut names = Vec::new(alloc);
     for leaf in leaves {

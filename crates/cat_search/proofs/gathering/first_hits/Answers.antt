@@ -1,13 +1,13 @@
-use Rattle.std.proofs.Common.{◌∙◌, option_map}
+use Rattle.std.proofs.Common.{◌∙◌}
 use Rattle.std.specs.List.{flat_map}
 use Rattle.cat_model.specs.View.{live_rows, row_matches}
 use Rattle.cat_query.specs.View.{query_of}
-use Rattle.cat_search.specs.Seen.{seen}
-use Rattle.cat_search.specs.Sorts.{sort_meant}
+use Rattle.cat_search.specs.Candidates.{mark_standing}
 use Rattle.cat_search.proofs.Gathered.{first_added, if_ok}
 use Rattle.cat_search.proofs.gathering.first_hits.Goals as goal
 
 pub returns-in-Added-clause-first : goal.returns-in-Added-clause-first
 returns-in-Added-clause-first c =
-    if_ok _ _ (λ r h. h ∙ first_added (option_map seen c.args.mark.now) c.args.order (sort_meant c.args.sort.now) (row_matches (query_of c.args.query.now)) (flat_map live_rows c.args.leaves.now) c.args.n c.in-Added.is c.requires)
+    let wanted = c.args.wanted.now in
+    if_ok _ _ (λ r h. h ∙ first_added (mark_standing wanted.mark) wanted.order (row_matches (query_of c.args.query.now)) (flat_map live_rows c.args.leaves.now) wanted.count c.in-Added.is c.requires)
     c.added_hits.result c.added_hits.ensures.first

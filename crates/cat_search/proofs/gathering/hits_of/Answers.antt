@@ -1,26 +1,14 @@
-use Rattle.std.proofs.Common.{◌≡◌, ◌∙◌, length, map, ap, sym}
-use Rattle.std.proofs.lemmas.List.{length-map}
-use Rattle.cat_model.specs.RowSets.{joined, both}
-use Rattle.cat_model.specs.View.{selected, row_matches}
+use Rattle.std.proofs.Common.{◌∙◌, length, sym, ap}
+use Rattle.cat_model.specs.View.{live_rows, selected}
 use Rattle.cat_query.specs.View.{query_of}
-use Rattle.cat_search.proofs.Marked.{marked-joined, length-joined}
+use Rattle.cat_search.proofs.Gathered.{everything}
 use Rattle.cat_search.proofs.gathering.hits_of.Goals as goal
 
-pub returns-clause-ok : goal.returns-clause-ok
-returns-clause-ok c =
-    let test = row_matches (query_of c.args.query.now) in
+pub returns-then-is_everything-clause-ok : goal.returns-then-is_everything-clause-ok
+returns-then-is_everything-clause-ok c =
     let leaf = c.args.leaf.now in
-    let matched = c.in_ok-hits.ensures.ok ∙ c.rows.ensures ∙ c.in_ok-matched.ensures.ok ∙ ap (λ s. map test s.rows) c.segment.ensures in
-    let live = c.rows-2.ensures ∙ c.live.ensures.value in
-    ap (λ s. selected s leaf.segment.rows) (c.and_with.ensures ∙ ap (λ s. joined both s c.rows-2.result.now) matched ∙ ap (joined both (map test leaf.segment.rows)) live)
-    ∙ marked-joined test leaf.live leaf.segment.rows
+    ap (λ s. selected s leaf.segment.rows) (c.in_ok-hits.ensures.ok ∙ c.rows.ensures ∙ c.live.ensures.value)
+    ∙ sym (everything (query_of c.args.query.now) (λ i. c.is_everything.ensures.all c.if-is_everything.true i) (live_rows leaf))
 
-pub returns-clause-long : goal.returns-clause-long
-returns-clause-long c =
-    let test = row_matches (query_of c.args.query.now) in
-    let leaf = c.args.leaf.now in
-    let matched = c.in_ok-hits.ensures.ok ∙ c.rows.ensures ∙ c.in_ok-matched.ensures.ok ∙ ap (λ s. map test s.rows) c.segment.ensures in
-    let live = c.rows-2.ensures ∙ c.live.ensures.value in
-    let long : length (map test leaf.segment.rows) ≡ length leaf.live = length-map leaf.segment.rows test ∙ sym c.live.ensures.long in
-    ap length (c.and_with.ensures ∙ ap (λ s. joined both s c.rows-2.result.now) matched ∙ ap (joined both (map test leaf.segment.rows)) live)
-    ∙ length-joined both (map test leaf.segment.rows) leaf.live long ∙ c.live.ensures.long
+pub returns-then-is_everything-clause-long : goal.returns-then-is_everything-clause-long
+returns-then-is_everything-clause-long c = ap length (c.in_ok-hits.ensures.ok ∙ c.rows.ensures ∙ c.live.ensures.value) ∙ c.live.ensures.long

@@ -1,6 +1,6 @@
 use Rattle.std.proofs.Common.{◌∙◌, ap}
 use Rattle.std.proofs.lemmas.List.Sorted.{ranks_by}
-use Rattle.cat_search.specs.Kept.{less}
+use Rattle.cat_search.specs.BestItems.{less}
 use Rattle.cat_search.proofs.InOrder.{best_ranked}
 use Rattle.cat_search.proofs.best.Best.into_items.Goals as goal
 

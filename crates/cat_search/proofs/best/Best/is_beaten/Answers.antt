@@ -1,6 +1,6 @@
 use Rattle.std.proofs.Common.{◌≡◌, ◌∙◌, ◌-◌, ◌<◌, length, get_or, refl, ap, arith}
 use Rattle.std.proofs.lemmas.List.Sorted.{ranks_by}
-use Rattle.cat_search.specs.Kept.{less}
+use Rattle.cat_search.specs.BestItems.{less}
 use Rattle.cat_search.proofs.Inserting.{beaten_by, not_less_from_test}
 use Rattle.cat_search.proofs.best.Best.is_beaten.Goals as goal
 

@@ -1,6 +1,6 @@
 use Rattle.std.proofs.Common.{◌≡◌, ◌∙◌, ◌-◌, ◌<◌, length, get_or, refl, ap, sym, arith}
 use Rattle.std.proofs.lemmas.List.Sorted.{ranks_by}
-use Rattle.cat_search.specs.Kept.{less}
+use Rattle.cat_search.specs.BestItems.{less}
 use Rattle.cat_search.proofs.InOrder.{best_in_order, best_within, best_more}
 use Rattle.cat_search.proofs.Inserting.{beaten_by}
 use Rattle.cat_search.proofs.best.Best.last_if_full.Goals as goal

@@ -2,7 +2,7 @@ use Rattle.std.proofs.Common.{◌≡◌, ◌∙◌, ◌++◌, ◌∷◌, [], ap,
 use Rattle.std.specs.List.{insert}
 use Rattle.std.proofs.lemmas.List.Sorted.{ranks_by}
 use Rattle.cat_model.specs.Ranks.{insert_by, sorted}
-use Rattle.cat_search.specs.Kept.{less}
+use Rattle.cat_search.specs.BestItems.{less}
 use Rattle.cat_search.proofs.InOrder.{best_in_order, best_within, best_more}
 use Rattle.cat_search.proofs.best.Best.offer.Goals as goal
 
@@ -22,8 +22,8 @@ returns-clause-best g c = λ offered b.
     let limit : c.self.inside.limit ≡ c.args.self.now.limit = ap (λ k. k.limit) c.self.view_is in
     let items : c.self.inside.items.items ≡ c.args.self.now.items = ap (λ k. k.items) c.self.view_is in
     let put : c.insert.new.self.items ≡ insert_by lt c.args.item c.args.self.now.items =
-    c.in_ok-insert.ensures.items ∙ ap (λ xs. insert xs c.place_of-place.result c.args.item) items
-    ∙ c.place_of-place.ensures.place (best_in_order lt o kept offered b) in
+    c.in_ok-insert.ensures.items ∙ ap (λ xs. insert xs c.index_of-index.result c.args.item) items
+    ∙ c.index_of-index.ensures.index (best_in_order lt o kept offered b) in
     let cut : c.truncate.new.self.items ≡ take c.args.self.now.limit (insert_by lt c.args.item c.args.self.now.items) =
     c.truncate.ensures.items ∙ ap (λ n. take n c.insert.new.self.items) limit ∙ ap (take c.args.self.now.limit) put in
     best_more lt kept offered c.args.item c.truncate.new.self.items b cut

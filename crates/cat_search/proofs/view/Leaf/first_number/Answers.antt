@@ -1,5 +1,5 @@
 use Rattle.std.proofs.Common.{◌∙◌, ◌<◌, length, ap, arith}
-use Rattle.cat_search.specs.Views.{first_in}
+use Rattle.cat_search.specs.Rows.{first_in}
 use Rattle.cat_search.proofs.RowSearch.{first-at}
 use Rattle.cat_search.proofs.view.Leaf.first_number.Goals as goal
 

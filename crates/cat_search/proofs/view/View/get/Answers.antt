@@ -1,12 +1,11 @@
-use Rattle.std.proofs.Common.{option_map, ◌≡◌, ◌≤◌, ◌∙◌, Some, length, map, sum, sym, ap, subst, false}
-use Rattle.std.specs.Prelude.{Contains}
-use Rattle.std.specs.List.{list_any, flat_map}
+use Rattle.std.proofs.Common.{option_map, ◌≡◌, ◌∙◌, Some, false, true, sym, ap, subst}
 use Rattle.std.proofs.lemmas.List.Elements.{All-contains}
 use Rattle.std.proofs.lemmas.Result.{err_from_is_err_and}
+use Rattle.std.specs.List.{HoldsAt, list_any, flat_map}
 use Rattle.cat_model.specs.View.{live_rows}
 use Rattle.cat_directory.specs.declared.name.FileName.TheVariants as file
-use Rattle.cat_search.specs.Views.{has_id, stored_in}
-use Rattle.cat_search.proofs.Stored.{none_stored, read_is, long_enough, length_is}
+use Rattle.cat_search.specs.Sources.{IsLiveRowOf, has_id, has_live}
+use Rattle.cat_search.proofs.Stored.{none_stored, none_long, read_is, length-at, is_whole, not_cut}
 use Rattle.cat_search.proofs.view.View.get.Goals as goal
 
 pub returns-in_default-clause-ok : goal.returns-in_default-clause-ok
@@ -14,17 +13,30 @@ returns-in_default-clause-ok g c = λ files tells.
     let leaves = c.deref-2.ensures.value ∙ ap (λ v. v.items) c.deref.ensures ∙ ap (λ v. v.leaves) c.self.view_is in
     sym (none_stored files c.args.id.now c.args.self.now.leaves (subst (λ ls. list_any (has_id c.args.id.now) (flat_map live_rows ls) ≡ false) leaves c.in_default.ensures))
 
+pub returns-in_default-clause-whole : goal.returns-in_default-clause-whole
+returns-in_default-clause-whole g c =
+    let leaves = c.deref-2.ensures.value ∙ ap (λ v. v.items) c.deref.ensures ∙ ap (λ v. v.leaves) c.self.view_is in
+    sym (none_long c.args.id.now c.args.self.now.leaves (subst (λ ls. list_any (has_id c.args.id.now) (flat_map live_rows ls) ≡ false) leaves c.in_default.ensures))
+
 pub returns-clause-ok : goal.returns-clause-ok
 returns-clause-ok g c = λ files tells.
     let told = g.S.Holder.bytes c.args.shelf.now in
     let leaf = c.in-Some.leaf.now in
     let leaves = c.deref-2.ensures.value ∙ ap (λ v. v.items) c.deref.ensures ∙ ap (λ v. v.leaves) c.self.view_is in
-    let there = subst (λ ls. Contains ls leaf) leaves c.in-Some.ensures.2 in
-    let tell = All-contains (λ l. told (file.Source l.segment.number) ≡ Some (Some (files l.segment.number))) c.args.self.now.leaves leaf tells there in
+    let is = subst (λ ls. IsLiveRowOf c.args.id.now ls leaf c.in-Some.row) leaves c.in-Some.ensures in
+    let tell = All-contains (λ l. has_live c.args.id.now l ≡ true → told (file.Source l.segment.number) ≡ Some (Some (files l.segment.number))) c.args.self.now.leaves leaf tells is.among is.has in
     let number = c.number.ensures ∙ ap (λ s. s.number) c.segment-segment.ensures in
     let read = c.in_ok-read.ensures.ok (files leaf.segment.number) (ap (λ n. told (file.Source n)) number ∙ tell) in
-    ap Some (read_is files leaf c.segment-segment.result.now c.in-Some.row c.source_place-place.result c.source_length.result c.in_ok-read.field-0.items c.segment-segment.ensures c.in-Some.ensures.0 c.source_place-place.ensures c.source_length.ensures read.1)
-    ∙ sym (c.in-Some.ensures.3 files) ∙ ap (λ ls. stored_in files ls c.args.id.now) leaves
+    ap Some (read_is files leaf c.segment-segment.result.now c.in-Some.row c.source_offset-offset.result c.source_length.result c.in_ok-read.field-0.items c.segment-segment.ensures is.within c.source_offset-offset.ensures c.source_length.ensures read.1)
+    ∙ sym (is.source files)
+
+pub returns-clause-whole : goal.returns-clause-whole
+returns-clause-whole g c =
+    let leaf = c.in-Some.leaf.now in
+    let leaves = c.deref-2.ensures.value ∙ ap (λ v. v.items) c.deref.ensures ∙ ap (λ v. v.leaves) c.self.view_is in
+    let is = subst (λ ls. IsLiveRowOf c.args.id.now ls leaf c.in-Some.row) leaves c.in-Some.ensures in
+    let long = length-at leaf.segment.rows c.in-Some.row c.source_length.result is.within (subst (λ s. HoldsAt (λ r. r.length ≡ c.source_length.result) s.rows c.in-Some.row) c.segment-segment.ensures c.source_length.ensures) in
+    ap Some (c.in_ok-read.ensures.len ∙ sym long) ∙ sym is.long
 
 pub returns-in_err-read-clause-damaged : goal.returns-in_err-read-clause-damaged
 returns-in_err-read-clause-damaged g c =
@@ -33,23 +45,9 @@ returns-in_err-read-clause-damaged g c =
     let told = g.S.Holder.bytes c.args.shelf.now in
     let leaf = c.in-Some.leaf.now in
     let leaves = c.deref-2.ensures.value ∙ ap (λ v. v.items) c.deref.ensures ∙ ap (λ v. v.leaves) c.self.view_is in
-    let there = subst (λ ls. Contains ls leaf) leaves c.in-Some.ensures.2 in
-    let tell = All-contains (λ l. told (file.Source l.segment.number) ≡ Some (Some (files l.segment.number))) c.args.self.now.leaves leaf tells there in
+    let is = subst (λ ls. IsLiveRowOf c.args.id.now ls leaf c.in-Some.row) leaves c.in-Some.ensures in
+    let tell = All-contains (λ l. has_live c.args.id.now l ≡ true → told (file.Source l.segment.number) ≡ Some (Some (files l.segment.number))) c.args.self.now.leaves leaf tells is.among is.has in
     let number = c.number.ensures ∙ ap (λ s. s.number) c.segment-segment.ensures in
     let short = c.in_err-read.ensures.damaged e (files leaf.segment.number) (ap (λ n. told (file.Source n)) number ∙ tell) in
-    let whole = All-contains (λ l. sum (map (λ r. r.length) l.segment.rows) ≤ length (files l.segment.number)) c.args.self.now.leaves leaf holds there in
-    long_enough files leaf c.segment-segment.result.now c.in-Some.row c.source_place-place.result c.source_length.result c.segment-segment.ensures c.in-Some.ensures.0 c.source_place-place.ensures c.source_length.ensures whole short)
-
-pub returns-in_default-clause-length : goal.returns-in_default-clause-length
-returns-in_default-clause-length g c = λ files holds.
-    let leaves = c.deref-2.ensures.value ∙ ap (λ v. v.items) c.deref.ensures ∙ ap (λ v. v.leaves) c.self.view_is in
-    ap (option_map (λ text. length text)) (sym (none_stored files c.args.id.now c.args.self.now.leaves (subst (λ ls. list_any (has_id c.args.id.now) (flat_map live_rows ls) ≡ false) leaves c.in_default.ensures)))
-
-pub returns-clause-length : goal.returns-clause-length
-returns-clause-length g c = λ files holds.
-    let leaf = c.in-Some.leaf.now in
-    let leaves = c.deref-2.ensures.value ∙ ap (λ v. v.items) c.deref.ensures ∙ ap (λ v. v.leaves) c.self.view_is in
-    let there = subst (λ ls. Contains ls leaf) leaves c.in-Some.ensures.2 in
-    let whole = All-contains (λ l. sum (map (λ r. r.length) l.segment.rows) ≤ length (files l.segment.number)) c.args.self.now.leaves leaf holds there in
-    ap Some (length_is files leaf c.segment-segment.result.now c.in-Some.row c.source_length.result c.in_ok-read.field-0.items c.segment-segment.ensures c.in-Some.ensures.0 c.source_length.ensures whole c.in_ok-read.ensures.len)
-    ∙ ap (option_map (λ text. length text)) (sym (c.in-Some.ensures.3 files) ∙ ap (λ ls. stored_in files ls c.args.id.now) leaves)
+    not_cut files leaf c.segment-segment.result.now c.in-Some.row c.source_offset-offset.result c.source_length.result c.segment-segment.ensures is.within is.some c.source_offset-offset.ensures c.source_length.ensures
+    (is_whole files c.args.id.now c.args.self.now.leaves leaf c.in-Some.row is holds) short)
