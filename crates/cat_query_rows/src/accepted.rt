@@ -1,7 +1,8 @@
 //! Queries, and which items they accept: what the grammar says of texts that are written out here.
-use cat_base::Refusal;
 use cat_query::Query;
 use cat_schema::Schema;
+use std::alloc::Global;
+use std::process::Abort;
 use std::test::Fail;
 
 const FIELDS: &[u8] = br#"{"brand":"keyword","color":"facet","price":"number","title":"text"}"#;
@@ -9,12 +10,21 @@ const FIELDS: &[u8] = br#"{"brand":"keyword","color":"facet","price":"number","t
 const ITEM: &[u8] =
     br#"{"id":"1","brand":"acme","color":["red","blue"],"price":20,"title":"Garden Shovel"}"#;
 
-#[test]
-fn queries_accept_items(rt: HostRuntime) -> Result<(), Fail> {
-    let alloc = rt.alloc();
+/// Fails unless the query of each text accepts the item, or doesn't, as stands beside it. A copy is the same query.
+fn expect_accepted(rt: &impl Abort, alloc: Global, rows: &[(&str, bool)]) -> Result<(), Fail> {
     let schema = Schema::read(alloc, FIELDS)?;
     let item = schema.item(alloc, ITEM)?;
-    let rows = [
+    for (text, want) in rows {
+        let query = Query::parse(&schema, alloc, text)?;
+        assert_eq!(rt; query.accepts(&item), *want, "{text}");
+        assert!(rt; query.copy()? == query, "{text}");
+    }
+    Ok(())
+}
+
+#[test]
+fn queries_accept_items(rt: HostRuntime) -> Result<(), Fail> {
+    const ROWS: &[(&str, bool)] = &[
         ("*:*", true),
         ("brand:acme", true),
         ("brand:[ac TO b]", true),
@@ -37,33 +47,5 @@ fn queries_accept_items(rt: HostRuntime) -> Result<(), Fail> {
             true,
         ),
     ];
-    for (text, want) in rows {
-        let query = Query::parse(&schema, alloc, text)?;
-        assert_eq!(rt; query.accepts(&item), want, "{text}");
-        assert!(rt; query.copy()? == query, "{text}");
-    }
-    Ok(())
-}
-
-#[test]
-fn faults_have_places(rt: HostRuntime) -> Result<(), Fail> {
-    let alloc = rt.alloc();
-    let schema = Schema::read(alloc, FIELDS)?;
-    let rows = [
-        ("", 0),
-        ("  ", 2),
-        ("brand:acme )", 11),
-        ("size:3", 0),
-        ("+price:+3", 7),
-        ("price:9223372036854775808", 6),
-        ("price:[1 TO 2", 6),
-        ("title:\"two words\"", 6),
-        ("(brand:a", 8),
-        ("+", 1),
-    ];
-    for (text, place) in rows {
-        let found = Query::parse(&schema, alloc, text).err();
-        assert_eq!(rt; found, Some(Refusal::Query(place)), "{text}");
-    }
-    Ok(())
+    expect_accepted(&rt, rt.alloc(), ROWS)
 }

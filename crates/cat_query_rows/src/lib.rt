@@ -1,0 +1,7 @@
+//! Tests of query texts: tables of the items that queries accept, and of the places where texts are no queries.
+#![tactic(auto)]
+
+#[cfg(test)]
+mod accepted;
+#[cfg(test)]
+mod faults;
