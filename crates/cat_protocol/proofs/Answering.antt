@@ -7,24 +7,24 @@ use Rattle.cat_model.specs.Lines.{Said, ShowsSession, IsReadable}
 use Rattle.cat_model.specs.Heard.{Hears, Heard}
 use Rattle.cat_model.specs.Served.{Outcome}
 use Rattle.cat_schema.specs.Reading.{json}
-use Rattle.cat_protocol.specs.Line.{Reads}
-use Rattle.cat_protocol.specs.World.{Kept, IsCommandOf, Does, StepsSeen}
+use Rattle.cat_protocol.specs.Line.{SpellsOrShows}
+use Rattle.cat_protocol.specs.World.{Service, IsCommandOf, Does, StepsIfShort}
 
 -- a line that shows no session, or can't be read
-pub unheard : (old : Kept) (line : Text) → (IsReadable line → (session : ℕ) → ShowsSession line session → ⊥) → StepsSeen old (Some line) Outcome.unreadable old
+pub unheard : (old : Service) (line : Text) → (IsReadable line → (session : ℕ) → ShowsSession line session → ⊥) → StepsIfShort old (Some line) Outcome.unreadable old
 unheard old line none = (Hears.unreadable none, refl)
 
 -- the exchange of a line with its reply
 abbrev pub told_to : ℕ → Command → Reply → Outcome
 told_to session c reply = Outcome.replied (record { line = record { session = session; command = c }; reply = reply })
 
-read_as : (old new : Kept) (line : Text) (session : ℕ) (said : Option Said) (c : Command) (reply : Reply) → IsReadable line → Reads line session said → IsCommandOf old.schema said c → new.schema ≡ old.schema
-    → Does old.schema old.state (record { session = session; command = c }) reply new.state → StepsSeen old (Some line) (told_to session c reply) new
+read_as : (old new : Service) (line : Text) (session : ℕ) (said : Option Said) (c : Command) (reply : Reply) → IsReadable line → SpellsOrShows line session said → IsCommandOf old.schema said c → new.schema ≡ old.schema
+    → Does old.schema old.state session c reply new.state → StepsIfShort old (Some line) (told_to session c reply) new
 read_as old new line session (Some said) c reply readable reads is same step = (Hears.spelled session said c readable reads is, (same, step))
 read_as old new line session None c reply readable reads is same step =
     (subst (λ c. Hears json old.schema line (Heard.a_line (record { session = session; command = c }))) (sym is) (Hears.formless session readable reads.0 reads.1), (same, step))
 
 -- a line that says something, or has no form
-pub heard_as : (old new : Kept) (line text : Text) (session : ℕ) (said : Option Said) (c : Command) (reply : Reply) → text ≡ line → IsReadable line → Reads text session said → IsCommandOf old.schema said c → new.schema ≡ old.schema
-    → Does old.schema old.state (record { session = session; command = c }) reply new.state → StepsSeen old (Some line) (told_to session c reply) new
-heard_as old new line text session said c reply same readable reads = read_as old new line session said c reply readable (subst (λ t. Reads t session said) same reads)
+pub heard_as : (old new : Service) (line text : Text) (session : ℕ) (said : Option Said) (c : Command) (reply : Reply) → text ≡ line → IsReadable line → SpellsOrShows text session said → IsCommandOf old.schema said c → new.schema ≡ old.schema
+    → Does old.schema old.state session c reply new.state → StepsIfShort old (Some line) (told_to session c reply) new
+heard_as old new line text session said c reply same readable reads = read_as old new line session said c reply readable (subst (λ t. SpellsOrShows t session said) same reads)

@@ -11,8 +11,8 @@ use Rattle.cat_model.specs.Run.{Run, IsRun}
 use Rattle.cat_model.specs.Lines.{IsReadable}
 use Rattle.cat_model.specs.Heard.{Hears, Heard}
 use Rattle.cat_model.specs.Served.{Begins, OpensEmpty, Outcome, heard, exchange, HeardAll, IsServed, Answered, Refused, Ending, IsDue, ServesBy, Serves}
-use Rattle.cat_protocol.specs.Machine.{seen, Steps, IsAnswered}
-use Rattle.cat_protocol.specs.World.{Kept, opened_as, OpensWorld, OpensSeen, Changes, StepsSeen, Does}
+use Rattle.cat_protocol.specs.Machine.{short_line, Steps, IsAnswered}
+use Rattle.cat_protocol.specs.World.{Service, beginning_of, OpensWorld, OpensIfShort, Changes, StepsIfShort, Does}
 use Rattle.cat_protocol.proofs.ModelRuns.{Reaches, Reaches-start, Reaches-push}
 
 -- ---- serving by weaker relations
@@ -45,55 +45,55 @@ too_long : (line : Text) → nat_lt 10000 (length line) ≡ true → IsReadable 
 too_long line long readable = absurd (grind (arith, nat_tests, readable.short))
 
 -- what the machine does with a line that may be too long, the world does with the line
-line_seen : (old new : Kept) (line : Text) (told : Outcome) (b : Bool) → nat_lt 10000 (length line) ≡ b
-    → StepsSeen old (if b then None else Some line) told new → Hears json old.schema line (heard told) × Changes old told new
-line_seen old new line told true long s =
+line_if_short : (old new : Service) (line : Text) (told : Outcome) (b : Bool) → nat_lt 10000 (length line) ≡ b
+    → StepsIfShort old (if b then None else Some line) told new → Hears json old.schema line (heard told) × Changes old told new
+line_if_short old new line told true long s =
     subst (λ t. Hears json old.schema line (heard t) × Changes old t new) (sym s.0) (Hears.unreadable (λ readable session shows. too_long line long readable), s.1)
-line_seen old new line told false long s = s
+line_if_short old new line told false long s = s
 
-opening_seen : (line : Text) (w : Kept) (b : Bool) → OpensSeen (if b then None else Some line) (Ok w) → OpensWorld line (Ok w)
-opening_seen line w true o = absurd (cc o)
-opening_seen line w false o = o
+opening_if_short : (line : Text) (w : Service) (b : Bool) → OpensIfShort (if b then None else Some line) (Ok w) → OpensWorld line (Ok w)
+opening_if_short line w true o = absurd (cc o)
+opening_if_short line w false o = o
 
-refusal_seen : (line : Text) (e : Refusal) (b : Bool) → nat_lt 10000 (length line) ≡ b → OpensSeen (if b then None else Some line) (Err e) → OpensWorld line (Err e)
-refusal_seen line e true long o =
+refusal_if_short : (line : Text) (e : Refusal) (b : Bool) → nat_lt 10000 (length line) ≡ b → OpensIfShort (if b then None else Some line) (Err e) → OpensWorld line (Err e)
+refusal_if_short line e true long o =
     let same : e ≡ NoForm = cc o in
     inr (subst (λ x. Begins json OpensEmpty line (Err x)) (sym same) (Begins.formless (λ readable factor least text spelled. too_long line long readable)))
-refusal_seen line e false long o = o
+refusal_if_short line e false long o = o
 
 -- ---- the world serves
 
 -- The lines that the machine steps through are heard, and their exchanges go on with the run so far.
-steps_served : (from : Opened) (past : Run) (old new : Kept) (lines : List Text) (tolds : List Outcome)
-    → old.schema ≡ from.start.schema → Reaches from past old.state → Steps StepsSeen old (map seen lines) tolds new
+steps_served : (from : Opened) (past : Run) (old new : Service) (lines : List Text) (tolds : List Outcome)
+    → old.schema ≡ from.start.schema → Reaches from past old.state → Steps StepsIfShort old (map short_line lines) tolds new
     → HeardAll json from.start.schema lines tolds × IsRun from (past ++ filter_map exchange tolds)
 steps_served from past old new [] [] same reached s = (tt, subst (IsRun from) (sym (append-nil past)) reached.is_run)
 steps_served from past old new [] (told ∷ tolds) same reached s = absurd s
 steps_served from past old new (line ∷ lines) [] same reached s = absurd s
 steps_served from past old new (line ∷ lines) (Outcome.unreadable ∷ tolds) same reached (mid, step, steps) =
-    let here = line_seen old mid line Outcome.unreadable (nat_lt 10000 (length line)) refl step in
+    let here = line_if_short old mid line Outcome.unreadable (nat_lt 10000 (length line)) refl step in
     let rest = steps_served from past mid new lines tolds (ap (λ w. w.schema) here.1 ∙ same) (subst (λ w. Reaches from past w.state) (sym here.1) reached) steps in
     ((subst (λ schema. Hears json schema line Heard.unreadable) same here.0, rest.0), rest.1)
 steps_served from past old new (line ∷ lines) (Outcome.replied e ∷ tolds) same reached (mid, step, steps) =
-    let here = line_seen old mid line (Outcome.replied e) (nat_lt 10000 (length line)) refl step in
-    let longer = Reaches-push from past old.state mid.state e.line e.reply reached (subst (λ schema. Does schema old.state e.line e.reply mid.state) same here.1.1) in
+    let here = line_if_short old mid line (Outcome.replied e) (nat_lt 10000 (length line)) refl step in
+    let longer = Reaches-push from past old.state mid.state e.line e.reply reached (subst (λ schema. Does schema old.state e.line.session e.line.command e.reply mid.state) same here.1.1) in
     let rest = steps_served from (past ++ e ∷ []) mid new lines tolds (here.1.0 ∙ same) longer steps in
     ((subst (λ schema. Hears json schema line (Heard.a_line e.line)) same here.0, rest.0), subst (IsRun from) (append_assoc past (e ∷ []) (filter_map exchange tolds)) rest.1)
 
-pub answered_served : (first : Text) (lines : List Text) (text : Text) → IsAnswered OpensSeen StepsSeen (λ w. w.state.count) first lines text → IsServed json OpensEmpty first lines text
+pub answered_served : (first : Text) (lines : List Text) (text : Text) → IsAnswered OpensIfShort StepsIfShort (λ w. w.state.count) first lines text → IsServed json OpensEmpty first lines text
 answered_served first lines text a =
-    let opening = opening_seen first a.opened (nat_lt 10000 (length first)) a.begins in
-    let from : Opened = opened_as a.opened in
+    let opening = opening_if_short first a.opened (nat_lt 10000 (length first)) a.begins in
+    let from : Opened = beginning_of a.opened in
     let served = steps_served from [] a.opened a.left lines a.tolds refl (Reaches-start a.opened.schema a.opened.state opening.1) a.steps in
     record { from = from; begins = opening.0; tolds = a.tolds; heard_all = served.0; is_run = served.1; whole = a.whole }
 
-pub opened_refused : (first : Text) (e : Refusal) → OpensSeen (seen first) (Err e) → (e ≡ Memory) ⊎ Begins json OpensEmpty first (Err e)
-opened_refused first e o = refusal_seen first e (nat_lt 10000 (length first)) refl o
+pub opened_refused : (first : Text) (e : Refusal) → OpensIfShort (short_line first) (Err e) → (e ≡ Memory) ⊎ Begins json OpensEmpty first (Err e)
+opened_refused first e o = elim (refusal_if_short first e (nat_lt 10000 (length first)) refl o) [ inl stopped ↦ inl stopped.0 | inr begins ↦ inr begins ]
 
 -- What is served by a world's machine is served as the model says.
 pub served_world : (input left before after : Option Text) (r : Result (Unit {0}) Ending)
-    → ServesBy (IsAnswered OpensSeen StepsSeen (λ w. w.state.count)) (λ first e. OpensSeen (seen first) (Err e)) input left before after r
+    → ServesBy (IsAnswered OpensIfShort StepsIfShort (λ w. w.state.count)) (λ first e. OpensIfShort (short_line first) (Err e)) input left before after r
     → Serves json OpensEmpty input left before after r
 served_world input left before after r =
-    ServesBy-map (IsAnswered OpensSeen StepsSeen (λ w. w.state.count)) (IsServed json OpensEmpty) (λ first e. OpensSeen (seen first) (Err e)) (λ first e. Begins json OpensEmpty first (Err e))
+    ServesBy-map (IsAnswered OpensIfShort StepsIfShort (λ w. w.state.count)) (IsServed json OpensEmpty) (λ first e. OpensIfShort (short_line first) (Err e)) (λ first e. Begins json OpensEmpty first (Err e))
     answered_served opened_refused input left before after r

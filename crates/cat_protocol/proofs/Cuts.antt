@@ -1,4 +1,4 @@
--- Lines cut out of bytes that come in pieces, where of each line only a front is held.
+-- Lines cut out of bytes that come in pieces, where of each line only a front is gathered.
 use Rattle.std.proofs.Common.{◌≡◌, ◌≢◌, ℕ, suc, zero, ◌+◌, ◌-◌, ◌<◌, ◌≤◌, inl, inr, Bool, true, false, cond, List, [], ◌∷◌, ◌++◌, length, get_or, take, drop, map, refl, sym, ap, ◌∙◌, arith, append_assoc, append-nil, length-take, length-take-le, take_all, length-drop}
 use Rattle.std.specs.Prelude.{Option, None, Some, nat_lt, min, ◌==◌}
 use Rattle.std.specs.Io.BufRead.{strip_last, ends_with_byte}
@@ -8,13 +8,13 @@ use Rattle.std.proofs.lemmas.List.{map-append, take-append-le, take_min}
 use lib.Seq.{drop-drop, take-take, take-append-add}
 use Rattle.cat_model.specs.Text.{Text}
 use Rattle.cat_model.specs.Input.{ended_after, rest_after, ended_lines, last_line, lines_of}
-use Rattle.cat_protocol.specs.Machine.{seen}
+use Rattle.cat_protocol.specs.Machine.{short_line}
 
-abbrev pub seen_by : ℕ → Text → Option Text
-seen_by n line = cond (nat_lt n (length line)) None (Some line)
+abbrev pub short_by : ℕ → Text → Option Text
+short_by n line = cond (nat_lt n (length line)) None (Some line)
 
-seen_long : (n : ℕ) (line : Text) → n < length line → seen_by n line ≡ None
-seen_long n line h = ap (λ b. cond b None (Some line)) (lt-ltb n (length line) h)
+short_long : (n : ℕ) (line : Text) → n < length line → short_by n line ≡ None
+short_long n line h = ap (λ b. cond b None (Some line)) (lt-ltb n (length line) h)
 
 cut_len : (b : Bool) (p : Text) → length p ≤ length (cond b (take (length p - 1) p) p) + 1
 cut_len true p = omega (arith, length-take (length p - 1) p)
@@ -23,27 +23,27 @@ cut_len false p = omega arith
 stripped_len : (p : Text) → length p ≤ length (strip_last 13 p) + 1
 stripped_len p = cut_len (ends_with_byte 13 p) p
 
--- what is held of a line shows as much as the line
-pub seen_held : (n : ℕ) (p : Text) → seen_by n (take (n + 2) p) ≡ seen_by n p
-seen_held n p =
+-- what is gathered of a line shows as much as the line
+pub short_gathered : (n : ℕ) (p : Text) → short_by n (take (n + 2) p) ≡ short_by n p
+short_gathered n p =
     elim (cases_lt (n + 2) (length p)) [
-      | inl h ↦ seen_long n _ (omega (arith, length-take-le (n + 2) p (omega arith))) ∙ sym (seen_long n p (omega arith))
-      | inr h ↦ ap (seen_by n) (take_all (n + 2) p h)
+      | inl h ↦ short_long n _ (omega (arith, length-take-le (n + 2) p (omega arith))) ∙ sym (short_long n p (omega arith))
+      | inr h ↦ ap (short_by n) (take_all (n + 2) p h)
     ]
 
-pub seen_held_stripped : (n : ℕ) (p : Text) → seen_by n (strip_last 13 (take (n + 2) p)) ≡ seen_by n (strip_last 13 p)
-seen_held_stripped n p =
+pub short_gathered_stripped : (n : ℕ) (p : Text) → short_by n (strip_last 13 (take (n + 2) p)) ≡ short_by n (strip_last 13 p)
+short_gathered_stripped n p =
     elim (cases_lt (n + 2) (length p)) [
       | inl h ↦ (
           let long : n + 2 ≡ length (take (n + 2) p) = sym (length-take-le (n + 2) p (omega arith)) in
-          seen_long n _ (omega (arith, stripped_len (take (n + 2) p))) ∙ sym (seen_long n _ (omega (arith, stripped_len p)))
+          short_long n _ (omega (arith, stripped_len (take (n + 2) p))) ∙ sym (short_long n _ (omega (arith, stripped_len p)))
           )
-      | inr h ↦ ap (λ l. seen_by n (strip_last 13 l)) (take_all (n + 2) p h)
+      | inr h ↦ ap (λ l. short_by n (strip_last 13 l)) (take_all (n + 2) p h)
     ]
 
--- a front of what is held and more
-pub held_more : (k : ℕ) (p x : Text) → take k (take k p ++ x) ≡ take k (p ++ x)
-held_more k p x =
+-- a front of what is gathered and more
+pub gathered_more : (k : ℕ) (p x : Text) → take k (take k p ++ x) ≡ take k (p ++ x)
+gathered_more k p x =
     elim (cases_lt k (length p)) [
       | inl h ↦ (
           let full : length (take k p) ≡ k = length-take-le k p (omega arith) in
@@ -53,8 +53,8 @@ held_more k p x =
     ]
 
 -- what is added where there is room
-pub held_with : (k : ℕ) (p x : Text) → length p ≤ k → take k (p ++ x) ≡ p ++ take (min (k - length p) (length x)) x
-held_with k p x h =
+pub gathered_with : (k : ℕ) (p x : Text) → length p ≤ k → take k (p ++ x) ≡ p ++ take (min (k - length p) (length x)) x
+gathered_with k p x h =
     let parts : k ≡ length p + (k - length p) = omega arith in
     ap (λ n. take n (p ++ x)) parts ∙ take-append-add p x (k - length p) ∙ ap (λ l. p ++ l) (sym (take_min (k - length p) x))
 
@@ -129,36 +129,36 @@ rest_append (b ∷ bytes) more front = rest_append_by (b == 10) b front bytes mo
 -- ---- a front of the line is as good as the line
 
 module _ (n : ℕ) where
-  abbrev held : Text → Text
-  held p = take (n + 2) p
+  abbrev gathered : Text → Text
+  gathered p = take (n + 2) p
 
   abbrev shown : List Text → List (Option Text)
-  shown lines = map (seen_by n) lines
+  shown lines = map (short_by n) lines
 
-  ended_held_by : (t : Bool) (b : ℕ) (p bytes : Text) → ((q : Text) → shown (ended_after (held q) bytes) ≡ shown (ended_after q bytes))
-      → shown (cond t (strip_last 13 (held p) ∷ ended_after [] bytes) (ended_after (held p ++ b ∷ []) bytes)) ≡ shown (cond t (strip_last 13 p ∷ ended_after [] bytes) (ended_after (p ++ b ∷ []) bytes))
-  ended_held_by true b p bytes by = ap (λ o. o ∷ shown (ended_after [] bytes)) (seen_held_stripped n p)
-  ended_held_by false b p bytes by = sym (by (held p ++ b ∷ [])) ∙ ap (λ l. shown (ended_after l bytes)) (held_more (n + 2) p (b ∷ [])) ∙ by (p ++ b ∷ [])
+  ended_gathered_by : (t : Bool) (b : ℕ) (p bytes : Text) → ((q : Text) → shown (ended_after (gathered q) bytes) ≡ shown (ended_after q bytes))
+      → shown (cond t (strip_last 13 (gathered p) ∷ ended_after [] bytes) (ended_after (gathered p ++ b ∷ []) bytes)) ≡ shown (cond t (strip_last 13 p ∷ ended_after [] bytes) (ended_after (p ++ b ∷ []) bytes))
+  ended_gathered_by true b p bytes by = ap (λ o. o ∷ shown (ended_after [] bytes)) (short_gathered_stripped n p)
+  ended_gathered_by false b p bytes by = sym (by (gathered p ++ b ∷ [])) ∙ ap (λ l. shown (ended_after l bytes)) (gathered_more (n + 2) p (b ∷ [])) ∙ by (p ++ b ∷ [])
 
-  pub ended_held : (bytes p : Text) → shown (ended_after (held p) bytes) ≡ shown (ended_after p bytes)
-  ended_held [] p = refl
-  ended_held (b ∷ bytes) p = ended_held_by (b == 10) b p bytes (ended_held bytes)
+  pub ended_gathered : (bytes p : Text) → shown (ended_after (gathered p) bytes) ≡ shown (ended_after p bytes)
+  ended_gathered [] p = refl
+  ended_gathered (b ∷ bytes) p = ended_gathered_by (b == 10) b p bytes (ended_gathered bytes)
 
-  rest_held_by : (t : Bool) (b : ℕ) (p bytes : Text) → ((q : Text) → held (rest_after (held q) bytes) ≡ held (rest_after q bytes))
-      → held (cond t (rest_after [] bytes) (rest_after (held p ++ b ∷ []) bytes)) ≡ held (cond t (rest_after [] bytes) (rest_after (p ++ b ∷ []) bytes))
-  rest_held_by true b p bytes by = refl
-  rest_held_by false b p bytes by = sym (by (held p ++ b ∷ [])) ∙ ap (λ l. held (rest_after l bytes)) (held_more (n + 2) p (b ∷ [])) ∙ by (p ++ b ∷ [])
+  rest_gathered_by : (t : Bool) (b : ℕ) (p bytes : Text) → ((q : Text) → gathered (rest_after (gathered q) bytes) ≡ gathered (rest_after q bytes))
+      → gathered (cond t (rest_after [] bytes) (rest_after (gathered p ++ b ∷ []) bytes)) ≡ gathered (cond t (rest_after [] bytes) (rest_after (p ++ b ∷ []) bytes))
+  rest_gathered_by true b p bytes by = refl
+  rest_gathered_by false b p bytes by = sym (by (gathered p ++ b ∷ [])) ∙ ap (λ l. gathered (rest_after l bytes)) (gathered_more (n + 2) p (b ∷ [])) ∙ by (p ++ b ∷ [])
 
-  pub rest_held : (bytes p : Text) → held (rest_after (held p) bytes) ≡ held (rest_after p bytes)
-  rest_held [] p = take-take (n + 2) (n + 2) p (omega arith)
-  rest_held (b ∷ bytes) p = rest_held_by (b == 10) b p bytes (rest_held bytes)
+  pub rest_gathered : (bytes p : Text) → gathered (rest_after (gathered p) bytes) ≡ gathered (rest_after p bytes)
+  rest_gathered [] p = take-take (n + 2) (n + 2) p (omega arith)
+  rest_gathered (b ∷ bytes) p = rest_gathered_by (b == 10) b p bytes (rest_gathered bytes)
 
-  pub last_held : (p : Text) → shown (last_line (held p)) ≡ shown (last_line p)
-  last_held [] = ap (λ l. shown (last_line l)) (take_all (n + 2) [] (omega arith))
-  last_held (b ∷ p) =
+  pub last_gathered : (p : Text) → shown (last_line (gathered p)) ≡ shown (last_line p)
+  last_gathered [] = ap (λ l. shown (last_line l)) (take_all (n + 2) [] (omega arith))
+  last_gathered (b ∷ p) =
       let one : n + 2 ≡ suc (n + 1) = omega arith in
       let e = ap (λ k. take k (b ∷ p)) one in
-      ap (λ l. shown (last_line l)) e ∙ ap (λ o. o ∷ []) (ap (seen_by n) (sym e) ∙ seen_held n (b ∷ p))
+      ap (λ l. shown (last_line l)) e ∙ ap (λ o. o ∷ []) (ap (short_by n) (sym e) ∙ short_gathered n (b ∷ p))
 
 -- ---- what the code does at a line feed
 
@@ -178,36 +178,36 @@ pub rest_split : (front bytes more : Text) (at : ℕ) → at < length bytes → 
     → rest_after front bytes ≡ rest_after [] (take (length more - 1) (drop 1 more))
 rest_split front bytes more at h e first m = rest_at front bytes at h e first ∙ ap (rest_after []) (tail_of bytes more at m)
 
--- a line that the held front ends is seen as the whole line is
-pub line_seen : (front piece line held : Text) → line ≡ strip_last 13 held → held ≡ take 10002 (front ++ piece) → seen line ≡ seen (strip_last 13 (front ++ piece))
-line_seen front piece line held l h = ap seen (l ∙ ap (strip_last 13) h) ∙ seen_held_stripped 10000 (front ++ piece)
+-- a line that the gathered front ends is short_line as the whole line is
+pub line_shortened : (front piece line gathered : Text) → line ≡ strip_last 13 gathered → gathered ≡ take 10002 (front ++ piece) → short_line line ≡ short_line (strip_last 13 (front ++ piece))
+line_shortened front piece line gathered l h = ap short_line (l ∙ ap (strip_last 13) h) ∙ short_gathered_stripped 10000 (front ++ piece)
 
 abbrev pub shown_lines : List Text → List (Option Text)
-shown_lines lines = map seen lines
+shown_lines lines = map short_line lines
 
 -- fronts of one line end it alike
 pub ended_same : (bytes p q : Text) → take 10002 p ≡ take 10002 q → shown_lines (ended_after p bytes) ≡ shown_lines (ended_after q bytes)
-ended_same bytes p q e = sym (ended_held 10000 bytes p) ∙ ap (λ l. shown_lines (ended_after l bytes)) e ∙ ended_held 10000 bytes q
+ended_same bytes p q e = sym (ended_gathered 10000 bytes p) ∙ ap (λ l. shown_lines (ended_after l bytes)) e ∙ ended_gathered 10000 bytes q
 
 pub rest_same : (bytes p q : Text) → take 10002 p ≡ take 10002 q → take 10002 (rest_after p bytes) ≡ take 10002 (rest_after q bytes)
-rest_same bytes p q e = sym (rest_held 10000 bytes p) ∙ ap (λ l. take 10002 (rest_after l bytes)) e ∙ rest_held 10000 bytes q
+rest_same bytes p q e = sym (rest_gathered 10000 bytes p) ∙ ap (λ l. take 10002 (rest_after l bytes)) e ∙ rest_gathered 10000 bytes q
 
 pub last_same : (p q : Text) → take 10002 p ≡ take 10002 q → shown_lines (last_line p) ≡ shown_lines (last_line q)
-last_same p q e = sym (last_held 10000 p) ∙ ap (λ l. shown_lines (last_line l)) e ∙ last_held 10000 q
+last_same p q e = sym (last_gathered 10000 p) ∙ ap (λ l. shown_lines (last_line l)) e ∙ last_gathered 10000 q
 
 -- more bytes after the first
-pub ended_on : (bytes more held : Text) → take 10002 held ≡ take 10002 (rest_after [] bytes)
-    → shown_lines (ended_after [] bytes) ++ shown_lines (ended_after held more) ≡ shown_lines (ended_after [] (bytes ++ more))
-ended_on bytes more held e =
-    ap (λ l. shown_lines (ended_after [] bytes) ++ l) (ended_same more held (rest_after [] bytes) e) ∙ sym (map-append seen (ended_after [] bytes) (ended_after (rest_after [] bytes) more))
+pub ended_on : (bytes more gathered : Text) → take 10002 gathered ≡ take 10002 (rest_after [] bytes)
+    → shown_lines (ended_after [] bytes) ++ shown_lines (ended_after gathered more) ≡ shown_lines (ended_after [] (bytes ++ more))
+ended_on bytes more gathered e =
+    ap (λ l. shown_lines (ended_after [] bytes) ++ l) (ended_same more gathered (rest_after [] bytes) e) ∙ sym (map-append short_line (ended_after [] bytes) (ended_after (rest_after [] bytes) more))
     ∙ ap shown_lines (sym (ended_append bytes more []))
 
-pub rest_on : (bytes more held : Text) → take 10002 held ≡ take 10002 (rest_after [] bytes) → take 10002 (rest_after held more) ≡ take 10002 (rest_after [] (bytes ++ more))
-rest_on bytes more held e = rest_same more held (rest_after [] bytes) e ∙ ap (take 10002) (sym (rest_append bytes more []))
+pub rest_on : (bytes more gathered : Text) → take 10002 gathered ≡ take 10002 (rest_after [] bytes) → take 10002 (rest_after gathered more) ≡ take 10002 (rest_after [] (bytes ++ more))
+rest_on bytes more gathered e = rest_same more gathered (rest_after [] bytes) e ∙ ap (take 10002) (sym (rest_append bytes more []))
 
--- what is held of a line is seen as the line is
-pub seen_same : (held line : Text) → take 10002 held ≡ take 10002 line → seen held ≡ seen line
-seen_same held line e = sym (seen_held 10000 held) ∙ ap seen e ∙ seen_held 10000 line
+-- what is gathered of a line is short_line as the line is
+pub short_same : (gathered line : Text) → take 10002 gathered ≡ take 10002 line → short_line gathered ≡ short_line line
+short_same gathered line e = sym (short_gathered 10000 gathered) ∙ ap short_line e ∙ short_gathered 10000 line
 
 -- ---- the end of the input
 
@@ -227,8 +227,8 @@ pub one_line : (bytes : Text) → ended_lines bytes ≡ [] → lines_of bytes �
 one_line [] e = refl
 one_line (b ∷ bytes) e = ap (λ l. l ++ last_line (rest_after [] (b ∷ bytes))) e ∙ ap last_line (no_feed (b ∷ bytes) [] e)
 
-pub lines_end : (b : ℕ) (bytes held : Text) → take 10002 held ≡ take 10002 (rest_after [] (b ∷ bytes))
-    → shown_lines (ended_lines (b ∷ bytes)) ++ shown_lines (last_line held) ≡ shown_lines (lines_of (b ∷ bytes))
-lines_end b bytes held e =
-    ap (λ l. shown_lines (ended_lines (b ∷ bytes)) ++ l) (last_same held (rest_after [] (b ∷ bytes)) e)
-    ∙ sym (map-append seen (ended_lines (b ∷ bytes)) (last_line (rest_after [] (b ∷ bytes))))
+pub lines_end : (b : ℕ) (bytes gathered : Text) → take 10002 gathered ≡ take 10002 (rest_after [] (b ∷ bytes))
+    → shown_lines (ended_lines (b ∷ bytes)) ++ shown_lines (last_line gathered) ≡ shown_lines (lines_of (b ∷ bytes))
+lines_end b bytes gathered e =
+    ap (λ l. shown_lines (ended_lines (b ∷ bytes)) ++ l) (last_same gathered (rest_after [] (b ∷ bytes)) e)
+    ∙ sym (map-append short_line (ended_lines (b ∷ bytes)) (last_line (rest_after [] (b ∷ bytes))))

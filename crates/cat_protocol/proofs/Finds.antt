@@ -1,106 +1,153 @@
 -- What a FIND is answered, from the page of its records.
-use Rattle.std.proofs.Common.{◌≡◌, ℕ, Bool, true, false, cond, List, [], ◌∷◌, map, refl, sym, ap, subst, ◌∙◌, inl, inr}
-use Rattle.std.specs.Prelude.{◌⊎◌, ◌≢◌, Option, Some, Result, Ok, Err, IfOk, IfErr, IsErr, IsErrAnd}
+use Rattle.std.proofs.Common.{◌≡◌, ℕ, Bool, true, false, cond, List, [], ◌∷◌, map, ltb, refl, sym, ap, subst, ◌∙◌, inl, inr}
+use Rattle.std.specs.Prelude.{◌⊎◌, ◌≢◌, Option, Some, None, Result, Ok, Err, IfOk, IfErr}
 use Rattle.cat_base.specs.declared.refusal.Refusal.{Refusal}
-use Rattle.cat_base.specs.declared.refusal.Refusal.TheVariants.{Memory, NotHeld, Query as NoQuery}
+use Rattle.cat_base.specs.declared.refusal.Refusal.TheVariants.{Count, Mark, SortField, Memory, NotHeld, Query as NoQuery}
 use Rattle.cat_model.specs.Text.{Text}
-use Rattle.cat_model.specs.Item.{Schema, Record}
-use Rattle.cat_model.specs.Answer.{Read, Found, answer, query_refusal}
+use Rattle.cat_model.specs.Item.{Schema, Item, Record}
+use Rattle.cat_model.specs.Answer.{Read, Found, answer, can_sort, has_mark}
 use Rattle.cat_model.specs.Faults.{Fault}
 use Rattle.cat_model.specs.Grammar.{Spells}
 use Rattle.cat_model.specs.Heard.{IsQueryOf}
 use Rattle.cat_model.specs.Page.{Sort, Page}
+use Rattle.cat_model.specs.Limits.{page_limit}
 use Rattle.cat_model.specs.Query.{Query, matches}
 use Rattle.cat_model.specs.Run as run
-use Rattle.cat_model.specs.Run.{Command, found_reply, or_not_held}
+use Rattle.cat_model.specs.Run.{found_reply}
 use Rattle.cat_model.specs.State.{has_hold, table_under}
-use Rattle.cat_search.specs.Pages.{answer_where, as_found}
+use Rattle.cat_query.specs.View.{query_of}
+use Rattle.cat_query.specs.declared.query.Query as code
+use Rattle.cat_search.specs.Pages.{answer_where, as_found, page_where}
 use Rattle.cat_search.proofs.Finds.{pages_answer_finds}
-use Rattle.cat_protocol.specs.Exchange.{DoesLine, FindsPage, RefusesFind}
-use Rattle.cat_protocol.specs.Line.{said_of}
-use Rattle.cat_protocol.specs.Reply.{reply_of}
-use Rattle.cat_protocol.specs.World.{Kept, IsCommandOf}
-use Rattle.cat_protocol.specs.declared.line.Line.{Line}
-use Rattle.cat_protocol.specs.declared.reply.Answer.{Answer}
-use Rattle.cat_model.specs.Lines.{Said}
+use Rattle.cat_protocol.specs.Exchange.{DoesFind, IsReadQuery, TellsFound, find_of, page_reply, refusal_told}
+use Rattle.cat_protocol.specs.World.{Service}
+use Rattle.cat_search.specs.declared.ask.Ask.{Ask}
 use Rattle.cat_protocol.proofs.Openings.{is_memory}
+
+-- ---- the answer to a FIND over records
+
+-- what is told of a page by the rules of `page_of` is told of a read
+tells : (due told : Result Page Refusal) → IfOk told (λ p. due ≡ Ok p) → IfErr told (λ e. e ≢ Memory → due ≡ Err e) → IfErr due (λ e. told ≡ Err e) → TellsFound (as_found due) told
+tells due (Ok p) ok err is_due = ap as_found ok
+tells (Ok p) (Err e) ok err is_due =
+    elim (is_memory e) [ inl memory ↦ inr (memory, Found.page p, refl) | inr other ↦ absurd (let same : Ok p ≡ Err e = err other in cc) ]
+tells (Err x) (Err e) ok err is_due = let same : e ≡ x = cc in inl (ap Err (sym same))
 
 map_same : {X : Type 0} (xs : List X) → map (λ x. x) xs ≡ xs
 map_same [] = refl
 map_same (x ∷ xs) = ap (λ ys. x ∷ ys) (map_same xs)
 
--- ---- the answer to a FIND over records
+-- the page or the refusal that is due to a read of the items that pass the test
+abbrev due_page : Schema → List Record → (Item → Bool) → ℕ → Sort → Option ℕ → Result Page Refusal
+due_page schema rs test n sort mark = answer_where schema (map (λ x. x) rs) test sort mark n
 
-module _ (schema : Schema) (rs : List Record) (q : Query) (meant sort : Sort) (mark : Option ℕ) (n : ℕ) (same : meant ≡ sort) where
-  answer_as : (r : Result Page Refusal) → answer_where schema (map (λ x. x) rs) (matches q) meant mark n ≡ r → answer schema rs (Read.find n sort mark (Ok q)) ≡ as_found r
-  answer_as r e =
-      sym (pages_answer_finds schema rs q sort mark n)
-      ∙ ap as_found (sym (λ i. answer_where schema (map_same rs i) (matches q) (same i) mark n) ∙ e)
+due_is : (schema : Schema) (rs : List Record) (q : Query) (n : ℕ) (sort : Sort) (mark : Option ℕ)
+    → as_found (due_page schema rs (matches q) n sort mark) ≡ answer schema rs (Read.find n sort mark (Ok q))
+due_is schema rs q n sort mark = ap (λ us. as_found (answer_where schema us (matches q) sort mark n)) (map_same rs) ∙ pages_answer_finds schema rs q sort mark n
 
-  pub found_of : (r : Result Page Refusal) → IfOk r (λ p. answer_where schema (map (λ x. x) rs) (matches q) meant mark n ≡ Ok p)
-      → IfOk r (λ p. answer schema rs (Read.find n sort mark (Ok q)) ≡ Ok (Found.page p))
-  found_of (Ok p) e = answer_as (Ok p) e
-  found_of (Err x) e = e
+pub tells_found : (schema : Schema) (rs : List Record) (q : Query) (n : ℕ) (sort : Sort) (mark : Option ℕ) (told : Result Page Refusal)
+    → IfOk told (λ p. due_page schema rs (matches q) n sort mark ≡ Ok p) → IfErr told (λ e. e ≢ Memory → due_page schema rs (matches q) n sort mark ≡ Err e)
+    → IfErr (due_page schema rs (matches q) n sort mark) (λ e. told ≡ Err e) → TellsFound (answer schema rs (Read.find n sort mark (Ok q))) told
+tells_found schema rs q n sort mark told ok err is_due =
+    subst (λ a. TellsFound a told) (due_is schema rs q n sort mark) (tells (due_page schema rs (matches q) n sort mark) told ok err is_due)
 
-  refused_as : (e : Refusal) → (e ≢ Memory → answer_where schema (map (λ x. x) rs) (matches q) meant mark n ≡ Err e) → (e ≡ Memory) ⊎ (answer schema rs (Read.find n sort mark (Ok q)) ≡ Err e)
-  refused_as e other = elim (is_memory e) [ inl memory ↦ inl memory | inr not_memory ↦ inr (answer_as (Err e) (other not_memory)) ]
+-- ---- a read whose query found no memory: the refusals of a page don't depend on the test
 
-  pub refused_of : (r : Result Page Refusal) → IfErr r (λ e. e ≢ Memory → answer_where schema (map (λ x. x) rs) (matches q) meant mark n ≡ Err e)
-      → IfErr r (λ e. (e ≡ Memory) ⊎ (answer schema rs (Read.find n sort mark (Ok q)) ≡ Err e))
-  refused_of (Ok p) e = e
-  refused_of (Err x) e = refused_as x e
+same_refusal : (a b c : Bool) (p p' : Page) (e : Refusal) → cond {A = Result Page Refusal} a (Err Count) (cond b (cond c (Ok p) (Err Mark)) (Err SortField)) ≡ Err e
+    → cond {A = Result Page Refusal} a (Err Count) (cond b (cond c (Ok p') (Err Mark)) (Err SortField)) ≡ Err e
+same_refusal true b c p p' e h = h
+same_refusal false false c p p' e h = h
+same_refusal false true false p p' e h = h
+same_refusal false true true p p' e h = absurd (cc)
+
+some_page : (a b c : Bool) (p p' x : Page) → cond {A = Result Page Refusal} a (Err Count) (cond b (cond c (Ok p) (Err Mark)) (Err SortField)) ≡ Ok x
+    → cond {A = Result Page Refusal} a (Err Count) (cond b (cond c (Ok p') (Err Mark)) (Err SortField)) ≡ Ok p'
+some_page true b c p p' x h = absurd (cc)
+some_page false false c p p' x h = absurd (cc)
+some_page false true false p p' x h = absurd (cc)
+some_page false true true p p' x h = refl
+
+carried : (due due' : Result Page Refusal) → ((e : Refusal) → due ≡ Err e → due' ≡ Err e) → ((p : Page) → due ≡ Ok p → (p' : Page) × (due' ≡ Ok p'))
+    → (e : Refusal) → TellsFound (as_found due) (Err e) → TellsFound (as_found due') (Err e)
+carried (Ok p) due' errs oks e (inl same) = absurd (cc)
+carried (Ok p) due' errs oks e (inr (memory, f, is)) = let there = oks p refl in inr (memory, Found.page there.0, ap as_found there.1)
+carried (Err x) due' errs oks e (inl same) = inl (ap as_found (errs x refl) ∙ same)
+carried (Err x) due' errs oks e (inr (memory, f, is)) = absurd (cc)
+
+abbrev refused_page : Refusal → Result Page Refusal
+refused_page e = Err e
+
+module _ (schema : Schema) (rs : List Record) (test : Item → Bool) (n : ℕ) (sort : Sort) (mark : Option ℕ) (q : Query) where
+  abbrev due_here : Result Page Refusal
+  due_here = due_page schema rs test n sort mark
+
+  abbrev due_there : Result Page Refusal
+  due_there = due_page schema rs (matches q) n sort mark
+
+  there_err : (e : Refusal) → due_here ≡ Err e → due_there ≡ Err e
+  there_err e = same_refusal (ltb page_limit n) (can_sort schema sort) (has_mark (map (λ x. x) rs) mark) (page_where (map (λ x. x) rs) test sort mark n) (page_where (map (λ x. x) rs) (matches q) sort mark n) e
+
+  there_ok : (p : Page) → due_here ≡ Ok p → (p' : Page) × (due_there ≡ Ok p')
+  there_ok p h =
+      (page_where (map (λ x. x) rs) (matches q) sort mark n, some_page (ltb page_limit n) (can_sort schema sort) (has_mark (map (λ x. x) rs) mark) (page_where (map (λ x. x) rs) test sort mark n) (page_where (map (λ x. x) rs) (matches q) sort mark n) p h)
+
+  -- a page would be due
+  tells_want : (p : Page) → due_here ≡ Ok p → TellsFound (answer schema rs (Read.find n sort mark (Ok q))) (Err Memory)
+  tells_want p h = let there = there_ok p h in subst (λ a. TellsFound a (Err Memory)) (due_is schema rs q n sort mark) (inr (refl, Found.page there.0, ap as_found there.1))
+
+  -- a refusal is due
+  tells_refusal : (e : Refusal) → (e ≢ Memory → due_here ≡ Err e) → IfErr due_here (λ x. refused_page e ≡ Err x) → TellsFound (answer schema rs (Read.find n sort mark (Ok q))) (Err e)
+  tells_refusal e err is_due =
+      subst (λ a. TellsFound a (Err e)) (due_is schema rs q n sort mark)
+      (carried due_here due_there there_err there_ok e (tells due_here (Err e) tt err is_due))
+
+  -- what is told of another test
+  pub tells_less : (told : Result Page Refusal) → IfOk told (λ p. due_here ≡ Ok p) → IfErr told (λ e. e ≢ Memory → due_here ≡ Err e) → IfErr due_here (λ e. told ≡ Err e)
+      → TellsFound (answer schema rs (Read.find n sort mark (Ok q))) (Err (refusal_told told))
+  tells_less (Ok p) ok err is_due = tells_want p ok
+  tells_less (Err e) ok err is_due = tells_refusal e err is_due
 
 -- ---- the reply to a FIND of a session
 
--- the refusal that a `?` passes on
-pub passed_on : {T : Type 0} (P : Refusal → Type 0) (r : Result T Refusal) (e : Refusal) → IsErr r × IsErrAnd r (λ x. x ≡ e) → P e → IfErr r P
-passed_on P (Ok v) e so p = absurd (cc so.0)
-passed_on P (Err x) e so p = subst P (sym so.1) p
+pub some_query : (schema : Schema) (text : Text) (o : Option code.Query) → IsReadQuery schema text o → (q : Query) × Spells schema text q
+some_query schema text (Some q) spells = (query_of q, spells)
+some_query schema text None is = is
+
+-- a text whose reading stops for want of memory is a query
+pub judged_query : (schema : Schema) (text : Text) (judged : Result Query Refusal) → IsQueryOf schema text judged → {T : Type 0} (r : Result T Refusal)
+    → ((place : ℕ) → Fault schema text place → r ≡ Err (NoQuery place)) → r ≡ Err Memory → (q : Query) × Spells schema text q
+judged_query schema text judged (IsQueryOf.spelled q spells) r due memory = (q, spells)
+judged_query schema text judged (IsQueryOf.faulty place fault) r due memory = absurd (let same = sym memory ∙ due place fault in cc)
 
 either_way : (b : Bool) (e : Refusal) → cond {A = run.Reply} b (Err e) (Err e) ≡ Err e
 either_way true e = refl
 either_way false e = refl
 
-module _ (w : Kept) (s t n : ℕ) (sort : Sort) (mark : Option ℕ) (text : Text) where
+module _ (w : Service) (s t : ℕ) (ask : Ask) (text : Text) where
   -- the text is no query
-  pub refuses_query : (e : Refusal) → (e ≡ Memory) ⊎ ((place : ℕ) × (e ≡ NoQuery place) × Fault w.schema text place) → (e ≡ Memory) ⊎ RefusesFind w s t n sort mark text e
-  refuses_query e (inl memory) = inl memory
-  refuses_query e (inr (place, is, query_refusal)) = inr (Err (NoQuery place), IsQueryOf.faulty place query_refusal, either_way (has_hold w.state.holds s t) (NoQuery place) ∙ ap Err (sym is))
+  pub does_fault : (place : ℕ) → Fault w.schema text place → DoesFind w s t ask text (Err (NoQuery place))
+  does_fault place fault =
+      (Err (NoQuery place), IsQueryOf.faulty place fault, inl (sym (either_way (has_hold w.state.holds s t) (NoQuery place)), refl))
 
-  -- the token is not held
-  pub refuses_token : (q : Query) → Spells w.schema text q → has_hold w.state.holds s t ≡ false → RefusesFind w s t n sort mark text NotHeld
-  refuses_token q spells free = (Ok q, IsQueryOf.spelled q spells, rw free refl)
+  module _ (q : Query) (spells : Spells w.schema text q) where
+    abbrev asked : Read
+    asked = find_of ask (Ok q)
 
-  -- the answer over the table is a refusal
-  refuses_answer : (q : Query) (rs : List Record) (e : Refusal) → Spells w.schema text q → has_hold w.state.holds s t ≡ true → rs ≡ table_under w.state.views t
-      → (e ≡ Memory) ⊎ (answer w.schema rs (Read.find n sort mark (Ok q)) ≡ Err e) → (e ≡ Memory) ⊎ RefusesFind w s t n sort mark text e
-  refuses_answer q rs e spells held same (inl memory) = inl memory
-  refuses_answer q rs e spells held same (inr refused) =
-      let there : answer w.schema (table_under w.state.views t) (Read.find n sort mark (Ok q)) ≡ Err e = ap (λ us. answer w.schema us (Read.find n sort mark (Ok q))) (sym same) ∙ refused in
-      inr (Ok q, IsQueryOf.spelled q spells, ap (λ b. cond b (found_reply (answer w.schema (table_under w.state.views t) (Read.find n sort mark (Ok q)))) (or_not_held (query_refusal (Read.find n sort mark (Ok q))))) held ∙ ap found_reply there)
+    abbrev due : Result Found Refusal
+    due = answer w.schema (table_under w.state.views t) asked
 
-  pub refuses_page : (q : Query) (rs : List Record) (r : Result Page Refusal) → Spells w.schema text q → has_hold w.state.holds s t ≡ true → rs ≡ table_under w.state.views t
-      → IfErr r (λ e. (e ≡ Memory) ⊎ (answer w.schema rs (Read.find n sort mark (Ok q)) ≡ Err e)) → IfErr r (λ e. (e ≡ Memory) ⊎ RefusesFind w s t n sort mark text e)
-  refuses_page q rs (Ok p) spells held same e = e
-  refuses_page q rs (Err x) spells held same e = refuses_answer q rs x spells held same e
+    -- the token is not held
+    pub does_unheld : has_hold w.state.holds s t ≡ false → DoesFind w s t ask text (Err NotHeld)
+    does_unheld free = (Ok q, IsQueryOf.spelled q spells, inl (rw free refl, refl))
 
--- ---- the line of a FIND
+    abbrev reply : Bool → Result Found Refusal → run.Reply
+    reply held found = cond held (found_reply found) (Err NotHeld)
 
-module _ (w : Kept) (line : Line) (t n : ℕ) (sort : Sort) (mark : Option ℕ) (text : Text) (spoken : said_of line.command ≡ Some (Said.find t n sort mark text)) where
-  abbrev asked : Result Query Refusal → Command
-  asked q = Command.read t (Read.find n sort mark q)
-
-  is_asked : (q : Result Query Refusal) → IsQueryOf w.schema text q → IsCommandOf w.schema (said_of line.command) (asked q)
-  is_asked q is = subst (λ said. IsCommandOf w.schema said (asked q)) (sym spoken) (q, is, refl)
-
-  pub does_find : (p : Page) → FindsPage w line.session t n sort mark text p → DoesLine w.schema w.state line (Ok (run.Answer.found (Found.page p))) w.state
-  does_find p (q, spells, reply) = (asked (Ok q), is_asked (Ok q) (IsQueryOf.spelled q spells), inl (sym reply, refl))
-
-  refuses_find : ((q : Result Query Refusal) × IsQueryOf w.schema text q) → (e : Refusal) → (e ≡ Memory) ⊎ RefusesFind w line.session t n sort mark text e → DoesLine w.schema w.state line (Err e) w.state
-  refuses_find judged e (inl memory) = (asked judged.0, is_asked judged.0 judged.1, inr (ap Err memory, refl, refl))
-  refuses_find judged e (inr (q, is, reply)) = (asked q, is_asked q is, inl (sym reply, refl))
-
-  pub does_refuse : ((q : Result Query Refusal) × IsQueryOf w.schema text q) → (r : Result Answer Refusal) (e : Refusal) → IsErr r × IsErrAnd r (λ x. x ≡ e) → (e ≡ Memory) ⊎ RefusesFind w line.session t n sort mark text e
-      → DoesLine w.schema w.state line (reply_of r) w.state
-  does_refuse judged (Ok a) e so refused = absurd (cc so.0)
-  does_refuse judged (Err x) e so refused = subst (λ y. DoesLine w.schema w.state line (Err y) w.state) (sym so.1) (refuses_find judged e refused)
+    -- the token is held, and what is due over its table is told
+    pub does_tell : has_hold w.state.holds s t ≡ true → (told : Result Page Refusal) → TellsFound due told → DoesFind w s t ask text (page_reply told)
+    does_tell held (Ok p) is_due =
+        (Ok q, IsQueryOf.spelled q spells, inl (sym (ap (λ b. reply b due) held ∙ ap found_reply is_due), refl))
+    does_tell held (Err e) (inl is_due) =
+        (Ok q, IsQueryOf.spelled q spells, inl (sym (ap (λ b. reply b due) held ∙ ap found_reply is_due), refl))
+    does_tell held (Err e) (inr (memory, found, is_due)) =
+        (Ok q, IsQueryOf.spelled q spells, inr (ap Err memory, (refl, (run.Answer.found found, w.state, (sym (ap (λ b. reply b due) held ∙ ap found_reply is_due), refl))), refl))

@@ -6,7 +6,7 @@ use Rattle.cat_base.specs.declared.refusal.Refusal.TheVariants.{Line}
 use Rattle.std.specs.Fmt.{decimal}
 use Rattle.cat_model.specs.Text.{Text}
 use Rattle.cat_model.specs.Lines.{Said, SpellsSaid, ShowsSession}
-use Rattle.cat_protocol.specs.Line.{Reads}
+use Rattle.cat_protocol.specs.Line.{SpellsOrShows}
 use Rattle.cat_protocol.specs.Words.{HasNoSpace}
 use Rattle.cat_protocol.proofs.WordsSplit.{space_within, one_split, letters_no_space, one_number, decimal_no_space}
 
@@ -41,7 +41,7 @@ no_command text name rest e none put delete opens close find (Said.find t n sort
 
 -- behind the session stands what the rest spells, or nothing
 pub reads : (text rest : Text) (session : ℕ) (said : Option Said) → session ≤ 9999 → text ≡ decimal session ++ 32 ∷ rest
-    → IfSome said (λ s. SpellsSaid rest s) → IfNone said ((s : Said) → SpellsSaid rest s → ⊥) → Reads text session said
+    → IfSome said (λ s. SpellsSaid rest s) → IfNone said ((s : Said) → SpellsSaid rest s → ⊥) → SpellsOrShows text session said
 reads text rest session (Some s) small e found none = record { small = small; rest = rest; session_first = e; says = found }
 reads text rest session None small e found none = (
   record { small = small; split = inr (rest, e) },

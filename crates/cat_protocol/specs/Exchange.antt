@@ -1,29 +1,29 @@
 -- Lines that were answered, as exchanges of a run.
-use Rattle.std.specs.Prelude.{◌≡◌, ℕ, List, [], ◌∷◌, Option, Result, Ok, Err, cond}
+use Rattle.std.specs.Prelude.{◌≡◌, ◌⊎◌, ℕ, List, [], ◌∷◌, Option, Some, None, Result, Ok, Err}
 use Rattle.cat_base.specs.declared.refusal.Refusal.{Refusal}
+use Rattle.cat_base.specs.declared.refusal.Refusal.TheVariants.{Memory}
 use Rattle.cat_model.specs.Text.{Text}
 use Rattle.cat_model.specs.Item.{Schema}
-use Rattle.cat_model.specs.Answer.{Read, Found, answer, query_refusal}
+use Rattle.cat_model.specs.Answer.{Read, Found}
 use Rattle.cat_model.specs.Grammar.{Spells}
 use Rattle.cat_model.specs.Heard.{IsQueryOf}
-use Rattle.cat_model.specs.Page.{Sort, Page}
+use Rattle.cat_model.specs.Page.{Page}
 use Rattle.cat_model.specs.Query.{Query}
 use Rattle.cat_model.specs.Run as run
-use Rattle.cat_model.specs.Run.{found_reply, or_not_held}
-use Rattle.cat_model.specs.State.{State, has_hold, table_under}
+use Rattle.cat_model.specs.State.{State}
+use Rattle.cat_query.specs.View.{query_of}
+use Rattle.cat_query.specs.declared.query.Query as code
+use Rattle.cat_search.specs.declared.ask.Ask.{Ask}
+use Rattle.cat_search.specs.Sorts.{sort_of}
 use Rattle.cat_protocol.specs.declared.line.Line.{Line}
 use Rattle.cat_protocol.specs.declared.reply.Reply.{Reply}
 use Rattle.cat_protocol.specs.Line.{said_of}
 use Rattle.cat_protocol.specs.Reply.{reply_of}
-use Rattle.cat_protocol.specs.World.{Kept, IsCommandOf, Does}
-
--- the line, which is this command
-abbrev pub line_of : Line → run.Command → run.Line
-line_of line c = record { session = line.session; command = c }
+use Rattle.cat_protocol.specs.World.{Service, IsCommandOf, Does}
 
 -- From old, a service in memory may give this reply to the line and go on to new.
 abbrev pub DoesLine : Schema → State → Line → run.Reply → State → Type 0
-DoesLine schema old line r new = (c : run.Command) × IsCommandOf schema (said_of line.command) c × Does schema old (line_of line c) r new
+DoesLine schema old line r new = (c : run.Command) × IsCommandOf schema (said_of line.command) c × Does schema old line.session c r new
 
 -- the exchange is of this line, with its item, id or query looked at under the schema, and of this reply
 pub record IsExchangeOf (schema : Schema) (line : Line) (answered : Reply) (e : run.Exchange) : Type 0 where
@@ -37,14 +37,31 @@ AreExchanges schema [] [] [] = Unit {0}
 AreExchanges schema (line ∷ lines) (reply ∷ replies) (e ∷ es) = IsExchangeOf schema line reply e × AreExchanges schema lines replies es
 AreExchanges schema _ _ _ = ⊥
 
--- what the service replies to a read of the session under the token, want of memory apart
-abbrev pub read_reply : Kept → ℕ → ℕ → Read → run.Reply
-read_reply w s t asked = cond (has_hold w.state.holds s t) (found_reply (answer w.schema (table_under w.state.views t) asked)) (or_not_held (query_refusal asked))
+-- the text is a query, and this one where there was memory for it
+abbrev pub IsReadQuery : Schema → Text → Option code.Query → Type 0
+IsReadQuery schema text (Some q) = Spells schema text (query_of q)
+IsReadQuery schema text None = (q : Query) × Spells schema text q
 
--- the page that a FIND of this text is answered
-abbrev pub FindsPage : Kept → ℕ → ℕ → ℕ → Sort → Option ℕ → Text → Page → Type 0
-FindsPage w s t n sort mark text page = (q : Query) × Spells w.schema text q × (read_reply w s t (Read.find n sort mark (Ok q)) ≡ Ok (run.Answer.found (Found.page page)))
+-- what a FIND reads
+abbrev pub find_of : Ask → Result Query Refusal → Read
+find_of ask q = Read.find ask.count (sort_of ask.sort) ask.after q
 
--- the refusal of a FIND of this text
-abbrev pub RefusesFind : Kept → ℕ → ℕ → ℕ → Sort → Option ℕ → Text → Refusal → Type 0
-RefusesFind w s t n sort mark text e = (q : Result Query Refusal) × IsQueryOf w.schema text q × (read_reply w s t (Read.find n sort mark q) ≡ Err e)
+-- What is told of a read of a page: what its answer is, or want of memory where that is a page.
+abbrev pub TellsFound : Result Found Refusal → Result Page Refusal → Type 0
+TellsFound answer (Ok p) = answer ≡ Ok (Found.page p)
+TellsFound answer (Err e) = (answer ≡ Err e) ⊎ ((e ≡ Memory) × (f : Found) × (answer ≡ Ok f))
+
+-- the refusal that is told, or want of memory in place of a page
+abbrev pub refusal_told : Result Page Refusal → Refusal
+refusal_told (Ok p) = Memory
+refusal_told (Err e) = e
+
+-- the page that is told, or the refusal
+abbrev pub page_reply : Result Page Refusal → run.Reply
+page_reply (Ok p) = Ok (run.Answer.found (Found.page p))
+page_reply (Err e) = Err e
+
+-- The service may reply so to a FIND of the session, whose text is a query or has a fault. It changes nothing.
+abbrev pub DoesFind : Service → ℕ → ℕ → Ask → Text → run.Reply → Type 0
+DoesFind w s t ask text r =
+    (q : Result Query Refusal) × IsQueryOf w.schema text q × Does w.schema w.state s (run.Command.read t (find_of ask q)) r w.state

@@ -1,18 +1,10 @@
 -- What a line that was read says.
 use Rattle.std.specs.Prelude.{ℕ, Option, Some, None}
 use Rattle.cat_model.specs.Text.{Text}
-use Rattle.cat_model.specs.Page as model
 use Rattle.cat_model.specs.Lines.{Said, ShowsSession, SpellsLine}
-use Rattle.cat_protocol.specs.declared.line.Sort.{Sort}
-use Rattle.cat_protocol.specs.declared.line.Sort.TheVariants.{Added, Rising, Falling}
+use Rattle.cat_search.specs.Sorts.{sort_of}
 use Rattle.cat_protocol.specs.declared.line.Command.{Command}
 use Rattle.cat_protocol.specs.declared.line.Command.TheVariants.{NoForm, Put, Delete, Refresh, Open, Close, Find}
-
--- the order of hits that is said
-abbrev pub sort_of : Sort → model.Sort
-sort_of Added = model.Sort.added
-sort_of (Rising name) = model.Sort.rising name.now
-sort_of (Falling name) = model.Sort.falling name.now
 
 -- what the command says, if it has a form
 abbrev pub said_of : Command → Option Said
@@ -23,9 +15,9 @@ said_of Refresh = Some Said.refresh
 said_of (Open None) = Some Said.open_newest
 said_of (Open (Some token)) = Some (Said.open_at token)
 said_of (Close token) = Some (Said.close token)
-said_of (Find token count sort after query) = Some (Said.find token count (sort_of sort) after query.now)
+said_of (Find token ask query) = Some (Said.find token ask.count (sort_of ask.sort) ask.after query.now)
 
 -- the line spells what is said under its session, or shows a session and spells nothing
-abbrev pub Reads : Text → ℕ → Option Said → Type 0
-Reads line session (Some said) = SpellsLine line session said
-Reads line session None = ShowsSession line session × ((said : Said) → SpellsLine line session said → ⊥)
+abbrev pub SpellsOrShows : Text → ℕ → Option Said → Type 0
+SpellsOrShows line session (Some said) = SpellsLine line session said
+SpellsOrShows line session None = ShowsSession line session × ((said : Said) → SpellsLine line session said → ⊥)

@@ -1,8 +1,10 @@
 -- What is kept of tables and of views.
-use Rattle.std.specs.Prelude.{◌≡◌, ℕ, ◌<◌, ◌≤◌, ◌==◌, min, not, Bool, true, false, List, [], ◌∷◌, filter, Option, None, Some}
+use Rattle.std.specs.Prelude.{◌≡◌, ℕ, ◌<◌, ◌≤◌, ◌==◌, Bool, true, false, cond, length, ltb, min, not, List, [], ◌∷◌, filter, Option, None, Some}
 use Rattle.std.specs.List.{list_all, AllByRecursion}
 use Rattle.cat_model.specs.Item as item
+use Rattle.cat_model.specs.Limits.{view_limit}
 use Rattle.cat_model.specs.State as state
+use Rattle.cat_model.specs.State.{views_without_least_free}
 
 -- the number of each record is below those behind it
 abbrev pub NumbersRise : List item.Record → Type 0
@@ -36,3 +38,7 @@ lesser_of (Some u) t = Some (min u t)
 abbrev pub without_token : Option ℕ → List state.RecordedTable → List state.RecordedTable
 without_token None vs = vs
 without_token (Some t) vs = filter (λ v. not (v.token == t)) vs
+
+-- the views that stay where one more is to be recorded
+abbrev pub views_with_room : (ℕ → Bool) → List state.RecordedTable → List state.RecordedTable
+views_with_room held vs = cond (ltb (length vs) view_limit) vs (views_without_least_free held vs)

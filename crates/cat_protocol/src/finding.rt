@@ -1,18 +1,16 @@
 //! Pages of hits over the records of a view.
-ghost use Rattle.std.specs.Prelude.{◌≡◌, ◌⊎◌, Ok, Err, IfOk, IfErr};
-ghost use Rattle.cat_base.specs.declared.refusal.Refusal.TheVariants.{Memory};
-ghost use Rattle.cat_model.specs.Answer.{Found, Read, answer};
+ghost use Rattle.std.specs.Prelude.{◌≡◌, Ok, Err};
+ghost use Rattle.cat_model.specs.Answer.{answer};
+ghost use Rattle.cat_model.specs.Query as model;
 ghost use Rattle.cat_query.specs.View.{query_of};
-ghost use Rattle.cat_search.specs.Sorts.{sort_meant};
-ghost use Rattle.cat_protocol.specs.Line.{sort_of};
+ghost use Rattle.cat_protocol.specs.Exchange.{TellsFound, find_of, refusal_told};
 ghost use Rattle.cat_protocol.specs.Tables.{AreItems, NumbersRise};
 
-use crate::line::Sort;
 use crate::record::Record;
-use cat_base::{MAX_PAGE, Refusal, Text, WriteNo};
+use cat_base::Refusal;
 use cat_query::Query;
 use cat_schema::{Item, Schema};
-use cat_search::{Accepts, Page, page_of};
+use cat_search::{Accepts, Ask, Page, page_of};
 use std::alloc::Global;
 
 /// A query as the test that the hits of a page pass.
@@ -25,54 +23,61 @@ impl Accepts for Matching {
     ghost use Rattle.cat_model.specs.Query.{matches};
     ghost use Rattle.cat_query.specs.View.{query_of};
 
-    ghost accepted = { λ m. matches (query_of m.query) };
+    ghost test = { λ m. matches (query_of m.query) };
 
     fn accepts(&self, item: &Item) -> bool {
         self.query.accepts(item)
     }
 }
 
-/// The sort with a name of its own.
-fn owned_sort(alloc: Global, sort: Sort) -> Result<cat_search::Sort, Refusal>
-    ensures ok { IfOk result (λ s. sort_meant s ≡ sort_of sort.entry) }
-    ensures err { IfErr result (λ e. e ≡ Memory) }
-{
-    match sort {
-        Sort::Added => Ok(cat_search::Sort::Added),
-        Sort::Rising(name) => Ok(cat_search::Sort::Rising(Text::from_str(alloc, name)?)),
-        Sort::Falling(name) => Ok(cat_search::Sort::Falling(Text::from_str(alloc, name)?)),
+/// A test that no item passes.
+#[derive(Clone, Copy)]
+struct Nothing;
+
+impl Accepts for Nothing {
+    ghost use Rattle.std.specs.Prelude.{false};
+
+    ghost test = { λ n i. false };
+
+    fn accepts(&self, _item: &Item) -> bool {
+        false
     }
 }
 
 /// The first hits of the query behind the mark, at most so many.
 ///
-/// Refuses a count above [`MAX_PAGE`] with `Refusal::Count`, then a field that can't be sorted by with
-/// `Refusal::SortField`, then the mark of no record with `Refusal::Mark`; `Refusal::Memory` is want of memory.
+/// Refuses a count above the limit of a page with `Refusal::Count`, then a field that can't be sorted by with
+/// `Refusal::SortField`, then the mark of no record with `Refusal::Mark`; want of memory comes last.
 pub(crate) fn find_in(
     alloc: Global,
     schema: &Schema,
     records: &[Record],
     query: Query,
-    sort: Sort,
-    after: Option<WriteNo>,
-    count: u64,
+    ask: Ask,
 ) -> Result<Page, Refusal>
     requires rising { NumbersRise records.now }
     requires items { AreItems schema.now records.now }
-    ensures ok { IfOk result (λ p. answer schema.now records.now (Read.find count (sort_of sort.entry) after (Ok (query_of query))) ≡ Ok (Found.page p)) }
-    ensures err { IfErr result (λ e. (e ≡ Memory) ⊎ (answer schema.now records.now (Read.find count (sort_of sort.entry) after (Ok (query_of query))) ≡ Err e)) }
+    ensures { TellsFound (answer schema.now records.now (find_of ask.entry (Ok (query_of query)))) result }
 {
-    if count > MAX_PAGE as u64 {
-        return Err(Refusal::Count);
+    page_of(alloc, schema, records, &Matching { query }, ask)
+}
+
+/// The refusal, or want of memory in place of a page.
+fn refusal_of(told: Result<Page, Refusal>) -> Refusal
+    ensures { result ≡ refusal_told told }
+{
+    match told {
+        Ok(_) => Refusal::Memory,
+        Err(refusal) => refusal,
     }
-    let sort = owned_sort(alloc, sort)?;
-    page_of(
-        alloc,
-        schema,
-        records,
-        &Matching { query },
-        &sort,
-        after,
-        count as usize,
-    )
+}
+
+/// Why a FIND gets no page where memory is wanting for its query: what is wrong with the count, the sort or the mark, or
+/// else the want of memory.
+pub(crate) fn refusal_in(alloc: Global, schema: &Schema, records: &[Record], ask: Ask) -> Refusal
+    requires rising { NumbersRise records.now }
+    requires items { AreItems schema.now records.now }
+    ensures { (q : model.Query) → TellsFound (answer schema.now records.now (find_of ask.entry (Ok q))) (Err result) }
+{
+    refusal_of(page_of(alloc, schema, records, &Nothing, ask))
 }

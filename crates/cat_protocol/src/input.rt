@@ -1,14 +1,14 @@
-//! Lines cut out of bytes that come in pieces, the last of which is held in memory that is taken once.
+//! Lines cut out of bytes that come in pieces, the last of which is gathered in memory that is taken once.
 ghost use Rattle.std.specs.Prelude.{◌≡◌, ◌≢◌, ℕ, ◌<◌, ◌≤◌, ◌++◌, List, [], ◌∷◌, IfSome, IfNone, length, take, slice_index, option_map, vec_capacity};
 ghost use Rattle.std.specs.Io.BufRead.{strip_last};
 ghost use Rattle.cat_model.specs.Text.{Text};
 ghost use Rattle.cat_model.specs.Input.{ended_after, rest_after};
-ghost use Rattle.cat_protocol.specs.Machine.{seen};
+ghost use Rattle.cat_protocol.specs.Machine.{short_line};
 
 use cat_base::MAX_LINE_BYTES;
 
-/// How many bytes of a line are held: enough to see that it is too long, also without a carriage return at its end.
-pub(crate) const HELD: usize = MAX_LINE_BYTES + 2;
+/// How many bytes of a line are gathered: enough to see that it is too long, also without a carriage return at its end.
+pub(crate) const MAX_GATHERED: usize = MAX_LINE_BYTES + 2;
 
 const LINE_FEED: u8 = b'\n';
 
@@ -38,17 +38,17 @@ pub(crate) fn split_line(bytes: &[u8]) -> Option<(&[u8], &[u8])>
     Some((piece, &more[1..]))
 }
 
-/// Adds to what is held of a line as many of its next bytes as there is room for.
-pub(crate) fn hold(held: &mut Vec<u8>, bytes: &[u8])
-    requires room { HELD ≤ vec_capacity held.old }
-    requires short { length held.old.items ≤ HELD }
-    ensures items { held.new.items ≡ take HELD (held.old.items ++ bytes.now) }
-    ensures room { HELD ≤ vec_capacity held.new }
-    ensures short { length held.new.items ≤ HELD }
+/// Adds to what was gathered of a line as many of its next bytes as there is room for.
+pub(crate) fn gather(gathered: &mut Vec<u8>, bytes: &[u8])
+    requires room { MAX_GATHERED ≤ vec_capacity gathered.old }
+    requires short { length gathered.old.items ≤ MAX_GATHERED }
+    ensures items { gathered.new.items ≡ take MAX_GATHERED (gathered.old.items ++ bytes.now) }
+    ensures room { MAX_GATHERED ≤ vec_capacity gathered.new }
+    ensures short { length gathered.new.items ≤ MAX_GATHERED }
 {
-    let room = HELD - held.len();
+    let room = MAX_GATHERED - gathered.len();
     let count = room.min(bytes.len());
-    let Ok(()) = held.extend_from_slice(&bytes[..count]) else {
+    let Ok(()) = gathered.extend_from_slice(&bytes[..count]) else {
         unreachable!()
     };
 }
@@ -65,7 +65,7 @@ pub(crate) fn without_return(line: &[u8]) -> &[u8]
 
 /// The line, unless it is too long to be read.
 pub(crate) fn if_short(line: &[u8]) -> Option<&[u8]>
-    ensures { option_map (λ l. l.now) result ≡ seen line.now }
+    ensures { option_map (λ l. l.now) result ≡ short_line line.now }
 {
     (line.len() <= MAX_LINE_BYTES).then_some(line)
 }

@@ -2,21 +2,21 @@
 #![tactic(auto)]
 
 mod finding;
+mod holds;
 mod input;
 mod line;
 mod machine;
 mod output;
 mod record;
+mod recorded;
 mod reply;
 mod serving;
 mod tables;
-mod views;
 mod words;
 mod world;
 
-pub use line::{Command, Line, Sort};
+pub use line::{Command, Line};
 pub use machine::serve;
-pub use record::Record;
 pub use reply::{Answer, Reply};
 pub use serving::ServeFault;
 pub use world::World;

@@ -5,25 +5,17 @@ ghost use Rattle.cat_model.specs.Text.{Text};
 ghost use Rattle.cat_model.specs.Page as model;
 ghost use Rattle.cat_model.specs.Lines.{Said, SpellsSaid, ShowsSession};
 ghost use Rattle.cat_model.specs.Served.{SpellsSchema};
-ghost use Rattle.cat_protocol.specs.Line.{sort_of, said_of, Reads};
+ghost use Rattle.cat_model.specs.Limits.{session_limit};
+ghost use Rattle.cat_protocol.specs.Line.{said_of, SpellsOrShows};
 ghost use Rattle.cat_protocol.specs.Words.{SpellsFind};
+ghost use Rattle.cat_search.specs.Sorts.{sort_of};
 
 use crate::words::{number, split_mark, split_number, split_sort, split_word};
 use cat_base::{
     GREATEST_MERGE_FACTOR, GREATEST_MERGE_MINIMUM, LAST_SESSION, LEAST_MERGE_FACTOR,
-    LEAST_MERGE_MINIMUM, Refusal, SessionNo, Token, WriteNo,
+    LEAST_MERGE_MINIMUM, Refusal, SessionNo, Token,
 };
-
-/// The order of hits, as it is said: a name has the form of a field's, and no schema has been looked at.
-#[derive(Clone, Copy, Debug, PartialEq, Eq)]
-pub enum Sort<'a> {
-    /// In order of addition: Lucene's `Sort.INDEXORDER`.
-    Added,
-    /// By the field of the name, the least value first.
-    Rising(&'a str),
-    /// By the field of the name, the greatest value first.
-    Falling(&'a str),
-}
+use cat_search::Ask;
 
 /// A command with its arguments as they came: no item, id or query has been looked at.
 #[derive(Clone, Copy, Debug, PartialEq, Eq)]
@@ -38,11 +30,7 @@ pub enum Command<'a> {
     Close(Token),
     Find {
         token: Token,
-        /// How many hits to show.
-        count: u64,
-        sort: Sort<'a>,
-        /// The hits to show come after this record: the `after` of Lucene's `IndexSearcher.searchAfter`.
-        after: Option<WriteNo>,
+        ask: Ask<'a>,
         query: &'a str,
     },
 }
@@ -62,7 +50,7 @@ impl<'a> Line<'a> {
     ///
     /// `Refusal::Line` says that no session can be read.
     pub fn read(text: &'a str) -> Result<Line<'a>, Refusal>
-        ensures found { IfOk result (λ line. Reads text.now line.session (said_of line.command)) }
+        ensures found { IfOk result (λ line. SpellsOrShows text.now line.session (said_of line.command)) }
         ensures none { IfErr result (λ e. (e ≡ Refusal.Line) × ((session : ℕ) → ShowsSession text.now session → ⊥)) }
     {
         let Some((first, rest)) = split_word(text) else {
@@ -82,8 +70,8 @@ impl<'a> Line<'a> {
 
 /// The session that the word spells.
 fn session_of(word: &str) -> Result<SessionNo, Refusal>
-    ensures found { IfOk result (λ session. (session ≤ 9999) × (word.now ≡ decimal session)) }
-    ensures none { IfErr result (λ e. (e ≡ Refusal.Line) × ((session : ℕ) → session ≤ 9999 → word.now ≡ decimal session → ⊥)) }
+    ensures found { IfOk result (λ session. (session ≤ session_limit) × (word.now ≡ decimal session)) }
+    ensures none { IfErr result (λ e. (e ≡ Refusal.Line) × ((session : ℕ) → session ≤ session_limit → word.now ≡ decimal session → ⊥)) }
 {
     match number(word) {
         Some(session) if session <= LAST_SESSION as u64 => Ok(session as SessionNo),
@@ -115,45 +103,25 @@ fn command_of(text: &str) -> Command<'_>
             None => Command::NoForm,
         },
         "FIND" => match find_of(rest) {
-            Some(find) => Command::Find {
-                token: find.token,
-                count: find.count,
-                sort: find.sort,
-                after: find.after,
-                query: find.query,
-            },
+            Some((token, ask, query)) => Command::Find { token, ask, query },
             None => Command::NoForm,
         },
         _ => Command::NoForm,
     }
 }
 
-/// The arguments of a FIND.
-#[derive(Drop)]
-struct Find<'a> {
-    token: Token,
-    count: u64,
-    sort: Sort<'a>,
-    after: Option<WriteNo>,
-    query: &'a str,
-}
-
-/// The arguments of a FIND that the text spells.
-fn find_of(text: &str) -> Option<Find<'_>>
-    ensures found { IfSome result (λ find. SpellsFind text.now find.token find.count (sort_of find.sort) find.after find.query.now) }
-    ensures none { IfNone result ((token count : ℕ) (sort : model.Sort) (mark : Option ℕ) (query : Text) → SpellsFind text.now token count sort mark query → ⊥) }
+/// The arguments of a FIND that the text spells: the token, what is asked for, and the query.
+fn find_of(text: &str) -> Option<(Token, Ask<'_>, &str)>
+    ensures found { IfSome result (λ find. SpellsFind text.now find.0 find.1.count (sort_of find.1.sort) find.1.after find.2.now) }
+    ensures none { IfNone result ((token count : ℕ) (sort : model.Sort) (mark : Option ℕ) (query : Text)
+        → SpellsFind text.now token count sort mark query → ⊥) }
 {
     let (token, rest) = split_number(text)?;
     let (count, rest) = split_number(rest)?;
     let (sort, rest) = split_sort(rest)?;
     let (after, query) = split_mark(rest)?;
-    Some(Find {
-        token,
-        count,
-        sort,
-        after,
-        query,
-    })
+    let ask = Ask { sort, after, count };
+    Some((token, ask, query))
 }
 
 /// What a schema line says.

@@ -36,24 +36,28 @@ impl World {
     /// A service without items under the schema that the line gives, as
     /// `SCHEMA 2 1 {"price":"number"}`: a factor of merges (2 to 100), their minimum (1 to 100,000), and the schema.
     ///
-    /// Refuses with `Line` what isn't of that form, with `Json` or `Kind` what is no schema.
+    /// Refuses with `Line` what isn't of that form, or is longer than a line may be; with `Json` or `Kind` what is no schema.
+    /// Want of memory can be told only of a line of the form.
     pub fn open(alloc: Global, line: &str) -> Result<World, Refusal>
-        ensures { IsReadable line.now → OpensWorld line.now result }
+        ensures { OpensWorld line.now result }
     {
+        if MAX_LINE_BYTES < line.len() {
+            return Err(Refusal::Line);
+        }
         let Some(found) = schema_line(line) else {
             return Err(Refusal::Line);
         };
         let schema = Schema::read(alloc, found.json.as_bytes())?;
-        World::new(alloc, schema)
+        Ok(World::new(alloc, schema)?)
     }
 }
 
 impl Machine for World {
-    ghost use Rattle.cat_protocol.specs.World.{OpensSeen, StepsSeen};
+    ghost use Rattle.cat_protocol.specs.World.{OpensIfShort, StepsIfShort};
 
-    ghost opens = { OpensSeen };
+    ghost opens = { OpensIfShort };
 
-    ghost step = { StepsSeen };
+    ghost step = { StepsIfShort };
 
     ghost token = { λ w. w.state.count };
 

@@ -9,7 +9,7 @@ ghost use Rattle.cat_model.specs.Answer.{Found};
 ghost use Rattle.cat_model.specs.Run as run;
 ghost use Rattle.cat_protocol.specs.Out.{Sent};
 ghost use Rattle.cat_protocol.specs.Reply.{answer_of, reply_of};
-ghost use Rattle.cat_search.specs.Keys.{key_meant};
+ghost use Rattle.cat_search.specs.Keys.{key_of};
 
 use crate::reply::{Answer, Reply};
 use cat_base::{Refusal, SessionNo, Token};
@@ -173,7 +173,7 @@ fn send_entry<W: Write>(session: SessionNo, entry: &Entry, to: &mut W) -> Result
 /// Writes what a hit was sorted by: a number in decimal, a keyword behind `=`, and a dot where there is neither.
 fn send_key<W: Write>(key: Option<&Key>, to: &mut W) -> Result<(), WriteFault>
     ensures { Sent (W.contents to.old) (W.contents to.new) result
-        (key_text (option_map (λ k. key_meant k.now) key.entry)) }
+        (key_text (option_map (λ k. key_of k.now) key.entry)) }
 {
     match key {
         None => send(b".", to),

@@ -1,17 +1,17 @@
 //! An item under the number of the write that put it.
-ghost use Rattle.std.specs.Prelude.{◌≡◌, IfOk, IfErr};
+ghost use Rattle.std.specs.Prelude.{◌≡◌, IfOk};
 ghost use Rattle.std.specs.Arc.{arc_value};
-ghost use Rattle.cat_base.specs.declared.refusal.Refusal.TheVariants.{Memory};
 
-use cat_base::{Refusal, WriteNo};
+use cat_base::WriteNo;
 use cat_schema::Item;
 use cat_search::Numbered;
+use std::alloc::AllocError;
 use std::marker::Model;
 use std::sync::Arc;
 
 /// An item and its place in the order of addition. The item is shared by the views that show it.
 #[derive(Drop)]
-pub struct Record {
+pub(crate) struct Record {
     number: WriteNo,
     item: Arc<Item>,
 }
@@ -32,22 +32,21 @@ impl Record {
         Record { number, item }
     }
 
-    pub fn number(&self) -> WriteNo
+    pub(crate) fn number(&self) -> WriteNo
         ensures { result ≡ self.now.number }
     {
         self.number
     }
 
-    pub fn item(&self) -> &Item
+    pub(crate) fn item(&self) -> &Item
         ensures { result.now ≡ self.now.item }
     {
         &self.item
     }
 
     /// The same record, which shares the item.
-    pub fn copy(&self) -> Result<Record, Refusal>
+    pub(crate) fn copy(&self) -> Result<Record, AllocError>
         ensures ok { IfOk result (λ r. r ≡ self.now) }
-        ensures refusal { IfErr result (λ e. e ≡ Memory) }
     {
         Ok(Record {
             number: self.number,
@@ -57,7 +56,7 @@ impl Record {
 }
 
 impl Numbered for Record {
-    ghost meant = { λ r. r };
+    ghost record_of = { λ r. r };
 
     fn number(&self) -> WriteNo {
         self.number

@@ -2,7 +2,7 @@
 use crate::output::{WriteFault, send_reply};
 use cat_base::{Refusal, SessionNo};
 use cat_search::Page;
-use std::alloc::Global;
+use std::alloc::{AllocError, Global};
 
 /// What stands behind `OK`.
 #[derive(Drop)]
@@ -23,22 +23,19 @@ pub struct Reply {
 }
 
 impl Reply {
-    ghost use Rattle.std.specs.Prelude.{◌≡◌, IfOk, IfErr};
-    ghost use Rattle.cat_base.specs.declared.refusal.Refusal.TheVariants.{Memory};
+    ghost use Rattle.std.specs.Prelude.{◌≡◌, IfOk};
     ghost use Rattle.cat_model.specs.Lines.{reply_text};
     ghost use Rattle.cat_protocol.specs.Reply.{reply_of};
 
-    /// The lines of the reply, each with its line feed: the first, and one for each entry of a page. The only error is
-    /// want of memory.
-    pub fn text(&self, alloc: Global) -> Result<Vec<u8>, Refusal>
+    /// The lines of the reply, each with its line feed: the first, and one for each entry of a page.
+    pub fn text(&self, alloc: Global) -> Result<Vec<u8>, AllocError>
         ensures ok { IfOk result (λ t. t.items ≡ reply_text self.now.session (reply_of self.now.answer)) }
-        ensures refusal { IfErr result (λ e. e ≡ Memory) }
     {
         let mut text = Vec::new(alloc);
         match send_reply(self, &mut text) {
             Ok(()) => Ok(text),
             // A vector refuses bytes only where it can't grow.
-            Err(WriteFault) => Err(Refusal::Memory),
+            Err(WriteFault) => Err(AllocError),
         }
     }
 }

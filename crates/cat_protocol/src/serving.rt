@@ -4,11 +4,11 @@ ghost use Rattle.cat_base.specs.declared.refusal.Refusal.{Refusal};
 ghost use Rattle.cat_model.specs.Text.{Text};
 ghost use Rattle.cat_model.specs.Input.{ended_after, rest_after};
 ghost use Rattle.cat_model.specs.Served.{Outcome, outcome_text, refused_text, ServesBy};
-ghost use Rattle.cat_protocol.specs.Machine.{seen, IsAnswered};
+ghost use Rattle.cat_protocol.specs.Machine.{short_line, IsAnswered};
 ghost use Rattle.cat_protocol.specs.Out.{Sent};
 ghost use Rattle.cat_protocol.specs.Serving.{ended_as, Comes, IsRefusedAs, OpensBy, Says, ServesLines, last_lines};
 
-use crate::input::{HELD, hold, if_short, split_line, without_return};
+use crate::input::{MAX_GATHERED, gather, if_short, split_line, without_return};
 use crate::output::{WriteFault, flush, send_opened, send_refused};
 use cat_base::Refusal;
 use std::alloc::Global;
@@ -96,7 +96,7 @@ fn serve_line<M: Machine, W: Write>(
     line: &[u8],
     to: &mut W,
 ) -> Result<(), ServeFault>
-    ensures { ServesLines (Says M.opens M.step M.token) machine.old (seen line.now ∷ []) machine.new
+    ensures { ServesLines (Says M.opens M.step M.token) machine.old (short_line line.now ∷ []) machine.new
         (W.contents to.old) (W.contents to.new) result }
 {
     let given = if_short(line);
@@ -107,30 +107,30 @@ fn serve_line<M: Machine, W: Write>(
     Ok(())
 }
 
-/// Answers the lines that the next bytes end, and holds what comes after the last line feed.
+/// Answers the lines that the next bytes end, and gathers what comes after the last line feed.
 fn feed<M: Machine, W: Write>(
     alloc: Global,
     machine: &mut Option<M>,
-    held: &mut Vec<u8>,
+    gathered: &mut Vec<u8>,
     bytes: &[u8],
     to: &mut W,
 ) -> Result<(), ServeFault>
-    requires room { HELD ≤ vec_capacity held.old }
-    requires short { length held.old.items ≤ HELD }
+    requires room { MAX_GATHERED ≤ vec_capacity gathered.old }
+    requires short { length gathered.old.items ≤ MAX_GATHERED }
     ensures served { ServesLines (Says M.opens M.step M.token) machine.old
-        (map seen (ended_after held.old.items bytes.now)) machine.new (W.contents to.old) (W.contents to.new) result }
-    ensures held { OnOk result (take HELD held.new.items ≡ take HELD (rest_after held.old.items bytes.now)) }
-    ensures room { HELD ≤ vec_capacity held.new }
-    ensures short { length held.new.items ≤ HELD }
+        (map short_line (ended_after gathered.old.items bytes.now)) machine.new (W.contents to.old) (W.contents to.new) result }
+    ensures gathered { OnOk result (take MAX_GATHERED gathered.new.items ≡ take MAX_GATHERED (rest_after gathered.old.items bytes.now)) }
+    ensures room { MAX_GATHERED ≤ vec_capacity gathered.new }
+    ensures short { length gathered.new.items ≤ MAX_GATHERED }
 {
     let mut rest = bytes;
     'lines: while let Some((piece, more)) = split_line(rest) {
-        hold(held, piece);
-        serve_line(alloc, machine, without_return(held.as_slice()), to)?;
-        held.clear();
+        gather(gathered, piece);
+        serve_line(alloc, machine, without_return(gathered.as_slice()), to)?;
+        gathered.clear();
         rest = more;
     }
-    hold(held, rest);
+    gather(gathered, rest);
     Ok(())
 }
 
@@ -138,16 +138,16 @@ fn feed<M: Machine, W: Write>(
 fn serve_last<M: Machine, W: Write>(
     alloc: Global,
     machine: &mut Option<M>,
-    held: &[u8],
+    gathered: &[u8],
     to: &mut W,
 ) -> Result<(), ServeFault>
-    ensures { ServesLines (Says M.opens M.step M.token) machine.old (map seen (last_lines machine.old held.now)) machine.new
+    ensures { ServesLines (Says M.opens M.step M.token) machine.old (map short_line (last_lines machine.old gathered.now)) machine.new
         (W.contents to.old) (W.contents to.new) result }
 {
-    if machine.is_some() && held.is_empty() {
+    if machine.is_some() && gathered.is_empty() {
         return Ok(());
     }
-    serve_line(alloc, machine, held, to)
+    serve_line(alloc, machine, gathered, to)
 }
 
 /// What a call of the reader brought.
@@ -177,24 +177,24 @@ fn serve_within<M: Machine, R: Read, W: Write>(
     alloc: Global,
     reader: &mut R,
     writer: &mut W,
-    held: &mut Vec<u8>,
+    gathered: &mut Vec<u8>,
     chunk: &mut [u8],
 ) -> Result<(), ServeFault>
     requires some { 0 < length chunk.old }
-    requires room { HELD ≤ vec_capacity held.old }
-    requires empty { held.old.items ≡ [] }
-    ensures { ServesBy (IsAnswered M.opens M.step M.token) (λ first e. M.opens (seen first) (Err e))
+    requires room { MAX_GATHERED ≤ vec_capacity gathered.old }
+    requires empty { gathered.old.items ≡ [] }
+    ensures { ServesBy (IsAnswered M.opens M.step M.token) (λ first e. M.opens (short_line first) (Err e))
         (R.remaining reader.old) (R.remaining reader.new) (W.contents writer.old) (W.contents writer.new) (ended_as result) }
 {
     let mut machine: Option<M> = None;
     'reads: for _ in 0..u32::MAX {
         flush(writer)?;
         match read_some(reader, chunk) {
-            Came::Bytes(n) => feed(alloc, &mut machine, held, &chunk[..n], writer)?,
+            Came::Bytes(n) => feed(alloc, &mut machine, gathered, &chunk[..n], writer)?,
             Came::Nothing => continue,
             Came::Fault => return Err(ServeFault::Read),
             Came::End => {
-                serve_last(alloc, &mut machine, held.as_slice(), writer)?;
+                serve_last(alloc, &mut machine, gathered.as_slice(), writer)?;
                 flush(writer)?;
                 return Ok(());
             }
@@ -213,14 +213,14 @@ pub(crate) fn serve_machine<M: Machine, R: Read, W: Write>(
     reader: &mut R,
     writer: &mut W,
 ) -> Result<(), ServeFault>
-    ensures { ServesBy (IsAnswered M.opens M.step M.token) (λ first e. M.opens (seen first) (Err e))
+    ensures { ServesBy (IsAnswered M.opens M.step M.token) (λ first e. M.opens (short_line first) (Err e))
         (R.remaining reader.old) (R.remaining reader.new) (W.contents writer.old) (W.contents writer.new) (ended_as result) }
 {
-    let Ok(mut held) = Vec::with_capacity(alloc, HELD) else {
+    let Ok(mut gathered) = Vec::with_capacity(alloc, MAX_GATHERED) else {
         return Err(refuse(Refusal::Memory, writer));
     };
     let Ok(mut chunk) = vec![in alloc; 0; CHUNK] else {
         return Err(refuse(Refusal::Memory, writer));
     };
-    serve_within::<M, R, W>(alloc, reader, writer, &mut held, chunk.as_mut_slice())
+    serve_within::<M, R, W>(alloc, reader, writer, &mut gathered, chunk.as_mut_slice())
 }

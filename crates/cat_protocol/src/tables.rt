@@ -1,11 +1,9 @@
 //! Tables of records, in order of addition.
-ghost use Rattle.std.specs.Prelude.{◌≡◌, ◌≤◌, IfOk, IfErr, filter, not, vec_len, vec_capacity};
-ghost use Rattle.cat_base.specs.declared.refusal.Refusal.TheVariants.{Memory};
+ghost use Rattle.std.specs.Prelude.{◌≡◌, ◌≤◌, IfOk, filter, not, vec_len, vec_capacity};
 ghost use Rattle.cat_model.specs.Text.{same_text};
 
 use crate::record::Record;
-use cat_base::Refusal;
-use std::alloc::Global;
+use std::alloc::{AllocError, Global};
 
 /// Takes the record of the id out, if there is one.
 pub(crate) fn remove_id(records: &mut Vec<Record>, id: &str)
@@ -17,9 +15,8 @@ pub(crate) fn remove_id(records: &mut Vec<Record>, id: &str)
 }
 
 /// The same records, which share their items.
-pub(crate) fn copy_records(alloc: Global, records: &[Record]) -> Result<Vec<Record>, Refusal>
+pub(crate) fn copy_records(alloc: Global, records: &[Record]) -> Result<Vec<Record>, AllocError>
     ensures ok { IfOk result (λ copies. copies.items ≡ records.now) }
-    ensures err { IfErr result (λ e. e ≡ Memory) }
 {
     let mut copies = Vec::with_capacity(alloc, records.len())?;
     for record in records {

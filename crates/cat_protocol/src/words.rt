@@ -4,12 +4,12 @@ ghost use Rattle.std.specs.Fmt.{decimal};
 ghost use Rattle.cat_model.specs.Text.{Text};
 ghost use Rattle.cat_model.specs.Page as model;
 ghost use Rattle.cat_model.specs.Lines.{IsNumber, IsSort, IsMark, sort_text, mark_text};
-ghost use Rattle.cat_protocol.specs.Line.{sort_of};
+ghost use Rattle.cat_search.specs.Sorts.{sort_of};
 ghost use Rattle.cat_protocol.specs.Words.{HasNoSpace};
 
-use crate::line::Sort;
 use cat_base::{LAST_NUMBER, WriteNo};
 use cat_schema::has_name_form;
+use cat_search::Sort;
 
 /// The text before the first space, and the text behind it.
 pub(crate) fn split_word(text: &str) -> Option<(&str, &str)>

@@ -14,26 +14,23 @@ const PRICED: Rows<'static> = &[
 
 #[test]
 fn a_page_shows_the_key_that_it_is_sorted_by(rt: HostRuntime) -> Result<(), Fail> {
-    expect_rows(
-        &rt,
-        rt.alloc(),
-        &[
-            (
-                "2 PUT {\"id\":\"a\",\"price\":5,\"color\":[\"red\"]}",
-                "2 OK 1",
-            ),
-            ("2 REFRESH", "2 OK 1"),
-            ("3 OPEN", "3 OK 1"),
-            ("3 FIND 1 10 +price . *:*", "3 OK 1 1\n3 1 a 5"),
-        ],
-    )
+    const ROWS: Rows<'static> = &[
+        (
+            "2 PUT {\"id\":\"a\",\"price\":5,\"color\":[\"red\"]}",
+            "2 OK 1",
+        ),
+        ("2 REFRESH", "2 OK 1"),
+        ("3 OPEN", "3 OK 1"),
+        ("3 FIND 1 10 +price . *:*", "3 OK 1 1\n3 1 a 5"),
+    ];
+    expect_rows(&rt, rt.alloc(), ROWS)
 }
 
 #[test]
 fn ties_go_by_number_and_a_missing_value_is_last(rt: HostRuntime) -> Result<(), Fail> {
     let mut script = Script::shop(rt.alloc())?;
     script.rows(PRICED)?;
-    script.rows(&[
+    const ROWS: Rows<'static> = &[
         (
             "1 FIND 4 9 +price . *:*",
             "1 OK 4 4\n1 4 d 2\n1 1 a 7\n1 3 c 7\n1 2 b .",
@@ -48,7 +45,8 @@ fn ties_go_by_number_and_a_missing_value_is_last(rt: HostRuntime) -> Result<(), 
         ("1 FIND 4 9 +title . *:*", "1 NO 28"),
         ("1 FIND 4 9 +id . *:*", "1 NO 28"),
         ("1 FIND 4 9 +size . *:*", "1 NO 28"),
-    ])?;
+    ];
+    script.rows(ROWS)?;
     script.expect(&rt, rt.alloc(), Ok(()))
 }
 
@@ -56,71 +54,66 @@ fn ties_go_by_number_and_a_missing_value_is_last(rt: HostRuntime) -> Result<(), 
 fn a_mark_is_any_record_and_the_total_counts_all(rt: HostRuntime) -> Result<(), Fail> {
     let mut script = Script::shop(rt.alloc())?;
     script.rows(PRICED)?;
-    script.rows(&[
+    const ROWS: Rows<'static> = &[
         ("1 FIND 4 2 +price . *:*", "1 OK 2 4\n1 4 d 2\n1 1 a 7"),
         ("1 FIND 4 2 +price 1 *:*", "1 OK 2 4\n1 3 c 7\n1 2 b ."),
         ("1 FIND 4 2 +price 2 *:*", "1 OK 0 4"),
         ("1 FIND 4 2 +price 99 *:*", "1 NO 23"),
         ("1 FIND 4 9 +price 4 price:7", "1 OK 2 2\n1 1 a 7\n1 3 c 7"),
         ("1 FIND 4 9 . 2 *:*", "1 OK 2 4\n1 3 c .\n1 4 d ."),
-    ])?;
+    ];
+    script.rows(ROWS)?;
     script.expect(&rt, rt.alloc(), Ok(()))
 }
 
 #[test]
 fn words_are_lowered_and_kept_whole(rt: HostRuntime) -> Result<(), Fail> {
-    expect_rows(
-        &rt,
-        rt.alloc(),
-        &[
-            (
-                "1 PUT {\"id\":\"a\",\"title\":\"Red-Shoe 42é\",\"brand\":\"Acme\"}",
-                "1 OK 1",
-            ),
-            (
-                "1 PUT {\"id\":\"b\",\"title\":\"shoes\",\"brand\":\"Zed\"}",
-                "1 OK 2",
-            ),
-            ("1 REFRESH", "1 OK 2"),
-            ("1 OPEN", "1 OK 2"),
-            ("1 FIND 2 9 . . title:RED", "1 OK 1 1\n1 1 a ."),
-            ("1 FIND 2 9 . . title:sho*", "1 OK 2 2\n1 1 a .\n1 2 b ."),
-            ("1 FIND 2 9 . . title:42", "1 OK 0 0"),
-            (
-                "1 FIND 2 9 . . +brand:[B TO *] title:red",
-                "1 OK 1 1\n1 2 b .",
-            ),
-            (
-                "1 FIND 2 9 -brand . *:*",
-                "1 OK 2 2\n1 2 b =Zed\n1 1 a =Acme",
-            ),
-        ],
-    )
+    const ROWS: Rows<'static> = &[
+        (
+            "1 PUT {\"id\":\"a\",\"title\":\"Red-Shoe 42é\",\"brand\":\"Acme\"}",
+            "1 OK 1",
+        ),
+        (
+            "1 PUT {\"id\":\"b\",\"title\":\"shoes\",\"brand\":\"Zed\"}",
+            "1 OK 2",
+        ),
+        ("1 REFRESH", "1 OK 2"),
+        ("1 OPEN", "1 OK 2"),
+        ("1 FIND 2 9 . . title:RED", "1 OK 1 1\n1 1 a ."),
+        ("1 FIND 2 9 . . title:sho*", "1 OK 2 2\n1 1 a .\n1 2 b ."),
+        ("1 FIND 2 9 . . title:42", "1 OK 0 0"),
+        (
+            "1 FIND 2 9 . . +brand:[B TO *] title:red",
+            "1 OK 1 1\n1 2 b .",
+        ),
+        (
+            "1 FIND 2 9 -brand . *:*",
+            "1 OK 2 2\n1 2 b =Zed\n1 1 a =Acme",
+        ),
+    ];
+    expect_rows(&rt, rt.alloc(), ROWS)
 }
 
 #[test]
 fn clauses_are_musts_must_nots_and_shoulds(rt: HostRuntime) -> Result<(), Fail> {
-    expect_rows(
-        &rt,
-        rt.alloc(),
-        &[
-            (
-                "1 PUT {\"id\":\"a\",\"brand\":\"x\",\"price\":-3}",
-                "1 OK 1",
-            ),
-            ("1 PUT {\"id\":\"b\",\"brand\":\"y\"}", "1 OK 2"),
-            ("1 REFRESH", "1 OK 2"),
-            ("1 OPEN", "1 OK 2"),
-            ("1 FIND 2 9 . . price:[* TO 0]", "1 OK 1 1\n1 1 a ."),
-            (
-                "1 FIND 2 9 . . *:* -(-brand:x)",
-                "1 OK 2 2\n1 1 a .\n1 2 b .",
-            ),
-            ("1 FIND 2 9 . . (-brand:y)", "1 OK 0 0"),
-            ("1 FIND 2 9 . . price:[3 TO -3]", "1 OK 0 0"),
-            ("1 FIND 2 9 +price . *:*", "1 OK 2 2\n1 1 a -3\n1 2 b ."),
-        ],
-    )
+    const ROWS: Rows<'static> = &[
+        (
+            "1 PUT {\"id\":\"a\",\"brand\":\"x\",\"price\":-3}",
+            "1 OK 1",
+        ),
+        ("1 PUT {\"id\":\"b\",\"brand\":\"y\"}", "1 OK 2"),
+        ("1 REFRESH", "1 OK 2"),
+        ("1 OPEN", "1 OK 2"),
+        ("1 FIND 2 9 . . price:[* TO 0]", "1 OK 1 1\n1 1 a ."),
+        (
+            "1 FIND 2 9 . . *:* -(-brand:x)",
+            "1 OK 2 2\n1 1 a .\n1 2 b .",
+        ),
+        ("1 FIND 2 9 . . (-brand:y)", "1 OK 0 0"),
+        ("1 FIND 2 9 . . price:[3 TO -3]", "1 OK 0 0"),
+        ("1 FIND 2 9 +price . *:*", "1 OK 2 2\n1 1 a -3\n1 2 b ."),
+    ];
+    expect_rows(&rt, rt.alloc(), ROWS)
 }
 
 #[test]
@@ -129,19 +122,16 @@ fn a_query_has_at_most_64_clauses_and_8_groups(rt: HostRuntime) -> Result<(), Fa
     let clauses = "*:* ".repeat(alloc, 63)?;
     let most = format!(in alloc; "1 FIND 1 9 . . {}*:*", clauses.as_str())?;
     let more = format!(in alloc; "1 FIND 1 9 . . {}*:* *:*", clauses.as_str())?;
-    expect_rows(
-        &rt,
-        alloc,
-        &[
-            ("1 PUT {\"id\":\"a\"}", "1 OK 1"),
-            ("1 REFRESH", "1 OK 1"),
-            ("1 OPEN", "1 OK 1"),
-            (most.as_str(), "1 OK 1 1\n1 1 a ."),
-            (more.as_str(), "1 NO 24 256"),
-            ("1 FIND 1 9 . . ((((((((*:*))))))))", "1 OK 1 1\n1 1 a ."),
-            ("1 FIND 1 9 . . (((((((((*:*)))))))))", "1 NO 24 8"),
-        ],
-    )
+    let rows: Rows<'_> = &[
+        ("1 PUT {\"id\":\"a\"}", "1 OK 1"),
+        ("1 REFRESH", "1 OK 1"),
+        ("1 OPEN", "1 OK 1"),
+        (most.as_str(), "1 OK 1 1\n1 1 a ."),
+        (more.as_str(), "1 NO 24 256"),
+        ("1 FIND 1 9 . . ((((((((*:*))))))))", "1 OK 1 1\n1 1 a ."),
+        ("1 FIND 1 9 . . (((((((((*:*)))))))))", "1 NO 24 8"),
+    ];
+    expect_rows(&rt, alloc, rows)
 }
 
 #[test]

@@ -1,17 +1,17 @@
 //! What a session sees under a token that it holds.
-use crate::script::{Script, expect_rows};
+use crate::script::{Rows, Script, expect_rows};
 use std::alloc::Global;
 use std::test::Fail;
 
 #[test]
 fn an_empty_catalogue_shows_nothing(rt: HostRuntime) -> Result<(), Fail> {
-    let rows = &[("1 OPEN", "1 OK 0"), ("1 FIND 0 10 . . *:*", "1 OK 0 0")];
-    expect_rows(&rt, rt.alloc(), rows)
+    const ROWS: Rows<'static> = &[("1 OPEN", "1 OK 0"), ("1 FIND 0 10 . . *:*", "1 OK 0 0")];
+    expect_rows(&rt, rt.alloc(), ROWS)
 }
 
 #[test]
 fn a_later_write_is_not_seen(rt: HostRuntime) -> Result<(), Fail> {
-    let rows = &[
+    const ROWS: Rows<'static> = &[
         ("1 OPEN", "1 OK 0"),
         ("1 FIND 0 10 . . *:*", "1 OK 0 0"),
         (
@@ -25,12 +25,12 @@ fn a_later_write_is_not_seen(rt: HostRuntime) -> Result<(), Fail> {
         ("1 FIND 1 10 . . *:*", "1 OK 1 1\n1 1 a ."),
         ("1 FIND 0 10 . . *:*", "1 OK 0 0"),
     ];
-    expect_rows(&rt, rt.alloc(), rows)
+    expect_rows(&rt, rt.alloc(), ROWS)
 }
 
 #[test]
 fn an_open_before_a_refresh_sees_no_new_write(rt: HostRuntime) -> Result<(), Fail> {
-    let rows = &[
+    const ROWS: Rows<'static> = &[
         ("1 PUT {\"id\":\"a\"}", "1 OK 1"),
         ("1 OPEN", "1 OK 0"),
         ("1 OPEN 1", "1 NO 21"),
@@ -39,12 +39,12 @@ fn an_open_before_a_refresh_sees_no_new_write(rt: HostRuntime) -> Result<(), Fai
         ("1 OPEN", "1 OK 1"),
         ("1 FIND 1 10 . . *:*", "1 OK 1 1\n1 1 a ."),
     ];
-    expect_rows(&rt, rt.alloc(), rows)
+    expect_rows(&rt, rt.alloc(), ROWS)
 }
 
 #[test]
 fn each_token_shows_the_table_of_its_moment(rt: HostRuntime) -> Result<(), Fail> {
-    let rows = &[
+    const ROWS: Rows<'static> = &[
         ("1 PUT {\"id\":\"a\"}", "1 OK 1"),
         ("1 PUT {\"id\":\"b\"}", "1 OK 2"),
         ("1 REFRESH", "1 OK 2"),
@@ -61,7 +61,7 @@ fn each_token_shows_the_table_of_its_moment(rt: HostRuntime) -> Result<(), Fail>
         ("1 FIND 5 9 . . *:*", "1 OK 2 2\n1 4 b .\n1 5 c ."),
         ("1 FIND 2 9 . . *:*", "1 OK 2 2\n1 1 a .\n1 2 b ."),
     ];
-    expect_rows(&rt, rt.alloc(), rows)
+    expect_rows(&rt, rt.alloc(), ROWS)
 }
 
 /// A read under token 2, whose table is the same in both shops below.
@@ -69,14 +69,14 @@ const HELD_READ: (&str, &str) = ("1 FIND 2 9 . . *:*", "1 OK 2 2\n1 1 a .\n1 2 b
 
 #[test]
 fn two_shops_that_agree_up_to_a_token_answer_alike(rt: HostRuntime) -> Result<(), Fail> {
-    let quiet = &[
+    const QUIET: Rows<'static> = &[
         ("1 PUT {\"id\":\"a\",\"price\":1}", "1 OK 1"),
         ("1 PUT {\"id\":\"b\"}", "1 OK 2"),
         ("1 REFRESH", "1 OK 2"),
         ("1 OPEN", "1 OK 2"),
         HELD_READ,
     ];
-    let busy = &[
+    const BUSY: Rows<'static> = &[
         ("2 OPEN", "2 OK 0"),
         ("3 PUT {\"id\":\"a\",\"price\":1}", "3 OK 1"),
         ("3 REFRESH", "3 OK 1"),
@@ -91,13 +91,13 @@ fn two_shops_that_agree_up_to_a_token_answer_alike(rt: HostRuntime) -> Result<()
         ("3 CLOSE 2", "3 NO 20"),
         HELD_READ,
     ];
-    expect_rows(&rt, rt.alloc(), quiet)?;
-    expect_rows(&rt, rt.alloc(), busy)
+    expect_rows(&rt, rt.alloc(), QUIET)?;
+    expect_rows(&rt, rt.alloc(), BUSY)
 }
 
 #[test]
 fn another_sessions_close_ends_no_hold(rt: HostRuntime) -> Result<(), Fail> {
-    let rows = &[
+    const ROWS: Rows<'static> = &[
         ("1 OPEN", "1 OK 0"),
         ("2 CLOSE 0", "2 NO 20"),
         ("2 OPEN 0", "2 OK 0"),
@@ -107,12 +107,12 @@ fn another_sessions_close_ends_no_hold(rt: HostRuntime) -> Result<(), Fail> {
         ("1 CLOSE 0", "1 OK 0"),
         ("1 FIND 0 1 . . *:*", "1 NO 20"),
     ];
-    expect_rows(&rt, rt.alloc(), rows)
+    expect_rows(&rt, rt.alloc(), ROWS)
 }
 
 #[test]
 fn a_token_is_held_once_however_often_it_is_opened(rt: HostRuntime) -> Result<(), Fail> {
-    let rows = &[
+    const ROWS: Rows<'static> = &[
         ("1 OPEN", "1 OK 0"),
         ("1 OPEN", "1 OK 0"),
         ("1 OPEN 0", "1 OK 0"),
@@ -120,12 +120,12 @@ fn a_token_is_held_once_however_often_it_is_opened(rt: HostRuntime) -> Result<()
         ("1 CLOSE 0", "1 NO 20"),
         ("1 OPEN 7", "1 NO 21"),
     ];
-    expect_rows(&rt, rt.alloc(), rows)
+    expect_rows(&rt, rt.alloc(), ROWS)
 }
 
 #[test]
 fn a_page_shows_the_first_hits_and_counts_all(rt: HostRuntime) -> Result<(), Fail> {
-    let rows = &[
+    const ROWS: Rows<'static> = &[
         ("1 PUT {\"id\":\"a\"}", "1 OK 1"),
         ("1 PUT {\"id\":\"b\"}", "1 OK 2"),
         ("1 PUT {\"id\":\"c\"}", "1 OK 3"),
@@ -140,19 +140,19 @@ fn a_page_shows_the_first_hits_and_counts_all(rt: HostRuntime) -> Result<(), Fai
         ),
         ("1 FIND 3 1001 . . *:*", "1 NO 25"),
     ];
-    expect_rows(&rt, rt.alloc(), rows)
+    expect_rows(&rt, rt.alloc(), ROWS)
 }
 
 #[test]
 fn a_refresh_without_a_write_keeps_the_token(rt: HostRuntime) -> Result<(), Fail> {
-    let rows = &[
+    const ROWS: Rows<'static> = &[
         ("1 REFRESH", "1 OK 0"),
         ("1 PUT {\"id\":\"a\"}", "1 OK 1"),
         ("1 REFRESH", "1 OK 1"),
         ("2 REFRESH", "2 OK 1"),
         ("2 OPEN", "2 OK 1"),
     ];
-    expect_rows(&rt, rt.alloc(), rows)
+    expect_rows(&rt, rt.alloc(), ROWS)
 }
 
 /// The shop's script, where session 1 puts an item and refreshes 63 times, and opens each token if it holds them.
@@ -174,7 +174,7 @@ fn with_64_records(alloc: Global, holds: bool) -> Result<Script, Fail> {
 #[test]
 fn no_record_stands_past_64_held_ones(rt: HostRuntime) -> Result<(), Fail> {
     let mut script = with_64_records(rt.alloc(), true)?;
-    script.rows(&[
+    const ROWS: Rows<'static> = &[
         ("1 REFRESH", "1 OK 63"),
         ("1 PUT {\"id\":\"a\"}", "1 OK 64"),
         ("1 REFRESH", "1 NO 22"),
@@ -183,14 +183,15 @@ fn no_record_stands_past_64_held_ones(rt: HostRuntime) -> Result<(), Fail> {
         ("1 REFRESH", "1 OK 64"),
         ("1 OPEN 5", "1 NO 21"),
         ("1 FIND 6 9 . . *:*", "1 OK 1 1\n1 6 a ."),
-    ])?;
+    ];
+    script.rows(ROWS)?;
     script.expect(&rt, rt.alloc(), Ok(()))
 }
 
 #[test]
 fn the_oldest_record_that_nobody_holds_goes_first(rt: HostRuntime) -> Result<(), Fail> {
     let mut script = with_64_records(rt.alloc(), false)?;
-    script.rows(&[
+    const ROWS: Rows<'static> = &[
         ("2 OPEN 1", "2 OK 1"),
         ("1 PUT {\"id\":\"a\"}", "1 OK 64"),
         ("1 REFRESH", "1 OK 64"),
@@ -199,6 +200,7 @@ fn the_oldest_record_that_nobody_holds_goes_first(rt: HostRuntime) -> Result<(),
         ("3 OPEN 2", "3 NO 21"),
         ("3 OPEN 3", "3 OK 3"),
         ("2 FIND 1 9 . . *:*", "2 OK 1 1\n2 1 a ."),
-    ])?;
+    ];
+    script.rows(ROWS)?;
     script.expect(&rt, rt.alloc(), Ok(()))
 }

@@ -1,6 +1,7 @@
 //! Lines, and what is read of them.
 
-use cat_protocol::{Command, Line, Sort};
+use cat_protocol::{Command, Line};
+use cat_search::{Ask, Sort};
 use std::process::Abort;
 
 const LARGEST: u64 = 9_223_372_036_854_775_807;
@@ -128,9 +129,11 @@ fn finds(rt: HostRuntime) {
             1,
             Command::Find {
                 token,
-                count,
-                sort: Sort::Added,
-                after: None,
+                ask: Ask {
+                    sort: Sort::Added,
+                    after: None,
+                    count,
+                },
                 query,
             },
         );
@@ -166,9 +169,11 @@ fn sorts_and_marks(rt: HostRuntime) {
             1,
             Command::Find {
                 token: 0,
-                count: 10,
-                sort,
-                after,
+                ask: Ask {
+                    sort,
+                    after,
+                    count: 10,
+                },
                 query: "*:*",
             },
         );

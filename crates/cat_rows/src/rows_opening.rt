@@ -1,5 +1,5 @@
 //! What the schema line is answered.
-use crate::script::{Script, expect_served};
+use crate::script::{Rows, Script, expect_served};
 use cat_protocol::ServeFault;
 use std::test::Fail;
 
@@ -40,10 +40,11 @@ fn the_limits_of_factor_and_minimum_are_accepted(rt: HostRuntime) -> Result<(), 
     for line in ["SCHEMA 2 1 {}", "SCHEMA 100 100000 {}"] {
         let mut script = Script::new(rt.alloc());
         script.row(line, "OK 0")?;
-        script.rows(&[
+        const ROWS: Rows<'static> = &[
             ("1 PUT {\"id\":\"a\",\"price\":1}", "1 NO 12"),
             ("1 PUT {\"id\":\"a\"}", "1 OK 1"),
-        ])?;
+        ];
+        script.rows(ROWS)?;
         script.expect(&rt, rt.alloc(), Ok(()))?;
     }
     Ok(())

@@ -1,5 +1,5 @@
 //! Lines that are refused, and what they leave as it was.
-use crate::script::{Script, expect_rows};
+use crate::script::{Rows, Script, expect_rows};
 use std::test::Fail;
 
 #[test]
@@ -9,7 +9,7 @@ fn wrong_items_are_refused_and_take_no_number(rt: HostRuntime) -> Result<(), Fai
     let long_id = format!(in alloc; "1 PUT {{\"id\":\"{}\"}}", &long.as_str()[..65])?;
     let long_brand = format!(in alloc; "1 PUT {{\"id\":\"a\",\"brand\":\"{}\"}}", long.as_str())?;
     let mut script = Script::shop(alloc)?;
-    script.rows(&[
+    let rows: Rows<'_> = &[
         ("1 PUT {\"id\":\"a\",\"price\":5.5}", "1 NO 13"),
         ("1 PUT {\"id\":\"a\",\"size\":1}", "1 NO 12"),
         ("1 PUT {\"id\":\"\"}", "1 NO 14"),
@@ -18,25 +18,26 @@ fn wrong_items_are_refused_and_take_no_number(rt: HostRuntime) -> Result<(), Fai
         ("1 PUT {", "1 NO 11"),
         (long_brand.as_str(), "1 NO 15"),
         ("1 DEL zz", "1 OK 1"),
-    ])?;
+    ];
+    script.rows(rows)?;
     script.expect(&rt, alloc, Ok(()))
 }
 
 #[test]
 fn a_refused_update_leaves_the_item(rt: HostRuntime) -> Result<(), Fail> {
-    let rows = &[
+    const ROWS: Rows<'static> = &[
         ("1 PUT {\"id\":\"a\",\"price\":5}", "1 OK 1"),
         ("1 PUT {\"id\":\"a\",\"price\":\"5\"}", "1 NO 13"),
         ("1 REFRESH", "1 OK 1"),
         ("1 OPEN", "1 OK 1"),
         ("1 FIND 1 9 . . *:*", "1 OK 1 1\n1 1 a ."),
     ];
-    expect_rows(&rt, rt.alloc(), rows)
+    expect_rows(&rt, rt.alloc(), ROWS)
 }
 
 #[test]
 fn lines_without_a_session_are_answered_under_none(rt: HostRuntime) -> Result<(), Fail> {
-    let rows = &[
+    const ROWS: Rows<'static> = &[
         ("", "? NO 10"),
         ("x OPEN", "? NO 10"),
         ("10000 OPEN", "? NO 10"),
@@ -44,12 +45,12 @@ fn lines_without_a_session_are_answered_under_none(rt: HostRuntime) -> Result<()
         (" 1 OPEN", "? NO 10"),
         ("9999 OPEN", "9999 OK 0"),
     ];
-    expect_rows(&rt, rt.alloc(), rows)
+    expect_rows(&rt, rt.alloc(), ROWS)
 }
 
 #[test]
 fn lines_without_a_form_are_refused(rt: HostRuntime) -> Result<(), Fail> {
-    let rows = &[
+    const ROWS: Rows<'static> = &[
         ("1", "1 NO 10"),
         ("1 ", "1 NO 10"),
         ("1 MERGE", "1 NO 10"),
@@ -67,12 +68,12 @@ fn lines_without_a_form_are_refused(rt: HostRuntime) -> Result<(), Fail> {
         ("1 FIND 0 1 . 01 *:*", "1 NO 10"),
         ("1 FIND 0 1 . .", "1 NO 10"),
     ];
-    expect_rows(&rt, rt.alloc(), rows)
+    expect_rows(&rt, rt.alloc(), ROWS)
 }
 
 #[test]
 fn a_find_tells_a_query_before_a_token_before_a_count(rt: HostRuntime) -> Result<(), Fail> {
-    let rows = &[
+    const ROWS: Rows<'static> = &[
         ("1 FIND 0 1001 . . price:x", "1 NO 24 6"),
         ("1 FIND 0 1001 . . ", "1 NO 24 0"),
         ("1 FIND 0 1001 . . *:*", "1 NO 20"),
@@ -80,16 +81,16 @@ fn a_find_tells_a_query_before_a_token_before_a_count(rt: HostRuntime) -> Result
         ("1 FIND 0 1001 . . *:*", "1 NO 25"),
         ("1 FIND 0 1000 . . *:*", "1 OK 0 0"),
     ];
-    expect_rows(&rt, rt.alloc(), rows)
+    expect_rows(&rt, rt.alloc(), ROWS)
 }
 
 #[test]
 fn a_delete_wants_an_id(rt: HostRuntime) -> Result<(), Fail> {
-    let rows = &[
+    const ROWS: Rows<'static> = &[
         ("1 DEL ", "1 NO 14"),
         ("1 DEL a b", "1 NO 14"),
         ("1 DEL é", "1 NO 14"),
         ("1 DEL a", "1 OK 1"),
     ];
-    expect_rows(&rt, rt.alloc(), rows)
+    expect_rows(&rt, rt.alloc(), ROWS)
 }

@@ -25,18 +25,18 @@ fn expect_run(rt: &impl Abort, alloc: Global, rows: Rows<'_>) -> Result<(), Fail
 
 #[test]
 fn a_run_of_reads_is_answered_line_by_line(rt: HostRuntime) -> Result<(), Fail> {
-    let rows = &[
+    const ROWS: Rows<'static> = &[
         ("1 OPEN", "1 OK 0"),
         ("1 FIND 0 10 . . *:*", "1 OK 0 0"),
         ("1 MERGE", "1 NO 10"),
         ("1 FIND 0 10 . . price:x", "1 NO 24 6"),
     ];
-    expect_run(&rt, rt.alloc(), rows)
+    expect_run(&rt, rt.alloc(), ROWS)
 }
 
 #[test]
 fn a_run_of_writes_is_answered_line_by_line(rt: HostRuntime) -> Result<(), Fail> {
-    let rows = &[
+    const ROWS: Rows<'static> = &[
         ("1 PUT {\"id\":\"a\"}", "1 OK 1"),
         ("1 PUT {\"id\":\"b\"}", "1 OK 2"),
         ("1 PUT {\"id\":\"a\"}", "1 OK 3"),
@@ -44,5 +44,5 @@ fn a_run_of_writes_is_answered_line_by_line(rt: HostRuntime) -> Result<(), Fail>
         ("1 OPEN", "1 OK 3"),
         ("1 FIND 3 10 . . *:*", "1 OK 2 2\n1 2 b .\n1 3 a ."),
     ];
-    expect_run(&rt, rt.alloc(), rows)
+    expect_run(&rt, rt.alloc(), ROWS)
 }

@@ -115,6 +115,32 @@ impl Write for Trickling {
     }
 }
 
+/// Is interrupted so many times before each piece that it takes.
+#[derive(Drop)]
+struct Stubborn {
+    taken: Vec<u8>,
+    interrupts: u32,
+    left: u32,
+}
+
+impl Write for Stubborn {
+    ghost contents = { λ w. Some w.taken.items };
+
+    fn write(&mut self, buf: &[u8]) -> io::Result<usize> {
+        if self.left > 0 {
+            self.left -= 1;
+            return Err(io::Error::new(ErrorKind::Interrupted, "a signal"));
+        }
+        self.left = self.interrupts;
+        self.taken.extend_from_slice(buf)?;
+        Ok(buf.len())
+    }
+
+    fn flush(&mut self) -> io::Result<()> {
+        Ok(())
+    }
+}
+
 /// Holds what it was given, up to `room` bytes, and then fails, or takes nothing.
 #[derive(Drop)]
 struct Filling {
@@ -281,6 +307,48 @@ fn pieces_make_no_difference(rt: HostRuntime) -> Result<(), Fail> {
     };
     assert_eq!(rt; serve(alloc, &mut reader, &mut writer), Ok(()));
     assert_eq!(rt; writer.held.as_slice(), WHOLE);
+    Ok(())
+}
+
+/// The text so many times over.
+fn repeated(alloc: Global, first: &str, text: &str, count: usize) -> Result<String, AllocError> {
+    let mut whole = String::from_str(alloc, first)?;
+    for _ in 0..count {
+        whole.push_str(text)?;
+    }
+    Ok(whole)
+}
+
+/// 10,000 lines of ten bytes, which come one byte at a time: serving calls the reader more than 100,000 times.
+#[test]
+fn the_reader_is_called_as_often_as_it_takes(rt: HostRuntime) -> Result<(), Fail> {
+    let alloc = rt.alloc();
+    let input = repeated(alloc, "SCHEMA 2 1 {}\n", "1 CLOSE 7\n", 10_000)?;
+    let wanted = repeated(alloc, "OK 0\n", "1 NO 20\n", 10_000)?;
+    let mut reader = Dripping {
+        left: input.as_bytes(),
+        step: 1,
+    };
+    let mut out = Vec::new(alloc);
+    assert_eq!(rt; serve(alloc, &mut reader, &mut out), Ok(()));
+    assert!(rt; out.as_slice() == wanted.as_bytes());
+    Ok(())
+}
+
+/// Each piece of a reply goes out at last.
+#[test]
+fn a_writer_may_be_interrupted_thousands_of_times(rt: HostRuntime) -> Result<(), Fail> {
+    let alloc = rt.alloc();
+    for interrupts in [1, 101, 5_000] {
+        let mut left = TRAFFIC;
+        let mut writer = Stubborn {
+            taken: Vec::new(alloc),
+            interrupts,
+            left: interrupts,
+        };
+        assert_eq!(rt; serve(alloc, &mut left, &mut writer), Ok(()));
+        assert_eq!(rt; writer.taken.as_slice(), WHOLE);
+    }
     Ok(())
 }
 

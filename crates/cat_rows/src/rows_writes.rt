@@ -1,10 +1,10 @@
 //! What writes are answered, and what they leave of the table.
-use crate::script::expect_rows;
+use crate::script::{Rows, expect_rows};
 use std::test::Fail;
 
 #[test]
 fn an_update_moves_its_item_to_the_end(rt: HostRuntime) -> Result<(), Fail> {
-    let rows = &[
+    const ROWS: Rows<'static> = &[
         ("1 PUT {\"id\":\"a\"}", "1 OK 1"),
         ("1 PUT {\"id\":\"b\"}", "1 OK 2"),
         ("1 PUT {\"id\":\"a\"}", "1 OK 3"),
@@ -12,12 +12,12 @@ fn an_update_moves_its_item_to_the_end(rt: HostRuntime) -> Result<(), Fail> {
         ("1 OPEN", "1 OK 3"),
         ("1 FIND 3 10 . . *:*", "1 OK 2 2\n1 2 b .\n1 3 a ."),
     ];
-    expect_rows(&rt, rt.alloc(), rows)
+    expect_rows(&rt, rt.alloc(), ROWS)
 }
 
 #[test]
 fn the_writes_of_all_sessions_are_one_history(rt: HostRuntime) -> Result<(), Fail> {
-    let rows = &[
+    const ROWS: Rows<'static> = &[
         ("1 PUT {\"id\":\"a\",\"brand\":\"x\"}", "1 OK 1"),
         ("2 PUT {\"id\":\"b\"}", "2 OK 2"),
         ("9999 PUT {\"id\":\"a\",\"brand\":\"y\"}", "9999 OK 3"),
@@ -27,12 +27,12 @@ fn the_writes_of_all_sessions_are_one_history(rt: HostRuntime) -> Result<(), Fai
         ("4 OPEN", "4 OK 5"),
         ("4 FIND 5 9 . . *:*", "4 OK 2 2\n4 3 a .\n4 5 c ."),
     ];
-    expect_rows(&rt, rt.alloc(), rows)
+    expect_rows(&rt, rt.alloc(), ROWS)
 }
 
 #[test]
 fn a_delete_of_an_absent_id_counts(rt: HostRuntime) -> Result<(), Fail> {
-    let rows = &[
+    const ROWS: Rows<'static> = &[
         ("1 DEL zz", "1 OK 1"),
         ("1 PUT {\"id\":\"a\"}", "1 OK 2"),
         ("1 DEL a", "1 OK 3"),
@@ -41,12 +41,12 @@ fn a_delete_of_an_absent_id_counts(rt: HostRuntime) -> Result<(), Fail> {
         ("1 OPEN", "1 OK 4"),
         ("1 FIND 4 9 . . *:*", "1 OK 0 0"),
     ];
-    expect_rows(&rt, rt.alloc(), rows)
+    expect_rows(&rt, rt.alloc(), ROWS)
 }
 
 #[test]
 fn ids_differ_by_case_and_by_each_byte(rt: HostRuntime) -> Result<(), Fail> {
-    let rows = &[
+    const ROWS: Rows<'static> = &[
         ("1 PUT {\"id\":\"a\"}", "1 OK 1"),
         ("1 PUT {\"id\":\"A\"}", "1 OK 2"),
         ("1 PUT {\"id\":\"a/1\"}", "1 OK 3"),
@@ -58,5 +58,5 @@ fn ids_differ_by_case_and_by_each_byte(rt: HostRuntime) -> Result<(), Fail> {
             "1 OK 3 3\n1 2 A .\n1 3 a/1 .\n1 4 a .",
         ),
     ];
-    expect_rows(&rt, rt.alloc(), rows)
+    expect_rows(&rt, rt.alloc(), ROWS)
 }

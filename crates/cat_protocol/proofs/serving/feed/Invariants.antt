@@ -3,18 +3,18 @@ use Rattle.std.proofs.Common.{◌≡◌, List, ◌++◌, ◌≤◌, length, take
 use Rattle.std.specs.Prelude.{Option, Ok}
 use Rattle.cat_model.specs.Text.{Text}
 use Rattle.cat_model.specs.Input.{ended_after, rest_after}
-use Rattle.cat_protocol.specs.Machine.{seen}
+use Rattle.cat_protocol.specs.Machine.{short_line}
 use Rattle.cat_protocol.specs.Serving.{Says, ServesLines}
 use Rattle.cat_protocol.proofs.serving.feed.Given as goal
 
 abbrev pub invariant-lines : goal.invariant-lines
 invariant-lines g l = record {
-  room : 10002 ≤ vec_capacity l.held;
-  short : length l.held.items ≤ 10002;
+  room : 10002 ≤ vec_capacity l.gathered;
+  short : length l.gathered.items ≤ 10002;
   done : List (Option Text);
   served : ServesLines (Says g.M.Machine.opens g.M.Machine.step g.M.Machine.token) l.fn.machine done l.machine (g.W.Write.contents l.fn.to) (g.W.Write.contents l.to) (Ok tt);
-  whole : done ++ map seen (ended_after l.held.items l.rest) ≡ map seen (ended_after l.fn.held.items l.fn.bytes);
-  left : take 10002 (rest_after l.held.items l.rest) ≡ take 10002 (rest_after l.fn.held.items l.fn.bytes);
+  whole : done ++ map short_line (ended_after l.gathered.items l.rest) ≡ map short_line (ended_after l.fn.gathered.items l.fn.bytes);
+  left : take 10002 (rest_after l.gathered.items l.rest) ≡ take 10002 (rest_after l.fn.gathered.items l.fn.bytes);
 }
 
 abbrev pub decreases-lines : goal.decreases-lines

@@ -25,7 +25,7 @@ returns-in_err-feed-in-Bytes g c =
     let piece = take c.in-Bytes.n c.read_some.new.chunk in
     let bytes = so.bytes ++ piece in
     let read = Consumes-trans _ _ _ so.bytes piece so.read c.in-Bytes.ensures.0 in
-    let fed = serves_then (serves_kept so.served c.flush.ensures) c.in_err-feed-in-Bytes.ensures.served (ended_on so.bytes piece c.reads.held.items so.held) in
+    let fed = serves_then (serves_kept so.served c.flush.ensures) c.in_err-feed-in-Bytes.ensures.served (ended_on so.bytes piece c.reads.gathered.items so.gathered) in
     rw (fault_is c.from_residual-in_err-feed-in-Bytes.result c.in_err-feed-in-Bytes.field-0.0 c.from_residual-in_err-feed-in-Bytes.ensures)
     (ends_at m.opens m.step m.token input left bytes read (ended_lines bytes) HaveCome.ended fed)
 
@@ -47,8 +47,8 @@ returns-in_err-serve_last-in-End g c =
     let end = c.in-End.ensures in
     let read = Consumes-kept _ _ _ so.bytes so.read end.0 in
     let went = serves_kept so.served c.flush.ensures in
-    let held = ap (take 10002) c.as_slice.ensures.value ∙ so.held in
-    let whole = last_lines_behind (Says m.opens m.step m.token) so.bytes c.as_slice.result.now c.reads.machine _ _ went held in
+    let gathered = ap (take 10002) c.as_slice.ensures.value ∙ so.gathered in
+    let whole = last_lines_behind (Says m.opens m.step m.token) so.bytes c.as_slice.result.now c.reads.machine _ _ went gathered in
     let all = serves_then went c.in_err-serve_last-in-End.ensures whole in
     rw (fault_is c.from_residual-in_err-serve_last-in-End.result c.in_err-serve_last-in-End.field-0.0 c.from_residual-in_err-serve_last-in-End.ensures)
     (ends_at m.opens m.step m.token input left so.bytes read (lines_of so.bytes) (HaveCome.at_end end.1) all)
@@ -62,8 +62,8 @@ returns-in_err-flush-in-End g c =
     let end = c.in-End.ensures in
     let read = Consumes-kept _ _ _ so.bytes so.read end.0 in
     let went = serves_kept so.served c.flush.ensures in
-    let held = ap (take 10002) c.as_slice.ensures.value ∙ so.held in
-    let whole = last_lines_behind (Says m.opens m.step m.token) so.bytes c.as_slice.result.now c.reads.machine _ _ went held in
+    let gathered = ap (take 10002) c.as_slice.ensures.value ∙ so.gathered in
+    let whole = last_lines_behind (Says m.opens m.step m.token) so.bytes c.as_slice.result.now c.reads.machine _ _ went gathered in
     let all = serves_kept (serves_then went c.in_ok-serve_last-in-End.ensures whole) c.flush-in-End.ensures in
     rw (fault_is c.from_residual-in_err-flush-in-End.result Write c.from_residual-in_err-flush-in-End.ensures)
     (ends_behind m.opens m.step m.token input left so.bytes read (lines_of so.bytes) (HaveCome.at_end end.1) all)
@@ -77,8 +77,8 @@ returns-in-End g c =
     let end = c.in-End.ensures in
     let read = Consumes-kept _ _ _ so.bytes so.read end.0 in
     let went = serves_kept so.served c.flush.ensures in
-    let held = ap (take 10002) c.as_slice.ensures.value ∙ so.held in
-    let whole = last_lines_behind (Says m.opens m.step m.token) so.bytes c.as_slice.result.now c.reads.machine _ _ went held in
+    let gathered = ap (take 10002) c.as_slice.ensures.value ∙ so.gathered in
+    let whole = last_lines_behind (Says m.opens m.step m.token) so.bytes c.as_slice.result.now c.reads.machine _ _ went gathered in
     let all = serves_kept (serves_then went c.in_ok-serve_last-in-End.ensures whole) c.flush-in-End.ensures in
     ends_well m.opens m.step m.token input left so.bytes read end.1 all
 
@@ -92,8 +92,8 @@ reads-preserved g c =
       short = fed.short;
       bytes = so.bytes ++ piece;
       read = Consumes-trans _ _ _ so.bytes piece so.read c.in-Bytes.ensures.0;
-      served = serves_then (serves_kept so.served c.flush.ensures) fed.served (ended_on so.bytes piece c.reads.held.items so.held);
-      held = fed.held ∙ rest_on so.bytes piece c.reads.held.items so.held;
+      served = serves_then (serves_kept so.served c.flush.ensures) fed.served (ended_on so.bytes piece c.reads.gathered.items so.gathered);
+      gathered = fed.gathered ∙ rest_on so.bytes piece c.reads.gathered.items so.gathered;
     }
 
 pub returns : goal.returns

@@ -1,20 +1,20 @@
--- The lines that ended in the bytes so far are answered, and what came after the last of them is held.
+-- The lines that ended in the bytes so far are answered, and what came after the last of them is gathered.
 use Rattle.std.proofs.Common.{◌≡◌, [], ◌≤◌, length, take, map, vec_capacity}
 use Rattle.std.specs.Prelude.{None, Ok}
 use Rattle.std.specs.Io.KnownBytes.{Consumes}
 use Rattle.cat_model.specs.Text.{Text}
 use Rattle.cat_model.specs.Input.{ended_lines, rest_after}
-use Rattle.cat_protocol.specs.Machine.{seen}
+use Rattle.cat_protocol.specs.Machine.{short_line}
 use Rattle.cat_protocol.specs.Serving.{Says, ServesLines}
 use Rattle.cat_protocol.proofs.serving.serve_within.Given as goal
 
 abbrev pub invariant-reads : goal.invariant-reads
 invariant-reads g l = record {
-  room : 10002 ≤ vec_capacity l.held;
-  short : length l.held.items ≤ 10002;
+  room : 10002 ≤ vec_capacity l.gathered;
+  short : length l.gathered.items ≤ 10002;
   bytes : Text;
   read : Consumes (g.R.Read.remaining l.fn.reader) (g.R.Read.remaining l.reader) bytes;
-  served : ServesLines (Says g.M.Machine.opens g.M.Machine.step g.M.Machine.token) None (map seen (ended_lines bytes)) l.machine
+  served : ServesLines (Says g.M.Machine.opens g.M.Machine.step g.M.Machine.token) None (map short_line (ended_lines bytes)) l.machine
       (g.W.Write.contents l.fn.writer) (g.W.Write.contents l.writer) (Ok tt);
-  held : take 10002 l.held.items ≡ take 10002 (rest_after [] bytes);
+  gathered : take 10002 l.gathered.items ≡ take 10002 (rest_after [] bytes);
 }

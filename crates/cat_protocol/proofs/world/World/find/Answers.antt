@@ -1,30 +1,36 @@
-use Rattle.std.proofs.Common.{◌≡◌, ◌∙◌, inr, subst, sym, true}
-use Rattle.std.specs.Prelude.{◌⊎◌, Ok, Err, IfErr}
-use Rattle.cat_base.specs.declared.refusal.Refusal.TheVariants.{Memory}
-use Rattle.cat_model.specs.Answer.{Read, answer}
-use Rattle.cat_model.specs.Grammar.{Spells}
-use Rattle.cat_model.specs.State.{has_hold}
+use Rattle.std.proofs.Common.{◌∙◌, subst, sym}
+use Rattle.std.specs.Prelude.{Ok, Err}
+use Rattle.cat_model.specs.Answer.{answer}
 use Rattle.cat_query.specs.View.{query_of}
-use Rattle.cat_protocol.specs.Line.{sort_of}
-use Rattle.cat_protocol.proofs.Finds.{passed_on, refuses_query, refuses_token, refuses_page}
+use Rattle.cat_protocol.specs.Exchange.{IsReadQuery, TellsFound, find_of}
+use Rattle.cat_protocol.proofs.Finds.{does_fault, does_unheld, does_tell, some_query}
+use Rattle.cat_protocol.proofs.Steps.{fault_is}
 use Rattle.cat_protocol.proofs.world.World.find.Goals as goal
 
-pub returns-in_err-query-clause-err : goal.returns-in_err-query-clause-err
-returns-in_err-query-clause-err c =
-    passed_on _ c.from_residual.result c.in_err-query.field-0.0 c.from_residual.ensures
-    (refuses_query c.args.self.now c.args.session c.args.token c.args.count (sort_of c.args.sort) c.args.after c.args.text.now c.in_err-query.field-0.0
-    (rw (sym c.self.view_is) c.in_err-query.ensures.err))
+pub returns-in_err-query : goal.returns-in_err-query
+returns-in_err-query c =
+    let fault = c.in_err-query.ensures.err in
+    rw (fault_is c.from_residual.result c.in_err-query.field-0.0 c.from_residual.ensures, fault.1) (does_fault c.args.self.now c.args.session c.args.token c.args.ask c.args.text.now fault.0 fault.2)
 
-pub returns-then-not-is_holding-clause-err : goal.returns-then-not-is_holding-clause-err
-returns-then-not-is_holding-clause-err c =
-    let spells : Spells c.args.self.now.schema c.args.text.now (query_of c.in_ok-query.query) = subst (λ w. Spells w.schema c.args.text.now (query_of c.in_ok-query.query)) c.self.view_is c.in_ok-query.ensures.ok in
-    inr (refuses_token c.args.self.now c.args.session c.args.token c.args.count (sort_of c.args.sort) c.args.after c.args.text.now (query_of c.in_ok-query.query) spells (sym c.if-not-is_holding.ensures))
+pub returns-then-not-is_holding : goal.returns-then-not-is_holding
+returns-then-not-is_holding c =
+    let some = some_query c.args.self.now.schema c.args.text.now c.in_ok-query.query c.in_ok-query.ensures.ok in
+    does_unheld c.args.self.now c.args.session c.args.token c.args.ask c.args.text.now some.0 some.1 (sym c.if-not-is_holding.ensures)
 
-pub returns-clause-err : goal.returns-clause-err
-returns-clause-err c =
-    let spells : Spells c.args.self.now.schema c.args.text.now (query_of c.in_ok-query.query) = subst (λ w. Spells w.schema c.args.text.now (query_of c.in_ok-query.query)) c.self.view_is c.in_ok-query.ensures.ok in
-    let held : has_hold c.args.self.now.state.holds c.args.session c.args.token ≡ true = sym c.is_holding.ensures ∙ c.if-not-is_holding.false in
-    let asked = Read.find c.args.count (sort_of c.args.sort) c.args.after (Ok (query_of c.in_ok-query.query)) in
-    let refused = subst (λ w. IfErr c.find_in.result (λ e. (e ≡ Memory) ⊎ (answer w.schema c.table_at-records.result.now asked ≡ Err e))) c.self.view_is c.find_in.ensures.err in
-    refuses_page c.args.self.now c.args.session c.args.token c.args.count (sort_of c.args.sort) c.args.after c.args.text.now (query_of c.in_ok-query.query) c.table_at-records.result.now c.find_in.result
-    spells held c.table_at-records.ensures.value refused
+pub returns-in-Some : goal.returns-in-Some
+returns-in-Some c =
+    let q = query_of c.in-Some.query in
+    let told = c.find_in.result in
+    let spells = subst (IsReadQuery c.args.self.now.schema c.args.text.now) c.in-Some.is c.in_ok-query.ensures.ok in
+    let over_records = subst (λ w. TellsFound (answer w.schema c.table_at-records.result.now (find_of c.args.ask (Ok q))) told) c.self.view_is c.find_in.ensures in
+    let over_table = subst (λ rs. TellsFound (answer c.args.self.now.schema rs (find_of c.args.ask (Ok q))) told) c.table_at-records.ensures.value over_records in
+    does_tell c.args.self.now c.args.session c.args.token c.args.ask c.args.text.now q spells (sym c.is_holding.ensures ∙ c.if-not-is_holding.false) told over_table
+
+pub returns-in-None : goal.returns-in-None
+returns-in-None c =
+    let some = subst (IsReadQuery c.args.self.now.schema c.args.text.now) c.in-None.is c.in_ok-query.ensures.ok in
+    let q = some.0 in
+    let refusal = c.refusal_in.result in
+    let over_records = subst (λ w. TellsFound (answer w.schema c.table_at-records.result.now (find_of c.args.ask (Ok q))) (Err refusal)) c.self.view_is (c.refusal_in.ensures q) in
+    let over_table = subst (λ rs. TellsFound (answer c.args.self.now.schema rs (find_of c.args.ask (Ok q))) (Err refusal)) c.table_at-records.ensures.value over_records in
+    does_tell c.args.self.now c.args.session c.args.token c.args.ask c.args.text.now q some.1 (sym c.is_holding.ensures ∙ c.if-not-is_holding.false) (Err refusal) over_table

@@ -5,7 +5,7 @@ use Rattle.cat_protocol.specs.declared.line.Line.{Line}
 use Rattle.cat_protocol.specs.declared.line.Command.TheVariants.{NoForm}
 use Rattle.cat_protocol.specs.Exchange.{AreExchanges}
 use Rattle.cat_protocol.specs.Reply.{reply_of}
-use Rattle.cat_protocol.specs.World.{opened_as}
+use Rattle.cat_protocol.specs.World.{beginning_of}
 use Rattle.cat_protocol.proofs.ModelRuns.{Reaches-start, Reaches-push, exchanges-more, maps-more}
 use Rattle.cat_protocol.proofs.world.World.run.Goals as goal
 
@@ -35,7 +35,7 @@ loop-line-preserved c = record {
       let e : Exchange = record { line = record { session = line.session; command = does.0 }; reply = reply_of c.step.result.answer } in (
         before.0 ++ e ∷ [],
         rw c.in-Ok.ensures.items (exchanges-more c.args.self.now.schema c.args.lines.now c.loop-line.line-index no_line c.loop-line.replies.items c.step.result before.0 e c.loop-line-test.true before.1 (record { session = refl; command = does.1; reply = refl })),
-        Reaches-push (opened_as c.args.self.now) before.0 _ _ _ _ before.2 does.2,
+        Reaches-push (beginning_of c.args.self.now) before.0 _ _ e.line e.reply before.2 does.2,
       );
 }
 

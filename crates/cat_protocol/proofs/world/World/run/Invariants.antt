@@ -1,7 +1,7 @@
 use Rattle.std.proofs.Common.{◌≡◌, ◌≤◌, length, map, take, vec_len, vec_capacity}
 use Rattle.cat_model.specs.Run.{Run}
 use Rattle.cat_protocol.specs.Exchange.{AreExchanges}
-use Rattle.cat_protocol.specs.World.{opened_as}
+use Rattle.cat_protocol.specs.World.{beginning_of}
 use Rattle.cat_protocol.proofs.ModelRuns.{Reaches}
 use Rattle.cat_protocol.proofs.world.World.run.Given as goal
 
@@ -11,5 +11,5 @@ invariant-loop-line l = record {
   room : length l.lines ≤ vec_capacity l.replies;
   schema : l.self.schema ≡ l.fn.self.schema;
   sessions : map (λ r. r.session) l.replies.items ≡ map (λ k. k.session) (take l.line-index l.lines);
-  reached : (past : Run) × AreExchanges l.fn.self.schema (take l.line-index l.lines) l.replies.items past × Reaches (opened_as l.fn.self) past l.self.state;
+  reached : (past : Run) × AreExchanges l.fn.self.schema (take l.line-index l.lines) l.replies.items past × Reaches (beginning_of l.fn.self) past l.self.state;
 }

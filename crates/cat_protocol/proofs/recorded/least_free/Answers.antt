@@ -1,8 +1,8 @@
 use Rattle.std.proofs.Common.{◌≡◌, ◌∙◌, ap, sym, get_or}
 use Rattle.cat_model.specs.State.{held_in}
 use Rattle.cat_protocol.proofs.Tokens.{IsLeastFree_more-held, IsLeastFree_more-free}
-use Rattle.cat_protocol.proofs.views.least_free.Goals as goal
-use Rattle.cat_protocol.proofs.views.least_free.Goals.{then-not-is_held, else-not-is_held}
+use Rattle.cat_protocol.proofs.recorded.least_free.Goals as goal
+use Rattle.cat_protocol.proofs.recorded.least_free.Goals.{then-not-is_held, else-not-is_held}
 
 pub loop-view-preserved : goal.loop-view-preserved
 loop-view-preserved c =

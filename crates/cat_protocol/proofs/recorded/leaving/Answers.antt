@@ -2,7 +2,7 @@ use Rattle.std.proofs.Common.{◌≡◌, sym, length, ltb, false, arith}
 use Rattle.std.proofs.lemmas.Bool.Decides.{nat_tests}
 use Rattle.cat_model.specs.State.{held_in}
 use Rattle.cat_protocol.proofs.Sound.{least_leaves, some_free}
-use Rattle.cat_protocol.proofs.views.leaving.Goals as goal
+use Rattle.cat_protocol.proofs.recorded.leaving.Goals as goal
 
 pub returns-in-Some-clause-room : goal.returns-in-Some-clause-room
 returns-in-Some-clause-room c = some_free (held_in c.args.holds.now) c.args.views.now c.in-Some.token c.in-Some.ensures
