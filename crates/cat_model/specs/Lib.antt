@@ -4,6 +4,7 @@ pub mod Text
 pub mod Limits
 pub mod Item
 pub mod Words
+pub mod Forms
 pub mod Write
 pub mod Table
 pub mod Query
@@ -17,7 +18,6 @@ pub mod Lines
 pub mod Heard
 pub mod Input
 pub mod Served
-pub mod Forms
 pub mod RowSets
 pub mod Ordinals
 pub mod Files
