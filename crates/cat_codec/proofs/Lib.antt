@@ -5,3 +5,4 @@ pub mod Numbers
 pub mod Pieces
 pub mod Readers
 pub mod Segments
+pub mod Rests

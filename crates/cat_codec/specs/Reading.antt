@@ -21,6 +21,16 @@ abbrev pub Finds : {X Y : Type 0} → (X → Y) → Result X Unreadable → Opti
 Finds view (Ok x) read = read ≡ Some (view x)
 Finds view (Err e) read = read ≡ None
 
+-- the bytes after what is read
+abbrev pub rest_of : {A : Type 0} → Option (A × List ℕ) → Option (List ℕ)
+rest_of (Some x) = Some x.1
+rest_of None = None
+
+-- a function passed over what can be read, up to the bytes `after`, or nothing can be read
+abbrev pub Passes : {X A : Type 0} → List ℕ → Result X Unreadable → Option (A × List ℕ) → Type 0
+Passes after (Ok done) read = rest_of read ≡ Some after
+Passes after (Err e) read = rest_of read ≡ None
+
 -- a refusal stands where nothing is read, or memory ran out
 abbrev pub Fails : {Y : Type 0} → Refusal → Option Y → Type 0
 Fails Memory read = Unit {0}

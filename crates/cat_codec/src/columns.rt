@@ -28,8 +28,9 @@ struct RowOrdinals {
     ordinals: Vec<u32>,
 }
 
+/// The next cell of a column of numbers.
 #[tactic(auto, unfolding(crate::specs::Layouts::cell_at))]
-fn read_cell(cursor: &mut Cursor<'_>) -> Result<Option<i64>, Unreadable>
+pub(crate) fn take_cell(cursor: &mut Cursor<'_>) -> Result<Option<i64>, Unreadable>
     ensures { Finds (λ z. (z, cursor.new)) result (cell_at cursor.old) }
 {
     match take_u8(cursor)? {
@@ -51,7 +52,7 @@ fn read_cells(
 {
     let mut out = Vec::new(alloc);
     for _ in 0..count {
-        let one = read_cell(cursor)?;
+        let one = take_cell(cursor)?;
         out.push(one)?;
     }
     Ok(out)

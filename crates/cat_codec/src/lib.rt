@@ -4,8 +4,10 @@
 mod columns;
 mod cursor;
 mod fields;
+mod heads;
 mod lists;
 mod parts;
+mod passing;
 mod reading;
 mod writing;
 

@@ -1,9 +1,9 @@
 //! Texts of the forms, and lists of texts and of numbers, read.
 ghost use Rattle.std.specs.Prelude.{◌≡◌};
-ghost use Rattle.cat_codec.specs.Reading.{Gives, u32_at, many_at, text_at, with_front};
+ghost use Rattle.cat_codec.specs.Reading.{Finds, Gives, u32_at, many_at, text_at, with_front};
 ghost use Rattle.cat_codec.specs.Layouts.{fits, list_at};
 
-use crate::cursor::{take_str, take_u32};
+use crate::cursor::{Unreadable, take_str, take_u32};
 use cat_base::{Cursor, Refusal, Text};
 use cat_schema::{id_ok, keyword_ok, label_ok, word_ok};
 use std::alloc::Global;
@@ -31,14 +31,22 @@ impl Form {
     }
 }
 
+/// The next byte string, where it is a text of the form.
 #[tactic(auto, unfolding(crate::specs::Reading::where_at))]
-pub(crate) fn read_text(alloc: Global, form: Form, cursor: &mut Cursor<'_>) -> Result<Text, Refusal>
-    ensures { Gives (λ t. (t, cursor.new)) result (text_at (fits form) cursor.old) }
+pub(crate) fn take_text<'a>(form: Form, cursor: &mut Cursor<'a>) -> Result<&'a str, Unreadable>
+    ensures { Finds (λ t. (t.now, cursor.new)) result (text_at (fits form) cursor.old) }
 {
     let text = take_str(cursor)?;
     if !form.fits(text) {
-        return Err(Refusal::Damaged);
+        return Err(Unreadable);
     }
+    Ok(text)
+}
+
+pub(crate) fn read_text(alloc: Global, form: Form, cursor: &mut Cursor<'_>) -> Result<Text, Refusal>
+    ensures { Gives (λ t. (t, cursor.new)) result (text_at (fits form) cursor.old) }
+{
+    let text = take_text(form, cursor)?;
     Ok(Text::from_str(alloc, text)?)
 }
 

@@ -1,17 +1,18 @@
 //! A segment's file, read whole.
-ghost use Rattle.std.specs.Prelude.{◌≡◌, ◌≢◌, ◌⊎◌, length, IfOk, IfErr};
+ghost use Rattle.std.specs.Prelude.{◌≡◌, ◌≢◌, ◌⊎◌, Some, None, IfOk, IfErr, OnOk, OnErr};
 ghost use Rattle.cat_base.specs.declared.refusal.Refusal.TheVariants.{Memory, Damaged};
 ghost use Rattle.cat_model.specs.Layout.{Layout, IsLayout, spelled_layout};
-ghost use Rattle.cat_codec.specs.Reading.{Finds, Gives, many_at, where_at};
-ghost use Rattle.cat_codec.specs.Layouts.{head_at, start_at, layout_at};
-ghost use Rattle.cat_codec.specs.Parts.{heads_in, layout_in, IsParts};
+ghost use Rattle.cat_codec.specs.Reading.{Finds, Gives, where_at};
+ghost use Rattle.cat_codec.specs.Layouts.{start_at, layout_at};
+ghost use Rattle.cat_codec.specs.Parts.{layout_in, IsParts};
 
 use crate::columns::read_columns;
 use crate::cursor::{Unreadable, take_u8, take_u32, take_u64};
-use crate::fields::take_fields;
-use crate::lists::{Form, read_text};
+use crate::fields::{take_fields, take_heads};
+use crate::heads::read_heads;
 use crate::parts::SegmentParts;
-use cat_base::{Cursor, LAST_NUMBER, MAX_ITEM_BYTES, MAX_ROWS, Refusal, SegNo, Text, WriteNo};
+use crate::passing::{pass_columns, pass_heads};
+use cat_base::{Cursor, LAST_NUMBER, MAX_ROWS, Refusal, SegNo};
 use std::alloc::Global;
 
 /// The first four bytes of a segment's file, `CSEG`.
@@ -19,21 +20,6 @@ pub(crate) const MAGIC: u32 = 0x4353_4547;
 
 /// The version of the layout, the fifth byte.
 pub(crate) const VERSION: u8 = 1;
-
-#[derive(Drop)]
-struct RowHead {
-    number: WriteNo,
-    id: Text,
-    length: u32,
-}
-
-// The heads of the rows, part by part.
-#[derive(Drop)]
-struct Heads {
-    numbers: Vec<WriteNo>,
-    ids: Vec<Text>,
-    lengths: Vec<u32>,
-}
 
 #[tactic(auto, unfolding(crate::specs::Layouts::start_at, crate::specs::Reading::both_at, crate::specs::Reading::where_at))]
 fn read_start(cursor: &mut Cursor<'_>) -> Result<(SegNo, u32), Unreadable>
@@ -55,41 +41,19 @@ fn read_start(cursor: &mut Cursor<'_>) -> Result<(SegNo, u32), Unreadable>
     Ok((number, rows))
 }
 
-#[tactic(auto, unfolding(crate::specs::Layouts::head_at, crate::specs::Reading::where_at))]
-fn read_head(alloc: Global, cursor: &mut Cursor<'_>) -> Result<RowHead, Refusal>
-    ensures { Gives (λ h. (record { number = h.number; id = h.id; length = h.length }, cursor.new)) result (head_at cursor.old) }
+// Judges all bytes of a segment's file, and takes no memory.
+fn check(cursor: &mut Cursor<'_>) -> Result<(), Unreadable>
+    ensures ok { OnOk result ((l : Layout) × (layout_at cursor.old ≡ Some l)) }
+    ensures err { OnErr result (layout_at cursor.old ≡ None) }
 {
-    let number = take_u64(cursor)?;
-    if number == 0 {
-        return Err(Refusal::Damaged);
+    let start = read_start(cursor)?;
+    let fields = take_heads(cursor)?;
+    pass_heads(start.1, cursor)?;
+    pass_columns(&fields, start.1, cursor)?;
+    match cursor.ended() {
+        Ok(()) => Ok(()),
+        Err(_) => Err(Unreadable),
     }
-    let id = read_text(alloc, Form::Id, cursor)?;
-    let length = take_u32(cursor)?;
-    if length == 0 || length as usize > MAX_ITEM_BYTES {
-        return Err(Refusal::Damaged);
-    }
-    Ok(RowHead { number, id, length })
-}
-
-fn read_heads(alloc: Global, count: u32, cursor: &mut Cursor<'_>) -> Result<Heads, Refusal>
-    ensures gives { Gives (λ h. (heads_in h.numbers.items h.ids.items h.lengths.items, cursor.new)) result (many_at head_at count cursor.old) }
-    ensures ids { IfOk result (λ h. length h.ids.items ≡ length h.numbers.items) }
-    ensures lengths { IfOk result (λ h. length h.lengths.items ≡ length h.numbers.items) }
-{
-    let mut numbers = Vec::new(alloc);
-    let mut ids = Vec::new(alloc);
-    let mut lengths = Vec::new(alloc);
-    for _ in 0..count {
-        let one = read_head(alloc, cursor)?;
-        numbers.push(one.number)?;
-        ids.push(one.id)?;
-        lengths.push(one.length)?;
-    }
-    Ok(Heads {
-        numbers,
-        ids,
-        lengths,
-    })
 }
 
 #[tactic(auto, unfolding(crate::specs::Layouts::layout_at))]
@@ -117,13 +81,16 @@ fn whole(alloc: Global, bytes: &[u8]) -> Result<SegmentParts, Refusal>
 /// its range. Whether rows and texts rise, are told once and are all used is judged where the parts are taken over.
 /// Lucene's `Codec` reads the files of a segment so, by one format a part.
 ///
-/// [`Refusal::Damaged`] where the bytes lay out no segment. [`Refusal::Memory`] where memory is refused, or the rows of a
-/// column's words, or the ordinals of a column's rows, are 4,294,967,296 or more.
+/// [`Refusal::Damaged`] where the bytes lay out no segment. Where they do, [`Refusal::Memory`] may come: all bytes are judged
+/// before memory is taken. It also stands for 4,294,967,296 rows or more of a column's words, and as many ordinals of a
+/// column's rows.
 pub fn read_segment(alloc: Global, bytes: &[u8]) -> Result<SegmentParts, Refusal>
     ensures ok { IfOk result (λ p. IsParts p × IsLayout (layout_in p) × (bytes.now ≡ spelled_layout (layout_in p))) }
     ensures damaged { IfErr result (λ e. e ≡ Damaged → (l : Layout) → IsLayout l → bytes.now ≢ spelled_layout l) }
+    ensures due { IfErr result (λ e. e ≡ Memory → (l : Layout) × IsLayout l × (bytes.now ≡ spelled_layout l)) }
     ensures refusal { IfErr result (λ e. (e ≡ Damaged) ⊎ (e ≡ Memory)) }
 {
+    check(&mut Cursor::new(bytes))?;
     let parts = whole(alloc, bytes)?;
     Ok(parts)
 }

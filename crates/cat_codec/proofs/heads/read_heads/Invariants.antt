@@ -2,7 +2,7 @@ use Rattle.std.proofs.Common.{◌≡◌, ◌-◌, length}
 use Rattle.cat_codec.specs.Reading.{many_at, with_front}
 use Rattle.cat_codec.specs.Layouts.{head_at}
 use Rattle.cat_codec.specs.Parts.{heads_in}
-use Rattle.cat_codec.proofs.reading.read_heads.Given as goal
+use Rattle.cat_codec.proofs.heads.read_heads.Given as goal
 
 abbrev pub invariant-loop : goal.invariant-loop
 invariant-loop l = record {
