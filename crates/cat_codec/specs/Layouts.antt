@@ -7,6 +7,7 @@ use Rattle.std.specs.Ordering.{is_lt}
 use Rattle.cat_model.specs.Text.{Text, text_cmp}
 use Rattle.cat_model.specs.Item.{Field, Kind, Schema, is_id, is_field_name}
 use Rattle.cat_model.specs.Forms.{is_low_byte, is_plain_byte}
+use Rattle.cat_model.specs.Limits.{field_limit, keyword_limit, row_limit, source_limit}
 use Rattle.cat_model.specs.Layout.{WordPostings, Laid, Head, Layout}
 use Rattle.cat_codec.specs.declared.lists.Form.{Form}
 use Rattle.cat_codec.specs.declared.lists.Form.TheVariants as forms
@@ -18,7 +19,7 @@ abbrev pub is_word : Text → Bool
 is_word t = nat_lt 0 (length t) && (nat_lt (length t) (2 ^ 32) && list_all is_low_byte t)
 
 abbrev pub is_keyword : Text → Bool
-is_keyword t = nat_le (length t) 128 && list_all is_plain_byte t
+is_keyword t = nat_le (length t) keyword_limit && list_all is_plain_byte t
 
 abbrev pub is_label : Text → Bool
 is_label t = nat_lt 0 (length t) && is_keyword t
@@ -36,19 +37,19 @@ is_rising [] = true
 is_rising (t ∷ ts) = list_all (λ u. is_lt (text_cmp t u)) ts && is_rising ts
 
 abbrev pub is_schema : Schema → Bool
-is_schema fields = nat_le (length fields) 32 && (is_rising (map (λ f. f.name) fields) && list_all (λ f. is_field_name f.name) fields)
+is_schema fields = nat_le (length fields) field_limit && (is_rising (map (λ f. f.name) fields) && list_all (λ f. is_field_name f.name) fields)
 
 abbrev pub is_file_number : ℕ → Bool
 is_file_number n = nat_lt 0 n && nat_lt n (2 ^ 63)
 
 abbrev pub is_row_count : ℕ → Bool
-is_row_count n = nat_le 1 n && nat_le n 262144
+is_row_count n = nat_le 1 n && nat_le n row_limit
 
 abbrev pub is_write_number : ℕ → Bool
 is_write_number n = nat_le 1 n
 
 abbrev pub is_source_length : ℕ → Bool
-is_source_length n = nat_le 1 n && nat_le n 8192
+is_source_length n = nat_le 1 n && nat_le n source_limit
 
 -- ---- fields
 

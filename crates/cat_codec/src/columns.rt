@@ -66,7 +66,8 @@ fn end_of(list: &[u32]) -> Result<u32, AllocError>
 }
 
 fn read_postings(alloc: Global, count: u32, cursor: &mut Cursor<'_>) -> Result<Postings, Refusal>
-    ensures gives { Gives (λ p. (paired_postings p.words.items (pieces 0 p.ends.items p.rows.items), cursor.new)) result (many_at posted_at count cursor.old) }
+    ensures gives { Gives (λ p. (paired_postings p.words.items (pieces 0 p.ends.items p.rows.items), cursor.new))
+        result (many_at posted_at count cursor.old) }
     ensures even { IfOk result (λ p. length p.ends.items ≡ length p.words.items) }
     ensures ends { IfOk result (λ p. AreEnds 0 p.ends.items (length p.rows.items)) }
     ensures few { IfOk result (λ p. length p.rows.items < 2 ^ 32) }

@@ -155,8 +155,10 @@ pub(crate) fn take_fields(alloc: Global, cursor: &mut Cursor<'_>) -> Result<Sche
 /// Where they do begin so, [`Refusal::Memory`] may come.
 pub fn read_fields(alloc: Global, cursor: &mut Cursor<'_>) -> Result<Schema, Refusal>
     ensures ok { IfOk result (λ s. model.IsSchema s × (cursor.old ≡ spelled_fields s ++ cursor.new)) }
-    ensures damaged { IfErr result (λ e. e ≡ Damaged → (s : model.Schema) (rest : List ℕ) → model.IsSchema s → cursor.old ≢ spelled_fields s ++ rest) }
-    ensures due { IfErr result (λ e. e ≡ Memory → (s : model.Schema) × model.IsSchema s × (cursor.old ≡ spelled_fields s ++ cursor.new)) }
+    ensures damaged { IfErr result (λ e. e ≡ Damaged
+        → (s : model.Schema) (rest : List ℕ) → model.IsSchema s → cursor.old ≢ spelled_fields s ++ rest) }
+    ensures due { IfErr result (λ e. e ≡ Memory
+        → (s : model.Schema) × model.IsSchema s × (cursor.old ≡ spelled_fields s ++ cursor.new)) }
     ensures refusal { IfErr result (λ e. (e ≡ Damaged) ⊎ (e ≡ Memory)) }
 {
     let schema = take_fields(alloc, cursor)?;
