@@ -1,9 +1,11 @@
 //! A segment of one row, byte by byte as it is laid out.
 use crate::{
-    ColumnParts, put_fields, put_head, put_list, put_number, put_start, put_texts, read_segment,
+    ColumnParts, put_fields, put_head, put_list, put_number, put_start, put_texts, read_fields,
+    read_segment,
 };
-use cat_base::{Refusal, Text};
+use cat_base::{Cursor, Refusal, Text, put_bytes, put_u32};
 use cat_schema::Kind;
+use std::alloc::{AllocError, Global};
 use std::test::Fail;
 
 // Number 1, one row; the fields color (facet) and price (number); write 1, id `a`, a source of 36 bytes; color is
@@ -66,5 +68,32 @@ fn writes_each_part(rt: HostRuntime) -> Result<(), Fail> {
     put_list(&mut out, &[0])?;
     put_number(&mut out, Some(5))?;
     assert_eq!(rt; out.as_slice(), FILE.as_slice());
+    Ok(())
+}
+
+// So many text fields, named `a0` to `a9`, `b0` and so on.
+fn fields_file(alloc: Global, count: u8) -> Result<Vec<u8>, AllocError> {
+    let mut out = Vec::new(alloc);
+    put_u32(&mut out, count as u32)?;
+    for i in 0..count {
+        put_bytes(&mut out, &[b'a' + i / 10, b'0' + i % 10])?;
+        out.push(1)?;
+    }
+    Ok(out)
+}
+
+#[test]
+fn reads_as_many_fields_as_a_schema_may_have(rt: HostRuntime) -> Result<(), Fail> {
+    let alloc = rt.alloc();
+    let most = fields_file(alloc, 32)?;
+    let schema = read_fields(alloc, &mut Cursor::new(&most))?;
+    assert_eq!(rt; schema.fields().len(), 32);
+    let more = fields_file(alloc, 33)?;
+    assert!(rt;
+        matches!(
+            read_fields(alloc, &mut Cursor::new(&more)),
+            Err(Refusal::Damaged)
+        )
+    );
     Ok(())
 }
