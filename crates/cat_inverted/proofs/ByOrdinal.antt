@@ -31,7 +31,7 @@ module _ (ordinals : List ℕ) (i : ℕ) (lt : i < length ordinals) (rising : Is
   more : (q : ℕ) → is_among (take (i + 1) ordinals) q ≡ (is_among (take i ordinals) q || (get_or ordinals i 0 == q))
   more q = list_any_more (λ r. r == q) ordinals i 0 lt
 
-  new_ordinal : (q : ℕ) → is_among (take i ordinals) q ≡ true → (get_or ordinals i 0 == q) ≡ false
+  pub new_ordinal : (q : ℕ) → is_among (take i ordinals) q ≡ true → (get_or ordinals i 0 == q) ≡ false
   new_ordinal q h =
       elim (cases_Bool (get_or ordinals i 0 == q)) [
         | inl yes' ↦

@@ -1,4 +1,5 @@
 pub mod Builds
+pub mod Counted
 pub mod ByOrdinal
 pub mod Gathering
 pub mod Merging

@@ -1,3 +1,4 @@
 pub mod Gathered
+pub mod Counted
 pub mod Postings
 pub mod Intervals

@@ -2,6 +2,7 @@
 #![tactic(auto)]
 
 mod build;
+mod counting;
 mod merge;
 mod ordinals;
 mod posted;

@@ -1,13 +1,12 @@
 //! How the terms of a merged segment are made of those of its inputs, as Lucene's `FieldsConsumer.merge` makes them.
-ghost use Rattle.std.specs.Prelude.{◌≡◌, ℕ, ◌^◌, ◌<◌, ◌++◌, length, map, filter, nat_lt, All, Contains, IfOk, OnOk};
+ghost use Rattle.std.specs.Prelude.{◌≡◌, ℕ, ◌^◌, ◌<◌, ◌++◌, [], length, map, filter, nat_lt, All, Contains, IfOk, OnOk};
 ghost use Rattle.std.specs.List.{flat_map, zip};
 ghost use Rattle.cat_base.specs.Texts.{IsTextSet};
 ghost use Rattle.cat_model.specs.Text.{Text};
 ghost use Rattle.cat_model.specs.Ordinals.{dictionary_of, postings_of, text_at};
 ghost use Rattle.cat_values.specs.Merged.{kept_of, row_in, moved, AreNumbered};
-ghost use Rattle.cat_inverted.specs.Gathered.{list_at};
+ghost use Rattle.cat_inverted.specs.Gathered.{ends_from, list_at};
 
-use crate::ordinals::{empty_lists, laid};
 use crate::terms::Terms;
 use cat_base::Text;
 use cat_values::Dictionary;
@@ -21,6 +20,18 @@ pub struct MergeInput<'a> {
     pub terms: &'a Terms,
     /// For each row 0, where the row is left out, or else its row in the result plus 1.
     pub row_map: &'a [u32],
+}
+
+/// As many lists as there are to be, each empty.
+fn empty_lists(alloc: Global, count: usize) -> Result<Vec<Vec<u32>>, AllocError>
+    ensures count { IfOk result (λ v. length v.items ≡ count) }
+    ensures empty { IfOk result (λ v. All (λ list. list.items ≡ []) v.items) }
+{
+    let mut lists = Vec::with_capacity(alloc, count)?;
+    for _ in 0..count {
+        lists.push(Vec::new(alloc))?;
+    }
+    Ok(lists)
 }
 
 /// Adds the row of the code, unless the code is of none.
@@ -122,6 +133,24 @@ fn words_of<'a>(alloc: Global, inputs: &[MergeInput<'a>]) -> Result<Vec<&'a [Tex
         words.push(input.terms.words())?;
     }
     Ok(words)
+}
+
+/// Where each list ends, and the lists, one behind another.
+fn laid(alloc: Global, lists: &[Vec<u32>]) -> Result<(Vec<u32>, Vec<u32>), AllocError>
+    ensures ends { IfOk result (λ p. p.0.items ≡ ends_from 0 (map (λ list. list.items) lists.now)) }
+    ensures rows { IfOk result (λ p. p.1.items ≡ flat_map (λ list. list) (map (λ list. list.items) lists.now)) }
+    ensures few { IfOk result (λ p. length p.1.items < 2 ^ 32) }
+{
+    let mut ends = Vec::with_capacity(alloc, lists.len())?;
+    let mut rows = Vec::new(alloc);
+    for list in lists {
+        rows.extend_from_slice(list)?;
+        if rows.len() > u32::MAX as usize {
+            return Err(AllocError);
+        }
+        ends.push(rows.len() as u32)?;
+    }
+    Ok((ends, rows))
 }
 
 impl Terms {

@@ -41,7 +41,7 @@ impl Model for Terms {
 }
 
 /// Where the postings of the word of this ordinal begin.
-fn start_of(ends: &[u32], ordinal: usize) -> usize
+pub(crate) fn start_of(ends: &[u32], ordinal: usize) -> usize
     requires { ordinal ≤ length ends.now }
     ensures value { result ≡ start_of 0 ends.now ordinal }
     ensures bound { result < 2 ^ 32 }

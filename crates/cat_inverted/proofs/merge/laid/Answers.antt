@@ -1,6 +1,6 @@
 use Rattle.std.proofs.Common.{ℕ, Vec, Global, length, ap, ◌∙◌, arith}
 use Rattle.cat_inverted.proofs.Gathering.{laid_more, ends_more}
-use Rattle.cat_inverted.proofs.ordinals.laid.Goals as goal
+use Rattle.cat_inverted.proofs.merge.laid.Goals as goal
 
 pub loop-list-preserved : goal.loop-list-preserved
 loop-list-preserved c =

@@ -1,7 +1,7 @@
 use Rattle.std.proofs.Common.{◌≡◌, ◌<◌, ◌^◌, length, take, map}
 use Rattle.std.specs.List.{flat_map}
 use Rattle.cat_inverted.specs.Gathered.{ends_from}
-use Rattle.cat_inverted.proofs.ordinals.laid.Given as goal
+use Rattle.cat_inverted.proofs.merge.laid.Given as goal
 
 abbrev pub invariant-loop-list : goal.invariant-loop-list
 invariant-loop-list l = record {
