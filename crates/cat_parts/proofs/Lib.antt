@@ -1,2 +1,0 @@
-pub mod SegmentRows
-pub mod ViewRows

@@ -1,0 +1,596 @@
+//! Pages over segments are the pages over the records that their live rows show: both show what FINDs of worked scripts
+//! have to show.
+ghost use Rattle.std.specs.Prelude.{◌≡◌, ◌≢◌, ◌≤◌, ◌<◌, true, length, map, IfOk, All, AllPairs};
+ghost use Rattle.cat_model.specs.Item.{IsItem};
+ghost use Rattle.cat_model.specs.View.{row_of};
+
+use crate::put::Put;
+use cat_base::{MAX_ROWS, Refusal, SegNo, WriteNo};
+use cat_directory::{Directory, FileName, MemoryDirectory};
+use cat_query::Query;
+use cat_schema::{Item, Schema};
+use cat_search::{Accepts, Ask, Entry, Key, Leaf, Page, Prepared, Sort, View, page_of};
+use cat_segment::{Live, Row, Segment};
+use cat_segment_rows::are_apart;
+use std::alloc::{AllocError, Global};
+use std::fmt::Write;
+use std::process::Abort;
+use std::sync::Arc;
+use std::test::Fail;
+
+/// A query as the test that the hits of a page pass.
+#[derive(Drop)]
+struct Matching {
+    query: Query,
+}
+
+impl Accepts for Matching {
+    ghost use Rattle.cat_model.specs.Query.{matches};
+    ghost use Rattle.cat_query.specs.View.{query_of};
+
+    ghost test = { λ m. matches (query_of m.query) };
+
+    fn accepts(&self, item: &Item) -> bool {
+        self.query.accepts(item)
+    }
+}
+
+const FIELDS: &[u8] = br#"{"brand":"keyword","color":"facet","price":"number","title":"text"}"#;
+
+/// A row: its number, whether it is live, and its item.
+type PutText<'a> = (WriteNo, bool, &'a str);
+
+/// A FIND: how many hits at most, the sort, the mark, the query, and what is shown.
+type FindText<'a> = (u64, &'a str, Option<WriteNo>, &'a str, &'a str);
+
+fn read_put(alloc: Global, schema: &Schema, row: PutText<'_>) -> Result<Put, Refusal>
+    ensures { IfOk result (λ p. IsItem schema.now p.item) }
+{
+    let (number, live, text) = row;
+    let item = schema.item(alloc, text.as_bytes())?;
+    Ok(Put { number, item, live })
+}
+
+/// What was put there, or what of it is live.
+fn read_puts(
+    alloc: Global,
+    schema: &Schema,
+    rows: &[PutText<'_>],
+    live_only: bool,
+) -> Result<Vec<Put>, Refusal>
+    ensures { IfOk result (λ v. All (λ p. IsItem schema.now p.item) v.items) }
+{
+    let mut puts = Vec::new(alloc);
+    for row in rows {
+        if live_only && !row.1 {
+            continue;
+        }
+        puts.push(read_put(alloc, schema, *row)?)?;
+    }
+    Ok(puts)
+}
+
+/// Whether this one has the lower number, and another id where both are live.
+fn goes_before(put: &Put, last: &Put) -> bool
+    ensures { result ≡ true → (put.now.number < last.now.number) × (put.now.live ≡ true → last.now.live ≡ true → put.now.item.id ≢ last.now.item.id) }
+{
+    if put.number >= last.number {
+        return false;
+    }
+    if !put.live {
+        return true;
+    }
+    if !last.live {
+        return true;
+    }
+    put.item.id() != last.item.id()
+}
+
+/// Whether all of them have lower numbers than this one, and other ids where both are live.
+fn is_later(puts: &[Put], last: &Put) -> bool
+    ensures { result ≡ true → All (λ p. (p.number < last.now.number) × (p.live ≡ true → last.now.live ≡ true → p.item.id ≢ last.now.item.id)) puts.now }
+{
+    for put in puts {
+        if !goes_before(put, last) {
+            return false;
+        }
+    }
+    true
+}
+
+/// Whether their numbers rise and the ids of those that are live differ.
+fn are_in_order(puts: &[Put]) -> bool
+    ensures { result ≡ true → AllPairs (λ a b. (a.number < b.number) × (a.live ≡ true → b.live ≡ true → a.item.id ≢ b.item.id)) puts.now }
+{
+    for place in 0..puts.len() {
+        if !is_later(&puts[..place], &puts[place]) {
+            return false;
+        }
+    }
+    true
+}
+
+fn rows_of<'a>(alloc: Global, puts: &'a [Put]) -> Result<Vec<Row<'a>>, Refusal>
+    ensures items { IfOk result (λ v. map (λ r. r.item.now) v.items ≡ map (λ p. p.item) puts.now) }
+    ensures rows { IfOk result (λ v. map (λ r. row_of (record { number = r.number; item = r.item.now })) v.items ≡ map (λ p. row_of (record { number = p.number; item = p.item })) puts.now) }
+{
+    let mut rows = Vec::new(alloc);
+    for put in puts {
+        rows.push(Row {
+            number: put.number,
+            item: &put.item,
+        })?;
+    }
+    Ok(rows)
+}
+
+/// Which of the rows are live.
+fn live_of(alloc: Global, puts: &[Put]) -> Result<Live, Refusal>
+    requires { length puts.now ≤ 262144 }
+    ensures { IfOk result (λ l. l ≡ map (λ p. p.live) puts.now) }
+{
+    let mut live = Live::all(alloc, puts.len())?;
+    for (row, put) in puts.iter().enumerate() {
+        if !put.live {
+            live.kill(row);
+        }
+    }
+    Ok(live)
+}
+
+/// Whether each number is at least 1.
+fn are_positive(rows: &[Row<'_>]) -> bool
+    ensures { result ≡ true → All (λ r. 1 ≤ r.number) rows.now }
+{
+    for row in rows {
+        if row.number < 1 {
+            return false;
+        }
+    }
+    true
+}
+
+/// The segment of this number that has them as its rows.
+fn leaf_of(
+    rt: &impl Abort,
+    alloc: Global,
+    schema: &Schema,
+    number: SegNo,
+    puts: &[Put],
+) -> Result<Leaf, Fail>
+    requires { All (λ p. IsItem schema.now p.item) puts.now }
+    ensures { IfOk result (λ l. l ≡ record {
+      segment = record { number = number; schema = schema.now; rows = map (λ p. row_of (record { number = p.number; item = p.item })) puts.now };
+      live = map (λ p. p.live) puts.now;
+    }) }
+{
+    let rows = rows_of(alloc, puts)?;
+    let count = rows.len();
+    if count == 0 || count > MAX_ROWS || !are_positive(&rows) || !are_apart(&rows) {
+        panic!(rt; "no rows of segment {number}");
+    }
+    let segment = Segment::of(alloc, number, schema, &rows)?;
+    let live = live_of(alloc, puts)?;
+    Ok(Leaf::new(Arc::new(alloc, segment)?, Arc::new(alloc, live)?))
+}
+
+/// Their view, in segments that end at these places.
+fn view_of(
+    rt: &impl Abort,
+    alloc: Global,
+    schema: &Schema,
+    puts: &[Put],
+    ends: &[usize],
+) -> Result<View, Fail>
+    requires items { All (λ p. IsItem schema.now p.item) puts.now }
+    requires order { AllPairs (λ a b. (a.number < b.number) × (a.live ≡ true → b.live ≡ true → a.item.id ≢ b.item.id)) puts.now }
+    ensures { IfOk result (λ v. v.schema ≡ schema.now) }
+{
+    let mut leaves = Vec::new(alloc);
+    let mut start = 0;
+    for end in ends {
+        if start >= *end || *end > puts.len() {
+            panic!(rt; "no segment ends at {end}");
+        }
+        let number = leaves.len() as SegNo + 1;
+        leaves.push(leaf_of(rt, alloc, schema, number, &puts[start..*end])?)?;
+        start = *end;
+    }
+    if start < puts.len() {
+        panic!(rt; "no segment has row {start}");
+    }
+    Ok(View::of(alloc, schema.copy()?, leaves, 99)?)
+}
+
+/// The sort that a FIND names so.
+fn sort_named(text: &str) -> Sort<'_> {
+    if let Some(name) = text.strip_prefix('+') {
+        return Sort::Rising(name);
+    }
+    match text.strip_prefix('-') {
+        Some(name) => Sort::Falling(name),
+        None => Sort::Added,
+    }
+}
+
+fn write_entry(text: &mut String, entry: &Entry) -> Result<(), AllocError> {
+    write!(text, "{} {} ", entry.number(), entry.id())?;
+    match entry.key() {
+        Some(Key::Number(number)) => write!(text, "{number}"),
+        Some(Key::Keyword(keyword)) => write!(text, "={}", keyword.as_str()),
+        None => write!(text, "."),
+    }
+}
+
+/// What a page shows, as `2 of 4: 4 d 2, 1 a 7`.
+fn page_text(alloc: Global, page: &Page) -> Result<String, AllocError> {
+    let entries = page.entries();
+    let mut text = format!(in alloc; "{} of {}", entries.len(), page.total())?;
+    for (place, entry) in entries.iter().enumerate() {
+        text.push_str(if place == 0 { ": " } else { ", " })?;
+        write_entry(&mut text, entry)?;
+    }
+    Ok(text)
+}
+
+/// What is answered: a page, or a refusal, as `NO 25`.
+fn answer_text(alloc: Global, answer: &Result<Page, Refusal>) -> Result<String, AllocError> {
+    match answer {
+        Ok(page) => page_text(alloc, page),
+        Err(refusal) => format!(in alloc; "NO {}", refusal.number()),
+    }
+}
+
+/// Fails unless the FIND shows the same over the view and over the records.
+fn expect_find(
+    rt: &impl Abort,
+    alloc: Global,
+    view: &View,
+    records: &[Put],
+    find: &FindText<'_>,
+) -> Result<(), Fail>
+    requires rising { AllPairs (λ a b. a.number < b.number) records.now }
+    requires items { All (λ p. IsItem view.now.schema p.item) records.now }
+{
+    let (n, sort, mark, query, shown) = *find;
+    let schema = view.schema();
+    let ask = Ask {
+        sort: sort_named(sort),
+        after: mark,
+        count: n,
+    };
+    let prepared = Prepared::of(view, Query::parse(schema, alloc, query)?)?;
+    let of_view = answer_text(alloc, &prepared.page(alloc, ask))?;
+    assert_eq!(rt; of_view.as_str(), shown, "{n} {sort} {mark:?} {query}");
+    let matching = Matching {
+        query: Query::parse(schema, alloc, query)?,
+    };
+    let page = page_of(alloc, schema, records, &matching, ask);
+    let of_records = answer_text(alloc, &page)?;
+    assert_eq!(rt; of_records.as_str(), shown, "{n} {sort} {mark:?} {query}");
+    Ok(())
+}
+
+/// Fails unless each FIND shows this over a view of the rows, in segments that end at these places, and over the records
+/// of the live rows.
+fn expect_finds(
+    rt: &impl Abort,
+    alloc: Global,
+    rows: &[PutText<'_>],
+    ends: &[usize],
+    finds: &[FindText<'_>],
+) -> Result<(), Fail> {
+    let schema = Schema::read(alloc, FIELDS)?;
+    let puts = read_puts(alloc, &schema, rows, false)?;
+    if !are_in_order(&puts) {
+        panic!(rt; "no rows of a view");
+    }
+    let view = view_of(rt, alloc, &schema, &puts, ends)?;
+    let records = read_puts(alloc, &schema, rows, true)?;
+    if !are_in_order(&records) {
+        panic!(rt; "no records of a view");
+    }
+    for find in finds {
+        expect_find(rt, alloc, &view, &records, find)?;
+    }
+    Ok(())
+}
+
+/// Four items, of which two have one price and one has none, and two that were killed.
+const PRICED: &[PutText<'static>] = &[
+    (1, true, r#"{"id":"a","price":7}"#),
+    (2, true, r#"{"id":"b"}"#),
+    (3, true, r#"{"id":"c","price":7}"#),
+    (4, true, r#"{"id":"d","price":2}"#),
+    (5, false, r#"{"id":"e","price":3}"#),
+    (6, false, r#"{"id":"f","price":7}"#),
+];
+
+#[test]
+fn a_page_shows_the_key_that_it_is_sorted_by(rt: HostRuntime) -> Result<(), Fail> {
+    const ROWS: &[PutText<'static>] = &[(1, true, r#"{"id":"a","price":5,"color":["red"]}"#)];
+    const FINDS: &[FindText<'static>] = &[(10, "+price", None, "*:*", "1 of 1: 1 a 5")];
+    expect_finds(&rt, rt.alloc(), ROWS, &[1], FINDS)
+}
+
+#[test]
+fn ties_go_by_number_and_a_missing_value_is_last(rt: HostRuntime) -> Result<(), Fail> {
+    const FINDS: &[FindText<'static>] = &[
+        (
+            9,
+            "+price",
+            None,
+            "*:*",
+            "4 of 4: 4 d 2, 1 a 7, 3 c 7, 2 b .",
+        ),
+        (
+            9,
+            "-price",
+            None,
+            "*:*",
+            "4 of 4: 1 a 7, 3 c 7, 4 d 2, 2 b .",
+        ),
+        (0, ".", None, "*:*", "0 of 4"),
+        (1_000, ".", None, "price:2", "1 of 1: 4 d ."),
+        (1_001, ".", None, "*:*", "NO 25"),
+        (9, "+title", None, "*:*", "NO 28"),
+        (9, "+id", None, "*:*", "NO 28"),
+        (9, "+size", None, "*:*", "NO 28"),
+    ];
+    expect_finds(&rt, rt.alloc(), PRICED, &[1, 3, 6], FINDS)
+}
+
+#[test]
+fn a_mark_is_any_record_and_the_total_counts_all(rt: HostRuntime) -> Result<(), Fail> {
+    const FINDS: &[FindText<'static>] = &[
+        (2, "+price", None, "*:*", "2 of 4: 4 d 2, 1 a 7"),
+        (2, "+price", Some(1), "*:*", "2 of 4: 3 c 7, 2 b ."),
+        (2, "+price", Some(2), "*:*", "0 of 4"),
+        (2, "+price", Some(99), "*:*", "NO 23"),
+        (9, "+price", Some(4), "price:7", "2 of 2: 1 a 7, 3 c 7"),
+        (9, ".", Some(2), "*:*", "2 of 4: 3 c ., 4 d ."),
+        (9, ".", Some(5), "*:*", "NO 23"),
+        (9, "+price", Some(6), "*:*", "NO 23"),
+    ];
+    expect_finds(&rt, rt.alloc(), PRICED, &[3, 4, 6], FINDS)
+}
+
+/// The four items under ten times their numbers, each but one behind an older row of its id.
+const REPLACED: &[PutText<'static>] = &[
+    (3, false, r#"{"id":"a","price":2}"#),
+    (10, true, r#"{"id":"a","price":7}"#),
+    (15, false, r#"{"id":"c","price":1}"#),
+    (20, true, r#"{"id":"b"}"#),
+    (25, false, r#"{"id":"d","price":7}"#),
+    (30, true, r#"{"id":"c","price":7}"#),
+    (40, true, r#"{"id":"d","price":2}"#),
+];
+
+#[test]
+fn an_older_row_of_an_id_is_not_shown(rt: HostRuntime) -> Result<(), Fail> {
+    const FINDS: &[FindText<'static>] = &[
+        (
+            9,
+            "+price",
+            None,
+            "*:*",
+            "4 of 4: 40 d 2, 10 a 7, 30 c 7, 20 b .",
+        ),
+        (
+            9,
+            "-price",
+            None,
+            "*:*",
+            "4 of 4: 10 a 7, 30 c 7, 40 d 2, 20 b .",
+        ),
+        (0, ".", None, "*:*", "0 of 4"),
+        (1_000, ".", None, "price:2", "1 of 1: 40 d ."),
+        (2, "+price", None, "*:*", "2 of 4: 40 d 2, 10 a 7"),
+        (2, "+price", Some(10), "*:*", "2 of 4: 30 c 7, 20 b ."),
+        (2, "+price", Some(20), "*:*", "0 of 4"),
+        (9, "+price", Some(40), "price:7", "2 of 2: 10 a 7, 30 c 7"),
+        (9, ".", Some(20), "*:*", "2 of 4: 30 c ., 40 d ."),
+        (1, ".", Some(20), "*:*", "1 of 4: 30 c ."),
+        (9, ".", Some(3), "*:*", "NO 23"),
+        (9, "-price", Some(25), "*:*", "NO 23"),
+        (1_001, "+title", Some(3), "*:*", "NO 25"),
+        (9, "+title", Some(3), "*:*", "NO 28"),
+    ];
+    expect_finds(&rt, rt.alloc(), REPLACED, &[1, 3, 6, 7], FINDS)
+}
+
+#[test]
+fn words_are_lowered_and_kept_whole(rt: HostRuntime) -> Result<(), Fail> {
+    const ROWS: &[PutText<'static>] = &[
+        (
+            1,
+            true,
+            r#"{"id":"a","title":"Red-Shoe 42é","brand":"Acme"}"#,
+        ),
+        (2, true, r#"{"id":"b","title":"shoes","brand":"Zed"}"#),
+        (
+            3,
+            false,
+            r#"{"id":"c","title":"red shoes 42","brand":"Bo"}"#,
+        ),
+    ];
+    const FINDS: &[FindText<'static>] = &[
+        (9, ".", None, "title:RED", "1 of 1: 1 a ."),
+        (9, ".", None, "title:sho*", "2 of 2: 1 a ., 2 b ."),
+        (9, ".", None, "title:42", "0 of 0"),
+        (9, ".", None, "+brand:[B TO *] title:red", "1 of 1: 2 b ."),
+        (9, "-brand", None, "*:*", "2 of 2: 2 b =Zed, 1 a =Acme"),
+    ];
+    expect_finds(&rt, rt.alloc(), ROWS, &[1, 3], FINDS)
+}
+
+#[test]
+fn clauses_are_musts_must_nots_and_shoulds(rt: HostRuntime) -> Result<(), Fail> {
+    const ROWS: &[PutText<'static>] = &[
+        (1, true, r#"{"id":"a","brand":"x","price":-3}"#),
+        (2, true, r#"{"id":"b","brand":"y"}"#),
+        (3, false, r#"{"id":"c","brand":"z","price":-4}"#),
+    ];
+    const FINDS: &[FindText<'static>] = &[
+        (9, ".", None, "price:[* TO 0]", "1 of 1: 1 a ."),
+        (9, ".", None, "*:* -(-brand:x)", "2 of 2: 1 a ., 2 b ."),
+        (9, ".", None, "(-brand:y)", "0 of 0"),
+        (9, ".", None, "price:[3 TO -3]", "0 of 0"),
+        (9, "+price", None, "*:*", "2 of 2: 1 a -3, 2 b ."),
+    ];
+    expect_finds(&rt, rt.alloc(), ROWS, &[1, 2, 3], FINDS)
+}
+
+#[test]
+fn a_query_may_have_64_clauses_and_8_groups(rt: HostRuntime) -> Result<(), Fail> {
+    let alloc = rt.alloc();
+    let most = "*:* ".repeat(alloc, 64)?;
+    const ROWS: &[PutText<'static>] = &[(1, true, r#"{"id":"a"}"#), (2, false, r#"{"id":"b"}"#)];
+    let finds: &[FindText<'_>] = &[
+        (9, ".", None, most.as_str(), "1 of 1: 1 a ."),
+        (9, ".", None, "((((((((*:*))))))))", "1 of 1: 1 a ."),
+    ];
+    expect_finds(&rt, alloc, ROWS, &[2], finds)
+}
+
+#[test]
+fn a_view_without_rows_shows_nothing(rt: HostRuntime) -> Result<(), Fail> {
+    let finds = &[
+        (10, ".", None, "*:*", "0 of 0"),
+        (1_001, "+title", Some(5), "*:*", "NO 25"),
+        (9, "+title", Some(5), "*:*", "NO 28"),
+        (9, "+price", Some(5), "*:*", "NO 23"),
+    ];
+    expect_finds(&rt, rt.alloc(), &[], &[], finds)?;
+    let killed = &[(5, false, r#"{"id":"a","price":1}"#)];
+    expect_finds(&rt, rt.alloc(), killed, &[1], finds)
+}
+
+#[test]
+fn each_view_shows_the_rows_that_it_has_live(rt: HostRuntime) -> Result<(), Fail> {
+    let alloc = rt.alloc();
+    let a = r#"{"id":"a"}"#;
+    let b = r#"{"id":"b"}"#;
+    let second = &[(1, true, a), (2, true, b)];
+    let third = &[(1, false, a), (2, true, b)];
+    let fifth = &[
+        (1, false, a),
+        (2, false, b),
+        (4, true, r#"{"id":"b","price":7}"#),
+        (5, true, r#"{"id":"c"}"#),
+    ];
+    let all = "*:*";
+    expect_finds(
+        &rt,
+        alloc,
+        second,
+        &[2],
+        &[(9, ".", None, all, "2 of 2: 1 a ., 2 b .")],
+    )?;
+    expect_finds(
+        &rt,
+        alloc,
+        third,
+        &[2],
+        &[(9, ".", None, all, "1 of 1: 2 b .")],
+    )?;
+    expect_finds(
+        &rt,
+        alloc,
+        fifth,
+        &[2, 4],
+        &[(9, ".", None, all, "2 of 2: 4 b ., 5 c .")],
+    )
+}
+
+#[test]
+fn a_page_shows_the_first_hits_and_counts_all(rt: HostRuntime) -> Result<(), Fail> {
+    const ROWS: &[PutText<'static>] = &[
+        (1, true, r#"{"id":"a"}"#),
+        (2, true, r#"{"id":"b"}"#),
+        (3, true, r#"{"id":"c"}"#),
+    ];
+    const FINDS: &[FindText<'static>] = &[
+        (0, ".", None, "*:*", "0 of 3"),
+        (2, ".", None, "*:*", "2 of 3: 1 a ., 2 b ."),
+        (3, ".", None, "*:*", "3 of 3: 1 a ., 2 b ., 3 c ."),
+        (1_000, ".", None, "*:*", "3 of 3: 1 a ., 2 b ., 3 c ."),
+        (1_001, ".", None, "*:*", "NO 25"),
+    ];
+    expect_finds(&rt, rt.alloc(), ROWS, &[1, 3], FINDS)
+}
+
+/// The texts of the names, with a space behind each.
+fn names_text(alloc: Global, names: &[FileName]) -> Result<String, Refusal> {
+    let mut text = String::new(alloc);
+    for name in names {
+        text.push_str(name.text(alloc)?.as_str())?;
+        text.push(' ')?;
+    }
+    Ok(text)
+}
+
+#[test]
+fn a_view_needs_two_files_of_each_segment(rt: HostRuntime) -> Result<(), Fail> {
+    let alloc = rt.alloc();
+    let schema = Schema::read(alloc, FIELDS)?;
+    let puts = read_puts(alloc, &schema, PRICED, false)?;
+    if !are_in_order(&puts) {
+        panic!(&rt; "no rows of a view");
+    }
+    let view = view_of(&rt, alloc, &schema, &puts, &[1, 3, 6])?;
+    let names = names_text(alloc, &view.files(alloc)?)?;
+    assert_eq!(rt;
+        names.as_str(),
+        "_1.seg _1.sto _2.seg _2.sto _3.seg _3.sto "
+    );
+    Ok(())
+}
+
+/// Puts the texts into the file of a segment's sources, one behind the other.
+fn store(
+    alloc: Global,
+    files: &mut MemoryDirectory,
+    segment: SegNo,
+    texts: &[&str],
+) -> Result<(), Refusal> {
+    let name = FileName::Source(segment);
+    if !name.has_form() {
+        return Err(Refusal::Damaged);
+    }
+    files.create(alloc, name)?;
+    for text in texts {
+        files.append(name, text.as_bytes())?;
+    }
+    Ok(())
+}
+
+#[test]
+fn a_view_gives_the_texts_of_live_ids(rt: HostRuntime) -> Result<(), Fail> {
+    let alloc = rt.alloc();
+    let schema = Schema::read(alloc, FIELDS)?;
+    let puts = read_puts(alloc, &schema, PRICED, false)?;
+    if !are_in_order(&puts) {
+        panic!(&rt; "no rows of a view");
+    }
+    let view = view_of(&rt, alloc, &schema, &puts, &[1, 3, 6])?;
+    let mut files = MemoryDirectory::new(alloc);
+    let (b, c) = (r#"{"id":"b"}"#, r#"{"id":"c","price":7}"#);
+    let (d, e) = (r#"{"id":"d","price":2}"#, r#"{"id":"e","price":3}"#);
+    store(alloc, &mut files, 2, &[b, c])?;
+    store(alloc, &mut files, 3, &[d, e, r#"{"id":"f","price":7}"#])?;
+    let found = view.get(alloc, &mut files, "c")?;
+    assert_eq!(rt; found.as_deref(), Some(c.as_bytes()));
+    let found = view.get(alloc, &mut files, "d")?;
+    assert_eq!(rt; found.as_deref(), Some(d.as_bytes()));
+    // The row of `e` is dead, and no row has `g`.
+    assert!(rt; view.get(alloc, &mut files, "e")?.is_none());
+    assert!(rt; view.get(alloc, &mut files, "g")?.is_none());
+    // The file of `a` was never made, and that of `c` is a byte short.
+    let absent = view.get(alloc, &mut files, "a");
+    assert!(rt; matches!(absent, Err(Refusal::Damaged)));
+    store(alloc, &mut files, 2, &[b, r#"{"id":"c","price":7"#])?;
+    let short = view.get(alloc, &mut files, "c");
+    assert!(rt; matches!(short, Err(Refusal::Damaged)));
+    Ok(())
+}
