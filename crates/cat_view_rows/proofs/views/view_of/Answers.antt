@@ -13,5 +13,5 @@ loop-end-preserved g c =
 
 pub of-requires : goal.of-requires
 of-requires g c =
-    subst (λ s. IsView (record { schema = s; leaves = c.loop-end.leaves.items; token = 99 })) (sym c.in_ok-copy.ensures.ok)
+    subst (λ s. IsView (record { schema = s; leaves = c.loop-end.leaves.items; token = 99 })) (sym c.in_ok-copy.ensures)
     (is_view c.args.schema.now c.args.puts.now c.loop-end.start 99 c.loop-end.leaves.items c.requires.order c.loop-end.invariant (omega (arith, c.if-start-puts.false)))
