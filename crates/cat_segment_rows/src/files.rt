@@ -1,5 +1,7 @@
 //! The bytes of a segment's files, worked out by hand: they are written so and read so, and what is near them is damaged
 //! or spells another value.
+ghost use Rattle.std.specs.Prelude.{◌≡◌, IfOk};
+
 use cat_base::Refusal;
 use cat_schema::Schema;
 use cat_segment::{Live, Row, Segment, decode_liv, decode_seg, encode_liv, encode_seg};
@@ -34,7 +36,9 @@ const LIVE: [u8; 26] = [
 ];
 
 /// The segment that the bytes are of.
-fn segment(alloc: Global) -> Result<Segment, Refusal> {
+fn segment(alloc: Global) -> Result<Segment, Refusal>
+    ensures { IfOk result (λ s. s.number ≡ 1) }
+{
     let schema = Schema::read(alloc, br#"{"price":"number","color":"facet"}"#)?;
     let item = schema.item(alloc, br#"{"id":"a","price":5,"color":["red"]}"#)?;
     let row = Row {

@@ -1,5 +1,5 @@
 //! The rows of a segment that a query matches: those whose items it accepts one by one.
-ghost use Rattle.std.specs.Prelude.{◌≡◌, ◌≤◌, ◌<◌, length, map, IfOk, All};
+ghost use Rattle.std.specs.Prelude.{◌≡◌, ◌≤◌, ◌<◌, length, map, IfOk, IfSome, All};
 ghost use Rattle.cat_model.specs.Item.{IsItem};
 
 use crate::apart::are_apart;
@@ -165,9 +165,10 @@ fn rows_of<'a>(alloc: Global, items: &'a [Item]) -> Result<Vec<Row<'a>>, Refusal
     Ok(rows)
 }
 
-/// The segment of the items, and `None` where they can't be the rows of one.
+/// Segment 1, of the items, and `None` where they can't be the rows of one.
 fn segment_of(alloc: Global, schema: &Schema, items: &[Item]) -> Result<Option<Segment>, Refusal>
     requires { All (IsItem schema.now) items.now }
+    ensures { IfOk result (λ found. IfSome found (λ s. s.number ≡ 1)) }
 {
     let rows = rows_of(alloc, items)?;
     let count = rows.len();
