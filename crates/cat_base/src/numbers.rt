@@ -86,6 +86,9 @@ pub const MAX_SEGMENTS: usize = 65_536;
 /// The most snapshots of one commit. (Lucene: the reference count of a `SnapshotDeletionPolicy`.)
 pub const MAX_SNAPSHOTS: u32 = 65_535;
 
+/// The longest text of a commit, in bytes. (Lucene: the user data of an `IndexCommit`, which has no limit.)
+pub const MAX_COMMIT_TEXT_BYTES: usize = 256;
+
 /// The least number of segments that a merge window may join. (Lucene: `mergeFactor` of `LogDocMergePolicy`.)
 pub const LEAST_MERGE_FACTOR: u64 = 2;
 

@@ -11,7 +11,7 @@ use Rattle.cat_model.specs.Item.{Record}
 use Rattle.cat_model.specs.Files.{Name}
 use Rattle.cat_model.specs.View.{selected}
 use Rattle.cat_model.specs.Run.{is_newest}
-use Rattle.cat_model.specs.State.{Commit, newest_of, is_below, snapshots_in, commits_kept, commit_now, IsSound}
+use Rattle.cat_model.specs.State.{Commit, newest_of, newest_told, is_below, snapshots_in, commits_kept, commit_now, IsSound}
 use Rattle.cat_model.proofs.Lists.{All-weaken, All-both, All-kept}
 use Rattle.cat_model.proofs.Commits.{newest-pushed, filter_last, is_newest-self}
 use Rattle.cat_ledger_model.specs.Portions.{Portion, records_of, all_records, lives_of, Apart, Merging, IsMerging}
@@ -100,12 +100,12 @@ listed_apart o xs g (p ∷ ps) h = (h.0, (h.1.0, All-both (NotOf o) (name_of_liv
 -- ---- COMMIT
 
 pub commits_are_kept : CommitsAreKept
-commits_are_kept l new ok empty call =
+commits_are_kept text l new ok empty call =
     let g : ℕ = l.next_generation in
     let P : Name → Type 0 = IsPast l.next_segment g in
     let Q : Name → Type 0 = IsPast l.next_segment (g + 1) in
     let stays : ℕ → Bool = stays_kept l.taken (Some g) in
-    let c : LedgerCommit = commit_of l in
+    let c : LedgerCommit = commit_of text l in
     let cs : List LedgerCommit = commits_that stays l.commits ++ c ∷ [] in
     let portions : List Name = flat_map names_of_portion l.portions in
     let views : List Name = flat_map names_of_view l.views in
@@ -123,8 +123,8 @@ commits_are_kept l new ok empty call =
     ) in
     let its : portions_in c ≡ l.portions = portions_listed (newest_listed l.commits) g l.portions in
     let table : table_of l ≡ records_of l.portions = ap (λ rs. records_of l.portions ++ rs) empty ∙ append-nil (records_of l.portions) in
-    let shown : Commit = record { generation = g; token = l.count; table = table_of l } in
-    let same : commit_shown c ≡ shown = λ i. record { generation = g; token = l.count; table = (ap records_of its ∙ sym table) i } in
+    let shown : Commit = record { generation = g; text = text; token = l.count; table = table_of l } in
+    let same : commit_shown c ≡ shown = λ i. record { generation = g; text = text; token = l.count; table = (ap records_of its ∙ sym table) i } in
     let old : List Commit = map commit_shown l.commits in
     let pushed : newest_of (old ++ shown ∷ []) ≡ Some g = newest-pushed old shown in
     let p : Option ℕ → Commit → Bool = λ o x. is_newest o x.generation || ltb 0 (snapshots_in l.taken x.generation) in
@@ -267,8 +267,8 @@ opened_are_fresh c l its whole told =
         };
         one_view = one_view;
         no_hold = its.holds;
-        commits = ap (map commit_shown) its.commits ∙ (λ i. record { generation = c.generation; token = sym its.count i; table = sym table i } ∷ [])
-            ∙ sym (ap (λ cs. map (commit_now (state_of l)) (option_to_list (newest_of (map commit_shown cs)))) its.commits);
+        commits = ap (map commit_shown) its.commits ∙ (λ i. record { generation = c.generation; text = c.text; token = sym its.count i; table = sym table i } ∷ [])
+            ∙ sym (ap (λ cs. map (commit_now (state_of l)) (option_to_list (newest_told (map commit_shown cs)))) its.commits);
         no_snapshot = its.taken;
       },
       table,

@@ -154,14 +154,17 @@ Apart-filter R p (x ∷ xs) a = elim (p x) as (λ b. Apart R (cond b (x ∷ filt
 put_last-append : (xs ys : List Record) (n : ℕ) (w : Write) → put_last (xs ++ ys) n w ≡ xs ++ put_last ys n w
 put_last-append xs ys n (Write.put i) = append_assoc xs ys (record { number = n; item = i } ∷ [])
 put_last-append xs ys n (Write.delete id) = refl
+put_last-append xs ys n (Write.delete_where q) = refl
 
 All-put_last : (P : Record → Type 0) (rs : List Record) (n : ℕ) (w : Write) → AllByRecursion P rs → ((i : Item) → w ≡ Write.put i → P (record { number = n; item = i })) → AllByRecursion P (put_last rs n w)
 All-put_last P rs n (Write.put i) a f = All-both P rs (record { number = n; item = i } ∷ []) a (f i refl, tt)
 All-put_last P rs n (Write.delete id) a f = a
+All-put_last P rs n (Write.delete_where q) a f = a
 
 Apart-put_last : (R : Record → Record → Type 0) (rs : List Record) (n : ℕ) (w : Write) → Apart R rs → ((i : Item) → w ≡ Write.put i → AllByRecursion (λ r. R r (record { number = n; item = i })) rs) → Apart R (put_last rs n w)
 Apart-put_last R rs n (Write.put i) a f = Apart-join R rs (record { number = n; item = i } ∷ []) a (tt, tt) (All-weaken (λ r. R r (record { number = n; item = i })) (λ r. AllByRecursion (R r) (record { number = n; item = i } ∷ [])) (λ r h. (h, tt)) rs (f i refl))
 Apart-put_last R rs n (Write.delete id) a f = a
+Apart-put_last R rs n (Write.delete_where q) a f = a
 
 not_true : (b : Bool) → not b ≡ true → b ≡ false
 not_true true e = sym e

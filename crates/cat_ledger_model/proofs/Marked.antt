@@ -156,7 +156,7 @@ Reduced-drop (suc i) [] (y ∷ b) h = absurd h
 Reduced-drop (suc i) (x ∷ a) [] h = absurd h
 Reduced-drop (suc i) (x ∷ a) (y ∷ b) h = Reduced-drop i a b h.3
 
--- ---- a write's record is taken out
+-- ---- the records that a write takes out
 
 pub live_after-less : (w : Write) (bs : List Bool) (rs : List Record) → LessLive bs (live_after w bs rs)
 live_after-less w [] rs = tt

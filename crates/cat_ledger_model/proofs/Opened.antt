@@ -3,7 +3,7 @@ use Rattle.std.proofs.Common.{◌≡◌, ◌≢◌, ◌<◌, List, [], ◌∷◌
 use Rattle.std.specs.Prelude.{option_to_list}
 use Rattle.std.specs.List.{AllByRecursion}
 use Rattle.cat_model.specs.Item.{Record}
-use Rattle.cat_model.specs.State.{newest_of, commit_now, IsSound}
+use Rattle.cat_model.specs.State.{newest_told, commit_now, IsSound}
 use Rattle.cat_ledger_model.specs.Portions.{Portion, records_of, all_records, Apart, IsMerging}
 use Rattle.cat_ledger_model.specs.Ledger.{Listed, IsPutRecord, AreWhole, IsWholeView, IsWholeCommit, IsAlone, state_of, table_of, view_shown, commit_shown}
 use Rattle.cat_ledger_model.specs.Stored.{IsStored, IsCommitStored, IsMergeStored}
@@ -41,7 +41,7 @@ empty_are_fresh l its told =
         };
         one_view = one_view;
         no_hold = its.holds;
-        commits = ap (map commit_shown) its.commits ∙ sym (ap (λ cs. map (commit_now (state_of l)) (option_to_list (newest_of (map commit_shown cs)))) its.commits);
+        commits = ap (map commit_shown) its.commits ∙ sym (ap (λ cs. map (commit_now (state_of l)) (option_to_list (newest_told (map commit_shown cs)))) its.commits);
         no_snapshot = its.taken;
       },
       table,

@@ -6,6 +6,7 @@ use Rattle.std.proofs.lemmas.Bool.Decides.{nat_tests, eqb_tells}
 use Rattle.cat_base.specs.declared.refusal.Refusal.TheVariants.{Line as NoForm, Spent, Full, Gone, NotHeld, NoSnapshot}
 use Rattle.cat_model.specs.Text.{Text}
 use Rattle.cat_model.specs.Item.{Item, IsItem}
+use Rattle.cat_model.specs.Query.{Query}
 use Rattle.cat_model.specs.Write.{Write}
 use Rattle.cat_model.specs.Run.{Chore, News, Command, Answer, Reply, greatest, may_tell, has}
 use Rattle.cat_model.specs.Limits.{last_number, buffer_limit}
@@ -98,6 +99,12 @@ module _ (l : Ledger) (s : ℕ) (r : Reply) (new : Ledger) (ok : IsLedger l) whe
   delete_by id true h m = let w = writes_are_written l (Write.delete id) ok (ltb-true l.count last_number h) tt in (subst IsLedger (sym m.1) w.0, m.0, ap state_of m.1 ∙ w.1)
   delete_by id false h m = let k = stays m.1 in (k.0, m.0, k.1)
 
+  delete_where_by : (q : Query) (b : Bool) → ltb l.count last_number ≡ b
+      → cond b ((r ≡ Ok (Answer.number (l.count + 1))) × (new ≡ wrote l (Write.delete_where q))) ((r ≡ Err Spent) × (new ≡ l))
+      → IsLedger new × (r ≡ cond b (Ok (Answer.number (l.count + 1))) (Err Spent)) × (state_of new ≡ cond b (written (state_of l) (Write.delete_where q)) (state_of l))
+  delete_where_by q true h m = let w = writes_are_written l (Write.delete_where q) ok (ltb-true l.count last_number h) tt in (subst IsLedger (sym m.1) w.0, m.0, ap state_of m.1 ∙ w.1)
+  delete_where_by q false h m = let k = stays m.1 in (k.0, m.0, k.1)
+
   refresh_by : (b : Bool) → cond b ((r ≡ Err Full) × (new ≡ l)) ((mid : Ledger) × Flushes l mid × RecordsView mid new × (r ≡ Ok (Answer.number l.count)))
       → IsLedger new × (r ≡ cond b (Err Full) (Ok (Answer.number l.count))) × (state_of new ≡ cond b (state_of l) (refreshed (state_of l)))
   refresh_by true m = let k = stays m.1 in (k.0, m.0, k.1)
@@ -137,6 +144,7 @@ module _ (l : Ledger) (s : ℕ) (r : Reply) (new : Ledger) (ok : IsLedger l) whe
   snaps_by (Ok (Answer.number g)) m = snapshots_are_taken g l new ok m
   snaps_by (Ok (Answer.found f)) m = stays m
   snaps_by (Ok (Answer.names ns)) m = stays m
+  snaps_by (Ok (Answer.commit_text t)) m = stays m
   snaps_by (Ok (Answer.news n)) m = stays m
   snaps_by (Err e) m = stays m
 
@@ -145,16 +153,16 @@ module _ (l : Ledger) (s : ℕ) (r : Reply) (new : Ledger) (ok : IsLedger l) whe
   release_by g true m = let k = snapshots_are_given g l new ok m.1 in (k.0, m.0, k.1)
   release_by g false m = let k = stays m.1 in (k.0, m.0, k.1)
 
-  commit_moves : (mid : Ledger) → Flushes l mid → Committed mid new → r ≡ Ok (Answer.number mid.next_generation) → IsLedger new × Moves l.schema (state_of l) s Command.commit r (state_of new)
-  commit_moves mid f call e =
+  commit_moves : (text : Text) (mid : Ledger) → Flushes l mid → Committed text mid new → r ≡ Ok (Answer.number mid.next_generation) → IsLedger new × Moves l.schema (state_of l) s (Command.commit (Ok text)) r (state_of new)
+  commit_moves text mid f call e =
       let g : ℕ = mid.next_generation in
       let k = flushes_change_no_state l mid ok f in
-      let c = commits_are_kept mid new k.0 k.2 call in
+      let c = commits_are_kept text mid new k.0 k.2 call in
       let below : is_below (newest_of (state_of l).commits) g ≡ true = ap (λ (st : State). is_below (newest_of st.commits) g) (sym k.1) ∙ c.2 in
       let low : is_below (newest_of (state_of l).commits) last_number ≡ true = below_less (newest_of (state_of l).commits) g last_number below call.left in (
         c.0,
-        subst (λ b. cond b ((h : ℕ) × (r ≡ Ok (Answer.number h)) × (0 < h) × (h ≤ last_number) × IsTrue (is_below (newest_of (state_of l).commits) h) × (state_of new ≡ committed (state_of l) h)) ((r ≡ Err Spent) × (state_of new ≡ state_of l)))
-            (sym low) (g, e, k.0.numbers.1, call.left, below, c.1 ∙ ap (λ st. committed st g) k.1),
+        subst (λ b. cond b ((h : ℕ) × (r ≡ Ok (Answer.number h)) × (0 < h) × (h ≤ last_number) × IsTrue (is_below (newest_of (state_of l).commits) h) × (state_of new ≡ committed (state_of l) (record { generation = h; text = text }))) ((r ≡ Err Spent) × (state_of new ≡ state_of l)))
+            (sym low) (g, e, k.0.numbers.1, call.left, below, c.1 ∙ ap (λ st. committed st (record { generation = g; text = text })) k.1),
       )
 
   prune_moves : (n : ℕ) → r ≡ Ok (Answer.number (length l.views - length new.views)) → Pruned n l new → IsLedger new × Moves l.schema (state_of l) s (Command.prune n) r (state_of new)
@@ -170,6 +178,8 @@ module _ (l : Ledger) (s : ℕ) (r : Reply) (new : Ledger) (ok : IsLedger l) whe
   serves (Command.put (Err e)) m = let k = stays m.1 in (k.0, (m.0, k.1))
   serves (Command.delete (Ok id)) m = let k = delete_by id (ltb l.count last_number) refl m in (k.0, (k.1, k.2))
   serves (Command.delete (Err e)) m = let k = stays m.1 in (k.0, (m.0, k.1))
+  serves (Command.delete_where (Ok q)) m = let k = delete_where_by q (ltb l.count last_number) refl m in (k.0, (k.1, k.2))
+  serves (Command.delete_where (Err e)) m = let k = stays m.1 in (k.0, (m.0, k.1))
   serves Command.refresh m = let k = refresh_by (refuses_refresh (state_of l)) m in (k.0, (k.1, k.2))
   serves Command.open_newest m =
       let t : ℕ = greatest (tokens_in l.views) in
@@ -185,10 +195,12 @@ module _ (l : Ledger) (s : ℕ) (r : Reply) (new : Ledger) (ok : IsLedger l) whe
   serves (Command.files_of_token t) m = let k = stays m.1 in (k.0, (m.0, k.1))
   serves (Command.chore c) m = let k = chore_by c (s == 0) m in (k.0, (k.1, k.2))
   serves (Command.prune n) m = prune_moves n m.0 m.1
-  serves Command.commit (mid, f, call, e) = commit_moves mid f call e
+  serves (Command.commit (Err e)) m = let k = stays m.1 in (k.0, (m.0, k.1))
+  serves (Command.commit (Ok text)) (mid, f, call, e) = commit_moves text mid f call e
   serves Command.snapshot m = let k = snaps_by r m.1 in (k.0, (m.0, k.1))
   serves (Command.release_snapshot g) m = let k = release_by g (ltb 0 (snapshots_in l.taken g)) m in (k.0, (k.1, k.2))
   serves (Command.files_of_commit g) m = let k = stays m.1 in (k.0, (m.0, k.1))
+  serves (Command.text_of_commit g) m = let k = stays m.1 in (k.0, (m.0, k.1))
 
   left : IsLeft l new → IsLedger new × (state_of new ≡ state_of l)
   left h =
@@ -202,9 +214,9 @@ module _ (l : Ledger) (s : ℕ) (r : Reply) (new : Ledger) (ok : IsLedger l) whe
   Stepped : Command → Type 0
   Stepped c = Moves l.schema (state_of l) s c r (state_of new) ⊎ (Halts l.schema (state_of l) s c r × (state_of new ≡ state_of l))
 
-  spent_by : (b : Bool) → is_below (newest_of (state_of l).commits) last_number ≡ b → r ≡ Err Spent → state_of new ≡ state_of l → Stepped Command.commit
+  spent_by : (text : Text) (b : Bool) → is_below (newest_of (state_of l).commits) last_number ≡ b → r ≡ Err Spent → state_of new ≡ state_of l → Stepped (Command.commit (Ok text))
   unfolding Stepped
-  spent_by true e told' same =
+  spent_by text true e told' same =
       let st : State = state_of l in
       inr (
         inr (
@@ -212,18 +224,18 @@ module _ (l : Ledger) (s : ℕ) (r : Reply) (new : Ledger) (ok : IsLedger l) whe
           (
             Answer.number last_number,
             (
-              committed st last_number,
-              subst (λ b. cond b ((g : ℕ) × (◌≡◌ {A = Reply} (Ok (Answer.number last_number)) (Ok (Answer.number g))) × (0 < g) × (g ≤ last_number) × IsTrue (is_below (newest_of st.commits) g) × (committed st last_number ≡ committed st g)) ((◌≡◌ {A = Reply} (Ok (Answer.number last_number)) (Err Spent)) × (committed st last_number ≡ st)))
+              committed st (record { generation = last_number; text = text }),
+              subst (λ b. cond b ((g : ℕ) × (◌≡◌ {A = Reply} (Ok (Answer.number last_number)) (Ok (Answer.number g))) × (0 < g) × (g ≤ last_number) × IsTrue (is_below (newest_of st.commits) g) × (committed st (record { generation = last_number; text = text }) ≡ committed st (record { generation = g; text = text }))) ((◌≡◌ {A = Reply} (Ok (Answer.number last_number)) (Err Spent)) × (committed st (record { generation = last_number; text = text }) ≡ st)))
                   (sym e) (last_number, refl, omega arith, omega arith, e, refl),
             ),
           ),
         ),
         same,
       )
-  spent_by false e told' same = inl (subst (λ b. cond b ((g : ℕ) × (r ≡ Ok (Answer.number g)) × (0 < g) × (g ≤ last_number) × IsTrue (is_below (newest_of (state_of l).commits) g) × (state_of new ≡ committed (state_of l) g)) ((r ≡ Err Spent) × (state_of new ≡ state_of l))) (sym e) (told', same))
+  spent_by text false e told' same = inl (subst (λ b. cond b ((g : ℕ) × (r ≡ Ok (Answer.number g)) × (0 < g) × (g ≤ last_number) × IsTrue (is_below (newest_of (state_of l).commits) g) × (state_of new ≡ committed (state_of l) (record { generation = g; text = text }))) ((r ≡ Err Spent) × (state_of new ≡ state_of l))) (sym e) (told', same))
 
   finds_none : (c : Command) → FindsNone l c r new → IsLedger new × Stepped c
-  finds_none Command.commit m = (subst IsLedger (sym m.2) ok, spent_by (is_below (newest_of (state_of l).commits) last_number) refl m.0 (ap state_of m.2))
+  finds_none (Command.commit (Ok text)) m = (subst IsLedger (sym m.2) ok, spent_by text (is_below (newest_of (state_of l).commits) last_number) refl m.0 (ap state_of m.2))
   finds_none _ m = absurd m
 
 pub calls_are_steps : CallsAreSteps

@@ -33,6 +33,7 @@ module _ (l : Ledger) (s : ℕ) (r : Reply) (new : Ledger) where
   snaps_same (Ok (Answer.number g)) m = ap (λ (x : Ledger). x.schema) m.rest
   snaps_same (Ok (Answer.found f)) m = same l new m
   snaps_same (Ok (Answer.names ns)) m = same l new m
+  snaps_same (Ok (Answer.commit_text t)) m = same l new m
   snaps_same (Ok (Answer.news n)) m = same l new m
   snaps_same (Err e) m = same l new m
 
@@ -50,6 +51,8 @@ module _ (l : Ledger) (s : ℕ) (r : Reply) (new : Ledger) where
   serves_same (Command.put (Err e)) m = same l new m.1
   serves_same (Command.delete (Ok id)) m = by_bool (ltb l.count last_number) _ _ (λ x. ap (λ (y : Ledger). y.schema) x.1) (λ x. same l new x.1) m
   serves_same (Command.delete (Err e)) m = same l new m.1
+  serves_same (Command.delete_where (Ok q)) m = by_bool (ltb l.count last_number) _ _ (λ x. ap (λ (y : Ledger). y.schema) x.1) (λ x. same l new x.1) m
+  serves_same (Command.delete_where (Err e)) m = same l new m.1
   serves_same Command.refresh m = by_bool (refuses_refresh (state_of l)) _ _ (λ x. same l new x.1) (λ x. records_same x.0 new (has_recorded x.0.views x.0.count) x.2 ∙ flush_same l x.0 x.1) m
   serves_same Command.open_newest m = ap (λ (y : Ledger). y.schema) m.1
   serves_same (Command.open_at t) m = by_bool (has_recorded l.views t) _ _ (λ x. ap (λ (y : Ledger). y.schema) x.1) (λ x. same l new x.1) m
@@ -58,10 +61,12 @@ module _ (l : Ledger) (s : ℕ) (r : Reply) (new : Ledger) where
   serves_same (Command.files_of_token t) m = same l new m.1
   serves_same (Command.chore c) m = by_bool (s == 0) _ _ (λ x. maintains_same c x.0 x.2) (λ x. same l new x.1) m
   serves_same (Command.prune n) m = ap (λ (y : Ledger). y.schema) m.1.rest
-  serves_same Command.commit m = ap (λ (y : Ledger). y.schema) m.2.rest ∙ flush_same l m.0 m.1
+  serves_same (Command.commit (Err e)) m = same l new m.1
+  serves_same (Command.commit (Ok text)) m = ap (λ (y : Ledger). y.schema) m.2.rest ∙ flush_same l m.0 m.1
   serves_same Command.snapshot m = snaps_same r m.1
   serves_same (Command.release_snapshot g) m = by_bool (ltb 0 (snapshots_in l.taken g)) _ _ (λ x. ap (λ (y : Ledger). y.schema) x.1.rest) (λ x. same l new x.1) m
   serves_same (Command.files_of_commit g) m = same l new m.1
+  serves_same (Command.text_of_commit g) m = same l new m.1
 
   left_same : IsLeft l new → new.schema ≡ l.schema
   left_same h =
@@ -70,7 +75,7 @@ module _ (l : Ledger) (s : ℕ) (r : Reply) (new : Ledger) where
       ap (λ (x : Ledger). x.schema) h.rest.rest ∙ e ∙ f
 
   none_same : (c : Command) → FindsNone l c r new → new.schema ≡ l.schema
-  none_same Command.commit m = same l new m.2
+  none_same (Command.commit (Ok text)) m = same l new m.2
   none_same _ m = absurd m
 
 pub schemas_stay : SchemasStay

@@ -328,7 +328,7 @@ newest_live gs schema o [] h a = h
 newest_live gs schema o (c ∷ cs) h a = newest_live gs schema (Some c) cs a.0.live a.1
 
 pub commits_store : CommitsStore
-commits_store l new fs gs sound ok call leaves there own =
+commits_store text l new fs gs sound ok call leaves there own =
     let g : ℕ = l.next_generation in
     let xs : List Listed = newest_listed l.commits in
     let stays : AreStored gs l = files_stay l fs gs ok (spared (IsPast l.next_segment g) (files_begun l) (names_used l) fs gs leaves (new_commit l.next_segment g l.portions) sound.fresh) in
@@ -336,7 +336,7 @@ commits_store l new fs gs sound ok call leaves there own =
     subst (AreStored gs) (sym call.rest) (record {
       portions = stays.portions;
       views = stays.views;
-      commits = All-both (IsCommitStored gs l.schema) _ (commit_of l ∷ []) (All-kept (IsCommitStored gs l.schema) _ l.commits stays.commits)
+      commits = All-both (IsCommitStored gs l.schema) _ (commit_of text l ∷ []) (All-kept (IsCommitStored gs l.schema) _ l.commits stays.commits)
           (record { commit = there; portions = segments l.portions stays.portions; live = lives l.portions own reused }, tt);
       merging = stays.merging;
     })

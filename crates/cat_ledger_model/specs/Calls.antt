@@ -2,6 +2,7 @@
 -- code are proved.
 use Rattle.std.specs.Prelude.{◌≡◌, ◌⊎◌, ℕ, ◌+◌, ◌-◌, ◌<◌, ◌≤◌, max, min, not, ◌&&◌, ◌||◌, ◌==◌, ltb, Bool, true, false, List, [], ◌∷◌, ◌++◌, length, map, filter, take, drop, count_by, cond, Option, Some, None}
 use Rattle.std.specs.List.{flat_map, list_any, list_all, last_or}
+use Rattle.cat_model.specs.Text.{Text}
 use Rattle.cat_model.specs.Write.{Write}
 use Rattle.cat_model.specs.Table.{without, put_last}
 use Rattle.cat_model.specs.Limits.{view_limit, step_limit, last_number}
@@ -12,7 +13,7 @@ use Rattle.cat_ledger_model.specs.Portions.{Portion, all_records, all_live, port
 use Rattle.cat_ledger_model.specs.Users.{users_of, is_known, has_name, Changes}
 use Rattle.cat_ledger_model.specs.Ledger.{RecordedView, Listed, LedgerCommit, Ledger, portions_in, commit_shown, names_of_portion, names_of_view, names_of_commit}
 
--- ---- PUT and DEL, and the flush
+-- ---- the writes, and the flush
 
 -- with one write more
 abbrev pub wrote : Ledger → Write → Ledger
@@ -141,10 +142,10 @@ listed_in (Some c) = c.listed
 abbrev pub newest_listed : List LedgerCommit → List Listed
 newest_listed cs = listed_in (last_or None cs)
 
--- the commit of now, after a flush
-abbrev pub commit_of : Ledger → LedgerCommit
-commit_of l =
-    record { generation = l.next_generation; token = l.count; next = l.next_segment; listed = map (λ p. record { portion = p; file = file_for (newest_listed l.commits) l.next_generation p }) l.portions }
+-- the commit of now with this text, after a flush
+abbrev pub commit_of : Text → Ledger → LedgerCommit
+commit_of text l =
+    record { generation = l.next_generation; text = text; token = l.count; next = l.next_segment; listed = map (λ p. record { portion = p; file = file_for (newest_listed l.commits) l.next_generation p }) l.portions }
 
 -- a commit stays that is the newest or has a snapshot
 abbrev pub stays_kept : List Taken → Option ℕ → ℕ → Bool
@@ -163,11 +164,11 @@ abbrev pub newest_in : List LedgerCommit → Option ℕ
 newest_in cs = newest_of (map commit_shown cs)
 
 -- after a flush, a commit of now is kept: its names are taken, those of the commits that go are given
-pub record Committed (l new : Ledger) : Type 0 where
+pub record Committed (text : Text) (l new : Ledger) : Type 0 where
   pub left : l.next_generation ≤ last_number
-  pub users : Changes (names_of_commit (commit_of l)) (flat_map names_of_commit (commits_not (stays_kept l.taken (Some l.next_generation)) l.commits)) l.users new.users
+  pub users : Changes (names_of_commit (commit_of text l)) (flat_map names_of_commit (commits_not (stays_kept l.taken (Some l.next_generation)) l.commits)) l.users new.users
   pub rest : new
-      ≡ record l { commits = commits_that (stays_kept l.taken (Some l.next_generation)) l.commits ++ commit_of l ∷ []; users = new.users; next_generation = l.next_generation + 1 }
+      ≡ record l { commits = commits_that (stays_kept l.taken (Some l.next_generation)) l.commits ++ commit_of text l ∷ []; users = new.users; next_generation = l.next_generation + 1 }
 
 -- one snapshot more of the newest commit, which is g
 pub record Snaps (g : ℕ) (l new : Ledger) : Type 0 where

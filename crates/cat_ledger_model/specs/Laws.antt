@@ -31,6 +31,7 @@ FlushesChangeNoState =
 abbrev pub PutsItem : Schema → Write → Type 0
 PutsItem schema (Write.put i) = IsItem schema i
 PutsItem schema (Write.delete id) = Unit {0}
+PutsItem schema (Write.delete_where q) = Unit {0}
 
 -- A write leaves the ledger sound, and its state is the one with that write.
 abbrev pub WritesAreWritten : Type 0
@@ -51,8 +52,8 @@ ViewsArePruned = (n : ℕ) (l new : Ledger) → IsLedger l → Pruned n l new
 
 -- Where nothing waits, a commit of now is kept, as a COMMIT asks, and its generation is above that of each other.
 abbrev pub CommitsAreKept : Type 0
-CommitsAreKept = (l new : Ledger) → IsLedger l → l.buffered ≡ [] → Committed l new
-    → IsLedger new × (state_of new ≡ committed (state_of l) l.next_generation) × (is_below (newest_of (state_of l).commits) l.next_generation ≡ true)
+CommitsAreKept = (text : Text) (l new : Ledger) → IsLedger l → l.buffered ≡ [] → Committed text l new
+    → IsLedger new × (state_of new ≡ committed (state_of l) (record { generation = l.next_generation; text = text })) × (is_below (newest_of (state_of l).commits) l.next_generation ≡ true)
 
 -- A snapshot is counted, as a SNAP asks.
 abbrev pub SnapshotsAreTaken : Type 0
@@ -129,9 +130,9 @@ PrunesStore = (n : ℕ) (l new : Ledger) (fs : FileBytes) → AreStored fs l →
 -- A commit touches files of its own generation alone, and writes its own file and that of each live set that no file has.
 abbrev pub CommitsStore : Type 0
 CommitsStore =
-    (l new : Ledger) (fs gs : FileBytes) → IsLedger l → AreStored fs l → Committed l new
+    (text : Text) (l new : Ledger) (fs gs : FileBytes) → IsLedger l → AreStored fs l → Committed text l new
     → ChangesOnly (files_begun l) fs gs
-    → gs (Name.commit l.next_generation) ≡ Some (spelled_commit l.schema (commit_of l))
+    → gs (Name.commit l.next_generation) ≡ Some (spelled_commit l.schema (commit_of text l))
     → AllByRecursion (λ p. file_for (newest_listed l.commits) l.next_generation p ≡ l.next_generation → IsLiveStored gs (record { portion = p; file = l.next_generation })) l.portions
     → AreStored gs new
 

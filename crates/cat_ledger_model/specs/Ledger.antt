@@ -2,6 +2,7 @@
 -- be believed, but to prove by: the laws tie it to the state of the service (`state_of`), and that to runs.
 use Rattle.std.specs.Prelude.{◌≢◌, ℕ, ◌+◌, ◌<◌, ◌≤◌, ◌==◌, List, [], ◌∷◌, ◌++◌, map, cond, Option, Some, None}
 use Rattle.std.specs.List.{flat_map, AllByRecursion}
+use Rattle.cat_model.specs.Text.{Text}
 use Rattle.cat_model.specs.Item.{Schema, Record, IsItem}
 use Rattle.cat_model.specs.Files.{Name}
 use Rattle.cat_model.specs.Limits.{last_number}
@@ -19,9 +20,10 @@ pub record Listed : Type 0 where
   pub portion : Portion
   pub file : ℕ
 
--- a commit: its generation, its token, the next segment number that it tells, and its portions
+-- a commit: its generation, its text, its token, the next segment number that it tells, and its portions
 pub record LedgerCommit : Type 0 where
   pub generation : ℕ
+  pub text : Text
   pub token : ℕ
   pub next : ℕ
   pub listed : List Listed
@@ -59,7 +61,7 @@ view_shown v = record { token = v.token; table = records_of v.portions }
 
 -- what is committed: likewise
 abbrev pub commit_shown : LedgerCommit → Commit
-commit_shown c = record { generation = c.generation; token = c.token; table = records_of (portions_in c) }
+commit_shown c = record { generation = c.generation; text = c.text; token = c.token; table = records_of (portions_in c) }
 
 -- the state that the ledger carries: segments, live sets, merges, numbers and users of names are in none of it
 abbrev pub state_of : Ledger → State

@@ -1,14 +1,14 @@
 -- What the ledger's calls make of it for each command, and the reply to it. Not to be believed: the laws tie it to the steps
 -- of the service, and by it the calls in code are proved.
-use Rattle.std.specs.Prelude.{◌≡◌, ◌⊎◌, ℕ, ◌+◌, ◌-◌, ◌<◌, ◌≤◌, ◌==◌, ltb, List, [], length, cond, Ok, Err, IsTrue}
+use Rattle.std.specs.Prelude.{◌≡◌, ◌⊎◌, ℕ, ◌+◌, ◌-◌, ◌<◌, ◌≤◌, ◌==◌, ltb, List, [], length, map, cond, Ok, Err, IsTrue}
 use Rattle.cat_base.specs.declared.refusal.Refusal.TheVariants.{Line as NoForm, Spent, Full, Gone, NotHeld, NoCommit, NoSnapshot, Memory}
 use Rattle.cat_model.specs.Text.{Text}
 use Rattle.cat_model.specs.Item.{IsItem}
 use Rattle.cat_model.specs.Write.{Write}
 use Rattle.cat_model.specs.Files.{Name}
-use Rattle.cat_model.specs.Run.{Chore, News, Command, Line, Answer, Reply, greatest, may_tell, snapshot_of, read_reply}
+use Rattle.cat_model.specs.Run.{Chore, News, Command, Line, Answer, Reply, greatest, may_tell, text_under, snapshot_of, read_reply}
 use Rattle.cat_model.specs.Limits.{last_number, buffer_limit}
-use Rattle.cat_model.specs.State.{has_hold, has_commit, snapshots_in, table_under, refuses_refresh, with_hold, without_hold, Halts}
+use Rattle.cat_model.specs.State.{told_by, has_hold, has_commit, snapshots_in, table_under, refuses_refresh, with_hold, without_hold, Halts}
 use Rattle.cat_ledger_model.specs.Portions.{Merging}
 use Rattle.cat_ledger_model.specs.Ledger.{Ledger, state_of}
 use Rattle.cat_ledger_model.specs.Calls.{tokens_in, has_recorded, newest_in, wrote, Flushes, Flushed, RecordsView, Pruned, Begun, Copied, passed_on, Installed, Committed, Snaps, Unsnapped, MayLeave, Ended}
@@ -40,6 +40,9 @@ CarriesOut l s (Command.put (Err e)) r new = (r ≡ Err e) × (new ≡ l)
 CarriesOut l s (Command.delete (Ok id)) r new =
     cond (ltb l.count last_number) ((r ≡ Ok (Answer.number (l.count + 1))) × (new ≡ wrote l (Write.delete id))) ((r ≡ Err Spent) × (new ≡ l))
 CarriesOut l s (Command.delete (Err e)) r new = (r ≡ Err e) × (new ≡ l)
+CarriesOut l s (Command.delete_where (Ok q)) r new =
+    cond (ltb l.count last_number) ((r ≡ Ok (Answer.number (l.count + 1))) × (new ≡ wrote l (Write.delete_where q))) ((r ≡ Err Spent) × (new ≡ l))
+CarriesOut l s (Command.delete_where (Err e)) r new = (r ≡ Err e) × (new ≡ l)
 CarriesOut l s Command.refresh r new =
     cond (refuses_refresh (state_of l)) ((r ≡ Err Full) × (new ≡ l)) ((mid : Ledger) × Flushes l mid × RecordsView mid new × (r ≡ Ok (Answer.number l.count)))
 CarriesOut l s Command.open_newest r new =
@@ -56,13 +59,17 @@ CarriesOut l s (Command.files_of_token t) r new =
 CarriesOut l s (Command.chore c) r new =
     cond (s == 0) ((n : News) × (r ≡ Ok (Answer.news n)) × Maintains c n l new) ((r ≡ Err NoForm) × (new ≡ l))
 CarriesOut l s (Command.prune n) r new = (r ≡ Ok (Answer.number (length l.views - length new.views))) × Pruned n l new
-CarriesOut l s Command.commit r new =
-    (mid : Ledger) × Flushes l mid × Committed mid new × (r ≡ Ok (Answer.number mid.next_generation))
+CarriesOut l s (Command.commit (Err e)) r new = (r ≡ Err e) × (new ≡ l)
+CarriesOut l s (Command.commit (Ok text)) r new =
+    (mid : Ledger) × Flushes l mid × Committed text mid new × (r ≡ Ok (Answer.number mid.next_generation))
 CarriesOut l s Command.snapshot r new = (r ≡ snapshot_of (snapshots_in l.taken) (newest_in l.commits)) × SnapsBy l r new
 CarriesOut l s (Command.release_snapshot g) r new =
     cond (ltb 0 (snapshots_in l.taken g)) ((r ≡ Ok (Answer.number (snapshots_in l.taken g - 1))) × Unsnapped g l new) ((r ≡ Err NoSnapshot) × (new ≡ l))
 CarriesOut l s (Command.files_of_commit g) r new =
     cond (has_commit (state_of l).commits g) ((ns : List Text) × (r ≡ Ok (Answer.names ns))) (r ≡ Err NoCommit)
+    × (new ≡ l)
+CarriesOut l s (Command.text_of_commit g) r new =
+    (r ≡ cond (has_commit (state_of l).commits g) (Ok (Answer.commit_text (text_under (map told_by (state_of l).commits) g))) (Err NoCommit))
     × (new ≡ l)
 
 -- what a command leaves that was stopped: a flush that ended stays done, the merge in the making may have ended, files that
@@ -77,12 +84,12 @@ pub record IsLeft (l new : Ledger) : Type 0 where
 
 -- a COMMIT that finds no generation left is refused before it does anything
 abbrev pub FindsNone : Ledger → Command → Reply → Ledger → Type 0
-FindsNone l Command.commit r new = (r ≡ Err Spent) × (last_number < l.next_generation) × (new ≡ l)
+FindsNone l (Command.commit (Ok text)) r new = (r ≡ Err Spent) × (last_number < l.next_generation) × (new ≡ l)
 FindsNone l _ r new = ⊥
 
 -- where none is left, nothing but want of memory stops a COMMIT
 abbrev pub MayStop : Ledger → Command → Reply → Type 0
-MayStop l Command.commit r = (r ≡ Err Memory) ⊎ (l.next_generation ≤ last_number)
+MayStop l (Command.commit (Ok text)) r = (r ≡ Err Memory) ⊎ (l.next_generation ≤ last_number)
 MayStop l _ r = Unit {0}
 
 -- The ledger's calls for a line, with the reply. What stops a command changes nothing that shows.

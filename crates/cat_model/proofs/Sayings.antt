@@ -241,7 +241,7 @@ one_opening : (json : Json) (line : Text) (one two : Opened) → Begins json Ope
 one_opening json line one two (Begins.opened f l text schema r readable a is opens) (Begins.opened g k text' schema' r' readable' b is' opens') =
     let texts = one_schema line f l g k text text' a b in
     let same : schema ≡ schema' = ok_value (sym is ∙ ap json.schema_of texts.2 ∙ is') in
-    opens ∙ ap (λ s. record { start = record { schema = s; records = []; token = 0 }; generation = None }) same ∙ sym opens'
+    opens ∙ ap (λ s. record { start = record { schema = s; records = []; token = 0 }; commit = None }) same ∙ sym opens'
   where
     ok_value : ◌≡◌ {A = Result Schema Refusal} (Ok schema) (Ok schema') → schema ≡ schema'
     ok_value e = cc e

@@ -44,6 +44,7 @@ next_number from past a h =
 pub accepted_fits : (from : Opened) (past : Run) (s : ℕ) (c : Command) (r : Reply) (w : Write) → Answers from past s c r ⊎ Stops from past s c r → accepted_by c r ≡ Some w → IsNext from past r
 accepted_fits from past s (Command.put (Ok i)) (Ok a) w f e = next_number from past a (answered from past s (Command.put (Ok i)) a f)
 accepted_fits from past s (Command.delete (Ok id)) (Ok a) w f e = next_number from past a (answered from past s (Command.delete (Ok id)) a f)
+accepted_fits from past s (Command.delete_where (Ok q)) (Ok a) w f e = next_number from past a (answered from past s (Command.delete_where (Ok q)) a f)
 accepted_fits from past s _ _ w f e = absurd (cc e)
 
 -- there are no more writes than numbers

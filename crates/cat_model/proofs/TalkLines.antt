@@ -35,6 +35,7 @@ further_lines s (Answer.found (Found.page p)) = words_lines (λ e. decimal e.num
 further_lines s (Answer.found (Found.facets f)) = words_lines (λ c. decimal c.count) (λ c. c.label ∷ []) s f.counts
 further_lines s (Answer.found (Found.source x)) = refl
 further_lines s (Answer.names ns) = words_lines (λ n. n) (λ n. []) s ns
+further_lines s (Answer.commit_text t) = refl
 further_lines s (Answer.news News.idle) = refl
 further_lines s (Answer.news News.busy) = refl
 further_lines s (Answer.news (News.begun_merge k)) = refl
@@ -98,6 +99,7 @@ ShownAnswer (Answer.found (Found.page p)) = AllByRecursion (λ e. IsOneLine e.id
 ShownAnswer (Answer.found (Found.facets f)) = AllByRecursion (λ c. IsOneLine c.label) f.counts
 ShownAnswer (Answer.found (Found.source s)) = ShownSource s
 ShownAnswer (Answer.names ns) = AllByRecursion (λ n. IsOneLine n × IsOneWord n) ns
+ShownAnswer (Answer.commit_text t) = IsOneLine t
 ShownAnswer (Answer.news n) = Unit {0}
 
 abbrev pub Shown : Reply → Type 0
@@ -142,6 +144,7 @@ answer_lines (Answer.found (Found.page p)) h = (decimal_one_line (length p.entri
 answer_lines (Answer.found (Found.facets f)) h = (decimal_one_line f.matching, (decimal_one_line f.met, tt))
 answer_lines (Answer.found (Found.source s)) h = (source_line s h, tt)
 answer_lines (Answer.names ns) h = (decimal_one_line (length ns), tt)
+answer_lines (Answer.commit_text t) h = ((λ e. omega (arith, e), h), tt)
 answer_lines (Answer.news n) h = news_lines n
 
 each_further : {X : Type 0} (P : X → Type 0) (f : X → List Text) → ((x : X) → P x → IsFurther (spaced (f x))) → (xs : List X) → AllByRecursion P xs → AllByRecursion IsFurther (map spaced (map f xs))
@@ -158,6 +161,7 @@ further_shown (Answer.found (Found.page p)) h = each_further _ entry_words (λ e
 further_shown (Answer.found (Found.facets f)) h = each_further _ counted_words (λ c k. numbered_further c.count (c.label ∷ []) (k, tt)) f.counts h
 further_shown (Answer.found (Found.source s)) h = tt
 further_shown (Answer.names ns) h = each_further _ (λ name. name ∷ []) (λ n k. word_further n k.0 k.1) ns h
+further_shown (Answer.commit_text t) h = tt
 further_shown (Answer.news News.idle) h = tt
 further_shown (Answer.news News.busy) h = tt
 further_shown (Answer.news (News.begun_merge k)) h = tt
@@ -236,6 +240,7 @@ answer_begins s (Answer.found (Found.page p)) = begins_ok s (decimal (length p.e
 answer_begins s (Answer.found (Found.facets f)) = begins_ok s (decimal f.matching) (decimal f.met ∷ [])
 answer_begins s (Answer.found (Found.source x)) = begins_ok s (source_text x) []
 answer_begins s (Answer.names ns) = begins_ok s (decimal (length ns)) []
+answer_begins s (Answer.commit_text t) = begins_ok s (codes "=" ++ t) []
 answer_begins s (Answer.news n) = news_begin s n
 
 refusal_begins : (s : ℕ) (e : Refusal) → BeginsReply (decimal s ++ 32 ∷ spaced (codes "NO" ∷ refusal_words e))

@@ -136,11 +136,13 @@ read_shown schema rs (Read.get (Ok id)) a = source_shown (stored rs id) (mapped_
 abbrev pub ShownWrite : Write → Type 0
 ShownWrite (Write.put i) = IsShownInLines i
 ShownWrite (Write.delete id) = Unit {0}
+ShownWrite (Write.delete_where q) = Unit {0}
 
 puts_shown : (n : ℕ) (ws : List Write) → AllByRecursion ShownWrite ws → AllByRecursion ShownRecord (filter_map put_by (numbered n ws))
 puts_shown n [] a = tt
 puts_shown n (Write.put i ∷ ws) a = (a.0, puts_shown (n + 1) ws a.1)
 puts_shown n (Write.delete id ∷ ws) a = puts_shown (n + 1) ws a.1
+puts_shown n (Write.delete_where q ∷ ws) a = puts_shown (n + 1) ws a.1
 
 pub table_shown : (start : Start) (ws : List Write) (t : ℕ) → AllByRecursion ShownRecord start.records → AllByRecursion ShownWrite ws → AllByRecursion ShownRecord (table start ws t)
 table_shown start ws t a b = All-kept ShownRecord (stands t (numbered start.token ws)) _ (All-both ShownRecord start.records _ a (puts_shown start.token ws b))

@@ -8,7 +8,7 @@ use Rattle.std.specs.Int.RustNames.{FitsSigned}
 use Rattle.cat_model.specs.Text.{Text}
 use Rattle.cat_model.specs.Item.{Content, Item, is_id}
 use Rattle.cat_model.specs.Words.{is_word_byte}
-use Rattle.cat_model.specs.Limits.{keyword_limit, label_limit, source_limit}
+use Rattle.cat_model.specs.Limits.{keyword_limit, label_limit, source_limit, commit_text_limit}
 
 -- no control character of ASCII
 abbrev pub is_plain_byte : ℕ → Bool
@@ -24,6 +24,12 @@ pub record IsKeyword (text : Text) : Type 0 where
 pub record IsLabel (text : Text) : Type 0 where
   pub keyword : IsKeyword text
   pub some : 0 < length text
+
+-- the text of a commit: at most `commit_text_limit` bytes, no control character of ASCII among them
+pub record IsCommitText (text : Text) : Type 0 where
+  pub utf8 : IsUtf8 text
+  pub short : length text ≤ commit_text_limit
+  pub plain : list_all is_plain_byte text ≡ true
 
 -- a byte of a word, which is no capital
 abbrev pub is_low_byte : ℕ → Bool

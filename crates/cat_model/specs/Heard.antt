@@ -1,9 +1,12 @@
--- What is heard of a line: the command that it says, once its item, id or query is looked at. The rules are our own.
-use Rattle.std.specs.Prelude.{◌≡◌, ℕ, Result, Ok, Err, cond}
+-- What is heard of a line: the command that it says, once its item, id, query or text is looked at. The rules are our own.
+use Rattle.std.specs.Prelude.{◌≡◌, ℕ, ltb, length, Result, Ok, Err, cond}
+use Rattle.std.specs.List.{list_all}
 use Rattle.cat_base.specs.declared.refusal.Refusal.{Refusal}
-use Rattle.cat_base.specs.declared.refusal.Refusal.TheVariants.{Id, Query as NoQuery}
+use Rattle.cat_base.specs.declared.refusal.Refusal.TheVariants.{Id, Large, Kind as WrongKind, Query as NoQuery}
 use Rattle.cat_model.specs.Text.{Text}
 use Rattle.cat_model.specs.Item.{Schema, Item, is_id}
+use Rattle.cat_model.specs.Forms.{is_plain_byte}
+use Rattle.cat_model.specs.Limits.{commit_text_limit}
 use Rattle.cat_model.specs.Query.{Query}
 use Rattle.cat_model.specs.Grammar.{Spells}
 use Rattle.cat_model.specs.Faults.{Fault}
@@ -19,6 +22,10 @@ pub record Json : Type 0 where
 -- the id that the text is, or the refusal of one that has the wrong form
 abbrev pub id_of : Text → Result Text Refusal
 id_of t = cond (is_id t) (Ok t) (Err Id)
+
+-- the text of a commit that the text is, or the refusal of one that is too long or, else, has a control character
+abbrev pub commit_text_of : Text → Result Text Refusal
+commit_text_of t = cond (ltb commit_text_limit (length t)) (Err Large) (cond (list_all is_plain_byte t) (Ok t) (Err WrongKind))
 
 -- the query that a text spells, or the place of its fault
 pub data IsQueryOf (schema : Schema) (text : Text) : Result Query Refusal → Type 0 where

@@ -5,9 +5,9 @@ pub mod Limits
 pub mod Item
 pub mod Words
 pub mod Forms
+pub mod Query
 pub mod Write
 pub mod Table
-pub mod Query
 pub mod Grammar
 pub mod Faults
 pub mod Page

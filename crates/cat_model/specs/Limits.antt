@@ -78,6 +78,10 @@ step_limit = code.MAX_STEP_ROWS
 abbrev pub snapshot_limit : ℕ
 snapshot_limit = code.MAX_SNAPSHOTS
 
+-- the bytes of a commit's text
+abbrev pub commit_text_limit : ℕ
+commit_text_limit = code.MAX_COMMIT_TEXT_BYTES
+
 -- a merge joins at least so many segments
 abbrev pub least_factor : ℕ
 least_factor = code.LEAST_MERGE_FACTOR

@@ -130,6 +130,7 @@ answer_words (Answer.found (Found.page p)) = decimal (length p.entries) ∷ deci
 answer_words (Answer.found (Found.facets f)) = decimal f.matching ∷ decimal f.met ∷ []
 answer_words (Answer.found (Found.source s)) = source_text s ∷ []
 answer_words (Answer.names names) = decimal (length names) ∷ []
+answer_words (Answer.commit_text text) = (codes "=" ++ text) ∷ []
 answer_words (Answer.news news) = news_words news
 
 -- the line of a hit

@@ -1,24 +1,25 @@
 -- Runs: lists of lines with their replies, and which replies fit.
 --
 -- After Lucene: REFRESH, OPEN, CLOSE and PRUNE are record, acquire, release and prune of SearcherLifetimeManager; COMMIT is
--- IndexWriter.commit under KeepOnlyLastCommitDeletionPolicy; SNAP and UNSNAP are snapshot and release of
--- SnapshotDeletionPolicy. Our own are: that a token is the number of writes, that at most `view_limit` views are recorded,
--- pruning by a count, holds by session, and the order of the refusals.
+-- IndexWriter.commit under KeepOnlyLastCommitDeletionPolicy, and its text is IndexWriter.setLiveCommitData; SNAP and UNSNAP
+-- are snapshot and release of SnapshotDeletionPolicy. Our own are: that a token is the number of writes, that at most
+-- `view_limit` views are recorded, pruning by a count, holds by session, and the order of the refusals.
 --
 -- Some replies are left open on purpose. FILES may tell any names: which files are needed is said where files are. What
 -- maintenance tells is pinned by its form alone (`may_tell`), STAT's numbers too: when segments are merged, and what a cache
 -- keeps, is nobody's promise. A COMMIT may be told any generation above those before it.
 --
--- No line says all of this yet (`Said` of Lines.antt): PRUNE, COMMIT, SNAP, UNSNAP, FILES and maintenance, and of the reads
--- counts and stored items, are defined for the lines to come, with what they tell of.
-use Rattle.std.specs.Prelude.{◌≡◌, ◌⊎◌, ℕ, ◌+◌, ◌-◌, ◌<◌, ◌≤◌, Bool, true, false, not, ◌&&◌, ◌||◌, ltb, max, List, [], ◌∷◌, ◌++◌, length, filter, filter_map, map, count_by, Option, Some, None, option_to_list, Result, Ok, Err, cond, IsTrue, ◌==◌}
+-- No line says all of this yet (`Said` of Lines.antt): deletes by query, PRUNE, COMMIT, SNAP, UNSNAP, FILES, texts of commits
+-- and maintenance, and of the reads counts and stored items, are defined for the lines to come, with what they tell of.
+use Rattle.std.specs.Prelude.{◌≡◌, ◌⊎◌, ℕ, ◌+◌, ◌-◌, ◌<◌, ◌≤◌, Bool, true, false, not, ◌&&◌, ◌||◌, ltb, max, List, [], ◌∷◌, ◌++◌, length, filter, filter_map, map, count_by, Option, Some, None, option_to_list, option_map, find, Result, Ok, Err, cond, IsTrue, ◌==◌}
 use Rattle.std.specs.List.{list_any, list_all, last_or}
 use Rattle.cat_base.specs.declared.refusal.Refusal.{Refusal}
 use Rattle.cat_base.specs.declared.refusal.Refusal.TheVariants.{Line as NoForm, Spent, NotHeld, Gone, Full, NoCommit, NoSnapshot, Device, Damaged, Memory}
 use Rattle.cat_model.specs.Text.{Text}
 use Rattle.cat_model.specs.Item.{Item, Record, Schema}
+use Rattle.cat_model.specs.Query.{Query}
 use Rattle.cat_model.specs.Write.{Write}
-use Rattle.cat_model.specs.Table.{Start, Opened, table, count}
+use Rattle.cat_model.specs.Table.{Start, Opened, CommitText, table, count}
 use Rattle.cat_model.specs.Answer.{Read, Found, answer, query_refusal}
 use Rattle.cat_model.specs.Limits.{last_number, snapshot_limit, view_limit}
 
@@ -30,22 +31,24 @@ pub data Chore : Type 0 where
   sweep : Chore
   stat : Chore
 
--- A command with its arguments read: a wrong item or id is the refusal of its fault.
+-- A command with its arguments read: a wrong item, id, query or text is the refusal of its fault.
 pub data Command : Type 0 where
   formless : Command
   put : Result Item Refusal → Command
   delete : Result Text Refusal → Command
+  delete_where : Result Query Refusal → Command
   refresh : Command
   open_newest : Command
   open_at : ℕ → Command
   close : ℕ → Command
   read : ℕ → Read → Command
   prune : ℕ → Command
-  commit : Command
+  commit : Result Text Refusal → Command
   snapshot : Command
   release_snapshot : ℕ → Command
   files_of_token : ℕ → Command
   files_of_commit : ℕ → Command
+  text_of_commit : ℕ → Command
   chore : Chore → Command
 
 -- a session, and what it says
@@ -104,6 +107,7 @@ pub data Answer : Type 0 where
   number : ℕ → Answer
   found : Found → Answer
   names : List Text → Answer
+  commit_text : Text → Answer
   news : News → Answer
 
 -- an answer or a refusal
@@ -123,6 +127,7 @@ Run = List Exchange
 abbrev pub accepted_by : Command → Reply → Option Write
 accepted_by (Command.put (Ok i)) (Ok a) = Some (Write.put i)
 accepted_by (Command.delete (Ok id)) (Ok a) = Some (Write.delete id)
+accepted_by (Command.delete_where (Ok q)) (Ok a) = Some (Write.delete_where q)
 accepted_by _ _ = None
 
 -- the write that the exchange adds to those accepted, if it does
@@ -197,14 +202,31 @@ view_tokens_from ts past (e ∷ rest) =
 abbrev pub view_tokens : Start → Run → List ℕ
 view_tokens start run = view_tokens_from (start.token ∷ []) [] run
 
--- the generation that a COMMIT was answered
-abbrev pub generation_by : Command → Reply → Option ℕ
-generation_by Command.commit (Ok (Answer.number g)) = Some g
-generation_by _ _ = None
+-- the commit that a COMMIT made: the generation that it was answered, with its text
+abbrev pub commit_by : Command → Reply → Option CommitText
+commit_by (Command.commit (Ok text)) (Ok (Answer.number g)) = Some (record { generation = g; text = text })
+commit_by _ _ = None
 
--- the generations of the commits so far, that of the opened one first, where one was opened
+-- the commits so far, kept or not: the opened one first, where one was opened
+abbrev pub commits : Opened → Run → List CommitText
+commits from run = option_to_list from.commit ++ filter_map (λ e. commit_by e.line.command e.reply) run
+
+-- their generations
 abbrev pub generations : Opened → Run → List ℕ
-generations from run = option_to_list from.generation ++ filter_map (λ e. generation_by e.line.command e.reply) run
+generations from run = map (λ c. c.generation) (commits from run)
+
+-- the text of a commit that was found
+abbrev pub found_text : Option CommitText → Text
+found_text None = []
+found_text (Some c) = c.text
+
+-- the one of the commits that has this generation
+abbrev pub commit_under : List CommitText → ℕ → Option CommitText
+commit_under cs g = find (λ c. c.generation == g) cs
+
+-- its text
+abbrev pub text_under : List CommitText → ℕ → Text
+text_under cs g = found_text (commit_under cs g)
 
 -- the newest commit, which is kept (KeepOnlyLastCommitDeletionPolicy)
 abbrev pub newest_commit : Opened → Run → Option ℕ
@@ -248,8 +270,8 @@ may_refuse Command.refresh Spent = true
 may_refuse Command.refresh Device = true
 may_refuse (Command.read t (Read.get id)) Device = true
 may_refuse (Command.read t (Read.get id)) Damaged = true
-may_refuse Command.commit Spent = true
-may_refuse Command.commit Device = true
+may_refuse (Command.commit text) Spent = true
+may_refuse (Command.commit text) Device = true
 may_refuse (Command.chore Chore.merge) Spent = true
 may_refuse (Command.chore Chore.merge) Device = true
 may_refuse (Command.chore Chore.merge) Damaged = true
@@ -297,6 +319,8 @@ Answers from past s (Command.put (Ok i)) r = r ≡ write_reply (now from.start p
 Answers from past s (Command.put (Err e)) r = r ≡ Err e
 Answers from past s (Command.delete (Ok id)) r = r ≡ write_reply (now from.start past)
 Answers from past s (Command.delete (Err e)) r = r ≡ Err e
+Answers from past s (Command.delete_where (Ok q)) r = r ≡ write_reply (now from.start past)
+Answers from past s (Command.delete_where (Err e)) r = r ≡ Err e
 Answers from past s Command.refresh r =
     r ≡ cond (not (has (view_tokens from.start past) (now from.start past)) && is_full (is_held past) (view_tokens from.start past))
     (Err Full)
@@ -308,7 +332,8 @@ Answers from past s (Command.read t asked) r =
     r ≡ read_reply (holds s t past) from.start.schema (table from.start (writes past) t) asked
 Answers from past s (Command.prune n) r =
     r ≡ Ok (Answer.number (length (view_tokens from.start past) - length (pruned (is_held past) n (view_tokens from.start past))))
-Answers from past s Command.commit r =
+Answers from past s (Command.commit (Err e)) r = r ≡ Err e
+Answers from past s (Command.commit (Ok text)) r =
     cond (list_all (λ h. ltb h last_number) (generations from past))
     ((g : ℕ) × (r ≡ Ok (Answer.number g)) × (0 < g) × (g ≤ last_number) × IsTrue (list_all (λ h. ltb h g) (generations from past)))
     (r ≡ Err Spent)
@@ -319,6 +344,8 @@ Answers from past s (Command.files_of_token t) r =
     cond (holds s t past) ((ns : List Text) × (r ≡ Ok (Answer.names ns))) (r ≡ Err NotHeld)
 Answers from past s (Command.files_of_commit g) r =
     cond (is_kept from past g) ((ns : List Text) × (r ≡ Ok (Answer.names ns))) (r ≡ Err NoCommit)
+Answers from past s (Command.text_of_commit g) r =
+    r ≡ cond (is_kept from past g) (Ok (Answer.commit_text (text_under (commits from past) g))) (Err NoCommit)
 Answers from past s (Command.chore c) r =
     cond (s == 0) ((n : News) × (r ≡ Ok (Answer.news n)) × IsTrue (may_tell c n)) (r ≡ Err NoForm)
 

@@ -30,7 +30,7 @@ Opening = Schema → Result Opened Refusal → Type 0
 
 -- the opening of a service without items, where nothing was committed before
 abbrev pub OpensEmpty : Opening
-OpensEmpty schema (Ok opened) = opened ≡ record { start = record { schema = schema; records = []; token = 0 }; generation = None }
+OpensEmpty schema (Ok opened) = opened ≡ record { start = record { schema = schema; records = []; token = 0 }; commit = None }
 OpensEmpty schema (Err e) = e ≡ Memory
 
 -- what may come of the schema line: how the service is opened, or why it isn't

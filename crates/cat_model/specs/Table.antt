@@ -3,6 +3,7 @@
 -- That writes are numbered one after another, without gaps, is our own.
 use Rattle.std.specs.Prelude.{ℕ, ◌+◌, ◌-◌, ◌≤◌, ◌<◌, Bool, not, ◌&&◌, ltb, leb, List, [], ◌∷◌, ◌++◌, length, take, filter, filter_map, Option, Some, None, All, AllPairs, ◌≢◌}
 use Rattle.std.specs.List.{list_any}
+use Rattle.cat_model.specs.Text.{Text}
 use Rattle.cat_model.specs.Item.{Schema, Record}
 use Rattle.cat_model.specs.Write.{Write, removes}
 
@@ -13,10 +14,15 @@ pub record Start : Type 0 where
   pub records : List Record
   pub token : ℕ
 
--- how a service is opened: the start, and the generation of the opened commit, if there is one. No read depends on it.
+-- what a commit is told by: its generation, and the text that it was given (IndexCommit.getGeneration, getUserData)
+pub record CommitText : Type 0 where
+  pub generation : ℕ
+  pub text : Text
+
+-- how a service is opened: the start, and the opened commit, if there is one. No read depends on it.
 pub record Opened : Type 0 where
   pub start : Start
-  pub generation : Option ℕ
+  pub commit : Option CommitText
 
 -- the numbers rise, are at least 1 and at most the token, and the ids differ
 pub record IsStart (start : Start) : Type 0 where
@@ -39,16 +45,17 @@ numbered token (w ∷ ws) = record { number = token + 1; write = w } ∷ numbere
 abbrev pub record_of : ℕ → Write → Option Record
 record_of n (Write.put i) = Some (record { number = n; item = i })
 record_of n (Write.delete id) = None
+record_of n (Write.delete_where q) = None
 
 -- the record that a numbered write makes
 abbrev pub put_by : Numbered → Option Record
 put_by w = record_of w.number w.write
 
--- the write is one after the record, up to the token t, that puts or deletes its id
+-- the write is one after the record, up to the token t, that takes it out
 abbrev pub replaces : ℕ → Record → Numbered → Bool
 replaces t r w = ltb r.number w.number && leb w.number t && removes w.write r.item
 
--- the record was put up to the token t, and no later write up to t puts or deletes its id
+-- the record was put up to the token t, and no later write up to t takes it out
 abbrev pub stands : ℕ → List Numbered → Record → Bool
 stands t ws r = leb r.number t && not (list_any (replaces t r) ws)
 
@@ -57,7 +64,7 @@ abbrev pub table : Start → List Write → ℕ → List Record
 table start writes t =
     filter (stands t (numbered start.token writes)) (start.records ++ filter_map put_by (numbered start.token writes))
 
--- the records of other ids
+-- the records that the write leaves
 abbrev pub without : List Record → Write → List Record
 without rs w = filter (λ r. not (removes w r.item)) rs
 
@@ -65,6 +72,7 @@ without rs w = filter (λ r. not (removes w r.item)) rs
 abbrev pub put_last : List Record → ℕ → Write → List Record
 put_last rs n (Write.put i) = rs ++ record { number = n; item = i } ∷ []
 put_last rs n (Write.delete id) = rs
+put_last rs n (Write.delete_where q) = rs
 
 -- the table after the write of number n
 abbrev pub after : List Record → ℕ → Write → List Record

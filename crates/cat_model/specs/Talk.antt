@@ -187,7 +187,7 @@ abbrev pub AnswersOfAnyStartAreTalks : Type 0
 AnswersOfAnyStartAreTalks =
     (json : Json) (from : Opened) → ReadsLines json → IsShownStart from.start → AnswersAreTalks json (OpensAs from)
 
--- The second for two services that are opened with one start; the generations of their opened commits may differ.
+-- The second for two services that are opened with one start; their opened commits may differ.
 abbrev pub TalksOfOneStartAgree : Type 0
 TalksOfOneStartAgree =
     (json : Json) (from₁ from₂ : Opened) → ReadsLines json → IsShownStart from₁.start → from₁.start ≡ from₂.start
