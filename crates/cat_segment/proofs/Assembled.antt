@@ -1,5 +1,5 @@
 -- A segment of what was read of a file: it is laid out as the file.
-use Rattle.std.proofs.Common.{◌≡◌, ◌≢◌, ◌<◌, ◌≤◌, ◌^◌, ℕ, zero, suc, List, [], ◌∷◌, length, map, get_or, refl, sym, ap, ◌∙◌, subst, arith}
+use Rattle.std.proofs.Common.{◌≡◌, ◌≢◌, ◌<◌, ◌≤◌, ◌^◌, ℕ, zero, suc, List, [], ◌∷◌, length, map, get_or, Some, refl, sym, ap, ◌∙◌, subst, arith}
 use Rattle.std.specs.Prelude.{All}
 use Rattle.std.specs.List.{AllPairs}
 use Rattle.std.proofs.lemmas.List.{length-map, get_or-map, same_lists}
@@ -13,9 +13,9 @@ use Rattle.cat_model.specs.View.{Row, Segment, AreRows, IsFormedRow, IsSegment, 
 use Rattle.cat_segment.proofs.Columns.{length-rows_of, map-rows_of}
 use Rattle.cat_segment.proofs.Layouts.{column_placed, contents_are}
 use Rattle.cat_segment.proofs.Made.{row_here}
-use Rattle.cat_segment.proofs.Placed.{no_content}
+use Rattle.cat_segment.proofs.Placed.{no_content, contents_named}
 use Rattle.cat_segment.proofs.Worded.{words_few, words_fit, words_under}
-use Rattle.cat_segment.specs.Contents.{contents_of}
+use Rattle.cat_segment.specs.Contents.{contents_of, contents_told, contents_under_name}
 use Rattle.cat_segment.specs.Laid.{content_under, contents_under, AreContents, laid_out, laid_in, kind_of, AreRead}
 use Rattle.cat_segment.specs.Body.{content_at, fields_at, Body, row_at, rows_of, IsBody}
 use Rattle.cat_segment.specs.declared.column.Column.{Column}
@@ -67,6 +67,24 @@ kind_told (Number (x ∷ xs)) kind d some (IsContent.number z) = refl
 kind_told (Facet []) kind d some is = absurd (omega arith)
 kind_told (Facet (x ∷ xs)) kind d some (IsContent.labels ls rising) = refl
 
+-- the column of a field is of the field's kind
+pub kind_in_body : (body : Body) → IsBody body → (index : ℕ) (f : Field) (c : Column) → index < length body.schema → (get_or body.schema index f).kind ≡ kind_of (get_or body.columns index c)
+kind_in_body body is index f c within =
+    let long : length (contents_of (get_or body.columns index c)) ≡ length body.numbers = is.contents index c (omega (arith, is.columns, within)) in
+    let s : Segment = record { number = 0; schema = body.schema; rows = rows_of body } in
+    let segment : IsSegment s = record { schema = is.schema; rows = is.rows; formed = is.formed; words = is.words } in
+    let contents : contents_under index (rows_of body) ≡ contents_of (get_or body.columns index c) = contents_in_body body index c is.columns within long in
+    let some : 0 < length (contents_of (get_or body.columns index c)) = omega (arith, long, is.rows.some, length-rows_of body) in
+    let are : AreContents (get_or body.schema index f).kind (length (rows_of body)) (contents_of (get_or body.columns index c)) = subst (AreContents (get_or body.schema index f).kind (length (rows_of body))) contents (contents_are s segment index f within) in
+    kind_told (get_or body.columns index c) (get_or body.schema index f).kind (Content.words []) some (are.kinds 0 (Content.words []) some)
+
+-- and says what the rows have in it
+pub contents_at_field : (body : Body) → IsBody body → (index : ℕ) (f : Field) (c : Column) → index < length body.schema
+    → contents_told (get_or body.columns index c) ≡ contents_under_name (get_or body.schema index f).name (rows_of body)
+contents_at_field body is index f c within =
+    ap (map (λ x. Some x)) (sym (contents_in_body body index c is.columns within (is.contents index c (omega (arith, is.columns, within)))))
+    ∙ sym (contents_named body.schema (rows_of body) index f is.schema.rising is.rows.fields within)
+
 -- the columns of a segment lie in its file as the columns of its fields
 pub columns_in_body : (body : Body) → IsBody body → map laid_in body.columns ≡ map (column_of (rows_of body)) body.schema
 columns_in_body body is =
@@ -76,15 +94,11 @@ columns_in_body body is =
     let here : k < length body.columns = omega (arith, length-map body.columns laid_in) in
     let within : k < length body.schema = omega (arith, is.columns) in
     let c : Column = get_or body.columns k (Number []) in
-    let long : length (contents_of c) ≡ length body.numbers = is.contents k (Number []) here in
     let s : Segment = record { number = 0; schema = body.schema; rows = rows_of body } in
     let segment : IsSegment s = record { schema = is.schema; rows = is.rows; formed = is.formed; words = is.words } in
-    let contents : contents_under k (rows_of body) ≡ contents_of c = contents_in_body body k (Number []) is.columns within long in
-    let some : 0 < length (contents_of c) = omega (arith, long, is.rows.some, length-rows_of body) in
-    let are : AreContents (get_or body.schema k f).kind (length (rows_of body)) (contents_of c) = subst (AreContents (get_or body.schema k f).kind (length (rows_of body))) contents (contents_are s segment k f within) in
-    let kind : (get_or body.schema k f).kind ≡ kind_of c = kind_told c (get_or body.schema k f).kind (Content.words []) some (are.kinds 0 (Content.words []) some) in
+    let contents : contents_under k (rows_of body) ≡ contents_of c = contents_in_body body k (Number []) is.columns within (is.contents k (Number []) here) in
     get_or-map laid_in body.columns k (Number []) l here
-    ∙ ap (λ j. laid_out j (contents_of c)) (sym kind) ∙ ap (laid_out (get_or body.schema k f).kind) (sym contents)
+    ∙ ap (λ j. laid_out j (contents_of c)) (sym (kind_in_body body is k f (Number []) within)) ∙ ap (laid_out (get_or body.schema k f).kind) (sym contents)
     ∙ sym (column_placed s segment k f within)
     ∙ sym (get_or-map (column_of (rows_of body)) body.schema k f l within))
 

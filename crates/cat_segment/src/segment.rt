@@ -6,7 +6,7 @@ ghost use Rattle.cat_model.specs.Layout.{column_of};
 ghost use Rattle.cat_model.specs.View.{AreRows, IsSegment};
 ghost use Rattle.cat_segment.specs.Contents.{contents_told, contents_under_name};
 ghost use Rattle.cat_segment.specs.Fields.{rows_made};
-ghost use Rattle.cat_segment.specs.Laid.{laid_in};
+ghost use Rattle.cat_segment.specs.Laid.{kind_of, laid_in};
 ghost use Rattle.cat_segment.specs.Body.{body_with, rows_of, IsBody};
 ghost use Rattle.cat_segment.specs.Sources.{source_offset};
 
@@ -197,5 +197,15 @@ impl Segment {
             (λ c. contents_told c.now ≡ contents_under_name name.now self.now.rows) }
     {
         self.columns.get(index_of(self.schema.fields(), name)?)
+    }
+
+    /// The column of the field of this index, in the fields' order: what [`Segment::column`] finds by the field's name, without
+    /// a search (Lucene: `FieldInfos.fieldInfo` by a number).
+    pub fn column_at(&self, index: usize) -> &Column
+        requires { index < length self.now.schema }
+        ensures contents { HoldsAt (λ f. contents_told result.now ≡ contents_under_name f.name self.now.rows) self.now.schema index }
+        ensures kind { HoldsAt (λ f. kind_of result.now ≡ f.kind) self.now.schema index }
+    {
+        &self.columns[index]
     }
 }
