@@ -1,23 +1,29 @@
 -- What the parts of a file have to keep so that a segment is laid out as they are.
-use Rattle.std.proofs.Common.{◌≡◌, ◌≢◌, ◌<◌, ◌≤◌, ℕ, zero, suc, List, [], ◌∷◌, ◌++◌, length, map, get_or, refl, sym, ap, ◌∙◌, subst, arith}
-use Rattle.std.specs.Prelude.{All, Any}
+use Rattle.std.proofs.Common.{◌≡◌, ◌≢◌, ◌<◌, ◌≤◌, ℕ, zero, suc, List, [], ◌∷◌, ◌++◌, length, map, get_or, inl, inr, refl, sym, ap, ◌∙◌, subst, arith}
+use Rattle.std.specs.Prelude.{◌⊎◌, All, Any, Result, Ok, Err, IfOk, IfErr}
+use Rattle.std.specs.Global.{Vec}
 use Rattle.std.specs.List.{AllPairs}
 use Rattle.std.proofs.lemmas.List.{length-map, get_or-map, get_or_default, length-append, get_or_at}
+use Rattle.std.proofs.lemmas.List.Elements.{All-append, All-cons, All-nil}
+use Rattle.cat_base.specs.declared.refusal.Refusal.{Refusal}
+use Rattle.cat_base.specs.declared.refusal.Refusal.TheVariants.{Damaged, Memory}
 use Rattle.cat_codec.specs.Parts.{heads_in, column_in, layout_in, IsParts}
 use Rattle.cat_codec.specs.declared.parts.ColumnParts.{ColumnParts}
 use Rattle.cat_codec.specs.declared.parts.ColumnParts.TheVariants as parts
 use Rattle.cat_codec.specs.declared.parts.SegmentParts.{SegmentParts}
 use Rattle.cat_model.specs.Text.{Text}
-use Rattle.cat_model.specs.Item.{Content, Field, Kind, Schema}
+use Rattle.cat_model.specs.Item.{Content, Field, Kind, Schema, words_in, keyword_in, number_in, labels_in}
 use Rattle.cat_model.specs.Layout.{Laid, Head, column_of, head_of, layout_of, IsLaid, AreLaid, IsLayout}
 use Rattle.cat_model.specs.View.{Row, Segment, IsSegment}
-use Rattle.cat_segment.proofs.Assembled.{laid_at, IsRead}
+use Rattle.cat_segment.proofs.Assembled.{laid_at, segment as segment_with, IsRead, IsSegment-read, layout_read}
 use Rattle.cat_segment.proofs.Columned.{few_told}
-use Rattle.cat_segment.proofs.Layouts.{column_placed, contents_are}
+use Rattle.cat_segment.proofs.Formed.{seen}
+use Rattle.cat_segment.proofs.Layouts.{column_placed, contents_are, read_back, words_back, keyword_back, number_back, labels_back}
 use Rattle.cat_segment.specs.Contents.{contents_of}
-use Rattle.cat_segment.specs.Parts.{kind_in, IsColumnOf, HasNoColumn, IsFit, AreColumnsOf}
+use Rattle.cat_segment.specs.Parts.{kind_in, IsColumnOf, HasNoColumn, HasNoSegment, IsFit, AreColumnsOf}
 use Rattle.cat_segment.specs.Laid.{contents_under, AreContents, laid_out}
 use Rattle.cat_segment.specs.declared.column.Column.{Column}
+use Rattle.cat_segment.specs.declared.column.Column.TheVariants.{Text as TextColumn, Keyword, Number, Facet}
 
 -- ---- columns
 
@@ -44,6 +50,41 @@ column_at rows [] cs index p c are lt = absurd (omega arith)
 column_at rows (q ∷ ps) [] index p c are lt = absurd are
 column_at rows (q ∷ ps) (d ∷ cs) zero p c are lt = are.0
 column_at rows (q ∷ ps) (d ∷ cs) (suc index) p c are lt = column_at rows ps cs index p c are.1 (omega arith)
+
+-- a column of parts is one that stands
+pub columns_told : (rows : ℕ) (ps : List ColumnParts) (cs : List Column) → AreColumnsOf rows ps cs → All (λ p. HasNoColumn rows p → ⊥) ps
+columns_told rows ps cs are k d lt none =
+    let c : Column = Number [] in
+    let one = column_at rows ps cs k d (get_or cs k c) are lt in
+    none (contents_of (get_or cs k (get_or cs k c))) one.contents one.spelled
+
+-- one more part that is judged
+pub judged_more : (rows : ℕ) (ps : List ColumnParts) (p : ColumnParts) → All (λ q. HasNoColumn rows q → ⊥) ps → (HasNoColumn rows p → ⊥) → All (λ q. HasNoColumn rows q → ⊥) (ps ++ p ∷ [])
+judged_more rows ps p all one =
+    All-append (λ q. HasNoColumn rows q → ⊥) ps (p ∷ []) all (All-cons (λ q. HasNoColumn rows q → ⊥) p [] one (All-nil (λ q. HasNoColumn rows q → ⊥)))
+
+-- and where one stands, one can be made
+column_made : (rows : ℕ) (part : ColumnParts) (contents : List Content) → AreContents (kind_in part) rows contents → laid_out (kind_in part) contents ≡ column_in part → (c : Column) × IsColumnOf rows part c
+column_made rows (parts.Text words ends postings) contents are same =
+    let back = read_back Kind.text Content.words words_in words_back contents are.kinds in
+    (TextColumn (map words_in (seen contents)), record { contents = subst (AreContents Kind.text rows) (sym back) are; spelled = ap (laid_out Kind.text) back ∙ same })
+column_made rows (parts.Keyword dictionary codes) contents are same =
+    let back = read_back Kind.keyword Content.keyword keyword_in keyword_back contents are.kinds in
+    (Keyword (map keyword_in (seen contents)), record { contents = subst (AreContents Kind.keyword rows) (sym back) are; spelled = ap (laid_out Kind.keyword) back ∙ same })
+column_made rows (parts.Number numbers) contents are same =
+    let back = read_back Kind.number Content.number number_in number_back contents are.kinds in
+    (Number (map number_in (seen contents)), record { contents = subst (AreContents Kind.number rows) (sym back) are; spelled = ap (laid_out Kind.number) back ∙ same })
+column_made rows (parts.Facet dictionary ends ordinals) contents are same =
+    let back = read_back Kind.facet Content.labels labels_in labels_back contents are.kinds in
+    (Facet (map labels_in (seen contents)), record { contents = subst (AreContents Kind.facet rows) (sym back) are; spelled = ap (laid_out Kind.facet) back ∙ same })
+
+columns_made : (rows : ℕ) (ps : List ColumnParts) → All (λ p. HasNoColumn rows p → ⊥) ps → ((cs : List Column) → AreColumnsOf rows ps cs → ⊥) → ⊥
+columns_made rows [] each none = none [] tt
+columns_made rows (p ∷ ps) each none =
+    each 0 p (omega arith)
+    (λ contents are same.
+    let one = column_made rows p contents are same in
+    columns_made rows ps (λ k d lt. each (suc k) d (omega arith)) (λ cs stand. none (one.0 ∷ cs) (one.1, stand)))
 
 laid_many : (rows : ℕ) (fs : Schema) (ls : List Laid) → AreLaid rows fs ls → length ls ≡ length fs
 laid_many rows [] [] are = refl
@@ -229,3 +270,31 @@ module _ (p : SegmentParts) (is : IsParts p) where
           spelled = λ index f c l lt. let q = part_there p.columns.items index (omega (arith, parts_many)) in (column_read index q.0 f c l q.1 lt).1;
         };
       }
+
+    -- where the parts are fit, the ids differ and each column stands, a segment is laid out so
+    pub segment_made : IsFit p → AllPairs (λ a b. a ≢ b) p.ids.items → All (λ q. HasNoColumn (length p.numbers.items) q → ⊥) p.columns.items → HasNoSegment p → ⊥
+    segment_made fits distinct each none =
+        columns_made (length p.numbers.items) p.columns.items each
+        (λ columns are.
+        let read = parts_read p.ids.items p.lengths.items columns refl refl fits.rising distinct are in
+        let heads = heads_in p.numbers.items p.ids.items p.lengths.items in
+        let laid = map column_in p.columns.items in
+        none (segment_with p.number p.schema p.numbers.items p.ids.items p.lengths.items columns heads laid)
+        (IsSegment-read p.number p.schema p.numbers.items p.ids.items p.lengths.items columns heads laid read)
+        (layout_read p.number p.schema p.numbers.items p.ids.items p.lengths.items columns heads laid read))
+
+-- ---- what no damage leaves
+
+-- ids that aren't told as damaged differ
+pub ids_settled : (ids : List Text) (r : Result (List Text) Refusal) → IfOk r (λ i. (i ≡ ids) × AllPairs (λ a b. a ≢ b) i) → IfErr r (λ e. e ≡ Memory → AllPairs (λ a b. a ≢ b) ids)
+    → IfErr r (λ e. (e ≡ Damaged) ⊎ (e ≡ Memory)) → r ≢ Err Damaged → AllPairs (λ a b. a ≢ b) ids
+ids_settled ids (Ok i) ok due refusal apart = subst (AllPairs (λ a b. a ≢ b)) ok.0 ok.1
+ids_settled ids (Err e) ok due (inl damage) apart = absurd (apart (ap (λ x. Err x) damage))
+ids_settled ids (Err e) ok due (inr memory) apart = due memory
+
+-- each of the columns that aren't told as damaged stands
+pub columns_settled : (rows : ℕ) (ps : List ColumnParts) (r : Result (Vec Column) Refusal) → IfOk r (λ cs. AreColumnsOf rows ps cs.items) → IfErr r (λ e. e ≡ Memory → All (λ p. HasNoColumn rows p → ⊥) ps)
+    → IfErr r (λ e. (e ≡ Damaged) ⊎ (e ≡ Memory)) → r ≢ Err Damaged → All (λ p. HasNoColumn rows p → ⊥) ps
+columns_settled rows ps (Ok cs) ok due refusal apart = columns_told rows ps cs.items ok
+columns_settled rows ps (Err e) ok due (inl damage) apart = absurd (apart (ap (λ x. Err x) damage))
+columns_settled rows ps (Err e) ok due (inr memory) apart = due memory

@@ -63,21 +63,21 @@ pub record AreTold : Type 0 where
   pub labels : (a b : List (List Text)) → dictionary_of a ≡ dictionary_of b → map (map (ordinal_in (dictionary_of a))) a ≡ map (map (ordinal_in (dictionary_of b))) b → a ≡ b
 
 -- the contents are what is read of them
-read_back : {Y : Type 0} (kind : Kind) (make : Y → Content) (read : Option Content → Y) → ((c : Content) → IsContent kind c → make (read (Some c)) ≡ c)
+pub read_back : {Y : Type 0} (kind : Kind) (make : Y → Content) (read : Option Content → Y) → ((c : Content) → IsContent kind c → make (read (Some c)) ≡ c)
     → (contents : List Content) → All (IsContent kind) contents → map make (map read (seen contents)) ≡ contents
 read_back kind make read same [] kinds = refl
 read_back kind make read same (c ∷ cs) kinds = λ i. same c (kinds 0 c (omega arith)) i ∷ read_back kind make read same cs (λ k d lt. kinds (suc k) d (omega arith)) i
 
-words_back : (c : Content) → IsContent Kind.text c → Content.words (words_in (Some c)) ≡ c
+pub words_back : (c : Content) → IsContent Kind.text c → Content.words (words_in (Some c)) ≡ c
 words_back c (IsContent.words ws rising) = refl
 
-keyword_back : (c : Content) → IsContent Kind.keyword c → Content.keyword (keyword_in (Some c)) ≡ c
+pub keyword_back : (c : Content) → IsContent Kind.keyword c → Content.keyword (keyword_in (Some c)) ≡ c
 keyword_back c (IsContent.keyword k) = refl
 
-number_back : (c : Content) → IsContent Kind.number c → Content.number (number_in (Some c)) ≡ c
+pub number_back : (c : Content) → IsContent Kind.number c → Content.number (number_in (Some c)) ≡ c
 number_back c (IsContent.number z) = refl
 
-labels_back : (c : Content) → IsContent Kind.facet c → Content.labels (labels_in (Some c)) ≡ c
+pub labels_back : (c : Content) → IsContent Kind.facet c → Content.labels (labels_in (Some c)) ≡ c
 labels_back c (IsContent.labels ls rising) = refl
 
 words_rise : (c : Content) → IsContent Kind.text c → IsTextSet (words_in (Some c))

@@ -4,7 +4,7 @@ use Rattle.std.specs.Prelude.{All, Err}
 use Rattle.std.specs.Cmp.{tied_itself}
 use Rattle.std.specs.Cmp.Lexicographic.{nat_list_cmp_total}
 use Rattle.std.specs.List.{AllPairs, AllAdjacentBelow, range_with_len, swap}
-use Rattle.std.specs.List.Sorted.{IsPermutation, IsSortedByKey, IsBinarySearchResult}
+use Rattle.std.specs.List.Sorted.{IsPermutation, IsSortedBy, IsBinarySearchResult}
 use Rattle.std.specs.Ordering.{is_lt, ordering_reverse}
 use Rattle.std.proofs.lemmas.Bool.{true≢false, cases_eq, cases_lt, cases_order}
 use Rattle.std.proofs.lemmas.List.{length-map, get_or-map, get_or_default}
@@ -89,25 +89,40 @@ tied x y neither other = exact_bytes x y (by (text_cmp x y) neither (sym (ap is_
     by Equal neither other = refl
     by Greater neither other = absurd (true≢false other)
 
+-- ---- texts in order
+
+abbrev pub lower : Text → Text → Bool
+lower a b = is_lt (text_cmp a b)
+
+module _ (texts : List Text) (rising : IsSortedBy lower texts) where
+  -- texts differ just where neighbours in their order do
+  pub texts_differ : AllAdjacentBelow (λ a b. lower a b ≡ true) texts (length texts) → AllPairs (λ a b. a ≢ b) texts
+  texts_differ rises i j d lt within same =
+      let step : lower (get_or texts i d) (get_or texts (i + 1) d) ≡ true = rises i d (omega arith) in
+      let far : lower (get_or texts j d) (get_or texts (i + 1) d) ≡ false = sorted_far lower (ranks_by nat_list_cmp_total (λ t. t)) texts rising (i + 1) j d (omega arith) within in
+      true≢false (sym step ∙ ap (λ t. lower t (get_or texts (i + 1) d)) same ∙ far)
+
+  pub texts_meet : AllPairs (λ a b. a ≢ b) texts → (k : ℕ) → k + 1 < length texts → lower (get_or texts k []) (get_or texts (k + 1) []) ≡ false → ⊥
+  texts_meet pairs k within level =
+      pairs k (k + 1) [] (omega arith) within (tied (get_or texts k []) (get_or texts (k + 1) []) level (rising k [] (omega arith) within))
+
 -- ---- the index
 
 abbrev pub rank : List Text → ℕ → ℕ → Bool
 rank ids a b = is_lt (text_cmp (text_at ids a) (text_at ids b))
 
--- what a sort of all rows leaves
-pub sorted_rows : (ids : List Text) (rows by_id : List ℕ) → rows ≡ range_with_len 0 (length ids) → IsPermutation rows by_id → IsSortedByKey (text_at ids) text_cmp by_id → IsIndex ids by_id
-sorted_rows ids rows by_id all moved rising =
-    record {
-      rows = All-permutation (λ row. row < length ids) rows by_id moved (subst (All (λ row. row < length ids)) (sym all) each);
-      same = subst (λ l. IsPermutation l (map (text_at ids) by_id)) read (IsPermutation-map (text_at ids) rows by_id moved);
-      rising = rising;
-    }
-  where
-    each : All (λ row. row < length ids) (range_with_len 0 (length ids))
-    each k d lt = omega (arith, get_or-range_with_len 0 (length ids) k d (omega (arith, length-range_with_len 0 (length ids))), length-range_with_len 0 (length ids))
+module _ (ids : List Text) (by_id : List ℕ) (all : IsPermutation (range_with_len 0 (length ids)) by_id) where
+  -- each row is one of the ids'
+  pub rows_within : All (λ row. row < length ids) by_id
+  rows_within = All-permutation (λ row. row < length ids) (range_with_len 0 (length ids)) by_id all
+      (λ k d lt. omega (arith, get_or-range_with_len 0 (length ids) k d (omega (arith, length-range_with_len 0 (length ids))), length-range_with_len 0 (length ids)))
 
-    read : map (text_at ids) rows ≡ ids
-    read = ap (map (text_at ids)) all ∙ sym (fill_by_all (text_at ids) ids (length ids) [] refl (λ k lt. refl))
+  -- read in this order, the ids are what they are in the rows' order, each as often
+  pub same_ids : IsPermutation ids (map (text_at ids) by_id)
+  same_ids = subst (λ l. IsPermutation l (map (text_at ids) by_id)) read (IsPermutation-map (text_at ids) (range_with_len 0 (length ids)) by_id all)
+    where
+      read : map (text_at ids) (range_with_len 0 (length ids)) ≡ ids
+      read = sym (fill_by_all (text_at ids) ids (length ids) [] refl (λ k lt. refl))
 
 module _ (ids : List Text) (by_id : List ℕ) (is : IsIndex ids by_id) where
   at : (k d : ℕ) → k < length by_id → get_or (map (text_at ids) by_id) k [] ≡ text_at ids (get_or by_id k d)
@@ -116,7 +131,7 @@ module _ (ids : List Text) (by_id : List ℕ) (is : IsIndex ids by_id) where
   -- a search that finds nothing proves that no row has the id
   pub id_absent : (id : Text) (index : ℕ) → IsBinarySearchResult (λ row. text_cmp (text_at ids row) id) by_id (Err index) → All (λ i. i ≢ id) ids
   id_absent id index parted k d lt same =
-      let has = Contains-permutation ids (map (text_at ids) by_id) id is.same (k, lt, get_or_default ids k id d lt ∙ same) in
+      let has = Contains-permutation ids (map (text_at ids) by_id) id (same_ids ids by_id is.rows) (k, lt, get_or_default ids k id d lt ∙ same) in
       let within : has.0 < length by_id = omega (arith, has.1, length-map by_id (text_at ids)) in
       let here : text_at ids (get_or by_id has.0 0) ≡ id = sym (at has.0 0 within) ∙ get_or_default (map (text_at ids) by_id) has.0 [] id has.1 ∙ has.2 in
       let tie : text_cmp (text_at ids (get_or by_id has.0 0)) id ≡ Equal = ap (λ x. text_cmp x id) here ∙ tied_itself nat_list_cmp_total id in
@@ -129,7 +144,7 @@ module _ (ids : List Text) (by_id : List ℕ) (is : IsIndex ids by_id) where
   -- ids differ just where neighbours in their order do
   pub ids_differ : AllAdjacentBelow (λ a b. rank ids a b ≡ true) by_id (length by_id) → AllPairs (λ a b. a ≢ b) ids
   ids_differ rises =
-      AllPairs-permutation (map (text_at ids) by_id) ids (IsPermutation-sym ids (map (text_at ids) by_id) is.same) apart_all
+      AllPairs-permutation (map (text_at ids) by_id) ids (IsPermutation-sym ids (map (text_at ids) by_id) (same_ids ids by_id is.rows)) apart_all
     where
       apart_all : AllPairs (λ a b. a ≢ b) (map (text_at ids) by_id)
       apart_all i j d lt within same =
@@ -143,6 +158,6 @@ module _ (ids : List Text) (by_id : List ℕ) (is : IsIndex ids by_id) where
 
   pub ids_meet : AllPairs (λ a b. a ≢ b) ids → (k : ℕ) → k + 1 < length by_id → rank ids (get_or by_id k 0) (get_or by_id (k + 1) 0) ≡ false → ⊥
   ids_meet pairs k within level =
-      let differ = AllPairs-permutation ids (map (text_at ids) by_id) is.same pairs in
+      let differ = AllPairs-permutation ids (map (text_at ids) by_id) (same_ids ids by_id is.rows) pairs in
       let same = tied (text_at ids (get_or by_id k 0)) (text_at ids (get_or by_id (k + 1) 0)) level (is.rising k 0 (omega arith) within) in
       differ k (k + 1) [] (omega arith) (omega (arith, length-map by_id (text_at ids))) (at k 0 (omega arith) ∙ same ∙ sym (at (k + 1) 0 within))

@@ -1,13 +1,14 @@
 -- The columns that the parts of a file make, and what of the parts is judged first.
 use Rattle.std.specs.Prelude.{◌≡◌, ◌≢◌, ◌<◌, ◌≤◌, ℕ, zero, suc, List, [], ◌∷◌, length, All}
 use Rattle.std.specs.List.{AllPairs}
-use Rattle.cat_codec.specs.Parts.{column_in}
+use Rattle.cat_codec.specs.Parts.{column_in, layout_in}
 use Rattle.cat_codec.specs.declared.parts.SegmentParts.{SegmentParts}
 use Rattle.cat_codec.specs.declared.parts.ColumnParts.{ColumnParts}
 use Rattle.cat_codec.specs.declared.parts.ColumnParts.TheVariants as parts
 use Rattle.cat_model.specs.Item.{Content, Kind}
-use Rattle.cat_model.specs.Layout.{pieces}
+use Rattle.cat_model.specs.Layout.{layout_of, pieces}
 use Rattle.cat_model.specs.Limits.{label_limit}
+use Rattle.cat_model.specs.View.{Segment, IsSegment}
 use Rattle.cat_segment.specs.Contents.{contents_of}
 use Rattle.cat_segment.specs.Laid.{AreContents, laid_out}
 use Rattle.cat_segment.specs.declared.column.Column.{Column}
@@ -46,6 +47,10 @@ HasFewLabels (parts.Facet dictionary ends ordinals) = All (λ set. length set �
 pub record IsFit (p : SegmentParts) : Type 0 where
   pub rising : AllPairs (λ a b. a < b) p.numbers.items
   pub labels : All HasFewLabels p.columns.items
+
+-- no segment is laid out as the parts
+abbrev pub HasNoSegment : SegmentParts → Type 0
+HasNoSegment p = (s : Segment) → IsSegment s → layout_of s ≢ layout_in p
 
 -- the ordinals of a code: none for 0, else that below it
 abbrev pub ordinals_of : ℕ → List ℕ

@@ -1,5 +1,5 @@
 //! Columns of the parts of a file, and whether rows have as few labels as they may.
-ghost use Rattle.std.specs.Prelude.{◌≡◌, ◌↔◌, ◌⊎◌, ◌≤◌, ◌<◌, ℕ, length, map, All, Any, IfOk, IfErr, IsTrue};
+ghost use Rattle.std.specs.Prelude.{◌≡◌, ◌↔◌, ◌⊎◌, ◌≤◌, ◌<◌, ◌++◌, ◌∷◌, [], ℕ, length, map, All, Any, IfOk, IfErr, OnOk, IsTrue};
 ghost use Rattle.cat_base.specs.declared.refusal.Refusal.TheVariants.{Damaged, Memory};
 ghost use Rattle.cat_codec.specs.Parts.{column_in, IsColumnParts};
 ghost use Rattle.cat_codec.specs.declared.parts.ColumnParts.TheVariants as parts;
@@ -8,6 +8,7 @@ ghost use Rattle.cat_model.specs.Layout.{IsLaid};
 ghost use Rattle.cat_model.specs.Limits.{row_limit, label_limit};
 ghost use Rattle.cat_segment.specs.Parts.{kind_in, IsColumnOf, HasNoColumn, HasFewLabels, AreColumnsOf};
 ghost use Rattle.cat_segment.specs.Sources.{lengths_between, Rise};
+ghost use Rattle.cat_segment.specs.declared.column.Column as declared;
 
 use crate::column::{Column, Keywords, Labels};
 use cat_base::{MAX_LABELS, Refusal, Text};
@@ -29,6 +30,7 @@ fn words_from(
     requires laid { IsLaid rows Kind.text (column_in (parts.Text words ends postings)) }
     ensures ok { IfOk result (IsColumnOf rows (parts.Text words ends postings)) }
     ensures damaged { IfErr result (λ e. e ≡ Damaged → HasNoColumn rows (parts.Text words ends postings)) }
+    ensures due { IfErr result (λ e. e ≡ Memory → HasNoColumn rows (parts.Text words ends postings) → ⊥) }
     ensures refusal { IfErr result (λ e. (e ≡ Damaged) ⊎ (e ≡ Memory)) }
 {
     let terms = Terms::from_postings(alloc, rows, words, ends, postings)?;
@@ -48,6 +50,7 @@ fn keywords_from(
     requires laid { IsLaid rows Kind.keyword (column_in (parts.Keyword dictionary codes)) }
     ensures ok { IfOk result (IsColumnOf rows (parts.Keyword dictionary codes)) }
     ensures damaged { IfErr result (λ e. e ≡ Damaged → HasNoColumn rows (parts.Keyword dictionary codes)) }
+    ensures due { IfErr result (λ e. e ≡ Memory → HasNoColumn rows (parts.Keyword dictionary codes) → ⊥) }
     ensures refusal { IfErr result (λ e. (e ≡ Damaged) ⊎ (e ≡ Memory)) }
 {
     let values = KeywordColumn::from_codes(alloc, dictionary, codes)?;
@@ -107,6 +110,7 @@ fn labels_from(
     requires laid { IsLaid rows Kind.facet (column_in (parts.Facet dictionary ends ordinals)) }
     ensures ok { IfOk result (IsColumnOf rows (parts.Facet dictionary ends ordinals)) }
     ensures damaged { IfErr result (λ e. e ≡ Damaged → HasNoColumn rows (parts.Facet dictionary ends ordinals)) }
+    ensures due { IfErr result (λ e. e ≡ Memory → HasNoColumn rows (parts.Facet dictionary ends ordinals) → ⊥) }
     ensures refusal { IfErr result (λ e. (e ≡ Damaged) ⊎ (e ≡ Memory)) }
 {
     let labels = SetColumn::from_ordinals(alloc, dictionary, ends, ordinals)?;
@@ -120,6 +124,7 @@ fn numbers_from(alloc: Global, rows: usize, numbers: Vec<Option<i64>>) -> Result
     requires few { rows ≤ row_limit }
     requires laid { IsLaid rows Kind.number (column_in (parts.Number numbers)) }
     ensures ok { IfOk result (IsColumnOf rows (parts.Number numbers)) }
+    ensures due { HasNoColumn rows (parts.Number numbers) → ⊥ }
 {
     Ok(Column::Number(NumberColumn::of(alloc, &numbers)?))
 }
@@ -132,6 +137,7 @@ fn column_from(alloc: Global, rows: usize, part: ColumnParts) -> Result<Column, 
     requires laid { IsLaid rows (kind_in part) (column_in part) }
     ensures ok { IfOk result (IsColumnOf rows part) }
     ensures damaged { IfErr result (λ e. e ≡ Damaged → HasNoColumn rows part) }
+    ensures due { IfErr result (λ e. e ≡ Memory → HasNoColumn rows part → ⊥) }
     ensures refusal { IfErr result (λ e. (e ≡ Damaged) ⊎ (e ≡ Memory)) }
 {
     match part {
@@ -144,7 +150,30 @@ fn column_from(alloc: Global, rows: usize, part: ColumnParts) -> Result<Column, 
     }
 }
 
-/// The columns of the parts, of as many rows. [`Refusal::Damaged`] where no column is laid out as some of them.
+/// Adds the column of the parts, of as many rows. [`Refusal::Damaged`] where no column is laid out so, also where memory is
+/// wanting.
+fn add_column(
+    alloc: Global,
+    rows: usize,
+    part: ColumnParts,
+    columns: &mut Vec<Column>,
+) -> Result<(), Refusal>
+    requires few { rows ≤ row_limit }
+    requires cut { IsColumnParts part }
+    requires labels { HasFewLabels part }
+    requires laid { IsLaid rows (kind_in part) (column_in part) }
+    ensures ok { OnOk result ((c : declared.Column) × IsColumnOf rows part c × (columns.new.items ≡ columns.old.items ++ c ∷ [])) }
+    ensures damaged { IfErr result (λ e. e ≡ Damaged → HasNoColumn rows part) }
+    ensures due { IfErr result (λ e. e ≡ Memory → HasNoColumn rows part → ⊥) }
+    ensures refusal { IfErr result (λ e. (e ≡ Damaged) ⊎ (e ≡ Memory)) }
+{
+    let column = column_from(alloc, rows, part)?;
+    columns.push(column)?;
+    Ok(())
+}
+
+/// The columns of the parts, of as many rows. [`Refusal::Damaged`] where no column is laid out as some of them, also where
+/// memory is wanting: then the parts that are left are still judged.
 pub(crate) fn columns_from(
     alloc: Global,
     rows: usize,
@@ -156,11 +185,22 @@ pub(crate) fn columns_from(
     requires laid { All (λ p. IsLaid rows (kind_in p) (column_in p)) parts.items }
     ensures ok { IfOk result (λ cs. AreColumnsOf rows parts.items cs.items) }
     ensures damaged { IfErr result (λ e. e ≡ Damaged → Any (HasNoColumn rows) parts.items) }
+    ensures due { IfErr result (λ e. e ≡ Memory → All (λ p. HasNoColumn rows p → ⊥) parts.items) }
     ensures refusal { IfErr result (λ e. (e ≡ Damaged) ⊎ (e ≡ Memory)) }
 {
-    let mut columns = Vec::with_capacity(alloc, parts.len())?;
+    let mut columns = Vec::new(alloc);
+    let mut is_short = false;
     for part in parts {
-        columns.push(column_from(alloc, rows, part)?)?;
+        match add_column(alloc, rows, part, &mut columns) {
+            Ok(()) => {}
+            Err(refusal) => match refusal {
+                Refusal::Damaged => return Err(Refusal::Damaged),
+                _ => is_short = true,
+            },
+        }
+    }
+    if is_short {
+        return Err(Refusal::Memory);
     }
     Ok(columns)
 }

@@ -1,9 +1,11 @@
 //! The ids of the rows of a segment, and the index by which the row of an id is found.
-ghost use Rattle.std.specs.Prelude.{◌≡◌, ◌≢◌, ◌↔◌, ◌<◌, ◌^◌, [], length, map, All, IfOk, IfErr, IfSome, IsTrue, MatchOption, slice_index_or};
+ghost use Rattle.std.specs.Prelude.{◌≡◌, ◌≢◌, ◌↔◌, ◌⊎◌, ◌<◌, ◌^◌, [], length, map, All, IfOk, IfErr, IfSome, IsTrue, MatchOption, slice_index_or};
 ghost use Rattle.std.specs.List.{AllPairs, HoldsAt, range_with_len};
-ghost use Rattle.cat_base.specs.declared.refusal.Refusal.TheVariants.{Damaged};
+ghost use Rattle.cat_base.specs.declared.refusal.Refusal.TheVariants.{Damaged, Memory};
+ghost use Rattle.std.specs.List.Sorted.{IsSortedByKey};
 ghost use Rattle.cat_model.specs.Ordinals.{text_at};
-ghost use Rattle.cat_segment.specs.Index.{IsIndex};
+ghost use Rattle.cat_model.specs.Text.{text_cmp};
+ghost use Rattle.cat_segment.specs.Index.{AreAllRows, IsIndex};
 
 use cat_base::{Refusal, Text};
 use std::alloc::{AllocError, Global};
@@ -53,8 +55,8 @@ fn all_rows(alloc: Global, len: u32) -> Result<Vec<u32>, AllocError>
     Ok(rows)
 }
 
-/// The rows in byte order of their ids.
-fn rows_by_id(alloc: Global, ids: &[Text]) -> Result<Vec<u32>, AllocError>
+/// All rows in byte order of their ids.
+fn sorted_rows(alloc: Global, ids: &[Text]) -> Result<Vec<u32>, AllocError>
     requires { length ids.now < 2 ^ 32 }
     ensures ok { IfOk result (λ v. IsIndex ids.now v.items) }
 {
@@ -63,14 +65,71 @@ fn rows_by_id(alloc: Global, ids: &[Text]) -> Result<Vec<u32>, AllocError>
     Ok(rows)
 }
 
+/// These rows, which are all, in byte order of their ids. The sort merges the runs that stand so already.
+fn merged_rows(ids: &[Text], mut rows: Vec<u32>) -> Result<Vec<u32>, AllocError>
+    requires { AreAllRows (length ids.now) rows.items }
+    ensures ok { IfOk result (λ v. IsIndex ids.now v.items) }
+{
+    rows.sort_by(|a, b| id_at(ids, *a).cmp(id_at(ids, *b)))?;
+    Ok(rows)
+}
+
+/// The rows in byte order of their ids, out of all rows in runs that stand so, where these are given.
+fn rows_by_id(alloc: Global, ids: &[Text], runs: Option<Vec<u32>>) -> Result<Vec<u32>, AllocError>
+    requires few { length ids.now < 2 ^ 32 }
+    requires runs { IfSome runs (λ rows. AreAllRows (length ids.now) rows.items) }
+    ensures ok { IfOk result (λ v. IsIndex ids.now v.items) }
+{
+    match runs {
+        Some(rows) => merged_rows(ids, rows),
+        None => sorted_rows(alloc, ids),
+    }
+}
+
+/// What is told where no memory is left for the index of the ids: damage where two rows have one, else want of memory. It
+/// takes no memory.
+fn without_index(mut ids: Vec<Text>) -> Refusal
+    ensures damaged { result ≡ Damaged → AllPairs (λ a b. a ≢ b) ids.items → ⊥ }
+    ensures due { result ≡ Memory → AllPairs (λ a b. a ≢ b) ids.items }
+    ensures refusal { (result ≡ Damaged) ⊎ (result ≡ Memory) }
+{
+    ids.sort_unstable();
+    if ids.is_sorted_by(|id, next| id.as_str() < next.as_str()) {
+        Refusal::Memory
+    } else {
+        Refusal::Damaged
+    }
+}
+
 impl Ids {
     /// The ids of the rows, in the rows' order.
     pub(crate) fn of(alloc: Global, ids: Vec<Text>) -> Result<Ids, AllocError>
         requires { length ids.items < 2 ^ 32 }
         ensures ok { IfOk result (λ i. i ≡ ids.items) }
     {
-        let by_id = rows_by_id(alloc, &ids)?;
+        let by_id = sorted_rows(alloc, &ids)?;
         Ok(Ids { ids, by_id })
+    }
+
+    /// The ids of the rows, in the rows' order, where no two rows have one id; [`Refusal::Damaged`] where two have, also
+    /// where memory is wanting, and else [`Refusal::Memory`]. Where all rows are given in runs with rising ids, the index is
+    /// merged of these.
+    pub(crate) fn distinct_of(
+        alloc: Global,
+        ids: Vec<Text>,
+        runs: Option<Vec<u32>>,
+    ) -> Result<Ids, Refusal>
+        requires few { length ids.items < 2 ^ 32 }
+        requires runs { IfSome runs (λ rows. AreAllRows (length ids.items) rows.items) }
+        ensures ok { IfOk result (λ i. (i ≡ ids.items) × AllPairs (λ a b. a ≢ b) i) }
+        ensures damaged { IfErr result (λ e. e ≡ Damaged → AllPairs (λ a b. a ≢ b) ids.items → ⊥) }
+        ensures due { IfErr result (λ e. e ≡ Memory → AllPairs (λ a b. a ≢ b) ids.items) }
+        ensures refusal { IfErr result (λ e. (e ≡ Damaged) ⊎ (e ≡ Memory)) }
+    {
+        match rows_by_id(alloc, &ids, runs) {
+            Ok(by_id) => Ids { ids, by_id }.distinct(),
+            Err(_) => Err(without_index(ids)),
+        }
     }
 
     /// The id of the row.
@@ -79,6 +138,14 @@ impl Ids {
         ensures { result.now ≡ text_at self.now row }
     {
         self.ids[row].as_str()
+    }
+
+    /// All rows in byte order of their ids.
+    pub(crate) fn rows(&self) -> &[u32]
+        ensures rows { AreAllRows (length self.now) result.now }
+        ensures rising { IsSortedByKey (text_at self.now) text_cmp result.now }
+    {
+        &self.by_id
     }
 
     /// The row of the id, if there is one (Lucene: `TermsEnum.seekExact`).

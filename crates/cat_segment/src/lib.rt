@@ -15,7 +15,7 @@ mod live_file;
 mod segment;
 mod sources;
 
-pub use assembly::assemble;
+pub use assembly::{assemble, assemble_runs};
 pub use column::{Column, Keywords, Labels};
 pub use decoding::{decode_seg, segments_are_told_by_their_bytes};
 pub use encoding::encode_seg;

@@ -1,11 +1,14 @@
 //! Immutable segments.
 ghost use Rattle.std.specs.Prelude.{◌≡◌, ◌≢◌, ◌<◌, ◌≤◌, map, length, replicate, None, MatchOption, IfSome, IfOk, All, AllPairs};
 ghost use Rattle.std.specs.List.{HoldsAt};
-ghost use Rattle.std.specs.List.Sorted.{IsPartitionPoint};
+ghost use Rattle.std.specs.List.Sorted.{IsPartitionPoint, IsSortedByKey};
 ghost use Rattle.cat_model.specs.Layout.{column_of};
+ghost use Rattle.cat_model.specs.Ordinals.{text_at};
+ghost use Rattle.cat_model.specs.Text.{text_cmp};
 ghost use Rattle.cat_model.specs.View.{AreRows, IsSegment};
 ghost use Rattle.cat_segment.specs.Contents.{contents_told, contents_under_name};
 ghost use Rattle.cat_segment.specs.Fields.{rows_made};
+ghost use Rattle.cat_segment.specs.Index.{AreAllRows};
 ghost use Rattle.cat_segment.specs.Laid.{kind_of, laid_in};
 ghost use Rattle.cat_segment.specs.Body.{body_with, rows_of, IsBody};
 ghost use Rattle.cat_segment.specs.Sources.{source_offset};
@@ -154,6 +157,14 @@ impl Segment {
         ensures bound { IfSome result (λ row. row < length self.now.rows) }
     {
         self.ids.row_of(id)
+    }
+
+    /// All rows, in byte order of their ids (Lucene: the order of the terms in a primary key's field).
+    pub fn rows_by_id(&self) -> &[u32]
+        ensures rows { AreAllRows (length self.now.rows) result.now }
+        ensures rising { IsSortedByKey (text_at (map (λ r. r.id) self.now.rows)) text_cmp result.now }
+    {
+        self.ids.rows()
     }
 
     /// How many rows the writes up to this number put, by binary search: the row of that index, if there is one, is the

@@ -1,11 +1,22 @@
-use Rattle.std.proofs.Common.{ℤ, List, Option, sym, ◌∙◌, subst}
+use Rattle.std.proofs.Common.{ℤ, List, Option, map, sym, ◌∙◌, subst}
+use Rattle.cat_model.specs.Item.{Content}
 use Rattle.cat_segment.proofs.Columned.{numbers_read}
 use Rattle.cat_segment.specs.Parts.{IsColumnOf}
 use Rattle.cat_segment.specs.declared.column.Column.TheVariants.{Number}
 use Rattle.cat_codec.specs.declared.parts.ColumnParts.TheVariants as parts
 use Rattle.cat_segment.proofs.column_parts.numbers_from.Goals as goal
 
-pub returns : goal.returns
-returns c =
+pub returns-clause-ok : goal.returns-clause-ok
+returns-clause-ok c =
     let read = numbers_read c.args.rows c.args.numbers.items c.requires.laid in
-    record { ok = subst (λ (zs : List (Option ℤ)). IsColumnOf c.args.rows (parts.Number c.args.numbers) (Number zs)) (sym (c.in_ok-of.ensures.ok ∙ c.deref.ensures.value)) (record { contents = read.0; spelled = read.1 }) }
+    subst (λ (zs : List (Option ℤ)). IsColumnOf c.args.rows (parts.Number c.args.numbers) (Number zs)) (sym (c.in_ok-of.ensures.ok ∙ c.deref.ensures.value)) (record { contents = read.0; spelled = read.1 })
+
+pub returns-clause-due : goal.returns-clause-due
+returns-clause-due c = λ none.
+    let read = numbers_read c.args.rows c.args.numbers.items c.requires.laid in
+    none (map Content.number c.args.numbers.items) read.0 read.1
+
+pub returns-in_err-of-clause-due : goal.returns-in_err-of-clause-due
+returns-in_err-of-clause-due c = λ none.
+    let read = numbers_read c.args.rows c.args.numbers.items c.requires.laid in
+    none (map Content.number c.args.numbers.items) read.0 read.1

@@ -26,3 +26,13 @@ returns-clause-damaged c =
     let read = c.in_ok-parts.ensures.ok in
     MatchResult-weaker c.assemble.result c.assemble.ensures.damaged (λ x t. t)
     (λ e none is s spells. none is s spells.form (told_by_bytes (layout_of s) (layout_in c.in_ok-parts.parts) (IsLayout-of s spells.form spells.number) read.1 (sym spells.spelled ∙ read.2)))
+
+pub returns-in_err-parts-clause-due : goal.returns-in_err-parts-clause-due
+returns-in_err-parts-clause-due c =
+    let p = err_from_is_err_and c.from_residual.result c.from_residual.ensures.1 in
+    rw (p.1, p.2) c.in_err-parts.ensures.due
+
+pub returns-clause-due : goal.returns-clause-due
+returns-clause-due c =
+    let read = c.in_ok-parts.ensures.ok in
+    MatchResult-weaker c.assemble.result c.assemble.ensures.due (λ x t. t) (λ e _ is. (layout_in c.in_ok-parts.parts, read.1, read.2))

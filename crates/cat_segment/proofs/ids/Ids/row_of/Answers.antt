@@ -4,7 +4,7 @@ use Rattle.std.proofs.lemmas.List.{get_or_default, get_or_read}
 use Rattle.std.proofs.lemmas.Map.Lookups.{exact_bytes}
 use Rattle.cat_model.specs.Text.{text_cmp}
 use Rattle.cat_model.specs.Ordinals.{text_at}
-use Rattle.cat_segment.proofs.Ordered.{id_absent}
+use Rattle.cat_segment.proofs.Ordered.{id_absent, rows_within}
 use Rattle.cat_segment.proofs.ids.Ids.row_of.Goals as goal
 
 pub index-requires : goal.index-requires
@@ -15,7 +15,7 @@ row_within c =
     let by_id = c.self.inside.by_id.items in
     let inside : c.in-Ok.rank < length by_id = omega (arith, c.in-Ok.ensures.bound, ap length c.deref.ensures.value) in
     let here = get_or_read by_id c.in-Ok.rank c.index.result.now inside c.index.ensures 0 in
-    omega (arith, here, c.self.invariant.rows c.in-Ok.rank 0 inside)
+    omega (arith, here, rows_within c.self.inside.ids.items by_id c.self.invariant.rows c.in-Ok.rank 0 inside)
 
 pub returns-in-Ok-clause-lookup : goal.returns-in-Ok-clause-lookup
 returns-in-Ok-clause-lookup c = λ d.
