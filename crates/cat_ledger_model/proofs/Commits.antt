@@ -11,13 +11,14 @@ use Rattle.cat_model.specs.Item.{Record}
 use Rattle.cat_model.specs.Files.{Name}
 use Rattle.cat_model.specs.View.{selected}
 use Rattle.cat_model.specs.Run.{is_newest}
-use Rattle.cat_model.specs.State.{Commit, newest_of, newest_told, is_below, snapshots_in, commits_kept, commit_now, IsSound}
+use Rattle.cat_model.specs.State.{Commit, newest_of, newest_told, is_below, snapshots_in, stays_kept, commits_kept, commit_now, IsSound}
 use Rattle.cat_model.proofs.Lists.{All-weaken, All-both, All-kept}
 use Rattle.cat_model.proofs.Commits.{newest-pushed, filter_last, is_newest-self}
 use Rattle.cat_ledger_model.specs.Portions.{Portion, records_of, all_records, lives_of, Apart, Merging, IsMerging}
 use Rattle.cat_ledger_model.specs.Users.{times}
-use Rattle.cat_ledger_model.specs.Ledger.{Listed, LedgerCommit, IsPutRecord, AreWhole, IsLedger, IsWholeView, IsWholeCommit, portions_in, state_of, table_of, names_used, names_of_portion, names_of_view, names_of_listed, name_of_live, names_of_commit, names_of_merging, IsPast, NotOf, IsAlone, view_shown, commit_shown}
-use Rattle.cat_ledger_model.specs.Calls.{all_alive, same_live, file_in, file_for, listed_in, newest_listed, commit_of, stays_kept, commits_that, commits_not, newest_in}
+use Rattle.cat_model.specs.CommitFile.{live_names}
+use Rattle.cat_ledger_model.specs.Ledger.{Listed, LedgerCommit, IsPutRecord, AreWhole, IsLedger, IsWholeView, IsWholeCommit, portions_in, state_of, table_of, names_used, names_of_portion, names_of_view, names_of_listed, names_of_commit, names_of_merging, IsPast, NotOf, IsAlone, view_shown, commit_shown}
+use Rattle.cat_ledger_model.specs.Calls.{all_alive, same_live, file_in, file_for, listed_in, newest_listed, commit_of, commits_that, commits_not, newest_in}
 use Rattle.cat_ledger_model.specs.Laws.{CommitsAreKept, SnapshotsAreTaken, SnapshotsAreGiven, OpenedAreFresh}
 use Rattle.cat_ledger_model.proofs.Alone.{nobody_alone}
 use Rattle.cat_ledger_model.proofs.Marked.{All-marked, Apart-marked, records-marked}
@@ -35,7 +36,7 @@ generations_low : (n g : ℕ) (cs : List LedgerCommit) → AllByRecursion (IsPas
 generations_low n g [] a = tt
 generations_low n g (c ∷ cs) a = let r = All-split (IsPast n g) (names_of_commit c) (flat_map names_of_commit cs) a in (r.0.0, generations_low n g cs r.1)
 
-newest_all : (P : Name → Type 0) (o : Option LedgerCommit) (cs : List LedgerCommit) → AllByRecursion P (flat_map names_of_listed (listed_in o)) → AllByRecursion P (flat_map names_of_commit cs) → AllByRecursion P (flat_map names_of_listed (listed_in (last_or o cs)))
+pub newest_all : (P : Name → Type 0) (o : Option LedgerCommit) (cs : List LedgerCommit) → AllByRecursion P (flat_map names_of_listed (listed_in o)) → AllByRecursion P (flat_map names_of_commit cs) → AllByRecursion P (flat_map names_of_listed (listed_in (last_or o cs)))
 newest_all P o [] h a = h
 newest_all P o (c ∷ cs) h a = let r = All-split P (names_of_commit c) (flat_map names_of_commit cs) a in newest_all P (Some c) cs r.0.1 r.1
 
@@ -55,7 +56,7 @@ file_past n g (x ∷ xs) p a =
     let r = All-split (IsPast n g) (names_of_listed x) (flat_map names_of_listed xs) a in
     by ((x.portion.number == p.number) && same_live x.portion.live p.live) (own (x.file == 0) (eqb_tells x.file 0) r.0.1.1) (file_past n g xs p r.1)
   where
-    own : (b : Bool) → (((x.file == 0) ≡ true) × (x.file ≡ 0)) ⊎ (((x.file == 0) ≡ false) × (x.file ≢ 0)) → AllByRecursion (IsPast n g) (name_of_live x.portion.number x.file) → x.file < g + 1
+    own : (b : Bool) → (((x.file == 0) ≡ true) × (x.file ≡ 0)) ⊎ (((x.file == 0) ≡ false) × (x.file ≢ 0)) → AllByRecursion (IsPast n g) (live_names x.portion.number x.file) → x.file < g + 1
     own b (inl e) h = omega (arith, e.1)
     own b (inr e) h = let k : AllByRecursion (IsPast n g) (cond false [] (Name.live x.portion.number x.file ∷ [])) = subst (λ c. AllByRecursion (IsPast n g) (cond c [] (Name.live x.portion.number x.file ∷ []))) e.0 h in let less : x.file < g = k.0.1 in omega arith
 
@@ -63,7 +64,7 @@ file_past n g (x ∷ xs) p a =
     by true h k = h
     by false h k = k
 
-file_for_past : (n g : ℕ) (xs : List Listed) (p : Portion) → AllByRecursion (IsPast n g) (flat_map names_of_listed xs) → file_for xs g p < g + 1
+pub file_for_past : (n g : ℕ) (xs : List Listed) (p : Portion) → AllByRecursion (IsPast n g) (flat_map names_of_listed xs) → file_for xs g p < g + 1
 file_for_past n g xs p a = by (all_alive p.live) (file_in xs p == 0) (file_past n g xs p a)
   where
     by : (b c : Bool) → file_in xs p < g + 1 → cond b 0 (cond c g (file_in xs p)) < g + 1
@@ -74,7 +75,7 @@ file_for_past n g xs p a = by (all_alive p.live) (file_in xs p == 0) (file_past 
 names_listed : (n g : ℕ) (xs : List Listed) (ps : List Portion) → AllByRecursion (IsPast n g) (flat_map names_of_listed xs) → AllByRecursion (IsPast n g) (flat_map names_of_portion ps)
     → AllByRecursion (IsPast n (g + 1)) (flat_map names_of_listed (map (λ p. record { portion = p; file = file_for xs g p }) ps))
 names_listed n g xs [] a h = tt
-names_listed n g xs (p ∷ ps) a h = (h.0, (h.1.0, All-both (IsPast n (g + 1)) (name_of_live p.number (file_for xs g p)) _ (own (file_for xs g p == 0)) (names_listed n g xs ps a h.1.1)))
+names_listed n g xs (p ∷ ps) a h = (h.0, (h.1.0, All-both (IsPast n (g + 1)) (live_names p.number (file_for xs g p)) _ (own (file_for xs g p == 0)) (names_listed n g xs ps a h.1.1)))
   where
     own : (b : Bool) → AllByRecursion (IsPast n (g + 1)) (cond b [] (Name.live p.number (file_for xs g p) ∷ []))
     own true = tt
@@ -91,7 +92,7 @@ live_apart (Some m) n d h = h
 listed_apart : (o : Option Merging) (xs : List Listed) (g : ℕ) (ps : List Portion) → AllByRecursion (NotOf o) (flat_map names_of_portion ps)
     → AllByRecursion (NotOf o) (flat_map names_of_listed (map (λ p. record { portion = p; file = file_for xs g p }) ps))
 listed_apart o xs g [] h = tt
-listed_apart o xs g (p ∷ ps) h = (h.0, (h.1.0, All-both (NotOf o) (name_of_live p.number (file_for xs g p)) _ (own (file_for xs g p == 0)) (listed_apart o xs g ps h.1.1)))
+listed_apart o xs g (p ∷ ps) h = (h.0, (h.1.0, All-both (NotOf o) (live_names p.number (file_for xs g p)) _ (own (file_for xs g p == 0)) (listed_apart o xs g ps h.1.1)))
   where
     own : (b : Bool) → AllByRecursion (NotOf o) (cond b [] (Name.live p.number (file_for xs g p) ∷ []))
     own true = tt

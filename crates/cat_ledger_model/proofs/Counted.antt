@@ -8,7 +8,8 @@ use Rattle.cat_model.specs.Files.{Name}
 use Rattle.cat_model.proofs.Lists.{All-weaken, All-both}
 use Rattle.cat_ledger_model.specs.Portions.{Portion, Apart, ArePortions, Merging}
 use Rattle.cat_ledger_model.specs.Users.{same_file_name, has_name, times}
-use Rattle.cat_ledger_model.specs.Ledger.{Listed, LedgerCommit, IsWholeView, IsWholeCommit, portions_in, names_of_portion, names_of_view, names_of_listed, name_of_live, names_of_commit, names_of_merging, IsOther}
+use Rattle.cat_model.specs.CommitFile.{live_names}
+use Rattle.cat_ledger_model.specs.Ledger.{Listed, LedgerCommit, IsWholeView, IsWholeCommit, portions_in, names_of_portion, names_of_view, names_of_listed, names_of_commit, names_of_merging, IsOther}
 use Rattle.cat_ledger_model.specs.Laws.{UsersAreCounted}
 use Rattle.cat_ledger_model.proofs.Users.{times-append, times-four, Apart-join}
 
@@ -28,7 +29,7 @@ and_both : (a b : Bool) → (a && b) ≡ true → (a ≡ true) × (b ≡ true)
 and_both true b e = (refl, e)
 and_both false b e = absurd (let no : false ≡ true = e in cc)
 
-same_name_is : (a b : Name) → same_file_name a b ≡ true → a ≡ b
+pub same_name_is : (a b : Name) → same_file_name a b ≡ true → a ≡ b
 same_name_is (Name.segment m) (Name.segment n) e = ap (λ k. Name.segment k) (same_number m n e)
 same_name_is (Name.source m) (Name.source n) e = ap (λ k. Name.source k) (same_number m n e)
 same_name_is (Name.live m d) (Name.live n g) e = let k = and_both (m == n) (d == g) e in ap₂ (λ (x y : ℕ). Name.live x y) (same_number m n k.0) (same_number d g k.1)
@@ -86,12 +87,12 @@ live_other n m d h false = ((λ e. h (sym e)), tt)
 
 listed_other : (n : ℕ) (xs : List Listed) → AllByRecursion (λ x. n ≢ x.portion.number) xs → AllByRecursion (IsOther n) (flat_map names_of_listed xs)
 listed_other n [] a = tt
-listed_other n (x ∷ xs) a = ((λ e. a.0 (sym e)), ((λ e. a.0 (sym e)), All-both (IsOther n) (name_of_live x.portion.number x.file) _ (live_other n x.portion.number x.file a.0 (x.file == 0)) (listed_other n xs a.1)))
+listed_other n (x ∷ xs) a = ((λ e. a.0 (sym e)), ((λ e. a.0 (sym e)), All-both (IsOther n) (live_names x.portion.number x.file) _ (live_other n x.portion.number x.file a.0 (x.file == 0)) (listed_other n xs a.1)))
 
 listed_kinds : (xs : List Listed) → AllByRecursion (λ q. kind q < 3) (flat_map names_of_listed xs)
 unfolding kind
 listed_kinds [] = tt
-listed_kinds (x ∷ xs) = (omega arith, (omega arith, All-both (λ q. kind q < 3) (name_of_live x.portion.number x.file) _ (own (x.file == 0)) (listed_kinds xs)))
+listed_kinds (x ∷ xs) = (omega arith, (omega arith, All-both (λ q. kind q < 3) (live_names x.portion.number x.file) _ (own (x.file == 0)) (listed_kinds xs)))
   where
     own : (b : Bool) → AllByRecursion (λ q. kind q < 3) (cond b [] (Name.live x.portion.number x.file ∷ []))
     own true = tt
@@ -103,7 +104,7 @@ listed_distinct [] a = tt
 listed_distinct (x ∷ xs) a =
     let n : ℕ = x.portion.number in
     let others : AllByRecursion (IsOther n) (flat_map names_of_listed xs) = listed_other n xs (unmapped xs a.0) in
-    let live : List Name = name_of_live n x.file in (
+    let live : List Name = live_names n x.file in (
       (kinds_differ (Name.segment n) (Name.source n) (λ e. absurd (omega (arith, e))), All-both (λ y. Name.segment n ≢ y) live _ (own (Name.segment n) (λ e. absurd (omega (arith, e))) (x.file == 0)) (other_differs n (Name.segment n) (λ h. h refl) _ others)),
       (
         All-both (λ y. Name.source n ≢ y) live _ (own (Name.source n) (λ e. absurd (omega (arith, e))) (x.file == 0)) (other_differs n (Name.source n) (λ h. h refl) _ others),

@@ -7,20 +7,11 @@ use Rattle.cat_model.specs.Item.{Record}
 use Rattle.cat_model.specs.Write.{Write, removes}
 use Rattle.cat_model.specs.Table.{without}
 use Rattle.cat_model.specs.View.{selected}
-use Rattle.cat_ledger_model.specs.Portions.{Portion, live_records, records_of, all_records, lives_of, Apart, live_after, portions_after, LessLive, Reduced}
+use Rattle.cat_model.specs.Merged.{LessLive}
+use Rattle.cat_model.proofs.Merged.{marked-append, LessLive-append}
+use Rattle.cat_ledger_model.specs.Portions.{Portion, live_records, records_of, all_records, lives_of, Apart, live_after, portions_after, Reduced}
 
 -- ---- marked
-
-pub marked-none : {A : Type 0} (bs : List Bool) → selected {A = A} bs [] ≡ []
-marked-none [] = refl
-marked-none (b ∷ bs) = refl
-
-pub marked-append : {A : Type 0} (bs cs : List Bool) (xs ys : List A) → length bs ≡ length xs → selected (bs ++ cs) (xs ++ ys) ≡ selected bs xs ++ selected cs ys
-marked-append [] cs [] ys e = refl
-marked-append [] cs (x ∷ xs) ys e = absurd (omega (arith, e))
-marked-append (b ∷ bs) cs [] ys e = absurd (omega (arith, e))
-marked-append (true ∷ bs) cs (x ∷ xs) ys e = ap (λ l. x ∷ l) (marked-append bs cs xs ys (omega (arith, e)))
-marked-append (false ∷ bs) cs (x ∷ xs) ys e = marked-append bs cs xs ys (omega (arith, e))
 
 pub marked-all : {A : Type 0} (xs : List A) → selected (map (λ x. true) xs) xs ≡ xs
 marked-all [] = refl
@@ -77,18 +68,6 @@ records-marked (p ∷ ps) f = marked-append p.live (lives_of ps) p.records (all_
 
 -- ---- live sets that lost rows
 
-pub LessLive-length : (a b : List Bool) → LessLive a b → length a ≡ length b
-LessLive-length [] [] h = refl
-LessLive-length [] (c ∷ b) h = absurd h
-LessLive-length (x ∷ a) [] h = absurd h
-LessLive-length (x ∷ a) (c ∷ b) h = ap suc (LessLive-length a b h.1)
-
-pub LessLive-append : (a b c d : List Bool) → LessLive a b → LessLive c d → LessLive (a ++ c) (b ++ d)
-LessLive-append [] [] c d h k = k
-LessLive-append [] (y ∷ b) c d h k = absurd h
-LessLive-append (x ∷ a) [] c d h k = absurd h
-LessLive-append (x ∷ a) (y ∷ b) c d h k = (h.0, LessLive-append a b c d h.1 k)
-
 pub LessLive-then : (a b c : List Bool) → LessLive a b → LessLive b c → LessLive a c
 LessLive-then [] [] [] h k = tt
 LessLive-then [] [] (z ∷ c) h k = absurd k
@@ -96,17 +75,6 @@ LessLive-then [] (y ∷ b) c h k = absurd h
 LessLive-then (x ∷ a) [] c h k = absurd h
 LessLive-then (x ∷ a) (y ∷ b) [] h k = absurd k
 LessLive-then (x ∷ a) (y ∷ b) (z ∷ c) h k = (λ e. h.0 (k.0 e), LessLive-then a b c h.1 k.1)
-
--- the records kept at the beginning, live where they are live now, are those live now
-pub settle : {A : Type 0} (a b : List Bool) (xs : List A) → LessLive a b → selected (selected a b) (selected a xs) ≡ selected b xs
-settle [] [] xs h = refl
-settle [] (y ∷ b) xs h = absurd h
-settle (x ∷ a) [] xs h = absurd h
-settle (x ∷ a) (y ∷ b) [] h = marked-none (selected (x ∷ a) (y ∷ b))
-settle (true ∷ a) (true ∷ b) (z ∷ xs) h = ap (λ l. z ∷ l) (settle a b xs h.1)
-settle (true ∷ a) (false ∷ b) (z ∷ xs) h = settle a b xs h.1
-settle (false ∷ a) (true ∷ b) (z ∷ xs) h = absurd (let no : false ≡ true = h.0 refl in cc)
-settle (false ∷ a) (false ∷ b) (z ∷ xs) h = settle a b xs h.1
 
 pub Reduced-lives : (ps qs : List Portion) → Reduced ps qs → LessLive (lives_of ps) (lives_of qs)
 Reduced-lives [] [] h = tt

@@ -13,7 +13,8 @@ use Rattle.cat_ledger_model.specs.Ledger.{IsPutRecord, IsLedger, state_of, names
 use Rattle.cat_ledger_model.specs.Laws.{MergesChangeNoState, KeptMayStand}
 use Rattle.cat_ledger_model.proofs.Users.{All-split, Apart-split, Apart-join, times-append, times-flat, times-four, Four, All-four, All-of_four, recounted}
 use Rattle.cat_ledger_model.proofs.Alone.{nobody_alone}
-use Rattle.cat_ledger_model.proofs.Marked.{marked-length, marked-none, Full, lives-length, records-marked, LessLive-length, settle, Reduced-lives, Reduced-rows, Apart-marked, Apart-thinned, All-thinned}
+use Rattle.cat_model.proofs.Merged.{marked-none, LessLive-length, settle}
+use Rattle.cat_ledger_model.proofs.Marked.{marked-length, Full, lives-length, records-marked, Reduced-lives, Reduced-rows, Apart-marked, Apart-thinned, All-thinned}
 
 -- a list in three parts
 pub three : {A : Type 0} (xs : List A) (i k : ℕ) → xs ≡ take i xs ++ (take k (drop i xs) ++ drop (i + k) xs)
@@ -39,7 +40,7 @@ module _ (m : Merging) (ps : List Portion) (ok : IsMergingOf ps m) (full : Full 
   parts : ps ≡ before ++ (now ++ later)
   parts = three ps m.index (length m.inputs)
 
-  kept_all : m.kept ≡ selected (lives_of m.inputs) (all_records m.inputs)
+  pub kept_all : m.kept ≡ selected (lives_of m.inputs) (all_records m.inputs)
   kept_all = ok.kept ∙ ap₂ (λ (a : List Bool) (b : List Record). selected a b)
       (take_whole (lives_of m.inputs) m.passed (done ∙ sym (lives-length m.inputs ok.lengths)))
       (take_whole (all_records m.inputs) m.passed done)

@@ -17,7 +17,7 @@ marked-map f (b ∷ bs) [] = refl
 marked-map f (true ∷ bs) (x ∷ xs) = ap (λ l. f x ∷ l) (marked-map f bs xs)
 marked-map f (false ∷ bs) (x ∷ xs) = marked-map f bs xs
 
-rows-shown : (schema : Schema) (ps : List Portion) → map row_of (records_of ps) ≡ flat_map live_rows (map (leaf_of schema) ps)
+pub rows-shown : (schema : Schema) (ps : List Portion) → map row_of (records_of ps) ≡ flat_map live_rows (map (leaf_of schema) ps)
 rows-shown schema [] = refl
 rows-shown schema (p ∷ ps) = map-append row_of (live_records p) (records_of ps) ∙ ap₂ (λ (a b : List Row). a ++ b) (marked-map row_of p.live p.records) (rows-shown schema ps)
 
@@ -25,11 +25,11 @@ all-shown : (schema : Schema) (ps : List Portion) → map row_of (all_records ps
 all-shown schema [] = refl
 all-shown schema (p ∷ ps) = map-append row_of p.records (all_records ps) ∙ ap (λ l. map row_of p.records ++ l) (all-shown schema ps)
 
-All-map : {X Y : Type 0} (P : Y → Type 0) (f : X → Y) (xs : List X) → AllByRecursion (λ x. P (f x)) xs → AllByRecursion P (map f xs)
+pub All-map : {X Y : Type 0} (P : Y → Type 0) (f : X → Y) (xs : List X) → AllByRecursion (λ x. P (f x)) xs → AllByRecursion P (map f xs)
 All-map P f [] a = tt
 All-map P f (x ∷ xs) a = (a.0, All-map P f xs a.1)
 
-Apart-map : {X Y : Type 0} (R : Y → Y → Type 0) (f : X → Y) (xs : List X) → Apart (λ a b. R (f a) (f b)) xs → Apart R (map f xs)
+pub Apart-map : {X Y : Type 0} (R : Y → Y → Type 0) (f : X → Y) (xs : List X) → Apart (λ a b. R (f a) (f b)) xs → Apart R (map f xs)
 Apart-map R f [] a = tt
 Apart-map R f (x ∷ xs) a = (All-map (R (f x)) f xs a.0, Apart-map R f xs a.1)
 

@@ -9,7 +9,8 @@ use Rattle.cat_model.specs.LiveFile.{LiveRows, SpellsLive}
 use Rattle.cat_model.proofs.Lists.{All-weaken, All-both, All-kept}
 use Rattle.cat_ledger_model.specs.Portions.{Portion, all_live, portions_after, Merging, settled, merged}
 use Rattle.cat_ledger_model.specs.Users.{same_file_name, has_name, times}
-use Rattle.cat_ledger_model.specs.Ledger.{Ledger, RecordedView, Listed, LedgerCommit, IsLedger, names_used, names_of_portion, names_of_view, names_of_listed, name_of_live, names_of_commit, names_of_merging, IsPast, IsNew, IsOther, IsAlone}
+use Rattle.cat_model.specs.CommitFile.{live_names}
+use Rattle.cat_ledger_model.specs.Ledger.{Ledger, RecordedView, Listed, LedgerCommit, IsLedger, names_used, names_of_portion, names_of_view, names_of_listed, names_of_commit, names_of_merging, IsPast, IsNew, IsOther, IsAlone}
 use Rattle.cat_ledger_model.specs.Stored.{FileBytes, joined_sources, IsStored, IsSegmentStored, IsLiveStored, HasLive, IsCommitStored, IsMergeStored, AreStored, Spares, ChangesOnly}
 use Rattle.cat_ledger_model.specs.Calls.{all_alive, same_live, file_in, file_for, listed_in, newest_listed, commit_of, view_now, files_begun}
 use Rattle.cat_ledger_model.specs.Laws.{FilesStay, WritesStore, FlushesStore, RecordsStore, PrunesStore, CommitsStore, UnsnapsStore, BegunStore, CopiesStore, MergesStore, EndsStore, RefusalsStore, SweepsSpare}
@@ -43,11 +44,11 @@ module _ (fs gs : FileBytes) where
       → AllByRecursion (λ x. IsStored gs schema x.portion) xs × AllByRecursion (HasLive gs) xs
   listed_stay schema [] s a h = (tt, tt)
   listed_stay schema (x ∷ xs) s a h =
-      let r = All-split (λ q. gs q ≡ fs q) (name_of_live x.portion.number x.file) (flat_map names_of_listed xs) (s_rest s) in
+      let r = All-split (λ q. gs q ≡ fs q) (live_names x.portion.number x.file) (flat_map names_of_listed xs) (s_rest s) in
       let rest = listed_stay schema xs r.1 a.1 h.1 in
       ((stored_stay schema x.portion (s.0, (s.1.0, tt)) a.0, rest.0), (live_stay x (x.file == 0) r.0 h.0, rest.1))
     where
-      s_rest : Spares (names_of_listed x ++ flat_map names_of_listed xs) fs gs → Spares (name_of_live x.portion.number x.file ++ flat_map names_of_listed xs) fs gs
+      s_rest : Spares (names_of_listed x ++ flat_map names_of_listed xs) fs gs → Spares (live_names x.portion.number x.file ++ flat_map names_of_listed xs) fs gs
       s_rest s = s.1.1
 
   commits_stay : (schema : Schema) (cs : List LedgerCommit) → Spares (flat_map names_of_commit cs) fs gs → AllByRecursion (IsCommitStored fs schema) cs → AllByRecursion (IsCommitStored gs schema) cs
@@ -55,7 +56,7 @@ module _ (fs gs : FileBytes) where
   commits_stay schema (c ∷ cs) s a =
       let r = All-split (λ q. gs q ≡ fs q) (names_of_commit c) (flat_map names_of_commit cs) s in
       let x = listed_stay schema c.listed r.0.1 a.0.portions a.0.live in
-      (record { commit = r.0.0 ∙ a.0.commit; portions = x.0; live = x.1 }, commits_stay schema cs r.1 a.1)
+      (record { commit = record { bytes = a.0.commit.bytes; there = r.0.0 ∙ a.0.commit.there; spelled = a.0.commit.spelled }; portions = x.0; live = x.1 }, commits_stay schema cs r.1 a.1)
 
   merge_stays : (o : Option Merging) → Spares (names_of_merging o) fs gs → IsMergeStored fs o → IsMergeStored gs o
   merge_stays None s a = tt
@@ -358,7 +359,7 @@ same_self (Name.source n) = grind (arith, nat_tests)
 same_self (Name.live n d) = let a : (n == n) ≡ true = grind (arith, nat_tests) in let b : (d == d) ≡ true = grind (arith, nat_tests) in rw (a, b) refl
 same_self (Name.commit g) = grind (arith, nat_tests)
 
-each_used : (before names : List Name) → AllByRecursion (λ q. 0 < times q (before ++ names)) names
+pub each_used : (before names : List Name) → AllByRecursion (λ q. 0 < times q (before ++ names)) names
 each_used before [] = tt
 each_used before (x ∷ names) = (
   (let one : times x (x ∷ []) ≡ 1 = rw (same_self x) refl in omega (arith, times-append x before (x ∷ names), times-append x (x ∷ []) names, one)),

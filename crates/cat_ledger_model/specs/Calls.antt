@@ -7,8 +7,8 @@ use Rattle.cat_model.specs.Write.{Write}
 use Rattle.cat_model.specs.Table.{without, put_last}
 use Rattle.cat_model.specs.Limits.{view_limit, step_limit, last_number}
 use Rattle.cat_model.specs.Files.{Name}
-use Rattle.cat_model.specs.Run.{is_newest}
-use Rattle.cat_model.specs.State.{Taken, held_in, snapshots_in, newest_of}
+use Rattle.cat_model.specs.CommitFile.{Version}
+use Rattle.cat_model.specs.State.{held_in, snapshots_in, stays_kept, newest_of}
 use Rattle.cat_ledger_model.specs.Portions.{Portion, all_records, all_live, portions_after, Merging, kept_by, window_now, settled, merged, installed}
 use Rattle.cat_ledger_model.specs.Users.{users_of, is_known, has_name, Changes}
 use Rattle.cat_ledger_model.specs.Ledger.{RecordedView, Listed, LedgerCommit, Ledger, portions_in, commit_shown, names_of_portion, names_of_view, names_of_commit}
@@ -145,11 +145,7 @@ newest_listed cs = listed_in (last_or None cs)
 -- the commit of now with this text, after a flush
 abbrev pub commit_of : Text → Ledger → LedgerCommit
 commit_of text l =
-    record { generation = l.next_generation; text = text; token = l.count; next = l.next_segment; listed = map (λ p. record { portion = p; file = file_for (newest_listed l.commits) l.next_generation p }) l.portions }
-
--- a commit stays that is the newest or has a snapshot
-abbrev pub stays_kept : List Taken → Option ℕ → ℕ → Bool
-stays_kept taken newest g = is_newest newest g || ltb 0 (snapshots_in taken g)
+    record { version = Version.second; generation = l.next_generation; text = text; token = l.count; next = l.next_segment; listed = map (λ p. record { portion = p; file = file_for (newest_listed l.commits) l.next_generation p }) l.portions }
 
 -- the commits whose generations pass the test
 abbrev pub commits_that : (ℕ → Bool) → List LedgerCommit → List LedgerCommit

@@ -2,20 +2,23 @@
 -- ledger's own definitions are not to be believed, but to prove by.
 use Rattle.cat_model.specs.View.{View, records_in, IsView, Shows}
 use Rattle.cat_model.specs.Text.{Text}
-use Rattle.std.specs.Prelude.{count_by, ◌≡◌, ◌≢◌, ℕ, ◌<◌, true, List, [], ◌∷◌, ◌++◌, length, map, Some}
+use Rattle.std.specs.Prelude.{count_by, ◌≡◌, ◌≢◌, ℕ, ◌<◌, ◌≤◌, true, List, [], ◌∷◌, ◌++◌, length, map, Some}
 use Rattle.std.specs.List.{AllByRecursion}
-use Rattle.cat_model.specs.Item.{Schema, IsItem}
+use Rattle.cat_model.specs.Item.{Schema, IsSchema, IsItem}
 use Rattle.cat_model.specs.Write.{Write}
-use Rattle.cat_model.specs.Files.{Name}
+use Rattle.cat_model.specs.Files.{Name, IsFileName}
+use Rattle.cat_model.specs.Forms.{IsCommitText}
+use Rattle.cat_model.specs.CommitFile.{IsCommitFile, commit_needs}
+use Rattle.cat_model.specs.Merged.{merged_leaf, AreDeletedFrom}
 use Rattle.cat_model.specs.Run.{Line, Reply, Run, IsRun, Fits}
-use Rattle.cat_model.specs.Limits.{last_number}
+use Rattle.cat_model.specs.Limits.{last_number, segment_limit}
 use Rattle.cat_model.specs.Table.{Opened}
 use Rattle.cat_ledger_model.specs.Replies.{Calls}
 use Rattle.cat_model.specs.State.{StandsFor, Step, Hold, IsSound, held_in, written, refreshed, views_pruned, committed, is_below, newest_of, TakesSnapshot, GivesSnapshot, IsFresh}
-use Rattle.cat_ledger_model.specs.Portions.{Portion, Apart, all_records, leaf_of, view_of, records_of, Merging, all_live, settled, merged}
-use Rattle.cat_ledger_model.specs.Ledger.{users, commit_shown, Ledger, LedgerCommit, names_of_portion, AreWhole, IsLedger, FitNumbers, IsPast, IsNew, portions_in, names_used, table_of, state_of}
+use Rattle.cat_ledger_model.specs.Portions.{Portion, Apart, all_records, leaf_of, view_of, records_of, Merging, all_live, window_now, settled, merged}
+use Rattle.cat_ledger_model.specs.Ledger.{users, commit_shown, commit_file, Ledger, LedgerCommit, names_of_portion, names_of_commit, AreWhole, IsLedger, FitNumbers, IsPast, IsNew, portions_in, names_used, table_of, state_of}
 use Rattle.cat_ledger_model.specs.Users.{AreUsed, users_of, has_name}
-use Rattle.cat_ledger_model.specs.Stored.{FileBytes, portion_in, IsCommitStored, AreStored, IsStored, IsSegmentStored, IsLiveStored, spelled_commit, joined_sources, Spares, ChangesOnly}
+use Rattle.cat_ledger_model.specs.Stored.{FileBytes, portion_in, IsCommitWritten, IsCommitStored, AreStored, IsStored, IsSegmentStored, IsLiveStored, joined_sources, Spares, ChangesOnly}
 use Rattle.cat_ledger_model.specs.Calls.{files_begun, commit_of, file_for, newest_listed, passed_on, RecordsNow, wrote, Ended, MayLeave, RecordsView, Pruned, Committed, Snaps, Unsnapped, IsOpened, IsEmpty, Flushes, Flushed, Installed, Begun, Copied}
 
 -- A merge that is installed, whatever was deleted since its beginning, leaves the ledger sound and its state as it was.
@@ -132,7 +135,7 @@ abbrev pub CommitsStore : Type 0
 CommitsStore =
     (text : Text) (l new : Ledger) (fs gs : FileBytes) → IsLedger l → AreStored fs l → Committed text l new
     → ChangesOnly (files_begun l) fs gs
-    → gs (Name.commit l.next_generation) ≡ Some (spelled_commit l.schema (commit_of text l))
+    → IsCommitWritten gs l.schema (commit_of text l)
     → AllByRecursion (λ p. file_for (newest_listed l.commits) l.next_generation p ≡ l.next_generation → IsLiveStored gs (record { portion = p; file = l.next_generation })) l.portions
     → AreStored gs new
 
@@ -205,6 +208,26 @@ abbrev pub KeptCommitsOpen : Type 0
 KeptCommitsOpen = (l : Ledger) → IsLedger l → AllByRecursion (λ c.
     (opened : Ledger) → opened.schema ≡ l.schema → IsOpened c opened → IsCountedRight opened
     → IsLedger opened × IsFresh (state_of opened) × (table_of opened ≡ (commit_shown c).table) × (opened.count ≡ (commit_shown c).token)) l.commits
+
+-- The names that a commit uses are those that its file needs.
+abbrev pub CommitsNeedTheirNames : Type 0
+CommitsNeedTheirNames = (schema : Schema) (c : LedgerCommit) → names_of_commit c ≡ commit_needs (commit_file schema c)
+
+-- A commit of now can be said in a file, where every known name is one that a file can have, the fields are a schema, the text
+-- has the form, and a generation and places for the segments are left.
+abbrev pub CommitsMayBeWritten : Type 0
+CommitsMayBeWritten =
+    (text : Text) (l : Ledger) → IsLedger l → AllByRecursion (λ u. IsFileName u.name) l.users → IsSchema l.schema
+    → IsCommitText text → length l.portions ≤ segment_limit → l.next_generation ≤ last_number
+    → IsCommitFile (commit_file l.schema (commit_of text l))
+
+-- What is installed is the merged leaf of the inputs as they were at the beginning and as they are now, which only lost rows.
+abbrev pub SettledAreMerged : Type 0
+SettledAreMerged =
+    (m : Merging) (l : Ledger) → IsLedger l → l.merging ≡ Some m → m.passed ≡ length (all_records m.inputs)
+    → (leaf_of l.schema (settled m l.portions)
+    ≡ merged_leaf m.number l.schema (map (leaf_of l.schema) m.inputs) (map (leaf_of l.schema) (window_now m l.portions)))
+    × AreDeletedFrom (map (leaf_of l.schema) m.inputs) (map (leaf_of l.schema) (window_now m l.portions))
 
 -- Each user has a name at most once, so that the count of a name is the number of users that have it.
 abbrev pub UsersAreCounted : Type 0

@@ -1,10 +1,11 @@
 -- The ledger: the one state of the catalogue (IndexWriter with its deleter and its snapshots, SearcherLifetimeManager). Not to
 -- be believed, but to prove by: the laws tie it to the state of the service (`state_of`), and that to runs.
-use Rattle.std.specs.Prelude.{◌≢◌, ℕ, ◌+◌, ◌<◌, ◌≤◌, ◌==◌, List, [], ◌∷◌, ◌++◌, map, cond, Option, Some, None}
+use Rattle.std.specs.Prelude.{◌≢◌, ℕ, ◌+◌, ◌<◌, ◌≤◌, List, [], ◌∷◌, ◌++◌, map, Option, Some, None}
 use Rattle.std.specs.List.{flat_map, AllByRecursion}
 use Rattle.cat_model.specs.Text.{Text}
 use Rattle.cat_model.specs.Item.{Schema, Record, IsItem}
 use Rattle.cat_model.specs.Files.{Name}
+use Rattle.cat_model.specs.CommitFile.{Version, ListedSegment, CommitFile, live_names}
 use Rattle.cat_model.specs.Limits.{last_number}
 use Rattle.cat_model.specs.State.{RecordedTable, Hold, Commit, Taken, State, IsSound}
 use Rattle.cat_ledger_model.specs.Portions.{Portion, records_of, all_records, Apart, ArePortions, Merging, IsMerging}
@@ -20,8 +21,9 @@ pub record Listed : Type 0 where
   pub portion : Portion
   pub file : ℕ
 
--- a commit: its generation, its text, its token, the next segment number that it tells, and its portions
+-- a commit: the version of its file, its generation, its text, its token, the next segment number that it tells, and its portions
 pub record LedgerCommit : Type 0 where
+  pub version : Version
   pub generation : ℕ
   pub text : Text
   pub token : ℕ
@@ -63,6 +65,22 @@ view_shown v = record { token = v.token; table = records_of v.portions }
 abbrev pub commit_shown : LedgerCommit → Commit
 commit_shown c = record { generation = c.generation; text = c.text; token = c.token; table = records_of (portions_in c) }
 
+-- a portion of a commit as the commit's file lists it
+abbrev pub listed_segment : Listed → ListedSegment
+listed_segment x = record { number = x.portion.number; file = x.file }
+
+-- a commit as its file has it
+abbrev pub commit_file : Schema → LedgerCommit → CommitFile
+commit_file schema c = record {
+  version = c.version;
+  generation = c.generation;
+  token = c.token;
+  next = c.next;
+  text = c.text;
+  schema = schema;
+  segments = map listed_segment c.listed;
+}
+
 -- the state that the ledger carries: segments, live sets, merges, numbers and users of names are in none of it
 abbrev pub state_of : Ledger → State
 state_of l =
@@ -78,13 +96,9 @@ names_of_portion p = Name.segment p.number ∷ Name.source p.number ∷ []
 abbrev pub names_of_view : RecordedView → List Name
 names_of_view v = flat_map names_of_portion v.portions
 
--- the name of the live file of this generation, and none where that is 0
-abbrev pub name_of_live : ℕ → ℕ → List Name
-name_of_live n d = cond (d == 0) [] (Name.live n d ∷ [])
-
 -- the names of a portion of a commit, and of its live file
 abbrev pub names_of_listed : Listed → List Name
-names_of_listed x = names_of_portion x.portion ++ name_of_live x.portion.number x.file
+names_of_listed x = names_of_portion x.portion ++ live_names x.portion.number x.file
 
 -- the name of a commit's own file, and those of its portions
 abbrev pub names_of_commit : LedgerCommit → List Name

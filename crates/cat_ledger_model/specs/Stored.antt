@@ -1,17 +1,17 @@
--- The files that the ledger needs, and what stands in them. Of this the bytes of a commit's file are a definition to believe
--- (`spelled_commit`), as those of segments and live sets are; the rest is there to prove by.
-use Rattle.std.specs.Prelude.{◌≡◌, ℕ, ◌==◌, true, false, List, ◌∷◌, ◌++◌, length, codes, cond, Option, Some, None}
+-- The files that the ledger needs, and what stands in them. Not to be believed, but to prove by: what the bytes of segments,
+-- live sets and commits say is defined in `cat_model`.
+use Rattle.std.specs.Prelude.{◌≡◌, ℕ, ◌==◌, true, false, List, cond, Option, Some, None}
 use Rattle.std.specs.List.{flat_map, AllByRecursion}
-use Rattle.cat_base.specs.Bytes.{spelled_u32, spelled_u64}
 use Rattle.cat_model.specs.Text.{Text}
 use Rattle.cat_model.specs.Item.{Schema, Record}
 use Rattle.cat_model.specs.Files.{Name}
-use Rattle.cat_model.specs.Layout.{spelled_fields, SpellsSegment}
+use Rattle.cat_model.specs.Layout.{SpellsSegment}
 use Rattle.cat_model.specs.LiveFile.{SpellsLive}
+use Rattle.cat_model.specs.CommitFile.{SpellsCommit}
 use Rattle.cat_model.specs.View.{Leaf, sourced}
 use Rattle.cat_ledger_model.specs.Portions.{Portion, segment_of, Merging}
 use Rattle.cat_ledger_model.specs.Users.{has_name}
-use Rattle.cat_ledger_model.specs.Ledger.{Listed, LedgerCommit, Ledger}
+use Rattle.cat_ledger_model.specs.Ledger.{Listed, LedgerCommit, commit_file, Ledger}
 
 -- what a directory tells that tells all its files: the bytes of each name, or that it is absent
 abbrev pub FileBytes : Type 0
@@ -20,16 +20,6 @@ FileBytes = Name → Option Text
 -- the sources of records, one after the other
 abbrev pub joined_sources : List Record → Text
 joined_sources rs = flat_map (λ r. r.item.source) rs
-
--- the number of a portion's segment, and the generation of its live file
-abbrev pub spelled_listed : Listed → Text
-spelled_listed x = spelled_u64 x.portion.number ++ spelled_u64 x.file
-
--- the magic word, the version 1, the generation, the token, the next segment number, the fields, the number of portions, and
--- each of them
-abbrev pub spelled_commit : Schema → LedgerCommit → Text
-spelled_commit schema c =
-    codes "CSGM" ++ (1 ∷ (spelled_u64 c.generation ++ (spelled_u64 c.token ++ (spelled_u64 c.next ++ (spelled_fields schema ++ (spelled_u32 (length c.listed) ++ flat_map spelled_listed c.listed))))))
 
 -- a portion's segment stands in its file
 pub record IsSegmentStored (files : FileBytes) (schema : Schema) (p : Portion) : Type 0 where
@@ -52,9 +42,15 @@ pub record IsLiveStored (files : FileBytes) (x : Listed) : Type 0 where
 abbrev pub HasLive : FileBytes → Listed → Type 0
 HasLive files x = cond (x.file == 0) (AllByRecursion (λ b. b ≡ true) x.portion.live) (IsLiveStored files x)
 
+-- a commit stands in its file
+pub record IsCommitWritten (files : FileBytes) (schema : Schema) (c : LedgerCommit) : Type 0 where
+  pub bytes : Text
+  pub there : files (Name.commit c.generation) ≡ Some bytes
+  pub spelled : SpellsCommit bytes (commit_file schema c)
+
 -- a commit's file, and those of its portions and live sets, stand
 pub record IsCommitStored (files : FileBytes) (schema : Schema) (c : LedgerCommit) : Type 0 where
-  pub commit : files (Name.commit c.generation) ≡ Some (spelled_commit schema c)
+  pub commit : IsCommitWritten files schema c
   pub portions : AllByRecursion (λ x. IsStored files schema x.portion) c.listed
   pub live : AllByRecursion (HasLive files) c.listed
 

@@ -2,7 +2,7 @@
 //! to make each call as `Calls` says; that its replies are those of a run then follows from `calls_keep_runs`.
 #![tactic(auto)]
 
-ghost use Rattle.cat_ledger_model.specs.Laws.{CallsKeepRuns, RefusalsStore, ViewsAreRead, PortionsAreRead, OpenedStore, EmptyAreFresh, SchemasStay, UsersAreCounted, KeptCommitsOpen, WholeAreViews, KeptMayStand, CallsAreSteps, SweepsSpare, EndsStore, MergesStore, CopiesStore, BegunStore, UnsnapsStore, CommitsStore, PrunesStore, RecordsStore, FlushesStore, WritesStore, FilesStay, HoldsAreApart, RefusalsChangeNoState, EndsChangeNoState, CopiesChangeNoState, BegunChangeNoState, OpenedAreFresh, SnapshotsAreGiven, SnapshotsAreTaken, CommitsAreKept, ViewsArePruned, ViewsAreRecorded, WritesAreWritten, FlushesChangeNoState, MergesChangeNoState};
+ghost use Rattle.cat_ledger_model.specs.Laws.{CommitsNeedTheirNames, CommitsMayBeWritten, SettledAreMerged, CallsKeepRuns, RefusalsStore, ViewsAreRead, PortionsAreRead, OpenedStore, EmptyAreFresh, SchemasStay, UsersAreCounted, KeptCommitsOpen, WholeAreViews, KeptMayStand, CallsAreSteps, SweepsSpare, EndsStore, MergesStore, CopiesStore, BegunStore, UnsnapsStore, CommitsStore, PrunesStore, RecordsStore, FlushesStore, WritesStore, FilesStay, HoldsAreApart, RefusalsChangeNoState, EndsChangeNoState, CopiesChangeNoState, BegunChangeNoState, OpenedAreFresh, SnapshotsAreGiven, SnapshotsAreTaken, CommitsAreKept, ViewsArePruned, ViewsAreRecorded, WritesAreWritten, FlushesChangeNoState, MergesChangeNoState};
 
 /// A merge that is installed leaves the table, each view and each commit as they were, whatever was
 /// deleted since it began.
@@ -235,4 +235,25 @@ pub fn refusals_store()
 /// The reply to a line fits the run that the ledger's state stands for, and its state then stands for the longer run.
 pub fn calls_keep_runs()
     ensures { CallsKeepRuns }
+{}
+
+/// The names that a commit uses are those that its file needs.
+///
+/// Lucene's `IndexCommit.getFileNames`.
+pub fn commits_need_their_names()
+    ensures { CommitsNeedTheirNames }
+{}
+
+/// A commit of now can be said in a file: its numbers fit, and those of its segments differ.
+///
+/// Lucene's `SegmentInfos` are written by `IndexWriter.commit`.
+pub fn commits_may_be_written()
+    ensures { CommitsMayBeWritten }
+{}
+
+/// What a merge installs is the merged leaf of its inputs, as they were when it began and as they are now.
+///
+/// Lucene's `IndexWriter.commitMerge`.
+pub fn settled_are_merged()
+    ensures { SettledAreMerged }
 {}

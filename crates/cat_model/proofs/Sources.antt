@@ -14,7 +14,7 @@ selected-map f (true ∷ bs) (x ∷ xs) = ap (λ l. f x ∷ l) (selected-map f b
 selected-map f (false ∷ bs) (x ∷ xs) = selected-map f bs xs
 
 -- the rows of the records that are read from bytes which are long enough are the rows that were read
-rows-sourced : (rows : List Row) (bytes : List ℕ) → sum (map (λ (r : Row). r.length) rows) ≤ length bytes → map row_of (sourced rows bytes) ≡ rows
+pub rows-sourced : (rows : List Row) (bytes : List ℕ) → sum (map (λ (r : Row). r.length) rows) ≤ length bytes → map row_of (sourced rows bytes) ≡ rows
 rows-sourced [] bytes h = refl
 rows-sourced (row ∷ rows) bytes h =
     let all : row.length + sum (map (λ (r : Row). r.length) rows) ≤ length bytes = omega (arith, h, sum_by-cons (λ n. n) row.length (map (λ (r : Row). r.length) rows)) in

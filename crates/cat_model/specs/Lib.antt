@@ -24,6 +24,10 @@ pub mod Files
 pub mod View
 pub mod Layout
 pub mod LiveFile
+pub mod CommitFile
+pub mod GlobalOrdinals
+pub mod Window
+pub mod Merged
 -- ---- What needs no belief: laws, each proved as the contract of a public function, samples that were judged by hand, and
 -- what serves proofs (`Reader`, `Ranks`, `State`).
 pub mod Reader
@@ -36,3 +40,4 @@ pub mod Laws
 pub mod Talk
 pub mod TalkSample
 pub mod ViewLaws
+pub mod SegmentLaws

@@ -74,6 +74,10 @@ row_limit = code.MAX_ROWS
 abbrev pub step_limit : ℕ
 step_limit = code.MAX_STEP_ROWS
 
+-- the segments that stand at once, and those of one commit
+abbrev pub segment_limit : ℕ
+segment_limit = code.MAX_SEGMENTS
+
 -- the snapshots of one commit
 abbrev pub snapshot_limit : ℕ
 snapshot_limit = code.MAX_SNAPSHOTS

@@ -11,7 +11,7 @@
 --
 -- No line says all of this yet (`Said` of Lines.antt): deletes by query, PRUNE, COMMIT, SNAP, UNSNAP, FILES, texts of commits
 -- and maintenance, and of the reads counts and stored items, are defined for the lines to come, with what they tell of.
-use Rattle.std.specs.Prelude.{◌≡◌, ◌⊎◌, ℕ, ◌+◌, ◌-◌, ◌<◌, ◌≤◌, Bool, true, false, not, ◌&&◌, ◌||◌, ltb, max, List, [], ◌∷◌, ◌++◌, length, filter, filter_map, map, count_by, Option, Some, None, option_to_list, option_map, find, Result, Ok, Err, cond, IsTrue, ◌==◌}
+use Rattle.std.specs.Prelude.{◌≡◌, ◌⊎◌, ℕ, ◌+◌, ◌-◌, ◌<◌, ◌≤◌, Bool, true, false, not, ◌&&◌, ◌||◌, ltb, max, List, [], ◌∷◌, ◌++◌, length, filter, filter_map, map, count_by, Option, Some, None, option_to_list, find, Result, Ok, Err, cond, IsTrue, ◌==◌}
 use Rattle.std.specs.List.{list_any, list_all, last_or}
 use Rattle.cat_base.specs.declared.refusal.Refusal.{Refusal}
 use Rattle.cat_base.specs.declared.refusal.Refusal.TheVariants.{Line as NoForm, Spent, NotHeld, Gone, Full, NoCommit, NoSnapshot, Device, Damaged, Memory}

@@ -1,12 +1,13 @@
 //! The definitions that every contract of the service speaks of, and the laws about them.
 #![tactic(auto)]
 
-ghost use Rattle.cat_model.specs.Laws.{TableFollowsAfter, LaterWritesChangeNothing, RunsAreBounded, HeldReadIsOfItsTable, HeldReadsAgree, RunsGoOn, StepsKeepRuns, FreshStatesBeginRuns, LinesSayOneThing, SchemaLinesSayOneThing, EachTextIsAQueryOrNone, HearingIsOne, InputsAreHeardOneWay, WordsAreLongestRuns, WordsAreLoweredRuns};
+ghost use Rattle.cat_model.specs.Laws.{TableFollowsAfter, LaterWritesChangeNothing, RunsAreBounded, HeldReadIsOfItsTable, HeldReadsAgree, RunsGoOn, StepsKeepRuns, FreshStatesBeginRuns, GenerationsAreKept, LinesSayOneThing, SchemaLinesSayOneThing, EachTextIsAQueryOrNone, HearingIsOne, InputsAreHeardOneWay, WordsAreLongestRuns, WordsAreLoweredRuns};
 ghost use Rattle.cat_model.specs.Talk.{AnswersOfAnyStartAreTalks, TalksOfOneStartAgree};
 ghost use Rattle.cat_model.specs.TalkSample.{SampleIsJudged};
 ghost use Rattle.cat_model.specs.QueryLaws.{QueriesAreRead, FaultsAreFound, TextsSpellOneQuery, FaultsHaveOnePlace, TextsAreJudged, SpelledTextsHaveNoFault};
 ghost use Rattle.cat_model.specs.QuerySamples.{SamplesAreJudged};
 ghost use Rattle.cat_model.specs.ViewLaws.{SourcesAreShown};
+ghost use Rattle.cat_model.specs.SegmentLaws.{CommitsAreToldByTheirBytes, LevelsAreOne, WindowsAreOne, MergedShowTheEnd, KeptAreSourced, OrdinalMapsAreOne};
 ghost use Rattle.cat_model.specs.RankLaws.{RanksFollowOrder, AddedStandFirst, SortsOrderRecords};
 
 /// One more write makes of the table the table after it: the item of its id goes, and an item that
@@ -67,6 +68,13 @@ pub fn steps_keep_runs()
 /// A service as it is opened stands for the empty run from its own table. The machine is our own.
 pub fn fresh_states_begin_runs()
     ensures { FreshStatesBeginRuns }
+{}
+
+/// Which commits stay is told by their generations: the newest, and each that has a snapshot.
+///
+/// Lucene's `KeepOnlyLastCommitDeletionPolicy` within a `SnapshotDeletionPolicy`.
+pub fn generations_are_kept()
+    ensures { GenerationsAreKept }
 {}
 
 /// A line says at most one thing, under one session. The protocol is our own.
@@ -202,4 +210,40 @@ pub fn sorts_order_records()
 /// Lucene's `StoredFields` of a reader gives the documents that its searcher finds.
 pub fn sources_are_shown()
     ensures { SourcesAreShown }
+{}
+
+/// Bytes are the file of one commit at most: of one version, with one text and one list of segments.
+///
+/// Lucene's `SegmentInfos` is read from such a file; the layout is our own.
+pub fn commits_are_told_by_their_bytes()
+    ensures { CommitsAreToldByTheirBytes }
+{}
+
+/// So many rows have one level, and segments of given sizes have one window, if they have any.
+///
+/// Lucene's `LogMergePolicy.findMerges` goes by levels too; how they are reckoned here is our own.
+pub fn windows_are_one()
+    ensures levels { LevelsAreOne }
+    ensures windows { WindowsAreOne }
+{}
+
+/// A merged segment shows what its inputs show when the merge ends, whatever was deleted since it began.
+///
+/// Lucene's `IndexWriter.commitMerge` carries deletes that came meanwhile over to the merged segment.
+pub fn merged_show_the_end()
+    ensures { MergedShowTheEnd }
+{}
+
+/// The rows that a merge keeps are those of the records that it keeps, where no file with sources is too short.
+///
+/// Lucene's `StoredFieldsWriter.merge` copies the stored fields of the documents that stay.
+pub fn kept_are_sourced()
+    ensures { KeptAreSourced }
+{}
+
+/// A dictionary has one map at most to the ordinals of another one.
+///
+/// Lucene's `OrdinalMap` carries the ordinals of segments to those of all segments.
+pub fn ordinal_maps_are_one()
+    ensures { OrdinalMapsAreOne }
 {}

@@ -1,0 +1,105 @@
+-- A commit of now can be said in a file; and what is installed is the merged leaf of its inputs.
+use Rattle.std.proofs.Common.{◌≡◌, ◌≢◌, ℕ, ◌+◌, ◌<◌, List, [], ◌∷◌, ◌++◌, map, Bool, true, false, cond, None, refl, sym, ◌∙◌, ap, ap₂, subst, arith}
+use Rattle.std.specs.List.{flat_map, AllByRecursion}
+use Rattle.std.proofs.lemmas.List.{length-map}
+use Rattle.std.proofs.lemmas.List.Elements.{All-from_recursion}
+use Rattle.cat_model.specs.Item.{Schema}
+use Rattle.cat_model.specs.View.{row_of, selected, live_rows}
+use Rattle.cat_model.specs.Files.{Name, IsFileName}
+use Rattle.cat_model.specs.CommitFile.{ListedSegment, IsListed, listed_names}
+use Rattle.cat_model.specs.Merged.{AreDeletedFrom, live_of_all}
+use Rattle.cat_model.proofs.Lists.{All-weaken}
+use Rattle.cat_ledger_model.specs.Portions.{Portion, lives_of, leaf_of, Reduced, IsMergingOf, IsMerging, window_now}
+use Rattle.cat_ledger_model.specs.Users.{Used, same_file_name, users_of, times}
+use Rattle.cat_ledger_model.specs.Ledger.{Listed, Ledger, IsLedger, IsPast, listed_segment, names_of_portion, names_of_view, names_of_listed, names_of_commit, names_of_merging, names_used}
+use Rattle.cat_ledger_model.specs.Calls.{file_for, newest_listed}
+use Rattle.cat_ledger_model.specs.Laws.{CommitsNeedTheirNames, CommitsMayBeWritten, SettledAreMerged}
+use Rattle.cat_ledger_model.proofs.Users.{All-split, Four, All-four}
+use Rattle.cat_ledger_model.proofs.Marked.{records-marked}
+use Rattle.cat_ledger_model.proofs.Merges.{kept_all}
+use Rattle.cat_ledger_model.proofs.Counted.{same_name_is}
+use Rattle.cat_ledger_model.proofs.Stored.{each_used}
+use Rattle.cat_ledger_model.proofs.Shown.{rows-shown, Apart-map}
+use Rattle.cat_ledger_model.proofs.Commits.{AllPairs-from_Apart, file_for_past, newest_all}
+
+-- ---- names
+
+pub commits_need_their_names : CommitsNeedTheirNames
+commits_need_their_names schema c = ap (λ l. Name.commit c.generation ∷ l) (of_listed c.listed)
+  where
+    of_listed : (xs : List Listed) → flat_map names_of_listed xs ≡ flat_map listed_names (map listed_segment xs)
+    of_listed [] = refl
+    of_listed (x ∷ xs) = ap (λ l. names_of_listed x ++ l) (of_listed xs)
+
+users_named : (us : List Used) (q : Name) → AllByRecursion (λ u. IsFileName u.name) us → 0 < users_of us q → IsFileName q
+users_named [] q a h = absurd (omega (arith, h))
+users_named (u ∷ us) q a h = by (same_file_name q u.name) refl (users_named us q a.1) h
+  where
+    by : (b : Bool) → same_file_name q u.name ≡ b → (0 < users_of us q → IsFileName q) → 0 < cond b u.users (users_of us q) → IsFileName q
+    by true e rest k = subst IsFileName (sym (same_name_is q u.name e)) a.0
+    by false e rest k = rest k
+
+-- every name that is used is one that a file can have
+used_named : (l : Ledger) → IsLedger l → AllByRecursion (λ u. IsFileName u.name) l.users → AllByRecursion IsFileName (names_used l)
+used_named l ok named =
+    All-weaken (λ q. 0 < times q (names_used l)) IsFileName (λ q h. users_named l.users q named (subst (λ n. 0 < n) (sym (ok.users q)) h)) (names_used l) (each_used [] (names_used l))
+
+positive : (ps : List Portion) → AllByRecursion IsFileName (flat_map names_of_portion ps) → AllByRecursion (λ p. 0 < p.number) ps
+positive [] a = tt
+positive (p ∷ ps) a = (a.0.0, positive ps a.1.1)
+
+-- ---- the commit of now
+
+abbrev listed_now : List Listed → ℕ → Portion → Listed
+listed_now xs g p = record { portion = p; file = file_for xs g p }
+
+listed_fit : (n g : ℕ) (xs : List Listed) (ps : List Portion) → AllByRecursion (λ p. 0 < p.number) ps → AllByRecursion (IsPast n g) (flat_map names_of_portion ps)
+    → AllByRecursion (IsPast n g) (flat_map names_of_listed xs) → AllByRecursion (IsListed g n) (map listed_segment (map (listed_now xs g) ps))
+listed_fit n g xs [] a h k = tt
+listed_fit n g xs (p ∷ ps) a h k =
+    let low : file_for xs g p < g + 1 = file_for_past n g xs p k in
+    (record { positive = a.0; past = h.0; file = omega (arith, low) }, listed_fit n g xs ps a.1 h.1.1 k)
+
+pub commits_may_be_written : CommitsMayBeWritten
+commits_may_be_written text l ok named schema form few left =
+    let n : ℕ = l.next_segment in
+    let g : ℕ = l.next_generation in
+    let xs : List Listed = newest_listed l.commits in
+    let P : Name → Type 0 = IsPast n g in
+    let past : Four P (flat_map names_of_portion l.portions) (flat_map names_of_view l.views) (flat_map names_of_commit l.commits) (names_of_merging l.merging) = All-four P _ _ _ _ ok.fresh in
+    let all_named = All-split IsFileName (flat_map names_of_portion l.portions) (flat_map names_of_view l.views ++ (flat_map names_of_commit l.commits ++ names_of_merging l.merging)) (used_named l ok named) in
+    let newest : AllByRecursion P (flat_map names_of_listed xs) = newest_all P None l.commits tt past.commits in
+    let listed : List ListedSegment = map listed_segment (map (listed_now xs g) l.portions) in
+    record {
+      generation = (ok.numbers.1, omega (arith, left));
+      token = ok.fits.0;
+      next_low = omega (arith, ok.numbers.0);
+      next_high = ok.fits.1;
+      text = form;
+      schema = schema;
+      few = omega (arith, few, length-map (map (listed_now xs g) l.portions) listed_segment, length-map l.portions (listed_now xs g));
+      listed = All-from_recursion (IsListed g n) listed (listed_fit n g xs l.portions (positive l.portions all_named.0) past.portions newest);
+      distinct = AllPairs-from_Apart (λ (a b : ListedSegment). a.number ≢ b.number) listed
+          (Apart-map (λ (a b : ListedSegment). a.number ≢ b.number) listed_segment (map (listed_now xs g) l.portions)
+          (Apart-map (λ (x y : Listed). x.portion.number ≢ y.portion.number) (listed_now xs g) l.portions ok.portions.numbers));
+    }
+
+-- ---- what is installed
+
+lives_shown : (schema : Schema) (ps : List Portion) → lives_of ps ≡ live_of_all (map (leaf_of schema) ps)
+lives_shown schema [] = refl
+lives_shown schema (p ∷ ps) = ap (λ l. p.live ++ l) (lives_shown schema ps)
+
+deleted_shown : (schema : Schema) (ps qs : List Portion) → Reduced ps qs → AreDeletedFrom (map (leaf_of schema) ps) (map (leaf_of schema) qs)
+deleted_shown schema [] [] h = tt
+deleted_shown schema [] (q ∷ qs) h = absurd h
+deleted_shown schema (p ∷ ps) [] h = absurd h
+deleted_shown schema (p ∷ ps) (q ∷ qs) h = (λ i. record { number = h.0 i; schema = schema; rows = map row_of (h.1 i) }, h.2, deleted_shown schema ps qs h.3)
+
+pub settled_are_merged : SettledAreMerged
+settled_are_merged m l ok making done =
+    let making_of : IsMergingOf l.portions m = subst (IsMerging l.portions) making ok.merging in
+    let kept = kept_all m l.portions making_of ok.portions.lengths done in
+    let rows : map row_of m.kept ≡ flat_map live_rows (map (leaf_of l.schema) m.inputs) = ap (map row_of) (kept ∙ records-marked m.inputs making_of.lengths) ∙ rows-shown l.schema m.inputs in
+    let live = ap₂ (λ (a b : List Bool). selected a b) (lives_shown l.schema m.inputs) (lives_shown l.schema (window_now m l.portions)) in
+    (λ i. record { segment = record { number = m.number; schema = l.schema; rows = rows i }; live = live i }, deleted_shown l.schema m.inputs (window_now m l.portions) making_of.stand)
