@@ -1,20 +1,20 @@
 -- Items in order.
-use Rattle.std.proofs.Common.{◌≡◌, ℕ, zero, suc, List, [], ◌∷◌, ◌++◌, length, take, min, AllPairs, Bool, false, refl, sym, ◌∙◌, ap, subst, arith, inl, inr}
+use Rattle.std.proofs.Common.{◌≡◌, ℕ, zero, suc, ◌-◌, ◌≤◌, ◌<◌, List, [], ◌∷◌, ◌++◌, length, get_or, take, Bool, true, false, refl, sym, ◌∙◌, ap, subst, arith, inl, inr, append-nil, append_assoc}
 use Rattle.std.specs.Cmp.{IsStrictWeakOrder}
 use Rattle.std.specs.List.{AllByRecursion}
-use Rattle.std.proofs.lemmas.List.{length-take}
-use Rattle.cat_model.specs.Page.{first_ranked}
-use Rattle.cat_model.specs.Ranks.{AreApart, insert_by, insert_all, sorted}
-use Rattle.cat_model.proofs.Insert.{which, each_insert, sorted-push, take-insert, strict_from_weak}
+use Rattle.cat_model.specs.Ranks.{insert_by, insert_all, sorted}
+use Rattle.cat_model.proofs.Insert.{which, each_insert}
 use Rattle.cat_model.proofs.Lists.{All-weaken}
-use Rattle.cat_model.proofs.Places.{each_pair}
-use Rattle.cat_model.proofs.Ranked.{first_sorted}
-use Rattle.cat_search.specs.BestItems.{BestItems, IsBestOf, InOrder, IsWithin}
+use Rattle.cat_search.specs.BestItems.{InOrder}
 
-each_take : {X : Type 0} (P : X → Type 0) (n : ℕ) (xs : List X) → AllByRecursion P xs → AllByRecursion P (take n xs)
+pub each_take : {X : Type 0} (P : X → Type 0) (n : ℕ) (xs : List X) → AllByRecursion P xs → AllByRecursion P (take n xs)
 each_take P zero xs a = tt
 each_take P (suc n) [] a = tt
 each_take P (suc n) (x ∷ xs) a = (a.0, each_take P n xs a.1)
+
+each_middle : {X : Type 0} (P : X → Type 0) (ys : List X) (x : X) (xs : List X) → AllByRecursion P (ys ++ x ∷ xs) → P x
+each_middle P [] x xs a = a.0
+each_middle P (y ∷ ys) x xs a = each_middle P ys x xs a.1
 
 -- what comes before nothing goes to the end
 pub insert_last : {X : Type 0} (lt : X → X → Bool) (x : X) (ys : List X) → AllByRecursion (λ y. lt x y ≡ false) ys → insert_by lt x ys ≡ ys ++ x ∷ []
@@ -27,11 +27,24 @@ take_first zero (y ∷ ys) x e = absurd (omega arith)
 take_first (suc n) [] x e = absurd (omega arith)
 take_first (suc n) (y ∷ ys) x e = let h : length ys ≡ n = omega arith in ap (λ zs. y ∷ zs) (take_first n ys x h)
 
--- one more is offered
-pub best_more : {X : Type 0} (lt : X → X → Bool) (kept : BestItems X) (offered : List X) (x : X) (items : List X) → IsBestOf lt kept offered → items ≡ take kept.limit (insert_by lt x kept.items)
-    → items ≡ take kept.limit (sorted lt (offered ++ x ∷ []))
-best_more lt kept offered x items b e =
-    e ∙ ap (λ ys. take kept.limit (insert_by lt x ys)) b ∙ take-insert lt kept.limit x (sorted lt offered) ∙ ap (take kept.limit) (sym (sorted-push lt [] offered x))
+pub insert_all-append : {X : Type 0} (lt : X → X → Bool) (ys xs zs : List X) → insert_all lt ys (xs ++ zs) ≡ insert_all lt (insert_all lt ys xs) zs
+insert_all-append lt ys [] zs = refl
+insert_all-append lt ys (x ∷ xs) zs = insert_all-append lt (insert_by lt x ys) xs zs
+
+-- ---- a list that is in order stays as it is
+
+before_none : {X : Type 0} (lt : X → X → Bool) (ys : List X) (x : X) (xs : List X) → InOrder lt (ys ++ x ∷ xs) → AllByRecursion (λ y. lt x y ≡ false) ys
+before_none lt [] x xs a = tt
+before_none lt (y ∷ ys) x xs a = (each_middle (λ z. lt z y ≡ false) ys x xs a.0, before_none lt ys x xs a.1)
+
+stays : {X : Type 0} (lt : X → X → Bool) (ys xs : List X) → InOrder lt (ys ++ xs) → insert_all lt ys xs ≡ ys ++ xs
+stays lt ys [] a = sym (append-nil ys)
+stays lt ys (x ∷ xs) a =
+    let assoc : (ys ++ x ∷ []) ++ xs ≡ ys ++ x ∷ xs = append_assoc ys (x ∷ []) xs in
+    ap (λ zs. insert_all lt zs xs) (insert_last lt x ys (before_none lt ys x xs a)) ∙ stays lt (ys ++ x ∷ []) xs (subst (InOrder lt) (sym assoc) a) ∙ assoc
+
+pub sorted-in_order : {X : Type 0} (lt : X → X → Bool) (xs : List X) → InOrder lt xs → sorted lt xs ≡ xs
+sorted-in_order lt xs a = stays lt [] xs a
 
 module _ {X : Type 0} (lt : X → X → Bool) (o : IsStrictWeakOrder lt) where
   pub in_order-insert : (x : X) (ys : List X) → InOrder lt ys → InOrder lt (insert_by lt x ys)
@@ -50,14 +63,14 @@ module _ {X : Type 0} (lt : X → X → Bool) (o : IsStrictWeakOrder lt) where
   in_order-insert_all ys [] a = a
   in_order-insert_all ys (x ∷ xs) a = in_order-insert_all (insert_by lt x ys) xs (in_order-insert x ys a)
 
-  pub best_in_order : (kept : BestItems X) (offered : List X) → IsBestOf lt kept offered → InOrder lt kept.items
-  best_in_order kept offered b = subst (InOrder lt) (sym b) (in_order-take kept.limit (sorted lt offered) (in_order-insert_all [] offered tt))
+  pub in_order-sorted : (xs : List X) → InOrder lt (sorted lt xs)
+  in_order-sorted xs = in_order-insert_all [] xs tt
 
-  pub best_within : (kept : BestItems X) (offered : List X) → IsBestOf lt kept offered → IsWithin kept
-  best_within kept offered b =
-      let long : length kept.items ≡ min kept.limit (length (sorted lt offered)) = ap length b ∙ length-take kept.limit (sorted lt offered) in
-      omega (arith, long)
-
-  -- where one of any two comes before the other, they are the first by rank
-  pub best_ranked : (kept : BestItems X) (offered : List X) → IsBestOf lt kept offered → AllPairs (AreApart lt) offered → kept.items ≡ first_ranked lt offered kept.limit
-  best_ranked kept offered b apart = b ∙ sym (first_sorted lt (strict_from_weak lt o) offered kept.limit (each_pair (AreApart lt) offered apart))
+  pub not_before_last : (x : X) (ys : List X) (d : X) → InOrder lt ys → 0 < length ys → lt x (get_or ys (length ys - 1) d) ≡ false → AllByRecursion (λ y. lt x y ≡ false) ys
+  not_before_last x [] d a h e = tt
+  not_before_last x (y ∷ []) d a h e = (e, tt)
+  not_before_last x (y ∷ z ∷ zs) d a h e =
+      let s : length (y ∷ z ∷ zs) - 1 ≡ suc (length (z ∷ zs) - 1) = omega arith in
+      let f : lt x (get_or (y ∷ z ∷ zs) (suc (length (z ∷ zs) - 1)) d) ≡ false = rw s at e in
+      let r : AllByRecursion (λ w. lt x w ≡ false) (z ∷ zs) = not_before_last x (z ∷ zs) d a.1 (omega arith) f in
+      (o.chain x z y r.0 a.0.0, r)

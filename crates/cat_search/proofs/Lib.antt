@@ -1,5 +1,6 @@
 pub mod InOrder
-pub mod Inserting
+pub mod Stable
+pub mod Kept
 pub mod Fields
 pub mod Candidates
 pub mod KeyEnds

@@ -9,20 +9,19 @@ use Rattle.cat_model.specs.Ranks.{sorted}
 abbrev pub less : {X : Type 0} → (X → X → Ordering) → X → X → Bool
 less cmp x y = is_lt (cmp x y)
 
--- the items that are kept, and how many they may be
-pub record BestItems (X : Type 0) : Type 0 where
-  pub limit : ℕ
-  pub items : List X
-
--- those kept are the first of what was offered, put in order
-abbrev pub IsBestOf : {X : Type 0} → (X → X → Bool) → BestItems X → List X → Type 0
-IsBestOf lt kept offered = kept.items ≡ take kept.limit (sorted lt offered)
-
 -- no item comes before one that stands in front of it
 abbrev pub InOrder : {X : Type 0} → (X → X → Bool) → List X → Type 0
 InOrder lt [] = Unit {0}
 InOrder lt (x ∷ xs) = AllByRecursion (λ y. lt y x ≡ false) xs × InOrder lt xs
 
--- there are no more items than may be
-abbrev pub IsWithin : {X : Type 0} → BestItems X → Type 0
-IsWithin kept = length kept.items ≤ kept.limit
+-- the items that are gathered, how many of them are wanted, and how many at the front are known to be in order
+pub record BestItems (X : Type 0) : Type 0 where
+  pub limit : ℕ
+  pub items : List X
+  pub ready : ℕ
+
+-- of those gathered the first that are wanted are the first of what was offered, each put in order
+pub record IsBestOf {X : Type 0} (lt : X → X → Bool) (kept : BestItems X) (offered : List X) : Type 0 where
+  pub first : take kept.limit (sorted lt kept.items) ≡ take kept.limit (sorted lt offered)
+  pub ready : kept.ready ≤ length kept.items
+  pub front : InOrder lt (take kept.ready kept.items)

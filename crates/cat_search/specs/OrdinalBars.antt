@@ -45,8 +45,10 @@ keyword_key texts i = option_map Key.keyword (option_map (text_at texts) i)
 
 -- what the bar keeps out by the ordinal of its text is left out
 abbrev pub IsOrdinalBarOf : Order → Option Standing → BestItems Candidate → List Text → OrdinalBar → Type 0
-IsOrdinalBarOf o mark kept texts bar = (i : Option ℕ) → IfSome i (λ k. k < length texts) → lets_in bar i ≡ false → IsLeftOut o mark kept (keyword_key texts i)
+IsOrdinalBarOf o mark kept texts bar =
+    (i : Option ℕ) → IfSome i (λ k. k < length texts) → lets_in bar i ≡ false → IsLeftOut o mark kept (keyword_key texts i)
 
 -- the bar keeps out the ordinal of this text, or of none
 abbrev pub KeepsOut : List Text → OrdinalBar → Option Text → Type 0
-KeepsOut texts bar text = (i : Option ℕ) × IfSome i (λ k. k < length texts) × (lets_in bar i ≡ false) × (option_map (text_at texts) i ≡ text)
+KeepsOut texts bar text =
+    (i : Option ℕ) × IfSome i (λ k. k < length texts) × (lets_in bar i ≡ false) × (option_map (text_at texts) i ≡ text)

@@ -21,13 +21,16 @@ hits_where test rs = filter (λ r. test r.item) rs
 abbrev pub page_where : List Record → (Item → Bool) → model.Sort → Option ℕ → ℕ → model.Page
 page_where rs test sort mark n = record {
   total = length (hits_where test rs);
-  entries = map (λ h. record { number = h.number; id = h.item.id; key = key sort h }) (first_ranked (before sort) (rest sort rs mark (hits_where test rs)) n);
+  entries =
+      map (λ h. record { number = h.number; id = h.item.id; key = key sort h })
+      (first_ranked (before sort) (rest sort rs mark (hits_where test rs)) n);
 }
 
 -- the page, or the first refusal: of the count, of the sort field, of the mark
 abbrev pub answer_where : Schema → List Record → (Item → Bool) → model.Sort → Option ℕ → ℕ → Result model.Page Refusal
 answer_where schema rs test sort mark n =
-    cond (ltb page_limit n) (Err Count) (cond (can_sort schema sort) (cond (has_mark rs mark) (Ok (page_where rs test sort mark n)) (Err Mark)) (Err SortField))
+    cond (ltb page_limit n) (Err Count)
+    (cond (can_sort schema sort) (cond (has_mark rs mark) (Ok (page_where rs test sort mark n)) (Err Mark)) (Err SortField))
 
 -- ---- standings in a pass over the records
 

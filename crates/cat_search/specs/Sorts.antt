@@ -1,5 +1,5 @@
 -- Sorts, and the fields that they go by.
-use Rattle.std.specs.Prelude.{◌≡◌, ℕ, Bool}
+use Rattle.std.specs.Prelude.{◌≡◌, ℕ, Bool, true}
 use Rattle.std.specs.List.{position_or_len}
 use Rattle.cat_model.specs.Text.{Text, same_text}
 use Rattle.cat_model.specs.Item.{Schema, kind_of}
@@ -30,6 +30,11 @@ index_named name schema = position_or_len (λ f. same_text f.name name) schema
 -- one can sort by the field of this name
 abbrev pub can_sort_by : Schema → Text → Bool
 can_sort_by schema name = is_sort_kind (kind_of schema name)
+
+-- the field has this name and the name's index in the schema, and one can sort by it
+abbrev pub IsSortField : Schema → Text → OrderField → Type 0
+IsSortField schema name field =
+    (field.name.now ≡ name) × (field.index ≡ index_named name schema) × (can_sort_by schema name ≡ true)
 
 -- the field has its index in the schema
 abbrev pub IsIndexed : Schema → OrderField → Type 0

@@ -55,7 +55,8 @@ pub record IsLiveRowOf (id : Text) (leaves : List Leaf) (leaf : Leaf) (row : ℕ
 
 -- what a device tells of the file with the sources of the leaf that has the id live
 abbrev pub TellsSource : (FileName → Told) → (ℕ → List ℕ) → View → Text → Type 0
-TellsSource told files view id = All (λ leaf. has_live id leaf ≡ true → told (file.Source leaf.segment.number) ≡ Some (Some (files leaf.segment.number))) view.leaves
+TellsSource told files view id =
+    All (λ leaf. has_live id leaf ≡ true → told (file.Source leaf.segment.number) ≡ Some (Some (files leaf.segment.number))) view.leaves
 
 -- the file of the live row of the id holds its source whole
 abbrev pub HoldsSource : (ℕ → List ℕ) → View → Text → Type 0

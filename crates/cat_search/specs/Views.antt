@@ -1,14 +1,18 @@
 -- Queries that are put to views.
-use Rattle.std.specs.Prelude.{◌≡◌, List, [], ◌∷◌, Result}
+use Rattle.std.specs.Prelude.{◌≡◌, List, [], ◌∷◌, map, Result}
 use Rattle.cat_base.specs.declared.refusal.Refusal.{Refusal}
 use Rattle.cat_model.specs.Answer.{Found, answer}
 use Rattle.cat_model.specs.Files.{Name}
 use Rattle.cat_model.specs.Item.{Record}
-use Rattle.cat_model.specs.View.{Leaf, View, Shows}
+use Rattle.cat_model.specs.Page.{Page}
+use Rattle.cat_model.specs.Query as model
+use Rattle.cat_model.specs.Query.{matches}
+use Rattle.cat_model.specs.View.{Leaf, View, Shows, rows_in}
 use Rattle.cat_query.specs.declared.query.Query.{Query}
 use Rattle.cat_query.specs.View.{query_of}
 use Rattle.cat_search.specs.declared.ask.Ask.{Ask}
-use Rattle.cat_search.specs.Asks.{read_of}
+use Rattle.cat_search.specs.Asks.{page_to, read_of}
+use Rattle.cat_search.specs.Rows.{bare_record}
 
 -- a query, and the view that it is put to
 pub record Prepared : Type 0 where
@@ -22,6 +26,10 @@ leaf_names leaf = Name.segment leaf.segment.number ∷ Name.source leaf.segment.
 -- the answer to the ask over records
 abbrev pub answer_over : Prepared → Ask → List Record → Result Found Refusal
 answer_over p ask rs = answer p.view.schema rs (read_of ask (query_of p.query))
+
+-- the answer to the ask over the live rows of a view that a query matches
+abbrev pub page_in : View → model.Query → Ask → Result Page Refusal
+page_in view q ask = page_to view.schema (map bare_record (rows_in view)) (matches q) ask
 
 -- it is the answer to the ask over whatever records the view shows
 abbrev pub IsAnswerTo : Prepared → Ask → Result Found Refusal → Type 0

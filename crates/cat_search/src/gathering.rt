@@ -111,7 +111,8 @@ fn best_hits<'a>(
         let ranks = LeafRanks::of(leaf.segment(), wanted.order);
         offer_rows(&mut best, &ranks, &hits, &wanted.mark)?;
     }
-    Ok((total, best.into_items()))
+    let first = best.into_items()?;
+    Ok((total, first))
 }
 
 /// How many hits the leaves have, and the first that are wanted in order of addition.

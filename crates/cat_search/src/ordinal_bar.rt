@@ -133,7 +133,8 @@ impl<'a> OrdinalBar<'a> {
     fn between(self, ends: Ends<'a>, dictionary: &Dictionary) -> OrdinalBar<'a>
         requires { AreOrdinalsOf dictionary.now self }
         ensures ordinals { AreOrdinalsOf dictionary.now result }
-        ensures within { (i : Option ℕ) → IfSome i (λ k. k < length dictionary.now) → lets_in result i ≡ false → lies_within ends.entry (keyword_key dictionary.now i) ≡ false }
+        ensures within { (i : Option ℕ) → IfSome i (λ k. k < length dictionary.now)
+            → lets_in result i ≡ false → lies_within ends.entry (keyword_key dictionary.now i) ≡ false }
     {
         let low = keyword_of(ends.low);
         let high = keyword_of(ends.high);

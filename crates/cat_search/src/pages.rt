@@ -16,6 +16,7 @@ use crate::offers::offer_hit;
 use crate::sort::{Order, rank_with};
 use crate::standings::{Candidate, Rank};
 use cat_base::{Refusal, WriteNo};
+use cat_query::Query;
 use cat_schema::{Item, Schema};
 use std::alloc::{AllocError, Global};
 
@@ -45,6 +46,18 @@ pub trait Accepts {
     /// Whether the item passes the test.
     fn accepts(&self, item: &Item) -> bool
         ensures { result ≡ test self.now item.now };
+}
+
+/// A query is the test that its hits pass.
+impl Accepts for Query {
+    ghost use Rattle.cat_model.specs.Query.{matches};
+    ghost use Rattle.cat_query.specs.View.{query_of};
+
+    ghost test = { λ q. matches (query_of q) };
+
+    fn accepts(&self, item: &Item) -> bool {
+        Query::accepts(self, item)
+    }
 }
 
 /// Where the item stands in the order.
@@ -90,7 +103,8 @@ fn best_of<'a, R: Numbered, Q: Accepts>(
             offer_hit(&mut best, candidate_of(hit, wanted.order), &wanted.mark)?;
         }
     }
-    Ok((total, best.into_items()))
+    let first = best.into_items()?;
+    Ok((total, first))
 }
 
 /// How many of the records have a lower number.

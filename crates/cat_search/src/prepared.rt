@@ -1,14 +1,12 @@
 //! Queries that are put to views.
-ghost use Rattle.std.specs.Prelude.{◌≡◌, ◌≢◌, List, Ok, Err, length, map, IfOk, IfErr};
+ghost use Rattle.std.specs.Prelude.{◌≡◌, ◌≢◌, List, Ok, Err, length, IfOk, IfErr};
 ghost use Rattle.cat_base.specs.declared.refusal.Refusal.TheVariants.{Memory};
 ghost use Rattle.cat_model.specs.Answer.{Found};
 ghost use Rattle.cat_model.specs.Item.{Record};
-ghost use Rattle.cat_model.specs.Query.{matches};
-ghost use Rattle.cat_model.specs.View.{Shows, rows_in, selected};
+ghost use Rattle.cat_model.specs.View.{Shows, selected};
 ghost use Rattle.cat_query.specs.View.{query_of};
-ghost use Rattle.cat_search.specs.Asks.{page_to};
-ghost use Rattle.cat_search.specs.Rows.{bare_record, leaf_hits};
-ghost use Rattle.cat_search.specs.Views.{IsAnswerTo, ViewsShowRecords, answer_over};
+ghost use Rattle.cat_search.specs.Rows.{leaf_hits};
+ghost use Rattle.cat_search.specs.Views.{IsAnswerTo, ViewsShowRecords, answer_over, page_in};
 
 use crate::ask::{Ask, Wanted};
 use crate::entries::{Page, entries_of};
@@ -101,10 +99,9 @@ impl Prepared {
 
 /// The page over the live rows of the view.
 fn page_over(alloc: Global, view: &View, query: &Query, ask: Ask<'_>) -> Result<Page, Refusal>
-    ensures ok { IfOk result (λ p. page_to view.now.schema (map bare_record (rows_in view.now)) (matches (query_of query.now)) ask.entry ≡ Ok p) }
-    ensures err { IfErr result (λ e. e ≢ Memory
-        → page_to view.now.schema (map bare_record (rows_in view.now)) (matches (query_of query.now)) ask.entry ≡ Err e) }
-    ensures due { IfErr (page_to view.now.schema (map bare_record (rows_in view.now)) (matches (query_of query.now)) ask.entry) (λ e. result ≡ Err e) }
+    ensures ok { IfOk result (λ p. page_in view.now (query_of query.now) ask.entry ≡ Ok p) }
+    ensures err { IfErr result (λ e. e ≢ Memory → page_in view.now (query_of query.now) ask.entry ≡ Err e) }
+    ensures due { IfErr (page_in view.now (query_of query.now) ask.entry) (λ e. result ≡ Err e) }
 {
     let (order, count) = ask.resolve(view.schema())?;
     let leaves = view.leaves();

@@ -5,7 +5,7 @@ ghost use Rattle.cat_model.specs.Answer.{can_sort};
 ghost use Rattle.cat_search.specs.Keys.{key_ref_of};
 ghost use Rattle.cat_search.specs.Candidates.{rank_of};
 ghost use Rattle.cat_search.specs.Pages.{rank_with};
-ghost use Rattle.cat_search.specs.Sorts.{IsOrderOf, can_sort_by, index_named, sort_of};
+ghost use Rattle.cat_search.specs.Sorts.{IsOrderOf, IsSortField, can_sort_by, sort_of};
 
 use crate::keys::KeyRef;
 use crate::standings::Rank;
@@ -44,7 +44,7 @@ pub(crate) enum Order<'a> {
 
 /// The field of this name, if one can sort by it.
 fn order_field<'a>(schema: &Schema, name: &'a str) -> Result<OrderField<'a>, Refusal>
-    ensures ok { IfOk result (λ f. (f.name.now ≡ name.entry.now) × (f.index ≡ index_named name.entry.now schema.now) × (can_sort_by schema.now name.entry.now ≡ true)) }
+    ensures ok { IfOk result (λ f. IsSortField schema.now name.entry.now f) }
     ensures err { IfErr result (λ e. (e ≡ SortField) × (can_sort_by schema.now name.entry.now ≡ false)) }
 {
     let fields = schema.fields();

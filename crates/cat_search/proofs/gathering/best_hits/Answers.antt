@@ -3,7 +3,7 @@ use Rattle.std.proofs.lemmas.List.{take_all}
 use Rattle.cat_model.specs.Ranks.{sorted}
 use Rattle.cat_model.specs.View.{Leaf}
 use Rattle.cat_query.specs.View.{query_of}
-use Rattle.cat_search.specs.Candidates.{IsBestAt, mark_standing, standing_of}
+use Rattle.cat_search.specs.Candidates.{IsBestAt, mark_standing}
 use Rattle.cat_search.specs.Pages.{behind}
 use Rattle.cat_search.specs.Rows.{hits_in, row_standing}
 use Rattle.cat_search.specs.Standings.{standing_before}
@@ -31,7 +31,6 @@ pub returns-clause-best : goal.returns-clause-best
 returns-clause-best c =
     let wanted = c.args.wanted.now in
     let standings = λ (ls : List Leaf). behind (mark_standing wanted.mark) (map (row_standing wanted.order) (hits_in ls (query_of c.args.query.now))) in
-    ap (map standing_of) c.into_items.ensures.items
-    ∙ best_standings c.loop-leaf.best (standings (take c.loop-leaf.leaf-index c.args.leaves.now)) c.loop-leaf.invariant.best
+    best_standings c.loop-leaf.best c.in_ok-first.first.items c.in_ok-first.ensures.first (standings (take c.loop-leaf.leaf-index c.args.leaves.now)) c.loop-leaf.invariant.best
     ∙ ap (λ n. take n (sorted standing_before (standings (take c.loop-leaf.leaf-index c.args.leaves.now)))) c.loop-leaf.invariant.limit
     ∙ ap (λ ls. take wanted.count (sorted standing_before (standings ls))) (take_all c.loop-leaf.leaf-index c.args.leaves.now c.loop-leaf-test.false)

@@ -2,7 +2,7 @@ use Rattle.std.proofs.Common.{◌∙◌, List, map, take, sym, ap, subst, arith}
 use Rattle.std.proofs.lemmas.List.{take_all}
 use Rattle.cat_model.specs.Ranks.{sorted}
 use Rattle.cat_search.specs.Standings.{standing_before}
-use Rattle.cat_search.specs.Candidates.{IsBestAt, mark_standing, standing_of}
+use Rattle.cat_search.specs.Candidates.{IsBestAt, mark_standing}
 use Rattle.cat_search.proofs.Candidates.{best_standings}
 use Rattle.cat_search.proofs.Passes.{standings_behind, records_more, total_hit, total_other, standings_hit, standings_other}
 use Rattle.cat_search.proofs.pages.best_of.Goals as goal
@@ -40,7 +40,6 @@ pub returns-clause-best : goal.returns-clause-best
 returns-clause-best g c =
     let mark = mark_standing c.args.wanted.now.mark in
     let standings = λ (xs : List g.row.R.Denot). standings_behind c.args.wanted.now.order mark (g.Q.Accepts.test c.args.query.now) (map g.R.Numbered.record_of xs) in
-    ap (map standing_of) c.into_items.ensures.items
-    ∙ best_standings c.loop-hit.best (standings (take c.loop-hit.hit-index c.args.records.now)) c.loop-hit.invariant.best
+    best_standings c.loop-hit.best c.in_ok-first.first.items c.in_ok-first.ensures.first (standings (take c.loop-hit.hit-index c.args.records.now)) c.loop-hit.invariant.best
     ∙ ap (λ n. take n (sorted standing_before (standings (take c.loop-hit.hit-index c.args.records.now)))) c.loop-hit.invariant.limit
     ∙ ap (λ xs. take c.args.wanted.now.count (sorted standing_before (standings xs))) (take_all c.loop-hit.hit-index c.args.records.now c.loop-hit-test.false)
