@@ -190,18 +190,18 @@ module _ {S : Type 0} (opens : Option Text → Result S Refusal → Type 0) (ste
   -- the replies to the lines behind the first
   record Replies (a : S) (ls : Lines) (t : Text) : Type 0 where
     left : S
-    tolds : List Outcome
-    steps : Steps step a ls tolds left
-    text : t ≡ flat_map outcome_text tolds
+    outcomes : List Outcome
+    steps : Steps step a ls outcomes left
+    text : t ≡ flat_map outcome_text outcomes
 
   -- what is said behind the first line is replies
   replies : (a : S) (ls : Lines) (t : Text) (b : Option S) → SaysAll says (Some a) ls t b → Replies a ls t
-  replies a [] t b so = record { left = a; tolds = []; steps = refl; text = so.1 }
+  replies a [] t b so = record { left = a; outcomes = []; steps = refl; text = so.1 }
   replies a (l ∷ ls) t b so =
       let more = replies so.2 ls so.1 b so.4 in
       record {
         left = more.left;
-        tolds = so.3.0 ∷ more.tolds;
+        outcomes = so.3.0 ∷ more.outcomes;
         steps = (so.2, so.3.1, more.steps);
         text = so.5 ∙ ap (λ x. x ++ so.1) so.3.2 ∙ ap (λ x. outcome_text so.3.0 ++ x) more.text;
       }
@@ -215,7 +215,7 @@ module _ {S : Type 0} (opens : Option Text → Result S Refusal → Type 0) (ste
         opened = so.2;
         begins = so.3.0;
         left = more.left;
-        tolds = more.tolds;
+        outcomes = more.outcomes;
         steps = more.steps;
         whole = so.5 ∙ ap (λ x. x ++ so.1) so.3.1 ∙ ap (λ x. opened_text (token so.2) ++ x) more.text;
       }

@@ -15,8 +15,8 @@ short_line line = if nat_lt line_limit (length line) then None else Some line
 -- from old these lines may be told these replies, one step after another, and new be left
 abbrev pub Steps : {S : Type 0} → (S → Option Text → Outcome → S → Type 0) → S → List (Option Text) → List Outcome → S → Type 0
 Steps step old [] [] new = new ≡ old
-Steps {S = S} step old (line ∷ lines) (told ∷ tolds) new = (mid : S) × step old line told mid × Steps step mid lines tolds new
-Steps step old [] (told ∷ tolds) new = ⊥
+Steps {S = S} step old (line ∷ lines) (told ∷ outcomes) new = (mid : S) × step old line told mid × Steps step mid lines outcomes new
+Steps step old [] (told ∷ outcomes) new = ⊥
 Steps step old (line ∷ lines) [] new = ⊥
 
 -- The text answers the first line, which opened the machine at a token, and the lines behind it.
@@ -25,6 +25,6 @@ pub record IsAnswered {S : Type 0} (opens : Option Text → Result S Refusal →
   pub opened : S
   pub begins : opens (short_line first) (Ok opened)
   pub left : S
-  pub tolds : List Outcome
-  pub steps : Steps step opened (map short_line lines) tolds left
-  pub whole : text ≡ line_text (codes "OK" ∷ decimal (token opened) ∷ []) ++ flat_map outcome_text tolds
+  pub outcomes : List Outcome
+  pub steps : Steps step opened (map short_line lines) outcomes left
+  pub whole : text ≡ line_text (codes "OK" ∷ decimal (token opened) ∷ []) ++ flat_map outcome_text outcomes

@@ -27,7 +27,8 @@ AreViews schema vs = AllByRecursion (λ v. AreItems schema v.table) vs
 -- the token is the least that no session holds, or there is none
 abbrev pub IsLeastFree : (ℕ → Bool) → List state.RecordedTable → Option ℕ → Type 0
 IsLeastFree held vs None = list_all held (state.tokens vs) ≡ true
-IsLeastFree held vs (Some t) = (state.has_view vs t ≡ true) × (held t ≡ false) × AllByRecursion (λ v. held v.token ≡ false → t ≤ v.token) vs
+IsLeastFree held vs (Some t) =
+    (state.has_view vs t ≡ true) × (held t ≡ false) × AllByRecursion (λ v. held v.token ≡ false → t ≤ v.token) vs
 
 -- the lesser of a number and another, if there is one
 abbrev pub lesser_of : Option ℕ → ℕ → Option ℕ

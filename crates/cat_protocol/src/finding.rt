@@ -13,23 +13,6 @@ use cat_schema::{Item, Schema};
 use cat_search::{Accepts, Ask, Page, page_of};
 use std::alloc::Global;
 
-/// A query as the test that the hits of a page pass.
-#[derive(Drop)]
-struct Matching {
-    query: Query,
-}
-
-impl Accepts for Matching {
-    ghost use Rattle.cat_model.specs.Query.{matches};
-    ghost use Rattle.cat_query.specs.View.{query_of};
-
-    ghost test = { λ m. matches (query_of m.query) };
-
-    fn accepts(&self, item: &Item) -> bool {
-        self.query.accepts(item)
-    }
-}
-
 /// A test that no item passes.
 #[derive(Clone, Copy)]
 struct Nothing;
@@ -59,7 +42,7 @@ pub(crate) fn find_in(
     requires items { AreItems schema.now records.now }
     ensures { TellsFound (answer schema.now records.now (find_of ask.entry (Ok (query_of query)))) result }
 {
-    page_of(alloc, schema, records, &Matching { query }, ask)
+    page_of(alloc, schema, records, &query, ask)
 }
 
 /// The refusal, or want of memory in place of a page.

@@ -9,7 +9,7 @@ use cat_base::{MAX_ROWS, Refusal, SegNo, WriteNo};
 use cat_directory::{Directory, FileName, MemoryDirectory};
 use cat_query::Query;
 use cat_schema::{Item, Schema};
-use cat_search::{Accepts, Ask, Entry, Key, Leaf, Page, Prepared, Sort, View, page_of};
+use cat_search::{Ask, Entry, Key, Leaf, Page, Prepared, Sort, View, page_of};
 use cat_segment::{Live, Row, Segment};
 use cat_segment_rows::are_apart;
 use std::alloc::{AllocError, Global};
@@ -17,23 +17,6 @@ use std::fmt::Write;
 use std::process::Abort;
 use std::sync::Arc;
 use std::test::Fail;
-
-/// A query as the test that the hits of a page pass.
-#[derive(Drop)]
-struct Matching {
-    query: Query,
-}
-
-impl Accepts for Matching {
-    ghost use Rattle.cat_model.specs.Query.{matches};
-    ghost use Rattle.cat_query.specs.View.{query_of};
-
-    ghost test = { λ m. matches (query_of m.query) };
-
-    fn accepts(&self, item: &Item) -> bool {
-        self.query.accepts(item)
-    }
-}
 
 const FIELDS: &[u8] = br#"{"brand":"keyword","color":"facet","price":"number","title":"text"}"#;
 
@@ -72,7 +55,8 @@ fn read_puts(
 
 /// Whether this one has the lower number, and another id where both are live.
 fn goes_before(put: &Put, last: &Put) -> bool
-    ensures { result ≡ true → (put.now.number < last.now.number) × (put.now.live ≡ true → last.now.live ≡ true → put.now.item.id ≢ last.now.item.id) }
+    ensures { result ≡ true → (put.now.number < last.now.number)
+        × (put.now.live ≡ true → last.now.live ≡ true → put.now.item.id ≢ last.now.item.id) }
 {
     if put.number >= last.number {
         return false;
@@ -88,7 +72,8 @@ fn goes_before(put: &Put, last: &Put) -> bool
 
 /// Whether all of them have lower numbers than this one, and other ids where both are live.
 fn is_later(puts: &[Put], last: &Put) -> bool
-    ensures { result ≡ true → All (λ p. (p.number < last.now.number) × (p.live ≡ true → last.now.live ≡ true → p.item.id ≢ last.now.item.id)) puts.now }
+    ensures { result ≡ true → All (λ p. (p.number < last.now.number)
+        × (p.live ≡ true → last.now.live ≡ true → p.item.id ≢ last.now.item.id)) puts.now }
 {
     for put in puts {
         if !goes_before(put, last) {
@@ -100,7 +85,8 @@ fn is_later(puts: &[Put], last: &Put) -> bool
 
 /// Whether their numbers rise and the ids of those that are live differ.
 fn are_in_order(puts: &[Put]) -> bool
-    ensures { result ≡ true → AllPairs (λ a b. (a.number < b.number) × (a.live ≡ true → b.live ≡ true → a.item.id ≢ b.item.id)) puts.now }
+    ensures { result ≡ true → AllPairs (λ a b. (a.number < b.number)
+        × (a.live ≡ true → b.live ≡ true → a.item.id ≢ b.item.id)) puts.now }
 {
     for place in 0..puts.len() {
         if !is_later(&puts[..place], &puts[place]) {
@@ -112,7 +98,8 @@ fn are_in_order(puts: &[Put]) -> bool
 
 fn rows_of<'a>(alloc: Global, puts: &'a [Put]) -> Result<Vec<Row<'a>>, Refusal>
     ensures items { IfOk result (λ v. map (λ r. r.item.now) v.items ≡ map (λ p. p.item) puts.now) }
-    ensures rows { IfOk result (λ v. map (λ r. row_of (record { number = r.number; item = r.item.now })) v.items ≡ map (λ p. row_of (record { number = p.number; item = p.item })) puts.now) }
+    ensures rows { IfOk result (λ v. map (λ r. row_of (record { number = r.number; item = r.item.now })) v.items
+        ≡ map (λ p. row_of (record { number = p.number; item = p.item })) puts.now) }
 {
     let mut rows = Vec::new(alloc);
     for put in puts {
@@ -183,7 +170,8 @@ fn view_of(
     ends: &[usize],
 ) -> Result<View, Fail>
     requires items { All (λ p. IsItem schema.now p.item) puts.now }
-    requires order { AllPairs (λ a b. (a.number < b.number) × (a.live ≡ true → b.live ≡ true → a.item.id ≢ b.item.id)) puts.now }
+    requires order { AllPairs (λ a b. (a.number < b.number)
+        × (a.live ≡ true → b.live ≡ true → a.item.id ≢ b.item.id)) puts.now }
     ensures { IfOk result (λ v. v.schema ≡ schema.now) }
 {
     let mut leaves = Vec::new(alloc);
@@ -252,22 +240,20 @@ fn expect_find(
     requires rising { AllPairs (λ a b. a.number < b.number) records.now }
     requires items { All (λ p. IsItem view.now.schema p.item) records.now }
 {
-    let (n, sort, mark, query, shown) = *find;
+    let (n, sort, mark, text, shown) = *find;
     let schema = view.schema();
     let ask = Ask {
         sort: sort_named(sort),
         after: mark,
         count: n,
     };
-    let prepared = Prepared::of(view, Query::parse(schema, alloc, query)?)?;
+    let prepared = Prepared::of(view, Query::parse(schema, alloc, text)?)?;
     let of_view = answer_text(alloc, &prepared.page(alloc, ask))?;
-    assert_eq!(rt; of_view.as_str(), shown, "{n} {sort} {mark:?} {query}");
-    let matching = Matching {
-        query: Query::parse(schema, alloc, query)?,
-    };
-    let page = page_of(alloc, schema, records, &matching, ask);
+    assert_eq!(rt; of_view.as_str(), shown, "{n} {sort} {mark:?} {text}");
+    let query = Query::parse(schema, alloc, text)?;
+    let page = page_of(alloc, schema, records, &query, ask);
     let of_records = answer_text(alloc, &page)?;
-    assert_eq!(rt; of_records.as_str(), shown, "{n} {sort} {mark:?} {query}");
+    assert_eq!(rt; of_records.as_str(), shown, "{n} {sort} {mark:?} {text}");
     Ok(())
 }
 
@@ -518,6 +504,89 @@ fn a_page_shows_the_first_hits_and_counts_all(rt: HostRuntime) -> Result<(), Fai
         (1_001, ".", None, "*:*", "NO 25"),
     ];
     expect_finds(&rt, rt.alloc(), ROWS, &[1, 3], FINDS)
+}
+
+/// How many rows the long pages are of, which have the prices from 0 on, each once.
+const MANY: u64 = 1_200;
+
+/// The price of the row of this number, from 0 on: no two of them are alike, and neighbours are far apart.
+fn mixed_price(number: WriteNo) -> u64 {
+    number.wrapping_mul(389) % MANY
+}
+
+/// The rows of the numbers from 1 on, all of them live.
+fn mixed_puts(alloc: Global, schema: &Schema) -> Result<Vec<Put>, Refusal>
+    ensures { IfOk result (λ v. All (λ p. IsItem schema.now p.item) v.items) }
+{
+    let mut puts = Vec::new(alloc);
+    for number in 1..MANY + 1 {
+        let price = mixed_price(number);
+        let text = format!(in alloc; "{{\"id\":\"{number}\",\"price\":{price}}}")?;
+        puts.push(read_put(alloc, schema, (number, true, text.as_str()))?)?;
+    }
+    Ok(puts)
+}
+
+/// Fails unless the page has the 1,000 hits of the least prices in order, or of the greatest.
+fn expect_thousand(rt: &impl Abort, answer: &Result<Page, Refusal>, falling: bool) -> Result<(), Fail> {
+    let Ok(page) = answer else {
+        panic!(rt; "no page");
+    };
+    assert_eq!(rt; page.total() as u64, MANY);
+    assert_eq!(rt; page.entries().len(), 1_000);
+    for (place, entry) in page.entries().iter().enumerate() {
+        let found = mixed_price(entry.number());
+        let wanted = if falling { 1_199usize.saturating_sub(place) } else { place };
+        assert_eq!(rt; found, wanted as u64, "{place}");
+        let Some(Key::Number(key)) = entry.key() else {
+            panic!(rt; "no key at {place}");
+        };
+        assert_eq!(rt; *key, found as i64, "{place}");
+    }
+    Ok(())
+}
+
+/// Fails unless pages by price have up to 1,000 hits, of the view and of the records.
+fn expect_thousands(
+    rt: &impl Abort,
+    alloc: Global,
+    view: &View,
+    records: &[Put],
+) -> Result<(), Fail>
+    requires rising { AllPairs (λ a b. a.number < b.number) records.now }
+    requires items { All (λ p. IsItem view.now.schema p.item) records.now }
+{
+    let query = Query::parse(view.schema(), alloc, "*:*")?;
+    let prepared = Prepared::of(view, Query::parse(view.schema(), alloc, "*:*")?)?;
+    for (sort, falling) in [(Sort::Rising("price"), false), (Sort::Falling("price"), true)] {
+        let mut ask = Ask {
+            sort,
+            after: None,
+            count: 1_000,
+        };
+        expect_thousand(rt, &prepared.page(alloc, ask), falling)?;
+        let page = page_of(alloc, view.schema(), records, &query, ask);
+        expect_thousand(rt, &page, falling)?;
+        ask.count = 1_001;
+        let of_view = answer_text(alloc, &prepared.page(alloc, ask))?;
+        assert_eq!(rt; of_view.as_str(), "NO 25");
+        let page = page_of(alloc, view.schema(), records, &query, ask);
+        let of_records = answer_text(alloc, &page)?;
+        assert_eq!(rt; of_records.as_str(), "NO 25");
+    }
+    Ok(())
+}
+
+#[test]
+fn a_page_has_a_thousand_hits_and_no_more(rt: HostRuntime) -> Result<(), Fail> {
+    let alloc = rt.alloc();
+    let schema = Schema::read(alloc, FIELDS)?;
+    let puts = mixed_puts(alloc, &schema)?;
+    if !are_in_order(&puts) {
+        panic!(&rt; "no rows of a view");
+    }
+    let view = view_of(&rt, alloc, &schema, &puts, &[700, puts.len()])?;
+    expect_thousands(&rt, alloc, &view, &puts)
 }
 
 /// The texts of the names, with a space behind each.
