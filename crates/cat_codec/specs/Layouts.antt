@@ -56,7 +56,11 @@ is_source_length n = nat_le 1 n && nat_le n source_limit
 unfoldable pub kind_at : Reader Kind
 kind_at bytes = do
   b ← byte_at bytes
-  if b.0 == 1 then Some (Kind.text, b.1) else (if b.0 == 2 then Some (Kind.keyword, b.1) else (if b.0 == 3 then Some (Kind.number, b.1) else (if b.0 == 4 then Some (Kind.facet, b.1) else None)))
+  if b.0 == 1 then Some (Kind.text, b.1)
+      else (if b.0 == 2 then Some (Kind.keyword, b.1)
+      else (if b.0 == 3 then Some (Kind.number, b.1)
+      else (if b.0 == 4 then Some (Kind.facet, b.1)
+      else None)))
 
 -- a name of any form: the names are judged together
 unfoldable pub field_at : Reader Field
@@ -109,7 +113,9 @@ unfoldable pub start_at : Reader (ℕ × ℕ)
 start_at bytes = do
   word ← u32_at bytes
   version ← byte_at word.1
-  if word.0 == magic && version.0 == 1 then both_at (where_at is_file_number u64_at) (λ number. where_at is_row_count u32_at) (λ number rows. (number, rows)) version.1 else None
+  if word.0 == magic && version.0 == 1
+      then both_at (where_at is_file_number u64_at) (λ number. where_at is_row_count u32_at) (λ number rows. (number, rows)) version.1
+      else None
 
 unfoldable pub layout_at : List ℕ → Option Layout
 layout_at bytes = do

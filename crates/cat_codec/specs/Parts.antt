@@ -19,11 +19,17 @@ column_in (Number numbers) = Laid.numbers numbers.items
 column_in (Facet dictionary ends ordinals) = Laid.labels dictionary.items (pieces 0 ends.items ordinals.items)
 
 abbrev pub layout_in : SegmentParts → Layout
-layout_in p = record { number = p.number; schema = p.schema; heads = heads_in p.numbers.items p.ids.items p.lengths.items; columns = map column_in p.columns.items }
+layout_in p = record {
+  number = p.number;
+  schema = p.schema;
+  heads = heads_in p.numbers.items p.ids.items p.lengths.items;
+  columns = map column_in p.columns.items;
+}
 
 -- the ends cut the list into as many pieces as there are words, or ends; they count less than 2^32
 abbrev pub IsColumnParts : ColumnParts → Type 0
-IsColumnParts (TextParts words ends rows) = (length ends.items ≡ length words.items) × AreEnds 0 ends.items (length rows.items) × (length rows.items < 2 ^ 32)
+IsColumnParts (TextParts words ends rows) =
+    (length ends.items ≡ length words.items) × AreEnds 0 ends.items (length rows.items) × (length rows.items < 2 ^ 32)
 IsColumnParts (Keyword dictionary codes) = Unit {0}
 IsColumnParts (Number numbers) = Unit {0}
 IsColumnParts (Facet dictionary ends ordinals) = AreEnds 0 ends.items (length ordinals.items) × (length ordinals.items < 2 ^ 32)

@@ -46,12 +46,25 @@ unfoldable pub byte_at : Reader ℕ
 byte_at [] = None
 byte_at (b ∷ rest) = Some (b, rest)
 
+-- the number of the first bytes, and whether they are just its bytes
+abbrev pub first_u32 : List ℕ → ℕ
+first_u32 bytes = from_be_bytes w32 (take 4 bytes)
+
+abbrev pub is_first_u32 : List ℕ → Bool
+is_first_u32 bytes = nat_lt (first_u32 bytes) (2 ^ 32) && bytes_eq (spelled_u32 (first_u32 bytes)) (take 4 bytes)
+
+abbrev pub first_u64 : List ℕ → ℕ
+first_u64 bytes = from_be_bytes w64 (take 8 bytes)
+
+abbrev pub is_first_u64 : List ℕ → Bool
+is_first_u64 bytes = nat_lt (first_u64 bytes) (2 ^ 64) && bytes_eq (spelled_u64 (first_u64 bytes)) (take 8 bytes)
+
 -- the number that the first bytes spell
 unfoldable pub u32_at : Reader ℕ
-u32_at bytes = if nat_lt (from_be_bytes w32 (take 4 bytes)) (2 ^ 32) && bytes_eq (spelled_u32 (from_be_bytes w32 (take 4 bytes))) (take 4 bytes) then Some (from_be_bytes w32 (take 4 bytes), drop 4 bytes) else None
+u32_at bytes = if is_first_u32 bytes then Some (first_u32 bytes, drop 4 bytes) else None
 
 unfoldable pub u64_at : Reader ℕ
-u64_at bytes = if nat_lt (from_be_bytes w64 (take 8 bytes)) (2 ^ 64) && bytes_eq (spelled_u64 (from_be_bytes w64 (take 8 bytes))) (take 8 bytes) then Some (from_be_bytes w64 (take 8 bytes), drop 8 bytes) else None
+u64_at bytes = if is_first_u64 bytes then Some (first_u64 bytes, drop 8 bytes) else None
 
 -- a length of four bytes, and that many bytes
 unfoldable pub string_at : Reader (List ℕ)

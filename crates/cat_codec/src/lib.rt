@@ -17,6 +17,3 @@ pub use reading::{layouts_are_told_by_their_bytes, read_segment};
 pub use writing::{
     put_fields, put_head, put_list, put_number, put_numbers, put_posted, put_start, put_texts,
 };
-
-#[cfg(test)]
-mod tests;

@@ -47,4 +47,5 @@ HaveTerms len words parts texts = (length texts ≡ len) × (word_postings_of te
 
 -- no rows have
 abbrev pub HasNoTerms : ℕ → List Text → List (List ℕ) → Type 0
-HasNoTerms len words parts = (texts : List (List Text)) → length texts ≡ len → All IsTextSet texts → word_postings_of texts ≢ paired_postings words parts
+HasNoTerms len words parts =
+    (texts : List (List Text)) → length texts ≡ len → All IsTextSet texts → word_postings_of texts ≢ paired_postings words parts

@@ -6,6 +6,7 @@ ghost use Rattle.cat_model.specs.Text.{Text, same_text};
 ghost use Rattle.cat_model.specs.Ordinals.{postings_of};
 ghost use Rattle.cat_inverted.specs.Gathered.{found, listed, ends_from};
 
+use crate::laying::add_list;
 use crate::terms::Terms;
 use cat_base::Text;
 use cat_values::Dictionary;
@@ -19,8 +20,10 @@ fn add_posting<'a>(
     row: u32,
     word: &'a str,
 ) -> Result<(), AllocError>
-    ensures lists { OnOk result ((other : Text) → listed other postings.new ≡ listed other postings.old ++ (if same_text other word.now then row ∷ [] else [])) }
-    ensures keys { OnOk result ((other : Text) → is_some (found other postings.new) ≡ (is_some (found other postings.old) || same_text other word.now)) }
+    ensures lists { OnOk result ((other : Text) → listed other postings.new
+        ≡ listed other postings.old ++ (if same_text other word.now then row ∷ [] else [])) }
+    ensures keys { OnOk result ((other : Text) → is_some (found other postings.new)
+        ≡ (is_some (found other postings.old) || same_text other word.now)) }
 {
     match postings.get_mut(word) {
         Some(rows) => rows.push(row)?,
@@ -41,8 +44,10 @@ fn add_row<'a>(
     words: &'a [Text],
 ) -> Result<(), AllocError>
     requires { IsTextSet words.now }
-    ensures lists { OnOk result ((word : Text) → listed word postings.new ≡ listed word postings.old ++ (if list_any (same_text word) words.now then row ∷ [] else [])) }
-    ensures keys { OnOk result ((word : Text) → is_some (found word postings.new) ≡ (is_some (found word postings.old) || list_any (same_text word) words.now)) }
+    ensures lists { OnOk result ((word : Text) → listed word postings.new
+        ≡ listed word postings.old ++ (if list_any (same_text word) words.now then row ∷ [] else [])) }
+    ensures keys { OnOk result ((word : Text) → is_some (found word postings.new)
+        ≡ (is_some (found word postings.old) || list_any (same_text word) words.now)) }
 {
     for word in words {
         add_posting(alloc, postings, row, word.as_str())?;
@@ -58,7 +63,8 @@ fn gathered<'a>(
     requires few { length rows.now < 2 ^ 32 }
     requires sets { All (λ r. IsTextSet r.now) rows.now }
     ensures lists { IfOk result (λ m. (word : Text) → listed word m ≡ postings_of word (map (λ r. r.now) rows.now)) }
-    ensures keys { IfOk result (λ m. (word : Text) → is_some (found word m) ≡ list_any (list_any (same_text word)) (map (λ r. r.now) rows.now)) }
+    ensures keys { IfOk result (λ m. (word : Text) → is_some (found word m)
+        ≡ list_any (list_any (same_text word)) (map (λ r. r.now) rows.now)) }
 {
     let mut postings = HashMap::new(alloc);
     for (row, words) in rows.iter().enumerate() {
@@ -102,11 +108,7 @@ fn laid(
     let mut ends = Vec::with_capacity(alloc, words.len())?;
     let mut rows = Vec::new(alloc);
     for word in words {
-        rows.extend_from_slice(rows_of(postings, word.as_str()))?;
-        if rows.len() > u32::MAX as usize {
-            return Err(AllocError);
-        }
-        ends.push(rows.len() as u32)?;
+        add_list(&mut ends, &mut rows, rows_of(postings, word.as_str()))?;
     }
     Ok((ends, rows))
 }

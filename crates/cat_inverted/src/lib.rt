@@ -3,13 +3,12 @@
 
 mod build;
 mod counting;
+mod laying;
 mod merge;
 mod ordinals;
 mod posted;
 mod ranges;
 mod terms;
-#[cfg(test)]
-mod tests;
 
 pub use merge::MergeInput;
 pub use posted::terms_are_told_by_their_postings;

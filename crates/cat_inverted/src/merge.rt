@@ -7,6 +7,7 @@ ghost use Rattle.cat_model.specs.Ordinals.{dictionary_of, postings_of, text_at};
 ghost use Rattle.cat_values.specs.Merged.{kept_of, row_in, moved, AreNumbered};
 ghost use Rattle.cat_inverted.specs.Gathered.{ends_from, list_at};
 
+use crate::laying::add_list;
 use crate::terms::Terms;
 use cat_base::Text;
 use cat_values::Dictionary;
@@ -68,7 +69,9 @@ fn add_input(
     requires fits { length input.now.row_map.now ≡ length input.now.terms.now }
     requires there { All (Contains words.now) (dictionary_of input.now.terms.now) }
     ensures count { length lists.new.items ≡ length lists.old.items }
-    ensures lists { OnOk result ((ordinal : ℕ) → ordinal < length words.now → list_at lists.new ordinal ≡ list_at lists.old ordinal ++ moved input.now.row_map.now (postings_of (text_at words.now ordinal) input.now.terms.now)) }
+    ensures lists { OnOk result ((ordinal : ℕ) → ordinal < length words.now → list_at lists.new ordinal
+        ≡ list_at lists.old ordinal
+        ++ moved input.now.row_map.now (postings_of (text_at words.now ordinal) input.now.terms.now)) }
     ensures sets { All IsTextSet input.now.terms.now }
 {
     // Its contract says that each row has a set of words.
@@ -93,7 +96,8 @@ fn gathered(
     requires numbered { AreNumbered 0 (flat_map (λ p. p.row_map.now) inputs.now) }
     requires there { All (λ p. All (Contains words.now) (dictionary_of p.terms.now)) inputs.now }
     ensures count { IfOk result (λ v. length v.items ≡ length words.now) }
-    ensures lists { IfOk result (λ v. (ordinal : ℕ) → ordinal < length words.now → list_at v ordinal ≡ postings_of (text_at words.now ordinal) (flat_map (λ p. kept_of p.row_map.now p.terms.now) inputs.now)) }
+    ensures lists { IfOk result (λ v. (ordinal : ℕ) → ordinal < length words.now → list_at v ordinal
+        ≡ postings_of (text_at words.now ordinal) (flat_map (λ p. kept_of p.row_map.now p.terms.now) inputs.now)) }
     ensures sets { IfOk result (λ v. All (λ p. All IsTextSet p.terms.now) inputs.now) }
 {
     let mut lists = empty_lists(alloc, words.len())?;
@@ -106,7 +110,8 @@ fn gathered(
 /// The words whose lists aren't empty.
 fn used_words(alloc: Global, words: &[Text], lists: &[Vec<u32>]) -> Result<Vec<Text>, AllocError>
     requires { length lists.now ≡ length words.now }
-    ensures ok { IfOk result (λ v. v.items ≡ map (λ e. e.0) (filter (λ e. nat_lt 0 (length e.1)) (zip words.now (map (λ list. list.items) lists.now)))) }
+    ensures ok { IfOk result (λ v. v.items
+        ≡ map (λ e. e.0) (filter (λ e. nat_lt 0 (length e.1)) (zip words.now (map (λ list. list.items) lists.now)))) }
 {
     let mut used = Vec::with_capacity(alloc, words.len())?;
     for (ordinal, list) in lists.iter().enumerate() {
@@ -144,11 +149,7 @@ fn laid(alloc: Global, lists: &[Vec<u32>]) -> Result<(Vec<u32>, Vec<u32>), Alloc
     let mut ends = Vec::with_capacity(alloc, lists.len())?;
     let mut rows = Vec::new(alloc);
     for list in lists {
-        rows.extend_from_slice(list)?;
-        if rows.len() > u32::MAX as usize {
-            return Err(AllocError);
-        }
-        ends.push(rows.len() as u32)?;
+        add_list(&mut ends, &mut rows, list)?;
     }
     Ok((ends, rows))
 }

@@ -79,5 +79,6 @@ impl Terms {
 
 /// The rows of terms are told by how many they are and by the words with their postings.
 pub fn terms_are_told_by_their_postings()
-    ensures { (a b : List (List Text)) → length a ≡ length b → All IsTextSet a → All IsTextSet b → word_postings_of a ≡ word_postings_of b → a ≡ b }
+    ensures { (a b : List (List Text)) → length a ≡ length b → All IsTextSet a → All IsTextSet b
+        → word_postings_of a ≡ word_postings_of b → a ≡ b }
 {}

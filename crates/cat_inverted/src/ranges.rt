@@ -7,6 +7,7 @@ ghost use Rattle.cat_base.specs.Texts.{IsTextSet};
 ghost use Rattle.cat_model.specs.Text.{text_le, has_prefix};
 ghost use Rattle.cat_model.specs.Query.{open_or};
 ghost use Rattle.cat_model.specs.Ordinals.{rows_having};
+ghost use Rattle.cat_inverted.specs.Intervals.{is_from, is_up_to};
 
 use crate::terms::Terms;
 use cat_base::Text;
@@ -21,7 +22,7 @@ fn as_str<'a>(text: Option<&'a Text>) -> Option<&'a str>
 
 /// Whether the word comes before the low end; none does where the end is open.
 fn is_below(word: &Text, low: Option<&str>) -> bool
-    ensures { result ≡ not (open_or (λ a. text_le a word.now) (option_map (λ a. a.now) low.entry)) }
+    ensures { result ≡ not (is_from low.entry word.now) }
 {
     match low {
         Some(low) => word.as_str() < low,
@@ -31,7 +32,7 @@ fn is_below(word: &Text, low: Option<&str>) -> bool
 
 /// Whether the word is at most the high end; each is where the end is open.
 fn is_up_to(word: &Text, high: Option<&Text>) -> bool
-    ensures { result ≡ open_or (text_le word.now) (option_map (λ a. a.now) high.entry) }
+    ensures { result ≡ is_up_to high.entry word.now }
 {
     match high {
         Some(high) => word.cmp(high).is_le(),
@@ -49,7 +50,7 @@ fn begins(word: &Text, prefix: &str) -> bool
 fn first_from(words: &[Text], low: Option<&str>) -> usize
     requires { IsTextSet words.now }
     ensures bound { result ≤ length words.now }
-    ensures point { IsPartitionPoint (λ w. open_or (λ a. text_le a w) (option_map (λ a. a.now) low.entry) ≡ false) (λ w. open_or (λ a. text_le a w) (option_map (λ a. a.now) low.entry) ≡ true) words.now result }
+    ensures point { IsPartitionPoint (λ w. is_from low.entry w ≡ false) (λ w. is_from low.entry w ≡ true) words.now result }
 {
     words.partition_point(|word| is_below(word, low))
 }
@@ -58,7 +59,7 @@ fn first_from(words: &[Text], low: Option<&str>) -> usize
 fn count_up_to(words: &[Text], high: Option<&Text>) -> usize
     requires { IsTextSet words.now }
     ensures bound { result ≤ length words.now }
-    ensures point { IsPartitionPoint (λ w. open_or (text_le w) (option_map (λ a. a.now) high.entry) ≡ true) (λ w. open_or (text_le w) (option_map (λ a. a.now) high.entry) ≡ false) words.now result }
+    ensures point { IsPartitionPoint (λ w. is_up_to high.entry w ≡ true) (λ w. is_up_to high.entry w ≡ false) words.now result }
 {
     words.partition_point(|word| is_up_to(word, high))
 }
@@ -94,7 +95,9 @@ impl Terms {
     /// The rows that have a word from `low` to `high`, both included, as Lucene's `TermRangeQuery` finds them. An end that is
     /// absent bounds nothing.
     pub fn between(&self, low: Option<&Text>, high: Option<&Text>) -> Result<RowSet, AllocError>
-        ensures ok { IfOk result (λ s. s ≡ map (list_any (λ k. open_or (λ a. text_le a k) (option_map (λ a. a.now) low.entry) && open_or (text_le k) (option_map (λ a. a.now) high.entry))) self.now) }
+        ensures ok { IfOk result (λ s. s
+            ≡ map (list_any (λ k. open_or (λ a. text_le a k) (option_map (λ a. a.now) low.entry)
+            && open_or (text_le k) (option_map (λ a. a.now) high.entry))) self.now) }
     {
         let words = self.words();
         let first = first_from(words, as_str(low));

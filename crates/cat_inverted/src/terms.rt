@@ -118,7 +118,8 @@ impl Terms {
     /// The rows that have some of the `count` words from the ordinal `first` on, whose postings stand one behind another.
     pub(crate) fn rows_of_words(&self, first: usize, count: usize) -> Result<RowSet, AllocError>
         requires { first + count ≤ length (dictionary_of self.now) }
-        ensures ok { IfOk result (λ s. (p : Text → Bool) → IsInterval p (dictionary_of self.now) first count → s ≡ map (list_any p) self.now) }
+        ensures ok { IfOk result (λ s. (p : Text → Bool) → IsInterval p (dictionary_of self.now) first count
+            → s ≡ map (list_any p) self.now) }
     {
         self.set_of(parts(&self.ends, &self.rows, first, count))
     }

@@ -1,3 +1,4 @@
+pub mod FewFields
 pub mod RunSteps
 pub mod MemberSteps
 pub mod LabelSteps

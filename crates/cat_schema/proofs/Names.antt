@@ -1,5 +1,5 @@
 -- The fields of a schema have the names of the object's members, in their order.
-use Rattle.std.proofs.Common.{◌≡◌, ℕ, List, [], ◌∷◌, ◌++◌, append-nil, map, Bool, true, false, cond, Option, Some, None, option_map, refl, sym, ap, ◌∙◌, subst, nat_cmp, Ordering, Less, Equal, Greater, IsTrue, ◌+◌, get_or, arith}
+use Rattle.std.proofs.Common.{◌≡◌, ℕ, List, [], ◌∷◌, ◌++◌, length, append-nil, map, Bool, true, false, cond, Option, Some, None, option_map, refl, sym, ap, ◌∙◌, subst, nat_cmp, Ordering, Less, Equal, Greater, IsTrue, ◌+◌, get_or, arith}
 use Rattle.std.specs.Prelude.{◌↔◌, option_and_then, String, string_bytes}
 use Rattle.std.specs.List.{AllByRecursion, IsAllAdjacentAnswer}
 use Rattle.std.specs.List.Sorted.{IsStrictlySortedBy}
@@ -13,7 +13,7 @@ use Rattle.std.proofs.lemmas.Map.Keys.{sorted_from_all_adjacent, Less-from_sorte
 use Rattle.std.specs.declared.alloc.Global.{Global}
 use Rattle.serde_json.specs.Data.{Data, Members, no_members, member}
 use Rattle.serde_json.specs.Find.{as_str}
-use Rattle.serde_json.specs.View.{members_view}
+use Rattle.serde_json.specs.View.{view, members_view}
 use Rattle.serde_json.specs.declared.value.Value.{Value}
 use Rattle.cat_base.specs.Texts.{IsTextSet}
 use Rattle.cat_model.specs.Item.{Field, Kind, is_field_name}
@@ -89,6 +89,13 @@ all_named (member name d ms) fs e =
 -- the fields' names rise, since the members' do
 pub names_rise : (ms : Members) (fs : List Field) → IsTextSet (names_in ms) → fields_of ms ≡ Some fs → IsTextSet (names fs)
 names_rise ms fs sorted e = subst IsTextSet (sym (names_are ms fs e)) sorted
+
+-- as many fields as members
+pub as_many : (es : List Entry) (fs : List Field) → fields_of (members_view es) ≡ Some fs → length fs ≡ length es
+as_many [] fs e = let none : fs ≡ [] = (cc) in ap length none
+as_many (m ∷ es) fs e =
+    let p = parts (field_of (string_bytes m.0) (view m.1)) (fields_of (members_view es)) fs e in
+    omega (arith, ap length p.whole, as_many es p.rest p.is_rest)
 
 names_viewed : (es : List Entry) → names_in (members_view es) ≡ keys es
 names_viewed [] = refl

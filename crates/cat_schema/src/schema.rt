@@ -141,8 +141,7 @@ impl Schema {
     /// kind, `"text"`, `"keyword"`, `"number"` or `"facet"`.
     ///
     /// `Refusal::Json` where the bytes are no JSON, and `Refusal::Kind` where they are no such object. `Refusal::Memory` may
-    /// come in place of the schema, or of a refusal that is known only once the text is read as JSON, but never of no bytes or
-    /// of bytes that are no UTF-8.
+    /// come in place of the schema, or while the text is read as JSON, but never of no bytes or of bytes that are no UTF-8.
     pub fn read(alloc: Global, bytes: &[u8]) -> Result<Schema, Refusal>
         ensures ok { IfOk result (λ s. schema_of bytes.now ≡ Ok s) }
         ensures err { IfErr result (λ e. e ≢ Memory → schema_of bytes.now ≡ Err e) }
@@ -153,9 +152,6 @@ impl Schema {
             return Err(Refusal::Kind);
         };
         let fields = read_fields(alloc, members)?;
-        if fields.len() > MAX_FIELDS {
-            return Err(Refusal::Kind);
-        }
         Ok(Schema {
             fields: Arc::new(alloc, fields)?,
         })

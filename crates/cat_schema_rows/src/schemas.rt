@@ -108,6 +108,58 @@ fn schema_fields(rt: HostRuntime) -> Result<(), Fail> {
     Ok(())
 }
 
+#[test]
+fn schemas_are_equal_by_names_and_kinds(rt: HostRuntime) -> Result<(), Fail> {
+    let alloc = rt.alloc();
+    let rows = [
+        ("{}", "{}", true),
+        (
+            r#"{"a":"text","b":"facet"}"#,
+            r#"{"b":"facet","a":"text"}"#,
+            true,
+        ),
+        (r#"{"a":"text","a":"facet"}"#, r#"{"a":"facet"}"#, true),
+        ("{}", r#"{"a":"text"}"#, false),
+        (r#"{"a":"text"}"#, r#"{"a":"keyword"}"#, false),
+        (r#"{"a":"text"}"#, r#"{"b":"text"}"#, false),
+        (r#"{"a":"text"}"#, r#"{"a":"text","b":"text"}"#, false),
+        (
+            r#"{"a":"text","b":"text"}"#,
+            r#"{"a":"text","b":"facet"}"#,
+            false,
+        ),
+    ];
+    for (one, other, want) in rows {
+        let first = Schema::read(alloc, one.as_bytes())?;
+        let second = Schema::read(alloc, other.as_bytes())?;
+        assert_eq!(rt; first == second, want, "{one} {other}");
+        assert_eq!(rt; second == first, want, "{other} {one}");
+    }
+    Ok(())
+}
+
+#[test]
+fn schemas_accept_the_items_of_their_fields(rt: HostRuntime) -> Result<(), Fail> {
+    let alloc = rt.alloc();
+    let under = Schema::read(alloc, r#"{"a":"text","b":"facet"}"#.as_bytes())?;
+    let full = under.item(alloc, r#"{"id":"1","a":"red","b":["x"]}"#.as_bytes())?;
+    let bare = under.item(alloc, r#"{"id":"2"}"#.as_bytes())?;
+    let rows = [
+        (r#"{"a":"text","b":"facet"}"#, true),
+        (r#"{"a":"text"}"#, false),
+        ("{}", false),
+        (r#"{"a":"text","b":"facet","c":"number"}"#, false),
+        (r#"{"a":"text","b":"keyword"}"#, false),
+        (r#"{"a":"text","c":"facet"}"#, false),
+    ];
+    for (text, want) in rows {
+        let schema = Schema::read(alloc, text.as_bytes())?;
+        assert_eq!(rt; schema.accepts(&full), want, "{text}");
+        assert_eq!(rt; schema.accepts(&bare), want, "{text}");
+    }
+    Ok(())
+}
+
 /// Arrays nest at most 127 deep.
 fn expect_nesting(rt: &impl Abort, alloc: Global, count: u32, want: u8) -> Result<(), Fail> {
     let closing = whole(alloc, &("", ("]", count), ""))?;

@@ -96,7 +96,8 @@ HasNoKeywords dictionary codes = (values : List (Option Text)) → keywords_of v
 
 -- the column is laid out as this dictionary and these ordinals, cut where the rows' end
 abbrev pub IsLaidAsSets : List (List Text) → List Text → List ℕ → List ℕ → Type 0
-IsLaidAsSets rows dictionary ends ordinals = (dictionary_of rows ≡ dictionary) × (map (map (ordinal_in (dictionary_of rows))) rows ≡ pieces 0 ends ordinals)
+IsLaidAsSets rows dictionary ends ordinals =
+    (dictionary_of rows ≡ dictionary) × (map (map (ordinal_in (dictionary_of rows))) rows ≡ pieces 0 ends ordinals)
 
 -- no column is
 abbrev pub HasNoSets : List Text → List ℕ → List ℕ → Type 0

@@ -8,7 +8,8 @@ ghost use Rattle.cat_model.specs.RowSets.{IsPacked};
 /// The law that no two columns are laid out alike: a dictionary and the codes of the rows' keywords tell the keywords, and a
 /// dictionary and the ordinals of the rows' labels tell the labels.
 pub fn columns_are_told_by_their_layouts()
-    ensures keywords { (a b : List (Option Text)) → keywords_of a ≡ keywords_of b → map (code_in (keywords_of a)) a ≡ map (code_in (keywords_of b)) b → a ≡ b }
+    ensures keywords { (a b : List (Option Text)) → keywords_of a ≡ keywords_of b
+        → map (code_in (keywords_of a)) a ≡ map (code_in (keywords_of b)) b → a ≡ b }
     ensures labels { (a b : List (List Text)) → dictionary_of a ≡ dictionary_of b
         → map (map (ordinal_in (dictionary_of a))) a ≡ map (map (ordinal_in (dictionary_of b))) b → a ≡ b }
 {}

@@ -12,8 +12,6 @@ mod packed;
 mod row_set;
 mod scan;
 mod sets;
-#[cfg(test)]
-mod tests;
 
 pub use dictionary::Dictionary;
 pub use keywords::KeywordColumn;

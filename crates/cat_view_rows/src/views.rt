@@ -528,7 +528,11 @@ fn mixed_puts(alloc: Global, schema: &Schema) -> Result<Vec<Put>, Refusal>
 }
 
 /// Fails unless the page has the 1,000 hits of the least prices in order, or of the greatest.
-fn expect_thousand(rt: &impl Abort, answer: &Result<Page, Refusal>, falling: bool) -> Result<(), Fail> {
+fn expect_thousand(
+    rt: &impl Abort,
+    answer: &Result<Page, Refusal>,
+    falling: bool,
+) -> Result<(), Fail> {
     let Ok(page) = answer else {
         panic!(rt; "no page");
     };
@@ -536,7 +540,11 @@ fn expect_thousand(rt: &impl Abort, answer: &Result<Page, Refusal>, falling: boo
     assert_eq!(rt; page.entries().len(), 1_000);
     for (place, entry) in page.entries().iter().enumerate() {
         let found = mixed_price(entry.number());
-        let wanted = if falling { 1_199usize.saturating_sub(place) } else { place };
+        let wanted = if falling {
+            1_199usize.saturating_sub(place)
+        } else {
+            place
+        };
         assert_eq!(rt; found, wanted as u64, "{place}");
         let Some(Key::Number(key)) = entry.key() else {
             panic!(rt; "no key at {place}");
@@ -558,7 +566,10 @@ fn expect_thousands(
 {
     let query = Query::parse(view.schema(), alloc, "*:*")?;
     let prepared = Prepared::of(view, Query::parse(view.schema(), alloc, "*:*")?)?;
-    for (sort, falling) in [(Sort::Rising("price"), false), (Sort::Falling("price"), true)] {
+    for (sort, falling) in [
+        (Sort::Rising("price"), false),
+        (Sort::Falling("price"), true),
+    ] {
         let mut ask = Ask {
             sort,
             after: None,

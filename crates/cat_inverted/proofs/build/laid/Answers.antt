@@ -1,4 +1,4 @@
-use Rattle.std.proofs.Common.{ℕ, List, length, ap, ◌∙◌, arith}
+use Rattle.std.proofs.Common.{ℕ, List, length, ap, ◌∙◌}
 use Rattle.cat_inverted.specs.Gathered.{listed}
 use Rattle.cat_inverted.proofs.Gathering.{laid_more, ends_more}
 use Rattle.cat_inverted.proofs.build.laid.Goals as goal
@@ -9,9 +9,9 @@ loop-word-preserved c =
     let word = c.word-item.result in
     let f = λ (w : List ℕ). listed w c.args.postings.now in
     let part = c.rows_of.ensures ∙ ap f c.as_str.ensures in
-    let rows = laid_more f c.args.words.now i word c.loop-word-test.true c.word-item.is c.loop-word.rows.items c.extend_from_slice.new.self.items c.rows_of.result.now c.loop-word.invariant.rows part c.in_ok-extend_from_slice.ensures.items in
+    let rows = laid_more f c.args.words.now i word c.loop-word-test.true c.word-item.is c.loop-word.rows.items c.add_list.new.rows.items c.rows_of.result.now c.loop-word.invariant.rows part c.in_ok-add_list.ensures.rows in
     record {
-      ends = ends_more f c.args.words.now i word c.loop-word-test.true c.word-item.is c.loop-word.ends.items c.push.new.self.items c.len-in-loop-word.result c.loop-word.invariant.ends c.in_ok-push.ensures.items (c.len-in-loop-word.ensures ∙ c.extend_from_slice.new.self.ok.0 ∙ ap length rows);
+      ends = ends_more f c.args.words.now i word c.loop-word-test.true c.word-item.is c.loop-word.ends.items c.add_list.new.ends.items (length c.add_list.new.rows.items) c.loop-word.invariant.ends c.in_ok-add_list.ensures.ends (ap length rows);
       rows = rows;
-      few = omega (arith, c.len.ensures, c.extend_from_slice.new.self.ok.0);
+      few = c.in_ok-add_list.ensures.few;
     }

@@ -3,8 +3,8 @@ ghost use Rattle.std.specs.Prelude.{◌≡◌, ◌^◌, ◌<◌, length, All, If
 ghost use Rattle.cat_base.specs.Texts.{IsTextSet};
 ghost use Rattle.cat_model.specs.Layout.{AreEnds};
 
-use crate::{Dictionary, KeywordColumn, RowSet, SetColumn};
 use cat_base::{MAX_ROWS, Refusal, Text, TextSet};
+use cat_values::{Dictionary, KeywordColumn, RowSet, SetColumn};
 use std::alloc::Global;
 use std::test::Fail;
 

@@ -1,9 +1,9 @@
 //! A segment of one row, byte by byte as it is laid out.
-use crate::{
+use cat_base::{Cursor, Refusal, Text, put_bytes, put_u32};
+use cat_codec::{
     ColumnParts, put_fields, put_head, put_list, put_number, put_start, put_texts, read_fields,
     read_segment,
 };
-use cat_base::{Cursor, Refusal, Text, put_bytes, put_u32};
 use cat_schema::Kind;
 use std::alloc::{AllocError, Global};
 use std::test::Fail;
