@@ -510,7 +510,9 @@ fn a_page_shows_the_first_hits_and_counts_all(rt: HostRuntime) -> Result<(), Fai
 const MANY: u64 = 1_200;
 
 /// The price of the row of this number, from 0 on: no two of them are alike, and neighbours are far apart.
-fn mixed_price(number: WriteNo) -> u64 {
+fn mixed_price(number: WriteNo) -> u64
+    ensures { result < MANY }
+{
     number.wrapping_mul(389) % MANY
 }
 
