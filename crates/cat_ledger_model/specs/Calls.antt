@@ -25,7 +25,12 @@ pub record Flushed (l new : Ledger) : Type 0 where
   pub left : l.next_segment ≤ last_number
   pub users : Changes (names_of_portion (all_live l.next_segment l.buffered)) [] l.users new.users
   pub rest : new
-      ≡ record l { portions = l.portions ++ all_live l.next_segment l.buffered ∷ []; buffered = []; users = new.users; next_segment = l.next_segment + 1 }
+      ≡ record l {
+        portions = l.portions ++ all_live l.next_segment l.buffered ∷ [];
+        buffered = [];
+        users = new.users;
+        next_segment = l.next_segment + 1;
+      }
 
 -- where none wait, nothing changes
 abbrev pub Flushes : Ledger → Ledger → Type 0
@@ -91,12 +96,19 @@ pub record Begun (index k : ℕ) (l new : Ledger) : Type 0 where
   pub within : index + k ≤ length l.portions
   pub users : Changes (Name.source l.next_segment ∷ []) [] l.users new.users
   pub rest : new
-      ≡ record l { merging = Some (record { number = l.next_segment; index = index; inputs = take k (drop index l.portions); passed = 0; kept = [] }); users = new.users; next_segment = l.next_segment + 1 }
+      ≡ record l {
+        merging = Some (record { number = l.next_segment; index = index; inputs = take k (drop index l.portions); passed = 0; kept = [] });
+        users = new.users;
+        next_segment = l.next_segment + 1;
+      }
 
 -- with as many records more passed as one step passes, or all
 abbrev pub passed_on : Merging → Merging
 passed_on m =
-    record m { passed = m.passed + min step_limit (length (all_records m.inputs) - m.passed); kept = kept_by m.inputs (m.passed + min step_limit (length (all_records m.inputs) - m.passed)) }
+    record m {
+      passed = m.passed + min step_limit (length (all_records m.inputs) - m.passed);
+      kept = kept_by m.inputs (m.passed + min step_limit (length (all_records m.inputs) - m.passed));
+    }
 
 -- a merge has passed one step more
 pub record Copied (m : Merging) (l new : Ledger) : Type 0 where
@@ -145,7 +157,14 @@ newest_listed cs = listed_in (last_or None cs)
 -- the commit of now with this text, after a flush
 abbrev pub commit_of : Text → Ledger → LedgerCommit
 commit_of text l =
-    record { version = Version.second; generation = l.next_generation; text = text; token = l.count; next = l.next_segment; listed = map (λ p. record { portion = p; file = file_for (newest_listed l.commits) l.next_generation p }) l.portions }
+    record {
+      version = Version.second;
+      generation = l.next_generation;
+      text = text;
+      token = l.count;
+      next = l.next_segment;
+      listed = map (λ p. record { portion = p; file = file_for (newest_listed l.commits) l.next_generation p }) l.portions;
+    }
 
 -- the commits whose generations pass the test
 abbrev pub commits_that : (ℕ → Bool) → List LedgerCommit → List LedgerCommit
@@ -164,7 +183,11 @@ pub record Committed (text : Text) (l new : Ledger) : Type 0 where
   pub left : l.next_generation ≤ last_number
   pub users : Changes (names_of_commit (commit_of text l)) (flat_map names_of_commit (commits_not (stays_kept l.taken (Some l.next_generation)) l.commits)) l.users new.users
   pub rest : new
-      ≡ record l { commits = commits_that (stays_kept l.taken (Some l.next_generation)) l.commits ++ commit_of text l ∷ []; users = new.users; next_generation = l.next_generation + 1 }
+      ≡ record l {
+        commits = commits_that (stays_kept l.taken (Some l.next_generation)) l.commits ++ commit_of text l ∷ [];
+        users = new.users;
+        next_generation = l.next_generation + 1;
+      }
 
 -- one snapshot more of the newest commit, which is g
 pub record Snaps (g : ℕ) (l new : Ledger) : Type 0 where

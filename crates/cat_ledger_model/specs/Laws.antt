@@ -56,7 +56,9 @@ ViewsArePruned = (n : ℕ) (l new : Ledger) → IsLedger l → Pruned n l new
 -- Where nothing waits, a commit of now is kept, as a COMMIT asks, and its generation is above that of each other.
 abbrev pub CommitsAreKept : Type 0
 CommitsAreKept = (text : Text) (l new : Ledger) → IsLedger l → l.buffered ≡ [] → Committed text l new
-    → IsLedger new × (state_of new ≡ committed (state_of l) (record { generation = l.next_generation; text = text })) × (is_below (newest_of (state_of l).commits) l.next_generation ≡ true)
+    → IsLedger new
+    × (state_of new ≡ committed (state_of l) (record { generation = l.next_generation; text = text }))
+    × (is_below (newest_of (state_of l).commits) l.next_generation ≡ true)
 
 -- A snapshot is counted, as a SNAP asks.
 abbrev pub SnapshotsAreTaken : Type 0
@@ -136,7 +138,8 @@ CommitsStore =
     (text : Text) (l new : Ledger) (fs gs : FileBytes) → IsLedger l → AreStored fs l → Committed text l new
     → ChangesOnly (files_begun l) fs gs
     → IsCommitWritten gs l.schema (commit_of text l)
-    → AllByRecursion (λ p. file_for (newest_listed l.commits) l.next_generation p ≡ l.next_generation → IsLiveStored gs (record { portion = p; file = l.next_generation })) l.portions
+    → AllByRecursion (λ p. file_for (newest_listed l.commits) l.next_generation p ≡ l.next_generation
+    → IsLiveStored gs (record { portion = p; file = l.next_generation })) l.portions
     → AreStored gs new
 
 -- Giving a snapshot back touches no file: what nobody uses any more is a sweep's.

@@ -84,7 +84,14 @@ commit_file schema c = record {
 -- the state that the ledger carries: segments, live sets, merges, numbers and users of names are in none of it
 abbrev pub state_of : Ledger → State
 state_of l =
-    record { table = table_of l; count = l.count; views = map view_shown l.views; holds = l.holds; commits = map commit_shown l.commits; taken = l.taken }
+    record {
+      table = table_of l;
+      count = l.count;
+      views = map view_shown l.views;
+      holds = l.holds;
+      commits = map commit_shown l.commits;
+      taken = l.taken;
+    }
 
 -- ---- the users of names
 

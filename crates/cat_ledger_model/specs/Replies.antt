@@ -35,7 +35,9 @@ SnapsBy l _ new = new ≡ l
 abbrev pub CarriesOut : Ledger → ℕ → Command → Reply → Ledger → Type 0
 CarriesOut l s Command.formless r new = (r ≡ Err NoForm) × (new ≡ l)
 CarriesOut l s (Command.put (Ok i)) r new =
-    cond (ltb l.count last_number) ((mid : Ledger) × MakesRoom l mid × IsItem l.schema i × (r ≡ Ok (Answer.number (l.count + 1))) × (new ≡ wrote mid (Write.put i))) ((r ≡ Err Spent) × (new ≡ l))
+    cond (ltb l.count last_number)
+    ((mid : Ledger) × MakesRoom l mid × IsItem l.schema i × (r ≡ Ok (Answer.number (l.count + 1))) × (new ≡ wrote mid (Write.put i)))
+    ((r ≡ Err Spent) × (new ≡ l))
 CarriesOut l s (Command.put (Err e)) r new = (r ≡ Err e) × (new ≡ l)
 CarriesOut l s (Command.delete (Ok id)) r new =
     cond (ltb l.count last_number) ((r ≡ Ok (Answer.number (l.count + 1))) × (new ≡ wrote l (Write.delete id))) ((r ≡ Err Spent) × (new ≡ l))
@@ -44,14 +46,20 @@ CarriesOut l s (Command.delete_where (Ok q)) r new =
     cond (ltb l.count last_number) ((r ≡ Ok (Answer.number (l.count + 1))) × (new ≡ wrote l (Write.delete_where q))) ((r ≡ Err Spent) × (new ≡ l))
 CarriesOut l s (Command.delete_where (Err e)) r new = (r ≡ Err e) × (new ≡ l)
 CarriesOut l s Command.refresh r new =
-    cond (refuses_refresh (state_of l)) ((r ≡ Err Full) × (new ≡ l)) ((mid : Ledger) × Flushes l mid × RecordsView mid new × (r ≡ Ok (Answer.number l.count)))
+    cond (refuses_refresh (state_of l))
+    ((r ≡ Err Full) × (new ≡ l))
+    ((mid : Ledger) × Flushes l mid × RecordsView mid new × (r ≡ Ok (Answer.number l.count)))
 CarriesOut l s Command.open_newest r new =
     (r ≡ Ok (Answer.number (greatest (tokens_in l.views))))
     × (new ≡ record l { holds = (with_hold (state_of l) s (greatest (tokens_in l.views))).holds })
 CarriesOut l s (Command.open_at t) r new =
-    cond (has_recorded l.views t) ((r ≡ Ok (Answer.number t)) × (new ≡ record l { holds = (with_hold (state_of l) s t).holds })) ((r ≡ Err Gone) × (new ≡ l))
+    cond (has_recorded l.views t)
+    ((r ≡ Ok (Answer.number t)) × (new ≡ record l { holds = (with_hold (state_of l) s t).holds }))
+    ((r ≡ Err Gone) × (new ≡ l))
 CarriesOut l s (Command.close t) r new =
-    cond (has_hold l.holds s t) ((r ≡ Ok (Answer.number t)) × (new ≡ record l { holds = (without_hold (state_of l) s t).holds })) ((r ≡ Err NotHeld) × (new ≡ l))
+    cond (has_hold l.holds s t)
+    ((r ≡ Ok (Answer.number t)) × (new ≡ record l { holds = (without_hold (state_of l) s t).holds }))
+    ((r ≡ Err NotHeld) × (new ≡ l))
 CarriesOut l s (Command.read t asked) r new =
     (r ≡ read_reply (has_hold l.holds s t) l.schema (table_under (state_of l).views t) asked) × (new ≡ l)
 CarriesOut l s (Command.files_of_token t) r new =
@@ -64,7 +72,9 @@ CarriesOut l s (Command.commit (Ok text)) r new =
     (mid : Ledger) × Flushes l mid × Committed text mid new × (r ≡ Ok (Answer.number mid.next_generation))
 CarriesOut l s Command.snapshot r new = (r ≡ snapshot_of (snapshots_in l.taken) (newest_in l.commits)) × SnapsBy l r new
 CarriesOut l s (Command.release_snapshot g) r new =
-    cond (ltb 0 (snapshots_in l.taken g)) ((r ≡ Ok (Answer.number (snapshots_in l.taken g - 1))) × Unsnapped g l new) ((r ≡ Err NoSnapshot) × (new ≡ l))
+    cond (ltb 0 (snapshots_in l.taken g))
+    ((r ≡ Ok (Answer.number (snapshots_in l.taken g - 1))) × Unsnapped g l new)
+    ((r ≡ Err NoSnapshot) × (new ≡ l))
 CarriesOut l s (Command.files_of_commit g) r new =
     cond (has_commit (state_of l).commits g) ((ns : List Text) × (r ≡ Ok (Answer.names ns))) (r ≡ Err NoCommit)
     × (new ≡ l)
