@@ -85,7 +85,7 @@ answered_served first lines text a =
     let opening = opening_if_short first a.opened (nat_lt 10000 (length first)) a.begins in
     let from : Opened = beginning_of a.opened in
     let served = steps_served from [] a.opened a.left lines a.outcomes refl (Reaches-start a.opened.schema a.opened.state opening.1) a.steps in
-    record { from = from; begins = opening.0; outcomes = a.outcomes; heard_all = served.0; is_run = served.1; whole = a.whole }
+    record { from = from; begins = opening.0; tolds = a.outcomes; heard_all = served.0; is_run = served.1; whole = a.whole }
 
 pub opened_refused : (first : Text) (e : Refusal) → OpensIfShort (short_line first) (Err e) → (e ≡ Memory) ⊎ Begins json OpensEmpty first (Err e)
 opened_refused first e o = elim (refusal_if_short first e (nat_lt 10000 (length first)) refl o) [ inl stopped ↦ inl stopped.0 | inr begins ↦ inr begins ]
