@@ -1,0 +1,57 @@
+-- The answers to FACETS over whatever records a view shows.
+use Rattle.std.proofs.Common.{◌≡◌, ℕ, ◌<◌, ◌≤◌, Bool, true, false, cond, List, length, map, nat_lt, Result, Ok, Err, IfErr, refl, sym, ap, ◌∙◌, subst}
+use Rattle.std.specs.List.{flat_map, list_any}
+use Rattle.std.proofs.lemmas.Bool.{lt-ltb, le-ltb}
+use Rattle.std.specs.Prelude.{All}
+use Rattle.cat_base.specs.Texts.{IsTextSet}
+use Rattle.cat_base.specs.declared.refusal.Refusal.{Refusal}
+use Rattle.cat_base.specs.declared.refusal.Refusal.TheVariants.{Count, NotFacet}
+use Rattle.cat_model.specs.Answer.{Found, is_facet_kind}
+use Rattle.cat_model.specs.Facets.{Counted, Facets, facets_in, facets_of, labels_of}
+use Rattle.cat_model.specs.Item.{Record, kind_of}
+use Rattle.cat_model.specs.Limits.{page_limit}
+use Rattle.cat_model.specs.Page.{first_ranked, hits}
+use Rattle.cat_model.specs.Text.{Text}
+use Rattle.cat_model.specs.View.{View, Shows}
+use Rattle.cat_query.specs.declared.query.Query.{Query}
+use Rattle.cat_query.specs.View.{query_of}
+use Rattle.cat_facets.specs.declared.first.Ranked.{Ranked}
+use Rattle.cat_facets.specs.Met.{comes_first, met_from, told}
+use Rattle.cat_model.specs.GlobalOrdinals.{view_dictionary}
+use Rattle.cat_facets.specs.States.{ReaderState, HasLabels, answer_over}
+use Rattle.cat_facets.specs.Tallies.{has_label, hit_labels, labelled_count, AreCounts}
+use Rattle.cat_facets.proofs.Bridge.{view_labels}
+use Rattle.cat_facets.proofs.Leaves.{hits_heard}
+use Rattle.cat_facets.proofs.Told.{facets_are}
+
+-- too many counts are asked for
+pub refused : (state : ReaderState) (q : Query) (n : ℕ) (rs : List Record) → is_facet_kind (kind_of state.view.schema state.dimension) ≡ true → page_limit < n → answer_over state q n rs ≡ Err Count
+refused state q n rs facet past =
+    ap (λ b. cond b (cond (nat_lt page_limit n) (Err Count) (Ok (Found.facets (facets_in rs (query_of q) state.dimension n)))) (Err NotFacet)) facet
+    ∙ ap (λ b. cond b (Err Count) (Ok (Found.facets (facets_in rs (query_of q) state.dimension n)))) (lt-ltb page_limit n past)
+
+pub found : (state : ReaderState) (q : Query) (n : ℕ) (rs : List Record) (f : Facets) → is_facet_kind (kind_of state.view.schema state.dimension) ≡ true → n ≤ page_limit
+    → f ≡ facets_of (hits rs (query_of q)) state.dimension n → answer_over state q n rs ≡ Ok (Found.facets f)
+found state q n rs f facet few is =
+    ap (λ b. cond b (cond (nat_lt page_limit n) (Err Count) (Ok (Found.facets (facets_in rs (query_of q) state.dimension n)))) (Err NotFacet)) facet
+    ∙ ap (λ b. cond b (Err Count) (Ok (Found.facets (facets_in rs (query_of q) state.dimension n)))) (le-ltb page_limit n few)
+    ∙ ap (λ g. Ok (Found.facets g)) (sym is)
+
+-- a refusal is due only where it is the answer
+pub due_refused : {X : Type 0} (given : Result X Refusal) (e : Refusal) (r : Result Found Refusal) → r ≡ Err e → given ≡ Err e → IfErr r (λ x. given ≡ Err x)
+due_refused given e r is same = subst (λ a. IfErr a (λ x. given ≡ Err x)) (sym is) same
+
+pub due_found : {X : Type 0} (given : Result X Refusal) (f : Found) (r : Result Found Refusal) → r ≡ Ok f → IfErr r (λ x. given ≡ Err x)
+due_found given f r is = subst (λ a. IfErr a (λ x. given ≡ Err x)) (sym is) tt
+
+-- the counts over the leaves of a view are those over the hits among the records that it shows
+pub counted_facets : (view : View) (q : Query) (dimension : Text) (n labelled met : ℕ) (labels : List Text) (totals : List ℕ) (ranked : List Ranked) (counts : List Counted) (rs : List Record)
+    → Shows view rs → IsTextSet labels → All (HasLabels dimension) view.leaves → labels ≡ view_dictionary dimension view
+    → AreCounts labels (flat_map (hit_labels (query_of q) dimension) view.leaves) totals → labelled ≡ labelled_count (flat_map (hit_labels (query_of q) dimension) view.leaves)
+    → met ≡ length (met_from 0 totals) → ranked ≡ first_ranked comes_first (met_from 0 totals) n → counts ≡ map (told labels) ranked
+    → ◌≡◌ {A = Facets} (record { matching = labelled; met = met; counts = counts }) (facets_of (hits rs (query_of q)) dimension n)
+counted_facets view q dimension n labelled met labels totals ranked counts rs shown set texts whole are l m r c =
+    let rows = flat_map (hit_labels (query_of q) dimension) view.leaves in
+    facets_are labels rows dimension (hits rs (query_of q)) set (view_labels view (query_of q) dimension rs shown)
+    (λ t h. ap (has_label t) whole ∙ hits_heard (query_of q) dimension view t texts h)
+    totals n labelled met ranked counts are l m r c

@@ -1,0 +1,10 @@
+pub mod Answered
+pub mod Bridge
+pub mod Columns
+pub mod Counted
+pub mod FacetFields
+pub mod Firsts
+pub mod Globals
+pub mod Leaves
+pub mod Ranking
+pub mod Told

@@ -1,0 +1,57 @@
+use Rattle.std.proofs.Common.{◌≡◌, ◌+◌, ◌<◌, ◌++◌, length, get_or, take, drop, not, sym, ap, ◌∙◌, arith, subst}
+use Rattle.std.proofs.lemmas.List.{take_all}
+use Rattle.std.specs.List.{flat_map}
+use Rattle.cat_model.specs.Facets.{is_empty}
+use Rattle.cat_model.specs.Ordinals.{text_at}
+use Rattle.cat_model.specs.View.{selected}
+use Rattle.cat_query.specs.View.{query_of}
+use Rattle.cat_values.proofs.Bits.{written_back}
+use Rattle.cat_facets.specs.States.{IsKnown}
+use Rattle.cat_facets.specs.Tallies.{hit_labels, label_count, labelled_count, leaf_labels, AreCounts}
+use Rattle.cat_facets.proofs.Counted.{count_by-both}
+use Rattle.cat_facets.proofs.Leaves.{counts_more, hits_more}
+use Rattle.cat_facets.proofs.totals.totals_of.Goals as goal
+
+pub add_leaf-requires-clause-known : goal.add_leaf-requires-clause-known
+add_leaf-requires-clause-known c =
+    let dimension = c.args.dimension.now in
+    let labels = c.args.labels.now in
+    let leaves = c.args.prepared.now.view.leaves in
+    let i = c.loop-index.index in
+    let leaf = c.index-leaves-index.result in
+    let one = c.index-known-index.result in
+    let seen : c.leaves-leaves.result.now ≡ leaves = c.leaves-leaves.ensures.value ∙ ap (λ v. v.leaves) c.view.ensures in
+    let at : leaf ≡ get_or leaves i leaf = c.index-leaves-index.is ∙ ap (λ ls. get_or ls i leaf) seen in
+    let within : i < length leaves = let n = ap length seen in omega (arith, n) in
+    subst (λ x. IsKnown labels (leaf_labels dimension x) one) (sym at)
+    (subst (λ k. IsKnown labels (leaf_labels dimension (get_or leaves i leaf)) k) (sym c.index-known-index.is) (c.requires.each i leaf one within))
+
+pub loop-index-preserved : goal.loop-index-preserved
+loop-index-preserved c =
+    let q = query_of c.args.prepared.now.query in
+    let dimension = c.args.dimension.now in
+    let labels = c.args.labels.now in
+    let leaves = c.args.prepared.now.view.leaves in
+    let i = c.loop-index.index in
+    let leaf = c.index-leaves-index.result in
+    let hits = c.in_ok-hits.hits in
+    let f = hit_labels q dimension in
+    let before = flat_map f (take i leaves) in
+    let piece = selected hits (leaf_labels dimension leaf) in
+    let seen : c.leaves-leaves.result.now ≡ leaves = c.leaves-leaves.ensures.value ∙ ap (λ v. v.leaves) c.view.ensures in
+    let at : leaf ≡ get_or leaves i leaf = c.index-leaves-index.is ∙ ap (λ ls. get_or ls i leaf) seen in
+    let within : i < length leaves = let n = ap length seen in omega (arith, n) in
+    let more : before ++ piece ≡ flat_map f (take (i + 1) leaves) = hits_more q dimension leaves i leaf hits within at c.in_ok-hits.ensures.ok in
+    let old = c.loop-index.totals.items in
+    let new = c.add_leaf.new.totals in
+    let same : c.deref_mut.result.now ≡ old = c.deref_mut.ensures.value in
+    let kept : length new ≡ length old = c.add_leaf.auto.totals ∙ ap length same in
+    let back : take c.loop-index.totals.len (new ++ drop (length new) old) ≡ new = written_back c.loop-index.totals.len new old kept (omega (arith, c.loop-index.totals.ok.0)) in
+    let counts = counts_more labels before piece old new c.loop-index.invariant.counts kept
+    (λ g lt. c.in_ok-more.ensures.counts g lt ∙ ap (λ ts. get_or ts g 0 + label_count (text_at labels g) piece) same) in
+    record {
+      labelled =
+          c.in_ok-labelled.ensures.ok ∙ ap (λ n. n + c.in_ok-more.more) c.loop-index.invariant.labelled ∙ ap (λ n. labelled_count before + n) c.in_ok-more.ensures.labelled
+          ∙ sym (count_by-both (λ ls. not (is_empty ls)) before piece) ∙ ap labelled_count more;
+      counts = subst (AreCounts labels (flat_map f (take (i + 1) leaves))) (sym back) (subst (λ ts. AreCounts labels ts new) more counts);
+    }

@@ -1,0 +1,58 @@
+//! The first labels by falling count.
+ghost use Rattle.std.specs.Prelude.{◌≡◌, ◌<◌, length, map, All, IfOk};
+ghost use Rattle.cat_model.specs.Page.{first_ranked};
+ghost use Rattle.cat_facets.specs.Met.{comes_first, met_from, told};
+
+use crate::facets::FacetCount;
+use cat_search::Best;
+use cat_values::Dictionary;
+use std::alloc::{AllocError, Global};
+use std::cmp::Reverse;
+
+/// A label as it ranks among others: by its count, the greatest first, and by its ordinal, which goes by the bytes.
+#[derive(PartialEq, Eq, PartialOrd, Ord, Drop)]
+pub(crate) struct Ranked {
+    pub(crate) count: Reverse<usize>,
+    pub(crate) ordinal: usize,
+}
+
+/// How many labels are met, and the first n of them (Lucene: `TopOrdAndIntQueue` over the counts).
+pub(crate) fn first_met(
+    alloc: Global,
+    totals: &[usize],
+    n: usize,
+) -> Result<(usize, Vec<Ranked>), AllocError>
+    ensures met { IfOk result (λ r. r.0 ≡ length (met_from 0 totals.now)) }
+    ensures first { IfOk result (λ r. r.1.items ≡ first_ranked comes_first (met_from 0 totals.now) n) }
+{
+    let mut met = 0;
+    let mut best = Best::new(alloc, n);
+    for (ordinal, total) in totals.iter().enumerate() {
+        if *total == 0 {
+            continue;
+        }
+        met += 1;
+        best.offer(Ranked {
+            count: Reverse(*total),
+            ordinal,
+        })?;
+    }
+    Ok((met, best.into_items()?))
+}
+
+/// The labels of the dictionary with their counts.
+pub(crate) fn counts_told(
+    alloc: Global,
+    labels: &Dictionary,
+    ranked: &[Ranked],
+) -> Result<Vec<FacetCount>, AllocError>
+    requires { All (λ r. r.ordinal < length labels.now) ranked.now }
+    ensures ok { IfOk result (λ v. v.items ≡ map (told labels.now) ranked.now) }
+{
+    let mut counts = Vec::with_capacity(alloc, ranked.len())?;
+    for each in ranked {
+        let label = labels.text(each.ordinal).copy()?;
+        counts.push(FacetCount::new(each.count.0, label))?;
+    }
+    Ok(counts)
+}
