@@ -1,3 +1,4 @@
+pub mod Decimals
 pub mod Rising
 pub mod Spellings
 pub mod TextSets

@@ -2,12 +2,14 @@
 #![tactic(auto)]
 
 mod codec;
+mod decimal;
 mod numbers;
 mod order;
 mod refusal;
 mod text;
 
 pub use codec::{Cursor, put_bytes, put_u32, put_u64, spellings_are_exact};
+pub use decimal::{is_file_number, parse_number};
 pub use numbers::{
     GREATEST_MERGE_FACTOR, GREATEST_MERGE_MINIMUM, Generation, LAST_NUMBER, LAST_SESSION,
     LEAST_MERGE_FACTOR, LEAST_MERGE_MINIMUM, MAX_BUFFERED_ITEMS, MAX_CACHED_SETS, MAX_CLAUSES,

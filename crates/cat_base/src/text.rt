@@ -219,14 +219,14 @@ mod tests {
     fn texts_compare_by_bytes(rt: HostRuntime) -> Result<(), Fail> {
         let alloc = rt.alloc();
         // "Z" is 5a, "a" is 61, and "é" begins with c3.
-        let rows = [
+        const ROWS: &[(&str, &str, Ordering)] = &[
             ("", "a", Ordering::Less),
             ("a", "a", Ordering::Equal),
             ("a", "Z", Ordering::Greater),
             ("a", "ab", Ordering::Less),
             ("z", "é", Ordering::Less),
         ];
-        for (left, right, want) in rows {
+        for &(left, right, want) in ROWS {
             let (one, other) = (Text::from_str(alloc, left)?, Text::from_str(alloc, right)?);
             assert_eq!(rt; one.cmp(&other), want, "{left} {right}");
             assert_eq!(rt; one.partial_cmp(&other), Some(want), "{left} {right}");
@@ -246,6 +246,15 @@ mod tests {
         Ok(())
     }
 
+    // Each text, and whether it is in the set of "a" and "b".
+    const MEMBERS: &[(&str, bool)] = &[
+        ("", false),
+        ("a", true),
+        ("aa", false),
+        ("b", true),
+        ("c", false),
+    ];
+
     #[test]
     fn a_set_has_each_text_once(rt: HostRuntime) -> Result<(), Fail> {
         let alloc = rt.alloc();
@@ -260,13 +269,7 @@ mod tests {
             assert_eq!(rt; shown.as_str(), "[\"a\", \"b\"]");
             assert_eq!(rt; same.len(), 2);
             assert!(rt; !same.is_empty());
-            for (word, want) in [
-                ("", false),
-                ("a", true),
-                ("aa", false),
-                ("b", true),
-                ("c", false),
-            ] {
+            for &(word, want) in MEMBERS {
                 assert_eq!(rt; same.contains(word), want, "{word}");
             }
         }

@@ -72,7 +72,9 @@ view_now l = record { token = l.count; portions = l.portions }
 
 -- after a flush, a view of now is recorded where none stands: its names are taken, those of the one that goes are given
 pub record RecordsNow (l new : Ledger) : Type 0 where
-  pub users : Changes (names_of_view (view_now l)) (flat_map names_of_view (views_not (stays_recorded (held_in l.holds) (tokens_in l.views)) l.views)) l.users new.users
+  pub users : Changes (names_of_view (view_now l))
+      (flat_map names_of_view (views_not (stays_recorded (held_in l.holds) (tokens_in l.views)) l.views))
+      l.users new.users
   pub rest : new
       ≡ record l { views = views_that (stays_recorded (held_in l.holds) (tokens_in l.views)) l.views ++ view_now l ∷ []; users = new.users }
 
@@ -120,7 +122,9 @@ pub record Copied (m : Merging) (l new : Ledger) : Type 0 where
 pub record Installed (m : Merging) (l new : Ledger) : Type 0 where
   pub making : l.merging ≡ Some m
   pub all : m.passed ≡ length (all_records m.inputs)
-  pub users : Changes (flat_map names_of_portion (merged m.kept (settled m l.portions))) (flat_map names_of_portion (window_now m l.portions) ++ Name.source m.number ∷ []) l.users new.users
+  pub users : Changes (flat_map names_of_portion (merged m.kept (settled m l.portions)))
+      (flat_map names_of_portion (window_now m l.portions) ++ Name.source m.number ∷ [])
+      l.users new.users
   pub rest : new ≡ record l { portions = installed m l.portions; merging = None; users = new.users }
 
 -- ---- COMMIT, SNAP and UNSNAP
@@ -181,7 +185,9 @@ newest_in cs = newest_of (map commit_shown cs)
 -- after a flush, a commit of now is kept: its names are taken, those of the commits that go are given
 pub record Committed (text : Text) (l new : Ledger) : Type 0 where
   pub left : l.next_generation ≤ last_number
-  pub users : Changes (names_of_commit (commit_of text l)) (flat_map names_of_commit (commits_not (stays_kept l.taken (Some l.next_generation)) l.commits)) l.users new.users
+  pub users : Changes (names_of_commit (commit_of text l))
+      (flat_map names_of_commit (commits_not (stays_kept l.taken (Some l.next_generation)) l.commits))
+      l.users new.users
   pub rest : new
       ≡ record l {
         commits = commits_that (stays_kept l.taken (Some l.next_generation)) l.commits ++ commit_of text l ∷ [];

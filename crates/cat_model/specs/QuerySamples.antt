@@ -23,13 +23,15 @@ sample_text = codes "+price:[-5 TO *] -title:Re* ( color:\"a \\\"b\\\"\" brand:a
 -- two SHOULD
 abbrev pub sample_group : Query
 sample_group =
-    Query.clause Sign.should (Primary.label (codes "color") (codes "a \"b\"")) (Query.clause Sign.should (Primary.keyword (codes "brand") (codes "a")) Query.no_clause)
+    Query.clause Sign.should (Primary.label (codes "color") (codes "a \"b\""))
+    (Query.clause Sign.should (Primary.keyword (codes "brand") (codes "a")) Query.no_clause)
 
 -- what the text spells
 abbrev pub sample_query : Query
 sample_query =
     Query.clause Sign.must (Primary.number_range (codes "price") (Some (negsuc 4)) None)
-    (Query.clause Sign.must_not (Primary.word_prefix (codes "title") (codes "re")) (Query.clause Sign.should (Primary.group sample_group) Query.no_clause))
+    (Query.clause Sign.must_not (Primary.word_prefix (codes "title") (codes "re"))
+    (Query.clause Sign.should (Primary.group sample_group) Query.no_clause))
 
 -- texts that spell no query, each with the place of its fault
 abbrev pub faulty_samples : List (Text × ℕ)

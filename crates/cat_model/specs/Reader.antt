@@ -219,7 +219,8 @@ clauses_at schema inside (suc n) clauses text = do
 unfoldable pub content_at : Schema → ℕ → Inside
 content_at schema zero clauses text = Err (length text + 1)
 content_at schema (suc groups) clauses text =
-    if ends (after_spaces text) then Err (length (after_spaces text)) else clauses_at schema (content_at schema groups) clauses clauses (after_spaces text)
+    if ends (after_spaces text) then Err (length (after_spaces text))
+    else clauses_at schema (content_at schema groups) clauses clauses (after_spaces text)
 
 -- ---- the whole text
 

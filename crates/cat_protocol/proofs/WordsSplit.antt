@@ -62,41 +62,8 @@ letters_no_space (b ∷ text) h (suc i) k e = letters_no_space text (grind (arit
 
 -- ---- numbers
 
-own : IsNumeralModel (AllDigits 10) (digits_value 10)
-own = numerals_by_value (AllDigits 10) tells_digits
-
 pub decimal_no_space : (n : ℕ) → n < 2 ^ 64 → HasNoSpace (decimal n)
 decimal_no_space n h i k e = let range = digit_at (decimal n) i (decimal_is_IsNumeral n h).0.1 k in omega (arith, range.0, e)
-
--- a number has no sign
-pub decimal_no_plus : (text : Text) (n : ℕ) → n < 2 ^ 64 → text ≡ decimal n → get_or text 0 0 ≢ 43
-decimal_no_plus text n h e plus =
-    let range = digit_at (decimal n) 0 (decimal_is_IsNumeral n h).0.1 (decimal_nonempty n h) in
-    let first = ap (λ (t : Text). get_or t 0 0) e in
-    omega (arith, range.0, first, plus)
-
--- and no leading zero
-pub decimal_no_zero : (text : Text) (n : ℕ) → n < 2 ^ 64 → text ≡ decimal n → get_or text 0 0 ≡ 48 → 1 < length text → ⊥
-decimal_no_zero text zero h e first long =
-    let same = ap length (e ∙ decimal_digit 0 (omega arith)) in
-    omega (arith, same, long)
-decimal_no_zero text (suc n) h e first long =
-    let above = first_decimal (suc n) (omega arith) h in
-    let same = ap (λ (t : Text). get_or t 0 0) e in
-    omega (arith, above, same, first)
-
--- a text without either is what is written of the number that is parsed
-pub parsed_is_decimal : {E : Type 0} (text : Text) (r : Result ℕ E) (n : ℕ) → ParsesUnsigned 64 10 text r → r ≡ Ok n
-    → get_or text 0 0 ≢ 43 → (get_or text 0 0 ≡ 48 → 1 < length text → ⊥) → text ≡ decimal n
-parsed_is_decimal text (Err e) n h is plus zeros = cc
-parsed_is_decimal {E = E} text (Ok m) n h is plus zeros =
-    let plain = parse_plain own {E = E} 64 text (Ok m) h plus in
-    let same : m ≡ n = cc in
-    let written = decimal-digits_value own text plain.0.0 plain.0.1 (λ first. omega (arith, zeros first, plain.0.1)) plain.0.2 in
-    sym written ∙ ap decimal (sym plain.1 ∙ same)
-
-pub decimal_is_parsed : {E : Type 0} (text : Text) (r : Result ℕ E) (n : ℕ) → ParsesUnsigned 64 10 text r → IsNumber n → text ≡ decimal n → r ≡ Ok n
-decimal_is_parsed text r n h small e = parse-decimal 64 n text r (omega arith) (omega arith) e h
 
 pub one_number : (n m : ℕ) (rest left : Text) → IsNumber n → IsNumber m → decimal n ++ 32 ∷ rest ≡ decimal m ++ 32 ∷ left → (n ≡ m) × (rest ≡ left)
 one_number n m rest left h k e =

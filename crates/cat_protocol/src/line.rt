@@ -10,10 +10,10 @@ ghost use Rattle.cat_protocol.specs.Line.{said_of, SpellsOrShows};
 ghost use Rattle.cat_protocol.specs.Words.{SpellsFind};
 ghost use Rattle.cat_search.specs.Sorts.{sort_of};
 
-use crate::words::{number, split_mark, split_number, split_sort, split_word};
+use crate::words::{split_mark, split_number, split_sort, split_word};
 use cat_base::{
     GREATEST_MERGE_FACTOR, GREATEST_MERGE_MINIMUM, LAST_SESSION, LEAST_MERGE_FACTOR,
-    LEAST_MERGE_MINIMUM, Refusal, SessionNo, Token,
+    LEAST_MERGE_MINIMUM, Refusal, SessionNo, Token, parse_number,
 };
 use cat_search::Ask;
 
@@ -73,7 +73,7 @@ fn session_of(word: &str) -> Result<SessionNo, Refusal>
     ensures found { IfOk result (λ session. (session ≤ session_limit) × (word.now ≡ decimal session)) }
     ensures none { IfErr result (λ e. (e ≡ Refusal.Line) × ((session : ℕ) → session ≤ session_limit → word.now ≡ decimal session → ⊥)) }
 {
-    match number(word) {
+    match parse_number(word) {
         Some(session) if session <= LAST_SESSION as u64 => Ok(session as SessionNo),
         _ => Err(Refusal::Line),
     }
@@ -94,11 +94,11 @@ fn command_of(text: &str) -> Command<'_>
     match name {
         "PUT" => Command::Put(rest),
         "DEL" => Command::Delete(rest),
-        "OPEN" => match number(rest) {
+        "OPEN" => match parse_number(rest) {
             Some(token) => Command::Open(Some(token)),
             None => Command::NoForm,
         },
-        "CLOSE" => match number(rest) {
+        "CLOSE" => match parse_number(rest) {
             Some(token) => Command::Close(token),
             None => Command::NoForm,
         },

@@ -7,7 +7,7 @@ ghost use Rattle.cat_model.specs.Lines.{IsNumber, IsSort, IsMark, sort_text, mar
 ghost use Rattle.cat_search.specs.Sorts.{sort_of};
 ghost use Rattle.cat_protocol.specs.Words.{HasNoSpace};
 
-use cat_base::{LAST_NUMBER, WriteNo};
+use cat_base::{WriteNo, parse_number};
 use cat_schema::has_name_form;
 use cat_search::Sort;
 
@@ -20,31 +20,13 @@ pub(crate) fn split_word(text: &str) -> Option<(&str, &str)>
     text.split_once(' ')
 }
 
-/// The number that the text spells: in decimal, without a sign or a leading zero, below 2^63.
-pub(crate) fn number(text: &str) -> Option<u64>
-    ensures found { IfSome result (λ n. IsNumber n × (text.now ≡ decimal n)) }
-    ensures none { IfNone result ((n : ℕ) → IsNumber n → text.now ≡ decimal n → ⊥) }
-{
-    // `parse` would take a sign and leading zeros.
-    if text.starts_with('+') {
-        return None;
-    }
-    if text.starts_with('0') && text.len() > 1 {
-        return None;
-    }
-    match text.parse() {
-        Ok(n) if n <= LAST_NUMBER => Some(n),
-        _ => None,
-    }
-}
-
 /// A number, and the text behind the space that ends it.
 pub(crate) fn split_number(text: &str) -> Option<(u64, &str)>
     ensures found { IfSome result (λ parts. IsNumber parts.0 × (text.now ≡ decimal parts.0 ++ 32 ∷ parts.1.now)) }
     ensures none { IfNone result ((n : ℕ) (rest : Text) → IsNumber n → text.now ≡ decimal n ++ 32 ∷ rest → ⊥) }
 {
     let (word, rest) = split_word(text)?;
-    let n = number(word)?;
+    let n = parse_number(word)?;
     Some((n, rest))
 }
 
@@ -71,7 +53,7 @@ fn mark(word: &str) -> Option<Option<WriteNo>>
     if word == "." {
         return Some(None);
     }
-    let number = number(word)?;
+    let number = parse_number(word)?;
     Some(Some(number))
 }
 

@@ -68,6 +68,13 @@ impl DocSet {
         &self.rows
     }
 
+    /// The rows that match, as a set of rows that is taken over.
+    pub fn into_rows(self) -> RowSet
+        ensures { result ≡ self }
+    {
+        self.rows
+    }
+
     /// An equal set in memory of its own.
     pub fn copy(&self) -> Result<Self, AllocError>
         ensures ok { IfOk result (λ s. s ≡ self.now) }

@@ -1,6 +1,7 @@
 //! The pass over the segments of a view.
 ghost use Rattle.std.specs.Prelude.{◌≡◌, ◌<◌, ◌+◌, ◌++◌, List, count_by, length, take, map, AllPairs, IfOk, OnOk};
 ghost use Rattle.std.specs.List.{flat_map};
+ghost use Rattle.cat_model.specs.RowSets.{joined, both};
 ghost use Rattle.cat_model.specs.View.{live_rows, selected};
 ghost use Rattle.cat_query.specs.View.{query_of};
 ghost use Rattle.cat_search.specs.declared.sort.Order.TheVariants.{Added};
@@ -18,18 +19,25 @@ use crate::sort::Order;
 use crate::standings::{Candidate, Rank};
 use crate::view::Leaf;
 use cat_query::Query;
-use cat_segment::Segment;
+use cat_segment::{Live, Segment};
 use cat_values::RowSet;
 use std::alloc::{AllocError, Global};
+
+/// Takes the rows out that are deleted.
+fn keep_live(rows: &mut RowSet, live: &Live)
+    requires { length rows.old ≡ length live.now }
+    ensures { rows.new ≡ joined both rows.old live.now }
+{
+    rows.and_with(live.rows());
+}
 
 /// The live ones of the rows that the query matches, live or dead.
 fn matched_rows(alloc: Global, query: &Query, leaf: &Leaf) -> Result<RowSet, AllocError>
     ensures ok { IfOk result (λ s. selected s leaf.now.segment.rows ≡ leaf_hits leaf.now (query_of query.now)) }
     ensures long { IfOk result (λ s. length s ≡ length leaf.now.segment.rows) }
 {
-    let matched = query.matches(alloc, leaf.segment())?;
-    let mut hits = matched.rows().copy()?;
-    hits.and_with(leaf.live().rows());
+    let mut hits = query.matches(alloc, leaf.segment())?.into_rows();
+    keep_live(&mut hits, leaf.live());
     Ok(hits)
 }
 

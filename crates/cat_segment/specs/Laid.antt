@@ -51,5 +51,7 @@ laid_labels rows = Laid.labels (dictionary_of rows) (map (map (ordinal_in (dicti
 pub record AreRead (rows : ℕ) (schema : Schema) (laid : List Laid) (columns : List Column) : Type 0 where
   pub many : length columns ≡ length schema
   pub as_many : length laid ≡ length schema
-  pub contents : (index : ℕ) (f : Field) (c : Column) → index < length schema → AreContents (slice_index_or schema index f).kind rows (contents_of (slice_index_or columns index c))
-  pub spelled : (index : ℕ) (f : Field) (c : Column) (l : Laid) → index < length schema → laid_out (slice_index_or schema index f).kind (contents_of (slice_index_or columns index c)) ≡ slice_index_or laid index l
+  pub contents : (index : ℕ) (f : Field) (c : Column) → index < length schema
+      → AreContents (slice_index_or schema index f).kind rows (contents_of (slice_index_or columns index c))
+  pub spelled : (index : ℕ) (f : Field) (c : Column) (l : Laid) → index < length schema
+      → laid_out (slice_index_or schema index f).kind (contents_of (slice_index_or columns index c)) ≡ slice_index_or laid index l

@@ -3,11 +3,10 @@ ghost use Rattle.std.specs.Prelude.{◌≡◌, ◌⊎◌, ◌<◌, ◌^◌, ◌+
 ghost use Rattle.cat_base.specs.Bytes.{spelled_u32, spelled_u64};
 ghost use Rattle.cat_base.specs.declared.refusal.Refusal.TheVariants.{Damaged, Memory};
 ghost use Rattle.cat_model.specs.LiveFile.{LiveRows, AreLiveRows, SpellsLive};
-ghost use Rattle.cat_model.specs.Files.{IsFileNumber};
 ghost use Rattle.cat_segment.specs.LiveStart.{MayStand};
 
 use crate::live::Live;
-use cat_base::{Cursor, Generation, LAST_NUMBER, MAX_ROWS, Refusal, SegNo, put_u32, put_u64};
+use cat_base::{Cursor, Generation, MAX_ROWS, Refusal, SegNo, is_file_number, put_u32, put_u64};
 use cat_values::{RowSet, sets_are_told_by_their_bytes};
 use std::alloc::{AllocError, Global};
 use std::marker::Model;
@@ -55,7 +54,8 @@ struct Start {
 
 /// Takes what stands before the set of rows. [`Refusal::Damaged`] where fewer bytes are left.
 fn take_start(cursor: &mut Cursor<'_>) -> Result<Start, Refusal>
-    ensures ok { IfOk result (λ s. cursor.old ≡ spelled_u32 s.magic ++ (s.version ∷ (spelled_u64 s.number ++ (spelled_u64 s.generation ++ (spelled_u32 s.rows ++ cursor.new))))) }
+    ensures ok { IfOk result (λ s. cursor.old
+        ≡ spelled_u32 s.magic ++ (s.version ∷ (spelled_u64 s.number ++ (spelled_u64 s.generation ++ (spelled_u32 s.rows ++ cursor.new))))) }
     ensures fits { IfOk result (λ s. (s.magic < 2 ^ 32) × (s.number < 2 ^ 64) × (s.generation < 2 ^ 64) × (s.rows < 2 ^ 32)) }
     ensures err { IfErr result (λ e. (e ≡ Damaged) × (length cursor.old < 25)) }
 {
@@ -71,13 +71,6 @@ fn take_start(cursor: &mut Cursor<'_>) -> Result<Start, Refusal>
         generation,
         rows,
     })
-}
-
-/// Whether the number may stand in the name of a file.
-fn is_file_number(number: u64) -> bool
-    ensures { IsTrue result ↔ IsFileNumber number }
-{
-    number != 0 && number <= LAST_NUMBER
 }
 
 /// Whether a file of live rows may begin so.

@@ -1,100 +1,97 @@
-//! What each refusal shows, and that a bare `?` gives Memory.
-ghost use Rattle.std.specs.Prelude.{◌≡◌, IfErr};
-ghost use Rattle.cat_base.specs.declared.refusal.Refusal.TheVariants.{Memory};
-
+//! What each refusal shows, and that a bare `?` lifts want of memory.
 use super::*;
 use std::alloc::Global;
 use std::sync::Arc;
 use std::test::Fail;
 
+// Each refusal, its number, and the sentence that it shows.
+const SHOWN: &[(Refusal, u8, &str)] = &[
+    (
+        Refusal::Line,
+        10,
+        "10: the line is no command of the protocol",
+    ),
+    (Refusal::Json, 11, "11: the text is not JSON"),
+    (
+        Refusal::Member,
+        12,
+        "12: a member of the item is not a field of the schema",
+    ),
+    (Refusal::Kind, 13, "13: a value has the wrong kind"),
+    (
+        Refusal::Id,
+        14,
+        "14: the id is missing or has the wrong form",
+    ),
+    (
+        Refusal::Large,
+        15,
+        "15: an item, keyword, label or list of labels is too large",
+    ),
+    (
+        Refusal::Spent,
+        16,
+        "16: the last number is used up, or a limit is reached",
+    ),
+    (
+        Refusal::NotHeld,
+        20,
+        "20: the session does not hold this token",
+    ),
+    (
+        Refusal::Gone,
+        21,
+        "21: no view is recorded under this token",
+    ),
+    (
+        Refusal::Full,
+        22,
+        "22: all recorded views are held, and there is no room for another",
+    ),
+    (
+        Refusal::Mark,
+        23,
+        "23: the mark is not a record of the held view",
+    ),
+    (
+        Refusal::Query(6),
+        24,
+        "24: the query cannot be read at byte 6",
+    ),
+    (
+        Refusal::Count,
+        25,
+        "25: more than 1000 entries were asked for",
+    ),
+    (Refusal::NoCommit, 26, "26: there is no such commit"),
+    (Refusal::NoSnapshot, 27, "27: the commit has no snapshot"),
+    (
+        Refusal::SortField,
+        28,
+        "28: the sort needs a number or keyword field",
+    ),
+    (
+        Refusal::NotFacet,
+        29,
+        "29: the dimension is not a facet field",
+    ),
+    (Refusal::Device, 30, "30: the storage device failed"),
+    (Refusal::Damaged, 31, "31: a file is damaged or missing"),
+    (Refusal::Memory, 40, "40: out of memory"),
+];
+
 #[test]
 fn shows_its_number_and_a_sentence(rt: HostRuntime) -> Result<(), Fail> {
-    let rows = [
-        (
-            Refusal::Line,
-            10,
-            "10: the line is no command of the protocol",
-        ),
-        (Refusal::Json, 11, "11: the text is not JSON"),
-        (
-            Refusal::Member,
-            12,
-            "12: a member of the item is not a field of the schema",
-        ),
-        (Refusal::Kind, 13, "13: a value has the wrong kind"),
-        (
-            Refusal::Id,
-            14,
-            "14: the id is missing or has the wrong form",
-        ),
-        (
-            Refusal::Large,
-            15,
-            "15: an item, keyword, label or list of labels is too large",
-        ),
-        (
-            Refusal::Spent,
-            16,
-            "16: the last number is used up, or a limit is reached",
-        ),
-        (
-            Refusal::NotHeld,
-            20,
-            "20: the session does not hold this token",
-        ),
-        (
-            Refusal::Gone,
-            21,
-            "21: no view is recorded under this token",
-        ),
-        (
-            Refusal::Full,
-            22,
-            "22: all recorded views are held, and there is no room for another",
-        ),
-        (
-            Refusal::Mark,
-            23,
-            "23: the mark is not a record of the held view",
-        ),
-        (
-            Refusal::Query(6),
-            24,
-            "24: the query cannot be read at byte 6",
-        ),
-        (
-            Refusal::Count,
-            25,
-            "25: more than 1000 entries were asked for",
-        ),
-        (Refusal::NoCommit, 26, "26: there is no such commit"),
-        (Refusal::NoSnapshot, 27, "27: the commit has no snapshot"),
-        (
-            Refusal::SortField,
-            28,
-            "28: the sort needs a number or keyword field",
-        ),
-        (
-            Refusal::NotFacet,
-            29,
-            "29: the dimension is not a facet field",
-        ),
-        (Refusal::Device, 30, "30: the storage device failed"),
-        (Refusal::Damaged, 31, "31: a file is damaged or missing"),
-        (Refusal::Memory, 40, "40: out of memory"),
-    ];
-    for (refusal, number, message) in rows {
-        assert_eq!(rt; refusal.number(), number);
+    for (refusal, number, message) in SHOWN {
+        assert_eq!(rt; refusal.number(), *number);
         let shown = format!(in rt.alloc(); "{refusal}")?;
-        assert_eq!(rt; shown.as_str(), message);
+        assert_eq!(rt; shown.as_str(), *message);
     }
     Ok(())
 }
 
-// A bare `?` on each kind of refused allocation, known to give Memory.
-fn shared(alloc: Global, word: &str) -> Result<Vec<Arc<String>>, Refusal>
-    ensures { IfErr result (λ e. e ≡ Memory) }
-{
+// A bare `?` on each kind of refused allocation.
+fn shared(alloc: Global, word: &str) -> Result<Vec<Arc<String>>, Refusal> {
     let first = Arc::new(alloc, String::from_str(alloc, word)?)?;
     let mut all = Vec::new(alloc);
     all.push(Arc::try_clone(&first)?)?;

@@ -1,8 +1,8 @@
 use Rattle.std.proofs.Common.{◌≡◌, ◌<◌, length, arith, inl, inr}
 use Rattle.std.specs.Prelude.{get_or}
 use Rattle.std.proofs.lemmas.Str.Pattern.{starts_char}
-use Rattle.cat_protocol.proofs.WordsSplit.{decimal_no_plus, decimal_no_zero, parsed_is_decimal, decimal_is_parsed}
-use Rattle.cat_protocol.proofs.words.number.Goals as goal
+use Rattle.cat_base.proofs.Decimals.{decimal_no_plus, decimal_no_zero, parsed_is_decimal, decimal_is_parsed}
+use Rattle.cat_base.proofs.decimal.parse_number.Goals as goal
 
 pub returns-then-starts_with-clause-none : goal.returns-then-starts_with-clause-none
 returns-then-starts_with-clause-none c = λ n small e.
