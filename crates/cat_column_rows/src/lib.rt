@@ -7,3 +7,5 @@ mod columns;
 mod parts;
 #[cfg(test)]
 mod terms;
+#[cfg(test)]
+mod texts;

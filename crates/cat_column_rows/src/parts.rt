@@ -1,73 +1,111 @@
 //! A segment of one row, byte by byte as it is laid out.
-use cat_base::{Cursor, Refusal, Text, put_bytes, put_u32};
+use crate::texts::{number, texts};
+use cat_base::{Cursor, put_bytes, put_u32};
 use cat_codec::{
-    ColumnParts, put_fields, put_head, put_list, put_number, put_start, put_texts, read_fields,
-    read_segment,
+    ColumnParts, SegmentParts, put_fields, put_head, put_list, put_number, put_start, put_texts,
+    read_fields, read_segment,
 };
-use cat_schema::Kind;
+use cat_schema::{Field, Kind, Schema};
 use std::alloc::{AllocError, Global};
+use std::process::Abort;
 use std::test::Fail;
 
-// Number 1, one row; the fields color (facet) and price (number); write 1, id `a`, a source of 36 bytes; color is
-// `red`, price is 5.
-const FILE: [u8; 86] = [
-    0x43, 0x53, 0x45, 0x47, 1, 0, 0, 0, 0, 0, 0, 0, 1, 0, 0, 0, 1, 0, 0, 0, 2, 0, 0, 0, 5, 0x63,
-    0x6f, 0x6c, 0x6f, 0x72, 4, 0, 0, 0, 5, 0x70, 0x72, 0x69, 0x63, 0x65, 3, 0, 0, 0, 0, 0, 0, 0, 1,
-    0, 0, 0, 1, 0x61, 0, 0, 0, 0x24, 0, 0, 0, 1, 0, 0, 0, 3, 0x72, 0x65, 0x64, 0, 0, 0, 1, 0, 0, 0,
-    0, 1, 0, 0, 0, 0, 0, 0, 0, 5,
-];
+/// Number 1, one row; the fields color (facet) and price (number); write 1, id `a`, a source of 36 bytes; color is
+/// `red`; price is 5.
+const FILE: &[u8] = b"CSEG\x01\0\0\0\0\0\0\0\x01\0\0\0\x01\
+    \0\0\0\x02\0\0\0\x05color\x04\0\0\0\x05price\x03\
+    \0\0\0\0\0\0\0\x01\0\0\0\x01a\0\0\0\x24\
+    \0\0\0\x01\0\0\0\x03red\0\0\0\x01\0\0\0\0\
+    \x01\0\0\0\0\0\0\0\x05";
+
+fn expect_names(rt: &impl Abort, fields: &[Field], want: &[(&str, Kind)]) {
+    assert_eq!(rt; fields.len(), want.len());
+    for (field, (name, kind)) in fields.iter().zip(want) {
+        assert!(rt; field.name() == *name && field.kind() == *kind, "{name}");
+    }
+}
 
 #[test]
-fn reads_each_part_and_nothing_less_or_more(rt: HostRuntime) -> Result<(), Fail> {
+fn reads_the_heads_of_rows(rt: HostRuntime) -> Result<(), Fail> {
     let alloc = rt.alloc();
-    let parts = read_segment(alloc, &FILE)?;
+    let parts = read_segment(alloc, FILE)?;
     assert_eq!(rt; parts.number, 1);
+    expect_names(
+        &rt,
+        parts.schema.fields(),
+        &[("color", Kind::Facet), ("price", Kind::Number)],
+    );
     let shown = format!(in alloc; "{:?} {:?} {:?}", parts.numbers, parts.ids, parts.lengths)?;
-    assert_eq!(rt; shown.as_str(), "[1] [\"a\"] [36]");
-    for (field, (name, kind)) in parts
-        .schema
-        .fields()
-        .iter()
-        .zip([("color", Kind::Facet), ("price", Kind::Number)])
-    {
-        assert_eq!(rt; field.name(), name);
-        assert_eq!(rt; field.kind(), kind);
-    }
-    match parts.columns.as_slice() {
-        [
-            ColumnParts::Facet(dictionary, ends, ordinals),
-            ColumnParts::Number(numbers),
-        ] => {
-            let shown = format!(in alloc; "{dictionary:?} {ends:?} {ordinals:?} {numbers:?}")?;
-            assert_eq!(rt; shown.as_str(), "[\"red\"] [1] [0] [Some(5)]");
-        }
-        _ => assert!(rt; false, "other columns"),
-    }
-    for len in 0..FILE.len() {
-        let cut = read_segment(alloc, FILE.get(..len).unwrap_or(&[]));
-        assert!(rt; matches!(cut, Err(Refusal::Damaged)), "{len} bytes");
-    }
-    let mut longer = Vec::new(alloc);
-    longer.extend_from_slice(&FILE)?;
-    longer.push(0)?;
-    assert!(rt; matches!(read_segment(alloc, &longer), Err(Refusal::Damaged)));
+    assert_eq!(rt; shown.as_str(), r#"[1] ["a"] [36]"#);
     Ok(())
+}
+
+/// The parts of a column of labels or of numbers.
+fn shown_column(alloc: Global, column: &ColumnParts) -> Result<String, AllocError> {
+    match column {
+        ColumnParts::Facet(dictionary, ends, ordinals) => {
+            format!(in alloc; "{dictionary:?} {ends:?} {ordinals:?}")
+        }
+        ColumnParts::Number(numbers) => format!(in alloc; "{numbers:?}"),
+        ColumnParts::Text(..) | ColumnParts::Keyword(..) => String::from_str(alloc, "other"),
+    }
+}
+
+fn shown_columns(alloc: Global, parts: &SegmentParts) -> Result<String, AllocError> {
+    let mut shown = String::new(alloc);
+    for column in &parts.columns {
+        shown.push_str(&shown_column(alloc, column)?)?;
+        shown.push_str(";")?;
+    }
+    Ok(shown)
+}
+
+#[test]
+fn reads_each_column(rt: HostRuntime) -> Result<(), Fail> {
+    let alloc = rt.alloc();
+    let shown = shown_columns(alloc, &read_segment(alloc, FILE)?)?;
+    assert_eq!(rt; shown.as_str(), r#"["red"] [1] [0];[Some(5)];"#);
+    Ok(())
+}
+
+/// Fails unless the bytes lay out no segment.
+fn expect_damaged(rt: &impl Abort, alloc: Global, bytes: &[u8]) {
+    assert_eq!(rt;
+        number(&read_segment(alloc, bytes)),
+        31,
+        "{} bytes",
+        bytes.len()
+    );
+}
+
+#[test]
+fn reads_nothing_less_or_more(rt: HostRuntime) -> Result<(), Fail> {
+    let alloc = rt.alloc();
+    for len in 0..FILE.len() {
+        expect_damaged(&rt, alloc, FILE.get(..len).unwrap_or(&[]));
+    }
+    let mut longer = Vec::from_slice(alloc, FILE)?;
+    longer.push(0)?;
+    expect_damaged(&rt, alloc, &longer);
+    Ok(())
+}
+
+/// The parts before the columns.
+fn put_front(out: &mut Vec<u8>, schema: &Schema) -> Result<(), AllocError> {
+    put_start(out, 1, 1)?;
+    put_fields(out, schema)?;
+    put_head(out, 1, "a", 36)
 }
 
 #[test]
 fn writes_each_part(rt: HostRuntime) -> Result<(), Fail> {
     let alloc = rt.alloc();
-    let parts = read_segment(alloc, &FILE)?;
-    let mut red = Vec::new(alloc);
-    red.push(Text::from_str(alloc, "red")?)?;
     let mut out = Vec::new(alloc);
-    put_start(&mut out, 1, 1)?;
-    put_fields(&mut out, &parts.schema)?;
-    put_head(&mut out, 1, "a", 36)?;
-    put_texts(&mut out, &red)?;
+    put_front(&mut out, &read_segment(alloc, FILE)?.schema)?;
+    put_texts(&mut out, &texts(alloc, &["red"])?)?;
     put_list(&mut out, &[0])?;
     put_number(&mut out, Some(5))?;
-    assert_eq!(rt; out.as_slice(), FILE.as_slice());
+    assert_eq!(rt; out.as_slice(), FILE);
     Ok(())
 }
 
@@ -82,18 +120,19 @@ fn fields_file(alloc: Global, count: u8) -> Result<Vec<u8>, AllocError> {
     Ok(out)
 }
 
+fn expect_fields(rt: &impl Abort, alloc: Global, count: u8, want: u8) -> Result<(), Fail> {
+    let file = fields_file(alloc, count)?;
+    let got = number(&read_fields(alloc, &mut Cursor::new(&file)));
+    assert_eq!(rt; got, want, "{count} fields");
+    Ok(())
+}
+
 #[test]
 fn reads_as_many_fields_as_a_schema_may_have(rt: HostRuntime) -> Result<(), Fail> {
     let alloc = rt.alloc();
+    expect_fields(&rt, alloc, 33, 31)?;
     let most = fields_file(alloc, 32)?;
     let schema = read_fields(alloc, &mut Cursor::new(&most))?;
     assert_eq!(rt; schema.fields().len(), 32);
-    let more = fields_file(alloc, 33)?;
-    assert!(rt;
-        matches!(
-            read_fields(alloc, &mut Cursor::new(&more)),
-            Err(Refusal::Damaged)
-        )
-    );
     Ok(())
 }

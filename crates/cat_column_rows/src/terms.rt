@@ -3,21 +3,25 @@ ghost use Rattle.std.specs.Prelude.{◌≡◌, ◌^◌, ◌<◌, length, All, If
 ghost use Rattle.cat_base.specs.Texts.{IsTextSet};
 ghost use Rattle.cat_model.specs.Layout.{AreEnds};
 
+use crate::texts::{number, rows_in, set, texts};
 use cat_base::{Refusal, Text, TextSet};
 use cat_inverted::{MergeInput, Terms};
 use cat_values::{Dictionary, RowSet};
 use std::alloc::{AllocError, Global};
+use std::process::Abort;
 use std::test::Fail;
 
-fn set(alloc: Global, words: &[&str]) -> Result<TextSet, Fail> {
-    let mut texts = Vec::new(alloc);
-    for word in words {
-        texts.push(Text::from_str(alloc, word)?)?;
+fn sets(alloc: Global, rows: &[&[&str]]) -> Result<Vec<TextSet>, AllocError>
+    ensures { IfOk result (λ v. length v.items ≡ length rows.now) }
+{
+    let mut sets = Vec::new(alloc);
+    for words in rows {
+        sets.push(set(alloc, words)?)?;
     }
-    Ok(TextSet::of(texts))
+    Ok(sets)
 }
 
-fn terms_of_sets(alloc: Global, sets: &[TextSet]) -> Result<Terms, Fail>
+fn terms_of_sets(alloc: Global, sets: &[TextSet]) -> Result<Terms, AllocError>
     requires { length sets.now < 2 ^ 32 }
     ensures { IfOk result (λ t. length t ≡ length sets.now) }
 {
@@ -25,93 +29,161 @@ fn terms_of_sets(alloc: Global, sets: &[TextSet]) -> Result<Terms, Fail>
     for set in sets {
         rows.push(set.as_slice())?;
     }
-    Ok(Terms::build(alloc, &rows)?)
+    Terms::build(alloc, &rows)
 }
 
-fn terms(alloc: Global) -> Result<Terms, Fail>
-    ensures { IfOk result (λ t. length t ≡ 4) }
+/// The terms of the rows, of which each has these words.
+fn terms_of(alloc: Global, rows: &[&[&str]]) -> Result<Terms, AllocError>
+    requires { length rows.now < 2 ^ 32 }
+    ensures { IfOk result (λ t. length t ≡ length rows.now) }
 {
-    let sets = [
-        set(alloc, &["red", "shoe"])?,
-        set(alloc, &[])?,
-        set(alloc, &["shoe", "redder", "blue"])?,
-        set(alloc, &["reef"])?,
-    ];
+    let sets = sets(alloc, rows)?;
     terms_of_sets(alloc, &sets)
 }
 
-fn shown(alloc: Global, rows: &RowSet) -> Result<String, Fail> {
-    let indices: Vec<usize> = rows.iter().collect(alloc)?;
-    Ok(format!(in alloc; "{indices:?}")?)
+fn terms(alloc: Global) -> Result<Terms, AllocError>
+    ensures { IfOk result (λ t. length t ≡ 4) }
+{
+    terms_of(
+        alloc,
+        &[
+            &["red", "shoe"],
+            &[],
+            &["shoe", "redder", "blue"],
+            &["reef"],
+        ],
+    )
+}
+
+fn expect_words(rt: &impl Abort, alloc: Global, terms: &Terms, want: &str) -> Result<(), Fail> {
+    let shown = format!(in alloc; "{:?}", terms.words())?;
+    assert_eq!(rt; shown.as_str(), want);
+    Ok(())
+}
+
+fn expect_postings(
+    rt: &impl Abort,
+    alloc: Global,
+    terms: &Terms,
+    want: &[(&str, &str)],
+) -> Result<(), Fail> {
+    for (word, rows) in want {
+        let shown = format!(in alloc; "{:?}", terms.postings(word))?;
+        assert_eq!(rt; shown.as_str(), *rows, "{word}");
+    }
+    Ok(())
+}
+
+fn expect_set(
+    rt: &impl Abort,
+    alloc: Global,
+    set: &RowSet,
+    want: &str,
+    of: &str,
+) -> Result<(), Fail> {
+    let shown = format!(in alloc; "{:?}", rows_in(alloc, set)?)?;
+    assert_eq!(rt; shown.as_str(), want, "{of}");
+    Ok(())
+}
+
+fn expect_rows_with(
+    rt: &impl Abort,
+    alloc: Global,
+    terms: &Terms,
+    want: &[(&str, &str)],
+) -> Result<(), Fail> {
+    for (word, rows) in want {
+        expect_set(rt, alloc, &terms.rows_with(word)?, rows, word)?;
+    }
+    Ok(())
 }
 
 #[test]
 fn words_lead_to_their_rows(rt: HostRuntime) -> Result<(), Fail> {
+    const ROWS: &[(&str, &str)] = &[("blue", "[2]"), ("shoe", "[0, 2]"), ("re", "[]")];
     let alloc = rt.alloc();
     let terms = terms(alloc)?;
     assert_eq!(rt; terms.len(), 4);
-    let words = format!(in alloc; "{:?}", terms.words())?;
-    assert_eq!(rt;
-        words.as_str(),
-        "[\"blue\", \"red\", \"redder\", \"reef\", \"shoe\"]"
-    );
-    for (word, want) in [("blue", "[2]"), ("shoe", "[0, 2]"), ("re", "[]")] {
-        let postings = format!(in alloc; "{:?}", terms.postings(word))?;
-        assert_eq!(rt; postings.as_str(), want, "{word}");
-        let rows = terms.rows_with(word)?;
-        assert_eq!(rt; shown(alloc, &rows)?.as_str(), want, "{word}");
+    expect_words(
+        &rt,
+        alloc,
+        &terms,
+        r#"["blue", "red", "redder", "reef", "shoe"]"#,
+    )?;
+    expect_postings(&rt, alloc, &terms, ROWS)?;
+    expect_rows_with(&rt, alloc, &terms, ROWS)
+}
+
+fn expect_prefixes(
+    rt: &impl Abort,
+    alloc: Global,
+    terms: &Terms,
+    want: &[(&str, &str)],
+) -> Result<(), Fail> {
+    for (prefix, rows) in want {
+        expect_set(rt, alloc, &terms.prefix(prefix)?, rows, prefix)?;
     }
     Ok(())
 }
 
 #[test]
 fn prefixes_lead_to_rows(rt: HostRuntime) -> Result<(), Fail> {
-    let alloc = rt.alloc();
-    let terms = terms(alloc)?;
-    for (prefix, want) in [
+    const ROWS: &[(&str, &str)] = &[
         ("", "[0, 2, 3]"),
         ("red", "[0, 2]"),
         ("redd", "[2]"),
         ("t", "[]"),
         ("a", "[]"),
-    ] {
-        let rows = terms.prefix(prefix)?;
-        assert_eq!(rt; shown(alloc, &rows)?.as_str(), want, "{prefix}");
+    ];
+    let alloc = rt.alloc();
+    expect_prefixes(&rt, alloc, &terms(alloc)?, ROWS)
+}
+
+/// The text, where there is one.
+fn end(alloc: Global, text: Option<&str>) -> Result<Option<Text>, AllocError> {
+    match text {
+        Some(text) => Ok(Some(Text::from_str(alloc, text)?)),
+        None => Ok(None),
+    }
+}
+
+/// Ranges of words, each with the rows that have a word in it. An end that is absent bounds nothing.
+type Ranges<'a> = &'a [(Option<&'a str>, Option<&'a str>, &'a str)];
+
+fn expect_ranges(
+    rt: &impl Abort,
+    alloc: Global,
+    terms: &Terms,
+    want: Ranges<'_>,
+) -> Result<(), Fail> {
+    for (low, high, rows) in want {
+        let (from, to) = (end(alloc, *low)?, end(alloc, *high)?);
+        let set = terms.between(from.as_ref(), to.as_ref())?;
+        expect_set(rt, alloc, &set, rows, low.unwrap_or("*"))?;
     }
     Ok(())
 }
 
 #[test]
 fn ranges_lead_to_rows(rt: HostRuntime) -> Result<(), Fail> {
+    const ROWS: Ranges<'static> = &[
+        (Some("blue"), Some("blue"), "[2]"),
+        (Some("bluf"), Some("redder"), "[0, 2]"),
+        (Some("redder"), Some("red"), "[]"),
+        (Some("redder"), Some("z"), "[0, 2, 3]"),
+    ];
     let alloc = rt.alloc();
-    let terms = terms(alloc)?;
-    for (low, high, want) in [
-        ("blue", "blue", "[2]"),
-        ("bluf", "redder", "[0, 2]"),
-        ("redder", "red", "[]"),
-        ("redder", "z", "[0, 2, 3]"),
-    ] {
-        let (low, high) = (Text::from_str(alloc, low)?, Text::from_str(alloc, high)?);
-        let rows = terms.between(Some(&low), Some(&high))?;
-        assert_eq!(rt; shown(alloc, &rows)?.as_str(), want, "{low} {high}");
-    }
-    Ok(())
+    expect_ranges(&rt, alloc, &terms(alloc)?, ROWS)
 }
 
 #[test]
 fn open_ends_bound_nothing(rt: HostRuntime) -> Result<(), Fail> {
+    const ROWS: Ranges<'static> = &[
+        (None, Some("red"), "[0, 2]"),
+        (Some("red"), None, "[0, 2, 3]"),
+    ];
     let alloc = rt.alloc();
-    let terms = terms(alloc)?;
-    let red = Text::from_str(alloc, "red")?;
-    assert_eq!(rt;
-        shown(alloc, &terms.between(None, Some(&red))?)?.as_str(),
-        "[0, 2]"
-    );
-    assert_eq!(rt;
-        shown(alloc, &terms.between(Some(&red), None)?)?.as_str(),
-        "[0, 2, 3]"
-    );
-    Ok(())
+    expect_ranges(&rt, alloc, &terms(alloc)?, ROWS)
 }
 
 /// The terms of `len` rows with these words, whose postings end where `ends` says.
@@ -126,22 +198,10 @@ fn read(
     requires paired { length ends.now ≡ length words.now }
     requires parts { AreEnds 0 ends.now (length rows.now) }
 {
-    let mut texts = Vec::new(alloc);
-    for word in words {
-        texts.push(Text::from_str(alloc, word)?)?;
-    }
+    let words = texts(alloc, words)?;
     let ends = Vec::from_slice(alloc, ends)?;
     let rows = Vec::from_slice(alloc, rows)?;
-    Terms::from_postings(alloc, len, texts, ends, rows)
-}
-
-/// Whether the terms were refused as damaged.
-fn is_damaged(read: Result<Terms, Refusal>) -> Result<bool, Fail> {
-    match read {
-        Ok(_) => Ok(false),
-        Err(Refusal::Damaged) => Ok(true),
-        Err(refusal) => Err(refusal.into()),
-    }
+    Terms::from_postings(alloc, len, words, ends, rows)
 }
 
 #[test]
@@ -149,37 +209,48 @@ fn postings_make_terms(rt: HostRuntime) -> Result<(), Fail> {
     let alloc = rt.alloc();
     let terms = read(alloc, 3, &["blue", "red"], &[1, 3], &[2, 0, 2])?;
     assert_eq!(rt; terms.len(), 3);
-    let words = format!(in alloc; "{:?}", terms.words())?;
-    assert_eq!(rt; words.as_str(), "[\"blue\", \"red\"]");
-    let blue = format!(in alloc; "{:?}", terms.postings("blue"))?;
-    assert_eq!(rt; blue.as_str(), "[2]");
-    if terms.words().len() == 2 {
-        let red = format!(in alloc; "{:?}", terms.postings_at(1))?;
-        assert_eq!(rt; red.as_str(), "[0, 2]");
-    }
+    expect_words(&rt, alloc, &terms, r#"["blue", "red"]"#)?;
+    expect_postings(&rt, alloc, &terms, &[("blue", "[2]"), ("red", "[0, 2]")])?;
+    let red = if terms.words().len() == 2 {
+        terms.postings_at(1)
+    } else {
+        &[]
+    };
+    assert_eq!(rt; red, [0, 2].as_slice());
     Ok(())
 }
 
+/// Fails unless no terms of three rows have these words and postings.
+fn expect_no_terms(rt: &impl Abort, alloc: Global, words: &[&str], ends: &[u32], rows: &[u32])
+    requires paired { length ends.now ≡ length words.now }
+    requires parts { AreEnds 0 ends.now (length rows.now) }
+{
+    let got = number(&read(alloc, 3, words, ends, rows));
+    assert_eq!(rt; got, 31, "{words:?} {ends:?} {rows:?}");
+}
+
 #[test]
-fn postings_of_no_rows_are_damaged(rt: HostRuntime) -> Result<(), Fail> {
+fn postings_of_no_words_are_damaged(rt: HostRuntime) {
     let alloc = rt.alloc();
-    // Words that fall, and one that comes twice.
-    assert!(rt; is_damaged(read(alloc, 3, &["red", "blue"], &[1, 2], &[0, 1]))?);
-    assert!(rt; is_damaged(read(alloc, 3, &["red", "red"], &[1, 2], &[0, 1]))?);
-    // A word without rows.
-    assert!(rt; is_damaged(read(alloc, 3, &["blue", "red"], &[1, 1], &[0]))?);
+    // Words that fall, one that comes twice, and one without rows.
+    expect_no_terms(&rt, alloc, &["red", "blue"], &[1, 2], &[0, 1]);
+    expect_no_terms(&rt, alloc, &["red", "red"], &[1, 2], &[0, 1]);
+    expect_no_terms(&rt, alloc, &["blue", "red"], &[1, 1], &[0]);
+}
+
+#[test]
+fn postings_of_no_rows_are_damaged(rt: HostRuntime) {
+    let alloc = rt.alloc();
     // Rows that fall, one that comes twice, and one past the last.
-    assert!(rt; is_damaged(read(alloc, 3, &["red"], &[2], &[1, 0]))?);
-    assert!(rt; is_damaged(read(alloc, 3, &["red"], &[2], &[1, 1]))?);
-    assert!(rt; is_damaged(read(alloc, 3, &["red"], &[2], &[1, 3]))?);
-    Ok(())
+    expect_no_terms(&rt, alloc, &["red"], &[2], &[1, 0]);
+    expect_no_terms(&rt, alloc, &["red"], &[2], &[1, 1]);
+    expect_no_terms(&rt, alloc, &["red"], &[2], &[1, 3]);
 }
 
 /// The terms of three rows of which the second alone has the word.
 fn of_one_word(alloc: Global, word: &str) -> Result<Terms, AllocError> {
-    let mut texts = Vec::new(alloc);
-    texts.push(Text::from_str(alloc, word)?)?;
-    Terms::from_ordinals(alloc, Dictionary::of(alloc, texts)?, &[0, 1, 1], &[0])
+    let words = texts(alloc, &[word])?;
+    Terms::from_ordinals(alloc, Dictionary::of(alloc, words)?, &[0, 1, 1], &[0])
 }
 
 #[test]
@@ -187,13 +258,16 @@ fn ordinals_make_terms(rt: HostRuntime) -> Result<(), Fail> {
     let alloc = rt.alloc();
     let terms = of_one_word(alloc, "red")?;
     assert_eq!(rt; terms.len(), 3);
-    let red = format!(in alloc; "{:?} {:?}", terms.words(), terms.postings("red"))?;
-    assert_eq!(rt; red.as_str(), "[\"red\"] [1]");
-    Ok(())
+    expect_words(&rt, alloc, &terms, r#"["red"]"#)?;
+    expect_postings(&rt, alloc, &terms, &[("red", "[1]")])
 }
 
 /// So many rows, each with the same words.
-fn equal_rows<'a>(alloc: Global, words: &'a TextSet, count: usize) -> Result<Vec<&'a [Text]>, Fail>
+fn equal_rows<'a>(
+    alloc: Global,
+    words: &'a TextSet,
+    count: usize,
+) -> Result<Vec<&'a [Text]>, AllocError>
     ensures long { IfOk result (λ v. length v.items ≡ count) }
     ensures sets { IfOk result (λ v. All (λ r. IsTextSet r.now) v.items) }
 {
@@ -204,30 +278,33 @@ fn equal_rows<'a>(alloc: Global, words: &'a TextSet, count: usize) -> Result<Vec
     Ok(rows)
 }
 
-/// The terms of so many rows, each with the same words.
-fn terms_of_equal_rows(alloc: Global, words: &TextSet, count: usize) -> Result<Terms, Fail>
+/// The terms of so many rows, each with the same word.
+fn terms_of_equal_rows(alloc: Global, word: &str, count: usize) -> Result<Terms, AllocError>
     requires { count < 2 ^ 32 }
 {
-    let rows = equal_rows(alloc, words, count)?;
-    Ok(Terms::build(alloc, &rows)?)
+    let words = set(alloc, &[word])?;
+    let rows = equal_rows(alloc, &words, count)?;
+    Terms::build(alloc, &rows)
+}
+
+/// Fails unless all of 66,000 rows have the word `red`.
+fn expect_all_red(rt: &impl Abort, terms: &Terms) {
+    assert_eq!(rt; terms.len(), 66_000);
+    let red = terms.postings("red");
+    assert_eq!(rt; red.len(), 66_000);
+    assert!(rt; red.first() == Some(&0) && red.last() == Some(&65_999));
 }
 
 #[test]
 fn a_word_has_more_rows_than_two_bytes_count(rt: HostRuntime) -> Result<(), Fail> {
-    let alloc = rt.alloc();
-    let words = set(alloc, &["red"])?;
-    let terms = terms_of_equal_rows(alloc, &words, 66_000)?;
-    assert_eq!(rt; terms.len(), 66_000);
-    let postings = terms.postings("red");
-    assert_eq!(rt; postings.len(), 66_000);
-    assert_eq!(rt; postings.first(), Some(&0));
-    assert_eq!(rt; postings.last(), Some(&65_999));
+    let terms = terms_of_equal_rows(rt.alloc(), "red", 66_000)?;
+    expect_all_red(&rt, &terms);
     assert_eq!(rt; terms.rows_with("red")?.count(), 66_000);
     Ok(())
 }
 
 /// So many texts: the numbers from 0 on, in decimal.
-fn numbered_words(alloc: Global, count: usize) -> Result<TextSet, Fail> {
+fn numbered_words(alloc: Global, count: usize) -> Result<TextSet, AllocError> {
     let mut texts = Vec::new(alloc);
     for number in 0..count {
         texts.push(Text::new(format!(in alloc; "{number}")?))?;
@@ -235,23 +312,29 @@ fn numbered_words(alloc: Global, count: usize) -> Result<TextSet, Fail> {
     Ok(TextSet::of(texts))
 }
 
+/// The terms of a row with the word `0`, and one with so many.
+fn terms_of_many_words(alloc: Global, count: usize) -> Result<Terms, AllocError> {
+    let sets = [set(alloc, &["0"])?, numbered_words(alloc, count)?];
+    terms_of_sets(alloc, &sets)
+}
+
 #[test]
 fn a_row_has_more_words_than_two_bytes_count(rt: HostRuntime) -> Result<(), Fail> {
     let alloc = rt.alloc();
-    let sets = [set(alloc, &["0"])?, numbered_words(alloc, 66_000)?];
-    let terms = terms_of_sets(alloc, &sets)?;
+    let terms = terms_of_many_words(alloc, 66_000)?;
     assert_eq!(rt; terms.words().len(), 66_000);
     // In byte order the last is 9999.
-    let last = terms.words().last().map(|word| word.as_str());
-    assert_eq!(rt; last, Some("9999"));
-    assert_eq!(rt; terms.postings("0"), [0, 1].as_slice());
-    assert_eq!(rt; terms.postings("65999"), [1].as_slice());
+    assert_eq!(rt;
+        terms.words().last().map(|word| word.as_str()),
+        Some("9999")
+    );
+    expect_postings(&rt, alloc, &terms, &[("0", "[0, 1]"), ("65999", "[1]")])?;
     assert_eq!(rt; terms.prefix("6")?.count(), 1);
     Ok(())
 }
 
 /// The rows below the number.
-fn first_rows(alloc: Global, count: u32) -> Result<Vec<u32>, Refusal>
+fn first_rows(alloc: Global, count: u32) -> Result<Vec<u32>, AllocError>
     ensures { IfOk result (λ v. length v.items ≡ count) }
 {
     let mut rows = Vec::new(alloc);
@@ -270,16 +353,14 @@ fn read_equal_rows(alloc: Global, word: &str, count: u32) -> Result<Terms, Refus
 #[test]
 fn a_file_has_more_postings_than_two_bytes_count(rt: HostRuntime) -> Result<(), Fail> {
     let terms = read_equal_rows(rt.alloc(), "red", 66_000)?;
-    assert_eq!(rt; terms.len(), 66_000);
-    assert_eq!(rt; terms.postings("red").last(), Some(&65_999));
+    expect_all_red(&rt, &terms);
     Ok(())
 }
 
 /// The terms of rows of two segments: of the first segment the second and the last are left out, of the other the first.
-fn merged_without_some(alloc: Global) -> Result<Terms, Fail> {
+fn merged_without_some(alloc: Global) -> Result<Terms, AllocError> {
     let one = terms(alloc)?;
-    let sets = [set(alloc, &["red", "ash"])?, set(alloc, &["blue", "oak"])?];
-    let other = terms_of_sets(alloc, &sets)?;
+    let other = terms_of(alloc, &[&["red", "ash"], &["blue", "oak"]])?;
     let inputs = [
         MergeInput {
             terms: &one,
@@ -290,21 +371,12 @@ fn merged_without_some(alloc: Global) -> Result<Terms, Fail> {
             row_map: &[0, 3],
         },
     ];
-    Ok(Terms::merge(alloc, 3, &inputs)?)
+    Terms::merge(alloc, 3, &inputs)
 }
 
 #[test]
 fn a_merge_keeps_the_words_of_the_rows_that_stay(rt: HostRuntime) -> Result<(), Fail> {
-    let alloc = rt.alloc();
-    let terms = merged_without_some(alloc)?;
-    assert_eq!(rt; terms.len(), 3);
-    let words = format!(in alloc; "{:?}", terms.words())?;
-    // A word of no row that stays is gone.
-    assert_eq!(rt;
-        words.as_str(),
-        "[\"blue\", \"oak\", \"red\", \"redder\", \"shoe\"]"
-    );
-    for (word, want) in [
+    const ROWS: &[(&str, &str)] = &[
         ("blue", "[1, 2]"),
         ("oak", "[2]"),
         ("red", "[0]"),
@@ -312,17 +384,24 @@ fn a_merge_keeps_the_words_of_the_rows_that_stay(rt: HostRuntime) -> Result<(), 
         ("shoe", "[0, 1]"),
         ("reef", "[]"),
         ("ash", "[]"),
-    ] {
-        let postings = format!(in alloc; "{:?}", terms.postings(word))?;
-        assert_eq!(rt; postings.as_str(), want, "{word}");
-    }
-    Ok(())
+    ];
+    let alloc = rt.alloc();
+    let terms = merged_without_some(alloc)?;
+    assert_eq!(rt; terms.len(), 3);
+    // A word of no row that stays is gone.
+    expect_words(
+        &rt,
+        alloc,
+        &terms,
+        r#"["blue", "oak", "red", "redder", "shoe"]"#,
+    )?;
+    expect_postings(&rt, alloc, &terms, ROWS)
 }
 
 /// The terms of a row of a hundred words and a row of three of them, which lie far apart in byte order.
-fn merged_with_few(alloc: Global) -> Result<Terms, Fail> {
+fn merged_with_few(alloc: Global) -> Result<Terms, AllocError> {
     let one = terms_of_sets(alloc, &[numbered_words(alloc, 100)?])?;
-    let other = terms_of_sets(alloc, &[set(alloc, &["0", "50", "99"])?])?;
+    let other = terms_of(alloc, &[&["0", "50", "99"]])?;
     let inputs = [
         MergeInput {
             terms: &one,
@@ -333,17 +412,22 @@ fn merged_with_few(alloc: Global) -> Result<Terms, Fail> {
             row_map: &[2],
         },
     ];
-    Ok(Terms::merge(alloc, 2, &inputs)?)
+    Terms::merge(alloc, 2, &inputs)
 }
 
 #[test]
 fn a_merge_finds_words_that_lie_far_apart(rt: HostRuntime) -> Result<(), Fail> {
-    let terms = merged_with_few(rt.alloc())?;
+    const ROWS: &[(&str, &str)] = &[
+        ("0", "[0, 1]"),
+        ("1", "[0]"),
+        ("50", "[0, 1]"),
+        ("51", "[0]"),
+        ("99", "[0, 1]"),
+    ];
+    let alloc = rt.alloc();
+    let terms = merged_with_few(alloc)?;
     assert_eq!(rt; terms.words().len(), 100);
-    for (word, want) in [("0", 2), ("1", 1), ("50", 2), ("51", 1), ("99", 2)] {
-        assert_eq!(rt; terms.postings(word).len(), want, "{word}");
-    }
-    Ok(())
+    expect_postings(&rt, alloc, &terms, ROWS)
 }
 
 #[test]

@@ -1,7 +1,7 @@
 //! Items: the refusals of texts, and the values of an item.
-use crate::texts::{Parts, SHOP, joined, number, whole};
+use crate::texts::{Parts, SHOP, number, push_joined, whole};
 use cat_schema::{FieldValue, Schema};
-use std::alloc::Global;
+use std::alloc::{AllocError, Global};
 use std::process::Abort;
 use std::test::Fail;
 
@@ -180,42 +180,57 @@ fn item_limits(rt: HostRuntime) -> Result<(), Fail> {
     expect_long_items(&rt, rt.alloc(), ROWS)
 }
 
-#[test]
-fn item_values(rt: HostRuntime) -> Result<(), Fail> {
-    let alloc = rt.alloc();
+/// What the values of the item that the text gives under the fields of the shop spell, each after a bar but the first.
+fn shown_values(alloc: Global, text: &str) -> Result<String, Fail> {
     let schema = Schema::read(alloc, SHOP.as_bytes())?;
-    let text =
-        r#" {"title":"Red-Shoe 42é red","price":-5,"color":["red","blue","red"],"brand":"Acme Ltd","id":"sku-1"}"#;
     let item = schema.item(alloc, text.as_bytes())?.copy()?;
-    assert_eq!(rt; item.id(), "sku-1");
-    assert!(rt; item.source() == text.as_bytes());
-    shows(
-        &rt,
-        alloc,
-        item.values(),
-        "Acme Ltd|blue red|-5|42é red shoe",
-    )?;
-    let bare = schema.item(alloc, r#"{"id":"b"}"#.as_bytes())?.copy()?;
-    shows(&rt, alloc, bare.values(), "none||none|")
+    Ok(shown(alloc, item.values())?)
 }
 
-/// The values spell the text, each after a bar but the first.
-fn shows(rt: &impl Abort, alloc: Global, values: &[FieldValue], want: &str) -> Result<(), Fail> {
+fn shown(alloc: Global, values: &[FieldValue]) -> Result<String, AllocError> {
     let mut shown = String::new(alloc);
     for (i, value) in values.iter().enumerate() {
-        if i > 0 {
-            shown.push_str("|")?;
-        }
-        let text = match value {
-            FieldValue::Words(set) | FieldValue::Labels(set) => joined(alloc, set)?,
-            FieldValue::Keyword(Some(text)) => String::from_str(alloc, text.as_str())?,
-            FieldValue::Number(Some(number)) => format!(in alloc; "{number}")?,
-            FieldValue::Keyword(None) | FieldValue::Number(None) => String::from_str(
-                alloc, "none",
-            )?,
-        };
-        shown.push_str(text.as_str())?;
+        shown.push_str(if i == 0 { "" } else { "|" })?;
+        push_value(alloc, &mut shown, value)?;
     }
-    assert_eq!(rt; shown.as_str(), want);
+    Ok(shown)
+}
+
+fn push_value(alloc: Global, shown: &mut String, value: &FieldValue) -> Result<(), AllocError> {
+    match value {
+        FieldValue::Words(set) | FieldValue::Labels(set) => push_joined(shown, set),
+        FieldValue::Keyword(Some(text)) => shown.push_str(text.as_str()),
+        FieldValue::Number(Some(number)) => push_number(alloc, shown, *number),
+        FieldValue::Keyword(None) | FieldValue::Number(None) => shown.push_str("none"),
+    }
+}
+
+fn push_number(alloc: Global, shown: &mut String, number: i64) -> Result<(), AllocError> {
+    shown.push_str(&format!(in alloc; "{number}")?)
+}
+
+fn expect_values(rt: &impl Abort, alloc: Global, text: &str, want: &str) -> Result<(), Fail> {
+    assert_eq!(rt; shown_values(alloc, text)?.as_str(), want);
     Ok(())
+}
+
+/// The item of a text has its id, and the text itself.
+fn expect_id(rt: &impl Abort, alloc: Global, text: &str, id: &str) -> Result<(), Fail> {
+    let schema = Schema::read(alloc, SHOP.as_bytes())?;
+    let item = schema.item(alloc, text.as_bytes())?.copy()?;
+    assert!(rt;
+        item.id() == id && item.source() == text.as_bytes(),
+        "{text}"
+    );
+    Ok(())
+}
+
+#[test]
+fn item_values(rt: HostRuntime) -> Result<(), Fail> {
+    const FULL: &str =
+        r#" {"title":"Red-Shoe 42é red","price":-5,"color":["red","blue","red"],"brand":"Acme Ltd","id":"sku-1"}"#;
+    let alloc = rt.alloc();
+    expect_id(&rt, alloc, FULL, "sku-1")?;
+    expect_values(&rt, alloc, FULL, "Acme Ltd|blue red|-5|42é red shoe")?;
+    expect_values(&rt, alloc, r#"{"id":"b"}"#, "none||none|")
 }

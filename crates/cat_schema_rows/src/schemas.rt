@@ -1,7 +1,7 @@
 //! Schemas: the refusals of texts, and the fields of a schema.
 use crate::texts::{Parts, SHOP, number, whole};
-use cat_schema::{Kind, Schema};
-use std::alloc::Global;
+use cat_schema::{Field, Item, Kind, Schema};
+use std::alloc::{AllocError, Global};
 use std::process::Abort;
 use std::test::Fail;
 
@@ -79,39 +79,61 @@ fn fields_text(alloc: Global, count: u32) -> Result<String, Fail> {
     Ok(text)
 }
 
-#[test]
-fn schemas_of_32_fields(rt: HostRuntime) -> Result<(), Fail> {
-    let alloc = rt.alloc();
-    let most = Schema::read(alloc, fields_text(alloc, 32)?.as_bytes())?;
-    assert_eq!(rt; most.fields().len(), 32);
-    let more = Schema::read(alloc, fields_text(alloc, 33)?.as_bytes());
-    assert_eq!(rt; number(&more), 13);
+/// Reads the text of a schema of so many fields: its refusal has the number, or 0 where it is a schema.
+fn expect_count(rt: &impl Abort, alloc: Global, count: u32, want: u8) -> Result<(), Fail> {
+    let text = fields_text(alloc, count)?;
+    let got = number(&Schema::read(alloc, text.as_bytes()));
+    assert_eq!(rt; got, want, "{count} fields");
     Ok(())
 }
 
 #[test]
-fn schema_fields(rt: HostRuntime) -> Result<(), Fail> {
+fn schemas_of_32_fields(rt: HostRuntime) -> Result<(), Fail> {
     let alloc = rt.alloc();
-    let text = r#"{"title":"text","b_2":"number","b":"keyword","color":"number","color":"facet"}"#;
-    let schema = Schema::read(alloc, text.as_bytes())?.copy()?;
-    let want = [
+    expect_count(&rt, alloc, 32, 0)?;
+    expect_count(&rt, alloc, 33, 13)?;
+    let most = Schema::read(alloc, fields_text(alloc, 32)?.as_bytes())?;
+    assert_eq!(rt; most.fields().len(), 32);
+    Ok(())
+}
+
+/// Fails unless the fields have these names and kinds.
+fn expect_fields(rt: &impl Abort, fields: &[Field], want: &[(&str, Kind)]) {
+    assert_eq!(rt; fields.len(), want.len());
+    for (field, (name, kind)) in fields.iter().zip(want) {
+        assert!(rt; field.name() == *name && field.kind() == *kind, "{name}");
+    }
+}
+
+#[test]
+fn schema_fields(rt: HostRuntime) -> Result<(), Fail> {
+    const TEXT: &[u8] =
+        br#"{"title":"text","b_2":"number","b":"keyword","color":"number","color":"facet"}"#;
+    const WANT: &[(&str, Kind)] = &[
         ("b", Kind::Keyword),
         ("b_2", Kind::Number),
         ("color", Kind::Facet),
         ("title", Kind::Text),
     ];
-    assert_eq!(rt; schema.fields().len(), want.len());
-    for (field, (name, kind)) in schema.fields().iter().zip(want) {
-        assert_eq!(rt; field.name(), name);
-        assert_eq!(rt; field.kind(), kind, "of {name}");
+    let schema = Schema::read(rt.alloc(), TEXT)?.copy()?;
+    expect_fields(&rt, schema.fields(), WANT);
+    Ok(())
+}
+
+/// Fails unless the schemas of the texts are equal, or differ, both ways.
+fn expect_equal(rt: &impl Abort, alloc: Global, rows: &[(&str, &str, bool)]) -> Result<(), Fail> {
+    for (one, other, want) in rows {
+        let first = Schema::read(alloc, one.as_bytes())?;
+        let second = Schema::read(alloc, other.as_bytes())?;
+        let got = (first == second, second == first);
+        assert_eq!(rt; got, (*want, *want), "{one} {other}");
     }
     Ok(())
 }
 
 #[test]
 fn schemas_are_equal_by_names_and_kinds(rt: HostRuntime) -> Result<(), Fail> {
-    let alloc = rt.alloc();
-    let rows = [
+    const ROWS: &[(&str, &str, bool)] = &[
         ("{}", "{}", true),
         (
             r#"{"a":"text","b":"facet"}"#,
@@ -129,22 +151,26 @@ fn schemas_are_equal_by_names_and_kinds(rt: HostRuntime) -> Result<(), Fail> {
             false,
         ),
     ];
-    for (one, other, want) in rows {
-        let first = Schema::read(alloc, one.as_bytes())?;
-        let second = Schema::read(alloc, other.as_bytes())?;
-        assert_eq!(rt; first == second, want, "{one} {other}");
-        assert_eq!(rt; second == first, want, "{other} {one}");
+    expect_equal(&rt, rt.alloc(), ROWS)
+}
+
+/// Fails unless the schemas of the texts accept the item, or don't.
+fn expect_accepted(
+    rt: &impl Abort,
+    alloc: Global,
+    item: &Item,
+    rows: &[(&str, bool)],
+) -> Result<(), Fail> {
+    for (text, want) in rows {
+        let schema = Schema::read(alloc, text.as_bytes())?;
+        assert_eq!(rt; schema.accepts(item), *want, "{text}");
     }
     Ok(())
 }
 
 #[test]
 fn schemas_accept_the_items_of_their_fields(rt: HostRuntime) -> Result<(), Fail> {
-    let alloc = rt.alloc();
-    let under = Schema::read(alloc, r#"{"a":"text","b":"facet"}"#.as_bytes())?;
-    let full = under.item(alloc, r#"{"id":"1","a":"red","b":["x"]}"#.as_bytes())?;
-    let bare = under.item(alloc, r#"{"id":"2"}"#.as_bytes())?;
-    let rows = [
+    const ROWS: &[(&str, bool)] = &[
         (r#"{"a":"text","b":"facet"}"#, true),
         (r#"{"a":"text"}"#, false),
         ("{}", false),
@@ -152,32 +178,31 @@ fn schemas_accept_the_items_of_their_fields(rt: HostRuntime) -> Result<(), Fail>
         (r#"{"a":"text","b":"keyword"}"#, false),
         (r#"{"a":"text","c":"facet"}"#, false),
     ];
-    for (text, want) in rows {
-        let schema = Schema::read(alloc, text.as_bytes())?;
-        assert_eq!(rt; schema.accepts(&full), want, "{text}");
-        assert_eq!(rt; schema.accepts(&bare), want, "{text}");
-    }
+    let alloc = rt.alloc();
+    let under = Schema::read(alloc, br#"{"a":"text","b":"facet"}"#)?;
+    let full = under.item(alloc, br#"{"id":"1","a":"red","b":["x"]}"#)?;
+    expect_accepted(&rt, alloc, &full, ROWS)?;
+    let bare = under.item(alloc, br#"{"id":"2"}"#)?;
+    expect_accepted(&rt, alloc, &bare, ROWS)
+}
+
+/// So many opening brackets, and as many closing ones.
+fn nested(alloc: Global, count: u32) -> Result<String, AllocError> {
+    let closing = whole(alloc, &("", ("]", count), ""))?;
+    whole(alloc, &("", ("[", count), closing.as_str()))
+}
+
+/// Reads arrays that nest so deep as an item and as a schema, which both are refused so.
+fn expect_nesting(rt: &impl Abort, alloc: Global, count: u32, want: u8) -> Result<(), Fail> {
+    let text = nested(alloc, count)?;
+    let schema = Schema::read(alloc, SHOP.as_bytes())?;
+    let item = number(&schema.item(alloc, text.as_bytes()));
+    let fields = number(&Schema::read(alloc, text.as_bytes()));
+    assert_eq!(rt; (item, fields), (want, want), "{count} deep");
     Ok(())
 }
 
 /// Arrays nest at most 127 deep.
-fn expect_nesting(rt: &impl Abort, alloc: Global, count: u32, want: u8) -> Result<(), Fail> {
-    let closing = whole(alloc, &("", ("]", count), ""))?;
-    let text = whole(alloc, &("", ("[", count), closing.as_str()))?;
-    let schema = Schema::read(alloc, SHOP.as_bytes())?;
-    assert_eq!(rt;
-        number(&schema.item(alloc, text.as_bytes())),
-        want,
-        "an item {count} deep"
-    );
-    assert_eq!(rt;
-        number(&Schema::read(alloc, text.as_bytes())),
-        want,
-        "a schema {count} deep"
-    );
-    Ok(())
-}
-
 #[test]
 fn nesting(rt: HostRuntime) -> Result<(), Fail> {
     expect_nesting(&rt, rt.alloc(), 127, 13)?;

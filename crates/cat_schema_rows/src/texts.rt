@@ -30,11 +30,15 @@ pub(crate) fn whole(alloc: Global, parts: &Parts<'_>) -> Result<String, AllocErr
 /// The texts with a space between each two.
 pub(crate) fn joined(alloc: Global, set: &TextSet) -> Result<String, AllocError> {
     let mut text = String::new(alloc);
-    for part in set.as_slice() {
-        if !text.is_empty() {
-            text.push_str(" ")?;
-        }
+    push_joined(&mut text, set)?;
+    Ok(text)
+}
+
+/// Appends the texts with a space between each two.
+pub(crate) fn push_joined(text: &mut String, set: &TextSet) -> Result<(), AllocError> {
+    for (i, part) in set.as_slice().iter().enumerate() {
+        text.push_str(if i == 0 { "" } else { " " })?;
         text.push_str(part.as_str())?;
     }
-    Ok(text)
+    Ok(())
 }

@@ -37,7 +37,7 @@ fn expect_ids(rt: &impl Abort, rows: &[(&str, bool)]) {
 }
 
 #[test]
-fn ids(rt: HostRuntime) -> Result<(), Fail> {
+fn ids(rt: HostRuntime) {
     const ROWS: &[(&str, bool)] = &[
         ("a", true),
         ("!~", true),
@@ -47,8 +47,16 @@ fn ids(rt: HostRuntime) -> Result<(), Fail> {
         ("\u{7f}", false),
     ];
     expect_ids(&rt, ROWS);
-    let alloc = rt.alloc();
-    assert!(rt; id_ok(whole(alloc, &("", ("x", 64), ""))?.as_str()));
-    assert!(rt; !id_ok(whole(alloc, &("", ("x", 65), ""))?.as_str()));
+}
+
+fn expect_long_id(rt: &impl Abort, alloc: Global, count: u32, want: bool) -> Result<(), Fail> {
+    let id = whole(alloc, &("", ("x", count), ""))?;
+    assert_eq!(rt; id_ok(&id), want, "{count} bytes");
     Ok(())
+}
+
+#[test]
+fn ids_of_64_bytes(rt: HostRuntime) -> Result<(), Fail> {
+    expect_long_id(&rt, rt.alloc(), 64, true)?;
+    expect_long_id(&rt, rt.alloc(), 65, false)
 }

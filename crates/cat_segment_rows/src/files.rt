@@ -9,31 +9,25 @@ use std::alloc::{AllocError, Global};
 use std::process::Abort;
 use std::test::Fail;
 
-/// Segment 1, of the item that the first write put: `{"id":"a","price":5,"color":["red"]}`.
-#[rattlefmt::skip]
-const SEGMENT: [u8; 86] = [
+/// The file of segment 1, of the item that the first write put: `{"id":"a","price":5,"color":["red"]}`.
+const SEGMENT: &[&[u8]] = &[
     // The magic word, the version, the number, the number of rows.
-    0x43, 0x53, 0x45, 0x47, 1, 0, 0, 0, 0, 0, 0, 0, 1, 0, 0, 0, 1,
+    b"CSEG\x01\0\0\0\0\0\0\0\x01\0\0\0\x01",
     // Two fields: the facet `color` and the number `price`.
-    0, 0, 0, 2, 0, 0, 0, 5, 0x63, 0x6f, 0x6c, 0x6f, 0x72, 4,
-    0, 0, 0, 5, 0x70, 0x72, 0x69, 0x63, 0x65, 3,
+    b"\0\0\0\x02\0\0\0\x05color\x04\0\0\0\x05price\x03",
     // The row: its number, its id, the length of its text.
-    0, 0, 0, 0, 0, 0, 0, 1, 0, 0, 0, 1, 0x61, 0, 0, 0, 36,
+    b"\0\0\0\0\0\0\0\x01\0\0\0\x01a\0\0\0\x24",
     // The colors: one label, and the row's one ordinal.
-    0, 0, 0, 1, 0, 0, 0, 3, 0x72, 0x65, 0x64, 0, 0, 0, 1, 0, 0, 0, 0,
+    b"\0\0\0\x01\0\0\0\x03red\0\0\0\x01\0\0\0\0",
     // The price.
-    1, 0, 0, 0, 0, 0, 0, 0, 5,
+    b"\x01\0\0\0\0\0\0\0\x05",
 ];
 
-/// Where the column of the colors begins, and where it ends.
-const COLORS: usize = 58;
-
-const PRICES: usize = 77;
+/// Which part has the colors.
+const COLORS: usize = 3;
 
 /// The live rows of segment 1 in commit 2: of one row none.
-const LIVE: [u8; 26] = [
-    0x43, 0x4c, 0x49, 0x56, 1, 0, 0, 0, 0, 0, 0, 0, 1, 0, 0, 0, 0, 0, 0, 0, 2, 0, 0, 0, 1, 0,
-];
+const LIVE: &[u8] = b"CLIV\x01\0\0\0\0\0\0\0\x01\0\0\0\0\0\0\0\x02\0\0\0\x01\0";
 
 /// The segment that the bytes are of.
 fn segment(alloc: Global) -> Result<Segment, Refusal>
@@ -48,20 +42,40 @@ fn segment(alloc: Global) -> Result<Segment, Refusal>
     Ok(Segment::of(alloc, 1, &schema, &[row])?)
 }
 
+/// The parts one behind another, with the last one given in place of that of the index.
+fn file_with(
+    alloc: Global,
+    parts: &[&[u8]],
+    index: usize,
+    part: &[u8],
+) -> Result<Vec<u8>, AllocError> {
+    let mut bytes = Vec::new(alloc);
+    for (place, other) in parts.iter().enumerate() {
+        bytes.extend_from_slice(if place == index { part } else { other })?;
+    }
+    Ok(bytes)
+}
+
+/// The bytes of the segment's file.
+fn file(alloc: Global) -> Result<Vec<u8>, AllocError> {
+    file_with(alloc, SEGMENT, SEGMENT.len(), &[])
+}
+
+/// The bytes, with all bits of the one at the place turned.
+fn turned(alloc: Global, bytes: &[u8], place: usize) -> Result<Vec<u8>, AllocError> {
+    let mut bytes = Vec::from_slice(alloc, bytes)?;
+    if let Some(byte) = bytes.get_mut(place) {
+        *byte = !*byte;
+    }
+    Ok(bytes)
+}
+
 /// Fails unless no segment is spelled so.
 fn expect_damaged(rt: &impl Abort, alloc: Global, bytes: &[u8]) {
     assert!(rt;
         matches!(decode_seg(alloc, bytes), Err(Refusal::Damaged)),
         "{bytes:?}"
     );
-}
-
-/// The bytes with those of the colors replaced.
-fn with_colors(alloc: Global, colors: &[u8]) -> Result<Vec<u8>, AllocError> {
-    let mut bytes = Vec::from_slice(alloc, &SEGMENT[..COLORS])?;
-    bytes.extend_from_slice(colors)?;
-    bytes.extend_from_slice(&SEGMENT[PRICES..])?;
-    Ok(bytes)
 }
 
 /// Whether the bytes are damaged, or those of the segment that is read of them.
@@ -72,53 +86,65 @@ fn are_exact(alloc: Global, bytes: &[u8]) -> Result<bool, Refusal> {
     }
 }
 
+/// Fails unless the segment has these bytes.
+fn expect_written(
+    rt: &impl Abort,
+    alloc: Global,
+    segment: &Segment,
+    bytes: &[u8],
+) -> Result<(), Fail>
+    requires { segment.now.number ≡ 1 }
+{
+    let written = encode_seg(alloc, segment)?;
+    assert_eq!(rt; written.as_slice(), bytes);
+    Ok(())
+}
+
 #[test]
 fn a_segment_has_these_bytes(rt: HostRuntime) -> Result<(), Fail> {
     let alloc = rt.alloc();
-    let written = encode_seg(alloc, &segment(alloc)?)?;
-    assert_eq!(rt; written.as_slice(), SEGMENT.as_slice());
-    let read = decode_seg(alloc, &SEGMENT)?;
+    let bytes = file(alloc)?;
+    assert!(rt; are_exact(alloc, &bytes)?);
+    expect_written(&rt, alloc, &segment(alloc)?, &bytes)
+}
+
+#[test]
+fn these_bytes_have_a_segment(rt: HostRuntime) -> Result<(), Fail> {
+    let alloc = rt.alloc();
+    let read = decode_seg(alloc, &file(alloc)?)?;
     assert_eq!(rt; (read.number(), read.len()), (1, 1));
-    assert_eq!(rt; read.row_with("a"), Some(0));
-    assert_eq!(rt; read.row_with("b"), None);
-    let again = encode_seg(alloc, &read)?;
-    assert_eq!(rt; again.as_slice(), SEGMENT.as_slice());
+    assert_eq!(rt; (read.row_with("a"), read.row_with("b")), (Some(0), None));
     Ok(())
 }
 
 #[test]
 fn a_front_of_a_segment_is_damaged_and_so_is_a_byte_more(rt: HostRuntime) -> Result<(), Fail> {
     let alloc = rt.alloc();
-    for end in 0..SEGMENT.len() {
-        expect_damaged(&rt, alloc, &SEGMENT[..end]);
+    let mut bytes = file(alloc)?;
+    for end in 0..bytes.len() {
+        expect_damaged(&rt, alloc, bytes.get(..end).unwrap_or(&[]));
     }
-    let mut longer = Vec::from_slice(alloc, &SEGMENT)?;
-    longer.push(0)?;
-    expect_damaged(&rt, alloc, &longer);
+    bytes.push(0)?;
+    expect_damaged(&rt, alloc, &bytes);
     Ok(())
 }
 
 #[test]
 fn a_turned_byte_is_damaged_or_spells_another_segment(rt: HostRuntime) -> Result<(), Fail> {
     let alloc = rt.alloc();
-    for place in 0..SEGMENT.len() {
-        let mut bytes = SEGMENT;
-        bytes[place] = !bytes[place];
-        assert!(rt; are_exact(alloc, &bytes)?, "byte {place}");
+    let bytes = file(alloc)?;
+    for place in 0..bytes.len() {
+        let other = turned(alloc, &bytes, place)?;
+        assert!(rt; are_exact(alloc, &other)?, "byte {place}");
     }
     Ok(())
 }
 
 #[test]
 fn dictionaries_are_in_order_and_used(rt: HostRuntime) -> Result<(), Fail> {
-    let alloc = rt.alloc();
     // Blue before red, and the row has both: a second label, so that what follows is wrong in one thing each.
-    let right = with_colors(
-        alloc,
-        b"\0\0\0\x02\0\0\0\x04blue\0\0\0\x03red\0\0\0\x02\0\0\0\0\0\0\0\x01",
-    )?;
-    assert!(rt; decode_seg(alloc, &right).is_ok());
-    let damaged: [&[u8]; 8] = [
+    const RIGHT: &[u8] = b"\0\0\0\x02\0\0\0\x04blue\0\0\0\x03red\0\0\0\x02\0\0\0\0\0\0\0\x01";
+    const WRONG: &[&[u8]] = &[
         // Red before blue.
         b"\0\0\0\x02\0\0\0\x03red\0\0\0\x04blue\0\0\0\x02\0\0\0\0\0\0\0\x01",
         // Red twice.
@@ -134,9 +160,11 @@ fn dictionaries_are_in_order_and_used(rt: HostRuntime) -> Result<(), Fail> {
         b"\0\0\0\x01\0\0\0\0\0\0\0\x01\0\0\0\0",
         b"\0\0\0\x01\0\0\0\x03r\xffd\0\0\0\x01\0\0\0\0",
     ];
-    for colors in damaged {
-        let bytes = with_colors(alloc, colors)?;
-        expect_damaged(&rt, alloc, &bytes);
+    let alloc = rt.alloc();
+    let right = file_with(alloc, SEGMENT, COLORS, RIGHT)?;
+    assert!(rt; decode_seg(alloc, &right).is_ok());
+    for colors in WRONG {
+        expect_damaged(&rt, alloc, &file_with(alloc, SEGMENT, COLORS, colors)?);
     }
     Ok(())
 }
@@ -147,31 +175,51 @@ fn live_rows_have_these_bytes(rt: HostRuntime) -> Result<(), Fail> {
     let mut live = Live::all(alloc, 1)?;
     live.kill(0);
     let written = encode_liv(1, 2, &live)?;
-    assert_eq!(rt; written.as_slice(), LIVE.as_slice());
-    let read = decode_liv(alloc, &LIVE)?;
+    assert_eq!(rt; written.as_slice(), LIVE);
+    Ok(())
+}
+
+#[test]
+fn these_bytes_have_live_rows(rt: HostRuntime) -> Result<(), Fail> {
+    let read = decode_liv(rt.alloc(), LIVE)?;
     assert_eq!(rt; (read.number, read.generation), (1, 2));
     assert_eq!(rt; (read.live.len(), read.live.count()), (1, 0));
     Ok(())
+}
+
+/// Fails unless no live rows are spelled so.
+fn expect_no_live_rows(rt: &impl Abort, alloc: Global, bytes: &[u8]) {
+    assert!(rt;
+        matches!(decode_liv(alloc, bytes), Err(Refusal::Damaged)),
+        "{bytes:?}"
+    );
+}
+
+/// The bytes but for the last, and the last one given behind them.
+fn with_last(alloc: Global, bytes: &[u8], last: u8) -> Result<Vec<u8>, AllocError> {
+    let mut bytes = Vec::from_slice(alloc, bytes)?;
+    bytes.pop();
+    bytes.push(last)?;
+    Ok(bytes)
 }
 
 #[test]
 fn live_rows_are_damaged_without_a_dead_one_or_past_the_last(rt: HostRuntime) -> Result<(), Fail> {
     let alloc = rt.alloc();
     // The one row is live; a row that isn't there is.
-    for last in [1u8, 2] {
-        let mut bytes = LIVE;
-        bytes[25] = last;
-        assert!(rt;
-            matches!(decode_liv(alloc, &bytes), Err(Refusal::Damaged)),
-            "{last}"
-        );
-    }
+    expect_no_live_rows(&rt, alloc, &with_last(alloc, LIVE, 1)?);
+    expect_no_live_rows(&rt, alloc, &with_last(alloc, LIVE, 2)?);
+    Ok(())
+}
+
+#[test]
+fn a_front_of_live_rows_is_damaged_and_so_is_a_byte_more(rt: HostRuntime) -> Result<(), Fail> {
+    let alloc = rt.alloc();
     for end in 0..LIVE.len() {
-        let front = decode_liv(alloc, &LIVE[..end]);
-        assert!(rt; matches!(front, Err(Refusal::Damaged)), "{end}");
+        expect_no_live_rows(&rt, alloc, LIVE.get(..end).unwrap_or(&[]));
     }
-    let mut longer = Vec::from_slice(alloc, &LIVE)?;
+    let mut longer = Vec::from_slice(alloc, LIVE)?;
     longer.push(0)?;
-    assert!(rt; matches!(decode_liv(alloc, &longer), Err(Refusal::Damaged)));
+    expect_no_live_rows(&rt, alloc, &longer);
     Ok(())
 }

@@ -15,7 +15,7 @@ use std::test::Fail;
 const FIELDS: &[u8] = br#"{"brand":"keyword","color":"facet","price":"number","title":"text"}"#;
 
 // What an item may have in each field.
-const BRANDS: [&str; 6] = [
+const BRANDS: &[&str] = &[
     "",
     ",\"brand\":\"ac\"",
     ",\"brand\":\"acme\"",
@@ -24,7 +24,7 @@ const BRANDS: [&str; 6] = [
     ",\"brand\":\"zed\"",
 ];
 
-const COLORS: [&str; 6] = [
+const COLORS: &[&str] = &[
     "",
     ",\"color\":[]",
     ",\"color\":[\"red\"]",
@@ -33,7 +33,7 @@ const COLORS: [&str; 6] = [
     ",\"color\":[\"rose\",\"black\",\"red\"]",
 ];
 
-const PRICES: [&str; 6] = [
+const PRICES: &[&str] = &[
     "",
     ",\"price\":-3",
     ",\"price\":0",
@@ -42,7 +42,7 @@ const PRICES: [&str; 6] = [
     ",\"price\":9223372036854775807",
 ];
 
-const TITLES: [&str; 6] = [
+const TITLES: &[&str] = &[
     "",
     ",\"title\":\"\"",
     ",\"title\":\"Garden shovel\"",
@@ -51,9 +51,9 @@ const TITLES: [&str; 6] = [
     ",\"title\":\"shoe, garden; shoe\"",
 ];
 
-const SIGNS: [&str; 4] = ["", "", "+", "-"];
+const SIGNS: &[&str] = &["", "", "+", "-"];
 
-const TESTS: [&str; 22] = [
+const TESTS: &[&str] = &[
     "*:*",
     "brand:ac",
     "brand:b*",
@@ -106,10 +106,10 @@ impl Dice {
 
 fn item_text(alloc: Global, dice: &mut Dice, row: usize) -> Result<String, AllocError> {
     let mut text = format!(in alloc; "{{\"id\":\"i{row}\"")?;
-    text.push_str(dice.pick(&BRANDS))?;
-    text.push_str(dice.pick(&COLORS))?;
-    text.push_str(dice.pick(&PRICES))?;
-    text.push_str(dice.pick(&TITLES))?;
+    text.push_str(dice.pick(BRANDS))?;
+    text.push_str(dice.pick(COLORS))?;
+    text.push_str(dice.pick(PRICES))?;
+    text.push_str(dice.pick(TITLES))?;
     text.push('}')?;
     Ok(text)
 }
@@ -126,20 +126,24 @@ fn item_texts(alloc: Global, dice: &mut Dice, count: usize) -> Result<Vec<String
 fn push_clauses(text: &mut String, dice: &mut Dice) -> Result<(), AllocError> {
     for place in 0..dice.roll(3) + 1 {
         text.push_str(if place == 0 { "" } else { " " })?;
-        text.push_str(dice.pick(&SIGNS))?;
-        text.push_str(dice.pick(&TESTS))?;
+        text.push_str(dice.pick(SIGNS))?;
+        text.push_str(dice.pick(TESTS))?;
     }
     Ok(())
 }
+
+const OPENINGS: &[&str] = &[" (", " +(", " -("];
+
+const CLOSINGS: &[&str] = &[") ", ") +", ") -"];
 
 /// Clauses, then a group of clauses, and a clause behind it.
 fn query_text(alloc: Global, dice: &mut Dice) -> Result<String, AllocError> {
     let mut text = String::new(alloc);
     push_clauses(&mut text, dice)?;
-    text.push_str(dice.pick(&[" (", " +(", " -("]))?;
+    text.push_str(dice.pick(OPENINGS))?;
     push_clauses(&mut text, dice)?;
-    text.push_str(dice.pick(&[") ", ") +", ") -"]))?;
-    text.push_str(dice.pick(&TESTS))?;
+    text.push_str(dice.pick(CLOSINGS))?;
+    text.push_str(dice.pick(TESTS))?;
     Ok(text)
 }
 
@@ -176,6 +180,22 @@ fn segment_of(alloc: Global, schema: &Schema, items: &[Item]) -> Result<Option<S
         return Ok(None);
     }
     Ok(Some(Segment::of(alloc, 1, schema, &rows)?))
+}
+
+/// The same, where the items can be the rows of one.
+fn segment_made(
+    rt: &impl Abort,
+    alloc: Global,
+    schema: &Schema,
+    items: &[Item],
+) -> Result<Segment, Refusal>
+    requires { All (IsItem schema.now) items.now }
+    ensures { IfOk result (λ s. s.number ≡ 1) }
+{
+    match segment_of(alloc, schema, items)? {
+        Some(segment) => Ok(segment),
+        None => panic!(rt; "no segment of {}", items.len()),
+    }
 }
 
 /// Whether the set says of each row what the query says of the row's item.
@@ -222,9 +242,7 @@ fn expect_rows_of(
 ) -> Result<(), Fail> {
     let schema = Schema::read(alloc, FIELDS)?;
     let items = read_items(alloc, &schema, &strings(alloc, texts)?)?;
-    let Some(segment) = segment_of(alloc, &schema, &items)? else {
-        panic!(rt; "no segment");
-    };
+    let segment = segment_made(rt, alloc, &schema, &items)?;
     for (text, places) in rows {
         let found = rows_matched(alloc, &segment, &items, text)?;
         assert_eq!(rt; found.as_deref(), Some(*places), "{text}");
@@ -308,14 +326,17 @@ fn ordinals_of(alloc: Global, labels: &SetColumn) -> Result<String, AllocError> 
     Ok(text)
 }
 
+/// The segment of the items with colors.
+fn colored(rt: &impl Abort, alloc: Global) -> Result<Segment, Refusal> {
+    let schema = Schema::read(alloc, FIELDS)?;
+    let items = read_items(alloc, &schema, &strings(alloc, COLORED)?)?;
+    segment_made(rt, alloc, &schema, &items)
+}
+
 #[test]
 fn labels_have_ordinals_in_byte_order(rt: HostRuntime) -> Result<(), Fail> {
     let alloc = rt.alloc();
-    let schema = Schema::read(alloc, FIELDS)?;
-    let items = read_items(alloc, &schema, &strings(alloc, COLORED)?)?;
-    let Some(segment) = segment_of(alloc, &schema, &items)? else {
-        panic!(rt; "no segment");
-    };
+    let segment = colored(&rt, alloc)?;
     let Some(Column::Facet(colors)) = segment.column("color") else {
         panic!(rt; "no colors");
     };
@@ -325,54 +346,87 @@ fn labels_have_ordinals_in_byte_order(rt: HostRuntime) -> Result<(), Fail> {
     Ok(())
 }
 
+/// So many items of thrown values.
+fn thrown_items(
+    alloc: Global,
+    schema: &Schema,
+    dice: &mut Dice,
+    count: usize,
+) -> Result<Vec<Item>, Refusal>
+    ensures { IfOk result (λ v. All (IsItem schema.now) v.items) }
+{
+    let texts = item_texts(alloc, dice, count)?;
+    read_items(alloc, schema, &texts)
+}
+
+/// How many rows match so many thrown queries together. Fails unless the items of these rows, and no others, are accepted.
+fn count_matched(
+    rt: &impl Abort,
+    alloc: Global,
+    segment: &Segment,
+    items: &[Item],
+    dice: &mut Dice,
+    queries: u32,
+) -> Result<usize, Fail> {
+    let mut matched = 0usize;
+    for _ in 0..queries {
+        let text = query_text(alloc, dice)?;
+        match rows_matched(alloc, segment, items, &text)? {
+            Some(rows) => matched = matched.saturating_add(rows.len()),
+            None => panic!(rt; "{text} of {}", items.len()),
+        }
+    }
+    Ok(matched)
+}
+
+/// Matches a hundred queries with the rows of a segment of so many items.
+fn expect_agreement(rt: &impl Abort, alloc: Global, seed: u64, size: usize) -> Result<(), Fail> {
+    let schema = Schema::read(alloc, FIELDS)?;
+    let mut dice = Dice { state: seed };
+    let items = thrown_items(alloc, &schema, &mut dice, size)?;
+    let segment = segment_made(rt, alloc, &schema, &items)?;
+    let matched = count_matched(rt, alloc, &segment, &items, &mut dice, 100)?;
+    // The texts match some rows, and not all.
+    let some = size < matched && matched < size.saturating_mul(99);
+    assert!(rt; some, "{matched} of {size}");
+    Ok(())
+}
+
 #[test]
 fn sets_agree_with_items(rt: HostRuntime) -> Result<(), Fail> {
+    const SIZES: &[usize] = &[1, 63, 64, 65, 128, 1_000];
     let alloc = rt.alloc();
-    let schema = Schema::read(alloc, FIELDS)?;
-    let mut dice = Dice { state: 1 };
-    for size in [1usize, 63, 64, 65, 128, 1_000] {
-        let texts = item_texts(alloc, &mut dice, size)?;
-        let items = read_items(alloc, &schema, &texts)?;
-        let Some(segment) = segment_of(alloc, &schema, &items)? else {
-            panic!(rt; "no segment of {size}");
-        };
-        let mut matched = 0usize;
-        for _ in 0..100 {
-            let text = query_text(alloc, &mut dice)?;
-            let Some(rows) = rows_matched(alloc, &segment, &items, &text)? else {
-                panic!(rt; "{text} of {size}");
-            };
-            matched = matched.saturating_add(rows.len());
-        }
-        // The texts match some rows, and not all.
-        assert!(rt;
-            size < matched && matched < size.saturating_mul(99),
-            "{matched} of {size}"
-        );
+    for size in SIZES {
+        expect_agreement(&rt, alloc, *size as u64, *size)?;
     }
+    Ok(())
+}
+
+/// The segment that is read of the bytes of this one. Fails unless it has the same bytes.
+fn read_again(rt: &impl Abort, alloc: Global, segment: &Segment) -> Result<Segment, Refusal>
+    requires { segment.now.number ≡ 1 }
+{
+    let bytes = encode_seg(alloc, segment)?;
+    let read = decode_seg(alloc, &bytes)?;
+    let again = encode_seg(alloc, &read)?;
+    assert!(rt; again.as_slice() == bytes.as_slice(), "{} rows", read.len());
+    Ok(read)
+}
+
+/// Writes and reads a segment of so many items, and matches twenty queries with its rows.
+fn expect_rereading(rt: &impl Abort, alloc: Global, seed: u64, size: usize) -> Result<(), Fail> {
+    let schema = Schema::read(alloc, FIELDS)?;
+    let mut dice = Dice { state: seed };
+    let items = thrown_items(alloc, &schema, &mut dice, size)?;
+    let read = read_again(rt, alloc, &segment_made(rt, alloc, &schema, &items)?)?;
+    count_matched(rt, alloc, &read, &items, &mut dice, 20)?;
     Ok(())
 }
 
 #[test]
 fn a_segment_is_read_as_it_was_written(rt: HostRuntime) -> Result<(), Fail> {
     let alloc = rt.alloc();
-    let schema = Schema::read(alloc, FIELDS)?;
-    let mut dice = Dice { state: 2 };
-    for size in [1usize, 65, 1_000] {
-        let texts = item_texts(alloc, &mut dice, size)?;
-        let items = read_items(alloc, &schema, &texts)?;
-        let Some(segment) = segment_of(alloc, &schema, &items)? else {
-            panic!(rt; "no segment of {size}");
-        };
-        let bytes = encode_seg(alloc, &segment)?;
-        let read = decode_seg(alloc, &bytes)?;
-        let again = encode_seg(alloc, &read)?;
-        assert!(rt; again.as_slice() == bytes.as_slice(), "{size}");
-        for _ in 0..20 {
-            let text = query_text(alloc, &mut dice)?;
-            let found = rows_matched(alloc, &read, &items, &text)?;
-            assert!(rt; found.is_some(), "{text} of {size}");
-        }
-    }
-    Ok(())
+    expect_rereading(&rt, alloc, 1, 1)?;
+    expect_rereading(&rt, alloc, 2, 65)?;
+    expect_rereading(&rt, alloc, 3, 1_000)
 }

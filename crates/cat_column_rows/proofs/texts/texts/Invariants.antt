@@ -1,5 +1,5 @@
 use Rattle.std.proofs.Common.{◌≡◌, length}
-use Rattle.cat_column_rows.proofs.terms.read.Given as goal
+use Rattle.cat_column_rows.proofs.texts.texts.Given as goal
 
 abbrev pub invariant-loop-word : goal.invariant-loop-word
 invariant-loop-word l = length l.texts.items ≡ l.word-index
