@@ -204,20 +204,24 @@ fn read(
     Terms::from_postings(alloc, len, words, ends, rows)
 }
 
+/// The postings of the second word in byte order, by its ordinal.
+fn second_postings(terms: &Terms) -> &[u32] {
+    if terms.words().len() < 2 {
+        return &[];
+    }
+    terms.postings_at(1)
+}
+
 #[test]
 fn postings_make_terms(rt: HostRuntime) -> Result<(), Fail> {
     let alloc = rt.alloc();
     let terms = read(alloc, 3, &["blue", "red"], &[1, 3], &[2, 0, 2])?;
-    assert_eq!(rt; terms.len(), 3);
+    assert_eq!(rt;
+        (terms.len(), second_postings(&terms)),
+        (3, [0, 2].as_slice())
+    );
     expect_words(&rt, alloc, &terms, r#"["blue", "red"]"#)?;
-    expect_postings(&rt, alloc, &terms, &[("blue", "[2]"), ("red", "[0, 2]")])?;
-    let red = if terms.words().len() == 2 {
-        terms.postings_at(1)
-    } else {
-        &[]
-    };
-    assert_eq!(rt; red, [0, 2].as_slice());
-    Ok(())
+    expect_postings(&rt, alloc, &terms, &[("blue", "[2]"), ("red", "[0, 2]")])
 }
 
 /// Fails unless no terms of three rows have these words and postings.
@@ -249,7 +253,8 @@ fn postings_of_no_rows_are_damaged(rt: HostRuntime) {
 
 /// The terms of three rows of which the second alone has the word.
 fn of_one_word(alloc: Global, word: &str) -> Result<Terms, AllocError> {
-    let words = texts(alloc, &[word])?;
+    let mut words = Vec::new(alloc);
+    words.push(Text::from_str(alloc, word)?)?;
     Terms::from_ordinals(alloc, Dictionary::of(alloc, words)?, &[0, 1, 1], &[0])
 }
 
@@ -314,8 +319,9 @@ fn numbered_words(alloc: Global, count: usize) -> Result<TextSet, AllocError> {
 
 /// The terms of a row with the word `0`, and one with so many.
 fn terms_of_many_words(alloc: Global, count: usize) -> Result<Terms, AllocError> {
-    let sets = [set(alloc, &["0"])?, numbered_words(alloc, count)?];
-    terms_of_sets(alloc, &sets)
+    let few = set(alloc, &["0"])?;
+    let many = numbered_words(alloc, count)?;
+    Terms::build(alloc, &[few.as_slice(), many.as_slice()])
 }
 
 #[test]
@@ -398,9 +404,17 @@ fn a_merge_keeps_the_words_of_the_rows_that_stay(rt: HostRuntime) -> Result<(), 
     expect_postings(&rt, alloc, &terms, ROWS)
 }
 
+/// The terms of a row of so many words.
+fn terms_of_numbers(alloc: Global, count: usize) -> Result<Terms, AllocError>
+    ensures { IfOk result (λ t. length t ≡ 1) }
+{
+    let words = numbered_words(alloc, count)?;
+    Terms::build(alloc, &[words.as_slice()])
+}
+
 /// The terms of a row of a hundred words and a row of three of them, which lie far apart in byte order.
 fn merged_with_few(alloc: Global) -> Result<Terms, AllocError> {
-    let one = terms_of_sets(alloc, &[numbered_words(alloc, 100)?])?;
+    let one = terms_of_numbers(alloc, 100)?;
     let other = terms_of(alloc, &[&["0", "50", "99"]])?;
     let inputs = [
         MergeInput {

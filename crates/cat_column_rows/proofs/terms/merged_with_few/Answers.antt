@@ -1,4 +1,4 @@
-use Rattle.std.proofs.Common.{ℕ, List, [], ◌∷◌, ◌++◌, length, length-append, refl, sym, arith}
+use Rattle.std.proofs.Common.{List, [], ◌∷◌, ◌++◌, length-append, sym, arith}
 use Rattle.cat_model.specs.Text.{Text}
 use Rattle.cat_values.specs.Merged.{kept_of}
 use Rattle.cat_column_rows.proofs.Kept.{length-kept_of}
