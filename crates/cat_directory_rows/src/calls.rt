@@ -1,0 +1,144 @@
+//! Calls on devices, and what each has to be answered.
+use cat_base::Refusal;
+use cat_directory::{Directory, FileName, Shelf};
+use std::alloc::{AllocError, Global};
+use std::fs;
+use std::fs::Files;
+use std::process::Abort;
+use std::test::Fail;
+
+pub(crate) const FIRST: FileName = FileName::Segment(1);
+
+/// The file of sources beside the first.
+pub(crate) const SOURCE: FileName = FileName::Source(2);
+
+/// A call, and what it is answered.
+pub(crate) type Row<'a> = (Call<'a>, &'a str);
+
+#[derive(Drop)]
+pub(crate) enum Call<'a> {
+    Create(FileName),
+    Append(FileName, &'a str),
+    Delete(FileName),
+    Sync(&'a [FileName]),
+    Names,
+    Size(FileName),
+    Read(FileName, u64, u32),
+}
+
+/// What the call is answered, as text: the refusal's number, or what it gives.
+pub(crate) fn answer<D: Directory + Shelf>(
+    device: &mut D,
+    alloc: Global,
+    call: &Call<'_>,
+) -> Result<String, Fail> {
+    match call {
+        // No device is asked to make a file that no name leads to.
+        Call::Create(name) if !name.has_form() => Ok(String::from_str(alloc, "no form")?),
+        Call::Create(name) => done(alloc, device.create(alloc, *name)),
+        Call::Append(name, bytes) => done(alloc, device.append(*name, bytes.as_bytes())),
+        Call::Delete(name) => done(alloc, device.delete(*name)),
+        Call::Sync(names) => done(alloc, device.sync(names)),
+        Call::Names => listed(device, alloc),
+        Call::Size(name) => sized(alloc, device.size(*name)),
+        Call::Read(name, from, len) => read(alloc, device.read(alloc, *name, *from, *len)),
+    }
+}
+
+fn refused(alloc: Global, refusal: Refusal) -> Result<String, Fail> {
+    let number = refusal.number();
+    Ok(format!(in alloc; "NO {number}")?)
+}
+
+fn done(alloc: Global, answer: Result<(), Refusal>) -> Result<String, Fail> {
+    match answer {
+        Ok(()) => Ok(String::new(alloc)),
+        Err(refusal) => refused(alloc, refusal),
+    }
+}
+
+fn sized(alloc: Global, answer: Result<u64, Refusal>) -> Result<String, Fail> {
+    match answer {
+        Ok(size) => Ok(format!(in alloc; "{size}")?),
+        Err(refusal) => refused(alloc, refusal),
+    }
+}
+
+fn read(alloc: Global, answer: Result<Vec<u8>, Refusal>) -> Result<String, Fail> {
+    match answer {
+        Ok(bytes) => Ok(String::from_utf8(bytes)?),
+        Err(refusal) => refused(alloc, refusal),
+    }
+}
+
+/// The names of all files, each with a space behind it.
+pub(crate) fn listed<D: Directory + Shelf>(device: &mut D, alloc: Global) -> Result<String, Fail> {
+    match device.names(alloc) {
+        Ok(names) => Ok(texts(alloc, &names)?),
+        Err(refusal) => refused(alloc, refusal),
+    }
+}
+
+fn texts(alloc: Global, names: &[FileName]) -> Result<String, AllocError> {
+    let mut texts = String::new(alloc);
+    for name in names {
+        texts.push_str(name.text(alloc)?.as_str())?;
+        texts.push(' ')?;
+    }
+    Ok(texts)
+}
+
+/// Makes the calls in turn. Each has to be answered so.
+pub(crate) fn expect<D: Directory + Shelf>(
+    rt: &impl Abort,
+    alloc: Global,
+    device: &mut D,
+    rows: &[Row<'_>],
+) -> Result<(), Fail> {
+    for (i, (call, want)) in rows.iter().enumerate() {
+        let got = answer(device, alloc, call)?;
+        assert_eq!(rt; got.as_str(), *want, "row {i}");
+    }
+    Ok(())
+}
+
+/// Makes a folder at the path, without a file.
+pub(crate) fn make_folder(rt: &(impl Files + Alloc), path: &str) -> Result<(), Fail> {
+    let _ = fs::remove_dir_all(rt, path);
+    Ok(fs::create_dir(rt, path)?)
+}
+
+/// Calls on a directory without a file. Four of them fail.
+pub(crate) const ROWS: &[Row<'static>] = &[
+    (Call::Names, ""),
+    (Call::Append(FIRST, "x"), "NO 30"),
+    (Call::Sync(&[FIRST]), "NO 30"),
+    (Call::Size(FIRST), "NO 31"),
+    (Call::Read(FIRST, 0, 0), "NO 31"),
+    (Call::Delete(FIRST), ""),
+    (Call::Create(FIRST), ""),
+    (Call::Size(FIRST), "0"),
+    (Call::Read(FIRST, 0, 0), ""),
+    (Call::Append(FIRST, "hello"), ""),
+    (Call::Append(FIRST, " you"), ""),
+    (Call::Size(FIRST), "9"),
+    (Call::Read(FIRST, 0, 9), "hello you"),
+    (Call::Read(FIRST, 3, 4), "lo y"),
+    (Call::Read(FIRST, 9, 0), ""),
+    (Call::Read(FIRST, 5, 5), "NO 31"),
+    (Call::Read(FIRST, 10, 0), "NO 31"),
+    (Call::Read(FIRST, u64::MAX, u32::MAX), "NO 31"),
+    (Call::Create(FileName::Commit(3)), ""),
+    (Call::Create(FileName::Live(2, 1)), ""),
+    (Call::Create(FileName::Source(2)), ""),
+    (Call::Create(FileName::Source(10)), ""),
+    (Call::Names, "_1.seg _10.sto _2.sto _2_1.liv segments_3 "),
+    (Call::Sync(&[FIRST, FileName::Source(2)]), ""),
+    (Call::Sync(&[FIRST, FileName::Segment(2)]), "NO 30"),
+    (Call::Create(FIRST), ""),
+    (Call::Size(FIRST), "0"),
+    (Call::Delete(FIRST), ""),
+    (Call::Delete(FIRST), ""),
+    (Call::Append(FIRST, ""), "NO 30"),
+    (Call::Names, "_10.sto _2.sto _2_1.liv segments_3 "),
+];
