@@ -2,6 +2,12 @@
 #![tactic(auto)]
 
 #[cfg(test)]
+mod readers;
+#[cfg(test)]
+mod rows_cuts;
+#[cfg(test)]
+mod rows_faults;
+#[cfg(test)]
 mod rows_find;
 #[cfg(test)]
 mod rows_held;
@@ -20,8 +26,8 @@ mod rows_replies;
 #[cfg(test)]
 mod rows_run;
 #[cfg(test)]
-mod rows_serving;
-#[cfg(test)]
 mod rows_writes;
 #[cfg(test)]
 mod script;
+#[cfg(test)]
+mod writers;

@@ -1,5 +1,6 @@
 //! Pages of every query, in every sort and behind every mark.
 use crate::script::{Rows, Script, expect_rows};
+use std::alloc::{AllocError, Global};
 use std::test::Fail;
 
 /// Four items, of which two have one price and one has none.
@@ -116,29 +117,51 @@ fn clauses_are_musts_must_nots_and_shoulds(rt: HostRuntime) -> Result<(), Fail> 
     expect_rows(&rt, rt.alloc(), ROWS)
 }
 
+/// One item, shown to session 1.
+const ONE: Rows<'static> = &[
+    ("1 PUT {\"id\":\"a\"}", "1 OK 1"),
+    ("1 REFRESH", "1 OK 1"),
+    ("1 OPEN", "1 OK 1"),
+];
+
+/// Adds a FIND of 63 times `*:*` and what stands behind.
+fn push_clauses(
+    script: &mut Script,
+    alloc: Global,
+    behind: &str,
+    reply: &str,
+) -> Result<(), AllocError> {
+    let mut line = String::from_str(alloc, "1 FIND 1 9 . . ")?;
+    line.push_str("*:* ".repeat(alloc, 63)?.as_str())?;
+    line.push_str(behind)?;
+    script.row(line.as_str(), reply)
+}
+
 #[test]
-fn a_query_has_at_most_64_clauses_and_8_groups(rt: HostRuntime) -> Result<(), Fail> {
-    let alloc = rt.alloc();
-    let clauses = "*:* ".repeat(alloc, 63)?;
-    let most = format!(in alloc; "1 FIND 1 9 . . {}*:*", clauses.as_str())?;
-    let more = format!(in alloc; "1 FIND 1 9 . . {}*:* *:*", clauses.as_str())?;
-    let rows: Rows<'_> = &[
-        ("1 PUT {\"id\":\"a\"}", "1 OK 1"),
-        ("1 REFRESH", "1 OK 1"),
-        ("1 OPEN", "1 OK 1"),
-        (most.as_str(), "1 OK 1 1\n1 1 a ."),
-        (more.as_str(), "1 NO 24 256"),
+fn a_query_has_at_most_64_clauses(rt: HostRuntime) -> Result<(), Fail> {
+    let mut script = Script::shop(rt.alloc())?;
+    script.rows(ONE)?;
+    push_clauses(&mut script, rt.alloc(), "*:*", "1 OK 1 1\n1 1 a .")?;
+    push_clauses(&mut script, rt.alloc(), "*:* *:*", "1 NO 24 256")?;
+    script.expect(&rt, rt.alloc(), Ok(()))
+}
+
+#[test]
+fn a_query_has_at_most_8_groups_in_one_another(rt: HostRuntime) -> Result<(), Fail> {
+    let mut script = Script::shop(rt.alloc())?;
+    script.rows(ONE)?;
+    const ROWS: Rows<'static> = &[
         ("1 FIND 1 9 . . ((((((((*:*))))))))", "1 OK 1 1\n1 1 a ."),
         ("1 FIND 1 9 . . (((((((((*:*)))))))))", "1 NO 24 8"),
     ];
-    expect_rows(&rt, alloc, rows)
+    script.rows(ROWS)?;
+    script.expect(&rt, rt.alloc(), Ok(()))
 }
 
 #[test]
 fn each_fault_has_its_place(rt: HostRuntime) -> Result<(), Fail> {
-    let mut script = Script::shop(rt.alloc())?;
-    script.row("1 OPEN", "1 OK 0")?;
-    for (query, reply) in [
+    const ROWS: Rows<'static> = &[
+        ("1 OPEN", "1 OK 0"),
         ("1 FIND 0 9 . . ", "1 NO 24 0"),
         ("1 FIND 0 9 . . + *:*", "1 NO 24 1"),
         ("1 FIND 0 9 . . foo:1", "1 NO 24 0"),
@@ -161,8 +184,6 @@ fn each_fault_has_its_place(rt: HostRuntime) -> Result<(), Fail> {
         ("1 FIND 0 1001 +title 5 *:*", "1 NO 25"),
         ("1 FIND 0 9 +title 5 *:*", "1 NO 28"),
         ("1 FIND 0 9 +price 5 *:*", "1 NO 23"),
-    ] {
-        script.row(query, reply)?;
-    }
-    script.expect(&rt, rt.alloc(), Ok(()))
+    ];
+    expect_rows(&rt, rt.alloc(), ROWS)
 }

@@ -10,7 +10,7 @@ use std::process::Abort;
 use std::str::from_utf8;
 use std::test::Fail;
 
-const LINES: [&str; 15] = [
+const LINES: &[&str] = &[
     "1 PUT {\"id\":\"a\",\"title\":\"red shoe\",\"color\":[\"red\",\"blue\"]}",
     "1 PUT {\"id\":\"b\",\"brand\":\"x\",\"price\":5}",
     "1 REFRESH",
@@ -90,7 +90,7 @@ fn refuses_one(alloc: Global, output: &[u8]) -> Result<bool, AllocError> {
 }
 
 fn expect_one_refusal_at_most(rt: &impl Abort, alloc: Global) -> Result<(), Fail> {
-    let (output, end) = written(alloc, &LINES, &[])?;
+    let (output, end) = written(alloc, LINES, &[])?;
     let text = from_utf8(output.as_slice())?;
     if end == Err(ServeFault::Schema) {
         assert_eq!(rt; text, "NO 40\n");

@@ -12,7 +12,7 @@ use std::test::Fail;
 const COUNT: u64 = 1_100;
 
 /// The prices that records have.
-const PRICES: [i64; 7] = [9, -10, 100, 0, 10, -9, 5];
+const PRICES: &[i64] = &[9, -10, 100, 0, 10, -9, 5];
 
 /// The prices as they rise, with the missing one last.
 const RISING: &[Option<i64>] = &[
@@ -43,7 +43,7 @@ fn price_of(number: u64) -> Option<i64> {
     if number % 5 == 0 {
         return None;
     }
-    Some(PRICES[(number % 7) as usize])
+    PRICES.get((number % 7) as usize).copied()
 }
 
 fn push_numbers_with(numbers: &mut Vec<u64>, price: Option<i64>) -> Result<(), AllocError> {

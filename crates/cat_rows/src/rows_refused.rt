@@ -1,25 +1,49 @@
 //! Lines that are refused, and what they leave as it was.
 use crate::script::{Rows, Script, expect_rows};
+use std::alloc::{AllocError, Global};
 use std::test::Fail;
 
 #[test]
 fn wrong_items_are_refused_and_take_no_number(rt: HostRuntime) -> Result<(), Fail> {
-    let alloc = rt.alloc();
-    let long = "x".repeat(alloc, 129)?;
-    let long_id = format!(in alloc; "1 PUT {{\"id\":\"{}\"}}", &long.as_str()[..65])?;
-    let long_brand = format!(in alloc; "1 PUT {{\"id\":\"a\",\"brand\":\"{}\"}}", long.as_str())?;
-    let mut script = Script::shop(alloc)?;
-    let rows: Rows<'_> = &[
+    const ROWS: Rows<'static> = &[
         ("1 PUT {\"id\":\"a\",\"price\":5.5}", "1 NO 13"),
         ("1 PUT {\"id\":\"a\",\"size\":1}", "1 NO 12"),
         ("1 PUT {\"id\":\"\"}", "1 NO 14"),
-        (long_id.as_str(), "1 NO 14"),
         ("1 PUT [1]", "1 NO 13"),
         ("1 PUT {", "1 NO 11"),
-        (long_brand.as_str(), "1 NO 15"),
         ("1 DEL zz", "1 OK 1"),
     ];
-    script.rows(rows)?;
+    expect_rows(&rt, rt.alloc(), ROWS)
+}
+
+/// Adds a line with this many `x` between two texts.
+fn push_long(
+    script: &mut Script,
+    alloc: Global,
+    line: (&str, usize, &str),
+    reply: &str,
+) -> Result<(), AllocError> {
+    let (head, count, behind) = line;
+    let mut text = String::from_str(alloc, head)?;
+    text.push_str("x".repeat(alloc, count)?.as_str())?;
+    text.push_str(behind)?;
+    script.row(text.as_str(), reply)
+}
+
+/// One byte past the limit.
+#[test]
+fn long_ids_and_keywords_are_refused_and_take_no_number(rt: HostRuntime) -> Result<(), Fail> {
+    let alloc = rt.alloc();
+    let mut script = Script::shop(alloc)?;
+    push_long(
+        &mut script,
+        alloc,
+        ("1 PUT {\"id\":\"", 65, "\"}"),
+        "1 NO 14",
+    )?;
+    let brand = ("1 PUT {\"id\":\"a\",\"brand\":\"", 129, "\"}");
+    push_long(&mut script, alloc, brand, "1 NO 15")?;
+    script.row("1 DEL zz", "1 OK 1")?;
     script.expect(&rt, alloc, Ok(()))
 }
 
