@@ -1,6 +1,6 @@
 //! Calls on devices, and what each has to be answered.
 use cat_base::Refusal;
-use cat_directory::{Directory, FileName, Shelf};
+use cat_directory::{Directory, FileName, Shelf, write_file, write_lasting};
 use std::alloc::{AllocError, Global};
 use std::fs;
 use std::fs::Files;
@@ -15,7 +15,7 @@ pub(crate) const SOURCE: FileName = FileName::Source(2);
 /// A call, and what it is answered.
 pub(crate) type Row<'a> = (Call<'a>, &'a str);
 
-#[derive(Drop)]
+#[derive(Clone, Copy)]
 pub(crate) enum Call<'a> {
     Create(FileName),
     Append(FileName, &'a str),
@@ -24,24 +24,38 @@ pub(crate) enum Call<'a> {
     Names,
     Size(FileName),
     Read(FileName, u64, u32),
+    /// How many calls have failed.
+    Failures,
+    /// `write_file`
+    Write(FileName, &'a str),
+    /// `write_lasting`
+    WriteLasting(FileName, &'a str),
 }
 
 /// What the call is answered, as text: the refusal's number, or what it gives.
-pub(crate) fn answer<D: Directory + Shelf>(
+fn answer<D: Directory + Shelf>(
     device: &mut D,
     alloc: Global,
-    call: &Call<'_>,
+    call: Call<'_>,
 ) -> Result<String, Fail> {
     match call {
         // No device is asked to make a file that no name leads to.
-        Call::Create(name) if !name.has_form() => Ok(String::from_str(alloc, "no form")?),
-        Call::Create(name) => done(alloc, device.create(alloc, *name)),
-        Call::Append(name, bytes) => done(alloc, device.append(*name, bytes.as_bytes())),
-        Call::Delete(name) => done(alloc, device.delete(*name)),
+        Call::Create(name) | Call::Write(name, _) | Call::WriteLasting(name, _)
+            if !name.has_form() => { Ok(String::from_str(alloc, "no form")?) }
+        Call::Create(name) => done(alloc, device.create(alloc, name)),
+        Call::Append(name, bytes) => done(alloc, device.append(name, bytes.as_bytes())),
+        Call::Delete(name) => done(alloc, device.delete(name)),
         Call::Sync(names) => done(alloc, device.sync(names)),
-        Call::Names => listed(device, alloc),
-        Call::Size(name) => sized(alloc, device.size(*name)),
-        Call::Read(name, from, len) => read(alloc, device.read(alloc, *name, *from, *len)),
+        Call::Names => listed(alloc, device.names(alloc)),
+        Call::Size(name) => sized(alloc, device.size(name)),
+        Call::Read(name, from, len) => read(alloc, device.read(alloc, name, from, len)),
+        Call::Failures => sized(alloc, Ok(device.failures())),
+        Call::Write(name, bytes) => {
+            done(alloc, write_file(device, alloc, name, bytes.as_bytes()))
+        }
+        Call::WriteLasting(name, bytes) => {
+            done(alloc, write_lasting(device, alloc, name, bytes.as_bytes()))
+        }
     }
 }
 
@@ -71,9 +85,9 @@ fn read(alloc: Global, answer: Result<Vec<u8>, Refusal>) -> Result<String, Fail>
     }
 }
 
-/// The names of all files, each with a space behind it.
-pub(crate) fn listed<D: Directory + Shelf>(device: &mut D, alloc: Global) -> Result<String, Fail> {
-    match device.names(alloc) {
+/// Each name with a space behind it.
+fn listed(alloc: Global, answer: Result<Vec<FileName>, Refusal>) -> Result<String, Fail> {
+    match answer {
         Ok(names) => Ok(texts(alloc, &names)?),
         Err(refusal) => refused(alloc, refusal),
     }
@@ -96,9 +110,23 @@ pub(crate) fn expect<D: Directory + Shelf>(
     rows: &[Row<'_>],
 ) -> Result<(), Fail> {
     for (i, (call, want)) in rows.iter().enumerate() {
-        let got = answer(device, alloc, call)?;
+        let got = answer(device, alloc, *call)?;
         assert_eq!(rt; got.as_str(), *want, "row {i}");
     }
+    Ok(())
+}
+
+/// Reads so many bytes of the file from an offset on. This has to be answered.
+pub(crate) fn expect_read<S: Shelf>(
+    rt: &impl Abort,
+    alloc: Global,
+    shelf: &mut S,
+    bytes: (FileName, u64, u32),
+    want: &str,
+) -> Result<(), Fail> {
+    let (name, from, len) = bytes;
+    let got = read(alloc, shelf.read(alloc, name, from, len))?;
+    assert_eq!(rt; got.as_str(), want);
     Ok(())
 }
 

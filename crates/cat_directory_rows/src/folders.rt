@@ -1,55 +1,56 @@
 //! Memory and a folder, and what lies in a folder beside files.
-use crate::calls::{Call, FIRST, ROWS, Row, expect, make_folder};
-use cat_base::Refusal;
-use cat_directory::{FileName, Folder, FolderShelf, Holder, MemoryDirectory, Shelf};
+use crate::calls::{Call, FIRST, ROWS, Row, expect, expect_read, make_folder};
+use cat_directory::{FileName, Folder, FolderShelf, MemoryDirectory, Shelf};
 use std::fs;
 use std::fs::{Files, OpenOptions};
 use std::os::unix::fs::symlink;
 use std::process::Abort;
 use std::test::Fail;
 
-/// Makes the calls in the folder at the path. So many of them have to fail.
+/// Makes the calls in the folder at the path.
 fn expect_in<R: Abort + Files + AllocGlobal + Clone + Drop>(
     rt: &R,
     path: &str,
     rows: &[Row<'_>],
-    failures: u64,
 ) -> Result<(), Fail> {
     let mut folder = Folder::at(rt.clone()?, rt.alloc(), path)?;
-    expect(rt, rt.alloc(), &mut folder, rows)?;
-    assert_eq!(rt; folder.failures(), failures, "in {path}");
-    Ok(())
+    expect(rt, rt.alloc(), &mut folder, rows)
 }
+
+const FOUR_FAILURES: &[Row<'static>] = &[(Call::Failures, "4")];
 
 #[test]
 fn memory_answers_as_a_folder_does(rt: HostRuntime) -> Result<(), Fail> {
     let mut memory = MemoryDirectory::new(rt.alloc());
     expect(&rt, rt.alloc(), &mut memory, ROWS)?;
-    assert_eq!(rt; memory.failures(), 4);
-    Ok(())
+    expect(&rt, rt.alloc(), &mut memory, FOUR_FAILURES)
 }
 
 #[test]
 fn a_folder_answers_as_memory_does(rt: HostRuntime) -> Result<(), Fail> {
     make_folder(&rt, "files_test")?;
-    expect_in(&rt, "files_test", ROWS, 4)?;
+    let mut folder = Folder::at(rt, rt.alloc(), "files_test")?;
+    expect(&rt, rt.alloc(), &mut folder, ROWS)?;
+    expect(&rt, rt.alloc(), &mut folder, FOUR_FAILURES)?;
     Ok(fs::remove_dir_all(&rt, "files_test")?)
 }
 
-const COPIED: &[Row<'static>] = &[(Call::Create(FIRST), ""), (Call::Append(FIRST, "one"), "")];
+const ONE: &[Row<'static>] = &[(Call::Create(FIRST), ""), (Call::Append(FIRST, "one"), "")];
 
-const COPY: &[Row<'static>] = &[
+const ONE_MORE: &[Row<'static>] = &[
     (Call::Append(FIRST, " two"), ""),
     (Call::Read(FIRST, 0, 7), "one two"),
 ];
 
+const STILL_ONE: &[Row<'static>] = &[(Call::Size(FIRST), "3")];
+
 #[test]
 fn a_copy_has_files_of_its_own(rt: HostRuntime) -> Result<(), Fail> {
     let mut memory = MemoryDirectory::new(rt.alloc());
-    expect(&rt, rt.alloc(), &mut memory, COPIED)?;
+    expect(&rt, rt.alloc(), &mut memory, ONE)?;
     let mut copy = memory.copy()?;
-    expect(&rt, rt.alloc(), &mut copy, COPY)?;
-    expect(&rt, rt.alloc(), &mut memory, &[(Call::Size(FIRST), "3")])
+    expect(&rt, rt.alloc(), &mut copy, ONE_MORE)?;
+    expect(&rt, rt.alloc(), &mut memory, STILL_ONE)
 }
 
 /// Files that have no name of ours.
@@ -79,6 +80,7 @@ const BESIDE_OTHERS: &[Row<'static>] = &[
     (Call::Create(FIRST), ""),
     (Call::Append(FIRST, "whole"), ""),
     (Call::Names, "_1.seg "),
+    (Call::Failures, "4"),
 ];
 
 fn make_others(rt: &(impl Files + Alloc)) -> Result<(), Fail> {
@@ -90,9 +92,10 @@ fn make_others(rt: &(impl Files + Alloc)) -> Result<(), Fail> {
     Ok(())
 }
 
-fn expect_others<R: Abort + Files + AllocGlobal>(rt: &R) -> Result<(), Fail> {
+fn expect_others(rt: &(impl Abort + Files + Alloc)) -> Result<(), Fail> {
     for &path in OTHERS {
-        assert_eq!(rt; fs::read_to_string(rt, path)?.as_str(), "kept", "{path}");
+        let text = fs::read_to_string(rt, path)?;
+        assert!(rt; text.as_str() == "kept", "{path}");
     }
     Ok(())
 }
@@ -100,7 +103,7 @@ fn expect_others<R: Abort + Files + AllocGlobal>(rt: &R) -> Result<(), Fail> {
 #[test]
 fn other_files_of_a_folder_stay(rt: HostRuntime) -> Result<(), Fail> {
     make_others(&rt)?;
-    expect_in(&rt, "others_test/", BESIDE_OTHERS, 4)?;
+    expect_in(&rt, "others_test/", BESIDE_OTHERS)?;
     expect_others(&rt)?;
     Ok(fs::remove_dir_all(&rt, "others_test")?)
 }
@@ -110,18 +113,17 @@ const WHOLE: &[Row<'static>] = &[
     (Call::Append(FIRST, "whole"), ""),
 ];
 
+const CUT: &[Row<'static>] = &[(Call::Create(FIRST), ""), (Call::Append(FIRST, "cut"), "")];
+
 #[test]
 fn a_shelf_reads_the_files_of_its_folder(rt: HostRuntime) -> Result<(), Fail> {
     make_folder(&rt, "shelf_test")?;
-    expect_in(&rt, "shelf_test", WHOLE, 0)?;
+    expect_in(&rt, "shelf_test", WHOLE)?;
     let mut shelf = FolderShelf::at(rt, rt.alloc(), "shelf_test")?;
-    assert_eq!(rt;
-        shelf.read(rt.alloc(), FIRST, 1, 3)?.as_slice(),
-        b"hol".as_slice()
-    );
-    fs::write(&rt, "shelf_test/_1.seg", "cut")?;
-    assert_eq!(rt; shelf.read(rt.alloc(), FIRST, 0, 5), Err(Refusal::Damaged));
-    assert_eq!(rt; shelf.size(FIRST)?, 3);
+    expect_read(&rt, rt.alloc(), &mut shelf, (FIRST, 1, 3), "hol")?;
+    expect_in(&rt, "shelf_test", CUT)?;
+    expect_read(&rt, rt.alloc(), &mut shelf, (FIRST, 0, 5), "NO 31")?;
+    assert!(rt; shelf.size(FIRST)? == 3);
     Ok(fs::remove_dir_all(&rt, "shelf_test")?)
 }
 
@@ -132,13 +134,14 @@ const IN_NO_FOLDER: &[Row<'static>] = &[
     (Call::Create(FIRST), "NO 30"),
     (Call::Append(FIRST, "x"), "NO 30"),
     (Call::Sync(&[]), "NO 30"),
+    (Call::Failures, "4"),
 ];
 
 #[test]
 fn a_folder_that_cannot_be_opened_fails(rt: HostRuntime) -> Result<(), Fail> {
     fs::write(&rt, "no_folder_test", "a file")?;
     for &path in UNOPENED {
-        expect_in(&rt, path, IN_NO_FOLDER, 4)?;
+        expect_in(&rt, path, IN_NO_FOLDER)?;
     }
     Ok(fs::remove_file(&rt, "no_folder_test")?)
 }
@@ -160,6 +163,7 @@ const HELD_BACK: &[Row<'static>] = &[
     (Call::Sync(&[FIRST]), ""),
     (Call::Delete(FIRST), ""),
     (Call::Names, ""),
+    (Call::Failures, "2"),
 ];
 
 /// No permission holds root back, as whom `rt ci` runs no test.
@@ -170,26 +174,24 @@ const AS_ROOT: &[Row<'static>] = &[
     (Call::Sync(&[FIRST]), ""),
     (Call::Delete(FIRST), ""),
     (Call::Names, ""),
+    (Call::Failures, "0"),
 ];
 
 #[test]
 fn a_read_only_file_stays_as_it_is(rt: HostRuntime) -> Result<(), Fail> {
     make_read_only(&rt)?;
     let is_root = OpenOptions::new().append(true).open(&rt, READ_ONLY).is_ok();
-    if is_root {
-        expect_in(&rt, "read_only_test", AS_ROOT, 0)?;
-    } else {
-        expect_in(&rt, "read_only_test", HELD_BACK, 2)?;
-    }
+    let rows = if is_root { AS_ROOT } else { HELD_BACK };
+    expect_in(&rt, "read_only_test", rows)?;
     Ok(fs::remove_dir_all(&rt, "read_only_test")?)
 }
 
-const FULL: &[Row<'static>] = &[(Call::Append(FIRST, "x"), "NO 30")];
+const FULL: &[Row<'static>] = &[(Call::Append(FIRST, "x"), "NO 30"), (Call::Failures, "1")];
 
 #[test]
 fn a_full_disk_is_a_failure(rt: HostRuntime) -> Result<(), Fail> {
     make_folder(&rt, "full_test")?;
     symlink(&rt, "/dev/full", "full_test/_1.seg")?;
-    expect_in(&rt, "full_test", FULL, 1)?;
+    expect_in(&rt, "full_test", FULL)?;
     Ok(fs::remove_dir_all(&rt, "full_test")?)
 }

@@ -1,8 +1,7 @@
 //! What a folder asks of the system, and what it tells where the system fails.
 use crate::calls::{Call, FIRST, Row, SOURCE, expect, make_folder};
 use crate::faulty_system::{FaultySystem, Notes};
-use cat_directory::{Folder, Holder};
-use std::alloc::Global;
+use cat_directory::Folder;
 use std::fs;
 use std::fs::Files;
 use std::io::ErrorKind;
@@ -10,19 +9,50 @@ use std::process::Abort;
 use std::rc::Rc;
 use std::test::Fail;
 
-/// A folder at the path, in a system of which the notes say where it fails.
-fn faulty_folder<R: Files + AllocGlobal + Clone + Drop>(
-    rt: R,
-    notes: &Rc<Notes>,
+/// What the system meets from then on, the calls that are made, and what has been synced: 1 for a segment's file, 2 for one of
+/// sources, 4 for the folder.
+type Scene<'a> = (Meets, &'a [Row<'a>], u8);
+
+/// The errors that all calls of these names meet.
+#[derive(Clone, Copy)]
+enum Meets {
+    Nothing,
+    Opening(ErrorKind),
+    Reading(ErrorKind),
+    Syncing(ErrorKind),
+}
+
+fn set(notes: &Notes, meets: Meets) {
+    let (opening, reading, syncing) = match meets {
+        Meets::Nothing => (None, None, None),
+        Meets::Opening(kind) => (Some(kind), None, None),
+        Meets::Reading(kind) => (None, Some(kind), None),
+        Meets::Syncing(kind) => (None, None, Some(kind)),
+    };
+    notes.opening.set(opening);
+    notes.reading.set(reading);
+    notes.syncing.set(syncing);
+}
+
+/// Makes the calls of the scenes in a folder at the path, which had no file, in a system that meets what they say.
+fn expect_scenes<R: Abort + Files + AllocGlobal + Clone + Drop>(
+    rt: &R,
     path: &str,
-) -> Result<Folder<FaultySystem<R>>, Fail> {
-    make_folder(&rt, path)?;
-    let alloc = rt.alloc();
+    scenes: &[Scene<'_>],
+) -> Result<(), Fail> {
+    make_folder(rt, path)?;
+    let notes = Rc::new(rt.alloc(), Notes::new())?;
     let system = FaultySystem {
-        rt,
+        rt: rt.clone()?,
         notes: notes.clone()?,
     };
-    Ok(Folder::at(system, alloc, path)?)
+    let mut folder = Folder::at(system, rt.alloc(), path)?;
+    for (meets, rows, synced) in scenes {
+        set(&notes, *meets);
+        expect(rt, rt.alloc(), &mut folder, rows)?;
+        assert!(rt; notes.synced.get() == *synced);
+    }
+    Ok(())
 }
 
 /// Short writes are carried on, and a name that isn't UTF-8 is passed over.
@@ -36,20 +66,25 @@ const WHOLE: &[Row<'static>] = &[
 
 const SYNC_NONE: &[Row<'static>] = &[(Call::Sync(&[]), "")];
 
-const SYNC_BOTH: &[Row<'static>] = &[(Call::Sync(&[FIRST, SOURCE]), "")];
+const SYNC_BOTH: &[Row<'static>] = &[(Call::Sync(&[FIRST, SOURCE]), ""), (Call::Failures, "0")];
+
+/// The folder is synced, and each file.
+const SYNCED: &[Scene<'static>] = &[
+    (Meets::Nothing, WHOLE, 0),
+    (Meets::Nothing, SYNC_NONE, 4),
+    (Meets::Nothing, SYNC_BOTH, 7),
+];
 
 #[test]
 fn a_folder_asks_the_system_for_all_it_needs(rt: HostRuntime) -> Result<(), Fail> {
-    let notes = Rc::new(rt.alloc(), Notes::new())?;
-    let mut folder = faulty_folder(rt, &notes, "system_test")?;
-    expect(&rt, rt.alloc(), &mut folder, WHOLE)?;
-    expect(&rt, rt.alloc(), &mut folder, SYNC_NONE)?;
-    assert_eq!(rt; notes.synced.get(), 4, "the folder is synced");
-    expect(&rt, rt.alloc(), &mut folder, SYNC_BOTH)?;
-    assert_eq!(rt; notes.synced.get(), 7, "and each file");
-    assert_eq!(rt; folder.failures(), 0);
+    expect_scenes(&rt, "system_test", SYNCED)?;
     Ok(fs::remove_dir_all(&rt, "system_test")?)
 }
+
+const MAKE: &[Row<'static>] = &[
+    (Call::Create(FIRST), ""),
+    (Call::Append(FIRST, "whole"), ""),
+];
 
 /// What a folder tells where the file is gone, where memory is wanting, and where the system failed: to a call that reads, to
 /// one that asks for a size, to one that lists, and to one that writes.
@@ -74,59 +109,30 @@ const FAILED: &[Row<'static>] = &[
     (Call::Append(FIRST, "x"), "NO 30"),
 ];
 
-const READ_FAILED: &[Row<'static>] = &[(Call::Read(FIRST, 0, 5), "NO 30")];
+/// A file that opens, and can't be read: the device failed.
+const UNREAD: &[Row<'static>] = &[(Call::Read(FIRST, 0, 5), "NO 30")];
 
-const READ_WHOLE: &[Row<'static>] = &[(Call::Read(FIRST, 0, 5), "whole")];
+const READ: &[Row<'static>] = &[(Call::Read(FIRST, 0, 5), "whole"), (Call::Failures, "15")];
 
-const KINDS: &[(ErrorKind, &[Row<'static>])] = &[
-    (ErrorKind::NotFound, GONE),
-    (ErrorKind::UnexpectedEof, GONE),
-    (ErrorKind::OutOfMemory, WANTING),
-    (ErrorKind::PermissionDenied, FAILED),
-    (ErrorKind::Other, FAILED),
+const KINDS: &[Scene<'static>] = &[
+    (Meets::Nothing, MAKE, 0),
+    (Meets::Opening(ErrorKind::NotFound), GONE, 0),
+    (Meets::Opening(ErrorKind::UnexpectedEof), GONE, 0),
+    (Meets::Opening(ErrorKind::OutOfMemory), WANTING, 0),
+    (Meets::Opening(ErrorKind::PermissionDenied), FAILED, 0),
+    (Meets::Opening(ErrorKind::Other), FAILED, 0),
+    (Meets::Reading(ErrorKind::Other), UNREAD, 0),
+    (Meets::Nothing, READ, 0),
 ];
-
-/// Makes the calls where opening fails by each kind of error.
-fn expect_kinds<R: Files + AllocGlobal + Clone + Drop>(
-    rt: &impl Abort,
-    alloc: Global,
-    folder: &mut Folder<FaultySystem<R>>,
-    notes: &Notes,
-) -> Result<(), Fail> {
-    for (kind, rows) in KINDS {
-        notes.opening.set(Some(*kind));
-        expect(rt, alloc, folder, rows)?;
-    }
-    notes.opening.set(None);
-    Ok(())
-}
 
 #[test]
 fn each_error_of_the_system_is_told_as_it_is(rt: HostRuntime) -> Result<(), Fail> {
-    let notes = Rc::new(rt.alloc(), Notes::new())?;
-    let mut folder = faulty_folder(rt, &notes, "kinds_test")?;
-    fs::write(&rt, "kinds_test/_1.seg", "whole")?;
-    expect_kinds(&rt, rt.alloc(), &mut folder, &notes)?;
-    expect(&rt, rt.alloc(), &mut folder, READ_WHOLE)?;
-    assert_eq!(rt; folder.failures(), 14);
+    expect_scenes(&rt, "kinds_test", KINDS)?;
     Ok(fs::remove_dir_all(&rt, "kinds_test")?)
 }
 
-#[test]
-fn a_file_that_opens_and_cannot_be_read_is_a_failure(rt: HostRuntime) -> Result<(), Fail> {
-    let notes = Rc::new(rt.alloc(), Notes::new())?;
-    let mut folder = faulty_folder(rt, &notes, "reading_test")?;
-    fs::write(&rt, "reading_test/_1.seg", "whole")?;
-    notes.reading.set(Some(ErrorKind::Other));
-    expect(&rt, rt.alloc(), &mut folder, READ_FAILED)?;
-    notes.reading.set(None);
-    expect(&rt, rt.alloc(), &mut folder, READ_WHOLE)?;
-    assert_eq!(rt; folder.failures(), 1);
-    Ok(fs::remove_dir_all(&rt, "reading_test")?)
-}
-
 /// An absent file is a failure of this call alone.
-const SYNCED: &[Row<'static>] = &[
+const SYNC_ABSENT: &[Row<'static>] = &[
     (Call::Sync(&[FIRST]), "NO 30"),
     (Call::Create(FIRST), ""),
     (Call::Sync(&[FIRST]), ""),
@@ -138,17 +144,17 @@ const NEVER_SYNCED: &[Row<'static>] = &[
     (Call::Sync(&[FIRST]), "NO 30"),
     (Call::Sync(&[]), "NO 30"),
     (Call::Append(FIRST, "x"), ""),
+    (Call::Failures, "4"),
+];
+
+const FAILED_SYNC: &[Scene<'static>] = &[
+    (Meets::Nothing, SYNC_ABSENT, 5),
+    (Meets::Syncing(ErrorKind::Other), NOT_SYNCED, 5),
+    (Meets::Nothing, NEVER_SYNCED, 5),
 ];
 
 #[test]
 fn after_a_failed_sync_none_succeeds(rt: HostRuntime) -> Result<(), Fail> {
-    let notes = Rc::new(rt.alloc(), Notes::new())?;
-    let mut folder = faulty_folder(rt, &notes, "sync_test")?;
-    expect(&rt, rt.alloc(), &mut folder, SYNCED)?;
-    notes.syncing.set(Some(ErrorKind::Other));
-    expect(&rt, rt.alloc(), &mut folder, NOT_SYNCED)?;
-    notes.syncing.set(None);
-    expect(&rt, rt.alloc(), &mut folder, NEVER_SYNCED)?;
-    assert_eq!(rt; folder.failures(), 4);
+    expect_scenes(&rt, "sync_test", FAILED_SYNC)?;
     Ok(fs::remove_dir_all(&rt, "sync_test")?)
 }
