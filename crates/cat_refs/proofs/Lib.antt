@@ -1,0 +1,5 @@
+pub mod Named
+pub mod Steps
+pub mod Rising
+pub mod Unused
+pub mod Sweeps
