@@ -1,6 +1,11 @@
-//! Tests of views: pages over segments beside pages over records, and the stored texts of items.
+//! Tests of views: pages over segments beside pages over records, and the stored texts of items; and what makes views of
+//! texts, for the tests of the crates above.
 #![tactic(auto)]
 
+mod making;
 mod put;
 #[cfg(test)]
 mod views;
+
+pub use making::{PutText, are_in_order, read_put, read_puts, view_of};
+pub use put::Put;

@@ -1,194 +1,24 @@
 //! Pages over segments are the pages over the records that their live rows show: both show what FINDs of worked scripts
 //! have to show.
-ghost use Rattle.std.specs.Prelude.{◌≡◌, ◌≢◌, ◌≤◌, ◌<◌, true, length, map, IfOk, All, AllPairs};
+ghost use Rattle.std.specs.Prelude.{◌<◌, IfOk, All, AllPairs};
 ghost use Rattle.cat_model.specs.Item.{IsItem};
-ghost use Rattle.cat_model.specs.View.{row_of};
 
+use crate::making::{PutText, are_in_order, read_put, read_puts, view_of};
 use crate::put::Put;
-use cat_base::{MAX_ROWS, Refusal, SegNo, WriteNo};
+use cat_base::{Refusal, SegNo, WriteNo};
 use cat_directory::{Directory, FileName, MemoryDirectory};
 use cat_query::Query;
-use cat_schema::{Item, Schema};
-use cat_search::{Ask, Entry, Key, Leaf, Page, Prepared, Sort, View, page_of};
-use cat_segment::{Live, Row, Segment};
-use cat_segment_rows::are_apart;
+use cat_schema::Schema;
+use cat_search::{Ask, Entry, Key, Page, Prepared, Sort, View, page_of};
 use std::alloc::{AllocError, Global};
 use std::fmt::Write;
 use std::process::Abort;
-use std::sync::Arc;
 use std::test::Fail;
 
 const FIELDS: &[u8] = br#"{"brand":"keyword","color":"facet","price":"number","title":"text"}"#;
 
-/// A row: its number, whether it is live, and its item.
-type PutText<'a> = (WriteNo, bool, &'a str);
-
 /// A FIND: how many hits at most, the sort, the mark, the query, and what is shown.
 type FindText<'a> = (u64, &'a str, Option<WriteNo>, &'a str, &'a str);
-
-fn read_put(alloc: Global, schema: &Schema, row: PutText<'_>) -> Result<Put, Refusal>
-    ensures { IfOk result (λ p. IsItem schema.now p.item) }
-{
-    let (number, live, text) = row;
-    let item = schema.item(alloc, text.as_bytes())?;
-    Ok(Put { number, item, live })
-}
-
-/// What was put there, or what of it is live.
-fn read_puts(
-    alloc: Global,
-    schema: &Schema,
-    rows: &[PutText<'_>],
-    live_only: bool,
-) -> Result<Vec<Put>, Refusal>
-    ensures { IfOk result (λ v. All (λ p. IsItem schema.now p.item) v.items) }
-{
-    let mut puts = Vec::new(alloc);
-    for row in rows {
-        if live_only && !row.1 {
-            continue;
-        }
-        puts.push(read_put(alloc, schema, *row)?)?;
-    }
-    Ok(puts)
-}
-
-/// Whether this one has the lower number, and another id where both are live.
-fn goes_before(put: &Put, last: &Put) -> bool
-    ensures { result ≡ true → (put.now.number < last.now.number)
-        × (put.now.live ≡ true → last.now.live ≡ true → put.now.item.id ≢ last.now.item.id) }
-{
-    if put.number >= last.number {
-        return false;
-    }
-    if !put.live {
-        return true;
-    }
-    if !last.live {
-        return true;
-    }
-    put.item.id() != last.item.id()
-}
-
-/// Whether all of them have lower numbers than this one, and other ids where both are live.
-fn is_later(puts: &[Put], last: &Put) -> bool
-    ensures { result ≡ true → All (λ p. (p.number < last.now.number)
-        × (p.live ≡ true → last.now.live ≡ true → p.item.id ≢ last.now.item.id)) puts.now }
-{
-    for put in puts {
-        if !goes_before(put, last) {
-            return false;
-        }
-    }
-    true
-}
-
-/// Whether their numbers rise and the ids of those that are live differ.
-fn are_in_order(puts: &[Put]) -> bool
-    ensures { result ≡ true → AllPairs (λ a b. (a.number < b.number)
-        × (a.live ≡ true → b.live ≡ true → a.item.id ≢ b.item.id)) puts.now }
-{
-    for place in 0..puts.len() {
-        if !is_later(&puts[..place], &puts[place]) {
-            return false;
-        }
-    }
-    true
-}
-
-fn rows_of<'a>(alloc: Global, puts: &'a [Put]) -> Result<Vec<Row<'a>>, Refusal>
-    ensures items { IfOk result (λ v. map (λ r. r.item.now) v.items ≡ map (λ p. p.item) puts.now) }
-    ensures rows { IfOk result (λ v. map (λ r. row_of (record { number = r.number; item = r.item.now })) v.items
-        ≡ map (λ p. row_of (record { number = p.number; item = p.item })) puts.now) }
-{
-    let mut rows = Vec::new(alloc);
-    for put in puts {
-        rows.push(Row {
-            number: put.number,
-            item: &put.item,
-        })?;
-    }
-    Ok(rows)
-}
-
-/// Which of the rows are live.
-fn live_of(alloc: Global, puts: &[Put]) -> Result<Live, Refusal>
-    requires { length puts.now ≤ 262144 }
-    ensures { IfOk result (λ l. l ≡ map (λ p. p.live) puts.now) }
-{
-    let mut live = Live::all(alloc, puts.len())?;
-    for (row, put) in puts.iter().enumerate() {
-        if !put.live {
-            live.kill(row);
-        }
-    }
-    Ok(live)
-}
-
-/// Whether each number is at least 1.
-fn are_positive(rows: &[Row<'_>]) -> bool
-    ensures { result ≡ true → All (λ r. 1 ≤ r.number) rows.now }
-{
-    for row in rows {
-        if row.number < 1 {
-            return false;
-        }
-    }
-    true
-}
-
-/// The segment of this number that has them as its rows.
-fn leaf_of(
-    rt: &impl Abort,
-    alloc: Global,
-    schema: &Schema,
-    number: SegNo,
-    puts: &[Put],
-) -> Result<Leaf, Fail>
-    requires { All (λ p. IsItem schema.now p.item) puts.now }
-    ensures { IfOk result (λ l. l ≡ record {
-      segment = record { number = number; schema = schema.now; rows = map (λ p. row_of (record { number = p.number; item = p.item })) puts.now };
-      live = map (λ p. p.live) puts.now;
-    }) }
-{
-    let rows = rows_of(alloc, puts)?;
-    let count = rows.len();
-    if count == 0 || count > MAX_ROWS || !are_positive(&rows) || !are_apart(&rows) {
-        panic!(rt; "no rows of segment {number}");
-    }
-    let segment = Segment::of(alloc, number, schema, &rows)?;
-    let live = live_of(alloc, puts)?;
-    Ok(Leaf::new(Arc::new(alloc, segment)?, Arc::new(alloc, live)?))
-}
-
-/// Their view, in segments that end at these places.
-fn view_of(
-    rt: &impl Abort,
-    alloc: Global,
-    schema: &Schema,
-    puts: &[Put],
-    ends: &[usize],
-) -> Result<View, Fail>
-    requires items { All (λ p. IsItem schema.now p.item) puts.now }
-    requires order { AllPairs (λ a b. (a.number < b.number)
-        × (a.live ≡ true → b.live ≡ true → a.item.id ≢ b.item.id)) puts.now }
-    ensures { IfOk result (λ v. v.schema ≡ schema.now) }
-{
-    let mut leaves = Vec::new(alloc);
-    let mut start = 0;
-    for end in ends {
-        if start >= *end || *end > puts.len() {
-            panic!(rt; "no segment ends at {end}");
-        }
-        let number = leaves.len() as SegNo + 1;
-        leaves.push(leaf_of(rt, alloc, schema, number, &puts[start..*end])?)?;
-        start = *end;
-    }
-    if start < puts.len() {
-        panic!(rt; "no segment has row {start}");
-    }
-    Ok(View::of(alloc, schema.copy()?, leaves, 99)?)
-}
 
 /// The sort that a FIND names so.
 fn sort_named(text: &str) -> Sort<'_> {
@@ -271,7 +101,7 @@ fn expect_finds(
     if !are_in_order(&puts) {
         panic!(rt; "no rows of a view");
     }
-    let view = view_of(rt, alloc, &schema, &puts, ends)?;
+    let view = view_of(alloc, &schema, &puts, ends)?;
     let records = read_puts(alloc, &schema, rows, true)?;
     if !are_in_order(&records) {
         panic!(rt; "no records of a view");
@@ -598,7 +428,7 @@ fn a_page_has_a_thousand_hits_and_no_more(rt: HostRuntime) -> Result<(), Fail> {
     if !are_in_order(&puts) {
         panic!(&rt; "no rows of a view");
     }
-    let view = view_of(&rt, alloc, &schema, &puts, &[700, puts.len()])?;
+    let view = view_of(alloc, &schema, &puts, &[700, puts.len()])?;
     expect_thousands(&rt, alloc, &view, &puts)
 }
 
@@ -620,7 +450,7 @@ fn a_view_needs_two_files_of_each_segment(rt: HostRuntime) -> Result<(), Fail> {
     if !are_in_order(&puts) {
         panic!(&rt; "no rows of a view");
     }
-    let view = view_of(&rt, alloc, &schema, &puts, &[1, 3, 6])?;
+    let view = view_of(alloc, &schema, &puts, &[1, 3, 6])?;
     let names = names_text(alloc, &view.files(alloc)?)?;
     assert_eq!(rt;
         names.as_str(),
@@ -655,7 +485,7 @@ fn a_view_gives_the_texts_of_live_ids(rt: HostRuntime) -> Result<(), Fail> {
     if !are_in_order(&puts) {
         panic!(&rt; "no rows of a view");
     }
-    let view = view_of(&rt, alloc, &schema, &puts, &[1, 3, 6])?;
+    let view = view_of(alloc, &schema, &puts, &[1, 3, 6])?;
     let mut files = MemoryDirectory::new(alloc);
     let (b, c) = (r#"{"id":"b"}"#, r#"{"id":"c","price":7}"#);
     let (d, e) = (r#"{"id":"d","price":2}"#, r#"{"id":"e","price":3}"#);

@@ -2,7 +2,7 @@ use Rattle.std.proofs.Common.{All, subst}
 use Rattle.std.proofs.lemmas.List.{take_all}
 use Rattle.std.proofs.lemmas.List.Elements.{All-more}
 use Rattle.cat_view_rows.proofs.ViewRows.{Beside}
-use Rattle.cat_view_rows.proofs.views.is_later.Goals as goal
+use Rattle.cat_view_rows.proofs.making.is_later.Goals as goal
 
 pub loop-put-preserved : goal.loop-put-preserved
 loop-put-preserved c =

@@ -1,7 +1,7 @@
 use Rattle.std.proofs.Common.{◌≡◌, map, take}
 use Rattle.cat_model.specs.View.{row_of}
 use Rattle.cat_view_rows.proofs.ViewRows.{row_in}
-use Rattle.cat_view_rows.proofs.views.rows_of.Given as goal
+use Rattle.cat_view_rows.proofs.making.rows_of.Given as goal
 
 abbrev pub invariant-loop-put : goal.invariant-loop-put
 invariant-loop-put l = record {

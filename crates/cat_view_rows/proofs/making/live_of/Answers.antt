@@ -1,7 +1,7 @@
 use Rattle.std.proofs.Common.{◌≡◌, ◌+◌, ◌<◌, false, length, slice_set, subst, sym, arith, rules}
 use Rattle.cat_view_rows.proofs.ViewRows.{IsKilled, killed_next, kept_next}
-use Rattle.cat_view_rows.proofs.views.live_of.Goals as goal
-use Rattle.cat_view_rows.proofs.views.live_of.Goals.{then-not-put, else-not-put}
+use Rattle.cat_view_rows.proofs.making.live_of.Goals as goal
+use Rattle.cat_view_rows.proofs.making.live_of.Goals.{then-not-put, else-not-put}
 
 pub loop-row-preserved : goal.loop-row-preserved
 loop-row-preserved c =
