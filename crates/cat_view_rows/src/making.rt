@@ -128,12 +128,7 @@ fn are_positive(rows: &[Row<'_>]) -> bool
 }
 
 /// The segment of this number that has them as its rows; [`Refusal::Damaged`] where no segment has.
-fn leaf_of(
-    alloc: Global,
-    schema: &Schema,
-    number: SegNo,
-    puts: &[Put],
-) -> Result<Leaf, Refusal>
+fn leaf_of(alloc: Global, schema: &Schema, number: SegNo, puts: &[Put]) -> Result<Leaf, Refusal>
     requires { All (λ p. IsItem schema.now p.item) puts.now }
     ensures { IfOk result (λ l. l ≡ record {
       segment = record { number = number; schema = schema.now; rows = map (λ p. row_of (record { number = p.number; item = p.item })) puts.now };
