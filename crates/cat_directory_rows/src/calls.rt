@@ -33,7 +33,7 @@ pub(crate) enum Call<'a> {
 }
 
 /// What the call is answered, as text: the refusal's number, or what it gives.
-fn answer<D: Directory + Shelf>(
+pub(crate) fn answer<D: Directory + Shelf>(
     device: &mut D,
     alloc: Global,
     call: Call<'_>,

@@ -1,5 +1,5 @@
 //! Devices that fail where they are told to, and files that are written whole.
-use crate::calls::{Call, FIRST, ROWS, Row, SOURCE, expect, make_folder};
+use crate::calls::{Call, FIRST, ROWS, Row, SOURCE, answer, expect, make_folder};
 use cat_directory::{Directory, Faults, Faulty, Folder, MemoryDirectory, Shelf};
 use std::alloc::Global;
 use std::fs;
@@ -34,7 +34,8 @@ fn expect_failures<D: Directory + Shelf>(
     rows: &[Row<'_>],
 ) -> Result<(), Fail> {
     for (call, _) in rows {
-        expect(rt, alloc, device, &[(*call, "NO 30")])?;
+        let got = answer(device, alloc, *call)?;
+        assert!(rt; got.as_str() == "NO 30");
     }
     Ok(())
 }
@@ -63,32 +64,34 @@ fn a_call_that_fails_does_nothing(rt: HostRuntime) -> Result<(), Fail> {
     Ok(())
 }
 
-/// From so many of the rows on, these names are there.
-const NAMES: &[(usize, &str)] = &[
-    (0, ""),
-    (7, "_1.seg "),
-    (19, "_1.seg segments_3 "),
-    (20, "_1.seg _2_1.liv segments_3 "),
-    (21, "_1.seg _2.sto _2_1.liv segments_3 "),
-    (22, "_1.seg _10.sto _2.sto _2_1.liv segments_3 "),
-    (28, "_10.sto _2.sto _2_1.liv segments_3 "),
+/// Which names are there behind so many of the rows: from the first number to before the second.
+const NAMES: &[(usize, usize, &str)] = &[
+    (0, 7, ""),
+    (7, 19, "_1.seg "),
+    (19, 20, "_1.seg segments_3 "),
+    (20, 21, "_1.seg _2_1.liv segments_3 "),
+    (21, 22, "_1.seg _2.sto _2_1.liv segments_3 "),
+    (22, 28, "_1.seg _10.sto _2.sto _2_1.liv segments_3 "),
+    (28, ROWS.len(), "_10.sto _2.sto _2_1.liv segments_3 "),
 ];
 
-fn names_after(passes: usize) -> &'static str {
-    let mut names = "";
-    for &(from, text) in NAMES {
-        if from <= passes {
-            names = text;
-        }
+fn fail_between(
+    rt: &impl Abort,
+    alloc: Global,
+    from: usize,
+    to: usize,
+    names: &str,
+) -> Result<(), Fail> {
+    for passes in from..to {
+        fail_all(rt, alloc, MemoryDirectory::new(alloc), passes, names)?;
     }
-    names
+    Ok(())
 }
 
 #[test]
 fn calls_behind_a_fault_do_nothing(rt: HostRuntime) -> Result<(), Fail> {
-    for passes in 0..ROWS.len() {
-        let memory = MemoryDirectory::new(rt.alloc());
-        fail_all(&rt, rt.alloc(), memory, passes, names_after(passes))?;
+    for &(from, to, names) in NAMES {
+        fail_between(&rt, rt.alloc(), from, to, names)?;
     }
     Ok(())
 }

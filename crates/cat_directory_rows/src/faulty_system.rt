@@ -6,13 +6,19 @@ use std::io;
 use std::io::{ErrorKind, Read, Seek, SeekFrom, Write};
 use std::rc::Rc;
 
+/// What can fail: each call of a kind.
+#[derive(Clone, Copy, PartialEq, Eq)]
+pub(crate) enum Doing {
+    Opening,
+    Reading,
+    Syncing,
+}
+
 /// What calls meet, and which files were synced.
 #[derive(Drop)]
 pub(crate) struct Notes {
-    /// The kind of error that each call of this name meets.
-    pub(crate) opening: Cell<Option<ErrorKind>>,
-    pub(crate) reading: Cell<Option<ErrorKind>>,
-    pub(crate) syncing: Cell<Option<ErrorKind>>,
+    /// What fails now, and by which kind of error.
+    pub(crate) fault: Cell<Option<(Doing, ErrorKind)>>,
     /// 1 for a segment's file, 2 for one of sources, 4 for the folder.
     pub(crate) synced: Cell<u8>,
 }
@@ -20,9 +26,7 @@ pub(crate) struct Notes {
 impl Notes {
     pub(crate) fn new() -> Notes {
         Notes {
-            opening: Cell::new(None),
-            reading: Cell::new(None),
-            syncing: Cell::new(None),
+            fault: Cell::new(None),
             synced: Cell::new(0),
         }
     }
@@ -63,10 +67,10 @@ impl Read for Names {
     }
 }
 
-fn meet(fault: &Cell<Option<ErrorKind>>) -> io::Result<()> {
-    match fault.get() {
-        Some(kind) => Err(kind.into()),
-        None => Ok(()),
+fn meet(notes: &Notes, doing: Doing) -> io::Result<()> {
+    match notes.fault.get() {
+        Some((failing, kind)) if failing == doing => Err(kind.into()),
+        _ => Ok(()),
     }
 }
 
@@ -82,7 +86,7 @@ fn mark_of(path: &str) -> u8 {
 
 impl<F: Read> Read for FaultyFile<F> {
     fn read(&mut self, buf: &mut [u8]) -> io::Result<usize> {
-        meet(&self.notes.reading)?;
+        meet(&self.notes, Doing::Reading)?;
         self.file.read(buf)
     }
 }
@@ -117,7 +121,7 @@ impl<F: OpenFile> OpenFile for FaultyFile<F> {
     }
 
     fn sync_all(&self) -> io::Result<()> {
-        meet(&self.notes.syncing)?;
+        meet(&self.notes, Doing::Syncing)?;
         self.notes.synced.set(self.notes.synced.get() | self.mark);
         self.file.sync_all()
     }
@@ -141,7 +145,7 @@ impl<R: Files> Files for FaultySystem<R> {
     type Dir = Names;
 
     fn open_file(&self, how: &OpenOptions, path: &str) -> io::Result<FaultyFile<R::File>> {
-        meet(&self.notes.opening)?;
+        meet(&self.notes, Doing::Opening)?;
         Ok(FaultyFile {
             file: self.rt.open_file(how, path)?,
             notes: self.notes.clone()?,
@@ -150,7 +154,7 @@ impl<R: Files> Files for FaultySystem<R> {
     }
 
     fn open_dir(&self, _path: &str) -> io::Result<Names> {
-        meet(&self.notes.opening)?;
+        meet(&self.notes, Doing::Opening)?;
         Ok(Names { is_read: false })
     }
 

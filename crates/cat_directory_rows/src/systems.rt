@@ -1,6 +1,6 @@
 //! What a folder asks of the system, and what it tells where the system fails.
 use crate::calls::{Call, FIRST, Row, SOURCE, expect, make_folder};
-use crate::faulty_system::{FaultySystem, Notes};
+use crate::faulty_system::{Doing, FaultySystem, Notes};
 use cat_directory::Folder;
 use std::fs;
 use std::fs::Files;
@@ -9,32 +9,11 @@ use std::process::Abort;
 use std::rc::Rc;
 use std::test::Fail;
 
-/// What the system meets from then on, the calls that are made, and what has been synced: 1 for a segment's file, 2 for one of
-/// sources, 4 for the folder.
-type Scene<'a> = (Meets, &'a [Row<'a>], u8);
+/// What fails from then on, the calls that are made, and what has been synced then: 1 for a segment's file, 2 for one of sources,
+/// 4 for the folder.
+type Scene<'a> = (Option<(Doing, ErrorKind)>, &'a [Row<'a>], u8);
 
-/// The errors that all calls of these names meet.
-#[derive(Clone, Copy)]
-enum Meets {
-    Nothing,
-    Opening(ErrorKind),
-    Reading(ErrorKind),
-    Syncing(ErrorKind),
-}
-
-fn set(notes: &Notes, meets: Meets) {
-    let (opening, reading, syncing) = match meets {
-        Meets::Nothing => (None, None, None),
-        Meets::Opening(kind) => (Some(kind), None, None),
-        Meets::Reading(kind) => (None, Some(kind), None),
-        Meets::Syncing(kind) => (None, None, Some(kind)),
-    };
-    notes.opening.set(opening);
-    notes.reading.set(reading);
-    notes.syncing.set(syncing);
-}
-
-/// Makes the calls of the scenes in a folder at the path, which had no file, in a system that meets what they say.
+/// Makes the calls of the scenes in a folder at the path, which had no file, in a system that fails as they say.
 fn expect_scenes<R: Abort + Files + AllocGlobal + Clone + Drop>(
     rt: &R,
     path: &str,
@@ -47,8 +26,8 @@ fn expect_scenes<R: Abort + Files + AllocGlobal + Clone + Drop>(
         notes: notes.clone()?,
     };
     let mut folder = Folder::at(system, rt.alloc(), path)?;
-    for (meets, rows, synced) in scenes {
-        set(&notes, *meets);
+    for (fault, rows, synced) in scenes {
+        notes.fault.set(*fault);
         expect(rt, rt.alloc(), &mut folder, rows)?;
         assert!(rt; notes.synced.get() == *synced);
     }
@@ -69,11 +48,7 @@ const SYNC_NONE: &[Row<'static>] = &[(Call::Sync(&[]), "")];
 const SYNC_BOTH: &[Row<'static>] = &[(Call::Sync(&[FIRST, SOURCE]), ""), (Call::Failures, "0")];
 
 /// The folder is synced, and each file.
-const SYNCED: &[Scene<'static>] = &[
-    (Meets::Nothing, WHOLE, 0),
-    (Meets::Nothing, SYNC_NONE, 4),
-    (Meets::Nothing, SYNC_BOTH, 7),
-];
+const SYNCED: &[Scene<'static>] = &[(None, WHOLE, 0), (None, SYNC_NONE, 4), (None, SYNC_BOTH, 7)];
 
 #[test]
 fn a_folder_asks_the_system_for_all_it_needs(rt: HostRuntime) -> Result<(), Fail> {
@@ -115,14 +90,18 @@ const UNREAD: &[Row<'static>] = &[(Call::Read(FIRST, 0, 5), "NO 30")];
 const READ: &[Row<'static>] = &[(Call::Read(FIRST, 0, 5), "whole"), (Call::Failures, "15")];
 
 const KINDS: &[Scene<'static>] = &[
-    (Meets::Nothing, MAKE, 0),
-    (Meets::Opening(ErrorKind::NotFound), GONE, 0),
-    (Meets::Opening(ErrorKind::UnexpectedEof), GONE, 0),
-    (Meets::Opening(ErrorKind::OutOfMemory), WANTING, 0),
-    (Meets::Opening(ErrorKind::PermissionDenied), FAILED, 0),
-    (Meets::Opening(ErrorKind::Other), FAILED, 0),
-    (Meets::Reading(ErrorKind::Other), UNREAD, 0),
-    (Meets::Nothing, READ, 0),
+    (None, MAKE, 0),
+    (Some((Doing::Opening, ErrorKind::NotFound)), GONE, 0),
+    (Some((Doing::Opening, ErrorKind::UnexpectedEof)), GONE, 0),
+    (Some((Doing::Opening, ErrorKind::OutOfMemory)), WANTING, 0),
+    (
+        Some((Doing::Opening, ErrorKind::PermissionDenied)),
+        FAILED,
+        0,
+    ),
+    (Some((Doing::Opening, ErrorKind::Other)), FAILED, 0),
+    (Some((Doing::Reading, ErrorKind::Other)), UNREAD, 0),
+    (None, READ, 0),
 ];
 
 #[test]
@@ -148,9 +127,9 @@ const NEVER_SYNCED: &[Row<'static>] = &[
 ];
 
 const FAILED_SYNC: &[Scene<'static>] = &[
-    (Meets::Nothing, SYNC_ABSENT, 5),
-    (Meets::Syncing(ErrorKind::Other), NOT_SYNCED, 5),
-    (Meets::Nothing, NEVER_SYNCED, 5),
+    (None, SYNC_ABSENT, 5),
+    (Some((Doing::Syncing, ErrorKind::Other)), NOT_SYNCED, 5),
+    (None, NEVER_SYNCED, 5),
 ];
 
 #[test]

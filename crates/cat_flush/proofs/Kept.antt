@@ -56,11 +56,3 @@ IsBuffered-put b n item is space positive newest fits =
       rising = all_pairs_push (λ r s. r.number < s.number) rest last less.rising below;
       distinct = all_pairs_push (λ r s. r.item.id ≢ s.item.id) rest last less.distinct others;
     }
-
--- all stay below the next number
-pub below_put : (rs : List Record) (n : ℕ) (item : Item) → All (λ r. r.number < n) rs → All (λ r. r.number < n + 1) (after rs n (Write.put item))
-below_put rs n item newest =
-    let w = Write.put item in
-    let stays : Record → Bool = λ r. not (removes w r.item) in
-    let below : All (λ r. r.number < n) (without rs w) = All-filter stays (λ r. r.number < n) rs newest in
-    All-push (λ r. r.number < n + 1) (without rs w) (record { number = n; item = item }) (All-weaker (λ r. r.number < n) (λ r. r.number < n + 1) (λ r less. omega arith) (without rs w) below) (omega arith)

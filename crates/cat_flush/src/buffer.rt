@@ -216,6 +216,3 @@ fn source_bytes(entries: &IndexMap<String, Record>) -> Result<usize, AllocError>
     }
     Ok(bytes)
 }
-
-#[cfg(test)]
-mod tests;

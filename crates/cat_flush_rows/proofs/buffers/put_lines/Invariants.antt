@@ -1,6 +1,6 @@
 use Rattle.std.proofs.Common.{◌≡◌, ◌<◌, ◌+◌}
 use Rattle.std.specs.Prelude.{All}
-use Rattle.cat_flush.proofs.buffer.tests.put_many.Given as goal
+use Rattle.cat_flush_rows.proofs.buffers.put_lines.Given as goal
 
 abbrev pub invariant-loop-number : goal.invariant-loop-number
 invariant-loop-number l = record {
