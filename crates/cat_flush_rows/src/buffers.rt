@@ -6,7 +6,6 @@ use cat_flush::{Buffer, Sealed};
 use cat_schema::Schema;
 use cat_segment::Segment;
 use std::alloc::{AllocError, Global};
-use std::fmt::Write;
 use std::process::Abort;
 use std::test::Fail;
 
@@ -103,7 +102,8 @@ fn an_update_goes_last(rt: HostRuntime) -> Result<(), Fail> {
 fn lines(alloc: Global, count: u32) -> Result<String, AllocError> {
     let mut text = String::new(alloc);
     for number in 0..count {
-        write!(text, "{{\"id\":\"i{number}\",\"price\":{number}}}\n")?;
+        let line = format!(in alloc; "{{\"id\":\"i{number}\",\"price\":{number}}}\n")?;
+        text.push_str(line.as_str())?;
     }
     Ok(text)
 }

@@ -1,26 +1,45 @@
 //! Lines that are read and stepped through without an input.
 use crate::script::{Rows, SHOP};
-use cat_protocol::{Line, World};
+use cat_protocol::{Line, Reply, World};
 use std::alloc::Global;
 use std::process::Abort;
 use std::str::from_utf8;
 use std::test::Fail;
 
-/// Runs the lines in a new world. Each has to get the text of its reply.
-fn expect_run(rt: &impl Abort, alloc: Global, rows: Rows<'_>) -> Result<(), Fail> {
+fn lines_of<'a>(alloc: Global, rows: Rows<'a>) -> Result<Vec<Line<'a>>, Fail> {
     let mut lines = Vec::with_capacity(alloc, rows.len())?;
-    for (line, _) in rows {
+    for &(line, _) in rows {
         lines.push(Line::read(line)?)?;
     }
-    let mut world = World::open(alloc, SHOP.0)?;
-    let replies = world.run(alloc, lines.as_slice())?;
-    assert_eq!(rt; replies.len(), rows.len());
-    for (reply, (line, wanted)) in replies.iter().zip(rows) {
-        let text = reply.text(alloc)?;
-        let wanted = format!(in alloc; "{wanted}\n")?;
-        assert_eq!(rt; from_utf8(text.as_slice())?, wanted.as_str(), "to {line}");
+    Ok(lines)
+}
+
+fn expect_text(rt: &impl Abort, alloc: Global, reply: &Reply, wanted: &str) -> Result<(), Fail> {
+    let text = reply.text(alloc)?;
+    let shown = from_utf8(text.as_slice())?;
+    assert!(rt; shown.strip_suffix('\n') == Some(wanted), "{shown}");
+    Ok(())
+}
+
+fn expect_texts(
+    rt: &impl Abort,
+    alloc: Global,
+    replies: &[Reply],
+    rows: Rows<'_>,
+) -> Result<(), Fail> {
+    assert!(rt; replies.len() == rows.len());
+    for (reply, &(_, wanted)) in replies.iter().zip(rows) {
+        expect_text(rt, alloc, reply, wanted)?;
     }
     Ok(())
+}
+
+/// Runs the lines in a new world. Each has to get the text of its reply.
+fn expect_run(rt: &impl Abort, alloc: Global, rows: Rows<'_>) -> Result<(), Fail> {
+    let lines = lines_of(alloc, rows)?;
+    let mut world = World::open(alloc, SHOP.0)?;
+    let replies = world.run(alloc, lines.as_slice())?;
+    expect_texts(rt, alloc, replies.as_slice(), rows)
 }
 
 #[test]
