@@ -1,7 +1,14 @@
 -- Rows that a test makes are the rows of a segment.
-use Rattle.std.proofs.Common.{◌≡◌, ◌≢◌, ℕ, ◌<◌, ◌≤◌, List, [], ◌∷◌, length, map, take, get_or, All, AllPairs, sym, ap, ◌∙◌, subst, arith}
+use Rattle.std.proofs.Common.{◌≡◌, ◌≢◌, ℕ, zero, suc, ◌+◌, ◌<◌, ◌≤◌, inl, inr, Bool, true, false, ◌&&◌, nat_lt, List, [], ◌∷◌, length, map, take, get_or, All, AllPairs, refl, sym, ap, ◌∙◌, subst, arith, Ordering, Less, Equal, Greater}
+use Rattle.std.specs.Cmp.{tied_itself}
+use Rattle.std.specs.Cmp.Lexicographic.{nat_list_cmp_total}
+use Rattle.std.specs.List.{IsAllAdjacentAnswer}
+use Rattle.std.specs.Ordering.{is_lt}
+use Rattle.std.proofs.lemmas.Bool.{cases_eq}
+use Rattle.std.proofs.lemmas.Bool.Decides.{nat_tests}
 use Rattle.std.proofs.lemmas.List.{length-map, get_or-map, get_or-take, length-take-le}
 use Rattle.std.proofs.lemmas.List.Elements.{All-map}
+use Rattle.cat_model.specs.Text.{text_cmp}
 use Rattle.cat_model.specs.Item.{Schema, Item, AreFields, IsItem}
 use Rattle.cat_model.specs.View as model
 use Rattle.cat_model.specs.View.{row_of, AreRows}
@@ -40,3 +47,54 @@ pub all_apart : (rows : List Row) (place : ℕ) → length rows ≤ place → ((
 all_apart rows place past each i j d lt within =
     let long : i < length (take j rows) = subst (λ n. i < n) (sym (length-take-le j rows (omega (arith, within)))) lt in
     subst (λ r. Apart r (get_or rows j d)) (get_or-take j rows i d lt) (each j d (omega (arith, within, past)) i d long)
+
+-- ---- rows whose numbers and ids rise
+
+abbrev pub before : Row → Row → Bool
+before a b = nat_lt a.number b.number && is_lt (text_cmp a.item.now.id b.item.now.id)
+
+-- the first has the lower number and the lower id
+abbrev Below : Row → Row → Type 0
+Below a b = (a.number < b.number) × (text_cmp a.item.now.id b.item.now.id ≡ Less)
+
+less : (r : Ordering) → true ≡ is_lt r → r ≡ Less
+less Less e = refl
+less Equal e = absurd (cc)
+less Greater e = absurd (cc)
+
+both : (s t : Bool) → true ≡ (s && t) → (true ≡ s) × (true ≡ t)
+both true t e = (refl, e)
+both false t e = absurd (cc)
+
+below : (a b : Row) → true ≡ before a b → Below a b
+below a b e =
+    let p = both (nat_lt a.number b.number) (is_lt (text_cmp a.item.now.id b.item.now.id)) e in
+    (grind (arith, nat_tests, p.0), less (text_cmp a.item.now.id b.item.now.id) p.1)
+
+below_trans : (a b c : Row) → Below a b → Below b c → Below a c
+below_trans a b c p q = (omega (arith, p.0, q.0), nat_list_cmp_total.trans a.item.now.id b.item.now.id c.item.now.id p.1 q.1)
+
+-- each row is below all later ones
+far : (rows : List Row) → ((k : ℕ) (d : Row) → k + 1 < length rows → true ≡ before (get_or rows k d) (get_or rows (k + 1) d))
+    → (j i : ℕ) (d : Row) → i < j → j < length rows → Below (get_or rows i d) (get_or rows j d)
+far rows rises zero i d lt within = absurd (omega arith)
+far rows rises (suc j) i d lt within =
+    let next : Below (get_or rows j d) (get_or rows (suc j) d) =
+    subst (λ n. Below (get_or rows j d) (get_or rows n d)) (omega arith) (below (get_or rows j d) (get_or rows (j + 1) d) (rises j d (omega arith))) in
+    elim (cases_eq i j) [
+      | inl same ↦ subst (λ n. Below (get_or rows n d) (get_or rows (suc j) d)) (sym same) next
+      | inr other ↦ below_trans (get_or rows i d) (get_or rows j d) (get_or rows (suc j) d) (far rows rises j i d (omega (arith, other)) (omega arith)) next
+    ]
+
+below_apart : (a b : Row) → Below a b → Apart a b
+below_apart a b p = (
+  p.0,
+  λ same.
+      let tie : text_cmp a.item.now.id b.item.now.id ≡ Equal = ap (text_cmp a.item.now.id) (sym same) ∙ tied_itself nat_list_cmp_total a.item.now.id in
+      let no : Equal ≡ Less = sym tie ∙ p.1 in
+      cc,
+)
+
+pub told_apart : (rows : List Row) (rise : Bool) → IsAllAdjacentAnswer (λ a b r. r ≡ before a b) rows rise → rise ≡ true → AllPairs Apart rows
+told_apart rows false level e = absurd (cc)
+told_apart rows true rises e = λ i j d lt within. below_apart (get_or rows i d) (get_or rows j d) (far rows rises j i d lt within)

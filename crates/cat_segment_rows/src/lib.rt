@@ -3,8 +3,18 @@
 
 mod apart;
 #[cfg(test)]
+mod bytes;
+#[cfg(test)]
 mod files;
 #[cfg(test)]
+mod live;
+#[cfg(test)]
+mod made;
+#[cfg(test)]
+mod matched;
+#[cfg(test)]
 mod segments;
+#[cfg(test)]
+mod thrown;
 
-pub use apart::are_apart;
+pub use apart::{are_apart, are_rising};

@@ -1,5 +1,5 @@
 use Rattle.std.proofs.Common.{◌≡◌, ◌≤◌, All, map, take}
-use Rattle.cat_segment_rows.proofs.segments.rows_of.Given as goal
+use Rattle.cat_segment_rows.proofs.made.rows_of.Given as goal
 
 abbrev pub invariant-loop-item : goal.invariant-loop-item
 invariant-loop-item l = record {
