@@ -5,7 +5,11 @@ mod apart;
 #[cfg(test)]
 mod bytes;
 #[cfg(test)]
+mod damage;
+#[cfg(test)]
 mod files;
+#[cfg(test)]
+mod limits;
 #[cfg(test)]
 mod live;
 #[cfg(test)]
