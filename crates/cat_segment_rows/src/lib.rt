@@ -17,6 +17,8 @@ mod made;
 #[cfg(test)]
 mod matched;
 #[cfg(test)]
+mod runs;
+#[cfg(test)]
 mod segments;
 #[cfg(test)]
 mod thrown;
