@@ -1,10 +1,9 @@
 //! Columns and sets of rows: made of what a file holds, at the limits of a segment, and merged.
-ghost use Rattle.std.specs.Prelude.{◌≡◌, ◌≤◌, ◌^◌, ◌<◌, length, All, IfOk};
-ghost use Rattle.cat_base.specs.Texts.{IsTextSet};
+ghost use Rattle.std.specs.Prelude.{◌≤◌, ◌^◌, ◌<◌, length};
 ghost use Rattle.cat_model.specs.Layout.{AreEnds};
 
-use crate::texts::{number, rows_in, set, texts};
-use cat_base::{MAX_ROWS, Refusal, Text, TextSet};
+use crate::texts::{are_words, equal_rows, number, rows_in, set, texts};
+use cat_base::{MAX_ROWS, Refusal};
 use cat_values::{Dictionary, KeywordColumn, RowSet, SetColumn};
 use std::alloc::{AllocError, Global};
 use std::process::Abort;
@@ -17,21 +16,31 @@ fn keywords(alloc: Global, words: &[&str], codes: &[u32]) -> Result<KeywordColum
     KeywordColumn::from_codes(alloc, texts(alloc, words)?, codes)
 }
 
-/// The value and the code of each row.
-fn shown_keywords(alloc: Global, column: &KeywordColumn) -> Result<String, AllocError> {
-    let mut values = Vec::new(alloc);
-    for row in 0..column.len() {
-        values.push(column.value(row))?;
+/// The text of the row, where there is one.
+fn keyword_at(column: &KeywordColumn, row: usize) -> &str {
+    if row >= column.len() {
+        return "past the last";
     }
-    format!(in alloc; "{values:?} {:?}", column.codes())
+    match column.value(row) {
+        Some(text) => text.as_str(),
+        None => "missing",
+    }
+}
+
+/// Fails unless the rows have these texts.
+fn expect_keywords(rt: &impl Abort, column: &KeywordColumn, texts: &[&str]) {
+    assert!(rt; column.len() == texts.len());
+    for (row, text) in texts.iter().enumerate() {
+        assert!(rt; keyword_at(column, row) == *text, "row {row}");
+    }
 }
 
 #[test]
 fn keywords_are_made_of_codes(rt: HostRuntime) -> Result<(), Fail> {
-    const SHOWN: &str = r#"[Some("red"), None, Some("blue"), Some("red")] [2, 0, 1, 2]"#;
-    let alloc = rt.alloc();
-    let column = keywords(alloc, &["blue", "red"], &[2, 0, 1, 2])?;
-    assert_eq!(rt; shown_keywords(alloc, &column)?.as_str(), SHOWN);
+    const CODES: &[u32] = &[2, 0, 1, 2];
+    let column = keywords(rt.alloc(), &["blue", "red"], CODES)?;
+    expect_keywords(&rt, &column, &["red", "missing", "blue", "red"]);
+    assert!(rt; column.codes() == CODES);
     Ok(())
 }
 
@@ -65,21 +74,28 @@ fn labels(
     SetColumn::from_ordinals(alloc, texts(alloc, words)?, ends, ordinals)
 }
 
-/// The labels of a column, and the ordinals of each row.
-fn shown_labels(alloc: Global, column: &SetColumn) -> Result<String, AllocError> {
-    let mut rows = Vec::new(alloc);
-    for row in 0..column.len() {
-        rows.push(column.ordinals(row))?;
+/// The ordinals of the row's labels; none where there is no such row.
+fn ordinals_at(column: &SetColumn, row: usize) -> &[u32] {
+    if row < column.len() {
+        column.ordinals(row)
+    } else {
+        &[]
     }
-    format!(in alloc; "{:?} {rows:?}", column.dictionary().as_slice())
+}
+
+/// Fails unless the rows have labels of these ordinals.
+fn expect_ordinals(rt: &impl Abort, column: &SetColumn, rows: &[&[u32]]) {
+    assert!(rt; column.len() == rows.len());
+    for (row, ordinals) in rows.iter().enumerate() {
+        assert!(rt; ordinals_at(column, row) == *ordinals, "row {row}");
+    }
 }
 
 #[test]
 fn labels_are_made_of_ordinals(rt: HostRuntime) -> Result<(), Fail> {
-    const SHOWN: &str = r#"["blue", "red"] [[1], [], [0, 1]]"#;
-    let alloc = rt.alloc();
-    let column = labels(alloc, &["blue", "red"], &[1, 1, 3], &[1, 0, 1])?;
-    assert_eq!(rt; shown_labels(alloc, &column)?.as_str(), SHOWN);
+    let column = labels(rt.alloc(), &["blue", "red"], &[1, 1, 3], &[1, 0, 1])?;
+    assert!(rt; are_words(column.dictionary().as_slice(), &["blue", "red"]));
+    expect_ordinals(&rt, &column, &[&[1], &[], &[0, 1]]);
     Ok(())
 }
 
@@ -98,11 +114,11 @@ const PACKED: &[u8] = b"\x01\x02\0\0\0\0\0\x80\x05";
 
 #[test]
 fn sets_are_made_of_bytes(rt: HostRuntime) -> Result<(), Fail> {
+    const ROWS: &[usize] = &[0, 9, 63, 64, 66];
     let alloc = rt.alloc();
     let set = RowSet::from_bytes(alloc, 67, PACKED)?;
-    let shown = format!(in alloc; "{:?}", rows_in(alloc, &set)?)?;
-    assert_eq!(rt; shown.as_str(), "[0, 9, 63, 64, 66]");
-    assert_eq!(rt; set.to_bytes()?.as_slice(), PACKED);
+    assert!(rt; rows_in(alloc, &set)?.as_slice() == ROWS);
+    assert!(rt; set.to_bytes()?.as_slice() == PACKED);
     Ok(())
 }
 
@@ -154,73 +170,40 @@ fn rows_below_one_are_removed(rt: HostRuntime) -> Result<(), Fail> {
     expect_left_from(&rt, alloc, 200, &[0, 1, 63, 64, 65, 130, 200])
 }
 
-/// The first and the last of so many rows, put into a set of none.
-fn ends_of_set(alloc: Global, len: usize) -> Result<String, AllocError>
+/// Fails unless the first and the last of so many rows are those of a set into which just they are put.
+fn expect_ends(rt: &impl Abort, alloc: Global, len: usize) -> Result<(), Fail>
     requires some { 0 < len }
     requires few { len < 2 ^ 32 }
 {
     let mut set = RowSet::none(alloc, len)?;
     set.insert(len - 1);
     set.insert(0);
-    format!(in alloc; "{:?} of {}", rows_in(alloc, &set)?, set.len())
+    assert!(rt; set.len() == len && set.count() == 2);
+    assert!(rt; rows_in(alloc, &set)?.as_slice() == [0, len - 1].as_slice());
+    Ok(())
 }
 
 #[test]
 fn a_set_has_the_rows_of_a_full_segment(rt: HostRuntime) -> Result<(), Fail> {
-    let alloc = rt.alloc();
-    let more = ends_of_set(alloc, 65_537)?;
-    assert_eq!(rt; more.as_str(), "[0, 65536] of 65537");
-    let full = ends_of_set(alloc, MAX_ROWS)?;
-    assert_eq!(rt; full.as_str(), "[0, 262143] of 262144");
-    Ok(())
+    expect_ends(&rt, rt.alloc(), 65_537)?;
+    expect_ends(&rt, rt.alloc(), MAX_ROWS)
 }
 
-/// So many rows, each with the same labels.
-fn equal_rows<'a>(
-    alloc: Global,
-    labels: &'a TextSet,
-    count: usize,
-) -> Result<Vec<&'a [Text]>, AllocError>
-    ensures long { IfOk result (λ v. length v.items ≡ count) }
-    ensures sets { IfOk result (λ v. All (λ r. IsTextSet r.now) v.items) }
-{
-    let mut rows = Vec::new(alloc);
-    for _ in 0..count {
-        rows.push(labels.as_slice())?;
-    }
-    Ok(rows)
-}
-
-/// How many rows and ordinals a column of so many rows has, each row with two labels.
-fn lengths_of_column(alloc: Global, count: usize) -> Result<String, AllocError>
+/// A column of so many rows, each with two labels.
+fn column_of_pairs(alloc: Global, count: usize) -> Result<SetColumn, AllocError>
     requires { count < 2 ^ 32 }
 {
     let labels = set(alloc, &["red", "blue"])?;
     let rows = equal_rows(alloc, &labels, count)?;
-    let column = SetColumn::of(alloc, &rows)?;
-    let (ends, ordinals) = column.layout();
-    format!(in alloc; "{} {} {:?}", ends.len(), ordinals.len(), ends.last())
+    SetColumn::of(alloc, &rows)
 }
 
 #[test]
 fn a_column_has_more_labels_than_two_bytes_count(rt: HostRuntime) -> Result<(), Fail> {
-    let made = lengths_of_column(rt.alloc(), 40_000)?;
-    assert_eq!(rt; made.as_str(), "40000 80000 Some(80000)");
-    Ok(())
-}
-
-fn expect_ordinal(rt: &impl Abort, dictionary: &Dictionary, text: &str, want: Option<usize>) {
-    assert_eq!(rt; dictionary.ordinal(text), want, "{text}");
-}
-
-fn expect_texts(
-    rt: &impl Abort,
-    alloc: Global,
-    dictionary: &Dictionary,
-    want: &str,
-) -> Result<(), Fail> {
-    let shown = format!(in alloc; "{:?}", dictionary.as_slice())?;
-    assert_eq!(rt; shown.as_str(), want);
+    let column = column_of_pairs(rt.alloc(), 40_000)?;
+    let (ends, ordinals) = column.layout();
+    assert!(rt; ends.len() == 40_000 && ordinals.len() == 80_000);
+    assert!(rt; ends.last() == Some(&80_000));
     Ok(())
 }
 
@@ -231,11 +214,9 @@ fn shared(alloc: Global) -> Result<Dictionary, AllocError> {
 
 #[test]
 fn a_dictionary_is_shared(rt: HostRuntime) -> Result<(), Fail> {
-    let alloc = rt.alloc();
-    let shared = shared(alloc)?;
-    expect_texts(&rt, alloc, &shared, r#"["blue", "red"]"#)?;
-    expect_ordinal(&rt, &shared, "red", Some(1));
-    expect_ordinal(&rt, &shared, "green", None);
+    let shared = shared(rt.alloc())?;
+    assert!(rt; are_words(shared.as_slice(), &["blue", "red"]));
+    assert!(rt; shared.ordinal("red") == Some(1) && shared.ordinal("green").is_none());
     Ok(())
 }
 
@@ -245,5 +226,6 @@ fn a_union_has_the_texts_of_all_sets(rt: HostRuntime) -> Result<(), Fail> {
     let one = set(alloc, &["ash", "elm"])?;
     let other = set(alloc, &["birch", "elm", "oak"])?;
     let union = Dictionary::union(alloc, &[one.as_slice(), &[], other.as_slice()])?;
-    expect_texts(&rt, alloc, &union, r#"["ash", "birch", "elm", "oak"]"#)
+    assert!(rt; are_words(union.as_slice(), &["ash", "birch", "elm", "oak"]));
+    Ok(())
 }

@@ -1,5 +1,5 @@
 //! A segment of one row, byte by byte as it is laid out.
-use crate::texts::{number, texts};
+use crate::texts::{are_words, number, texts};
 use cat_base::{Cursor, put_bytes, put_u32};
 use cat_codec::{
     ColumnParts, SegmentParts, put_fields, put_head, put_list, put_number, put_start, put_texts,
@@ -25,57 +25,58 @@ fn expect_names(rt: &impl Abort, fields: &[Field], want: &[(&str, Kind)]) {
     }
 }
 
+/// Fails unless it is said of one row that write 1 put the item `a` of 36 bytes.
+fn expect_heads(rt: &impl Abort, parts: &SegmentParts) {
+    assert!(rt; parts.number == 1 && are_words(&parts.ids, &["a"]));
+    assert!(rt; parts.numbers.as_slice() == [1].as_slice());
+    assert!(rt; parts.lengths.as_slice() == [36].as_slice());
+}
+
 #[test]
-fn reads_the_heads_of_rows(rt: HostRuntime) -> Result<(), Fail> {
-    let alloc = rt.alloc();
-    let parts = read_segment(alloc, FILE)?;
-    assert_eq!(rt; parts.number, 1);
-    expect_names(
-        &rt,
-        parts.schema.fields(),
-        &[("color", Kind::Facet), ("price", Kind::Number)],
-    );
-    let shown = format!(in alloc; "{:?} {:?} {:?}", parts.numbers, parts.ids, parts.lengths)?;
-    assert_eq!(rt; shown.as_str(), r#"[1] ["a"] [36]"#);
+fn reads_the_fields_and_the_heads_of_rows(rt: HostRuntime) -> Result<(), Fail> {
+    const FIELDS: &[(&str, Kind)] = &[("color", Kind::Facet), ("price", Kind::Number)];
+    let parts = read_segment(rt.alloc(), FILE)?;
+    expect_heads(&rt, &parts);
+    expect_names(&rt, parts.schema.fields(), FIELDS);
     Ok(())
 }
 
-/// The parts of a column of labels or of numbers.
-fn shown_column(alloc: Global, column: &ColumnParts) -> Result<String, AllocError> {
+/// Whether the one row has the label `red`.
+fn is_red(column: &ColumnParts) -> bool {
     match column {
-        ColumnParts::Facet(dictionary, ends, ordinals) => {
-            format!(in alloc; "{dictionary:?} {ends:?} {ordinals:?}")
+        ColumnParts::Facet(labels, ends, ordinals) => {
+            are_words(labels, &["red"]) && are_numbers(ends, &[1]) && are_numbers(ordinals, &[0])
         }
-        ColumnParts::Number(numbers) => format!(in alloc; "{numbers:?}"),
-        ColumnParts::Text(..) | ColumnParts::Keyword(..) => String::from_str(alloc, "other"),
+        _ => false,
     }
 }
 
-fn shown_columns(alloc: Global, parts: &SegmentParts) -> Result<String, AllocError> {
-    let mut shown = String::new(alloc);
-    for column in &parts.columns {
-        shown.push_str(&shown_column(alloc, column)?)?;
-        shown.push_str(";")?;
+fn are_numbers(numbers: &[u32], want: &[u32]) -> bool {
+    numbers == want
+}
+
+/// Whether the one row has the number 5.
+fn is_five(column: &ColumnParts) -> bool {
+    match column {
+        ColumnParts::Number(numbers) => matches!(numbers.as_slice(), [Some(5)]),
+        _ => false,
     }
-    Ok(shown)
 }
 
 #[test]
 fn reads_each_column(rt: HostRuntime) -> Result<(), Fail> {
-    let alloc = rt.alloc();
-    let shown = shown_columns(alloc, &read_segment(alloc, FILE)?)?;
-    assert_eq!(rt; shown.as_str(), r#"["red"] [1] [0];[Some(5)];"#);
+    let parts = read_segment(rt.alloc(), FILE)?;
+    match parts.columns.as_slice() {
+        [color, price] => assert!(rt; is_red(color) && is_five(price)),
+        _ => panic!(rt; "other columns"),
+    }
     Ok(())
 }
 
 /// Fails unless the bytes lay out no segment.
 fn expect_damaged(rt: &impl Abort, alloc: Global, bytes: &[u8]) {
-    assert_eq!(rt;
-        number(&read_segment(alloc, bytes)),
-        31,
-        "{} bytes",
-        bytes.len()
-    );
+    let got = number(&read_segment(alloc, bytes));
+    assert!(rt; got == 31, "{} bytes", bytes.len());
 }
 
 #[test]
@@ -105,7 +106,7 @@ fn writes_each_part(rt: HostRuntime) -> Result<(), Fail> {
     put_texts(&mut out, &texts(alloc, &["red"])?)?;
     put_list(&mut out, &[0])?;
     put_number(&mut out, Some(5))?;
-    assert_eq!(rt; out.as_slice(), FILE);
+    assert!(rt; out.as_slice() == FILE);
     Ok(())
 }
 
@@ -123,7 +124,7 @@ fn fields_file(alloc: Global, count: u8) -> Result<Vec<u8>, AllocError> {
 fn expect_fields(rt: &impl Abort, alloc: Global, count: u8, want: u8) -> Result<(), Fail> {
     let file = fields_file(alloc, count)?;
     let got = number(&read_fields(alloc, &mut Cursor::new(&file)));
-    assert_eq!(rt; got, want, "{count} fields");
+    assert!(rt; got == want, "{count} fields");
     Ok(())
 }
 

@@ -3,7 +3,7 @@ ghost use Rattle.std.specs.Prelude.{◌≡◌, ◌^◌, ◌<◌, length, All, If
 ghost use Rattle.cat_base.specs.Texts.{IsTextSet};
 ghost use Rattle.cat_model.specs.Layout.{AreEnds};
 
-use crate::texts::{number, rows_in, set, texts};
+use crate::texts::{are_words, equal_rows, number, rows_in, set, texts};
 use cat_base::{Refusal, Text, TextSet};
 use cat_inverted::{MergeInput, Terms};
 use cat_values::{Dictionary, RowSet};
@@ -55,34 +55,41 @@ fn terms(alloc: Global) -> Result<Terms, AllocError>
     )
 }
 
-fn expect_words(rt: &impl Abort, alloc: Global, terms: &Terms, want: &str) -> Result<(), Fail> {
-    let shown = format!(in alloc; "{:?}", terms.words())?;
-    assert_eq!(rt; shown.as_str(), want);
-    Ok(())
+/// Words with the rows of each.
+type Rows<'a> = &'a [(&'a str, &'a [usize])];
+
+/// The rows that have the word.
+fn postings(alloc: Global, terms: &Terms, word: &str) -> Result<Vec<usize>, AllocError> {
+    let mut rows = Vec::new(alloc);
+    for row in terms.postings(word) {
+        rows.push(*row as usize)?;
+    }
+    Ok(rows)
 }
 
 fn expect_postings(
     rt: &impl Abort,
     alloc: Global,
     terms: &Terms,
-    want: &[(&str, &str)],
+    want: Rows<'_>,
 ) -> Result<(), Fail> {
     for (word, rows) in want {
-        let shown = format!(in alloc; "{:?}", terms.postings(word))?;
-        assert_eq!(rt; shown.as_str(), *rows, "{word}");
+        let found = postings(alloc, terms, word)?;
+        assert!(rt; found.as_slice() == *rows, "{word}");
     }
     Ok(())
 }
 
+/// Fails unless the set is of these rows.
 fn expect_set(
     rt: &impl Abort,
     alloc: Global,
     set: &RowSet,
-    want: &str,
+    rows: &[usize],
     of: &str,
 ) -> Result<(), Fail> {
-    let shown = format!(in alloc; "{:?}", rows_in(alloc, set)?)?;
-    assert_eq!(rt; shown.as_str(), want, "{of}");
+    let found = rows_in(alloc, set)?;
+    assert!(rt; found.as_slice() == rows, "{of}");
     Ok(())
 }
 
@@ -90,7 +97,7 @@ fn expect_rows_with(
     rt: &impl Abort,
     alloc: Global,
     terms: &Terms,
-    want: &[(&str, &str)],
+    want: Rows<'_>,
 ) -> Result<(), Fail> {
     for (word, rows) in want {
         expect_set(rt, alloc, &terms.rows_with(word)?, rows, word)?;
@@ -100,16 +107,11 @@ fn expect_rows_with(
 
 #[test]
 fn words_lead_to_their_rows(rt: HostRuntime) -> Result<(), Fail> {
-    const ROWS: &[(&str, &str)] = &[("blue", "[2]"), ("shoe", "[0, 2]"), ("re", "[]")];
+    const WORDS: &[&str] = &["blue", "red", "redder", "reef", "shoe"];
+    const ROWS: Rows<'static> = &[("blue", &[2]), ("shoe", &[0, 2]), ("re", &[])];
     let alloc = rt.alloc();
     let terms = terms(alloc)?;
-    assert_eq!(rt; terms.len(), 4);
-    expect_words(
-        &rt,
-        alloc,
-        &terms,
-        r#"["blue", "red", "redder", "reef", "shoe"]"#,
-    )?;
+    assert!(rt; terms.len() == 4 && are_words(terms.words(), WORDS));
     expect_postings(&rt, alloc, &terms, ROWS)?;
     expect_rows_with(&rt, alloc, &terms, ROWS)
 }
@@ -118,7 +120,7 @@ fn expect_prefixes(
     rt: &impl Abort,
     alloc: Global,
     terms: &Terms,
-    want: &[(&str, &str)],
+    want: Rows<'_>,
 ) -> Result<(), Fail> {
     for (prefix, rows) in want {
         expect_set(rt, alloc, &terms.prefix(prefix)?, rows, prefix)?;
@@ -128,12 +130,12 @@ fn expect_prefixes(
 
 #[test]
 fn prefixes_lead_to_rows(rt: HostRuntime) -> Result<(), Fail> {
-    const ROWS: &[(&str, &str)] = &[
-        ("", "[0, 2, 3]"),
-        ("red", "[0, 2]"),
-        ("redd", "[2]"),
-        ("t", "[]"),
-        ("a", "[]"),
+    const ROWS: Rows<'static> = &[
+        ("", &[0, 2, 3]),
+        ("red", &[0, 2]),
+        ("redd", &[2]),
+        ("t", &[]),
+        ("a", &[]),
     ];
     let alloc = rt.alloc();
     expect_prefixes(&rt, alloc, &terms(alloc)?, ROWS)
@@ -148,7 +150,7 @@ fn end(alloc: Global, text: Option<&str>) -> Result<Option<Text>, AllocError> {
 }
 
 /// Ranges of words, each with the rows that have a word in it. An end that is absent bounds nothing.
-type Ranges<'a> = &'a [(Option<&'a str>, Option<&'a str>, &'a str)];
+type Ranges<'a> = &'a [(Option<&'a str>, Option<&'a str>, &'a [usize])];
 
 fn expect_ranges(
     rt: &impl Abort,
@@ -167,10 +169,10 @@ fn expect_ranges(
 #[test]
 fn ranges_lead_to_rows(rt: HostRuntime) -> Result<(), Fail> {
     const ROWS: Ranges<'static> = &[
-        (Some("blue"), Some("blue"), "[2]"),
-        (Some("bluf"), Some("redder"), "[0, 2]"),
-        (Some("redder"), Some("red"), "[]"),
-        (Some("redder"), Some("z"), "[0, 2, 3]"),
+        (Some("blue"), Some("blue"), &[2]),
+        (Some("bluf"), Some("redder"), &[0, 2]),
+        (Some("redder"), Some("red"), &[]),
+        (Some("redder"), Some("z"), &[0, 2, 3]),
     ];
     let alloc = rt.alloc();
     expect_ranges(&rt, alloc, &terms(alloc)?, ROWS)
@@ -179,8 +181,8 @@ fn ranges_lead_to_rows(rt: HostRuntime) -> Result<(), Fail> {
 #[test]
 fn open_ends_bound_nothing(rt: HostRuntime) -> Result<(), Fail> {
     const ROWS: Ranges<'static> = &[
-        (None, Some("red"), "[0, 2]"),
-        (Some("red"), None, "[0, 2, 3]"),
+        (None, Some("red"), &[0, 2]),
+        (Some("red"), None, &[0, 2, 3]),
     ];
     let alloc = rt.alloc();
     expect_ranges(&rt, alloc, &terms(alloc)?, ROWS)
@@ -214,14 +216,12 @@ fn second_postings(terms: &Terms) -> &[u32] {
 
 #[test]
 fn postings_make_terms(rt: HostRuntime) -> Result<(), Fail> {
+    const ROWS: Rows<'static> = &[("blue", &[2]), ("red", &[0, 2])];
     let alloc = rt.alloc();
     let terms = read(alloc, 3, &["blue", "red"], &[1, 3], &[2, 0, 2])?;
-    assert_eq!(rt;
-        (terms.len(), second_postings(&terms)),
-        (3, [0, 2].as_slice())
-    );
-    expect_words(&rt, alloc, &terms, r#"["blue", "red"]"#)?;
-    expect_postings(&rt, alloc, &terms, &[("blue", "[2]"), ("red", "[0, 2]")])
+    assert!(rt; terms.len() == 3 && are_words(terms.words(), &["blue", "red"]));
+    assert!(rt; second_postings(&terms) == [0, 2].as_slice());
+    expect_postings(&rt, alloc, &terms, ROWS)
 }
 
 /// Fails unless no terms of three rows have these words and postings.
@@ -262,25 +262,8 @@ fn of_one_word(alloc: Global, word: &str) -> Result<Terms, AllocError> {
 fn ordinals_make_terms(rt: HostRuntime) -> Result<(), Fail> {
     let alloc = rt.alloc();
     let terms = of_one_word(alloc, "red")?;
-    assert_eq!(rt; terms.len(), 3);
-    expect_words(&rt, alloc, &terms, r#"["red"]"#)?;
-    expect_postings(&rt, alloc, &terms, &[("red", "[1]")])
-}
-
-/// So many rows, each with the same words.
-fn equal_rows<'a>(
-    alloc: Global,
-    words: &'a TextSet,
-    count: usize,
-) -> Result<Vec<&'a [Text]>, AllocError>
-    ensures long { IfOk result (λ v. length v.items ≡ count) }
-    ensures sets { IfOk result (λ v. All (λ r. IsTextSet r.now) v.items) }
-{
-    let mut rows = Vec::new(alloc);
-    for _ in 0..count {
-        rows.push(words.as_slice())?;
-    }
-    Ok(rows)
+    assert!(rt; terms.len() == 3 && are_words(terms.words(), &["red"]));
+    expect_postings(&rt, alloc, &terms, &[("red", &[1])])
 }
 
 /// The terms of so many rows, each with the same word.
@@ -294,9 +277,8 @@ fn terms_of_equal_rows(alloc: Global, word: &str, count: usize) -> Result<Terms,
 
 /// Fails unless all of 66,000 rows have the word `red`.
 fn expect_all_red(rt: &impl Abort, terms: &Terms) {
-    assert_eq!(rt; terms.len(), 66_000);
     let red = terms.postings("red");
-    assert_eq!(rt; red.len(), 66_000);
+    assert!(rt; terms.len() == 66_000 && red.len() == 66_000);
     assert!(rt; red.first() == Some(&0) && red.last() == Some(&65_999));
 }
 
@@ -304,7 +286,7 @@ fn expect_all_red(rt: &impl Abort, terms: &Terms) {
 fn a_word_has_more_rows_than_two_bytes_count(rt: HostRuntime) -> Result<(), Fail> {
     let terms = terms_of_equal_rows(rt.alloc(), "red", 66_000)?;
     expect_all_red(&rt, &terms);
-    assert_eq!(rt; terms.rows_with("red")?.count(), 66_000);
+    assert!(rt; terms.rows_with("red")?.count() == 66_000);
     Ok(())
 }
 
@@ -324,18 +306,22 @@ fn terms_of_many_words(alloc: Global, count: usize) -> Result<Terms, AllocError>
     Terms::build(alloc, &[few.as_slice(), many.as_slice()])
 }
 
+/// The last word in byte order.
+fn last_word(terms: &Terms) -> &str {
+    match terms.words().last() {
+        Some(word) => word.as_str(),
+        None => "",
+    }
+}
+
 #[test]
 fn a_row_has_more_words_than_two_bytes_count(rt: HostRuntime) -> Result<(), Fail> {
+    const ROWS: Rows<'static> = &[("0", &[0, 1]), ("65999", &[1])];
     let alloc = rt.alloc();
     let terms = terms_of_many_words(alloc, 66_000)?;
-    assert_eq!(rt; terms.words().len(), 66_000);
-    // In byte order the last is 9999.
-    assert_eq!(rt;
-        terms.words().last().map(|word| word.as_str()),
-        Some("9999")
-    );
-    expect_postings(&rt, alloc, &terms, &[("0", "[0, 1]"), ("65999", "[1]")])?;
-    assert_eq!(rt; terms.prefix("6")?.count(), 1);
+    assert!(rt; terms.words().len() == 66_000 && last_word(&terms) == "9999");
+    expect_postings(&rt, alloc, &terms, ROWS)?;
+    assert!(rt; terms.prefix("6")?.count() == 1);
     Ok(())
 }
 
@@ -382,25 +368,20 @@ fn merged_without_some(alloc: Global) -> Result<Terms, AllocError> {
 
 #[test]
 fn a_merge_keeps_the_words_of_the_rows_that_stay(rt: HostRuntime) -> Result<(), Fail> {
-    const ROWS: &[(&str, &str)] = &[
-        ("blue", "[1, 2]"),
-        ("oak", "[2]"),
-        ("red", "[0]"),
-        ("redder", "[1]"),
-        ("shoe", "[0, 1]"),
-        ("reef", "[]"),
-        ("ash", "[]"),
+    // A word of no row that stays is gone.
+    const WORDS: &[&str] = &["blue", "oak", "red", "redder", "shoe"];
+    const ROWS: Rows<'static> = &[
+        ("blue", &[1, 2]),
+        ("oak", &[2]),
+        ("red", &[0]),
+        ("redder", &[1]),
+        ("shoe", &[0, 1]),
+        ("reef", &[]),
+        ("ash", &[]),
     ];
     let alloc = rt.alloc();
     let terms = merged_without_some(alloc)?;
-    assert_eq!(rt; terms.len(), 3);
-    // A word of no row that stays is gone.
-    expect_words(
-        &rt,
-        alloc,
-        &terms,
-        r#"["blue", "oak", "red", "redder", "shoe"]"#,
-    )?;
+    assert!(rt; terms.len() == 3 && are_words(terms.words(), WORDS));
     expect_postings(&rt, alloc, &terms, ROWS)
 }
 
@@ -431,23 +412,22 @@ fn merged_with_few(alloc: Global) -> Result<Terms, AllocError> {
 
 #[test]
 fn a_merge_finds_words_that_lie_far_apart(rt: HostRuntime) -> Result<(), Fail> {
-    const ROWS: &[(&str, &str)] = &[
-        ("0", "[0, 1]"),
-        ("1", "[0]"),
-        ("50", "[0, 1]"),
-        ("51", "[0]"),
-        ("99", "[0, 1]"),
+    const ROWS: Rows<'static> = &[
+        ("0", &[0, 1]),
+        ("1", &[0]),
+        ("50", &[0, 1]),
+        ("51", &[0]),
+        ("99", &[0, 1]),
     ];
     let alloc = rt.alloc();
     let terms = merged_with_few(alloc)?;
-    assert_eq!(rt; terms.words().len(), 100);
+    assert!(rt; terms.words().len() == 100);
     expect_postings(&rt, alloc, &terms, ROWS)
 }
 
 #[test]
 fn a_merge_of_nothing_has_no_words(rt: HostRuntime) -> Result<(), Fail> {
     let terms = Terms::merge(rt.alloc(), 0, &[])?;
-    assert_eq!(rt; terms.len(), 0);
-    assert!(rt; terms.words().is_empty());
+    assert!(rt; terms.len() == 0 && terms.words().is_empty());
     Ok(())
 }

@@ -1,7 +1,7 @@
 use Rattle.std.proofs.Common.{◌≡◌, length}
 use Rattle.std.specs.Prelude.{All}
 use Rattle.cat_base.specs.Texts.{IsTextSet}
-use Rattle.cat_column_rows.proofs.columns.equal_rows.Given as goal
+use Rattle.cat_column_rows.proofs.texts.equal_rows.Given as goal
 
 abbrev pub invariant-loop : goal.invariant-loop
 invariant-loop l = record {
