@@ -1,7 +1,7 @@
 //! Items: the refusals of texts, and the values of an item.
-use crate::texts::{Parts, SHOP, number, push_joined, whole};
+use crate::texts::{Parts, SHOP, are_texts, expect_number, number, whole};
 use cat_schema::{FieldValue, Schema};
-use std::alloc::{AllocError, Global};
+use std::alloc::Global;
 use std::process::Abort;
 use std::test::Fail;
 
@@ -13,7 +13,7 @@ fn expect_items(rt: &impl Abort, alloc: Global, fields: &str, rows: Rows<'_>) ->
     let schema = Schema::read(alloc, fields.as_bytes())?;
     for (text, want) in rows {
         let got = number(&schema.item(alloc, text.as_bytes()));
-        assert_eq!(rt; got, *want, "{text}");
+        expect_number(rt, got, *want, text);
     }
     Ok(())
 }
@@ -144,7 +144,7 @@ fn expect_long_items(rt: &impl Abort, alloc: Global, rows: &[(Parts<'_>, u8)]) -
     for (parts, want) in rows {
         let text = whole(alloc, parts)?;
         let got = number(&schema.item(alloc, text.as_bytes()));
-        assert_eq!(rt; got, *want, "{}", text.as_str());
+        expect_number(rt, got, *want, &text);
     }
     Ok(())
 }
@@ -180,48 +180,65 @@ fn item_limits(rt: HostRuntime) -> Result<(), Fail> {
     expect_long_items(&rt, rt.alloc(), ROWS)
 }
 
-/// What the values of the item that the text gives under the fields of the shop spell, each after a bar but the first.
-fn shown_values(alloc: Global, text: &str) -> Result<String, Fail> {
-    let schema = Schema::read(alloc, SHOP.as_bytes())?;
-    let item = schema.item(alloc, text.as_bytes())?.copy()?;
-    Ok(shown(alloc, item.values())?)
-}
+/// What an item has in the fields of the shop: its brand, its colors, its price and the words of its title.
+type Values<'a> = (Option<&'a str>, &'a [&'a str], Option<i64>, &'a [&'a str]);
 
-fn shown(alloc: Global, values: &[FieldValue]) -> Result<String, AllocError> {
-    let mut shown = String::new(alloc);
-    for (i, value) in values.iter().enumerate() {
-        shown.push_str(if i == 0 { "" } else { "|" })?;
-        push_value(alloc, &mut shown, value)?;
-    }
-    Ok(shown)
-}
-
-fn push_value(alloc: Global, shown: &mut String, value: &FieldValue) -> Result<(), AllocError> {
+fn is_keyword(value: &FieldValue, want: Option<&str>) -> bool {
     match value {
-        FieldValue::Words(set) | FieldValue::Labels(set) => push_joined(shown, set),
-        FieldValue::Keyword(Some(text)) => shown.push_str(text.as_str()),
-        FieldValue::Number(Some(number)) => push_number(alloc, shown, *number),
-        FieldValue::Keyword(None) | FieldValue::Number(None) => shown.push_str("none"),
+        FieldValue::Keyword(Some(text)) => want == Some(text.as_str()),
+        FieldValue::Keyword(None) => want.is_none(),
+        _ => false,
     }
 }
 
-fn push_number(alloc: Global, shown: &mut String, number: i64) -> Result<(), AllocError> {
-    shown.push_str(&format!(in alloc; "{number}")?)
+fn is_number(value: &FieldValue, want: Option<i64>) -> bool {
+    match value {
+        FieldValue::Number(number) => *number == want,
+        _ => false,
+    }
 }
 
-fn expect_values(rt: &impl Abort, alloc: Global, text: &str, want: &str) -> Result<(), Fail> {
-    assert_eq!(rt; shown_values(alloc, text)?.as_str(), want);
-    Ok(())
+fn are_labels(value: &FieldValue, want: &[&str]) -> bool {
+    match value {
+        FieldValue::Labels(set) => are_texts(set, want),
+        _ => false,
+    }
 }
 
-/// The item of a text has its id, and the text itself.
-fn expect_id(rt: &impl Abort, alloc: Global, text: &str, id: &str) -> Result<(), Fail> {
+fn are_words(value: &FieldValue, want: &[&str]) -> bool {
+    match value {
+        FieldValue::Words(set) => are_texts(set, want),
+        _ => false,
+    }
+}
+
+fn are_values(values: &[FieldValue], want: &Values<'_>) -> bool {
+    match values {
+        [brand, color, price, title] => {
+            is_keyword(brand, want.0)
+                && are_labels(color, want.1)
+                && is_number(price, want.2)
+                && are_words(title, want.3)
+        }
+        _ => false,
+    }
+}
+
+/// Fails unless the text gives an item of the id and the values, which is the text itself too.
+fn expect_item(
+    rt: &impl Abort,
+    alloc: Global,
+    text: &str,
+    id: &str,
+    want: &Values<'_>,
+) -> Result<(), Fail> {
     let schema = Schema::read(alloc, SHOP.as_bytes())?;
     let item = schema.item(alloc, text.as_bytes())?.copy()?;
     assert!(rt;
         item.id() == id && item.source() == text.as_bytes(),
         "{text}"
     );
+    assert!(rt; are_values(item.values(), want), "{text}");
     Ok(())
 }
 
@@ -229,8 +246,14 @@ fn expect_id(rt: &impl Abort, alloc: Global, text: &str, id: &str) -> Result<(),
 fn item_values(rt: HostRuntime) -> Result<(), Fail> {
     const FULL: &str =
         r#" {"title":"Red-Shoe 42é red","price":-5,"color":["red","blue","red"],"brand":"Acme Ltd","id":"sku-1"}"#;
+    const VALUES: Values<'static> = (
+        Some("Acme Ltd"),
+        &["blue", "red"],
+        Some(-5),
+        &["42é", "red", "shoe"],
+    );
+    const NONE: Values<'static> = (None, &[], None, &[]);
     let alloc = rt.alloc();
-    expect_id(&rt, alloc, FULL, "sku-1")?;
-    expect_values(&rt, alloc, FULL, "Acme Ltd|blue red|-5|42é red shoe")?;
-    expect_values(&rt, alloc, r#"{"id":"b"}"#, "none||none|")
+    expect_item(&rt, alloc, FULL, "sku-1", &VALUES)?;
+    expect_item(&rt, alloc, r#"{"id":"b"}"#, "b", &NONE)
 }

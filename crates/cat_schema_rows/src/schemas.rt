@@ -1,5 +1,5 @@
 //! Schemas: the refusals of texts, and the fields of a schema.
-use crate::texts::{Parts, SHOP, number, whole};
+use crate::texts::{Parts, SHOP, expect_number, number, whole};
 use cat_schema::{Field, Item, Kind, Schema};
 use std::alloc::{AllocError, Global};
 use std::process::Abort;
@@ -9,7 +9,7 @@ use std::test::Fail;
 fn expect_schemas(rt: &impl Abort, alloc: Global, rows: &[(&str, u8)]) -> Result<(), Fail> {
     for (text, want) in rows {
         let got = number(&Schema::read(alloc, text.as_bytes()));
-        assert_eq!(rt; got, *want, "{text}");
+        expect_number(rt, got, *want, text);
     }
     Ok(())
 }
@@ -55,7 +55,7 @@ fn expect_long_schemas(
     for (parts, want) in rows {
         let text = whole(alloc, parts)?;
         let got = number(&Schema::read(alloc, text.as_bytes()));
-        assert_eq!(rt; got, *want, "{}", text.as_str());
+        expect_number(rt, got, *want, &text);
     }
     Ok(())
 }
@@ -83,7 +83,7 @@ fn fields_text(alloc: Global, count: u32) -> Result<String, Fail> {
 fn expect_count(rt: &impl Abort, alloc: Global, count: u32, want: u8) -> Result<(), Fail> {
     let text = fields_text(alloc, count)?;
     let got = number(&Schema::read(alloc, text.as_bytes()));
-    assert_eq!(rt; got, want, "{count} fields");
+    expect_number(rt, got, want, &text);
     Ok(())
 }
 
@@ -93,13 +93,13 @@ fn schemas_of_32_fields(rt: HostRuntime) -> Result<(), Fail> {
     expect_count(&rt, alloc, 32, 0)?;
     expect_count(&rt, alloc, 33, 13)?;
     let most = Schema::read(alloc, fields_text(alloc, 32)?.as_bytes())?;
-    assert_eq!(rt; most.fields().len(), 32);
+    assert!(rt; most.fields().len() == 32);
     Ok(())
 }
 
 /// Fails unless the fields have these names and kinds.
 fn expect_fields(rt: &impl Abort, fields: &[Field], want: &[(&str, Kind)]) {
-    assert_eq!(rt; fields.len(), want.len());
+    assert!(rt; fields.len() == want.len());
     for (field, (name, kind)) in fields.iter().zip(want) {
         assert!(rt; field.name() == *name && field.kind() == *kind, "{name}");
     }
@@ -125,8 +125,8 @@ fn expect_equal(rt: &impl Abort, alloc: Global, rows: &[(&str, &str, bool)]) -> 
     for (one, other, want) in rows {
         let first = Schema::read(alloc, one.as_bytes())?;
         let second = Schema::read(alloc, other.as_bytes())?;
-        let got = (first == second, second == first);
-        assert_eq!(rt; got, (*want, *want), "{one} {other}");
+        let agree = (first == second) == *want && (second == first) == *want;
+        assert!(rt; agree, "{one} {other}");
     }
     Ok(())
 }
@@ -163,7 +163,7 @@ fn expect_accepted(
 ) -> Result<(), Fail> {
     for (text, want) in rows {
         let schema = Schema::read(alloc, text.as_bytes())?;
-        assert_eq!(rt; schema.accepts(item), *want, "{text}");
+        assert!(rt; schema.accepts(item) == *want, "{text}");
     }
     Ok(())
 }
@@ -197,8 +197,9 @@ fn expect_nesting(rt: &impl Abort, alloc: Global, count: u32, want: u8) -> Resul
     let text = nested(alloc, count)?;
     let schema = Schema::read(alloc, SHOP.as_bytes())?;
     let item = number(&schema.item(alloc, text.as_bytes()));
+    expect_number(rt, item, want, &text);
     let fields = number(&Schema::read(alloc, text.as_bytes()));
-    assert_eq!(rt; (item, fields), (want, want), "{count} deep");
+    expect_number(rt, fields, want, &text);
     Ok(())
 }
 

@@ -1,6 +1,7 @@
 //! Texts that are written in parts, and the numbers of refusals.
 use cat_base::{Refusal, TextSet};
 use std::alloc::{AllocError, Global};
+use std::process::Abort;
 
 /// One field of each kind.
 pub(crate) const SHOP: &str =
@@ -27,18 +28,17 @@ pub(crate) fn whole(alloc: Global, parts: &Parts<'_>) -> Result<String, AllocErr
     Ok(text)
 }
 
-/// The texts with a space between each two.
-pub(crate) fn joined(alloc: Global, set: &TextSet) -> Result<String, AllocError> {
-    let mut text = String::new(alloc);
-    push_joined(&mut text, set)?;
-    Ok(text)
+/// Fails unless it is the number that is wanted for the text.
+pub(crate) fn expect_number(rt: &impl Abort, got: u8, want: u8, text: &str) {
+    assert_eq!(rt; got, want, "{text}");
 }
 
-/// Appends the texts with a space between each two.
-pub(crate) fn push_joined(text: &mut String, set: &TextSet) -> Result<(), AllocError> {
-    for (i, part) in set.as_slice().iter().enumerate() {
-        text.push_str(if i == 0 { "" } else { " " })?;
-        text.push_str(part.as_str())?;
+/// Whether the set has these texts, in byte order.
+pub(crate) fn are_texts(set: &TextSet, texts: &[&str]) -> bool {
+    for (one, other) in set.as_slice().iter().zip(texts) {
+        if one.as_str() != *other {
+            return false;
+        }
     }
-    Ok(())
+    set.as_slice().len() == texts.len()
 }
