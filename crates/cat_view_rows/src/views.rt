@@ -1,6 +1,6 @@
 //! Pages over segments are the pages over the records that their live rows show: both show what FINDs of worked scripts
 //! have to show.
-ghost use Rattle.std.specs.Prelude.{◌<◌, IfOk, All, AllPairs};
+ghost use Rattle.std.specs.Prelude.{◌≡◌, ◌≢◌, ◌<◌, true, IfOk, All, AllPairs};
 ghost use Rattle.cat_model.specs.Item.{IsItem};
 
 use crate::making::{PutText, are_in_order, read_put, read_puts, view_of};
@@ -59,6 +59,28 @@ fn answer_text(alloc: Global, answer: &Result<Page, Refusal>) -> Result<String, 
     }
 }
 
+/// What the FIND of the query shows over the view.
+fn shown_by_view(alloc: Global, view: &View, query: &str, ask: Ask<'_>) -> Result<String, Refusal> {
+    let prepared = Prepared::of(view, Query::parse(view.schema(), alloc, query)?)?;
+    Ok(answer_text(alloc, &prepared.page(alloc, ask))?)
+}
+
+/// The same over the records.
+fn shown_by_records(
+    alloc: Global,
+    schema: &Schema,
+    records: &[Put],
+    query: &str,
+    ask: Ask<'_>,
+) -> Result<String, Refusal>
+    requires rising { AllPairs (λ a b. a.number < b.number) records.now }
+    requires items { All (λ p. IsItem schema.now p.item) records.now }
+{
+    let query = Query::parse(schema, alloc, query)?;
+    let page = page_of(alloc, schema, records, &query, ask);
+    Ok(answer_text(alloc, &page)?)
+}
+
 /// Fails unless the FIND shows the same over the view and over the records.
 fn expect_find(
     rt: &impl Abort,
@@ -70,21 +92,47 @@ fn expect_find(
     requires rising { AllPairs (λ a b. a.number < b.number) records.now }
     requires items { All (λ p. IsItem view.now.schema p.item) records.now }
 {
-    let (n, sort, mark, text, shown) = *find;
-    let schema = view.schema();
-    let ask = Ask {
-        sort: sort_named(sort),
-        after: mark,
-        count: n,
-    };
-    let prepared = Prepared::of(view, Query::parse(schema, alloc, text)?)?;
-    let of_view = answer_text(alloc, &prepared.page(alloc, ask))?;
-    assert_eq!(rt; of_view.as_str(), shown, "{n} {sort} {mark:?} {text}");
-    let query = Query::parse(schema, alloc, text)?;
-    let page = page_of(alloc, schema, records, &query, ask);
-    let of_records = answer_text(alloc, &page)?;
-    assert_eq!(rt; of_records.as_str(), shown, "{n} {sort} {mark:?} {text}");
+    let (count, sort, after, query, shown) = *find;
+    let sort = sort_named(sort);
+    let ask = Ask { sort, after, count };
+    let of_view = shown_by_view(alloc, view, query, ask)?;
+    assert_eq!(rt; of_view.as_str(), shown);
+    let of_records = shown_by_records(alloc, view.schema(), records, query, ask)?;
+    assert_eq!(rt; of_records.as_str(), shown);
     Ok(())
+}
+
+/// The rows of the texts, or those of them that are live.
+fn puts_of(
+    rt: &impl Abort,
+    alloc: Global,
+    schema: &Schema,
+    rows: &[PutText<'_>],
+    live_only: bool,
+) -> Result<Vec<Put>, Fail>
+    ensures items { IfOk result (λ v. All (λ p. IsItem schema.now p.item) v.items) }
+    ensures order { IfOk result (λ v. AllPairs (λ a b. (a.number < b.number)
+        × (a.live ≡ true → b.live ≡ true → a.item.id ≢ b.item.id)) v.items) }
+{
+    let puts = read_puts(alloc, schema, rows, live_only)?;
+    if !are_in_order(&puts) {
+        panic!(rt; "no rows of a view");
+    }
+    Ok(puts)
+}
+
+/// A view of the rows, in segments that end at these places.
+fn view_of_texts(
+    rt: &impl Abort,
+    alloc: Global,
+    schema: &Schema,
+    rows: &[PutText<'_>],
+    ends: &[usize],
+) -> Result<View, Fail>
+    ensures { IfOk result (λ v. v.schema ≡ schema.now) }
+{
+    let puts = puts_of(rt, alloc, schema, rows, false)?;
+    Ok(view_of(alloc, schema, &puts, ends)?)
 }
 
 /// Fails unless each FIND shows this over a view of the rows, in segments that end at these places, and over the records
@@ -97,15 +145,8 @@ fn expect_finds(
     finds: &[FindText<'_>],
 ) -> Result<(), Fail> {
     let schema = Schema::read(alloc, FIELDS)?;
-    let puts = read_puts(alloc, &schema, rows, false)?;
-    if !are_in_order(&puts) {
-        panic!(rt; "no rows of a view");
-    }
-    let view = view_of(alloc, &schema, &puts, ends)?;
-    let records = read_puts(alloc, &schema, rows, true)?;
-    if !are_in_order(&records) {
-        panic!(rt; "no records of a view");
-    }
+    let view = view_of_texts(rt, alloc, &schema, rows, ends)?;
+    let records = puts_of(rt, alloc, &schema, rows, true)?;
     for find in finds {
         expect_find(rt, alloc, &view, &records, find)?;
     }
@@ -271,52 +312,33 @@ fn a_query_may_have_64_clauses_and_8_groups(rt: HostRuntime) -> Result<(), Fail>
 
 #[test]
 fn a_view_without_rows_shows_nothing(rt: HostRuntime) -> Result<(), Fail> {
-    let finds = &[
+    const KILLED: &[PutText<'static>] = &[(5, false, r#"{"id":"a","price":1}"#)];
+    const FINDS: &[FindText<'static>] = &[
         (10, ".", None, "*:*", "0 of 0"),
         (1_001, "+title", Some(5), "*:*", "NO 25"),
         (9, "+title", Some(5), "*:*", "NO 28"),
         (9, "+price", Some(5), "*:*", "NO 23"),
     ];
-    expect_finds(&rt, rt.alloc(), &[], &[], finds)?;
-    let killed = &[(5, false, r#"{"id":"a","price":1}"#)];
-    expect_finds(&rt, rt.alloc(), killed, &[1], finds)
+    expect_finds(&rt, rt.alloc(), &[], &[], FINDS)?;
+    expect_finds(&rt, rt.alloc(), KILLED, &[1], FINDS)
 }
 
 #[test]
 fn each_view_shows_the_rows_that_it_has_live(rt: HostRuntime) -> Result<(), Fail> {
-    let alloc = rt.alloc();
-    let a = r#"{"id":"a"}"#;
-    let b = r#"{"id":"b"}"#;
-    let second = &[(1, true, a), (2, true, b)];
-    let third = &[(1, false, a), (2, true, b)];
-    let fifth = &[
-        (1, false, a),
-        (2, false, b),
+    const SECOND: &[PutText<'static>] = &[(1, true, r#"{"id":"a"}"#), (2, true, r#"{"id":"b"}"#)];
+    const IN_SECOND: &[FindText<'static>] = &[(9, ".", None, "*:*", "2 of 2: 1 a ., 2 b .")];
+    const THIRD: &[PutText<'static>] = &[(1, false, r#"{"id":"a"}"#), (2, true, r#"{"id":"b"}"#)];
+    const IN_THIRD: &[FindText<'static>] = &[(9, ".", None, "*:*", "1 of 1: 2 b .")];
+    const FIFTH: &[PutText<'static>] = &[
+        (1, false, r#"{"id":"a"}"#),
+        (2, false, r#"{"id":"b"}"#),
         (4, true, r#"{"id":"b","price":7}"#),
         (5, true, r#"{"id":"c"}"#),
     ];
-    let all = "*:*";
-    expect_finds(
-        &rt,
-        alloc,
-        second,
-        &[2],
-        &[(9, ".", None, all, "2 of 2: 1 a ., 2 b .")],
-    )?;
-    expect_finds(
-        &rt,
-        alloc,
-        third,
-        &[2],
-        &[(9, ".", None, all, "1 of 1: 2 b .")],
-    )?;
-    expect_finds(
-        &rt,
-        alloc,
-        fifth,
-        &[2, 4],
-        &[(9, ".", None, all, "2 of 2: 4 b ., 5 c .")],
-    )
+    const IN_FIFTH: &[FindText<'static>] = &[(9, ".", None, "*:*", "2 of 2: 4 b ., 5 c .")];
+    expect_finds(&rt, rt.alloc(), SECOND, &[2], IN_SECOND)?;
+    expect_finds(&rt, rt.alloc(), THIRD, &[2], IN_THIRD)?;
+    expect_finds(&rt, rt.alloc(), FIFTH, &[2, 4], IN_FIFTH)
 }
 
 #[test]
@@ -359,77 +381,117 @@ fn mixed_puts(alloc: Global, schema: &Schema) -> Result<Vec<Put>, Refusal>
     Ok(puts)
 }
 
-/// Fails unless the page has the 1,000 hits of the least prices in order, or of the greatest.
-fn expect_thousand(
-    rt: &impl Abort,
-    answer: &Result<Page, Refusal>,
-    falling: bool,
-) -> Result<(), Fail> {
-    let Ok(page) = answer else {
-        panic!(rt; "no page");
-    };
-    assert_eq!(rt; page.total() as u64, MANY);
-    assert_eq!(rt; page.entries().len(), 1_000);
-    for (place, entry) in page.entries().iter().enumerate() {
-        let found = mixed_price(entry.number());
+/// Fails unless the entries are the 1,000 hits of the least prices in order, or of the greatest, each under its price.
+fn expect_prices(rt: &impl Abort, entries: &[Entry], falling: bool) {
+    assert!(rt; entries.len() == 1_000);
+    for (place, entry) in entries.iter().enumerate() {
         let wanted = if falling {
             1_199usize.saturating_sub(place)
         } else {
             place
         };
-        assert_eq!(rt; found, wanted as u64, "{place}");
+        assert!(rt; mixed_price(entry.number()) == wanted as u64, "{place}");
         let Some(Key::Number(key)) = entry.key() else {
             panic!(rt; "no key at {place}");
         };
-        assert_eq!(rt; *key, found as i64, "{place}");
+        assert!(rt; *key == wanted as i64, "{place}");
     }
-    Ok(())
 }
 
-/// Fails unless pages by price have up to 1,000 hits, of the view and of the records.
-fn expect_thousands(
+/// Fails unless the page has the 1,000 hits of the least prices in order, or of the greatest.
+fn expect_thousand(rt: &impl Abort, answer: &Result<Page, Refusal>, falling: bool) {
+    let Ok(page) = answer else {
+        panic!(rt; "no page");
+    };
+    assert!(rt; page.total() as u64 == MANY);
+    expect_prices(rt, page.entries(), falling);
+}
+
+/// The first thousand by price, and one more.
+fn asks(falling: bool) -> (Ask<'static>, Ask<'static>) {
+    let sort = if falling {
+        Sort::Falling("price")
+    } else {
+        Sort::Rising("price")
+    };
+    let thousand = Ask {
+        sort,
+        after: None,
+        count: 1_000,
+    };
+    let more = Ask {
+        sort,
+        after: None,
+        count: 1_001,
+    };
+    (thousand, more)
+}
+
+/// Fails unless a page of the view by price has up to 1,000 hits.
+fn expect_thousand_of_view(
     rt: &impl Abort,
     alloc: Global,
     view: &View,
-    records: &[Put],
-) -> Result<(), Fail>
-    requires rising { AllPairs (λ a b. a.number < b.number) records.now }
-    requires items { All (λ p. IsItem view.now.schema p.item) records.now }
-{
-    let query = Query::parse(view.schema(), alloc, "*:*")?;
+    falling: bool,
+) -> Result<(), Fail> {
+    let (thousand, more) = asks(falling);
     let prepared = Prepared::of(view, Query::parse(view.schema(), alloc, "*:*")?)?;
-    for (sort, falling) in [
-        (Sort::Rising("price"), false),
-        (Sort::Falling("price"), true),
-    ] {
-        let mut ask = Ask {
-            sort,
-            after: None,
-            count: 1_000,
-        };
-        expect_thousand(rt, &prepared.page(alloc, ask), falling)?;
-        let page = page_of(alloc, view.schema(), records, &query, ask);
-        expect_thousand(rt, &page, falling)?;
-        ask.count = 1_001;
-        let of_view = answer_text(alloc, &prepared.page(alloc, ask))?;
-        assert_eq!(rt; of_view.as_str(), "NO 25");
-        let page = page_of(alloc, view.schema(), records, &query, ask);
-        let of_records = answer_text(alloc, &page)?;
-        assert_eq!(rt; of_records.as_str(), "NO 25");
-    }
+    expect_thousand(rt, &prepared.page(alloc, thousand), falling);
+    let refused = answer_text(alloc, &prepared.page(alloc, more))?;
+    assert!(rt; refused.as_str() == "NO 25");
     Ok(())
 }
 
-#[test]
-fn a_page_has_a_thousand_hits_and_no_more(rt: HostRuntime) -> Result<(), Fail> {
-    let alloc = rt.alloc();
-    let schema = Schema::read(alloc, FIELDS)?;
-    let puts = mixed_puts(alloc, &schema)?;
+/// Fails unless a page of the records by price has up to 1,000 hits.
+fn expect_thousand_of_records(
+    rt: &impl Abort,
+    alloc: Global,
+    schema: &Schema,
+    records: &[Put],
+    falling: bool,
+) -> Result<(), Fail>
+    requires rising { AllPairs (λ a b. a.number < b.number) records.now }
+    requires items { All (λ p. IsItem schema.now p.item) records.now }
+{
+    let (thousand, more) = asks(falling);
+    let query = Query::parse(schema, alloc, "*:*")?;
+    let page = page_of(alloc, schema, records, &query, thousand);
+    expect_thousand(rt, &page, falling);
+    let page = page_of(alloc, schema, records, &query, more);
+    let refused = answer_text(alloc, &page)?;
+    assert!(rt; refused.as_str() == "NO 25");
+    Ok(())
+}
+
+/// The rows of the numbers from 1 on, in order.
+fn mixed_records(rt: &impl Abort, alloc: Global, schema: &Schema) -> Result<Vec<Put>, Fail>
+    ensures items { IfOk result (λ v. All (λ p. IsItem schema.now p.item) v.items) }
+    ensures order { IfOk result (λ v. AllPairs (λ a b. (a.number < b.number)
+        × (a.live ≡ true → b.live ≡ true → a.item.id ≢ b.item.id)) v.items) }
+{
+    let puts = mixed_puts(alloc, schema)?;
     if !are_in_order(&puts) {
-        panic!(&rt; "no rows of a view");
+        panic!(rt; "no rows of a view");
     }
-    let view = view_of(alloc, &schema, &puts, &[700, puts.len()])?;
-    expect_thousands(&rt, alloc, &view, &puts)
+    Ok(puts)
+}
+
+fn expect_thousands(rt: &impl Abort, alloc: Global, falling: bool) -> Result<(), Fail> {
+    let schema = Schema::read(alloc, FIELDS)?;
+    let puts = mixed_records(rt, alloc, &schema)?;
+    let view = view_of(alloc, &schema, &puts, &[700, 1_200])?;
+    expect_thousand_of_view(rt, alloc, &view, falling)?;
+    expect_thousand_of_records(rt, alloc, &schema, &puts, falling)
+}
+
+#[test]
+fn a_page_by_rising_price_has_a_thousand_hits_and_no_more(rt: HostRuntime) -> Result<(), Fail> {
+    expect_thousands(&rt, rt.alloc(), false)
+}
+
+#[test]
+fn a_page_by_falling_price_has_a_thousand_hits_and_no_more(rt: HostRuntime) -> Result<(), Fail> {
+    expect_thousands(&rt, rt.alloc(), true)
 }
 
 /// The texts of the names, with a space behind each.
@@ -444,18 +506,10 @@ fn names_text(alloc: Global, names: &[FileName]) -> Result<String, Refusal> {
 
 #[test]
 fn a_view_needs_two_files_of_each_segment(rt: HostRuntime) -> Result<(), Fail> {
-    let alloc = rt.alloc();
-    let schema = Schema::read(alloc, FIELDS)?;
-    let puts = read_puts(alloc, &schema, PRICED, false)?;
-    if !are_in_order(&puts) {
-        panic!(&rt; "no rows of a view");
-    }
-    let view = view_of(alloc, &schema, &puts, &[1, 3, 6])?;
-    let names = names_text(alloc, &view.files(alloc)?)?;
-    assert_eq!(rt;
-        names.as_str(),
-        "_1.seg _1.sto _2.seg _2.sto _3.seg _3.sto "
-    );
+    let schema = Schema::read(rt.alloc(), FIELDS)?;
+    let view = view_of_texts(&rt, rt.alloc(), &schema, PRICED, &[1, 3, 6])?;
+    let names = names_text(rt.alloc(), &view.files(rt.alloc())?)?;
+    assert!(rt; names.as_str() == "_1.seg _1.sto _2.seg _2.sto _3.seg _3.sto ");
     Ok(())
 }
 
@@ -477,32 +531,56 @@ fn store(
     Ok(())
 }
 
+/// Fails unless the view gives this text for the id, or none, or tells a damaged file.
+fn expect_texts(
+    rt: &impl Abort,
+    alloc: Global,
+    view: &View,
+    files: &mut MemoryDirectory,
+    rows: &[(&str, Result<Option<&str>, Refusal>)],
+) {
+    for (id, want) in rows {
+        let found = view.get(alloc, files, id);
+        let is_so = match (&found, want) {
+            (Ok(found), Ok(want)) => found.as_deref() == want.map(|text| text.as_bytes()),
+            (Err(refusal), Err(want)) => refusal == want,
+            _ => false,
+        };
+        assert!(rt; is_so, "{id}");
+    }
+}
+
+const B: &str = r#"{"id":"b"}"#;
+
+const C: &str = r#"{"id":"c","price":7}"#;
+
+const D: &str = r#"{"id":"d","price":2}"#;
+
+const E: &str = r#"{"id":"e","price":3}"#;
+
+const F: &str = r#"{"id":"f","price":7}"#;
+
+/// The row of `e` is dead, and no row has `g`. The file of `a` was never made.
+const TEXTS: &[(&str, Result<Option<&str>, Refusal>)] = &[
+    ("c", Ok(Some(C))),
+    ("d", Ok(Some(D))),
+    ("e", Ok(None)),
+    ("g", Ok(None)),
+    ("a", Err(Refusal::Damaged)),
+];
+
+/// The file of `c` is a byte short.
+const CUT: &[(&str, Result<Option<&str>, Refusal>)] = &[("c", Err(Refusal::Damaged))];
+
 #[test]
 fn a_view_gives_the_texts_of_live_ids(rt: HostRuntime) -> Result<(), Fail> {
-    let alloc = rt.alloc();
-    let schema = Schema::read(alloc, FIELDS)?;
-    let puts = read_puts(alloc, &schema, PRICED, false)?;
-    if !are_in_order(&puts) {
-        panic!(&rt; "no rows of a view");
-    }
-    let view = view_of(alloc, &schema, &puts, &[1, 3, 6])?;
-    let mut files = MemoryDirectory::new(alloc);
-    let (b, c) = (r#"{"id":"b"}"#, r#"{"id":"c","price":7}"#);
-    let (d, e) = (r#"{"id":"d","price":2}"#, r#"{"id":"e","price":3}"#);
-    store(alloc, &mut files, 2, &[b, c])?;
-    store(alloc, &mut files, 3, &[d, e, r#"{"id":"f","price":7}"#])?;
-    let found = view.get(alloc, &mut files, "c")?;
-    assert_eq!(rt; found.as_deref(), Some(c.as_bytes()));
-    let found = view.get(alloc, &mut files, "d")?;
-    assert_eq!(rt; found.as_deref(), Some(d.as_bytes()));
-    // The row of `e` is dead, and no row has `g`.
-    assert!(rt; view.get(alloc, &mut files, "e")?.is_none());
-    assert!(rt; view.get(alloc, &mut files, "g")?.is_none());
-    // The file of `a` was never made, and that of `c` is a byte short.
-    let absent = view.get(alloc, &mut files, "a");
-    assert!(rt; matches!(absent, Err(Refusal::Damaged)));
-    store(alloc, &mut files, 2, &[b, r#"{"id":"c","price":7"#])?;
-    let short = view.get(alloc, &mut files, "c");
-    assert!(rt; matches!(short, Err(Refusal::Damaged)));
+    let schema = Schema::read(rt.alloc(), FIELDS)?;
+    let view = view_of_texts(&rt, rt.alloc(), &schema, PRICED, &[1, 3, 6])?;
+    let mut files = MemoryDirectory::new(rt.alloc());
+    store(rt.alloc(), &mut files, 2, &[B, C])?;
+    store(rt.alloc(), &mut files, 3, &[D, E, F])?;
+    expect_texts(&rt, rt.alloc(), &view, &mut files, TEXTS);
+    store(rt.alloc(), &mut files, 2, &[B, r#"{"id":"c","price":7"#])?;
+    expect_texts(&rt, rt.alloc(), &view, &mut files, CUT);
     Ok(())
 }
