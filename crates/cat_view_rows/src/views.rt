@@ -407,24 +407,17 @@ fn expect_thousand(rt: &impl Abort, answer: &Result<Page, Refusal>, falling: boo
     expect_prices(rt, page.entries(), falling);
 }
 
-/// The first thousand by price, and one more.
-fn asks(falling: bool) -> (Ask<'static>, Ask<'static>) {
+fn by_price(falling: bool, count: u64) -> Ask<'static> {
     let sort = if falling {
         Sort::Falling("price")
     } else {
         Sort::Rising("price")
     };
-    let thousand = Ask {
+    Ask {
         sort,
         after: None,
-        count: 1_000,
-    };
-    let more = Ask {
-        sort,
-        after: None,
-        count: 1_001,
-    };
-    (thousand, more)
+        count,
+    }
 }
 
 /// Fails unless a page of the view by price has up to 1,000 hits.
@@ -434,10 +427,9 @@ fn expect_thousand_of_view(
     view: &View,
     falling: bool,
 ) -> Result<(), Fail> {
-    let (thousand, more) = asks(falling);
     let prepared = Prepared::of(view, Query::parse(view.schema(), alloc, "*:*")?)?;
-    expect_thousand(rt, &prepared.page(alloc, thousand), falling);
-    let refused = answer_text(alloc, &prepared.page(alloc, more))?;
+    expect_thousand(rt, &prepared.page(alloc, by_price(falling, 1_000)), falling);
+    let refused = answer_text(alloc, &prepared.page(alloc, by_price(falling, 1_001)))?;
     assert!(rt; refused.as_str() == "NO 25");
     Ok(())
 }
@@ -453,11 +445,10 @@ fn expect_thousand_of_records(
     requires rising { AllPairs (λ a b. a.number < b.number) records.now }
     requires items { All (λ p. IsItem schema.now p.item) records.now }
 {
-    let (thousand, more) = asks(falling);
     let query = Query::parse(schema, alloc, "*:*")?;
-    let page = page_of(alloc, schema, records, &query, thousand);
+    let page = page_of(alloc, schema, records, &query, by_price(falling, 1_000));
     expect_thousand(rt, &page, falling);
-    let page = page_of(alloc, schema, records, &query, more);
+    let page = page_of(alloc, schema, records, &query, by_price(falling, 1_001));
     let refused = answer_text(alloc, &page)?;
     assert!(rt; refused.as_str() == "NO 25");
     Ok(())
@@ -518,7 +509,7 @@ fn store(
     alloc: Global,
     files: &mut MemoryDirectory,
     segment: SegNo,
-    texts: &[&str],
+    texts: &[&[u8]],
 ) -> Result<(), Refusal> {
     let name = FileName::Source(segment);
     if !name.has_form() {
@@ -526,51 +517,52 @@ fn store(
     }
     files.create(alloc, name)?;
     for text in texts {
-        files.append(name, text.as_bytes())?;
+        files.append(name, text)?;
     }
     Ok(())
 }
 
-/// Fails unless the view gives this text for the id, or none, or tells a damaged file.
+/// Fails unless the view gives these texts for the ids, or none.
 fn expect_texts(
     rt: &impl Abort,
     alloc: Global,
     view: &View,
     files: &mut MemoryDirectory,
-    rows: &[(&str, Result<Option<&str>, Refusal>)],
-) {
-    for (id, want) in rows {
-        let found = view.get(alloc, files, id);
-        let is_so = match (&found, want) {
-            (Ok(found), Ok(want)) => found.as_deref() == want.map(|text| text.as_bytes()),
-            (Err(refusal), Err(want)) => refusal == want,
-            _ => false,
-        };
-        assert!(rt; is_so, "{id}");
+    rows: &[(&str, Option<&[u8]>)],
+) -> Result<(), Fail> {
+    for &(id, want) in rows {
+        let found = view.get(alloc, files, id)?;
+        assert!(rt; found.as_deref() == want, "{id}");
     }
+    Ok(())
 }
 
-const B: &str = r#"{"id":"b"}"#;
+/// Fails unless the file with the text of the id is told as damaged.
+fn expect_damaged(
+    rt: &impl Abort,
+    alloc: Global,
+    view: &View,
+    files: &mut MemoryDirectory,
+    id: &str,
+) {
+    let found = view.get(alloc, files, id);
+    assert!(rt; matches!(found, Err(Refusal::Damaged)), "{id}");
+}
 
-const C: &str = r#"{"id":"c","price":7}"#;
+const B: &[u8] = br#"{"id":"b"}"#;
 
-const D: &str = r#"{"id":"d","price":2}"#;
+const C: &[u8] = br#"{"id":"c","price":7}"#;
 
-const E: &str = r#"{"id":"e","price":3}"#;
+const C_CUT: &[u8] = br#"{"id":"c","price":7"#;
 
-const F: &str = r#"{"id":"f","price":7}"#;
+const D: &[u8] = br#"{"id":"d","price":2}"#;
 
-/// The row of `e` is dead, and no row has `g`. The file of `a` was never made.
-const TEXTS: &[(&str, Result<Option<&str>, Refusal>)] = &[
-    ("c", Ok(Some(C))),
-    ("d", Ok(Some(D))),
-    ("e", Ok(None)),
-    ("g", Ok(None)),
-    ("a", Err(Refusal::Damaged)),
-];
+const E: &[u8] = br#"{"id":"e","price":3}"#;
 
-/// The file of `c` is a byte short.
-const CUT: &[(&str, Result<Option<&str>, Refusal>)] = &[("c", Err(Refusal::Damaged))];
+const F: &[u8] = br#"{"id":"f","price":7}"#;
+
+/// The row of `e` is dead, and no row has `g`.
+const TEXTS: &[(&str, Option<&[u8]>)] = &[("c", Some(C)), ("d", Some(D)), ("e", None), ("g", None)];
 
 #[test]
 fn a_view_gives_the_texts_of_live_ids(rt: HostRuntime) -> Result<(), Fail> {
@@ -579,8 +571,10 @@ fn a_view_gives_the_texts_of_live_ids(rt: HostRuntime) -> Result<(), Fail> {
     let mut files = MemoryDirectory::new(rt.alloc());
     store(rt.alloc(), &mut files, 2, &[B, C])?;
     store(rt.alloc(), &mut files, 3, &[D, E, F])?;
-    expect_texts(&rt, rt.alloc(), &view, &mut files, TEXTS);
-    store(rt.alloc(), &mut files, 2, &[B, r#"{"id":"c","price":7"#])?;
-    expect_texts(&rt, rt.alloc(), &view, &mut files, CUT);
+    expect_texts(&rt, rt.alloc(), &view, &mut files, TEXTS)?;
+    // The file of `a` was never made, and that of `c` is a byte short.
+    expect_damaged(&rt, rt.alloc(), &view, &mut files, "a");
+    store(rt.alloc(), &mut files, 2, &[B, C_CUT])?;
+    expect_damaged(&rt, rt.alloc(), &view, &mut files, "c");
     Ok(())
 }
