@@ -1,13 +1,13 @@
 -- The answers to FACETS over whatever records a view shows.
-use Rattle.std.proofs.Common.{◌≡◌, ℕ, ◌<◌, ◌≤◌, Bool, true, false, cond, List, length, map, nat_lt, Result, Ok, Err, IfErr, refl, sym, ap, ◌∙◌, subst}
-use Rattle.std.specs.List.{flat_map, list_any}
+use Rattle.std.proofs.Common.{◌≡◌, ℕ, ◌<◌, ◌≤◌, true, cond, List, length, map, nat_lt, Result, Ok, Err, IfErr, sym, ap, ◌∙◌, subst}
+use Rattle.std.specs.List.{flat_map}
 use Rattle.std.proofs.lemmas.Bool.{lt-ltb, le-ltb}
 use Rattle.std.specs.Prelude.{All}
 use Rattle.cat_base.specs.Texts.{IsTextSet}
 use Rattle.cat_base.specs.declared.refusal.Refusal.{Refusal}
 use Rattle.cat_base.specs.declared.refusal.Refusal.TheVariants.{Count, NotFacet}
 use Rattle.cat_model.specs.Answer.{Found, is_facet_kind}
-use Rattle.cat_model.specs.Facets.{Counted, Facets, facets_in, facets_of, labels_of}
+use Rattle.cat_model.specs.Facets.{Counted, Facets, facets_in, facets_of}
 use Rattle.cat_model.specs.Item.{Record, kind_of}
 use Rattle.cat_model.specs.Limits.{page_limit}
 use Rattle.cat_model.specs.Page.{first_ranked, hits}

@@ -1,5 +1,5 @@
 -- The labels of the hits in the leaves of a view are those of the hits among the records that it shows.
-use Rattle.std.proofs.Common.{◌≡◌, ◌&&◌, ◌||◌, List, [], ◌∷◌, ◌++◌, map, filter, Bool, true, false, cond, refl, sym, ap, ◌∙◌}
+use Rattle.std.proofs.Common.{◌≡◌, ◌&&◌, ◌||◌, List, [], ◌∷◌, ◌++◌, map, filter, true, false, cond, refl, sym, ap, ◌∙◌}
 use Rattle.std.proofs.lemmas.List.{map-append}
 use Rattle.std.proofs.lemmas.List.Elements.{filter-append}
 use Rattle.std.specs.List.{flat_map}
@@ -8,7 +8,7 @@ use Rattle.cat_model.specs.Item.{Item, Record}
 use Rattle.cat_model.specs.Page.{hits}
 use Rattle.cat_model.specs.Query.{Query, Primary, matches, obeyed, obeys, primary_matches, supported, supports}
 use Rattle.cat_model.specs.Text.{Text}
-use Rattle.cat_model.specs.View.{Leaf, Row, View, Shows, live_rows, row_matches, row_of, rows_in}
+use Rattle.cat_model.specs.View.{Leaf, View, Shows, live_rows, row_matches, row_of}
 use Rattle.cat_facets.specs.Tallies.{hit_labels, labels_at}
 
 -- ---- no query asks for the source of an item

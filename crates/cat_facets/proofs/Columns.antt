@@ -1,7 +1,6 @@
 -- What a column tells of the labels of rows, and rows without labels.
-use Rattle.std.proofs.Common.{◌≡◌, ℕ, zero, suc, ◌+◌, List, [], ◌∷◌, ◌++◌, length, map, Option, Some, None, Bool, true, false, not, refl, sym, ap, ◌∙◌, arith}
+use Rattle.std.proofs.Common.{◌≡◌, ℕ, zero, suc, List, [], ◌∷◌, length, map, Option, Some, None, Bool, true, false, not, refl, sym, ap, ◌∙◌, arith}
 use Rattle.std.specs.Prelude.{replicate}
-use Rattle.cat_base.specs.Texts.{sorted_set}
 use Rattle.cat_model.specs.Facets.{is_empty}
 use Rattle.cat_model.specs.Item.{Content, content_of, labels_in}
 use Rattle.cat_model.specs.Ordinals.{dictionary_of}

@@ -1,14 +1,14 @@
 -- In a facet field rows have no texts but labels.
-use Rattle.std.proofs.Common.{◌≡◌, ℕ, suc, List, [], ◌∷◌, length, map, Option, Some, None, option_map, Bool, true, false, cond, find, refl, sym, ap, ◌∙◌, arith, inl, inr}
+use Rattle.std.proofs.Common.{◌≡◌, suc, List, [], ◌∷◌, map, Some, option_map, true, false, find, refl, ap, ◌∙◌, arith, inl, inr}
 use Rattle.std.proofs.lemmas.Bool.{cases_Bool}
 use Rattle.std.specs.Prelude.{All}
 use Rattle.cat_model.specs.Answer.{is_facet_kind}
-use Rattle.cat_model.specs.Item.{Content, Field, FieldContent, Kind, Schema, AreFields, IsContent, content_of, kind_of, labels_in}
+use Rattle.cat_model.specs.Item.{Content, FieldContent, Kind, Schema, AreFields, IsContent, content_of, kind_of, labels_in}
 use Rattle.cat_model.specs.Text.{Text, same_text}
 use Rattle.cat_model.specs.View.{Leaf, Row, item_in}
-use Rattle.cat_model.specs.GlobalOrdinals.{ordinal_texts, texts_in_leaf}
+use Rattle.cat_model.specs.GlobalOrdinals.{ordinal_texts}
 use Rattle.cat_facets.specs.States.{HasLabels, IsFacetIn}
-use Rattle.cat_facets.specs.Tallies.{labels_at, leaf_labels}
+use Rattle.cat_facets.specs.Tallies.{labels_at}
 
 labels_alone : {k : Kind} {c : Content} → IsContent k c → is_facet_kind (Some k) ≡ true → ordinal_texts (Some c) ≡ labels_in (Some c)
 labels_alone (IsContent.words ws set) e = absurd (cc)

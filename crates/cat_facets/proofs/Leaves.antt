@@ -1,16 +1,15 @@
 -- What is known of the segments of a view, and the labels of hits among those of all rows.
-use Rattle.std.proofs.Common.{◌≡◌, ℕ, zero, suc, ◌+◌, ◌<◌, ◌≤◌, List, [], ◌∷◌, ◌++◌, length, get_or, take, map, filter, Bool, true, false, cond, ◌||◌, refl, sym, ap, ◌∙◌, arith, subst, inl, inr, append-nil}
+use Rattle.std.proofs.Common.{◌≡◌, ℕ, zero, suc, ◌+◌, ◌<◌, List, [], ◌∷◌, ◌++◌, length, get_or, take, map, filter, Bool, true, false, cond, ◌||◌, refl, sym, ap, ◌∙◌, arith, subst, inl, inr, append-nil}
 use Rattle.std.proofs.lemmas.Bool.{cases_lt}
 use Rattle.std.proofs.lemmas.Grind.{flat_map-append}
 use Rattle.std.proofs.lemmas.List.{take_more, get_or_default}
 use Rattle.std.proofs.lemmas.List.Elements.{recursion_from_All}
 use Rattle.std.specs.List.{list_any, flat_map, AllByRecursion}
 use Rattle.std.specs.Prelude.{All, Contains}
-use Rattle.cat_base.specs.Texts.{sorted_set}
-use Rattle.cat_base.proofs.TextSets.{has, has-Decides, has-sorted_set}
+use Rattle.cat_base.proofs.TextSets.{has-Decides}
 use Rattle.cat_model.specs.Ordinals.{dictionary_of, text_at}
 use Rattle.cat_model.specs.Query.{Query}
-use Rattle.cat_model.specs.Text.{Text, same_text}
+use Rattle.cat_model.specs.Text.{Text}
 use Rattle.cat_model.specs.View.{Leaf, Row, View, live_rows, row_matches, selected}
 use Rattle.cat_model.proofs.Lists.{list_any-append}
 use Rattle.cat_search.specs.Rows.{leaf_hits}

@@ -1,11 +1,11 @@
 -- Labels rank by their ordinals as the model ranks them by their bytes.
-use Rattle.std.proofs.Common.{◌≡◌, ℕ, zero, suc, ◌+◌, ◌<◌, ◌≤◌, List, [], ◌∷◌, ◌++◌, length, get_or, take, map, Bool, true, false, AllPairs, refl, sym, ap, ◌∙◌, arith, subst, inl, inr, nat_cmp, Ordering, Less, Equal, Greater}
+use Rattle.std.proofs.Common.{◌≡◌, ℕ, zero, suc, ◌+◌, ◌<◌, ◌≤◌, List, [], ◌∷◌, length, take, map, true, refl, sym, ap, ◌∙◌, arith, subst, inl, inr, nat_cmp, Ordering, Less, Equal, Greater}
 use Rattle.std.specs.Prelude.{◌⊎◌}
 use Rattle.std.proofs.lemmas.Bool.{cases_order}
 use Rattle.std.proofs.lemmas.Bool.Decides.{nat_tests}
 use Rattle.std.proofs.lemmas.Cmp.{nat_list_cmp_total, nat_cmp_total, on_total, then_total, back_total}
 use Rattle.std.proofs.lemmas.List.Elements.{All-from_recursion, recursion_from_All}
-use Rattle.std.proofs.lemmas.List.Sorted.{ranks_by, All-permutation, IsPermutation-map, IsPermutation-sym}
+use Rattle.std.proofs.lemmas.List.Sorted.{ranks_by, All-permutation, IsPermutation-map}
 use Rattle.std.proofs.lemmas.Map.Keys.{Less-from_sorted}
 use Rattle.std.specs.Cmp.{IsTotalOrder, tied_itself}
 use Rattle.std.specs.List.{AllByRecursion}
@@ -18,11 +18,11 @@ use Rattle.cat_model.specs.RankLaws.{AreRanked}
 use Rattle.cat_model.specs.Ranks.{AreApart, IsStrictOrder, sorted}
 use Rattle.cat_model.specs.Text.{Text, text_cmp}
 use Rattle.cat_model.proofs.Insert.{strict_from_weak}
-use Rattle.cat_model.proofs.Lists.{All-both, All-weaken}
+use Rattle.cat_model.proofs.Lists.{All-weaken}
 use Rattle.cat_model.proofs.Places.{EachPair, all_pairs, each_pair}
 use Rattle.cat_model.proofs.Ranked.{ranks_follow_order}
 use Rattle.cat_facets.specs.declared.first.Ranked.{Ranked}
-use Rattle.cat_facets.specs.Met.{comes_first, met_from, one_met, told}
+use Rattle.cat_facets.specs.Met.{comes_first, met_from, told}
 use Rattle.cat_facets.specs.contracts.first.RankedOrd.TheImpl as by_count
 
 -- ---- one label beside another

@@ -36,7 +36,7 @@ pub(crate) fn totals_of(
     let mut totals = vec![in alloc; 0usize; labels.len()]?;
     let leaves = prepared.view().leaves();
     for (index, leaf) in leaves.iter().enumerate() {
-        let hits = prepared.hits(alloc, leaf)?;
+        let hits = prepared.hits(alloc, index)?;
         let more = add_leaf(
             alloc,
             &mut totals,

@@ -1,5 +1,5 @@
 -- The hits of a segment that are passed one after another.
-use Rattle.std.proofs.Common.{◌≡◌, ℕ, ◌+◌, ◌<◌, ◌≤◌, min, List, [], ◌∷◌, ◌++◌, length, map, filter, take, get_or, AllPairs, ltb, Option, Result, Ok, Err, IfOk, Bool, false, true, cond, refl, sym, ◌∙◌, ap, subst, arith, append-nil, append_assoc, length-append}
+use Rattle.std.proofs.Common.{◌≡◌, ℕ, ◌+◌, ◌<◌, ◌≤◌, min, List, [], ◌∷◌, ◌++◌, length, map, filter, take, get_or, AllPairs, ltb, Bor, Option, Some, None, option_map, IfSome, Result, Ok, Err, IfOk, Bool, false, true, cond, refl, sym, ◌∙◌, ap, subst, arith, append-nil, append_assoc, length-append}
 use Rattle.std.specs.Prelude.{count_by}
 use Rattle.std.specs.List.{AllByRecursion, flat_map}
 use Rattle.std.proofs.lemmas.Bool.Decides.{nat_tests}
@@ -142,3 +142,10 @@ if_ok P Q f (Err e) h = tt
 pub everything : (q : Query) → ((i : Item) → matches q i ≡ true) → (rows : List Row) → filter (row_matches q) rows ≡ rows
 everything q all [] = refl
 everything q all (row ∷ rows) = rw (all (item_in row)) (ap (λ rs. row ∷ rs) (everything q all rows))
+
+-- ---- sets that are at hand
+
+-- what holds of the set that stands there holds of the one that is looked at
+pub looked_at : {X : Type 0} (P : X → Type 0) (set : Option (Bor X)) (o : Option X) → option_map (λ s. s.now) set ≡ o → IfSome o P → IfSome set (λ s. P s.now)
+looked_at P None o e h = tt
+looked_at P (Some s) o e h = subst (λ p. IfSome p P) (sym e) h

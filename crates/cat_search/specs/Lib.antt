@@ -10,3 +10,4 @@ pub mod Rows
 pub mod Sources
 pub mod Bars
 pub mod OrdinalBars
+pub mod Sets

@@ -1,14 +1,15 @@
 //! The pass over the segments of a view.
-ghost use Rattle.std.specs.Prelude.{◌≡◌, ◌<◌, ◌+◌, ◌++◌, List, count_by, length, take, map, AllPairs, IfOk, OnOk};
+ghost use Rattle.std.specs.Prelude.{◌≡◌, ◌<◌, ◌+◌, ◌++◌, List, count_by, length, take, map, option_map, AllPairs, IfOk, IfSome, OnOk};
 ghost use Rattle.std.specs.List.{flat_map};
 ghost use Rattle.cat_model.specs.RowSets.{joined, both};
-ghost use Rattle.cat_model.specs.View.{live_rows, selected};
+ghost use Rattle.cat_model.specs.View.{live_rows, row_matches, selected};
 ghost use Rattle.cat_query.specs.View.{query_of};
 ghost use Rattle.cat_search.specs.declared.sort.Order.TheVariants.{Added};
 ghost use Rattle.cat_search.specs.Asks.{first_wanted};
 ghost use Rattle.cat_search.specs.Candidates.{mark_standing, standing_of};
 ghost use Rattle.cat_search.specs.Pages.{behind};
 ghost use Rattle.cat_search.specs.Rows.{hits_in, leaf_hits, row_standing};
+ghost use Rattle.cat_search.specs.Sets.{AreSets, set_at};
 ghost use Rattle.cat_search.specs.Standings.{Standing};
 
 use crate::ask::Wanted;
@@ -18,10 +19,22 @@ use crate::offers::{is_beyond, offer_rows};
 use crate::sort::Order;
 use crate::standings::{Candidate, Rank};
 use crate::view::Leaf;
-use cat_query::Query;
+use cat_query::{DocSet, Query};
 use cat_segment::{Live, Segment};
 use cat_values::RowSet;
 use std::alloc::{AllocError, Global};
+use std::sync::Arc;
+
+/// The set that is at hand for the segment of this index, if one is.
+pub(crate) fn set_at(sets: &[Option<Arc<DocSet>>], index: usize) -> Option<&DocSet>
+    ensures { option_map (λ s. s.now) result ≡ set_at sets.now index }
+{
+    match sets.get(index) {
+        Some(Some(set)) => Some(set),
+        Some(None) => None,
+        None => None,
+    }
+}
 
 /// Takes the rows out that are deleted.
 fn keep_live(rows: &mut RowSet, live: &Live)
@@ -31,19 +44,48 @@ fn keep_live(rows: &mut RowSet, live: &Live)
     rows.and_with(live.rows());
 }
 
+/// The rows of the segment that the query matches, live or dead: those of the set that is at hand, where one is.
+fn rows_of(
+    alloc: Global,
+    query: &Query,
+    set: Option<&DocSet>,
+    segment: &Segment,
+) -> Result<RowSet, AllocError>
+    requires { IfSome set (λ s. s.now ≡ map (row_matches (query_of query.now)) segment.now.rows) }
+    ensures ok { IfOk result (λ s. s ≡ map (row_matches (query_of query.now)) segment.now.rows) }
+{
+    match set {
+        Some(set) => set.rows().copy(),
+        None => Ok(query.matches(alloc, segment)?.into_rows()),
+    }
+}
+
 /// The live ones of the rows that the query matches, live or dead.
-fn matched_rows(alloc: Global, query: &Query, leaf: &Leaf) -> Result<RowSet, AllocError>
+fn matched_rows(
+    alloc: Global,
+    query: &Query,
+    set: Option<&DocSet>,
+    leaf: &Leaf,
+) -> Result<RowSet, AllocError>
+    requires { IfSome set (λ s. s.now ≡ map (row_matches (query_of query.now)) leaf.now.segment.rows) }
     ensures ok { IfOk result (λ s. selected s leaf.now.segment.rows ≡ leaf_hits leaf.now (query_of query.now)) }
     ensures long { IfOk result (λ s. length s ≡ length leaf.now.segment.rows) }
 {
-    let mut hits = query.matches(alloc, leaf.segment())?.into_rows();
+    let mut hits = rows_of(alloc, query, set, leaf.segment())?;
     keep_live(&mut hits, leaf.live());
     Ok(hits)
 }
 
 /// The live rows of the leaf that the query matches (Lucene: `BulkScorer.score` with the leaf's `liveDocs`). Where it
-/// matches everything they are all the live rows, and no postings are looked at.
-pub(crate) fn hits_of(alloc: Global, query: &Query, leaf: &Leaf) -> Result<RowSet, AllocError>
+/// matches everything they are all the live rows, and no postings are looked at; where a set of the matching rows is at hand,
+/// none are either.
+pub(crate) fn hits_of(
+    alloc: Global,
+    query: &Query,
+    set: Option<&DocSet>,
+    leaf: &Leaf,
+) -> Result<RowSet, AllocError>
+    requires { IfSome set (λ s. s.now ≡ map (row_matches (query_of query.now)) leaf.now.segment.rows) }
     ensures ok { IfOk result (λ s. selected s leaf.now.segment.rows ≡ leaf_hits leaf.now (query_of query.now)) }
     ensures long { IfOk result (λ s. length s ≡ length leaf.now.segment.rows) }
 {
@@ -51,7 +93,7 @@ pub(crate) fn hits_of(alloc: Global, query: &Query, leaf: &Leaf) -> Result<RowSe
         let hits = leaf.live().rows().copy()?;
         return Ok(hits);
     }
-    matched_rows(alloc, query, leaf)
+    matched_rows(alloc, query, set, leaf)
 }
 
 /// As many hits more. What a `usize` can't count doesn't fit in memory either.
@@ -105,16 +147,18 @@ fn best_hits<'a>(
     alloc: Global,
     leaves: &'a [Leaf],
     query: &Query,
+    sets: &[Option<Arc<DocSet>>],
     wanted: &Wanted<'a>,
 ) -> Result<(usize, Vec<Candidate<'a>>), AllocError>
+    requires { AreSets (query_of query.now) leaves.now sets.now }
     ensures total { IfOk result (λ r. r.0 ≡ length (hits_in leaves.now (query_of query.now))) }
     ensures best { IfOk result (λ r. map standing_of r.1.items
         ≡ first_wanted wanted.now (map (row_standing wanted.now.order) (hits_in leaves.now (query_of query.now)))) }
 {
     let mut total = 0;
     let mut best = Best::new(alloc, wanted.count);
-    for leaf in leaves {
-        let hits = hits_of(alloc, query, leaf)?;
+    for (index, leaf) in leaves.iter().enumerate() {
+        let hits = hits_of(alloc, query, set_at(sets, index), leaf)?;
         total = counted(total, &hits)?;
         let ranks = LeafRanks::of(leaf.segment(), wanted.order);
         offer_rows(&mut best, &ranks, &hits, &wanted.mark)?;
@@ -128,16 +172,18 @@ fn added_hits<'a>(
     alloc: Global,
     leaves: &'a [Leaf],
     query: &Query,
+    sets: &[Option<Arc<DocSet>>],
     wanted: &Wanted<'a>,
 ) -> Result<(usize, Vec<Candidate<'a>>), AllocError>
+    requires { AreSets (query_of query.now) leaves.now sets.now }
     ensures total { IfOk result (λ r. r.0 ≡ length (hits_in leaves.now (query_of query.now))) }
     ensures first { IfOk result (λ r. map standing_of r.1.items
         ≡ take wanted.now.count (behind (mark_standing wanted.now.mark) (map (row_standing Added) (hits_in leaves.now (query_of query.now))))) }
 {
     let mut total = 0;
     let mut taken = Vec::new(alloc);
-    for leaf in leaves {
-        let mut hits = hits_of(alloc, query, leaf)?;
+    for (index, leaf) in leaves.iter().enumerate() {
+        let mut hits = hits_of(alloc, query, set_at(sets, index), leaf)?;
         total = counted(total, &hits)?;
         let segment = leaf.segment();
         pass_mark(&mut hits, segment, &wanted.mark);
@@ -152,15 +198,17 @@ pub(crate) fn first_hits<'a>(
     alloc: Global,
     leaves: &'a [Leaf],
     query: &Query,
+    sets: &[Option<Arc<DocSet>>],
     wanted: &Wanted<'a>,
 ) -> Result<(usize, Vec<Candidate<'a>>), AllocError>
-    requires { AllPairs (λ a b. a.number < b.number) (flat_map live_rows leaves.now) }
+    requires rising { AllPairs (λ a b. a.number < b.number) (flat_map live_rows leaves.now) }
+    requires sets { AreSets (query_of query.now) leaves.now sets.now }
     ensures total { IfOk result (λ r. r.0 ≡ length (hits_in leaves.now (query_of query.now))) }
     ensures first { IfOk result (λ r. map standing_of r.1.items
         ≡ first_wanted wanted.now (map (row_standing wanted.now.order) (hits_in leaves.now (query_of query.now)))) }
 {
     match wanted.order {
-        Order::Added => added_hits(alloc, leaves, query, wanted),
-        _ => best_hits(alloc, leaves, query, wanted),
+        Order::Added => added_hits(alloc, leaves, query, sets, wanted),
+        _ => best_hits(alloc, leaves, query, sets, wanted),
     }
 }

@@ -1,23 +1,27 @@
 //! Queries that are put to views.
-ghost use Rattle.std.specs.Prelude.{◌≡◌, ◌≢◌, List, Ok, Err, length, IfOk, IfErr};
+ghost use Rattle.std.specs.Prelude.{◌≡◌, ◌≢◌, ◌<◌, List, Ok, Err, length, IfOk, IfErr, IfSome};
+ghost use Rattle.std.specs.List.{HoldsAt};
 ghost use Rattle.cat_base.specs.declared.refusal.Refusal.TheVariants.{Memory};
 ghost use Rattle.cat_model.specs.Answer.{Found};
 ghost use Rattle.cat_model.specs.Item.{Record};
-ghost use Rattle.cat_model.specs.View.{Shows, selected};
+ghost use Rattle.cat_model.specs.Query as model;
+ghost use Rattle.cat_model.specs.View.{Leaf, Shows, selected};
 ghost use Rattle.cat_query.specs.View.{query_of};
 ghost use Rattle.cat_search.specs.Rows.{leaf_hits};
+ghost use Rattle.cat_search.specs.Sets.{AreSets};
 ghost use Rattle.cat_search.specs.Views.{IsAnswerTo, ViewsShowRecords, answer_over, page_in};
 
 use crate::ask::{Ask, Wanted};
 use crate::entries::{Page, entries_of};
-use crate::gathering::{first_hits, hits_of};
+use crate::gathering::{first_hits, hits_of, set_at};
 use crate::mark_rows::mark_in_leaves;
-use crate::view::{Leaf, View};
+use crate::view::View;
 use cat_base::Refusal;
-use cat_query::Query;
+use cat_query::{DocSet, Query};
 use cat_values::RowSet;
 use std::alloc::{AllocError, Global};
 use std::marker::Model;
+use std::sync::Arc;
 
 /// A query made ready for a view (Lucene: an `IndexSearcher` over a reader, with a `Query` that it rewrote, as a
 /// `Weight`). It owns its parts, so a cache may hand it out and forget it.
@@ -29,11 +33,16 @@ use std::marker::Model;
 pub struct Prepared {
     view: View,
     query: Query,
+    // For the segments in order what rows the query matches, live or dead, as far as a cache had it.
+    sets: Option<Vec<Option<Arc<DocSet>>>>,
 }
 
 impl Model for Prepared {
+    ghost use Rattle.std.specs.Prelude.{IfSome};
     ghost use Rattle.std.specs.Coded.{codes};
+    ghost use Rattle.cat_query.specs.View.{query_of};
     ghost use Rattle.cat_query.specs.contracts.query.Primary as primary;
+    ghost use Rattle.cat_search.specs.Sets.{AreSets};
     ghost use Rattle.cat_search.specs.Views as views;
 
     ghost Value = { views.Prepared };
@@ -41,6 +50,8 @@ impl Model for Prepared {
     ghost coded = { Prim.hlevel (codes, primary.the_row.coded) };
 
     ghost view = { λ p. record { view = p.view; query = p.query } };
+
+    ghost invariant = { λ p. IfSome p.sets (λ v. AreSets (query_of p.query) p.view.leaves v.items) };
 }
 
 impl Prepared {
@@ -51,6 +62,25 @@ impl Prepared {
         Ok(Prepared {
             view: view.copy()?,
             query,
+            sets: None,
+        })
+    }
+
+    /// The query, to be put to the view, with the sets that are at hand for the segments of the view, in order: each has the
+    /// rows that the query matches, deleted rows too (Lucene: `LRUQueryCache.CachingWrapperWeight`). It answers what a query
+    /// without sets does, and looks at no postings of a segment that has its set.
+    pub fn with(
+        view: &View,
+        query: Query,
+        sets: Vec<Option<Arc<DocSet>>>,
+    ) -> Result<Prepared, AllocError>
+        requires { AreSets (query_of query) view.now.leaves sets.items }
+        ensures ok { IfOk result (λ p. p ≡ record { view = view.now; query = query }) }
+    {
+        Ok(Prepared {
+            view: view.copy()?,
+            query,
+            sets: Some(sets),
         })
     }
 
@@ -68,13 +98,15 @@ impl Prepared {
         &self.query
     }
 
-    /// The live rows of the leaf, of this view or another, that the query matches, as a set of the rows of its segment
+    /// The live rows of the leaf of this index in the view that the query matches, as a set of the rows of its segment
     /// (Lucene: `Weight.bulkScorer` over a `LeafReaderContext`, with the leaf's `liveDocs`).
-    pub fn hits(&self, alloc: Global, leaf: &Leaf) -> Result<RowSet, AllocError>
-        ensures ok { IfOk result (λ s. selected s leaf.now.segment.rows ≡ leaf_hits leaf.now (query_of self.now.query)) }
-        ensures long { IfOk result (λ s. length s ≡ length leaf.now.segment.rows) }
+    pub fn hits(&self, alloc: Global, index: usize) -> Result<RowSet, AllocError>
+        requires { index < length self.now.view.leaves }
+        ensures ok { IfOk result (λ s. HoldsAt (λ leaf. selected s leaf.segment.rows ≡ leaf_hits leaf (query_of self.now.query)) self.now.view.leaves index) }
+        ensures long { IfOk result (λ s. HoldsAt (λ leaf. length s ≡ length leaf.segment.rows) self.now.view.leaves index) }
     {
-        hits_of(alloc, &self.query, leaf)
+        let leaf = &self.view.leaves()[index];
+        hits_of(alloc, &self.query, set_at(sets_of(&self.sets), index), leaf)
     }
 
     /// The page that is asked for of the live rows of the view that the query matches: the first of them behind the mark,
@@ -93,12 +125,29 @@ impl Prepared {
         ensures err { IfErr result (λ e. e ≢ Memory → IsAnswerTo self.now ask.entry (Err e)) }
         ensures due { (rs : List Record) → Shows self.now.view rs → IfErr (answer_over self.now ask.entry rs) (λ e. result ≡ Err e) }
     {
-        page_over(alloc, &self.view, &self.query, ask)
+        page_over(alloc, &self.view, &self.query, sets_of(&self.sets), ask)
+    }
+}
+
+/// The sets that are at hand: none where no cache was asked.
+fn sets_of(sets: &Option<Vec<Option<Arc<DocSet>>>>) -> &[Option<Arc<DocSet>>]
+    ensures { (q : model.Query) (leaves : List Leaf) → IfSome sets.now (λ v. AreSets q leaves v.items) → AreSets q leaves result.now }
+{
+    match sets {
+        Some(sets) => sets,
+        None => &[],
     }
 }
 
 /// The page over the live rows of the view.
-fn page_over(alloc: Global, view: &View, query: &Query, ask: Ask<'_>) -> Result<Page, Refusal>
+fn page_over(
+    alloc: Global,
+    view: &View,
+    query: &Query,
+    sets: &[Option<Arc<DocSet>>],
+    ask: Ask<'_>,
+) -> Result<Page, Refusal>
+    requires { AreSets (query_of query.now) view.now.leaves sets.now }
     ensures ok { IfOk result (λ p. page_in view.now (query_of query.now) ask.entry ≡ Ok p) }
     ensures err { IfErr result (λ e. e ≢ Memory → page_in view.now (query_of query.now) ask.entry ≡ Err e) }
     ensures due { IfErr (page_in view.now (query_of query.now) ask.entry) (λ e. result ≡ Err e) }
@@ -107,7 +156,7 @@ fn page_over(alloc: Global, view: &View, query: &Query, ask: Ask<'_>) -> Result<
     let leaves = view.leaves();
     let mark = mark_in_leaves(leaves, order, ask.after)?;
     let wanted = Wanted { order, mark, count };
-    let (total, hits) = first_hits(alloc, leaves, query, &wanted)?;
+    let (total, hits) = first_hits(alloc, leaves, query, sets, &wanted)?;
     let entries = entries_of(alloc, &hits)?;
     Ok(Page::new(total, entries))
 }

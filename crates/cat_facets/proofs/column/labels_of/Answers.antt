@@ -1,4 +1,4 @@
-use Rattle.std.proofs.Common.{◌≡◌, ◌∙◌, ap, sym, map, Some, refl}
+use Rattle.std.proofs.Common.{◌∙◌, ap, sym, map, Some, refl}
 use Rattle.cat_model.specs.Item.{Content}
 use Rattle.cat_segment.specs.Contents.{contents_of}
 use Rattle.cat_facets.proofs.Columns.{facet_column, no_column, other_column}

@@ -1,4 +1,4 @@
-use Rattle.std.proofs.Common.{◌≡◌, ◌+◌, ◌<◌, length, get_or, arith, eqb, refl}
+use Rattle.std.proofs.Common.{◌<◌, length, get_or, arith, eqb}
 use Rattle.std.proofs.Math.ListN.{length-set}
 use Rattle.std.proofs.lemmas.List.Elements.{All-get_or}
 use Rattle.cat_facets.proofs.Counted.{count_step, set_more}

@@ -1,4 +1,4 @@
-use Rattle.std.proofs.Common.{◌≡◌, ◌+◌, ◌<◌, ◌≤◌, List, ◌∷◌, [], length, get_or, take, sym, ap, ◌∙◌, arith, subst}
+use Rattle.std.proofs.Common.{◌+◌, List, length, get_or, take, sym, ap, ◌∙◌, arith, subst}
 use Rattle.std.proofs.lemmas.List.{length-take, take_all}
 use Rattle.cat_model.specs.Page.{first_ranked}
 use Rattle.cat_model.specs.Ranks.{AreApart}

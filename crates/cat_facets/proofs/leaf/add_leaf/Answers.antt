@@ -1,7 +1,6 @@
-use Rattle.std.proofs.Common.{◌≡◌, ◌+◌, ◌<◌, ◌∙◌, length, get_or, map, ap, sym, subst, arith}
+use Rattle.std.proofs.Common.{◌≡◌, map, subst, arith}
 use Rattle.cat_model.specs.Ordinals.{text_at}
-use Rattle.cat_facets.specs.States.{IsKnown}
-use Rattle.cat_facets.specs.Tallies.{labels_at, leaf_labels}
+use Rattle.cat_facets.specs.Tallies.{labels_at}
 use Rattle.cat_facets.proofs.Columns.{empty_rows, none_labelled, none_with_label}
 use Rattle.cat_facets.proofs.leaf.add_leaf.Goals as goal
 

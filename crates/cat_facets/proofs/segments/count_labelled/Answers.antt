@@ -1,4 +1,4 @@
-use Rattle.std.proofs.Common.{◌≡◌, ◌+◌, ◌^◌, ◌<◌, ◌≤◌, List, Bool, ◌∷◌, [], length, get_or, take, not, sym, ap, ◌∙◌, arith}
+use Rattle.std.proofs.Common.{◌+◌, ◌<◌, List, Bool, ◌∷◌, [], length, get_or, take, not, sym, ap, ◌∙◌, arith}
 use Rattle.std.proofs.lemmas.List.{length-take, take_all, take_more}
 use Rattle.std.proofs.lemmas.List.Sums.{count_by-le-length}
 use Rattle.cat_model.specs.Facets.{is_empty}

@@ -1,4 +1,4 @@
-use Rattle.std.proofs.Common.{◌≡◌, ◌∙◌, sym, ap, subst}
+use Rattle.std.proofs.Common.{◌∙◌, sym, ap, subst}
 use Rattle.std.specs.Prelude.{All, Contains}
 use Rattle.cat_model.specs.Ordinals.{dictionary_of}
 use Rattle.cat_facets.proofs.segments.known_of.Goals as goal

@@ -3,7 +3,7 @@ use Rattle.std.specs.Prelude.{All}
 use Rattle.cat_model.specs.Item.{AreFields}
 use Rattle.cat_model.specs.Ordinals.{dictionary_of}
 use Rattle.cat_model.specs.Text.{Text}
-use Rattle.cat_model.specs.View.{Leaf, Row, Segment, AreRows}
+use Rattle.cat_model.specs.View.{Leaf, Segment, AreRows}
 use Rattle.cat_model.specs.GlobalOrdinals.{leaf_dictionary}
 use Rattle.cat_facets.specs.States.{HasLabels, IsFacetIn}
 use Rattle.cat_facets.specs.Tallies.{labels_at, leaf_labels}

@@ -1,10 +1,10 @@
 use Rattle.std.proofs.Common.{◌≡◌, ◌+◌, ◌<◌, ◌++◌, length, get_or, take, drop, not, sym, ap, ◌∙◌, arith, subst}
-use Rattle.std.proofs.lemmas.List.{take_all}
 use Rattle.std.specs.List.{flat_map}
 use Rattle.cat_model.specs.Facets.{is_empty}
 use Rattle.cat_model.specs.Ordinals.{text_at}
 use Rattle.cat_model.specs.View.{selected}
 use Rattle.cat_query.specs.View.{query_of}
+use Rattle.cat_search.specs.Rows.{leaf_hits}
 use Rattle.cat_values.proofs.Bits.{written_back}
 use Rattle.cat_facets.specs.States.{IsKnown}
 use Rattle.cat_facets.specs.Tallies.{hit_labels, label_count, labelled_count, leaf_labels, AreCounts}
@@ -41,7 +41,7 @@ loop-index-preserved c =
     let seen : c.leaves-leaves.result.now ≡ leaves = c.leaves-leaves.ensures.value ∙ ap (λ v. v.leaves) c.view.ensures in
     let at : leaf ≡ get_or leaves i leaf = c.index-leaves-index.is ∙ ap (λ ls. get_or ls i leaf) seen in
     let within : i < length leaves = let n = ap length seen in omega (arith, n) in
-    let more : before ++ piece ≡ flat_map f (take (i + 1) leaves) = hits_more q dimension leaves i leaf hits within at c.in_ok-hits.ensures.ok in
+    let more : before ++ piece ≡ flat_map f (take (i + 1) leaves) = hits_more q dimension leaves i leaf hits within at (subst (λ l. selected hits l.segment.rows ≡ leaf_hits l q) (sym at) (c.in_ok-hits.ensures.ok leaf)) in
     let old = c.loop-index.totals.items in
     let new = c.add_leaf.new.totals in
     let same : c.deref_mut.result.now ≡ old = c.deref_mut.ensures.value in
@@ -55,3 +55,14 @@ loop-index-preserved c =
           ∙ sym (count_by-both (λ ls. not (is_empty ls)) before piece) ∙ ap labelled_count more;
       counts = subst (AreCounts labels (flat_map f (take (i + 1) leaves))) (sym back) (subst (λ ts. AreCounts labels ts new) more counts);
     }
+
+pub hits-requires : goal.hits-requires
+hits-requires c = let n = ap length c.leaves-leaves.ensures.value in let m = ap (λ v. length v.leaves) c.view.ensures in omega (arith, n, m)
+
+pub add_leaf-requires-clause-rows : goal.add_leaf-requires-clause-rows
+add_leaf-requires-clause-rows c =
+    let leaf = c.index-leaves-index.result in
+    let leaves = c.args.prepared.now.view.leaves in
+    let seen : c.leaves-leaves.result.now ≡ leaves = c.leaves-leaves.ensures.value ∙ ap (λ v. v.leaves) c.view.ensures in
+    let at : leaf ≡ get_or leaves c.loop-index.index leaf = c.index-leaves-index.is ∙ ap (λ ls. get_or ls c.loop-index.index leaf) seen in
+    subst (λ l. length c.in_ok-hits.hits ≡ length l.segment.rows) (sym at) (c.in_ok-hits.ensures.long leaf)

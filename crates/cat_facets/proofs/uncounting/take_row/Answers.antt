@@ -1,7 +1,6 @@
-use Rattle.std.proofs.Common.{◌≡◌, ℕ, ◌+◌, ◌-◌, ◌<◌, ◌≤◌, length, get_or, take, drop, map, eqb, arith, refl}
+use Rattle.std.proofs.Common.{◌-◌, ◌<◌, length, get_or, eqb, arith}
 use Rattle.std.proofs.Math.ListN.{length-set}
 use Rattle.std.proofs.lemmas.List.Elements.{All-get_or}
-use Rattle.cat_facets.specs.Tallies.{globals_of, occurrences}
 use Rattle.cat_facets.proofs.Counted.{count_step, set_less, some_left}
 use Rattle.cat_facets.proofs.uncounting.take_row.Goals as goal
 

@@ -6,8 +6,8 @@ use Rattle.cat_search.specs.Pages.{behind}
 use Rattle.cat_search.specs.Rows.{hits_in, row_standing}
 use Rattle.cat_search.proofs.gathering.added_hits.Given as goal
 
-abbrev pub invariant-loop-leaf : goal.invariant-loop-leaf
-invariant-loop-leaf l = record {
-  total : l.total ≡ length (hits_in (take l.leaf-index l.leaves) (query_of l.query));
-  taken : map standing_of l.taken.items ≡ take l.wanted.count (behind (mark_standing l.wanted.mark) (map (row_standing Added) (hits_in (take l.leaf-index l.leaves) (query_of l.query))));
+abbrev pub invariant-loop-index : goal.invariant-loop-index
+invariant-loop-index l = record {
+  total : l.total ≡ length (hits_in (take l.index l.leaves) (query_of l.query));
+  taken : map standing_of l.taken.items ≡ take l.wanted.count (behind (mark_standing l.wanted.mark) (map (row_standing Added) (hits_in (take l.index l.leaves) (query_of l.query))));
 }

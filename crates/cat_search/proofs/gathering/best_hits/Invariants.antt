@@ -5,9 +5,9 @@ use Rattle.cat_search.specs.Pages.{behind}
 use Rattle.cat_search.specs.Rows.{hits_in, row_standing}
 use Rattle.cat_search.proofs.gathering.best_hits.Given as goal
 
-abbrev pub invariant-loop-leaf : goal.invariant-loop-leaf
-invariant-loop-leaf l = record {
-  total : l.total ≡ length (hits_in (take l.leaf-index l.leaves) (query_of l.query));
+abbrev pub invariant-loop-index : goal.invariant-loop-index
+invariant-loop-index l = record {
+  total : l.total ≡ length (hits_in (take l.index l.leaves) (query_of l.query));
   limit : l.best.limit ≡ l.wanted.count;
-  best : IsBestAt l.best (behind (mark_standing l.wanted.mark) (map (row_standing l.wanted.order) (hits_in (take l.leaf-index l.leaves) (query_of l.query))));
+  best : IsBestAt l.best (behind (mark_standing l.wanted.mark) (map (row_standing l.wanted.order) (hits_in (take l.index l.leaves) (query_of l.query))));
 }

@@ -10,7 +10,7 @@ pub returns-clause-ok : goal.returns-clause-ok
 returns-clause-ok c =
     let test = row_matches (query_of c.args.query.now) in
     let leaf = c.args.leaf.now in
-    let matched = c.into_rows-hits.ensures ∙ c.in_ok-matches.ensures.ok ∙ ap (λ s. map test s.rows) c.segment.ensures in
+    let matched = c.in_ok-hits.ensures.ok ∙ ap (λ s. map test s.rows) c.segment.ensures in
     ap (λ s. selected s leaf.segment.rows) (c.keep_live.ensures ∙ ap (λ s. joined both s c.live.result.now) matched ∙ ap (joined both (map test leaf.segment.rows)) c.live.ensures.value)
     ∙ selected-joined test leaf.live leaf.segment.rows
 
@@ -18,7 +18,7 @@ pub returns-clause-long : goal.returns-clause-long
 returns-clause-long c =
     let test = row_matches (query_of c.args.query.now) in
     let leaf = c.args.leaf.now in
-    let matched = c.into_rows-hits.ensures ∙ c.in_ok-matches.ensures.ok ∙ ap (λ s. map test s.rows) c.segment.ensures in
+    let matched = c.in_ok-hits.ensures.ok ∙ ap (λ s. map test s.rows) c.segment.ensures in
     let long : length (map test leaf.segment.rows) ≡ length leaf.live = length-map leaf.segment.rows test ∙ sym c.live.ensures.long in
     ap length (c.keep_live.ensures ∙ ap (λ s. joined both s c.live.result.now) matched ∙ ap (joined both (map test leaf.segment.rows)) c.live.ensures.value)
     ∙ length-joined both (map test leaf.segment.rows) leaf.live long ∙ c.live.ensures.long

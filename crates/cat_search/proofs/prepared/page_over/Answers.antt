@@ -6,13 +6,14 @@ use Rattle.cat_query.specs.View.{query_of}
 use Rattle.cat_search.specs.Candidates.{mark_standing, standing_of}
 use Rattle.cat_search.specs.Pages.{answer_where}
 use Rattle.cat_search.specs.Rows.{bare_record}
+use Rattle.cat_search.specs.Sets.{AreSets}
 use Rattle.cat_search.specs.Sorts.{IsOrderOf, sort_of}
 use Rattle.cat_search.specs.Standings.{entry_shown}
 use Rattle.cat_search.proofs.ViewPages.{live_rise, page_answered}
 use Rattle.cat_search.proofs.prepared.page_over.Goals as goal
 
-pub first_hits-requires : goal.first_hits-requires
-first_hits-requires c = live_rise c.args.view.now c.leaves-leaves.ensures.valid c.leaves-leaves.result.now c.leaves-leaves.ensures.value
+pub first_hits-requires-clause-rising : goal.first_hits-requires-clause-rising
+first_hits-requires-clause-rising c = live_rise c.args.view.now c.leaves-leaves.ensures.valid c.leaves-leaves.result.now c.leaves-leaves.ensures.value
 
 pub returns-clause-ok : goal.returns-clause-ok
 returns-clause-ok c =
@@ -26,3 +27,6 @@ returns-clause-ok c =
     ∙ page_answered view (query_of c.args.query.now) s ask.after c.in_ok-order.count c.in_ok-total.total c.in_ok-order.order c.leaves-leaves.result.now (mark_standing c.in_ok-mark.mark) c.in_ok-entries.entries.items
     c.leaves-leaves.ensures.value c.leaves-leaves.ensures.valid (omega (arith, c.in_ok-order.ensures.count.0, c.in_ok-order.ensures.count.1)) order sorts c.in_ok-mark.ensures.ok c.in_ok-mark.ensures.has c.in_ok-total.ensures.total entries
     ∙ ap Ok (sym c.new.ensures)
+
+pub first_hits-requires-clause-sets : goal.first_hits-requires-clause-sets
+first_hits-requires-clause-sets c = subst (λ ls. AreSets (query_of c.args.query.now) ls c.args.sets.now) (sym c.leaves-leaves.ensures.value) c.requires

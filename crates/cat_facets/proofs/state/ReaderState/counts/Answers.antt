@@ -1,9 +1,8 @@
-use Rattle.std.proofs.Common.{◌≡◌, ℕ, ◌<◌, List, Err, Ok, length, map, All, sym, ap, ◌∙◌, arith, refl, subst}
+use Rattle.std.proofs.Common.{◌≡◌, ◌<◌, List, Err, length, map, All, sym, ap, ◌∙◌, arith, refl, subst}
 use Rattle.std.proofs.lemmas.List.Elements.{All-from_recursion}
 use Rattle.std.specs.List.{flat_map}
 use Rattle.cat_base.specs.Texts.{IsTextSet}
 use Rattle.cat_base.specs.declared.refusal.Refusal.TheVariants.{Count}
-use Rattle.cat_model.specs.Answer.{Found}
 use Rattle.cat_model.specs.Text.{Text}
 use Rattle.cat_model.specs.View.{Shows}
 use Rattle.cat_query.specs.View.{query_of}
@@ -11,7 +10,7 @@ use Rattle.cat_values.proofs.Ordinals.{dictionary_rises}
 use Rattle.cat_model.specs.GlobalOrdinals.{leaf_dictionary, view_dictionary}
 use Rattle.cat_facets.specs.States.{ReaderState, answer_over, HasLabels, IsState}
 use Rattle.cat_facets.specs.Tallies.{hit_labels, labelled_count, AreCounts}
-use Rattle.cat_facets.proofs.Answered.{counted_facets, due_found, due_refused, found, refused}
+use Rattle.cat_facets.proofs.Answered.{counted_facets, due_refused, found, refused}
 use Rattle.cat_facets.proofs.Ranking.{first_within}
 use Rattle.cat_facets.proofs.state.ReaderState.counts.Goals as goal
 

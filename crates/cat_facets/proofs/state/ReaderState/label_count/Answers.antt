@@ -1,4 +1,4 @@
-use Rattle.std.proofs.Common.{◌≡◌, ◌∙◌, length, get_or, sym, ap, arith, subst}
+use Rattle.std.proofs.Common.{◌∙◌, length, get_or, sym, ap, arith, subst}
 use Rattle.std.proofs.lemmas.List.{length-map}
 use Rattle.cat_model.specs.Ordinals.{dictionary_of, text_at}
 use Rattle.cat_facets.specs.States.{HasLabels, IsKnown, IsState}
