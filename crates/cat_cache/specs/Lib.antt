@@ -1,0 +1,4 @@
+pub mod Cached
+pub mod Coding
+pub mod Lent
+pub mod Warmed
