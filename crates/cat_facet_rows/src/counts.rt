@@ -7,7 +7,7 @@ use cat_facets::{Facets, ReaderState};
 use cat_query::Query;
 use cat_schema::Schema;
 use cat_search::{Prepared, View};
-use cat_view_rows::{Put, PutText, are_in_order, read_put, read_puts, view_of};
+use cat_view_rows::{Put, PutText, are_in_order, read_put, read_puts, sets_of, view_of};
 use std::alloc::{AllocError, Global};
 use std::fmt::Write;
 use std::process::Abort;
@@ -40,6 +40,15 @@ fn counts_of(alloc: Global, view: &View, count: &CountText<'_>) -> Result<Facets
     let state = ReaderState::of(alloc, view, dimension)?;
     let query = Query::parse(view.schema(), alloc, text)?;
     state.counts(alloc, &Prepared::of(view, query)?, n)
+}
+
+/// The same counts, where sets of rows are at hand for some of the segments.
+fn counts_by_sets(alloc: Global, view: &View, count: &CountText<'_>) -> Result<Facets, Refusal> {
+    let (n, dimension, text, _) = *count;
+    let state = ReaderState::of(alloc, view, dimension)?;
+    let query = Query::parse(view.schema(), alloc, text)?;
+    let sets = sets_of(alloc, view, &query)?;
+    state.counts(alloc, &Prepared::with(view, query, sets)?, n)
 }
 
 /// Fails unless each FACETS is answered so over a view of the rows, in segments that end at these places.

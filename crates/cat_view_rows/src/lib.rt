@@ -7,5 +7,5 @@ mod put;
 #[cfg(test)]
 mod views;
 
-pub use making::{PutText, are_in_order, read_put, read_puts, view_of};
+pub use making::{PutText, are_in_order, read_put, read_puts, segment_of, sets_of, view_of};
 pub use put::Put;

@@ -1,15 +1,19 @@
 //! Rows read from texts, and views made of them.
-ghost use Rattle.std.specs.Prelude.{◌≡◌, ◌≢◌, ◌≤◌, ◌<◌, true, length, map, IfOk, All, AllPairs};
+ghost use Rattle.std.specs.Prelude.{◌≡◌, ◌≢◌, ◌≤◌, ◌<◌, true, length, map, IfOk, IfSome, OnOk, All, AllPairs};
 ghost use Rattle.cat_model.specs.Item.{IsItem};
-ghost use Rattle.cat_model.specs.View.{row_of};
+ghost use Rattle.std.specs.Arc.{arc_value};
+ghost use Rattle.cat_model.specs.View.{row_matches, row_of};
+ghost use Rattle.cat_query.specs.View.{query_of};
+ghost use Rattle.cat_search.specs.Sets.{AreSets};
 
 use crate::put::Put;
 use cat_base::{MAX_ROWS, Refusal, SegNo, WriteNo};
+use cat_query::{DocSet, Query};
 use cat_schema::Schema;
 use cat_search::{Leaf, View};
 use cat_segment::{Live, Row, Segment};
 use cat_segment_rows::are_apart;
-use std::alloc::Global;
+use std::alloc::{AllocError, Global};
 use std::sync::Arc;
 
 /// A row: the number of its write, whether it is live, and its item.
@@ -128,6 +132,25 @@ fn are_positive(rows: &[Row<'_>]) -> bool
 }
 
 /// The segment of this number that has them as its rows; [`Refusal::Damaged`] where no segment has.
+pub fn segment_of(
+    alloc: Global,
+    schema: &Schema,
+    number: SegNo,
+    puts: &[Put],
+) -> Result<Segment, Refusal>
+    requires { All (λ p. IsItem schema.now p.item) puts.now }
+    ensures ok { IfOk result (λ s. s ≡ record { number = number; schema = schema.now; rows = map (λ p. row_of (record { number = p.number; item = p.item })) puts.now }) }
+    ensures few { OnOk result (length puts.now ≤ 262144) }
+{
+    let rows = rows_of(alloc, puts)?;
+    let count = rows.len();
+    if count == 0 || count > MAX_ROWS || !are_positive(&rows) || !are_apart(&rows) {
+        return Err(Refusal::Damaged);
+    }
+    Ok(Segment::of(alloc, number, schema, &rows)?)
+}
+
+/// Their segment, with those of its rows live that are.
 fn leaf_of(alloc: Global, schema: &Schema, number: SegNo, puts: &[Put]) -> Result<Leaf, Refusal>
     requires { All (λ p. IsItem schema.now p.item) puts.now }
     ensures { IfOk result (λ l. l ≡ record {
@@ -135,12 +158,7 @@ fn leaf_of(alloc: Global, schema: &Schema, number: SegNo, puts: &[Put]) -> Resul
       live = map (λ p. p.live) puts.now;
     }) }
 {
-    let rows = rows_of(alloc, puts)?;
-    let count = rows.len();
-    if count == 0 || count > MAX_ROWS || !are_positive(&rows) || !are_apart(&rows) {
-        return Err(Refusal::Damaged);
-    }
-    let segment = Segment::of(alloc, number, schema, &rows)?;
+    let segment = segment_of(alloc, schema, number, puts)?;
     let live = live_of(alloc, puts)?;
     Ok(Leaf::new(Arc::new(alloc, segment)?, Arc::new(alloc, live)?))
 }
@@ -172,4 +190,36 @@ pub fn view_of(
         return Err(Refusal::Damaged);
     }
     Ok(View::of(alloc, schema.copy()?, leaves, 99)?)
+}
+
+/// The rows of the segment that the query matches, deleted rows too; of every third segment none.
+fn set_for(
+    alloc: Global,
+    query: &Query,
+    segment: &Segment,
+    index: usize,
+) -> Result<Option<Arc<DocSet>>, AllocError>
+    ensures { IfOk result (λ o. IfSome o (λ s. arc_value s ≡ map (row_matches (query_of query.now)) segment.now.rows)) }
+{
+    if index % 3 == 2 {
+        return Ok(None);
+    }
+    let set = Arc::new(alloc, query.matches(alloc, segment)?)?;
+    Ok(Some(set))
+}
+
+/// Sets that are at hand for the query over the view, of every third segment none.
+pub fn sets_of(
+    alloc: Global,
+    view: &View,
+    query: &Query,
+) -> Result<Vec<Option<Arc<DocSet>>>, AllocError>
+    ensures { IfOk result (λ v. AreSets (query_of query.now) view.now.leaves v.items) }
+{
+    let mut sets = Vec::new(alloc);
+    let leaves = view.leaves();
+    for (index, leaf) in leaves.iter().enumerate() {
+        sets.push(set_for(alloc, query, leaf.segment(), index)?)?;
+    }
+    Ok(sets)
 }

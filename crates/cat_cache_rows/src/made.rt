@@ -1,0 +1,90 @@
+//! A set is made in steps of 256 rows.
+ghost use Rattle.std.specs.Prelude.{IfOk, All};
+ghost use Rattle.cat_model.specs.Item.{IsItem};
+
+use cat_base::Refusal;
+use cat_cache::{Warm, Warming};
+use cat_query::{DocSet, Query};
+use cat_schema::Schema;
+use cat_segment::Segment;
+use cat_view_rows::{Put, read_put, segment_of};
+use std::alloc::{AllocError, Global};
+use std::fmt::Write;
+use std::process::Abort;
+use std::sync::Arc;
+use std::test::Fail;
+
+/// So many rows, of which each has its number as its price.
+fn priced_puts(alloc: Global, schema: &Schema, count: u64) -> Result<Vec<Put>, Refusal>
+    ensures { IfOk result (λ v. All (λ p. IsItem schema.now p.item) v.items) }
+{
+    let mut puts = Vec::new(alloc);
+    for number in 0..count {
+        let text = format!(in alloc; "{{\"id\":\"{number}\",\"price\":{number}}}")?;
+        puts.push(read_put(
+            alloc,
+            schema,
+            (number.saturating_add(1), true, text.as_str()),
+        )?)?;
+    }
+    Ok(puts)
+}
+
+/// The segment of so many rows.
+pub(crate) fn priced(alloc: Global, count: u64) -> Result<Arc<Segment>, Refusal> {
+    let schema = Schema::read(alloc, br#"{"price":"number"}"#)?;
+    let puts = priced_puts(alloc, &schema, count)?;
+    Ok(Arc::new(alloc, segment_of(alloc, &schema, 1, &puts)?)?)
+}
+
+/// The set of the segment's rows that match, in the making.
+pub(crate) fn begun(alloc: Global, segment: &Arc<Segment>, text: &str) -> Result<Warm, Refusal> {
+    let query = Query::parse(segment.schema(), alloc, text)?;
+    Ok(Warm::begin(Arc::try_clone(segment)?, query))
+}
+
+/// How many rows match, and the first of them, as `2 from 7`.
+fn set_text(alloc: Global, set: &DocSet) -> Result<String, AllocError> {
+    let mut text = format!(in alloc; "{}", set.count())?;
+    if let Some(first) = set.iter().next() {
+        write!(text, " from {first}")?;
+    }
+    Ok(text)
+}
+
+/// What so many steps answer, as `256 512 made 2 from 7`.
+fn steps_text(alloc: Global, warm: &mut Warm, steps: u32) -> Result<String, AllocError> {
+    let mut text = String::new(alloc);
+    for _ in 0..steps {
+        match warm.step(alloc)? {
+            Warming::Passed(rows) => write!(text, "{rows} ")?,
+            Warming::Made(set) => write!(text, "made {}", set_text(alloc, &set)?.as_str())?,
+        }
+    }
+    Ok(text)
+}
+
+/// A number of rows, a query, and what is answered by two steps or three.
+type StepText<'a> = (u64, &'a str, u32, &'a str);
+
+#[test]
+fn a_step_passes_256_rows(rt: HostRuntime) -> Result<(), Fail> {
+    const STEPS: &[StepText<'static>] = &[
+        (1, "price:0", 1, "made 1 from 0"),
+        (1, "price:1", 1, "made 0"),
+        (256, "*:*", 1, "made 256 from 0"),
+        (257, "price:[250 TO *]", 2, "256 made 7 from 250"),
+        (300, "*:* -price:0", 2, "256 made 299 from 1"),
+        (512, "price:511", 2, "256 made 1 from 511"),
+        (513, "price:512", 3, "256 512 made 1 from 512"),
+    ];
+    let alloc = rt.alloc();
+    for &(rows, query, steps, answered) in STEPS {
+        let segment = priced(alloc, rows)?;
+        let mut warm = begun(alloc, &segment, query)?;
+        let text = steps_text(alloc, &mut warm, steps)?;
+        assert_eq!(&rt; text.as_str(), answered, "{query} in {rows} rows");
+        assert_eq!(&rt; warm.key().segment, 1);
+    }
+    Ok(())
+}
