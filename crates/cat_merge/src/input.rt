@@ -1,0 +1,52 @@
+//! The segments that a merge takes.
+ghost use Rattle.std.specs.Prelude.{◌≡◌, length};
+ghost use Rattle.std.specs.Arc.{arc_value};
+
+use cat_segment::{Live, Segment};
+use std::marker::Model;
+use std::sync::Arc;
+
+/// A segment that is merged, and which of its rows are live when the merge begins (Lucene: a `SegmentReader` that
+/// `IndexWriter.mergeMiddle` opens, with its `liveDocs`). Both are shared.
+#[derive(Drop)]
+pub struct Input {
+    segment: Arc<Segment>,
+    live: Arc<Live>,
+}
+
+impl Model for Input {
+    ghost use Rattle.std.specs.Prelude.{◌≡◌, length};
+    ghost use Rattle.std.specs.Arc.{arc_value};
+    ghost use Rattle.cat_model.specs.View as model;
+
+    ghost Value = { model.Leaf };
+
+    ghost view = { λ i. record { segment = arc_value i.segment; live = arc_value i.live } };
+
+    ghost invariant = { λ i. length (arc_value i.live) ≡ length (arc_value i.segment).rows };
+}
+
+impl Input {
+    /// The segment with these of its rows live. There is one truth value for each row.
+    pub fn new(segment: Arc<Segment>, live: Arc<Live>) -> Input
+        requires { length (arc_value live) ≡ length (arc_value segment).rows }
+        ensures { result ≡ record { segment = arc_value segment; live = arc_value live } }
+    {
+        Input { segment, live }
+    }
+
+    /// The segment.
+    pub(crate) fn segment(&self) -> &Segment
+        ensures { result.now ≡ self.now.segment }
+    {
+        &self.segment
+    }
+
+    /// Which of its rows are live when the merge begins.
+    pub(crate) fn live(&self) -> &Live
+        ensures value { result.now ≡ self.now.live }
+        ensures long { length self.now.live ≡ length self.now.segment.rows }
+    {
+        &self.live
+    }
+}

@@ -1,0 +1,168 @@
+//! The merge of segments in steps.
+ghost use Rattle.std.specs.Prelude.{◌≡◌, ◌+◌, ◌-◌, ◌++◌, ◌≤◌, ◌<◌, ◌^◌, ℕ, List, min, map, take, length, IfOk, OnOk, OnErr};
+ghost use Rattle.std.specs.List.{flat_map};
+ghost use Rattle.cat_model.specs.Layout.{head_of};
+ghost use Rattle.cat_model.specs.Limits.{step_limit};
+ghost use Rattle.cat_model.specs.Merged.{rows_of_all, rows_kept, records_kept, merged_leaf, AreDeletedFrom};
+ghost use Rattle.cat_merge.specs.Copied.{bytes_in, joined_sources};
+ghost use Rattle.cat_merge.specs.Merging.{MayMerge, with_live};
+ghost use Rattle.cat_merge.specs.Places.{passed_at, IsPlace, IsRowPlace};
+ghost use Rattle.cat_merge.specs.Walk.{heads_at, source_at, AreInputs};
+
+use crate::counting::rows_in;
+use crate::input::Input;
+use crate::place::Place;
+use crate::rows::KeptRow;
+use crate::settling::settled;
+use crate::sources::{SourceRange, add_source};
+use cat_base::{MAX_STEP_ROWS, SegNo};
+use cat_schema::Schema;
+use cat_segment::Live;
+use std::alloc::{AllocError, Global};
+use std::marker::Model;
+
+/// A merge of segments in the making, step by step (Lucene: `SegmentMerger`, for an `OneMerge`).
+#[derive(Drop)]
+pub struct Merge {
+    number: SegNo,
+    schema: Schema,
+    inputs: Vec<Input>,
+    // How many rows the inputs have, dead ones too.
+    total: usize,
+    // How many of them are passed, and the place of the next.
+    passed: usize,
+    place: Place,
+    kept: Vec<KeptRow>,
+}
+
+impl Model for Merge {
+    ghost use Rattle.cat_merge.specs.Merging.{Merging};
+    ghost use Rattle.cat_merge.specs.Walk.{IsWalk};
+
+    ghost Value = { Merging };
+
+    ghost view = { λ m. record { number = m.number; schema = m.schema; inputs = m.inputs.items; passed = m.passed } };
+
+    ghost invariant = { λ m. IsWalk m.number m.schema m.inputs.items m.total m.passed m.place m.kept.items };
+}
+
+/// Keeps the row of the place, if it was live at the beginning, and adds where its source stands.
+fn pass_row(
+    alloc: Global,
+    inputs: &[Input],
+    place: Place,
+    kept: &mut Vec<KeptRow>,
+    ranges: &mut Vec<SourceRange>,
+) -> Result<(), AllocError>
+    requires { IsRowPlace inputs.now place }
+    ensures kept { OnOk result (kept.new.items ≡ kept.old.items ++ heads_at inputs.now place) }
+    ensures ranges { OnOk result ((files : ℕ → List ℕ) → flat_map (bytes_in files) ranges.new.items
+        ≡ flat_map (bytes_in files) ranges.old.items ++ source_at files inputs.now place) }
+    ensures front { take (length kept.old.items) kept.new.items ≡ kept.old.items }
+{
+    let input = &inputs[place.input];
+    if input.live().is_live(place.row) {
+        kept.push(KeptRow::of(alloc, input.segment(), place.row)?)?;
+        add_source(ranges, input.segment(), place.row)?;
+    }
+    Ok(())
+}
+
+/// Passes so many rows from the place on, and answers the place behind them and where the sources of those stand that it keeps.
+fn pass_rows(
+    alloc: Global,
+    inputs: &[Input],
+    from: Place,
+    count: usize,
+    kept: &mut Vec<KeptRow>,
+) -> Result<(Place, Vec<SourceRange>), AllocError>
+    requires inputs { AreInputs inputs.now }
+    requires place { IsPlace inputs.now from }
+    requires room { passed_at inputs.now from + count ≤ length (rows_of_all inputs.now) }
+    requires kept { kept.old.items ≡ map head_of (rows_kept inputs.now (passed_at inputs.now from)) }
+    ensures place { IfOk result (λ p. IsPlace inputs.now p.0) }
+    ensures passed { IfOk result (λ p. passed_at inputs.now p.0 ≡ passed_at inputs.now from + count) }
+    ensures kept { OnOk result (kept.new.items ≡ map head_of (rows_kept inputs.now (passed_at inputs.now from + count))) }
+    ensures ranges { IfOk result (λ p. (files : ℕ → List ℕ)
+        → joined_sources (records_kept files inputs.now (passed_at inputs.now from)) ++ flat_map (bytes_in files) p.1.items
+        ≡ joined_sources (records_kept files inputs.now (passed_at inputs.now from + count))) }
+    ensures front { take (length kept.old.items) kept.new.items ≡ kept.old.items }
+{
+    let mut place = from;
+    let mut ranges = Vec::new(alloc);
+    for _ in 0..count {
+        pass_row(alloc, inputs, place, kept, &mut ranges)?;
+        place = place.next(inputs);
+    }
+    Ok((place, ranges))
+}
+
+impl Merge {
+    /// Begins the merge of these segments into one under the number. It keeps the rows that are live now.
+    pub fn begin(
+        alloc: Global,
+        number: SegNo,
+        schema: &Schema,
+        inputs: Vec<Input>,
+    ) -> Result<Merge, AllocError>
+        requires { MayMerge number schema.now inputs.items }
+        ensures ok { IfOk result (λ m. m ≡ record { number = number; schema = schema.now; inputs = inputs.items; passed = 0 }) }
+    {
+        Ok(Merge {
+            number,
+            schema: schema.copy()?,
+            total: rows_in(&inputs),
+            inputs,
+            passed: 0,
+            place: Place::first(),
+            kept: Vec::new(alloc),
+        })
+    }
+
+    /// How many rows of the inputs are passed, dead ones too.
+    pub fn passed(&self) -> usize
+        ensures { result ≡ self.now.passed }
+    {
+        self.passed
+    }
+
+    /// How many rows are left to pass, dead ones too.
+    pub fn rows_left(&self) -> usize
+        ensures { result + self.now.passed ≡ length (rows_of_all self.now.inputs) }
+    {
+        self.total - self.passed
+    }
+
+    /// Passes as many rows more as one step may, or all that are left, dead ones counted, and answers where the texts stand that the items of
+    /// those came as that it keeps. An error leaves the merge as it was.
+    pub fn copy_step(&mut self, alloc: Global) -> Result<Vec<SourceRange>, AllocError>
+        ensures ok { OnOk result (self.new ≡ record self.old { passed = self.old.passed + min step_limit (length (rows_of_all self.old.inputs) - self.old.passed) }) }
+        ensures sources { IfOk result (λ ranges. (files : ℕ → List ℕ)
+            → joined_sources (records_kept files self.old.inputs self.old.passed) ++ flat_map (bytes_in files) ranges.items
+            ≡ joined_sources (records_kept files self.new.inputs self.new.passed)) }
+        ensures err { OnErr result (self.new ≡ self.old) }
+    {
+        let count = self.rows_left().min(MAX_STEP_ROWS);
+        let before = self.kept.len();
+        match pass_rows(alloc, &self.inputs, self.place, count, &mut self.kept) {
+            Ok((place, ranges)) => {
+                self.place = place;
+                self.passed += count;
+                Ok(ranges)
+            }
+            Err(refusal) => {
+                self.kept.truncate(before);
+                Err(refusal)
+            }
+        }
+    }
+
+    /// Which rows of the merged segment are live, where those of its inputs are that are live now.
+    pub fn settle(&self, alloc: Global, now: &[&Live]) -> Result<Live, AllocError>
+        requires { AreDeletedFrom self.now.inputs (with_live self.now.inputs (map (λ l. l.now) now.now)) }
+        ensures { IfOk result (λ l. l ≡ (merged_leaf self.now.number self.now.schema self.now.inputs
+            (with_live self.now.inputs (map (λ l. l.now) now.now))).live) }
+    {
+        settled(alloc, &self.inputs, now)
+    }
+}
