@@ -12,4 +12,5 @@ mod terms;
 
 pub use merge::MergeInput;
 pub use posted::terms_are_told_by_their_postings;
+pub use ranges::{is_from, is_up_to};
 pub use terms::Terms;

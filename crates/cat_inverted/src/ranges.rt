@@ -30,8 +30,15 @@ fn is_below(word: &Text, low: Option<&str>) -> bool
     }
 }
 
-/// Whether the word is at most the high end; each is where the end is open.
-fn is_up_to(word: &Text, high: Option<&Text>) -> bool
+/// Whether the text doesn't come before the low end of a range; none does where the end is open.
+pub fn is_from(text: &Text, low: Option<&Text>) -> bool
+    ensures { result ≡ is_from low.entry text.now }
+{
+    !is_below(text, as_str(low))
+}
+
+/// Whether the text is at most the high end of a range; each is where the end is open.
+pub fn is_up_to(word: &Text, high: Option<&Text>) -> bool
     ensures { result ≡ is_up_to high.entry word.now }
 {
     match high {

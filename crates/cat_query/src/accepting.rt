@@ -10,6 +10,7 @@ ghost use Rattle.cat_query.specs.Tests.{passes};
 
 use crate::query::{Clause, Primary, Query, Sign, Test};
 use cat_base::{Text, TextSet};
+use cat_inverted::{is_from, is_up_to};
 use cat_schema::{FieldValue, Item};
 
 impl Query {
@@ -105,7 +106,9 @@ fn keyword_accepts(test: &Test, keyword: &Text) -> bool
     match test {
         Test::Keyword(text) => text == keyword,
         Test::KeywordPrefix(prefix) => begins(prefix, keyword),
-        Test::KeywordRange(low, high) => is_from(low, keyword) && is_to(high, keyword),
+        Test::KeywordRange(low, high) => {
+            is_from(keyword, low.as_ref()) && is_up_to(keyword, high.as_ref())
+        }
         _ => false,
     }
 }
@@ -139,25 +142,8 @@ fn begins(prefix: &Text, text: &Text) -> bool
     text.as_str().as_bytes().starts_with(prefix)
 }
 
-fn is_from(low: &Option<Text>, text: &Text) -> bool
-    ensures { result ≡ open_or (λ a. text_le a text.now) low.now }
-{
-    match low {
-        Some(low) => low.cmp(text).is_le(),
-        None => true,
-    }
-}
-
-fn is_to(high: &Option<Text>, text: &Text) -> bool
-    ensures { result ≡ open_or (text_le text.now) high.now }
-{
-    match high {
-        Some(high) => text.cmp(high).is_le(),
-        None => true,
-    }
-}
-
-fn is_at_least(low: Option<i64>, number: i64) -> bool
+/// Whether the number is not below the low end of a range; none is where the end is open.
+pub fn is_at_least(low: Option<i64>, number: i64) -> bool
     ensures { result ≡ open_or (λ a. int_le a number) low }
 {
     match low {
@@ -166,7 +152,8 @@ fn is_at_least(low: Option<i64>, number: i64) -> bool
     }
 }
 
-fn is_at_most(high: Option<i64>, number: i64) -> bool
+/// Whether the number is at most the high end of a range; each is where the end is open.
+pub fn is_at_most(high: Option<i64>, number: i64) -> bool
     ensures { result ≡ open_or (int_le number) high }
 {
     match high {

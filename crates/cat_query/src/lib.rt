@@ -17,5 +17,6 @@ mod runs;
 mod scanning;
 mod values;
 
+pub use accepting::{is_at_least, is_at_most};
 pub use doc_set::DocSet;
 pub use query::Query;

@@ -1,6 +1,5 @@
 //! The rows of a column of numbers that a page needn't look at.
 ghost use Rattle.std.specs.Prelude.{◌≡◌, option_map};
-ghost use Rattle.cat_model.specs.Query.{open_or, int_le};
 ghost use Rattle.cat_search.specs.Bars.{lets_in, number_of, IsBarOf};
 ghost use Rattle.cat_search.specs.Keys.{key_ref_of};
 ghost use Rattle.cat_search.specs.Candidates.{mark_standing};
@@ -11,6 +10,7 @@ use crate::ends::Ends;
 use crate::keys::KeyRef;
 use crate::sort::Order;
 use crate::standings::Candidate;
+use cat_query::{is_at_least, is_at_most};
 use cat_values::NumberColumn;
 
 /// Between which numbers a row may come into the page, both included; an absent end is open.
@@ -32,26 +32,6 @@ fn number_of(key: Option<KeyRef>) -> Option<i64>
     match key {
         Some(KeyRef::Number(number)) => Some(number),
         _ => None,
-    }
-}
-
-/// Whether the number is not below the end.
-fn is_from(low: Option<i64>, number: i64) -> bool
-    ensures { result ≡ open_or (λ a. int_le a number) low }
-{
-    match low {
-        Some(low) => low <= number,
-        None => true,
-    }
-}
-
-/// Whether the number is not above the end.
-fn is_up_to(high: Option<i64>, number: i64) -> bool
-    ensures { result ≡ open_or (int_le number) high }
-{
-    match high {
-        Some(high) => number <= high,
-        None => true,
     }
 }
 
@@ -77,7 +57,7 @@ impl NumberBar {
         ensures { result ≡ lets_in self number }
     {
         match number {
-            Some(number) => is_from(self.low, number) && is_up_to(self.high, number),
+            Some(number) => is_at_least(self.low, number) && is_at_most(self.high, number),
             None => self.missing,
         }
     }
