@@ -136,7 +136,9 @@ impl Merge {
     /// Passes as many rows more as one step may, or all that are left, dead ones counted, and answers where the texts stand that the items of
     /// those came as that it keeps. An error leaves the merge as it was.
     pub fn copy_step(&mut self, alloc: Global) -> Result<Vec<SourceRange>, AllocError>
-        ensures ok { OnOk result (self.new ≡ record self.old { passed = self.old.passed + min step_limit (length (rows_of_all self.old.inputs) - self.old.passed) }) }
+        ensures ok { OnOk result (self.new ≡ record self.old {
+          passed = self.old.passed + min step_limit (length (rows_of_all self.old.inputs) - self.old.passed);
+        }) }
         ensures sources { IfOk result (λ ranges. (files : ℕ → List ℕ)
             → joined_sources (records_kept files self.old.inputs self.old.passed) ++ flat_map (bytes_in files) ranges.items
             ≡ joined_sources (records_kept files self.new.inputs self.new.passed)) }

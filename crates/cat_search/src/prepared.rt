@@ -102,7 +102,8 @@ impl Prepared {
     /// (Lucene: `Weight.bulkScorer` over a `LeafReaderContext`, with the leaf's `liveDocs`).
     pub fn hits(&self, alloc: Global, index: usize) -> Result<RowSet, AllocError>
         requires { index < length self.now.view.leaves }
-        ensures ok { IfOk result (λ s. HoldsAt (λ leaf. selected s leaf.segment.rows ≡ leaf_hits leaf (query_of self.now.query)) self.now.view.leaves index) }
+        ensures ok { IfOk result (λ s. HoldsAt (λ leaf. selected s leaf.segment.rows ≡ leaf_hits leaf (query_of self.now.query))
+            self.now.view.leaves index) }
         ensures long { IfOk result (λ s. HoldsAt (λ leaf. length s ≡ length leaf.segment.rows) self.now.view.leaves index) }
     {
         let leaf = &self.view.leaves()[index];

@@ -139,7 +139,11 @@ pub fn segment_of(
     puts: &[Put],
 ) -> Result<Segment, Refusal>
     requires { All (λ p. IsItem schema.now p.item) puts.now }
-    ensures ok { IfOk result (λ s. s ≡ record { number = number; schema = schema.now; rows = map (λ p. row_of (record { number = p.number; item = p.item })) puts.now }) }
+    ensures ok { IfOk result (λ s. s ≡ record {
+      number = number;
+      schema = schema.now;
+      rows = map (λ p. row_of (record { number = p.number; item = p.item })) puts.now;
+    }) }
     ensures few { OnOk result (length puts.now ≤ 262144) }
 {
     let rows = rows_of(alloc, puts)?;
