@@ -123,7 +123,7 @@ fronts_long (x ∷ inputs) (l ∷ lives) (suc i) each le =
     ∙ sym (length-append l (flat_map (λ l. l) (take i lives)))
 
 -- as many rows are live as there are in the live sets
-length-live_rows : (leaves : List Leaf) → All (λ leaf. length leaf.live ≡ length leaf.segment.rows) leaves → length (flat_map live_rows leaves) ≡ count_by (λ b. b) (live_of_all leaves)
+pub length-live_rows : (leaves : List Leaf) → All (λ leaf. length leaf.live ≡ length leaf.segment.rows) leaves → length (flat_map live_rows leaves) ≡ count_by (λ b. b) (live_of_all leaves)
 length-live_rows leaves full =
     ap length (sym (rows-live leaves full)) ∙ length-selected (live_of_all leaves) (rows_of_all leaves) (length-live_of_all leaves full)
 

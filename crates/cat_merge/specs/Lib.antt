@@ -1,4 +1,7 @@
+pub mod Coded
 pub mod Copied
+pub mod Fields
+pub mod Maps
 pub mod Merging
 pub mod Places
 pub mod Policy

@@ -1,8 +1,11 @@
 //! The segments that a merge takes.
-ghost use Rattle.std.specs.Prelude.{◌≡◌, length};
+ghost use Rattle.std.specs.Prelude.{◌≡◌, ◌<◌, length};
 ghost use Rattle.std.specs.Arc.{arc_value};
+ghost use Rattle.cat_segment.specs.Contents.{contents_of};
+ghost use Rattle.cat_segment.specs.Laid.{contents_under, kind_of};
+ghost use Rattle.cat_merge.specs.Fields.{kind_at};
 
-use cat_segment::{Live, Segment};
+use cat_segment::{Column, Live, Segment};
 use std::marker::Model;
 use std::sync::Arc;
 
@@ -48,5 +51,17 @@ impl Input {
         ensures long { length self.now.live ≡ length self.now.segment.rows }
     {
         &self.live
+    }
+
+    /// What its rows have in the field of this index.
+    pub(crate) fn column(&self, index: usize) -> &Column
+        requires { index < length self.now.segment.schema }
+        ensures contents { contents_of result.now ≡ contents_under index self.now.segment.rows }
+        ensures kind { kind_of result.now ≡ kind_at index self.now }
+        ensures live { length self.now.live ≡ length self.now.segment.rows }
+    {
+        // Its contract says what always holds of a segment.
+        let _rows = self.segment.len();
+        self.segment.column_at(index)
     }
 }

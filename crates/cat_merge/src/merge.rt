@@ -1,10 +1,11 @@
 //! The merge of segments in steps.
-ghost use Rattle.std.specs.Prelude.{◌≡◌, ◌+◌, ◌-◌, ◌++◌, ◌≤◌, ◌<◌, ◌^◌, ℕ, List, min, map, take, length, IfOk, OnOk, OnErr};
+ghost use Rattle.std.specs.Prelude.{◌≡◌, ◌+◌, ◌-◌, ◌++◌, ◌≤◌, ◌<◌, ◌^◌, ℕ, List, min, map, take, length, [], IfOk, OnOk, OnErr, MatchOption};
 ghost use Rattle.std.specs.List.{flat_map};
 ghost use Rattle.cat_model.specs.Layout.{head_of};
 ghost use Rattle.cat_model.specs.Limits.{step_limit};
 ghost use Rattle.cat_model.specs.Merged.{rows_of_all, rows_kept, records_kept, merged_leaf, AreDeletedFrom};
 ghost use Rattle.cat_merge.specs.Copied.{bytes_in, joined_sources};
+ghost use Rattle.cat_merge.specs.Fields.{kept_rows};
 ghost use Rattle.cat_merge.specs.Merging.{MayMerge, with_live};
 ghost use Rattle.cat_merge.specs.Places.{passed_at, IsPlace, IsRowPlace};
 ghost use Rattle.cat_merge.specs.Walk.{heads_at, source_at, AreInputs};
@@ -13,11 +14,12 @@ use crate::counting::rows_in;
 use crate::input::Input;
 use crate::place::Place;
 use crate::rows::KeptRow;
+use crate::sealing::sealed;
 use crate::settling::settled;
 use crate::sources::{SourceRange, add_source};
 use cat_base::{MAX_STEP_ROWS, SegNo};
 use cat_schema::Schema;
-use cat_segment::Live;
+use cat_segment::{Live, Segment};
 use std::alloc::{AllocError, Global};
 use std::marker::Model;
 
@@ -36,6 +38,7 @@ pub struct Merge {
 }
 
 impl Model for Merge {
+    ghost use Rattle.cat_merge.specs.Fields.{kept_rows};
     ghost use Rattle.cat_merge.specs.Merging.{Merging};
     ghost use Rattle.cat_merge.specs.Walk.{IsWalk};
 
@@ -166,5 +169,26 @@ impl Merge {
             (with_live self.now.inputs (map (λ l. l.now) now.now))).live) }
     {
         settled(alloc, &self.inputs, now)
+    }
+
+    /// The segment of the rows that were kept, once all are passed; none where none was. Whatever comes, the merge is over.
+    pub fn seal(self, alloc: Global) -> Result<Option<Segment>, AllocError>
+        requires { self.passed ≡ length (rows_of_all self.inputs) }
+        ensures ok { IfOk result (λ o. MatchOption o (kept_rows self.inputs ≡ [])
+            (λ s. s ≡ (merged_leaf self.number self.schema self.inputs self.inputs).segment)) }
+    {
+        if self.kept.is_empty() {
+            return Ok(None);
+        }
+        let Merge {
+            number,
+            schema,
+            inputs,
+            total: _,
+            passed: _,
+            place: _,
+            kept,
+        } = self;
+        Ok(Some(sealed(alloc, number, schema, &inputs, kept)?))
     }
 }

@@ -36,4 +36,25 @@ impl KeptRow {
             length: segment.source_length(row),
         })
     }
+
+    /// The number of the write.
+    pub(crate) fn number(&self) -> WriteNo
+        ensures { result ≡ self.now.number }
+    {
+        self.number
+    }
+
+    /// The id.
+    pub(crate) fn id(&self) -> &Text
+        ensures { result.now ≡ self.now.id }
+    {
+        &self.id
+    }
+
+    /// The length of the text that the item came as.
+    pub(crate) fn length(&self) -> u32
+        ensures { result ≡ self.now.length }
+    {
+        self.length
+    }
 }

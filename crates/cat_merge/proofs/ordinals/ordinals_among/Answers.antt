@@ -1,0 +1,22 @@
+use Rattle.std.proofs.Common.{◌≡◌, ◌+◌, ◌<◌, ◌^◌, ◌++◌, ◌∷◌, [], List, ℕ, length, take, get_or, sym, ap, ap₂, ◌∙◌, subst, arith}
+use Rattle.std.proofs.lemmas.List.{take_more}
+use Rattle.std.proofs.lemmas.List.Elements.{All-push}
+use Rattle.std.specs.Prelude.{All}
+use Rattle.cat_model.specs.Text.{Text}
+use Rattle.cat_merge.specs.Coded.{AreOrdinalsAmong}
+use Rattle.cat_merge.proofs.Recoded.{ordinal_is, ordinal_fits, ordinals_more}
+use Rattle.cat_merge.proofs.ordinals.ordinals_among.Goals as goal
+
+pub loop-text-preserved : goal.loop-text-preserved
+loop-text-preserved c =
+    let front : take (c.loop-text.text-index + 1) c.args.texts.now ≡ take c.loop-text.text-index c.args.texts.now ++ c.text-item.result ∷ []
+    = take_more c.args.texts.now c.loop-text.text-index c.text-item.result c.loop-text-test.true ∙ ap (λ t. take c.loop-text.text-index c.args.texts.now ++ t ∷ []) (sym c.text-item.is) in
+    record {
+      ordinals = subst (λ (l : List ℕ). AreOrdinalsAmong c.args.words.now (take (c.loop-text.text-index + 1) c.args.texts.now) l) (sym c.in_ok-push.ensures.items)
+          (subst (λ (l : List Text). AreOrdinalsAmong c.args.words.now l (c.loop-text.ordinals.items ++ c.unwrap_or.result ∷ [])) (sym front)
+          (ordinals_more c.args.words.now (take c.loop-text.text-index c.args.texts.now) c.text-item.result c.loop-text.ordinals.items c.unwrap_or.result c.loop-text.invariant.ordinals
+          (ordinal_is c.args.words.now c.text-item.result c.ordinal_of.result c.unwrap_or.result c.requires.sorted c.ordinal_of.ensures c.unwrap_or.ensures)));
+      bound = subst (λ (l : List ℕ). All (λ o. o + 1 < 2 ^ 32) l) (sym c.in_ok-push.ensures.items)
+          (All-push (λ o. o + 1 < 2 ^ 32) c.loop-text.ordinals.items c.unwrap_or.result c.loop-text.invariant.bound
+          (ordinal_fits c.args.words.now c.text-item.result c.ordinal_of.result c.unwrap_or.result c.ordinal_of.ensures c.unwrap_or.ensures c.requires.few));
+    }

@@ -1,0 +1,40 @@
+use Rattle.std.proofs.Common.{◌≡◌, ◌<◌, ◌≤◌, List, length, map, sym, ap, ap₂, ◌∙◌, subst, arith}
+use Rattle.std.proofs.lemmas.List.{length-map}
+use Rattle.cat_codec.specs.declared.parts.ColumnParts.{ColumnParts}
+use Rattle.cat_codec.specs.declared.parts.ColumnParts.TheVariants as column
+use Rattle.cat_codec.specs.Parts.{heads_in}
+use Rattle.cat_model.specs.Item.{Schema}
+use Rattle.cat_model.specs.Layout.{head_of}
+use Rattle.cat_merge.specs.Fields.{kept_rows, AreMergedColumns}
+use Rattle.cat_merge.proofs.Passed.{live_few}
+use Rattle.cat_merge.proofs.Sealed.{each_cut, fits, is_merged}
+use Rattle.cat_merge.proofs.sealing.sealed.Goals as goal
+
+pub row_maps-requires-clause-few : goal.row_maps-requires-clause-few
+row_maps-requires-clause-few c = omega (arith, live_few c.args.inputs.now, c.requires.may.few)
+
+pub merged_columns-requires-clause-few : goal.merged_columns-requires-clause-few
+merged_columns-requires-clause-few c =
+    omega (arith, live_few c.args.inputs.now, c.requires.may.few, c.len.ensures, c.args.kept.ok.0, ap length c.requires.kept, length-map (kept_rows c.args.inputs.now) head_of)
+
+pub assemble-requires-clause-parts : goal.assemble-requires-clause-parts
+assemble-requires-clause-parts c = record {
+  ids = c.in_ok-numbers.ensures.ids;
+  lengths = c.in_ok-numbers.ensures.lengths;
+  columns = each_cut c.args.schema (kept_rows c.args.inputs.now) c.in_ok-columns.columns.items
+      (subst (λ (fs : Schema). AreMergedColumns fs (kept_rows c.args.inputs.now) c.in_ok-columns.columns.items) c.fields.ensures.value c.in_ok-columns.ensures.ok);
+}
+
+pub assemble-requires-clause-layout : goal.assemble-requires-clause-layout
+assemble-requires-clause-layout c =
+    fits c.args.number c.args.schema c.args.inputs.now c.requires.may c.requires.inputs c.requires.some (column.Keyword c.in_ok-numbers.ids c.in_ok-numbers.lengths) c.in_ok-columns.columns.items
+    (subst (λ (fs : Schema). AreMergedColumns fs (kept_rows c.args.inputs.now) c.in_ok-columns.columns.items) c.fields.ensures.value c.in_ok-columns.ensures.ok)
+    (heads_in c.in_ok-numbers.numbers.items c.in_ok-numbers.ids.items c.in_ok-numbers.lengths.items) (c.in_ok-numbers.ensures.heads ∙ c.deref-2.ensures.value ∙ c.requires.kept)
+
+pub returns-in-Ok : goal.returns-in-Ok
+returns-in-Ok c = record {
+  ok = is_merged c.args.number c.args.schema c.args.inputs.now c.requires.may c.requires.inputs c.requires.some (column.Keyword c.in_ok-numbers.ids c.in_ok-numbers.lengths) c.in_ok-columns.columns.items
+      (subst (λ (fs : Schema). AreMergedColumns fs (kept_rows c.args.inputs.now) c.in_ok-columns.columns.items) c.fields.ensures.value c.in_ok-columns.ensures.ok)
+      (heads_in c.in_ok-numbers.numbers.items c.in_ok-numbers.ids.items c.in_ok-numbers.lengths.items) (c.in_ok-numbers.ensures.heads ∙ c.deref-2.ensures.value ∙ c.requires.kept)
+      c.in-Ok.segment c.in-Ok.ensures.ok.0 c.in-Ok.ensures.ok.1;
+}

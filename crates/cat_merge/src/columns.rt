@@ -1,0 +1,68 @@
+//! The columns of a merged segment.
+ghost use Rattle.std.specs.Prelude.{◌≡◌, ◌<◌, ◌^◌, map, length, All, IfOk};
+ghost use Rattle.cat_schema.specs.Kinds.{field_kind_of};
+ghost use Rattle.cat_merge.specs.Fields.{kept_rows, HasField, IsMergedColumn, AreMergedColumns};
+ghost use Rattle.cat_merge.specs.Maps.{codes_of};
+ghost use Rattle.cat_merge.specs.Walk.{AreInputs};
+
+use crate::input::Input;
+use crate::keyword_column::keyword_column;
+use crate::label_column::label_column;
+use crate::merged_terms::merged_terms;
+use crate::number_column::number_column;
+use crate::word_column::word_column;
+use cat_codec::ColumnParts;
+use cat_schema::{Field, Kind};
+use std::alloc::{AllocError, Global};
+
+/// The column of the field of this index, which is of this kind.
+pub(crate) fn merged_column(
+    alloc: Global,
+    inputs: &[Input],
+    maps: &[Vec<u32>],
+    kind: Kind,
+    index: usize,
+    rows: usize,
+) -> Result<ColumnParts, AllocError>
+    requires inputs { AreInputs inputs.now }
+    requires few { rows < 2 ^ 32 }
+    requires rows { rows ≡ length (kept_rows inputs.now) }
+    requires fields { All (HasField (field_kind_of kind) index) inputs.now }
+    requires maps { map (λ m. m.items) maps.now ≡ codes_of 0 inputs.now }
+    ensures { IfOk result (IsMergedColumn (field_kind_of kind) index (kept_rows inputs.now)) }
+{
+    match kind {
+        Kind::Number => number_column(alloc, inputs, index, rows),
+        Kind::Text => word_column(alloc, &merged_terms(alloc, inputs, maps, index, rows)?),
+        Kind::Keyword => {
+            let terms = merged_terms(alloc, inputs, maps, index, rows)?;
+            keyword_column(alloc, inputs, index, &terms)
+        }
+        Kind::Facet => {
+            let terms = merged_terms(alloc, inputs, maps, index, rows)?;
+            label_column(alloc, inputs, index, &terms)
+        }
+    }
+}
+
+/// The columns of the fields, in the fields' order.
+pub(crate) fn merged_columns(
+    alloc: Global,
+    fields: &[Field],
+    inputs: &[Input],
+    maps: &[Vec<u32>],
+    rows: usize,
+) -> Result<Vec<ColumnParts>, AllocError>
+    requires inputs { AreInputs inputs.now }
+    requires few { rows < 2 ^ 32 }
+    requires rows { rows ≡ length (kept_rows inputs.now) }
+    requires fields { All (λ leaf. leaf.segment.schema ≡ fields.now) inputs.now }
+    requires maps { map (λ m. m.items) maps.now ≡ codes_of 0 inputs.now }
+    ensures ok { IfOk result (λ v. AreMergedColumns fields.now (kept_rows inputs.now) v.items) }
+{
+    let mut columns = Vec::with_capacity(alloc, fields.len())?;
+    for (index, field) in fields.iter().enumerate() {
+        columns.push(merged_column(alloc, inputs, maps, field.kind(), index, rows)?)?;
+    }
+    Ok(columns)
+}

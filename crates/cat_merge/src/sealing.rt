@@ -1,0 +1,68 @@
+//! The segment that a merge makes of the rows that it kept.
+ghost use Rattle.std.specs.Prelude.{◌≡◌, ◌≢◌, ◌<◌, [], map, length, IfOk};
+ghost use Rattle.cat_codec.specs.Parts.{heads_in};
+ghost use Rattle.cat_model.specs.Layout.{head_of};
+ghost use Rattle.cat_merge.specs.Fields.{kept_rows};
+ghost use Rattle.cat_merge.specs.Merging.{MayMerge};
+ghost use Rattle.cat_merge.specs.Walk.{AreInputs};
+
+use crate::columns::merged_columns;
+use crate::input::Input;
+use crate::row_maps::row_maps;
+use crate::rows::KeptRow;
+use cat_base::{SegNo, Text, WriteNo};
+use cat_codec::SegmentParts;
+use cat_schema::Schema;
+use cat_segment::{Segment, assemble};
+use std::alloc::{AllocError, Global};
+
+/// The numbers of the writes that put the rows, the rows' ids, and the lengths of their sources.
+fn unzipped(
+    alloc: Global,
+    kept: &[KeptRow],
+) -> Result<(Vec<WriteNo>, Vec<Text>, Vec<u32>), AllocError>
+    ensures heads { IfOk result (λ p. heads_in p.0.items p.1.items p.2.items ≡ kept.now) }
+    ensures ids { IfOk result (λ p. length p.1.items ≡ length p.0.items) }
+    ensures lengths { IfOk result (λ p. length p.2.items ≡ length p.0.items) }
+{
+    let mut numbers = Vec::with_capacity(alloc, kept.len())?;
+    let mut ids = Vec::with_capacity(alloc, kept.len())?;
+    let mut lengths = Vec::with_capacity(alloc, kept.len())?;
+    for row in kept {
+        numbers.push(row.number())?;
+        ids.push(row.id().copy()?)?;
+        lengths.push(row.length())?;
+    }
+    Ok((numbers, ids, lengths))
+}
+
+/// The segment of the kept rows, of which there is one at least.
+pub(crate) fn sealed(
+    alloc: Global,
+    number: SegNo,
+    schema: Schema,
+    inputs: &[Input],
+    kept: Vec<KeptRow>,
+) -> Result<Segment, AllocError>
+    requires may { MayMerge number schema inputs.now }
+    requires inputs { AreInputs inputs.now }
+    requires kept { kept.items ≡ map head_of (kept_rows inputs.now) }
+    requires some { kept_rows inputs.now ≢ [] }
+    ensures ok { IfOk result (λ s. s ≡ record { number = number; schema = schema; rows = kept_rows inputs.now }) }
+{
+    let maps = row_maps(alloc, inputs)?;
+    let columns = merged_columns(alloc, schema.fields(), inputs, &maps, kept.len())?;
+    let (numbers, ids, lengths) = unzipped(alloc, &kept)?;
+    let parts = SegmentParts {
+        number,
+        schema,
+        numbers,
+        ids,
+        lengths,
+        columns,
+    };
+    match assemble(alloc, parts) {
+        Ok(segment) => Ok(segment),
+        Err(_) => Err(AllocError),
+    }
+}
