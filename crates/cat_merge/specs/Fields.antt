@@ -57,4 +57,5 @@ texts_at index leaf = texts_under (kind_at index leaf) index leaf.segment.rows
 -- one for each field, in the fields' order
 pub record AreMergedColumns (schema : Schema) (rows : List Row) (parts : List ColumnParts) : Type 0 where
   pub many : length parts ≡ length schema
-  pub each : (index : ℕ) (f : Field) (p : ColumnParts) → index < length schema → IsMergedColumn (slice_index_or schema index f).kind index rows (slice_index_or parts index p)
+  pub each : (index : ℕ) (f : Field) (p : ColumnParts) → index < length schema
+      → IsMergedColumn (slice_index_or schema index f).kind index rows (slice_index_or parts index p)
