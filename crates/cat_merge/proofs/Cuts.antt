@@ -1,5 +1,5 @@
 -- Lists behind one another, with one more.
-use Rattle.std.proofs.Common.{◌≡◌, ℕ, suc, ◌+◌, ◌-◌, ◌<◌, ◌≤◌, ◌^◌, true, false, List, [], ◌∷◌, ◌++◌, length, take, drop, refl, sym, ap, ap₂, ◌∙◌, subst, arith}
+use Rattle.std.proofs.Common.{◌≡◌, ℕ, suc, ◌-◌, ◌<◌, ◌≤◌, ◌^◌, true, false, List, [], ◌∷◌, ◌++◌, length, take, drop, refl, sym, ap, ap₂, ◌∙◌, subst, arith}
 use Rattle.std.proofs.lemmas.List.{take-append-le, drop-append-le, drop_at, take_at, take_all, length-append, length-drop}
 use Rattle.std.specs.Prelude.{Result, Ok, Err, OnOk, OnErr, IsOk, is_ok, if◌then◌else◌}
 use Rattle.cat_model.specs.Layout.{pieces, AreEnds}

@@ -1,11 +1,11 @@
 -- What the columns of inputs say of their rows, and of the rows that are kept.
-use Rattle.std.proofs.Common.{◌≡◌, ◌≢◌, ◌<◌, ◌≤◌, ◌^◌, ℕ, ℤ, zero, suc, ◌+◌, Bool, true, false, List, [], ◌∷◌, ◌++◌, length, map, take, get_or, Option, Some, None, refl, sym, ap, ap₂, ◌∙◌, subst, arith}
+use Rattle.std.proofs.Common.{◌≡◌, ◌<◌, ◌≤◌, ◌^◌, ℕ, zero, suc, ◌+◌, Bool, true, false, List, [], ◌∷◌, ◌++◌, length, map, take, get_or, Option, Some, None, refl, sym, ap, ap₂, ◌∙◌, subst, arith}
 use Rattle.std.specs.Prelude.{All, if◌then◌else◌}
 use Rattle.std.specs.List.{flat_map, HoldsAt}
 use Rattle.std.proofs.lemmas.List.{map-append, append_assoc, append-nil, take_all, length-append, length-map, get_or_append_left, get_or-append-add}
 use Rattle.std.proofs.lemmas.Simd.{map-map}
-use Rattle.cat_model.specs.Item.{Content, Field, Kind, words_in, keyword_in, number_in, labels_in}
-use Rattle.cat_model.specs.Layout.{Laid, keywords_of, code_in, ordinal_in, word_postings_of}
+use Rattle.cat_model.specs.Item.{Content, Field, Kind, words_in, keyword_in}
+use Rattle.cat_model.specs.Layout.{Laid, word_postings_of}
 use Rattle.cat_model.specs.Ordinals.{dictionary_of, texts_of}
 use Rattle.cat_model.specs.RowSets.{has_row}
 use Rattle.cat_model.specs.Text.{Text}
@@ -13,13 +13,13 @@ use Rattle.cat_model.specs.View.{Row, Leaf, Segment, IsSegment, selected}
 use Rattle.cat_model.proofs.Sources.{selected-map}
 use Rattle.cat_segment.proofs.Placed.{contents_named}
 use Rattle.cat_segment.specs.Contents.{contents_of, contents_told, contents_under_name}
-use Rattle.cat_segment.specs.Laid.{content_under, contents_under, laid_out}
+use Rattle.cat_segment.specs.Laid.{content_under, contents_under}
 use Rattle.cat_segment.specs.declared.column.Column.{Column}
 use Rattle.cat_merge.proofs.Passed.{selected_more, flat_more}
 use Rattle.std.specs.Prelude.{Result, Ok, Err, IfOk}
 use Rattle.cat_codec.specs.Parts.{column_in, IsColumnParts}
 use Rattle.cat_codec.specs.declared.parts.ColumnParts.{ColumnParts}
-use Rattle.cat_merge.specs.Fields.{IsMergedColumn, texts_read, texts_under, keywords_under, numbers_under, labels_under, texts_at, kept_rows, HasField}
+use Rattle.cat_merge.specs.Fields.{IsMergedColumn, texts_read, texts_under, keywords_under, texts_at, kept_rows, HasField}
 
 no_field : Field
 no_field = record { name = []; kind = Kind.text }

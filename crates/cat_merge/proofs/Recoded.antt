@@ -1,14 +1,13 @@
 -- Codes and ordinals of texts in another dictionary.
-use Rattle.std.proofs.Common.{◌≡◌, ◌<◌, ◌≤◌, ◌^◌, ℕ, zero, suc, ◌+◌, List, [], ◌∷◌, ◌++◌, length, map, get_or, Option, Some, None, refl, sym, ap, ap₂, ◌∙◌, subst, arith, inl, inr}
+use Rattle.std.proofs.Common.{◌≡◌, ◌<◌, ◌≤◌, ◌^◌, ℕ, suc, ◌+◌, List, [], ◌∷◌, ◌++◌, length, map, get_or, Option, Some, None, refl, sym, ap, ap₂, ◌∙◌, subst, arith, inl, inr}
 use Rattle.std.specs.Prelude.{All, Contains, slice_index, unwrap_or}
 use Rattle.std.proofs.lemmas.List.{get_or-map, length-map, length-append, get_or_append_left, get_or_at}
 use Rattle.std.proofs.lemmas.Bool.{cases_lt}
 use Rattle.cat_base.specs.Texts.{IsTextSet}
 use Rattle.cat_model.specs.Layout.{code_in, ordinal_in, keywords_of}
-use Rattle.cat_model.specs.Ordinals.{dictionary_of, text_at, texts_of, IsOrdinal}
+use Rattle.cat_model.specs.Ordinals.{text_at, IsOrdinal}
 use Rattle.cat_model.specs.Text.{Text}
 use Rattle.cat_values.specs.Columns.{HasText}
-use Rattle.cat_values.proofs.Laid.{keywords_there}
 use Rattle.cat_values.proofs.Ordinals.{ordinal_back, ordinal_within, text_back}
 use Rattle.cat_merge.specs.Coded.{moved_code, AreOrdinalsAmong}
 

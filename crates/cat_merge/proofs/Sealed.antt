@@ -1,7 +1,7 @@
 -- The segment of the rows that a merge keeps, and how it is laid out.
-use Rattle.std.proofs.Common.{◌≡◌, ◌≢◌, ◌<◌, ◌≤◌, ◌^◌, ℕ, zero, suc, ◌+◌, Bool, true, false, List, [], ◌∷◌, ◌++◌, length, map, get_or, Some, refl, sym, ap, ap₂, ◌∙◌, subst, arith, inl, inr}
+use Rattle.std.proofs.Common.{◌≡◌, ◌≢◌, ◌<◌, ◌≤◌, ◌^◌, ℕ, suc, ◌+◌, Bool, true, false, List, [], ◌∷◌, ◌++◌, length, map, get_or, Some, refl, sym, ap, ap₂, ◌∙◌, subst, arith, inl, inr}
 use Rattle.std.specs.Prelude.{All}
-use Rattle.std.specs.List.{flat_map, AllPairs}
+use Rattle.std.specs.List.{AllPairs}
 use Rattle.std.proofs.lemmas.List.{length-map, get_or-map, same_lists, get_or_append_left, get_or_at, get_or_default, take_all}
 use Rattle.std.proofs.lemmas.List.Elements.{All-append, All-cons, All-map}
 use Rattle.std.proofs.lemmas.List.Kept.{AllPairs-cons}
@@ -9,7 +9,7 @@ use Rattle.cat_codec.specs.Parts.{column_in, heads_in, IsColumnParts}
 use Rattle.cat_codec.specs.declared.parts.ColumnParts.{ColumnParts}
 use Rattle.cat_inverted.proofs.Told as terms
 use Rattle.cat_model.specs.Item.{Content, Field, Kind, Schema, IsContent, AreFields, IsSchema, words_in}
-use Rattle.cat_model.specs.Layout.{Laid, Head, column_of, head_of, layout_of, IsLayout}
+use Rattle.cat_model.specs.Layout.{Head, column_of, head_of, layout_of, IsLayout}
 use Rattle.cat_model.specs.Ordinals.{dictionary_of}
 use Rattle.cat_model.specs.Text.{Text}
 use Rattle.std.proofs.lemmas.Bool.{cases_lt}
@@ -19,7 +19,7 @@ use Rattle.cat_segment.proofs.Formed.{seen, length-dictionary}
 use Rattle.cat_segment.proofs.Layouts.{AreTold, column_placed, segment_told, IsLayout-of}
 use Rattle.cat_segment.proofs.Placed.{AreContents-of}
 use Rattle.cat_segment.proofs.Worded.{words_few, words_under}
-use Rattle.cat_segment.specs.Laid.{contents_under, laid_out}
+use Rattle.cat_segment.specs.Laid.{contents_under}
 use Rattle.cat_values.proofs.Told as columns
 use Rattle.cat_merge.proofs.Passed.{rows-live, live_few, length-live_of_all}
 use Rattle.cat_merge.proofs.Read.{read_seen}

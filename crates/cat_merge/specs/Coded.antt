@@ -1,5 +1,5 @@
 -- Texts by their ordinals in another dictionary.
-use Rattle.std.specs.Prelude.{◌≡◌, ◌<◌, ℕ, zero, suc, List, [], length, slice_index, Contains}
+use Rattle.std.specs.Prelude.{◌≡◌, ◌<◌, ℕ, zero, suc, List, length, slice_index, Contains}
 use Rattle.cat_model.specs.Layout.{ordinal_in}
 use Rattle.cat_model.specs.Ordinals.{text_at}
 use Rattle.cat_model.specs.Text.{Text}

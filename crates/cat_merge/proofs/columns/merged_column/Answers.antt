@@ -1,4 +1,4 @@
-use Rattle.std.proofs.Common.{◌≡◌, ap, subst}
+use Rattle.std.proofs.Common.{ap, subst}
 use Rattle.std.specs.Prelude.{All}
 use Rattle.cat_model.specs.Item.{Kind}
 use Rattle.cat_schema.specs.Kinds.{field_kind_of}

@@ -1,7 +1,7 @@
-use Rattle.std.proofs.Common.{◌≡◌, ◌<◌, ◌+◌, ◌++◌, ◌∷◌, [], List, ℕ, length, get_or, sym, ap, ◌∙◌, subst, arith}
+use Rattle.std.proofs.Common.{◌<◌, ◌+◌, List, ℕ, length, get_or, sym, ap, ◌∙◌, subst, arith}
 use Rattle.std.proofs.lemmas.List.{length_push}
 use Rattle.cat_codec.specs.declared.parts.ColumnParts.{ColumnParts}
-use Rattle.cat_model.specs.Item.{Field, Kind}
+use Rattle.cat_model.specs.Item.{Field}
 use Rattle.cat_schema.specs.Kinds.{field_kind_of}
 use Rattle.cat_merge.specs.Fields.{kept_rows, IsMergedColumn}
 use Rattle.cat_merge.proofs.Sealed.{columns_more}

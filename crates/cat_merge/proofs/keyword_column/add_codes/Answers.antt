@@ -1,5 +1,5 @@
-use Rattle.std.proofs.Common.{◌≡◌, ◌≤◌, ◌<◌, ◌++◌, ◌∷◌, [], List, ℕ, length, map, take, get_or, None, sym, ap, ◌∙◌, arith}
-use Rattle.cat_model.specs.Layout.{code_in, keywords_of}
+use Rattle.std.proofs.Common.{◌++◌, ◌∷◌, [], ℕ, get_or, None, sym, ap, ◌∙◌, arith}
+use Rattle.cat_model.specs.Layout.{code_in}
 use Rattle.cat_merge.specs.Coded.{moved_code}
 use Rattle.cat_values.specs.Columns.{HasText}
 use Rattle.cat_values.proofs.Laid.{keywords_there}

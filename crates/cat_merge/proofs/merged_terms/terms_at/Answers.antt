@@ -1,4 +1,3 @@
-use Rattle.std.proofs.Common.{◌≡◌}
 use Rattle.cat_segment.specs.Contents.{contents_of}
 use Rattle.cat_segment.specs.Laid.{kind_of}
 use Rattle.cat_merge.specs.Fields.{kind_at}

@@ -1,4 +1,4 @@
-use Rattle.std.proofs.Common.{◌≡◌, map, sym, ap, ◌∙◌}
+use Rattle.std.proofs.Common.{map, sym, ap, ◌∙◌}
 use Rattle.cat_segment.specs.Contents.{contents_of}
 use Rattle.cat_segment.specs.Laid.{kind_of}
 use Rattle.cat_merge.specs.Fields.{texts_read}

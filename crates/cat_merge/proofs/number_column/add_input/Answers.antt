@@ -1,4 +1,4 @@
-use Rattle.std.proofs.Common.{◌≡◌, ◌++◌, Some, refl, sym, ap, ap₂, ◌∙◌}
+use Rattle.std.proofs.Common.{◌≡◌, ◌++◌, refl, sym, ap, ap₂, ◌∙◌}
 use Rattle.cat_model.specs.Item.{Content, number_in}
 use Rattle.cat_model.specs.View.{selected}
 use Rattle.cat_segment.specs.Contents.{contents_of}

@@ -1,6 +1,4 @@
-use Rattle.std.proofs.Common.{◌≡◌, ◌+◌, ◌<◌, length, take, arith, true, false, sym, ap, ◌∙◌}
-use Rattle.std.proofs.lemmas.List.{take_all}
-use Rattle.cat_merge.specs.Maps.{codes_from}
+use Rattle.std.proofs.Common.{arith, true, false, sym, ap, ◌∙◌}
 use Rattle.cat_merge.proofs.Codes.{coded, counted}
 use Rattle.cat_merge.proofs.row_maps.row_map.Goals as goal
 use Rattle.cat_merge.proofs.row_maps.row_map.Goals.{then-is_live+in_ok-push, else-is_live+in_ok-push-2}

@@ -1,4 +1,4 @@
-use Rattle.std.proofs.Common.{◌≡◌, ◌+◌, ◌<◌, ◌≤◌, length, map, take, arith, sym, ap, ◌∙◌}
+use Rattle.std.proofs.Common.{◌+◌, map, arith, ap, ◌∙◌}
 use Rattle.std.proofs.lemmas.List.{map_push, take_all}
 use Rattle.cat_merge.specs.Maps.{codes_of}
 use Rattle.cat_merge.proofs.Codes.{maps_more, counts_more, counts_fit, length-codes_of}

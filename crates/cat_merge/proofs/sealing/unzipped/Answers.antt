@@ -1,4 +1,4 @@
-use Rattle.std.proofs.Common.{◌≡◌, ◌+◌, ◌++◌, ◌∷◌, [], List, ℕ, length, take, sym, ap, ap₂, ◌∙◌, arith}
+use Rattle.std.proofs.Common.{◌≡◌, ◌+◌, ◌++◌, ◌∷◌, [], List, ℕ, length, sym, ap, ap₂, ◌∙◌}
 use Rattle.std.proofs.lemmas.List.{length_push, take_more}
 use Rattle.cat_codec.specs.Parts.{heads_in}
 use Rattle.cat_model.specs.Layout.{Head}

@@ -1,4 +1,4 @@
-use Rattle.std.proofs.Common.{◌≡◌, ◌++◌, ◌∷◌, [], ◌<◌, List, ℕ, length, map, take, get_or, ap, ap₂, sym, ◌∙◌, arith}
+use Rattle.std.proofs.Common.{◌++◌, ◌∷◌, [], ◌<◌, List, ℕ, length, ap, ap₂, sym, ◌∙◌, arith}
 use Rattle.std.proofs.lemmas.List.{map_more}
 use Rattle.cat_model.specs.Ordinals.{dictionary_of, postings_of}
 use Rattle.cat_merge.proofs.word_column.postings.Goals as goal

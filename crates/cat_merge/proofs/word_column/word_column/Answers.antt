@@ -1,7 +1,7 @@
-use Rattle.std.proofs.Common.{◌≡◌, length, map, ap, ap₂, sym, ◌∙◌, arith}
+use Rattle.std.proofs.Common.{length, ap, ap₂, sym, ◌∙◌}
 use Rattle.std.proofs.lemmas.List.{length-map}
 use Rattle.cat_inverted.proofs.Told.{posted_is}
-use Rattle.cat_model.specs.Layout.{Laid, pieces, paired_postings}
+use Rattle.cat_model.specs.Layout.{Laid, paired_postings}
 use Rattle.cat_model.specs.Ordinals.{dictionary_of, postings_of}
 use Rattle.cat_merge.proofs.Cuts.{length-pieces}
 use Rattle.cat_merge.proofs.word_column.word_column.Goals as goal

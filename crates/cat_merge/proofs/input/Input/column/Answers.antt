@@ -1,8 +1,7 @@
-use Rattle.std.proofs.Common.{◌≡◌, ◌<◌, length, subst, sym, ap, ◌∙◌}
+use Rattle.std.proofs.Common.{◌≡◌, subst, ap, ◌∙◌}
 use Rattle.std.specs.List.{HoldsAt}
-use Rattle.cat_model.specs.View.{Segment, IsSegment}
-use Rattle.cat_segment.specs.Contents.{contents_of, contents_told, contents_under_name}
-use Rattle.cat_segment.specs.Laid.{contents_under}
+use Rattle.cat_model.specs.View.{IsSegment}
+use Rattle.cat_segment.specs.Contents.{contents_told, contents_under_name}
 use Rattle.cat_merge.proofs.Read.{told_contents}
 use Rattle.cat_merge.proofs.input.Input.column.Goals as goal
 

@@ -1,4 +1,4 @@
-use Rattle.std.proofs.Common.{◌≡◌, List, [], ◌∷◌, ◌++◌, map, ap, sym, ◌∙◌}
+use Rattle.std.proofs.Common.{◌≡◌, [], ◌∷◌, ◌++◌, ap, ◌∙◌}
 use Rattle.cat_model.specs.Layout.{pieces}
 use Rattle.cat_merge.proofs.Cuts.{list_settled, on_ok, extended}
 use Rattle.cat_merge.proofs.lists.Lists.push.Goals as goal

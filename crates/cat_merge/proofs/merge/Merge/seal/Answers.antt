@@ -1,7 +1,7 @@
-use Rattle.std.proofs.Common.{◌≡◌, ◌<◌, ◌≤◌, ℕ, zero, suc, List, [], length, map, true, false, sym, ap, ◌∙◌, subst, arith}
+use Rattle.std.proofs.Common.{◌≡◌, ℕ, List, [], length, map, true, false, sym, ap, ◌∙◌, arith}
 use Rattle.std.specs.Prelude.{◌==◌}
 use Rattle.std.proofs.lemmas.Bool.Decides.{nat_tests}
-use Rattle.cat_model.specs.Layout.{Head, head_of}
+use Rattle.cat_model.specs.Layout.{head_of}
 use Rattle.cat_model.specs.Merged.{rows_of_all}
 use Rattle.cat_model.specs.View.{Leaf}
 use Rattle.cat_merge.specs.Fields.{kept_rows}
