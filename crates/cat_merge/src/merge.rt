@@ -1,5 +1,5 @@
 //! The merge of segments in steps.
-ghost use Rattle.std.specs.Prelude.{◌≡◌, ◌+◌, ◌-◌, ◌++◌, ◌≤◌, ◌<◌, ◌^◌, ℕ, List, min, map, take, length, [], IfOk, OnOk, OnErr, MatchOption};
+ghost use Rattle.std.specs.Prelude.{◌≡◌, ◌≢◌, ◌+◌, ◌-◌, ◌++◌, ◌≤◌, ◌<◌, ◌^◌, ℕ, List, min, map, take, length, [], IfOk, OnOk, OnErr, MatchOption};
 ghost use Rattle.std.specs.List.{flat_map};
 ghost use Rattle.cat_model.specs.Layout.{head_of};
 ghost use Rattle.cat_model.specs.Limits.{step_limit};
@@ -175,7 +175,7 @@ impl Merge {
     pub fn seal(self, alloc: Global) -> Result<Option<Segment>, AllocError>
         requires { self.passed ≡ length (rows_of_all self.inputs) }
         ensures ok { IfOk result (λ o. MatchOption o (kept_rows self.inputs ≡ [])
-            (λ s. s ≡ (merged_leaf self.number self.schema self.inputs self.inputs).segment)) }
+            (λ s. (kept_rows self.inputs ≢ []) × (s ≡ (merged_leaf self.number self.schema self.inputs self.inputs).segment))) }
     {
         if self.kept.is_empty() {
             return Ok(None);

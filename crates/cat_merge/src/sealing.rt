@@ -49,6 +49,7 @@ pub(crate) fn sealed(
     requires kept { kept.items ≡ map head_of (kept_rows inputs.now) }
     requires some { kept_rows inputs.now ≢ [] }
     ensures ok { IfOk result (λ s. s ≡ record { number = number; schema = schema; rows = kept_rows inputs.now }) }
+    ensures some { IfOk result (λ s. kept_rows inputs.now ≢ []) }
 {
     let maps = row_maps(alloc, inputs)?;
     let columns = merged_columns(alloc, schema.fields(), inputs, &maps, kept.len())?;

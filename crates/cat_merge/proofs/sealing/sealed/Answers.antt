@@ -36,4 +36,5 @@ returns-in-Ok c = record {
       (subst (λ (fs : Schema). AreMergedColumns fs (kept_rows c.args.inputs.now) c.in_ok-columns.columns.items) c.fields.ensures.value c.in_ok-columns.ensures.ok)
       (heads_in c.in_ok-numbers.numbers.items c.in_ok-numbers.ids.items c.in_ok-numbers.lengths.items) (c.in_ok-numbers.ensures.heads ∙ c.deref-2.ensures.value ∙ c.requires.kept)
       c.in-Ok.segment c.in-Ok.ensures.ok.0 c.in-Ok.ensures.ok.1;
+  some = c.requires.some;
 }
