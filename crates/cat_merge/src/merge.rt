@@ -171,7 +171,9 @@ impl Merge {
         settled(alloc, &self.inputs, now)
     }
 
-    /// The segment of the rows that were kept, once all are passed; none where none was. Whatever comes, the merge is over.
+    /// The segment of the rows that were kept, once all are passed; none where none was (Lucene: `SegmentMerger.merge`).
+    /// Whatever comes, the merge is over. The error is want of memory; that the joined parts are no segment would be told so
+    /// too, which should not be, and isn't proved impossible.
     pub fn seal(self, alloc: Global) -> Result<Option<Segment>, AllocError>
         requires { self.passed ≡ length (rows_of_all self.inputs) }
         ensures ok { IfOk result (λ o. MatchOption o (kept_rows self.inputs ≡ [])
