@@ -147,6 +147,8 @@ impl<D: Holder> Holder for Faulty<D> {
     }
 
     ghost may_stay = { λ d. D.may_stay (device_in d) };
+
+    ghost tells_alike = { λ d. D.tells_alike (device_in d) };
 }
 
 impl<D: Directory> Directory for Faulty<D> {
