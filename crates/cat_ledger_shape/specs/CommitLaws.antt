@@ -1,0 +1,72 @@
+-- The laws of commits and snapshots over shapes, and of opening.
+use Rattle.std.specs.Prelude.{◌≡◌, ℕ, ◌+◌, ◌<◌, ◌≤◌, ◌^◌, List, [], ◌∷◌, ◌++◌, length, map, Option, Some, None}
+use Rattle.std.specs.List.{AllByRecursion}
+use Rattle.cat_model.specs.Text.{Text}
+use Rattle.cat_model.specs.Item.{Schema, IsSchema}
+use Rattle.cat_model.specs.Files.{Name, IsFileName}
+use Rattle.cat_model.specs.Forms.{IsCommitText}
+use Rattle.cat_model.specs.Limits.{last_number, segment_limit}
+use Rattle.cat_model.specs.LiveFile.{SpellsLive, AreLiveRows}
+use Rattle.cat_model.specs.CommitFile.{CommitFile, IsCommitFile, SpellsCommit, commit_needs}
+use Rattle.cat_model.specs.View.{Leaf, needs}
+use Rattle.cat_directory.specs.declared.name.FileName.TheVariants as file
+use Rattle.cat_ledger_model.specs.Calls.{Committed, Snaps, Unsnapped}
+use Rattle.cat_ledger_model.specs.Users.{users_of, times, is_known}
+use Rattle.cat_ledger_shape.specs.Shapes.{Shape, IsShape, names_of_commits, view_now}
+use Rattle.cat_ledger_shape.specs.Steps.{commit_now, file_for, IsCommitted, IsSnapped, IsUnsnapped}
+use Rattle.cat_ledger_shape.specs.Ties.{ToldFiles, Makes, TouchesOnly, TouchesNothing, TellsBytes}
+
+-- the files that a commit may begin
+abbrev pub files_begun : Shape → List Name
+files_begun s = Name.commit s.next_generation ∷ map (λ (leaf : Leaf). Name.live leaf.segment.number s.next_generation) s.leaves
+
+-- the live rows that stand in a new live file of the commit, where the leaf gets one
+abbrev pub HasNewLive : ToldFiles → Shape → Leaf → Type 0
+HasNewLive told' s leaf = file_for s.listed s.next_generation leaf ≡ s.next_generation
+    → TellsBytes told' (file.Live leaf.segment.number s.next_generation)
+    (λ bytes. SpellsLive bytes (record { number = leaf.segment.number; generation = s.next_generation; live = leaf.live }))
+
+-- the commit's own file and each new live file are written, and no other has changed
+pub record WritesCommit (text : Text) (s : Shape) (told told' : ToldFiles) : Type 0 where
+  pub others : TouchesOnly (files_begun s) told told'
+  pub commit : TellsBytes told' (file.Commit s.next_generation) (λ bytes. SpellsCommit bytes (commit_now text s))
+  pub live : AllByRecursion (HasNewLive told' s) s.leaves
+
+abbrev pub CommitsMake : Type 0
+CommitsMake = (text : Text) (s new : Shape) (told told' : ToldFiles) → s.buffered ≡ [] → IsCommitted text s new → WritesCommit text s told told'
+    → Makes (Committed text) told s told' new
+
+abbrev pub CommitsKeep : Type 0
+CommitsKeep = (text : Text) (s new : Shape) → s.buffered ≡ [] → IsCommitted text s new → IsShape s → IsShape new
+
+abbrev pub SnapsMake : Type 0
+SnapsMake = (g : ℕ) (s new : Shape) (told told' : ToldFiles) → IsSnapped g s new → TouchesNothing told told' → Makes (Snaps g) told s told' new
+
+abbrev pub SnapsKeep : Type 0
+SnapsKeep = (g : ℕ) (s new : Shape) → IsSnapped g s new → IsShape s → IsShape new
+
+abbrev pub UnsnapsMake : Type 0
+UnsnapsMake = (g : ℕ) (s new : Shape) (told told' : ToldFiles) → IsUnsnapped g s new → TouchesNothing told told' → Makes (Unsnapped g) told s told' new
+
+abbrev pub UnsnapsKeep : Type 0
+UnsnapsKeep = (g : ℕ) (s new : Shape) → IsUnsnapped g s new → IsShape s → IsShape new
+
+-- ---- what a shape gives
+
+-- a commit of now can be said in a file, and each live set that isn't whole in one of its own
+abbrev pub CommitsMayBeSaid : Type 0
+CommitsMayBeSaid = (text : Text) (s : Shape) → IsShape s → IsSchema s.schema → IsCommitText text → length s.leaves ≤ segment_limit
+    → s.next_generation ≤ last_number → IsCommitFile (commit_now text s)
+
+-- each name has as many users at least as the commits have it
+abbrev pub CommitsAreCounted : Type 0
+CommitsAreCounted = (s : Shape) → IsShape s → (q : Name) → times q (names_of_commits s.commits) ≤ users_of s.users q
+
+-- no name has as many users as a count can't tell: a name is one user's once, and generations rise
+abbrev pub UsersFit : Type 0
+UsersFit = (s : Shape) (q : Name) → IsShape s → length s.views ≤ last_number → users_of s.users q + 2 < 2 ^ 64
+
+-- a commit of now, a view of now and a new segment name each file once
+abbrev pub NamesComeOnce : Type 0
+NamesComeOnce = (text : Text) (s : Shape) (q : Name) → IsShape s
+    → (times q (commit_needs (commit_now text s)) ≤ 1) × (times q (needs (view_now s)) ≤ 1)

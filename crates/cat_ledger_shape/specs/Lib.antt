@@ -1,0 +1,7 @@
+pub mod Shapes
+pub mod Steps
+pub mod Ties
+pub mod WriteLaws
+pub mod ViewLaws
+pub mod MergeLaws
+pub mod CommitLaws

@@ -1,0 +1,1 @@
+//! Recorded views and holds.

@@ -1,0 +1,1 @@
+//! Writes, flushes, refusals and sweeps.
