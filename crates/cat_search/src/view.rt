@@ -1,5 +1,5 @@
 //! Views: segments with their live rows, as a searcher sees them.
-ghost use Rattle.std.specs.Prelude.{◌≡◌, ◌<◌, ℕ, List, length, map, option_map, Ok, None, IfOk, IfErr};
+ghost use Rattle.std.specs.Prelude.{◌≡◌, ◌<◌, ℕ, false, List, length, map, option_map, slice_set, Ok, None, IfOk, IfErr, OnOk, OnErr};
 ghost use Rattle.std.specs.Arc.{arc_value};
 ghost use Rattle.std.specs.List.{flat_map};
 ghost use Rattle.cat_base.specs.declared.refusal.Refusal.TheVariants.{Device, Damaged};
@@ -71,6 +71,39 @@ impl Leaf {
         ensures long { length self.now.live ≡ length self.now.segment.rows }
     {
         &self.live
+    }
+
+    /// Makes the row dead in this leaf alone; one that is dead stays so. A live set that other leaves share is copied first
+    /// (Lucene: `PendingDeletes.delete`). An error changes nothing.
+    pub fn kill(&mut self, alloc: Global, row: usize) -> Result<(), AllocError>
+        requires { row < length self.old.segment.rows }
+        ensures ok { OnOk result (self.new ≡ record { segment = self.old.segment; live = slice_set self.old.live row false }) }
+        ensures err { OnErr result (self.new ≡ self.old) }
+    {
+        if let Some(live) = Arc::get_mut(&mut self.live) {
+            live.kill(row);
+            return Ok(());
+        }
+        let mut copy = self.live.copy()?;
+        copy.kill(row);
+        self.live = Arc::new(alloc, copy)?;
+        Ok(())
+    }
+
+    /// The segment once more, for a reader of its own: it is shared, and has one user more. The error also stands for a full
+    /// count of users.
+    pub fn share_segment(&self) -> Result<Arc<Segment>, AllocError>
+        ensures ok { IfOk result (λ s. arc_value s ≡ self.now.segment) }
+    {
+        Arc::try_clone(&self.segment)
+    }
+
+    /// The live set once more, as it is now: it is shared, and has one user more, so that a later kill leaves it as it is.
+    /// The error also stands for a full count of users.
+    pub fn share_live(&self) -> Result<Arc<Live>, AllocError>
+        ensures ok { IfOk result (λ l. arc_value l ≡ self.now.live) }
+    {
+        Arc::try_clone(&self.live)
     }
 
     /// The number of the write that put the segment's first row, live or dead.
