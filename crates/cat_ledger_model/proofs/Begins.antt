@@ -48,6 +48,7 @@ begun_change_no_state index k l new ok call =
         portions = ok.portions;
         views = ok.views;
         commits = ok.commits;
+        generations = ok.generations;
         rows = ok.rows;
         rising = ok.rising;
         ids = ok.ids;
@@ -72,7 +73,7 @@ begun_change_no_state index k l new ok call =
           times-four q portions views commits (Name.source n ∷ []),
           times-four q portions views commits (names_of_merging l.merging),
         ));
-        fresh = All-of_four Q portions views commits (Name.source n ∷ []) (record { portions = more.portions; views = more.views; commits = more.commits; merging = (omega arith, tt) });
+        fresh = All-of_four Q portions views commits (Name.source n ∷ []) (record { portions = more.portions; views = more.views; commits = more.commits; merging = ((ok.numbers.0, omega arith), tt) });
         numbers = (omega arith, ok.numbers.1);
         fits = (ok.fits.0, omega (arith, call.left), ok.fits.2);
       }),
@@ -90,6 +91,7 @@ copies_change_no_state m l new ok call =
         portions = ok.portions;
         views = ok.views;
         commits = ok.commits;
+        generations = ok.generations;
         rows = ok.rows;
         rising = ok.rising;
         ids = ok.ids;
@@ -115,6 +117,7 @@ ends_change_no_state m l new ok call =
         portions = ok.portions;
         views = ok.views;
         commits = ok.commits;
+        generations = ok.generations;
         rows = ok.rows;
         rising = ok.rising;
         ids = ok.ids;
@@ -141,6 +144,7 @@ refusals_change_no_state begun l new ok call =
         portions = ok.portions;
         views = ok.views;
         commits = ok.commits;
+        generations = ok.generations;
         rows = ok.rows;
         rising = ok.rising;
         ids = ok.ids;
@@ -161,6 +165,7 @@ holds_are_apart l hs ok sound = (
     portions = ok.portions;
     views = ok.views;
     commits = ok.commits;
+    generations = ok.generations;
     rows = ok.rows;
     rising = ok.rising;
     ids = ok.ids;

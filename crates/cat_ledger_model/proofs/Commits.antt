@@ -1,5 +1,5 @@
 -- What commits and snapshots leave, and what an opened commit is.
-use Rattle.std.proofs.Common.{◌≡◌, ◌≢◌, ℕ, ◌+◌, ◌<◌, List, [], ◌∷◌, ◌++◌, map, Bool, true, false, cond, ◌&&◌, ◌||◌, Option, Some, None, refl, sym, ◌∙◌, ap, ap₂, subst, arith, append-nil, inl, inr}
+use Rattle.std.proofs.Common.{◌≡◌, ◌≢◌, ℕ, zero, suc, ◌+◌, ◌<◌, List, [], ◌∷◌, ◌++◌, map, Bool, true, false, cond, ◌&&◌, ◌||◌, Option, Some, None, refl, sym, ◌∙◌, ap, ap₂, subst, arith, append-nil, inl, inr}
 use Rattle.std.specs.Prelude.{ltb, ◌==◌, ◌⊎◌, AllPairs, option_to_list}
 use Rattle.std.specs.List.{flat_map, filter, last_or, AllByRecursion}
 use Rattle.std.proofs.lemmas.Bool.Decides.{nat_tests, eqb_tells}
@@ -21,12 +21,15 @@ use Rattle.cat_ledger_model.specs.Ledger.{Listed, LedgerCommit, IsPutRecord, Are
 use Rattle.cat_ledger_model.specs.Calls.{all_alive, same_live, file_in, file_for, listed_in, newest_listed, commit_of, commits_that, commits_not, newest_in}
 use Rattle.cat_ledger_model.specs.Laws.{CommitsAreKept, SnapshotsAreTaken, SnapshotsAreGiven, OpenedAreFresh}
 use Rattle.cat_ledger_model.proofs.Alone.{nobody_alone}
-use Rattle.cat_ledger_model.proofs.Marked.{All-marked, Apart-marked, records-marked}
-use Rattle.cat_ledger_model.proofs.Users.{All-split, times-append, times-flat, times-four, Four, All-four, All-of_four, recounted}
+use Rattle.cat_ledger_model.proofs.Marked.{All-marked, Apart-marked, Apart-kept, records-marked}
+use Rattle.cat_ledger_model.proofs.Users.{All-split, Apart-join, times-append, times-flat, times-four, Four, All-four, All-of_four, recounted}
 use Rattle.cat_ledger_model.proofs.Flushes.{four_more}
 use Rattle.cat_ledger_model.proofs.Views.{map-filter, times-parted, All-flat_kept, whole_now}
 
 -- ---- the newest commit
+
+abbrev Rising : LedgerCommit → LedgerCommit → Type 0
+Rising c d = c.generation < d.generation
 
 last_below : (g : ℕ) (o : Option ℕ) (ks : List ℕ) → is_below o g ≡ true → AllByRecursion (λ k. k < g) ks → is_below (last_or o ks) g ≡ true
 last_below g o [] h a = h
@@ -34,7 +37,12 @@ last_below g o (k ∷ ks) h a = last_below g (Some k) ks (let less : k < g = a.0
 
 generations_low : (n g : ℕ) (cs : List LedgerCommit) → AllByRecursion (IsPast n g) (flat_map names_of_commit cs) → AllByRecursion (λ k. k < g) (map (λ (c : Commit). c.generation) (map commit_shown cs))
 generations_low n g [] a = tt
-generations_low n g (c ∷ cs) a = let r = All-split (IsPast n g) (names_of_commit c) (flat_map names_of_commit cs) a in (r.0.0, generations_low n g cs r.1)
+generations_low n g (c ∷ cs) a = let r = All-split (IsPast n g) (names_of_commit c) (flat_map names_of_commit cs) a in (r.0.0.1, generations_low n g cs r.1)
+
+-- a commit of the next generation is above all others
+rise_to : (n g : ℕ) (c : LedgerCommit) → c.generation ≡ g → (cs : List LedgerCommit) → AllByRecursion (IsPast n g) (flat_map names_of_commit cs) → AllByRecursion (λ d. AllByRecursion (Rising d) (c ∷ [])) cs
+rise_to n g c e [] a = tt
+rise_to n g c e (d ∷ cs) a = let r = All-split (IsPast n g) (names_of_commit d) (flat_map names_of_commit cs) a in let less : d.generation < g = r.0.0.1 in ((omega (arith, e), tt), rise_to n g c e cs r.1)
 
 pub newest_all : (P : Name → Type 0) (o : Option LedgerCommit) (cs : List LedgerCommit) → AllByRecursion P (flat_map names_of_listed (listed_in o)) → AllByRecursion P (flat_map names_of_commit cs) → AllByRecursion P (flat_map names_of_listed (listed_in (last_or o cs)))
 newest_all P o [] h a = h
@@ -58,7 +66,7 @@ file_past n g (x ∷ xs) p a =
   where
     own : (b : Bool) → (((x.file == 0) ≡ true) × (x.file ≡ 0)) ⊎ (((x.file == 0) ≡ false) × (x.file ≢ 0)) → AllByRecursion (IsPast n g) (live_names x.portion.number x.file) → x.file < g + 1
     own b (inl e) h = omega (arith, e.1)
-    own b (inr e) h = let k : AllByRecursion (IsPast n g) (cond false [] (Name.live x.portion.number x.file ∷ [])) = subst (λ c. AllByRecursion (IsPast n g) (cond c [] (Name.live x.portion.number x.file ∷ []))) e.0 h in let less : x.file < g = k.0.1 in omega arith
+    own b (inr e) h = let k : AllByRecursion (IsPast n g) (cond false [] (Name.live x.portion.number x.file ∷ [])) = subst (λ c. AllByRecursion (IsPast n g) (cond c [] (Name.live x.portion.number x.file ∷ []))) e.0 h in let less : x.file < g = k.0.1.1 in omega arith
 
     by : (b : Bool) → x.file < g + 1 → file_in xs p < g + 1 → cond b x.file (file_in xs p) < g + 1
     by true h k = h
@@ -72,14 +80,19 @@ file_for_past n g xs p a = by (all_alive p.live) (file_in xs p == 0) (file_past 
     by false true h = omega arith
     by false false h = h
 
+some_file : (f : ℕ) → f ≢ 0 → 0 < f
+some_file zero some = absurd (some refl)
+some_file (suc f) some = omega arith
+
 names_listed : (n g : ℕ) (xs : List Listed) (ps : List Portion) → AllByRecursion (IsPast n g) (flat_map names_of_listed xs) → AllByRecursion (IsPast n g) (flat_map names_of_portion ps)
     → AllByRecursion (IsPast n (g + 1)) (flat_map names_of_listed (map (λ p. record { portion = p; file = file_for xs g p }) ps))
 names_listed n g xs [] a h = tt
-names_listed n g xs (p ∷ ps) a h = (h.0, (h.1.0, All-both (IsPast n (g + 1)) (live_names p.number (file_for xs g p)) _ (own (file_for xs g p == 0)) (names_listed n g xs ps a h.1.1)))
+names_listed n g xs (p ∷ ps) a h = (h.0, (h.1.0, All-both (IsPast n (g + 1)) (live_names p.number (file_for xs g p)) _ (own (file_for xs g p == 0) (eqb_tells (file_for xs g p) 0)) (names_listed n g xs ps a h.1.1)))
   where
-    own : (b : Bool) → AllByRecursion (IsPast n (g + 1)) (cond b [] (Name.live p.number (file_for xs g p) ∷ []))
-    own true = tt
-    own false = ((h.0, file_for_past n g xs p a), tt)
+    own : (b : Bool) → ((b ≡ true) × (file_for xs g p ≡ 0)) ⊎ ((b ≡ false) × (file_for xs g p ≢ 0)) → AllByRecursion (IsPast n (g + 1)) (cond b [] (Name.live p.number (file_for xs g p) ∷ []))
+    own true e = tt
+    own false (inl e) = absurd (let no : false ≡ true = e.0 in cc)
+    own false (inr e) = ((h.0, (some_file (file_for xs g p) e.1, file_for_past n g xs p a)), tt)
 
 commit_apart : (o : Option Merging) (g : ℕ) → NotOf o (Name.commit g)
 commit_apart None g = tt
@@ -139,6 +152,8 @@ commits_are_kept text l new ok empty call =
         portions = ok.portions;
         views = ok.views;
         commits = All-both (IsWholeCommit l.schema l.count) (commits_that stays l.commits) (c ∷ []) (All-kept (IsWholeCommit l.schema l.count) _ l.commits ok.commits) ((omega arith, subst (AreWhole l.schema l.count) (sym its) (whole_now l ok empty)), tt);
+        generations = Apart-join Rising (commits_that stays l.commits) (c ∷ []) (Apart-kept Rising (λ c. stays c.generation) l.commits ok.generations) (tt, tt)
+            (All-kept (λ d. AllByRecursion (Rising d) (c ∷ [])) (λ c. stays c.generation) l.commits (rise_to l.next_segment g c refl l.commits past.commits));
         rows = ok.rows;
         rising = ok.rising;
         ids = ok.ids;
@@ -157,7 +172,7 @@ commits_are_kept text l new ok empty call =
           views = more.views;
           commits = subst (AllByRecursion Q) (sym (flat_map-append names_of_commit (commits_that stays l.commits) (c ∷ [])))
               (All-both Q (flat_map names_of_commit (commits_that stays l.commits)) (names_of_commit c ++ []) (All-flat_kept Q names_of_commit (λ c. stays c.generation) l.commits more.commits)
-              (All-both Q (names_of_commit c) [] (omega arith, names_listed l.next_segment g (newest_listed l.commits) l.portions (newest_all P None l.commits tt past.commits) past.portions) tt));
+              (All-both Q (names_of_commit c) [] ((ok.numbers.1, omega arith), names_listed l.next_segment g (newest_listed l.commits) l.portions (newest_all P None l.commits tt past.commits) past.portions) tt));
           merging = more.merging;
         });
         numbers = (ok.numbers.0, omega arith);
@@ -175,6 +190,7 @@ snapshots_are_taken g l new ok call = (
     portions = ok.portions;
     views = ok.views;
     commits = ok.commits;
+    generations = ok.generations;
     rows = ok.rows;
     rising = ok.rising;
     ids = ok.ids;
@@ -210,6 +226,7 @@ snapshots_are_given g l new ok call =
         portions = ok.portions;
         views = ok.views;
         commits = All-kept (IsWholeCommit l.schema l.count) _ l.commits ok.commits;
+        generations = Apart-kept Rising (λ c. stays c.generation) l.commits ok.generations;
         rows = ok.rows;
         rising = ok.rising;
         ids = ok.ids;
@@ -242,6 +259,7 @@ opened_are_fresh c l its whole told =
       portions = now_whole.portions;
       views = subst (AllByRecursion (IsWholeView l.schema l.count)) (sym its.views) ((omega arith, now_whole), tt);
       commits = subst (AllByRecursion (IsWholeCommit l.schema l.count)) (sym its.commits) ((omega (arith, its.count), whole), tt);
+      generations = subst (Apart Rising) (sym its.commits) (tt, tt);
       rows = now_rows;
       rising = subst (Apart (λ r s. r.number < s.number)) (sym rows) whole.rising;
       ids = subst (Apart (λ r s. r.item.id ≢ s.item.id)) (sym table) whole.ids;

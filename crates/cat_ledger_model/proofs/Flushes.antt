@@ -22,10 +22,10 @@ use Rattle.cat_ledger_model.proofs.Marked.{marked-all, Full, Reduced-then, Reduc
 -- ---- numbers that are past
 
 pub past_more : (n g n' g' : ℕ) → n ≤ n' → g ≤ g' → (q : Name) → IsPast n g q → IsPast n' g' q
-past_more n g n' g' h k (Name.segment m) p = omega (arith, p)
-past_more n g n' g' h k (Name.source m) p = omega (arith, p)
-past_more n g n' g' h k (Name.live m d) p = (omega (arith, p.0), omega (arith, p.1))
-past_more n g n' g' h k (Name.commit d) p = omega (arith, p)
+past_more n g n' g' h k (Name.segment m) p = (p.0, omega (arith, p.1))
+past_more n g n' g' h k (Name.source m) p = (p.0, omega (arith, p.1))
+past_more n g n' g' h k (Name.live m d) p = ((p.0.0, omega (arith, p.0.1)), (p.1.0, omega (arith, p.1.1)))
+past_more n g n' g' h k (Name.commit d) p = (p.0, omega (arith, p.1))
 
 pub four_more : (n g n' g' : ℕ) → n ≤ n' → g ≤ g' → (a b c d : List Name) → Four (IsPast n g) a b c d → Four (IsPast n' g') a b c d
 four_more n g n' g' h k a b c d f = record {
@@ -37,7 +37,7 @@ four_more n g n' g' h k a b c d f = record {
 
 pub numbers_past : (n g : ℕ) (ps : List Portion) → AllByRecursion (IsPast n g) (flat_map names_of_portion ps) → AllByRecursion (λ p. p.number < n) ps
 numbers_past n g [] a = tt
-numbers_past n g (p ∷ ps) a = (a.0, numbers_past n g ps a.1.1)
+numbers_past n g (p ∷ ps) a = (a.0.1, numbers_past n g ps a.1.1)
 
 -- ---- a new last portion
 
@@ -80,7 +80,7 @@ merging_stays n rs ps (Some m) low ok = record {
 }
 
 sources_low : (n g : ℕ) (q : Name) → IsPast n g q → (k : ℕ) → q ≡ Name.source k → k < n
-sources_low n g q p k e = subst (IsPast n g) e p
+sources_low n g q p k e = let past : IsPast n g (Name.source k) = subst (IsPast n g) e p in past.1
 
 pub flushed : (l new : Ledger) → IsLedger l → Flushed l new → IsLedger new × (state_of new ≡ state_of l) × (new.buffered ≡ [])
 flushed l new ok call =
@@ -104,6 +104,7 @@ flushed l new ok call =
         portions = new_portions n l.buffered l.portions ok.portions (numbers_past n l.next_generation l.portions past.portions);
         views = ok.views;
         commits = ok.commits;
+        generations = ok.generations;
         rows = subst (AllByRecursion (IsPutRecord l.schema l.count)) (sym (new_rows n l.buffered l.portions)) ok.rows;
         rising = subst (Apart (λ r s. r.number < s.number)) (sym (new_rows n l.buffered l.portions)) ok.rising;
         ids = subst (Apart (λ r s. r.item.id ≢ s.item.id)) (sym (new_records n l.buffered l.portions)) ok.ids;
@@ -118,7 +119,7 @@ flushed l new ok call =
         users = recounted (names_used l) (flat_map names_of_portion (l.portions ++ p ∷ []) ++ (views ++ (commits ++ making))) (names_of_portion p) [] l.users new.users ok.users call.users balance;
         fresh = All-of_four (IsPast (n + 1) l.next_generation) (flat_map names_of_portion (l.portions ++ p ∷ [])) views commits making (record {
           portions = subst (AllByRecursion (IsPast (n + 1) l.next_generation)) (sym (flat_map-append names_of_portion l.portions (p ∷ [])))
-              (All-both (IsPast (n + 1) l.next_generation) (flat_map names_of_portion l.portions) (names_of_portion p ++ []) more.portions (omega arith, (omega arith, tt)));
+              (All-both (IsPast (n + 1) l.next_generation) (flat_map names_of_portion l.portions) (names_of_portion p ++ []) more.portions ((ok.numbers.0, omega arith), ((ok.numbers.0, omega arith), tt)));
           views = more.views;
           commits = more.commits;
           merging = more.merging;
@@ -234,6 +235,7 @@ writes_are_written l w ok room fits =
         portions = portions_written w l.portions ok.portions;
         views = All-weaken (IsWholeView l.schema l.count) (IsWholeView l.schema (l.count + 1)) (λ v h. (omega (arith, h.0), h.1)) l.views ok.views;
         commits = All-weaken (IsWholeCommit l.schema l.count) (IsWholeCommit l.schema (l.count + 1)) (λ c h. (omega (arith, h.0), h.1)) l.commits ok.commits;
+        generations = ok.generations;
         rows = subst (AllByRecursion (IsPutRecord l.schema (l.count + 1))) (sym same)
             (All-put_last (IsPutRecord l.schema (l.count + 1)) (all_records l.portions ++ rest) (l.count + 1) w (All-weaken (IsPutRecord l.schema l.count) (IsPutRecord l.schema (l.count + 1)) later _ kept_rows)
             (λ i e. record { positive = omega arith; seen = omega arith; item = subst (PutsItem l.schema) e fits }));

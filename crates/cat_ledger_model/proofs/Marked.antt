@@ -1,6 +1,6 @@
 -- Live sets, and what is marked by them.
 use Rattle.std.proofs.Common.{◌≡◌, ℕ, zero, suc, List, [], ◌∷◌, ◌++◌, length, map, take, drop, Bool, true, false, cond, not, ◌&&◌, refl, sym, ◌∙◌, ap, ap₂, subst, arith}
-use Rattle.std.specs.List.{AllByRecursion}
+use Rattle.std.specs.List.{filter, AllByRecursion}
 use Rattle.std.proofs.lemmas.List.{length-append}
 use Rattle.std.proofs.lemmas.List.Elements.{filter-append}
 use Rattle.cat_model.specs.Item.{Record}
@@ -8,6 +8,7 @@ use Rattle.cat_model.specs.Write.{Write, removes}
 use Rattle.cat_model.specs.Table.{without}
 use Rattle.cat_model.specs.View.{selected}
 use Rattle.cat_model.specs.Merged.{LessLive}
+use Rattle.cat_model.proofs.Lists.{All-kept}
 use Rattle.cat_model.proofs.Merged.{marked-append, LessLive-append}
 use Rattle.cat_ledger_model.specs.Portions.{Portion, live_records, records_of, all_records, lives_of, Apart, live_after, portions_after, Reduced}
 
@@ -46,6 +47,14 @@ thinned {X} xs ys zs bs e =
     length-map : (l : List X) → length (map (λ x. true) l) ≡ length l
     length-map [] = refl
     length-map (y ∷ l) = ap suc (length-map l)
+
+pub Apart-kept : {X : Type 0} (R : X → X → Type 0) (p : X → Bool) (xs : List X) → Apart R xs → Apart R (filter p xs)
+Apart-kept R p [] a = tt
+Apart-kept R p (x ∷ xs) a = by (p x) (All-kept (R x) p xs a.0) (Apart-kept R p xs a.1)
+  where
+    by : (b : Bool) → AllByRecursion (R x) (filter p xs) → Apart R (filter p xs) → Apart R (cond b (x ∷ filter p xs) (filter p xs))
+    by true h k = (h, k)
+    by false h k = k
 
 pub Apart-thinned : {X : Type 0} (R : X → X → Type 0) (xs ys zs : List X) (bs : List Bool) → length bs ≡ length ys → Apart R (xs ++ (ys ++ zs)) → Apart R (xs ++ (selected bs ys ++ zs))
 Apart-thinned R xs ys zs bs e a = subst (Apart R) (thinned xs ys zs bs e) (Apart-marked R _ (xs ++ (ys ++ zs)) a)

@@ -199,6 +199,7 @@ merges_change_no_state m l new ok call =
         portions = installed_portions m l.portions making full call.all ok.portions.numbers;
         views = ok.views;
         commits = ok.commits;
+        generations = ok.generations;
         rows = installed_all m l.portions making full call.all (IsPutRecord l.schema l.count) l.buffered ok.rows;
         rising = installed_apart m l.portions making full call.all (λ r s. r.number < s.number) l.buffered ok.rising;
         ids = subst (λ rs. Apart (λ r s. r.item.id ≢ s.item.id) (rs ++ l.buffered)) (sym (installed_records m l.portions making full call.all)) ok.ids;

@@ -21,6 +21,7 @@ empty_are_fresh l its told =
         portions = whole.portions;
         views = subst (AllByRecursion (IsWholeView l.schema l.count)) (sym its.views) ((omega arith, whole), tt);
         commits = subst (AllByRecursion (IsWholeCommit l.schema l.count)) (sym its.commits) tt;
+        generations = subst (Apart (λ c d. c.generation < d.generation)) (sym its.commits) tt;
         rows = subst (AllByRecursion (IsPutRecord l.schema l.count)) (sym rows) tt;
         rising = subst (Apart (λ r s. r.number < s.number)) (sym rows) tt;
         ids = subst (Apart (λ r s. r.item.id ≢ s.item.id)) (sym table) tt;

@@ -85,14 +85,14 @@ differs : (a b : ℕ) → a ≢ b → (a == b) ≡ false
 differs a b n = elim (eqb_tells a b) [ inl e ↦ absurd (n e.1) | inr e ↦ e.0 ]
 
 new_portion : (n g : ℕ) (q : Name) → IsPast n g q → has_name q (Name.segment n ∷ Name.source n ∷ []) ≡ false
-new_portion n g (Name.segment m) p = rw (less_differs m n p) refl
-new_portion n g (Name.source m) p = rw (less_differs m n p) refl
+new_portion n g (Name.segment m) p = rw (less_differs m n p.1) refl
+new_portion n g (Name.source m) p = rw (less_differs m n p.1) refl
 new_portion n g (Name.live m d) p = refl
 new_portion n g (Name.commit d) p = refl
 
 new_source : (n g : ℕ) (q : Name) → IsPast n g q → has_name q (Name.source n ∷ []) ≡ false
 new_source n g (Name.segment m) p = refl
-new_source n g (Name.source m) p = rw (less_differs m n p) refl
+new_source n g (Name.source m) p = rw (less_differs m n p.1) refl
 new_source n g (Name.live m d) p = refl
 new_source n g (Name.commit d) p = refl
 
@@ -112,23 +112,23 @@ new_live : (n g : ℕ) (ps : List Portion) (q : Name) → IsPast n g q → has_n
 new_live n g [] q p = refl
 new_live n g (x ∷ ps) (Name.segment m) p = new_live n g ps (Name.segment m) p
 new_live n g (x ∷ ps) (Name.source m) p = new_live n g ps (Name.source m) p
-new_live n g (x ∷ ps) (Name.live m d) p = ap (λ b. ((m == x.number) && b) || has_name (Name.live m d) (map (λ (p : Portion). Name.live p.number g) ps)) (less_differs d g p.1) ∙ ap (λ b. b || has_name (Name.live m d) (map (λ (p : Portion). Name.live p.number g) ps)) (and_no (m == x.number)) ∙ new_live n g ps (Name.live m d) p
+new_live n g (x ∷ ps) (Name.live m d) p = ap (λ b. ((m == x.number) && b) || has_name (Name.live m d) (map (λ (p : Portion). Name.live p.number g) ps)) (less_differs d g p.1.1) ∙ ap (λ b. b || has_name (Name.live m d) (map (λ (p : Portion). Name.live p.number g) ps)) (and_no (m == x.number)) ∙ new_live n g ps (Name.live m d) p
 new_live n g (x ∷ ps) (Name.commit d) p = new_live n g ps (Name.commit d) p
 
 new_commit : (n g : ℕ) (ps : List Portion) (q : Name) → IsPast n g q → has_name q (Name.commit g ∷ map (λ (p : Portion). Name.live p.number g) ps) ≡ false
 new_commit n g ps (Name.segment m) p = new_live n g ps (Name.segment m) p
 new_commit n g ps (Name.source m) p = new_live n g ps (Name.source m) p
 new_commit n g ps (Name.live m d) p = new_live n g ps (Name.live m d) p
-new_commit n g ps (Name.commit d) p = rw (less_differs d g p) (new_live n g ps (Name.commit d) p)
+new_commit n g ps (Name.commit d) p = rw (less_differs d g p.1) (new_live n g ps (Name.commit d) p)
 
 spared : (P : Name → Type 0) (but names : List Name) (fs gs : FileBytes) → ChangesOnly but fs gs → ((q : Name) → P q → has_name q but ≡ false) → AllByRecursion P names → Spares names fs gs
 spared P but names fs gs leaves new a = All-weaken P (λ q. gs q ≡ fs q) (λ q p. leaves q (new q p)) names a
 
 past_new : (n g : ℕ) (q b : Name) → IsPast n g q → IsNew n g b → same_file_name q b ≡ false
-past_new n g (Name.segment m) (Name.segment k) p h = less_differs m k (omega (arith, p, h))
-past_new n g (Name.source m) (Name.source k) p h = less_differs m k (omega (arith, p, h))
-past_new n g (Name.live m d) (Name.live k e) p h = let less : d < e = (let d_low : d < g = p.1 in omega (arith, h)) in ap (λ b. (m == k) && b) (less_differs d e less) ∙ and_no (m == k)
-past_new n g (Name.commit d) (Name.commit e) p h = less_differs d e (omega (arith, p, h))
+past_new n g (Name.segment m) (Name.segment k) p h = less_differs m k (omega (arith, p.1, h))
+past_new n g (Name.source m) (Name.source k) p h = less_differs m k (omega (arith, p.1, h))
+past_new n g (Name.live m d) (Name.live k e) p h = let less : d < e = (let d_low : d < g = p.1.1 in omega (arith, h)) in ap (λ b. (m == k) && b) (less_differs d e less) ∙ and_no (m == k)
+past_new n g (Name.commit d) (Name.commit e) p h = less_differs d e (omega (arith, p.1, h))
 past_new n g (Name.segment m) (Name.source k) p h = refl
 past_new n g (Name.segment m) (Name.live k e) p h = refl
 past_new n g (Name.segment m) (Name.commit e) p h = refl

@@ -1,5 +1,5 @@
 -- A commit of now can be said in a file; and what is installed is the merged leaf of its inputs.
-use Rattle.std.proofs.Common.{◌≡◌, ◌≢◌, ℕ, ◌+◌, ◌<◌, List, [], ◌∷◌, ◌++◌, map, Bool, true, false, cond, None, refl, sym, ◌∙◌, ap, ap₂, subst, arith}
+use Rattle.std.proofs.Common.{◌≡◌, ◌≢◌, ℕ, ◌+◌, ◌<◌, ◌≤◌, List, [], ◌∷◌, ◌++◌, map, Bool, None, refl, ◌∙◌, ap, ap₂, subst, arith}
 use Rattle.std.specs.List.{flat_map, AllByRecursion}
 use Rattle.std.proofs.lemmas.List.{length-map}
 use Rattle.std.proofs.lemmas.List.Elements.{All-from_recursion}
@@ -7,18 +7,16 @@ use Rattle.cat_model.specs.Item.{Schema}
 use Rattle.cat_model.specs.View.{row_of, selected, live_rows}
 use Rattle.cat_model.specs.Files.{Name, IsFileName}
 use Rattle.cat_model.specs.CommitFile.{ListedSegment, IsListed, listed_names}
+use Rattle.cat_model.specs.Limits.{last_number}
 use Rattle.cat_model.specs.Merged.{AreDeletedFrom, live_of_all}
 use Rattle.cat_model.proofs.Lists.{All-weaken}
 use Rattle.cat_ledger_model.specs.Portions.{Portion, lives_of, leaf_of, Reduced, IsMergingOf, IsMerging, window_now}
-use Rattle.cat_ledger_model.specs.Users.{Used, same_file_name, users_of, times}
-use Rattle.cat_ledger_model.specs.Ledger.{Listed, Ledger, IsLedger, IsPast, listed_segment, names_of_portion, names_of_view, names_of_listed, names_of_commit, names_of_merging, names_used}
+use Rattle.cat_ledger_model.specs.Ledger.{Listed, IsPast, listed_segment, names_of_portion, names_of_view, names_of_listed, names_of_commit, names_of_merging, names_used}
 use Rattle.cat_ledger_model.specs.Calls.{file_for, newest_listed}
-use Rattle.cat_ledger_model.specs.Laws.{CommitsNeedTheirNames, CommitsMayBeWritten, SettledAreMerged}
-use Rattle.cat_ledger_model.proofs.Users.{All-split, Four, All-four}
+use Rattle.cat_ledger_model.specs.Laws.{CommitsNeedTheirNames, UsedMayBeNamed, CommitsMayBeWritten, SettledAreMerged}
+use Rattle.cat_ledger_model.proofs.Users.{Four, All-four}
 use Rattle.cat_ledger_model.proofs.Marked.{records-marked}
 use Rattle.cat_ledger_model.proofs.Merges.{kept_all}
-use Rattle.cat_ledger_model.proofs.Counted.{same_name_is}
-use Rattle.cat_ledger_model.proofs.Stored.{each_used}
 use Rattle.cat_ledger_model.proofs.Shown.{rows-shown, Apart-map}
 use Rattle.cat_ledger_model.proofs.Commits.{AllPairs-from_Apart, file_for_past, newest_all}
 
@@ -31,43 +29,34 @@ commits_need_their_names schema c = ap (λ l. Name.commit c.generation ∷ l) (o
     of_listed [] = refl
     of_listed (x ∷ xs) = ap (λ l. names_of_listed x ++ l) (of_listed xs)
 
-users_named : (us : List Used) (q : Name) → AllByRecursion (λ u. IsFileName u.name) us → 0 < users_of us q → IsFileName q
-users_named [] q a h = absurd (omega (arith, h))
-users_named (u ∷ us) q a h = by (same_file_name q u.name) refl (users_named us q a.1) h
-  where
-    by : (b : Bool) → same_file_name q u.name ≡ b → (0 < users_of us q → IsFileName q) → 0 < cond b u.users (users_of us q) → IsFileName q
-    by true e rest k = subst IsFileName (sym (same_name_is q u.name e)) a.0
-    by false e rest k = rest k
+named : (n g : ℕ) → n ≤ last_number + 1 → g ≤ last_number + 1 → (q : Name) → IsPast n g q → IsFileName q
+named n g h k (Name.segment m) p = (p.0, omega (arith, p.1, h))
+named n g h k (Name.source m) p = (p.0, omega (arith, p.1, h))
+named n g h k (Name.live m d) p = ((p.0.0, omega (arith, p.0.1, h)), (p.1.0, omega (arith, p.1.1, k)))
+named n g h k (Name.commit d) p = (p.0, omega (arith, p.1, k))
 
--- every name that is used is one that a file can have
-used_named : (l : Ledger) → IsLedger l → AllByRecursion (λ u. IsFileName u.name) l.users → AllByRecursion IsFileName (names_used l)
-used_named l ok named =
-    All-weaken (λ q. 0 < times q (names_used l)) IsFileName (λ q h. users_named l.users q named (subst (λ n. 0 < n) (sym (ok.users q)) h)) (names_used l) (each_used [] (names_used l))
-
-positive : (ps : List Portion) → AllByRecursion IsFileName (flat_map names_of_portion ps) → AllByRecursion (λ p. 0 < p.number) ps
-positive [] a = tt
-positive (p ∷ ps) a = (a.0.0, positive ps a.1.1)
+pub used_may_be_named : UsedMayBeNamed
+used_may_be_named l ok = All-weaken (IsPast l.next_segment l.next_generation) IsFileName (named l.next_segment l.next_generation ok.fits.1 ok.fits.2) (names_used l) ok.fresh
 
 -- ---- the commit of now
 
 abbrev listed_now : List Listed → ℕ → Portion → Listed
 listed_now xs g p = record { portion = p; file = file_for xs g p }
 
-listed_fit : (n g : ℕ) (xs : List Listed) (ps : List Portion) → AllByRecursion (λ p. 0 < p.number) ps → AllByRecursion (IsPast n g) (flat_map names_of_portion ps)
+listed_fit : (n g : ℕ) (xs : List Listed) (ps : List Portion) → AllByRecursion (IsPast n g) (flat_map names_of_portion ps)
     → AllByRecursion (IsPast n g) (flat_map names_of_listed xs) → AllByRecursion (IsListed g n) (map listed_segment (map (listed_now xs g) ps))
-listed_fit n g xs [] a h k = tt
-listed_fit n g xs (p ∷ ps) a h k =
+listed_fit n g xs [] h k = tt
+listed_fit n g xs (p ∷ ps) h k =
     let low : file_for xs g p < g + 1 = file_for_past n g xs p k in
-    (record { positive = a.0; past = h.0; file = omega (arith, low) }, listed_fit n g xs ps a.1 h.1.1 k)
+    (record { positive = omega (arith, h.0.0); past = h.0.1; file = omega (arith, low) }, listed_fit n g xs ps h.1.1 k)
 
 pub commits_may_be_written : CommitsMayBeWritten
-commits_may_be_written text l ok named schema form few left =
+commits_may_be_written text l ok schema form few left =
     let n : ℕ = l.next_segment in
     let g : ℕ = l.next_generation in
     let xs : List Listed = newest_listed l.commits in
     let P : Name → Type 0 = IsPast n g in
     let past : Four P (flat_map names_of_portion l.portions) (flat_map names_of_view l.views) (flat_map names_of_commit l.commits) (names_of_merging l.merging) = All-four P _ _ _ _ ok.fresh in
-    let all_named = All-split IsFileName (flat_map names_of_portion l.portions) (flat_map names_of_view l.views ++ (flat_map names_of_commit l.commits ++ names_of_merging l.merging)) (used_named l ok named) in
     let newest : AllByRecursion P (flat_map names_of_listed xs) = newest_all P None l.commits tt past.commits in
     let listed : List ListedSegment = map listed_segment (map (listed_now xs g) l.portions) in
     record {
@@ -78,7 +67,7 @@ commits_may_be_written text l ok named schema form few left =
       text = form;
       schema = schema;
       few = omega (arith, few, length-map (map (listed_now xs g) l.portions) listed_segment, length-map l.portions (listed_now xs g));
-      listed = All-from_recursion (IsListed g n) listed (listed_fit n g xs l.portions (positive l.portions all_named.0) past.portions newest);
+      listed = All-from_recursion (IsListed g n) listed (listed_fit n g xs l.portions past.portions newest);
       distinct = AllPairs-from_Apart (λ (a b : ListedSegment). a.number ≢ b.number) listed
           (Apart-map (λ (a b : ListedSegment). a.number ≢ b.number) listed_segment (map (listed_now xs g) l.portions)
           (Apart-map (λ (x y : Listed). x.portion.number ≢ y.portion.number) (listed_now xs g) l.portions ok.portions.numbers));

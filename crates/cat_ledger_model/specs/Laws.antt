@@ -216,13 +216,16 @@ KeptCommitsOpen = (l : Ledger) → IsLedger l → AllByRecursion (λ c.
 abbrev pub CommitsNeedTheirNames : Type 0
 CommitsNeedTheirNames = (schema : Schema) (c : LedgerCommit) → names_of_commit c ≡ commit_needs (commit_file schema c)
 
--- A commit of now can be said in a file, where every known name is one that a file can have, the fields are a schema, the text
--- has the form, and a generation and places for the segments are left.
+-- Every name that is used is one that a file can have.
+abbrev pub UsedMayBeNamed : Type 0
+UsedMayBeNamed = (l : Ledger) → IsLedger l → AllByRecursion IsFileName (names_used l)
+
+-- A commit of now can be said in a file, where the fields are a schema, the text has the form, and a generation and places for
+-- the segments are left.
 abbrev pub CommitsMayBeWritten : Type 0
 CommitsMayBeWritten =
-    (text : Text) (l : Ledger) → IsLedger l → AllByRecursion (λ u. IsFileName u.name) l.users → IsSchema l.schema
-    → IsCommitText text → length l.portions ≤ segment_limit → l.next_generation ≤ last_number
-    → IsCommitFile (commit_file l.schema (commit_of text l))
+    (text : Text) (l : Ledger) → IsLedger l → IsSchema l.schema → IsCommitText text → length l.portions ≤ segment_limit
+    → l.next_generation ≤ last_number → IsCommitFile (commit_file l.schema (commit_of text l))
 
 -- What is installed is the merged leaf of the inputs as they were at the beginning and as they are now, which only lost rows.
 abbrev pub SettledAreMerged : Type 0

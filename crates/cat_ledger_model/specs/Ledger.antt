@@ -129,12 +129,16 @@ names_used l =
 
 -- ---- what always holds
 
--- the numbers in the name are below those that are taken next
+-- a number was taken: it is at least 1, and below the one that is taken next
+abbrev pub IsTaken : ℕ → ℕ → Type 0
+IsTaken next m = (0 < m) × (m < next)
+
+-- the numbers in the name were taken
 abbrev pub IsPast : ℕ → ℕ → Name → Type 0
-IsPast n g (Name.segment m) = m < n
-IsPast n g (Name.source m) = m < n
-IsPast n g (Name.live m d) = (m < n) × (d < g)
-IsPast n g (Name.commit d) = d < g
+IsPast n g (Name.segment m) = IsTaken n m
+IsPast n g (Name.source m) = IsTaken n m
+IsPast n g (Name.live m d) = IsTaken n m × IsTaken g d
+IsPast n g (Name.commit d) = IsTaken g d
 
 -- the name has a number that is not taken yet
 abbrev pub IsNew : ℕ → ℕ → Name → Type 0
@@ -193,6 +197,8 @@ pub record IsLedger (l : Ledger) : Type 0 where
   pub portions : ArePortions l.portions
   pub views : AllByRecursion (IsWholeView l.schema l.count) l.views
   pub commits : AllByRecursion (IsWholeCommit l.schema l.count) l.commits
+  -- the generations of the commits rise
+  pub generations : Apart (λ c d. c.generation < d.generation) l.commits
   -- each record was put by a write so far and has the fields; numbers rise over all records, dead ones too
   pub rows : AllByRecursion (IsPutRecord l.schema l.count) (all_records l.portions ++ l.buffered)
   pub rising : Apart (λ r s. r.number < s.number) (all_records l.portions ++ l.buffered)
@@ -206,7 +212,7 @@ pub record IsLedger (l : Ledger) : Type 0 where
   pub alone : IsAlone l.merging l.portions l.views l.commits
   -- each name has as many users as have it
   pub users : AreUsed l.users (names_used l)
-  -- the next numbers are above those of every name that is used
+  -- the numbers of every name that is used were taken: each is at least 1, and below the next
   pub fresh : AllByRecursion (IsPast l.next_segment l.next_generation) (names_used l)
   pub numbers : (0 < l.next_segment) × (0 < l.next_generation)
   -- every number that was taken fits a file

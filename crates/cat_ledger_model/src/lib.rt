@@ -2,7 +2,7 @@
 //! to make each call as `Calls` says; that its replies are those of a run then follows from `calls_keep_runs`.
 #![tactic(auto)]
 
-ghost use Rattle.cat_ledger_model.specs.Laws.{CommitsNeedTheirNames, CommitsMayBeWritten, SettledAreMerged, CallsKeepRuns, RefusalsStore, ViewsAreRead, PortionsAreRead, OpenedStore, EmptyAreFresh, SchemasStay, UsersAreCounted, KeptCommitsOpen, WholeAreViews, KeptMayStand, CallsAreSteps, SweepsSpare, EndsStore, MergesStore, CopiesStore, BegunStore, UnsnapsStore, CommitsStore, PrunesStore, RecordsStore, FlushesStore, WritesStore, FilesStay, HoldsAreApart, RefusalsChangeNoState, EndsChangeNoState, CopiesChangeNoState, BegunChangeNoState, OpenedAreFresh, SnapshotsAreGiven, SnapshotsAreTaken, CommitsAreKept, ViewsArePruned, ViewsAreRecorded, WritesAreWritten, FlushesChangeNoState, MergesChangeNoState};
+ghost use Rattle.cat_ledger_model.specs.Laws.{CommitsNeedTheirNames, UsedMayBeNamed, CommitsMayBeWritten, SettledAreMerged, CallsKeepRuns, RefusalsStore, ViewsAreRead, PortionsAreRead, OpenedStore, EmptyAreFresh, SchemasStay, UsersAreCounted, KeptCommitsOpen, WholeAreViews, KeptMayStand, CallsAreSteps, SweepsSpare, EndsStore, MergesStore, CopiesStore, BegunStore, UnsnapsStore, CommitsStore, PrunesStore, RecordsStore, FlushesStore, WritesStore, FilesStay, HoldsAreApart, RefusalsChangeNoState, EndsChangeNoState, CopiesChangeNoState, BegunChangeNoState, OpenedAreFresh, SnapshotsAreGiven, SnapshotsAreTaken, CommitsAreKept, ViewsArePruned, ViewsAreRecorded, WritesAreWritten, FlushesChangeNoState, MergesChangeNoState};
 
 /// A merge that is installed leaves the table, each view and each commit as they were, whatever was
 /// deleted since it began.
@@ -242,6 +242,13 @@ pub fn calls_keep_runs()
 /// Lucene's `IndexCommit.getFileNames`.
 pub fn commits_need_their_names()
     ensures { CommitsNeedTheirNames }
+{}
+
+/// Every name that is used is one that a file can have.
+///
+/// Lucene's `IndexFileNames` are made of a segment's number or a generation, which count from 0 there, and from 1 here.
+pub fn used_may_be_named()
+    ensures { UsedMayBeNamed }
 {}
 
 /// A commit of now can be said in a file: its numbers fit, and those of its segments differ.
