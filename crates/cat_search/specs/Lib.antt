@@ -11,3 +11,4 @@ pub mod Sources
 pub mod Bars
 pub mod OrdinalBars
 pub mod Sets
+pub mod Holds

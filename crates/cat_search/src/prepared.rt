@@ -141,7 +141,7 @@ fn sets_of(sets: &Option<Vec<Option<Arc<DocSet>>>>) -> &[Option<Arc<DocSet>>]
 }
 
 /// The page over the live rows of the view.
-fn page_over(
+pub(crate) fn page_over(
     alloc: Global,
     view: &View,
     query: &Query,
