@@ -1,2 +1,5 @@
 pub mod Told
 pub mod Leaves
+pub mod MergeShapes
+pub mod MergeSteps
+pub mod MergeCopies

@@ -1,5 +1,5 @@
 -- The laws of merges over shapes.
-use Rattle.std.specs.Prelude.{◌≡◌, ◌≢◌, ℕ, ◌+◌, ◌<◌, ◌≤◌, List, [], ◌∷◌, ◌++◌, length, take, drop, Option, Some, None, All, AllPairs}
+use Rattle.std.specs.Prelude.{◌≡◌, ◌≢◌, ℕ, ◌+◌, ◌<◌, ◌≤◌, List, [], ◌∷◌, ◌++◌, length, take, drop, Some, All, AllPairs}
 use Rattle.std.specs.List.{flat_map, AllByRecursion}
 use Rattle.cat_model.specs.Text.{Text}
 use Rattle.cat_model.specs.Files.{Name, IsFileNumber}

@@ -6,3 +6,5 @@ mod committing;
 mod merging;
 mod viewing;
 mod writing;
+
+pub use merging::{begun_keep, begun_make, copies_keep, copies_make, ends_keep, ends_make};

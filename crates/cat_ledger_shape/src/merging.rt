@@ -1,1 +1,40 @@
 //! Merges.
+
+ghost use Rattle.cat_ledger_shape.specs.MergeLaws.{BegunMake, BegunKeep, CopiesMake, CopiesKeep, EndsMake, EndsKeep};
+
+/// A merge that memory begins is one that the ledger begins, with the sources' file empty.
+///
+/// Lucene's `IndexWriter.registerMerge`, and `mergeInit`, which opens the files of the new segment.
+pub fn begun_make()
+    ensures { BegunMake }
+{}
+
+/// What memory has once a merge was begun is still what it has of some ledger.
+pub fn begun_keep()
+    ensures { BegunKeep }
+{}
+
+/// A step of a merge passes the rows in memory that one of the ledger's passes. What it appends to the new segment's file are the
+/// sources of those that it keeps, where the device tells the inputs' files.
+///
+/// Lucene's `SegmentMerger.mergeFields`, which copies the stored fields; that this is done in steps between lines is our own.
+pub fn copies_make()
+    ensures { CopiesMake }
+{}
+
+/// What memory has once a merge has passed some rows more is still what it has of some ledger.
+pub fn copies_keep()
+    ensures { CopiesKeep }
+{}
+
+/// A merge that memory ends is one that the ledger ends, whatever stands in its files.
+///
+/// Lucene's `OneMerge` that is aborted.
+pub fn ends_make()
+    ensures { EndsMake }
+{}
+
+/// What memory has once a merge was ended is still what it has of some ledger.
+pub fn ends_keep()
+    ensures { EndsKeep }
+{}
