@@ -132,6 +132,10 @@ module _ (number : ℕ) (schema : Schema) (inputs : List Leaf) (may : MayMerge n
       pub fits : IsLayout (record { number = number; schema = schema; heads = heads; columns = map column_in parts })
       fits = subst IsLayout laid (IsLayout-of merged segment_is may.numbered)
 
+      -- so it isn't so that no segment is
+      pub has_segment : ((s : Segment) → IsSegment s → layout_of s ≢ record { number = number; schema = schema; heads = heads; columns = map column_in parts }) → ⊥
+      has_segment none = none merged segment_is laid
+
       told : AreTold
       told = record { terms = terms.told; keywords = columns.same_keywords; labels = columns.same_labels }
 

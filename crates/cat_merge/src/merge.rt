@@ -172,8 +172,8 @@ impl Merge {
     }
 
     /// The segment of the rows that were kept, once all are passed; none where none was (Lucene: `SegmentMerger.merge`).
-    /// Whatever comes, the merge is over. The error is want of memory; that the joined parts are no segment would be told so
-    /// too, which should not be, and isn't proved impossible.
+    /// Whatever comes, the merge is over. The error is want of memory, said too where a text field of these rows has 2^32
+    /// words or postings or more.
     pub fn seal(self, alloc: Global) -> Result<Option<Segment>, AllocError>
         requires { self.passed ≡ length (rows_of_all self.inputs) }
         ensures ok { IfOk result (λ o. MatchOption o (kept_rows self.inputs ≡ [])

@@ -1,5 +1,6 @@
 //! The segment that a merge makes of the rows that it kept.
 ghost use Rattle.std.specs.Prelude.{◌≡◌, ◌≢◌, ◌<◌, [], map, length, IfOk};
+ghost use Rattle.cat_base.specs.declared.refusal.Refusal.TheVariants.{Memory};
 ghost use Rattle.cat_codec.specs.Parts.{heads_in};
 ghost use Rattle.cat_model.specs.Layout.{head_of};
 ghost use Rattle.cat_merge.specs.Fields.{kept_rows};
@@ -10,7 +11,7 @@ use crate::columns::merged_columns;
 use crate::input::Input;
 use crate::row_maps::row_maps;
 use crate::rows::KeptRow;
-use cat_base::{SegNo, Text, WriteNo};
+use cat_base::{Refusal, SegNo, Text, WriteNo};
 use cat_codec::SegmentParts;
 use cat_schema::Schema;
 use cat_segment::{Segment, assemble};
@@ -34,6 +35,16 @@ fn unzipped(
         lengths.push(row.length())?;
     }
     Ok((numbers, ids, lengths))
+}
+
+/// Want of memory, which is all that this refusal says.
+fn want_of_memory(refusal: Refusal) -> AllocError
+    requires { refusal ≡ Memory }
+{
+    match refusal {
+        Refusal::Memory => AllocError,
+        _ => unreachable!(),
+    }
 }
 
 /// The segment of the kept rows, of which there is one at least.
@@ -64,6 +75,7 @@ pub(crate) fn sealed(
     };
     match assemble(alloc, parts) {
         Ok(segment) => Ok(segment),
-        Err(_) => Err(AllocError),
+        // The parts are those of a segment, so that none is damaged.
+        Err(refusal) => Err(want_of_memory(refusal)),
     }
 }

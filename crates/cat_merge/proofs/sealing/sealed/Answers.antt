@@ -1,4 +1,4 @@
-use Rattle.std.proofs.Common.{length, ap, ◌∙◌, subst, arith}
+use Rattle.std.proofs.Common.{length, ap, ◌∙◌, subst, arith, inl, inr}
 use Rattle.std.proofs.lemmas.List.{length-map}
 use Rattle.cat_codec.specs.declared.parts.ColumnParts.TheVariants as column
 use Rattle.cat_codec.specs.Parts.{heads_in}
@@ -6,7 +6,7 @@ use Rattle.cat_model.specs.Item.{Schema}
 use Rattle.cat_model.specs.Layout.{head_of}
 use Rattle.cat_merge.specs.Fields.{kept_rows, AreMergedColumns}
 use Rattle.cat_merge.proofs.Passed.{live_few}
-use Rattle.cat_merge.proofs.Sealed.{each_cut, fits, is_merged}
+use Rattle.cat_merge.proofs.Sealed.{each_cut, fits, has_segment, is_merged}
 use Rattle.cat_merge.proofs.sealing.sealed.Goals as goal
 
 pub row_maps-requires-clause-few : goal.row_maps-requires-clause-few
@@ -38,3 +38,12 @@ returns-in-Ok c = record {
       c.in-Ok.segment c.in-Ok.ensures.ok.0 c.in-Ok.ensures.ok.1;
   some = c.requires.some;
 }
+
+pub want_of_memory-requires : goal.want_of_memory-requires
+want_of_memory-requires c = elim c.in-Err.ensures.refusal [
+  | inl damaged ↦ absurd (has_segment c.args.number c.args.schema c.args.inputs.now c.requires.may c.requires.inputs c.requires.some (column.Keyword c.in_ok-numbers.ids c.in_ok-numbers.lengths) c.in_ok-columns.columns.items
+      (subst (λ (fs : Schema). AreMergedColumns fs (kept_rows c.args.inputs.now) c.in_ok-columns.columns.items) c.fields.ensures.value c.in_ok-columns.ensures.ok)
+      (heads_in c.in_ok-numbers.numbers.items c.in_ok-numbers.ids.items c.in_ok-numbers.lengths.items) (c.in_ok-numbers.ensures.heads ∙ c.deref-2.ensures.value ∙ c.requires.kept)
+      (c.in-Err.ensures.damaged damaged))
+  | inr memory ↦ memory
+]
