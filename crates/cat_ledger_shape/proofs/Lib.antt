@@ -3,3 +3,5 @@ pub mod Leaves
 pub mod MergeShapes
 pub mod MergeSteps
 pub mod MergeCopies
+pub mod Writes
+pub mod Views

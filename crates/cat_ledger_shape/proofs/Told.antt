@@ -29,7 +29,7 @@ file_of_name (file.Source n) = refl
 file_of_name (file.Live n d) = refl
 file_of_name (file.Commit g) = refl
 
-same_number : (n : ℕ) → (n == n) ≡ true
+pub same_number : (n : ℕ) → (n == n) ≡ true
 same_number n = elim (eqb_tells n n) [ inl e ↦ e.0 | inr e ↦ absurd (e.1 refl) ]
 
 pub same_again : (q : Name) → same_file_name q q ≡ true

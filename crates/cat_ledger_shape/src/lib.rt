@@ -8,3 +8,11 @@ mod viewing;
 mod writing;
 
 pub use merging::{begun_keep, begun_make, copies_keep, copies_make, ends_keep, ends_make};
+pub use viewing::{
+    holds_keep, holds_make, prunes_keep, prunes_make, records_keep, records_make, shapes_are_views,
+    views_are_counted,
+};
+pub use writing::{
+    flushed_may_stand, flushes_keep, flushes_make, ids_stand_once, numbers_may_be_taken,
+    refusals_keep, refusals_make, sweeps_make, writes_are_newest, writes_keep, writes_make,
+};
