@@ -3,5 +3,7 @@ pub mod Leaves
 pub mod MergeShapes
 pub mod MergeSteps
 pub mod MergeCopies
+pub mod MergeInstalls
+pub mod MergeWindows
 pub mod Writes
 pub mod Views

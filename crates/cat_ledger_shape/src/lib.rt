@@ -7,7 +7,10 @@ mod merging;
 mod viewing;
 mod writing;
 
-pub use merging::{begun_keep, begun_make, copies_keep, copies_make, ends_keep, ends_make};
+pub use merging::{
+    begun_keep, begun_make, copies_keep, copies_make, ends_keep, ends_make, installs_keep,
+    installs_make, merges_find_their_window, windows_may_be_merged,
+};
 pub use viewing::{
     holds_keep, holds_make, prunes_keep, prunes_make, records_keep, records_make, shapes_are_views,
     views_are_counted,

@@ -1,6 +1,6 @@
 //! Merges.
 
-ghost use Rattle.cat_ledger_shape.specs.MergeLaws.{BegunMake, BegunKeep, CopiesMake, CopiesKeep, EndsMake, EndsKeep};
+ghost use Rattle.cat_ledger_shape.specs.MergeLaws.{BegunMake, BegunKeep, CopiesMake, CopiesKeep, InstallsMake, InstallsKeep, EndsMake, EndsKeep, WindowsMayBeMerged, MergesFindTheirWindow};
 
 /// A merge that memory begins is one that the ledger begins, with the sources' file empty.
 ///
@@ -27,6 +27,19 @@ pub fn copies_keep()
     ensures { CopiesKeep }
 {}
 
+/// A merge that memory installs is one that the ledger installs: the merged leaf, if a row was kept, stands in the place of the
+/// inputs, and its file is written.
+///
+/// Lucene's `IndexWriter.commitMerge`, which carries deletes that came meanwhile over to the merged segment.
+pub fn installs_make()
+    ensures { InstallsMake }
+{}
+
+/// What memory has once a merge was installed is still what it has of some ledger.
+pub fn installs_keep()
+    ensures { InstallsKeep }
+{}
+
 /// A merge that memory ends is one that the ledger ends, whatever stands in its files.
 ///
 /// Lucene's `OneMerge` that is aborted.
@@ -37,4 +50,18 @@ pub fn ends_make()
 /// What memory has once a merge was ended is still what it has of some ledger.
 pub fn ends_keep()
     ensures { EndsKeep }
+{}
+
+/// Any current segments that stand behind one another may be merged into one, but for the number of their rows.
+///
+/// Lucene's `LogMergePolicy` merges adjacent segments alone, as here.
+pub fn windows_may_be_merged()
+    ensures { WindowsMayBeMerged }
+{}
+
+/// The inputs of a merge in the making stand in its window, with rows deleted at most, and its segment may stand in their place.
+///
+/// Lucene's `IndexWriter` lets no other merge take segments that are in its `mergingSegments`.
+pub fn merges_find_their_window()
+    ensures { MergesFindTheirWindow }
 {}
