@@ -1,11 +1,11 @@
 -- Leaves of portions: what a write makes of them, and the names of their files.
-use Rattle.std.proofs.Common.{◌≡◌, ℕ, suc, List, [], ◌∷◌, ◌++◌, map, filter, length, Bool, true, false, ◌&&◌, ◌||◌, not, cond, refl, sym, ◌∙◌, ap, ap₂}
+use Rattle.std.proofs.Common.{◌≡◌, suc, List, [], ◌∷◌, ◌++◌, map, filter, length, Bool, true, false, ◌&&◌, ◌||◌, not, cond, refl, sym, ◌∙◌, ap, ap₂}
 use Rattle.std.specs.List.{flat_map, list_any}
 use Rattle.cat_model.specs.Item.{Schema, Item, Record}
-use Rattle.cat_model.specs.Query.{Query, Primary, obeys, supports, obeyed, supported, primary_matches, matches}
+use Rattle.cat_model.specs.Query.{Query, Primary, obeys, supports, obeyed, supported, primary_matches}
 use Rattle.cat_model.specs.Write.{Write, removes}
 use Rattle.cat_model.specs.Files.{Name}
-use Rattle.cat_model.specs.View.{Row, Leaf, row_of, item_in}
+use Rattle.cat_model.specs.View.{Leaf, row_of, item_in}
 use Rattle.cat_ledger_model.specs.Portions.{Portion, leaf_of, live_after, portions_after}
 use Rattle.cat_ledger_model.specs.Leaves.{live_rows_after, leaves_after}
 use Rattle.cat_ledger_model.specs.Ledger.{RecordedView, names_of_portion, names_of_view}

@@ -1,6 +1,5 @@
 -- Files that agree with what a device tells, and ledgers that are carried over them.
-use Rattle.std.proofs.Common.{◌≡◌, List, [], ◌∷◌, Bool, true, false, ◌||◌, cond, Option, Some, None, refl, sym, ◌∙◌, ap, subst, inl, inr}
-use Rattle.std.specs.List.{AllByRecursion}
+use Rattle.std.proofs.Common.{◌≡◌, List, true, false, cond, Option, Some, None, refl, sym, ◌∙◌, ap, subst, inl, inr}
 use Rattle.std.proofs.lemmas.Bool.Decides.{eqb_tells}
 use Rattle.std.specs.Prelude.{◌==◌, ℕ}
 use Rattle.cat_model.specs.Text.{Text}
@@ -13,7 +12,7 @@ use Rattle.cat_ledger_model.specs.Users.{same_file_name, has_name}
 use Rattle.cat_ledger_model.specs.Ledger.{Ledger, IsLedger}
 use Rattle.cat_ledger_model.specs.Stored.{FileBytes, AreStored, ChangesOnly}
 use Rattle.cat_ledger_shape.specs.Shapes.{Shape, shape_of, IsShape}
-use Rattle.cat_ledger_shape.specs.Ties.{file_of, ToldFiles, IsTold, Agrees, Carries, Makes, TouchesOnly, TouchesNothing, TellsBytes}
+use Rattle.cat_ledger_shape.specs.Ties.{file_of, ToldFiles, IsTold, Agrees, Carries, Makes, TouchesOnly, TouchesNothing}
 
 -- ---- names
 
@@ -131,6 +130,12 @@ pub makes_untouched : (call : Ledger → Ledger → Type 0) (told told' : ToldFi
 makes_untouched call told told' s new same lifts sound stores l files c =
     let m = lifts l c.sound c.shape in
     (m.0, files, m.2, record { shape = m.1; sound = sound l c.shape m.0 c.sound m.2; stored = stores l m.0 files c m.2; agrees = agrees_still told told' files same c.agrees })
+
+-- a call that leaves the ledger as it is
+pub makes_still : (call : Ledger → Ledger → Type 0) (told told' : ToldFiles) (s new : Shape) → new ≡ s → TouchesNothing told told' → ((l : Ledger) → shape_of l ≡ s → call l l) → Makes call told s told' new
+makes_still call told told' s new same untouched stays l files c =
+    let on : Carries told' s l files = carries_still told told' s l files untouched c in
+    (l, files, stays l c.shape, record { shape = c.shape ∙ sym same; sound = on.sound; stored = on.stored; agrees = on.agrees })
 
 -- ---- calls after one another, and in other words
 

@@ -1,18 +1,18 @@
 -- Recorded views and holds over shapes.
-use Rattle.std.proofs.Common.{◌≡◌, ◌≢◌, ℕ, ◌+◌, ◌<◌, ◌≤◌, List, [], ◌∷◌, ◌++◌, map, filter, length, Bool, true, false, not, cond, refl, sym, ◌∙◌, ap, subst, arith}
+use Rattle.std.proofs.Common.{◌≡◌, ◌≢◌, ℕ, ◌<◌, ◌≤◌, List, [], ◌∷◌, ◌++◌, map, filter, Bool, true, false, not, cond, refl, sym, ◌∙◌, ap, subst, arith}
 use Rattle.std.specs.Prelude.{◌==◌, All}
-use Rattle.std.specs.List.{flat_map, list_any, AllByRecursion}
+use Rattle.std.specs.List.{flat_map, list_any}
 use Rattle.std.proofs.lemmas.List.{map_push}
 use Rattle.std.proofs.lemmas.List.Elements.{All-from_recursion}
 use Rattle.cat_model.specs.Item.{Schema, Record}
 use Rattle.cat_model.specs.Files.{Name}
 use Rattle.cat_model.specs.State.{Hold, held_in, IsSound}
 use Rattle.cat_model.specs.View.{View, IsView, needs}
-use Rattle.cat_model.proofs.Lists.{All-weaken, All-each}
-use Rattle.cat_ledger_model.specs.Portions.{records_of, all_records, Apart}
+use Rattle.cat_model.proofs.Lists.{All-weaken}
+use Rattle.cat_ledger_model.specs.Portions.{records_of, all_records}
 use Rattle.cat_ledger_model.specs.Users.{users_of, times, Changes}
-use Rattle.cat_ledger_model.specs.Ledger.{Ledger, RecordedView, IsLedger, IsPutRecord, IsWholeView, AreWhole, names_of_portion, names_of_view, names_of_commit, names_of_merging, view_shown, state_of}
-use Rattle.cat_ledger_model.specs.Stored.{FileBytes, AreStored}
+use Rattle.cat_ledger_model.specs.Ledger.{Ledger, RecordedView, IsLedger, IsPutRecord, IsWholeView, AreWhole, names_of_portion, names_of_view, names_of_commit, names_of_merging, view_shown}
+use Rattle.cat_ledger_model.specs.Stored.{AreStored}
 use Rattle.cat_ledger_model.specs.Calls as model
 use Rattle.cat_ledger_model.specs.Calls.{tokens_in, has_recorded, stays_recorded, stays_pruned, views_that, views_not}
 use Rattle.cat_ledger_model.proofs.Users.{All-split, Apart-split, times-four}
@@ -20,12 +20,11 @@ use Rattle.cat_ledger_model.proofs.Views.{views_are_recorded, views_are_pruned}
 use Rattle.cat_ledger_model.proofs.Begins.{holds_are_apart}
 use Rattle.cat_ledger_model.proofs.Stored.{records_store, prunes_store}
 use Rattle.cat_ledger_model.proofs.Shown.{whole_are_views, All-map}
-use Rattle.cat_ledger_shape.specs.Shapes.{Shape, shape_of, IsShape, recorded_view, names_of_views, view_now}
+use Rattle.cat_ledger_shape.specs.Shapes.{Shape, shape_of, recorded_view, names_of_views, view_now}
 use Rattle.cat_ledger_shape.specs.Steps.{tokens_of, RecordsNow, IsPruned}
-use Rattle.cat_ledger_shape.specs.Ties.{ToldFiles, Makes}
 use Rattle.cat_ledger_shape.specs.ViewLaws.{has_view, RecordsMake, RecordsKeep, PrunesMake, PrunesKeep, HoldsMake, HoldsKeep, ShapesAreViews, ViewsAreCounted}
 use Rattle.cat_ledger_shape.proofs.Told.{Lifts, KeepsSound, keeps, makes_untouched, makes_of}
-use Rattle.cat_ledger_shape.proofs.Leaves.{leaves_named, views_named, map_filter, any_map, map_twice, length_map}
+use Rattle.cat_ledger_shape.proofs.Leaves.{leaves_named, views_named, map_filter, any_map, map_twice}
 
 -- ---- views that stay, and those that go
 

@@ -1,24 +1,23 @@
 -- Writes, flushes, refusals and sweeps over shapes.
-use Rattle.std.proofs.Common.{◌≡◌, ◌≢◌, ℕ, ◌+◌, ◌<◌, ◌≤◌, List, [], ◌∷◌, ◌++◌, map, filter, Bool, true, false, ◌||◌, not, cond, Option, Some, None, refl, sym, ◌∙◌, ap, subst, arith, append-nil}
-use Rattle.std.specs.Prelude.{All, AllPairs}
+use Rattle.std.proofs.Common.{◌≡◌, ◌≢◌, ℕ, ◌+◌, ◌<◌, ◌≤◌, List, [], ◌∷◌, ◌++◌, map, Bool, true, false, ◌||◌, not, cond, Some, None, refl, sym, ◌∙◌, ap, subst, arith, append-nil}
+use Rattle.std.specs.Prelude.{All}
 use Rattle.std.specs.List.{flat_map, list_any, AllByRecursion}
 use Rattle.std.proofs.lemmas.List.{map_push}
 use Rattle.std.proofs.lemmas.List.Elements.{All-from_recursion}
 use Rattle.std.proofs.lemmas.Slice.Eq.{bytes_eq-Decides}
 use Rattle.cat_model.specs.Text.{Text, same_text}
-use Rattle.cat_model.specs.Item.{Schema, Record}
-use Rattle.cat_model.specs.Write.{Write, removes}
+use Rattle.cat_model.specs.Item.{Record}
+use Rattle.cat_model.specs.Write.{Write}
 use Rattle.cat_model.specs.Table.{without}
 use Rattle.cat_model.specs.Limits.{last_number}
 use Rattle.cat_model.specs.Files.{Name}
 use Rattle.cat_model.specs.View.{Row, Leaf, row_of, live_rows}
 use Rattle.cat_model.proofs.Lists.{All-weaken}
-use Rattle.cat_directory.specs.declared.name.FileName.{FileName}
 use Rattle.cat_directory.specs.Names.{name_of}
 use Rattle.cat_ledger_model.specs.Portions.{Portion, all_live, leaf_of, records_of, all_records, Apart, ArePortions}
 use Rattle.cat_ledger_model.specs.Leaves.{AreLeaves, has_live_id}
 use Rattle.cat_ledger_model.specs.Users.{users_of, has_name}
-use Rattle.cat_ledger_model.specs.Ledger.{Ledger, IsLedger, IsPutRecord, IsPast, IsNew, names_used, names_of_portion, names_of_view, names_of_commit, names_of_merging, table_of}
+use Rattle.cat_ledger_model.specs.Ledger.{Ledger, IsLedger, IsPutRecord, IsPast, IsNew, names_of_portion, names_of_view, names_of_commit, names_of_merging, table_of}
 use Rattle.cat_ledger_model.specs.Stored.{FileBytes, AreStored, joined_sources}
 use Rattle.cat_ledger_model.specs.Calls.{wrote, Flushed, MayLeave}
 use Rattle.cat_ledger_model.specs.Laws.{PutsItem}
@@ -28,9 +27,9 @@ use Rattle.cat_ledger_model.proofs.Begins.{refusals_change_no_state}
 use Rattle.cat_ledger_model.proofs.Stored.{files_stay, writes_store, flushes_store, refusals_store, sweeps_spare}
 use Rattle.cat_ledger_model.proofs.Commits.{AllPairs-from_Apart}
 use Rattle.cat_ledger_model.proofs.Shown.{Apart-map, rows-shown}
-use Rattle.cat_ledger_shape.specs.Shapes.{Shape, shape_of, IsShape, names_of_leaves, flushed_leaf}
+use Rattle.cat_ledger_shape.specs.Shapes.{Shape, shape_of, flushed_leaf}
 use Rattle.cat_ledger_shape.specs.Steps.{with_write, IsFlushed, Leaves}
-use Rattle.cat_ledger_shape.specs.Ties.{file_of, ToldFiles, Carries, TouchesOnly}
+use Rattle.cat_ledger_shape.specs.Ties.{file_of, ToldFiles, Carries}
 use Rattle.cat_ledger_shape.specs.WriteLaws.{WritesMake, WritesKeep, WritesFlush, FlushesMake, FlushesKeep, RefusalsMake, RefusalsKeep, SweepsMake, FlushedMayStand, WritesAreNewest, IdsStandOnce, NumbersMayBeTaken}
 use Rattle.cat_ledger_shape.proofs.Told.{name_of_file, same_number, or_told, told_same, as_told, with_files, changes_with_files, changes_untold, there_with_files, Lifts, KeepsSound, keeps, makes, makes_untouched}
 use Rattle.cat_ledger_shape.proofs.Leaves.{leaves_written, any_map}

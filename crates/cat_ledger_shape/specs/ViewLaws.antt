@@ -1,9 +1,9 @@
 -- The laws of recorded views and of holds over shapes.
-use Rattle.std.specs.Prelude.{◌≡◌, ℕ, ◌+◌, ◌<◌, ◌≤◌, ◌==◌, true, false, not, List, [], ◌∷◌, length, filter, map, All}
-use Rattle.std.specs.List.{list_any, flat_map}
+use Rattle.std.specs.Prelude.{◌≡◌, ℕ, ◌≤◌, ◌==◌, true, false, List, [], All}
+use Rattle.std.specs.List.{list_any}
 use Rattle.cat_model.specs.Files.{Name}
 use Rattle.cat_model.specs.State.{Hold, held_in}
-use Rattle.cat_model.specs.View.{View, IsView, needs}
+use Rattle.cat_model.specs.View.{View, IsView}
 use Rattle.cat_ledger_model.specs.Calls as model
 use Rattle.cat_ledger_model.specs.Users.{users_of, times}
 use Rattle.cat_ledger_shape.specs.Shapes.{Shape, IsShape, names_of_views, view_now}

@@ -1,6 +1,6 @@
 -- The laws of writes, flushes, refusals and sweeps over shapes: what a call makes of a shape and of what the device tells is what the
 -- call of the model makes of each ledger that is carried.
-use Rattle.std.specs.Prelude.{◌≡◌, ℕ, ◌+◌, ◌<◌, ◌≤◌, ◌^◌, true, List, [], ◌∷◌, ◌++◌, length, Some, All}
+use Rattle.std.specs.Prelude.{◌≡◌, ◌+◌, ◌<◌, ◌≤◌, true, List, [], ◌∷◌, ◌++◌, Some, All}
 use Rattle.std.specs.List.{AllByRecursion}
 use Rattle.cat_model.specs.Text.{Text}
 use Rattle.cat_model.specs.Write.{Write}
@@ -12,10 +12,9 @@ use Rattle.cat_directory.specs.declared.name.FileName.{FileName}
 use Rattle.cat_directory.specs.declared.name.FileName.TheVariants as file
 use Rattle.cat_directory.specs.Names.{name_of}
 use Rattle.cat_ledger_model.specs.Leaves.{AreLeaves, has_live_id}
-use Rattle.cat_ledger_model.specs.Users.{users_of, times}
+use Rattle.cat_ledger_model.specs.Users.{users_of}
 use Rattle.cat_ledger_model.specs.Ledger.{IsNew}
 use Rattle.cat_ledger_model.specs.Stored.{joined_sources}
-use Rattle.cat_ledger_model.specs.Calls as model
 use Rattle.cat_ledger_model.specs.Calls.{wrote, Flushed, MayLeave}
 use Rattle.cat_ledger_model.specs.Laws.{PutsItem}
 use Rattle.cat_ledger_shape.specs.Shapes.{Shape, IsShape, names_of_leaves, flushed_leaf}
