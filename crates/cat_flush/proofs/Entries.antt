@@ -1,5 +1,7 @@
 -- What a look-up in the map, a removal and an insertion say of the records, where each entry stands under the id of its item.
-use Rattle.std.proofs.Common.{◌≡◌, Bool, cond, not, filter, List, [], ◌∷◌, ◌++◌, Some, None, find, inl, inr, refl, sym, ap, ◌∙◌, bytes_eq, string_bytes, String, is_some}
+use Rattle.std.proofs.Common.{◌≡◌, ℕ, ◌-◌, Bool, true, false, cond, not, filter, List, [], ◌∷◌, ◌++◌, length, take, Option, Some, None, IsSome, find, inl, inr, refl, sym, ap, ◌∙◌, bytes_eq, string_bytes, String, is_some, arith}
+use Rattle.std.specs.Option.{option_to_list}
+use Rattle.std.proofs.lemmas.List.{length_push, map_push, take_at}
 use Rattle.std.proofs.lemmas.Bool.{cases_Bool}
 use Rattle.std.specs.Map.{lookup, remove_entry, values_of}
 use Rattle.std.specs.String.{string_eq}
@@ -75,7 +77,29 @@ module _ {A : Type 0} (id : Text) where
         | inr f ↦ rw (f, sym here ∙ f) (ap (λ l. e.1 ∷ l) rest)
       ]
 
+-- the entries whose records pass hold the records that pass
+pub values-filter : {K : Type 0} (p : Record → Bool) (es : List (K × Record)) → values_of (filter (λ e. p e.1) es) ≡ filter p (values_of es)
+values-filter p [] = refl
+values-filter p (e ∷ es) = elim (cases_Bool (p e.1)) [
+  | inl t ↦ rw t (ap (λ l. e.1 ∷ l) (values-filter p es))
+  | inr f ↦ rw f (values-filter p es)
+]
+
+-- where the last entry is taken out, the records before the last are left
+pub values_popped : {K : Type 0} (es left : List (K × Record)) (last : Option (K × Record)) → es ≡ left ++ option_to_list last → IsSome last
+    → values_of left ≡ take (length (values_of es) - 1) (values_of es)
+values_popped es left None e some = let no : false ≡ true = some in cc
+values_popped es left (Some last) e some =
+    let pushed : values_of es ≡ values_of left ++ last.1 ∷ [] = ap values_of e ∙ map_push (λ x. x.1) left last in
+    let n : ℕ = length (values_of left ++ last.1 ∷ []) - 1 in
+    let long : length (values_of left) ≡ length (values_of left ++ last.1 ∷ []) - 1 = omega (arith, length_push (values_of left) last.1) in
+    sym (ap (λ rs. take (length rs - 1) rs) pushed ∙ take_at (values_of left) (last.1 ∷ []) n long)
+
 -- the entries stay under the ids
+pub keyed-front : {A : Type 0} (es fs : List (String A × Record)) → AreKeyed (es ++ fs) → AreKeyed es
+keyed-front [] fs keyed = tt
+keyed-front (e ∷ es) fs keyed = (keyed.0, keyed-front es fs keyed.1)
+
 pub keyed-filter : {A : Type 0} (p : String A × Record → Bool) (es : List (String A × Record)) → AreKeyed es → AreKeyed (filter p es)
 keyed-filter p [] keyed = tt
 keyed-filter p (e ∷ es) keyed = elim (cases_Bool (p e)) [

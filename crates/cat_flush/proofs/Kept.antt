@@ -1,7 +1,7 @@
 -- A write keeps what always holds of the buffer.
-use Rattle.std.proofs.Common.{◌+◌, ◌≡◌, ◌≢◌, ℕ, ◌<◌, ◌≤◌, Bool, true, not, [], length, List, All, bytes_eq, refl, sym, arith}
-use Rattle.std.proofs.lemmas.List.{length_push}
-use Rattle.std.proofs.lemmas.List.Elements.{All-filter, All-push, All-nil, filter_passes, All-weaker}
+use Rattle.std.proofs.Common.{◌≡◌, ◌≢◌, ℕ, ◌<◌, ◌≤◌, Bool, true, not, [], length, take, All, AllPairs, bytes_eq, refl, sym, arith}
+use Rattle.std.proofs.lemmas.List.{length_push, length-take, get_or-take}
+use Rattle.std.proofs.lemmas.List.Elements.{All-filter, All-push, All-nil, All-take, filter_passes, All-weaker}
 use Rattle.std.proofs.lemmas.List.Filters.{length-filter_both}
 use Rattle.std.proofs.lemmas.List.Kept.{AllPairs-filter}
 use Rattle.std.proofs.lemmas.List.Quantifiers.{all_pairs_push}
@@ -56,3 +56,19 @@ IsBuffered-put b n item is space positive newest fits =
       rising = all_pairs_push (λ r s. r.number < s.number) rest last less.rising below;
       distinct = all_pairs_push (λ r s. r.item.id ≢ s.item.id) rest last less.distinct others;
     }
+
+-- a first part of the records may stand alone
+pub IsBuffered-take : (b : Buffered) (n : ℕ) → IsBuffered b → IsBuffered (record { schema = b.schema; records = take n b.records })
+IsBuffered-take b n is = record {
+  few = omega (arith, is.few, length-take n b.records);
+  items = All-take (λ r. IsItem b.schema r.item) n b.records is.items;
+  positive = All-take (λ r. 1 ≤ r.number) n b.records is.positive;
+  rising = pairs (λ r s. r.number < s.number) is.rising;
+  distinct = pairs (λ r s. r.item.id ≢ s.item.id) is.distinct;
+}
+  where
+    pairs : (R : Record → Record → Type 0) → AllPairs R b.records → AllPairs R (take n b.records)
+    pairs R h i j d p q =
+        let within : j < n = omega (arith, length-take n b.records, q) in
+        let long : j < length b.records = omega (arith, length-take n b.records, q) in
+        rw (get_or-take n b.records i d (omega (arith, p, within)), get_or-take n b.records j d within) (h i j d p long)

@@ -1,17 +1,20 @@
 //! The items put since the last flush, in the order of their writes.
-ghost use Rattle.std.specs.Prelude.{◌≡◌, ◌<◌, ◌≤◌, ◌↔◌, [], ◌∷◌, ◌++◌, filter, not, map, length, find, option_map, All, IsTrue, OnErr, IfOk, OnOk};
+ghost use Rattle.std.specs.Prelude.{◌≡◌, ◌<◌, ◌≤◌, ◌-◌, ◌↔◌, [], ◌∷◌, ◌++◌, filter, not, map, length, take, find, option_map, All, IsTrue, OnErr, IfOk, OnOk};
 ghost use Rattle.std.specs.String.{string_eq};
 ghost use Rattle.indexmap.specs.IndexMap.{values};
 ghost use Rattle.cat_model.specs.Text.{same_text};
 ghost use Rattle.cat_model.specs.Item.{IsItem};
+ghost use Rattle.cat_model.specs.Query.{matches};
 ghost use Rattle.cat_model.specs.Write as write;
 ghost use Rattle.cat_model.specs.Table.{without, after};
 ghost use Rattle.cat_model.specs.View.{row_of};
 ghost use Rattle.cat_segment.specs.Fields.{record_of};
+ghost use Rattle.cat_query.specs.View.{query_of};
 ghost use Rattle.cat_flush.specs.Buffered.{IsBuffered, buffer_limit, has_id, sources_of};
 
 use crate::record::Record;
 use cat_base::{MAX_BUFFERED_ITEMS, SegNo, WriteNo};
+use cat_query::Query;
 use cat_schema::{Item, Schema};
 use cat_segment::{Row, Segment};
 use indexmap::IndexMap;
@@ -133,6 +136,28 @@ impl Buffer {
         ensures found { result ≡ has_id id.now self.old.records }
     {
         self.entries.shift_remove(id).is_some()
+    }
+
+    /// Takes the items out that the query matches (Lucene: `IndexWriter.deleteDocuments` by a query). It takes no memory.
+    pub fn delete_where(&mut self, query: &Query)
+        ensures { self.new ≡ record {
+          schema = self.old.schema;
+          records = without self.old.records (write.Write.delete_where (query_of query.now));
+        } }
+    {
+        self.entries.retain(
+            |_id: &String, waiting: &mut Record| -> bool
+                ensures { (result ≡ not (matches (query_of query.entry.now) waiting.old.item)) × (waiting.new ≡ waiting.old) }
+            { !query.accepts(waiting.item()) },
+        );
+    }
+
+    /// Takes the item out that was put last, and one waits. It takes no memory, so that a put can be taken back.
+    pub fn pop(&mut self)
+        requires { 0 < length self.old.records }
+        ensures { self.new ≡ record { schema = self.old.schema; records = take (length self.old.records - 1) self.old.records } }
+    {
+        self.entries.pop();
     }
 
     /// The segment of the items that wait, under the number, with the texts that they came as (Lucene:

@@ -3,6 +3,7 @@ ghost use Rattle.std.specs.Prelude.{◌≡◌, ◌<◌, ◌≤◌, ◌+◌, ◌^
 
 use cat_base::{Refusal, SegNo, WriteNo};
 use cat_flush::{Buffer, Sealed};
+use cat_query::Query;
 use cat_schema::Schema;
 use cat_segment::Segment;
 use std::alloc::{AllocError, Global};
@@ -126,4 +127,35 @@ fn expect_many(rt: &impl Abort, segment: &Segment, schema: &Schema) {
     assert!(rt; segment.len() == 1_024);
     assert!(rt; segment.row_with("i512") == Some(512));
     assert!(rt; segment.schema().fields().len() == schema.fields().len());
+}
+
+/// Four items, of which two have a price of 5 or more.
+const PRICED: &str = r#"{"id":"a","price":1}
+{"id":"b","price":7}
+{"id":"c","price":5}
+{"id":"d","price":2}"#;
+
+#[test]
+fn what_a_query_matches_goes(rt: HostRuntime) -> Result<(), Fail> {
+    let schema = Schema::read(rt.alloc(), FIELDS)?;
+    let mut buffer = Buffer::new(rt.alloc(), &schema)?;
+    put_lines(rt.alloc(), &schema, &mut buffer, 4, PRICED)?;
+    let query = Query::parse(&schema, rt.alloc(), "price:[5 TO *]")?;
+    buffer.delete_where(&query);
+    let sealed = seal(&rt, &buffer, 1)?;
+    expect_rows(&rt, &sealed.segment, &[("a", 1), ("d", 4)]);
+    expect_popped(&rt, &mut buffer, "d");
+    assert!(rt; buffer.len() == 1);
+    expect_popped(&rt, &mut buffer, "a");
+    assert!(rt; buffer.is_empty());
+    Ok(())
+}
+
+/// Takes the last item out, which is the one of the id.
+fn expect_popped(rt: &impl Abort, buffer: &mut Buffer, id: &str) {
+    assert!(rt; buffer.get(id).is_some());
+    if buffer.len() > 0 {
+        buffer.pop();
+    }
+    assert!(rt; buffer.get(id).is_none());
 }
