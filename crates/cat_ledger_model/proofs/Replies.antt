@@ -15,6 +15,7 @@ use Rattle.cat_model.proofs.Lists.{list_any-append}
 use Rattle.cat_model.proofs.Runs.{greatest_in, or_true}
 use Rattle.cat_ledger_model.specs.Ledger.{Ledger, RecordedView, IsLedger, state_of, view_shown}
 use Rattle.cat_ledger_model.specs.Calls.{tokens_in, has_recorded, wrote, Flushes, Flushed, RecordsView, Pruned, views_that, stays_pruned, Committed, Unsnapped}
+use Rattle.cat_ledger_model.specs.Plans.{MergePolicy}
 use Rattle.cat_ledger_model.specs.Replies.{MakesRoom, Maintains, SnapsBy, CarriesOut, IsLeft, FindsNone}
 use Rattle.cat_ledger_model.specs.Laws.{CallsAreSteps}
 use Rattle.cat_ledger_model.proofs.Flushes.{flushed, flushes_change_no_state, writes_are_written}
@@ -127,18 +128,21 @@ module _ (l : Ledger) (s : ℕ) (r : Reply) (new : Ledger) (ok : IsLedger l) whe
       (subst IsLedger (sym m.1) h.0, m.0, ap state_of m.1)
   close_by t false m = let k = stays m.1 in (k.0, m.0, k.1)
 
-  maintains : (c : Chore) (n : News) → Maintains c n l new → IsLedger new × (state_of new ≡ state_of l) × IsTrue (may_tell c n)
-  maintains Chore.merge (News.begun_merge k) m = let x = begun_change_no_state m.0 k l new ok m.1 in (x.0, x.1, refl)
-  maintains Chore.merge (News.copied n) m = let x = copies_change_no_state m.0 l new ok m.1 in (x.0, x.1, refl)
-  maintains Chore.merge News.done m = let x = merges_change_no_state m.0 l new ok m.1 in (x.0, x.1, refl)
-  maintains Chore.force (News.begun_merge k) m = let x = begun_change_no_state 0 k l new ok m in (x.0, x.1, refl)
-  maintains Chore.sweep (News.swept n) m = let x = refusals_change_no_state [] l new ok m in (x.0, x.1, refl)
-  maintains c n m = let x = stays m.1 in (x.0, x.1, m.0)
+  maintains : (policy : MergePolicy) (c : Chore) (n : News) → Maintains policy c n l new → IsLedger new × (state_of new ≡ state_of l) × IsTrue (may_tell c n)
+  maintains policy Chore.merge News.idle m = let x = stays m.2 in (x.0, x.1, refl)
+  maintains policy Chore.merge (News.begun_merge k) m = let x = begun_change_no_state m.1 k l new ok m.3 in (x.0, x.1, refl)
+  maintains policy Chore.merge (News.copied n) m = let x = copies_change_no_state m.0 l new ok m.1 in (x.0, x.1, refl)
+  maintains policy Chore.merge News.done m = let x = merges_change_no_state m.0 l new ok m.1 in (x.0, x.1, refl)
+  maintains policy Chore.force News.idle m = let x = stays m.2 in (x.0, x.1, refl)
+  maintains policy Chore.force News.busy m = let x = stays m.1 in (x.0, x.1, refl)
+  maintains policy Chore.force (News.begun_merge k) m = let x = begun_change_no_state 0 k l new ok m.2 in (x.0, x.1, refl)
+  maintains policy Chore.sweep (News.swept n) m = let x = refusals_change_no_state [] l new ok m in (x.0, x.1, refl)
+  maintains policy c n m = let x = stays m.1 in (x.0, x.1, m.0)
 
-  chore_by : (c : Chore) (b : Bool) → cond b ((n : News) × (r ≡ Ok (Answer.news n)) × Maintains c n l new) ((r ≡ Err NoForm) × (new ≡ l))
+  chore_by : (policy : MergePolicy) (c : Chore) (b : Bool) → cond b ((n : News) × (r ≡ Ok (Answer.news n)) × Maintains policy c n l new) ((r ≡ Err NoForm) × (new ≡ l))
       → IsLedger new × cond b ((n : News) × (r ≡ Ok (Answer.news n)) × IsTrue (may_tell c n)) (r ≡ Err NoForm) × (state_of new ≡ state_of l)
-  chore_by c true (n, e, m) = let k = maintains c n m in (k.0, (n, e, k.2), k.1)
-  chore_by c false m = let k = stays m.1 in (k.0, m.0, k.1)
+  chore_by policy c true (n, e, m) = let k = maintains policy c n m in (k.0, (n, e, k.2), k.1)
+  chore_by policy c false m = let k = stays m.1 in (k.0, m.0, k.1)
 
   snaps_by : (x : Reply) → SnapsBy l x new → IsLedger new × Snapped (state_of l) x (state_of new)
   snaps_by (Ok (Answer.number g)) m = snapshots_are_taken g l new ok m
@@ -172,35 +176,35 @@ module _ (l : Ledger) (s : ℕ) (r : Reply) (new : Ledger) (ok : IsLedger l) whe
       ap (λ (x : Ledger). length x.views) call.rest ∙ sym (length-map view_shown (views_that (stays_pruned (held_in l.holds) n (tokens_in l.views)) l.views)) ∙ ap length (pruned_shown (held_in l.holds) n l.views) in
       (k.0, (e ∙ ap₂ (λ (a b : ℕ). Ok (Answer.number (a - b))) (sym (length-map view_shown l.views)) gone, k.1))
 
-  serves : (c : Command) → CarriesOut l s c r new → IsLedger new × Moves l.schema (state_of l) s c r (state_of new)
-  serves Command.formless m = let k = stays m.1 in (k.0, (m.0, k.1))
-  serves (Command.put (Ok i)) m = let k = put_by i (ltb l.count last_number) refl m in (k.0, (k.1, k.2))
-  serves (Command.put (Err e)) m = let k = stays m.1 in (k.0, (m.0, k.1))
-  serves (Command.delete (Ok id)) m = let k = delete_by id (ltb l.count last_number) refl m in (k.0, (k.1, k.2))
-  serves (Command.delete (Err e)) m = let k = stays m.1 in (k.0, (m.0, k.1))
-  serves (Command.delete_where (Ok q)) m = let k = delete_where_by q (ltb l.count last_number) refl m in (k.0, (k.1, k.2))
-  serves (Command.delete_where (Err e)) m = let k = stays m.1 in (k.0, (m.0, k.1))
-  serves Command.refresh m = let k = refresh_by (refuses_refresh (state_of l)) m in (k.0, (k.1, k.2))
-  serves Command.open_newest m =
+  serves : (policy : MergePolicy) (c : Command) → CarriesOut policy l s c r new → IsLedger new × Moves l.schema (state_of l) s c r (state_of new)
+  serves policy Command.formless m = let k = stays m.1 in (k.0, (m.0, k.1))
+  serves policy (Command.put (Ok i)) m = let k = put_by i (ltb l.count last_number) refl m in (k.0, (k.1, k.2))
+  serves policy (Command.put (Err e)) m = let k = stays m.1 in (k.0, (m.0, k.1))
+  serves policy (Command.delete (Ok id)) m = let k = delete_by id (ltb l.count last_number) refl m in (k.0, (k.1, k.2))
+  serves policy (Command.delete (Err e)) m = let k = stays m.1 in (k.0, (m.0, k.1))
+  serves policy (Command.delete_where (Ok q)) m = let k = delete_where_by q (ltb l.count last_number) refl m in (k.0, (k.1, k.2))
+  serves policy (Command.delete_where (Err e)) m = let k = stays m.1 in (k.0, (m.0, k.1))
+  serves policy Command.refresh m = let k = refresh_by (refuses_refresh (state_of l)) m in (k.0, (k.1, k.2))
+  serves policy Command.open_newest m =
       let t : ℕ = greatest (tokens_in l.views) in
       let h = holds_are_apart l (with_hold (state_of l) s t).holds ok (sound_opened (state_of l).views l.holds s t (has_hold l.holds s t) ok.sound (newest_there l ok)) in
       let same : greatest (tokens_in l.views) ≡ greatest (tokens (state_of l).views) = ap greatest (sym (tokens-shown l.views)) in
       (subst IsLedger (sym m.1) h.0, (m.0 ∙ ap (λ n. Ok (Answer.number n)) same, ap state_of m.1 ∙ ap (with_hold (state_of l) s) same))
-  serves (Command.open_at t) m =
+  serves policy (Command.open_at t) m =
       let k = open_by t (has_recorded l.views t) refl m in
       let e : has_recorded l.views t ≡ has_view (state_of l).views t = sym (has-shown l.views t) in
       (k.0, (k.1 ∙ ap (λ b. cond b (Ok (Answer.number t)) (Err Gone)) e, k.2 ∙ ap (λ b. cond b (with_hold (state_of l) s t) (state_of l)) e))
-  serves (Command.close t) m = let k = close_by t (has_hold l.holds s t) m in (k.0, (k.1, k.2))
-  serves (Command.read t asked) m = let k = stays m.1 in (k.0, (m.0, k.1))
-  serves (Command.files_of_token t) m = let k = stays m.1 in (k.0, (m.0, k.1))
-  serves (Command.chore c) m = let k = chore_by c (s == 0) m in (k.0, (k.1, k.2))
-  serves (Command.prune n) m = prune_moves n m.0 m.1
-  serves (Command.commit (Err e)) m = let k = stays m.1 in (k.0, (m.0, k.1))
-  serves (Command.commit (Ok text)) (mid, f, call, e) = commit_moves text mid f call e
-  serves Command.snapshot m = let k = snaps_by r m.1 in (k.0, (m.0, k.1))
-  serves (Command.release_snapshot g) m = let k = release_by g (ltb 0 (snapshots_in l.taken g)) m in (k.0, (k.1, k.2))
-  serves (Command.files_of_commit g) m = let k = stays m.1 in (k.0, (m.0, k.1))
-  serves (Command.text_of_commit g) m = let k = stays m.1 in (k.0, (m.0, k.1))
+  serves policy (Command.close t) m = let k = close_by t (has_hold l.holds s t) m in (k.0, (k.1, k.2))
+  serves policy (Command.read t asked) m = let k = stays m.1 in (k.0, (m.0, k.1))
+  serves policy (Command.files_of_token t) m = let k = stays m.1 in (k.0, (m.0, k.1))
+  serves policy (Command.chore c) m = let k = chore_by policy c (s == 0) m in (k.0, (k.1, k.2))
+  serves policy (Command.prune n) m = prune_moves n m.0 m.1
+  serves policy (Command.commit (Err e)) m = let k = stays m.1 in (k.0, (m.0, k.1))
+  serves policy (Command.commit (Ok text)) (mid, f, call, e) = commit_moves text mid f call e
+  serves policy Command.snapshot m = let k = snaps_by r m.1 in (k.0, (m.0, k.1))
+  serves policy (Command.release_snapshot g) m = let k = release_by g (ltb 0 (snapshots_in l.taken g)) m in (k.0, (k.1, k.2))
+  serves policy (Command.files_of_commit g) m = let k = stays m.1 in (k.0, (m.0, k.1))
+  serves policy (Command.text_of_commit g) m = let k = stays m.1 in (k.0, (m.0, k.1))
 
   left : IsLeft l new → IsLedger new × (state_of new ≡ state_of l)
   left h =
@@ -240,6 +244,6 @@ module _ (l : Ledger) (s : ℕ) (r : Reply) (new : Ledger) (ok : IsLedger l) whe
 
 pub calls_are_steps : CallsAreSteps
 unfolding Stepped
-calls_are_steps l new line r ok (inl m) = let k = serves l line.session r new ok line.command m in (k.0, inl k.1)
-calls_are_steps l new line r ok (inr (inl m)) = let k = left l line.session r new ok m.1 in (k.0, inr (m.0, k.1))
-calls_are_steps l new line r ok (inr (inr m)) = finds_none l line.session r new ok line.command m
+calls_are_steps policy l new line r ok (inl m) = let k = serves l line.session r new ok policy line.command m in (k.0, inl k.1)
+calls_are_steps policy l new line r ok (inr (inl m)) = let k = left l line.session r new ok m.1 in (k.0, inr (m.0, k.1))
+calls_are_steps policy l new line r ok (inr (inr m)) = finds_none l line.session r new ok line.command m

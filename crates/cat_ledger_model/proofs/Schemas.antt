@@ -6,6 +6,7 @@ use Rattle.cat_model.specs.Limits.{last_number, buffer_limit}
 use Rattle.cat_model.specs.State.{refuses_refresh, has_hold, snapshots_in}
 use Rattle.cat_ledger_model.specs.Ledger.{Ledger, state_of}
 use Rattle.cat_ledger_model.specs.Calls.{has_recorded, Flushes, Flushed, RecordsNow}
+use Rattle.cat_ledger_model.specs.Plans.{MergePolicy}
 use Rattle.cat_ledger_model.specs.Replies.{Maintains, SnapsBy, CarriesOut, IsLeft, FindsNone}
 use Rattle.cat_ledger_model.specs.Laws.{SchemasStay}
 
@@ -21,13 +22,16 @@ records_same l new true k = same l new k
 records_same l new false k = ap (λ (x : Ledger). x.schema) k.rest
 
 module _ (l : Ledger) (s : ℕ) (r : Reply) (new : Ledger) where
-  maintains_same : (c : Chore) (n : News) → Maintains c n l new → new.schema ≡ l.schema
-  maintains_same Chore.merge (News.begun_merge k) m = ap (λ (x : Ledger). x.schema) m.1.rest
-  maintains_same Chore.merge (News.copied n) m = ap (λ (x : Ledger). x.schema) m.1.rest
-  maintains_same Chore.merge News.done m = ap (λ (x : Ledger). x.schema) m.1.rest
-  maintains_same Chore.force (News.begun_merge k) m = ap (λ (x : Ledger). x.schema) m.rest
-  maintains_same Chore.sweep (News.swept n) m = ap (λ (x : Ledger). x.schema) m.rest
-  maintains_same c n m = same l new m.1
+  maintains_same : (policy : MergePolicy) (c : Chore) (n : News) → Maintains policy c n l new → new.schema ≡ l.schema
+  maintains_same policy Chore.merge News.idle m = same l new m.2
+  maintains_same policy Chore.merge (News.begun_merge k) m = ap (λ (x : Ledger). x.schema) m.3.rest
+  maintains_same policy Chore.merge (News.copied n) m = ap (λ (x : Ledger). x.schema) m.1.rest
+  maintains_same policy Chore.merge News.done m = ap (λ (x : Ledger). x.schema) m.1.rest
+  maintains_same policy Chore.force News.idle m = same l new m.2
+  maintains_same policy Chore.force News.busy m = same l new m.1
+  maintains_same policy Chore.force (News.begun_merge k) m = ap (λ (x : Ledger). x.schema) m.2.rest
+  maintains_same policy Chore.sweep (News.swept n) m = ap (λ (x : Ledger). x.schema) m.rest
+  maintains_same policy c n m = same l new m.1
 
   snaps_same : (x : Reply) → SnapsBy l x new → new.schema ≡ l.schema
   snaps_same (Ok (Answer.number g)) m = ap (λ (x : Ledger). x.schema) m.rest
@@ -45,28 +49,28 @@ module _ (l : Ledger) (s : ℕ) (r : Reply) (new : Ledger) where
   room_same true mid k = same l mid k
   room_same false mid k = ap (λ (x : Ledger). x.schema) k.rest
 
-  serves_same : (c : Command) → CarriesOut l s c r new → new.schema ≡ l.schema
-  serves_same Command.formless m = same l new m.1
-  serves_same (Command.put (Ok i)) m = by_bool (ltb l.count last_number) _ _ (λ x. ap (λ (y : Ledger). y.schema) x.4 ∙ room_same (ltb (length l.buffered) buffer_limit) x.0 x.1) (λ x. same l new x.1) m
-  serves_same (Command.put (Err e)) m = same l new m.1
-  serves_same (Command.delete (Ok id)) m = by_bool (ltb l.count last_number) _ _ (λ x. ap (λ (y : Ledger). y.schema) x.1) (λ x. same l new x.1) m
-  serves_same (Command.delete (Err e)) m = same l new m.1
-  serves_same (Command.delete_where (Ok q)) m = by_bool (ltb l.count last_number) _ _ (λ x. ap (λ (y : Ledger). y.schema) x.1) (λ x. same l new x.1) m
-  serves_same (Command.delete_where (Err e)) m = same l new m.1
-  serves_same Command.refresh m = by_bool (refuses_refresh (state_of l)) _ _ (λ x. same l new x.1) (λ x. records_same x.0 new (has_recorded x.0.views x.0.count) x.2 ∙ flush_same l x.0 x.1) m
-  serves_same Command.open_newest m = ap (λ (y : Ledger). y.schema) m.1
-  serves_same (Command.open_at t) m = by_bool (has_recorded l.views t) _ _ (λ x. ap (λ (y : Ledger). y.schema) x.1) (λ x. same l new x.1) m
-  serves_same (Command.close t) m = by_bool (has_hold l.holds s t) _ _ (λ x. ap (λ (y : Ledger). y.schema) x.1) (λ x. same l new x.1) m
-  serves_same (Command.read t asked) m = same l new m.1
-  serves_same (Command.files_of_token t) m = same l new m.1
-  serves_same (Command.chore c) m = by_bool (s == 0) _ _ (λ x. maintains_same c x.0 x.2) (λ x. same l new x.1) m
-  serves_same (Command.prune n) m = ap (λ (y : Ledger). y.schema) m.1.rest
-  serves_same (Command.commit (Err e)) m = same l new m.1
-  serves_same (Command.commit (Ok text)) m = ap (λ (y : Ledger). y.schema) m.2.rest ∙ flush_same l m.0 m.1
-  serves_same Command.snapshot m = snaps_same r m.1
-  serves_same (Command.release_snapshot g) m = by_bool (ltb 0 (snapshots_in l.taken g)) _ _ (λ x. ap (λ (y : Ledger). y.schema) x.1.rest) (λ x. same l new x.1) m
-  serves_same (Command.files_of_commit g) m = same l new m.1
-  serves_same (Command.text_of_commit g) m = same l new m.1
+  serves_same : (policy : MergePolicy) (c : Command) → CarriesOut policy l s c r new → new.schema ≡ l.schema
+  serves_same policy Command.formless m = same l new m.1
+  serves_same policy (Command.put (Ok i)) m = by_bool (ltb l.count last_number) _ _ (λ x. ap (λ (y : Ledger). y.schema) x.4 ∙ room_same (ltb (length l.buffered) buffer_limit) x.0 x.1) (λ x. same l new x.1) m
+  serves_same policy (Command.put (Err e)) m = same l new m.1
+  serves_same policy (Command.delete (Ok id)) m = by_bool (ltb l.count last_number) _ _ (λ x. ap (λ (y : Ledger). y.schema) x.1) (λ x. same l new x.1) m
+  serves_same policy (Command.delete (Err e)) m = same l new m.1
+  serves_same policy (Command.delete_where (Ok q)) m = by_bool (ltb l.count last_number) _ _ (λ x. ap (λ (y : Ledger). y.schema) x.1) (λ x. same l new x.1) m
+  serves_same policy (Command.delete_where (Err e)) m = same l new m.1
+  serves_same policy Command.refresh m = by_bool (refuses_refresh (state_of l)) _ _ (λ x. same l new x.1) (λ x. records_same x.0 new (has_recorded x.0.views x.0.count) x.2 ∙ flush_same l x.0 x.1) m
+  serves_same policy Command.open_newest m = ap (λ (y : Ledger). y.schema) m.1
+  serves_same policy (Command.open_at t) m = by_bool (has_recorded l.views t) _ _ (λ x. ap (λ (y : Ledger). y.schema) x.1) (λ x. same l new x.1) m
+  serves_same policy (Command.close t) m = by_bool (has_hold l.holds s t) _ _ (λ x. ap (λ (y : Ledger). y.schema) x.1) (λ x. same l new x.1) m
+  serves_same policy (Command.read t asked) m = same l new m.1
+  serves_same policy (Command.files_of_token t) m = same l new m.1
+  serves_same policy (Command.chore c) m = by_bool (s == 0) _ _ (λ x. maintains_same policy c x.0 x.2) (λ x. same l new x.1) m
+  serves_same policy (Command.prune n) m = ap (λ (y : Ledger). y.schema) m.1.rest
+  serves_same policy (Command.commit (Err e)) m = same l new m.1
+  serves_same policy (Command.commit (Ok text)) m = ap (λ (y : Ledger). y.schema) m.2.rest ∙ flush_same l m.0 m.1
+  serves_same policy Command.snapshot m = snaps_same r m.1
+  serves_same policy (Command.release_snapshot g) m = by_bool (ltb 0 (snapshots_in l.taken g)) _ _ (λ x. ap (λ (y : Ledger). y.schema) x.1.rest) (λ x. same l new x.1) m
+  serves_same policy (Command.files_of_commit g) m = same l new m.1
+  serves_same policy (Command.text_of_commit g) m = same l new m.1
 
   left_same : IsLeft l new → new.schema ≡ l.schema
   left_same h =
@@ -79,6 +83,6 @@ module _ (l : Ledger) (s : ℕ) (r : Reply) (new : Ledger) where
   none_same _ m = absurd m
 
 pub schemas_stay : SchemasStay
-schemas_stay l new line r (inl m) = serves_same l line.session r new line.command m
-schemas_stay l new line r (inr (inl m)) = left_same l line.session r new m.1
-schemas_stay l new line r (inr (inr m)) = none_same l line.session r new line.command m
+schemas_stay policy l new line r (inl m) = serves_same l line.session r new policy line.command m
+schemas_stay policy l new line r (inr (inl m)) = left_same l line.session r new m.1
+schemas_stay policy l new line r (inr (inr m)) = none_same l line.session r new line.command m

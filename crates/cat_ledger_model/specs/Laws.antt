@@ -13,6 +13,7 @@ use Rattle.cat_model.specs.Merged.{merged_leaf, AreDeletedFrom}
 use Rattle.cat_model.specs.Run.{Line, Reply, Run, IsRun, Fits}
 use Rattle.cat_model.specs.Limits.{last_number, segment_limit}
 use Rattle.cat_model.specs.Table.{Opened}
+use Rattle.cat_ledger_model.specs.Plans.{MergePolicy}
 use Rattle.cat_ledger_model.specs.Replies.{Calls}
 use Rattle.cat_model.specs.State.{StandsFor, Step, Hold, IsSound, held_in, written, refreshed, views_pruned, committed, is_below, newest_of, TakesSnapshot, GivesSnapshot, IsFresh}
 use Rattle.cat_ledger_model.specs.Portions.{Portion, Apart, all_records, leaf_of, view_of, records_of, Merging, all_live, window_now, settled, merged}
@@ -190,7 +191,7 @@ SweepsSpare =
 -- The ledger's calls for a line leave it sound, and are a step of the service from its state.
 abbrev pub CallsAreSteps : Type 0
 CallsAreSteps =
-    (l new : Ledger) (line : Line) (r : Reply) → IsLedger l → Calls l line r new
+    (policy : MergePolicy) (l new : Ledger) (line : Line) (r : Reply) → IsLedger l → Calls policy l line r new
     → IsLedger new × Step l.schema (state_of l) line r (state_of new)
 
 -- ---- what other crates ask for
@@ -241,7 +242,7 @@ UsersAreCounted = (l : Ledger) → IsLedger l → (q : Name) → users_of l.user
 
 -- No call changes the fields.
 abbrev pub SchemasStay : Type 0
-SchemasStay = (l new : Ledger) (line : Line) (r : Reply) → Calls l line r new → new.schema ≡ l.schema
+SchemasStay = (policy : MergePolicy) (l new : Ledger) (line : Line) (r : Reply) → Calls policy l line r new → new.schema ≡ l.schema
 
 -- A ledger that is opened where no commit is, is sound, and a fresh state of no records.
 abbrev pub EmptyAreFresh : Type 0
@@ -265,6 +266,6 @@ ViewsAreRead = (sources : ℕ → Text) (view : View) → records_in sources vie
 -- Whatever run a ledger's state stands for, the reply to a line fits it, and the state after it stands for the longer run.
 abbrev pub CallsKeepRuns : Type 0
 CallsKeepRuns =
-    (from : Opened) (run : Run) (l new : Ledger) (line : Line) (r : Reply)
-    → from.start.schema ≡ l.schema → IsRun from run → StandsFor from run (state_of l) → IsLedger l → Calls l line r new
+    (policy : MergePolicy) (from : Opened) (run : Run) (l new : Ledger) (line : Line) (r : Reply)
+    → from.start.schema ≡ l.schema → IsRun from run → StandsFor from run (state_of l) → IsLedger l → Calls policy l line r new
     → IsLedger new × Fits from run (record { line = line; reply = r }) × StandsFor from (run ++ record { line = line; reply = r } ∷ []) (state_of new)
