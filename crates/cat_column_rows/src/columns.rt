@@ -131,6 +131,28 @@ fn bytes_of_other_counts_of_rows_are_damaged(rt: HostRuntime) {
     assert_eq!(rt; number(&RowSet::from_bytes(alloc, 73, PACKED)), 31);
 }
 
+#[test]
+fn bytes_of_all_rows_are_told(rt: HostRuntime) {
+    const ALL: &[(u8, &[u8])] = &[(0, b""), (1, b"\x01"), (8, b"\xff"), (15, b"\xff\x7f")];
+    // A row is missing, the last one too; a row past the last; a byte too few, and one too many.
+    const OTHERS: &[(u8, &[u8])] = &[
+        (9, b"\x7f\x01"),
+        (9, b"\xff\0"),
+        (9, b"\xff\x03"),
+        (9, b"\xff"),
+        (8, b"\xff\0"),
+    ];
+    for (len, bytes) in ALL {
+        assert!(rt; RowSet::are_all(usize::from(*len), bytes), "{len}");
+    }
+    for (len, bytes) in OTHERS {
+        assert!(rt;
+            !RowSet::are_all(usize::from(*len), bytes),
+            "{len} {bytes:?}"
+        );
+    }
+}
+
 /// What is left of a set of all rows once those below the row are removed.
 fn left_from(alloc: Global, len: usize, row: usize) -> Result<Vec<usize>, AllocError>
     requires few { len < 2 ^ 32 }
@@ -227,5 +249,25 @@ fn a_union_has_the_texts_of_all_sets(rt: HostRuntime) -> Result<(), Fail> {
     let other = set(alloc, &["birch", "elm", "oak"])?;
     let union = Dictionary::union(alloc, &[one.as_slice(), &[], other.as_slice()])?;
     assert!(rt; are_words(union.as_slice(), &["ash", "birch", "elm", "oak"]));
+    Ok(())
+}
+
+#[test]
+fn a_union_of_many_sets_has_each_text_once(rt: HostRuntime) -> Result<(), Fail> {
+    let alloc = rt.alloc();
+    let low = set(alloc, &["ash", "elm"])?;
+    let high = set(alloc, &["oak", "yew"])?;
+    let all = set(alloc, &["ash", "birch", "oak", "yew"])?;
+    let sets = &[
+        high.as_slice(),
+        &[],
+        low.as_slice(),
+        all.as_slice(),
+        high.as_slice(),
+    ];
+    let union = Dictionary::union(alloc, sets)?;
+    assert!(rt; are_words(union.as_slice(), &["ash", "birch", "elm", "oak", "yew"]));
+    let none = Dictionary::union(alloc, &[])?;
+    assert!(rt; none.len() == 0);
     Ok(())
 }

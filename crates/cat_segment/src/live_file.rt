@@ -105,11 +105,12 @@ pub fn encode_liv(number: SegNo, generation: Generation, live: &Live) -> Result<
 
 /// What the file with these bytes says of live rows (Lucene: `LiveDocsFormat.readLiveDocs`).
 ///
-/// [`Refusal::Damaged`] where the bytes are those of no such file: none is written in two ways, and every row set but the
-/// whole one has its one file. [`Refusal::Memory`] where memory is refused.
+/// [`Refusal::Damaged`] exactly where the bytes are those of no such file: none is written in two ways, and every row set but
+/// the whole one has its one file. That is judged before memory is asked for. [`Refusal::Memory`] where memory is refused.
 pub fn decode_liv(alloc: Global, bytes: &[u8]) -> Result<LiveFile, Refusal>
     ensures ok { IfOk result (SpellsLive bytes.now) }
     ensures damaged { IfErr result (λ e. e ≡ Damaged → (rows : LiveRows) → SpellsLive bytes.now rows → ⊥) }
+    ensures due { IfErr result (λ e. e ≡ Memory → (rows : LiveRows) × SpellsLive bytes.now rows) }
     ensures refusal { IfErr result (λ e. (e ≡ Damaged) ⊎ (e ≡ Memory)) }
 {
     let mut cursor = Cursor::new(bytes);
@@ -117,15 +118,16 @@ pub fn decode_liv(alloc: Global, bytes: &[u8]) -> Result<LiveFile, Refusal>
     if !may_stand(start) {
         return Err(Refusal::Damaged);
     }
-    let rows = RowSet::from_bytes(alloc, start.rows as usize, &bytes[START_BYTES..])?;
-    let live = Live::of(rows);
-    if live.count() == live.len() {
+    let len = start.rows as usize;
+    let packed = &bytes[START_BYTES..];
+    if RowSet::are_all(len, packed) {
         return Err(Refusal::Damaged);
     }
+    let rows = RowSet::from_bytes(alloc, len, packed)?;
     Ok(LiveFile {
         number: start.number,
         generation: start.generation,
-        live,
+        live: Live::of(rows),
     })
 }
 

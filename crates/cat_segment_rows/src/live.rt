@@ -168,6 +168,14 @@ fn some_row_is_dead_and_none_lies_past_the_last(rt: HostRuntime) -> Result<(), F
     expect_right(&rt, alloc, ROWS, RIGHT)
 }
 
+/// The bytes as of a file where all of nine rows are live. No test of them takes memory, so they are damaged where none is left.
+const ALL_LIVE: &[u8] = b"CLIV\x01\0\0\0\0\0\0\0\x01\0\0\0\0\0\0\0\x02\0\0\0\x09\xff\x01";
+
+#[test]
+fn a_set_of_all_rows_is_damaged_without_memory(rt: HostRuntime) {
+    expect_damaged(&rt, rt.alloc(), ALL_LIVE);
+}
+
 /// The file of so many rows, none of them live.
 fn file_of_dead(alloc: Global, count: u32) -> Result<Vec<u8>, AllocError> {
     const START: &[u8] = b"CLIV\x01\0\0\0\0\0\0\0\x01\0\0\0\0\0\0\0\x02";

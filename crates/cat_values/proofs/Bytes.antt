@@ -1,6 +1,6 @@
 -- The bits of bytes, and of the blocks that hold them.
 use Rattle.std.proofs.Common.{◌≡◌, ◌≢◌, ◌↔◌, ℕ, zero, suc, ◌+◌, ◌*◌, ◌/◌, ◌%◌, ◌^◌, ◌<◌, ◌≤◌, Bool, false, eqb, List, [], ◌∷◌, ◌++◌, length, get_or, set, map, refl, sym, ap, ◌∙◌, inl, inr, arith, w64, eq-eqb, IsTrue}
-use Rattle.std.specs.Prelude.{bit_and, All, Result, Ok, Err, IfOk}
+use Rattle.std.specs.Prelude.{bit_and, All, Result, Ok, Err, IfOk, IfErr}
 use Rattle.std.specs.Int.{bit_at, to_le_bytes, from_le_bytes}
 use Rattle.std.proofs.lemmas.Bool.{cases_lt, cases_eq, true≢false}
 use Rattle.std.proofs.lemmas.Bool.Decides.{Decides-eqb}
@@ -182,3 +182,8 @@ eight_fit bytes block from long done fits j = elim (cases_lt j 8) [
 pub from_three : {T E : Type 0} (r : Result T E) (P Q R S : T → Type 0) → ((x : T) → P x → Q x → R x → S x) → IfOk r P → IfOk r Q → IfOk r R → IfOk r S
 from_three (Ok x) P Q R S gives p q r = gives x p q r
 from_three (Err e) P Q R S gives p q r = tt
+
+-- a fact of every error
+pub if_err : {T E : Type 0} (r : Result T E) (P : E → Type 0) → ((e : E) → P e) → IfErr r P
+if_err (Ok x) P all = tt
+if_err (Err e) P all = all e

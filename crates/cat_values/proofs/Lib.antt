@@ -5,6 +5,7 @@ pub mod Codes
 pub mod Counts
 pub mod Cuts
 pub mod Fills
+pub mod Fulls
 pub mod Laid
 pub mod Marks
 pub mod Members

@@ -47,7 +47,7 @@ same_labels a b same ordinals =
 
 -- ---- sets
 
-one_bit : (m n : ℕ) → m < 2 → n < 2 → eqb m 1 ≡ eqb n 1 → m ≡ n
+pub one_bit : (m n : ℕ) → m < 2 → n < 2 → eqb m 1 ≡ eqb n 1 → m ≡ n
 one_bit zero zero p q e = refl
 one_bit zero (suc zero) p q e = absurd (true≢false (sym e))
 one_bit zero (suc (suc n)) p q e = absurd (omega arith)

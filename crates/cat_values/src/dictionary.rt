@@ -3,9 +3,11 @@ ghost use Rattle.std.specs.Prelude.{◌≡◌, ℕ, ◌<◌, ◌^◌, ◌++◌, 
 ghost use Rattle.std.specs.List.{flat_map};
 ghost use Rattle.cat_base.specs.Texts.{sorted_set, IsTextSet};
 ghost use Rattle.cat_model.specs.Ordinals.{dictionary_of, text_at, IsOrdinal};
+ghost use Rattle.cat_values.specs.Merged.{HasBoth};
 
 use cat_base::{Text, TextSet};
 use std::alloc::{AllocError, Global};
+use std::cmp::Ordering;
 use std::marker::Model;
 use std::sync::Arc;
 
@@ -51,14 +53,59 @@ fn texts_in<'a>(alloc: Global, sets: &[&'a [Text]]) -> Result<Vec<&'a Text>, All
     Ok(texts)
 }
 
-/// Copies of the texts, each text once. Texts that come as a few runs in byte order are merged run by run.
-fn united(alloc: Global, mut texts: Vec<&Text>) -> Result<Vec<Text>, AllocError>
-    ensures ok { IfOk result (λ v. (text : List ℕ)
-        → Contains v.items text ↔ Contains (map (λ t. t.now) texts.entry.items) text) }
+/// Adds the texts.
+fn add_all<'a>(all: &mut Vec<&'a Text>, texts: &[&'a Text]) -> Result<(), AllocError>
+    ensures ok { OnOk result (map (λ t. t.now) all.new.items ≡ map (λ t. t.now) all.old.items ++ map (λ t. t.now) texts.now) }
 {
-    texts.sort()?;
-    texts.dedup();
-    copied(alloc, &texts)
+    for text in texts {
+        all.push(*text)?;
+    }
+    Ok(())
+}
+
+/// The texts of both lists. Where both are in byte order, each text once, so is what comes out.
+fn merged<'a>(
+    alloc: Global,
+    left: &[&'a Text],
+    right: &[&'a Text],
+) -> Result<Vec<&'a Text>, AllocError>
+    ensures ok { IfOk result (λ v. HasBoth (map (λ t. t.now) left.now) (map (λ t. t.now) right.now) (map (λ t. t.now) v.items)) }
+{
+    let mut all = Vec::with_capacity(alloc, left.len() + right.len())?;
+    let mut i = 0;
+    let mut j = 0;
+    while i < left.len() && j < right.len() {
+        match left[i].cmp(right[j]) {
+            Ordering::Less => {
+                all.push(left[i])?;
+                i += 1;
+            }
+            Ordering::Greater => {
+                all.push(right[j])?;
+                j += 1;
+            }
+            Ordering::Equal => {
+                all.push(left[i])?;
+                i += 1;
+                j += 1;
+            }
+        }
+    }
+    add_all(&mut all, &left[i..])?;
+    add_all(&mut all, &right[j..])?;
+    Ok(all)
+}
+
+/// The texts of the sets, each text once: those of one half of the sets are merged with those of the other.
+fn united<'a>(alloc: Global, sets: &[&'a [Text]]) -> Result<Vec<&'a Text>, AllocError>
+    ensures ok { IfOk result (λ v. (text : List ℕ)
+        → Contains (map (λ t. t.now) v.items) text ↔ Contains (flat_map (λ s. s.now) sets.now) text) }
+{
+    if sets.len() < 2 {
+        return texts_in(alloc, sets);
+    }
+    let (left, right) = sets.split_at(sets.len() / 2);
+    merged(alloc, &united(alloc, left)?, &united(alloc, right)?)
 }
 
 /// Copies of the texts.
@@ -108,11 +155,11 @@ impl Dictionary {
     }
 
     /// The dictionary of the texts of all the sets, as Lucene's `OrdinalMap` has it. The texts of each set are in byte order,
-    /// and so are merged and not sorted anew; each distinct text is copied once.
+    /// and so are merged, two sets at a time, and not sorted anew; each distinct text is copied once.
     pub fn union(alloc: Global, sets: &[&[Text]]) -> Result<Self, AllocError>
         ensures ok { IfOk result (λ d. d ≡ dictionary_of (map (λ s. s.now) sets.now)) }
     {
-        Dictionary::of(alloc, united(alloc, texts_in(alloc, sets)?)?)
+        Dictionary::of(alloc, copied(alloc, &united(alloc, sets)?)?)
     }
 
     /// The same dictionary once more; the texts are shared and not copied.

@@ -1,6 +1,7 @@
 //! Rows as bytes. Row r is bit r % 8, from the lowest, of byte r / 8, so that a block has the bits of eight bytes.
-ghost use Rattle.std.specs.Prelude.{◌≡◌, ◌↔◌, ℕ, ◌+◌, ◌*◌, ◌/◌, ◌^◌, ◌<◌, ◌≤◌, length, false, All, IfOk, IfErr, IsTrue, slice_index};
+ghost use Rattle.std.specs.Prelude.{◌≡◌, ◌↔◌, ℕ, ◌+◌, ◌*◌, ◌/◌, ◌^◌, ◌<◌, ◌≤◌, length, true, false, All, IfOk, IfErr, IsTrue, replicate, slice_index};
 ghost use Rattle.cat_base.specs.declared.refusal.Refusal.TheVariants.{Memory};
+ghost use Rattle.cat_model.specs.RowSets.{has_row};
 ghost use Rattle.cat_values.specs.Bits.{has_bit, is_set, has_row_bit};
 
 use std::alloc::{AllocError, Global};
@@ -65,4 +66,29 @@ pub fn is_clear_from(bytes: &[u8], row: usize) -> bool
     ensures { IsTrue result ↔ ((r : ℕ) → row ≤ r → has_row_bit bytes.now r ≡ false) }
 {
     row % 8 == 0 || bytes[row / 8] >> (row % 8) == 0
+}
+
+/// The byte of this index of the set of all `len` rows.
+fn full_byte(len: usize, index: usize) -> u8
+    requires { index < (len + 7) / 8 }
+    ensures { (i : ℕ) → i < 8 → has_bit result i ≡ has_row (replicate len true) (8 * index + i) }
+{
+    if index < len / 8 {
+        u8::MAX
+    } else {
+        (1 << (len % 8)) - 1
+    }
+}
+
+/// Whether the bits of all rows below `len` are 1, and no others.
+pub fn is_full(bytes: &[u8], len: usize) -> bool
+    requires { length bytes.now ≡ (len + 7) / 8 }
+    ensures { IsTrue result ↔ ((r : ℕ) → has_row_bit bytes.now r ≡ has_row (replicate len true) r) }
+{
+    for index in 0..bytes.len() {
+        if bytes[index] != full_byte(len, index) {
+            return false;
+        }
+    }
+    true
 }

@@ -1,5 +1,5 @@
 //! A set of the rows of one segment.
-ghost use Rattle.std.specs.Prelude.{◌≡◌, ◌⊎◌, ◌++◌, Bool, List, ℕ, ◌+◌, ◌*◌, ◌^◌, ◌<◌, ◌≤◌, true, false, length, replicate, drop, slice_set, count_by, IfOk, IfErr, Err, All};
+ghost use Rattle.std.specs.Prelude.{◌≡◌, ◌⊎◌, ◌++◌, Bool, List, ℕ, ◌+◌, ◌*◌, ◌^◌, ◌<◌, ◌≤◌, true, false, length, replicate, drop, slice_set, count_by, ◌↔◌, IfOk, IfErr, IsTrue, All};
 ghost use Rattle.cat_base.specs.declared.refusal.Refusal.TheVariants.{Damaged, Memory};
 ghost use Rattle.cat_model.specs.RowSets.{joined, both, either, first_only, has_row, indices, with_rows, IsPacked};
 ghost use Rattle.cat_values.specs.Bits.{flags_of, IsBits, HasNoSet};
@@ -8,7 +8,7 @@ use crate::blocks::{
     and_blocks, clear_below, clear_blocks, clear_row, count_blocks, full_blocks, has_row,
     or_blocks, set_row, set_rows,
 };
-use crate::packed::{blocks_of, bytes_of, is_clear_from};
+use crate::packed::{blocks_of, bytes_of, is_clear_from, is_full};
 use crate::scan::Rows;
 use cat_base::Refusal;
 use std::alloc::{AllocError, Global};
@@ -163,7 +163,7 @@ impl RowSet {
         requires { len < 2 ^ 32 }
         ensures ok { IfOk result (λ s. (length s ≡ len) × IsPacked bytes.now s) }
         ensures damaged { IfErr result (λ e. e ≡ Damaged → HasNoSet len bytes.now) }
-        ensures due { HasNoSet len bytes.now → result ≡ Err Damaged }
+        ensures due { IfErr result (λ e. e ≡ Memory → (set : List Bool) × (length set ≡ len) × IsPacked bytes.now set) }
         ensures refusal { IfErr result (λ e. (e ≡ Damaged) ⊎ (e ≡ Memory)) }
     {
         if bytes.len() != (len + 7) / 8 || !is_clear_from(bytes, len) {
@@ -171,6 +171,14 @@ impl RowSet {
         }
         let blocks = blocks_of(alloc, bytes)?;
         Ok(RowSet { len, blocks })
+    }
+
+    /// Whether [`RowSet::to_bytes`] writes the set of all `len` rows as these bytes. No memory is asked for.
+    pub fn are_all(len: usize, bytes: &[u8]) -> bool
+        requires { len < 2 ^ 32 }
+        ensures { IsTrue result ↔ IsPacked bytes.now (replicate len true) }
+    {
+        bytes.len() == (len + 7) / 8 && is_full(bytes, len)
     }
 
     /// An equal set in memory of its own.

@@ -1,5 +1,9 @@
-use Rattle.std.proofs.Common.{arith}
-use Rattle.cat_values.proofs.Bytes.{IsPacked-from, packed_rows}
+use Rattle.std.proofs.Common.{◌≡◌, Bool, List, length, map, arith}
+use Rattle.std.specs.List.{range_with_len}
+use Rattle.cat_base.specs.declared.refusal.Refusal.TheVariants.{Memory}
+use Rattle.cat_model.specs.RowSets.{IsPacked}
+use Rattle.cat_values.specs.Bits.{has_row_bit}
+use Rattle.cat_values.proofs.Bytes.{IsPacked-from, packed_rows, if_err}
 use Rattle.cat_values.proofs.row_set.RowSet.from_bytes.Goals as goal
 
 pub returns-clause-ok : goal.returns-clause-ok
@@ -8,11 +12,6 @@ returns-clause-ok c =
     (λ k lt. (c.type_inv.bytes k).fits)
 
 pub returns-in_err-blocks-clause-due : goal.returns-in_err-blocks-clause-due
-returns-in_err-blocks-clause-due c = λ none.
+returns-in_err-blocks-clause-due c =
     let h = packed_rows c.args.len c.args.bytes.now (omega arith) (λ k lt. (c.type_inv.bytes k).fits) (c.is_clear_from.ensures.0 c.if-not-is_clear_from.false) in
-    absurd (none _ h.0 h.1)
-
-pub returns-clause-due : goal.returns-clause-due
-returns-clause-due c = λ none.
-    let h = packed_rows c.args.len c.args.bytes.now (omega arith) (λ k lt. (c.type_inv.bytes k).fits) (c.is_clear_from.ensures.0 c.if-not-is_clear_from.false) in
-    absurd (none _ h.0 h.1)
+    if_err c.from_residual.result (λ e. e ≡ Memory → (set : List Bool) × (length set ≡ c.args.len) × IsPacked c.args.bytes.now set) (λ e is. (map (has_row_bit c.args.bytes.now) (range_with_len 0 c.args.len), h.0, h.1))
