@@ -1,5 +1,5 @@
 -- Each user has a name at most once.
-use Rattle.std.proofs.Common.{◌≡◌, ◌≢◌, ℕ, ◌+◌, ◌<◌, List, [], ◌∷◌, ◌++◌, map, Bool, true, false, cond, ◌&&◌, ◌||◌, Option, Some, None, refl, sym, ◌∙◌, ap, ap₂, subst, arith, inl, inr}
+use Rattle.std.proofs.Common.{◌≡◌, ◌≢◌, ℕ, ◌+◌, ◌<◌, ◌≤◌, List, [], ◌∷◌, ◌++◌, map, Bool, true, false, cond, ◌&&◌, ◌||◌, Option, Some, None, refl, sym, ◌∙◌, ap, ap₂, subst, arith, inl, inr}
 use Rattle.std.specs.Prelude.{◌==◌}
 use Rattle.std.specs.List.{flat_map, count_by, AllByRecursion}
 use Rattle.std.proofs.lemmas.Bool.Decides.{eqb_tells}
@@ -134,6 +134,20 @@ commit_distinct c ok = (
   All-weaken (λ q. kind q < 3) (λ q. Name.commit c.generation ≢ q) (λ q h e. let k : 3 ≡ kind q = ap kind e in absurd (omega (arith, k, h))) (flat_map names_of_listed c.listed) (listed_kinds c.listed),
   listed_distinct c.listed ok.numbers,
 )
+
+-- each of them comes once
+once_at_most : (q : Name) (xs : List Name) → Distinct xs → times q xs ≤ 1
+once_at_most q xs d = by (has_name q xs) (once q xs d)
+  where
+    by : (b : Bool) → times q xs ≡ cond b 1 0 → times q xs ≤ 1
+    by true e = omega (arith, e)
+    by false e = omega (arith, e)
+
+pub portions_once : (q : Name) (ps : List Portion) → ArePortions ps → times q (flat_map names_of_portion ps) ≤ 1
+portions_once q ps ok = once_at_most q (flat_map names_of_portion ps) (portions_distinct ps ok.numbers)
+
+pub commit_once : (q : Name) (c : LedgerCommit) → ArePortions (portions_in c) → times q (names_of_commit c) ≤ 1
+commit_once q c ok = once_at_most q (names_of_commit c) (commit_distinct c ok)
 
 -- ---- the users
 

@@ -7,3 +7,4 @@ pub mod MergeInstalls
 pub mod MergeWindows
 pub mod Writes
 pub mod Views
+pub mod Committed

@@ -5,7 +5,7 @@ use Rattle.cat_model.specs.Text.{Text}
 use Rattle.cat_model.specs.Item.{Schema, IsSchema}
 use Rattle.cat_model.specs.Files.{Name, IsFileName}
 use Rattle.cat_model.specs.Forms.{IsCommitText}
-use Rattle.cat_model.specs.Limits.{last_number, segment_limit}
+use Rattle.cat_model.specs.Limits.{last_number, segment_limit, view_limit}
 use Rattle.cat_model.specs.LiveFile.{SpellsLive, AreLiveRows}
 use Rattle.cat_model.specs.CommitFile.{CommitFile, IsCommitFile, SpellsCommit, commit_needs}
 use Rattle.cat_model.specs.View.{Leaf, needs}
@@ -64,7 +64,7 @@ CommitsAreCounted = (s : Shape) → IsShape s → (q : Name) → times q (names_
 
 -- no name has as many users as a count can't tell: a name is one user's once, and generations rise
 abbrev pub UsersFit : Type 0
-UsersFit = (s : Shape) (q : Name) → IsShape s → length s.views ≤ last_number → users_of s.users q + 2 < 2 ^ 64
+UsersFit = (s : Shape) (q : Name) → IsShape s → length s.views ≤ view_limit → users_of s.users q + 2 < 2 ^ 64
 
 -- a commit of now, a view of now and a new segment name each file once
 abbrev pub NamesComeOnce : Type 0
