@@ -1,7 +1,7 @@
 -- Commits and snapshots over shapes.
-use Rattle.std.proofs.Common.{◌≡◌, ◌≢◌, ℕ, suc, ◌+◌, ◌-◌, ◌<◌, ◌≤◌, ◌^◌, List, [], ◌∷◌, ◌++◌, map, filter, length, Bool, true, false, ◌||◌, ◌&&◌, not, cond, Option, Some, None, refl, sym, ◌∙◌, ap, ap₂, subst, arith, inl, inr}
-use Rattle.std.specs.Prelude.{◌==◌, ltb, count_by}
-use Rattle.std.specs.List.{flat_map, list_any, last_or, AllByRecursion}
+use Rattle.std.proofs.Common.{◌≡◌, ◌≢◌, ℕ, suc, ◌+◌, ◌<◌, ◌≤◌, ◌^◌, List, [], ◌∷◌, ◌++◌, map, filter, length, Bool, true, false, ◌||◌, ◌&&◌, not, cond, Option, Some, None, refl, sym, ◌∙◌, ap, ap₂, subst, arith, inl, inr}
+use Rattle.std.specs.Prelude.{◌==◌, ltb}
+use Rattle.std.specs.List.{flat_map, last_or, AllByRecursion}
 use Rattle.std.proofs.lemmas.Bool.Decides.{eqb_tells}
 use Rattle.std.proofs.lemmas.List.{map_push, length-append}
 use Rattle.std.proofs.lemmas.List.Sums.{count_by-le-length}
@@ -12,7 +12,6 @@ use Rattle.cat_model.specs.Limits.{last_number, segment_limit, view_limit}
 use Rattle.cat_model.specs.Files.{Name}
 use Rattle.cat_model.specs.LiveFile.{SpellsLive}
 use Rattle.cat_model.specs.CommitFile.{ListedSegment, CommitFile, IsCommitFile, SpellsCommit, commit_needs}
-use Rattle.cat_model.specs.Run.{is_newest}
 use Rattle.cat_model.specs.State.{Taken, Commit, snapshots_in, stays_kept}
 use Rattle.cat_model.specs.View.{Leaf, needs}
 use Rattle.cat_model.proofs.Lists.{All-weaken, All-each}
@@ -21,8 +20,8 @@ use Rattle.cat_model.proofs.Runs.{last_or-append}
 use Rattle.cat_directory.specs.declared.name.FileName.TheVariants as file
 use Rattle.cat_ledger_model.specs.Portions.{Portion, Apart, ArePortions, leaf_of}
 use Rattle.cat_ledger_model.specs.Users.{Changes, same_file_name, has_name, users_of, times}
-use Rattle.cat_ledger_model.specs.Ledger.{Listed, LedgerCommit, Ledger, IsLedger, IsPast, commit_file, commit_shown, listed_segment, names_of_portion, names_of_view, names_of_commit, names_of_merging, users}
-use Rattle.cat_ledger_model.specs.Stored.{FileBytes, AreStored, ChangesOnly, IsCommitWritten, IsLiveStored}
+use Rattle.cat_ledger_model.specs.Ledger.{Listed, LedgerCommit, Ledger, IsLedger, IsPast, commit_file, commit_shown, names_of_portion, names_of_view, names_of_commit, names_of_merging, users}
+use Rattle.cat_ledger_model.specs.Stored.{FileBytes, AreStored, ChangesOnly, IsLiveStored}
 use Rattle.cat_ledger_model.specs.Calls.{Committed, Snaps, Unsnapped, same_live, all_alive, listed_in, newest_listed, commit_of, commits_that, commits_not, newest_in}
 use Rattle.cat_ledger_model.specs.Calls as model
 use Rattle.cat_ledger_model.proofs.Users.{All-split, times-four, Four, All-four}
@@ -30,7 +29,7 @@ use Rattle.cat_ledger_model.proofs.Commits.{commits_are_kept, snapshots_are_take
 use Rattle.cat_ledger_model.proofs.Counted.{users_are_counted, portions_once, commit_once}
 use Rattle.cat_ledger_model.proofs.Stored.{commits_store, unsnaps_store}
 use Rattle.cat_ledger_model.proofs.Written.{commits_need_their_names, commits_may_be_written}
-use Rattle.cat_ledger_shape.specs.Shapes.{ListedLive, Shape, shape_of, IsShape, recorded_view, listed_live, names_of_commits, view_now}
+use Rattle.cat_ledger_shape.specs.Shapes.{ListedLive, Shape, shape_of, recorded_view, listed_live, names_of_commits, view_now}
 use Rattle.cat_ledger_shape.specs.Steps.{file_in, file_for, listed_now, commit_now, IsCommitted, newest_generation, IsSnapped, IsUnsnapped}
 use Rattle.cat_ledger_shape.specs.Ties.{ToldFiles, IsTold, Carries, TouchesOnly, TellsBytes}
 use Rattle.cat_ledger_shape.specs.CommitLaws.{files_begun, HasNewLive, WritesCommit, CommitsMake, CommitsKeep, SnapsMake, SnapsKeep, UnsnapsMake, UnsnapsKeep, CommitsMayBeSaid, CommitsAreCounted, UsersFit, NamesComeOnce}
@@ -136,9 +135,9 @@ module _ (told' : ToldFiles) (xs : List Listed) (g : ℕ) where
   still_thought n bytes thought [] d a = tt
   still_thought n bytes thought (p ∷ ps) d a = (
     (λ e.
-    let t = a.0 e in
-    let apart : has_name (Name.live p.number g) (Name.live n g ∷ []) ≡ false = ap (λ b. b || false) (live_differs p.number n g (λ same. d.0 (sym same))) in
-    (t.0, t.1, with_files_out (Name.live n g ∷ []) (λ q. Some bytes) thought (Name.live p.number g) apart ∙ t.2, t.3)),
+        let t = a.0 e in
+        let apart : has_name (Name.live p.number g) (Name.live n g ∷ []) ≡ false = ap (λ b. b || false) (live_differs p.number n g (λ same. d.0 (sym same))) in
+        (t.0, t.1, with_files_out (Name.live n g ∷ []) (λ q. Some bytes) thought (Name.live p.number g) apart ∙ t.2, t.3)),
     still_thought n bytes thought ps d.1 a.1,
   )
 
@@ -154,7 +153,7 @@ module _ (told' : ToldFiles) (xs : List Listed) (g : ℕ) where
             let own = a.0 e.1 in (
               with_files (Name.live p.number g ∷ []) (λ q. Some own.0) rest.0,
               (λ q h. let k = or_false (same_file_name q (Name.live p.number g)) (has_name q (map (live_name g) ps)) h in
-              with_files_out (Name.live p.number g ∷ []) (λ q. Some own.0) rest.0 q (ap (λ b. b || false) k.0) ∙ rest.1 q k.1),
+                  with_files_out (Name.live p.number g ∷ []) (λ q. Some own.0) rest.0 q (ap (λ b. b || false) k.0) ∙ rest.1 q k.1),
               ((λ same. (own.0, own.1, with_files_in (Name.live p.number g ∷ []) (λ q. Some own.0) rest.0 (Name.live p.number g) (ap (λ b. b || false) (same_again (Name.live p.number g))), own.2)), still_thought p.number own.0 rest.0 ps d.0 rest.2),
             )
         | inr e ↦ (

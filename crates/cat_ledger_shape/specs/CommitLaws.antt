@@ -1,17 +1,17 @@
 -- The laws of commits and snapshots over shapes, and of opening.
-use Rattle.std.specs.Prelude.{◌≡◌, ℕ, ◌+◌, ◌<◌, ◌≤◌, ◌^◌, List, [], ◌∷◌, ◌++◌, length, map, Option, Some, None}
+use Rattle.std.specs.Prelude.{◌≡◌, ℕ, ◌+◌, ◌<◌, ◌≤◌, ◌^◌, List, [], ◌∷◌, length, map}
 use Rattle.std.specs.List.{AllByRecursion}
 use Rattle.cat_model.specs.Text.{Text}
-use Rattle.cat_model.specs.Item.{Schema, IsSchema}
-use Rattle.cat_model.specs.Files.{Name, IsFileName}
+use Rattle.cat_model.specs.Item.{IsSchema}
+use Rattle.cat_model.specs.Files.{Name}
 use Rattle.cat_model.specs.Forms.{IsCommitText}
 use Rattle.cat_model.specs.Limits.{last_number, segment_limit, view_limit}
-use Rattle.cat_model.specs.LiveFile.{SpellsLive, AreLiveRows}
-use Rattle.cat_model.specs.CommitFile.{CommitFile, IsCommitFile, SpellsCommit, commit_needs}
+use Rattle.cat_model.specs.LiveFile.{SpellsLive}
+use Rattle.cat_model.specs.CommitFile.{IsCommitFile, SpellsCommit, commit_needs}
 use Rattle.cat_model.specs.View.{Leaf, needs}
 use Rattle.cat_directory.specs.declared.name.FileName.TheVariants as file
 use Rattle.cat_ledger_model.specs.Calls.{Committed, Snaps, Unsnapped}
-use Rattle.cat_ledger_model.specs.Users.{users_of, times, is_known}
+use Rattle.cat_ledger_model.specs.Users.{users_of, times}
 use Rattle.cat_ledger_shape.specs.Shapes.{Shape, IsShape, names_of_commits, view_now}
 use Rattle.cat_ledger_shape.specs.Steps.{commit_now, file_for, IsCommitted, IsSnapped, IsUnsnapped}
 use Rattle.cat_ledger_shape.specs.Ties.{ToldFiles, Makes, TouchesOnly, TouchesNothing, TellsBytes}
