@@ -21,7 +21,7 @@ pub rows-shown : (schema : Schema) (ps : List Portion) → map row_of (records_o
 rows-shown schema [] = refl
 rows-shown schema (p ∷ ps) = map-append row_of (live_records p) (records_of ps) ∙ ap₂ (λ (a b : List Row). a ++ b) (marked-map row_of p.live p.records) (rows-shown schema ps)
 
-all-shown : (schema : Schema) (ps : List Portion) → map row_of (all_records ps) ≡ flat_map (λ (leaf : Leaf). leaf.segment.rows) (map (leaf_of schema) ps)
+pub all-shown : (schema : Schema) (ps : List Portion) → map row_of (all_records ps) ≡ flat_map (λ (leaf : Leaf). leaf.segment.rows) (map (leaf_of schema) ps)
 all-shown schema [] = refl
 all-shown schema (p ∷ ps) = map-append row_of p.records (all_records ps) ∙ ap (λ l. map row_of p.records ++ l) (all-shown schema ps)
 

@@ -8,3 +8,4 @@ pub mod MergeWindows
 pub mod Writes
 pub mod Views
 pub mod Committed
+pub mod Opened

@@ -5,3 +5,4 @@ pub mod WriteLaws
 pub mod ViewLaws
 pub mod MergeLaws
 pub mod CommitLaws
+pub mod OpeningLaws

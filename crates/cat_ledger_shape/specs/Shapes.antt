@@ -1,6 +1,6 @@
 -- The ledger as memory has it: rows, which know the lengths of their sources, in place of records, and of commits what their
 -- files say. Not to be believed, but to prove the ledger by.
-use Rattle.std.specs.Prelude.{◌≡◌, ℕ, Bool, List, [], ◌∷◌, ◌++◌, map, Option, Some, None}
+use Rattle.std.specs.Prelude.{◌≡◌, ℕ, Bool, List, [], ◌∷◌, map, Option, Some, None}
 use Rattle.std.specs.List.{flat_map}
 use Rattle.cat_model.specs.Item.{Schema, Record}
 use Rattle.cat_model.specs.Files.{Name}

@@ -1,15 +1,15 @@
 -- What each call makes of a shape: what `Calls` of the ledger's model says, of what memory has.
-use Rattle.std.specs.Prelude.{◌≡◌, ◌⊎◌, ℕ, ◌+◌, ◌-◌, ◌<◌, ◌≤◌, min, not, ◌&&◌, ◌==◌, Bool, List, [], ◌∷◌, ◌++◌, length, map, filter, take, drop, cond, Option, Some, None, true}
-use Rattle.std.specs.List.{flat_map, last_or}
+use Rattle.std.specs.Prelude.{◌≡◌, ◌⊎◌, ℕ, ◌+◌, ◌-◌, ◌<◌, ◌≤◌, min, not, ◌&&◌, ◌==◌, List, [], ◌∷◌, ◌++◌, length, map, filter, take, drop, cond, Option, Some, None, true}
+use Rattle.std.specs.List.{last_or}
 use Rattle.cat_model.specs.Text.{Text}
 use Rattle.cat_model.specs.Write.{Write}
 use Rattle.cat_model.specs.Table.{without, put_last}
 use Rattle.cat_model.specs.Limits.{step_limit, last_number}
 use Rattle.cat_model.specs.Files.{Name}
-use Rattle.cat_model.specs.CommitFile.{Version, ListedSegment, CommitFile, commit_needs}
+use Rattle.cat_model.specs.CommitFile.{Version, CommitFile, commit_needs}
 use Rattle.cat_model.specs.Merged.{rows_of_all, merged_leaf}
-use Rattle.cat_model.specs.State.{Hold, held_in, snapshots_in, stays_kept}
-use Rattle.cat_model.specs.View.{Leaf, View, needs, live_rows}
+use Rattle.cat_model.specs.State.{held_in, snapshots_in, stays_kept}
+use Rattle.cat_model.specs.View.{Leaf, View, needs}
 use Rattle.cat_ledger_model.specs.Calls.{stays_recorded, stays_pruned, same_live, all_alive}
 use Rattle.cat_ledger_model.specs.Leaves.{leaves_after}
 use Rattle.cat_ledger_model.specs.Users.{users_of, is_known, has_name, Changes}
