@@ -1,0 +1,30 @@
+//! What a session holds.
+ghost use Rattle.std.specs.Prelude.{◌≡◌};
+
+use cat_base::{SessionNo, Token};
+use std::marker::Model;
+
+/// That a session holds a token.
+#[derive(Clone, Copy, PartialEq, Eq, Hash)]
+pub(crate) struct HeldToken {
+    session: SessionNo,
+    token: Token,
+}
+
+impl Model for HeldToken {
+    ghost use Rattle.cat_model.specs.State as model;
+
+    ghost Value = { model.Hold };
+
+    ghost view = { λ h. record { session = h.session; token = h.token } };
+
+    ghost inverse = { λ h. record { session = h.session; token = h.token } };
+}
+
+impl HeldToken {
+    pub(crate) fn new(session: SessionNo, token: Token) -> HeldToken
+        ensures { result ≡ record { session = session; token = token } }
+    {
+        HeldToken { session, token }
+    }
+}
