@@ -1,11 +1,12 @@
 -- The hits that stand before a mark in order of addition.
-use Rattle.std.proofs.Common.{◌≡◌, ℕ, zero, suc, ◌<◌, ◌≤◌, List, [], ◌∷◌, ◌++◌, length, map, filter, replicate, drop, get_or, ltb, Bool, true, false, refl, ◌∙◌, arith}
+use Rattle.std.proofs.Common.{◌≡◌, ℕ, zero, suc, ◌<◌, ◌≤◌, List, [], ◌∷◌, ◌++◌, length, map, filter, replicate, drop, get_or, ltb, Bool, true, false, Option, refl, sym, ap, ◌∙◌, arith}
 use Rattle.std.proofs.lemmas.Bool.Decides.{nat_tests}
-use Rattle.cat_model.specs.Page.{Sort}
+use Rattle.std.proofs.lemmas.List.{drop_all}
 use Rattle.cat_model.specs.View.{Row, selected}
 use Rattle.cat_model.proofs.HitOrder.{is_lt-nat_cmp}
 use Rattle.cat_search.specs.declared.sort.Order.TheVariants as order
 use Rattle.cat_search.specs.Standings.{Rank, Standing, standing_before}
+use Rattle.cat_search.specs.Pages.{behind}
 use Rattle.cat_search.specs.Rows.{row_standing}
 
 abbrev added : Row → Standing
@@ -32,3 +33,16 @@ passed m (suc k) (true ∷ bs) (r ∷ rows) is up_to =
     let rest = passed m k bs rows is (λ i d lt within. up_to (suc i) d (omega arith) (omega arith)) in
     rw here rest
 passed m (suc k) (false ∷ bs) (r ∷ rows) is up_to = passed m k bs rows is (λ i d lt within. up_to (suc i) d (omega arith) (omega arith))
+
+-- ---- a segment that is passed as a whole
+
+selected_none : {X : Type 0} (k : ℕ) (xs : List X) → selected (replicate k false ++ []) xs ≡ []
+selected_none zero xs = refl
+selected_none (suc k) [] = refl
+selected_none (suc k) (x ∷ xs) = selected_none k xs
+
+-- where all rows are passed, no hit stands behind the mark
+pub all_passed : (mark : Option Standing) (k : ℕ) (hits : List Bool) (ranks : List Standing) → length hits ≤ k
+    → behind mark (selected (replicate k false ++ drop k hits) ranks) ≡ behind mark (selected hits ranks) → behind mark (selected hits ranks) ≡ []
+all_passed mark k hits ranks all same =
+    sym same ∙ ap (behind mark) (ap (λ (l : List Bool). selected (replicate k false ++ l) ranks) (drop_all k hits all) ∙ selected_none k ranks)

@@ -11,4 +11,5 @@ pub mod Sources
 pub mod Bars
 pub mod OrdinalBars
 pub mod Sets
+pub mod Hits
 pub mod Holds

@@ -1,5 +1,5 @@
 //! The pass over the segments of a view.
-ghost use Rattle.std.specs.Prelude.{◌≡◌, ◌<◌, ◌+◌, ◌++◌, List, count_by, length, take, map, option_map, AllPairs, IfOk, IfSome, OnOk};
+ghost use Rattle.std.specs.Prelude.{◌≡◌, ◌<◌, ◌≤◌, ◌+◌, ◌++◌, Bool, false, List, count_by, drop, length, replicate, take, map, option_map, AllPairs, IfOk, IfSome, OnOk};
 ghost use Rattle.std.specs.List.{flat_map};
 ghost use Rattle.cat_model.specs.RowSets.{joined, both};
 ghost use Rattle.cat_model.specs.View.{live_rows, row_matches, selected};
@@ -7,6 +7,7 @@ ghost use Rattle.cat_query.specs.View.{query_of};
 ghost use Rattle.cat_search.specs.declared.sort.Order.TheVariants.{Added};
 ghost use Rattle.cat_search.specs.Asks.{first_wanted};
 ghost use Rattle.cat_search.specs.Candidates.{mark_standing, standing_of};
+ghost use Rattle.cat_search.specs.Hits.{rows_of};
 ghost use Rattle.cat_search.specs.Pages.{behind};
 ghost use Rattle.cat_search.specs.Rows.{hits_in, leaf_hits, row_standing};
 ghost use Rattle.cat_search.specs.Sets.{AreSets, set_at};
@@ -14,6 +15,7 @@ ghost use Rattle.cat_search.specs.Standings.{Standing};
 
 use crate::ask::Wanted;
 use crate::best::Best;
+use crate::hits::Hits;
 use crate::leaf_ranks::LeafRanks;
 use crate::offers::{is_beyond, offer_rows};
 use crate::sort::Order;
@@ -77,23 +79,23 @@ fn matched_rows(
 }
 
 /// The live rows of the leaf that the query matches (Lucene: `BulkScorer.score` with the leaf's `liveDocs`). Where it
-/// matches everything they are all the live rows, and no postings are looked at; where a set of the matching rows is at hand,
-/// none are either.
-pub(crate) fn hits_of(
+/// matches everything they are all the live rows, of which no set is made; where a set of the matching rows is at hand, no
+/// postings are looked at either.
+pub(crate) fn hits_of<'a>(
     alloc: Global,
     query: &Query,
     set: Option<&DocSet>,
-    leaf: &Leaf,
-) -> Result<RowSet, AllocError>
+    leaf: &'a Leaf,
+) -> Result<Hits<'a>, AllocError>
     requires { IfSome set (λ s. s.now ≡ map (row_matches (query_of query.now)) leaf.now.segment.rows) }
-    ensures ok { IfOk result (λ s. selected s leaf.now.segment.rows ≡ leaf_hits leaf.now (query_of query.now)) }
-    ensures long { IfOk result (λ s. length s ≡ length leaf.now.segment.rows) }
+    ensures ok { IfOk result (λ h. selected (rows_of h) leaf.now.segment.rows ≡ leaf_hits leaf.now (query_of query.now)) }
+    ensures long { IfOk result (λ h. length (rows_of h) ≡ length leaf.now.segment.rows) }
 {
     if query.is_everything() {
-        let hits = leaf.live().rows().copy()?;
-        return Ok(hits);
+        return Ok(Hits::Live(leaf.live().rows()));
     }
-    matched_rows(alloc, query, set, leaf)
+    let rows = matched_rows(alloc, query, set, leaf)?;
+    Ok(Hits::Matched(rows))
 }
 
 /// As many hits more. What a `usize` can't count doesn't fit in memory either.
@@ -103,19 +105,20 @@ fn counted(total: usize, hits: &RowSet) -> Result<usize, AllocError>
     total.checked_add(hits.count()).ok_or(AllocError)
 }
 
-/// Takes those hits out that earlier pages in order of addition had, without a look at each.
-fn pass_mark(hits: &mut RowSet, segment: &Segment, mark: &Option<Candidate<'_>>)
-    requires { length hits.old ≡ length segment.now.rows }
-    ensures long { length hits.new ≡ length hits.old }
-    ensures passed { behind (mark_standing mark.now) (selected hits.new (map (row_standing Added) segment.now.rows))
-        ≡ behind (mark_standing mark.now) (selected hits.old (map (row_standing Added) segment.now.rows)) }
+/// How many rows at the head of the segment stand before every page behind the mark, in order of addition.
+fn rows_passed(segment: &Segment, mark: &Option<Candidate<'_>>) -> usize
+    ensures bound { result ≤ length segment.now.rows }
+    ensures passed { (hits : List Bool) → length hits ≡ length segment.now.rows
+        → behind (mark_standing mark.now) (selected (replicate result false ++ drop result hits) (map (row_standing Added) segment.now.rows))
+        ≡ behind (mark_standing mark.now) (selected hits (map (row_standing Added) segment.now.rows)) }
 {
     // In order of addition no mark has a key.
     if let Some(mark) = mark
         && let Rank::Missing = mark.rank
     {
-        hits.remove_below(segment.rows_through(mark.number));
+        return segment.rows_through(mark.number);
     }
+    0
 }
 
 /// Takes in the hits of a segment in their order, as far as the mark comes before them, until there are n.
@@ -142,6 +145,32 @@ fn take_rows<'a>(
     Ok(())
 }
 
+/// Takes in the hits of a segment in order of addition, as far as the mark comes before them, until there are as many as are
+/// wanted. The rows that earlier pages had are passed without a look at each, and a segment that has no others is left out.
+fn take_behind<'a>(
+    taken: &mut Vec<Candidate<'a>>,
+    wanted: &Wanted<'a>,
+    segment: &'a Segment,
+    hits: Hits<'_>,
+) -> Result<(), AllocError>
+    requires long { length (rows_of hits) ≡ length segment.now.rows }
+    ensures taken { OnOk result ((standings : List Standing) → map standing_of taken.old.items ≡ take wanted.now.count standings
+        → map standing_of taken.new.items ≡ take wanted.now.count (standings
+        ++ behind (mark_standing wanted.now.mark) (selected (rows_of hits.entry) (map (row_standing Added) segment.now.rows)))) }
+{
+    let passed = rows_passed(segment, &wanted.mark);
+    if passed == segment.len() {
+        return Ok(());
+    }
+    let ranks = LeafRanks::of(segment, Order::Added);
+    if passed == 0 {
+        return take_rows(taken, wanted.count, &ranks, hits.rows(), &wanted.mark);
+    }
+    let mut left = hits.into_rows()?;
+    left.remove_below(passed);
+    take_rows(taken, wanted.count, &ranks, &left, &wanted.mark)
+}
+
 /// How many hits the leaves have, and the first that are wanted by the order's field.
 fn best_hits<'a>(
     alloc: Global,
@@ -159,9 +188,10 @@ fn best_hits<'a>(
     let mut best = Best::new(alloc, wanted.count);
     for (index, leaf) in leaves.iter().enumerate() {
         let hits = hits_of(alloc, query, set_at(sets, index), leaf)?;
-        total = counted(total, &hits)?;
+        let rows = hits.rows();
+        total = counted(total, rows)?;
         let ranks = LeafRanks::of(leaf.segment(), wanted.order);
-        offer_rows(&mut best, &ranks, &hits, &wanted.mark)?;
+        offer_rows(&mut best, &ranks, rows, &wanted.mark)?;
     }
     let first = best.into_items()?;
     Ok((total, first))
@@ -183,12 +213,10 @@ fn added_hits<'a>(
     let mut total = 0;
     let mut taken = Vec::new(alloc);
     for (index, leaf) in leaves.iter().enumerate() {
-        let mut hits = hits_of(alloc, query, set_at(sets, index), leaf)?;
-        total = counted(total, &hits)?;
-        let segment = leaf.segment();
-        pass_mark(&mut hits, segment, &wanted.mark);
-        let ranks = LeafRanks::of(segment, Order::Added);
-        take_rows(&mut taken, wanted.count, &ranks, &hits, &wanted.mark)?;
+        let set = set_at(sets, index);
+        let hits = hits_of(alloc, query, set, leaf)?;
+        total = counted(total, hits.rows())?;
+        take_behind(&mut taken, wanted, leaf.segment(), hits)?;
     }
     Ok((total, taken))
 }

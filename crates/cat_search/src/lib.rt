@@ -8,6 +8,7 @@ mod best;
 mod ends;
 mod entries;
 mod gathering;
+mod hits;
 mod hold;
 mod keys;
 mod leaf_ranks;

@@ -107,7 +107,8 @@ impl Prepared {
         ensures long { IfOk result (λ s. HoldsAt (λ leaf. length s ≡ length leaf.segment.rows) self.now.view.leaves index) }
     {
         let leaf = &self.view.leaves()[index];
-        hits_of(alloc, &self.query, set_at(sets_of(&self.sets), index), leaf)
+        let hits = hits_of(alloc, &self.query, set_at(sets_of(&self.sets), index), leaf)?;
+        hits.into_rows()
     }
 
     /// The page that is asked for of the live rows of the view that the query matches: the first of them behind the mark,

@@ -1,8 +1,9 @@
-use Rattle.std.proofs.Common.{subst, ◌≡◌, sym, IfSome, ◌∙◌, ◌++◌, map, take, ap}
+use Rattle.std.proofs.Common.{subst, ◌≡◌, ◌+◌, count_by, refl, sym, IfSome, ◌∙◌, map, take, ap}
 use Rattle.cat_model.specs.View.{row_matches}
 use Rattle.cat_query.specs.View.{query_of}
 use Rattle.cat_search.specs.declared.sort.Order.TheVariants.{Added}
 use Rattle.cat_search.specs.Candidates.{mark_standing}
+use Rattle.cat_search.specs.Hits.{rows_of}
 use Rattle.cat_search.specs.Pages.{behind}
 use Rattle.cat_search.specs.Rows.{hits_in, row_standing}
 use Rattle.cat_search.specs.Sets.{set_at}
@@ -16,11 +17,14 @@ loop-index-preserved c =
     let leaves = c.args.leaves.now in
     let i = c.loop-index.index in
     let standings = behind mark (map (row_standing Added) (hits_in (take i leaves) q)) in
+    let segment = c.segment.result.now in
+    let rows = rows_of c.in_ok-hits.hits in
     record {
-      total = total_more q leaves i c.index-leaves-index.result c.index-leaves-index.is c.loop-index-test.true c.in_ok-hits.hits c.in_ok-hits.ensures.ok c.in_ok-hits.ensures.long c.loop-index.total c.in_ok-total.total c.loop-index.invariant.total c.in_ok-total.ensures.ok;
-      taken = c.in_ok-take_rows.ensures.taken standings c.loop-index.invariant.taken
-          ∙ ap (λ qs. take c.args.wanted.now.count (standings ++ qs)) (rw c.of-ranks.ensures c.pass_mark.ensures.passed)
-          ∙ ap (take c.args.wanted.now.count) (standings_more q leaves i c.index-leaves-index.result c.index-leaves-index.is c.loop-index-test.true c.in_ok-hits.hits c.in_ok-hits.ensures.ok mark Added c.segment-segment.result.now c.of-ranks.result c.segment-segment.ensures c.of-ranks.ensures);
+      total =
+          total_more q leaves i c.index-leaves-index.result c.index-leaves-index.is c.loop-index-test.true rows c.in_ok-hits.ensures.ok c.in_ok-hits.ensures.long c.loop-index.total c.in_ok-total.total c.loop-index.invariant.total
+          (c.in_ok-total.ensures.ok ∙ ap (λ s. c.loop-index.total + count_by (λ b. b) s) c.rows.ensures);
+      taken = c.in_ok-take_behind.ensures.taken standings c.loop-index.invariant.taken
+          ∙ ap (take c.args.wanted.now.count) (standings_more q leaves i c.index-leaves-index.result c.index-leaves-index.is c.loop-index-test.true rows c.in_ok-hits.ensures.ok mark Added segment (map (row_standing Added) segment.rows) c.segment.ensures refl);
     }
 
 pub hits_of-requires : goal.hits_of-requires
@@ -29,5 +33,5 @@ hits_of-requires c =
     let leaf = c.index-leaves-index.result in
     let leaves = c.args.leaves.now in
     let hand = c.requires c.loop-index.index leaf c.loop-index-test.true in
-    looked_at (λ s. s ≡ map rows leaf.segment.rows) c.set_at.result (set_at c.args.sets.now c.loop-index.index) c.set_at.ensures
+    looked_at (λ s. s ≡ map rows leaf.segment.rows) c.set_at-set.result (set_at c.args.sets.now c.loop-index.index) c.set_at-set.ensures
     (subst (λ l. IfSome (set_at c.args.sets.now c.loop-index.index) (λ s. s ≡ map rows l.segment.rows)) (sym c.index-leaves-index.is) hand)

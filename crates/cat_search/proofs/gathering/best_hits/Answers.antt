@@ -1,7 +1,7 @@
-use Rattle.std.proofs.Common.{◌≡◌, sym, IfSome, ◌∙◌, List, map, take, ap, subst}
+use Rattle.std.proofs.Common.{◌≡◌, sym, IfSome, ◌∙◌, List, length, map, take, ap, subst}
 use Rattle.std.proofs.lemmas.List.{take_all}
 use Rattle.cat_model.specs.Ranks.{sorted}
-use Rattle.cat_model.specs.View.{Leaf, row_matches}
+use Rattle.cat_model.specs.View.{Leaf, row_matches, selected}
 use Rattle.cat_query.specs.View.{query_of}
 use Rattle.cat_search.specs.Candidates.{IsBestAt, mark_standing}
 use Rattle.cat_search.specs.Pages.{behind}
@@ -20,11 +20,13 @@ loop-index-preserved c =
     let leaves = c.args.leaves.now in
     let i = c.loop-index.index in
     let standings = behind mark (map (row_standing o) (hits_in (take i leaves) q)) in
+    let rows = c.rows-rows.result.now in
+    let is = ap (λ s. selected s c.index-leaves-index.result.segment.rows) c.rows-rows.ensures ∙ c.in_ok-hits.ensures.ok in
     record {
-      total = total_more q leaves i c.index-leaves-index.result c.index-leaves-index.is c.loop-index-test.true c.in_ok-hits.hits c.in_ok-hits.ensures.ok c.in_ok-hits.ensures.long c.loop-index.total c.in_ok-total.total c.loop-index.invariant.total c.in_ok-total.ensures.ok;
+      total = total_more q leaves i c.index-leaves-index.result c.index-leaves-index.is c.loop-index-test.true rows is (ap length c.rows-rows.ensures ∙ c.in_ok-hits.ensures.long) c.loop-index.total c.in_ok-total.total c.loop-index.invariant.total c.in_ok-total.ensures.ok;
       limit = c.in_ok-offer_rows.ensures.limit ∙ c.loop-index.invariant.limit;
       best = subst (IsBestAt c.offer_rows.new.best)
-          (standings_more q leaves i c.index-leaves-index.result c.index-leaves-index.is c.loop-index-test.true c.in_ok-hits.hits c.in_ok-hits.ensures.ok mark o c.segment.result.now c.of-ranks.result c.segment.ensures c.of-ranks.ensures)
+          (standings_more q leaves i c.index-leaves-index.result c.index-leaves-index.is c.loop-index-test.true rows is mark o c.segment.result.now c.of-ranks.result c.segment.ensures c.of-ranks.ensures)
           (c.in_ok-offer_rows.ensures.best standings c.loop-index.invariant.best);
     }
 
