@@ -1,5 +1,6 @@
 //! The recorded views, and which session holds which.
-ghost use Rattle.std.specs.Prelude.{◌≡◌, ◌-◌, ◌<◌, ◌≤◌, ◌==◌, [], ◌∷◌, false, true, filter, find, length, map, not, option_map, option_to_list, slice_get, All, IfOk, OnErr, OnOk, Some};
+ghost use Rattle.std.specs.Prelude.{◌≡◌, ◌-◌, ◌<◌, ◌≤◌, ◌==◌, [], ◌∷◌, false, true, All, IfOk, OnErr, OnOk, Some};
+ghost use Rattle.std.specs.Prelude.{filter, find, length, map, not, option_map, option_to_list, slice_get};
 ghost use Rattle.std.specs.List.{flat_map};
 ghost use Rattle.cat_model.specs.Limits.{view_limit};
 ghost use Rattle.cat_model.specs.Run.{greatest, is_full};
@@ -7,7 +8,8 @@ ghost use Rattle.cat_model.specs.State.{has_hold, held_in};
 ghost use Rattle.cat_model.specs.View.{needs};
 ghost use Rattle.cat_directory.specs.Names.{name_of};
 ghost use Rattle.cat_records.specs.Counts.{KeepsFrom};
-ghost use Rattle.cat_records.specs.Records.{AreRecords, acquired, has_token, holders_of, pruned_to, released, stays_by, stays_in, tokens_of, with_view};
+ghost use Rattle.cat_records.specs.Records.{AreRecords, has_token, holders_of, stays_by, stays_in, tokens_of};
+ghost use Rattle.cat_records.specs.Records.{acquired, pruned_to, released, with_view};
 
 use crate::held::HeldToken;
 use crate::recorded::{
