@@ -1,0 +1,6 @@
+pub mod Ordered
+pub mod Known
+pub mod Agreeing
+pub mod Reading
+pub mod Parts
+pub mod Nexts
