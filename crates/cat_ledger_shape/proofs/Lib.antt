@@ -8,4 +8,6 @@ pub mod MergeWindows
 pub mod Writes
 pub mod Views
 pub mod Committed
+pub mod Listed
 pub mod Opened
+pub mod Answered

@@ -1,19 +1,20 @@
 -- The laws of commits and snapshots over shapes, and of opening.
-use Rattle.std.specs.Prelude.{◌≡◌, ℕ, ◌+◌, ◌<◌, ◌≤◌, ◌^◌, List, [], ◌∷◌, length, map}
-use Rattle.std.specs.List.{AllByRecursion}
+use Rattle.std.specs.Prelude.{◌≡◌, ◌≢◌, ℕ, ◌+◌, ◌<◌, ◌≤◌, ◌^◌, ◌==◌, Bool, true, List, [], ◌∷◌, length, map, filter, cond, All, AllPairs}
+use Rattle.std.specs.List.{flat_map, AllByRecursion}
 use Rattle.cat_model.specs.Text.{Text}
 use Rattle.cat_model.specs.Item.{IsSchema}
 use Rattle.cat_model.specs.Files.{Name}
 use Rattle.cat_model.specs.Forms.{IsCommitText}
-use Rattle.cat_model.specs.Limits.{last_number, segment_limit, view_limit}
-use Rattle.cat_model.specs.LiveFile.{SpellsLive}
+use Rattle.cat_model.specs.Limits.{last_number, segment_limit, row_limit, view_limit}
+use Rattle.cat_model.specs.LiveFile.{SpellsLive, AreLiveRows}
 use Rattle.cat_model.specs.CommitFile.{IsCommitFile, SpellsCommit, commit_needs}
 use Rattle.cat_model.specs.View.{Leaf, needs}
 use Rattle.cat_directory.specs.declared.name.FileName.TheVariants as file
 use Rattle.cat_ledger_model.specs.Calls.{Committed, Snaps, Unsnapped}
-use Rattle.cat_ledger_model.specs.Users.{users_of, times}
-use Rattle.cat_ledger_shape.specs.Shapes.{Shape, IsShape, names_of_commits, view_now}
-use Rattle.cat_ledger_shape.specs.Steps.{commit_now, file_for, IsCommitted, IsSnapped, IsUnsnapped}
+use Rattle.cat_ledger_model.specs.Ledger.{IsNew}
+use Rattle.cat_ledger_model.specs.Users.{users_of, times, has_name}
+use Rattle.cat_ledger_shape.specs.Shapes.{ListedLive, Shape, IsShape, names_of_commits, view_now}
+use Rattle.cat_ledger_shape.specs.Steps.{listed_now, commit_now, file_for, IsCommitted, IsSnapped, IsUnsnapped}
 use Rattle.cat_ledger_shape.specs.Ties.{ToldFiles, Makes, TouchesOnly, TouchesNothing, TellsBytes}
 
 -- the files that a commit may begin
@@ -70,3 +71,31 @@ UsersFit = (s : Shape) (q : Name) → IsShape s → length s.views ≤ view_limi
 abbrev pub NamesComeOnce : Type 0
 NamesComeOnce = (text : Text) (s : Shape) (q : Name) → IsShape s
     → (times q (commit_needs (commit_now text s)) ≤ 1) × (times q (needs (view_now s)) ≤ 1)
+
+-- the numbers of the segments that the newest commit lists differ
+abbrev pub ListedDiffer : Type 0
+ListedDiffer = (s : Shape) → IsShape s → AllPairs (λ a b. a.number ≢ b.number) s.listed
+
+-- a new live file of the commit can be written, where a segment has rows, and not too many
+abbrev pub LiveMayBeWritten : Type 0
+LiveMayBeWritten = (s : Shape) → IsShape s → s.next_generation ≤ last_number → All (λ leaf.
+    file_for s.listed s.next_generation leaf ≡ s.next_generation → 1 ≤ length leaf.live → length leaf.live ≤ row_limit
+    → AreLiveRows (record { number = leaf.segment.number; generation = s.next_generation; live = leaf.live })) s.leaves
+
+-- each name has as many users at least as the commits have it that go
+abbrev pub LeavingAreCounted : Type 0
+LeavingAreCounted = (s : Shape) (goes : ℕ → Bool) (q : Name) → IsShape s
+    → times q (names_of_commits (filter (λ c. goes c.generation) s.commits)) ≤ users_of s.users q
+
+-- the names that a commit of now begins: its own file, and the new files of live rows
+abbrev pub names_begun : Shape → List Name
+names_begun s = Name.commit s.next_generation
+    ∷ flat_map (λ (x : ListedLive). cond (x.file == s.next_generation) (Name.live x.number x.file ∷ []) []) (listed_now s)
+
+-- They have a number that was not taken, and the commit uses each of them.
+pub record AreBegun (text : Text) (s : Shape) : Type 0 where
+  pub new : AllByRecursion (IsNew s.next_segment s.next_generation) (names_begun s)
+  pub used : (q : Name) → has_name q (names_begun s) ≡ true → has_name q (commit_needs (commit_now text s)) ≡ true
+
+abbrev pub NamesAreBegun : Type 0
+NamesAreBegun = (text : Text) (s : Shape) → IsShape s → AreBegun text s

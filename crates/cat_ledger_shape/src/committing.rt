@@ -1,5 +1,5 @@
 //! Commits and snapshots.
-ghost use Rattle.cat_ledger_shape.specs.CommitLaws.{CommitsMake, CommitsKeep, SnapsMake, SnapsKeep, UnsnapsMake, UnsnapsKeep, CommitsMayBeSaid, CommitsAreCounted, UsersFit, NamesComeOnce};
+ghost use Rattle.cat_ledger_shape.specs.CommitLaws.{CommitsMake, CommitsKeep, SnapsMake, SnapsKeep, UnsnapsMake, UnsnapsKeep, CommitsMayBeSaid, CommitsAreCounted, UsersFit, NamesComeOnce, ListedDiffer, LiveMayBeWritten, LeavingAreCounted, NamesAreBegun};
 
 /// Where the file of a commit of now is written, and one for each live set that has none yet, keeping the commit in memory is a
 /// commit of the ledger.
@@ -66,4 +66,32 @@ pub fn users_fit()
 /// Lucene's `IndexCommit.getFileNames` is a set.
 pub fn names_come_once()
     ensures { NamesComeOnce }
+{}
+
+/// The segments that the newest commit lists have different numbers.
+///
+/// Lucene's `SegmentInfos` name each segment once.
+pub fn listed_differ()
+    ensures { ListedDiffer }
+{}
+
+/// The live rows of a segment that gets a new file at a commit can be written: some row is dead, and the numbers fit.
+///
+/// Lucene's `SegmentCommitInfo.hasDeletions` is asked before `LiveDocsFormat.writeLiveDocs`.
+pub fn live_may_be_written()
+    ensures { LiveMayBeWritten }
+{}
+
+/// Each name has as many users at least as the commits have it that go, whichever go.
+///
+/// Lucene's `IndexFileDeleter.deleteCommits`, which calls `decRef` on the files of each.
+pub fn leaving_are_counted()
+    ensures { LeavingAreCounted }
+{}
+
+/// The names that a commit begins have its own generation, which no name had before, and the commit uses each of them.
+///
+/// Lucene's `SegmentInfos.getNextPendingGeneration`.
+pub fn names_are_begun()
+    ensures { NamesAreBegun }
 {}
