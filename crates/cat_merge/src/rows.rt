@@ -44,17 +44,17 @@ impl KeptRow {
         self.number
     }
 
-    /// The id.
-    pub(crate) fn id(&self) -> &Text
-        ensures { result.now ≡ self.now.id }
-    {
-        &self.id
-    }
-
     /// The length of the text that the item came as.
     pub(crate) fn length(&self) -> u32
         ensures { result ≡ self.now.length }
     {
         self.length
+    }
+
+    /// The id.
+    pub(crate) fn into_id(self) -> Text
+        ensures { result ≡ self.id }
+    {
+        self.id
     }
 }

@@ -20,9 +20,9 @@ use std::alloc::{AllocError, Global};
 /// The numbers of the writes that put the rows, the rows' ids, and the lengths of their sources.
 fn unzipped(
     alloc: Global,
-    kept: &[KeptRow],
+    kept: Vec<KeptRow>,
 ) -> Result<(Vec<WriteNo>, Vec<Text>, Vec<u32>), AllocError>
-    ensures heads { IfOk result (λ p. heads_in p.0.items p.1.items p.2.items ≡ kept.now) }
+    ensures heads { IfOk result (λ p. heads_in p.0.items p.1.items p.2.items ≡ kept.items) }
     ensures ids { IfOk result (λ p. length p.1.items ≡ length p.0.items) }
     ensures lengths { IfOk result (λ p. length p.2.items ≡ length p.0.items) }
 {
@@ -31,8 +31,8 @@ fn unzipped(
     let mut lengths = Vec::with_capacity(alloc, kept.len())?;
     for row in kept {
         numbers.push(row.number())?;
-        ids.push(row.id().copy()?)?;
         lengths.push(row.length())?;
+        ids.push(row.into_id())?;
     }
     Ok((numbers, ids, lengths))
 }
@@ -64,7 +64,7 @@ pub(crate) fn sealed(
 {
     let maps = row_maps(alloc, inputs)?;
     let columns = merged_columns(alloc, schema.fields(), inputs, &maps, kept.len())?;
-    let (numbers, ids, lengths) = unzipped(alloc, &kept)?;
+    let (numbers, ids, lengths) = unzipped(alloc, kept)?;
     let parts = SegmentParts {
         number,
         schema,

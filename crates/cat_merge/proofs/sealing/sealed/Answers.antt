@@ -28,13 +28,13 @@ pub assemble-requires-clause-layout : goal.assemble-requires-clause-layout
 assemble-requires-clause-layout c =
     fits c.args.number c.args.schema c.args.inputs.now c.requires.may c.requires.inputs c.requires.some (column.Keyword c.in_ok-numbers.ids c.in_ok-numbers.lengths) c.in_ok-columns.columns.items
     (subst (λ (fs : Schema). AreMergedColumns fs (kept_rows c.args.inputs.now) c.in_ok-columns.columns.items) c.fields.ensures.value c.in_ok-columns.ensures.ok)
-    (heads_in c.in_ok-numbers.numbers.items c.in_ok-numbers.ids.items c.in_ok-numbers.lengths.items) (c.in_ok-numbers.ensures.heads ∙ c.deref-2.ensures.value ∙ c.requires.kept)
+    (heads_in c.in_ok-numbers.numbers.items c.in_ok-numbers.ids.items c.in_ok-numbers.lengths.items) (c.in_ok-numbers.ensures.heads ∙ c.requires.kept)
 
 pub returns-in-Ok : goal.returns-in-Ok
 returns-in-Ok c = record {
   ok = is_merged c.args.number c.args.schema c.args.inputs.now c.requires.may c.requires.inputs c.requires.some (column.Keyword c.in_ok-numbers.ids c.in_ok-numbers.lengths) c.in_ok-columns.columns.items
       (subst (λ (fs : Schema). AreMergedColumns fs (kept_rows c.args.inputs.now) c.in_ok-columns.columns.items) c.fields.ensures.value c.in_ok-columns.ensures.ok)
-      (heads_in c.in_ok-numbers.numbers.items c.in_ok-numbers.ids.items c.in_ok-numbers.lengths.items) (c.in_ok-numbers.ensures.heads ∙ c.deref-2.ensures.value ∙ c.requires.kept)
+      (heads_in c.in_ok-numbers.numbers.items c.in_ok-numbers.ids.items c.in_ok-numbers.lengths.items) (c.in_ok-numbers.ensures.heads ∙ c.requires.kept)
       c.in-Ok.segment c.in-Ok.ensures.ok.0 c.in-Ok.ensures.ok.1;
   some = c.requires.some;
 }
@@ -43,7 +43,7 @@ pub want_of_memory-requires : goal.want_of_memory-requires
 want_of_memory-requires c = elim c.in-Err.ensures.refusal [
   | inl damaged ↦ absurd (has_segment c.args.number c.args.schema c.args.inputs.now c.requires.may c.requires.inputs c.requires.some (column.Keyword c.in_ok-numbers.ids c.in_ok-numbers.lengths) c.in_ok-columns.columns.items
       (subst (λ (fs : Schema). AreMergedColumns fs (kept_rows c.args.inputs.now) c.in_ok-columns.columns.items) c.fields.ensures.value c.in_ok-columns.ensures.ok)
-      (heads_in c.in_ok-numbers.numbers.items c.in_ok-numbers.ids.items c.in_ok-numbers.lengths.items) (c.in_ok-numbers.ensures.heads ∙ c.deref-2.ensures.value ∙ c.requires.kept)
+      (heads_in c.in_ok-numbers.numbers.items c.in_ok-numbers.ids.items c.in_ok-numbers.lengths.items) (c.in_ok-numbers.ensures.heads ∙ c.requires.kept)
       (c.in-Err.ensures.damaged damaged))
   | inr memory ↦ memory
 ]
