@@ -11,3 +11,4 @@ pub mod Committed
 pub mod Listed
 pub mod Opened
 pub mod Answered
+pub mod Planned

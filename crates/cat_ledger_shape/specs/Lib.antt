@@ -7,3 +7,4 @@ pub mod MergeLaws
 pub mod CommitLaws
 pub mod OpeningLaws
 pub mod RunLaws
+pub mod PlanLaws

@@ -5,6 +5,7 @@
 mod committing;
 mod merging;
 mod opening;
+mod planning;
 mod running;
 mod viewing;
 mod writing;
@@ -19,6 +20,10 @@ pub use merging::{
     installs_make, merges_find_their_window, windows_may_be_merged,
 };
 pub use opening::{empty_keep, empty_make, opened_keep, opened_make};
+pub use planning::{
+    forced_fit, forces_begin, forces_rest, forces_wait, merges_are_done, merges_begin, merges_copy,
+    merges_rest, windows_fit,
+};
 pub use running::{answers_are_steps, empty_stand, opened_stand};
 pub use viewing::{
     holds_keep, holds_make, prunes_keep, prunes_make, records_keep, records_make, shapes_are_views,
