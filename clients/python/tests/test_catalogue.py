@@ -1,0 +1,219 @@
+"""Each call, by what the program answers."""
+
+import unittest
+
+import support  # first: it finds the package
+
+import jasminedome
+from jasminedome import FacetCount, Hit, Page, UsageError, any_of, between, term
+
+
+class Writes(support.ShopTest):
+    def test_writes_are_numbered(self):
+        self.assertEqual(self.shop.opened_at, 0)
+        self.assertEqual(self.shop.put({"id": "a", "price": 5, "brand": "Æ \u2028"}), 1)
+        self.assertEqual(self.shop.put('{"id":"b"}'), 2)
+        self.assertEqual(self.shop.delete("a"), 3)
+        self.assertEqual(self.shop.delete("none"), 4)
+        self.assertEqual(self.shop.refresh(), 4)
+
+    def test_refused_items(self):
+        refused = [
+            ({"id": "a", "price": 5.5}, jasminedome.WrongKind),
+            ({"id": "a", "size": 1}, jasminedome.UnknownField),
+            ({"id": ""}, jasminedome.BadId),
+            ({"id": "x" * 65}, jasminedome.BadId),
+            ("[1]", jasminedome.WrongKind),
+            ("{", jasminedome.BadJson),
+            ({"id": "a", "brand": "x" * 129}, jasminedome.TooLarge),
+            ({"id": "a", "title": "x" * 8_500}, jasminedome.TooLarge),
+            ({"id": "a", "title": "x" * 10_000}, UsageError),
+            ({"id": "a", "price": float("nan")}, UsageError),
+            ({"id": "a", "price": {1}}, UsageError),
+            ('{"id":\n"a"}', UsageError),
+            ({"id": "\ud800"}, UsageError),
+        ]
+        for item, error in refused:
+            with self.subTest(item=str(item)[:60]):
+                self.assertRaises(error, self.shop.put, item)
+        self.assertEqual(self.shop.put({"id": "a"}), 1)
+        told = self.shop.put_many([{"id": "b"}, *(item for item, _ in refused), {"id": "c"}])
+        self.assertEqual((told.accepted, told.last), (2, 3))
+        self.assertEqual([each.index for each in told.refused], list(range(1, len(refused) + 1)))
+        self.assertEqual([type(each.error) for each in told.refused], [error for _, error in refused])
+
+    def test_put_many(self):
+        answered = []
+        items = ({"id": f"x{n}"} if n % 100 else {"id": ""} for n in range(3_000))
+        told = self.shop.put_many(items, answered.append)
+        self.assertEqual((told.accepted, told.last, len(told.refused)), (2_970, 2_970, 30))
+        self.assertEqual([each.index for each in told.refused], list(range(0, 3_000, 100)))
+        self.assertEqual(answered, sorted(answered))
+        self.assertEqual(answered[-1], 3_000)
+        self.assertEqual(self.shop.put_many([]), jasminedome.PutMany(0, None, ()))
+        self.assertEqual(self.shop.put_many([{"id": "\n", "price": {1}}] * 600).accepted, 0)
+        self.assertEqual(self.shop.refresh(), 2_970)
+
+    def test_an_iterator_that_fails_leaves_a_catalogue_that_works(self):
+        def items():
+            yield from ({"id": f"x{n}"} for n in range(2_000))
+            raise KeyError("no more")
+
+        self.assertRaises(KeyError, self.shop.put_many, items())
+        self.assertGreater(self.shop.put({"id": "a"}), 0)
+
+    def test_delete_where(self):
+        self.shop.put_many([{"id": "a", "price": 1}, {"id": "b", "price": 2}, {"id": "c"}])
+        with self.served():
+            self.assertEqual(self.shop.delete_where(between("price", 2, None)), 4)
+        self.assertRaises(jasminedome.BadQuery, self.shop.delete_where, "price:x")
+        self.shop.refresh()
+        with self.shop.open() as view:
+            self.assertEqual([hit.id for hit in view.find().hits], ["a", "c"])
+
+
+class Views(support.ShopTest):
+    def setUp(self):
+        super().setUp()
+        self.shop.put({"id": "a", "price": 7, "brand": "x y", "color": ["red", "blue"]})
+        self.shop.put({"id": "b", "color": ["red"]})
+        self.shop.put({"id": "c", "price": 7, "brand": "=", "title": "Red-Shoe 42é"})
+        self.shop.put({"id": "d", "price": -2, "brand": "."})
+        self.shop.refresh()
+
+    def test_find(self):
+        with self.shop.open() as view:
+            self.assertEqual(view.token, 4)
+            self.assertEqual(view.find(count=1), Page(4, (Hit(1, "a", None),)))
+            rising = (Hit(4, "d", -2), Hit(1, "a", 7), Hit(3, "c", 7), Hit(2, "b", None))
+            self.assertEqual(view.find(sort="+price"), Page(4, rising))
+            falling = (Hit(1, "a", 7), Hit(3, "c", 7), Hit(4, "d", -2), Hit(2, "b", None))
+            self.assertEqual(view.find(sort="-price"), Page(4, falling))
+            self.assertEqual(view.find(sort="+price", after=1).hits, rising[2:])
+            self.assertEqual([hit.key for hit in view.find(sort="+brand").hits], [".", "=", "x y", None])
+            self.assertEqual(view.find(any_of(term("brand", "x y"), term("title", "RED"))).total, 2)
+            self.assertEqual(view.find(count=0), Page(4, ()))
+
+    def test_refused_reads(self):
+        view = self.shop.open()
+        self.assertRaises(jasminedome.TooMany, view.find, count=1_001)
+        self.assertRaises(jasminedome.NotSortable, view.find, sort="+title")
+        self.assertRaises(jasminedome.BadMark, view.find, after=99)
+        self.assertRaises(jasminedome.TokenGone, self.shop.open, 3)
+        for wrong in ({"sort": "price"}, {"sort": "+a . *:*"}, {"after": -1}, {"after": "1"}, {"count": True}):
+            self.assertRaises(UsageError, view.find, **wrong)
+        self.assertRaises(UsageError, view.find, "*:*\n0 STAT")
+        self.assertRaises(UsageError, view.find, 'brand:"a"\r')
+        self.assertRaises(UsageError, self.shop.delete, "a\n1 DEL b")
+        self.assertRaises(UsageError, self.shop.open, "4")
+        view.close()
+        view.close()
+        self.assertRaises(UsageError, view.find)
+
+    def test_pages_stand_still(self):
+        self.shop.put_many({"id": f"x{n}", "price": n % 7} for n in range(95))
+        self.shop.refresh()
+        with self.shop.open() as view:
+            whole = view.find(sort="-price", count=1_000).hits
+            pages = view.pages(sort="-price", count=10)
+            turned = list(next(pages).hits)
+            self.shop.put_many({"id": f"x{n}", "price": 9} for n in range(95))
+            self.shop.refresh()
+            for page in pages:
+                self.assertEqual(page.total, 99)
+                turned.extend(page.hits)
+            self.assertEqual(tuple(turned), whole)
+            self.assertEqual(list(view.pages("brand:nobody")), [])
+            self.assertEqual([len(page.hits) for page in view.pages(count=33)], [33, 33, 33])
+            self.assertRaises(UsageError, view.pages, count=0)
+
+    def test_a_view_holds_what_it_saw(self):
+        old = self.shop.open()
+        self.shop.delete("a")
+        self.shop.refresh()
+        new = self.shop.open()
+        self.assertEqual((old.find().total, new.find().total), (4, 3))
+        again = self.shop.open(old.token)
+        old.close()
+        self.assertEqual(again.find().total, 4)
+
+    def test_facets(self):
+        with self.shop.open() as view, self.served():
+            self.assertEqual(view.facets("color").counts, (FacetCount("red", 2), FacetCount("blue", 1)))
+            self.assertEqual((view.facets("color", "*:*", 1).labels, view.facets("color").matching), (2, 2))
+            self.assertEqual(view.facets("color", count=1).counts, (FacetCount("red", 2),))
+            self.assertRaises(jasminedome.NotFacet, view.facets, "brand")
+            self.assertRaises(UsageError, view.facets, "color 9 *:*")
+
+    def test_stored_items(self):
+        with self.shop.open() as view, self.served():
+            self.assertEqual(view.get("b"), {"id": "b", "color": ["red"]})
+            self.assertEqual(view.source("b"), '{"id":"b","color":["red"]}')
+            self.assertIsNone(view.get("z"))
+            self.assertRaises(jasminedome.BadId, view.get, "a b")
+
+    def test_files(self):
+        with self.shop.open() as view, self.served():
+            self.assertIn("_1.seg", view.files())
+
+    def test_prune(self):
+        with self.served():
+            self.assertEqual(self.shop.prune(1), 1)
+        self.assertRaises(jasminedome.TokenGone, self.shop.open, 0)
+
+    def test_64_held_tokens(self):
+        views = [self.shop.open(0), self.shop.open()]
+        for n in range(62):
+            self.shop.put({"id": "a", "price": n})
+            self.shop.refresh()
+            views.append(self.shop.open())
+        self.shop.put({"id": "a"})
+        self.assertRaises(jasminedome.AllHeld, self.shop.refresh)
+        views.pop(5)  # forgotten
+        self.assertEqual(self.shop.refresh(), 67)
+
+
+class Upkeep(support.ShopTest):
+    def test_commits(self):
+        with self.served():
+            self.assertEqual(self.shop.commit("spring"), 1)
+        self.assertEqual(self.shop.note(1), "spring")
+        self.assertRaises(jasminedome.TooLarge, self.shop.commit, "x" * 257)
+        self.assertRaises(jasminedome.WrongKind, self.shop.commit, "\t")
+        with self.shop.snapshot() as kept:
+            self.assertEqual(kept.generation, 1)
+            self.assertIn("segments_1", kept.files)
+            self.assertEqual(self.shop.commit(), 2)
+            self.assertEqual((self.shop.note(1), self.shop.note(2)), ("spring", ""))
+        self.shop.commit()
+        self.assertRaises(jasminedome.NoCommit, self.shop.note, 1)
+
+    def test_no_commit_no_snapshot(self):
+        with self.served():
+            with self.assertRaises(jasminedome.NoCommit):
+                with self.shop.snapshot():
+                    self.fail("there is no commit")
+
+    def test_upkeep(self):
+        with self.served():
+            stat = self.shop.stat()
+        self.assertEqual((stat.writes, stat.recorded, stat.segments), (0, 1, ()))
+        self.assertFalse(self.shop.force())
+        self.shop.put({"id": "a"})
+        self.shop.refresh()
+        self.assertEqual(self.shop.stat().segments, (jasminedome.SegmentStat(1, 1, 1),))
+        self.assertEqual((self.shop.merge(), self.shop.warm(), self.shop.sweep()), (0, 0, 0))
+
+
+class Schemas(unittest.TestCase):
+    def test_refused_schemas(self):
+        program = support.REAL or support.FAKE
+        for fields in ({"a": "int"}, {"id": "text"}, {"A": "text"}):
+            self.assertRaises(jasminedome.WrongKind, jasminedome.Catalogue, fields, program=program)
+        self.assertRaises(jasminedome.BadLine, jasminedome.Catalogue, {}, factor=1, program=program)
+        self.assertRaises(jasminedome.BadLine, jasminedome.Catalogue, {}, least=0, program=program)
+        self.assertRaises(UsageError, jasminedome.Catalogue, {"a": "text"}, factor="2", program=program)
+
+
+if __name__ == "__main__":
+    unittest.main()
