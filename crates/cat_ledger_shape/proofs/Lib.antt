@@ -12,3 +12,4 @@ pub mod Listed
 pub mod Opened
 pub mod Answered
 pub mod Planned
+pub mod LineAnswers

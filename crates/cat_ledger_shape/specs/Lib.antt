@@ -8,3 +8,4 @@ pub mod CommitLaws
 pub mod OpeningLaws
 pub mod RunLaws
 pub mod PlanLaws
+pub mod LineLaws

@@ -2,6 +2,7 @@
 //! ledger's model. No code.
 #![tactic(auto)]
 
+mod answering;
 mod committing;
 mod merging;
 mod opening;
@@ -10,6 +11,11 @@ mod running;
 mod viewing;
 mod writing;
 
+pub use answering::{
+    calls_answer, commits_answer, deletes_answer, memory_answers, prunes_answer, puts_answer,
+    query_deletes_answer, refreshes_answer, snaps_answer, stopped_puts_answer,
+    stopped_refreshes_answer, unsnaps_answer,
+};
 pub use committing::{
     commits_are_counted, commits_keep, commits_make, commits_may_be_said, leaving_are_counted,
     listed_differ, live_may_be_written, names_are_begun, names_come_once, snaps_keep, snaps_make,
