@@ -10,7 +10,9 @@ use Rattle.cat_model.specs.LiveFile.{LiveRows, SpellsLive}
 use Rattle.cat_model.specs.View.{Segment, Leaf}
 use Rattle.cat_ledger_model.specs.Opening.{HasSegment, HasLiveFile, IsLeafOf, AreLeavesOf}
 use Rattle.cat_opening.specs.Leaf.{HasLive}
-use Rattle.cat_opening.specs.Told.{ToldFiles, IsTold, Tells, MayHold}
+use Rattle.cat_ledger_shape.specs.Ties.{ToldFiles, IsTold}
+use Rattle.cat_ledger_shape.specs.OpeningLaws.{MayHold}
+use Rattle.cat_opening.specs.Told.{Tells}
 
 abbrev pub SegmentsLaw : Type 0
 SegmentsLaw = (bytes : List ℕ) (s t : Segment) → SpellsSegment bytes s → SpellsSegment bytes t → s ≡ t

@@ -20,7 +20,9 @@ use Rattle.cat_ledger_model.proofs.Commits.{AllPairs-from_Apart}
 use Rattle.cat_ledger_model.specs.Opening.{Restored, HasCommit, HasLiveFile, HasSources, IsLeafOf, AreLeavesOf, IsRestored, IsForeign}
 use Rattle.cat_opening.specs.Leaf.{IsReadAs, HasLive}
 use Rattle.cat_opening.specs.Judged.{AreInOrder, Differ, live_ids}
-use Rattle.cat_opening.specs.Told.{ToldFiles, IsTold, Tells, MayHold}
+use Rattle.cat_ledger_shape.specs.Ties.{ToldFiles, IsTold}
+use Rattle.cat_ledger_shape.specs.OpeningLaws.{MayHold}
+use Rattle.cat_opening.specs.Told.{Tells}
 use Rattle.cat_opening.proofs.Agreeing.{SegmentsLaw, LiveLaw, one_text, segment_agrees}
 use Rattle.cat_opening.proofs.Ordered.{Apart-from_AllPairs}
 

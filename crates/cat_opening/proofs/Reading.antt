@@ -9,7 +9,7 @@ use Rattle.cat_base.specs.declared.refusal.Refusal.{Refusal}
 use Rattle.cat_directory.specs.Devices.{Told}
 use Rattle.cat_model.specs.Text.{Text}
 use Rattle.cat_model.specs.View.{Row}
-use Rattle.cat_opening.specs.Told.{IsTold}
+use Rattle.cat_ledger_shape.specs.Ties.{IsTold}
 
 fault_is : {T E : Type 0} (r : Result T E) (e : E) → IsErr r × IsErrAnd r (λ x. x ≡ e) → r ≡ Err e
 fault_is (Ok v) e so = absurd so.1

@@ -5,7 +5,8 @@ ghost use Rattle.cat_directory.specs.Devices.{CountsReading, NoMore};
 ghost use Rattle.cat_model.specs.View as model;
 ghost use Rattle.cat_ledger_model.specs.Opening.{HasSegment, HasSources, HasLiveFile, IsLeafOf};
 ghost use Rattle.cat_opening.specs.Leaf.{IsReadAs, HasLive};
-ghost use Rattle.cat_opening.specs.Told.{Tells, MayHold};
+ghost use Rattle.cat_ledger_shape.specs.OpeningLaws.{MayHold};
+ghost use Rattle.cat_opening.specs.Told.{Tells};
 
 use crate::file::read_file;
 use cat_base::{Generation, Refusal, SegNo};

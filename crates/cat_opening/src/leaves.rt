@@ -4,7 +4,8 @@ ghost use Rattle.cat_base.specs.declared.refusal.Refusal.TheVariants.{Device, Da
 ghost use Rattle.cat_directory.specs.Devices.{CountsReading, NoMore};
 ghost use Rattle.cat_model.specs.View as model;
 ghost use Rattle.cat_ledger_model.specs.Opening.{AreLeavesOf};
-ghost use Rattle.cat_opening.specs.Told.{Tells, MayHold};
+ghost use Rattle.cat_ledger_shape.specs.OpeningLaws.{MayHold};
+ghost use Rattle.cat_opening.specs.Told.{Tells};
 
 use crate::leaf::read_leaf;
 use cat_base::Refusal;

@@ -8,7 +8,8 @@ ghost use Rattle.cat_opening.specs.Judged.{AreInOrder, Differ, live_ids};
 ghost use Rattle.cat_ledger_model.specs.Opening as model;
 ghost use Rattle.cat_ledger_model.specs.Opening.{HasCommit, IsForeign, IsRestored};
 ghost use Rattle.cat_opening.specs.Refused.{CountsOpening};
-ghost use Rattle.cat_opening.specs.Told.{Tells, MayHold};
+ghost use Rattle.cat_ledger_shape.specs.OpeningLaws.{MayHold};
+ghost use Rattle.cat_opening.specs.Told.{Tells};
 
 use crate::file::read_file;
 use crate::ids::ids_differ;

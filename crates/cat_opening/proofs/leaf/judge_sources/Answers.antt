@@ -1,6 +1,6 @@
 use Rattle.std.proofs.Common.{rules, ℕ, Some, ◌∙◌, subst}
 use Rattle.cat_directory.specs.declared.name.FileName.TheVariants as file
-use Rattle.cat_opening.specs.Told.{IsTold}
+use Rattle.cat_ledger_shape.specs.Ties.{IsTold}
 use Rattle.cat_opening.proofs.Reading.{some_bytes}
 use Rattle.cat_opening.proofs.leaf.judge_sources.Goals as goal
 

@@ -4,7 +4,8 @@ use Rattle.cat_base.specs.declared.refusal.Refusal.TheVariants.{Damaged}
 use Rattle.cat_model.specs.CommitFile.{ListedSegment}
 use Rattle.cat_model.specs.View as model
 use Rattle.cat_ledger_model.specs.Opening.{IsLeafOf, AreLeavesOf}
-use Rattle.cat_opening.specs.Told.{Tells, MayHold}
+use Rattle.cat_ledger_shape.specs.OpeningLaws.{MayHold}
+use Rattle.cat_opening.specs.Told.{Tells}
 use Rattle.cat_opening.proofs.Reading.{passed}
 use Rattle.cat_opening.proofs.Parts.{as_one, leaf_refuted, leaves_next}
 use Rattle.cat_opening.proofs.leaves.read_leaves.Goals as goal

@@ -2,7 +2,7 @@ use Rattle.std.proofs.Common.{◌≡◌, take}
 use Rattle.cat_directory.specs.declared.name.FileName.{FileName}
 use Rattle.cat_directory.specs.Devices.{NoMore}
 use Rattle.cat_ledger_model.specs.Opening.{AreLeavesOf}
-use Rattle.cat_opening.specs.Told.{MayHold}
+use Rattle.cat_ledger_shape.specs.OpeningLaws.{MayHold}
 use Rattle.cat_opening.proofs.leaves.read_leaves.Given as goal
 
 abbrev pub invariant-loop-segment : goal.invariant-loop-segment

@@ -2,7 +2,8 @@ use Rattle.std.proofs.Common.{◌≡◌, true, false, rules}
 use Rattle.cat_base.specs.declared.refusal.Refusal.{Refusal}
 use Rattle.cat_base.specs.declared.refusal.Refusal.TheVariants.{Damaged}
 use Rattle.cat_ledger_model.specs.Opening.{Restored, IsRestored, IsForeign}
-use Rattle.cat_opening.specs.Told.{ToldFiles, Tells}
+use Rattle.cat_ledger_shape.specs.Ties.{ToldFiles}
+use Rattle.cat_opening.specs.Told.{Tells}
 use Rattle.cat_opening.proofs.Reading.{passed}
 use Rattle.cat_opening.proofs.Parts.{as_one, not_restored, not_foreign, restored_is, other_leaves, told_leaves, listed_leaves}
 use Rattle.cat_opening.proofs.restored.read_commit.Goals as goal
