@@ -4,10 +4,7 @@ ghost use Rattle.std.specs.List.{list_all};
 ghost use Rattle.cat_model.specs.Forms.{is_plain_byte, IsCommitText};
 ghost use Rattle.cat_model.specs.Heard.{commit_text_of};
 
-use cat_base::Refusal;
-
-/// The longest text of a commit, in bytes.
-const MAX_TEXT_BYTES: usize = 256;
+use cat_base::{MAX_COMMIT_TEXT_BYTES, Refusal};
 
 /// Whether no byte is a control character of ASCII.
 fn is_plain(text: &str) -> bool
@@ -20,7 +17,7 @@ fn is_plain(text: &str) -> bool
 pub fn commit_text_ok(text: &str) -> bool
     ensures { IsTrue result ↔ IsCommitText text.now }
 {
-    text.len() <= MAX_TEXT_BYTES && is_plain(text)
+    text.len() <= MAX_COMMIT_TEXT_BYTES && is_plain(text)
 }
 
 /// Judges a text that is to be a commit's: [`Refusal::Large`] where it is longer than 256 bytes, and else
@@ -29,7 +26,7 @@ pub fn judge_commit_text(text: &str) -> Result<(), Refusal>
     ensures ok { OnOk result (commit_text_of text.now ≡ Ok text.now) }
     ensures err { IfErr result (λ e. commit_text_of text.now ≡ Err e) }
 {
-    if text.len() > MAX_TEXT_BYTES {
+    if text.len() > MAX_COMMIT_TEXT_BYTES {
         Err(Refusal::Large)
     } else if !is_plain(text) {
         Err(Refusal::Kind)

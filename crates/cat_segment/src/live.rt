@@ -87,3 +87,21 @@ impl Live {
         })
     }
 }
+
+/// Live sets are equal where they are of as many rows, of which the same are live.
+impl PartialEq for Live {
+    ghost use Rattle.std.specs.Prelude.{◌≡◌, ◌↔◌, IsTrue};
+    ghost use Rattle.std.specs.Cmp.{partial_equiv_from_equiv};
+    ghost use Rattle.cat_values.specs.Bits.{same_rows, same_rows_equiv};
+
+    ghost eq = { same_rows };
+
+    ghost laws = { partial_equiv_from_equiv same_rows_equiv };
+
+    fn eq(&self, other: &Live) -> bool
+        ensures eq { result ≡ same_rows self.now other.now }
+        ensures value { IsTrue result ↔ (self.now ≡ other.now) }
+    {
+        self.rows == other.rows
+    }
+}

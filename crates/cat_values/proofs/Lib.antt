@@ -15,6 +15,7 @@ pub mod Packs
 pub mod Presence
 pub mod Rising
 pub mod RowTests
+pub mod Same
 pub mod Scans
 pub mod Searches
 pub mod Told

@@ -1,5 +1,8 @@
 -- Sets of rows as blocks of 64 bits, lowest bit first, seen as one truth value for each row.
 use Rattle.std.specs.Prelude.{◌≡◌, ℕ, ◌+◌, ◌-◌, ◌*◌, ◌/◌, ◌%◌, ◌^◌, ◌<◌, ◌≤◌, Bool, false, ◌==◌, List, length, map, filter, slice_index, if◌then◌else◌}
+use Rattle.std.proofs.Math.Bool.{beq}
+use Rattle.std.specs.Cmp.{IsEquivalence, bool_eq_equiv}
+use Rattle.std.specs.Cmp.Lexicographic.{pointwise, lists_equiv}
 use Rattle.std.specs.Int.{bit_at}
 use Rattle.std.specs.List.{range_with_len}
 use Rattle.cat_model.specs.RowSets.{IsPacked}
@@ -59,3 +62,10 @@ pub record IsLowestBit (block index : ℕ) : Type 0 where
 -- no set of as many rows is written as these bytes
 abbrev pub HasNoSet : ℕ → List ℕ → Type 0
 HasNoSet len bytes = (set : List Bool) → length set ≡ len → IsPacked bytes set → ⊥
+
+-- sets of as many rows, which have the same of them
+abbrev pub same_rows : List Bool → List Bool → Bool
+same_rows = pointwise beq
+
+pub same_rows_equiv : IsEquivalence same_rows
+same_rows_equiv = lists_equiv bool_eq_equiv

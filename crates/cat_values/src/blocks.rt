@@ -1,5 +1,5 @@
 //! Blocks of 64 bits, changed block by block. Row r is bit r % 64, from the lowest, of block r / 64.
-ghost use Rattle.std.specs.Prelude.{◌≡◌, ◌==◌, ℕ, ◌+◌, ◌*◌, ◌/◌, ◌%◌, ◌^◌, ◌<◌, ◌≤◌, ◌||◌, length, true, false, count_by, sum_by, count_ones, IfOk, IfErr, nat_lt, if◌then◌else◌, All};
+ghost use Rattle.std.specs.Prelude.{◌≡◌, ◌==◌, ℕ, ◌+◌, ◌*◌, ◌/◌, ◌%◌, ◌^◌, ◌<◌, ◌≤◌, ◌||◌, length, true, false, count_by, sum_by, count_ones, IfOk, IfErr, nat_lt, if◌then◌else◌, All, IsTrue, ◌↔◌};
 ghost use Rattle.std.specs.List.{range_with_len, list_any};
 ghost use Rattle.cat_base.specs.declared.refusal.Refusal.TheVariants.{Memory};
 ghost use Rattle.cat_model.specs.RowSets.{both, either, first_only};
@@ -112,4 +112,18 @@ fn ones_in(blocks: &[u64]) -> usize
     ensures { result ≡ sum_by count_ones blocks.now }
 {
     blocks.iter().map(|block| block.count_ones() as usize).sum()
+}
+
+/// Whether there are as many blocks, with the same rows in them.
+pub(crate) fn same_blocks(blocks: &[u64], other: &[u64]) -> bool
+    ensures { IsTrue result ↔ (length blocks.now ≡ length other.now) × ((row : ℕ) → is_set blocks.now row ≡ is_set other.now row) }
+{
+    are_equal(blocks, other)
+}
+
+/// Whether the blocks are the same numbers.
+fn are_equal(blocks: &[u64], other: &[u64]) -> bool
+    ensures { IsTrue result ↔ (blocks.now ≡ other.now) }
+{
+    blocks == other
 }

@@ -6,7 +6,7 @@ ghost use Rattle.cat_values.specs.Bits.{flags_of, IsBits, HasNoSet};
 
 use crate::blocks::{
     and_blocks, clear_below, clear_blocks, clear_row, count_blocks, full_blocks, has_row,
-    or_blocks, set_row, set_rows,
+    or_blocks, same_blocks, set_row, set_rows,
 };
 use crate::packed::{blocks_of, bytes_of, is_clear_from, is_full};
 use crate::scan::Rows;
@@ -190,5 +190,23 @@ impl RowSet {
             len: self.len,
             blocks,
         })
+    }
+}
+
+/// Sets are equal where they have as many rows to choose from and the same of them: blocks are compared.
+impl PartialEq for RowSet {
+    ghost use Rattle.std.specs.Prelude.{◌≡◌, ◌↔◌, IsTrue};
+    ghost use Rattle.std.specs.Cmp.{partial_equiv_from_equiv};
+    ghost use Rattle.cat_values.specs.Bits.{same_rows, same_rows_equiv};
+
+    ghost eq = { same_rows };
+
+    ghost laws = { partial_equiv_from_equiv same_rows_equiv };
+
+    fn eq(&self, other: &RowSet) -> bool
+        ensures eq { result ≡ same_rows self.now other.now }
+        ensures value { IsTrue result ↔ (self.now ≡ other.now) }
+    {
+        self.len == other.len && same_blocks(&self.blocks, &other.blocks)
     }
 }
