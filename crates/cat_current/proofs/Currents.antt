@@ -38,7 +38,8 @@ IsCurrent-none place_of index_of count places indices none = record {
   counted = none;
 }
 
-index_push : (n : ℕ) (leaves : List Leaf) (leaf : Leaf) → AllByRecursion (λ l. l.segment.number ≢ leaf.segment.number) leaves
+-- the index of a segment that comes last
+pub index_push : (n : ℕ) (leaves : List Leaf) (leaf : Leaf) → AllByRecursion (λ l. l.segment.number ≢ leaf.segment.number) leaves
     → cond (eqb leaf.segment.number n) (Some (length leaves)) (index_in n leaves) ≡ index_in n (leaves ++ leaf ∷ [])
 index_push n [] leaf a = refl
 index_push n (l ∷ ls) leaf a =

@@ -4,3 +4,8 @@ pub mod After
 pub mod Killed
 pub mod Texts
 pub mod Currents
+pub mod Moved
+pub mod Popped
+pub mod Installed
+pub mod Removed
+pub mod Indexed

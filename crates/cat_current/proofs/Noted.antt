@@ -56,6 +56,18 @@ forgotten-cons r key rs id old new e is =
     nothing true o e = sym e
     nothing false o e = refl
 
+-- some rows are forgotten, and then others
+pub forgotten-append : (rs ss : List Row) (id : Text) (old : Option Place) → forgotten ss id (forgotten rs id old) ≡ forgotten (rs ++ ss) id old
+forgotten-append [] ss id old = refl
+forgotten-append (r ∷ rs) ss id old = elim (cases_Bool (same_text r.id id)) [
+  | inl t ↦ rw t (nothing (list_any (λ x. same_text x.id id) ss) None refl)
+  | inr f ↦ rw f (forgotten-append rs ss id old)
+]
+  where
+    nothing : (b : Bool) (o : Option Place) → o ≡ None → cond b None o ≡ None
+    nothing true o e = refl
+    nothing false o e = e
+
 -- none of these rows has the id
 none_has : (id : Text) (s : Standing) (ts : List Standing) → same_text id s.row.id ≡ true → AllByRecursion (Apart s) ts → list_any (λ r. same_text r.id id) (the_rows ts) ≡ false
 none_has id s [] e a = refl

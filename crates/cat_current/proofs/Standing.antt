@@ -11,6 +11,7 @@ use Rattle.cat_model.specs.View.{Row, Leaf, live_rows, selected}
 use Rattle.cat_model.proofs.Places.{EachPair, each_pair}
 use Rattle.cat_model.specs.RowSets.{indices}
 use Rattle.cat_search.proofs.Selected.{selected-map, at_indices, indices-within, All-right}
+use Rattle.cat_current.specs.declared.places.Place.{Place}
 use Rattle.cat_current.specs.Places.{Standing, Key, key_of, standing_from, standing_in, standing, place_in}
 
 -- ---- texts
@@ -150,6 +151,13 @@ key_at_is leaf r k h is =
     let same : 0 + r ≡ r = omega arith in
     is d ∙ sym (ap key_of (standing_at leaf.segment.number 0 leaf.segment.rows r d nowhere h)
     ∙ ap (λ q. key_of (record { row = get_or leaf.segment.rows r d; place = record { segment = leaf.segment.number; row = q } })) same)
+
+-- the same of the parts of a key
+pub key_is : (leaf : Leaf) (r : ℕ) (id : Text) (place : Place) → r < length leaf.segment.rows → HoldsAt (λ x. x.id ≡ id) leaf.segment.rows r
+    → place ≡ record { segment = leaf.segment.number; row = r } → key_at leaf r ≡ record { id = id; place = place }
+key_is leaf r id place h is at =
+    let k : Key = record { id = id; place = place } in
+    sym (key_at_is leaf r k h (λ d. ap₂ (λ (t : Text) (p : Place). let key : Key = record { id = t; place = p } in key) (sym (is d)) at))
 
 pub row_within : (set : List Bool) (before after : List ℕ) (row : ℕ) → before ++ row ∷ after ≡ indices set → row < length set
 row_within set before after row e =

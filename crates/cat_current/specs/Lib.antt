@@ -1,3 +1,4 @@
 pub mod Places
 pub mod Indices
+pub mod Removals
 pub mod Currents

@@ -1,10 +1,19 @@
 //! The segments that stand.
-ghost use Rattle.std.specs.Prelude.{◌≡◌, true, [], ◌∷◌, ◌++◌, IfOk, OnOk, OnErr};
+ghost use Rattle.std.specs.Prelude.{◌≡◌, ◌<◌, ◌≤◌, ◌+◌, ◌-◌, ℕ, true, [], ◌∷◌, ◌++◌, length, take, drop, map, option_to_list, vec_capacity, IfOk, OnOk, OnErr};
+ghost use Rattle.std.specs.HashMap.{get_by_text};
+ghost use Rattle.std.specs.List.{flat_map};
+ghost use Rattle.cat_model.specs.Text.{Text};
+ghost use Rattle.cat_model.specs.View.{live_rows};
 ghost use Rattle.cat_model.specs.Write as write;
 ghost use Rattle.cat_ledger_model.specs.Leaves.{AreLeaves, has_live_id, leaves_after};
+ghost use Rattle.cat_query.specs.View.{query_of};
+ghost use Rattle.cat_current.specs.Places.{key_of, standing, moved};
 
-use crate::places::{Place, place_all, placings_of};
+use crate::indices::index_all;
+use crate::places::{Place, forget, move_all, place_all, placings_of};
+use crate::removals::{forget_all, leaves_left, removals_of};
 use cat_base::SegNo;
+use cat_query::Query;
 use cat_search::Leaf;
 use std::alloc::{AllocError, Global};
 use std::collections::HashMap;
@@ -122,6 +131,82 @@ impl Current {
         pushed.unwrap();
         Ok(())
     }
+
+    /// Takes the last segment out, so that a push can be taken back. It takes no memory.
+    pub fn pop(&mut self)
+        requires { 0 < length self.old }
+        ensures { self.new ≡ take (length self.old - 1) self.old }
+    {
+        let Some(leaf) = self.leaves.pop() else {
+            return;
+        };
+        self.indices.remove(&leaf.segment().number());
+        forget(&mut self.places, &leaf, leaf.live().rows());
+    }
+
+    /// Puts the merged segment, if any row was kept, in the place of the `count` segments from `index` on, whose live rows it has
+    /// (Lucene: `IndexWriter.commitMerge`). The work is in proportion to its live rows and to the number of segments. An error
+    /// changes nothing.
+    pub fn install(
+        &mut self,
+        index: usize,
+        count: usize,
+        merged: Option<Leaf>,
+    ) -> Result<(), AllocError>
+        requires some { 0 < count }
+        requires within { index + count ≤ length self.old }
+        requires rows { flat_map live_rows (option_to_list merged) ≡ flat_map live_rows (take count (drop index self.old)) }
+        requires stands { AreLeaves (take index self.old ++ (option_to_list merged ++ drop (index + count) self.old)) }
+        ensures ok { OnOk result (self.new ≡ take index self.old ++ (option_to_list merged ++ drop (index + count) self.old)) }
+        ensures err { OnErr result (self.new ≡ self.old) }
+    {
+        // All memory is taken first, so that an error changes nothing.
+        let mut indices = HashMap::with_capacity(self.alloc, self.leaves.len())?;
+        let behind = self.leaves.split_off(index + count)?;
+        self.leaves.truncate(index);
+        move_any(&mut self.places, &merged);
+        append(&mut self.leaves, merged, behind);
+        index_all(&mut indices, &self.leaves);
+        self.indices = indices;
+        Ok(())
+    }
+
+    /// Makes the live rows dead that the query matches (Lucene: `IndexWriter.deleteDocuments` by a query). A segment with no such
+    /// row shares its live set as before. An error changes nothing.
+    pub fn delete_where(&mut self, query: &Query) -> Result<(), AllocError>
+        ensures ok { OnOk result (self.new ≡ leaves_after (write.Write.delete_where (query_of query.now)) self.old) }
+        ensures err { OnErr result (self.new ≡ self.old) }
+    {
+        // All memory is taken first, so that an error changes nothing.
+        let removals = removals_of(self.alloc, &self.leaves, query)?;
+        let leaves = leaves_left(self.alloc, &removals)?;
+        forget_all(&mut self.places, &removals);
+        self.leaves = leaves;
+        Ok(())
+    }
+}
+
+/// Notes where the live rows of the leaf stand, if there is a leaf, over the places that their ids have.
+fn move_any(places: &mut HashMap<String, Place>, leaf: &Option<Leaf>)
+    ensures { (id : Text) → get_by_text places.new id
+        ≡ moved (map key_of (standing (option_to_list leaf.now))) id (get_by_text places.old id) }
+{
+    if let Some(leaf) = leaf {
+        move_all(places, leaf);
+    }
+}
+
+/// Puts the leaf, if there is one, and those behind it last. There is room for them.
+fn append(leaves: &mut Vec<Leaf>, leaf: Option<Leaf>, mut behind: Vec<Leaf>)
+    requires { length leaves.old.items + 1 + length behind.items ≤ vec_capacity leaves.old }
+    ensures { leaves.new.items ≡ leaves.old.items ++ (option_to_list leaf ++ behind.items) }
+{
+    if let Some(leaf) = leaf {
+        let pushed: Result<_, _> = leaves.push(leaf);
+        pushed.unwrap();
+    }
+    let appended: Result<_, _> = leaves.append(&mut behind);
+    appended.unwrap();
 }
 
 /// The leaves once more, all in them shared.

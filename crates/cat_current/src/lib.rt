@@ -2,6 +2,8 @@
 #![tactic(auto)]
 
 mod current;
+mod indices;
 mod places;
+mod removals;
 
 pub use current::Current;

@@ -3,10 +3,12 @@ ghost use Rattle.std.specs.Prelude.{◌≡◌, ◌<◌, ◌≤◌, List, ℕ, le
 ghost use Rattle.std.specs.List.{HoldsAt};
 ghost use Rattle.std.specs.HashMap.{get_by_text, spare};
 ghost use Rattle.cat_model.specs.Text.{Text};
-ghost use Rattle.cat_current.specs.Places.{Key, key_of, standing_in, placed};
+ghost use Rattle.cat_model.specs.View.{selected};
+ghost use Rattle.cat_current.specs.Places.{Key, key_of, standing_in, placed, moved_at, moved, forgotten};
 
 use cat_base::SegNo;
 use cat_search::Leaf;
+use cat_values::RowSet;
 use std::alloc::{AllocError, Global};
 use std::collections::HashMap;
 use std::marker::Model;
@@ -81,5 +83,34 @@ pub(crate) fn place_all(places: &mut HashMap<String, Place>, placings: Vec<Placi
         let Placing { id, place } = placing;
         let inserted: Result<_, _> = places.insert(id, place);
         let _before = inserted.unwrap();
+    }
+}
+
+/// Notes where the live rows of the leaf stand, over the places that their ids have.
+pub(crate) fn move_all(places: &mut HashMap<String, Place>, leaf: &Leaf)
+    ensures { (id : Text) → get_by_text places.new id ≡ moved (map key_of (standing_in leaf.now)) id (get_by_text places.old id) }
+{
+    for row in leaf.live().rows().iter() {
+        let place = place_at(leaf, row);
+        move_to(places, leaf.segment().id(row), place);
+    }
+}
+
+/// Notes this place of the id, if it has one.
+fn move_to(places: &mut HashMap<String, Place>, id: &str, place: Place)
+    ensures { (q : Text) → get_by_text places.new q ≡ moved_at (record { id = id.now; place = place }) q (get_by_text places.old q) }
+{
+    if let Some(noted) = places.get_mut(id) {
+        *noted = place;
+    }
+}
+
+/// Forgets where the ids of these rows of the leaf stand.
+pub(crate) fn forget(places: &mut HashMap<String, Place>, leaf: &Leaf, rows: &RowSet)
+    requires { length rows.now ≡ length leaf.now.segment.rows }
+    ensures { (id : Text) → get_by_text places.new id ≡ forgotten (selected rows.now leaf.now.segment.rows) id (get_by_text places.old id) }
+{
+    for row in rows.iter() {
+        places.remove(leaf.segment().id(row));
     }
 }
