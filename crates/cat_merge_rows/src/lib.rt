@@ -2,9 +2,13 @@
 #![tactic(auto)]
 
 #[cfg(test)]
+mod full;
+#[cfg(test)]
 mod making;
 #[cfg(test)]
 mod merges;
+#[cfg(test)]
+mod rising;
 #[cfg(test)]
 mod running;
 #[cfg(test)]

@@ -110,21 +110,40 @@ fn expect_step(
     let between = puts_between(puts, from, to);
     let wanted = sources_of(alloc, between, true)?;
     assert!(rt; step.sources.as_slice() == wanted.as_slice());
-    assert!(rt; step.ranges <= between.len());
     Ok(())
 }
 
-/// Fails unless each step passed 256 rows more of these, or all that were left.
+/// In how many ranges the sources stand of those of the rows from one index up to another that are kept, where segments end at
+/// these places: neighbours of one segment are in one range.
+fn ranges_between(puts: &[Put], ends: &[usize], from: usize, to: usize) -> usize {
+    let mut ranges = 0usize;
+    let mut goes_on = false;
+    for row in from..to.min(puts.len()) {
+        let is_kept = puts[row].live;
+        if is_kept && (!goes_on || ends.contains(&row)) {
+            ranges = ranges.saturating_add(1);
+        }
+        goes_on = is_kept;
+    }
+    ranges
+}
+
+/// Fails unless each step passed 256 rows more of these, or all that were left, and named as few ranges as there can be.
 fn expect_steps(
     rt: &impl Abort,
     alloc: Global,
     steps: &[Step],
     puts: &[Put],
+    ends: &[usize],
 ) -> Result<(), AllocError> {
     let mut passed = 0usize;
     for step in steps {
         let next = passed.saturating_add(MAX_STEP_ROWS).min(puts.len());
         expect_step(rt, alloc, step, puts, passed, next)?;
+        assert!(rt;
+            step.ranges == ranges_between(puts, ends, passed, next),
+            "{next}"
+        );
         passed = next;
     }
     Ok(())
@@ -192,7 +211,7 @@ fn expect_copied(
 {
     let files = files_of(alloc, puts, ends)?;
     let steps = take_steps(alloc, merge, &files, puts.len() / MAX_STEP_ROWS + 2)?;
-    expect_steps(rt, alloc, &steps, puts)
+    expect_steps(rt, alloc, &steps, puts, ends)
 }
 
 /// Fails unless those of the kept rows are live now that aren't killed meanwhile.
@@ -210,6 +229,27 @@ fn expect_settled(
     Ok(())
 }
 
+/// The merge of the rows in segments that end at these places, once all its steps are taken and its live rows were right, where
+/// some are killed meanwhile.
+pub(crate) fn walked(
+    rt: &impl Abort,
+    alloc: Global,
+    schema: &Schema,
+    puts: &[Put],
+    ends: &[usize],
+    killed: Which,
+) -> Result<Merge, Fail>
+    requires items { All (λ p. IsItem schema.now p.item) puts.now }
+    requires order { AllPairs (λ a b. (a.number < b.number)
+        × (a.live ≡ true → b.live ≡ true → a.item.id ≢ b.item.id)) puts.now }
+{
+    let Taken { inputs, now } = taken_of(alloc, schema, puts, ends, killed)?;
+    let mut merge = Merge::begin(alloc, MERGED, schema, inputs)?;
+    expect_copied(rt, alloc, &mut merge, puts, ends)?;
+    expect_settled(rt, alloc, &merge, &now, &kept_live(alloc, puts, killed)?)?;
+    Ok(merge)
+}
+
 /// Merges the rows in segments that end at these places, where some are killed meanwhile, and fails unless this gives a segment with
 /// the bytes of one that is made of the rows themselves.
 pub(crate) fn expect_merge(
@@ -224,9 +264,6 @@ pub(crate) fn expect_merge(
     requires order { AllPairs (λ a b. (a.number < b.number)
         × (a.live ≡ true → b.live ≡ true → a.item.id ≢ b.item.id)) puts.now }
 {
-    let Taken { inputs, now } = taken_of(alloc, schema, puts, ends, killed)?;
-    let mut merge = Merge::begin(alloc, MERGED, schema, inputs)?;
-    expect_copied(rt, alloc, &mut merge, puts, ends)?;
-    expect_settled(rt, alloc, &merge, &now, &kept_live(alloc, puts, killed)?)?;
+    let merge = walked(rt, alloc, schema, puts, ends, killed)?;
     Ok(expect_sealed(rt, alloc, merge, &kept_segment(alloc, schema, puts)?)?)
 }

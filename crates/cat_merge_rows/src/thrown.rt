@@ -83,6 +83,13 @@ fn item_text(alloc: Global, number: WriteNo) -> Result<String, AllocError> {
         text.push_str("}")?;
         return Ok(text);
     }
+    push_values(&mut text, number)?;
+    text.push_str("}")?;
+    Ok(text)
+}
+
+/// A value for each field, or none, that looks thrown.
+fn push_values(text: &mut String, number: WriteNo) -> Result<(), AllocError> {
     let mut thrown = number;
     for texts in VALUES {
         thrown = thrown
@@ -90,8 +97,7 @@ fn item_text(alloc: Global, number: WriteNo) -> Result<String, AllocError> {
             .wrapping_add(1_442_695_040_888_963_407);
         text.push_str(pick(texts, thrown))?;
     }
-    text.push_str("}")?;
-    Ok(text)
+    Ok(())
 }
 
 /// So many rows, under the numbers from 1 on, of which those are dead.
@@ -108,6 +114,27 @@ pub(crate) fn thrown_puts(
         let number = index + 1;
         let text = item_text(alloc, number)?;
         puts.push(read_put(alloc, schema, (number, !dead.has(number), text.as_str()))?)?;
+    }
+    Ok(puts)
+}
+
+/// A text of an item whose id comes behind those of lower numbers.
+fn rising_text(alloc: Global, number: WriteNo) -> Result<String, AllocError> {
+    let mut text = format!(in alloc; "{{\"id\":\"r{number:06}\"")?;
+    push_values(&mut text, number)?;
+    text.push_str("}")?;
+    Ok(text)
+}
+
+/// So many rows, all live, under the numbers from 1 on; their ids rise.
+pub(crate) fn rising_puts(alloc: Global, schema: &Schema, count: u64) -> Result<Vec<Put>, Refusal>
+    ensures { IfOk result (λ v. All (λ p. IsItem schema.now p.item) v.items) }
+{
+    let mut puts = Vec::new(alloc);
+    for index in 0..count {
+        let number = index + 1;
+        let text = rising_text(alloc, number)?;
+        puts.push(read_put(alloc, schema, (number, true, text.as_str()))?)?;
     }
     Ok(puts)
 }

@@ -86,6 +86,11 @@ fn windows_at_the_limit(rt: HostRuntime) {
     assert_eq!(rt; window(&[HALF, HALF], 2, 100_000), Some(0));
     assert_eq!(rt; window(&[HALF, HALF + 1], 2, 100_000), None);
     assert_eq!(rt; window(&[HALF + 1, HALF, HALF, HALF], 2, 100_000), Some(1));
+    // As many as are merged by `a_full_segment_is_merged_of_64`, and one more.
+    let mut sizes = [MAX_ROWS as u32 / 64; 64];
+    assert_eq!(rt; window(&sizes, 64, 100_000), Some(0));
+    sizes[63] += 1;
+    assert_eq!(rt; window(&sizes, 64, 100_000), None);
     assert_eq!(rt; window(&[u32::MAX; 100], 100, 100_000), None);
     assert_eq!(rt; window(&[1; 101], 100, 1), Some(0));
     assert_eq!(rt; window(&[1; 99], 100, 1), None);
