@@ -1,0 +1,9 @@
+//! The merge in the making: reads the sources of its inputs, and writes the files of the segment that it makes.
+#![tactic(auto)]
+
+mod inputs;
+mod making;
+mod sealing;
+mod sources;
+
+pub use making::MergeInMaking;
