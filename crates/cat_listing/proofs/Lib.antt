@@ -1,0 +1,6 @@
+mod Lists
+mod Looks
+mod Kept
+mod Writing
+mod Drafting
+mod Begun

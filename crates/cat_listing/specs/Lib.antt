@@ -1,0 +1,5 @@
+pub mod Entries
+pub mod NewFiles
+pub mod Unsynced
+pub mod Drafts
+pub mod Laws
