@@ -1,0 +1,15 @@
+-- What the tests of merges say of the segments that they make.
+use Rattle.std.specs.Prelude.{◌≡◌, ◌≤◌, List, length, take, drop, map}
+use Rattle.std.specs.List.{flat_map}
+use Rattle.cat_model.specs.View.{Row, Leaf, live_rows, row_of}
+use Rattle.cat_view_rows.specs.declared.put.Put.{Put}
+
+-- the rows of what was put
+abbrev pub rows_put : List Put → List Row
+rows_put puts = map (λ p. row_of (record { number = p.number; item = p.item })) puts
+
+-- the one leaf has the live rows of the second and the third of those that stand
+pub record MayReplace (leaves merged : List Leaf) : Type 0 where
+  pub within : 3 ≤ length leaves
+  pub one : length merged ≡ 1
+  pub rows : flat_map live_rows merged ≡ flat_map live_rows (take 2 (drop 1 leaves))
