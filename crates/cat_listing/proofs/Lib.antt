@@ -4,3 +4,4 @@ mod Kept
 mod Writing
 mod Drafting
 mod Begun
+mod Needed

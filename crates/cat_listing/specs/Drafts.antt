@@ -75,4 +75,5 @@ pub record IsDrafted (d : Drafted) (own : NewBytes) (files : List NewBytes) (nam
 
 -- where the entry has a new live file, it is told with the bytes that say its live set
 abbrev pub HasNewFile : ToldFiles → ℕ → ListedLive → Type 0
-HasNewFile told g x = x.file ≡ g → TellsBytes told (file.Live x.number g) (λ bytes. SpellsLive bytes (record { number = x.number; generation = g; live = x.live }))
+HasNewFile told g x = x.file ≡ g
+    → TellsBytes told (file.Live x.number g) (λ bytes. SpellsLive bytes (record { number = x.number; generation = g; live = x.live }))

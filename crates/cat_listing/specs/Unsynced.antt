@@ -1,7 +1,8 @@
 -- Which files a commit begins, and which may not last yet.
-use Rattle.std.specs.Prelude.{ℕ, ◌==◌, Bool, cond, List, [], ◌∷◌, ◌++◌}
+use Rattle.std.specs.Prelude.{ℕ, ◌==◌, Bool, cond, List, [], ◌∷◌, ◌++◌, map}
 use Rattle.std.specs.List.{flat_map, list_any}
 use Rattle.cat_model.specs.Files.{Name}
+use Rattle.cat_model.specs.CommitFile.{listed_names}
 use Rattle.cat_ledger_shape.specs.Shapes.{ListedLive}
 
 -- the name of the entry's live file, where the commit of the generation writes it
@@ -32,3 +33,7 @@ unsynced_of old g x = unsynced_segment (is_listed x.number old) x ++ new_live_of
 -- those of all entries
 abbrev pub unsynced_in : List ListedLive → ℕ → List ListedLive → List Name
 unsynced_in old g xs = flat_map (unsynced_of old g) xs
+
+-- the files of the segments of entries
+abbrev pub needed_by : List ListedLive → List Name
+needed_by xs = flat_map listed_names (map (λ (x : ListedLive). record { number = x.number; file = x.file }) xs)

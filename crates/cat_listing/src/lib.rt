@@ -10,5 +10,5 @@ mod listing;
 
 pub use draft::Draft;
 pub use heading::Heading;
-pub use laws::drafts_write_commits;
+pub use laws::{drafts_write_commits, needed_are_synced};
 pub use listing::Listing;
