@@ -1,5 +1,5 @@
 -- The segment that a merge makes, beside what stands in the place of its inputs.
-use Rattle.std.proofs.Common.{◌≡◌, ◌≢◌, ℕ, List, [], ◌∷◌, ◌+◌, ◌++◌, length, get_or, take, map, ◌<◌, Bool, true, false, cond, not, Option, Some, MatchOption, refl, sym, ◌∙◌, ap, ap₂, subst, arith, inl, inr}
+use Rattle.std.proofs.Common.{◌≡◌, ◌≢◌, ℕ, List, [], ◌∷◌, ◌+◌, ◌++◌, length, get_or, take, map, ◌<◌, Bool, false, cond, not, Option, Some, MatchOption, refl, sym, ◌∙◌, ap, ap₂, subst, arith, inl, inr}
 use Rattle.std.specs.Prelude.{◌==◌, All}
 use Rattle.std.specs.List.{flat_map, AllByRecursion}
 use Rattle.std.proofs.lemmas.Bool.Decides.{eqb_tells}
@@ -61,22 +61,14 @@ merged_long number schema inputs window h full =
 
 -- ---- whether there is one
 
-empty_is : (n : ℕ) → n ≡ 0 → (n == 0) ≡ true
-empty_is n e = elim (eqb_tells n 0) [ inl t ↦ t.0 | inr f ↦ absurd (f.1 e) ]
-
 some_is : (n : ℕ) → (n ≡ 0 → ⊥) → (n == 0) ≡ false
 some_is n e = elim (eqb_tells n 0) [ inl t ↦ absurd (e t.1) | inr f ↦ f.0 ]
-
--- no row was kept
-pub none_merged : (number : ℕ) (schema : Schema) (inputs window : List Leaf) → flat_map live_rows inputs ≡ [] → [] ≡ merged_leaves number schema inputs window
-none_merged number schema inputs window none =
-    sym (ap (λ (b : Bool). cond (not b) (merged_leaf number schema inputs window ∷ []) []) (empty_is (length (flat_map live_rows inputs)) (ap length none)))
 
 no_rows : (rows : List Row) → length rows ≡ 0 → rows ≡ []
 no_rows [] e = refl
 no_rows (r ∷ rows) e = absurd (omega (arith, e))
 
--- or some was
+-- some row was kept
 some_merged : (number : ℕ) (schema : Schema) (inputs window : List Leaf) → flat_map live_rows inputs ≢ [] → merged_leaf number schema inputs window ∷ [] ≡ merged_leaves number schema inputs window
 some_merged number schema inputs window some =
     sym (ap (λ (b : Bool). cond (not b) (merged_leaf number schema inputs window ∷ []) []) (some_is (length (flat_map live_rows inputs)) (λ e. some (no_rows (flat_map live_rows inputs) e))))
@@ -107,18 +99,3 @@ pub sealed_some : (number : ℕ) (schema : Schema) (inputs : List Leaf) (o : Opt
     → (flat_map live_rows inputs ≢ []) × (segment ≡ (merged_leaf number schema inputs inputs).segment)
 sealed_some number schema inputs o segment e h =
     subst (λ (x : Option Segment). MatchOption x (flat_map live_rows inputs ≡ []) (λ (s : Segment). (flat_map live_rows inputs ≢ []) × (s ≡ (merged_leaf number schema inputs inputs).segment))) e h
-
--- the leaf that there is, and its number
-pub is_merged : (number : ℕ) (schema : Schema) (inputs window : List Leaf) (leaf : Leaf) → leaf ∷ [] ≡ merged_leaves number schema inputs window → leaf.segment.number ≡ number
-is_merged number schema inputs window leaf e = elim (eqb_tells (length (flat_map live_rows inputs)) 0) [
-  | inl t ↦
-      let none : leaf ∷ [] ≡ [] = e ∙ ap (λ (b : Bool). cond (not b) (merged_leaf number schema inputs window ∷ []) []) t.0 in
-      absurd (let long : 1 ≡ 0 = ap length none in omega arith)
-  | inr f ↦
-      let one : leaf ∷ [] ≡ merged_leaf number schema inputs window ∷ [] = e ∙ ap (λ (b : Bool). cond (not b) (merged_leaf number schema inputs window ∷ []) []) f.0 in
-      ap first_number one
-]
-  where
-    first_number : List Leaf → ℕ
-    first_number [] = 0
-    first_number (x ∷ xs) = x.segment.number

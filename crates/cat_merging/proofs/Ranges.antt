@@ -1,15 +1,14 @@
 -- What was read of ranges, and what a merge has copied by them.
-use Rattle.std.proofs.Common.{◌≡◌, ◌≢◌, ℕ, zero, suc, ◌+◌, ◌-◌, ◌<◌, ◌≤◌, List, [], ◌∷◌, ◌++◌, length, get_or, take, drop, map, replicate, Some, None, Result, Ok, Err, IfErr, refl, sym, ◌∙◌, ap, ap₂, subst, arith, zero-add, inl, inr, true, false, Bool}
+use Rattle.std.proofs.Common.{◌≡◌, ◌≢◌, ℕ, zero, suc, ◌+◌, ◌-◌, ◌<◌, List, [], ◌∷◌, ◌++◌, length, get_or, take, drop, map, replicate, Some, None, Result, Ok, Err, IfErr, refl, sym, ◌∙◌, ap, ap₂, subst, arith, zero-add, inl, inr, true, false, Bool}
 use Rattle.std.specs.Prelude.{IsErr, IsErrAnd, Any, min, sum}
 use Rattle.std.specs.List.{flat_map}
 use Rattle.std.proofs.lemmas.List.{take_more, length-append, length-replicate, map-append, length-take-le, length-drop}
 use Rattle.std.proofs.lemmas.List.Sums.{sum_by-append, sum_by-cons}
 use Rattle.std.proofs.Math.Seq.{take-nil}
 use Rattle.cat_base.specs.declared.refusal.Refusal.{Refusal}
-use Rattle.cat_base.specs.declared.refusal.Refusal.TheVariants.{Memory, Device}
 use Rattle.cat_directory.specs.declared.name.FileName.{FileName}
 use Rattle.cat_directory.specs.declared.name.FileName.TheVariants as file
-use Rattle.cat_directory.specs.Devices.{Told, TellsAlike, told_after, extended, WritingCount, ReadingCount, CountsReading}
+use Rattle.cat_directory.specs.Devices.{TellsAlike}
 use Rattle.cat_directory.specs.Names.{name_of}
 use Rattle.cat_ledger_model.specs.Users.{has_name}
 use Rattle.cat_ledger_shape.specs.MergeLaws.{TellsInputs, CopiesOn}
@@ -39,33 +38,11 @@ fault_is (Err x) e so = ap Err so.1
 pub passed : {T : Type 0} (P : Refusal → Type 0) (r : Result T Refusal) (e : Refusal) → IsErr r × IsErrAnd r (λ x. x ≡ e) → P e → IfErr r P
 passed P r e so p = subst (λ (r : Result _ Refusal). IfErr r P) (sym (fault_is r e so)) p
 
-written_read : (old new : ℕ) (e : Refusal) → WritingCount old new e → ReadingCount old new e
-written_read old new Memory h = h
-written_read old new Device h = h
-written_read old new _ h = absurd h
-
--- a failure of a call that writes, behind calls that counted nothing
-pub counts_written : {T : Type 0} (old mid new : ℕ) (r : Result T Refusal) (e : Refusal) → IsErr r × IsErrAnd r (λ x. x ≡ e) → mid ≡ old → WritingCount mid new e → CountsReading old new r
-counts_written old mid new r e so same h =
-    subst (λ (x : Result _ Refusal). CountsReading old new x) (sym (fault_is r e so)) (written_read old new e (subst (λ (n : ℕ). WritingCount n new e) same h))
-
 -- ---- what was read
 
 -- what is told of each file is what is told of all
 pub as_one : (old new : ToldFiles) → ((q : FileName) → new q ≡ old q) → new ≡ old
 as_one old new same = λ i q. same q i
-
--- the bytes of a range are those that are told
-pub range_read : (told : ToldFiles) (r : SourceRange) (items : Text) → told (file.Source r.segment) ≢ Some None
-    → ((bs : Text) → told (file.Source r.segment) ≡ Some (Some bs) → (r.offset + r.len ≤ length bs) × (items ≡ take r.len (drop r.offset bs)))
-    → TellsAll told → items ≡ bytes_in (sources_told told) r
-range_read told r items there read all = by (told (file.Source r.segment)) (all (file.Source r.segment)) there read
-  where
-    by : (t : Told) → t ≢ None → t ≢ Some None → ((bs : Text) → t ≡ Some (Some bs) → (r.offset + r.len ≤ length bs) × (items ≡ take r.len (drop r.offset bs)))
-        → items ≡ take r.len (drop r.offset (bytes_told t))
-    by None a b h = absurd (a refl)
-    by (Some None) a b h = absurd (b refl)
-    by (Some (Some bs)) a b h = (h bs refl).1
 
 -- those of one range more
 pub ranges_more : (f : SourceRange → Text) (rs : List SourceRange) (i : ℕ) (r : SourceRange) (old more new : Text) → i < length rs → r ≡ get_or rs i r
@@ -93,10 +70,6 @@ at_index (r ∷ rs) (suc i) d within = at_index rs i d (omega (arith, within))
 -- a range that is cut off is one of them
 pub some_cut_off : (told now : ToldFiles) (rs : List SourceRange) (i : ℕ) (r : SourceRange) → ((q : FileName) → now q ≡ told q) → i < length rs → r ≡ get_or rs i r → IsCutOff now r → Any (IsCutOff told) rs
 some_cut_off told now rs i r same within at cut = (i, r, within, sym at, λ bytes there. cut bytes (same (file.Source r.segment) ∙ there))
-
--- what was appended are the bytes that were read
-pub extends_by : (told mid told' : ToldFiles) (to : FileName) (bytes lent : Text) → mid to ≡ told to → lent ≡ bytes → told' to ≡ told_after (extended lent) (mid to) → told' to ≡ told_after (extended bytes) (told to)
-extends_by told mid told' to bytes lent same value e = e ∙ ap₂ (λ (b : Text) (t : Told). told_after (extended b) t) value same
 
 -- as many as the ranges say
 abbrev lens : List SourceRange → ℕ

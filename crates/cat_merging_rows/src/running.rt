@@ -1,0 +1,64 @@
+//! Merges of the segments of a view, run over a device from the first call to the last.
+ghost use Rattle.std.specs.Prelude.{◌≡◌, IfOk, OnOk};
+
+use crate::making::{Every, fit_one, later_leaves};
+use cat_base::{Refusal, SegNo};
+use cat_directory::{Directory, Shelf};
+use cat_merging::MergeInMaking;
+use cat_search::{Leaf, View};
+use std::alloc::Global;
+
+/// The number of the segment that is made.
+pub(crate) const MERGED: SegNo = 900;
+
+/// How many segments stand before those that are merged.
+pub(crate) const INDEX: usize = 3;
+
+/// The merge of the view's segments, with its file begun; [`Refusal::Spent`] where they have too many rows.
+pub(crate) fn begin_view<D: Directory>(
+    device: &mut D,
+    alloc: Global,
+    view: &View,
+) -> Result<MergeInMaking, Refusal>
+    ensures { IfOk result (λ m. m.shape.inputs ≡ view.now.leaves) }
+{
+    let leaves = view.leaves();
+    if !fit_one(leaves) {
+        return Err(Refusal::Spent);
+    }
+    let merge = MergeInMaking::of(alloc, view.schema(), MERGED, INDEX, leaves)?;
+    merge.begin_file(device)?;
+    Ok(merge)
+}
+
+/// Takes so many steps.
+fn copy_all<D: Directory + Shelf>(
+    merge: &mut MergeInMaking,
+    device: &mut D,
+    steps: usize,
+) -> Result<(), Refusal>
+    ensures { OnOk result (merge.new.shape.inputs ≡ merge.old.shape.inputs) }
+{
+    for _ in 0..steps {
+        merge.copy_step(device)?;
+    }
+    Ok(())
+}
+
+/// Merges the segments of the view in so many steps, where those of their rows are deleted meanwhile; [`Refusal::Spent`] where
+/// the steps are too few.
+pub(crate) fn merge_view<D: Directory + Shelf>(
+    device: &mut D,
+    alloc: Global,
+    view: &View,
+    steps: usize,
+    killed: Every,
+) -> Result<Option<Leaf>, Refusal> {
+    let window = later_leaves(alloc, view.leaves(), killed)?;
+    let mut merge = begin_view(device, alloc, view)?;
+    copy_all(&mut merge, device, steps)?;
+    if !merge.is_passed() {
+        return Err(Refusal::Spent);
+    }
+    merge.finish(device, &window)
+}
