@@ -1,4 +1,3 @@
-use Rattle.std.proofs.Common.{◌≡◌}
 use Rattle.cat_merging_rows.proofs.Standing.{deleted_more}
 use Rattle.cat_merging_rows.proofs.making.later_leaves.Goals as goal
 
