@@ -1,0 +1,11 @@
+//! Tests of commits that are listed, drafted and written.
+#![tactic(auto)]
+
+#[cfg(test)]
+mod commits;
+#[cfg(test)]
+mod failing;
+#[cfg(test)]
+mod making;
+#[cfg(test)]
+mod many;
