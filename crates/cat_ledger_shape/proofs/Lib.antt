@@ -10,6 +10,3 @@ pub mod Views
 pub mod Committed
 pub mod Listed
 pub mod Opened
-pub mod Answered
-pub mod Planned
-pub mod LineAnswers

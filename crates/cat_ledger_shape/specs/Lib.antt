@@ -6,6 +6,3 @@ pub mod ViewLaws
 pub mod MergeLaws
 pub mod CommitLaws
 pub mod OpeningLaws
-pub mod RunLaws
-pub mod PlanLaws
-pub mod LineLaws

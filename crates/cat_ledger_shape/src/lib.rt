@@ -2,20 +2,12 @@
 //! ledger's model. No code.
 #![tactic(auto)]
 
-mod answering;
 mod committing;
 mod merging;
 mod opening;
-mod planning;
-mod running;
 mod viewing;
 mod writing;
 
-pub use answering::{
-    calls_answer, commits_answer, deletes_answer, memory_answers, prunes_answer, puts_answer,
-    query_deletes_answer, refreshes_answer, snaps_answer, stopped_puts_answer,
-    stopped_refreshes_answer, unsnaps_answer,
-};
 pub use committing::{
     commits_are_counted, commits_keep, commits_make, commits_may_be_said, leaving_are_counted,
     listed_differ, live_may_be_written, names_are_begun, names_come_once, snaps_keep, snaps_make,
@@ -26,11 +18,6 @@ pub use merging::{
     installs_make, merges_find_their_window, windows_may_be_merged,
 };
 pub use opening::{empty_keep, empty_make, opened_keep, opened_make};
-pub use planning::{
-    forced_fit, forces_begin, forces_rest, forces_wait, merges_are_done, merges_begin, merges_copy,
-    merges_rest, windows_fit,
-};
-pub use running::{answers_are_steps, empty_stand, opened_stand};
 pub use viewing::{
     holds_keep, holds_make, prunes_keep, prunes_make, records_keep, records_make, shapes_are_views,
     views_are_counted,

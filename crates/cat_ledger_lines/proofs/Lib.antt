@@ -1,0 +1,11 @@
+pub mod Answered
+pub mod Planned
+pub mod LineAnswers
+pub mod JoinedCalls
+pub mod Found
+pub mod HoldAnswers
+pub mod ReadAnswers
+pub mod RefusalAnswers
+pub mod StopAnswers
+pub mod KeptCalls
+pub mod NeededFiles

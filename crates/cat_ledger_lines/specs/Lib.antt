@@ -1,0 +1,10 @@
+pub mod RunLaws
+pub mod PlanLaws
+pub mod LineLaws
+pub mod JoinLaws
+pub mod HoldLaws
+pub mod ReadLaws
+pub mod RefusalLaws
+pub mod StopLaws
+pub mod StayLaws
+pub mod NeededLaws

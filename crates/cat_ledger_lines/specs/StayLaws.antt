@@ -1,0 +1,38 @@
+-- The laws of what an answered line leaves as it was, where some ledger is carried: who serves lines keeps its own state by them.
+use Rattle.std.specs.Prelude.{◌≡◌, ℕ, Bool, true, false}
+use Rattle.cat_model.specs.Run.{Command, Line, Reply}
+use Rattle.cat_model.specs.State.{held_in}
+use Rattle.cat_model.specs.View.{View}
+use Rattle.cat_ledger_model.specs.Ledger.{Ledger}
+use Rattle.cat_ledger_model.specs.Plans.{MergePolicy}
+use Rattle.cat_ledger_model.specs.Stored.{FileBytes}
+use Rattle.cat_ledger_shape.specs.Shapes.{Shape}
+use Rattle.cat_ledger_shape.specs.Ties.{ToldFiles, Carries}
+use Rattle.cat_ledger_lines.specs.ReadLaws.{IsRecordedAs}
+use Rattle.cat_ledger_lines.specs.RunLaws.{Answers}
+
+-- the fields,
+abbrev pub SchemaStays : Type 0
+SchemaStays =
+    (policy : MergePolicy) (told told' : ToldFiles) (s new : Shape) (line : Line) (reply : Reply) (l : Ledger) (files : FileBytes)
+    → Carries told s l files → Answers policy told s line reply told' new → new.schema ≡ s.schema
+
+-- the command is an OPEN or a CLOSE
+abbrev pub changes_holds : Command → Bool
+changes_holds Command.open_newest = true
+changes_holds (Command.open_at t) = true
+changes_holds (Command.close t) = true
+changes_holds _ = false
+
+-- the holds, but for those two,
+abbrev pub HoldsStay : Type 0
+HoldsStay =
+    (policy : MergePolicy) (told told' : ToldFiles) (s new : Shape) (line : Line) (reply : Reply) (l : Ledger) (files : FileBytes)
+    → Carries told s l files → Answers policy told s line reply told' new → changes_holds line.command ≡ false → new.holds ≡ s.holds
+
+-- and the view of each token that was held before the line.
+abbrev pub HeldViewsStay : Type 0
+HeldViewsStay =
+    (policy : MergePolicy) (told told' : ToldFiles) (s new : Shape) (line : Line) (reply : Reply) (l : Ledger) (files : FileBytes)
+    → Carries told s l files → Answers policy told s line reply told' new
+    → (t : ℕ) (view : View) → held_in s.holds t ≡ true → IsRecordedAs s.views t view → IsRecordedAs new.views t view

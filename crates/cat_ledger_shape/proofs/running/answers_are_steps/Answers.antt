@@ -1,5 +1,0 @@
-use Rattle.cat_ledger_shape.proofs.Answered.{answers_are_steps}
-use Rattle.cat_ledger_shape.proofs.running.answers_are_steps.Goals as goal
-
-pub returns : goal.returns
-returns c = answers_are_steps
