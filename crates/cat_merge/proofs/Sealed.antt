@@ -168,6 +168,13 @@ heads_push (m ∷ numbers) [] lengths n id l e f = absurd (omega (arith, e))
 heads_push (m ∷ numbers) (i ∷ ids) [] n id l e f = absurd (omega (arith, f))
 heads_push (m ∷ numbers) (i ∷ ids) (k ∷ lengths) n id l e f = ap (λ h. record { number = m; id = i; length = k } ∷ h) (heads_push numbers ids lengths n id l (omega (arith, e)) (omega (arith, f)))
 
+pub heads_long : (numbers : List ℕ) (ids : List Text) (lengths : List ℕ) → length ids ≡ length numbers → length lengths ≡ length numbers → length (heads_in numbers ids lengths) ≡ length ids
+heads_long [] [] lengths e f = refl
+heads_long [] (i ∷ ids) lengths e f = absurd (omega (arith, e))
+heads_long (m ∷ numbers) [] lengths e f = absurd (omega (arith, e))
+heads_long (m ∷ numbers) (i ∷ ids) [] e f = absurd (omega (arith, f))
+heads_long (m ∷ numbers) (i ∷ ids) (k ∷ lengths) e f = ap suc (heads_long numbers ids lengths (omega (arith, e)) (omega (arith, f)))
+
 -- what is over the rows before a merge's end is all of them
 pub kept_all : (inputs : List Leaf) (passed : ℕ) → AreInputs inputs → passed ≡ length (rows_of_all inputs) → rows_kept inputs passed ≡ kept_rows inputs
 kept_all inputs passed are end =

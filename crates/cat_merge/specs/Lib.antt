@@ -5,5 +5,6 @@ pub mod Maps
 pub mod Merging
 pub mod Places
 pub mod Policy
+pub mod Ranges
 pub mod Runs
 pub mod Walk

@@ -3,6 +3,7 @@
 
 mod columns;
 mod counting;
+mod id_runs;
 mod input;
 mod keyword_column;
 mod label_column;

@@ -8,6 +8,7 @@ ghost use Rattle.cat_merge.specs.Copied.{bytes_in, joined_sources};
 ghost use Rattle.cat_merge.specs.Fields.{kept_rows};
 ghost use Rattle.cat_merge.specs.Merging.{MayMerge, with_live};
 ghost use Rattle.cat_merge.specs.Places.{passed_at, IsPlace, IsRowPlace};
+ghost use Rattle.cat_merge.specs.Ranges.{AreApart, AreWithin};
 ghost use Rattle.cat_merge.specs.Walk.{heads_at, source_at, AreInputs};
 
 use crate::counting::rows_in;
@@ -61,6 +62,8 @@ fn pass_row(
     ensures kept { OnOk result (kept.new.items ≡ kept.old.items ++ heads_at inputs.now place) }
     ensures ranges { OnOk result ((files : ℕ → List ℕ) → flat_map (bytes_in files) ranges.new.items
         ≡ flat_map (bytes_in files) ranges.old.items ++ source_at files inputs.now place) }
+    ensures apart { OnOk result (AreApart ranges.old.items → AreApart ranges.new.items) }
+    ensures within { OnOk result (AreWithin inputs.now ranges.old.items → AreWithin inputs.now ranges.new.items) }
     ensures front { take (length kept.old.items) kept.new.items ≡ kept.old.items }
 {
     let input = &inputs[place.input];
@@ -89,6 +92,8 @@ fn pass_rows(
     ensures ranges { IfOk result (λ p. (files : ℕ → List ℕ)
         → joined_sources (records_kept files inputs.now (passed_at inputs.now from)) ++ flat_map (bytes_in files) p.1.items
         ≡ joined_sources (records_kept files inputs.now (passed_at inputs.now from + count))) }
+    ensures apart { IfOk result (λ p. AreApart p.1.items) }
+    ensures within { IfOk result (λ p. AreWithin inputs.now p.1.items) }
     ensures front { take (length kept.old.items) kept.new.items ≡ kept.old.items }
 {
     let mut place = from;
@@ -137,7 +142,8 @@ impl Merge {
     }
 
     /// Passes as many rows more as one step may, or all that are left, dead ones counted, and answers where the texts stand that the items of
-    /// those came as that it keeps. An error leaves the merge as it was.
+    /// those came as that it keeps. Each range lies within the sources of an input's segment, and no two neighbours could be one.
+    /// An error leaves the merge as it was.
     pub fn copy_step(&mut self, alloc: Global) -> Result<Vec<SourceRange>, AllocError>
         ensures ok { OnOk result (self.new ≡ record self.old {
           passed = self.old.passed + min step_limit (length (rows_of_all self.old.inputs) - self.old.passed);
@@ -145,6 +151,8 @@ impl Merge {
         ensures sources { IfOk result (λ ranges. (files : ℕ → List ℕ)
             → joined_sources (records_kept files self.old.inputs self.old.passed) ++ flat_map (bytes_in files) ranges.items
             ≡ joined_sources (records_kept files self.new.inputs self.new.passed)) }
+        ensures apart { IfOk result (λ ranges. AreApart ranges.items) }
+        ensures within { IfOk result (λ ranges. AreWithin self.old.inputs ranges.items) }
         ensures err { OnErr result (self.new ≡ self.old) }
     {
         let count = self.rows_left().min(MAX_STEP_ROWS);

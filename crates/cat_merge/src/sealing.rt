@@ -8,13 +8,14 @@ ghost use Rattle.cat_merge.specs.Merging.{MayMerge};
 ghost use Rattle.cat_merge.specs.Walk.{AreInputs};
 
 use crate::columns::merged_columns;
+use crate::id_runs::rows_in_runs;
 use crate::input::Input;
 use crate::row_maps::row_maps;
 use crate::rows::KeptRow;
 use cat_base::{Refusal, SegNo, Text, WriteNo};
 use cat_codec::SegmentParts;
 use cat_schema::Schema;
-use cat_segment::{Segment, assemble};
+use cat_segment::{Segment, assemble_runs};
 use std::alloc::{AllocError, Global};
 
 /// The numbers of the writes that put the rows, the rows' ids, and the lengths of their sources.
@@ -64,6 +65,7 @@ pub(crate) fn sealed(
 {
     let maps = row_maps(alloc, inputs)?;
     let columns = merged_columns(alloc, schema.fields(), inputs, &maps, kept.len())?;
+    let runs = rows_in_runs(alloc, inputs, &maps, kept.len())?;
     let (numbers, ids, lengths) = unzipped(alloc, kept)?;
     let parts = SegmentParts {
         number,
@@ -73,7 +75,7 @@ pub(crate) fn sealed(
         lengths,
         columns,
     };
-    match assemble(alloc, parts) {
+    match assemble_runs(alloc, parts, runs) {
         Ok(segment) => Ok(segment),
         // The parts are those of a segment, so that none is damaged.
         Err(refusal) => Err(want_of_memory(refusal)),

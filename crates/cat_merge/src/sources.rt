@@ -1,7 +1,9 @@
 //! Where the texts stand that the items of kept rows came as.
-ghost use Rattle.std.specs.Prelude.{◌≡◌, ◌<◌, ◌++◌, ℕ, List, length, IfSome, OnOk};
+ghost use Rattle.std.specs.Prelude.{◌≡◌, ◌<◌, ◌+◌, ◌++◌, ℕ, List, None, length, Any, IfSome, OnOk};
 ghost use Rattle.std.specs.List.{flat_map};
+ghost use Rattle.cat_model.specs.View.{Leaf};
 ghost use Rattle.cat_merge.specs.Copied.{bytes_in, source_in};
+ghost use Rattle.cat_merge.specs.Ranges.{AreApart, AreWithin, CanBeOne, IsWithin};
 
 use cat_base::SegNo;
 use cat_segment::Segment;
@@ -18,12 +20,16 @@ pub struct SourceRange {
     pub len: u32,
 }
 
-/// The bytes of both ranges, where the second follows the first at once.
+/// The bytes of both ranges, where the second follows the first at once and both are no longer than a range can be.
 fn joined(first: &SourceRange, second: &SourceRange) -> Option<SourceRange>
-    ensures { IfSome result (λ both. (files : ℕ → List ℕ) → bytes_in files both ≡ bytes_in files first.now ++ bytes_in files second.now) }
+    ensures bytes { IfSome result (λ both. (files : ℕ → List ℕ) → bytes_in files both ≡ bytes_in files first.now ++ bytes_in files second.now) }
+    ensures start { IfSome result (λ both. (both.segment ≡ first.now.segment) × (both.offset ≡ first.now.offset)) }
+    ensures end { IfSome result (λ both. (both.segment ≡ second.now.segment) × (both.offset + both.len ≡ second.now.offset + second.now.len)) }
+    ensures len { IfSome result (λ both. both.len ≡ first.now.len + second.now.len) }
+    ensures none { result ≡ None → CanBeOne first.now second.now → ⊥ }
 {
-    let end = first.offset.checked_add(u64::from(first.len))?;
-    if first.segment != second.segment || end != second.offset {
+    let gap = second.offset.checked_sub(first.offset)?;
+    if first.segment != second.segment || gap != u64::from(first.len) {
         return None;
     }
     Some(SourceRange {
@@ -33,10 +39,13 @@ fn joined(first: &SourceRange, second: &SourceRange) -> Option<SourceRange>
     })
 }
 
-/// Adds the range behind the others, as a part of the last where it follows that at once.
+/// Adds the range behind the others, as a part of the last where both can be one.
 fn add_range(ranges: &mut Vec<SourceRange>, next: SourceRange) -> Result<(), AllocError>
-    ensures { OnOk result ((files : ℕ → List ℕ) → flat_map (bytes_in files) ranges.new.items
+    ensures bytes { OnOk result ((files : ℕ → List ℕ) → flat_map (bytes_in files) ranges.new.items
         ≡ flat_map (bytes_in files) ranges.old.items ++ bytes_in files next) }
+    ensures apart { OnOk result (AreApart ranges.old.items → AreApart ranges.new.items) }
+    ensures within { OnOk result ((inputs : List Leaf) → AreWithin inputs ranges.old.items → Any (IsWithin next) inputs
+        → AreWithin inputs ranges.new.items) }
 {
     match ranges.pop() {
         Some(last) => match joined(&last, &next) {
@@ -58,8 +67,11 @@ pub(crate) fn add_source(
     row: usize,
 ) -> Result<(), AllocError>
     requires { row < length segment.now.rows }
-    ensures { OnOk result ((files : ℕ → List ℕ) → flat_map (bytes_in files) ranges.new.items
+    ensures bytes { OnOk result ((files : ℕ → List ℕ) → flat_map (bytes_in files) ranges.new.items
         ≡ flat_map (bytes_in files) ranges.old.items ++ source_in files segment.now row) }
+    ensures apart { OnOk result (AreApart ranges.old.items → AreApart ranges.new.items) }
+    ensures within { OnOk result ((inputs : List Leaf) → AreWithin inputs ranges.old.items → Any (λ leaf. leaf.segment ≡ segment.now) inputs
+        → AreWithin inputs ranges.new.items) }
 {
     add_range(
         ranges,

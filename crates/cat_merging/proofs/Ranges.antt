@@ -18,6 +18,7 @@ use Rattle.cat_ledger_shape.specs.Ties.{ToldFiles, TouchesOnly}
 use Rattle.cat_ledger_shape.proofs.MergeSteps.{alone}
 use Rattle.cat_merge.specs.Copied.{bytes_in, joined_sources}
 use Rattle.cat_merge.specs.Merging.{Merging}
+use Rattle.cat_merge.specs.Ranges.{IsWithin, AreWithin}
 use Rattle.cat_merge.specs.declared.sources.SourceRange.{SourceRange}
 use Rattle.cat_merge.proofs.Passed.{flat_more}
 use Rattle.cat_model.specs.Files.{Name}
@@ -26,7 +27,7 @@ use Rattle.cat_model.specs.Limits.{step_limit}
 use Rattle.cat_model.specs.Merged.{rows_of_all, live_of_all, records_of_all, records_kept}
 use Rattle.cat_model.specs.Text.{Text}
 use Rattle.cat_model.specs.View.{Leaf, selected, sourced}
-use Rattle.cat_merging.specs.Sources.{bytes_told, sources_told, TellsAll, IsCutOff, AreAppended}
+use Rattle.cat_merging.specs.Sources.{bytes_told, sources_told, TellsAll, IsCutOff, LacksBytes, AreAppended}
 
 -- ---- refusals that are passed on
 
@@ -70,6 +71,20 @@ at_index (r ∷ rs) (suc i) d within = at_index rs i d (omega (arith, within))
 -- a range that is cut off is one of them
 pub some_cut_off : (told now : ToldFiles) (rs : List SourceRange) (i : ℕ) (r : SourceRange) → ((q : FileName) → now q ≡ told q) → i < length rs → r ≡ get_or rs i r → IsCutOff now r → Any (IsCutOff told) rs
 some_cut_off told now rs i r same within at cut = (i, r, within, sym at, λ bytes there. cut bytes (same (file.Source r.segment) ∙ there))
+
+-- so the file of a segment is too short within whose sources it lies
+pub some_short : (told : ToldFiles) (inputs : List Leaf) (rs : List SourceRange) → AreWithin inputs rs → Any (IsCutOff told) rs → Any (LacksBytes told) inputs
+some_short told inputs rs within cut =
+    let r : SourceRange = cut.1 in
+    let here : Any (IsWithin r) inputs = subst (λ (x : SourceRange). Any (IsWithin x) inputs) cut.3 (within cut.0 r cut.2) in (
+      here.0,
+      here.1,
+      here.2,
+      here.3,
+      λ bytes there.
+          let few : length bytes < r.offset + r.len = cut.4 bytes (ap (λ (n : ℕ). told (file.Source n)) here.4.segment ∙ there) in
+          omega (arith, few, here.4.inside),
+    )
 
 -- as many as the ranges say
 abbrev lens : List SourceRange → ℕ

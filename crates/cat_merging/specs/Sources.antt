@@ -11,6 +11,7 @@ use Rattle.cat_ledger_shape.specs.Steps.{passed_on}
 use Rattle.cat_merge.specs.Copied.{bytes_in, joined_sources}
 use Rattle.cat_merge.specs.declared.sources.SourceRange.{SourceRange}
 use Rattle.cat_model.specs.Merged.{records_kept}
+use Rattle.cat_model.specs.View.{Leaf}
 
 -- the bytes that are told of a file; none where it is absent, or nothing is told
 abbrev pub bytes_told : Told → Text
@@ -29,6 +30,11 @@ TellsAll told = (q : FileName) → told q ≢ None
 -- no file that is told has all bytes of the range
 abbrev pub IsCutOff : ToldFiles → SourceRange → Type 0
 IsCutOff told range = (bytes : Text) → told (file.Source range.segment) ≡ Some (Some bytes) → length bytes < range.offset + range.len
+
+-- the file with the sources of the leaf's segment, if it is told, hasn't as many bytes as all of its rows' items came as
+abbrev pub LacksBytes : ToldFiles → Leaf → Type 0
+LacksBytes told leaf = (bytes : Text) → told (file.Source leaf.segment.number) ≡ Some (Some bytes)
+    → length bytes < sum (map (λ row. row.length) leaf.segment.rows)
 
 -- Behind the bytes of the file stand those of the ranges, as many as they say: where the device tells its files, those that stand
 -- there.

@@ -7,3 +7,4 @@ mod sealing;
 mod sources;
 
 pub use making::MergeInMaking;
+pub use sealing::write_segment;

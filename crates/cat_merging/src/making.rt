@@ -1,21 +1,19 @@
 //! A merge in the making, from the first call to the last.
-ghost use Rattle.std.specs.Prelude.{◌≡◌, ◌≢◌, ◌⊎◌, ◌∷◌, ◌↔◌, [], Some, None, length, IsTrue, OnOk, OnErr, IfOk, IfErr};
-ghost use Rattle.std.specs.List.{AllByRecursion};
+ghost use Rattle.std.specs.Prelude.{◌≡◌, ◌≢◌, ◌⊎◌, ◌∷◌, ◌↔◌, [], Some, None, length, Any, IsTrue, OnOk, OnErr, IfOk, IfErr};
 ghost use Rattle.std.specs.Option.{option_to_list};
 ghost use Rattle.cat_base.specs.declared.refusal.Refusal.TheVariants.{Device, Memory, Damaged};
 ghost use Rattle.cat_directory.specs.Devices.{CountsReading, CountsWriting, NoMore, emptied, told_after};
 ghost use Rattle.cat_ledger_shape.specs.MergeLaws.{CopiesOn};
 ghost use Rattle.cat_ledger_shape.specs.Steps.{passed_on};
-ghost use Rattle.cat_ledger_shape.specs.Ties.{IsTold, TellsBytes, TouchesNothing, TouchesOnly};
+ghost use Rattle.cat_ledger_shape.specs.Ties.{IsTold, TouchesNothing, TouchesOnly};
 ghost use Rattle.cat_merge.specs.Merging.{MayMerge};
-ghost use Rattle.cat_model.specs.Files.{Name};
-ghost use Rattle.cat_model.specs.Layout.{SpellsSegment};
+ghost use Rattle.cat_model.specs.Files.{IsFileNumber, Name};
 ghost use Rattle.cat_model.specs.Merged.{AreDeletedFrom, rows_of_all};
 ghost use Rattle.cat_merging.specs.Making.{merged_leaves};
-ghost use Rattle.cat_merging.specs.Sources.{LacksSources};
+ghost use Rattle.cat_merging.specs.Sources.{LacksBytes, LacksSources};
 
 use crate::inputs::inputs_of;
-use crate::sealing::{settled_leaf, write_segment};
+use crate::sealing::settled_leaf;
 use crate::sources::append_ranges;
 use cat_base::{Refusal, SegNo};
 use cat_directory::{Directory, FileName, Shelf};
@@ -149,6 +147,7 @@ impl MergeInMaking {
         ensures crash { (q : FileName) → q ≢ FileName.Source self.old.shape.number
             → NoMore (D.may_leave device.old q) (D.may_leave device.new q) }
         ensures damaged { IfErr result (λ e. e ≡ Damaged → LacksSources self.old.shape (D.bytes device.old)) }
+        ensures short { IfErr result (λ e. e ≡ Damaged → Any (LacksBytes (D.bytes device.old)) self.old.shape.inputs) }
         ensures device { IfErr result (λ e. e ≡ Device
             → D.can_fail device.old ⊎ (D.bytes device.old (FileName.Source self.old.shape.number) ≡ Some None)) }
         ensures can { D.can_fail device.new → D.can_fail device.old }
@@ -159,41 +158,18 @@ impl MergeInMaking {
         Ok(())
     }
 
-    /// Ends the merge, once all rows are passed: writes the file of the new segment, and answers it with those of its rows live
-    /// that are so now. The leaves are those that stand now in the place of the segments that it takes. Where no row was kept
-    /// there is no new segment, and no file is written. (Lucene: `IndexWriter.mergeMiddle`, and what `commitMerge` carries over.)
+    /// The new segment, once all rows are passed, with those of its rows live that are so now. The leaves are those that stand now
+    /// in the place of the segments that it takes. Where no row was kept there is no new segment. (Lucene: the end of
+    /// `IndexWriter.mergeMiddle`, and what `commitMerge` carries over.)
     ///
-    /// [`Refusal::Device`] if the device fails, else [`Refusal::Memory`]. Whatever comes, the merge is over.
-    pub fn finish<D: Directory>(
-        self,
-        device: &mut D,
-        window: &[Leaf],
-    ) -> Result<Option<Leaf>, Refusal>
+    /// No file has changed: [`write_segment`](crate::write_segment) writes that of the new segment. Whatever comes, the merge is
+    /// over. The error is want of memory.
+    pub fn settle(self, window: &[Leaf]) -> Result<Option<Leaf>, AllocError>
         requires all { self.shape.passed ≡ length (rows_of_all self.shape.inputs) }
         requires window { AreDeletedFrom self.shape.inputs window.now }
         ensures ok { IfOk result (λ o. option_to_list o ≡ merged_leaves self.shape.number self.schema self.shape.inputs window.now) }
-        ensures written { OnOk result (AllByRecursion
-            (λ leaf. TellsBytes (D.bytes device.new) (FileName.Segment self.shape.number) (λ bytes. SpellsSegment bytes leaf.segment))
-            (merged_leaves self.shape.number self.schema self.shape.inputs window.now)) }
-        ensures none { IfOk result (λ o. o ≡ None → TouchesNothing (D.bytes device.old) (D.bytes device.new)) }
-        ensures others { TouchesOnly (Name.segment self.shape.number ∷ []) (D.bytes device.old) (D.bytes device.new) }
-        ensures crash { (q : FileName) → q ≢ FileName.Segment self.shape.number
-            → NoMore (D.may_leave device.old q) (D.may_leave device.new q) }
-        ensures device { IfErr result (λ e. e ≡ Device → D.can_fail device.old) }
-        ensures can { D.can_fail device.new → D.can_fail device.old }
-        ensures counted { CountsWriting (D.fault_count device.old) (D.fault_count device.new) result }
+        ensures numbered { IsFileNumber self.shape.number }
     {
-        let MergeInMaking {
-            alloc,
-            number: _,
-            index: _,
-            count: _,
-            merge,
-        } = self;
-        let Some(leaf) = settled_leaf(alloc, merge, window)? else {
-            return Ok(None);
-        };
-        write_segment(device, alloc, leaf.segment())?;
-        Ok(Some(leaf))
+        settled_leaf(self.alloc, self.merge, window)
     }
 }

@@ -39,8 +39,10 @@ pub(crate) fn settled_leaf(
     Ok(Some(Leaf::new(segment, live)))
 }
 
-/// Writes the file of the segment.
-pub(crate) fn write_segment<D: Directory>(
+/// Writes the file of the segment. (Lucene: the end of `SegmentMerger.merge`, where the codecs' files are written.)
+///
+/// [`Refusal::Device`] if the device fails, else [`Refusal::Memory`]. An error may leave a part of the file.
+pub fn write_segment<D: Directory>(
     device: &mut D,
     alloc: Global,
     segment: &Segment,

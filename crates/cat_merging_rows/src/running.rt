@@ -4,7 +4,7 @@ ghost use Rattle.std.specs.Prelude.{◌≡◌, IfOk, OnOk};
 use crate::making::{Every, fit_one, later_leaves};
 use cat_base::{Refusal, SegNo};
 use cat_directory::{Directory, Shelf};
-use cat_merging::MergeInMaking;
+use cat_merging::{MergeInMaking, write_segment};
 use cat_search::{Leaf, View};
 use std::alloc::Global;
 
@@ -60,5 +60,9 @@ pub(crate) fn merge_view<D: Directory + Shelf>(
     if !merge.is_passed() {
         return Err(Refusal::Spent);
     }
-    merge.finish(device, &window)
+    let Some(leaf) = merge.settle(&window)? else {
+        return Ok(None);
+    };
+    write_segment(device, alloc, leaf.segment())?;
+    Ok(Some(leaf))
 }

@@ -1,10 +1,13 @@
-use Rattle.std.proofs.Common.{ℕ, ◌++◌, List, length, map, arith, sym, ap, ◌∙◌}
+use Rattle.std.proofs.Common.{ℕ, ◌++◌, List, length, map, arith, sym, ap, ◌∙◌, subst}
+use Rattle.std.specs.Prelude.{Any}
 use Rattle.std.specs.List.{flat_map}
 use Rattle.std.proofs.lemmas.List.{append-nil, take_all}
+use Rattle.std.proofs.lemmas.List.Elements.{All-nil}
 use Rattle.cat_model.specs.Layout.{head_of}
 use Rattle.cat_model.specs.Merged.{rows_kept, records_kept}
 use Rattle.cat_merge.specs.Copied.{bytes_in, joined_sources}
 use Rattle.cat_merge.specs.Places.{passed_at, IsRowPlace}
+use Rattle.cat_merge.specs.Ranges.{AreApart, AreWithin, IsWithin}
 use Rattle.cat_merge.proofs.Passed.{row_place, fronts, heads_more, sources_more}
 use Rattle.cat_merge.proofs.merge.pass_rows.Goals as goal
 
@@ -15,6 +18,8 @@ loop-init c = record {
   kept = c.requires.kept;
   ranges = λ files. let start : List ℕ = joined_sources (records_kept files c.args.inputs.now (passed_at c.args.inputs.now c.args.from)) in
       ap (λ l. start ++ flat_map (bytes_in files) l) c.new-ranges.ensures.items ∙ append-nil start;
+  apart = subst AreApart (sym c.new-ranges.ensures.items) tt;
+  within = subst (AreWithin c.args.inputs.now) (sym c.new-ranges.ensures.items) (All-nil (λ r. Any (IsWithin r) c.args.inputs.now));
   front = take_all (length c.args.kept.now.items) c.args.kept.now.items (omega arith);
 }
 
@@ -40,6 +45,8 @@ loop-preserved c =
           (joined_sources (records_kept files c.args.inputs.now (passed_at c.args.inputs.now c.args.from)))
           (flat_map (bytes_in files) c.loop.ranges.items) (flat_map (bytes_in files) c.pass_row.new.ranges.items) (c.loop.invariant.ranges files) (c.in_ok-pass_row.ensures.ranges files)
           ∙ ap (λ n. joined_sources (records_kept files c.args.inputs.now n)) (sym c.next-place.ensures.passed);
+      apart = c.in_ok-pass_row.ensures.apart c.loop.invariant.apart;
+      within = c.in_ok-pass_row.ensures.within c.loop.invariant.within;
       front = fronts c.args.kept.now.items c.loop.kept.items c.pass_row.new.kept.items c.loop.invariant.front c.pass_row.ensures.front;
     }
 
@@ -57,3 +64,9 @@ returns-clause-ranges c = λ files. c.loop.invariant.ranges files ∙ ap (λ n. 
 
 pub returns-clause-front : goal.returns-clause-front
 returns-clause-front c = c.loop.invariant.front
+
+pub returns-clause-apart : goal.returns-clause-apart
+returns-clause-apart c = c.loop.invariant.apart
+
+pub returns-clause-within : goal.returns-clause-within
+returns-clause-within c = c.loop.invariant.within

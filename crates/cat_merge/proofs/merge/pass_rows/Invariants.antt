@@ -4,6 +4,7 @@ use Rattle.cat_model.specs.Layout.{head_of}
 use Rattle.cat_model.specs.Merged.{rows_kept, records_kept}
 use Rattle.cat_merge.specs.Copied.{bytes_in, joined_sources}
 use Rattle.cat_merge.specs.Places.{passed_at, IsPlace}
+use Rattle.cat_merge.specs.Ranges.{AreApart, AreWithin}
 use Rattle.cat_merge.proofs.merge.pass_rows.Given as goal
 
 abbrev pub invariant-loop : goal.invariant-loop
@@ -13,5 +14,7 @@ invariant-loop l = record {
   kept : l.kept.items ≡ map head_of (rows_kept l.fn.inputs (passed_at l.fn.inputs l.place));
   ranges : (files : ℕ → List ℕ) → joined_sources (records_kept files l.fn.inputs (passed_at l.fn.inputs l.fn.from)) ++ flat_map (bytes_in files) l.ranges.items
       ≡ joined_sources (records_kept files l.fn.inputs (passed_at l.fn.inputs l.place));
+  apart : AreApart l.ranges.items;
+  within : AreWithin l.fn.inputs l.ranges.items;
   front : take (length l.fn.kept.items) l.kept.items ≡ l.fn.kept.items;
 }

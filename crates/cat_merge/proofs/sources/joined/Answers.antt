@@ -1,4 +1,4 @@
-use Rattle.std.proofs.Common.{◌≡◌, ℕ, zero, suc, ◌+◌, ◌++◌, List, [], ◌∷◌, take, drop, sym, ap, ap₂, ◌∙◌, arith}
+use Rattle.std.proofs.Common.{◌≡◌, ℕ, zero, suc, ◌+◌, ◌++◌, List, [], ◌∷◌, take, drop, refl, sym, ap, ap₂, ◌∙◌, arith}
 use Rattle.std.proofs.Math.Seq.{take-nil}
 use Rattle.std.proofs.lemmas.List.{drop-drop}
 use Rattle.cat_merge.specs.Copied.{bytes_in}
@@ -19,5 +19,12 @@ both files first second len segment offset long =
     ∙ ap (λ l. bytes_in files first ++ take second.len l) (drop-drop first.len first.offset (files first.segment) ∙ ap₂ (λ n s. drop n (files s)) offset segment)
 
 pub returns : goal.returns
-returns c = λ files. both files c.args.first.now c.args.second.now c.in_ok-checked_add.field-0 c.if-first-second.false
-    (ap (λ n. c.args.first.now.offset + n) (sym c.from.ensures) ∙ sym c.in_ok-end.ensures.1 ∙ c.if-end-second.false) c.in_ok-checked_add.ensures.1
+returns c =
+    let follows : c.args.first.now.offset + c.args.first.now.len ≡ c.args.second.now.offset = omega (arith, c.in_ok-gap.ensures, c.if-first-second.false, c.if-gap-from.false, c.from.ensures) in
+    record {
+      bytes = λ files. both files c.args.first.now c.args.second.now c.in_ok-checked_add.field-0 c.if-first-second.false follows c.in_ok-checked_add.ensures.1;
+      start = (refl, refl);
+      end = (c.if-first-second.false, omega (arith, follows, c.in_ok-checked_add.ensures.1));
+      len = c.in_ok-checked_add.ensures.1;
+      none = λ e. absurd (cc);
+    }

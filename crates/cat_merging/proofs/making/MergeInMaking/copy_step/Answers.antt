@@ -1,4 +1,5 @@
-use Rattle.std.proofs.Common.{◌≡◌, ℕ, [], ◌∷◌, ap, subst}
+use Rattle.std.proofs.Common.{◌≡◌, ℕ, [], ◌∷◌, sym, ap, subst}
+use Rattle.std.specs.Prelude.{Any}
 use Rattle.cat_base.specs.declared.refusal.Refusal.{Refusal}
 use Rattle.cat_base.specs.declared.refusal.Refusal.TheVariants.{Damaged}
 use Rattle.cat_directory.specs.declared.name.FileName.TheVariants as file
@@ -6,10 +7,11 @@ use Rattle.cat_ledger_shape.specs.MergeLaws.{CopiesOn}
 use Rattle.cat_ledger_shape.specs.Shapes.{MergingShape}
 use Rattle.cat_ledger_shape.specs.Ties.{ToldFiles, TouchesOnly}
 use Rattle.cat_merge.specs.Merging.{Merging}
+use Rattle.cat_merge.specs.Ranges.{AreWithin}
 use Rattle.cat_model.specs.Files.{Name}
 use Rattle.cat_merging.specs.Making.{InMaking}
-use Rattle.cat_merging.specs.Sources.{AreAppended, LacksSources}
-use Rattle.cat_merging.proofs.Ranges.{passed, copies_on, names_on, touches_one}
+use Rattle.cat_merging.specs.Sources.{AreAppended, LacksBytes, LacksSources}
+use Rattle.cat_merging.proofs.Ranges.{passed, copies_on, names_on, some_short, touches_one}
 use Rattle.cat_merging.proofs.making.MergeInMaking.copy_step.Goals as goal
 
 pub returns-clause-copied : goal.returns-clause-copied
@@ -37,3 +39,12 @@ returns-in_err-append_ranges-clause-damaged g c =
       named = names_on merge c.copy_step.new.self c.in_ok-ranges.ranges.items c.deref.result.now c.deref.ensures.value c.in_ok-ranges.ensures.ok c.in_ok-ranges.ensures.sources;
       cut = c.in_err-append_ranges.ensures.damaged is;
     } in lacks))
+
+pub returns-in_err-append_ranges-clause-short : goal.returns-in_err-append_ranges-clause-short
+returns-in_err-append_ranges-clause-short g c =
+    let told : ToldFiles = g.D.Holder.bytes c.args.device.now in
+    let merge : Merging = c.self.inside.merge in
+    let within : AreWithin merge.inputs c.deref.result.now = subst (AreWithin merge.inputs) (sym c.deref.ensures.value) c.in_ok-ranges.ensures.within in
+    passed (λ (e : Refusal). e ≡ Damaged → Any (LacksBytes told) c.args.self.now.shape.inputs) _ _ c.from_residual-in_err-append_ranges.ensures
+    (λ is. subst (λ (x : MergingShape). Any (LacksBytes told) x.inputs) (ap (λ (x : InMaking). x.shape) c.self.view_is)
+    (some_short told merge.inputs c.deref.result.now within (c.in_err-append_ranges.ensures.damaged is)))
