@@ -1,6 +1,12 @@
+pub mod Committing
 pub mod Counting
 pub mod Flushing
+pub mod Leaving
+pub mod Installing
 pub mod Merging
+pub mod Releasing
+pub mod Restoring
+pub mod Results
 pub mod Starting
 pub mod Viewing
 pub mod Writing

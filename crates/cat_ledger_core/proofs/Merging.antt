@@ -1,6 +1,7 @@
 -- What the steps of a merge make of a shape.
-use Rattle.std.proofs.Common.{◌≡◌, ℕ, ◌+◌, ◌-◌, ◌<◌, ◌≤◌, ◌^◌, cond, List, [], ◌∷◌, Option, Some, None, length, take, drop, refl, sym, ◌∙◌, ap, subst, arith}
+use Rattle.std.proofs.Common.{◌≡◌, ◌≢◌, ◌↔◌, IsTrue, not, Bool, true, false, ℕ, ◌+◌, ◌-◌, ◌<◌, ◌≤◌, ◌^◌, cond, List, [], ◌∷◌, Option, Some, None, length, take, drop, refl, sym, ◌∙◌, ap, subst, arith}
 use Rattle.std.specs.Prelude.{option_map}
+use Rattle.std.proofs.lemmas.Bool.{true≢false}
 use Rattle.cat_model.specs.Files.{Name}
 use Rattle.cat_model.specs.Item.{Schema}
 use Rattle.cat_model.specs.Limits.{last_number, row_limit, view_limit}
@@ -10,10 +11,12 @@ use Rattle.cat_merge.specs.Merging.{MayMerge}
 use Rattle.cat_merging.specs.Making.{InMaking}
 use Rattle.cat_ledger_model.specs.Users.{Used, users_of, times, same_file_name, Changes}
 use Rattle.cat_ledger_model.proofs.Users.{times-append}
-use Rattle.cat_ledger_shape.specs.Shapes.{Shape, IsShape, names_of_leaves}
+use Rattle.cat_ledger_model.specs.Portions.{IsMerging, IsMergingOf}
+use Rattle.cat_ledger_shape.specs.Shapes.{MergingShape, Shape, IsShape, names_of_leaves}
 use Rattle.cat_ledger_shape.specs.Steps.{IsBegun, IsCopied, IsEnded, Leaves, passed_on, window_now}
 use Rattle.cat_ledger_shape.proofs.Committed.{users_fit}
 use Rattle.cat_ledger_shape.proofs.MergeWindows.{windows_may_be_merged, merges_find_their_window}
+use Rattle.cat_ledger_shape.proofs.MergeShapes.{many_shown, the_merge}
 use Rattle.cat_ledger_shape.proofs.Writes.{numbers_may_be_taken}
 use Rattle.cat_ledger_core.specs.Cores.{MergesUnder, HasRowsLeft}
 use Rattle.cat_ledger_core.proofs.Counting.{users_undone, known_undone}
@@ -61,6 +64,27 @@ begun_is s index k m window users' idle left some within run is users = record {
   rest = ap (λ x. record s { merging = Some x; users = users'; next_segment = s.next_segment + 1 })
       (ap (λ x. x.shape) is ∙ ap (λ ls. record { number = s.next_segment; index = index; inputs = ls; passed = 0 }) run);
 }
+
+-- a merge has passed at most the rows that there are
+pub passed_within : (s : Shape) (m : MergingShape) → IsShape s → s.merging ≡ Some m → m.passed ≤ length (rows_of_all m.inputs)
+passed_within s m its e =
+    let l = its.0 in
+    let x = the_merge l.schema l.merging m (ap (λ (s : Shape). s.merging) its.1 ∙ e) in
+    let is : IsMergingOf l.portions x.merge = subst (IsMerging l.portions) x.is its.2.merging in
+    subst (λ (m : MergingShape). m.passed ≤ length (rows_of_all m.inputs)) x.shape
+    (subst (λ n. x.merge.passed ≤ n) (sym (many_shown l.schema x.merge.inputs)) is.within)
+
+-- it has some left where it hasn't passed all
+pub left_is : (s : Shape) (m : MergingShape) (all : Bool) → IsShape s → s.merging ≡ Some m → (IsTrue all ↔ (m.passed ≡ length (rows_of_all m.inputs)))
+    → IsTrue (not all) ↔ HasRowsLeft s.merging
+left_is s m all its e is = subst (λ o. IsTrue (not all) ↔ HasRowsLeft o) (sym e) (told all is)
+  where
+    within : m.passed ≤ length (rows_of_all m.inputs)
+    within = passed_within s m its e
+
+    told : (b : Bool) → (IsTrue b ↔ (m.passed ≡ length (rows_of_all m.inputs))) → IsTrue (not b) ↔ HasRowsLeft (Some m)
+    told true is = (λ t. absurd (true≢false (sym t)), λ lt. let same : m.passed ≡ length (rows_of_all m.inputs) = is.0 refl in absurd (omega (arith, same, lt)))
+    told false is = (λ t. let apart : m.passed ≢ length (rows_of_all m.inputs) = λ same. true≢false (sym (is.1 same)) in omega (arith, within, apart), λ lt. refl)
 
 pub begun_left : (s : Shape) (mid users' : List Used) → IsShape s → s.next_segment ≤ last_number → Changes (Name.source s.next_segment ∷ []) [] s.users mid
     → Changes [] (Name.source s.next_segment ∷ []) mid users'

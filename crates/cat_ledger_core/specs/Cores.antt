@@ -90,3 +90,8 @@ pub record HasEnded (told : ToldFiles) (s : Shape) (told' : ToldFiles) (new : Sh
 abbrev pub HasRowsLeft : Option MergingShape → Type 0
 HasRowsLeft None = ⊥
 HasRowsLeft (Some m) = m.passed < length (rows_of_all m.inputs)
+
+-- the file is that of the sources of the merge in the making
+abbrev pub IsSourceOf : Option MergingShape → FileName → Type 0
+IsSourceOf None q = ⊥
+IsSourceOf (Some m) q = q ≡ FileName.Source m.number

@@ -1,1 +1,3 @@
+pub mod Commits
 pub mod Cores
+pub mod Installs

@@ -1,20 +1,22 @@
 //! What is asked of the state, which changes nothing and takes no memory.
 //!
 //! Lucene's `IndexWriter.getDocStats` and `numRamDocs`, and what `IndexFileDeleter` and `SearcherLifetimeManager` count.
-ghost use Rattle.std.specs.Prelude.{◌≡◌, ◌≤◌, ◌==◌, ◌↔◌, [], length, count_by, is_some, IsTrue};
+ghost use Rattle.std.specs.Prelude.{◌≡◌, ◌≤◌, ◌==◌, ◌↔◌, [], length, count_by, find, option_map, is_some, true, IsTrue};
 ghost use Rattle.std.specs.List.{list_any};
 ghost use Rattle.cat_model.specs.Limits.{buffer_limit};
-ghost use Rattle.cat_model.specs.Run.{is_full};
-ghost use Rattle.cat_model.specs.State.{held_in};
+ghost use Rattle.cat_model.specs.Run.{greatest, is_full};
+ghost use Rattle.cat_model.specs.State.{has_hold, held_in};
 ghost use Rattle.cat_directory.specs.Names.{name_of};
 ghost use Rattle.cat_ledger_model.specs.Users.{users_of};
+ghost use Rattle.cat_ledger_core.specs.Cores.{HasRowsLeft};
+ghost use Rattle.cat_ledger_shape.specs.Shapes.{IsShape};
 ghost use Rattle.cat_ledger_shape.specs.Steps.{tokens_of};
 
 use crate::state::Core;
-use cat_base::{Token, WriteNo};
+use cat_base::{Generation, SessionNo, Token, WriteNo};
 use cat_directory::FileName;
 use cat_schema::Schema;
-use cat_search::Leaf;
+use cat_search::{Leaf, View};
 
 impl Core {
     /// The fields of the items.
@@ -26,7 +28,8 @@ impl Core {
 
     /// How many writes were accepted, which is the number of the last one, and the token of a view of now.
     pub fn count(&self) -> WriteNo
-        ensures { result ≡ self.now.count }
+        ensures count { result ≡ self.now.count }
+        ensures shape { IsShape self.now }
     {
         self.count
     }
@@ -66,6 +69,42 @@ impl Core {
         self.records.is_recorded(token)
     }
 
+    /// How many views are recorded.
+    pub fn recorded(&self) -> usize
+        ensures { result ≡ length self.now.views }
+    {
+        self.records.len()
+    }
+
+    /// The generation that the next commit gets: one above the last number where none is left.
+    pub fn next_generation(&self) -> Generation
+        ensures { result ≡ self.now.next_generation }
+    {
+        self.next_generation
+    }
+
+    /// The token of the newest recorded view, which is the greatest.
+    pub fn newest_token(&self) -> Token
+        ensures greatest { result ≡ greatest (tokens_of self.now.views) }
+        ensures there { list_any (λ v. v.token == result) self.now.views ≡ true }
+    {
+        self.records.newest().token()
+    }
+
+    /// The view that is recorded under the token.
+    pub fn view_at(&self, token: Token) -> Option<&View>
+        ensures { option_map (λ v. v.now) result ≡ find (λ v. v.token == token) self.now.views }
+    {
+        self.records.view(token)
+    }
+
+    /// Whether the session holds the token.
+    pub fn is_held_by(&self, session: SessionNo, token: Token) -> bool
+        ensures { result ≡ has_hold self.now.holds session token }
+    {
+        self.records.holds(session, token)
+    }
+
     /// Whether as many views are recorded as may be, and each is held, so that none can be recorded.
     pub fn is_full(&self) -> bool
         ensures { result ≡ is_full (held_in self.now.holds) (tokens_of self.now.views) }
@@ -78,6 +117,25 @@ impl Core {
         ensures { result ≡ is_some self.now.merging }
     {
         self.merging.is_some()
+    }
+
+    /// Whether the merge in the making has rows left to pass. There is one.
+    pub fn has_rows_left(&self) -> bool
+        requires { IsTrue (is_some self.now.merging) }
+        ensures { IsTrue result ↔ HasRowsLeft self.now.merging }
+    {
+        match &self.merging {
+            Some(merge) => !merge.is_passed(),
+            None => unreachable!(),
+        }
+    }
+
+    /// How many rows the merge in the making has passed, dead ones counted; none where there is no merge.
+    pub fn rows_passed(&self) -> Option<usize>
+        ensures { result ≡ option_map (λ m. m.passed) self.now.merging }
+    {
+        let merge = self.merging.as_ref()?;
+        Some(merge.passed())
     }
 
     /// How many users the file of the name has: segments that stand, recorded views, kept commits, and a merge.

@@ -2,10 +2,16 @@
 #![tactic(auto)]
 
 mod asking;
+mod commits;
 mod flushes;
+mod installs;
+mod kept;
 mod merges;
 mod opening;
+mod snapshots;
 mod state;
+mod sweeps;
+mod telling;
 mod users;
 mod views;
 mod writes;

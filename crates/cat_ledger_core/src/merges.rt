@@ -11,7 +11,7 @@ ghost use Rattle.cat_directory.specs.declared.name.FileName.{FileName};
 ghost use Rattle.cat_ledger_model.specs.Users.{users_of, times, Changes};
 ghost use Rattle.cat_ledger_shape.specs.Steps.{IsBegun};
 ghost use Rattle.cat_ledger_shape.specs.Ties.{IsTold, TouchesOnly};
-ghost use Rattle.cat_ledger_core.specs.Cores.{HasCopied, HasEnded, HasGivenUp, HasRowsLeft, is_begun};
+ghost use Rattle.cat_ledger_core.specs.Cores.{HasCopied, HasEnded, HasGivenUp, HasRowsLeft, IsSourceOf, is_begun};
 
 use crate::state::Core;
 use cat_base::{LAST_NUMBER, MAX_RECORDS, Refusal, SegNo};
@@ -30,7 +30,7 @@ fn take_source(refs: &mut FileRefs, number: SegNo) -> Result<(), AllocError>
 }
 
 /// Counts it no more. It takes no memory.
-fn give_source(refs: &mut FileRefs, number: SegNo)
+pub(crate) fn give_source(refs: &mut FileRefs, number: SegNo)
     requires { (q : Name) → times q (Name.source number ∷ []) ≤ users_of refs.old q }
     ensures { Changes [] (Name.source number ∷ []) refs.old refs.new }
 {
@@ -95,6 +95,8 @@ impl Core {
         requires { HasRowsLeft self.old.merging }
         ensures ok { OnOk result (HasCopied (D.bytes device.old) self.old (D.bytes device.new) self.new) }
         ensures err { OnErr result (HasEnded (D.bytes device.old) self.old (D.bytes device.new) self.new) }
+        ensures crash { (q : FileName) → (IsSourceOf self.old.merging q → ⊥)
+            → NoMore (D.may_leave device.old q) (D.may_leave device.new q) }
         ensures can { D.can_fail device.new → D.can_fail device.old }
         ensures counted { CountsReading (D.fault_count device.old) (D.fault_count device.new) result }
     {

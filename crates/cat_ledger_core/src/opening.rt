@@ -2,19 +2,27 @@
 //!
 //! Lucene's constructor of `IndexWriter`, with that of its `IndexFileDeleter`. Which commit it is, and that its files hold it,
 //! is left to cat_opening.
-ghost use Rattle.std.specs.Prelude.{◌≡◌, ◌<◌, ◌≤◌, ◌+◌, ℕ, IfOk, AllPairs};
+ghost use Rattle.std.specs.Prelude.{◌≡◌, ◌<◌, ◌≤◌, ◌+◌, ◌^◌, ℕ, [], ◌∷◌, true, All, IfOk, OnOk};
+ghost use Rattle.cat_model.specs.CommitFile.{commit_needs};
 ghost use Rattle.cat_model.specs.Files.{Name};
+ghost use Rattle.cat_model.specs.Limits.{last_number};
+ghost use Rattle.cat_model.specs.View.{IsView};
+ghost use Rattle.cat_ledger_model.specs.Ledger.{IsPast};
+ghost use Rattle.cat_ledger_model.specs.Opening.{IsRestored};
 ghost use Rattle.cat_ledger_model.specs.Users.{users_of, has_name, is_known, times};
 ghost use Rattle.cat_refs.specs.Counts.{names_in};
-ghost use Rattle.cat_ledger_shape.specs.OpeningLaws.{IsCountedEmpty, empty_at};
+ghost use Rattle.cat_ledger_shape.specs.OpeningLaws.{IsCountedAt, IsCountedEmpty, MayHold, empty_at, opened_at};
+ghost use Rattle.cat_ledger_shape.specs.Ties.{ToldFiles};
+ghost use Rattle.cat_ledger_core.specs.Commits.{users_at};
 
 use crate::state::Core;
-use cat_base::{Generation, SegNo};
-use cat_commits::Snapshots;
+use cat_base::{Generation, SegNo, Token};
+use cat_commits::{Commit, Snapshots};
 use cat_current::Current;
 use cat_directory::FileName;
 use cat_flush::Buffer;
 use cat_listing::Listing;
+use cat_opening::Restored;
 use cat_records::Records;
 use cat_refs::FileRefs;
 use cat_schema::Schema;
@@ -33,7 +41,95 @@ pub fn known_names(alloc: Global, names: &[FileName]) -> Result<FileRefs, AllocE
     Ok(refs)
 }
 
+/// The segments that stand, as a searcher sees them at the token. All in it is shared.
+fn view_at(
+    alloc: Global,
+    schema: &Schema,
+    current: &Current,
+    token: Token,
+) -> Result<View, AllocError>
+    requires { IsView (record { schema = schema.now; leaves = current.now; token = token }) }
+    ensures { IfOk result (λ v. v ≡ record { schema = schema.now; leaves = current.now; token = token }) }
+{
+    let leaves = current.copy()?;
+    View::of(alloc, schema.copy()?, leaves, token)
+}
+
+/// Counts the segments of the view as standing, the view as recorded, and the commit as kept.
+fn count_users(
+    alloc: Global,
+    refs: &mut FileRefs,
+    view: &View,
+    commit: &Commit,
+) -> Result<(), AllocError>
+    requires few { (q : Name) → users_of refs.old q + users_at view.now commit.now q < 2 ^ 64 }
+    ensures users { OnOk result ((q : Name) → users_of refs.new q ≡ users_of refs.old q + users_at view.now commit.now q) }
+    ensures known { OnOk result ((q : Name) → is_known refs.old q ≡ true → is_known refs.new q ≡ true) }
+{
+    let files = view.files(alloc)?;
+    refs.take(&files)?;
+    refs.take(&files)?;
+    refs.take(&commit.names()?)?;
+    Ok(())
+}
+
+/// The commit alone.
+fn alone(alloc: Global, commit: Commit) -> Result<Vec<Commit>, AllocError>
+    ensures { IfOk result (λ commits. commits.items ≡ commit ∷ []) }
+{
+    let mut commits = Vec::new(alloc);
+    commits.push(commit)?;
+    Ok(commits)
+}
+
 impl Core {
+    /// A commit that was read, with its segments: they stand, a view of them is recorded under the commit's token, and it is the
+    /// only commit. Nobody holds a view, and no snapshot is taken. (Lucene: `IndexWriter` over an `IndexCommit`.)
+    ///
+    /// Nobody uses a name before, and the numbers are those that are taken next, which no file of the commit has.
+    pub fn opened(
+        alloc: Global,
+        schema: Schema,
+        restored: Restored,
+        mut refs: FileRefs,
+        next_segment: SegNo,
+        next_generation: Generation,
+    ) -> Result<Core, AllocError>
+        requires restored { (told : ToldFiles) × (g : ℕ) × IsRestored (MayHold told) schema g restored }
+        requires unused { (q : Name) → users_of refs q ≡ 0 }
+        requires past { All (IsPast next_segment next_generation) (commit_needs restored.commit) }
+        requires some { 0 < next_segment }
+        requires left { (next_segment ≤ last_number + 1) × (next_generation ≤ last_number + 1) }
+        ensures counted { IfOk result (λ c. IsCountedAt schema restored c.users next_segment next_generation) }
+        ensures known { IfOk result (λ c. (q : Name) → is_known refs q ≡ true → is_known c.users q ≡ true) }
+        ensures opened { IfOk result (λ c. c ≡ opened_at schema restored c.users next_segment next_generation) }
+    {
+        let Restored { commit, leaves } = restored;
+        let current = Current::of(leaves)?;
+        let count = commit.token;
+        let view = view_at(alloc, &schema, &current, count)?;
+        count_users(alloc, &mut refs, &view, &commit)?;
+        let listing = Listing::of(alloc, &commit.segments, current.leaves())?;
+        let commits = alone(alloc, commit)?;
+        let records = Records::of(alloc, view)?;
+        let buffer = Buffer::new(alloc, &schema)?;
+        Ok(Core {
+            alloc,
+            schema,
+            current,
+            buffer,
+            count,
+            records,
+            commits,
+            listing,
+            snapshots: Snapshots::new(alloc),
+            merging: None,
+            refs,
+            next_segment,
+            next_generation,
+        })
+    }
+
     /// No item, segment or commit: a view of nothing is recorded under token 0. Nobody uses a name, and the numbers are those
     /// that are taken next.
     pub fn empty(
