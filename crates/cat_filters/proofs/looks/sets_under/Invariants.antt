@@ -1,0 +1,12 @@
+use Rattle.std.proofs.Common.{◌≡◌, map, option_map, take}
+use Rattle.std.specs.Arc.{arc_value}
+use Rattle.cat_query.specs.View.{query_of}
+use Rattle.cat_filters.specs.Filters.{segments_of, set_in, used_in}
+use Rattle.cat_filters.proofs.looks.sets_under.Given as goal
+
+abbrev pub invariant-loop-leaf : goal.invariant-loop-leaf
+invariant-loop-leaf l = record {
+  query : query_of l.key.query ≡ query_of l.query;
+  used : l.cache ≡ used_in (query_of l.query) (segments_of (take l.leaf-index l.leaves)) l.fn.cache;
+  sets : map (option_map arc_value) l.sets.items ≡ map (set_in l.fn.cache (query_of l.query)) (segments_of (take l.leaf-index l.leaves));
+}

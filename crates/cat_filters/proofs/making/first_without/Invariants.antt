@@ -1,0 +1,12 @@
+use Rattle.std.proofs.Common.{◌≡◌, drop}
+use Rattle.std.specs.List.{find}
+use Rattle.cat_query.specs.View.{query_of}
+use Rattle.cat_filters.specs.Filters.{is_missing, segments_of}
+use Rattle.cat_filters.proofs.making.first_without.Given as goal
+
+abbrev pub invariant-loop-leaf : goal.invariant-loop-leaf
+invariant-loop-leaf l = record {
+  query : query_of l.key.query ≡ query_of l.fn.key.query;
+  first : find (λ s. is_missing l.cache (query_of l.fn.key.query, s)) (segments_of l.leaves)
+      ≡ find (λ s. is_missing l.cache (query_of l.fn.key.query, s)) (segments_of (drop l.leaf-index l.leaves));
+}

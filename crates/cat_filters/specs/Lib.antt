@@ -1,0 +1,3 @@
+pub mod Filters
+pub mod Known
+pub mod Steps

@@ -1,0 +1,10 @@
+//! The queries that were noted, and the sets of rows that are at hand for them.
+#![tactic(auto)]
+
+mod filters;
+mod looks;
+mod making;
+mod news;
+
+pub use filters::{Filters, Noted};
+pub use news::WarmNews;

@@ -1,0 +1,49 @@
+//! Sets that are looked up for the segments of a view.
+ghost use Rattle.std.specs.Prelude.{◌≡◌, map, option_map, IfOk, OnErr, OnOk};
+ghost use Rattle.std.specs.Arc.{arc_value};
+ghost use Rattle.std.specs.Map.{lookup};
+ghost use Rattle.cat_cache.specs.Cached.{key_of, same_key, used};
+ghost use Rattle.cat_query.specs.View.{query_of};
+ghost use Rattle.cat_filters.specs.Filters.{IsUsedInPart, segments_of, set_in, used_in};
+
+use cat_cache::{FilterCache, Key};
+use cat_query::{DocSet, Query};
+use cat_search::Leaf;
+use std::alloc::{AllocError, Global};
+use std::sync::Arc;
+
+/// The set that stands under the key, which is shared, and the last used from now on, also where the count of its users is
+/// full.
+fn set_under(cache: &mut FilterCache, key: &Key) -> Result<Option<Arc<DocSet>>, AllocError>
+    ensures set { IfOk result (λ s. option_map arc_value s ≡ lookup (same_key (key_of key.now)) cache.old) }
+    ensures used { cache.new ≡ used (key_of key.now) cache.old }
+{
+    match cache.look(key) {
+        Some(set) => Ok(Some(Arc::try_clone(set)?)),
+        None => Ok(None),
+    }
+}
+
+/// The sets of the query that stand for the segments of the leaves, in order, each of which is the last used from its look
+/// on. An error leaves the uses of the leaves that were looked at.
+pub(crate) fn sets_under(
+    alloc: Global,
+    cache: &mut FilterCache,
+    query: &Query,
+    leaves: &[Leaf],
+) -> Result<Vec<Option<Arc<DocSet>>>, AllocError>
+    ensures sets { IfOk result (λ v. map (option_map arc_value) v.items ≡ map (set_in cache.old (query_of query.now)) (segments_of leaves.now)) }
+    ensures used { OnOk result (cache.new ≡ used_in (query_of query.now) (segments_of leaves.now) cache.old) }
+    ensures err { OnErr result (IsUsedInPart (query_of query.now) (segments_of leaves.now) cache.old cache.new) }
+{
+    let mut sets = Vec::with_capacity(alloc, leaves.len())?;
+    let mut key = Key {
+        segment: 0,
+        query: query.copy()?,
+    };
+    for leaf in leaves {
+        key.segment = leaf.segment().number();
+        sets.push(set_under(cache, &key)?)?;
+    }
+    Ok(sets)
+}
