@@ -19,7 +19,7 @@ pub noted_new : (qs : List Query) (noted : List model.Query) (q p : model.Query)
     → b ≡ list_any (λ y. same_query (query_of y) q) qs → b ≡ false → newest most_noted (noted ++ p ∷ []) ≡ noted_with q noted
 noted_new qs noted q p b same query is absent =
     let other : list_any (λ p. same_query p q) noted ≡ false =
-      ap (list_any (λ p. same_query p q)) (sym same) ∙ any_of q qs ∙ sym is ∙ absent in
+    ap (list_any (λ p. same_query p q)) (sym same) ∙ any_of q qs ∙ sym is ∙ absent in
     ap (λ (p : model.Query). newest most_noted (noted ++ p ∷ [])) query
     ∙ sym (ap (λ b. cond b noted (newest most_noted (noted ++ q ∷ []))) other)
 

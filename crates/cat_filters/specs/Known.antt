@@ -8,7 +8,8 @@ use Rattle.cat_filters.specs.Filters.{Filters}
 abbrev pub HasRowsOf : Segment → Entry → Type 0
 HasRowsOf s e = e.0.segment ≡ s.number → e.1 ≡ map (row_matches e.0.query) s.rows
 
--- each set that stands under the number of the segment has the rows of it that its query matches, and a set in the making over one of this number is over it
+-- each set that stands under the number of the segment has the rows of it that its query matches, and a set in the making over
+-- one of this number is over it
 pub record Knows (f : Filters) (s : Segment) : Type 0 where
   pub cached : All (HasRowsOf s) f.cached
   pub warming : IfSome f.warming (λ w. w.segment.number ≡ s.number → w.segment ≡ s)

@@ -37,7 +37,8 @@ pub record IsStored (old new : Filters) : Type 0 where
   pub last : IsLast warm
   pub after : new ≡ record { cached = with_made warm old.cached; noted = old.noted; warming = None }
 
--- Without a set in the making that of the first missing pair is begun, if there is one. Else 256 rows more are passed where that leaves some, and the set is stored where it leaves none.
+-- Without a set in the making that of the first missing pair is begun, if there is one. Else 256 rows more are passed where that
+-- leaves some, and the set is stored where it leaves none.
 abbrev pub IsStep : Filters → List Segment → Filters → WarmNews → Type 0
 IsStep old segments new WarmNews.Idle = record {
   free : old.warming ≡ None;

@@ -12,8 +12,8 @@ returns-in_err-set_under-clause-err c =
     let leaves = c.args.leaves.now in
     on_err c.from_residual-in_err-set_under.result
     (part_of q c.args.cache.now c.set_under.new.cache leaves (i + 1) (omega (arith, c.loop-leaf-test.true))
-      (used_after q c.args.cache.now c.loop-leaf.cache leaves i c.leaf-item.result c.number.result (query_of c.loop-leaf.key.query) c.loop-leaf-test.true c.leaf-item.is
-        (c.number.ensures ∙ ap (λ (s : Segment). s.number) c.segment.ensures) c.loop-leaf.invariant.query c.loop-leaf.invariant.used c.set_under.new.cache c.set_under.ensures.used))
+    (used_after q c.args.cache.now c.loop-leaf.cache leaves i c.leaf-item.result c.number.result (query_of c.loop-leaf.key.query) c.loop-leaf-test.true c.leaf-item.is
+    (c.number.ensures ∙ ap (λ (s : Segment). s.number) c.segment.ensures) c.loop-leaf.invariant.query c.loop-leaf.invariant.used c.set_under.new.cache c.set_under.ensures.used))
 
 pub returns-in_err-push-clause-err : goal.returns-in_err-push-clause-err
 returns-in_err-push-clause-err c =
@@ -22,8 +22,8 @@ returns-in_err-push-clause-err c =
     let leaves = c.args.leaves.now in
     on_err c.from_residual-in_err-push.result
     (part_of q c.args.cache.now c.set_under.new.cache leaves (i + 1) (omega (arith, c.loop-leaf-test.true))
-      (used_after q c.args.cache.now c.loop-leaf.cache leaves i c.leaf-item.result c.number.result (query_of c.loop-leaf.key.query) c.loop-leaf-test.true c.leaf-item.is
-        (c.number.ensures ∙ ap (λ (s : Segment). s.number) c.segment.ensures) c.loop-leaf.invariant.query c.loop-leaf.invariant.used c.set_under.new.cache c.set_under.ensures.used))
+    (used_after q c.args.cache.now c.loop-leaf.cache leaves i c.leaf-item.result c.number.result (query_of c.loop-leaf.key.query) c.loop-leaf-test.true c.leaf-item.is
+    (c.number.ensures ∙ ap (λ (s : Segment). s.number) c.segment.ensures) c.loop-leaf.invariant.query c.loop-leaf.invariant.used c.set_under.new.cache c.set_under.ensures.used))
 
 pub loop-leaf-preserved : goal.loop-leaf-preserved
 loop-leaf-preserved c =
@@ -37,5 +37,5 @@ loop-leaf-preserved c =
           number c.loop-leaf.invariant.query c.loop-leaf.invariant.used c.set_under.new.cache c.set_under.ensures.used;
       sets = ap (map (option_map arc_value)) c.in_ok-push.ensures.items
           ∙ sets_after q c.args.cache.now c.loop-leaf.cache leaves i c.leaf-item.result c.number.result (query_of c.loop-leaf.key.query) c.loop-leaf-test.true c.leaf-item.is
-              number c.loop-leaf.invariant.query c.loop-leaf.invariant.used (option_map arc_value) c.loop-leaf.sets.items c.in_ok-set_under.field-0 c.in_ok-set_under.ensures.set c.loop-leaf.invariant.sets;
+          number c.loop-leaf.invariant.query c.loop-leaf.invariant.used (option_map arc_value) c.loop-leaf.sets.items c.in_ok-set_under.field-0 c.in_ok-set_under.ensures.set c.loop-leaf.invariant.sets;
     }

@@ -12,6 +12,6 @@ returns-in-Ok-clause-noted c =
     let q = query_of c.args.query.now in
     let old = c.args.self.now in
     inl (c.note_newest.ensures
-      ∙ ap (λ (qs : List model.Query). record { cached = old.cached; noted = qs; warming = old.warming })
-        (noted_new c.self.inside.noted.items old.noted q (query_of c.in-Ok.query) c.contains.result (ap (λ (f : Filters). f.noted) c.self.view_is) c.in-Ok.ensures.ok
-          (c.contains.ensures.value ∙ ap (list_any (λ y. same_query (query_of y) q)) c.deref.ensures.value) c.if-not-contains.true))
+    ∙ ap (λ (qs : List model.Query). record { cached = old.cached; noted = qs; warming = old.warming })
+    (noted_new c.self.inside.noted.items old.noted q (query_of c.in-Ok.query) c.contains.result (ap (λ (f : Filters). f.noted) c.self.view_is) c.in-Ok.ensures.ok
+    (c.contains.ensures.value ∙ ap (list_any (λ y. same_query (query_of y) q)) c.deref.ensures.value) c.if-not-contains.true))
