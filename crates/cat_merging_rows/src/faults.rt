@@ -4,15 +4,19 @@ ghost use Rattle.cat_directory.specs.Names.{name_of};
 ghost use Rattle.cat_model.specs.Files.{IsFileName};
 ghost use Rattle.cat_model.specs.Item.{IsItem};
 
-use crate::files::{OTHER, OTHER_BYTES, directory_of, number_at, read_all, read_if_there};
+use crate::files::{
+    OTHER, OTHER_BYTES, directory_of, number_at, read_all, read_if_there, sources_of,
+};
 use crate::making::{Every, FIELDS, puts_of};
-use crate::running::{MERGED, begin_view, merge_view};
+use crate::running::{MERGED, begin_view, merge_view, settle_view};
 use cat_base::Refusal;
 use cat_directory::{
     Directory, Faults, Faulty, FileName, Holder, MemoryDirectory, Shelf, write_file,
 };
+use cat_merging::write_segment;
 use cat_schema::Schema;
 use cat_search::View;
+use cat_segment::encode_seg;
 use cat_view_rows::{Put, view_of};
 use std::alloc::Global;
 use std::process::Abort;
@@ -157,4 +161,53 @@ fn expect_gone(
     assert!(rt; matches!(merge.copy_step(directory), Err(Refusal::Device)));
     assert!(rt; directory.failures() == 1);
     Ok(())
+}
+
+/// The call behind so many fails of those that write the segment of a merge that is settled. Until then it has no file; the next try
+/// makes the whole one, and the sources are as they were.
+fn expect_second_try(
+    rt: &impl Abort,
+    alloc: Global,
+    view: &View,
+    puts: &[Put],
+    passes: u64,
+) -> Result<(), Fail> {
+    let mut directory = directory_of(alloc, puts, ENDS)?;
+    let Some(leaf) = settle_view(&mut directory, alloc, view, 1, Every(4))? else {
+        panic!(rt; "no row was kept");
+    };
+    assert!(rt; read_if_there(alloc, &mut directory, FileName::Segment(MERGED))?.is_none());
+    let mut device = Faulty::new(directory, Faults::One(passes));
+    let refused = write_segment(&mut device, alloc, leaf.segment());
+    assert!(rt; matches!(refused, Err(Refusal::Device)), "call {passes}");
+    write_segment(&mut device, alloc, leaf.segment())?;
+    assert!(rt; device.failures() == 1);
+    let wanted = encode_seg(alloc, leaf.segment())?;
+    expect_written(rt, alloc, &mut device, puts, &wanted)?;
+    expect_others(rt, alloc, &mut device, puts)
+}
+
+/// Fails unless the files of the merged segment hold these bytes, and the sources of the rows that it was made of.
+fn expect_written<S: Shelf>(
+    rt: &impl Abort,
+    alloc: Global,
+    device: &mut S,
+    puts: &[Put],
+    wanted: &[u8],
+) -> Result<(), Refusal> {
+    let written = read_all(alloc, device, FileName::Segment(MERGED))?;
+    assert!(rt; written.as_slice() == wanted);
+    let copied = read_all(alloc, device, FileName::Source(MERGED))?;
+    assert!(rt; copied.as_slice() == sources_of(alloc, puts, true)?.as_slice());
+    Ok(())
+}
+
+#[test]
+fn a_segment_that_was_refused_is_written_again(rt: HostRuntime) -> Result<(), Fail> {
+    let alloc = rt.alloc();
+    let schema = Schema::read(alloc, FIELDS)?;
+    let puts = rows(&rt, alloc, &schema)?;
+    let view = view_of(alloc, &schema, &puts, ENDS)?;
+    expect_second_try(&rt, alloc, &view, &puts, 0)?;
+    expect_second_try(&rt, alloc, &view, &puts, 1)
 }

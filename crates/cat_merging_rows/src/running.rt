@@ -1,5 +1,6 @@
 //! Merges of the segments of a view, run over a device from the first call to the last.
-ghost use Rattle.std.specs.Prelude.{◌≡◌, IfOk, OnOk};
+ghost use Rattle.std.specs.Prelude.{◌≡◌, IfOk, IfSome, OnOk};
+ghost use Rattle.cat_model.specs.Files.{IsFileNumber};
 
 use crate::making::{Every, fit_one, later_leaves};
 use cat_base::{Refusal, SegNo};
@@ -45,6 +46,29 @@ fn copy_all<D: Directory + Shelf>(
     Ok(())
 }
 
+/// The leaf that a merge of the view's segments in so many steps makes, where those of their rows are deleted meanwhile; its file
+/// isn't written. [`Refusal::Spent`] where the steps are too few.
+pub(crate) fn settle_view<D: Directory + Shelf>(
+    device: &mut D,
+    alloc: Global,
+    view: &View,
+    steps: usize,
+    killed: Every,
+) -> Result<Option<Leaf>, Refusal>
+    ensures { IfOk result (λ o. IfSome o (λ leaf. IsFileNumber leaf.segment.number)) }
+{
+    let window = later_leaves(alloc, view.leaves(), killed)?;
+    let mut merge = begin_view(device, alloc, view)?;
+    copy_all(&mut merge, device, steps)?;
+    if !merge.is_passed() {
+        return Err(Refusal::Spent);
+    }
+    let Some(leaf) = merge.settle(&window)? else {
+        return Ok(None);
+    };
+    Ok(Some(leaf))
+}
+
 /// Merges the segments of the view in so many steps, where those of their rows are deleted meanwhile; [`Refusal::Spent`] where
 /// the steps are too few.
 pub(crate) fn merge_view<D: Directory + Shelf>(
@@ -54,13 +78,7 @@ pub(crate) fn merge_view<D: Directory + Shelf>(
     steps: usize,
     killed: Every,
 ) -> Result<Option<Leaf>, Refusal> {
-    let window = later_leaves(alloc, view.leaves(), killed)?;
-    let mut merge = begin_view(device, alloc, view)?;
-    copy_all(&mut merge, device, steps)?;
-    if !merge.is_passed() {
-        return Err(Refusal::Spent);
-    }
-    let Some(leaf) = merge.settle(&window)? else {
+    let Some(leaf) = settle_view(device, alloc, view, steps, killed)? else {
         return Ok(None);
     };
     write_segment(device, alloc, leaf.segment())?;
