@@ -1,6 +1,6 @@
 -- A line says at most one thing, under one session, and is heard in one way.
 use Rattle.std.proofs.Common.{inl, inr, suc, ◌≡◌, ◌⊎◌, ◌≢◌, ℕ, ◌<◌, true≢false, List, [], ◌∷◌, ◌++◌, sym, ◌∙◌, refl, ap, subst, length, get_or, arith, codes}
-use Rattle.std.specs.Prelude.{zero, true, ◌&&◌, leb, slice_index, map, Option, None, Some, Result, Ok, Err, IsTrue}
+use Rattle.std.specs.Prelude.{zero, true, cond, ◌==◌, ◌&&◌, leb, slice_index, map, Option, None, Some, Result, Ok, Err, IsTrue}
 use Rattle.std.specs.List.{list_all}
 use Rattle.std.specs.Char.{is_ascii_lowercase}
 use Rattle.std.specs.Fmt.{decimal}
@@ -15,9 +15,9 @@ use Rattle.cat_model.specs.Query.{Query}
 use Rattle.cat_model.specs.Page.{Sort}
 use Rattle.cat_model.specs.Answer.{Read}
 use Rattle.cat_model.specs.Table.{Opened}
-use Rattle.cat_model.specs.Lines.{Said, spaced, spelling, sort_text, mark_text, HasForm, IsNumber, IsSort, IsMark, SpellsLine, ShowsSession}
-use Rattle.cat_model.specs.Run.{Command}
-use Rattle.cat_model.specs.Heard.{Json, Heard, Hears, IsCommand, IsQueryOf}
+use Rattle.cat_model.specs.Lines.{Said, spaced, spelling, sort_text, mark_text, chore_name, HasForm, IsNumber, IsSort, IsMark, SpellsLine, ShowsSession}
+use Rattle.cat_model.specs.Run.{Chore, Command}
+use Rattle.cat_model.specs.Heard.{Json, Heard, Hears, SpellsServed, IsCommand, IsQueryOf}
 use Rattle.cat_model.specs.Served.{Begins, OpensEmpty, Outcome, heard, HeardAll}
 use Rattle.cat_model.specs.Laws.{LinesSayOneThing, SchemaLinesSayOneThing, EachTextIsAQueryOrNone, HearingIsOne, ReadsSchemas, InputsAreHeardOneWay}
 use Rattle.cat_model.proofs.QueryFaults.{lower_name}
@@ -71,6 +71,9 @@ name_bytes (b ∷ bs) h =
 signed_no_space : (sign : ℕ) (name : Text) → sign ≢ 32 → IsTrue (has_name_form name) → NoSpace (sign ∷ name)
 signed_no_space sign name other h zero k e = other e
 signed_no_space sign name other h (suc i) k e = name_bytes_no_space name (name_bytes name h) i (omega (arith, k)) e
+
+name_no_space : (name : Text) → IsTrue (has_name_form name) → NoSpace name
+name_no_space name h = name_bytes_no_space name (name_bytes name h)
 
 dot_no_space : NoSpace (codes ".")
 dot_no_space zero k e = absurd (omega (arith, e))
@@ -127,10 +130,100 @@ marked mark query = spaced (mark_text mark ∷ query ∷ [])
 abbrev sorted : Sort → Option ℕ → Text → Text
 sorted sort mark query = spaced (sort_text sort ∷ mark_text mark ∷ query ∷ [])
 
+-- two names of fields that stand before a space
+same_name : (one two : Text) (r q : Text) → IsTrue (has_name_form one) → IsTrue (has_name_form two) → one ++ 32 ∷ r ≡ two ++ 32 ∷ q → (one ≡ two) × (r ≡ q)
+same_name one two r q h k e = same_word one two r q (name_no_space one h) (name_no_space two k) e
+
+-- what stands behind the dimension of a FACETS
+abbrev numbered : ℕ → Text → Text
+numbered n query = spaced (decimal n ∷ query ∷ [])
+
+-- a COMMIT alone isn't one with a text
+commits_alike : (one two : Text) → spaced (spelling (Said.commit one)) ≡ spaced (spelling (Said.commit two)) → one ≡ two
+commits_alike [] [] e = refl
+commits_alike [] (b ∷ two) e = absurd (omega (arith, ap length e))
+commits_alike (a ∷ one) [] e = absurd (omega (arith, ap length e))
+commits_alike (a ∷ one) (b ∷ two) e = cc e
+
+-- the chores differ in their second letters, or in their first
+chores_alike : (one two : Chore) → chore_name one ≡ chore_name two → one ≡ two
+chores_alike Chore.merge Chore.merge e = refl
+chores_alike Chore.force Chore.force e = refl
+chores_alike Chore.warm Chore.warm e = refl
+chores_alike Chore.sweep Chore.sweep e = refl
+chores_alike Chore.stat Chore.stat e = refl
+chores_alike one two e = absurd (omega (arith, ap (λ t. get_or t 0 0) e, ap (λ t. get_or t 1 0) e))
+
+-- the commands numbered
+pub rank : Said → ℕ
+rank (Said.put item) = 0
+rank (Said.prune n) = 1
+rank (Said.delete id) = 2
+rank (Said.delete_where query) = 3
+rank Said.refresh = 4
+rank Said.open_newest = 5
+rank (Said.open_at t) = 6
+rank (Said.close t) = 7
+rank (Said.commit text) = 8
+rank (Said.find t n sort mark query) = 9
+rank (Said.files_of_token t) = 10
+rank (Said.files_of_commit g) = 11
+rank (Said.facets t dim n query) = 12
+rank (Said.get t id) = 13
+rank (Said.text_of_commit g) = 14
+rank Said.snapshot = 15
+rank (Said.release_snapshot g) = 16
+rank (Said.chore c) = 17
+
+-- and their numbers by what is spelled, of which the first letters are looked at, and what ends the names that begin others
+pub spelled_rank : Text → ℕ
+spelled_rank t =
+    cond (get_or t 0 0 == 80) (cond (get_or t 1 0 == 85) 0 1)
+    (cond (get_or t 0 0 == 68) (cond (get_or t 3 0 == 32) 2 3)
+    (cond (get_or t 0 0 == 82) 4
+    (cond (get_or t 0 0 == 79) (cond (get_or t 4 0 == 32) 6 5)
+    (cond (get_or t 0 0 == 67) (cond (get_or t 1 0 == 76) 7 8)
+    (cond (get_or t 0 0 == 70) (cond (get_or t 1 0 == 65) 12 (cond (get_or t 1 0 == 79) 17 (cond (get_or t 2 0 == 78) 9 (cond (get_or t 6 0 == 116) 10 11))))
+    (cond (get_or t 0 0 == 71) 13
+    (cond (get_or t 0 0 == 78) 14
+    (cond (get_or t 0 0 == 83) (cond (get_or t 1 0 == 78) 15 17)
+    (cond (get_or t 0 0 == 85) 16 17)))))))))
+
+pub spells_rank : (said : Said) → spelled_rank (spaced (spelling said)) ≡ rank said
+unfolding rank spelled_rank
+spells_rank (Said.put item) = refl
+spells_rank (Said.prune n) = refl
+spells_rank (Said.delete id) = refl
+spells_rank (Said.delete_where query) = refl
+spells_rank Said.refresh = refl
+spells_rank Said.open_newest = refl
+spells_rank (Said.open_at t) = refl
+spells_rank (Said.close t) = refl
+spells_rank (Said.commit []) = refl
+spells_rank (Said.commit (b ∷ text)) = refl
+spells_rank (Said.find t n sort mark query) = refl
+spells_rank (Said.files_of_token t) = refl
+spells_rank (Said.files_of_commit g) = refl
+spells_rank (Said.facets t dim n query) = refl
+spells_rank (Said.get t id) = refl
+spells_rank (Said.text_of_commit g) = refl
+spells_rank Said.snapshot = refl
+spells_rank (Said.release_snapshot g) = refl
+spells_rank (Said.chore Chore.merge) = refl
+spells_rank (Said.chore Chore.force) = refl
+spells_rank (Said.chore Chore.warm) = refl
+spells_rank (Said.chore Chore.sweep) = refl
+spells_rank (Said.chore Chore.stat) = refl
+
+same_rank : (one two : Said) → spaced (spelling one) ≡ spaced (spelling two) → rank one ≡ rank two
+same_rank one two e = sym (spells_rank one) ∙ ap spelled_rank e ∙ spells_rank two
+
 -- no two commands are spelled alike
 pub spelled_alike : (one two : Said) → HasForm one → HasForm two → spaced (spelling one) ≡ spaced (spelling two) → one ≡ two
+unfolding rank
 spelled_alike (Said.put item) (Said.put item') h k e = ap Said.put (cc e)
 spelled_alike (Said.delete id) (Said.delete id') h k e = ap Said.delete (cc e)
+spelled_alike (Said.delete_where query) (Said.delete_where query') h k e = ap Said.delete_where (cc e)
 spelled_alike Said.refresh Said.refresh h k e = refl
 spelled_alike Said.open_newest Said.open_newest h k e = refl
 spelled_alike (Said.open_at t) (Said.open_at u) h k e = ap Said.open_at (decimal_injective t u (omega (arith, h)) (omega (arith, k)) (cc e))
@@ -141,8 +234,24 @@ spelled_alike (Said.find t n sort mark query) (Said.find u m sort' mark' query')
     let sorts : (sort ≡ sort') × (marked mark query ≡ marked mark' query') = same_sort sort sort' (marked mark query) (marked mark' query') h.2 k.2 counts.1 in
     let marks : (mark ≡ mark') × (query ≡ query') = same_mark mark mark' query query' h.3 k.3 sorts.1
     in cc (tokens.0, counts.0, sorts.0, marks.0, marks.1)
--- else the first letters differ, or OPEN ends where another has a space
-spelled_alike one two h k e = absurd (omega (arith, ap (λ t. get_or t 0 0) e, ap (λ t. get_or t 4 0) e))
+spelled_alike (Said.facets t dim n query) (Said.facets u dim' m query') h k e =
+    let tokens : (t ≡ u) × (dim ++ 32 ∷ numbered n query ≡ dim' ++ 32 ∷ numbered m query') = same_number t u (dim ++ 32 ∷ numbered n query) (dim' ++ 32 ∷ numbered m query') h.0 k.0 (cc e) in
+    let dims : (dim ≡ dim') × (numbered n query ≡ numbered m query') = same_name dim dim' (numbered n query) (numbered m query') h.1 k.1 tokens.1 in
+    let counts : (n ≡ m) × (query ≡ query') = same_number n m query query' h.2 k.2 dims.1
+    in cc (tokens.0, dims.0, counts.0, counts.1)
+spelled_alike (Said.get t id) (Said.get u id') h k e =
+    let tokens : (t ≡ u) × (id ≡ id') = same_number t u id id' h k (cc e)
+    in cc (tokens.0, tokens.1)
+spelled_alike (Said.files_of_token t) (Said.files_of_token u) h k e = ap Said.files_of_token (decimal_injective t u (omega (arith, h)) (omega (arith, k)) (cc e))
+spelled_alike (Said.files_of_commit g) (Said.files_of_commit l) h k e = ap Said.files_of_commit (decimal_injective g l (omega (arith, h)) (omega (arith, k)) (cc e))
+spelled_alike (Said.commit text) (Said.commit text') h k e = ap Said.commit (commits_alike text text' e)
+spelled_alike (Said.text_of_commit g) (Said.text_of_commit l) h k e = ap Said.text_of_commit (decimal_injective g l (omega (arith, h)) (omega (arith, k)) (cc e))
+spelled_alike Said.snapshot Said.snapshot h k e = refl
+spelled_alike (Said.release_snapshot g) (Said.release_snapshot l) h k e = ap Said.release_snapshot (decimal_injective g l (omega (arith, h)) (omega (arith, k)) (cc e))
+spelled_alike (Said.prune n) (Said.prune m) h k e = ap Said.prune (decimal_injective n m (omega (arith, h)) (omega (arith, k)) (cc e))
+spelled_alike (Said.chore c) (Said.chore d) h k e = ap Said.chore (chores_alike c d e)
+-- else they are of two commands
+spelled_alike one two h k e = absurd (omega (arith, same_rank one two e))
 
 pub one_thing : LinesSayOneThing
 one_thing line s t one two a b =
@@ -163,7 +272,7 @@ one_schema line f l g k text text' a b =
 -- ---- what is heard
 
 -- a line shows at most one session
-one_session : (line : Text) (s t : ℕ) → ShowsSession line s → ShowsSession line t → s ≡ t
+pub one_session : (line : Text) (s t : ℕ) → ShowsSession line s → ShowsSession line t → s ≡ t
 one_session line s t a b = decimal_injective s t (omega (arith, a.small)) (omega (arith, b.small)) (by a.split b.split)
   where
     quiet_s : NoSpace (decimal s)
@@ -179,12 +288,12 @@ one_session line s t a b = decimal_injective s t (omega (arith, a.small)) (omega
     by (inr p) (inr q) = (same_word (decimal s) (decimal t) p.0 q.0 quiet_s quiet_t (sym p.1 ∙ q.1)).0
 
 -- a line that spells something shows its session
-shown : (line : Text) (s : ℕ) (said : Said) → SpellsLine line s said → ShowsSession line s
+pub shown : (line : Text) (s : ℕ) (said : Said) → SpellsLine line s said → ShowsSession line s
 shown line s said a = record { small = a.small; split = inr (a.rest, a.session_first) }
 
 -- and spells nothing else that is without a form under the session that it shows
-pub no_form : (line : Text) (s t : ℕ) (said : Said) → SpellsLine line s said → ShowsSession line t → ((said : Said) → SpellsLine line t said → ⊥) → ⊥
-no_form line s t said a b none = none said (subst (λ u. SpellsLine line u said) (one_session line s t (shown line s said a) b) a)
+pub no_form : (line : Text) (s t : ℕ) (said : Said) → SpellsServed line s said → ShowsSession line t → ((said : Said) → SpellsServed line t said → ⊥) → ⊥
+no_form line s t said a b none = none said (subst (λ u. SpellsServed line u said) (one_session line s t (shown line s said a.spells) b) a)
 
 -- a text is one query, or has one fault
 one_judgement : (schema : Schema) (text : Text) (one two : Result Query Refusal) → IsSchema schema → IsQueryOf schema text one → IsQueryOf schema text two → one ≡ two
@@ -203,25 +312,38 @@ one_text schema text ok = elim (texts_are_judged schema text ok) [
 pub one_command : (json : Json) (schema : Schema) (said : Said) (one two : Command) → IsSchema schema → IsCommand json schema said one → IsCommand json schema said two → one ≡ two
 one_command json schema (Said.put text) one two ok a b = a ∙ sym b
 one_command json schema (Said.delete text) one two ok a b = a ∙ sym b
+one_command json schema (Said.delete_where text) one two ok a b =
+    a.2 ∙ ap Command.delete_where (one_judgement schema text a.0 b.0 ok a.1 b.1) ∙ sym b.2
 one_command json schema Said.refresh one two ok a b = a ∙ sym b
 one_command json schema Said.open_newest one two ok a b = a ∙ sym b
 one_command json schema (Said.open_at t) one two ok a b = a ∙ sym b
 one_command json schema (Said.close t) one two ok a b = a ∙ sym b
 one_command json schema (Said.find t n sort mark text) one two ok a b =
     a.2 ∙ ap (λ q. Command.read t (Read.find n sort mark q)) (one_judgement schema text a.0 b.0 ok a.1 b.1) ∙ sym b.2
+one_command json schema (Said.facets t dim n text) one two ok a b =
+    a.2 ∙ ap (λ q. Command.read t (Read.facets dim n q)) (one_judgement schema text a.0 b.0 ok a.1 b.1) ∙ sym b.2
+one_command json schema (Said.get t text) one two ok a b = a ∙ sym b
+one_command json schema (Said.files_of_token t) one two ok a b = a ∙ sym b
+one_command json schema (Said.files_of_commit g) one two ok a b = a ∙ sym b
+one_command json schema (Said.commit text) one two ok a b = a ∙ sym b
+one_command json schema (Said.text_of_commit g) one two ok a b = a ∙ sym b
+one_command json schema Said.snapshot one two ok a b = a ∙ sym b
+one_command json schema (Said.release_snapshot g) one two ok a b = a ∙ sym b
+one_command json schema (Said.prune n) one two ok a b = a ∙ sym b
+one_command json schema (Said.chore c) one two ok a b = a ∙ sym b
 
 pub one_hearing : HearingIsOne
 one_hearing json schema bytes one two ok (Hears.spelled s said c readable a is) (Hears.spelled t other d readable' b is') =
-    let same = one_thing bytes s t said other a b in
+    let same = one_thing bytes s t said other a.spells b.spells in
     let command : c ≡ d = one_command json schema other c d ok (subst (λ x. IsCommand json schema x c) same.1 is) is' in
     λ i. Heard.a_line (record { session = same.0 i; command = command i })
 one_hearing json schema bytes one two ok (Hears.spelled s said c readable a is) (Hears.formless t readable' b none) = absurd (no_form bytes s t said a b none)
 one_hearing json schema bytes one two ok (Hears.formless s readable a none) (Hears.spelled t said c readable' b is) = absurd (no_form bytes t s said b a none)
 one_hearing json schema bytes one two ok (Hears.formless s readable a none) (Hears.formless t readable' b none') = ap (λ u. Heard.a_line (record { session = u; command = Command.formless })) (one_session bytes s t a b)
 one_hearing json schema bytes one two ok (Hears.unreadable none) (Hears.unreadable none') = refl
-one_hearing json schema bytes one two ok (Hears.spelled s said c readable a is) (Hears.unreadable none) = absurd (none readable s (shown bytes s said a))
+one_hearing json schema bytes one two ok (Hears.spelled s said c readable a is) (Hears.unreadable none) = absurd (none readable s (shown bytes s said a.spells))
 one_hearing json schema bytes one two ok (Hears.formless s readable a none') (Hears.unreadable none) = absurd (none readable s a)
-one_hearing json schema bytes one two ok (Hears.unreadable none) (Hears.spelled s said c readable a is) = absurd (none readable s (shown bytes s said a))
+one_hearing json schema bytes one two ok (Hears.unreadable none) (Hears.spelled s said c readable a is) = absurd (none readable s (shown bytes s said a.spells))
 one_hearing json schema bytes one two ok (Hears.unreadable none) (Hears.formless s readable a none') = absurd (none readable s a)
 
 -- two accounts of what was told to the same lines heard the same of each

@@ -1,6 +1,6 @@
 -- The lines of a reply, and that each reply is one.
 use Rattle.std.proofs.Common.{inl, inr, ◌≡◌, ◌≢◌, ℕ, List, [], ◌∷◌, ◌++◌, map, length, refl, sym, ◌∙◌, ap, subst, append-nil, arith, codes, true≢false}
-use Rattle.std.specs.Prelude.{not, true, ◌==◌, Option, None, Some, Ok, Err}
+use Rattle.std.specs.Prelude.{not, true, false, ◌==◌, Option, None, Some, Ok, Err}
 use Rattle.std.specs.List.{flat_map, list_all, AllByRecursion}
 use Rattle.std.proofs.lemmas.Bool.{and_parts}
 use Rattle.std.specs.Fmt.{decimal}
@@ -119,12 +119,18 @@ refusal_lines : (e : Refusal) → AllByRecursion IsOneLine (refusal_words e)
 refusal_lines (refusal.Query place) = (decimal_one_line 24, (decimal_one_line place, tt))
 refusal_lines e = (decimal_one_line (number_of e), tt)
 
--- a literal
+-- a literal without a byte
+without : (c : ℕ) (t : Text) → not (c == c) ≡ false → list_all (λ b. not (b == c)) t ≡ true → AllByRecursion (λ b. b ≢ c) t
+without c [] same h = tt
+without c (b ∷ t) same h =
+    let parts = and_parts (not (b == c)) (list_all (λ b. not (b == c)) t) h in
+    (λ e. true≢false (sym parts.0 ∙ ap (λ d. not (d == c)) e ∙ same), without c t same parts.1)
+
 pub literal : (t : Text) → list_all (λ b. not (b == 10)) t ≡ true → IsOneLine t
-literal [] h = tt
-literal (b ∷ t) h =
-    let parts = and_parts (not (b == 10)) (list_all (λ b. not (b == 10)) t) h in
-    (λ e. true≢false (sym parts.0 ∙ ap (λ c. not (c == 10)) e), literal t parts.1)
+literal t h = without 10 t refl h
+
+pub literal_word : (t : Text) → list_all (λ b. not (b == 32)) t ≡ true → IsOneWord t
+literal_word t h = without 32 t refl h
 
 news_lines : (n : News) → AllByRecursion IsOneLine (news_words n)
 news_lines News.idle = (literal (codes "idle") refl, tt)

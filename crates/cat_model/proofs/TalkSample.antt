@@ -7,7 +7,7 @@ use Rattle.cat_model.specs.Page.{Sort}
 use Rattle.cat_model.specs.Lines.{Said, reply_text}
 use Rattle.cat_model.specs.Answer.{Found}
 use Rattle.cat_model.specs.Run.{Answer, Reply}
-use Rattle.cat_model.specs.Talk.{Pair, IsReply, granted, ShowsHold}
+use Rattle.cat_model.specs.Talk.{Pair, IsReply, granted, AsksToWrite, ShowsHold}
 use Rattle.cat_model.specs.TalkSample.{said_before, SampleIsJudged}
 use Rattle.cat_model.proofs.TalkLines.{literal, is_reply}
 
@@ -60,8 +60,8 @@ pub sample : SampleIsJudged
 unfolding digits shown
 sample = record {
   replies = (numbered 1 1, (numbered 1 1, (numbered 7 1, (numbered 8 1, (numbered 1 2, (numbered 8 1, (is_reply 7 (shown (codes "a")) ((literal (codes "a") refl, tt), tt), tt)))))));
-  put = record { session = 1; argument = codes "{\"id\":\"a\"}"; command = inl refl; stands = (0, omega arith, refl) };
-  deleted = record { session = 1; argument = codes "a"; command = inr refl; stands = (4, omega arith, refl) };
+  put = record { session = 1; argument = codes "{\"id\":\"a\"}"; command = AsksToWrite.put refl; stands = (0, omega arith, refl) };
+  deleted = record { session = 1; argument = codes "a"; command = AsksToWrite.delete refl; stands = (4, omega arith, refl) };
   read = record { said = Said.find 1 10 Sort.added None (codes "*:*"); spells = record { form = (omega arith, omega arith, tt, tt); spelled = refl }; under = refl };
   asked = record {
     small = omega arith;

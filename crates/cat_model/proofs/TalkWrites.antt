@@ -13,10 +13,13 @@ use Rattle.cat_model.specs.Write.{Write}
 use Rattle.cat_model.specs.Table.{Opened}
 use Rattle.cat_model.specs.Lines.{Said, spaced, spelling, line_text, reply_text}
 use Rattle.cat_model.specs.Run.{Command, Reply, Exchange, Run, accepted, accepted_by, writes, now, Fits, FitsFrom}
-use Rattle.cat_model.specs.Heard.{Json, Hears, IsCommand}
+use Rattle.cat_model.specs.Query.{Query}
+use Rattle.cat_model.specs.Grammar.{Spells}
+use Rattle.cat_model.specs.Heard.{Json, Hears, IsCommand, IsQueryOf}
 use Rattle.cat_model.specs.Served.{Outcome, heard, exchange, outcome_text}
-use Rattle.cat_model.specs.Talk.{granted, IsWrite}
+use Rattle.cat_model.specs.Talk.{granted, AsksToWrite, IsWrite}
 use Rattle.cat_model.proofs.Runs.{writes-push}
+use Rattle.cat_model.proofs.QueryLaws.{one_query}
 use Rattle.cat_model.proofs.TalkHeard.{Entry, pair, run_of, Heeded, heard_line}
 use Rattle.cat_model.proofs.TalkHolds.{IsNext, accepted_fits}
 
@@ -24,6 +27,7 @@ use Rattle.cat_model.proofs.TalkHolds.{IsNext, accepted_fits}
 pub data Makes (json : Json) (schema : Schema) (text : Text) (w : Write) : Type 0 where
   put_it : (argument : Text) (i : Item) → text ≡ codes "PUT " ++ argument → json.item_of schema argument ≡ Ok i → w ≡ Write.put i → Makes json schema text w
   delete_it : (argument : Text) → text ≡ codes "DEL " ++ argument → w ≡ Write.delete argument → Makes json schema text w
+  delete_where_it : (argument : Text) (q : Query) → text ≡ codes "DELW " ++ argument → Spells schema argument q → w ≡ Write.delete_where q → Makes json schema text w
 
 pub makes_one : (json : Json) (schema : Schema) (text : Text) (w v : Write) → Makes json schema text w → Makes json schema text v → w ≡ v
 makes_one json schema text w v (Makes.put_it a i e k is) (Makes.put_it b j f l it) =
@@ -34,24 +38,36 @@ makes_one json schema text w v (Makes.put_it a i e k is) (Makes.put_it b j f l i
     ok_value : ◌≡◌ {A = Result Item Refusal} (Ok i) (Ok j) → i ≡ j
     ok_value q = cc q
 makes_one json schema text w v (Makes.delete_it a e is) (Makes.delete_it b f it) = let same : a ≡ b = cc (sym e ∙ f) in is ∙ ap Write.delete same ∙ sym it
+makes_one json schema text w v (Makes.delete_where_it a q e k is) (Makes.delete_where_it b r f l it) =
+    let same : b ≡ a = cc (sym f ∙ e) in
+    is ∙ ap Write.delete_where (one_query schema a q r k (subst (λ t. Spells schema t r) same l)) ∙ sym it
+makes_one json schema text w v (Makes.put_it a i e k is) (Makes.delete_where_it b r f l it) = absurd (omega (arith, ap (λ t. get_or t 0 0) (sym e ∙ f)))
+makes_one json schema text w v (Makes.delete_where_it a q e k is) (Makes.put_it b j f l it) = absurd (omega (arith, ap (λ t. get_or t 0 0) (sym e ∙ f)))
+makes_one json schema text w v (Makes.delete_it a e is) (Makes.delete_where_it b r f l it) = absurd (omega (arith, ap (λ t. get_or t 3 0) (sym e ∙ f)))
+makes_one json schema text w v (Makes.delete_where_it a q e k is) (Makes.delete_it b f it) = absurd (omega (arith, ap (λ t. get_or t 3 0) (sym e ∙ f)))
 makes_one json schema text w v (Makes.put_it a i e k is) (Makes.delete_it b f it) = absurd (omega (arith, ap (λ t. get_or t 0 0) (sym e ∙ f)))
 makes_one json schema text w v (Makes.delete_it a e is) (Makes.put_it b j f l it) = absurd (omega (arith, ap (λ t. get_or t 0 0) (sym e ∙ f)))
 
 -- a text that asks for a write
 pub record Asks (json : Json) (schema : Schema) (text : Text) (w : Write) : Type 0 where
   pub argument : Text
-  pub command : (text ≡ codes "PUT " ++ argument) ⊎ (text ≡ codes "DEL " ++ argument)
+  pub command : AsksToWrite text argument
   pub makes : Makes json schema text w
 
 put_made : (json : Json) (schema : Schema) (text : Text) (r : Result Item Refusal) (reply : Reply) (w : Write) → json.item_of schema text ≡ r → accepted_by (Command.put r) reply ≡ Some w → Asks json schema (codes "PUT " ++ text) w
-put_made json schema text (Ok i) (Ok a) w is e = record { argument = text; command = inl refl; makes = Makes.put_it text i refl is (cc e) }
+put_made json schema text (Ok i) (Ok a) w is e = record { argument = text; command = AsksToWrite.put refl; makes = Makes.put_it text i refl is (cc e) }
 put_made json schema text (Ok i) (Err b) w is e = absurd (cc e)
 put_made json schema text (Err b) r w is e = absurd (cc e)
 
 delete_made : (json : Json) (schema : Schema) (text : Text) (b : Bool) (reply : Reply) (w : Write) → accepted_by (Command.delete (cond b (Ok text) (Err Id))) reply ≡ Some w → Asks json schema (codes "DEL " ++ text) w
-delete_made json schema text true (Ok a) w e = record { argument = text; command = inr refl; makes = Makes.delete_it text refl (cc e) }
+delete_made json schema text true (Ok a) w e = record { argument = text; command = AsksToWrite.delete refl; makes = Makes.delete_it text refl (cc e) }
 delete_made json schema text true (Err b) w e = absurd (cc e)
 delete_made json schema text false r w e = absurd (cc e)
+
+query_made : (json : Json) (schema : Schema) (text : Text) (r : Result Query Refusal) (reply : Reply) (w : Write) → IsQueryOf schema text r → accepted_by (Command.delete_where r) reply ≡ Some w → Asks json schema (codes "DELW " ++ text) w
+query_made json schema text _ (Ok a) w (IsQueryOf.spelled q k) e = record { argument = text; command = AsksToWrite.delete_where refl; makes = Makes.delete_where_it text q refl k (cc e) }
+query_made json schema text _ (Err b) w (IsQueryOf.spelled q k) e = absurd (cc e)
+query_made json schema text _ r w (IsQueryOf.faulty place k) e = absurd (cc e)
 
 nothing_made : (c d : Command) (r : Reply) (w : Write) → c ≡ d → accepted_by d r ≡ None → accepted_by c r ≡ Some w → ⊥
 nothing_made c d r w e none some = absurd (let k : ◌≡◌ {A = Option Write} None (Some w) = sym none ∙ ap (λ x. accepted_by x r) (sym e) ∙ some in cc k)
@@ -59,11 +75,22 @@ nothing_made c d r w e none some = absurd (let k : ◌≡◌ {A = Option Write} 
 pub asks : (json : Json) (schema : Schema) (said : Said) (c : Command) (r : Reply) (w : Write) → IsCommand json schema said c → accepted_by c r ≡ Some w → Asks json schema (spaced (spelling said)) w
 asks json schema (Said.put text) c r w is e = put_made json schema text (json.item_of schema text) r w refl (ap (λ x. accepted_by x r) (sym is) ∙ e)
 asks json schema (Said.delete text) c r w is e = delete_made json schema text (is_id text) r w (ap (λ x. accepted_by x r) (sym is) ∙ e)
+asks json schema (Said.delete_where text) c r w is e = query_made json schema text is.0 r w is.1 (ap (λ x. accepted_by x r) (sym is.2) ∙ e)
 asks json schema Said.refresh c r w is e = absurd (nothing_made c Command.refresh r w is refl e)
 asks json schema Said.open_newest c r w is e = absurd (nothing_made c Command.open_newest r w is refl e)
 asks json schema (Said.open_at t) c r w is e = absurd (nothing_made c (Command.open_at t) r w is refl e)
 asks json schema (Said.close t) c r w is e = absurd (nothing_made c (Command.close t) r w is refl e)
 asks json schema (Said.find t n sort mark text) c r w is e = absurd (nothing_made c _ r w is.2 refl e)
+asks json schema (Said.facets t dim n text) c r w is e = absurd (nothing_made c _ r w is.2 refl e)
+asks json schema (Said.get t text) c r w is e = absurd (nothing_made c _ r w is refl e)
+asks json schema (Said.files_of_token t) c r w is e = absurd (nothing_made c (Command.files_of_token t) r w is refl e)
+asks json schema (Said.files_of_commit g) c r w is e = absurd (nothing_made c (Command.files_of_commit g) r w is refl e)
+asks json schema (Said.commit text) c r w is e = absurd (nothing_made c _ r w is refl e)
+asks json schema (Said.text_of_commit g) c r w is e = absurd (nothing_made c (Command.text_of_commit g) r w is refl e)
+asks json schema Said.snapshot c r w is e = absurd (nothing_made c Command.snapshot r w is refl e)
+asks json schema (Said.release_snapshot g) c r w is e = absurd (nothing_made c (Command.release_snapshot g) r w is refl e)
+asks json schema (Said.prune n) c r w is e = absurd (nothing_made c (Command.prune n) r w is refl e)
+asks json schema (Said.chore what) c r w is e = absurd (nothing_made c (Command.chore what) r w is refl e)
 
 -- a write of the run stands in the talk
 pub record Stands (json : Json) (schema : Schema) (es : List Entry) (n : ℕ) (w : Write) : Type 0 where

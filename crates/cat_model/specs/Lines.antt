@@ -1,5 +1,5 @@
 -- What a line says and the one way to spell it, and the text of a reply. The protocol is our own.
-use Rattle.std.specs.Prelude.{◌≡◌, ℕ, ◌<◌, ◌≤◌, ◌^◌, ◌⊎◌, List, [], ◌∷◌, ◌++◌, codes, map, length, IsUtf8, IsTrue, Option, None, Some, Ok, Err}
+use Rattle.std.specs.Prelude.{◌≡◌, ℕ, ◌<◌, ◌≤◌, ◌^◌, ◌⊎◌, List, [], ◌∷◌, ◌++◌, codes, map, length, IsUtf8, IsTrue, Bool, true, false, Option, None, Some, Ok, Err}
 use Rattle.std.specs.List.{flat_map}
 use Rattle.std.specs.Fmt.{decimal, signed_decimal}
 use Rattle.cat_base.specs.declared.refusal.Refusal.{Refusal}
@@ -10,20 +10,44 @@ use Rattle.cat_model.specs.Item.{has_name_form}
 use Rattle.cat_model.specs.Page.{Sort, Key, Entry}
 use Rattle.cat_model.specs.Facets.{Counted}
 use Rattle.cat_model.specs.Answer.{Found}
-use Rattle.cat_model.specs.Run.{Answer, News, SegmentStat, Reply}
+use Rattle.cat_model.specs.Run.{Chore, Answer, News, SegmentStat, Reply}
 use Rattle.cat_model.specs.Limits.{line_limit, session_limit}
 
 -- ---- lines
 
--- A command with its arguments as they came: no item, id or query has been looked at. The protocol is our own.
+-- A command with its arguments as they came: no item, id, query or text of a commit has been looked at. The protocol is
+-- our own.
 pub data Said : Type 0 where
   put : (item : Text) → Said
   delete : (id : Text) → Said
+  delete_where : (query : Text) → Said
   refresh : Said
   open_newest : Said
   open_at : (token : ℕ) → Said
   close : (token : ℕ) → Said
   find : (token n : ℕ) (sort : Sort) (mark : Option ℕ) (query : Text) → Said
+  facets : (token : ℕ) (dim : Text) (n : ℕ) (query : Text) → Said
+  get : (token : ℕ) (id : Text) → Said
+  files_of_token : (token : ℕ) → Said
+  files_of_commit : (generation : ℕ) → Said
+  commit : (text : Text) → Said
+  text_of_commit : (generation : ℕ) → Said
+  snapshot : Said
+  release_snapshot : (generation : ℕ) → Said
+  prune : (n : ℕ) → Said
+  chore : Chore → Said
+
+-- What is answered today. A line that says anything else is answered as one without a form, until the service can do it:
+-- then it goes here, and with the last one this definition and its use in `SpellsServed` of Heard.antt.
+abbrev pub is_served : Said → Bool
+is_served (Said.put item) = true
+is_served (Said.delete id) = true
+is_served Said.refresh = true
+is_served Said.open_newest = true
+is_served (Said.open_at t) = true
+is_served (Said.close t) = true
+is_served (Said.find t n sort mark query) = true
+is_served _ = false
 
 -- the texts with one space between each two
 abbrev pub spaced : List Text → Text
@@ -42,15 +66,40 @@ abbrev pub mark_text : Option ℕ → Text
 mark_text None = codes "."
 mark_text (Some n) = decimal n
 
--- the name of the command and its arguments, each spelled
+-- the text of a commit, if there is any: the empty one is given by a COMMIT alone
+abbrev pub commit_words : Text → List Text
+commit_words [] = []
+commit_words (b ∷ text) = (b ∷ text) ∷ []
+
+-- the name of the maintenance
+abbrev pub chore_name : Chore → Text
+chore_name Chore.merge = codes "MERGE"
+chore_name Chore.force = codes "FORCE"
+chore_name Chore.warm = codes "WARM"
+chore_name Chore.sweep = codes "SWEEP"
+chore_name Chore.stat = codes "STAT"
+
+-- The name of the command and its arguments, each spelled. The last one is the rest of the line, whatever it is: an item, an
+-- id, a query or the text of a commit.
 abbrev pub spelling : Said → List Text
 spelling (Said.put item) = codes "PUT" ∷ item ∷ []
 spelling (Said.delete id) = codes "DEL" ∷ id ∷ []
+spelling (Said.delete_where query) = codes "DELW" ∷ query ∷ []
 spelling Said.refresh = codes "REFRESH" ∷ []
 spelling Said.open_newest = codes "OPEN" ∷ []
 spelling (Said.open_at t) = codes "OPEN" ∷ decimal t ∷ []
 spelling (Said.close t) = codes "CLOSE" ∷ decimal t ∷ []
 spelling (Said.find t n sort mark query) = codes "FIND" ∷ decimal t ∷ decimal n ∷ sort_text sort ∷ mark_text mark ∷ query ∷ []
+spelling (Said.facets t dim n query) = codes "FACETS" ∷ decimal t ∷ dim ∷ decimal n ∷ query ∷ []
+spelling (Said.get t id) = codes "GET" ∷ decimal t ∷ id ∷ []
+spelling (Said.files_of_token t) = codes "FILES" ∷ codes "t" ∷ decimal t ∷ []
+spelling (Said.files_of_commit g) = codes "FILES" ∷ codes "g" ∷ decimal g ∷ []
+spelling (Said.commit text) = codes "COMMIT" ∷ commit_words text
+spelling (Said.text_of_commit g) = codes "NOTE" ∷ decimal g ∷ []
+spelling Said.snapshot = codes "SNAP" ∷ []
+spelling (Said.release_snapshot g) = codes "UNSNAP" ∷ decimal g ∷ []
+spelling (Said.prune n) = codes "PRUNE" ∷ decimal n ∷ []
+spelling (Said.chore c) = chore_name c ∷ []
 
 -- a number that may be said: at most `last_number`
 abbrev pub IsNumber : ℕ → Type 0
@@ -72,6 +121,13 @@ abbrev pub HasForm : Said → Type 0
 HasForm (Said.open_at t) = IsNumber t
 HasForm (Said.close t) = IsNumber t
 HasForm (Said.find t n sort mark query) = IsNumber t × IsNumber n × IsSort sort × IsMark mark
+HasForm (Said.facets t dim n query) = IsNumber t × IsTrue (has_name_form dim) × IsNumber n
+HasForm (Said.get t id) = IsNumber t
+HasForm (Said.files_of_token t) = IsNumber t
+HasForm (Said.files_of_commit g) = IsNumber g
+HasForm (Said.text_of_commit g) = IsNumber g
+HasForm (Said.release_snapshot g) = IsNumber g
+HasForm (Said.prune n) = IsNumber n
 HasForm _ = Unit {0}
 
 -- the text, behind the session and its space, spells what is said

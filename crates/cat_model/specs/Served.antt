@@ -1,6 +1,6 @@
 -- What serving an input says and reads. The rules are our own.
-use Rattle.std.specs.Prelude.{◌≡◌, ℕ, ◌≤◌, ◌⊎◌, List, [], ◌∷◌, ◌++◌, codes, filter_map, Option, None, Some, Result, Ok, Err}
-use Rattle.std.specs.List.{flat_map}
+use Rattle.std.specs.Prelude.{◌≡◌, ℕ, ◌≤◌, ◌⊎◌, List, [], ◌∷◌, ◌++◌, codes, map, filter_map, Option, None, Some, Result, Ok, Err}
+use Rattle.std.specs.List.{flat_map, AllByRecursion}
 use Rattle.std.specs.Fmt.{decimal}
 use Rattle.std.specs.Io.KnownBytes.{Appends, Consumes, IsAtEnd}
 use Rattle.cat_base.specs.declared.refusal.Refusal.{Refusal}
@@ -9,7 +9,8 @@ use Rattle.cat_model.specs.Text.{Text}
 use Rattle.cat_model.specs.Item.{Schema}
 use Rattle.cat_model.specs.Table.{Opened}
 use Rattle.cat_model.specs.Limits.{least_factor, greatest_factor, least_minimum, greatest_minimum}
-use Rattle.cat_model.specs.Run.{Exchange, IsRun}
+use Rattle.cat_model.specs.Files.{Name, IsFileName, text_of_name}
+use Rattle.cat_model.specs.Run.{Answer, Reply, Exchange, IsRun}
 use Rattle.cat_model.specs.Lines.{spaced, IsReadable, reply_text, refusal_words, line_text, unreadable_text}
 use Rattle.cat_model.specs.Heard.{Json, Heard, Hears}
 use Rattle.cat_model.specs.Input.{ended_lines, lines_of, HaveCome}
@@ -65,6 +66,16 @@ abbrev pub outcome_text : Outcome → Text
 outcome_text Outcome.unreadable = unreadable_text
 outcome_text (Outcome.replied e) = reply_text e.line.session e.reply
 
+-- The names that are told are those of files. Which files a FILES has to tell is said where files are.
+abbrev pub NamesFiles : Reply → Type 0
+NamesFiles (Ok (Answer.names texts)) = (names : List Name) × AllByRecursion IsFileName names × (texts ≡ map text_of_name names)
+NamesFiles _ = Unit {0}
+
+-- and so it is with what was told to a line
+abbrev pub TellsFiles : Outcome → Type 0
+TellsFiles Outcome.unreadable = Unit {0}
+TellsFiles (Outcome.replied e) = NamesFiles e.reply
+
 -- each line was heard so, in order
 abbrev pub HeardAll : Json → Schema → List Text → List Outcome → Type 0
 HeardAll json schema [] [] = Unit {0}
@@ -72,13 +83,15 @@ HeardAll json schema (line ∷ lines) (told ∷ tolds) = Hears json schema line 
 HeardAll json schema [] (told ∷ tolds) = ⊥
 HeardAll json schema (line ∷ lines) [] = ⊥
 
--- The text answers the schema line and the lines behind it: a run from the start, with the replies to unreadable lines between.
+-- The text answers the schema line and the lines behind it: a run from the start, in which the names of files alone are told
+-- as names, with the replies to unreadable lines between.
 pub record IsServed (json : Json) (opens : Opening) (first : Text) (lines : List Text) (text : Text) : Type 0 where
   pub from : Opened
   pub begins : Begins json opens first (Ok from)
   pub tolds : List Outcome
   pub heard_all : HeardAll json from.start.schema lines tolds
   pub is_run : IsRun from (filter_map exchange tolds)
+  pub files : AllByRecursion TellsFiles tolds
   pub whole : text ≡ line_text (codes "OK" ∷ decimal from.start.token ∷ []) ++ flat_map outcome_text tolds
 
 -- The text answers the lines, the first of which is the schema's. Where none has come, nothing is said.

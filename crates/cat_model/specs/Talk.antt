@@ -1,11 +1,11 @@
 -- The law of held reads over bytes: what a user can check by eye in what was read and what was written. Nothing to believe
 -- of the service: the two laws are proved. The rules are our own.
-use Rattle.std.specs.Prelude.{◌≡◌, ◌≢◌, ℕ, ◌≤◌, ◌⊎◌, List, [], ◌∷◌, ◌++◌, codes, map, Contains, Some, None, Ok, Err}
+use Rattle.std.specs.Prelude.{◌≡◌, ◌≢◌, ℕ, ◌≤◌, ◌⊎◌, List, [], ◌∷◌, ◌++◌, codes, map, Contains, Option, Some, None, Ok, Err}
 use Rattle.std.specs.List.{flat_map, AllByRecursion}
 use Rattle.std.specs.Fmt.{decimal}
 use Rattle.cat_model.specs.Text.{Text}
 use Rattle.cat_model.specs.Item.{Schema, IsSchema, Content, Item}
-use Rattle.cat_model.specs.Table.{Start, Opened}
+use Rattle.cat_model.specs.Table.{Start, Opened, CommitText}
 use Rattle.cat_model.specs.Limits.{last_number, session_limit}
 use Rattle.cat_model.specs.Lines.{Said, SpellsSaid, line_text, unreadable_text}
 use Rattle.cat_model.specs.Heard.{Json}
@@ -71,11 +71,17 @@ pub record Talked (json : Json) (opens : Opening) (talk : List Pair) : Type 0 wh
 abbrev pub granted : ℕ → Text → ℕ → Pair
 granted s text n = record { line = decimal s ++ 32 ∷ text; reply = line_text (decimal s ∷ codes "OK" ∷ decimal n ∷ []) }
 
--- some session's PUT or DEL of this text was answered OK n
+-- the text is a write's, with this argument
+pub data AsksToWrite (text argument : Text) : Type 0 where
+  put : text ≡ codes "PUT " ++ argument → AsksToWrite text argument
+  delete : text ≡ codes "DEL " ++ argument → AsksToWrite text argument
+  delete_where : text ≡ codes "DELW " ++ argument → AsksToWrite text argument
+
+-- some session's PUT, DEL or DELW of this text was answered OK n
 pub record IsWrite (talk : List Pair) (n : ℕ) (text : Text) : Type 0 where
   pub session : ℕ
   pub argument : Text
-  pub command : (text ≡ codes "PUT " ++ argument) ⊎ (text ≡ codes "DEL " ++ argument)
+  pub command : AsksToWrite text argument
   pub stands : Contains talk (granted session text n)
 
 -- up to t, the writes of one number have one text
@@ -91,9 +97,11 @@ pub record ShowsHold (past : List Pair) (s t : ℕ) : Type 0 where
   pub split : past ≡ before ++ granted s text t ∷ since
   pub kept : Contains since (granted s (codes "CLOSE " ++ decimal t) t) → ⊥
 
--- what is said is a read under t
+-- what is said is a read under t: a FIND, a FACETS or a GET
 abbrev pub ReadsUnder : ℕ → Said → Type 0
 ReadsUnder t (Said.find u n sort mark query) = u ≡ t
+ReadsUnder t (Said.facets u dim n query) = u ≡ t
+ReadsUnder t (Said.get u id) = u ≡ t
 ReadsUnder t _ = ⊥
 
 -- the text is a read under t
@@ -175,6 +183,16 @@ pub record IsShownStart (start : Start) : Type 0 where
   pub token : start.token ≤ last_number
   pub records : AllByRecursion (λ r. IsShownInLines r.item) start.records
 
+-- the text of the commit has no line feed, where there is one
+abbrev pub HasShownText : Option CommitText → Type 0
+HasShownText None = Unit {0}
+HasShownText (Some c) = IsOneLine c.text
+
+-- what is shown of what was opened is shown in lines: the records, and the text of the commit
+pub record IsShownOpened (from : Opened) : Type 0 where
+  pub start : IsShownStart from.start
+  pub commit : HasShownText from.commit
+
 -- ---- whatever is opened
 
 -- what opening gives where this is there to be opened: the newest commit of a directory, or nothing
@@ -185,10 +203,10 @@ OpensAs from schema (Err e) = Unit {0}
 -- The first law for a service that is opened so.
 abbrev pub AnswersOfAnyStartAreTalks : Type 0
 AnswersOfAnyStartAreTalks =
-    (json : Json) (from : Opened) → ReadsLines json → IsShownStart from.start → AnswersAreTalks json (OpensAs from)
+    (json : Json) (from : Opened) → ReadsLines json → IsShownOpened from → AnswersAreTalks json (OpensAs from)
 
 -- The second for two services that are opened with one start; their opened commits may differ.
 abbrev pub TalksOfOneStartAgree : Type 0
 TalksOfOneStartAgree =
-    (json : Json) (from₁ from₂ : Opened) → ReadsLines json → IsShownStart from₁.start → from₁.start ≡ from₂.start
+    (json : Json) (from₁ from₂ : Opened) → ReadsLines json → IsShownOpened from₁ → IsShownOpened from₂ → from₁.start ≡ from₂.start
     → TalksAgree json (OpensAs from₁) (OpensAs from₂) (λ first₁ first₂. Unit {0})

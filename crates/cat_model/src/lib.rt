@@ -107,8 +107,8 @@ pub fn inputs_are_heard_one_way()
 {}
 
 /// What answers lines is one talk: the lines that were read, each with its reply. The output is cut before
-/// each line whose second word is OK or NO, and no text of an item can make it look otherwise. It asks
-/// that no item is read with a line feed, and none stands in what was opened.
+/// each line whose second word is OK or NO, and no text of an item or of a commit and no name of a file can
+/// make it look otherwise. It asks that no item is read with a line feed, and none stands in what was opened.
 ///
 /// The protocol is our own.
 pub fn answers_are_talks()
@@ -116,8 +116,8 @@ pub fn answers_are_talks()
 {}
 
 /// Over bytes alone: two services that open one table, and what was read and written by each. Where the
-/// writes that were answered a number up to t have the same text in both, a read under t has the same
-/// reply in both, for sessions that hold t, whatever else was said.
+/// writes that were answered a number up to t have the same text in both, a read under t, be it a FIND, a
+/// FACETS or a GET, has the same reply in both, for sessions that hold t, whatever else was said.
 ///
 /// Lucene promises it of one searcher; that it holds between two runs is our own claim.
 pub fn talks_agree()

@@ -1,6 +1,6 @@
 -- What a FIND is answered, from the page of its records.
 use Rattle.std.proofs.Common.{◌≡◌, ℕ, Bool, true, false, cond, List, [], ◌∷◌, map, ltb, refl, sym, ap, subst, ◌∙◌, inl, inr}
-use Rattle.std.specs.Prelude.{◌⊎◌, ◌≢◌, Option, Some, None, Result, Ok, Err, IfOk, IfErr}
+use Rattle.std.specs.Prelude.{◌≢◌, Option, Some, None, Result, Ok, Err, IfOk, IfErr}
 use Rattle.cat_base.specs.declared.refusal.Refusal.{Refusal}
 use Rattle.cat_base.specs.declared.refusal.Refusal.TheVariants.{Count, Mark, SortField, Memory, NotHeld, Query as NoQuery}
 use Rattle.cat_model.specs.Text.{Text}
@@ -19,10 +19,17 @@ use Rattle.cat_query.specs.View.{query_of}
 use Rattle.cat_query.specs.declared.query.Query as code
 use Rattle.cat_search.specs.Pages.{answer_where, as_found, page_where}
 use Rattle.cat_search.proofs.Finds.{pages_answer_finds}
+use Rattle.cat_search.specs.Sorts.{sort_of}
 use Rattle.cat_protocol.specs.Exchange.{DoesFind, IsReadQuery, TellsFound, find_of, page_reply, refusal_told}
 use Rattle.cat_protocol.specs.World.{Service}
 use Rattle.cat_search.specs.declared.ask.Ask.{Ask}
 use Rattle.cat_protocol.proofs.Openings.{is_memory}
+
+-- ---- what is asked
+
+-- what a line asks, asked of a page
+pub asks_so : (ask : Ask) (n : ℕ) (sort : Sort) (mark : Option ℕ) (q : Result Query Refusal) → ask.count ≡ n → sort_of ask.sort ≡ sort → ask.after ≡ mark → find_of ask q ≡ Read.find n sort mark q
+asks_so ask n sort mark q count by_sort after = λ i. Read.find (count i) (by_sort i) (after i) q
 
 -- ---- the answer to a FIND over records
 

@@ -3,11 +3,10 @@ pub mod Bridge
 pub mod Cuts
 pub mod Finds
 pub mod ModelRuns
+pub mod Named
 pub mod Openings
 pub mod Rising
 pub mod Sound
 pub mod Steps
 pub mod Tokens
-pub mod WordsSpelled
-pub mod WordsSplit
 pub mod Written

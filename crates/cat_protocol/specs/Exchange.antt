@@ -15,20 +15,20 @@ use Rattle.cat_query.specs.View.{query_of}
 use Rattle.cat_query.specs.declared.query.Query as code
 use Rattle.cat_search.specs.declared.ask.Ask.{Ask}
 use Rattle.cat_search.specs.Sorts.{sort_of}
-use Rattle.cat_protocol.specs.declared.line.Line.{Line}
+use Rattle.cat_lines.specs.declared.line.Line.{Line}
 use Rattle.cat_protocol.specs.declared.reply.Reply.{Reply}
-use Rattle.cat_protocol.specs.Line.{said_of}
+use Rattle.cat_protocol.specs.Line.{served_of}
 use Rattle.cat_protocol.specs.Reply.{reply_of}
 use Rattle.cat_protocol.specs.World.{Service, IsCommandOf, Does}
 
 -- From old, a service in memory may give this reply to the line and go on to new.
 abbrev pub DoesLine : Schema → State → Line → run.Reply → State → Type 0
-DoesLine schema old line r new = (c : run.Command) × IsCommandOf schema (said_of line.command) c × Does schema old line.session c r new
+DoesLine schema old line r new = (c : run.Command) × IsCommandOf schema (served_of line.command) c × Does schema old line.session c r new
 
 -- the exchange is of this line, with its item, id or query looked at under the schema, and of this reply
 pub record IsExchangeOf (schema : Schema) (line : Line) (answered : Reply) (e : run.Exchange) : Type 0 where
   pub session : e.line.session ≡ line.session
-  pub command : IsCommandOf schema (said_of line.command) e.line.command
+  pub command : IsCommandOf schema (served_of line.command) e.line.command
   pub reply : e.reply ≡ reply_of answered.answer
 
 -- the run is of these lines with their replies, in turn

@@ -1,5 +1,4 @@
 pub mod Line
-pub mod Words
 pub mod Reply
 pub mod Out
 pub mod Machine

@@ -1,10 +1,9 @@
-//! Lines and replies, and the world of sessions that answers them.
+//! The world of sessions that answers lines, its replies, and serving.
 #![tactic(auto)]
 
 mod finding;
 mod holds;
 mod input;
-mod line;
 mod machine;
 mod output;
 mod record;
@@ -12,10 +11,8 @@ mod recorded;
 mod reply;
 mod serving;
 mod tables;
-mod words;
 mod world;
 
-pub use line::{Command, Line};
 pub use machine::serve;
 pub use reply::{Answer, Reply};
 pub use serving::ServeFault;

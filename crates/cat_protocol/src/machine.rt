@@ -7,11 +7,11 @@ ghost use Rattle.cat_schema.specs.Reading.{json};
 ghost use Rattle.cat_protocol.specs.Serving.{ended_as};
 ghost use Rattle.cat_protocol.specs.World.{OpensWorld};
 
-use crate::line::{Line, schema_line};
 use crate::output::{WriteFault, send_reply, send_unreadable};
 use crate::serving::{Machine, ServeFault, serve_machine};
 use crate::world::World;
 use cat_base::{MAX_LINE_BYTES, Refusal};
+use cat_lines::{Line, SchemaLine};
 use cat_schema::Schema;
 use std::alloc::Global;
 use std::io::{Read, Write};
@@ -44,7 +44,7 @@ impl World {
         if MAX_LINE_BYTES < line.len() {
             return Err(Refusal::Line);
         }
-        let Some(found) = schema_line(line) else {
+        let Some(found) = SchemaLine::read(line) else {
             return Err(Refusal::Line);
         };
         let schema = Schema::read(alloc, found.json.as_bytes())?;

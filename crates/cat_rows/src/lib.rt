@@ -12,8 +12,6 @@ mod rows_find;
 #[cfg(test)]
 mod rows_held;
 #[cfg(test)]
-mod rows_lines;
-#[cfg(test)]
 mod rows_memory;
 #[cfg(test)]
 mod rows_opening;

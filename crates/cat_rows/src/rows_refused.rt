@@ -95,6 +95,34 @@ fn lines_without_a_form_are_refused(rt: HostRuntime) -> Result<(), Fail> {
     expect_rows(&rt, rt.alloc(), ROWS)
 }
 
+/// Commands that are read and not served yet are answered as lines without a form, whoever says them and whatever is held.
+#[test]
+fn lines_that_are_not_served_are_refused(rt: HostRuntime) -> Result<(), Fail> {
+    const ROWS: Rows<'static> = &[
+        ("1 PUT {\"id\":\"a\",\"color\":[\"red\"]}", "1 OK 1"),
+        ("1 REFRESH", "1 OK 1"),
+        ("1 OPEN", "1 OK 1"),
+        ("1 DELW *:*", "1 NO 10"),
+        ("1 FACETS 1 color 9 *:*", "1 NO 10"),
+        ("1 GET 1 a", "1 NO 10"),
+        ("1 FILES t 1", "1 NO 10"),
+        ("1 FILES g 1", "1 NO 10"),
+        ("1 COMMIT", "1 NO 10"),
+        ("1 COMMIT spring", "1 NO 10"),
+        ("1 NOTE 1", "1 NO 10"),
+        ("1 SNAP", "1 NO 10"),
+        ("1 UNSNAP 1", "1 NO 10"),
+        ("1 PRUNE 0", "1 NO 10"),
+        ("0 MERGE", "0 NO 10"),
+        ("0 FORCE", "0 NO 10"),
+        ("0 WARM", "0 NO 10"),
+        ("0 SWEEP", "0 NO 10"),
+        ("0 STAT", "0 NO 10"),
+        ("1 FIND 1 9 . . *:*", "1 OK 1 1\n1 1 a ."),
+    ];
+    expect_rows(&rt, rt.alloc(), ROWS)
+}
+
 #[test]
 fn a_find_tells_a_query_before_a_token_before_a_count(rt: HostRuntime) -> Result<(), Fail> {
     const ROWS: Rows<'static> = &[

@@ -1,6 +1,7 @@
 //! Lines that are read and stepped through without an input.
 use crate::script::{Rows, SHOP};
-use cat_protocol::{Line, Reply, World};
+use cat_lines::Line;
+use cat_protocol::{Reply, World};
 use std::alloc::Global;
 use std::process::Abort;
 use std::str::from_utf8;

@@ -15,7 +15,7 @@ use Rattle.cat_model.specs.Text.{Text}
 use Rattle.cat_model.specs.Item.{Field, Kind, Schema, IsSchema, Item, is_id}
 use Rattle.cat_model.specs.Forms.{is_plain_byte}
 use Rattle.cat_model.specs.Served.{OpensEmpty, Begins}
-use Rattle.cat_model.specs.Talk.{IsOneLine, HasOneLines, IsShownInLines, ReadsLines, IsShownStart}
+use Rattle.cat_model.specs.Talk.{IsOneLine, HasOneLines, IsShownInLines, ReadsLines, IsShownOpened}
 use Rattle.cat_model.proofs.TalkOpenings.{OpensShown, OpenAlike}
 use Rattle.cat_model.proofs.Lists.{All-weaken}
 use Rattle.cat_model.proofs.TalkWhole.{answers_are_talks}
@@ -112,7 +112,7 @@ reads_lines fs bytes i ok one is = from_small fs bytes ok one _ i is
 
 pub opens_shown : OpensShown json OpensEmpty
 opens_shown first from (Begins.opened f l text schema r readable a is opens) =
-    subst (λ o. IsShownStart o.start) (sym opens) (record { schema = rules_kept text schema is; token = omega arith; records = tt })
+    subst IsShownOpened (sym opens) (record { start = record { schema = rules_kept text schema is; token = omega arith; records = tt }; commit = tt })
 
 pub answers_one_talk : EveryAnswerIsOneTalk
 answers_one_talk = answers_are_talks json OpensEmpty reads_lines opens_shown

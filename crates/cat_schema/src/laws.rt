@@ -22,7 +22,8 @@ pub fn every_input_is_heard_one_way()
 {}
 
 /// What answers the lines of an input is one talk: the output can be cut into a reply for each line, and in one way
-/// only, since a line begins a reply exactly where its second word is OK or NO. No text of an item can forge one.
+/// only, since a line begins a reply exactly where its second word is OK or NO. No text of an item or of a commit, and no
+/// name of a file can forge one.
 ///
 /// The protocol is our own.
 pub fn every_answer_is_one_talk()
@@ -30,9 +31,9 @@ pub fn every_answer_is_one_talk()
 {}
 
 /// Over bytes alone. Take two inputs whose schema lines are read as one schema, and whatever answers them. Where each
-/// write that was answered OK and a number up to t has the same text in both, a FIND under t gets the same reply in
-/// both, but for the session's number, from sessions that hold t there; unless it was answered 30, 31 or 40, or the
-/// line couldn't be read.
+/// write (PUT, DEL, DELW) that was answered OK and a number up to t has the same text in both, a FIND, a FACETS or a GET
+/// under t gets the same reply in both, but for the session's number, from sessions that hold t there; unless it was
+/// answered 30, 31 or 40, or the line couldn't be read.
 ///
 /// Lucene promises it of one searcher; that it holds between two runs is our own claim.
 pub fn held_reads_agree_in_bytes()

@@ -1,7 +1,7 @@
 use Rattle.std.proofs.Common.{subst, sym}
 use Rattle.cat_model.specs.Lines.{ShowsSession, reply_text}
 use Rattle.cat_model.specs.Served.{Outcome}
-use Rattle.cat_protocol.specs.Line.{said_of}
+use Rattle.cat_lines.specs.Line.{said_of}
 use Rattle.cat_protocol.specs.Reply.{reply_of}
 use Rattle.cat_protocol.specs.Out.{Sent}
 use Rattle.cat_protocol.proofs.Answering.{unheard, told_to, heard_as}

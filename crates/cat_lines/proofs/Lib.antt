@@ -1,0 +1,2 @@
+pub mod WordsSplit
+pub mod WordsSpelled
