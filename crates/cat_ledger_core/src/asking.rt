@@ -13,7 +13,7 @@ ghost use Rattle.cat_ledger_shape.specs.Shapes.{IsShape};
 ghost use Rattle.cat_ledger_shape.specs.Steps.{tokens_of};
 
 use crate::state::Core;
-use cat_base::{Generation, SessionNo, Token, WriteNo};
+use cat_base::{Generation, SegNo, SessionNo, Token, WriteNo};
 use cat_directory::FileName;
 use cat_schema::Schema;
 use cat_search::{Leaf, View};
@@ -74,6 +74,13 @@ impl Core {
         ensures { result ≡ length self.now.views }
     {
         self.records.len()
+    }
+
+    /// The number that the next segment gets: one above the last number where none is left.
+    pub fn next_segment(&self) -> SegNo
+        ensures { result ≡ self.now.next_segment }
+    {
+        self.next_segment
     }
 
     /// The generation that the next commit gets: one above the last number where none is left.

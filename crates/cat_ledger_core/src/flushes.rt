@@ -124,6 +124,7 @@ impl Core {
         ensures crash { (q : FileName) → is_begun (flush_begins self.old) q ≡ false
             → NoMore (D.may_leave device.old q) (D.may_leave device.new q) }
         ensures spent { IfErr result (λ e. e ≡ Spent → MayNotFlush self.old) }
+        ensures may { OnOk result (MayNotFlush self.old → ⊥) }
         ensures due { IfErr result (λ e. (e ≡ Memory) ⊎ (e ≡ Device) → MayNotFlush self.old → ⊥) }
         ensures device { IfErr result (λ e. e ≡ Device → D.can_fail device.old) }
         ensures can { D.can_fail device.new → D.can_fail device.old }
