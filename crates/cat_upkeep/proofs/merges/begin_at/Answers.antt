@@ -1,0 +1,16 @@
+use Rattle.cat_upkeep.proofs.Made.{left_begun, window_fits, window_begun}
+use Rattle.cat_upkeep.proofs.merges.begin_at.Goals as goal
+
+pub begin_merge-requires-clause-few : goal.begin_merge-requires-clause-few
+begin_merge-requires-clause-few g c =
+    window_fits c.args.policy c.args.index c.factor-count.result c.args.core.now.leaves c.factor-count.ensures.number c.requires.window
+
+pub returns-in-Err-clause-err : goal.returns-in-Err-clause-err
+returns-in-Err-clause-err g c =
+    left_begun (g.D.Holder.bytes c.args.device.now) (g.D.Holder.bytes c.begin_merge.new.device) c.args.core.now c.begin_merge.new.self c.in-Err.ensures.err
+
+pub returns-clause-ok : goal.returns-clause-ok
+returns-clause-ok g c =
+    window_begun c.args.policy c.args.index c.factor-count.result (g.D.Holder.bytes c.args.device.now) (g.D.Holder.bytes c.begin_merge.new.device)
+    c.args.core.now c.begin_merge.new.self c.factor-count.ensures.number c.requires.window c.in_default.ensures.ok c.begin_merge.ensures.others
+    c.in_default.ensures.told
