@@ -1,0 +1,40 @@
+use Rattle.cat_ledger.proofs.Made.{commit_spares, flushed_segment, left_behind}
+use Rattle.cat_ledger_lines.proofs.JoinedCalls.{flushed_commits_make}
+use Rattle.cat_ledger_shape.proofs.Committed.{commits_make}
+use Rattle.cat_ledger_shape.proofs.Listed.{names_are_begun}
+use Rattle.cat_ledger_shape.specs.CommitLaws.{names_begun}
+use Rattle.cat_ledger.proofs.commits.flush_and_commit.Goals as goal
+
+pub returns-in-Ok-clause-ok : goal.returns-in-Ok-clause-ok
+returns-in-Ok-clause-ok g c =
+    let told = g.D.Holder.bytes c.args.device.now in
+    let told' = g.D.Holder.bytes c.flush.new.device in
+    let told'' = g.D.Holder.bytes c.commit.new.device in
+    flushed_commits_make told told' told'' c.args.core.now c.flush.new.core c.commit.new.self c.args.text.now c.in_default.ensures.ok
+    (commits_make c.args.text.now c.flush.new.core c.commit.new.self told' told'' c.in_default.ensures.flushed c.in-Ok.ensures.ok.0 c.in-Ok.ensures.ok.1)
+
+pub returns-in-Ok-clause-crash : goal.returns-in-Ok-clause-crash
+returns-in-Ok-clause-crash g c =
+    let told = g.D.Holder.bytes c.args.device.now in
+    let told' = g.D.Holder.bytes c.flush.new.device in
+    λ q old e after. c.in_default.ensures.crash q old e
+    (c.in-Ok.ensures.crash q
+    (commit_spares c.args.text.now c.args.core.now c.flush.new.core q c.count-count.ensures.shape
+    (flushed_segment told told' c.args.core.now c.flush.new.core c.in_default.ensures.made) c.in_default.ensures.generation old)
+    e after)
+
+pub returns-in-Err-commit-clause-err : goal.returns-in-Err-commit-clause-err
+returns-in-Err-commit-clause-err g c =
+    left_behind (names_begun c.flush.new.core) (g.D.Holder.bytes c.args.device.now) (g.D.Holder.bytes c.flush.new.device)
+    (g.D.Holder.bytes c.commit.new.device) c.args.core.now c.flush.new.core c.commit.new.self c.in_default.ensures.made
+    (names_are_begun c.args.text.now c.flush.new.core c.count-count.ensures.shape).new c.in-Err-commit.ensures.err
+
+pub returns-in-Err-commit-clause-crash : goal.returns-in-Err-commit-clause-crash
+returns-in-Err-commit-clause-crash g c =
+    let told = g.D.Holder.bytes c.args.device.now in
+    let told' = g.D.Holder.bytes c.flush.new.device in
+    λ q old e after. c.in_default.ensures.crash q old e
+    (c.in-Err-commit.ensures.crash q
+    (commit_spares c.args.text.now c.args.core.now c.flush.new.core q c.count-count.ensures.shape
+    (flushed_segment told told' c.args.core.now c.flush.new.core c.in_default.ensures.made) c.in_default.ensures.generation old)
+    e after)

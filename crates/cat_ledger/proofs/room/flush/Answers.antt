@@ -1,0 +1,12 @@
+use Rattle.cat_ledger.proofs.Made.{flush_begun, flush_made, left_begun}
+use Rattle.cat_ledger_core.specs.Cores.{flush_begins}
+use Rattle.cat_ledger.proofs.room.flush.Goals as goal
+
+pub returns-in-Err-clause-err : goal.returns-in-Err-clause-err
+returns-in-Err-clause-err g c =
+    left_begun (flush_begins c.args.core.now) (g.D.Holder.bytes c.args.device.now) (g.D.Holder.bytes c.flush.new.device) c.args.core.now c.flush.new.self
+    (flush_begun c.args.core.now) c.in-Err.ensures.err
+
+pub returns-clause-ok : goal.returns-clause-ok
+returns-clause-ok g c =
+    flush_made (g.D.Holder.bytes c.args.device.now) (g.D.Holder.bytes c.flush.new.device) c.args.core.now c.flush.new.self c.in_default.ensures.ok

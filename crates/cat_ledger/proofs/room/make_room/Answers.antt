@@ -1,0 +1,13 @@
+use Rattle.cat_ledger.proofs.Made.{flush_begun, left_begun, room_made}
+use Rattle.cat_ledger_core.specs.Cores.{flush_begins}
+use Rattle.cat_ledger.proofs.room.make_room.Goals as goal
+
+pub returns-in-Err-clause-err : goal.returns-in-Err-clause-err
+returns-in-Err-clause-err g c =
+    left_begun (flush_begins c.args.core.now) (g.D.Holder.bytes c.args.device.now) (g.D.Holder.bytes c.flush.new.device) c.args.core.now c.flush.new.self
+    (flush_begun c.args.core.now) c.in-Err.ensures.err
+
+pub returns-clause-ok : goal.returns-clause-ok
+returns-clause-ok g c =
+    room_made (g.D.Holder.bytes c.args.device.now) (g.D.Holder.bytes c.flush.new.device) c.args.core.now c.flush.new.self
+    (c.is_due.ensures.0 c.if-not-is_due.false) c.in_default.ensures.ok

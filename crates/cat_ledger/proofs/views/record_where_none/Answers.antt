@@ -1,0 +1,15 @@
+use Rattle.std.proofs.Common.{false, refl, true}
+use Rattle.cat_ledger.proofs.Made.{recorded_at}
+use Rattle.cat_ledger_lines.proofs.JoinedCalls.{views_stand}
+use Rattle.cat_ledger_shape.proofs.Views.{records_make}
+use Rattle.cat_ledger.proofs.views.record_where_none.Goals as goal
+
+pub returns-then-is_recorded-clause-ok : goal.returns-then-is_recorded-clause-ok
+returns-then-is_recorded-clause-ok c =
+    λ told. views_stand told told c.args.core.now c.args.core.now
+    (recorded_at c.args.core.now c.count.result true c.count.ensures.count c.if-is_recorded.ensures) (refl, λ q. refl)
+
+pub returns-clause-ok : goal.returns-clause-ok
+returns-clause-ok c =
+    λ told. records_make c.args.core.now c.record_view.new.self told told c.requires.flushed
+    (recorded_at c.args.core.now c.count.result false c.count.ensures.count c.if-is_recorded.ensures) c.in_default.ensures.ok (λ q. refl)

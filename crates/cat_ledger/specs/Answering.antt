@@ -1,0 +1,22 @@
+-- What a ledger makes of what a session says.
+use Rattle.std.specs.Prelude.{ℕ}
+use Rattle.cat_model.specs.Heard.{IsCommand}
+use Rattle.cat_model.specs.Lines.{Said}
+use Rattle.cat_model.specs.Run.{Command, Reply}
+use Rattle.cat_schema.specs.Reading.{json}
+use Rattle.cat_ledger_shape.specs.Ties.{ToldFiles}
+use Rattle.cat_ledger_lines.specs.LineLaws.{line_of}
+use Rattle.cat_ledger_lines.specs.RunLaws as lines
+use Rattle.cat_ledger.specs.Ledgers.{device_in, policy_in, shape_in}
+use Rattle.cat_ledger.specs.declared.ledger.Ledger.{Ledger}
+
+-- The reply answers the command of the session, for every ledger of the model that is carried. The first argument says what a device
+-- tells of its files.
+abbrev pub Answers : {D : Type 0} → (D → ToldFiles) → ℕ → Command → Ledger D → Reply → Ledger D → Type 0
+Answers bytes session c old reply new =
+    lines.Answers (policy_in old) (bytes (device_in old)) (shape_in old) (line_of session c) reply (bytes (device_in new)) (shape_in new)
+
+-- so it does what is said, under the schema
+abbrev pub AnswersSaid : {D : Type 0} → (D → ToldFiles) → ℕ → Said → Ledger D → Reply → Ledger D → Type 0
+AnswersSaid bytes session said old reply new =
+    (c : Command) × IsCommand json (shape_in old).schema said c × Answers bytes session c old reply new

@@ -1,0 +1,4 @@
+pub mod Answering
+pub mod Grants
+pub mod Ledgers
+pub mod Stats

@@ -1,0 +1,132 @@
+//! Commits and snapshots.
+//!
+//! Lucene's `IndexWriter.commit` with `setLiveCommitData`, under a `SnapshotDeletionPolicy` over a `KeepOnlyLastCommitDeletionPolicy`.
+ghost use Rattle.cat_ledger_lines.specs.LineLaws.{Commits};
+ghost use Rattle.cat_base.specs.declared.refusal.Refusal.TheVariants.{Device, Memory, NoCommit, NoSnapshot, Spent};
+ghost use Rattle.cat_ledger.specs.Ledgers.{Does, Spares, device_in, policy_in, shape_in};
+ghost use Rattle.std.specs.Prelude.{Err, IfErr, IfOk, None, Ok, OnErr, OnOk, Some, ℕ, ◌-◌, ◌<◌, ◌≡◌, ◌≤◌, ◌⊎◌};
+ghost use Rattle.cat_directory.specs.declared.name.FileName.{FileName};
+ghost use Rattle.cat_model.specs.Forms.{IsCommitText};
+ghost use Rattle.cat_ledger_model.specs.Replies.{IsLeft};
+ghost use Rattle.cat_ledger_model.specs.Ledger.{IsNew};
+ghost use Rattle.cat_ledger_shape.specs.Ties.{Makes};
+ghost use Rattle.cat_ledger_core.specs.Cores.{MayNotFlush};
+ghost use Rattle.cat_directory.specs.Devices.{NoMore};
+ghost use Rattle.cat_ledger_model.specs.Calls.{Snaps, Unsnapped};
+ghost use Rattle.cat_model.specs.Heard.{commit_text_of};
+ghost use Rattle.cat_model.specs.Limits.{last_number, snapshot_limit};
+ghost use Rattle.cat_directory.specs.Names.{name_of};
+ghost use Rattle.cat_ledger_shape.specs.Steps.{newest_generation};
+ghost use Rattle.cat_model.specs.State.{snapshots_in};
+
+use crate::ledger::Ledger;
+use crate::room::flush;
+use cat_base::{Generation, LAST_NUMBER, Refusal};
+use cat_commits::judge_commit_text;
+use cat_directory::{Directory, Shelf};
+use cat_ledger_core::Core;
+
+/// Flushes what waits, and then keeps a commit of now. A generation is left for it.
+fn flush_and_commit<D: Directory>(
+    core: &mut Core,
+    device: &mut D,
+    text: &str,
+) -> Result<Generation, Refusal>
+    requires text { IsCommitText text.now }
+    requires left { core.old.next_generation ≤ last_number }
+    ensures number { IfOk result (λ g. g ≡ core.old.next_generation) }
+    ensures ok { OnOk result (Makes (Commits text.now) (D.bytes device.old) core.old (D.bytes device.new) core.new) }
+    ensures err { OnErr result (Makes IsLeft (D.bytes device.old) core.old (D.bytes device.new) core.new) }
+    ensures crash { (q : FileName) → (IsNew core.old.next_segment core.old.next_generation (name_of q) → ⊥)
+        → NoMore (D.may_leave device.old q) (D.may_leave device.new q) }
+    ensures spent { IfErr result (λ e. e ≡ Spent → MayNotFlush core.old) }
+    ensures can { D.can_fail device.new → D.can_fail device.old }
+    ensures refusal { IfErr result (λ e. (e ≡ Memory) ⊎ (e ≡ Device) ⊎ (e ≡ Spent)) }
+{
+    if let Err(refusal) = flush(core, device) {
+        return Err(refusal);
+    }
+    // Its contract says that what stands is a ledger's.
+    let _count = core.count();
+    match core.commit(device, text) {
+        Ok(generation) => Ok(generation),
+        Err(refusal) => Err(refusal),
+    }
+}
+
+impl<D: Directory + Shelf> Ledger<D> {
+    /// Keeps a commit of now with this text, and answers its generation. What waits is flushed first. All that the commit needs lasts
+    /// then. The newest commit and those with snapshots are kept; the files of others are pending where nobody else needs them.
+    /// (Lucene: `IndexWriter.commit`, after `setLiveCommitData`.)
+    ///
+    /// The first of these that is due comes: [`Refusal::Large`] where the text has more than 256 bytes, [`Refusal::Kind`] where it
+    /// has a control character; [`Refusal::Spent`] where no generation is left, and nothing is done then; [`Refusal::Spent`] where
+    /// no number is left for the segment of what waits, or as many stand as may; else [`Refusal::Device`] where the directory
+    /// fails, or [`Refusal::Memory`]. A flush that ended stays done, and names that were begun are pending.
+    pub fn commit(&mut self, text: &str) -> Result<Generation, Refusal>
+        ensures number { IfOk result (λ g. g ≡ (shape_in self.old).next_generation) }
+        ensures form { OnOk result (commit_text_of text.now ≡ Ok text.now) }
+        ensures left { OnOk result ((shape_in self.old).next_generation ≤ last_number) }
+        ensures ok { OnOk result (Does D.bytes (Commits text.now) self.old self.new) }
+        ensures wrong { IfErr (commit_text_of text.now) (λ e. (result ≡ Err e) × (self.new ≡ self.old)) }
+        ensures none { commit_text_of text.now ≡ Ok text.now → last_number < (shape_in self.old).next_generation
+            → (result ≡ Err Spent) × (self.new ≡ self.old) }
+        ensures spent { commit_text_of text.now ≡ Ok text.now → IfErr result (λ e. e ≡ Spent
+            → (last_number < (shape_in self.old).next_generation) ⊎ MayNotFlush (shape_in self.old)) }
+        ensures err { OnErr result (Does D.bytes IsLeft self.old self.new) }
+        ensures crash { Spares D.may_leave self.old self.new }
+        ensures refusal { commit_text_of text.now ≡ Ok text.now → IfErr result (λ e. (e ≡ Memory) ⊎ (e ≡ Device) ⊎ (e ≡ Spent)) }
+        ensures can { D.can_fail (device_in self.new) → D.can_fail (device_in self.old) }
+        ensures policy { policy_in self.new ≡ policy_in self.old }
+    {
+        if let Err(refusal) = judge_commit_text(text) {
+            return Err(refusal);
+        }
+        if self.core.next_generation() > LAST_NUMBER {
+            return Err(Refusal::Spent);
+        }
+        flush_and_commit(&mut self.core, &mut self.device, text)
+    }
+
+    /// Takes a snapshot of the newest commit, and answers its generation: it is kept until as many were given back as were taken.
+    /// (Lucene: `SnapshotDeletionPolicy.snapshot`.)
+    ///
+    /// [`Refusal::NoCommit`] where no commit is kept, [`Refusal::Spent`] where the newest has 65,535 snapshots; else
+    /// [`Refusal::Memory`]. An error changes nothing.
+    pub fn snapshot(&mut self) -> Result<Generation, Refusal>
+        ensures room { IfOk result (λ g. snapshots_in (shape_in self.old).taken g < snapshot_limit) }
+        ensures ok { IfOk result (λ g. Does D.bytes (Snaps g) self.old self.new) }
+        ensures none { IfErr result (λ e. e ≡ NoCommit → newest_generation (shape_in self.old).commits ≡ None) }
+        ensures spent { IfErr result (λ e. e ≡ Spent → (g : ℕ) × (newest_generation (shape_in self.old).commits ≡ Some g)
+            × (snapshots_in (shape_in self.old).taken g ≡ snapshot_limit)) }
+        ensures due { IfErr result (λ e. e ≡ Memory → (g : ℕ) × (newest_generation (shape_in self.old).commits ≡ Some g)
+            × (snapshots_in (shape_in self.old).taken g < snapshot_limit)) }
+        ensures refusal { IfErr result (λ e. (e ≡ NoCommit) ⊎ (e ≡ Spent) ⊎ (e ≡ Memory)) }
+        ensures err { OnErr result (self.new ≡ self.old) }
+        ensures same { device_in self.new ≡ device_in self.old }
+        ensures policy { policy_in self.new ≡ policy_in self.old }
+    {
+        let generation = self.core.snapshot()?;
+        Ok(generation)
+    }
+
+    /// Gives a snapshot of the commit back, and answers how many it has left. Where that was the last one, and another commit is the
+    /// newest, the commit goes, and its files are pending where nobody else needs them. (Lucene:
+    /// `SnapshotDeletionPolicy.release`.)
+    ///
+    /// [`Refusal::NoSnapshot`] where it has none; else [`Refusal::Memory`]. An error changes nothing.
+    pub fn unsnapshot(&mut self, generation: Generation) -> Result<u32, Refusal>
+        ensures some { OnOk result (0 < snapshots_in (shape_in self.old).taken generation) }
+        ensures left { IfOk result (λ left. left ≡ snapshots_in (shape_in self.old).taken generation - 1) }
+        ensures ok { OnOk result (Does D.bytes (Unsnapped generation) self.old self.new) }
+        ensures none { IfErr result (λ e. e ≡ NoSnapshot → snapshots_in (shape_in self.old).taken generation ≡ 0) }
+        ensures due { IfErr result (λ e. e ≡ Memory → 0 < snapshots_in (shape_in self.old).taken generation) }
+        ensures refusal { IfErr result (λ e. (e ≡ NoSnapshot) ⊎ (e ≡ Memory)) }
+        ensures err { OnErr result (self.new ≡ self.old) }
+        ensures same { device_in self.new ≡ device_in self.old }
+        ensures policy { policy_in self.new ≡ policy_in self.old }
+    {
+        let left = self.core.unsnapshot(generation)?;
+        Ok(left)
+    }
+}

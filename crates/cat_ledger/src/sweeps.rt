@@ -1,0 +1,38 @@
+//! The sweep: the files go that nobody needs.
+//!
+//! Lucene's `IndexWriter.deleteUnusedFiles`.
+ghost use Rattle.cat_base.specs.declared.refusal.Refusal.TheVariants.{Device, Memory};
+ghost use Rattle.cat_ledger.specs.Ledgers.{Does, device_in, policy_in, shape_in};
+ghost use Rattle.cat_directory.specs.declared.name.FileName.{FileName};
+ghost use Rattle.std.specs.Prelude.{IfErr, IfOk, [], count_by, ◌<◌, ◌==◌, ◌≡◌, ◌⊎◌};
+ghost use Rattle.cat_ledger_model.specs.Calls.{MayLeave};
+ghost use Rattle.cat_directory.specs.Devices.{NoMore};
+ghost use Rattle.cat_directory.specs.Names.{name_of};
+ghost use Rattle.cat_ledger_model.specs.Users.{users_of};
+
+use crate::ledger::Ledger;
+use cat_base::Refusal;
+use cat_directory::{Directory, Shelf};
+
+impl<D: Directory + Shelf> Ledger<D> {
+    /// Deletes the pending files, in byte order of their names, up to the first that the directory refuses to delete, and answers how
+    /// many went. No file is touched that a segment that stands, a recorded view, a kept commit, or a merge in the making needs.
+    /// (Lucene: `IndexWriter.deleteUnusedFiles`.)
+    ///
+    /// [`Refusal::Device`] where the directory fails: the file that it failed at and those behind it are still pending; or
+    /// [`Refusal::Memory`], with nothing done.
+    pub fn sweep(&mut self) -> Result<u64, Refusal>
+        ensures ok { Does D.bytes (MayLeave []) self.old self.new }
+        ensures count { IfOk result (λ n. n ≡ count_by (λ u. u.users == 0) (shape_in self.old).users) }
+        ensures used { (q : FileName) → 0 < users_of (shape_in self.old).users (name_of q)
+            → D.bytes (device_in self.new) q ≡ D.bytes (device_in self.old) q }
+        ensures crash { (q : FileName) → 0 < users_of (shape_in self.old).users (name_of q)
+            → NoMore (D.may_leave (device_in self.old) q) (D.may_leave (device_in self.new) q) }
+        ensures refusal { IfErr result (λ e. (e ≡ Memory) ⊎ (e ≡ Device)) }
+        ensures device { IfErr result (λ e. e ≡ Device → D.can_fail (device_in self.old)) }
+        ensures can { D.can_fail (device_in self.new) → D.can_fail (device_in self.old) }
+        ensures policy { policy_in self.new ≡ policy_in self.old }
+    {
+        self.core.sweep(&mut self.device)
+    }
+}

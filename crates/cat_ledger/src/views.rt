@@ -1,0 +1,261 @@
+//! Recorded views, and the sessions' rights to them.
+//!
+//! Lucene's `SearcherLifetimeManager`, with `IndexWriter.getReader` for the view of now.
+ghost use Rattle.cat_directory.specs.Devices.{CountsReading, NoMore};
+ghost use Rattle.cat_base.specs.declared.refusal.Refusal.TheVariants.{Damaged, Device, Full, Gone, Memory, Spent};
+ghost use Rattle.cat_ledger.specs.Ledgers.{Does, Spares, device_in, policy_in, shape_in};
+ghost use Rattle.std.specs.Prelude.{Err, IfErr, IfOk, List, None, Ok, OnErr, OnOk, [], false, length, not, option_map, true, ℕ, ◌&&◌, ◌-◌, ◌==◌, ◌≡◌, ◌≢◌, ◌⊎◌, Some, find};
+ghost use Rattle.cat_directory.specs.declared.name.FileName.{FileName};
+ghost use Rattle.cat_search.specs.Sources.{HoldsSource, TellsSource, stored_length};
+ghost use Rattle.cat_ledger.specs.Grants.{IsAsked, IsGrant, released_session, released_token, token_granted};
+ghost use Rattle.cat_ledger_model.specs.Replies.{IsLeft};
+ghost use Rattle.cat_ledger_model.specs.Ledger.{IsNew};
+ghost use Rattle.cat_ledger_shape.specs.Ties.{Makes, ToldFiles};
+ghost use Rattle.cat_ledger_core.specs.Cores.{MayNotFlush};
+ghost use Rattle.cat_ledger_lines.specs.LineLaws.{MayRefresh, Refreshes};
+ghost use Rattle.cat_ledger_model.specs.Calls.{Pruned, RecordsView};
+ghost use Rattle.cat_model.specs.State.{has_hold, held_in};
+ghost use Rattle.cat_ledger_lines.specs.HoldLaws.{holding, letting_go};
+ghost use Rattle.cat_model.specs.Run.{is_full};
+ghost use Rattle.std.specs.List.{list_any};
+ghost use Rattle.cat_directory.specs.Names.{name_of};
+ghost use Rattle.cat_model.specs.View.{records_in};
+ghost use Rattle.cat_model.specs.Answer.{stored};
+ghost use Rattle.cat_ledger_shape.specs.Steps.{tokens_of};
+ghost use Rattle.cat_ledger.specs.declared.views.Grant.{Grant};
+
+use crate::ledger::Ledger;
+use crate::room::flush;
+use cat_base::{Refusal, SessionNo, Token};
+use cat_directory::{Directory, Shelf};
+use cat_ledger_core::Core;
+use cat_search::{Hold, View};
+use std::alloc::AllocError;
+
+/// What an [`acquire`](Ledger::acquire) grants.
+pub enum Grant {
+    /// The right to a view that the session didn't hold.
+    New(Hold),
+    /// The session holds the token already, by a right that it was granted before.
+    Already(Token),
+}
+
+/// A right that was given back.
+#[derive(Debug, PartialEq, Eq)]
+pub struct Released {
+    session: SessionNo,
+    token: Token,
+}
+
+impl Released {
+    /// The session that gave it back.
+    pub fn session(&self) -> SessionNo
+        ensures { result ≡ released_session self.now }
+    {
+        self.session
+    }
+
+    /// The token of the view.
+    pub fn token(&self) -> Token
+        ensures { result ≡ released_token self.now }
+    {
+        self.token
+    }
+}
+
+/// Whether a view of now isn't recorded, and can't be: each view is held, and no more may be recorded.
+fn is_refused(core: &Core) -> bool
+    ensures { result ≡ (not (list_any (λ v. v.token == core.now.count) core.now.views)
+        && is_full (held_in core.now.holds) (tokens_of core.now.views)) }
+{
+    !core.is_recorded(core.count()) && core.is_full()
+}
+
+/// Records a view of now where nothing waits, and none is recorded yet. An error changes nothing.
+fn record_where_none(core: &mut Core) -> Result<(), AllocError>
+    requires flushed { core.old.buffered ≡ [] }
+    requires may { MayRefresh core.old }
+    ensures ok { OnOk result ((told : ToldFiles) → Makes RecordsView told core.old told core.new) }
+    ensures err { OnErr result (core.new ≡ core.old) }
+{
+    if core.is_recorded(core.count()) {
+        return Ok(());
+    }
+    if let Err(refused) = core.record_view() {
+        return Err(refused);
+    }
+    Ok(())
+}
+
+/// Flushes what waits, and then records a view of now.
+fn flush_and_record<D: Directory>(core: &mut Core, device: &mut D) -> Result<(), Refusal>
+    requires { MayRefresh core.old }
+    ensures ok { OnOk result (Makes Refreshes (D.bytes device.old) core.old (D.bytes device.new) core.new) }
+    ensures err { OnErr result (Makes IsLeft (D.bytes device.old) core.old (D.bytes device.new) core.new) }
+    ensures crash { (q : FileName) → (IsNew core.old.next_segment core.old.next_generation (name_of q) → ⊥)
+        → NoMore (D.may_leave device.old q) (D.may_leave device.new q) }
+    ensures spent { IfErr result (λ e. e ≡ Spent → MayNotFlush core.old) }
+    ensures due { IfErr result (λ e. (e ≡ Memory) ⊎ (e ≡ Device) → MayNotFlush core.old → ⊥) }
+    ensures device { IfErr result (λ e. e ≡ Device → D.can_fail device.old) }
+    ensures can { D.can_fail device.new → D.can_fail device.old }
+    ensures refusal { IfErr result (λ e. (e ≡ Memory) ⊎ (e ≡ Device) ⊎ (e ≡ Spent)) }
+{
+    if let Err(refusal) = flush(core, device) {
+        return Err(refusal);
+    }
+    match record_where_none(core) {
+        Ok(()) => Ok(()),
+        Err(AllocError) => Err(Refusal::Memory),
+    }
+}
+
+/// A copy of the view that is recorded under the token, whose segments are shared.
+fn copy_view(core: &Core, token: Token) -> Result<View, AllocError>
+    requires { list_any (λ v. v.token == token) core.now.views ≡ true }
+    ensures view { IfOk result (λ v. find (λ u. u.token == token) core.now.views ≡ Some v) }
+    ensures token { IfOk result (λ v. v.token ≡ token) }
+{
+    let Some(view) = core.view_at(token) else {
+        unreachable!();
+    };
+    let copy = view.copy()?;
+    Ok(copy)
+}
+
+/// Gives the session the right to the view that is recorded under the token, which it doesn't hold. An error changes nothing.
+fn grant_right(core: &mut Core, session: SessionNo, token: Token) -> Result<Hold, AllocError>
+    requires there { list_any (λ v. v.token == token) core.old.views ≡ true }
+    requires none { has_hold core.old.holds session token ≡ false }
+    ensures right { IfOk result (λ hold. IsGrant core.old session (Grant.New hold)) }
+    ensures token { IfOk result (λ hold. hold.view.token ≡ token) }
+    ensures ok { OnOk result (core.new ≡ holding session token core.old) }
+    ensures err { OnErr result (core.new ≡ core.old) }
+{
+    let view = copy_view(core, token)?;
+    core.hold(session, token)?;
+    Ok(Hold::of(session, view))
+}
+
+impl<D: Directory + Shelf> Ledger<D> {
+    /// Records a view of now, where none is recorded yet, and answers its token, which is the number of writes. What waits is
+    /// flushed first. Where 64 views are recorded the one of the least token goes that nobody holds. (Lucene:
+    /// `SearcherLifetimeManager.record` of `DirectoryReader.open(IndexWriter)`.)
+    ///
+    /// [`Refusal::Full`] where no view of now is recorded, and each of 64 is held, which comes first and changes nothing;
+    /// [`Refusal::Spent`] where no number is left for the segment of what waits, or as many stand as may; else
+    /// [`Refusal::Device`] where the flush fails, or [`Refusal::Memory`]. A flush that ended stays done; else an error leaves at
+    /// most names that are pending.
+    pub fn refresh(&mut self) -> Result<Token, Refusal>
+        ensures token { IfOk result (λ t. t ≡ (shape_in self.old).count) }
+        ensures ok { OnOk result (Does D.bytes Refreshes self.old self.new) }
+        ensures may { OnOk result (MayRefresh (shape_in self.old)) }
+        ensures full { (MayRefresh (shape_in self.old) → ⊥) → (result ≡ Err Full) × (self.new ≡ self.old) }
+        ensures room { MayRefresh (shape_in self.old) → IfErr result (λ e. e ≢ Full) }
+        ensures spent { IfErr result (λ e. e ≡ Spent → MayNotFlush (shape_in self.old)) }
+        ensures due { IfErr result (λ e. (e ≡ Memory) ⊎ (e ≡ Device) → MayNotFlush (shape_in self.old) → ⊥) }
+        ensures err { OnErr result (Does D.bytes IsLeft self.old self.new) }
+        ensures crash { Spares D.may_leave self.old self.new }
+        ensures refusal { IfErr result (λ e. (e ≡ Full) ⊎ (e ≡ Memory) ⊎ (e ≡ Device) ⊎ (e ≡ Spent)) }
+        ensures device { IfErr result (λ e. e ≡ Device → D.can_fail (device_in self.old)) }
+        ensures can { D.can_fail (device_in self.new) → D.can_fail (device_in self.old) }
+        ensures policy { policy_in self.new ≡ policy_in self.old }
+    {
+        let token = self.core.count();
+        if is_refused(&self.core) {
+            return Err(Refusal::Full);
+        }
+        if let Err(refusal) = flush_and_record(&mut self.core, &mut self.device) {
+            return Err(refusal);
+        }
+        Ok(token)
+    }
+
+    /// Grants the session the right to the view of the token, or of the newest one. It lasts until the session itself gives it
+    /// back. (Lucene: `SearcherLifetimeManager.acquire`.)
+    ///
+    /// [`Refusal::Gone`] where no view is recorded under the token; else [`Refusal::Memory`]. An error changes nothing.
+    pub fn acquire(&mut self, session: SessionNo, token: Option<Token>) -> Result<Grant, Refusal>
+        ensures asked { IfOk result (λ grant. IsAsked (shape_in self.old) token (token_granted grant)) }
+        ensures grant { IfOk result (IsGrant (shape_in self.old) session) }
+        ensures held { IfOk result (λ grant. shape_in self.new ≡ holding session (token_granted grant) (shape_in self.old)) }
+        ensures gone { IfErr result (λ e. e ≡ Gone → (t : ℕ) → IsAsked (shape_in self.old) token t → ⊥) }
+        ensures due { IfErr result (λ e. e ≡ Memory → (t : ℕ) × IsAsked (shape_in self.old) token t) }
+        ensures err { OnErr result (self.new ≡ self.old) }
+        ensures same { device_in self.new ≡ device_in self.old }
+        ensures refusal { IfErr result (λ e. (e ≡ Gone) ⊎ (e ≡ Memory)) }
+        ensures policy { policy_in self.new ≡ policy_in self.old }
+    {
+        let token = token.unwrap_or(self.core.newest_token());
+        if !self.core.is_recorded(token) {
+            return Err(Refusal::Gone);
+        }
+        if self.core.is_held_by(session, token) {
+            return Ok(Grant::Already(token));
+        }
+        match grant_right(&mut self.core, session, token) {
+            Ok(hold) => Ok(Grant::New(hold)),
+            Err(AllocError) => Err(Refusal::Memory),
+        }
+    }
+
+    /// Ends the session's right, after which its view may go. It takes no memory. (Lucene: `SearcherLifetimeManager.release`.)
+    ///
+    /// Where the right is another session's, or this ledger counts none of its token for the session, it is handed back, which is
+    /// told as [`Refusal::NotHeld`], and nothing changes.
+    pub fn release(&mut self, session: SessionNo, hold: Hold) -> Result<Released, Hold>
+        ensures released { IfOk result (λ r. (released_session r ≡ session) × (released_token r ≡ hold.view.token)) }
+        ensures right { OnOk result ((hold.session ≡ session) × (has_hold (shape_in self.old).holds session hold.view.token ≡ true)) }
+        ensures held { OnOk result (shape_in self.new ≡ letting_go session hold.view.token (shape_in self.old)) }
+        ensures back { IfErr result (λ h. h ≡ hold) }
+        ensures wrong { OnErr result (hold.session ≡ session → has_hold (shape_in self.old).holds session hold.view.token ≡ false) }
+        ensures err { OnErr result (self.new ≡ self.old) }
+        ensures same { device_in self.new ≡ device_in self.old }
+        ensures policy { policy_in self.new ≡ policy_in self.old }
+    {
+        let token = hold.token();
+        if hold.session() != session {
+            return Err(hold);
+        }
+        if !self.core.is_held_by(session, token) {
+            return Err(hold);
+        }
+        let _had = self.core.let_go(session, token);
+        hold.give_up();
+        Ok(Released { session, token })
+    }
+
+    /// Takes out each view that isn't among the newest, as many as the count says but at least one, and that nobody holds;
+    /// answers how many went. (Lucene: `SearcherLifetimeManager.prune` by a `Pruner`.) An error changes nothing.
+    pub fn prune(&mut self, count: u64) -> Result<u64, AllocError>
+        ensures went { IfOk result (λ n. n ≡ length (shape_in self.old).views - length (shape_in self.new).views) }
+        ensures ok { OnOk result (Does D.bytes (Pruned count) self.old self.new) }
+        ensures err { OnErr result (self.new ≡ self.old) }
+        ensures same { device_in self.new ≡ device_in self.old }
+        ensures policy { policy_in self.new ≡ policy_in self.old }
+    {
+        let went = self.core.prune(count)?;
+        Ok(went)
+    }
+
+    /// The text that the item of this id came as, in the held view; none where no live row has the id. (Lucene:
+    /// `StoredFields.document`.) It is what [`Hold::get`] answers on this ledger's directory, whose files stay as they are.
+    ///
+    /// [`Refusal::Damaged`] if the file with the text is absent, or ends before the text does. [`Refusal::Device`] if the
+    /// directory fails; else [`Refusal::Memory`].
+    pub fn source(&mut self, hold: &Hold, id: &str) -> Result<Option<Vec<u8>>, Refusal>
+        ensures ok { IfOk result (λ found. (files : ℕ → List ℕ) → TellsSource (D.bytes (device_in self.old)) files hold.now.view id.now
+            → option_map (λ bytes. bytes.items) found ≡ stored (records_in files hold.now.view) id.now) }
+        ensures whole { IfOk result (λ found. option_map (λ bytes. length bytes.items) found ≡ stored_length hold.now.view id.now) }
+        ensures none { stored_length hold.now.view id.now ≡ None → result ≡ Ok None }
+        ensures damaged { IfErr result (λ e. e ≡ Damaged → (files : ℕ → List ℕ)
+            → TellsSource (D.bytes (device_in self.old)) files hold.now.view id.now → HoldsSource files hold.now.view id.now → ⊥) }
+        ensures shape { shape_in self.new ≡ shape_in self.old }
+        ensures same { (q : FileName) → D.bytes (device_in self.new) q ≡ D.bytes (device_in self.old) q }
+        ensures counted { CountsReading (D.fault_count (device_in self.old)) (D.fault_count (device_in self.new)) result }
+        ensures device { IfErr result (λ e. e ≡ Device → D.can_fail (device_in self.old)) }
+        ensures can { D.can_fail (device_in self.new) → D.can_fail (device_in self.old) }
+        ensures policy { policy_in self.new ≡ policy_in self.old }
+    {
+        hold.get(self.alloc, &mut self.device, id)
+    }
+}
