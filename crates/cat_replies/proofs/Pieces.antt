@@ -1,0 +1,59 @@
+-- Lines of replies in pieces.
+use Rattle.std.proofs.Common.{◌≡◌, ℕ, List, [], ◌∷◌, ◌++◌, ◌<◌, codes, length, take, get_or, sym, ap, ◌∙◌, append_assoc, append-nil}
+use Rattle.std.specs.Prelude.{Option, map}
+use Rattle.std.specs.List.{flat_map}
+use Rattle.std.specs.Fmt.{decimal}
+use Rattle.std.specs.Io.KnownBytes.{Appends}
+use Rattle.cat_model.specs.Text.{Text}
+use Rattle.cat_model.specs.Lines.{line_text, spaced, entry_words, counted_words, segment_words}
+use Rattle.cat_model.specs.Page.{Entry}
+use Rattle.cat_model.specs.Facets.{Counted}
+use Rattle.cat_model.specs.Served.{AppendsFront}
+use Rattle.cat_directory.specs.Names.{file_text}
+use Rattle.cat_directory.specs.declared.name.FileName.{FileName}
+use Rattle.cat_directory.specs.declared.name.FileName.TheVariants.{Live}
+use Rattle.cat_sending.proofs.Written.{front_before, front_behind, flat_map_split}
+use Rattle.cat_replies.specs.Reply.{segment_of}
+use Rattle.cat_replies.specs.declared.news.SegmentStat.{SegmentStat}
+use Rattle.cat_replies.specs.Words.{word_text, behind_space}
+use Rattle.cat_replies.specs.declared.words.Word.{Word}
+
+-- ---- a line
+
+spaced_words : (first : Text) (words : List Word) → spaced (first ∷ map word_text words) ≡ first ++ flat_map behind_space words
+spaced_words first [] = sym (append-nil first)
+spaced_words first (word ∷ words) = ap (λ l. first ++ 32 ∷ l) (spaced_words (word_text word) words)
+
+pub line_in_pieces : (session : ℕ) (words : List Word)
+    → line_text (decimal session ∷ map word_text words) ≡ (decimal session ++ []) ++ (flat_map behind_space words ++ codes "\n")
+line_in_pieces session words =
+    ap (λ l. l ++ codes "\n") (spaced_words (decimal session) words)
+    ∙ append_assoc (decimal session) (flat_map behind_space words) (codes "\n")
+    ∙ ap (λ l. l ++ (flat_map behind_space words ++ codes "\n")) (sym (append-nil (decimal session)))
+
+-- ---- lists
+
+-- what the elements before one are written as went out, and a front of what it is written as itself
+pub front_within : {X : Type 0} (f : X → Text) (xs : List X) (i : ℕ) (d : X) (a b c : Option Text) → i < length xs → Appends a b (flat_map f (take i xs))
+    → AppendsFront b c (f (get_or xs i d)) → AppendsFront a c (flat_map f xs)
+front_within f xs i d a b c h before part = rw (flat_map_split f xs i d h) (front_behind _ _ _ _ _ before (front_before _ part))
+
+-- ---- names
+
+pub live_in_pieces : (name : FileName) (segment generation : ℕ) → name ≡ Live segment generation
+    → file_text name ≡ (codes "_" ++ (decimal segment ++ codes "_")) ++ (decimal generation ++ codes ".liv")
+live_in_pieces name segment generation is = rw is (simp append_assoc)
+
+-- ---- the further lines
+
+abbrev pub entry_line : ℕ → Entry → Text
+entry_line session entry = line_text (decimal session ∷ entry_words entry)
+
+abbrev pub counted_line : ℕ → Counted → Text
+counted_line session counted = line_text (decimal session ∷ counted_words counted)
+
+abbrev pub name_line : ℕ → FileName → Text
+name_line session name = line_text (decimal session ∷ file_text name ∷ [])
+
+abbrev pub segment_line : ℕ → SegmentStat → Text
+segment_line session segment = line_text (decimal session ∷ segment_words (segment_of segment))

@@ -1,0 +1,142 @@
+//! Answers of several lines: pages, counts and names.
+ghost use Rattle.std.specs.Prelude.{◌≡◌, ◌∷◌, [], map, option_map, Ok};
+ghost use Rattle.std.specs.Fmt.{decimal};
+ghost use Rattle.std.specs.List.{flat_map};
+ghost use Rattle.cat_model.specs.Answer.{Found};
+ghost use Rattle.cat_model.specs.Lines.{counted_words, entry_words, key_text, line_text, reply_text};
+ghost use Rattle.cat_model.specs.Run as run;
+ghost use Rattle.cat_directory.specs.Names.{file_text};
+ghost use Rattle.cat_search.specs.Keys.{key_of};
+ghost use Rattle.cat_sending.specs.Out.{Sent};
+ghost use Rattle.cat_replies.specs.Words.{word_text};
+
+use crate::words::{Word, send_line};
+use cat_base::SessionNo;
+use cat_directory::FileName;
+use cat_facets::{FacetCount, Facets};
+use cat_search::{Entry, Key, Page};
+use cat_sending::WriteFault;
+use std::io::Write;
+
+/// Answers a page: how many hits are shown and how many there are, and a line for each that is shown.
+pub(crate) fn send_page<W: Write>(
+    session: SessionNo,
+    page: &Page,
+    to: &mut W,
+) -> Result<(), WriteFault>
+    ensures { Sent (W.contents to.old) (W.contents to.new) result
+        (reply_text session (Ok (run.Answer.found (Found.page page.now)))) }
+{
+    let entries = page.entries();
+    let shown = Word::Number(entries.len() as u64);
+    let total = Word::Number(page.total() as u64);
+    send_line(session, &[Word::Plain(b"OK"), shown, total], to)?;
+    send_entries(session, entries, to)
+}
+
+fn send_entries<W: Write>(
+    session: SessionNo,
+    entries: &[Entry],
+    to: &mut W,
+) -> Result<(), WriteFault>
+    ensures { Sent (W.contents to.old) (W.contents to.new) result
+        (flat_map (λ entry. line_text (decimal session ∷ entry_words entry)) entries.now) }
+{
+    for entry in entries {
+        send_entry(session, entry, to)?;
+    }
+    Ok(())
+}
+
+/// Writes the line of a hit.
+fn send_entry<W: Write>(session: SessionNo, entry: &Entry, to: &mut W) -> Result<(), WriteFault>
+    ensures { Sent (W.contents to.old) (W.contents to.new) result
+        (line_text (decimal session ∷ entry_words entry.now)) }
+{
+    let number = Word::Number(entry.number());
+    let id = Word::Plain(entry.id().as_bytes());
+    send_line(session, &[number, id, key_word(entry.key())], to)
+}
+
+/// What a hit was sorted by: a number in decimal, a keyword behind `=`, and a dot where there is neither.
+fn key_word(key: Option<&Key>) -> Word
+    ensures { word_text result ≡ key_text (option_map (λ k. key_of k.now) key.entry) }
+{
+    match key {
+        None => Word::Plain(b"."),
+        Some(Key::Number(number)) => Word::Signed(*number),
+        Some(Key::Keyword(keyword)) => Word::Marked(keyword.as_str().as_bytes()),
+    }
+}
+
+/// Answers counts: how many hits have a label and how many labels they have, and a line for each count that is told.
+pub(crate) fn send_counts<W: Write>(
+    session: SessionNo,
+    facets: &Facets,
+    to: &mut W,
+) -> Result<(), WriteFault>
+    ensures { Sent (W.contents to.old) (W.contents to.new) result
+        (reply_text session (Ok (run.Answer.found (Found.facets facets.now)))) }
+{
+    let counts = facets.counts();
+    let matching = Word::Number(facets.matching() as u64);
+    let met = Word::Number(facets.met() as u64);
+    send_line(session, &[Word::Plain(b"OK"), matching, met], to)?;
+    send_labels(session, counts, to)
+}
+
+fn send_labels<W: Write>(
+    session: SessionNo,
+    counts: &[FacetCount],
+    to: &mut W,
+) -> Result<(), WriteFault>
+    ensures { Sent (W.contents to.old) (W.contents to.new) result
+        (flat_map (λ counted. line_text (decimal session ∷ counted_words counted)) counts.now) }
+{
+    for counted in counts {
+        send_label(session, counted, to)?;
+    }
+    Ok(())
+}
+
+/// Writes the line of a label.
+fn send_label<W: Write>(
+    session: SessionNo,
+    counted: &FacetCount,
+    to: &mut W,
+) -> Result<(), WriteFault>
+    ensures { Sent (W.contents to.old) (W.contents to.new) result
+        (line_text (decimal session ∷ counted_words counted.now)) }
+{
+    let count = Word::Number(counted.count() as u64);
+    let label = Word::Plain(counted.label().as_bytes());
+    send_line(session, &[count, label], to)
+}
+
+/// Answers names of files: how many, and a line for each.
+pub(crate) fn send_names<W: Write>(
+    session: SessionNo,
+    names: &[FileName],
+    to: &mut W,
+) -> Result<(), WriteFault>
+    ensures { Sent (W.contents to.old) (W.contents to.new) result
+        (reply_text session (Ok (run.Answer.names (map file_text names.now)))) }
+{
+    let many = Word::Number(names.len() as u64);
+    send_line(session, &[Word::Plain(b"OK"), many], to)?;
+    send_each_name(session, names, to)
+}
+
+fn send_each_name<W: Write>(
+    session: SessionNo,
+    names: &[FileName],
+    to: &mut W,
+) -> Result<(), WriteFault>
+    ensures { Sent (W.contents to.old) (W.contents to.new) result
+        (flat_map (λ name. line_text (decimal session ∷ file_text name ∷ [])) names.now) }
+{
+    for name in names {
+        send_line(session, &[Word::Name(*name)], to)?;
+    }
+    Ok(())
+}
