@@ -1,0 +1,3 @@
+pub mod Newest
+pub mod Opened
+pub mod Refused
