@@ -12,7 +12,7 @@ use Rattle.cat_model.specs.Input.{HaveCome, ended_lines, lines_of}
 use Rattle.cat_sending.specs.declared.pieces.WriteFault.{WriteFault}
 use Rattle.cat_sending.proofs.Written.{front_whole}
 use Rattle.cat_serving.specs.Machine.{short_line, opened_text, Steps, IsAnswered}
-use Rattle.cat_serving.specs.Serving.{Says, SaysAll, SaysUpTo, LinesEnd, ServesLines, IsRefusedAs, IsRefused, LeadsTo, RefusedAt, EndsBy, ended_as, ended_of}
+use Rattle.cat_serving.specs.Serving.{Says, SaysAll, SaysUpTo, LinesEnd, ServesLines, IsRefusedAs, IsRefused, LeadsTo, RefusedAt, EndsBy, StandsFrom, ended_as, ended_of}
 use Rattle.cat_serving.specs.declared.machine.Stage.{Stage}
 use Rattle.cat_serving.specs.declared.machine.Stage.TheVariants.{Waiting, Refused, Open}
 use Rattle.cat_serving.specs.declared.machine.Unopened.{Unopened}
@@ -213,3 +213,27 @@ module _ {M S : Type 0} (opens : S → Option Text → Result M (Unopened S) →
   serves_at s b input left o p (Err Ending.schema) so = (so.0, so.1, so.2, so.3, so.4, some_refusal s b so.2 so.4 so.5, so.6)
   serves_at s b input left o p (Err Ending.read) so = (so.0, so.1, so.2, some_answer s b (ended_lines so.0) so.2 so.3, so.4)
   serves_at s b input left o p (Err Ending.write) so = (so.0, so.1, so.2, so.3, so.4, some_due s b so.2 so.4 so.5, so.6)
+
+  -- ---- the stage alone
+
+  abbrev stands : S → Stage M S → Type 0
+  stands = StandsFrom opens step
+
+  led : (s : S) (b : Stage M S) (lines : List Text) (t : Text) → leads_to s b lines t → stands s b
+  led s b [] t so = subst (stands s) (sym so.0) refl
+  led s b (first ∷ lines) t so = subst (stands s) (sym so.1) (short_line first, so.0.opened, so.0.begins, map short_line lines, so.0.outcomes, so.0.steps)
+
+  given_back : (s : S) (b : Stage M S) (lines : List Text) (e : Refusal) → RefusedAt opens s b lines e → stands s b
+  given_back s b [] e so = subst (stands s) (sym so.0) refl
+  given_back s b (first ∷ lines) e so = subst (stands s) (sym so.2) (short_line first, e, so.1)
+
+  stands_due : (s : S) (b : Stage M S) (lines : List Text) (t : Text) → is_due s b lines t → stands s b
+  stands_due s b lines t (inl so) = led s b so.0 t so.3
+  stands_due s b lines t (inr so) = given_back s b lines so.0 so.1
+
+  -- what ends at a stage stands there
+  pub stands_at : (s : S) (b : Stage M S) (input left o p : Option Text) (r : Result (Unit {0}) Ending) → EndsBy (leads_to s b) (RefusedAt opens s b) input left o p r → stands s b
+  stands_at s b input left o p (Ok u) so = led s b (lines_of so.0) so.3 so.4
+  stands_at s b input left o p (Err Ending.schema) so = given_back s b so.2 so.4 so.5
+  stands_at s b input left o p (Err Ending.read) so = led s b (ended_lines so.0) so.2 so.3
+  stands_at s b input left o p (Err Ending.write) so = stands_due s b so.2 so.4 so.5

@@ -7,7 +7,7 @@ use Rattle.cat_model.specs.Text.{Text}
 use Rattle.cat_model.specs.Input.{ended_lines, last_line, lines_of, HaveCome}
 use Rattle.cat_model.specs.Served.{Outcome, outcome_text, refused_text, AppendsFront, Ending}
 use Rattle.cat_sending.specs.declared.pieces.WriteFault.{WriteFault}
-use Rattle.cat_serving.specs.Machine.{short_line, opened_text, IsAnswered}
+use Rattle.cat_serving.specs.Machine.{short_line, opened_text, IsAnswered, Steps}
 use Rattle.cat_serving.specs.declared.machine.Stage.{Stage}
 use Rattle.cat_serving.specs.declared.machine.Stage.TheVariants.{Waiting, Refused, Open}
 use Rattle.cat_serving.specs.declared.machine.Unopened.{Unopened}
@@ -116,6 +116,17 @@ last_lines (Refused back) gathered = []
 last_lines (Open machine) gathered = last_line gathered
 
 -- ---- the whole
+
+-- How a stage comes of a seed: the seed waits as it was, or is what opening by a line gave back, or opening by a line gave a
+-- machine that steps, one after another, left so.
+abbrev pub StandsFrom : {M S : Type 0} → (S → Option Text → Result M (Unopened S) → Type 0)
+    → (M → Option Text → Outcome → M → Type 0) → S → Stage M S → Type 0
+StandsFrom opens step seed (Waiting now) = now ≡ seed
+StandsFrom opens step seed (Refused back) =
+    (line : Option Text) × (e : Refusal) × opens seed line (Err (record { refusal = e; seed = back }))
+StandsFrom {M = M} opens step seed (Open left) =
+    (line : Option Text) × (opened : M) × opens seed line (Ok opened)
+    × (lines : List (Option Text)) × (outcomes : List Outcome) × Steps step opened lines outcomes left
 
 -- a first line is refused, and a seed is given back
 abbrev pub IsRefused : {M S : Type 0} → (Option Text → Result M (Unopened S) → Type 0) → Text → Refusal → Type 0

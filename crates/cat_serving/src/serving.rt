@@ -5,7 +5,7 @@ ghost use Rattle.cat_model.specs.Served.{refused_text, ServesBy};
 ghost use Rattle.cat_serving.specs.declared.machine.Stage.TheVariants.{Waiting};
 ghost use Rattle.cat_serving.specs.Machine.{short_line, IsAnswered};
 ghost use Rattle.cat_serving.specs.Serving.{Comes, IsReady, IsRefusedAs, Says, ServesLines, ended_as, ended_of, last_lines};
-ghost use Rattle.cat_serving.specs.Serving.{EndsBy, IsRefused, LeadsTo, RefusedAt};
+ghost use Rattle.cat_serving.specs.Serving.{EndsBy, IsRefused, LeadsTo, RefusedAt, StandsFrom};
 
 use crate::input::{MAX_GATHERED, gather, if_short, split_line, without_return};
 use crate::machine::{Machine, Stage, Unopened};
@@ -262,9 +262,10 @@ pub fn serve_machine<M: Machine, R: Read, W: Write>(
     ensures served { ServesBy (IsAnswered (M.opens seed) M.step M.token) (IsRefused (M.opens seed))
         (R.remaining reader.old) (R.remaining reader.new) (W.contents writer.old) (W.contents writer.new)
         (ended_as result.ended) }
-    ensures stage { EndsBy (LeadsTo M.opens M.step M.token seed result.stage) (RefusedAt M.opens seed result.stage)
+    ensures ends { EndsBy (LeadsTo M.opens M.step M.token seed result.stage) (RefusedAt M.opens seed result.stage)
         (R.remaining reader.old) (R.remaining reader.new) (W.contents writer.old) (W.contents writer.new)
         (ended_as result.ended) }
+    ensures stage { StandsFrom M.opens M.step seed result.stage }
 {
     let Ok(mut gathered) = Vec::with_capacity(alloc, MAX_GATHERED) else {
         let fault = refuse(Refusal::Memory, writer);

@@ -2,11 +2,11 @@ use Rattle.std.proofs.Common.{[], refl}
 use Rattle.std.proofs.KnownBytes.{Consumes-nil}
 use Rattle.cat_serving.specs.Serving.{ended_as}
 use Rattle.cat_serving.specs.declared.machine.Stage.TheVariants.{Waiting}
-use Rattle.cat_serving.proofs.Endings.{ends_unbuffered, serves_at}
+use Rattle.cat_serving.proofs.Endings.{ends_unbuffered, serves_at, stands_at}
 use Rattle.cat_serving.proofs.serving.serve_machine.Goals as goal
 
-pub returns-in_default-clause-stage : goal.returns-in_default-clause-stage
-returns-in_default-clause-stage g c =
+pub returns-in_default-clause-ends : goal.returns-in_default-clause-ends
+returns-in_default-clause-ends g c =
     let m = g.M.Machine in
     let input = g.R.Read.remaining c.args.reader.now in
     let before = g.W.Write.contents c.args.writer.now in
@@ -22,8 +22,8 @@ returns-in_default-clause-served g c =
     let ends = ends_unbuffered m.opens m.step m.token c.args.seed input input [] (Consumes-nil input) refl before after c.refuse-fault.result c.refuse-fault.ensures in
     serves_at m.opens m.step m.token c.args.seed (Waiting c.args.seed) input input before after _ ends
 
-pub returns-in_default-vec-clause-stage : goal.returns-in_default-vec-clause-stage
-returns-in_default-vec-clause-stage g c =
+pub returns-in_default-vec-clause-ends : goal.returns-in_default-vec-clause-ends
+returns-in_default-vec-clause-ends g c =
     let m = g.M.Machine in
     let input = g.R.Read.remaining c.args.reader.now in
     let before = g.W.Write.contents c.args.writer.now in
@@ -45,3 +45,8 @@ pub returns-clause-served : goal.returns-clause-served
 returns-clause-served g c =
     let m = g.M.Machine in
     serves_at m.opens m.step m.token c.args.seed c.serve_within.result.stage _ _ _ _ (ended_as c.serve_within.result.ended) c.serve_within.ensures
+
+pub returns-clause-stage : goal.returns-clause-stage
+returns-clause-stage g c =
+    let m = g.M.Machine in
+    stands_at m.opens m.step m.token c.args.seed c.serve_within.result.stage _ _ _ _ (ended_as c.serve_within.result.ended) c.serve_within.ensures
