@@ -1,5 +1,5 @@
 -- Sessions' rights to views, by session and token.
-use Rattle.std.specs.Prelude.{◌≡◌, ℕ, ◌==◌, ◌&&◌, Bool, false, List, Option, None, cond, find, AllPairs}
+use Rattle.std.specs.Prelude.{◌≡◌, ℕ, ◌==◌, ◌&&◌, Bool, false, List, Option, None, Some, cond, find, AllPairs}
 use Rattle.std.specs.List.{AllByRecursion}
 use Rattle.cat_model.specs.State as state
 use Rattle.cat_search.specs.Holds.{Hold}
@@ -15,6 +15,10 @@ right_of rights s t = find (is_of s t) rights
 -- no session has two rights to the view of a token
 abbrev pub AreApart : List Hold → Type 0
 AreApart rights = AllPairs (λ g h. is_of g.session g.view.token h ≡ false) rights
+
+-- the right is found by its session and the token of its view, and all other rights as before
+abbrev pub PutsIn : Hold → List Hold → List Hold → Type 0
+PutsIn right old new = (u v : ℕ) → right_of new u v ≡ cond (is_of u v right) (Some right) (right_of old u v)
 
 -- the session has no right to the view of the token any more, and all other rights are found as before
 abbrev pub TakesOut : ℕ → ℕ → List Hold → List Hold → Type 0

@@ -1,6 +1,7 @@
 //! The sessions' rights, by session and token.
-ghost use Rattle.std.specs.Prelude.{◌≡◌, ◌+◌, ◌<◌, ◌^◌, ◌++◌, [], ◌∷◌, ℕ, cond, eqb, if◌then◌else◌, is_some, length, option_map, None, Some, IfErr, IfNone, IfSome, OnErr, OnOk};
-ghost use Rattle.cat_rights.specs.Rights.{AreApart, TakesOut, is_of, right_of};
+ghost use Rattle.std.specs.Prelude.{◌≡◌, ◌+◌, ◌<◌, ◌^◌, ◌++◌, [], ◌∷◌, eqb, if◌then◌else◌, is_some, length, option_map};
+ghost use Rattle.std.specs.Prelude.{None, Some, IfErr, IfNone, IfSome, OnErr, OnOk};
+ghost use Rattle.cat_rights.specs.Rights.{AreApart, PutsIn, TakesOut, right_of};
 
 use crate::key::RightKey;
 use cat_base::{SessionNo, Token};
@@ -86,7 +87,7 @@ impl Rights {
     pub fn insert(&mut self, hold: Hold) -> Result<(), Hold>
         requires { right_of self.old hold.session hold.view.token ≡ None }
         ensures added { OnOk result (self.new ≡ self.old ++ hold ∷ []) }
-        ensures found { OnOk result ((s t : ℕ) → right_of self.new s t ≡ cond (is_of s t hold) (Some hold) (right_of self.old s t)) }
+        ensures found { OnOk result (PutsIn hold self.old self.new) }
         ensures returned { IfErr result (λ h. h ≡ hold) }
         ensures err { OnErr result (self.new ≡ self.old) }
     {

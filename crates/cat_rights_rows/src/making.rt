@@ -1,0 +1,61 @@
+//! Rights to views without rows.
+use cat_base::{Refusal, SessionNo, Token};
+use cat_rights::Rights;
+use cat_schema::Schema;
+use cat_search::{Hold, View};
+use std::alloc::Global;
+
+/// Gives the session a right to a view without rows at the token, and answers whether it had none.
+pub(crate) fn add(
+    alloc: Global,
+    rights: &mut Rights,
+    session: SessionNo,
+    token: Token,
+) -> Result<bool, Refusal> {
+    let schema = Schema::read(alloc, br#"{"price":"number"}"#)?;
+    let view = View::of(alloc, schema, Vec::new(alloc), token)?;
+    if rights.get(session, view.token()).is_some() {
+        return Ok(false);
+    }
+    match rights.insert(Hold::of(session, view)) {
+        Ok(()) => Ok(true),
+        Err(hold) => {
+            hold.give_up();
+            Err(Refusal::Memory)
+        }
+    }
+}
+
+/// Whether the session has a right to the view of the token, which is its own and to that view.
+pub(crate) fn has(rights: &Rights, session: SessionNo, token: Token) -> bool {
+    match rights.get(session, token) {
+        Some(hold) => hold.session() == session && hold.token() == token,
+        None => false,
+    }
+}
+
+/// Takes the session's right to the view of the token out, and answers whether there was one.
+pub(crate) fn take(rights: &mut Rights, session: SessionNo, token: Token) -> bool {
+    match rights.remove(session, token) {
+        Some(hold) => {
+            let is_its = hold.session() == session && hold.token() == token;
+            hold.give_up();
+            is_its
+        }
+        None => false,
+    }
+}
+
+/// Takes all rights out, and answers how many came.
+pub(crate) fn end(rights: Rights) -> usize {
+    let mut rights = rights;
+    // `len` is called for its bound, by which the count fits.
+    let _len = rights.len();
+    let mut count = 0;
+    while let Some(hold) = rights.pop() {
+        hold.give_up();
+        count += 1;
+    }
+    rights.destroy_empty();
+    count
+}
