@@ -1,4 +1,5 @@
 pub mod Answering
 pub mod Grants
 pub mod Ledgers
+pub mod Openings
 pub mod Stats

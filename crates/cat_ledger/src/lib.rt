@@ -4,6 +4,7 @@
 mod commits;
 mod ledger;
 mod merges;
+mod opening;
 mod room;
 mod sweeps;
 mod telling;
@@ -11,5 +12,6 @@ mod views;
 mod writes;
 
 pub use ledger::Ledger;
+pub use opening::NotOpened;
 pub use telling::{SegmentStat, Stat};
 pub use views::{Grant, Released};

@@ -1,0 +1,28 @@
+use Rattle.std.proofs.Common.{◌∙◌}
+use Rattle.cat_ledger.proofs.Swept.{opened_alike, opened_begins, opened_schema, swept_users}
+use Rattle.cat_ledger.proofs.opening.open_swept.Goals as goal
+
+pub returns-clause-ok : goal.returns-clause-ok
+returns-clause-ok g c = record {
+  state = c.in_ok-core.core;
+  opened = opened_alike (g.D.Holder.bytes c.args.device.now) (g.D.Holder.bytes c.«open».new.device) c.args.schema c.in_ok-core.core c.«open».ensures.same c.in_ok-core.ensures.ok;
+  swept = c.sweep-swept.ensures.leaves;
+  kept = λ q some. c.sweep-swept.ensures.used q some ∙ c.«open».ensures.same q;
+}
+
+pub returns-clause-fields : goal.returns-clause-fields
+returns-clause-fields g c =
+    opened_schema (g.D.Holder.bytes c.args.device.now) c.args.schema c.in_ok-core.core c.sweep-swept.new.self
+    (opened_alike (g.D.Holder.bytes c.args.device.now) (g.D.Holder.bytes c.«open».new.device) c.args.schema c.in_ok-core.core c.«open».ensures.same c.in_ok-core.ensures.ok)
+    c.sweep-swept.ensures.leaves
+
+pub returns-clause-stands : goal.returns-clause-stands
+returns-clause-stands g c =
+    opened_begins (g.D.Holder.bytes c.args.device.now) (g.D.Holder.bytes c.sweep-swept.new.device) c.args.schema c.in_ok-core.core c.sweep-swept.new.self
+    (opened_alike (g.D.Holder.bytes c.args.device.now) (g.D.Holder.bytes c.«open».new.device) c.args.schema c.in_ok-core.core c.«open».ensures.same c.in_ok-core.ensures.ok)
+    c.sweep-swept.ensures.leaves (λ q some. c.sweep-swept.ensures.used q some ∙ c.«open».ensures.same q)
+
+pub returns-clause-crash : goal.returns-clause-crash
+returns-clause-crash g c =
+    λ q some e after. c.«open».ensures.crash q e
+    (c.sweep-swept.ensures.crash q (swept_users c.in_ok-core.core c.sweep-swept.new.self q c.sweep-swept.ensures.leaves some) e after)

@@ -1,0 +1,17 @@
+-- What a ledger is that was opened.
+use Rattle.std.specs.Prelude.{◌≡◌, ◌<◌, []}
+use Rattle.cat_model.specs.Item.{Schema}
+use Rattle.cat_directory.specs.declared.name.FileName.{FileName}
+use Rattle.cat_directory.specs.Names.{name_of}
+use Rattle.cat_ledger_model.specs.Users.{users_of}
+use Rattle.cat_ledger_shape.specs.Shapes.{Shape}
+use Rattle.cat_ledger_shape.specs.Steps.{Leaves}
+use Rattle.cat_ledger_shape.specs.Ties.{ToldFiles}
+use Rattle.cat_ledger_opening.specs.Opened.{HasOpened}
+
+-- It was opened, and then what nobody needs was swept: what memory had at first, of the files as they were told, and what the sweep left.
+pub record IsOpenedLedger (told : ToldFiles) (schema : Schema) (told' : ToldFiles) (s : Shape) : Type 0 where
+  pub state : Shape
+  pub opened : HasOpened told schema told state
+  pub swept : Leaves [] state s
+  pub kept : (q : FileName) → 0 < users_of state.users (name_of q) → told' q ≡ told q

@@ -1,0 +1,94 @@
+//! Opening: at the newest commit of a directory, or where there is none.
+//!
+//! Lucene's constructor of `IndexWriter` with `OpenMode.CREATE_OR_APPEND`, and that of its `IndexFileDeleter`.
+ghost use Rattle.std.specs.Prelude.{◌≡◌, ◌<◌, [], IfOk, IfErr, OnErr};
+ghost use Rattle.cat_base.specs.declared.refusal.Refusal.TheVariants.{Damaged, Device, Kind};
+ghost use Rattle.cat_model.specs.Table.{Opened};
+ghost use Rattle.cat_directory.specs.Devices.{NoMore};
+ghost use Rattle.cat_directory.specs.Names.{name_of};
+ghost use Rattle.cat_directory.specs.declared.name.FileName.{FileName};
+ghost use Rattle.cat_ledger_model.specs.Users.{users_of};
+ghost use Rattle.cat_ledger_lines.specs.RunLaws.{Stands};
+ghost use Rattle.cat_ledger_opening.specs.Refused.{IsNewestDamaged, IsNewestForeign};
+ghost use Rattle.cat_ledger.specs.Ledgers.{device_in, policy_in, shape_in};
+ghost use Rattle.cat_ledger.specs.Openings.{IsOpenedLedger};
+
+use crate::ledger::Ledger;
+use cat_base::Refusal;
+use cat_directory::{Directory, Shelf};
+use cat_ledger_core::Core;
+use cat_schema::Schema;
+use cat_upkeep::MergePolicy;
+use std::alloc::Global;
+
+/// Why no ledger was opened, and the directory, from which nothing was deleted.
+#[derive(Drop)]
+pub struct NotOpened<D> {
+    /// The first that was due.
+    pub refusal: Refusal,
+    /// The directory that was to be opened.
+    pub device: D,
+}
+
+/// Opens the state, and then deletes the files that nobody needs, as far as they can be.
+fn open_swept<D: Directory + Shelf>(
+    alloc: Global,
+    device: &mut D,
+    schema: Schema,
+) -> Result<Core, Refusal>
+    ensures ok { IfOk result (IsOpenedLedger (D.bytes device.old) schema (D.bytes device.new)) }
+    ensures fields { IfOk result (λ s. s.schema ≡ schema) }
+    ensures stands { IfOk result (λ s. (from : Opened) × (from.start.schema ≡ schema) × Stands (D.bytes device.new) s from []) }
+    ensures crash { IfOk result (λ s. (q : FileName) → 0 < users_of s.users (name_of q)
+        → NoMore (D.may_leave device.old q) (D.may_leave device.new q)) }
+    ensures damaged { IfErr result (λ e. e ≡ Damaged → IsNewestDamaged (D.bytes device.old) schema) }
+    ensures foreign { IfErr result (λ e. e ≡ Kind → IsNewestForeign (D.bytes device.old) schema) }
+    ensures device { IfErr result (λ e. e ≡ Device → D.can_fail device.old) }
+    ensures same { OnErr result ((q : FileName) → D.bytes device.new q ≡ D.bytes device.old q) }
+    ensures spared { OnErr result ((q : FileName) → NoMore (D.may_leave device.old q) (D.may_leave device.new q)) }
+    ensures can { D.can_fail device.new → D.can_fail device.old }
+{
+    let mut core = cat_ledger_opening::open(alloc, device, schema)?;
+    // Where a file can't be deleted, or memory is wanting, names stay pending for a later sweep.
+    let _swept = core.sweep(device);
+    Ok(core)
+}
+
+impl<D: Directory + Shelf> Ledger<D> {
+    /// Opens the newest commit of the directory, or an empty catalogue where there is none, under this schema. What the commit needs
+    /// outlasts a loss of power before anything goes; then the files that it doesn't need are deleted, and one that can't be stays
+    /// pending. (Lucene: the constructor of `IndexWriter` with `OpenMode.CREATE_OR_APPEND`.)
+    ///
+    /// [`Refusal::Kind`] where the commit has another schema, [`Refusal::Damaged`] where its files don't hold it,
+    /// [`Refusal::Device`] where the directory fails, or [`Refusal::Memory`]. Then nothing is deleted.
+    pub fn open(
+        alloc: Global,
+        device: D,
+        schema: Schema,
+        policy: MergePolicy,
+    ) -> Result<Ledger<D>, NotOpened<D>>
+        ensures ok { IfOk result (λ l. IsOpenedLedger (D.bytes device) schema (D.bytes (device_in l)) (shape_in l)) }
+        ensures fields { IfOk result (λ l. (shape_in l).schema ≡ schema) }
+        ensures policy { IfOk result (λ l. policy_in l ≡ policy) }
+        ensures stands { IfOk result (λ l. (from : Opened) × (from.start.schema ≡ schema)
+            × Stands (D.bytes (device_in l)) (shape_in l) from []) }
+        ensures crash { IfOk result (λ l. (q : FileName) → 0 < users_of (shape_in l).users (name_of q)
+            → NoMore (D.may_leave device q) (D.may_leave (device_in l) q)) }
+        ensures damaged { IfErr result (λ e. e.refusal ≡ Damaged → IsNewestDamaged (D.bytes device) schema) }
+        ensures foreign { IfErr result (λ e. e.refusal ≡ Kind → IsNewestForeign (D.bytes device) schema) }
+        ensures device { IfErr result (λ e. e.refusal ≡ Device → D.can_fail device) }
+        ensures same { IfErr result (λ e. (q : FileName) → D.bytes e.device q ≡ D.bytes device q) }
+        ensures spared { IfErr result (λ e. (q : FileName) → NoMore (D.may_leave device q) (D.may_leave e.device q)) }
+    {
+        let mut device = device;
+        match open_swept(alloc, &mut device, schema) {
+            Ok(core) => Ok(Ledger {
+                alloc,
+                device,
+                core,
+                policy,
+            }),
+            Err(refusal) => Err(NotOpened { refusal, device }),
+        }
+    }
+}
