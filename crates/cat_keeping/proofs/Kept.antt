@@ -1,0 +1,16 @@
+-- What a call leaves of a ledger that it doesn't change.
+use Rattle.std.proofs.Common.{◌≡◌, ap, subst}
+use Rattle.cat_directory.specs.Devices.{FileContent}
+use Rattle.cat_directory.specs.declared.name.FileName.{FileName}
+use Rattle.cat_ledger_shape.specs.Ties.{ToldFiles}
+use Rattle.cat_ledger_lines.specs.LineLaws.{NothingChanges}
+use Rattle.cat_ledger.specs.Ledgers.{Spares, device_in, shape_in}
+use Rattle.cat_ledger.specs.declared.ledger.Ledger.{Ledger}
+
+pub unchanged : {D : Type 0} (bytes : D → ToldFiles) (old new : Ledger D) → new ≡ old
+    → NothingChanges (bytes (device_in old)) (shape_in old) (bytes (device_in new)) (shape_in new)
+unchanged bytes old new same = (ap shape_in same, λ q. ap (λ l. bytes (device_in l) q) same)
+
+pub spares_same : {D : Type 0} (left : D → FileName → FileContent → Type 0) (old new : Ledger D) → device_in new ≡ device_in old
+    → Spares left old new
+spares_same left old new same q fresh merging e might = subst (λ d. left d q e) same might

@@ -1,0 +1,21 @@
+use Rattle.std.proofs.Common.{◌≡◌, ◌∙◌, ap, sym}
+use Rattle.std.specs.Prelude.{Ok, Err, cond, true}
+use Rattle.cat_base.specs.declared.refusal.Refusal.TheVariants.{Id}
+use Rattle.cat_model.specs.Heard.{id_of}
+use Rattle.cat_model.specs.Run.{Command}
+use Rattle.cat_ledger.specs.Ledgers.{device_in, policy_in, shape_in}
+use Rattle.cat_ledger_lines.proofs.LineAnswers.{deletes_answer}
+use Rattle.cat_keeping.proofs.Answered.{delete_refused, tells_same}
+use Rattle.cat_keeping.proofs.Kept.{unchanged}
+use Rattle.cat_keeping.proofs.writing.delete.Goals as goal
+
+pub returns-in-Err-clause-answers : goal.returns-in-Err-clause-answers
+returns-in-Err-clause-answers g c = λ session.
+    let old = c.args.ledger.now in
+    let new = c.delete.new.self in
+    let right : id_of c.args.id.now ≡ Ok c.args.id.now = ap (λ b. cond b (Ok c.args.id.now) (Err Id)) (sym c.id_ok.ensures ∙ c.if-not-id_ok.false) in (
+      Command.delete (Ok c.args.id.now),
+      ap Command.delete (sym right),
+      delete_refused (policy_in old) (g.D.Holder.bytes (device_in old)) (g.D.Holder.bytes (device_in new)) (shape_in old) (shape_in new) session
+          c.args.id.now c.in-Err.refusal c.in-Err.ensures.spent (unchanged g.D.Holder.bytes old new c.in-Err.ensures.err) c.in-Err.ensures.refusal,
+    )

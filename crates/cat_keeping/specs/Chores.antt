@@ -1,0 +1,96 @@
+-- What maintenance tells of a ledger, when it is refused, and which files it spares.
+use Rattle.std.specs.Prelude.{ℕ, ◌≡◌, ◌≢◌, ◌⊎◌, ◌<◌, ◌≤◌, ◌==◌, None, length, map, count_by}
+use Rattle.cat_base.specs.declared.refusal.Refusal.{Refusal}
+use Rattle.cat_base.specs.declared.refusal.Refusal.TheVariants.{Damaged, Device, Memory, Spent}
+use Rattle.cat_model.specs.Limits.{last_number}
+use Rattle.cat_model.specs.Run as run
+use Rattle.cat_model.specs.View.{Leaf}
+use Rattle.cat_directory.specs.Devices.{FileContent, NoMore}
+use Rattle.cat_directory.specs.Names.{name_of}
+use Rattle.cat_directory.specs.declared.name.FileName.{FileName}
+use Rattle.cat_ledger_model.specs.Ledger.{IsNew}
+use Rattle.cat_ledger_model.specs.Plans.{MergePolicy}
+use Rattle.cat_ledger_model.specs.Users.{users_of}
+use Rattle.cat_ledger_shape.specs.Shapes.{Shape}
+use Rattle.cat_ledger_core.specs.Cores.{HasRowsLeft}
+use Rattle.cat_ledger_core.specs.Installs.{IsOfMerge}
+use Rattle.cat_upkeep.specs.Due.{IsForceDue, IsMergeDue}
+use Rattle.cat_ledger.specs.Ledgers.{device_in, shape_in}
+use Rattle.cat_ledger.specs.declared.ledger.Ledger.{Ledger}
+use Rattle.cat_ledger.specs.declared.telling.SegmentStat as ledger
+use Rattle.cat_replies.specs.declared.news.SegmentStat.{SegmentStat}
+use Rattle.cat_keeping.specs.declared.chores.Chore.{Chore}
+use Rattle.cat_keeping.specs.declared.chores.Chore.TheVariants.{Force, Merge, Stat, Sweep, Warm}
+
+-- what the command asks for
+abbrev pub chore_of : Chore → run.Chore
+chore_of Merge = run.Chore.merge
+chore_of Force = run.Chore.force
+chore_of Warm = run.Chore.warm
+chore_of Sweep = run.Chore.sweep
+chore_of Stat = run.Chore.stat
+
+-- ---- what is told
+
+-- what is told of a segment that the ledger tells of
+abbrev pub stat_told : ledger.SegmentStat → SegmentStat
+stat_told s = record { number = s.number; rows = s.rows; live = s.live }
+
+-- and of one that stands: its number, its rows, and how many of them are live
+abbrev pub segment_told : Leaf → run.SegmentStat
+segment_told leaf = record { number = leaf.segment.number; rows = length leaf.segment.rows; live = count_by (λ b. b) leaf.live }
+
+-- how many files nobody needs
+abbrev pub pending_in : Shape → ℕ
+pending_in s = count_by (λ u. u.users == 0) s.users
+
+-- How the service stands. No set of rows is cached.
+abbrev pub stat_in : Shape → run.Stat
+stat_in s = record {
+  writes = s.count;
+  buffered = length s.buffered;
+  views = length s.views;
+  cached = 0;
+  pending = pending_in s;
+  segments = map segment_told s.leaves;
+}
+
+-- What is told, besides its form: SWEEP tells of all files that nobody needs, and STAT of the ledger as it stands. No set of rows is
+-- ever begun, so that none is to be warmed. What merges tell is said where they are answered.
+abbrev pub Tells : Shape → Chore → run.Answer → Type 0
+Tells s Merge a = Unit {0}
+Tells s Force a = Unit {0}
+Tells s Warm a = a ≡ run.Answer.news run.News.idle
+Tells s Sweep a = a ≡ run.Answer.news (run.News.swept (pending_in s))
+Tells s Stat a = a ≡ run.Answer.news (run.News.state (stat_in s))
+
+-- ---- when it is refused
+
+-- a step of merges may be refused so: want of memory is not tied to what is due
+pub record MayRefuseMerge (policy : MergePolicy) (s : Shape) (e : Refusal) : Type 0 where
+  pub spent : e ≡ Spent → IsMergeDue policy s × (last_number < s.next_segment)
+  pub left : (e ≡ Device) ⊎ (e ≡ Damaged) → (s.merging ≢ None) ⊎ (IsMergeDue policy s × (s.next_segment ≤ last_number))
+  pub damaged : e ≡ Damaged → HasRowsLeft s.merging
+
+-- a merge of all may be refused so, where one is to be begun
+pub record MayRefuseForce (s : Shape) (e : Refusal) : Type 0 where
+  pub due : IsForceDue s
+  pub spent : e ≡ Spent → last_number < s.next_segment
+  pub left : (e ≡ Memory) ⊎ (e ≡ Device) → s.next_segment ≤ last_number
+
+-- Maintenance that session 0 asks for may be refused so. WARM never is.
+abbrev pub MayRefuse : MergePolicy → Shape → Chore → Refusal → Type 0
+MayRefuse policy s Merge e = MayRefuseMerge policy s e
+MayRefuse policy s Force e = MayRefuseForce s e
+MayRefuse policy s Warm e = ⊥
+MayRefuse policy s Sweep e = (e ≡ Memory) ⊎ (e ≡ Device)
+MayRefuse policy s Stat e = e ≡ Memory
+
+-- ---- what a crash may leave
+
+-- A crash may leave of each file that somebody needs what it could have left before the call, but of one with a number that was not
+-- taken, and of those of the merge in the making. The first argument says what a crash may leave of a device's files.
+abbrev pub SparesUsed : {D : Type 0} → (D → FileName → FileContent → Type 0) → Ledger D → Ledger D → Type 0
+SparesUsed left old new = (q : FileName) → 0 < users_of (shape_in old).users (name_of q)
+    → (IsNew (shape_in old).next_segment (shape_in old).next_generation (name_of q) → ⊥)
+    → (IsOfMerge (shape_in old).merging q → ⊥) → NoMore (left (device_in old) q) (left (device_in new) q)

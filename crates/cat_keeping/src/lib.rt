@@ -1,0 +1,16 @@
+//! The commands that need no right to a view: what a ledger answers to them.
+#![tactic(auto)]
+
+mod chores;
+mod committing;
+mod merging;
+mod stats;
+mod telling;
+mod viewing;
+mod writing;
+
+pub use chores::{Chore, maintain};
+pub use committing::{commit, release_snapshot, snapshot};
+pub use telling::{files_of_commit, text_of_commit};
+pub use viewing::{prune, refresh};
+pub use writing::{delete, delete_where, put};
