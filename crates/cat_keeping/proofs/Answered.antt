@@ -1,6 +1,6 @@
 -- What is answered to a command, from what the ledger's call says.
-use Rattle.std.proofs.Common.{◌≡◌, ℕ, ◌<◌, ◌≤◌, Bool, true, false, cond, not, ◌&&◌, ltb, [], length, refl, sym, ◌∙◌, ap, subst, inl, inr, arith}
-use Rattle.std.specs.Prelude.{◌≢◌, ◌⊎◌, Option, None, Some, Result, Ok, Err, IfErr, IsTrue, ◌==◌}
+use Rattle.std.proofs.Common.{◌≡◌, ℕ, ◌<◌, ◌≤◌, Bool, true, false, cond, not, ◌&&◌, ltb, [], length, refl, sym, ◌∙◌, subst, inl, inr, arith}
+use Rattle.std.specs.Prelude.{◌≢◌, ◌⊎◌, None, Some, Result, Ok, Err, IfErr, IsTrue, ◌==◌}
 use Rattle.std.specs.List.{list_all, list_any}
 use Rattle.std.proofs.lemmas.Bool.{cases_Bool, cases_lt}
 use Rattle.cat_base.specs.declared.refusal.Refusal.{Refusal}
@@ -52,9 +52,15 @@ own_text true plain text t e = absurd (let no : ◌≡◌ {A = Result Text Refus
 own_text false true text t e = refl
 own_text false false text t e = absurd (let no : ◌≡◌ {A = Result Text Refusal} (Err Kind) (Ok t) = e in cc)
 
--- a failure is no want of memory
-pub not_memory : {e : Refusal} → e ≡ Device → e ≢ Memory
-not_memory failed memory = absurd (let both : Device ≡ Memory = sym failed ∙ memory in cc)
+-- another refusal is no want of memory
+pub not_memory : {e : Refusal} (other : Refusal) → other ≢ Memory → e ≡ other → e ≢ Memory
+not_memory other differs is memory = differs (sym is ∙ memory)
+
+pub failure_differs : Device ≢ Memory
+failure_differs = λ h. cc h
+
+pub limit_differs : Spent ≢ Memory
+limit_differs = λ h. cc h
 
 -- the refusal of an error is its own
 pub err_is : {A : Type 0} {a b : Refusal} → ◌≡◌ {A = Result A Refusal} (Err a) (Err b) → a ≡ b

@@ -1,13 +1,14 @@
 //! The commands that keep commits, and let them go.
 //!
 //! Lucene's `IndexWriter.commit` with `setLiveCommitData`, and `SnapshotDeletionPolicy.snapshot` and `release`.
-ghost use Rattle.std.specs.Prelude.{◌≡◌, ℕ, ◌<◌, IfErr, OnErr, Ok, Err, None, Some};
-ghost use Rattle.cat_base.specs.declared.refusal.Refusal.TheVariants.{Memory, NoCommit, NoSnapshot, Spent};
+ghost use Rattle.std.specs.Prelude.{◌≡◌, ◌⊎◌, ℕ, ◌<◌, IfErr, OnErr, Ok, Err, Some};
+ghost use Rattle.cat_base.specs.declared.refusal.Refusal.TheVariants.{Memory, Spent};
 ghost use Rattle.cat_model.specs.Heard.{commit_text_of};
 ghost use Rattle.cat_model.specs.Limits.{last_number, snapshot_limit};
 ghost use Rattle.cat_model.specs.Lines.{Said};
 ghost use Rattle.cat_model.specs.State.{snapshots_in};
 ghost use Rattle.cat_ledger_shape.specs.Steps.{newest_generation};
+ghost use Rattle.cat_ledger_core.specs.Cores.{MayNotFlush};
 ghost use Rattle.cat_ledger.specs.Answering.{AnswersSaid};
 ghost use Rattle.cat_ledger.specs.Ledgers.{Spares, device_in, policy_in, shape_in};
 ghost use Rattle.cat_replies.specs.Reply.{reply_of};
@@ -29,6 +30,8 @@ pub fn commit<D: Directory + Shelf>(ledger: &mut Ledger<D>, text: &str) -> Resul
     ensures wrong { IfErr (commit_text_of text.now) (λ e. (result ≡ Err e) × (ledger.new ≡ ledger.old)) }
     ensures none { commit_text_of text.now ≡ Ok text.now → last_number < (shape_in ledger.old).next_generation
         → (result ≡ Err Spent) × (ledger.new ≡ ledger.old) }
+    ensures spent { commit_text_of text.now ≡ Ok text.now → IfErr result (λ e. e ≡ Spent
+        → (last_number < (shape_in ledger.old).next_generation) ⊎ MayNotFlush (shape_in ledger.old)) }
     ensures crash { Spares D.may_leave ledger.old ledger.new }
     ensures can { D.can_fail (device_in ledger.new) → D.can_fail (device_in ledger.old) }
     ensures policy { policy_in ledger.new ≡ policy_in ledger.old }

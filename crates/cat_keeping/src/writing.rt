@@ -1,17 +1,18 @@
 //! The commands that write: each accepted one takes the next number.
 //!
 //! Lucene's `IndexWriter.updateDocument` and `deleteDocuments`, of the texts that a line carries.
-ghost use Rattle.std.specs.Prelude.{◌≡◌, ◌≢◌, ℕ, ◌≤◌, IfOk, IfErr, IfSome, OnErr, Result, Err, Ok, true};
+ghost use Rattle.std.specs.Prelude.{◌≡◌, ◌≢◌, ◌⊎◌, ℕ, ◌≤◌, length, IfOk, IfErr, IfSome, OnErr, Result, Err, Ok, true};
 ghost use Rattle.cat_base.specs.declared.refusal.Refusal.TheVariants.{Device, Memory, Query as NoQuery, Spent};
 ghost use Rattle.cat_model.specs.Faults.{Fault};
 ghost use Rattle.cat_model.specs.Grammar.{Spells};
 ghost use Rattle.cat_model.specs.Heard.{IsQueryOf, id_of};
 ghost use Rattle.cat_model.specs.Item.{IsItem, is_id};
-ghost use Rattle.cat_model.specs.Limits.{last_number};
+ghost use Rattle.cat_model.specs.Limits.{buffer_limit, last_number};
 ghost use Rattle.cat_model.specs.Lines.{Said};
 ghost use Rattle.cat_model.specs.Query as model;
 ghost use Rattle.cat_schema.specs.Reading.{item_of, source_fault};
 ghost use Rattle.cat_query.specs.View.{query_of};
+ghost use Rattle.cat_ledger_core.specs.Cores.{MayNotFlush};
 ghost use Rattle.cat_ledger.specs.Answering.{AnswersSaid};
 ghost use Rattle.cat_ledger.specs.Ledgers.{Spares, device_in, policy_in, shape_in};
 ghost use Rattle.cat_replies.specs.Reply.{reply_of};
@@ -57,6 +58,8 @@ pub fn put<D: Directory + Shelf>(
 ) -> Result<Answer, Refusal>
     ensures answers { (session : ℕ) → AnswersSaid D.bytes session (Said.put text.now) ledger.old (reply_of result) ledger.new }
     ensures due { IfSome (source_fault text.now) (λ e. result ≡ Err e) }
+    ensures spent { IfErr result (λ e. e ≡ Spent → (last_number ≤ (shape_in ledger.old).count)
+        ⊎ ((buffer_limit ≤ length (shape_in ledger.old).buffered) × MayNotFlush (shape_in ledger.old))) }
     ensures device { IfErr result (λ e. e ≡ Device → D.can_fail (device_in ledger.old)) }
     ensures crash { Spares D.may_leave ledger.old ledger.new }
     ensures can { D.can_fail (device_in ledger.new) → D.can_fail (device_in ledger.old) }

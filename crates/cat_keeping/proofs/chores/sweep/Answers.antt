@@ -9,7 +9,7 @@ returns-in-Err-clause-answers g c =
     let old = c.args.ledger.now in
     let new = c.sweep.new.self in
     sweep_refused (policy_in old) (g.D.Holder.bytes (device_in old)) (g.D.Holder.bytes (device_in new)) (shape_in old) (shape_in new)
-        c.in-Err.refusal c.in-Err.ensures.ok c.in-Err.ensures.refusal
+    c.in-Err.refusal c.in-Err.ensures.ok c.in-Err.ensures.refusal
 
 pub returns-in-Ok-clause-answers : goal.returns-in-Ok-clause-answers
 returns-in-Ok-clause-answers g c =
@@ -18,4 +18,4 @@ returns-in-Ok-clause-answers g c =
     let told = g.D.Holder.bytes (device_in old) in
     let told' = g.D.Holder.bytes (device_in new) in
     chores_answer (policy_in old) told told' (shape_in old) (shape_in new) Chore.sweep (News.swept c.in-Ok.files)
-        (sweeps_tell (policy_in old) told told' (shape_in old) (shape_in new) c.in-Ok.files c.in-Ok.ensures.ok)
+    (sweeps_tell (policy_in old) told told' (shape_in old) (shape_in new) c.in-Ok.files c.in-Ok.ensures.ok)

@@ -16,12 +16,12 @@ returns-in-Ok-clause-answers g c =
     let told = g.D.Holder.bytes (device_in old) in
     let told' = g.D.Holder.bytes (device_in new) in
     subst (λ n. Answers (policy_in old) told (shape_in old) (line_of 0 (Command.chore Chore.force)) (Ok (Answer.news n)) told' (shape_in new))
-        (sym c.news_told.ensures)
-        (chores_answer (policy_in old) told told' (shape_in old) (shape_in new) Chore.force (news_of c.in-Ok.news) c.in-Ok.ensures.ok)
+    (sym c.news_told.ensures)
+    (chores_answer (policy_in old) told told' (shape_in old) (shape_in new) Chore.force (news_of c.in-Ok.news) c.in-Ok.ensures.ok)
 
 pub returns-in-Err-clause-answers : goal.returns-in-Err-clause-answers
 returns-in-Err-clause-answers g c =
     let old = c.args.ledger.now in
     let new = c.force.new.self in
     force_refused (policy_in old) (g.D.Holder.bytes (device_in old)) (g.D.Holder.bytes (device_in new)) (shape_in old) (shape_in new)
-        c.in-Err.refusal c.in-Err.ensures.err c.in-Err.ensures.refusal
+    c.in-Err.refusal c.in-Err.ensures.err c.in-Err.ensures.refusal

@@ -11,9 +11,9 @@ returns g c =
     let told = c.in_ok-told.ensures in
     let leaves = (shape_in c.args.ledger.now).leaves in
     let segments : map segment_of c.in_ok-segments.segments.items ≡ map segment_told leaves =
-        ap (map segment_of) (c.in_ok-segments.ensures ∙ ap (map stat_told) (c.as_slice.ensures.value ∙ told.segments))
-        ∙ map_twice stat_told segment_of (map segment_stat leaves)
-        ∙ map_twice segment_stat (λ x. segment_of (stat_told x)) leaves in
+    ap (map segment_of) (c.in_ok-segments.ensures ∙ ap (map stat_told) (c.as_slice.ensures.value ∙ told.segments))
+    ∙ map_twice stat_told segment_of (map segment_stat leaves)
+    ∙ map_twice segment_stat (λ x. segment_of (stat_told x)) leaves in
     λ i. record {
       writes = told.writes i;
       buffered = told.buffered i;

@@ -1,5 +1,5 @@
 use Rattle.std.proofs.Common.{◌∙◌, refl, subst, sym}
-use Rattle.std.specs.Prelude.{Err, Ok}
+use Rattle.std.specs.Prelude.{Ok}
 use Rattle.cat_base.specs.declared.refusal.Refusal.TheVariants.{NoCommit}
 use Rattle.cat_model.specs.Run.{Answer, Command}
 use Rattle.cat_ledger.specs.Ledgers.{device_in, policy_in, shape_in}

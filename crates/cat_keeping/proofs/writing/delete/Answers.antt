@@ -1,11 +1,10 @@
 use Rattle.std.proofs.Common.{◌≡◌, ◌∙◌, ap, sym}
-use Rattle.std.specs.Prelude.{Ok, Err, cond, true}
+use Rattle.std.specs.Prelude.{Ok, Err, cond}
 use Rattle.cat_base.specs.declared.refusal.Refusal.TheVariants.{Id}
 use Rattle.cat_model.specs.Heard.{id_of}
 use Rattle.cat_model.specs.Run.{Command}
 use Rattle.cat_ledger.specs.Ledgers.{device_in, policy_in, shape_in}
-use Rattle.cat_ledger_lines.proofs.LineAnswers.{deletes_answer}
-use Rattle.cat_keeping.proofs.Answered.{delete_refused, tells_same}
+use Rattle.cat_keeping.proofs.Answered.{delete_refused}
 use Rattle.cat_keeping.proofs.Kept.{unchanged}
 use Rattle.cat_keeping.proofs.writing.delete.Goals as goal
 

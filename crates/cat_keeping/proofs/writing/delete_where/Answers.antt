@@ -13,7 +13,7 @@ pub returns-in-Err-clause-answers : goal.returns-in-Err-clause-answers
 returns-in-Err-clause-answers g c = λ session.
     let old = c.args.ledger.now in
     query_unread (policy_in old) (g.D.Holder.bytes (device_in old)) (g.D.Holder.bytes (device_in old)) (shape_in old) (shape_in old) session
-        c.args.text.now c.in-Err.refusal c.in-Err.ensures.err c.read_query.ensures.judged (refl, λ q. refl)
+    c.args.text.now c.in-Err.refusal c.in-Err.ensures.err c.read_query.ensures.judged (refl, λ q. refl)
 
 pub returns-in-Ok-delete_where-clause-answers : goal.returns-in-Ok-delete_where-clause-answers
 returns-in-Ok-delete_where-clause-answers g c = λ session.

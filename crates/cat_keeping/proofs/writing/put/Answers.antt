@@ -1,11 +1,12 @@
 use Rattle.std.proofs.Common.{◌+◌, ap, refl, sym}
 use Rattle.std.specs.Prelude.{Ok}
+use Rattle.cat_base.specs.declared.refusal.Refusal.TheVariants.{Device, Spent}
 use Rattle.cat_model.specs.Run.{Command}
 use Rattle.cat_schema.specs.Reading.{item_of}
 use Rattle.cat_ledger.specs.Ledgers.{device_in, policy_in, shape_in}
 use Rattle.cat_ledger_lines.proofs.LineAnswers.{puts_answer}
-use Rattle.cat_keeping.proofs.Answered.{err_is, not_memory, put_refused, put_unread, tells_same}
-use Rattle.cat_keeping.proofs.ItemFaults.{no_failure}
+use Rattle.cat_keeping.proofs.Answered.{err_is, failure_differs, limit_differs, not_memory, put_refused, put_unread, tells_same}
+use Rattle.cat_keeping.proofs.ItemFaults.{is_of_text}
 use Rattle.cat_keeping.proofs.Kept.{unchanged}
 use Rattle.cat_keeping.proofs.writing.put.Goals as goal
 
@@ -47,4 +48,8 @@ returns-in-Err-put-clause-answers g c = λ session.
 
 pub returns-in-Err-clause-device : goal.returns-in-Err-clause-device
 returns-in-Err-clause-device g c = λ is.
-    absurd (no_failure (shape_in c.args.ledger.now).schema c.args.text.now c.in-Err.refusal (c.in-Err.ensures.err (not_memory is)) is)
+    absurd ((is_of_text (shape_in c.args.ledger.now).schema c.args.text.now c.in-Err.refusal (c.in-Err.ensures.err (not_memory Device failure_differs is))).0 is)
+
+pub returns-in-Err-clause-spent : goal.returns-in-Err-clause-spent
+returns-in-Err-clause-spent g c = λ is.
+    absurd ((is_of_text (shape_in c.args.ledger.now).schema c.args.text.now c.in-Err.refusal (c.in-Err.ensures.err (not_memory Spent limit_differs is))).1 is)
