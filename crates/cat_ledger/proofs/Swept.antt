@@ -1,5 +1,7 @@
 -- What a ledger carries that was opened, once it was swept.
-use Rattle.std.proofs.Common.{inl, inr, ◌≡◌, ◌<◌, List, [], refl, sym, ◌∙◌, ap, subst}
+use Rattle.std.proofs.Common.{inl, inr, ◌≡◌, ◌⊎◌, ℕ, ◌<◌, List, [], refl, sym, ◌∙◌, ap, subst}
+use Rattle.cat_base.specs.declared.refusal.Refusal.{Refusal}
+use Rattle.cat_base.specs.declared.refusal.Refusal.TheVariants.{Damaged, Device, Kind, Memory}
 use Rattle.cat_model.specs.Item.{Schema}
 use Rattle.cat_model.specs.State.{IsFresh, StandsFor, opened_as}
 use Rattle.cat_model.specs.Table.{Opened}
@@ -14,6 +16,7 @@ use Rattle.cat_ledger_shape.specs.Steps.{Leaves}
 use Rattle.cat_ledger_shape.specs.Ties.{Carries, ToldFiles}
 use Rattle.cat_ledger_shape.proofs.Writes.{sweeps_make}
 use Rattle.cat_ledger_lines.specs.RunLaws.{Stands}
+use Rattle.cat_opening.specs.Refused.{OpeningCount}
 use Rattle.cat_ledger_opening.specs.Opened.{HasOpened}
 
 -- the start of a run under the schema, for which memory stands
@@ -58,3 +61,11 @@ opened_alike told told' schema mid same opened = subst (λ (t : ToldFiles). HasO
 -- the names of users are those before the sweep
 pub swept_users : (mid s : Shape) (q : FileName) → Leaves [] mid s → 0 < users_of s.users (name_of q) → 0 < users_of mid.users (name_of q)
 swept_users mid s q swept some = subst (λ n. 0 < n) (swept.users (name_of q)) some
+
+-- which refusals opening may count
+pub opening_refusal : (old new : ℕ) (e : Refusal) → OpeningCount old new e → (e ≡ Kind) ⊎ (e ≡ Damaged) ⊎ (e ≡ Device) ⊎ (e ≡ Memory)
+opening_refusal old new Kind h = inl refl
+opening_refusal old new Damaged h = inr (inl refl)
+opening_refusal old new Device h = inr (inr (inl refl))
+opening_refusal old new Memory h = inr (inr (inr refl))
+opening_refusal old new _ h = absurd h

@@ -1,8 +1,8 @@
 //! Opening: at the newest commit of a directory, or where there is none.
 //!
 //! Lucene's constructor of `IndexWriter` with `OpenMode.CREATE_OR_APPEND`, and that of its `IndexFileDeleter`.
-ghost use Rattle.std.specs.Prelude.{◌≡◌, ◌<◌, [], IfOk, IfErr, OnErr};
-ghost use Rattle.cat_base.specs.declared.refusal.Refusal.TheVariants.{Damaged, Device, Kind};
+ghost use Rattle.std.specs.Prelude.{◌≡◌, ◌⊎◌, ◌<◌, [], IfOk, IfErr, OnErr};
+ghost use Rattle.cat_base.specs.declared.refusal.Refusal.TheVariants.{Damaged, Device, Kind, Memory};
 ghost use Rattle.cat_model.specs.Table.{Opened};
 ghost use Rattle.cat_directory.specs.Devices.{NoMore};
 ghost use Rattle.cat_directory.specs.Names.{name_of};
@@ -44,6 +44,7 @@ fn open_swept<D: Directory + Shelf>(
     ensures damaged { IfErr result (λ e. e ≡ Damaged → IsNewestDamaged (D.bytes device.old) schema) }
     ensures foreign { IfErr result (λ e. e ≡ Kind → IsNewestForeign (D.bytes device.old) schema) }
     ensures device { IfErr result (λ e. e ≡ Device → D.can_fail device.old) }
+    ensures refusal { IfErr result (λ e. (e ≡ Kind) ⊎ (e ≡ Damaged) ⊎ (e ≡ Device) ⊎ (e ≡ Memory)) }
     ensures same { OnErr result ((q : FileName) → D.bytes device.new q ≡ D.bytes device.old q) }
     ensures spared { OnErr result ((q : FileName) → NoMore (D.may_leave device.old q) (D.may_leave device.new q)) }
     ensures can { D.can_fail device.new → D.can_fail device.old }
@@ -77,6 +78,7 @@ impl<D: Directory + Shelf> Ledger<D> {
         ensures damaged { IfErr result (λ e. e.refusal ≡ Damaged → IsNewestDamaged (D.bytes device) schema) }
         ensures foreign { IfErr result (λ e. e.refusal ≡ Kind → IsNewestForeign (D.bytes device) schema) }
         ensures device { IfErr result (λ e. e.refusal ≡ Device → D.can_fail device) }
+        ensures refusal { IfErr result (λ e. (e.refusal ≡ Kind) ⊎ (e.refusal ≡ Damaged) ⊎ (e.refusal ≡ Device) ⊎ (e.refusal ≡ Memory)) }
         ensures same { IfErr result (λ e. (q : FileName) → D.bytes e.device q ≡ D.bytes device q) }
         ensures spared { IfErr result (λ e. (q : FileName) → NoMore (D.may_leave device q) (D.may_leave e.device q)) }
     {

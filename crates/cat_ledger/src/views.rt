@@ -41,7 +41,7 @@ pub enum Grant {
 }
 
 /// A right that was given back.
-#[derive(Debug, PartialEq, Eq)]
+#[derive(Clone, Copy, Debug, PartialEq, Eq)]
 pub struct Released {
     session: SessionNo,
     token: Token,

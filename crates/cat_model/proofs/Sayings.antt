@@ -17,7 +17,7 @@ use Rattle.cat_model.specs.Answer.{Read}
 use Rattle.cat_model.specs.Table.{Opened}
 use Rattle.cat_model.specs.Lines.{Said, spaced, spelling, sort_text, mark_text, chore_name, HasForm, IsNumber, IsSort, IsMark, SpellsLine, ShowsSession}
 use Rattle.cat_model.specs.Run.{Chore, Command}
-use Rattle.cat_model.specs.Heard.{Json, Heard, Hears, SpellsServed, IsCommand, IsQueryOf}
+use Rattle.cat_model.specs.Heard.{Json, Heard, Hears, IsCommand, IsQueryOf}
 use Rattle.cat_model.specs.Served.{Begins, OpensEmpty, Outcome, heard, HeardAll}
 use Rattle.cat_model.specs.Laws.{LinesSayOneThing, SchemaLinesSayOneThing, EachTextIsAQueryOrNone, HearingIsOne, ReadsSchemas, InputsAreHeardOneWay}
 use Rattle.cat_model.proofs.QueryFaults.{lower_name}
@@ -291,9 +291,9 @@ one_session line s t a b = decimal_injective s t (omega (arith, a.small)) (omega
 pub shown : (line : Text) (s : ℕ) (said : Said) → SpellsLine line s said → ShowsSession line s
 shown line s said a = record { small = a.small; split = inr (a.rest, a.session_first) }
 
--- and spells nothing else that is without a form under the session that it shows
-pub no_form : (line : Text) (s t : ℕ) (said : Said) → SpellsServed line s said → ShowsSession line t → ((said : Said) → SpellsServed line t said → ⊥) → ⊥
-no_form line s t said a b none = none said (subst (λ u. SpellsServed line u said) (one_session line s t (shown line s said a.spells) b) a)
+-- and isn't without a form under the session that it shows
+pub no_form : (line : Text) (s t : ℕ) (said : Said) → SpellsLine line s said → ShowsSession line t → ((said : Said) → SpellsLine line t said → ⊥) → ⊥
+no_form line s t said a b none = none said (subst (λ u. SpellsLine line u said) (one_session line s t (shown line s said a) b) a)
 
 -- a text is one query, or has one fault
 one_judgement : (schema : Schema) (text : Text) (one two : Result Query Refusal) → IsSchema schema → IsQueryOf schema text one → IsQueryOf schema text two → one ≡ two
@@ -334,16 +334,16 @@ one_command json schema (Said.chore c) one two ok a b = a ∙ sym b
 
 pub one_hearing : HearingIsOne
 one_hearing json schema bytes one two ok (Hears.spelled s said c readable a is) (Hears.spelled t other d readable' b is') =
-    let same = one_thing bytes s t said other a.spells b.spells in
+    let same = one_thing bytes s t said other a b in
     let command : c ≡ d = one_command json schema other c d ok (subst (λ x. IsCommand json schema x c) same.1 is) is' in
     λ i. Heard.a_line (record { session = same.0 i; command = command i })
 one_hearing json schema bytes one two ok (Hears.spelled s said c readable a is) (Hears.formless t readable' b none) = absurd (no_form bytes s t said a b none)
 one_hearing json schema bytes one two ok (Hears.formless s readable a none) (Hears.spelled t said c readable' b is) = absurd (no_form bytes t s said b a none)
 one_hearing json schema bytes one two ok (Hears.formless s readable a none) (Hears.formless t readable' b none') = ap (λ u. Heard.a_line (record { session = u; command = Command.formless })) (one_session bytes s t a b)
 one_hearing json schema bytes one two ok (Hears.unreadable none) (Hears.unreadable none') = refl
-one_hearing json schema bytes one two ok (Hears.spelled s said c readable a is) (Hears.unreadable none) = absurd (none readable s (shown bytes s said a.spells))
+one_hearing json schema bytes one two ok (Hears.spelled s said c readable a is) (Hears.unreadable none) = absurd (none readable s (shown bytes s said a))
 one_hearing json schema bytes one two ok (Hears.formless s readable a none') (Hears.unreadable none) = absurd (none readable s a)
-one_hearing json schema bytes one two ok (Hears.unreadable none) (Hears.spelled s said c readable a is) = absurd (none readable s (shown bytes s said a.spells))
+one_hearing json schema bytes one two ok (Hears.unreadable none) (Hears.spelled s said c readable a is) = absurd (none readable s (shown bytes s said a))
 one_hearing json schema bytes one two ok (Hears.unreadable none) (Hears.formless s readable a none') = absurd (none readable s a)
 
 -- two accounts of what was told to the same lines heard the same of each

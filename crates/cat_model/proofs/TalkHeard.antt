@@ -1,6 +1,6 @@
 -- What was heard and told, line by line, and what a reply of these bytes tells of it.
 use Rattle.std.proofs.Common.{inl, inr, suc, ◌≡◌, ◌≢◌, ◌⊎◌, ℕ, ◌≤◌, List, [], ◌∷◌, ◌++◌, map, length, get_or, refl, sym, ◌∙◌, ap, subst, append_assoc, append-nil, arith, codes}
-use Rattle.std.specs.Prelude.{zero, true, Option, Ok, Err}
+use Rattle.std.specs.Prelude.{zero, Option, Ok, Err}
 use Rattle.std.specs.List.{flat_map, filter_map, AllByRecursion}
 use Rattle.std.specs.Fmt.{decimal}
 use Rattle.std.proofs.lemmas.Fmt.{decimal_is_IsNumeral}
@@ -8,9 +8,9 @@ use Rattle.std.proofs.lemmas.Str.Parse.{digit_at}
 use Rattle.cat_base.specs.declared.refusal.Refusal.{Refusal}
 use Rattle.cat_model.specs.Text.{Text}
 use Rattle.cat_model.specs.Item.{Schema}
-use Rattle.cat_model.specs.Lines.{Said, is_served, spaced, line_text, reply_text, refusal_words, unreadable_text, SpellsLine, ShowsSession}
+use Rattle.cat_model.specs.Lines.{Said, spaced, line_text, reply_text, refusal_words, unreadable_text, SpellsLine, ShowsSession}
 use Rattle.cat_model.specs.Run.{Command, Line, Answer, Exchange, Run}
-use Rattle.cat_model.specs.Heard.{Json, Heard, Hears, SpellsServed, IsCommand}
+use Rattle.cat_model.specs.Heard.{Json, Heard, Hears, IsCommand}
 use Rattle.cat_model.specs.Served.{Outcome, heard, exchange, outcome_text, HeardAll}
 use Rattle.cat_model.specs.Talk.{Pair}
 use Rattle.cat_model.proofs.Sayings.{NoSpace, decimal_no_space, same_word, one_thing, no_form}
@@ -90,13 +90,12 @@ place_of (x ∷ es) (q ∷ a) p b e =
 pub record SaidSo (json : Json) (schema : Schema) (bytes : Text) (x : Line) : Type 0 where
   pub said : Said
   pub spells : SpellsLine bytes x.session said
-  pub served : is_served said ≡ true
   pub is : IsCommand json schema said x.command
 
 -- or as one without a form
 pub record SaidNothing (bytes : Text) (x : Line) : Type 0 where
   pub shows : ShowsSession bytes x.session
-  pub none : (said : Said) → SpellsServed bytes x.session said → ⊥
+  pub none : (said : Said) → SpellsLine bytes x.session said → ⊥
   pub is : x.command ≡ Command.formless
 
 line_in : Line → Heard → Line
@@ -107,25 +106,25 @@ pub heard_line : (json : Json) (schema : Schema) (bytes : Text) (h : Heard) (x :
 unfolding line_in
 heard_line json schema bytes h x (Hears.spelled s said c readable a is) e =
     let same : record { session = s; command = c } ≡ x = ap (line_in x) e in
-    inl (subst (SaidSo json schema bytes) same (record { said = said; spells = a.spells; served = a.served; is = is }))
+    inl (subst (SaidSo json schema bytes) same (record { said = said; spells = a; is = is }))
 heard_line json schema bytes h x (Hears.formless s readable a none) e =
     let same : record { session = s; command = Command.formless } ≡ x = ap (line_in x) e in
     inr (subst (SaidNothing bytes) same (record { shows = a; none = none; is = refl }))
 heard_line json schema bytes h x (Hears.unreadable none) e = absurd (cc e)
 
--- an entry that was replied to as what it says, which is served
+-- an entry that was replied to as what it says
 pub record Understood (json : Json) (schema : Schema) (e : Entry) (s : ℕ) (said : Said) : Type 0 where
   pub x : Exchange
   pub told : e.told ≡ Outcome.replied x
   pub session : x.line.session ≡ s
   pub is : IsCommand json schema said x.line.command
 
-pub understood : (json : Json) (schema : Schema) (e : Entry) (s : ℕ) (said : Said) → Hears json schema e.line (heard e.told) → SpellsServed e.line s said → outcome_text e.told ≢ unreadable_text → Understood json schema e s said
+pub understood : (json : Json) (schema : Schema) (e : Entry) (s : ℕ) (said : Said) → Hears json schema e.line (heard e.told) → SpellsLine e.line s said → outcome_text e.told ≢ unreadable_text → Understood json schema e s said
 understood json schema e s said h a readable = by e.told refl
   where
     so : (x : Exchange) → e.told ≡ Outcome.replied x → SaidSo json schema e.line x.line ⊎ SaidNothing e.line x.line → Understood json schema e s said
     so x is (inl b) =
-        let same = one_thing e.line x.line.session s b.said said b.spells a.spells in
+        let same = one_thing e.line x.line.session s b.said said b.spells a in
         record { x = x; told = is; session = same.0; is = subst (λ said. IsCommand json schema said x.line.command) same.1 b.is }
     so x is (inr b) = absurd (no_form e.line s x.line.session said a b.shows b.none)
 

@@ -13,7 +13,7 @@ use Rattle.cat_model.specs.Text.{Text}
 use Rattle.cat_model.specs.Item.{Schema}
 use Rattle.cat_model.specs.Write.{Write}
 use Rattle.cat_model.specs.Table.{Opened}
-use Rattle.cat_model.specs.Lines.{Said, is_served, spaced, spelling, line_text, reply_text, HasForm}
+use Rattle.cat_model.specs.Lines.{Said, spaced, spelling, line_text, reply_text, HasForm}
 use Rattle.cat_model.specs.Run.{Command, Answer, Reply, Exchange, Run, accepted, accepted_by, writes, now, hold_by, hold_change, began, holds, has, view_tokens, greatest, Answers, Stops, Fits, FitsFrom, IsRun}
 use Rattle.cat_model.specs.Limits.{last_number}
 use Rattle.cat_model.specs.Heard.{Json, Hears, IsCommand}
@@ -185,14 +185,14 @@ module _ (json : Json) (from : Opened) where
   FitsAt past e = (x : Exchange) → e.told ≡ Outcome.replied x → Fits from past x
 
   -- an exchange that says an OPEN, and is told its token
-  opening_as : (past : Run) (e : Entry) (s t : ℕ) (said : Said) → s ≤ 9999 → HasForm said → is_served said ≡ true → Hears json from.start.schema e.line (heard e.told) → FitsAt past e
+  opening_as : (past : Run) (e : Entry) (s t : ℕ) (said : Said) → s ≤ 9999 → HasForm said → Hears json from.start.schema e.line (heard e.told) → FitsAt past e
       → e.line ≡ decimal s ++ 32 ∷ spaced (spelling said) → outcome_text e.told ≡ line_text (decimal s ∷ codes "OK" ∷ decimal t ∷ [])
       → ((v : ℕ) (c : Command) (r : Reply) → IsCommand json from.start.schema said c → Answers from past v c r ⊎ Stops from past v c r → reply_text s r ≡ line_text (decimal s ∷ codes "OK" ∷ decimal t ∷ []) → hold_by t c r ≡ Some true)
       → IsOpened e s t
   unfolding FitsAt
-  opening_as past e s t said hs form served h f line reply begins =
+  opening_as past e s t said hs form h f line reply begins =
       let u : Understood json from.start.schema e s said =
-      understood json from.start.schema e s said h (record { spells = record { small = hs; rest = spaced (spelling said); session_first = line; says = record { form = form; spelled = refl } }; served = served }) (λ k. session_readable s (codes "OK") (decimal t ∷ []) hs (sym reply ∙ k)) in
+      understood json from.start.schema e s said h (record { small = hs; rest = spaced (spelling said); session_first = line; says = record { form = form; spelled = refl } }) (λ k. session_readable s (codes "OK") (decimal t ∷ []) hs (sym reply ∙ k)) in
       let yes : (u.x.line.session == s) ≡ true = eq-eqb u.x.line.session s u.session in
       let said_reply : reply_text s u.x.reply ≡ line_text (decimal s ∷ codes "OK" ∷ decimal t ∷ []) = ap (λ v. reply_text v u.x.reply) (sym u.session) ∙ ap outcome_text (sym u.told) ∙ reply in
       record {
@@ -204,10 +204,10 @@ module _ (json : Json) (from : Opened) where
   opening : (past : Run) (e : Entry) (s t : ℕ) (text : Text) → s ≤ 9999 → t < 2 ^ 63 → greatest (view_tokens from.start past) ≤ last_number
       → Hears json from.start.schema e.line (heard e.told) → FitsAt past e → pair e ≡ granted s text t → (text ≡ codes "OPEN") ⊎ (text ≡ codes "OPEN " ++ decimal t) → IsOpened e s t
   opening past e s t text hs ht low h f is (inl o) =
-      opening_as past e s t Said.open_newest hs tt refl h f (ap (λ p. p.line) is ∙ ap (λ v. decimal s ++ 32 ∷ v) o) (ap (λ p. p.reply) is)
+      opening_as past e s t Said.open_newest hs tt h f (ap (λ p. p.line) is ∙ ap (λ v. decimal s ++ 32 ∷ v) o) (ap (λ p. p.reply) is)
       (λ v c r said fits k. ap (λ d. hold_by t d r) said ∙ opens_newest from past v s t r hs ht low (subst (λ d. Answers from past v d r ⊎ Stops from past v d r) said fits) k)
   opening past e s t text hs ht low h f is (inr o) =
-      opening_as past e s t (Said.open_at t) hs (omega (arith, ht)) refl h f (ap (λ p. p.line) is ∙ ap (λ v. decimal s ++ 32 ∷ v) o) (ap (λ p. p.reply) is)
+      opening_as past e s t (Said.open_at t) hs (omega (arith, ht)) h f (ap (λ p. p.line) is ∙ ap (λ v. decimal s ++ 32 ∷ v) o) (ap (λ p. p.reply) is)
       (λ v c r said fits k. ap (λ d. hold_by t d r) said ∙ opens_at from past v s t r hs (subst (λ d. Answers from past v d r ⊎ Stops from past v d r) said fits) k)
 
   -- the run of a list of entries around one of them

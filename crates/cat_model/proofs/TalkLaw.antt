@@ -1,28 +1,28 @@
 -- Two services that open alike, and whose writes agree up to t, answer alike under t.
-use Rattle.std.proofs.Common.{inl, inr, ◌≡◌, ◌≢◌, ◌⊎◌, ℕ, ◌+◌, ◌-◌, ◌≤◌, ◌<◌, ◌^◌, List, [], ◌∷◌, ◌++◌, map, length, Bool, true, false, true≢false, refl, sym, ◌∙◌, ap, subst, append-nil, arith, codes}
+use Rattle.std.proofs.Common.{◌≡◌, ◌≢◌, ℕ, ◌+◌, ◌-◌, ◌≤◌, ◌<◌, ◌^◌, List, [], ◌∷◌, ◌++◌, map, length, true, refl, sym, ◌∙◌, ap, subst, append-nil, arith, codes}
 use Rattle.std.specs.Prelude.{IsTrue, Ok, Err}
 use Rattle.std.specs.List.{AllByRecursion}
 use Rattle.std.specs.Fmt.{decimal}
 use Rattle.std.proofs.lemmas.List.{length-append}
 use Rattle.cat_base.specs.declared.refusal.Refusal.{Refusal}
-use Rattle.cat_base.specs.declared.refusal.Refusal.TheVariants.{Line as NoForm, Memory, Device, Damaged}
+use Rattle.cat_base.specs.declared.refusal.Refusal.TheVariants.{Memory, Device, Damaged}
 use Rattle.cat_model.specs.Text.{Text}
 use Rattle.cat_model.specs.Item.{Schema}
 use Rattle.cat_model.specs.Write.{Write}
 use Rattle.cat_model.specs.Table.{Opened, count, writes_up_to}
 use Rattle.cat_model.specs.Answer.{Read}
-use Rattle.cat_model.specs.Lines.{Said, is_served, SpellsSaid, SpellsLine, reply_text}
-use Rattle.cat_model.specs.Run.{Command, Reply, Exchange, Run, writes, now, holds, may_refuse, Answers, Stops, Fits, IsRun}
+use Rattle.cat_model.specs.Lines.{Said, SpellsSaid, reply_text}
+use Rattle.cat_model.specs.Run.{Command, Reply, Exchange, Run, writes, now, holds, may_refuse, IsRun}
 use Rattle.cat_model.specs.Limits.{last_number}
-use Rattle.cat_model.specs.Heard.{Json, Hears, IsCommand, id_of}
-use Rattle.cat_model.specs.Served.{Opening, Begins, Outcome, heard, outcome_text}
+use Rattle.cat_model.specs.Heard.{Json, IsCommand, id_of}
+use Rattle.cat_model.specs.Served.{Opening, Begins, Outcome, outcome_text}
 use Rattle.cat_model.specs.Laws.{HeldRead}
 use Rattle.cat_model.specs.Talk.{Pair, Talked, IsTalk, IsWrite, WritesAgree, ReadsUnder, IsRead, HeldAsk, refusal_text, excepted_replies, AreAlike, ReadsLines, IsShownStart, IsShownOpened, OpensAs, TalksAgree, AnswersOfAnyStartAreTalks, TalksOfOneStartAgree}
 use Rattle.cat_model.proofs.TalkOpenings.{OpensShown, OpenAlike}
 use Rattle.cat_model.proofs.Runs.{held_reads_agree, held_low, held_writes}
-use Rattle.cat_model.proofs.Sayings.{one_command, one_thing, one_session, shown as session_shown}
-use Rattle.cat_model.proofs.TalkHeard.{Entry, pair, run_of, Heeded, IsPlace, place_of, SaidSo, SaidNothing, heard_line, Understood, understood}
-use Rattle.cat_model.proofs.TalkHolds.{all_split, around, fits_from, run_place, held_in}
+use Rattle.cat_model.proofs.Sayings.{one_command}
+use Rattle.cat_model.proofs.TalkHeard.{Entry, pair, run_of, Heeded, IsPlace, place_of, Understood, understood}
+use Rattle.cat_model.proofs.TalkHolds.{all_split, around, run_place, held_in}
 use Rattle.cat_model.proofs.TalkWrites.{Stands, writes_stand, makes_one, take_same}
 use Rattle.cat_model.proofs.TalkLines.{Shown, lines_said, reply_lines, said_lines}
 use Rattle.cat_model.proofs.TalkWhole.{ShownTold, Whole, served, whole_of, answers_are_talks}
@@ -68,8 +68,8 @@ record IsAsked (json : Json) (from : Opened) (es : List Entry) (t s : ℕ) (repl
 
 asked_in : (json : Json) (from : Opened) (es : List Entry) (talk : List Pair) (t s : ℕ) (text reply : Text) (said : Said)
     → from.start.token ≤ last_number → Heeded json from.start.schema es → IsRun from (run_of es) → AllByRecursion (λ e. ShownTold e.told) es → talk ≡ map pair es
-    → SpellsSaid text said → is_served said ≡ true → ReadsUnder t said → HeldAsk talk t s text reply → IsAsked json from es t s reply said
-asked_in json from es talk t s text reply said low heed is_run shown is spells is_answered under a =
+    → SpellsSaid text said → ReadsUnder t said → HeldAsk talk t s text reply → IsAsked json from es t s reply said
+asked_in json from es talk t s text reply said low heed is_run shown is spells under a =
     let here : Pair = record { line = decimal s ++ 32 ∷ text; reply = reply } in
     let p : IsPlace es a.past here a.later = place_of es a.past here a.later (sym is ∙ a.split) in
     let heeds = all_split _ p.past (p.here ∷ p.later) (subst (Heeded json from.start.schema) p.whole heed) in
@@ -78,7 +78,7 @@ asked_in json from es talk t s text reply said low heed is_run shown is spells i
     let line : p.here.line ≡ decimal s ++ 32 ∷ text = ap (λ q. q.line) p.here_is in
     let told : outcome_text p.here.told ≡ reply = ap (λ q. q.reply) p.here_is in
     let u : Understood json from.start.schema p.here s said =
-    understood json from.start.schema p.here s said heeds.1.0 (record { spells = record { small = a.small; rest = text; session_first = line; says = spells }; served = is_answered }) (λ k. a.undisturbed.0 (sym told ∙ k)) in
+    understood json from.start.schema p.here s said heeds.1.0 (record { small = a.small; rest = text; session_first = line; says = spells }) (λ k. a.undisturbed.0 (sym told ∙ k)) in
     let held : holds s t (run_of p.past) ≡ true = held_in json from p.past s t a.small (token_small t said text under spells) low heeds.0 runs.0 (subst (λ ps. Rattle.cat_model.specs.Talk.ShowsHold ps s t) (sym p.past_is) a.held) in
     let said_reply : reply ≡ reply_text s u.x.reply = sym told ∙ ap outcome_text u.told ∙ ap (λ v. reply_text v u.x.reply) u.session in
     record {
@@ -139,59 +139,16 @@ whole_talk json opens talk reads opened o =
     let lines = subst (AllByRecursion Rattle.cat_model.specs.Talk.IsOneLine) t.read s.1 in
     whole_of json opens reads opened t.first (map (λ p. p.line) talk) o.output lines.1 answered talk (record { first = t.first; opening = t.opening; one_line = t.one_line; read = refl; replies = t.replies; written = t.written })
 
--- a line without a form has one reply
-formless_reply : (from : Opened) (past : Run) (s : ℕ) (c : Command) (r : Reply) → c ≡ Command.formless → Answers from past s c r ⊎ Stops from past s c r → r ≡ Err NoForm
-formless_reply from past s c r is f = by r (subst (λ d. Answers from past s d r ⊎ Stops from past s d r) is f)
-  where
-    by : (r : Reply) → Answers from past s Command.formless r ⊎ Stops from past s Command.formless r → r ≡ Err NoForm
-    by r (inl a) = a
-    by r (inr (inl (memory, looked))) = absurd (cc looked)
-    by r (inr (inr (refused, (answer, told)))) = absurd (cc told)
-
--- and so has a line that spells what isn't served
-unserved_reply : (json : Json) (from : Opened) (es : List Entry) (talk : List Pair) (t s : ℕ) (text reply : Text) (said : Said)
-    → Heeded json from.start.schema es → IsRun from (run_of es) → talk ≡ map pair es → SpellsSaid text said → is_served said ≡ false → HeldAsk talk t s text reply → reply ≡ reply_text s (Err NoForm)
-unserved_reply json from es talk t s text reply said heed is_run is spells unserved a = by p.here.told refl
-  where
-    p : IsPlace es a.past (record { line = decimal s ++ 32 ∷ text; reply = reply }) a.later
-    p = place_of es a.past (record { line = decimal s ++ 32 ∷ text; reply = reply }) a.later (sym is ∙ a.split)
-
-    told : outcome_text p.here.told ≡ reply
-    told = ap (λ q. q.reply) p.here_is
-
-    line : SpellsLine p.here.line s said
-    line = record { small = a.small; rest = text; session_first = ap (λ q. q.line) p.here_is; says = spells }
-
-    heard_here : Hears json from.start.schema p.here.line (heard p.here.told)
-    heard_here = (all_split _ p.past (p.here ∷ p.later) (subst (Heeded json from.start.schema) p.whole heed)).1.0
-
-    fits_here : (x : Exchange) → p.here.told ≡ Outcome.replied x → Fits from (run_of p.past) x
-    fits_here x k = (fits_from json from p.past p.later p.here x k (around json from p.past p.later p.here (subst (λ v. IsRun from (run_of v)) p.whole is_run)).1).0
-
-    so : (x : Exchange) → p.here.told ≡ Outcome.replied x → SaidSo json from.start.schema p.here.line x.line ⊎ SaidNothing p.here.line x.line → reply ≡ reply_text s (Err NoForm)
-    so x k (inl b) = absurd (true≢false (sym b.served ∙ ap is_served (one_thing p.here.line x.line.session s b.said said b.spells line).1 ∙ unserved))
-    so x k (inr b) =
-        let session : x.line.session ≡ s = one_session p.here.line x.line.session s b.shows (session_shown p.here.line s said line) in
-        let refused : x.reply ≡ Err NoForm = formless_reply from (run_of p.past) x.line.session x.line.command x.reply b.is (fits_here x k) in
-        sym told ∙ ap outcome_text k ∙ (λ i. reply_text (session i) (refused i))
-
-    by : (o : Outcome) → p.here.told ≡ o → reply ≡ reply_text s (Err NoForm)
-    by Outcome.unreadable k = absurd (a.undisturbed.0 (sym told ∙ ap outcome_text k))
-    by (Outcome.replied x) k = so x k (heard_line json from.start.schema p.here.line (heard p.here.told) x.line heard_here (ap heard k))
-
-served_agree : (json : Json) (opens₁ opens₂ : Opening) → ReadsLines json → OpensShown json opens₁ → OpensShown json opens₂
-    → (talk₁ talk₂ : List Pair) (t s₁ s₂ : ℕ) (text reply₁ reply₂ : Text) (one : Talked json opens₁ talk₁) (two : Talked json opens₂ talk₂)
-    → OpenAlike json opens₁ opens₂ one.is_talk.first two.is_talk.first → WritesAgree t talk₁ talk₂ → (r : IsRead t text) → is_served r.said ≡ true
-    → HeldAsk talk₁ t s₁ text reply₁ → HeldAsk talk₂ t s₂ text reply₂ → AreAlike s₁ s₂ reply₁ reply₂
-served_agree json opens₁ opens₂ reads shown₁ shown₂ talk₁ talk₂ t s₁ s₂ text reply₁ reply₂ one two alike agree r is_answered ask₁ ask₂ =
+pub talks_agree : (json : Json) (opens₁ opens₂ : Opening) → ReadsLines json → OpensShown json opens₁ → OpensShown json opens₂ → TalksAgree json opens₁ opens₂ (OpenAlike json opens₁ opens₂)
+talks_agree json opens₁ opens₂ reads shown₁ shown₂ talk₁ talk₂ t s₁ s₂ text reply₁ reply₂ one two alike agree r ask₁ ask₂ =
     let said = r.said in
     let w₁ = whole_talk json opens₁ talk₁ reads shown₁ one in
     let w₂ = whole_talk json opens₂ talk₂ reads shown₂ two in
     let start₁ : IsShownStart w₁.from.start = (shown₁ one.is_talk.first w₁.from w₁.begins).start in
     let start₂ : IsShownStart w₂.from.start = (shown₂ two.is_talk.first w₂.from w₂.begins).start in
     let same : w₁.from.start ≡ w₂.from.start = alike w₁.from w₂.from w₁.begins w₂.begins in
-    let a₁ = asked_in json w₁.from w₁.es talk₁ t s₁ text reply₁ said start₁.token w₁.heed w₁.is_run w₁.shown w₁.is r.spells is_answered r.under ask₁ in
-    let a₂ = asked_in json w₂.from w₂.es talk₂ t s₂ text reply₂ said start₂.token w₂.heed w₂.is_run w₂.shown w₂.is r.spells is_answered r.under ask₂ in
+    let a₁ = asked_in json w₁.from w₁.es talk₁ t s₁ text reply₁ said start₁.token w₁.heed w₁.is_run w₁.shown w₁.is r.spells r.under ask₁ in
+    let a₂ = asked_in json w₂.from w₂.es talk₂ t s₂ text reply₂ said start₂.token w₂.heed w₂.is_run w₂.shown w₂.is r.spells r.under ask₂ in
     let read : ReadsSo a₂.x.line.command t = reads_as json w₂.from.start.schema t said a₂.x.line.command r.under a₂.is in
     let commands : a₁.x.line.command ≡ a₂.x.line.command =
     one_command json w₂.from.start.schema said a₁.x.line.command a₂.x.line.command start₂.schema (subst (λ s. IsCommand json s.schema said a₁.x.line.command) same a₁.is) a₂.is in
@@ -208,27 +165,6 @@ served_agree json opens₁ opens₂ reads shown₁ shown₂ talk₁ talk₂ t s�
       one = a₁.text ∙ reply_lines s₁ a₁.x.reply;
       two = a₂.text ∙ ap (reply_text s₂) (sym replies) ∙ reply_lines s₂ a₁.x.reply;
     }
-
--- what isn't served is answered alike, whatever was written
-unserved_agree : (json : Json) (opens₁ opens₂ : Opening) → ReadsLines json → OpensShown json opens₁ → OpensShown json opens₂
-    → (talk₁ talk₂ : List Pair) (t s₁ s₂ : ℕ) (text reply₁ reply₂ : Text) (one : Talked json opens₁ talk₁) (two : Talked json opens₂ talk₂)
-    → (r : IsRead t text) → is_served r.said ≡ false → HeldAsk talk₁ t s₁ text reply₁ → HeldAsk talk₂ t s₂ text reply₂ → AreAlike s₁ s₂ reply₁ reply₂
-unserved_agree json opens₁ opens₂ reads shown₁ shown₂ talk₁ talk₂ t s₁ s₂ text reply₁ reply₂ one two r unserved ask₁ ask₂ =
-    let w₁ = whole_talk json opens₁ talk₁ reads shown₁ one in
-    let w₂ = whole_talk json opens₂ talk₂ reads shown₂ two in
-    record {
-      lines = lines_said (Err NoForm);
-      cut = said_lines (Err NoForm) tt;
-      one = unserved_reply json w₁.from w₁.es talk₁ t s₁ text reply₁ r.said w₁.heed w₁.is_run w₁.is r.spells unserved ask₁ ∙ reply_lines s₁ (Err NoForm);
-      two = unserved_reply json w₂.from w₂.es talk₂ t s₂ text reply₂ r.said w₂.heed w₂.is_run w₂.is r.spells unserved ask₂ ∙ reply_lines s₂ (Err NoForm);
-    }
-
-pub talks_agree : (json : Json) (opens₁ opens₂ : Opening) → ReadsLines json → OpensShown json opens₁ → OpensShown json opens₂ → TalksAgree json opens₁ opens₂ (OpenAlike json opens₁ opens₂)
-talks_agree json opens₁ opens₂ reads shown₁ shown₂ talk₁ talk₂ t s₁ s₂ text reply₁ reply₂ one two alike agree r ask₁ ask₂ = by (is_served r.said) refl
-  where
-    by : (b : Bool) → is_served r.said ≡ b → AreAlike s₁ s₂ reply₁ reply₂
-    by true is = served_agree json opens₁ opens₂ reads shown₁ shown₂ talk₁ talk₂ t s₁ s₂ text reply₁ reply₂ one two alike agree r is ask₁ ask₂
-    by false is = unserved_agree json opens₁ opens₂ reads shown₁ shown₂ talk₁ talk₂ t s₁ s₂ text reply₁ reply₂ one two r is ask₁ ask₂
 
 -- ---- whatever is opened
 

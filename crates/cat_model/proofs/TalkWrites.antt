@@ -1,5 +1,5 @@
 -- The accepted writes of a run, by the bytes that show them.
-use Rattle.std.proofs.Common.{inl, inr, suc, ◌≡◌, ◌⊎◌, ℕ, ◌+◌, ◌≤◌, ◌<◌, List, [], ◌∷◌, ◌++◌, map, length, take, get_or, refl, sym, ◌∙◌, ap, subst, append-nil, arith, codes}
+use Rattle.std.proofs.Common.{inl, inr, suc, ◌≡◌, ℕ, ◌+◌, ◌≤◌, ◌<◌, List, [], ◌∷◌, ◌++◌, map, length, take, get_or, refl, sym, ◌∙◌, ap, subst, append-nil, arith, codes}
 use Rattle.std.specs.Prelude.{zero, Contains, Option, None, Some, Result, Ok, Err, true, false, Bool, cond}
 use Rattle.std.specs.List.{cons_option}
 use Rattle.std.specs.Fmt.{decimal}

@@ -1,5 +1,5 @@
 -- What is heard of a line: the command that it says, once its item, id, query or text is looked at. The rules are our own.
-use Rattle.std.specs.Prelude.{◌≡◌, ℕ, true, ltb, length, Result, Ok, Err, cond}
+use Rattle.std.specs.Prelude.{◌≡◌, ℕ, ltb, length, Result, Ok, Err, cond}
 use Rattle.std.specs.List.{list_all}
 use Rattle.cat_base.specs.declared.refusal.Refusal.{Refusal}
 use Rattle.cat_base.specs.declared.refusal.Refusal.TheVariants.{Id, Large, Kind as WrongKind, Query as NoQuery}
@@ -12,7 +12,7 @@ use Rattle.cat_model.specs.Grammar.{Spells}
 use Rattle.cat_model.specs.Faults.{Fault}
 use Rattle.cat_model.specs.Answer.{Read}
 use Rattle.cat_model.specs.Run.{Command, Line}
-use Rattle.cat_model.specs.Lines.{Said, is_served, ShowsSession, SpellsLine, IsReadable}
+use Rattle.cat_model.specs.Lines.{Said, ShowsSession, SpellsLine, IsReadable}
 
 -- how texts of JSON are read, which cat_schema says
 pub record Json : Type 0 where
@@ -56,23 +56,18 @@ IsCommand json schema (Said.release_snapshot g) c = c ≡ Command.release_snapsh
 IsCommand json schema (Said.prune n) c = c ≡ Command.prune n
 IsCommand json schema (Said.chore what) c = c ≡ Command.chore what
 
--- the line spells what is said, and that is answered today
-pub record SpellsServed (line : Text) (session : ℕ) (said : Said) : Type 0 where
-  pub spells : SpellsLine line session said
-  pub served : is_served said ≡ true
-
 -- nothing that can be read, or a line
 pub data Heard : Type 0 where
   unreadable : Heard
   a_line : Line → Heard
 
--- What is heard of the bytes of a line: what they spell, if it is served; a line without a form, where they show a session
--- and nothing that is served; or nothing that can be read.
+-- What is heard of the bytes of a line: what they spell under their session; a line without a form, where they show a session
+-- and spell nothing under it; or nothing that can be read.
 pub data Hears (json : Json) (schema : Schema) (bytes : Text) : Heard → Type 0 where
-  spelled : (session : ℕ) (said : Said) (c : Command) → IsReadable bytes → SpellsServed bytes session said
+  spelled : (session : ℕ) (said : Said) (c : Command) → IsReadable bytes → SpellsLine bytes session said
       → IsCommand json schema said c
       → Hears json schema bytes (Heard.a_line (record { session = session; command = c }))
   formless : (session : ℕ) → IsReadable bytes → ShowsSession bytes session
-      → ((said : Said) → SpellsServed bytes session said → ⊥)
+      → ((said : Said) → SpellsLine bytes session said → ⊥)
       → Hears json schema bytes (Heard.a_line (record { session = session; command = Command.formless }))
   unreadable : (IsReadable bytes → (session : ℕ) → ShowsSession bytes session → ⊥) → Hears json schema bytes Heard.unreadable

@@ -1,5 +1,6 @@
 -- ---- What has to be believed. First what serving an input means, up to `Served`, on which the contract of `serve` rests;
--- then what segments, their files and views are, which the program doesn't use yet. Each file stands on those before it.
+-- then what segments, their files and views are, on which the contracts of what keeps them rest. Each file stands on those
+-- before it.
 pub mod Text
 pub mod Limits
 pub mod Item

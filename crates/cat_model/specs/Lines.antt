@@ -1,5 +1,5 @@
 -- What a line says and the one way to spell it, and the text of a reply. The protocol is our own.
-use Rattle.std.specs.Prelude.{◌≡◌, ℕ, ◌<◌, ◌≤◌, ◌^◌, ◌⊎◌, List, [], ◌∷◌, ◌++◌, codes, map, length, IsUtf8, IsTrue, Bool, true, false, Option, None, Some, Ok, Err}
+use Rattle.std.specs.Prelude.{◌≡◌, ℕ, ◌<◌, ◌≤◌, ◌^◌, ◌⊎◌, List, [], ◌∷◌, ◌++◌, codes, map, length, IsUtf8, IsTrue, Option, None, Some, Ok, Err}
 use Rattle.std.specs.List.{flat_map}
 use Rattle.std.specs.Fmt.{decimal, signed_decimal}
 use Rattle.cat_base.specs.declared.refusal.Refusal.{Refusal}
@@ -36,18 +36,6 @@ pub data Said : Type 0 where
   release_snapshot : (generation : ℕ) → Said
   prune : (n : ℕ) → Said
   chore : Chore → Said
-
--- What is answered today. A line that says anything else is answered as one without a form, until the service can do it:
--- then it goes here, and with the last one this definition and its use in `SpellsServed` of Heard.antt.
-abbrev pub is_served : Said → Bool
-is_served (Said.put item) = true
-is_served (Said.delete id) = true
-is_served Said.refresh = true
-is_served Said.open_newest = true
-is_served (Said.open_at t) = true
-is_served (Said.close t) = true
-is_served (Said.find t n sort mark query) = true
-is_served _ = false
 
 -- the texts with one space between each two
 abbrev pub spaced : List Text → Text

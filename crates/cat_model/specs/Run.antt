@@ -9,8 +9,7 @@
 -- maintenance tells is pinned by its form alone (`may_tell`), STAT's numbers too: when segments are merged, and what a cache
 -- keeps, is nobody's promise. A COMMIT may be told any generation above those before it.
 --
--- No line says all of this yet (`Said` of Lines.antt): deletes by query, PRUNE, COMMIT, SNAP, UNSNAP, FILES, texts of commits
--- and maintenance, and of the reads counts and stored items, are defined for the lines to come, with what they tell of.
+-- Each command but `formless` is what some line says (`Said` of Lines.antt), and is answered.
 use Rattle.std.specs.Prelude.{◌≡◌, ◌⊎◌, ℕ, ◌+◌, ◌-◌, ◌<◌, ◌≤◌, Bool, true, false, not, ◌&&◌, ◌||◌, ltb, max, List, [], ◌∷◌, ◌++◌, length, filter, filter_map, map, count_by, Option, Some, None, option_to_list, find, Result, Ok, Err, cond, IsTrue, ◌==◌}
 use Rattle.std.specs.List.{list_any, list_all, last_or}
 use Rattle.cat_base.specs.declared.refusal.Refusal.{Refusal}

@@ -142,8 +142,8 @@ AnswersAreTalks json opens =
     (input output first : Text) (lines : List Text) → Answering json opens input output (first ∷ lines)
     → (talk : List Pair) × IsTalk (first ∷ lines) output talk × ((other : List Pair) → IsTalk (first ∷ lines) output other → other ≡ talk)
 
--- For every two talks whose first lines are alike, and whose writes up to t have the same texts: a read under t has the
--- same reply in both, for sessions that hold t.
+-- For every two talks whose first lines are alike, and whose writes up to t have the same texts: a read under t, be it a
+-- FIND, a FACETS or a GET, has the same reply in both, for sessions that hold t.
 abbrev pub TalksAgree : Json → Opening → Opening → (Text → Text → Type 0) → Type 0
 TalksAgree json opens₁ opens₂ alike =
     (talk₁ talk₂ : List Pair) (t s₁ s₂ : ℕ) (text reply₁ reply₂ : Text)

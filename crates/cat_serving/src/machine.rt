@@ -40,9 +40,9 @@ impl<M, S> Stage<M, S> {
 
 /// What a first line opens from a seed, and what answers the lines behind it, one after another. A line that is too long
 /// is none.
-pub trait Machine: Drop {
+pub trait Machine {
     /// What the machine is opened from, and what comes back where it isn't opened.
-    type Seed: Drop;
+    type Seed;
 
     /// What opening from a seed by a first line may give.
     ghost opens: { Self.Seed → Option Text → Result Self (Unopened Self.Seed) → Type 0 };

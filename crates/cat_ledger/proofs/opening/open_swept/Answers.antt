@@ -1,5 +1,5 @@
 use Rattle.std.proofs.Common.{◌∙◌}
-use Rattle.cat_ledger.proofs.Swept.{opened_alike, opened_begins, opened_schema, swept_users}
+use Rattle.cat_ledger.proofs.Swept.{opened_alike, opened_begins, opened_schema, opening_refusal, swept_users}
 use Rattle.cat_ledger.proofs.opening.open_swept.Goals as goal
 
 pub returns-clause-ok : goal.returns-clause-ok
