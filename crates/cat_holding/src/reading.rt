@@ -1,0 +1,62 @@
+//! The command that reads a stored item under a right to a view.
+//!
+//! Lucene's `StoredFields.document`, over a reader that `SearcherLifetimeManager.acquire` gave.
+ghost use Rattle.std.specs.Prelude.{◌≡◌, ◌⊎◌, ℕ, Err, IfErr, List, Ok, false, true};
+ghost use Rattle.cat_base.specs.declared.refusal.Refusal.TheVariants.{Damaged, Device, Memory, NotHeld};
+ghost use Rattle.cat_model.specs.Heard.{id_of};
+ghost use Rattle.cat_model.specs.Lines.{Said};
+ghost use Rattle.cat_model.specs.State.{has_hold};
+ghost use Rattle.cat_model.specs.View.{View};
+ghost use Rattle.cat_directory.specs.declared.name.FileName.{FileName};
+ghost use Rattle.cat_search.specs.Sources.{HoldsSource, TellsSource};
+ghost use Rattle.cat_ledger_lines.specs.ReadLaws.{IsRecordedAs};
+ghost use Rattle.cat_ledger.specs.Answering.{AnswersSaid};
+ghost use Rattle.cat_ledger.specs.Ledgers.{device_in, policy_in, shape_in};
+ghost use Rattle.cat_replies.specs.Reply.{reply_of};
+ghost use Rattle.cat_holding.specs.Holding.{AreRights};
+
+use cat_base::{Refusal, SessionNo, Token};
+use cat_directory::{Directory, Shelf};
+use cat_ledger::Ledger;
+use cat_replies::Answer;
+use cat_rights::Rights;
+use cat_schema::id_ok;
+
+/// Answers a GET: the bytes of the item of this id, as they were put before the view was recorded; none where no item has it.
+/// (Lucene: `StoredFields.document`.)
+///
+/// The first of these that is so is the refusal: [`Refusal::Id`] where the id has the wrong form, [`Refusal::NotHeld`] where
+/// the session doesn't hold the token; [`Refusal::Damaged`] where the file with the bytes is absent, or ends before they do;
+/// [`Refusal::Device`] where the directory fails; else [`Refusal::Memory`]. The ledger stays as it is in each case.
+pub fn get<D: Directory + Shelf>(
+    ledger: &mut Ledger<D>,
+    rights: &Rights,
+    session: SessionNo,
+    token: Token,
+    id: &str,
+) -> Result<Answer, Refusal>
+    requires { AreRights (shape_in ledger.old) rights.now }
+    ensures answers { AnswersSaid D.bytes session (Said.get token id.now) ledger.old (reply_of result) ledger.new }
+    ensures wrong { IfErr (id_of id.now) (λ e. result ≡ Err e) }
+    ensures due { id_of id.now ≡ Ok id.now → has_hold (shape_in ledger.old).holds session token ≡ false → result ≡ Err NotHeld }
+    ensures refusal { id_of id.now ≡ Ok id.now → has_hold (shape_in ledger.old).holds session token ≡ true
+        → IfErr result (λ e. (e ≡ Memory) ⊎ (e ≡ Device) ⊎ (e ≡ Damaged)) }
+    ensures damaged { IfErr result (λ e. e ≡ Damaged → (view : View) → IsRecordedAs (shape_in ledger.old).views token view
+        → (files : ℕ → List ℕ) → TellsSource (D.bytes (device_in ledger.old)) files view id.now → HoldsSource files view id.now → ⊥) }
+    ensures device { IfErr result (λ e. e ≡ Device → D.can_fail (device_in ledger.old)) }
+    ensures shape { shape_in ledger.new ≡ shape_in ledger.old }
+    ensures same { (q : FileName) → D.bytes (device_in ledger.new) q ≡ D.bytes (device_in ledger.old) q }
+    ensures can { D.can_fail (device_in ledger.new) → D.can_fail (device_in ledger.old) }
+    ensures policy { policy_in ledger.new ≡ policy_in ledger.old }
+{
+    if !id_ok(id) {
+        return Err(Refusal::Id);
+    }
+    let Some(hold) = rights.get(session, token) else {
+        return Err(Refusal::NotHeld);
+    };
+    match ledger.source(hold, id) {
+        Ok(found) => Ok(Answer::Source(found)),
+        Err(refusal) => Err(refusal),
+    }
+}
