@@ -1,0 +1,48 @@
+use Rattle.std.proofs.Common.{◌∙◌, ap, option_map, sym}
+use Rattle.std.specs.Prelude.{Err, Ok, Some}
+use Rattle.cat_model.specs.Answer.{Found, Read}
+use Rattle.cat_model.specs.Grammar.{Spells}
+use Rattle.cat_query.specs.View.{query_of}
+use Rattle.cat_finding.proofs.Told.{facets_is, fault_told, found_told, memory_told, passed_on, refusal_told, unheld_told}
+use Rattle.cat_finding.proofs.counts.count_facets.Goals as goal
+
+pub returns-in_err-query-clause-told : goal.returns-in_err-query-clause-told
+returns-in_err-query-clause-told c =
+    rw (passed_on c.from_residual.result c.in_err-query.field-0.0 c.from_residual.ensures)
+    (fault_told c.args.schema.now c.args.text.now (Read.facets c.args.dimension.now c.args.count) (facets_is c.args.dimension.now c.args.count)
+    (option_map (λ h. h.now.view) c.args.right) c.in_err-query.field-0.0 c.in_err-query.ensures.err)
+
+pub returns-in_default-clause-told : goal.returns-in_default-clause-told
+returns-in_default-clause-told c =
+    let q = c.in_ok-query.ensures.spelled in
+    unheld_told c.args.schema.now c.args.text.now (Read.facets c.args.dimension.now c.args.count) (facets_is c.args.dimension.now c.args.count)
+    q.0 q.1 (option_map (λ h. h.now.view) c.args.right) (ap (option_map (λ h. h.now.view)) c.in_default.is)
+
+pub returns-in_err-judge-clause-told : goal.returns-in_err-judge-clause-told
+returns-in_err-judge-clause-told c =
+    let q = c.in_ok-query.ensures.spelled in
+    rw (passed_on c.from_residual-in_err-judge.result c.in_err-judge.field-0.0 c.from_residual-in_err-judge.ensures)
+    (found_told c.args.schema.now c.args.text.now (Read.facets c.args.dimension.now c.args.count) (facets_is c.args.dimension.now c.args.count)
+    q.0 q.1 (option_map (λ h. h.now.view) c.args.right) c.view-view.result.now
+    (ap (option_map (λ h. h.now.view)) c.in-Some.is ∙ ap Some (sym c.view-view.ensures)) (Err c.in_err-judge.field-0.0) (c.in_err-judge.ensures.err q.0))
+
+pub returns-in_default-query-clause-told : goal.returns-in_default-query-clause-told
+returns-in_default-query-clause-told c =
+    let q = c.in_ok-query.ensures.spelled in
+    memory_told c.args.schema.now c.args.text.now (Read.facets c.args.dimension.now c.args.count) (facets_is c.args.dimension.now c.args.count)
+    q.0 q.1 (option_map (λ h. h.now.view) c.args.right)
+
+pub returns-in_err-facets-clause-told : goal.returns-in_err-facets-clause-told
+returns-in_err-facets-clause-told c =
+    let spelled : Spells c.args.schema.now c.args.text.now (query_of c.in-Some-query.query) = rw c.in-Some-query.is at c.in_ok-query.ensures.ok in
+    rw (passed_on c.from_residual-in_err-facets.result c.in_err-facets.field-0.0 c.from_residual-in_err-facets.ensures)
+    (refusal_told c.args.schema.now c.args.text.now (Read.facets c.args.dimension.now c.args.count) (facets_is c.args.dimension.now c.args.count)
+    (query_of c.in-Some-query.query) spelled (option_map (λ h. h.now.view) c.args.right) c.view-view.result.now
+    (ap (option_map (λ h. h.now.view)) c.in-Some.is ∙ ap Some (sym c.view-view.ensures)) c.in_err-facets.field-0.0 c.in_err-facets.ensures.err)
+
+pub returns-clause-told : goal.returns-clause-told
+returns-clause-told c =
+    let spelled : Spells c.args.schema.now c.args.text.now (query_of c.in-Some-query.query) = rw c.in-Some-query.is at c.in_ok-query.ensures.ok in
+    found_told c.args.schema.now c.args.text.now (Read.facets c.args.dimension.now c.args.count) (facets_is c.args.dimension.now c.args.count)
+    (query_of c.in-Some-query.query) spelled (option_map (λ h. h.now.view) c.args.right) c.view-view.result.now
+    (ap (option_map (λ h. h.now.view)) c.in-Some.is ∙ ap Some (sym c.view-view.ensures)) (Ok (Found.facets c.in_ok-facets.facets)) c.in_ok-facets.ensures.ok

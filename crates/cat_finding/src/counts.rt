@@ -1,0 +1,97 @@
+//! FACETS: counts of the labels of the items that a query matches.
+ghost use Rattle.std.specs.Prelude.{◌≡◌, ◌≢◌, ℕ, Err, IfErr, IfOk, IfSome, None, Ok, Result, option_map};
+ghost use Rattle.cat_base.specs.declared.refusal.Refusal.{Refusal};
+ghost use Rattle.cat_base.specs.declared.refusal.Refusal.TheVariants.{Memory, NotHeld, Query as NoQuery};
+ghost use Rattle.cat_model.specs.Answer.{Found, Read, is_facet_kind};
+ghost use Rattle.cat_model.specs.Faults.{Fault};
+ghost use Rattle.cat_model.specs.Grammar.{Spells};
+ghost use Rattle.cat_model.specs.Heard.{IsQueryOf};
+ghost use Rattle.cat_model.specs.Query as model;
+ghost use Rattle.cat_schema.specs.Kinds.{field_kind_of};
+ghost use Rattle.cat_query.specs.View.{query_of};
+ghost use Rattle.cat_ledger_lines.specs.ReadLaws.{Finds};
+ghost use Rattle.cat_replies.specs.Reply.{reply_of};
+ghost use Rattle.cat_finding.specs.Reads.{GivesDue, MayTell};
+
+use crate::asking::read_query;
+use cat_base::{MAX_PAGE, Refusal};
+use cat_facets::{Facets, ReaderState};
+use cat_query::Query;
+use cat_replies::Answer;
+use cat_schema::{Kind, Schema, kind_of};
+use cat_search::{Hold, Prepared, View};
+use std::alloc::Global;
+
+/// Whether one counts over fields of the kind.
+fn is_facet(kind: Option<Kind>) -> bool
+    ensures { result ≡ is_facet_kind (option_map field_kind_of kind) }
+{
+    matches!(kind, Some(Kind::Facet))
+}
+
+/// Refuses counts as they are refused whatever their query, without memory: [`Refusal::NotFacet`], then [`Refusal::Count`].
+fn judge(view: &View, dimension: &str, count: u64) -> Result<(), Refusal>
+    ensures err { IfErr result (λ e. (q : model.Query) → Finds view.now (Read.facets dimension.now count (Ok q)) (Err e)) }
+    ensures due { (q : model.Query) → GivesDue view.now (Read.facets dimension.now count (Ok q)) result }
+{
+    if !is_facet(kind_of(view.schema().fields(), dimension)) {
+        return Err(Refusal::NotFacet);
+    }
+    if count > MAX_PAGE as u64 {
+        return Err(Refusal::Count);
+    }
+    Ok(())
+}
+
+/// The counts over the live rows of the view that the query matches.
+fn counts_of(
+    alloc: Global,
+    view: &View,
+    dimension: &str,
+    count: u64,
+    query: Query,
+) -> Result<Facets, Refusal>
+    ensures ok { IfOk result (λ f. Finds view.now (Read.facets dimension.now count (Ok (query_of query))) (Ok (Found.facets f))) }
+    ensures err { IfErr result (λ e. e ≢ Memory → Finds view.now (Read.facets dimension.now count (Ok (query_of query))) (Err e)) }
+{
+    let state = ReaderState::of(alloc, view, dimension)?;
+    let prepared = Prepared::of(view, query)?;
+    state.counts(alloc, &prepared, count)
+}
+
+/// Answers a FACETS: how many of the live items that the query matches have each label of the dimension, of a view that the
+/// session holds. (Lucene: `SortedSetDocValuesFacetCounts.getTopChildren` over the searcher of
+/// `SearcherLifetimeManager.acquire`.)
+///
+/// The first of these that is so is the refusal: [`Refusal::Query`] where the text has a fault, [`Refusal::NotHeld`] where
+/// there is no right to the view, [`Refusal::NotFacet`] where the dimension is no facet field of the view's schema,
+/// [`Refusal::Count`] where more counts are asked for than [`MAX_PAGE`]. Where none of these is so, [`Refusal::Memory`] may
+/// come instead of the counts, also where the view has 2^32 labels or more: it hides no other refusal.
+pub fn count_facets(
+    alloc: Global,
+    schema: &Schema,
+    right: Option<&Hold>,
+    dimension: &str,
+    count: u64,
+    text: &str,
+) -> Result<Answer, Refusal>
+    ensures told { (q : Result model.Query Refusal) × IsQueryOf schema.now text.now q
+        × MayTell (option_map (λ h. h.now.view) right.entry) (Read.facets dimension.now count q) (reply_of result) }
+    ensures fault { (place : ℕ) → Fault schema.now text.now place → result ≡ Err (NoQuery place) }
+    ensures unheld { right.entry ≡ None → ((place : ℕ) → Fault schema.now text.now place → ⊥) → result ≡ Err NotHeld }
+    ensures due { IfSome right.entry (λ h. (q : model.Query) → Spells schema.now text.now q
+        → GivesDue h.now.view (Read.facets dimension.now count (Ok q)) result) }
+{
+    let query = read_query(alloc, schema, text)?;
+    let Some(hold) = right else {
+        return Err(Refusal::NotHeld);
+    };
+    let view = hold.view();
+    // What is due without the query is told before the want of memory.
+    judge(view, dimension, count)?;
+    let Some(query) = query else {
+        return Err(Refusal::Memory);
+    };
+    let facets = counts_of(alloc, view, dimension, count, query)?;
+    Ok(Answer::Counts(facets))
+}

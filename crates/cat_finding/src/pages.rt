@@ -1,0 +1,91 @@
+//! FIND: pages of the items that a query matches.
+ghost use Rattle.std.specs.Prelude.{◌≡◌, ℕ, Err, IfErr, IfSome, None, Result, option_map};
+ghost use Rattle.cat_base.specs.declared.refusal.Refusal.{Refusal};
+ghost use Rattle.cat_base.specs.declared.refusal.Refusal.TheVariants.{NotHeld, Query as NoQuery};
+ghost use Rattle.cat_model.specs.Answer.{Read, can_sort, is_sort_kind};
+ghost use Rattle.cat_model.specs.Faults.{Fault};
+ghost use Rattle.cat_model.specs.Grammar.{Spells};
+ghost use Rattle.cat_model.specs.Heard.{IsQueryOf};
+ghost use Rattle.cat_model.specs.Query as model;
+ghost use Rattle.cat_schema.specs.Kinds.{field_kind_of};
+ghost use Rattle.cat_search.specs.Asks.{read_of};
+ghost use Rattle.cat_search.specs.Sorts.{sort_of};
+ghost use Rattle.cat_ledger_lines.specs.ReadLaws.{Finds};
+ghost use Rattle.cat_replies.specs.Reply.{reply_of};
+ghost use Rattle.cat_finding.specs.Reads.{GivesDue, MayTell};
+
+use crate::asking::read_query;
+use crate::marks::is_shown;
+use cat_base::{MAX_PAGE, Refusal};
+use cat_replies::Answer;
+use cat_schema::{Kind, Schema, kind_of};
+use cat_search::{Ask, Hold, Sort, View};
+use std::alloc::Global;
+
+/// Whether one sorts by fields of the kind.
+fn is_sort_kind(kind: Option<Kind>) -> bool
+    ensures { result ≡ is_sort_kind (option_map field_kind_of kind) }
+{
+    matches!(kind, Some(Kind::Keyword | Kind::Number))
+}
+
+/// Whether one can sort so under the schema: by order of addition, or by a number or keyword field.
+fn can_sort(schema: &Schema, sort: Sort<'_>) -> bool
+    ensures { result ≡ can_sort schema.now (sort_of sort.entry) }
+{
+    match sort {
+        Sort::Added => true,
+        Sort::Rising(name) | Sort::Falling(name) => is_sort_kind(kind_of(schema.fields(), name)),
+    }
+}
+
+/// Refuses a page as it is refused whatever its query, without memory: [`Refusal::Count`], then [`Refusal::SortField`], then
+/// [`Refusal::Mark`].
+fn judge(view: &View, ask: Ask<'_>) -> Result<(), Refusal>
+    ensures err { IfErr result (λ e. (q : model.Query) → Finds view.now (read_of ask.entry q) (Err e)) }
+    ensures due { (q : model.Query) → GivesDue view.now (read_of ask.entry q) result }
+{
+    if ask.count > MAX_PAGE as u64 {
+        return Err(Refusal::Count);
+    }
+    if !can_sort(view.schema(), ask.sort) {
+        return Err(Refusal::SortField);
+    }
+    match ask.after {
+        Some(mark) if !is_shown(view, mark) => Err(Refusal::Mark),
+        _ => Ok(()),
+    }
+}
+
+/// Answers a FIND: a page of the live items that the query matches, of a view that the session holds. (Lucene:
+/// `IndexSearcher.searchAfter` over the searcher of `SearcherLifetimeManager.acquire`.)
+///
+/// The first of these that is so is the refusal: [`Refusal::Query`] where the text has a fault, [`Refusal::NotHeld`] where
+/// there is no right to the view, [`Refusal::Count`] where more hits are asked for than [`MAX_PAGE`], [`Refusal::SortField`]
+/// where one can't sort by the field, [`Refusal::Mark`] where the mark is the number of no live row of the view. Where none
+/// of these is so, [`Refusal::Memory`] may come instead of the page: it hides no other refusal.
+pub fn find(
+    alloc: Global,
+    schema: &Schema,
+    right: Option<&Hold>,
+    ask: Ask<'_>,
+    text: &str,
+) -> Result<Answer, Refusal>
+    ensures told { (q : Result model.Query Refusal) × IsQueryOf schema.now text.now q
+        × MayTell (option_map (λ h. h.now.view) right.entry) (Read.find ask.entry.count (sort_of ask.entry.sort) ask.entry.after q) (reply_of result) }
+    ensures fault { (place : ℕ) → Fault schema.now text.now place → result ≡ Err (NoQuery place) }
+    ensures unheld { right.entry ≡ None → ((place : ℕ) → Fault schema.now text.now place → ⊥) → result ≡ Err NotHeld }
+    ensures due { IfSome right.entry (λ h. (q : model.Query) → Spells schema.now text.now q → GivesDue h.now.view (read_of ask.entry q) result) }
+{
+    let query = read_query(alloc, schema, text)?;
+    let Some(hold) = right else {
+        return Err(Refusal::NotHeld);
+    };
+    let Some(query) = query else {
+        // What is due without the query is told before the want of memory.
+        judge(hold.view(), ask)?;
+        return Err(Refusal::Memory);
+    };
+    let page = hold.page(alloc, &query, ask)?;
+    Ok(Answer::Found(page))
+}
