@@ -1,0 +1,48 @@
+-- What a line that was heard is answered.
+use Rattle.std.proofs.Common.{◌≡◌, ℕ, refl, sym, subst}
+use Rattle.std.specs.Prelude.{Option, Some, None}
+use Rattle.cat_model.specs.Heard.{Heard, Hears}
+use Rattle.cat_model.specs.Lines.{IsReadable, Said, ShowsSession}
+use Rattle.cat_model.specs.Run.{Command, Reply}
+use Rattle.cat_model.specs.Served.{Outcome}
+use Rattle.cat_model.specs.Text.{Text}
+use Rattle.cat_schema.specs.Reading.{json}
+use Rattle.cat_lines.specs.Line.{SpellsOrShows, said_of}
+use Rattle.cat_lines.specs.declared.command.Command.TheVariants as command
+use Rattle.cat_holding.specs.Holding.{said_open}
+use Rattle.cat_ledger_shape.specs.Ties.{ToldFiles}
+use Rattle.cat_ledger_lines.specs.LineLaws.{line_of}
+use Rattle.cat_ledger_lines.specs.RunLaws.{IsStep}
+use Rattle.cat_world.specs.Lines.{IsCommandOf, StepsLine}
+use Rattle.cat_world.specs.Serving.{StepsIfShort}
+use Rattle.cat_world.specs.Worlds.{Service, device_of, shape_of}
+
+-- the exchange of a line with its reply
+abbrev pub told_to : ℕ → Command → Reply → Outcome
+told_to session c reply = Outcome.replied (record { line = line_of session c; reply = reply })
+
+-- what an OPEN says, with a token or without one
+pub open_says : (token : Option ℕ) → said_of (command.Open token) ≡ Some (said_open token)
+open_says None = refl
+open_says (Some t) = refl
+
+module _ {D : Type 0} (bytes : D → ToldFiles) (old : Service D) where
+  pub unheard : (line : Text) → (IsReadable line → (session : ℕ) → ShowsSession line session → ⊥)
+      → StepsIfShort bytes old (Some line) Outcome.unreadable old
+  unheard line none = (Hears.unreadable none, refl)
+
+  hears : (line : Text) (session : ℕ) (said : Option Said) (c : Command) → IsReadable line → SpellsOrShows line session said
+      → IsCommandOf (shape_of old).schema said c → Hears json (shape_of old).schema line (Heard.a_line (line_of session c))
+  hears line session (Some said) c readable spells is = Hears.spelled session said c readable spells is
+  hears line session None c readable shows is =
+      subst (λ c. Hears json (shape_of old).schema line (Heard.a_line (line_of session c))) (sym is)
+      (Hears.formless session readable shows.0 shows.1)
+
+  -- a line that says something, or has no form
+  pub heard_as : (new : Service D) (line text : Text) (session : ℕ) (said : Option Said) (reply : Reply) → text ≡ line → IsReadable line
+      → SpellsOrShows text session said → (steps : StepsLine bytes session said old reply new) → (shape_of new).schema ≡ (shape_of old).schema
+      → StepsIfShort bytes old (Some line) (told_to session steps.0 reply) new
+  heard_as new line text session said reply same readable spells steps fields = (
+    hears line session said steps.0 readable (subst (λ t. SpellsOrShows t session said) same spells) steps.1,
+    (fields, steps.2),
+  )

@@ -1,0 +1,92 @@
+-- What is kept of a world by what it answers.
+use Rattle.std.proofs.Common.{◌≡◌, ℕ, ◌+◌, ◌<◌, Bool, true, false, List, length, ap, subst, arith, refl, sym, ◌∙◌}
+use Rattle.std.specs.Prelude.{Option, Some, is_some, if◌then◌else◌}
+use Rattle.cat_model.specs.Heard.{IsCommand}
+use Rattle.cat_model.specs.Item.{Schema}
+use Rattle.cat_model.specs.Lines.{Said}
+use Rattle.cat_model.specs.Run.{Command, Reply}
+use Rattle.cat_schema.specs.Reading.{json}
+use Rattle.cat_search.specs.Holds.{Hold}
+use Rattle.cat_ledger_shape.specs.Ties.{ToldFiles}
+use Rattle.cat_ledger_lines.specs.LineLaws.{line_of}
+use Rattle.cat_ledger_lines.specs.RunLaws.{Answers}
+use Rattle.cat_ledger_lines.specs.StayLaws.{changes_holds}
+use Rattle.cat_ledger_lines.proofs.KeptCalls.{held_views_stay, holds_stay, schema_stays}
+use Rattle.cat_ledger.specs.Answering.{AnswersSaid}
+use Rattle.cat_ledger.specs.Ledgers.{device_in, policy_in, shape_in}
+use Rattle.cat_ledger.specs.declared.ledger.Ledger.{Ledger}
+use Rattle.cat_holding.specs.Holding.{AreRights}
+use Rattle.cat_holding.proofs.Counted.{rights_kept}
+use Rattle.cat_world.specs.Lines.{Does}
+use Rattle.cat_world.specs.Worlds.{IsCarried, IsWorld}
+
+-- no right begins or ends by what is said
+abbrev pub keeps_rights : Said → Bool
+keeps_rights Said.open_newest = false
+keeps_rights (Said.open_at t) = false
+keeps_rights (Said.close t) = false
+keeps_rights _ = true
+
+-- so no hold by its command
+still : (schema : Schema) (said : Said) (c : Command) → IsCommand json schema said c → keeps_rights said ≡ true → changes_holds c ≡ false
+still schema (Said.put text) c is k = ap changes_holds is
+still schema (Said.delete text) c is k = ap changes_holds is
+still schema (Said.delete_where text) c is k = ap changes_holds is.2
+still schema Said.refresh c is k = ap changes_holds is
+still schema Said.open_newest c is k = absurd (let no : false ≡ true = k in cc)
+still schema (Said.open_at t) c is k = absurd (let no : false ≡ true = k in cc)
+still schema (Said.close t) c is k = absurd (let no : false ≡ true = k in cc)
+still schema (Said.find t n sort mark text) c is k = ap changes_holds is.2
+still schema (Said.facets t dim n text) c is k = ap changes_holds is.2
+still schema (Said.get t text) c is k = ap changes_holds is
+still schema (Said.files_of_token t) c is k = ap changes_holds is
+still schema (Said.files_of_commit g) c is k = ap changes_holds is
+still schema (Said.commit text) c is k = ap changes_holds is
+still schema (Said.text_of_commit g) c is k = ap changes_holds is
+still schema Said.snapshot c is k = ap changes_holds is
+still schema (Said.release_snapshot g) c is k = ap changes_holds is
+still schema (Said.prune n) c is k = ap changes_holds is
+still schema (Said.chore what) c is k = ap changes_holds is
+
+module _ {D : Type 0} (bytes : D → ToldFiles) (session : ℕ) (said : Said) (old : Ledger D) (reply : Reply) (new : Ledger D) (rights : List Hold) where
+  -- what is carried after a line
+  pub carried_on : IsWorld bytes old rights → AnswersSaid bytes session said old reply new → IsCarried (bytes (device_in new)) (shape_in new)
+  carried_on w answered =
+      let next = answered.2 w.carried.0 w.carried.1 w.carried.2 in (next.0, next.1, next.5)
+
+  -- the fields stay
+  pub same_fields : IsWorld bytes old rights → AnswersSaid bytes session said old reply new → (shape_in new).schema ≡ (shape_in old).schema
+  same_fields w answered =
+      schema_stays (policy_in old) (bytes (device_in old)) (bytes (device_in new)) (shape_in old) (shape_in new) (line_of session answered.0) reply
+      w.carried.0 w.carried.1 w.carried.2 answered.2
+
+  -- a world stays one
+  pub world_stays : keeps_rights said ≡ true → IsWorld bytes old rights → AnswersSaid bytes session said old reply new → IsWorld bytes new rights
+  world_stays keeps w answered = record {
+    carried = carried_on w answered;
+    counted =
+        rights_kept (shape_in old) (shape_in new) rights
+        (holds_stay (policy_in old) (bytes (device_in old)) (bytes (device_in new)) (shape_in old) (shape_in new) (line_of session answered.0) reply
+        w.carried.0 w.carried.1 w.carried.2 answered.2 (still (shape_in old).schema said answered.0 answered.1 keeps))
+        (held_views_stay (policy_in old) (bytes (device_in old)) (bytes (device_in new)) (shape_in old) (shape_in new) (line_of session answered.0)
+        reply w.carried.0 w.carried.1 w.carried.2 answered.2)
+        w.counted;
+  }
+
+-- what an answer makes of a world
+pub does : {D : Type 0} (bytes : D → ToldFiles) (can_fail : D → Type 0) (session : ℕ) (said : Said) (old : Ledger D) (reply : Reply) (new : Ledger D) (rights after : List Hold)
+    → IsWorld bytes old rights → AnswersSaid bytes session said old reply new → (can_fail (device_in new) → can_fail (device_in old))
+    → policy_in new ≡ policy_in old
+    → Does bytes can_fail session (Some said) (record { ledger = old; rights = rights }) reply (record { ledger = new; rights = after })
+does bytes can_fail session said old reply new rights after w answered can policy = record {
+  answers = answered;
+  can = can;
+  schema = same_fields bytes session said old reply new rights w answered;
+  policy = policy;
+}
+
+-- some right that was taken out leaves one less
+pub popped : {X : Type 0} (new rights : List X) (r : Option X) (x : X) → r ≡ Some x → length new + (if is_some r then 1 else 0) ≡ length rights
+    → length new < length rights
+popped new rights r x is len =
+    let one : length new + 1 ≡ length rights = subst (λ r. length new + (if is_some r then 1 else 0) ≡ length rights) is len in omega arith

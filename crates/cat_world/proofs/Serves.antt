@@ -1,0 +1,169 @@
+-- A world that answers as its machine does serves its input as is promised.
+use Rattle.std.proofs.Common.{inl, inr, ◌≡◌, ℕ, List, [], ◌∷◌, ◌++◌, length, map, Bool, true, false, refl, sym, ◌∙◌, ap, ap₂, subst, arith, append-nil, append_assoc}
+use Rattle.std.specs.List.{flat_map}
+use Rattle.std.specs.Prelude.{◌≢◌, ◌⊎◌, Option, None, Some, Result, Ok, Err, nat_lt, if◌then◌else◌, filter_map}
+use Rattle.std.proofs.lemmas.Bool.Decides.{nat_tests}
+use Rattle.cat_base.specs.declared.refusal.Refusal.{Refusal}
+use Rattle.cat_base.specs.declared.refusal.Refusal.TheVariants.{Line as NoForm, Memory}
+use Rattle.cat_model.specs.Heard.{Heard, Hears}
+use Rattle.cat_model.specs.Lines.{IsReadable}
+use Rattle.cat_model.specs.Run.{Exchange, IsRun, Reply, Run, now}
+use Rattle.cat_model.specs.Served.{Answered, Begins, Ending, HeardAll, IsDue, Outcome, Refused, ServesBy, exchange, heard, outcome_text}
+use Rattle.cat_model.specs.Table.{Opened}
+use Rattle.cat_model.specs.Text.{Text}
+use Rattle.cat_model.proofs.Runs.{runs_go_on}
+use Rattle.cat_schema.specs.Reading.{json}
+use Rattle.cat_directory.specs.declared.name.FileName.{FileName}
+use Rattle.cat_ledger_shape.specs.Shapes.{Shape}
+use Rattle.cat_ledger_shape.specs.Ties.{ToldFiles}
+use Rattle.cat_ledger_lines.specs.RunLaws.{Stands}
+use Rattle.cat_serving.specs.Machine.{IsAnswered, Steps, opened_text, short_line}
+use Rattle.cat_serving.specs.Serving.{IsRefused}
+use Rattle.cat_serving.specs.declared.machine.Unopened.{Unopened}
+use Rattle.cat_world.specs.Opening.{BeginsIn, HasSchemaText, OpensIn, OpensWorld}
+use Rattle.cat_world.specs.Serving.{AreLike, Changes, IsLike, IsServedIn, OpensIfShort, ServesIn, StepsIfShort, TellsAll}
+use Rattle.cat_world.specs.Worlds.{Service, device_of, shape_of}
+
+-- ---- serving by weaker relations
+
+module _ (served served' : Text → List Text → Text → Type 0) (refused refused' : Text → Refusal → Type 0)
+    (serves : (first : Text) (lines : List Text) (text : Text) → served first lines text → served' first lines text)
+    (refuses : (first : Text) (e : Refusal) → refused first e → (e ≡ Memory) ⊎ refused' first e) where
+  answered_on : (lines : List Text) (text : Text) → Answered served lines text → Answered served' lines text
+  answered_on [] text a = a
+  answered_on (first ∷ lines) text a = serves first lines text a
+
+  refused_on : (lines : List Text) (e : Refusal) → Refused refused lines e → Refused refused' lines e
+  refused_on [] e r = r
+  refused_on (first ∷ lines) e (inl memory) = inl memory
+  refused_on (first ∷ lines) e (inr r) = refuses first e r
+
+  due_on : (lines : List Text) (text : Text) → IsDue served refused lines text → IsDue served' refused' lines text
+  due_on lines text (inl (first, others, whole, answered)) = inl (first, others, whole, answered_on first text answered)
+  due_on lines text (inr (e, r, said)) = inr (e, refused_on lines e r, said)
+
+  pub served_on : (input left before after : Option Text) (r : Result (Unit {0}) Ending) → ServesBy served refused input left before after r
+      → ServesBy served' refused' input left before after r
+  served_on input left before after (Ok u) (bytes, consumed, ended, text, answered, went) =
+      (bytes, consumed, ended, text, answered_on _ text answered, went)
+  served_on input left before after (Err Ending.schema) (bytes, consumed, lines, come, e, r, went) =
+      (bytes, consumed, lines, come, e, refused_on lines e r, went)
+  served_on input left before after (Err Ending.read) (bytes, consumed, text, answered, went) =
+      (bytes, consumed, text, answered_on _ text answered, went)
+  served_on input left before after (Err Ending.write) (bytes, consumed, lines, come, text, due, went) =
+      (bytes, consumed, lines, come, text, due_on lines text due, went)
+
+-- ---- lines that are too long
+
+too_long : (line : Text) → nat_lt 10000 (length line) ≡ true → IsReadable line → ⊥
+too_long line long readable = absurd (grind (arith, nat_tests, readable.short))
+
+-- ---- what is opened
+
+started : (from : Opened) → now from.start [] ≡ from.start.token
+started from = omega arith
+
+-- as many writes were accepted as the start tells
+counted : (told : ToldFiles) (s : Shape) (from : Opened) → Stands told s from [] → s.count ≡ from.start.token
+counted told s from stands = ap (λ (x : Shape). x.count) (sym stands.carries.shape) ∙ stands.stands.shows.count_now ∙ started from
+
+-- ---- one world
+
+module _ {D : Type 0} (bytes : D → ToldFiles) where
+  -- what the machine does with a line that may be too long, the world does with the line
+  line_if_short : (old new : Service D) (line : Text) (told : Outcome) (b : Bool) → nat_lt 10000 (length line) ≡ b
+      → StepsIfShort bytes old (if b then None else Some line) told new
+      → Hears json (shape_of old).schema line (heard told) × Changes bytes old told new
+  line_if_short old new line told true long s =
+      subst (λ t. Hears json (shape_of old).schema line (heard t) × Changes bytes old t new) (sym s.0)
+      (Hears.unreadable (λ readable session shows. too_long line long readable), s.1)
+  line_if_short old new line told false long s = s
+
+  opening_if_short : (device : D) (line : Text) (w : Service D) (b : Bool) → OpensIfShort bytes device (if b then None else Some line) (Ok w)
+      → OpensWorld bytes device line (Ok w)
+  opening_if_short device line w true o =
+      absurd (let no : ◌≡◌ {A = Result (Service D) (Unopened D)} (Ok w) (Err (record { refusal = NoForm; seed = device })) = o in cc)
+  opening_if_short device line w false o = o
+
+  refusal_if_short : (device : D) (line : Text) (u : Unopened D) (b : Bool) → nat_lt 10000 (length line) ≡ b
+      → OpensIfShort bytes device (if b then None else Some line) (Err u) → (u.refusal ≡ Memory) ⊎ BeginsIn (bytes device) line (Err u.refusal)
+  refusal_if_short device line u true long o =
+      let same : u ≡ record { refusal = NoForm; seed = device } = err_same u (record { refusal = NoForm; seed = device }) o in
+      inr (subst (λ x. BeginsIn (bytes device) line (Err x)) (sym (ap (λ x. x.refusal) same))
+      (Begins.formless (λ readable factor least text spelled. too_long line long readable)))
+    where
+      err_same : (a b : Unopened D) → ◌≡◌ {A = Result (Service D) (Unopened D)} (Err a) (Err b) → a ≡ b
+      err_same a b e = cc
+  refusal_if_short device line u false long o = elim o.0 [ inl stopped ↦ inl stopped.0 | inr begins ↦ inr begins ]
+
+  -- what comes of lines behind a past run: what was told, and what fits
+  pub record Goes (from : Opened) (past : Run) (lines : List Text) (outcomes : List Outcome) : Type 0 where
+    pub fitting : List Outcome
+    pub heard_all : HeardAll json from.start.schema lines outcomes
+    pub is_run : IsRun from (past ++ filter_map exchange fitting)
+    pub alike : AreLike outcomes fitting
+    pub same : TellsAll bytes → outcomes ≡ fitting
+
+  -- the lines that the machine steps through are heard, and their exchanges go on with the run so far
+  steps_go : (from : Opened) (past : Run) (old new : Service D) (lines : List Text) (outcomes : List Outcome)
+      → (shape_of old).schema ≡ from.start.schema → IsRun from past → Stands (bytes (device_of old)) (shape_of old) from past
+      → Steps (StepsIfShort bytes) old (map short_line lines) outcomes new → Goes from past lines outcomes
+  steps_go from past old new [] [] fields run stands s =
+      record { fitting = []; heard_all = tt; is_run = subst (IsRun from) (sym (append-nil past)) run; alike = tt; same = λ tells. refl }
+  steps_go from past old new [] (told ∷ outcomes) fields run stands s = absurd s
+  steps_go from past old new (line ∷ lines) [] fields run stands s = absurd s
+  steps_go from past old new (line ∷ lines) (Outcome.unreadable ∷ outcomes) fields run stands (mid, step, steps) =
+      let here = line_if_short old mid line Outcome.unreadable (nat_lt 10000 (length line)) refl step in
+      let rest = steps_go from past mid new lines outcomes (ap (λ w. (shape_of w).schema) here.1 ∙ fields) run
+      (subst (λ w. Stands (bytes (device_of w)) (shape_of w) from past) (sym here.1) stands) steps in record {
+        fitting = Outcome.unreadable ∷ rest.fitting;
+        heard_all = (subst (λ schema. Hears json schema line Heard.unreadable) fields here.0, rest.heard_all);
+        is_run = rest.is_run;
+        alike = (tt, rest.alike);
+        same = λ tells. ap (λ os. Outcome.unreadable ∷ os) (rest.same tells);
+      }
+  steps_go from past old new (line ∷ lines) (Outcome.replied e ∷ outcomes) fields run stands (mid, step, steps) =
+      let here = line_if_short old mid line (Outcome.replied e) (nat_lt 10000 (length line)) refl step in
+      let next = here.1.1 from past (sym fields) run stands in
+      let fit : Exchange = record { line = e.line; reply = next.0 } in
+      let rest = steps_go from (past ++ fit ∷ []) mid new lines outcomes (here.1.0 ∙ fields) (runs_go_on from past fit run next.2) next.3 steps in record {
+        fitting = Outcome.replied fit ∷ rest.fitting;
+        heard_all = (subst (λ schema. Hears json schema line (Heard.a_line e.line)) fields here.0, rest.heard_all);
+        is_run = subst (IsRun from) (append_assoc past (fit ∷ []) (filter_map exchange rest.fitting)) rest.is_run;
+        alike = ((refl, next.1.alike), rest.alike);
+        same = λ tells.
+            ap₂ (λ (r : Reply) (os : List Outcome). Outcome.replied (record { line = e.line; reply = r }) ∷ os)
+            (next.1.same (λ q. tells (device_of old) q)) (rest.same tells);
+      }
+
+  -- ---- the world serves
+
+  answered_in : (device : D) (first : Text) (lines : List Text) (text : Text)
+      → IsAnswered (OpensIfShort bytes device) (StepsIfShort bytes) (λ w. (shape_of w).count) first lines text
+      → IsServedIn bytes device first lines text
+  answered_in device first lines text a =
+      let opening = opening_if_short device first a.opened (nat_lt 10000 (length first)) a.begins in
+      let goes = steps_go opening.0 [] a.opened a.left lines a.outcomes opening.2 tt opening.3 a.steps in record {
+        from = opening.0;
+        begins = opening.1;
+        tolds = a.outcomes;
+        heard_all = goes.heard_all;
+        fitting = goes.fitting;
+        is_run = goes.is_run;
+        alike = goes.alike;
+        same = goes.same;
+        whole = a.whole ∙ ap (λ n. opened_text n ++ flat_map outcome_text a.outcomes) (counted (bytes (device_of a.opened)) (shape_of a.opened) opening.0 opening.3);
+      }
+
+  refused_in : (device : D) (first : Text) (e : Refusal) → IsRefused (OpensIfShort bytes device) first e
+      → (e ≡ Memory) ⊎ BeginsIn (bytes device) first (Err e)
+  refused_in device first e (back, o) = refusal_if_short device first (record { refusal = e; seed = back }) (nat_lt 10000 (length first)) refl o
+
+  -- What is served by a world's machine is served as is promised.
+  pub served_in : (device : D) (input left before after : Option Text) (r : Result (Unit {0}) Ending)
+      → ServesBy (IsAnswered (OpensIfShort bytes device) (StepsIfShort bytes) (λ w. (shape_of w).count)) (IsRefused (OpensIfShort bytes device))
+      input left before after r → ServesIn bytes device input left before after r
+  served_in device input left before after r =
+      served_on (IsAnswered (OpensIfShort bytes device) (StepsIfShort bytes) (λ w. (shape_of w).count)) (IsServedIn bytes device)
+      (IsRefused (OpensIfShort bytes device)) (λ first e. BeginsIn (bytes device) first (Err e)) (answered_in device) (refused_in device)
+      input left before after r

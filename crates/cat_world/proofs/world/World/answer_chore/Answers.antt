@@ -1,0 +1,18 @@
+use Rattle.std.proofs.Common.{refl}
+use Rattle.cat_model.specs.Lines.{Said}
+use Rattle.cat_replies.specs.Reply.{reply_of}
+use Rattle.cat_keeping.specs.Chores.{chore_of}
+use Rattle.cat_world.proofs.Kept.{does, world_stays}
+use Rattle.cat_world.proofs.world.World.answer_chore.Goals as goal
+
+pub invariant_of-self : goal.invariant_of-self
+invariant_of-self g c =
+    world_stays g.D.Holder.bytes c.args.session (Said.chore (chore_of c.args.chore)) c.self.inside.ledger (reply_of c.maintain.result) c.maintain.new.ledger c.self.inside.rights
+    refl c.self.invariant c.maintain.ensures.answers
+
+pub returns : goal.returns
+returns g c = rw (← c.self.view_is) (record {
+  does =
+      does g.D.Holder.bytes g.D.Holder.can_fail c.args.session (Said.chore (chore_of c.args.chore)) c.self.inside.ledger (reply_of c.maintain.result) c.maintain.new.ledger
+      c.self.inside.rights c.self.inside.rights c.self.invariant c.maintain.ensures.answers c.maintain.ensures.can c.maintain.ensures.policy;
+})

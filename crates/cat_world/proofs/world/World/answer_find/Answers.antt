@@ -1,0 +1,26 @@
+use Rattle.std.proofs.Common.{refl, sym, ◌∙◌, ap, subst}
+use Rattle.std.specs.Prelude.{option_map}
+use Rattle.cat_model.specs.Lines.{Said}
+use Rattle.cat_lines.specs.Line.{sort_said}
+use Rattle.cat_search.specs.Sorts.{sort_of}
+use Rattle.cat_replies.specs.Reply.{reply_of}
+use Rattle.cat_ledger.specs.Ledgers.{device_in, policy_in, shape_in}
+use Rattle.cat_holding.proofs.Answered.{option_map_twice}
+use Rattle.cat_world.proofs.Kept.{does}
+use Rattle.cat_world.proofs.ReadAnswers.{find_answers}
+use Rattle.cat_world.proofs.world.World.answer_find.Goals as goal
+
+pub returns : goal.returns
+returns g c = rw (← c.self.view_is) (record {
+  does =
+      let find = c.args.find in
+      let ledger = c.self.inside.ledger in
+      let o = option_map (λ h. h.now.view) c.get-right.result in
+      does g.D.Holder.bytes g.D.Holder.can_fail c.args.session (Said.find find.token find.count (sort_said find.sort) find.mark find.query.now)
+      ledger (reply_of c.find.result) ledger c.self.inside.rights c.self.inside.rights c.self.invariant
+      (find_answers (policy_in ledger) (g.D.Holder.bytes (device_in ledger)) (shape_in ledger) c.args.session find.token c.self.inside.rights
+      c.self.invariant.counted find.count (sort_of c.sort_asked.result) (sort_said find.sort) find.mark find.query.now (reply_of c.find.result) o
+      c.sort_asked.ensures (sym (option_map_twice (λ h. h.now) (λ h. h.view) c.get-right.result) ∙ ap (option_map (λ h. h.view)) c.get-right.ensures)
+      (rw c.schema.ensures at c.find.ensures.told))
+      (λ x. x) refl;
+})

@@ -1,0 +1,17 @@
+use Rattle.std.proofs.Common.{refl}
+use Rattle.cat_model.specs.Lines.{Said}
+use Rattle.cat_replies.specs.Reply.{reply_of}
+use Rattle.cat_world.proofs.Kept.{does, world_stays}
+use Rattle.cat_world.proofs.world.World.answer_get.Goals as goal
+
+pub invariant_of-self : goal.invariant_of-self
+invariant_of-self g c =
+    world_stays g.D.Holder.bytes c.args.session (Said.get c.args.token c.args.id.now) c.self.inside.ledger (reply_of c.get.result) c.get.new.ledger c.self.inside.rights
+    refl c.self.invariant c.get.ensures.answers
+
+pub returns : goal.returns
+returns g c = rw (← c.self.view_is) (record {
+  does =
+      does g.D.Holder.bytes g.D.Holder.can_fail c.args.session (Said.get c.args.token c.args.id.now) c.self.inside.ledger (reply_of c.get.result) c.get.new.ledger
+      c.self.inside.rights c.self.inside.rights c.self.invariant c.get.ensures.answers c.get.ensures.can c.get.ensures.policy;
+})

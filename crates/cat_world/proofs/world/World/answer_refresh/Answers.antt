@@ -1,0 +1,17 @@
+use Rattle.std.proofs.Common.{refl}
+use Rattle.cat_model.specs.Lines.{Said}
+use Rattle.cat_replies.specs.Reply.{reply_of}
+use Rattle.cat_world.proofs.Kept.{does, world_stays}
+use Rattle.cat_world.proofs.world.World.answer_refresh.Goals as goal
+
+pub invariant_of-self : goal.invariant_of-self
+invariant_of-self g c =
+    world_stays g.D.Holder.bytes 0 Said.refresh c.self.inside.ledger (reply_of c.refresh.result) c.refresh.new.ledger c.self.inside.rights refl
+    c.self.invariant (c.refresh.ensures.answers 0)
+
+pub returns : goal.returns
+returns g c = rw (← c.self.view_is) (record {
+  does = λ session.
+      does g.D.Holder.bytes g.D.Holder.can_fail session Said.refresh c.self.inside.ledger (reply_of c.refresh.result) c.refresh.new.ledger
+      c.self.inside.rights c.self.inside.rights c.self.invariant (c.refresh.ensures.answers session) c.refresh.ensures.can c.refresh.ensures.policy;
+})

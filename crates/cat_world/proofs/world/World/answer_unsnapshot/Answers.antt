@@ -1,0 +1,17 @@
+use Rattle.std.proofs.Common.{refl}
+use Rattle.cat_model.specs.Lines.{Said}
+use Rattle.cat_replies.specs.Reply.{reply_of}
+use Rattle.cat_world.proofs.Kept.{does, world_stays}
+use Rattle.cat_world.proofs.world.World.answer_unsnapshot.Goals as goal
+
+pub invariant_of-self : goal.invariant_of-self
+invariant_of-self g c =
+    world_stays g.D.Holder.bytes 0 (Said.release_snapshot c.args.generation) c.self.inside.ledger (reply_of c.release_snapshot.result) c.release_snapshot.new.ledger c.self.inside.rights refl
+    c.self.invariant (c.release_snapshot.ensures.answers 0)
+
+pub returns : goal.returns
+returns g c = rw (← c.self.view_is) (record {
+  does = λ session.
+      does g.D.Holder.bytes g.D.Holder.can_fail session (Said.release_snapshot c.args.generation) c.self.inside.ledger (reply_of c.release_snapshot.result) c.release_snapshot.new.ledger
+      c.self.inside.rights c.self.inside.rights c.self.invariant (c.release_snapshot.ensures.answers session) c.release_snapshot.ensures.can c.release_snapshot.ensures.policy;
+})

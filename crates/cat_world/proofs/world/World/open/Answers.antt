@@ -1,0 +1,50 @@
+use Rattle.std.proofs.Common.{◌∙◌, arith, inr, refl, sym}
+use Rattle.std.specs.Prelude.{Ok, Err}
+use Rattle.cat_model.specs.Lines.{IsReadable}
+use Rattle.cat_model.specs.Served.{Begins}
+use Rattle.cat_ledger.specs.Ledgers.{device_in, shape_in}
+use Rattle.cat_world.proofs.Begun.{begins_so, begun, refused_schema, unopened}
+use Rattle.cat_world.proofs.world.World.open.Goals as goal
+
+pub returns-then-line-gt-MAX_LINE_BYTES : goal.returns-then-line-gt-MAX_LINE_BYTES
+returns-then-line-gt-MAX_LINE_BYTES g c =
+    (inr (Begins.formless (λ readable factor least text spelled. absurd (omega (arith, readable.short, c.if-line-gt-MAX_LINE_BYTES.true)))), λ q. refl)
+
+pub returns-in_default : goal.returns-in_default
+returns-in_default g c = (inr (Begins.formless (λ _ factor least text spelled. c.in_default.ensures.none factor least text spelled)), λ q. refl)
+
+pub returns-in-Err : goal.returns-in-Err
+returns-in-Err g c =
+    let readable : IsReadable c.args.line.now = record { short = omega arith; utf8 = c.utf8.line } in
+    let found = c.in-Some.found in (
+      refused_schema (g.D.Holder.bytes c.args.device) c.args.line.now found.factor found.least found.json.now c.in-Err.refusal
+          c.in-Some.ensures.found (rw c.as_bytes.ensures.value at c.in-Err.ensures.err) readable,
+      λ q. refl,
+    )
+
+pub returns-in-Ok-open : goal.returns-in-Ok-open
+returns-in-Ok-open g c =
+    let readable : IsReadable c.args.line.now = record { short = omega arith; utf8 = c.utf8.line } in
+    let read = rw c.as_bytes.ensures.value at c.in-Ok.ensures.ok in
+    let found = c.in-Some.found in
+    let ledger = c.in-Ok-open.ledger in
+    let told = g.D.Holder.bytes c.args.device in
+    let begins = begun told (g.D.Holder.bytes (device_in ledger)) c.in-Ok.schema (shape_in ledger) c.in-Ok-open.ensures.ok in (
+      begins.0,
+      begins_so told c.args.line.now found.factor found.least found.json.now c.in-Ok.schema (Ok begins.0) readable c.in-Some.ensures.found read begins.1,
+      c.in-Ok-open.ensures.fields ∙ sym begins.2,
+      begins.3,
+    )
+
+pub returns-in-Err-open : goal.returns-in-Err-open
+returns-in-Err-open g c =
+    let readable : IsReadable c.args.line.now = record { short = omega arith; utf8 = c.utf8.line } in
+    let read = rw c.as_bytes.ensures.value at c.in-Ok.ensures.ok in
+    let found = c.in-Some.found in
+    let told = g.D.Holder.bytes c.args.device in
+    let e = c.in-Err-open.field-0.refusal in
+    let ensures = c.in-Err-open.ensures in (
+      inr (begins_so told c.args.line.now found.factor found.least found.json.now c.in-Ok.schema (Err e) readable c.in-Some.ensures.found read
+          (unopened told c.in-Ok.schema e ensures.refusal ensures.damaged ensures.foreign)),
+      ensures.same,
+    )

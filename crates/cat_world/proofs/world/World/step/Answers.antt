@@ -1,0 +1,17 @@
+use Rattle.cat_lines.specs.Line.{said_of}
+use Rattle.cat_replies.specs.Reply.{reply_of}
+use Rattle.cat_ledger_lines.proofs.Answered.{answers_are_steps}
+use Rattle.cat_ledger_lines.specs.LineLaws.{line_of}
+use Rattle.cat_world.specs.Worlds.{device_of, policy_of, shape_of}
+use Rattle.cat_world.proofs.world.World.step.Goals as goal
+
+pub returns-clause-run : goal.returns-clause-run
+returns-clause-run g c =
+    let old = c.args.self.now in
+    let new = c.answer.new.self in
+    let does = c.answer.ensures.does in (
+      does.answers.0,
+      does.answers.1,
+      answers_are_steps (policy_of old) (g.D.Holder.bytes (device_of old)) (g.D.Holder.bytes (device_of new)) (shape_of old) (shape_of new)
+          (line_of c.args.line.now.session does.answers.0) (reply_of c.answer.result) does.answers.2,
+    )

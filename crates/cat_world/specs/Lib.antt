@@ -1,0 +1,4 @@
+pub mod Worlds
+pub mod Lines
+pub mod Opening
+pub mod Serving

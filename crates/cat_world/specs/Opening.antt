@@ -1,0 +1,54 @@
+-- What a schema line opens in a directory.
+use Rattle.std.specs.Prelude.{◌≡◌, ◌⊎◌, ℕ, Some, Result, Ok, Err, []}
+use Rattle.cat_base.specs.declared.refusal.Refusal.{Refusal}
+use Rattle.cat_base.specs.declared.refusal.Refusal.TheVariants.{Damaged, Device, Kind, Memory}
+use Rattle.cat_model.specs.Item.{Schema}
+use Rattle.cat_model.specs.Lines.{IsReadable}
+use Rattle.cat_model.specs.Served.{Begins, OpensEmpty, Opening, SpellsSchema}
+use Rattle.cat_model.specs.Table.{Opened}
+use Rattle.cat_model.specs.Text.{Text}
+use Rattle.cat_schema.specs.Reading.{json}
+use Rattle.cat_directory.specs.declared.name.FileName.{FileName}
+use Rattle.cat_ledger_model.specs.Opening.{Restored, IsRestored}
+use Rattle.cat_ledger_shape.specs.OpeningLaws.{MayHold}
+use Rattle.cat_ledger_shape.specs.Ties.{ToldFiles}
+use Rattle.cat_ledger_lines.specs.RunLaws.{Stands}
+use Rattle.cat_ledger_opening.specs.Newest.{HasNoCommit, IsNewestCommit}
+use Rattle.cat_ledger_opening.specs.Refused.{IsNewestDamaged, IsNewestForeign}
+use Rattle.cat_serving.specs.declared.machine.Unopened.{Unopened}
+use Rattle.cat_world.specs.Worlds.{Service, device_of, shape_of}
+
+-- It begins at the newest commit, as the directory's files may hold it: with the fields, the number of writes, the generation and the
+-- text of that commit.
+pub record BeginsAtCommit (told : ToldFiles) (schema : Schema) (from : Opened) : Type 0 where
+  pub generation : ℕ
+  pub newest : IsNewestCommit told generation
+  pub restored : Restored
+  pub held : IsRestored (MayHold told) schema generation restored
+  pub fields : from.start.schema ≡ schema
+  pub token : from.start.token ≡ restored.commit.token
+  pub commit : from.commit ≡ Some (record { generation = restored.commit.generation; text = restored.commit.text })
+
+-- What opening a directory under a schema may answer, by what it tells of its files: the newest commit, or an empty catalogue where
+-- there is none; or why it isn't opened.
+abbrev pub OpensIn : ToldFiles → Opening
+OpensIn told schema (Ok from) = BeginsAtCommit told schema from ⊎ (HasNoCommit told × OpensEmpty schema (Ok from))
+OpensIn told schema (Err e) =
+    (e ≡ Memory) ⊎ (e ≡ Device) ⊎ ((e ≡ Damaged) × IsNewestDamaged told schema) ⊎ ((e ≡ Kind) × IsNewestForeign told schema)
+
+-- the line can be read, and has the form of a schema line: the text of its schema is looked at, which takes memory
+abbrev pub HasSchemaText : Text → Type 0
+HasSchemaText line = IsReadable line × (factor least : ℕ) × (text : Text) × SpellsSchema line factor least text
+
+-- how a world begins that the line opens
+abbrev pub BeginsIn : ToldFiles → Text → Result Opened Refusal → Type 0
+BeginsIn told line r = Begins json (OpensIn told) line r
+
+-- What opening a directory by the text of a line may give. The first argument says what a device tells of its files.
+abbrev pub OpensWorld : {D : Type 0} → (D → ToldFiles) → D → Text → Result (Service D) (Unopened D) → Type 0
+OpensWorld bytes device line (Ok w) =
+    (from : Opened) × BeginsIn (bytes device) line (Ok from) × ((shape_of w).schema ≡ from.start.schema)
+    × Stands (bytes (device_of w)) (shape_of w) from []
+OpensWorld bytes device line (Err u) =
+    (((u.refusal ≡ Memory) × HasSchemaText line) ⊎ BeginsIn (bytes device) line (Err u.refusal))
+    × ((q : FileName) → bytes u.seed q ≡ bytes device q)

@@ -1,0 +1,77 @@
+-- A world of sessions as what is served: what its schema line opens, and what each line behind it does.
+use Rattle.std.specs.Prelude.{◌≡◌, ◌≢◌, ◌⊎◌, ℕ, Option, None, Some, Result, Ok, Err, List, [], ◌∷◌, ◌++◌, codes, filter_map}
+use Rattle.std.specs.List.{flat_map}
+use Rattle.std.specs.Fmt.{decimal}
+use Rattle.cat_base.specs.declared.refusal.Refusal.{Refusal}
+use Rattle.cat_base.specs.declared.refusal.Refusal.TheVariants.{Line as NoForm}
+use Rattle.cat_model.specs.Heard.{Hears}
+use Rattle.cat_model.specs.Lines.{line_text}
+use Rattle.cat_model.specs.Run.{IsRun}
+use Rattle.cat_model.specs.Served.{Ending, HeardAll, Outcome, ServesBy, exchange, heard, outcome_text}
+use Rattle.cat_model.specs.Table.{Opened}
+use Rattle.cat_model.specs.Text.{Text}
+use Rattle.cat_schema.specs.Reading.{json}
+use Rattle.cat_directory.specs.declared.name.FileName.{FileName}
+use Rattle.cat_ledger_shape.specs.Ties.{ToldFiles}
+use Rattle.cat_ledger_lines.specs.RunLaws.{AreAlike, IsStep}
+use Rattle.cat_serving.specs.declared.machine.Unopened.{Unopened}
+use Rattle.cat_world.specs.Opening.{BeginsIn, OpensWorld}
+use Rattle.cat_world.specs.Worlds.{Service, device_of, shape_of}
+
+-- ---- as a machine
+
+-- what opening by a first line may give, which may be too long
+abbrev pub OpensIfShort : {D : Type 0} → (D → ToldFiles) → D → Option Text → Result (Service D) (Unopened D) → Type 0
+OpensIfShort bytes device None r = r ≡ Err (record { refusal = NoForm; seed = device })
+OpensIfShort bytes device (Some line) r = OpensWorld bytes device line r
+
+-- an unreadable line changes nothing, and the reply to another is a step of every run that led here
+abbrev pub Changes : {D : Type 0} → (D → ToldFiles) → Service D → Outcome → Service D → Type 0
+Changes bytes old Outcome.unreadable new = new ≡ old
+Changes bytes old (Outcome.replied e) new =
+    ((shape_of new).schema ≡ (shape_of old).schema)
+    × IsStep (bytes (device_of old)) (shape_of old) e.line e.reply (bytes (device_of new)) (shape_of new)
+
+-- a line, which may be too long, is heard and changes the world
+abbrev pub StepsIfShort : {D : Type 0} → (D → ToldFiles) → Service D → Option Text → Outcome → Service D → Type 0
+StepsIfShort bytes old None told new = (told ≡ Outcome.unreadable) × (new ≡ old)
+StepsIfShort bytes old (Some line) told new = Hears json (shape_of old).schema line (heard told) × Changes bytes old told new
+
+-- ---- as it is served
+
+-- Lines are told the same, or the replies are alike: the text of a stored item may be another one of its length.
+abbrev pub IsLike : Outcome → Outcome → Type 0
+IsLike Outcome.unreadable Outcome.unreadable = Unit {0}
+IsLike Outcome.unreadable (Outcome.replied e) = ⊥
+IsLike (Outcome.replied e) Outcome.unreadable = ⊥
+IsLike (Outcome.replied e) (Outcome.replied fitting) = (e.line ≡ fitting.line) × AreAlike e.reply fitting.reply
+
+-- so with each of them
+abbrev pub AreLike : List Outcome → List Outcome → Type 0
+AreLike [] [] = Unit {0}
+AreLike [] (o ∷ os) = ⊥
+AreLike (told ∷ tolds) [] = ⊥
+AreLike (told ∷ tolds) (o ∷ os) = IsLike told o × AreLike tolds os
+
+-- devices of this kind tell of each of their files
+abbrev pub TellsAll : {D : Type 0} → (D → ToldFiles) → Type 0
+TellsAll {D = D} bytes = (device : D) (q : FileName) → bytes device q ≢ None
+
+-- The text answers the schema line and the lines behind it: with a run from where the directory is opened, and the replies to
+-- unreadable lines between. On devices that don't tell of their files, the text of a stored item may be another one of its length than
+-- the one that fits; on those that do, all that is told fits.
+pub record IsServedIn {D : Type 0} (bytes : D → ToldFiles) (device : D) (first : Text) (lines : List Text) (text : Text) : Type 0 where
+  pub from : Opened
+  pub begins : BeginsIn (bytes device) first (Ok from)
+  pub tolds : List Outcome
+  pub heard_all : HeardAll json from.start.schema lines tolds
+  pub fitting : List Outcome
+  pub is_run : IsRun from (filter_map exchange fitting)
+  pub alike : AreLike tolds fitting
+  pub same : TellsAll bytes → tolds ≡ fitting
+  pub whole : text ≡ line_text (codes "OK" ∷ decimal from.start.token ∷ []) ++ flat_map outcome_text tolds
+
+-- What is written answers the lines that were read: it is the text of a run that fits them, from where the directory is opened. The
+-- first argument says what a device tells of its files.
+abbrev pub ServesIn : {D : Type 0} → (D → ToldFiles) → D → (input left before after : Option Text) → Result (Unit {0}) Ending → Type 0
+ServesIn bytes device = ServesBy (IsServedIn bytes device) (λ first e. BeginsIn (bytes device) first (Err e))

@@ -1,0 +1,63 @@
+//! Lines, answered one after another.
+ghost use Rattle.std.specs.Prelude.{◌≡◌};
+ghost use Rattle.cat_model.specs.Run.{Run};
+ghost use Rattle.cat_model.specs.Table.{Opened};
+ghost use Rattle.cat_lines.specs.Line.{said_of};
+ghost use Rattle.cat_replies.specs.Reply.{reply_of};
+ghost use Rattle.cat_world.specs.Lines.{Does, StepsLine};
+ghost use Rattle.cat_world.specs.Worlds.{device_of, policy_of, shape_of};
+
+use crate::world::World;
+use cat_base::{Refusal, SessionNo};
+use cat_directory::{Directory, Shelf};
+use cat_keeping::Chore;
+use cat_lines::{Command, Line};
+use cat_replies::{Answer, Reply};
+
+impl<D: Directory + Shelf> World<D> {
+    /// Answers a line, whose session stands in the reply.
+    fn answer(&mut self, line: &Line) -> Result<Answer, Refusal>
+        ensures does { Does D.bytes D.can_fail line.now.session (said_of line.now.command) self.old (reply_of result) self.new }
+    {
+        let session = line.session;
+        match line.command {
+            Command::NoForm => Err(Refusal::Line),
+            Command::Put(text) => self.answer_put(text),
+            Command::Delete(id) => self.answer_delete(id),
+            Command::DeleteWhere(text) => self.answer_delete_where(text),
+            Command::Refresh => self.answer_refresh(),
+            Command::Open(token) => self.answer_open(session, token),
+            Command::Close(token) => self.answer_close(session, token),
+            Command::Find(find) => self.answer_find(session, find),
+            Command::Facets(facets) => self.answer_facets(session, facets),
+            Command::Get { token, id } => self.answer_get(session, token, id),
+            Command::FilesOfToken(token) => self.answer_view_files(session, token),
+            Command::FilesOfCommit(generation) => self.answer_commit_files(generation),
+            Command::Commit(text) => self.answer_commit(text),
+            Command::Note(generation) => self.answer_note(generation),
+            Command::Snapshot => self.answer_snapshot(),
+            Command::Unsnapshot(generation) => self.answer_unsnapshot(generation),
+            Command::Prune(count) => self.answer_prune(count),
+            Command::Merge => self.answer_chore(session, Chore::Merge),
+            Command::Force => self.answer_chore(session, Chore::Force),
+            Command::Warm => self.answer_chore(session, Chore::Warm),
+            Command::Sweep => self.answer_chore(session, Chore::Sweep),
+            Command::Stat => self.answer_chore(session, Chore::Stat),
+        }
+    }
+
+    /// Answers a line. Whatever run led here, the reply fits it, and what is left stands for the longer run; where the
+    /// directory doesn't tell of its files, the text of a stored item alone may be another of that length.
+    pub fn step(&mut self, line: &Line) -> Reply
+        ensures session { result.session ≡ line.now.session }
+        ensures run { StepsLine D.bytes line.now.session (said_of line.now.command) self.old (reply_of result.answer) self.new }
+        ensures schema { (shape_of self.new).schema ≡ (shape_of self.old).schema }
+        ensures policy { policy_of self.new ≡ policy_of self.old }
+        ensures can { D.can_fail (device_of self.new) → D.can_fail (device_of self.old) }
+    {
+        Reply {
+            session: line.session,
+            answer: self.answer(line),
+        }
+    }
+}

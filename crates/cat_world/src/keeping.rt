@@ -1,0 +1,39 @@
+//! Lines that record views and let them go, and those of maintenance.
+ghost use Rattle.std.specs.Prelude.{ℕ, Some};
+ghost use Rattle.cat_model.specs.Lines.{Said};
+ghost use Rattle.cat_keeping.specs.Chores.{chore_of};
+ghost use Rattle.cat_replies.specs.Reply.{reply_of};
+ghost use Rattle.cat_world.specs.Lines.{Does};
+
+use crate::world::World;
+use cat_base::{Refusal, SessionNo};
+use cat_directory::{Directory, Shelf};
+use cat_keeping::Chore;
+use cat_replies::Answer;
+
+impl<D: Directory + Shelf> World<D> {
+    /// Answers a REFRESH.
+    pub(crate) fn answer_refresh(&mut self) -> Result<Answer, Refusal>
+        ensures does { (session : ℕ) → Does D.bytes D.can_fail session (Some Said.refresh) self.old (reply_of result) self.new }
+    {
+        cat_keeping::refresh(&mut self.ledger)
+    }
+
+    /// Answers a PRUNE.
+    pub(crate) fn answer_prune(&mut self, count: u64) -> Result<Answer, Refusal>
+        ensures does { (session : ℕ) → Does D.bytes D.can_fail session (Some (Said.prune count)) self.old (reply_of result) self.new }
+    {
+        cat_keeping::prune(&mut self.ledger, count)
+    }
+
+    /// Answers a MERGE, FORCE, WARM, SWEEP or STAT.
+    pub(crate) fn answer_chore(
+        &mut self,
+        session: SessionNo,
+        chore: Chore,
+    ) -> Result<Answer, Refusal>
+        ensures does { Does D.bytes D.can_fail session (Some (Said.chore (chore_of chore))) self.old (reply_of result) self.new }
+    {
+        cat_keeping::maintain(self.alloc, &mut self.ledger, session, chore)
+    }
+}

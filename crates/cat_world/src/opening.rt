@@ -1,0 +1,75 @@
+//! Worlds that a schema line opens in a directory.
+//!
+//! Lucene's constructor of `IndexWriter` under an `IndexWriterConfig`.
+ghost use Rattle.std.specs.Prelude.{◌≡◌};
+ghost use Rattle.cat_model.specs.Served.{SpellsSchema};
+ghost use Rattle.cat_model.specs.Text.{Text};
+ghost use Rattle.cat_world.specs.Opening.{OpensWorld};
+
+use crate::world::World;
+use cat_base::{MAX_LINE_BYTES, Refusal};
+use cat_directory::{Directory, Shelf};
+use cat_ledger::{Ledger, NotOpened};
+use cat_lines::SchemaLine;
+use cat_rights::Rights;
+use cat_schema::Schema;
+use cat_serving::Unopened;
+use cat_upkeep::MergePolicy;
+use std::alloc::Global;
+
+/// The policy of the numbers that a schema line gives.
+fn policy_of(found: &SchemaLine) -> MergePolicy
+    requires { (line text : Text) × SpellsSchema line found.now.factor found.now.least text }
+    ensures { result ≡ record { factor = found.now.factor; least = found.now.least } }
+{
+    match MergePolicy::of(found.factor as u64, found.least as u64) {
+        Some(policy) => policy,
+        None => unreachable!(),
+    }
+}
+
+impl<D: Directory + Shelf> World<D> {
+    /// Opens the newest commit of the directory, or an empty catalogue where there is none, under the schema that the line
+    /// gives, as `SCHEMA 10 1000 {"price":"number"}`: a factor of merges (2 to 100), their minimum (1 to 100,000), and the
+    /// schema. No session has a right to a view. (Lucene: `OpenMode.CREATE_OR_APPEND`, and the `LogDocMergePolicy`.)
+    ///
+    /// The first of these that is so is the refusal, with which the directory comes back, and nothing was deleted from it:
+    /// [`Refusal::Line`] of what isn't of that form, or is longer than a line may be; [`Refusal::Json`] or [`Refusal::Kind`]
+    /// of what is no schema; then [`Refusal::Kind`] where the commit has another schema, [`Refusal::Damaged`] where its
+    /// files don't hold it, [`Refusal::Device`] where the directory fails. [`Refusal::Memory`] is told only of a line of the
+    /// form.
+    pub fn open(alloc: Global, device: D, line: &str) -> Result<World<D>, Unopened<D>>
+        ensures { OpensWorld D.bytes device line.now result }
+    {
+        if MAX_LINE_BYTES < line.len() {
+            return Err(Unopened {
+                refusal: Refusal::Line,
+                seed: device,
+            });
+        }
+        let Some(found) = SchemaLine::read(line) else {
+            return Err(Unopened {
+                refusal: Refusal::Line,
+                seed: device,
+            });
+        };
+        let schema = match Schema::read(alloc, found.json.as_bytes()) {
+            Ok(schema) => schema,
+            Err(refusal) => return Err(Unopened {
+                refusal,
+                seed: device,
+            }),
+        };
+        match Ledger::open(alloc, device, schema, policy_of(&found)) {
+            Ok(ledger) => Ok(World {
+                alloc,
+                ledger,
+                rights: Rights::new(alloc),
+            }),
+            Err(NotOpened { refusal, device }) => Err(Unopened {
+                refusal,
+                seed: device,
+            }),
+        }
+    }
+}

@@ -1,0 +1,63 @@
+//! Lines that look for items, over a session's right to a view.
+ghost use Rattle.std.specs.Prelude.{◌≡◌, Some};
+ghost use Rattle.cat_model.specs.Lines.{Said};
+ghost use Rattle.cat_lines.specs.Line.{sort_said};
+ghost use Rattle.cat_search.specs.Sorts.{sort_of};
+ghost use Rattle.cat_replies.specs.Reply.{reply_of};
+ghost use Rattle.cat_world.specs.Lines.{Does};
+
+use crate::world::World;
+use cat_base::{Refusal, SessionNo};
+use cat_directory::{Directory, Shelf};
+use cat_lines::{Facets, Find};
+use cat_replies::Answer;
+use cat_search::{Ask, Sort};
+
+/// The sort that a line says.
+fn sort_asked(sort: cat_lines::Sort<'_>) -> Sort<'_>
+    ensures { sort_of result ≡ sort_said sort.entry }
+{
+    match sort {
+        cat_lines::Sort::Added => Sort::Added,
+        cat_lines::Sort::Rising(name) => Sort::Rising(name),
+        cat_lines::Sort::Falling(name) => Sort::Falling(name),
+    }
+}
+
+impl<D: Directory + Shelf> World<D> {
+    /// Answers a FIND.
+    pub(crate) fn answer_find(&self, session: SessionNo, find: Find<'_>) -> Result<Answer, Refusal>
+        ensures does { Does D.bytes D.can_fail session
+            (Some (Said.find find.entry.token find.entry.count (sort_said find.entry.sort) find.entry.mark find.entry.query.now))
+            self.now (reply_of result) self.now }
+    {
+        let right = self.rights.get(session, find.token);
+        let ask = Ask {
+            sort: sort_asked(find.sort),
+            after: find.mark,
+            count: find.count,
+        };
+        cat_finding::find(self.alloc, self.ledger.schema(), right, ask, find.query)
+    }
+
+    /// Answers a FACETS.
+    pub(crate) fn answer_facets(
+        &self,
+        session: SessionNo,
+        facets: Facets<'_>,
+    ) -> Result<Answer, Refusal>
+        ensures does { Does D.bytes D.can_fail session
+            (Some (Said.facets facets.entry.token facets.entry.dimension.now facets.entry.count facets.entry.query.now))
+            self.now (reply_of result) self.now }
+    {
+        let right = self.rights.get(session, facets.token);
+        cat_finding::count_facets(
+            self.alloc,
+            self.ledger.schema(),
+            right,
+            facets.dimension,
+            facets.count,
+            facets.query,
+        )
+    }
+}

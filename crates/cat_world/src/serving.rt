@@ -1,0 +1,50 @@
+//! Lines that are served over a directory.
+ghost use Rattle.cat_serving.specs.Serving.{ended_as};
+ghost use Rattle.cat_world.specs.Serving.{ServesIn};
+
+use crate::world::World;
+use cat_directory::{Directory, Shelf};
+use cat_serving::{ServeFault, Stage, serve_machine};
+use std::alloc::Global;
+use std::io::{Read, Write};
+
+/// What serving leaves.
+#[derive(Drop)]
+pub struct Left<D> {
+    /// The directory, with its files as they stand: what waited, and what no commit has, isn't in them.
+    pub device: D,
+    /// Why serving ended before the end of the input, if it did.
+    pub ended: Result<(), ServeFault>,
+}
+
+/// The directory of the stage. A world that stands open ends.
+fn device_left<D: Directory + Shelf>(stage: Stage<World<D>, D>) -> D {
+    match stage {
+        Stage::Waiting(device) => device,
+        Stage::Refused(device) => device,
+        Stage::Open(world) => world.end(),
+    }
+}
+
+/// Answers each line of the reader: the first opens the newest commit of the directory, or an empty catalogue where there is
+/// none, and the others are its sessions'.
+///
+/// What it writes is the text of a run that fits the lines, and nothing else; where a directory doesn't tell of its files, the
+/// text of a stored item alone may be another of that length. It flushes before each read, so that a client which waits for a
+/// reply has it. Its two buffers are taken before the first line is read, and replies are written without taking memory. The
+/// reader is called at most 4,294,967,295 times.
+pub fn serve<D: Directory + Shelf, R: Read, W: Write>(
+    alloc: Global,
+    device: D,
+    reader: &mut R,
+    writer: &mut W,
+) -> Left<D>
+    ensures { ServesIn D.bytes device (R.remaining reader.old) (R.remaining reader.new) (W.contents writer.old)
+        (W.contents writer.new) (ended_as result.ended) }
+{
+    let served = serve_machine::<World<D>, R, W>(alloc, device, reader, writer);
+    Left {
+        device: device_left(served.stage),
+        ended: served.ended,
+    }
+}

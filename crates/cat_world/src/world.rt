@@ -1,0 +1,80 @@
+//! The world: a ledger, and the rights that its sessions have.
+ghost use Rattle.std.specs.Prelude.{◌≡◌};
+ghost use Rattle.cat_world.specs.Worlds.{device_of, shape_of};
+
+use cat_base::WriteNo;
+use cat_directory::{Directory, Shelf};
+use cat_ledger::Ledger;
+use cat_rights::Rights;
+use cat_schema::Schema;
+use std::alloc::Global;
+use std::marker::Model;
+
+/// A catalogue in a directory with the sessions that speak to it. Each session has its own rights to views, which last until
+/// it gives them back itself. (Lucene: an `IndexWriter` with a `SearcherLifetimeManager`, and what its clients have acquired.)
+///
+/// It isn't dropped by leaving a scope: [`end`](World::end) gives its directory back.
+///
+/// Contracts see it as its ledger, and the list of the rights.
+///
+/// ```text
+/// let mut world = World::open(alloc, directory, r#"SCHEMA 10 1000 {"price":"number"}"#)?;
+/// let line = Line::read(r#"1 PUT {"id":"a","price":7}"#)?;
+/// let text = world.step(&line).text(alloc)?; // 1 OK 1
+/// let directory = world.end();
+/// ```
+pub struct World<D: Directory + Shelf> {
+    pub(crate) alloc: Global,
+    pub(crate) ledger: Ledger<D>,
+    pub(crate) rights: Rights,
+}
+
+impl<D: Directory + Shelf> Model for World<D> {
+    ghost use Rattle.cat_world.specs.Worlds.{IsWorld, Service};
+
+    ghost Value = { Service D };
+
+    ghost view = { λ w. record { ledger = w.ledger; rights = w.rights } };
+
+    ghost invariant = { λ w. IsWorld D.bytes w.ledger w.rights };
+}
+
+impl<D: Directory + Shelf> World<D> {
+    /// How many writes were accepted, which is the token of a view of now.
+    pub fn count(&self) -> WriteNo
+        ensures { result ≡ (shape_of self.now).count }
+    {
+        self.ledger.count()
+    }
+
+    /// The fields of the items.
+    pub fn schema(&self) -> &Schema
+        ensures { result.now ≡ (shape_of self.now).schema }
+    {
+        self.ledger.schema()
+    }
+
+    /// Ends it: each right goes back to the ledger, and the directory is given out with its files as they stand. What waits,
+    /// and what no commit has, isn't in them. It takes no memory. (Lucene: `SearcherLifetimeManager.close`, and then
+    /// `IndexWriter.rollback`.)
+    pub fn end(self) -> D
+        ensures { result ≡ device_of self }
+    {
+        let World {
+            alloc: _,
+            ledger,
+            rights,
+        } = self;
+        end_rights(rights);
+        ledger.into_directory()
+    }
+}
+
+/// Ends each of the rights. The ledger that counts them ends with them.
+fn end_rights(rights: Rights) {
+    let mut rights = rights;
+    'rights: while let Some(hold) = rights.pop() {
+        hold.give_up();
+    }
+    rights.destroy_empty();
+}
