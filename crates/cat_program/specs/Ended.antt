@@ -1,7 +1,7 @@
 -- How the program ends, with which exit status, and what it says of a fault.
 use Rattle.std.specs.Prelude.{ℕ, List, codes, Result, Ok, Err}
-use Rattle.cat_protocol.specs.declared.serving.ServeFault.{ServeFault}
-use Rattle.cat_protocol.specs.declared.serving.ServeFault.TheVariants as fault
+use Rattle.cat_serving.specs.declared.serving.ServeFault.{ServeFault}
+use Rattle.cat_serving.specs.declared.serving.ServeFault.TheVariants as fault
 use Rattle.cat_program.specs.declared.endings.Ending.{Ending}
 use Rattle.cat_program.specs.declared.endings.Ending.TheVariants.{EndOfInput, WrongArguments, SchemaRefused, Fault}
 

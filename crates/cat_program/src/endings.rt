@@ -2,7 +2,7 @@
 ghost use Rattle.std.specs.Prelude.{◌≡◌};
 ghost use Rattle.cat_program.specs.Ended.{ending_of, message_of, status_of};
 
-use cat_protocol::ServeFault;
+use cat_serving::ServeFault;
 
 /// The ways in which the program ends.
 #[derive(Clone, Copy, Debug, PartialEq, Eq)]

@@ -1,13 +1,19 @@
 //! Serves the catalogue's line protocol over the program's standard streams.
 ghost use Rattle.std.specs.Prelude.{◌≡◌};
 ghost use Rattle.std.specs.Process.{exit_status};
-ghost use Rattle.cat_program.specs.Ended.{status_of};
+ghost use Rattle.cat_program.specs.Ended.{ending_of, status_of};
 
 use crate::arguments::{Task, USAGE};
 use crate::endings::{Ending, message};
-use cat_protocol::{ServeFault, serve};
+use cat_base::Refusal;
+use cat_directory::{Directory, Folder, MemoryDirectory, Shelf};
+use cat_sending::send_refused;
+use cat_serving::ServeFault;
+use cat_world::serve;
 use log::sink::Console;
 use log::{Level, Log, Logged, error};
+use std::alloc::AllocError;
+use std::fs::Files;
 use std::io::BufWriter;
 use std::process::ExitCode;
 use std::rt::Env;
@@ -21,13 +27,44 @@ fn words<R: Env + AllocGlobal>(rt: &R) -> io::Result<Vec<String>> {
     Ok(env::args(rt)?.skip(1).collect(rt.alloc())?)
 }
 
-/// Serves standard input to standard output. `serve` sends on what the writer gathers, before each read and at its end.
-/// Without memory for a buffer the replies go out one by one.
-fn serve_streams<R: AllocGlobal + Input + Print>(rt: &R) -> Result<(), ServeFault> {
+/// Serves standard input to standard output over the directory. `serve` sends on what the writer gathers, before each read and
+/// at its end. Without memory for a buffer the replies go out one by one.
+fn serve_streams<R: AllocGlobal + Input + Print, D: Directory + Shelf + Drop>(
+    rt: &R,
+    device: D,
+) -> Result<(), ServeFault> {
     let reader = &mut rt.reader();
     match BufWriter::with_capacity(rt.alloc(), GATHERED, io::writer(rt)) {
-        Ok(mut writer) => serve(rt.alloc(), reader, &mut writer),
-        Err(_) => serve(rt.alloc(), reader, &mut io::writer(rt)),
+        Ok(mut writer) => serve(rt.alloc(), device, reader, &mut writer).ended,
+        Err(_) => serve(rt.alloc(), device, reader, &mut io::writer(rt)).ended,
+    }
+}
+
+/// The folder at the path. It isn't touched yet.
+fn folder_at<R: AllocGlobal + Files + Clone + Drop>(
+    rt: &R,
+    path: &str,
+) -> Result<Folder<R>, AllocError> {
+    Folder::at(rt.clone()?, rt.alloc(), path)
+}
+
+/// Says that memory is wanting before a line is read, as `serve` does.
+fn refuse_for_memory<R: Print>(rt: &R) -> ServeFault {
+    match send_refused(Refusal::Memory, &mut io::writer(rt)) {
+        Ok(()) => ServeFault::Schema,
+        Err(_) => ServeFault::Write,
+    }
+}
+
+/// Serves standard input to standard output over the folder at the path. One that can't be listed is told in the reply to the
+/// schema line.
+fn serve_folder<R: AllocGlobal + Input + Print + Files + Clone + Drop>(
+    rt: &R,
+    path: &str,
+) -> Result<(), ServeFault> {
+    match folder_at(rt, path) {
+        Ok(folder) => serve_streams(rt, folder),
+        Err(_) => Err(refuse_for_memory(rt)),
     }
 }
 
@@ -37,21 +74,41 @@ fn report<R: Eprint>(rt: &R, fault: ServeFault) {
     error!(rt; target: "catalogue", "{}", message(fault));
 }
 
-/// Does what the arguments ask for. Words that can't be read ask for nothing that the program does.
-fn do_task<R: Env + AllocGlobal + Input + Print + Eprint>(rt: &R) -> Ending {
-    let task = words(rt).map_or(Task::Usage, |words| Task::asked_by(words.as_slice()));
+/// How the program ends that served so. A fault is told on standard error.
+fn ending_after<R: Eprint>(rt: &R, served: Result<(), ServeFault>) -> Ending
+    ensures { result ≡ ending_of served }
+{
+    if let Err(fault) = served {
+        report(rt, fault);
+    }
+    Ending::of(served)
+}
+
+/// Does what the words ask for.
+fn do_task<R: AllocGlobal + Input + Print + Eprint + Files + Clone + Drop>(
+    rt: &R,
+    task: Task<'_>,
+) -> Ending {
     match task {
-        Task::Serve => {
-            let served = serve_streams(rt);
-            if let Err(fault) = served {
-                report(rt, fault);
-            }
-            Ending::of(served)
+        Task::InMemory => {
+            let served = serve_streams(rt, MemoryDirectory::new(rt.alloc()));
+            ending_after(rt, served)
         }
+        Task::InFolder(path) => ending_after(rt, serve_folder(rt, path)),
         Task::Usage => {
             let _ = rt.eprintln(USAGE);
             Ending::WrongArguments
         }
+    }
+}
+
+/// Does what the arguments ask for. Words that can't be read ask for nothing that the program does.
+fn do_asked<R: Env + AllocGlobal + Input + Print + Eprint + Files + Clone + Drop>(
+    rt: &R,
+) -> Ending {
+    match words(rt) {
+        Ok(words) => do_task(rt, Task::asked_by(words.as_slice())),
+        Err(_) => do_task(rt, Task::Usage),
     }
 }
 
@@ -63,7 +120,9 @@ fn exit(ending: Ending) -> ExitCode
 }
 
 /// Runs the program, and says the exit status: 0 at the end of input, 1 where the arguments ask for nothing that it does, 2
-/// where the schema is refused, 3 where a read or a write failed.
-pub fn run<R: Env + AllocGlobal + Input + Print + Eprint>(rt: &R) -> ExitCode {
-    exit(do_task(rt))
+/// where the schema line is refused, 3 where a read or a write failed. A folder is closed without a commit.
+pub fn run<R: Env + AllocGlobal + Input + Print + Eprint + Files + Clone + Drop>(
+    rt: &R,
+) -> ExitCode {
+    exit(do_asked(rt))
 }

@@ -1,7 +1,7 @@
 //! How lines are cut, in whatever pieces they come.
 use crate::readers::{Dripping, Long};
 use crate::script::{TRAFFIC, WHOLE, expect_replies};
-use cat_protocol::ServeFault;
+use cat_serving::ServeFault;
 use std::alloc::{AllocError, Global};
 use std::process::Abort;
 use std::test::Fail;

@@ -1,8 +1,8 @@
 //! What is said where reading or writing fails, and when it goes out.
 use crate::readers::{Broken, Interrupted, Waiting};
-use crate::script::{REPLIES, TRAFFIC, WHOLE, expect_end, expect_replies};
+use crate::script::{REPLIES, TRAFFIC, WHOLE, expect_end, expect_replies, serve_in_memory};
 use crate::writers::{Filling, Holding, Stubborn, Stuck, Trickling};
-use cat_protocol::{ServeFault, serve};
+use cat_serving::ServeFault;
 use std::alloc::{AllocError, Global};
 use std::cell::Cell;
 use std::process::Abort;
@@ -43,7 +43,7 @@ fn who_is_interrupted_is_called_again(rt: HostRuntime) {
         held: Vec::new(rt.alloc()),
         next: false,
     };
-    let served = serve(rt.alloc(), &mut reader, &mut writer);
+    let served = serve_in_memory(rt.alloc(), &mut reader, &mut writer);
     assert!(rt; served == Ok(()), "{served:?}");
     assert!(rt; writer.held.as_slice() == WHOLE.as_bytes());
 }
@@ -115,7 +115,7 @@ fn a_writer_that_cannot_flush_ends_it(rt: HostRuntime) {
     let mut writer = Stuck {
         held: Vec::new(rt.alloc()),
     };
-    let served = serve(rt.alloc(), &mut left, &mut writer);
+    let served = serve_in_memory(rt.alloc(), &mut left, &mut writer);
     assert!(rt; served == Err(ServeFault::Write));
     assert!(rt; writer.held.is_empty());
     assert!(rt; left == TRAFFIC, "nothing is read");
@@ -138,7 +138,7 @@ fn expect_flushed(
         held: Vec::new(alloc),
         behind: &behind,
     };
-    let served = serve(alloc, &mut reader, &mut writer);
+    let served = serve_in_memory(alloc, &mut reader, &mut writer);
     assert!(rt; served == end, "{served:?}");
     assert!(rt; writer.held.as_slice() == wanted);
     assert!(rt; !behind.get(), "the last reply went out");

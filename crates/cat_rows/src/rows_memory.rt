@@ -3,8 +3,8 @@
 //! `rt try --test --fail-alloc N` makes the Nth allocation of each test fail. A script's own texts take memory too, so most
 //! tests fail then. The one below has to pass at every N from 3 on, and shows this: one line at most is refused for want of
 //! memory, and that line changes nothing. Its first two allocations are its own.
-use crate::script::SHOP;
-use cat_protocol::{ServeFault, serve};
+use crate::script::{SHOP, serve_in_memory};
+use cat_serving::ServeFault;
 use std::alloc::{AllocError, Global};
 use std::process::Abort;
 use std::str::from_utf8;
@@ -53,7 +53,7 @@ fn written(
     input.push_str(SHOP.0)?;
     push_lines(&mut input, first)?;
     push_lines(&mut input, others)?;
-    let end = serve(alloc, &mut input.as_bytes(), &mut output);
+    let end = serve_in_memory(alloc, &mut input.as_bytes(), &mut output);
     Ok((output, end))
 }
 

@@ -1,6 +1,6 @@
 //! What the schema line is answered.
 use crate::script::{Rows, Script, expect_served};
-use cat_protocol::ServeFault;
+use cat_serving::ServeFault;
 use std::test::Fail;
 
 const WITHOUT_A_SCHEMA: &[&str] = &["", "\n", "1 OPEN\n"];

@@ -78,7 +78,15 @@ fn lines_without_a_form_are_refused(rt: HostRuntime) -> Result<(), Fail> {
         ("1", "1 NO 10"),
         ("1 ", "1 NO 10"),
         ("1 MERGE", "1 NO 10"),
-        ("0 MERGE", "0 NO 10"),
+        ("0 MERGE 1", "0 NO 10"),
+        ("1 GET 1", "1 NO 10"),
+        ("1 FILES 1", "1 NO 10"),
+        ("1 COMMIT ", "1 NO 10"),
+        ("1 NOTE", "1 NO 10"),
+        ("1 UNSNAP 01", "1 NO 10"),
+        ("1 PRUNE", "1 NO 10"),
+        ("1 FACETS 0 Color 9 *:*", "1 NO 10"),
+        ("1 DELW", "1 NO 10"),
         ("1 open", "1 NO 10"),
         ("1 OPEN ", "1 NO 10"),
         ("1  OPEN", "1 NO 10"),
@@ -95,30 +103,20 @@ fn lines_without_a_form_are_refused(rt: HostRuntime) -> Result<(), Fail> {
     expect_rows(&rt, rt.alloc(), ROWS)
 }
 
-/// Commands that are read and not served yet are answered as lines without a form, whoever says them and whatever is held.
+/// Whatever is to be done, only session 0 may ask for it.
 #[test]
-fn lines_that_are_not_served_are_refused(rt: HostRuntime) -> Result<(), Fail> {
+fn maintenance_of_another_session_is_refused(rt: HostRuntime) -> Result<(), Fail> {
     const ROWS: Rows<'static> = &[
-        ("1 PUT {\"id\":\"a\",\"color\":[\"red\"]}", "1 OK 1"),
+        ("1 PUT {\"id\":\"a\"}", "1 OK 1"),
         ("1 REFRESH", "1 OK 1"),
-        ("1 OPEN", "1 OK 1"),
-        ("1 DELW *:*", "1 NO 10"),
-        ("1 FACETS 1 color 9 *:*", "1 NO 10"),
-        ("1 GET 1 a", "1 NO 10"),
-        ("1 FILES t 1", "1 NO 10"),
-        ("1 FILES g 1", "1 NO 10"),
-        ("1 COMMIT", "1 NO 10"),
-        ("1 COMMIT spring", "1 NO 10"),
-        ("1 NOTE 1", "1 NO 10"),
-        ("1 SNAP", "1 NO 10"),
-        ("1 UNSNAP 1", "1 NO 10"),
-        ("1 PRUNE 0", "1 NO 10"),
-        ("0 MERGE", "0 NO 10"),
-        ("0 FORCE", "0 NO 10"),
-        ("0 WARM", "0 NO 10"),
-        ("0 SWEEP", "0 NO 10"),
-        ("0 STAT", "0 NO 10"),
-        ("1 FIND 1 9 . . *:*", "1 OK 1 1\n1 1 a ."),
+        ("1 PUT {\"id\":\"b\"}", "1 OK 2"),
+        ("1 REFRESH", "1 OK 2"),
+        ("1 MERGE", "1 NO 10"),
+        ("1 FORCE", "1 NO 10"),
+        ("1 WARM", "1 NO 10"),
+        ("1 SWEEP", "1 NO 10"),
+        ("9999 STAT", "9999 NO 10"),
+        ("0 STAT", "0 OK 2 0 2 3 0 0\n0 1 1 1\n0 2 1 1"),
     ];
     expect_rows(&rt, rt.alloc(), ROWS)
 }

@@ -1,6 +1,7 @@
 //! The texts of replies, as the rules of the protocol spell them.
-use cat_base::{Refusal, SessionNo};
-use cat_protocol::{Answer, Reply};
+use cat_base::{Refusal, SessionNo, Text};
+use cat_directory::FileName;
+use cat_replies::{Answer, News, Reply, SegmentStat, Stat};
 use std::alloc::Global;
 use std::process::Abort;
 use std::test::Fail;
@@ -77,4 +78,82 @@ fn no_query_shows_its_place(rt: HostRuntime) -> Result<(), Fail> {
         Err(Refusal::Query(9979)),
         "0 NO 24 9979\n",
     )
+}
+
+#[test]
+fn maintenance_is_told_in_a_word_and_a_number(rt: HostRuntime) -> Result<(), Fail> {
+    let rows = [
+        (News::Idle, "0 OK idle\n"),
+        (News::Busy, "0 OK busy\n"),
+        (News::BegunMerge(2), "0 OK begun 2\n"),
+        (News::Copied(300), "0 OK copied 300\n"),
+        (News::Done, "0 OK done\n"),
+        (News::BegunWarming, "0 OK begun\n"),
+        (News::Warmed(256), "0 OK warmed 256\n"),
+        (News::Stored, "0 OK stored\n"),
+        (News::Swept(4), "0 OK 4\n"),
+    ];
+    for (news, wanted) in rows {
+        expect_text(&rt, rt.alloc(), 0, Ok(Answer::News(news)), wanted)?;
+    }
+    Ok(())
+}
+
+#[test]
+fn a_state_has_six_numbers_and_a_line_for_each_segment(rt: HostRuntime) -> Result<(), Fail> {
+    let mut segments = Vec::new(rt.alloc());
+    segments.push(SegmentStat {
+        number: 7,
+        rows: 9,
+        live: 8,
+    })?;
+    let stat = Stat {
+        writes: 1,
+        buffered: 2,
+        views: 4,
+        cached: 5,
+        pending: 6,
+        segments,
+    };
+    let answer = Ok(Answer::News(News::State(stat)));
+    expect_text(&rt, rt.alloc(), 0, answer, "0 OK 1 2 1 4 5 6\n0 7 9 8\n")
+}
+
+#[test]
+fn names_come_one_to_a_line(rt: HostRuntime) -> Result<(), Fail> {
+    let mut names = Vec::new(rt.alloc());
+    names.push(FileName::Live(10, 3))?;
+    names.push(FileName::Commit(3))?;
+    let answer = Ok(Answer::Names(names));
+    expect_text(
+        &rt,
+        rt.alloc(),
+        5,
+        answer,
+        "5 OK 2\n5 _10_3.liv\n5 segments_3\n",
+    )
+}
+
+#[test]
+fn the_text_of_a_commit_stands_behind_an_equals_sign(rt: HostRuntime) -> Result<(), Fail> {
+    let alloc = rt.alloc();
+    let told = Ok(Answer::CommitText(Text::from_str(alloc, "first of May")?));
+    expect_text(&rt, alloc, 5, told, "5 OK =first of May\n")?;
+    let told = Ok(Answer::CommitText(Text::from_str(alloc, "")?));
+    expect_text(&rt, alloc, 5, told, "5 OK =\n")
+}
+
+#[test]
+fn an_item_is_told_as_it_was_put_or_as_a_dot(rt: HostRuntime) -> Result<(), Fail> {
+    let alloc = rt.alloc();
+    let mut source = Vec::new(alloc);
+    source.extend_from_slice(b"{\"id\": \"a\"}")?;
+    expect_text(
+        &rt,
+        alloc,
+        5,
+        Ok(Answer::Source(Some(source))),
+        "5 OK {\"id\": \"a\"}\n",
+    )?;
+    expect_text(&rt, alloc, 5, Ok(Answer::Source(None)), "5 OK .\n")
 }

@@ -1,18 +1,22 @@
 //! Lines that are read and stepped through without an input.
 use crate::script::{Rows, SHOP};
+use cat_base::Refusal;
+use cat_directory::MemoryDirectory;
 use cat_lines::Line;
-use cat_protocol::{Reply, World};
+use cat_replies::Reply;
+use cat_serving::Unopened;
+use cat_world::World;
 use std::alloc::Global;
 use std::process::Abort;
 use std::str::from_utf8;
 use std::test::Fail;
 
-fn lines_of<'a>(alloc: Global, rows: Rows<'a>) -> Result<Vec<Line<'a>>, Fail> {
-    let mut lines = Vec::with_capacity(alloc, rows.len())?;
-    for &(line, _) in rows {
-        lines.push(Line::read(line)?)?;
+/// A world in memory that the shop's schema line opens.
+pub(crate) fn open_shop(alloc: Global) -> Result<World<MemoryDirectory>, Refusal> {
+    match World::open(alloc, MemoryDirectory::new(alloc), SHOP.0) {
+        Ok(world) => Ok(world),
+        Err(Unopened { refusal, seed: _ }) => Err(refusal),
     }
-    Ok(lines)
 }
 
 fn expect_text(rt: &impl Abort, alloc: Global, reply: &Reply, wanted: &str) -> Result<(), Fail> {
@@ -22,25 +26,26 @@ fn expect_text(rt: &impl Abort, alloc: Global, reply: &Reply, wanted: &str) -> R
     Ok(())
 }
 
-fn expect_texts(
+/// Says the lines to the world. Each has to get the text of its reply.
+fn expect_steps(
     rt: &impl Abort,
     alloc: Global,
-    replies: &[Reply],
+    world: &mut World<MemoryDirectory>,
     rows: Rows<'_>,
 ) -> Result<(), Fail> {
-    assert!(rt; replies.len() == rows.len());
-    for (reply, &(_, wanted)) in replies.iter().zip(rows) {
-        expect_text(rt, alloc, reply, wanted)?;
+    for &(line, wanted) in rows {
+        let reply = world.step(&Line::read(line)?);
+        expect_text(rt, alloc, &reply, wanted)?;
     }
     Ok(())
 }
 
-/// Runs the lines in a new world. Each has to get the text of its reply.
+/// Says the lines to a new world.
 fn expect_run(rt: &impl Abort, alloc: Global, rows: Rows<'_>) -> Result<(), Fail> {
-    let lines = lines_of(alloc, rows)?;
-    let mut world = World::open(alloc, SHOP.0)?;
-    let replies = world.run(alloc, lines.as_slice())?;
-    expect_texts(rt, alloc, replies.as_slice(), rows)
+    let mut world = open_shop(alloc)?;
+    let told = expect_steps(rt, alloc, &mut world, rows);
+    let _directory = world.end();
+    told
 }
 
 #[test]

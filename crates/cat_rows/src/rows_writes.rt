@@ -60,3 +60,32 @@ fn ids_differ_by_case_and_by_each_byte(rt: HostRuntime) -> Result<(), Fail> {
     ];
     expect_rows(&rt, rt.alloc(), ROWS)
 }
+
+#[test]
+fn a_query_deletes_what_it_matches_in_one_write(rt: HostRuntime) -> Result<(), Fail> {
+    const ROWS: Rows<'static> = &[
+        ("1 PUT {\"id\":\"a\",\"color\":[\"red\"]}", "1 OK 1"),
+        ("1 PUT {\"id\":\"b\",\"color\":[\"blue\"]}", "1 OK 2"),
+        ("1 REFRESH", "1 OK 2"),
+        ("1 OPEN", "1 OK 2"),
+        ("1 PUT {\"id\":\"c\",\"color\":[\"red\"]}", "1 OK 3"),
+        ("2 DELW color:red", "2 OK 4"),
+        ("2 DELW color:red", "2 OK 5"),
+        ("1 PUT {\"id\":\"d\",\"color\":[\"red\"]}", "1 OK 6"),
+        ("1 REFRESH", "1 OK 6"),
+        ("1 OPEN", "1 OK 6"),
+        ("1 FIND 6 9 . . *:*", "1 OK 2 2\n1 2 b .\n1 6 d ."),
+        ("1 FIND 2 9 . . *:*", "1 OK 2 2\n1 1 a .\n1 2 b ."),
+    ];
+    expect_rows(&rt, rt.alloc(), ROWS)
+}
+
+#[test]
+fn a_delete_of_what_no_query_says_is_refused(rt: HostRuntime) -> Result<(), Fail> {
+    const ROWS: Rows<'static> = &[
+        ("1 DELW ", "1 NO 24 0"),
+        ("1 DELW price:x", "1 NO 24 6"),
+        ("1 DELW *:*", "1 OK 1"),
+    ];
+    expect_rows(&rt, rt.alloc(), ROWS)
+}

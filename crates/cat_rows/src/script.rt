@@ -1,5 +1,7 @@
 //! A script: the lines that are served, and the replies that they have to get.
-use cat_protocol::{ServeFault, serve};
+use cat_directory::{Directory, MemoryDirectory, Shelf};
+use cat_serving::ServeFault;
+use cat_world::serve;
 use std::alloc::{AllocError, Global};
 use std::io::{Read, Write};
 use std::process::Abort;
@@ -73,6 +75,22 @@ impl Script {
         Ok(())
     }
 
+    /// Serves the lines over the directory. They have to get these replies and no others, and serving has to end so.
+    pub(crate) fn expect_over<D: Directory + Shelf + Drop>(
+        &self,
+        rt: &impl Abort,
+        alloc: Global,
+        device: D,
+        end: Result<(), ServeFault>,
+    ) -> Result<(), Fail> {
+        let mut left = self.input.as_bytes();
+        let mut written = Vec::new(alloc);
+        let served = serve(alloc, device, &mut left, &mut written).ended;
+        assert_eq!(rt; from_utf8(written.as_slice())?, self.wanted.as_str());
+        assert_eq!(rt; served, end);
+        Ok(())
+    }
+
     /// Serves the lines. They have to get these replies and no others, and serving has to end so.
     pub(crate) fn expect(
         &self,
@@ -82,6 +100,15 @@ impl Script {
     ) -> Result<(), Fail> {
         expect_served(rt, alloc, self.input.as_bytes(), self.wanted.as_str(), end)
     }
+}
+
+/// Serves over a directory in memory, and says how serving ends.
+pub(crate) fn serve_in_memory<R: Read, W: Write>(
+    alloc: Global,
+    reader: &mut R,
+    writer: &mut W,
+) -> Result<(), ServeFault> {
+    serve(alloc, MemoryDirectory::new(alloc), reader, writer).ended
 }
 
 /// Serves an input. The output has to be this text, and serving has to end so.
@@ -105,7 +132,7 @@ pub(crate) fn expect_replies<R: Read>(
     end: Result<(), ServeFault>,
 ) -> Result<(), Fail> {
     let mut written = Vec::new(alloc);
-    let served = serve(alloc, reader, &mut written);
+    let served = serve_in_memory(alloc, reader, &mut written);
     assert_eq!(rt; from_utf8(written.as_slice())?, wanted);
     assert_eq!(rt; served, end);
     Ok(())
@@ -120,7 +147,7 @@ pub(crate) fn expect_end<W: Write>(
     end: Result<(), ServeFault>,
 ) {
     let mut left = input;
-    let served = serve(alloc, &mut left, writer);
+    let served = serve_in_memory(alloc, &mut left, writer);
     assert_eq!(rt; served, end);
 }
 

@@ -1,0 +1,10 @@
+pub mod Deletes
+pub mod FacetReplies
+pub mod Finds
+pub mod LabelRanks
+pub mod ModelRuns
+pub mod Openings
+pub mod Rising
+pub mod Sound
+pub mod Tokens
+pub mod Written

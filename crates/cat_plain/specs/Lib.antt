@@ -1,0 +1,7 @@
+pub mod Counts
+pub mod Line
+pub mod Reply
+pub mod Out
+pub mod Plain
+pub mod Exchange
+pub mod Tables
