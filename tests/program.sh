@@ -12,7 +12,7 @@ room=$(mktemp -d)
 trap 'rm -rf "$room"' EXIT
 failed=0
 
-usage='usage: catalogue [run [FOLDER] | threads FOLDER]'
+usage='usage: catalogue [run [FOLDER]]'
 schema='SCHEMA 2 1 {"title":"text"}'
 
 # expect WHAT STATUS REPLIES SAID: how the last run ended, wrote and complained
@@ -41,7 +41,7 @@ start run <<<"$schema"
 expect 'run' 0 'OK 0' ''
 
 # what is asked for wrongly is refused before anything is read
-for words in serve 'run here' 'run run' 'threads here' ''; do
+for words in serve 'run here there' 'threads here' 'here run' ''; do
   # shellcheck disable=SC2086
   if [ -n "$words" ]; then set -- $words; else set -- ''; fi
   start "$@" <<<"$schema"
@@ -50,6 +50,22 @@ done
 
 start $'\xff' <<<"$schema"
 expect 'an argument that is no text' 1 '' "$usage"
+
+# what was committed to a folder is there for the next run, and what came behind it isn't
+mkdir "$room/shop"
+start run "$room/shop" <<<"$schema"$'\n''1 PUT {"id":"a"}'$'\n''1 COMMIT spring'$'\n''1 PUT {"id":"lost"}'
+expect 'a folder' 0 $'OK 0\n1 OK 1\n1 OK 1\n1 OK 2' ''
+
+start run "$room/shop" <<<"$schema"$'\n''1 OPEN'$'\n''1 FIND 1 9 . . *:*'$'\n''1 GET 1 a'$'\n''1 NOTE 1'
+expect 'a folder again' 0 $'OK 1\n1 OK 1\n1 OK 1 1\n1 1 a .\n1 OK {"id":"a"}\n1 OK =spring' ''
+
+start run "$room/shop" <<<'SCHEMA 2 1 {}'
+expect 'a folder under another schema' 2 'NO 13' '[ERROR catalogue] schema refused'
+
+for folder in "$room/nowhere" "$room/status" ''; do
+  start run "$folder" <<<"$schema"$'\n''1 OPEN'
+  expect "no folder '$folder'" 2 'NO 30' '[ERROR catalogue] schema refused'
+done
 
 start <<<'SCHEMA 2 1 {"title":"words"}'$'\n''1 OPEN'
 expect 'a refused schema' 2 'NO 13' '[ERROR catalogue] schema refused'
