@@ -1,5 +1,6 @@
 -- What an opened world begins with.
-use Rattle.std.proofs.Common.{◌≡◌, ℕ, ◌≤◌, ◌<◌, List, [], ◌∷◌, ap, ap₂, length, false, true, map, refl, sym, ◌∙◌, subst, inl, inr, arith}
+use Rattle.std.proofs.Common.{◌≡◌, ℕ, ◌≤◌, ◌<◌, List, [], ◌∷◌, ap, ap₂, append-nil, length, false, true, map, refl, sym, ◌∙◌, subst, inl, inr, arith}
+use Rattle.std.specs.List.{AllByRecursion}
 use Rattle.std.specs.Prelude.{◌≢◌, ◌⊎◌, Some, None, Result, Ok, Err, ◌++◌}
 use Rattle.cat_base.specs.declared.refusal.Refusal.{Refusal}
 use Rattle.cat_base.specs.declared.refusal.Refusal.TheVariants.{Damaged, Device, Kind, Line as NoForm, Memory}
@@ -12,9 +13,9 @@ use Rattle.cat_model.specs.Table.{Opened}
 use Rattle.cat_model.specs.Text.{Text}
 use Rattle.cat_model.proofs.Opening.{fresh_begins}
 use Rattle.cat_schema.specs.Reading.{json, schema_of}
-use Rattle.cat_ledger_model.specs.Ledger.{Ledger, commit_file, commit_shown, state_of, table_of}
-use Rattle.cat_ledger_model.specs.Portions.{Portion, records_of}
-use Rattle.cat_ledger_model.specs.Stored.{FileBytes}
+use Rattle.cat_ledger_model.specs.Ledger.{Ledger, IsWholeCommit, commit_file, commit_shown, portions_in, state_of, table_of}
+use Rattle.cat_ledger_model.specs.Portions.{Portion, leaf_of, records_of}
+use Rattle.cat_ledger_model.specs.Stored.{FileBytes, IsCommitStored}
 use Rattle.cat_ledger_shape.specs.Shapes.{Shape}
 use Rattle.cat_ledger_shape.specs.Steps.{Leaves}
 use Rattle.cat_ledger_shape.specs.Ties.{Carries, ToldFiles}
@@ -25,7 +26,7 @@ use Rattle.cat_ledger_opening.specs.Refused.{IsNewestDamaged, IsNewestForeign}
 use Rattle.cat_ledger.specs.Openings.{IsOpenedLedger}
 use Rattle.cat_ledger.proofs.Swept.{KeepsUsed}
 use Rattle.cat_holding.specs.Holding.{AreRights}
-use Rattle.cat_world.specs.Opening.{BeginsAtCommit, BeginsIn, HasSchemaText, OpensIn}
+use Rattle.cat_world.specs.Opening.{BeginsAtCommit, BeginsIn, HasSchemaText, HoldsTable, OpensIn}
 use Rattle.cat_world.specs.Worlds.{IsCarried}
 
 -- what is opened, and the run that begins there
@@ -44,6 +45,28 @@ swept_stands told told' schema mid s l files carries fresh swept kept =
           subst (λ x. StandsFor (opened_as schema (state_of l)) [] x) (sym (ap state_of k.2.rest)) (fresh_begins schema (state_of l) fresh);
     }
 
+-- the commit's files hold the table that was opened
+table_held : (told : ToldFiles) (schema : Schema) (mid : Shape) (o : IsOpenedAtCommit told schema told mid)
+    → HoldsTable told schema o.restored (opened_as schema (state_of o.ledger)).start.records
+table_held told schema mid o =
+    let fields : o.ledger.schema ≡ schema = ap (λ (x : Shape). x.schema) o.carries.shape ∙ ap (λ (x : Shape). x.schema) o.memory in
+    let one : AllByRecursion (IsCommitStored o.files o.ledger.schema) (o.commit ∷ []) =
+    subst (λ cs. AllByRecursion (IsCommitStored o.files o.ledger.schema) cs) o.opened.commits o.carries.stored.commits in
+    let whole : AllByRecursion (IsWholeCommit o.ledger.schema o.ledger.count) (o.commit ∷ []) =
+    subst (λ cs. AllByRecursion (IsWholeCommit o.ledger.schema o.ledger.count) cs) o.opened.commits o.carries.sound.commits in record {
+      files = o.files;
+      agrees = o.carries.agrees;
+      commit = o.commit;
+      same = o.same;
+      stored = subst (λ schema. IsCommitStored o.files schema o.commit) fields one.0;
+      formed = whole.0.1.portions;
+      leaves =
+          ap₂ (λ (schema : Schema) (ps : List Portion). map (leaf_of schema) ps) (sym fields) (sym o.opened.portions)
+          ∙ ap (λ (x : Shape). x.leaves) o.carries.shape
+          ∙ ap (λ (x : Shape). x.leaves) o.memory;
+      table = ap₂ (λ (ps : List Portion) (rs : List Record). records_of ps ++ rs) o.opened.portions o.opened.buffered ∙ append-nil (records_of (portions_in o.commit));
+    }
+
 at_commit : (told told' : ToldFiles) (schema : Schema) (mid s : Shape) → IsOpenedAtCommit told schema told mid → Leaves [] mid s
     → KeepsUsed mid told told' → Begun told told' s schema
 at_commit told told' schema mid s o swept kept =
@@ -56,6 +79,7 @@ at_commit told told' schema mid s o swept kept =
         restored = o.restored;
         held = o.held;
         fields = refl;
+        table = table_held told schema mid o;
         token = o.opened.count ∙ ap (λ (f : CommitFile). f.token) o.same;
         commit = own ∙ ap (λ (f : CommitFile). Some (record { generation = f.generation; text = f.text })) o.same;
       }),

@@ -4,7 +4,7 @@ use Rattle.std.specs.Prelude.{Option, Some, None}
 use Rattle.cat_model.specs.Heard.{Heard, Hears}
 use Rattle.cat_model.specs.Lines.{IsReadable, Said, ShowsSession}
 use Rattle.cat_model.specs.Run.{Command, Reply}
-use Rattle.cat_model.specs.Served.{Outcome}
+use Rattle.cat_model.specs.Served.{NamesFiles, Outcome}
 use Rattle.cat_model.specs.Text.{Text}
 use Rattle.cat_schema.specs.Reading.{json}
 use Rattle.cat_lines.specs.Line.{SpellsOrShows, said_of}
@@ -41,8 +41,8 @@ module _ {D : Type 0} (bytes : D → ToldFiles) (old : Service D) where
   -- a line that says something, or has no form
   pub heard_as : (new : Service D) (line text : Text) (session : ℕ) (said : Option Said) (reply : Reply) → text ≡ line → IsReadable line
       → SpellsOrShows text session said → (steps : StepsLine bytes session said old reply new) → (shape_of new).schema ≡ (shape_of old).schema
-      → StepsIfShort bytes old (Some line) (told_to session steps.0 reply) new
-  heard_as new line text session said reply same readable spells steps fields = (
+      → NamesFiles reply → StepsIfShort bytes old (Some line) (told_to session steps.0 reply) new
+  heard_as new line text session said reply same readable spells steps fields names = (
     hears line session said steps.0 readable (subst (λ t. SpellsOrShows t session said) same spells) steps.1,
-    (fields, steps.2),
+    (fields, names, steps.2),
   )

@@ -1,14 +1,15 @@
 -- A world that answers as its machine does serves its input as is promised.
 use Rattle.std.proofs.Common.{inl, inr, ◌≡◌, ℕ, List, [], ◌∷◌, ◌++◌, length, map, Bool, true, false, refl, sym, ◌∙◌, ap, ap₂, subst, arith, append-nil, append_assoc}
-use Rattle.std.specs.List.{flat_map}
+use Rattle.std.specs.List.{flat_map, AllByRecursion}
 use Rattle.std.specs.Prelude.{◌≢◌, ◌⊎◌, Option, None, Some, Result, Ok, Err, nat_lt, if◌then◌else◌, filter_map}
 use Rattle.std.proofs.lemmas.Bool.Decides.{nat_tests}
 use Rattle.cat_base.specs.declared.refusal.Refusal.{Refusal}
 use Rattle.cat_base.specs.declared.refusal.Refusal.TheVariants.{Line as NoForm, Memory}
 use Rattle.cat_model.specs.Heard.{Heard, Hears}
 use Rattle.cat_model.specs.Lines.{IsReadable}
+use Rattle.cat_model.specs.Input.{ended_lines, lines_of}
 use Rattle.cat_model.specs.Run.{Exchange, IsRun, Reply, Run, now}
-use Rattle.cat_model.specs.Served.{Answered, Begins, Ending, HeardAll, IsDue, Outcome, Refused, ServesBy, exchange, heard, outcome_text}
+use Rattle.cat_model.specs.Served.{Answered, Begins, Ending, HeardAll, IsDue, Outcome, Refused, TellsFiles, exchange, heard, outcome_text, refused_text}
 use Rattle.cat_model.specs.Table.{Opened}
 use Rattle.cat_model.specs.Text.{Text}
 use Rattle.cat_model.proofs.Runs.{runs_go_on}
@@ -17,41 +18,15 @@ use Rattle.cat_directory.specs.declared.name.FileName.{FileName}
 use Rattle.cat_ledger_shape.specs.Shapes.{Shape}
 use Rattle.cat_ledger_shape.specs.Ties.{ToldFiles}
 use Rattle.cat_ledger_lines.specs.RunLaws.{Stands}
+use Rattle.cat_ledger_lines.proofs.NeededFiles.{promised_files_stand}
 use Rattle.cat_serving.specs.Machine.{IsAnswered, Steps, opened_text, short_line}
-use Rattle.cat_serving.specs.Serving.{IsRefused}
+use Rattle.cat_serving.specs.Serving.{EndsBy, IsRefused, LeadsTo, RefusedAt}
+use Rattle.cat_serving.specs.declared.machine.Stage.{Stage}
 use Rattle.cat_serving.specs.declared.machine.Unopened.{Unopened}
 use Rattle.cat_world.specs.Opening.{BeginsIn, HasSchemaText, OpensIn, OpensWorld}
-use Rattle.cat_world.specs.Serving.{AreLike, Changes, IsLike, IsServedIn, OpensIfShort, ServesIn, StepsIfShort, TellsAll}
+use Rattle.cat_world.specs.Promises.{LeavesFiles, LeavesPromised}
+use Rattle.cat_world.specs.Serving.{AreLike, Changes, IsLike, IsServedIn, OpensIfShort, ServesIn, SparesRefused, StepsIfShort, TellsAll, device_at}
 use Rattle.cat_world.specs.Worlds.{Service, device_of, shape_of}
-
--- ---- serving by weaker relations
-
-module _ (served served' : Text → List Text → Text → Type 0) (refused refused' : Text → Refusal → Type 0)
-    (serves : (first : Text) (lines : List Text) (text : Text) → served first lines text → served' first lines text)
-    (refuses : (first : Text) (e : Refusal) → refused first e → (e ≡ Memory) ⊎ refused' first e) where
-  answered_on : (lines : List Text) (text : Text) → Answered served lines text → Answered served' lines text
-  answered_on [] text a = a
-  answered_on (first ∷ lines) text a = serves first lines text a
-
-  refused_on : (lines : List Text) (e : Refusal) → Refused refused lines e → Refused refused' lines e
-  refused_on [] e r = r
-  refused_on (first ∷ lines) e (inl memory) = inl memory
-  refused_on (first ∷ lines) e (inr r) = refuses first e r
-
-  due_on : (lines : List Text) (text : Text) → IsDue served refused lines text → IsDue served' refused' lines text
-  due_on lines text (inl (first, others, whole, answered)) = inl (first, others, whole, answered_on first text answered)
-  due_on lines text (inr (e, r, said)) = inr (e, refused_on lines e r, said)
-
-  pub served_on : (input left before after : Option Text) (r : Result (Unit {0}) Ending) → ServesBy served refused input left before after r
-      → ServesBy served' refused' input left before after r
-  served_on input left before after (Ok u) (bytes, consumed, ended, text, answered, went) =
-      (bytes, consumed, ended, text, answered_on _ text answered, went)
-  served_on input left before after (Err Ending.schema) (bytes, consumed, lines, come, e, r, went) =
-      (bytes, consumed, lines, come, e, refused_on lines e r, went)
-  served_on input left before after (Err Ending.read) (bytes, consumed, text, answered, went) =
-      (bytes, consumed, text, answered_on _ text answered, went)
-  served_on input left before after (Err Ending.write) (bytes, consumed, lines, come, text, due, went) =
-      (bytes, consumed, lines, come, text, due_on lines text due, went)
 
 -- ---- lines that are too long
 
@@ -96,20 +71,34 @@ module _ {D : Type 0} (bytes : D → ToldFiles) where
       err_same a b e = cc
   refusal_if_short device line u false long o = elim o.0 [ inl stopped ↦ inl stopped.0 | inr begins ↦ inr begins ]
 
-  -- what comes of lines behind a past run: what was told, and what fits
-  pub record Goes (from : Opened) (past : Run) (lines : List Text) (outcomes : List Outcome) : Type 0 where
+  -- what comes of lines behind a past run: what was told, what fits, and what is promised of the device that is left
+  pub record Goes (from : Opened) (past : Run) (lines : List Text) (outcomes : List Outcome) (left : D) : Type 0 where
     pub fitting : List Outcome
     pub heard_all : HeardAll json from.start.schema lines outcomes
     pub is_run : IsRun from (past ++ filter_map exchange fitting)
     pub alike : AreLike outcomes fitting
     pub same : TellsAll bytes → outcomes ≡ fitting
+    pub files : AllByRecursion TellsFiles outcomes
+    pub promised : LeavesPromised bytes left from (past ++ filter_map exchange fitting)
+
+  -- the files stand that are promised
+  promise : (w : Service D) (from : Opened) (run : Run) → Stands (bytes (device_of w)) (shape_of w) from run → LeavesPromised bytes (device_of w) from run
+  promise w from run stands = record { users = (shape_of w).users; stand = promised_files_stand (bytes (device_of w)) (shape_of w) from run stands }
 
   -- the lines that the machine steps through are heard, and their exchanges go on with the run so far
   steps_go : (from : Opened) (past : Run) (old new : Service D) (lines : List Text) (outcomes : List Outcome)
       → (shape_of old).schema ≡ from.start.schema → IsRun from past → Stands (bytes (device_of old)) (shape_of old) from past
-      → Steps (StepsIfShort bytes) old (map short_line lines) outcomes new → Goes from past lines outcomes
-  steps_go from past old new [] [] fields run stands s =
-      record { fitting = []; heard_all = tt; is_run = subst (IsRun from) (sym (append-nil past)) run; alike = tt; same = λ tells. refl }
+      → Steps (StepsIfShort bytes) old (map short_line lines) outcomes new → Goes from past lines outcomes (device_of new)
+  steps_go from past old new [] [] fields run stands s = record {
+    fitting = [];
+    heard_all = tt;
+    is_run = subst (IsRun from) (sym (append-nil past)) run;
+    alike = tt;
+    same = λ tells. refl;
+    files = tt;
+    promised = subst (λ w. LeavesPromised bytes (device_of w) from (past ++ [])) (sym s)
+        (subst (LeavesPromised bytes (device_of old) from) (sym (append-nil past)) (promise old from past stands));
+  }
   steps_go from past old new [] (told ∷ outcomes) fields run stands s = absurd s
   steps_go from past old new (line ∷ lines) [] fields run stands s = absurd s
   steps_go from past old new (line ∷ lines) (Outcome.unreadable ∷ outcomes) fields run stands (mid, step, steps) =
@@ -121,10 +110,12 @@ module _ {D : Type 0} (bytes : D → ToldFiles) where
         is_run = rest.is_run;
         alike = (tt, rest.alike);
         same = λ tells. ap (λ os. Outcome.unreadable ∷ os) (rest.same tells);
+        files = (tt, rest.files);
+        promised = rest.promised;
       }
   steps_go from past old new (line ∷ lines) (Outcome.replied e ∷ outcomes) fields run stands (mid, step, steps) =
       let here = line_if_short old mid line (Outcome.replied e) (nat_lt 10000 (length line)) refl step in
-      let next = here.1.1 from past (sym fields) run stands in
+      let next = here.1.2 from past (sym fields) run stands in
       let fit : Exchange = record { line = e.line; reply = next.0 } in
       let rest = steps_go from (past ++ fit ∷ []) mid new lines outcomes (here.1.0 ∙ fields) (runs_go_on from past fit run next.2) next.3 steps in record {
         fitting = Outcome.replied fit ∷ rest.fitting;
@@ -134,13 +125,16 @@ module _ {D : Type 0} (bytes : D → ToldFiles) where
         same = λ tells.
             ap₂ (λ (r : Reply) (os : List Outcome). Outcome.replied (record { line = e.line; reply = r }) ∷ os)
             (next.1.same (λ q. tells (device_of old) q)) (rest.same tells);
+        files = (here.1.1, rest.files);
+        promised =
+            subst (LeavesPromised bytes (device_of new) from) (append_assoc past (fit ∷ []) (filter_map exchange rest.fitting)) rest.promised;
       }
 
   -- ---- the world serves
 
   answered_in : (device : D) (first : Text) (lines : List Text) (text : Text)
-      → IsAnswered (OpensIfShort bytes device) (StepsIfShort bytes) (λ w. (shape_of w).count) first lines text
-      → IsServedIn bytes device first lines text
+      → (a : IsAnswered (OpensIfShort bytes device) (StepsIfShort bytes) (λ w. (shape_of w).count) first lines text)
+      → IsServedIn bytes device (device_of a.left) first lines text
   answered_in device first lines text a =
       let opening = opening_if_short device first a.opened (nat_lt 10000 (length first)) a.begins in
       let goes = steps_go opening.0 [] a.opened a.left lines a.outcomes opening.2 tt opening.3 a.steps in record {
@@ -152,6 +146,8 @@ module _ {D : Type 0} (bytes : D → ToldFiles) where
         is_run = goes.is_run;
         alike = goes.alike;
         same = goes.same;
+        files = goes.files;
+        promised = goes.promised;
         whole = a.whole ∙ ap (λ n. opened_text n ++ flat_map outcome_text a.outcomes) (counted (bytes (device_of a.opened)) (shape_of a.opened) opening.0 opening.3);
       }
 
@@ -159,11 +155,65 @@ module _ {D : Type 0} (bytes : D → ToldFiles) where
       → (e ≡ Memory) ⊎ BeginsIn (bytes device) first (Err e)
   refused_in device first e (back, o) = refusal_if_short device first (record { refusal = e; seed = back }) (nat_lt 10000 (length first)) refl o
 
-  -- What is served by a world's machine is served as is promised.
-  pub served_in : (device : D) (input left before after : Option Text) (r : Result (Unit {0}) Ending)
-      → ServesBy (IsAnswered (OpensIfShort bytes device) (StepsIfShort bytes) (λ w. (shape_of w).count)) (IsRefused (OpensIfShort bytes device))
-      input left before after r → ServesIn bytes device input left before after r
-  served_in device input left before after r =
-      served_on (IsAnswered (OpensIfShort bytes device) (StepsIfShort bytes) (λ w. (shape_of w).count)) (IsServedIn bytes device)
-      (IsRefused (OpensIfShort bytes device)) (λ first e. BeginsIn (bytes device) first (Err e)) (answered_in device) (refused_in device)
-      input left before after r
+  -- ---- the stage that is left
+
+  module _ (device : D) (stage : Stage (Service D) D) where
+    abbrev leads_to : List Text → Text → Type 0
+    leads_to = LeadsTo (OpensIfShort bytes) (StepsIfShort bytes) (λ w. (shape_of w).count) device stage
+
+    abbrev refused_at : List Text → Refusal → Type 0
+    refused_at = RefusedAt (OpensIfShort bytes) device stage
+
+    abbrev served : Text → List Text → Text → Type 0
+    served = IsServedIn bytes device (device_at stage)
+
+    abbrev refuses : Text → Refusal → Type 0
+    refuses first e = BeginsIn (bytes device) first (Err e)
+
+    some_answer : (lines : List Text) (text : Text) → leads_to lines text → Answered served lines text
+    some_answer [] text so = so.1
+    some_answer (first ∷ lines) text so =
+        subst (λ d. IsServedIn bytes device d first lines text) (sym (ap device_at so.1)) (answered_in device first lines text so.0)
+
+    some_refusal : (lines : List Text) (e : Refusal) → refused_at lines e → Refused refuses lines e
+    some_refusal [] e so = so.1
+    some_refusal (first ∷ lines) e so = refused_in device first e (so.0, so.1)
+
+    some_due : (lines : List Text) (text : Text)
+        → ((first others : List Text) × (first ++ others ≡ lines) × leads_to first text)
+        ⊎ ((e : Refusal) × refused_at lines e × (text ≡ refused_text e))
+        → IsDue served refuses lines text
+    some_due lines text (inl so) = inl (so.0, so.1, so.2, some_answer so.0 text so.3)
+    some_due lines text (inr so) = inr (so.0, some_refusal lines so.0 so.1, so.2)
+
+    -- What is served by a world's machine is served as is promised.
+    pub served_in : (input left before after : Option Text) (r : Result (Unit {0}) Ending) → EndsBy leads_to refused_at input left before after r
+        → ServesIn bytes device (device_at stage) input left before after r
+    served_in input left before after (Ok u) so = (so.0, so.1, so.2, so.3, some_answer (lines_of so.0) so.3 so.4, so.5)
+    served_in input left before after (Err Ending.schema) so = (so.0, so.1, so.2, so.3, so.4, some_refusal so.2 so.4 so.5, so.6)
+    served_in input left before after (Err Ending.read) so = (so.0, so.1, so.2, some_answer (ended_lines so.0) so.2 so.3, so.4)
+    served_in input left before after (Err Ending.write) so = (so.0, so.1, so.2, so.3, so.4, some_due so.2 so.4 so.5, so.6)
+
+    -- what opening gave back has its files as they were
+    given_back : (first : Text) (u : Unopened D) (b : Bool) → OpensIfShort bytes device (if b then None else Some first) (Err u) → LeavesFiles bytes device u.seed
+    given_back first u true o q =
+        let same : u ≡ record { refusal = NoForm; seed = device } = err_same u (record { refusal = NoForm; seed = device }) o in
+        ap (λ (x : Unopened D). bytes x.seed q) same
+      where
+        err_same : (a b : Unopened D) → ◌≡◌ {A = Result (Service D) (Unopened D)} (Err a) (Err b) → a ≡ b
+        err_same a b e = cc
+    given_back first u false o q = o.1 q
+
+    spared_at : (lines : List Text) (e : Refusal) → refused_at lines e → LeavesFiles bytes device (device_at stage)
+    spared_at [] e so q = ap (λ (x : Stage (Service D) D). bytes (device_at x) q) so.0
+    spared_at (first ∷ lines) e so q =
+        ap (λ (x : Stage (Service D) D). bytes (device_at x) q) so.2
+        ∙ given_back first (record { refusal = e; seed = so.0 }) (nat_lt 10000 (length first)) so.1 q
+
+    -- and where the schema line is refused the files are as they were
+    pub spared_in : (input left before after : Option Text) (r : Result (Unit {0}) Ending) → EndsBy leads_to refused_at input left before after r
+        → SparesRefused bytes device (device_at stage) r
+    spared_in input left before after (Ok u) so = tt
+    spared_in input left before after (Err Ending.schema) so = spared_at so.2 so.4 so.5
+    spared_in input left before after (Err Ending.read) so = tt
+    spared_in input left before after (Err Ending.write) so = tt

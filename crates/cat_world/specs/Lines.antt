@@ -4,10 +4,12 @@ use Rattle.cat_model.specs.Heard.{IsCommand}
 use Rattle.cat_model.specs.Item.{Schema}
 use Rattle.cat_model.specs.Lines.{Said}
 use Rattle.cat_model.specs.Run.{Command, Reply}
+use Rattle.cat_model.specs.Served.{NamesFiles}
 use Rattle.cat_schema.specs.Reading.{json}
 use Rattle.cat_ledger_shape.specs.Ties.{ToldFiles}
 use Rattle.cat_ledger_lines.specs.LineLaws.{line_of}
 use Rattle.cat_ledger_lines.specs.RunLaws.{Answers, IsStep}
+use Rattle.cat_world.specs.Named.{TellsNeeded}
 use Rattle.cat_world.specs.Worlds.{Service, device_of, policy_of, shape_of}
 
 -- a line without a form, or that says this, is this command under the schema
@@ -28,11 +30,13 @@ StepsLine bytes session said old reply new =
     (c : Command) × IsCommandOf (shape_of old).schema said c
     × IsStep (bytes (device_of old)) (shape_of old) (line_of session c) reply (bytes (device_of new)) (shape_of new)
 
--- What an answered line makes of a world: the reply answers it, a device that can't fail goes on so, and neither the fields change nor
--- when it merges.
+-- What an answered line makes of a world: the reply answers it, and tells the names that are needed, which are those
+-- of files; a device that can't fail goes on so; and neither the fields change nor when it merges.
 pub record Does {D : Type 0} (bytes : D → ToldFiles) (can_fail : D → Type 0) (session : ℕ) (said : Option Said)
     (old : Service D) (reply : Reply) (new : Service D) : Type 0 where
   pub answers : AnswersLine bytes session said old reply new
+  pub told : TellsNeeded (shape_of old) said reply
+  pub names : NamesFiles reply
   pub can : can_fail (device_of new) → can_fail (device_of old)
   pub schema : (shape_of new).schema ≡ (shape_of old).schema
   pub policy : policy_of new ≡ policy_of old

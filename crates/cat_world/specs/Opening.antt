@@ -1,31 +1,47 @@
 -- What a schema line opens in a directory.
-use Rattle.std.specs.Prelude.{◌≡◌, ◌⊎◌, ℕ, Some, Result, Ok, Err, []}
+use Rattle.std.specs.Prelude.{◌≡◌, ◌⊎◌, ℕ, Some, Result, Ok, Err, List, [], map}
 use Rattle.cat_base.specs.declared.refusal.Refusal.{Refusal}
 use Rattle.cat_base.specs.declared.refusal.Refusal.TheVariants.{Damaged, Device, Kind, Memory}
-use Rattle.cat_model.specs.Item.{Schema}
+use Rattle.cat_model.specs.Item.{Record, Schema}
 use Rattle.cat_model.specs.Lines.{IsReadable}
 use Rattle.cat_model.specs.Served.{Begins, OpensEmpty, Opening, SpellsSchema}
 use Rattle.cat_model.specs.Table.{Opened}
 use Rattle.cat_model.specs.Text.{Text}
 use Rattle.cat_schema.specs.Reading.{json}
 use Rattle.cat_directory.specs.declared.name.FileName.{FileName}
+use Rattle.cat_ledger_model.specs.Ledger.{LedgerCommit, commit_file, portions_in}
 use Rattle.cat_ledger_model.specs.Opening.{Restored, IsRestored}
+use Rattle.cat_ledger_model.specs.Portions.{ArePortions, leaf_of, records_of}
+use Rattle.cat_ledger_model.specs.Stored.{FileBytes, IsCommitStored}
 use Rattle.cat_ledger_shape.specs.OpeningLaws.{MayHold}
-use Rattle.cat_ledger_shape.specs.Ties.{ToldFiles}
+use Rattle.cat_ledger_shape.specs.Ties.{Agrees, ToldFiles}
 use Rattle.cat_ledger_lines.specs.RunLaws.{Stands}
 use Rattle.cat_ledger_opening.specs.Newest.{HasNoCommit, IsNewestCommit}
 use Rattle.cat_ledger_opening.specs.Refused.{IsNewestDamaged, IsNewestForeign}
 use Rattle.cat_serving.specs.declared.machine.Unopened.{Unopened}
 use Rattle.cat_world.specs.Worlds.{Service, device_of, shape_of}
 
--- It begins at the newest commit, as the directory's files may hold it: with the fields, the number of writes, the generation and the
--- text of that commit.
+-- The commit's files hold the records: they are the live ones of its segments, with the rows that were read and the sources that stand
+-- in the files, where the device tells them. (Lucene: what a `DirectoryReader` over an `IndexCommit` shows.)
+pub record HoldsTable (told : ToldFiles) (schema : Schema) (restored : Restored) (records : List Record) : Type 0 where
+  pub files : FileBytes
+  pub agrees : Agrees told files
+  pub commit : LedgerCommit
+  pub same : commit_file schema commit ≡ restored.commit
+  pub stored : IsCommitStored files schema commit
+  pub formed : ArePortions (portions_in commit)
+  pub leaves : map (leaf_of schema) (portions_in commit) ≡ restored.leaves
+  pub table : records ≡ records_of (portions_in commit)
+
+-- It begins at the newest commit, as the directory's files may hold it: with the fields, the table, the number of writes, the generation
+-- and the text of that commit.
 pub record BeginsAtCommit (told : ToldFiles) (schema : Schema) (from : Opened) : Type 0 where
   pub generation : ℕ
   pub newest : IsNewestCommit told generation
   pub restored : Restored
   pub held : IsRestored (MayHold told) schema generation restored
   pub fields : from.start.schema ≡ schema
+  pub table : HoldsTable told schema restored from.start.records
   pub token : from.start.token ≡ restored.commit.token
   pub commit : from.commit ≡ Some (record { generation = restored.commit.generation; text = restored.commit.text })
 

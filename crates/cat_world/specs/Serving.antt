@@ -1,21 +1,24 @@
 -- A world of sessions as what is served: what its schema line opens, and what each line behind it does.
 use Rattle.std.specs.Prelude.{◌≡◌, ◌≢◌, ◌⊎◌, ℕ, Option, None, Some, Result, Ok, Err, List, [], ◌∷◌, ◌++◌, codes, filter_map}
-use Rattle.std.specs.List.{flat_map}
+use Rattle.std.specs.List.{flat_map, AllByRecursion}
 use Rattle.std.specs.Fmt.{decimal}
 use Rattle.cat_base.specs.declared.refusal.Refusal.{Refusal}
 use Rattle.cat_base.specs.declared.refusal.Refusal.TheVariants.{Line as NoForm}
 use Rattle.cat_model.specs.Heard.{Hears}
 use Rattle.cat_model.specs.Lines.{line_text}
 use Rattle.cat_model.specs.Run.{IsRun}
-use Rattle.cat_model.specs.Served.{Ending, HeardAll, Outcome, ServesBy, exchange, heard, outcome_text}
+use Rattle.cat_model.specs.Served.{Ending, HeardAll, NamesFiles, Outcome, ServesBy, TellsFiles, exchange, heard, outcome_text}
 use Rattle.cat_model.specs.Table.{Opened}
 use Rattle.cat_model.specs.Text.{Text}
 use Rattle.cat_schema.specs.Reading.{json}
 use Rattle.cat_directory.specs.declared.name.FileName.{FileName}
 use Rattle.cat_ledger_shape.specs.Ties.{ToldFiles}
 use Rattle.cat_ledger_lines.specs.RunLaws.{AreAlike, IsStep}
+use Rattle.cat_serving.specs.declared.machine.Stage.{Stage}
+use Rattle.cat_serving.specs.declared.machine.Stage.TheVariants.{Waiting, Refused, Open}
 use Rattle.cat_serving.specs.declared.machine.Unopened.{Unopened}
 use Rattle.cat_world.specs.Opening.{BeginsIn, OpensWorld}
+use Rattle.cat_world.specs.Promises.{LeavesFiles, LeavesPromised}
 use Rattle.cat_world.specs.Worlds.{Service, device_of, shape_of}
 
 -- ---- as a machine
@@ -25,11 +28,11 @@ abbrev pub OpensIfShort : {D : Type 0} → (D → ToldFiles) → D → Option Te
 OpensIfShort bytes device None r = r ≡ Err (record { refusal = NoForm; seed = device })
 OpensIfShort bytes device (Some line) r = OpensWorld bytes device line r
 
--- an unreadable line changes nothing, and the reply to another is a step of every run that led here
+-- An unreadable line changes nothing. The reply to another is a step of every run that led here, and tells no names but those of files.
 abbrev pub Changes : {D : Type 0} → (D → ToldFiles) → Service D → Outcome → Service D → Type 0
 Changes bytes old Outcome.unreadable new = new ≡ old
 Changes bytes old (Outcome.replied e) new =
-    ((shape_of new).schema ≡ (shape_of old).schema)
+    ((shape_of new).schema ≡ (shape_of old).schema) × NamesFiles e.reply
     × IsStep (bytes (device_of old)) (shape_of old) e.line e.reply (bytes (device_of new)) (shape_of new)
 
 -- a line, which may be too long, is heard and changes the world
@@ -57,10 +60,12 @@ AreLike (told ∷ tolds) (o ∷ os) = IsLike told o × AreLike tolds os
 abbrev pub TellsAll : {D : Type 0} → (D → ToldFiles) → Type 0
 TellsAll {D = D} bytes = (device : D) (q : FileName) → bytes device q ≢ None
 
--- The text answers the schema line and the lines behind it: with a run from where the directory is opened, and the replies to
--- unreadable lines between. On devices that don't tell of their files, the text of a stored item may be another one of its length than
--- the one that fits; on those that do, all that is told fits.
-pub record IsServedIn {D : Type 0} (bytes : D → ToldFiles) (device : D) (first : Text) (lines : List Text) (text : Text) : Type 0 where
+-- The text answers the schema line and the lines behind it: with a run from where the directory is opened, in which the names of files
+-- alone are told as names, and the replies to unreadable lines between. On devices that don't tell of their files, the text of a stored
+-- item may be another one of its length than the one that fits; on those that do, all that is told fits. In the directory that is left,
+-- the files stand of each token that is recorded at the end of the run, also by a session's hold, and of each commit that is kept, also
+-- by a snapshot.
+pub record IsServedIn {D : Type 0} (bytes : D → ToldFiles) (device left : D) (first : Text) (lines : List Text) (text : Text) : Type 0 where
   pub from : Opened
   pub begins : BeginsIn (bytes device) first (Ok from)
   pub tolds : List Outcome
@@ -69,9 +74,23 @@ pub record IsServedIn {D : Type 0} (bytes : D → ToldFiles) (device : D) (first
   pub is_run : IsRun from (filter_map exchange fitting)
   pub alike : AreLike tolds fitting
   pub same : TellsAll bytes → tolds ≡ fitting
+  pub files : AllByRecursion TellsFiles tolds
+  pub promised : LeavesPromised bytes left from (filter_map exchange fitting)
   pub whole : text ≡ line_text (codes "OK" ∷ decimal from.start.token ∷ []) ++ flat_map outcome_text tolds
 
--- What is written answers the lines that were read: it is the text of a run that fits them, from where the directory is opened. The
--- first argument says what a device tells of its files.
-abbrev pub ServesIn : {D : Type 0} → (D → ToldFiles) → D → (input left before after : Option Text) → Result (Unit {0}) Ending → Type 0
-ServesIn bytes device = ServesBy (IsServedIn bytes device) (λ first e. BeginsIn (bytes device) first (Err e))
+-- What is written answers the lines that were read: it is the text of a run that fits them, from where the directory is opened; and
+-- another directory is left. The first argument says what a device tells of its files.
+abbrev pub ServesIn : {D : Type 0} → (D → ToldFiles) → (device left : D) → (input rest before after : Option Text)
+    → Result (Unit {0}) Ending → Type 0
+ServesIn bytes device left = ServesBy (IsServedIn bytes device left) (λ first e. BeginsIn (bytes device) first (Err e))
+
+-- where the schema line is refused, each file is told as it was
+abbrev pub SparesRefused : {D : Type 0} → (D → ToldFiles) → (device left : D) → Result (Unit {0}) Ending → Type 0
+SparesRefused bytes device left (Err Ending.schema) = LeavesFiles bytes device left
+SparesRefused bytes device left ended = Unit {0}
+
+-- the directory of a stage: of one that stands open, the world's
+abbrev pub device_at : {D : Type 0} → Stage (Service D) D → D
+device_at (Waiting device) = device
+device_at (Refused device) = device
+device_at (Open w) = device_of w

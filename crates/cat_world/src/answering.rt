@@ -1,10 +1,13 @@
 //! Lines, answered one after another.
 ghost use Rattle.std.specs.Prelude.{◌≡◌};
 ghost use Rattle.cat_model.specs.Run.{Run};
+ghost use Rattle.cat_model.specs.Served.{NamesFiles};
 ghost use Rattle.cat_model.specs.Table.{Opened};
 ghost use Rattle.cat_lines.specs.Line.{said_of};
 ghost use Rattle.cat_replies.specs.Reply.{reply_of};
 ghost use Rattle.cat_world.specs.Lines.{Does, StepsLine};
+ghost use Rattle.cat_world.specs.Named.{TellsNeeded};
+ghost use Rattle.cat_world.specs.Promises.{KeepsPromises};
 ghost use Rattle.cat_world.specs.Worlds.{device_of, policy_of, shape_of};
 
 use crate::world::World;
@@ -51,6 +54,9 @@ impl<D: Directory + Shelf> World<D> {
     pub fn step(&mut self, line: &Line) -> Reply
         ensures session { result.session ≡ line.now.session }
         ensures run { StepsLine D.bytes line.now.session (said_of line.now.command) self.old (reply_of result.answer) self.new }
+        ensures promised { KeepsPromises D.bytes self.new }
+        ensures told { TellsNeeded (shape_of self.old) (said_of line.now.command) (reply_of result.answer) }
+        ensures names { NamesFiles (reply_of result.answer) }
         ensures schema { (shape_of self.new).schema ≡ (shape_of self.old).schema }
         ensures policy { policy_of self.new ≡ policy_of self.old }
         ensures can { D.can_fail (device_of self.new) → D.can_fail (device_of self.old) }

@@ -1,7 +1,17 @@
 use Rattle.cat_serving.specs.Serving.{ended_as}
-use Rattle.cat_world.proofs.Serves.{served_in}
+use Rattle.cat_world.proofs.Serves.{served_in, spared_in}
 use Rattle.cat_world.proofs.serving.serve.Goals as goal
 
-pub returns : goal.returns
-returns g c =
-    served_in g.D.Holder.bytes c.args.device _ _ _ _ (ended_as c.serve_machine-served.result.ended) c.serve_machine-served.ensures.served
+pub returns-clause-served : goal.returns-clause-served
+returns-clause-served g c =
+    rw c.device_left.ensures (
+    served_in g.D.Holder.bytes c.args.device c.serve_machine-served.result.stage _ _ _ _ (ended_as c.serve_machine-served.result.ended)
+    c.serve_machine-served.ensures.ends
+    )
+
+pub returns-clause-spared : goal.returns-clause-spared
+returns-clause-spared g c =
+    rw c.device_left.ensures (
+    spared_in g.D.Holder.bytes c.args.device c.serve_machine-served.result.stage _ _ _ _ (ended_as c.serve_machine-served.result.ended)
+    c.serve_machine-served.ensures.ends
+    )

@@ -4,6 +4,7 @@ use Rattle.cat_model.specs.Run.{Command}
 use Rattle.cat_ledger_lines.proofs.RefusalAnswers.{faults_answer}
 use Rattle.cat_world.specs.Worlds.{device_of, policy_of, shape_of}
 use Rattle.cat_world.proofs.Hearing.{open_says}
+use Rattle.cat_world.proofs.Names.{refused}
 use Rattle.cat_world.proofs.world.World.answer.Goals as goal
 
 pub returns-in-NoForm : goal.returns-in-NoForm
@@ -16,6 +17,8 @@ returns-in-NoForm g c = rw c.in-NoForm.is (record {
           let told = g.D.Holder.bytes (device_of w) in
           faults_answer (policy_of w) told told (shape_of w) (shape_of w) c.args.line.now.session Command.formless NoForm refl (refl, λ q. refl),
     );
+    told = refused NoForm;
+    names = tt;
     can = λ x. x;
     schema = refl;
     policy = refl;

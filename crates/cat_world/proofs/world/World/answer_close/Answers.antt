@@ -17,5 +17,5 @@ pub returns : goal.returns
 returns g c = rw (← c.self.view_is) (record {
   does =
       does g.D.Holder.bytes g.D.Holder.can_fail c.args.session (Said.close c.args.token) c.self.inside.ledger (reply_of c.close.result) c.close.new.ledger
-      c.self.inside.rights c.close.new.rights c.self.invariant c.close.ensures.answers (subst g.D.Holder.can_fail c.close.ensures.same) c.close.ensures.policy;
+      c.self.inside.rights c.close.new.rights c.self.invariant c.close.ensures.answers (subst g.D.Holder.can_fail c.close.ensures.same) c.close.ensures.policy refl;
 })

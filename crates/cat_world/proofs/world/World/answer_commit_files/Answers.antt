@@ -1,12 +1,15 @@
 use Rattle.std.proofs.Common.{refl}
 use Rattle.cat_model.specs.Lines.{Said}
 use Rattle.cat_replies.specs.Reply.{reply_of}
-use Rattle.cat_world.proofs.Kept.{does}
+use Rattle.cat_ledger.specs.Ledgers.{shape_in}
+use Rattle.cat_world.proofs.Kept.{does_telling}
+use Rattle.cat_world.proofs.Names.{files_of_commit_told}
 use Rattle.cat_world.proofs.world.World.answer_commit_files.Goals as goal
 
 pub returns : goal.returns
 returns g c = rw (← c.self.view_is) (record {
   does = λ session.
-      does g.D.Holder.bytes g.D.Holder.can_fail session (Said.files_of_commit c.args.generation) c.self.inside.ledger (reply_of c.files_of_commit.result) c.self.inside.ledger
-      c.self.inside.rights c.self.inside.rights c.self.invariant (c.files_of_commit.ensures.answers session) (λ x. x) refl;
+      does_telling g.D.Holder.bytes g.D.Holder.can_fail session (Said.files_of_commit c.args.generation) c.self.inside.ledger (reply_of c.files_of_commit.result) c.self.inside.ledger
+      c.self.inside.rights c.self.inside.rights c.self.invariant (c.files_of_commit.ensures.answers session) (λ x. x) refl
+      (files_of_commit_told (shape_in c.self.inside.ledger) c.args.generation c.files_of_commit.result c.files_of_commit.ensures.names);
 })

@@ -1,6 +1,7 @@
 use Rattle.cat_lines.specs.Line.{said_of}
 use Rattle.cat_replies.specs.Reply.{reply_of}
 use Rattle.cat_ledger_lines.proofs.Answered.{answers_are_steps}
+use Rattle.cat_ledger_lines.proofs.NeededFiles.{promised_files_stand}
 use Rattle.cat_ledger_lines.specs.LineLaws.{line_of}
 use Rattle.cat_world.specs.Worlds.{device_of, policy_of, shape_of}
 use Rattle.cat_world.proofs.world.World.step.Goals as goal
@@ -15,3 +16,7 @@ returns-clause-run g c =
       answers_are_steps (policy_of old) (g.D.Holder.bytes (device_of old)) (g.D.Holder.bytes (device_of new)) (shape_of old) (shape_of new)
           (line_of c.args.line.now.session does.answers.0) (reply_of c.answer.result) does.answers.2,
     )
+
+pub returns-clause-promised : goal.returns-clause-promised
+returns-clause-promised g c from run stands =
+    promised_files_stand (g.D.Holder.bytes (device_of c.answer.new.self)) (shape_of c.answer.new.self) from run stands

@@ -1,0 +1,26 @@
+-- What a world promises of files: those stand that a token or a commit needs.
+use Rattle.std.specs.Prelude.{◌≡◌, List}
+use Rattle.cat_model.specs.Run.{Run}
+use Rattle.cat_model.specs.Table.{Opened}
+use Rattle.cat_directory.specs.declared.name.FileName.{FileName}
+use Rattle.cat_ledger_model.specs.Users.{Used}
+use Rattle.cat_ledger_shape.specs.Ties.{ToldFiles}
+use Rattle.cat_ledger_lines.specs.NeededLaws.{PromisedStand}
+use Rattle.cat_ledger_lines.specs.RunLaws.{Stands}
+use Rattle.cat_world.specs.Worlds.{Service, device_of, shape_of}
+
+-- Whatever run led here, the files stand of each token that is recorded, also by a session's hold, and of each commit that is kept, also
+-- by a snapshot; and the run's table is in them. The first argument says what a device tells of its files.
+abbrev pub KeepsPromises : {D : Type 0} → (D → ToldFiles) → Service D → Type 0
+KeepsPromises bytes w =
+    (from : Opened) (run : Run) → Stands (bytes (device_of w)) (shape_of w) from run
+    → PromisedStand (bytes (device_of w)) (shape_of w).users from run
+
+-- So they stand in a device that is left, for those who had them last.
+pub record LeavesPromised {D : Type 0} (bytes : D → ToldFiles) (left : D) (from : Opened) (run : Run) : Type 0 where
+  pub users : List Used
+  pub stand : PromisedStand (bytes left) users from run
+
+-- each file is told as it was
+abbrev pub LeavesFiles : {D : Type 0} → (D → ToldFiles) → D → D → Type 0
+LeavesFiles bytes device left = (q : FileName) → bytes left q ≡ bytes device q
