@@ -11,8 +11,8 @@ use std::process::Abort;
 use std::str::from_utf8;
 use std::test::Fail;
 
-/// How many lines are compared.
-const COUNT: u64 = 400;
+/// How many lines are compared in each of three runs.
+const COUNT: u64 = 1_700;
 
 const IDS: &[&str] = &["a", "b", "c", "d", "e", "f", "g", "h"];
 
@@ -80,7 +80,7 @@ impl Dice {
         let sort = self.pick(SORTS);
         let query = self.pick(QUERIES);
         if self.throw(3) == 0 {
-            let mark = self.throw(40);
+            let mark = token.saturating_sub(self.throw(12));
             return format!(in alloc; "{session} FIND {token} {count} {sort} {mark} {query}");
         }
         format!(in alloc; "{session} FIND {token} {count} {sort} . {query}")
