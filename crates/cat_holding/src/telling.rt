@@ -1,15 +1,13 @@
 //! The command that tells of a held view, and changes nothing.
 //!
 //! Lucene's `IndexCommit.getFileNames`, of a `DirectoryReader`'s commit.
-ghost use Rattle.std.specs.Prelude.{◌≡◌, Err, IfErr, IfOk, false, map, true};
+ghost use Rattle.std.specs.Prelude.{◌≡◌, Err, IfErr, IfOk, false, true};
 ghost use Rattle.cat_base.specs.declared.refusal.Refusal.TheVariants.{Memory, NotHeld};
-ghost use Rattle.cat_model.specs.Files.{text_of_name};
 ghost use Rattle.cat_model.specs.Lines.{Said};
-ghost use Rattle.cat_model.specs.Run as run;
 ghost use Rattle.cat_model.specs.State.{has_hold};
 ghost use Rattle.cat_model.specs.View.{View, needs};
 ghost use Rattle.cat_ledger_lines.specs.ReadLaws.{IsRecordedAs};
-ghost use Rattle.cat_ledger.specs.Answering.{AnswersSaid};
+ghost use Rattle.cat_ledger.specs.Answering.{AnswersSaid, TellsNames};
 ghost use Rattle.cat_ledger.specs.Ledgers.{shape_in};
 ghost use Rattle.cat_replies.specs.Reply.{answer_of, reply_of};
 ghost use Rattle.cat_holding.specs.Holding.{AreRights};
@@ -21,7 +19,7 @@ use cat_replies::Answer;
 use cat_rights::Rights;
 use std::alloc::{AllocError, Global};
 
-/// Answers a FILES of a token: the names of the files that the held view needs, those of each segment in turn. (Lucene:
+/// Answers a FILES of a token: the names of the files that the held view needs, in byte order. (Lucene:
 /// `IndexCommit.getFileNames`.)
 ///
 /// [`Refusal::NotHeld`] where the session doesn't hold the token; else [`Refusal::Memory`].
@@ -35,7 +33,7 @@ pub fn files_of_token<D: Directory + Shelf>(
     requires { AreRights (shape_in ledger.now) rights.now }
     ensures answers { AnswersSaid D.bytes session (Said.files_of_token token) ledger.now (reply_of result) ledger.now }
     ensures names { IfOk result (λ a. (view : View) × IsRecordedAs (shape_in ledger.now).views token view
-        × (answer_of a ≡ run.Answer.names (map text_of_name (needs view)))) }
+        × TellsNames (needs view) (answer_of a)) }
     ensures due { has_hold (shape_in ledger.now).holds session token ≡ false → result ≡ Err NotHeld }
     ensures refusal { has_hold (shape_in ledger.now).holds session token ≡ true → IfErr result (λ e. e ≡ Memory) }
 {
@@ -43,7 +41,11 @@ pub fn files_of_token<D: Directory + Shelf>(
         return Err(Refusal::NotHeld);
     };
     match hold.files(alloc) {
-        Ok(names) => Ok(Answer::Names(names)),
+        Ok(names) => {
+            let mut names = names;
+            names.sort_unstable();
+            Ok(Answer::Names(names))
+        }
         Err(AllocError) => Err(Refusal::Memory),
     }
 }

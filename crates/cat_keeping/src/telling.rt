@@ -1,14 +1,12 @@
 //! The commands that tell of kept commits, and change nothing.
 //!
 //! Lucene's `IndexCommit.getUserData` and `getFileNames`.
-ghost use Rattle.std.specs.Prelude.{◌≡◌, ℕ, IfOk, Err, None, Some, map};
+ghost use Rattle.std.specs.Prelude.{◌≡◌, ℕ, IfOk, Err, None, Some};
 ghost use Rattle.cat_base.specs.declared.refusal.Refusal.TheVariants.{Memory, NoCommit};
 ghost use Rattle.cat_model.specs.CommitFile.{CommitFile, commit_needs};
-ghost use Rattle.cat_model.specs.Files.{text_of_name};
 ghost use Rattle.cat_model.specs.Lines.{Said};
-ghost use Rattle.cat_model.specs.Run as run;
 ghost use Rattle.cat_ledger_lines.specs.ReadLaws.{kept_under};
-ghost use Rattle.cat_ledger.specs.Answering.{AnswersSaid};
+ghost use Rattle.cat_ledger.specs.Answering.{AnswersSaid, TellsNames};
 ghost use Rattle.cat_ledger.specs.Ledgers.{shape_in};
 ghost use Rattle.cat_replies.specs.Reply.{answer_of, reply_of};
 
@@ -39,7 +37,7 @@ pub fn text_of_commit<D: Directory + Shelf>(
     }
 }
 
-/// Answers a FILES of a commit: the names of the files that the kept commit needs, its own first. A copy of these, with the
+/// Answers a FILES of a commit: the names of the files that the kept commit needs, in byte order. A copy of these, with the
 /// same schema, opens at it. (Lucene: `IndexCommit.getFileNames`.)
 ///
 /// [`Refusal::NoCommit`] where none of the generation is kept; else [`Refusal::Memory`].
@@ -49,11 +47,15 @@ pub fn files_of_commit<D: Directory + Shelf>(
 ) -> Result<Answer, Refusal>
     ensures answers { (session : ℕ) → AnswersSaid D.bytes session (Said.files_of_commit generation) ledger.now (reply_of result) ledger.now }
     ensures names { IfOk result (λ a. (c : CommitFile) × (kept_under (shape_in ledger.now).commits generation ≡ Some c)
-        × (answer_of a ≡ run.Answer.names (map text_of_name (commit_needs c)))) }
+        × TellsNames (commit_needs c) (answer_of a)) }
     ensures due { kept_under (shape_in ledger.now).commits generation ≡ None → result ≡ Err NoCommit }
 {
     match ledger.commit_files(generation) {
-        Ok(names) => Ok(Answer::Names(names)),
+        Ok(names) => {
+            let mut names = names;
+            names.sort_unstable();
+            Ok(Answer::Names(names))
+        }
         Err(refusal) => Err(refusal),
     }
 }

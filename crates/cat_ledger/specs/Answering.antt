@@ -1,9 +1,13 @@
 -- What a ledger makes of what a session says.
-use Rattle.std.specs.Prelude.{ℕ}
+use Rattle.std.specs.Prelude.{◌≡◌, ℕ, List, map}
+use Rattle.std.specs.List.Sorted.{IsPermutation, IsSorted}
+use Rattle.cat_model.specs.Files.{Name}
 use Rattle.cat_model.specs.Heard.{IsCommand}
 use Rattle.cat_model.specs.Lines.{Said}
-use Rattle.cat_model.specs.Run.{Command, Reply}
+use Rattle.cat_model.specs.Run.{Answer, Command, Reply}
 use Rattle.cat_schema.specs.Reading.{json}
+use Rattle.cat_directory.specs.Names.{file_text, name_cmp, name_of}
+use Rattle.cat_directory.specs.declared.name.FileName.{FileName}
 use Rattle.cat_ledger_shape.specs.Ties.{ToldFiles}
 use Rattle.cat_ledger_lines.specs.LineLaws.{line_of}
 use Rattle.cat_ledger_lines.specs.RunLaws as lines
@@ -20,3 +24,12 @@ Answers bytes session c old reply new =
 abbrev pub AnswersSaid : {D : Type 0} → (D → ToldFiles) → ℕ → Said → Ledger D → Reply → Ledger D → Type 0
 AnswersSaid bytes session said old reply new =
     (c : Command) × IsCommand json (shape_in old).schema said c × Answers bytes session c old reply new
+
+-- The names of just these files are told, in the byte order of their texts.
+pub record TellsNames (needed : List Name) (told : Answer) : Type 0 where
+  pub listed : List FileName
+  pub names : List FileName
+  pub all : map name_of listed ≡ needed
+  pub same : IsPermutation listed names
+  pub rising : IsSorted name_cmp names
+  pub texts : told ≡ Answer.names (map file_text names)

@@ -15,7 +15,7 @@ pub(crate) const SNAPSHOT: Rows<'static> = &[
     ("0 MERGE", "0 OK done"),
     ("1 COMMIT", "1 OK 3"),
     ("0 SWEEP", "0 OK 4"),
-    ("0 FILES g 1", "0 OK 3\n0 segments_1\n0 _1.seg\n0 _1.sto"),
+    ("0 FILES g 1", "0 OK 3\n0 _1.seg\n0 _1.sto\n0 segments_1"),
     ("1 UNSNAP 1", "1 OK 0"),
     ("0 SWEEP", "0 OK 3"),
     ("1 UNSNAP 1", "1 NO 27"),
@@ -111,7 +111,7 @@ fn a_commit_needs_the_live_rows_of_its_segments(rt: HostRuntime) -> Result<(), F
         ("1 COMMIT", "1 OK 2"),
         (
             "1 FILES g 2",
-            "1 OK 4\n1 segments_2\n1 _1.seg\n1 _1.sto\n1 _1_2.liv",
+            "1 OK 4\n1 _1.seg\n1 _1.sto\n1 _1_2.liv\n1 segments_2",
         ),
         ("0 SWEEP", "0 OK 1"),
     ];

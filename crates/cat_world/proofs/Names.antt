@@ -2,6 +2,8 @@
 use Rattle.std.proofs.Common.{◌≡◌, ℕ, List, [], ◌∷◌, map, Bool, true, false, cond, refl, sym, ◌∙◌, ap, subst, inl, inr}
 use Rattle.std.specs.Prelude.{◌≢◌, ◌⊎◌, ◌==◌, ◌<◌, ltb, Option, None, Some, Result, Ok, Err, IfOk, find}
 use Rattle.std.specs.List.{flat_map, AllByRecursion}
+use Rattle.std.proofs.lemmas.List.Elements.{All-from_recursion, recursion_from_All}
+use Rattle.std.proofs.lemmas.List.Sorted.{All-permutation}
 use Rattle.cat_base.specs.declared.refusal.Refusal.{Refusal}
 use Rattle.cat_base.specs.declared.refusal.Refusal.TheVariants.{Spent}
 use Rattle.cat_model.specs.Answer.{Found, Read, answer, query_refusal}
@@ -17,6 +19,9 @@ use Rattle.cat_model.specs.State.{Halts, has_hold, refuses_refresh, snapshots_in
 use Rattle.cat_model.specs.Text.{Text}
 use Rattle.cat_model.specs.View.{View, needs}
 use Rattle.cat_schema.specs.Reading.{json}
+use Rattle.cat_directory.specs.Names.{name_of}
+use Rattle.cat_ledger.specs.Answering.{TellsNames}
+use Rattle.cat_ledger_model.proofs.Shown.{All-map}
 use Rattle.cat_ledger_model.specs.Ledger.{Ledger, IsLedger, names_of_commit, names_of_merging, names_of_portion, names_of_view, names_used, state_of}
 use Rattle.cat_ledger_model.specs.Calls.{has_recorded, newest_in}
 use Rattle.cat_ledger_model.specs.Plans.{MergePolicy}
@@ -27,10 +32,10 @@ use Rattle.cat_ledger_model.proofs.Written.{used_may_be_named}
 use Rattle.cat_ledger_shape.specs.Shapes.{Shape, names_of_commits, names_of_views, shape_of}
 use Rattle.cat_ledger_shape.specs.Ties.{Carries, ToldFiles}
 use Rattle.cat_ledger_shape.proofs.Committed.{commits_named}
-use Rattle.cat_ledger_shape.proofs.Leaves.{views_named}
+use Rattle.cat_ledger_shape.proofs.Leaves.{map_twice, views_named}
 use Rattle.cat_ledger_model.proofs.Users.{All-split}
 use Rattle.cat_ledger_lines.specs.LineLaws.{line_of}
-use Rattle.cat_ledger_lines.proofs.Found.{holds_found}
+use Rattle.cat_ledger_lines.proofs.Found.{All-unmap, holds_found}
 use Rattle.cat_ledger_lines.specs.ReadLaws.{IsRecordedAs, kept_under}
 use Rattle.cat_ledger_lines.specs.RunLaws.{Answers, AreAlike, IsShown}
 use Rattle.cat_replies.specs.Reply.{answer_of, reply_of}
@@ -218,13 +223,13 @@ opens_say_none (Some t) = refl
 
 -- what is told to a FILES of a token, and to one of a commit
 pub files_of_token_told : (s : Shape) (t : ℕ) (result : Result code.Answer Refusal)
-    → IfOk result (λ a. (view : View) × IsRecordedAs s.views t view × (answer_of a ≡ Answer.names (map text_of_name (needs view))))
+    → IfOk result (λ a. (view : View) × IsRecordedAs s.views t view × TellsNames (needs view) (answer_of a))
     → TellsNeeded s (Some (Said.files_of_token t)) (reply_of result)
 files_of_token_told s t (Ok a) h = h
 files_of_token_told s t (Err e) h = tt
 
 pub files_of_commit_told : (s : Shape) (g : ℕ) (result : Result code.Answer Refusal)
-    → IfOk result (λ a. (c : CommitFile) × (kept_under s.commits g ≡ Some c) × (answer_of a ≡ Answer.names (map text_of_name (commit_needs c))))
+    → IfOk result (λ a. (c : CommitFile) × (kept_under s.commits g ≡ Some c) × TellsNames (commit_needs c) (answer_of a))
     → TellsNeeded s (Some (Said.files_of_commit g)) (reply_of result)
 files_of_commit_told s g (Ok a) h = h
 files_of_commit_told s g (Err e) h = tt
@@ -243,6 +248,20 @@ found_has : {X : Type 0} (P : Name → Type 0) (names : X → List Name) (test :
     → AllByRecursion P (flat_map names xs) → AllByRecursion P (names x)
 found_has P names test xs x is all = holds_found (λ x. AllByRecursion P (names x)) test xs x (names_have P names xs all) is
 
+-- names that are told in byte order are those of files, if the needed ones are
+sorted_told : (needed : List Name) → AllByRecursion IsFileName needed → (a : Answer) → TellsNames needed a → NamesFiles (Ok a)
+sorted_told needed formed a tells =
+    let of_listed : AllByRecursion (λ q. IsFileName (name_of q)) tells.listed =
+    All-unmap IsFileName name_of tells.listed (subst (AllByRecursion IsFileName) (sym tells.all) formed) in
+    let of_names : AllByRecursion (λ q. IsFileName (name_of q)) tells.names =
+    recursion_from_All (λ q. IsFileName (name_of q)) tells.names
+    (All-permutation (λ q. IsFileName (name_of q)) tells.listed tells.names tells.same (All-from_recursion (λ q. IsFileName (name_of q)) tells.listed of_listed)) in
+    subst (λ a. NamesFiles (Ok a)) (sym tells.texts) (
+      map name_of tells.names,
+      All-map IsFileName name_of tells.names of_names,
+      sym (map_twice name_of text_of_name tells.names),
+    )
+
 module _ (told : ToldFiles) (s : Shape) (l : Ledger) (files : FileBytes) (carries : Carries told s l files) where
   four : Four IsFileName (flat_map names_of_portion l.portions) (flat_map names_of_view l.views) (flat_map names_of_commit l.commits) (names_of_merging l.merging)
   four =
@@ -259,13 +278,14 @@ module _ (told : ToldFiles) (s : Shape) (l : Ledger) (files : FileBytes) (carrie
       subst (λ (x : Shape). AllByRecursion IsFileName (names_of_commits x.commits)) carries.shape
       (subst (λ ns. AllByRecursion IsFileName ns) (sym (commits_named l.schema l.commits)) four.commits)
 
-  view_told : (t : ℕ) (view : View) → IsRecordedAs s.views t view → (a : Answer) → a ≡ Answer.names (map text_of_name (needs view)) → NamesFiles (Ok a)
-  view_told t view is a told_is =
-      subst (λ a. NamesFiles (Ok a)) (sym told_is) (needs view, found_has IsFileName needs (λ v. v.token == t) s.views view is views_formed, refl)
+  view_told : (t : ℕ) (view : View) → IsRecordedAs s.views t view → (a : Answer) → TellsNames (needs view) a → NamesFiles (Ok a)
+  view_told t view is a tells =
+      sorted_told (needs view) (found_has IsFileName needs (λ v. v.token == t) s.views view is views_formed) a tells
 
-  commit_told : (g : ℕ) (commit : CommitFile) → kept_under s.commits g ≡ Some commit → (a : Answer) → a ≡ Answer.names (map text_of_name (commit_needs commit)) → NamesFiles (Ok a)
-  commit_told g commit is a told_is =
-      subst (λ a. NamesFiles (Ok a)) (sym told_is) (commit_needs commit, found_has IsFileName commit_needs (λ c. c.generation == g) s.commits commit is commits_formed, refl)
+  commit_told : (g : ℕ) (commit : CommitFile) → kept_under s.commits g ≡ Some commit → (a : Answer) → TellsNames (commit_needs commit) a
+      → NamesFiles (Ok a)
+  commit_told g commit is a tells =
+      sorted_told (commit_needs commit) (found_has IsFileName commit_needs (λ c. c.generation == g) s.commits commit is commits_formed) a tells
 
   none_told : (reply : Reply) → TellsNone reply → NamesFiles reply
   none_told (Ok (Answer.number n)) h = tt

@@ -1,10 +1,7 @@
-use Rattle.std.proofs.Common.{◌∙◌, ap, map, refl, sym}
-use Rattle.cat_directory.specs.Names.{name_of}
-use Rattle.cat_model.specs.Files.{text_of_name}
-use Rattle.cat_model.specs.Run.{Answer, Command}
+use Rattle.std.proofs.Common.{refl, sym}
+use Rattle.cat_model.specs.Run.{Command}
 use Rattle.cat_rights.specs.Rights.{right_of}
 use Rattle.cat_ledger.specs.Ledgers.{device_in, policy_in, shape_in}
-use Rattle.cat_ledger_shape.proofs.Leaves.{map_twice}
 use Rattle.cat_holding.proofs.Answered.{memory_refused}
 use Rattle.cat_holding.proofs.telling.files_of_token.Goals as goal
 
@@ -13,7 +10,14 @@ returns-in-Ok-clause-names g c =
     let there = sym {b = right_of c.args.rights.now c.args.session c.args.token} c.in-Some.ensures in (
       c.in-Some.hold.now.view,
       c.requires.views c.args.session c.args.token c.in-Some.hold.now there,
-      ap Answer.names (sym (map_twice name_of text_of_name c.in-Ok.names.items) ∙ ap (map text_of_name) c.in-Ok.ensures.ok),
+      record {
+        listed = c.in-Ok.names.items;
+        names = c.sort_unstable.new.self.items;
+        all = c.in-Ok.ensures.ok;
+        same = c.sort_unstable.ensures.permutation;
+        rising = c.sort_unstable.ensures.sorted;
+        texts = refl;
+      },
     )
 
 pub returns-in-Err-clause-answers : goal.returns-in-Err-clause-answers
