@@ -4,8 +4,7 @@ use Rattle.cat_directory.specs.Devices.{FileContent}
 use Rattle.cat_directory.specs.declared.name.FileName.{FileName}
 use Rattle.cat_ledger_shape.specs.Ties.{ToldFiles}
 use Rattle.cat_ledger_lines.specs.LineLaws.{NothingChanges}
-use Rattle.cat_ledger.specs.Ledgers.{Spares, device_in, shape_in}
-use Rattle.cat_ledger.specs.declared.ledger.Ledger.{Ledger}
+use Rattle.cat_ledger.specs.Ledgers.{Ledger, Spares, device_in, shape_in}
 
 pub unchanged : {D : Type 0} (bytes : D → ToldFiles) (old new : Ledger D) → new ≡ old
     → NothingChanges (bytes (device_in old)) (shape_in old) (bytes (device_in new)) (shape_in new)

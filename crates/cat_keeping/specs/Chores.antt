@@ -15,8 +15,7 @@ use Rattle.cat_ledger_shape.specs.Shapes.{Shape}
 use Rattle.cat_ledger_core.specs.Cores.{HasRowsLeft}
 use Rattle.cat_ledger_core.specs.Installs.{IsOfMerge}
 use Rattle.cat_upkeep.specs.Due.{IsForceDue, IsMergeDue}
-use Rattle.cat_ledger.specs.Ledgers.{device_in, shape_in}
-use Rattle.cat_ledger.specs.declared.ledger.Ledger.{Ledger}
+use Rattle.cat_ledger.specs.Ledgers.{Ledger, device_in, shape_in}
 use Rattle.cat_ledger.specs.declared.telling.SegmentStat as ledger
 use Rattle.cat_replies.specs.declared.news.SegmentStat.{SegmentStat}
 use Rattle.cat_keeping.specs.declared.chores.Chore.{Chore}

@@ -1,2 +1,4 @@
+pub mod Lasting
 pub mod Made
+pub mod Results
 pub mod Swept

@@ -1,5 +1,5 @@
 -- What the calls of memory make of each ledger that is carried: the words of a ledger's contracts from those of its parts.
-use Rattle.std.proofs.Common.{inl, inr, ◌≡◌, ◌≢◌, ◌⊎◌, ℕ, ◌==◌, ◌+◌, ◌<◌, ◌≤◌, Bool, true, false, ◌||◌, List, [], ◌∷◌, length, refl, sym, ◌∙◌, ap, ap₂, subst, arith}
+use Rattle.std.proofs.Common.{inl, inr, ◌≡◌, ◌≢◌, ◌⊎◌, ℕ, ◌==◌, ◌<◌, ◌≤◌, Bool, true, false, ◌||◌, List, [], ◌∷◌, length, refl, sym, ◌∙◌, ap, ap₂, subst, arith}
 use Rattle.std.specs.Prelude.{unwrap_or, cond, find, not, ◌&&◌, Option, Some, None}
 use Rattle.std.specs.List.{AllByRecursion, list_any}
 use Rattle.std.proofs.lemmas.Bool.Decides.{eqb_tells}
@@ -212,3 +212,11 @@ pub asked_is : (s : Shape) (o : Option ℕ) (newest t : ℕ) → t ≡ unwrap_or
     → list_any (λ v. v.token == t) s.views ≡ true → IsAsked s o t
 asked_is s None newest t is great there = is ∙ great
 asked_is s (Some u) newest t is great there = (is, subst (λ k. list_any (λ v. v.token == k) s.views ≡ true) is there)
+
+-- none is recorded under the token that is asked for
+pub asked_nowhere : (s : Shape) (o : Option ℕ) (newest token t : ℕ) → token ≡ unwrap_or o newest → list_any (λ v. v.token == newest) s.views ≡ true
+    → list_any (λ v. v.token == token) s.views ≡ false → IsAsked s o t → ⊥
+asked_nowhere s None newest token t is there none asked =
+    absurd (let no : true ≡ false = sym there ∙ ap (λ k. list_any (λ v. v.token == k) s.views) (sym is) ∙ none in cc)
+asked_nowhere s (Some u) newest token t is there none asked =
+    absurd (let no : true ≡ false = sym asked.1 ∙ ap (λ k. list_any (λ v. v.token == k) s.views) (sym is) ∙ none in cc)

@@ -1,5 +1,5 @@
 -- What a ledger carries that was opened, once it was swept.
-use Rattle.std.proofs.Common.{inl, inr, ◌≡◌, ◌⊎◌, ℕ, ◌<◌, List, [], refl, sym, ◌∙◌, ap, subst}
+use Rattle.std.proofs.Common.{inl, inr, ◌≡◌, ◌⊎◌, ℕ, ◌<◌, [], refl, sym, ◌∙◌, ap, subst}
 use Rattle.cat_base.specs.declared.refusal.Refusal.{Refusal}
 use Rattle.cat_base.specs.declared.refusal.Refusal.TheVariants.{Damaged, Device, Kind, Memory}
 use Rattle.cat_model.specs.Item.{Schema}
@@ -11,7 +11,7 @@ use Rattle.cat_directory.specs.Names.{name_of}
 use Rattle.cat_ledger_model.specs.Ledger.{Ledger, state_of}
 use Rattle.cat_ledger_model.specs.Stored.{FileBytes}
 use Rattle.cat_ledger_model.specs.Users.{users_of}
-use Rattle.cat_ledger_shape.specs.Shapes.{Shape}
+use Rattle.cat_ledger_shape.specs.Shapes.{IsShape, Shape}
 use Rattle.cat_ledger_shape.specs.Steps.{Leaves}
 use Rattle.cat_ledger_shape.specs.Ties.{Carries, ToldFiles}
 use Rattle.cat_ledger_shape.proofs.Writes.{sweeps_make}
@@ -52,6 +52,11 @@ opened_begins told told' schema mid s (inr o) swept kept = swept_begins told tol
 pub opened_schema : (told : ToldFiles) (schema : Schema) (mid s : Shape) → HasOpened told schema told mid → Leaves [] mid s → s.schema ≡ schema
 opened_schema told schema mid s (inl o) swept = ap (λ x. x.schema) swept.rest ∙ ap (λ x. x.schema) o.memory
 opened_schema told schema mid s (inr o) swept = ap (λ x. x.schema) swept.rest ∙ ap (λ x. x.schema) o.memory
+
+-- memory has the shape of the ledger that was opened
+pub opened_shape : (told : ToldFiles) (schema : Schema) (told' : ToldFiles) (s : Shape) → HasOpened told schema told' s → IsShape s
+opened_shape told schema told' s (inl o) = (o.ledger, o.carries.shape, o.carries.sound)
+opened_shape told schema told' s (inr o) = (o.ledger, o.carries.shape, o.carries.sound)
 
 -- the files are told as before, so the same was opened
 pub opened_alike : (told told' : ToldFiles) (schema : Schema) (mid : Shape) → ((q : FileName) → told' q ≡ told q) → HasOpened told schema told' mid

@@ -11,8 +11,7 @@ use Rattle.cat_directory.specs.declared.name.FileName.{FileName}
 use Rattle.cat_ledger_shape.specs.Ties.{ToldFiles}
 use Rattle.cat_ledger_lines.specs.LineLaws.{line_of}
 use Rattle.cat_ledger_lines.specs.RunLaws as lines
-use Rattle.cat_ledger.specs.Ledgers.{device_in, policy_in, shape_in}
-use Rattle.cat_ledger.specs.declared.ledger.Ledger.{Ledger}
+use Rattle.cat_ledger.specs.Ledgers.{Ledger, device_in, policy_in, shape_in}
 
 -- The reply answers the command of the session, for every ledger of the model that is carried. The first argument says what a device
 -- tells of its files.

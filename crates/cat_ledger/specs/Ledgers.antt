@@ -4,11 +4,16 @@ use Rattle.cat_directory.specs.declared.name.FileName.{FileName}
 use Rattle.cat_ledger_model.specs.Ledger.{IsNew}
 use Rattle.cat_ledger_model.specs.Ledger as model
 use Rattle.cat_ledger_model.specs.Plans as plans
-use Rattle.cat_ledger.specs.declared.ledger.Ledger.{Ledger}
 use Rattle.cat_ledger_shape.specs.Ties.{Makes, ToldFiles}
 use Rattle.cat_ledger_shape.specs.Shapes.{Shape}
 use Rattle.cat_ledger_core.specs.Installs.{IsOfMerge}
 use Rattle.cat_directory.specs.Names.{name_of}
+
+-- the directory, what memory has of the ledger, and when it merges
+pub record Ledger (D : Type 0) : Type 0 where
+  pub device : D
+  pub core : Shape
+  pub policy : plans.MergePolicy
 
 -- its device
 abbrev pub device_in : {D : Type 0} → Ledger D → D

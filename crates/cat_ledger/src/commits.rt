@@ -3,6 +3,7 @@
 //! Lucene's `IndexWriter.commit` with `setLiveCommitData`, under a `SnapshotDeletionPolicy` over a `KeepOnlyLastCommitDeletionPolicy`.
 ghost use Rattle.cat_ledger_lines.specs.LineLaws.{Commits};
 ghost use Rattle.cat_base.specs.declared.refusal.Refusal.TheVariants.{Device, Memory, NoCommit, NoSnapshot, Spent};
+ghost use Rattle.cat_ledger.specs.Lasting.{IsLasting};
 ghost use Rattle.cat_ledger.specs.Ledgers.{Does, Spares, device_in, policy_in, shape_in};
 ghost use Rattle.std.specs.Prelude.{Err, IfErr, IfOk, None, Ok, OnErr, OnOk, Some, ℕ, ◌-◌, ◌<◌, ◌≡◌, ◌≤◌, ◌⊎◌};
 ghost use Rattle.cat_directory.specs.declared.name.FileName.{FileName};
@@ -25,6 +26,7 @@ use cat_base::{Generation, LAST_NUMBER, Refusal};
 use cat_commits::judge_commit_text;
 use cat_directory::{Directory, Shelf};
 use cat_ledger_core::Core;
+use cat_listing::needed_are_synced;
 
 /// Flushes what waits, and then keeps a commit of now. A generation is left for it.
 fn flush_and_commit<D: Directory>(
@@ -39,10 +41,13 @@ fn flush_and_commit<D: Directory>(
     ensures err { OnErr result (Makes IsLeft (D.bytes device.old) core.old (D.bytes device.new) core.new) }
     ensures crash { (q : FileName) → (IsNew core.old.next_segment core.old.next_generation (name_of q) → ⊥)
         → NoMore (D.may_leave device.old q) (D.may_leave device.new q) }
+    ensures lasts { OnOk result (IsLasting D.bytes D.may_leave device.old core.old
+        → IsLasting D.bytes D.may_leave device.new core.new) }
     ensures spent { IfErr result (λ e. e ≡ Spent → MayNotFlush core.old) }
     ensures can { D.can_fail device.new → D.can_fail device.old }
     ensures refusal { IfErr result (λ e. (e ≡ Memory) ⊎ (e ≡ Device) ⊎ (e ≡ Spent)) }
 {
+    needed_are_synced();
     if let Err(refusal) = flush(core, device) {
         return Err(refusal);
     }

@@ -1,12 +1,15 @@
 //! The ledger, which is its directory and what memory has of it.
+ghost use Rattle.cat_ledger.specs.Lasting.{AlwaysTells, IsCarried, NewestLasts};
 ghost use Rattle.cat_ledger.specs.Ledgers.{device_in, policy_in, shape_in};
 ghost use Rattle.std.specs.Prelude.{◌≡◌};
 
 use cat_base::WriteNo;
+use cat_directory::{Directory, Shelf};
 use cat_ledger_core::Core;
 use cat_schema::Schema;
 use cat_upkeep::MergePolicy;
 use std::alloc::Global;
+use std::marker::Model;
 
 /// A catalogue in a directory: what waits, the segments that stand, recorded views and who holds them, commits and snapshots,
 /// a merge in the making, and which files are needed. (Lucene: an `IndexWriter` with a `SearcherLifetimeManager`, a
@@ -14,15 +17,29 @@ use std::alloc::Global;
 ///
 /// Contracts see it as its device, its shape in memory, and its policy. Each call says what it makes of every ledger of the
 /// model that these stand for; after a refusal that is what the model lets a refusal leave.
+///
+/// Whatever was called, and whatever it answered: these stand for some ledger of the model, and a crash leaves every file of
+/// the newest commit as it is ([`newest_lasts`](Ledger::newest_lasts)).
 #[derive(Drop)]
-pub struct Ledger<D> {
+pub struct Ledger<D: Directory + Shelf> {
     pub(crate) alloc: Global,
     pub(crate) device: D,
     pub(crate) core: Core,
     pub(crate) policy: MergePolicy,
 }
 
-impl<D> Ledger<D> {
+impl<D: Directory + Shelf> Model for Ledger<D> {
+    ghost use Rattle.cat_ledger.specs.Lasting.{IsLasting};
+    ghost use Rattle.cat_ledger.specs.Ledgers.{Ledger};
+
+    ghost Value = { Ledger D };
+
+    ghost view = { λ l. record { device = l.device; core = l.core; policy = l.policy } };
+
+    ghost invariant = { λ l. IsLasting D.bytes D.may_leave l.device l.core };
+}
+
+impl<D: Directory + Shelf> Ledger<D> {
     /// The fields of the items.
     pub fn schema(&self) -> &Schema
         ensures { result.now ≡ (shape_in self.now).schema }
@@ -42,6 +59,21 @@ impl<D> Ledger<D> {
         ensures { result ≡ policy_in self.now }
     {
         self.policy
+    }
+
+    /// What always holds of it, for a caller's proof; it does nothing. Its device and its memory stand for a ledger of the
+    /// model. And a crash at this moment leaves each file that the newest commit needs byte for byte as the directory tells of
+    /// it, where such directories always tell of their files: the newest commit is the last one that was answered, or else
+    /// the one that was opened.
+    ///
+    /// Lucene's `IndexWriter.commit`, whose javadoc promises that its changes survive a crash.
+    pub fn newest_lasts(&self)
+        ensures carried { IsCarried (D.bytes (device_in self.now)) (shape_in self.now) }
+        ensures lasts { AlwaysTells D.bytes
+            → NewestLasts (D.bytes (device_in self.now)) (D.may_leave (device_in self.now)) (shape_in self.now) }
+    {
+        // A look at a field tells what holds of all of them.
+        let _core = &self.core;
     }
 
     /// The directory, with its files as they stand. What waits, and what no commit has, isn't in them. It takes no memory.

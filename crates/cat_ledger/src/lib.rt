@@ -5,6 +5,7 @@ mod commits;
 mod ledger;
 mod merges;
 mod opening;
+mod reading;
 mod room;
 mod sweeps;
 mod telling;

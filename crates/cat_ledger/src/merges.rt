@@ -62,7 +62,6 @@ impl<D: Directory + Shelf> Ledger<D> {
         ensures policy { policy_in self.new ≡ policy_in self.old }
         ensures refusal { IfErr result (λ e. (e ≡ Memory) ⊎ (e ≡ Device) ⊎ (e ≡ Spent)) }
     {
-        let news = cat_upkeep::force(&mut self.core, &mut self.device)?;
-        Ok(news)
+        cat_upkeep::force(&mut self.core, &mut self.device)
     }
 }

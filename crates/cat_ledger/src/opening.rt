@@ -10,6 +10,7 @@ ghost use Rattle.cat_directory.specs.declared.name.FileName.{FileName};
 ghost use Rattle.cat_ledger_model.specs.Users.{users_of};
 ghost use Rattle.cat_ledger_lines.specs.RunLaws.{Stands};
 ghost use Rattle.cat_ledger_opening.specs.Refused.{IsNewestDamaged, IsNewestForeign};
+ghost use Rattle.cat_ledger.specs.Lasting.{IsLasting};
 ghost use Rattle.cat_ledger.specs.Ledgers.{device_in, policy_in, shape_in};
 ghost use Rattle.cat_ledger.specs.Openings.{IsOpenedLedger};
 
@@ -41,6 +42,7 @@ fn open_swept<D: Directory + Shelf>(
     ensures stands { IfOk result (λ s. (from : Opened) × (from.start.schema ≡ schema) × Stands (D.bytes device.new) s from []) }
     ensures crash { IfOk result (λ s. (q : FileName) → 0 < users_of s.users (name_of q)
         → NoMore (D.may_leave device.old q) (D.may_leave device.new q)) }
+    ensures lasts { IfOk result (IsLasting D.bytes D.may_leave device.new) }
     ensures damaged { IfErr result (λ e. e ≡ Damaged → IsNewestDamaged (D.bytes device.old) schema) }
     ensures foreign { IfErr result (λ e. e ≡ Kind → IsNewestForeign (D.bytes device.old) schema) }
     ensures device { IfErr result (λ e. e ≡ Device → D.can_fail device.old) }

@@ -12,7 +12,7 @@ ghost use Rattle.cat_ledger.specs.Ledgers.{shape_in};
 
 use crate::ledger::Ledger;
 use cat_base::{Generation, Refusal, SegNo, WriteNo};
-use cat_directory::FileName;
+use cat_directory::{Directory, FileName, Shelf};
 use cat_search::Leaf;
 use std::alloc::{AllocError, Global};
 
@@ -57,7 +57,7 @@ fn segments_of(alloc: Global, leaves: &[Leaf]) -> Result<Vec<SegmentStat>, Alloc
     Ok(segments)
 }
 
-impl<D> Ledger<D> {
+impl<D: Directory + Shelf> Ledger<D> {
     /// How many writes were accepted, items wait, views are recorded and files are pending; and the segments that stand.
     pub fn stat(&self) -> Result<Stat, AllocError>
         ensures { IfOk result (IsStatOf (shape_in self.now)) }

@@ -25,6 +25,7 @@ ghost use Rattle.cat_ledger_shape.specs.Steps.{tokens_of};
 ghost use Rattle.cat_ledger.specs.declared.views.Grant.{Grant};
 
 use crate::ledger::Ledger;
+use crate::reading::read_source;
 use crate::room::flush;
 use cat_base::{Refusal, SessionNo, Token};
 use cat_directory::{Directory, Shelf};
@@ -192,10 +193,11 @@ impl<D: Directory + Shelf> Ledger<D> {
         if self.core.is_held_by(session, token) {
             return Ok(Grant::Already(token));
         }
-        match grant_right(&mut self.core, session, token) {
-            Ok(hold) => Ok(Grant::New(hold)),
-            Err(AllocError) => Err(Refusal::Memory),
-        }
+        let hold = match grant_right(&mut self.core, session, token) {
+            Ok(hold) => hold,
+            Err(AllocError) => return Err(Refusal::Memory),
+        };
+        Ok(Grant::New(hold))
     }
 
     /// Ends the session's right, after which its view may go. It takes no memory. (Lucene: `SearcherLifetimeManager.release`.)
@@ -238,7 +240,8 @@ impl<D: Directory + Shelf> Ledger<D> {
     }
 
     /// The text that the item of this id came as, in the held view; none where no live row has the id. (Lucene:
-    /// `StoredFields.document`.) It is what [`Hold::get`] answers on this ledger's directory, whose files stay as they are.
+    /// `StoredFields.document`.) It is what [`Hold::get`] answers on this ledger's directory, whose files stay as they are, also in
+    /// a crash.
     ///
     /// [`Refusal::Damaged`] if the file with the text is absent, or ends before the text does. [`Refusal::Device`] if the
     /// directory fails; else [`Refusal::Memory`].
@@ -251,11 +254,12 @@ impl<D: Directory + Shelf> Ledger<D> {
             → TellsSource (D.bytes (device_in self.old)) files hold.now.view id.now → HoldsSource files hold.now.view id.now → ⊥) }
         ensures shape { shape_in self.new ≡ shape_in self.old }
         ensures same { (q : FileName) → D.bytes (device_in self.new) q ≡ D.bytes (device_in self.old) q }
+        ensures crash { (q : FileName) → NoMore (D.may_leave (device_in self.old) q) (D.may_leave (device_in self.new) q) }
         ensures counted { CountsReading (D.fault_count (device_in self.old)) (D.fault_count (device_in self.new)) result }
         ensures device { IfErr result (λ e. e ≡ Device → D.can_fail (device_in self.old)) }
         ensures can { D.can_fail (device_in self.new) → D.can_fail (device_in self.old) }
         ensures policy { policy_in self.new ≡ policy_in self.old }
     {
-        hold.get(self.alloc, &mut self.device, id)
+        read_source(hold.view(), self.alloc, &mut self.device, id)
     }
 }

@@ -56,10 +56,10 @@ impl<D: Directory + Shelf> Ledger<D> {
         if let Err(refusal) = make_room(&mut self.core, &mut self.device) {
             return Err(refusal);
         }
-        match self.core.put(item) {
-            Ok(()) => Ok(self.core.count()),
-            Err(AllocError) => Err(Refusal::Memory),
+        if let Err(AllocError) = self.core.put(item) {
+            return Err(Refusal::Memory);
         }
+        Ok(self.core.count())
     }
 
     /// Deletes the item of the id, if there is one, and answers the number of this write. (Lucene:

@@ -158,7 +158,7 @@ pub(crate) fn end(rights: Rights) {
 }
 
 /// Ends the ledger with its directory. A ledger that only leaves a scope would be proved to end once more, part by part.
-pub(crate) fn close<D: Drop>(ledger: Ledger<D>) {
+pub(crate) fn close<D: Directory + Shelf + Drop>(ledger: Ledger<D>) {
     let _device = ledger.into_directory();
 }
 

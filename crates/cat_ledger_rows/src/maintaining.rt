@@ -6,7 +6,7 @@ use cat_ledger::Ledger;
 use std::alloc::Global;
 
 /// The text of a kept commit, in quotes.
-pub(crate) fn note<D>(
+pub(crate) fn note<D: Directory + Shelf>(
     alloc: Global,
     ledger: &Ledger<D>,
     generation: Generation,
@@ -18,7 +18,7 @@ pub(crate) fn note<D>(
 }
 
 /// The names of the files that a kept commit needs.
-pub(crate) fn files_of<D>(
+pub(crate) fn files_of<D: Directory + Shelf>(
     alloc: Global,
     ledger: &Ledger<D>,
     generation: Generation,
@@ -85,7 +85,7 @@ pub(crate) fn sweep<D: Directory + Shelf>(
 }
 
 /// How many writes there were, items wait and views are recorded, the segments, and how many files are pending.
-pub(crate) fn stat<D>(alloc: Global, ledger: &Ledger<D>) -> Result<String, Refusal> {
+pub(crate) fn stat<D: Directory + Shelf>(alloc: Global, ledger: &Ledger<D>) -> Result<String, Refusal> {
     let stat = ledger.stat()?;
     let standing = standing(alloc, &stat)?;
     let standing = standing.as_str();
@@ -94,7 +94,7 @@ pub(crate) fn stat<D>(alloc: Global, ledger: &Ledger<D>) -> Result<String, Refus
 }
 
 /// The same without the files.
-pub(crate) fn standing_of<D>(alloc: Global, ledger: &Ledger<D>) -> Result<String, Refusal> {
+pub(crate) fn standing_of<D: Directory + Shelf>(alloc: Global, ledger: &Ledger<D>) -> Result<String, Refusal> {
     let stat = ledger.stat()?;
     Ok(standing(alloc, &stat)?)
 }

@@ -119,7 +119,7 @@ fn found(alloc: Global, hold: &Hold, query: &Query) -> Result<String, Refusal> {
 }
 
 /// The page by price of what the query matches in the view that the session holds.
-pub(crate) fn page<D>(
+pub(crate) fn page<D: Directory + Shelf>(
     alloc: Global,
     ledger: &Ledger<D>,
     rights: &Rights,

@@ -1,3 +1,5 @@
+use Rattle.cat_ledger_model.specs.Calls.{Committed, Flushes}
+use Rattle.cat_ledger.proofs.Lasting.{call_keeps, carried_on, commit_lasts, lets_flush}
 use Rattle.cat_ledger.proofs.Made.{commit_spares, flushed_segment, left_behind}
 use Rattle.cat_ledger_lines.proofs.JoinedCalls.{flushed_commits_make}
 use Rattle.cat_ledger_shape.proofs.Committed.{commits_make}
@@ -38,3 +40,20 @@ returns-in-Err-commit-clause-crash g c =
     (commit_spares c.args.text.now c.args.core.now c.flush.new.core q c.count-count.ensures.shape
     (flushed_segment told told' c.args.core.now c.flush.new.core c.in_default.ensures.made) c.in_default.ensures.generation old)
     e after)
+
+pub returns-in-Ok-clause-lasts : goal.returns-in-Ok-clause-lasts
+returns-in-Ok-clause-lasts g c = λ before.
+    let bytes = g.D.Holder.bytes in
+    let left = g.D.Holder.may_leave in
+    let stay = g.met.D.Holder.may_stay in
+    let s = c.args.core.now in
+    let mid = c.flush.new.core in
+    let new = c.commit.new.self in
+    let d = c.flush.new.device in
+    let d' = c.commit.new.device in
+    let text = c.args.text.now in
+    let flushed = call_keeps bytes left stay Flushes lets_flush c.args.device.now d s mid c.in_default.ensures.ok
+    (λ q old apart. c.in_default.ensures.crash q old) before in
+    let makes = commits_make text mid new (bytes d) (bytes d') c.in_default.ensures.flushed c.in-Ok.ensures.ok.0 c.in-Ok.ensures.ok.1 in
+    commit_lasts bytes left stay c.needed_are_synced.ensures text d d' mid new c.in-Ok.ensures.ok.0 (carried_on (Committed text) (bytes d) (bytes d') mid new makes flushed.carried)
+    c.in-Ok.ensures.lasts c.in-Ok.ensures.crash flushed

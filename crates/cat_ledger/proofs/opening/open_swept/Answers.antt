@@ -1,5 +1,6 @@
 use Rattle.std.proofs.Common.{◌∙◌}
-use Rattle.cat_ledger.proofs.Swept.{opened_alike, opened_begins, opened_schema, opening_refusal, swept_users}
+use Rattle.cat_ledger.proofs.Lasting.{opened_lasts}
+use Rattle.cat_ledger.proofs.Swept.{opened_alike, opened_begins, opened_schema, opened_shape, swept_users}
 use Rattle.cat_ledger.proofs.opening.open_swept.Goals as goal
 
 pub returns-clause-ok : goal.returns-clause-ok
@@ -26,3 +27,18 @@ pub returns-clause-crash : goal.returns-clause-crash
 returns-clause-crash g c =
     λ q some e after. c.«open».ensures.crash q e
     (c.sweep-swept.ensures.crash q (swept_users c.in_ok-core.core c.sweep-swept.new.self q c.sweep-swept.ensures.leaves some) e after)
+
+pub returns-clause-lasts : goal.returns-clause-lasts
+returns-clause-lasts g c =
+    let bytes = g.D.Holder.bytes in
+    let told = bytes c.args.device.now in
+    let d = c.«open».new.device in
+    let d' = c.sweep-swept.new.device in
+    let mid = c.in_ok-core.core in
+    let new = c.sweep-swept.new.self in
+    let opened = opened_alike told (bytes d) c.args.schema mid c.«open».ensures.same c.in_ok-core.ensures.ok in
+    let begins = opened_begins told (bytes d') c.args.schema mid new opened c.sweep-swept.ensures.leaves
+    (λ q some. c.sweep-swept.ensures.used q some ∙ c.«open».ensures.same q) in
+    opened_lasts bytes g.D.Holder.may_leave g.met.D.Holder.may_stay c.args.device.now d d' mid new (opened_shape told c.args.schema told mid opened)
+    (begins.2.ledger, begins.2.files, begins.2.carries) c.sweep-swept.ensures.leaves c.in_ok-core.ensures.lasts
+    (λ q some. c.sweep-swept.ensures.used q some ∙ c.«open».ensures.same q) c.sweep-swept.ensures.crash

@@ -1,4 +1,9 @@
+use Rattle.cat_ledger.proofs.Lasting.{call_keeps, lets_left}
 use Rattle.cat_ledger.proofs.Made.{untouched}
+use Rattle.cat_ledger.proofs.Results.{on_ok, one_way}
+use Rattle.cat_ledger.specs.Lasting.{IsLasting}
+use Rattle.cat_ledger_model.specs.Replies.{IsLeft}
+use Rattle.cat_ledger_shape.specs.Ties.{Makes}
 use Rattle.cat_ledger.proofs.ledger.Ledger.commit.Goals as goal
 
 pub returns-in-Err-clause-err : goal.returns-in-Err-clause-err
@@ -8,3 +13,18 @@ returns-in-Err-clause-err g c =
 pub returns-then-next_generation-gt-LAST_NUMBER-clause-err : goal.returns-then-next_generation-gt-LAST_NUMBER-clause-err
 returns-then-next_generation-gt-LAST_NUMBER-clause-err g c =
     untouched (g.D.Holder.bytes c.args.self.now.device) c.args.self.now.core
+
+pub invariant_of-self : goal.invariant_of-self
+invariant_of-self g c =
+    let done = c.flush_and_commit in
+    one_way (IsLasting g.D.Holder.bytes g.D.Holder.may_leave done.new.device done.new.core)
+    (Makes IsLeft (g.D.Holder.bytes c.self.inside.device) c.self.inside.core (g.D.Holder.bytes done.new.device) done.new.core) done.result
+    (on_ok done.result (λ keeps. keeps c.self.invariant) done.ensures.lasts) done.ensures.err
+    (λ left. call_keeps g.D.Holder.bytes g.D.Holder.may_leave g.met.D.Holder.may_stay IsLeft lets_left c.self.inside.device done.new.device
+    c.self.inside.core done.new.core left (λ q old apart. done.ensures.crash q old) c.self.invariant)
+
+pub returns-clause-ok : goal.returns-clause-ok
+returns-clause-ok g c = rw (← c.self.view_is) c.flush_and_commit.ensures.ok
+
+pub returns-clause-err : goal.returns-clause-err
+returns-clause-err g c = rw (← c.self.view_is) c.flush_and_commit.ensures.err

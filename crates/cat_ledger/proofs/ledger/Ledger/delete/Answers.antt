@@ -1,7 +1,20 @@
-use Rattle.std.proofs.Common.{arith}
+use Rattle.std.proofs.Common.{◌≡◌, arith}
+use Rattle.cat_ledger.proofs.Lasting.{memory_keeps, same_needs}
 use Rattle.cat_ledger.proofs.Made.{written}
+use Rattle.cat_ledger_model.specs.Calls.{wrote}
 use Rattle.cat_model.specs.Write.{Write}
 use Rattle.cat_ledger.proofs.ledger.Ledger.delete.Goals as goal
 
+pub invariant_of-self-2 : goal.invariant_of-self-2
+invariant_of-self-2 g c =
+    let w = Write.delete c.args.id.now in
+    memory_keeps g.D.Holder.bytes g.D.Holder.may_leave g.met.D.Holder.may_stay (λ l l'. l' ≡ wrote l w) c.self.inside.device c.self.inside.core c.delete.new.self
+    (same_needs _ _ c.in_ok-delete.ensures.ok)
+    (written (g.D.Holder.bytes c.self.inside.device) c.self.inside.core c.delete.new.self w c.in_ok-delete.ensures.ok
+    (omega (arith, c.count.ensures.count, c.if-count-ge-LAST_NUMBER.false)) tt)
+    c.self.invariant
+
 pub returns-clause-ok : goal.returns-clause-ok
-returns-clause-ok g c = written (g.D.Holder.bytes c.args.self.now.device) c.args.self.now.core c.delete.new.self (Write.delete c.args.id.now) c.in_ok-delete.ensures.ok (omega (arith, c.count.ensures.count, c.if-count-ge-LAST_NUMBER.false)) tt
+returns-clause-ok g c =
+    rw (← c.self.view_is) (written (g.D.Holder.bytes c.self.inside.device) c.self.inside.core c.delete.new.self (Write.delete c.args.id.now)
+    c.in_ok-delete.ensures.ok (omega (arith, c.count.ensures.count, c.if-count-ge-LAST_NUMBER.false)) tt)

@@ -1,4 +1,27 @@
+use Rattle.cat_model.specs.Run.{Chore}
+use Rattle.cat_ledger_model.specs.Replies.{IsLeft, Maintains}
+use Rattle.cat_ledger_shape.specs.Ties.{Makes}
+use Rattle.cat_upkeep.specs.News.{news_of}
+use Rattle.cat_ledger.proofs.Lasting.{call_keeps, lets_left, lets_maintain}
+use Rattle.cat_ledger.proofs.Results.{either_way, if_ok}
+use Rattle.cat_ledger.specs.Lasting.{IsLasting}
 use Rattle.cat_ledger.proofs.ledger.Ledger.force.Goals as goal
 
+pub invariant_of-self : goal.invariant_of-self
+invariant_of-self g c =
+    let done = c.force in
+    let policy = c.self.inside.policy in
+    either_way (IsLasting g.D.Holder.bytes g.D.Holder.may_leave done.new.device done.new.core)
+    (Makes IsLeft (g.D.Holder.bytes c.self.inside.device) c.self.inside.core (g.D.Holder.bytes done.new.device) done.new.core) done.result
+    done.ensures.ok done.ensures.err
+    (λ news makes. call_keeps g.D.Holder.bytes g.D.Holder.may_leave g.met.D.Holder.may_stay (Maintains policy Chore.force (news_of news))
+    (lets_maintain policy Chore.force (news_of news)) c.self.inside.device done.new.device c.self.inside.core done.new.core (makes policy)
+    (λ q old apart. done.ensures.crash q old) c.self.invariant)
+    (λ left. call_keeps g.D.Holder.bytes g.D.Holder.may_leave g.met.D.Holder.may_stay IsLeft lets_left c.self.inside.device done.new.device
+    c.self.inside.core done.new.core left (λ q old apart. done.ensures.crash q old) c.self.invariant)
+
 pub returns-clause-ok : goal.returns-clause-ok
-returns-clause-ok g c = c.in_ok-news.ensures.ok c.args.self.now.policy
+returns-clause-ok g c = rw (← c.self.view_is) (if_ok _ _ c.force.result (λ news makes. makes c.self.inside.policy) c.force.ensures.ok)
+
+pub returns-clause-err : goal.returns-clause-err
+returns-clause-err g c = rw (← c.self.view_is) c.force.ensures.err

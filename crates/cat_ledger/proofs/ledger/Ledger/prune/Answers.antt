@@ -1,8 +1,17 @@
 use Rattle.std.proofs.Common.{refl}
+use Rattle.cat_ledger.proofs.Lasting.{memory_keeps, same_needs}
+use Rattle.cat_ledger_model.specs.Calls.{Pruned}
 use Rattle.cat_ledger_shape.proofs.Views.{prunes_make}
 use Rattle.cat_ledger.proofs.ledger.Ledger.prune.Goals as goal
 
+pub invariant_of-self-2 : goal.invariant_of-self-2
+invariant_of-self-2 g c =
+    let told = g.D.Holder.bytes c.self.inside.device in
+    memory_keeps g.D.Holder.bytes g.D.Holder.may_leave g.met.D.Holder.may_stay (Pruned c.args.count) c.self.inside.device c.self.inside.core c.prune.new.self
+    (same_needs _ _ c.in_ok-went.ensures.ok.rest)
+    (prunes_make c.args.count c.self.inside.core c.prune.new.self told told c.in_ok-went.ensures.ok (λ q. refl)) c.self.invariant
+
 pub returns-clause-ok : goal.returns-clause-ok
 returns-clause-ok g c =
-    prunes_make c.args.count c.args.self.now.core c.prune.new.self (g.D.Holder.bytes c.args.self.now.device) (g.D.Holder.bytes c.args.self.now.device)
-    c.in_ok-went.ensures.ok (λ q. refl)
+    let told = g.D.Holder.bytes c.self.inside.device in
+    rw (← c.self.view_is) (prunes_make c.args.count c.self.inside.core c.prune.new.self told told c.in_ok-went.ensures.ok (λ q. refl))

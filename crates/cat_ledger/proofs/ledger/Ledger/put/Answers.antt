@@ -1,6 +1,9 @@
 use Rattle.std.proofs.Common.{arith, subst, sym}
+use Rattle.cat_ledger.proofs.Lasting.{call_keeps, lets_left, lets_put}
 use Rattle.cat_ledger.proofs.Made.{room_left, untouched, written}
 use Rattle.cat_ledger_lines.proofs.JoinedCalls.{puts_make}
+use Rattle.cat_ledger_lines.specs.LineLaws.{Puts}
+use Rattle.cat_ledger_model.specs.Replies.{IsLeft}
 use Rattle.cat_model.specs.Item.{IsItem}
 use Rattle.cat_model.specs.Write.{Write}
 use Rattle.cat_ledger.proofs.ledger.Ledger.put.Goals as goal
@@ -11,17 +14,46 @@ returns-then-not-accepts-clause-err g c = untouched (g.D.Holder.bytes c.args.sel
 pub returns-then-count-ge-LAST_NUMBER-clause-err : goal.returns-then-count-ge-LAST_NUMBER-clause-err
 returns-then-count-ge-LAST_NUMBER-clause-err g c = untouched (g.D.Holder.bytes c.args.self.now.device) c.args.self.now.core
 
-pub returns-in-Ok-clause-ok : goal.returns-in-Ok-clause-ok
-returns-in-Ok-clause-ok g c =
-    let told = g.D.Holder.bytes c.args.self.now.device in
+pub invariant_of-self : goal.invariant_of-self
+invariant_of-self g c =
+    call_keeps g.D.Holder.bytes g.D.Holder.may_leave g.met.D.Holder.may_stay IsLeft lets_left c.self.inside.device c.make_room.new.device
+    c.self.inside.core c.make_room.new.core c.in-Err.ensures.err (λ q old apart. c.make_room.ensures.crash q old) c.self.invariant
+
+pub invariant_of-self-2 : goal.invariant_of-self-2
+invariant_of-self-2 g c =
+    let told = g.D.Holder.bytes c.self.inside.device in
     let told' = g.D.Holder.bytes c.make_room.new.device in
-    puts_make told told' told' c.args.self.now.core c.make_room.new.core c.put.new.self c.args.item c.in_default.ensures.ok
-    (written told' c.make_room.new.core c.put.new.self (Write.put c.args.item) c.in-Ok.ensures.ok
+    call_keeps g.D.Holder.bytes g.D.Holder.may_leave g.met.D.Holder.may_stay (Puts c.args.item) (lets_put c.args.item) c.self.inside.device
+    c.make_room.new.device c.self.inside.core c.put.new.self
+    (puts_make told told' told' c.self.inside.core c.make_room.new.core c.put.new.self c.args.item c.in_default.ensures.ok
+    (written told' c.make_room.new.core c.put.new.self (Write.put c.args.item) c.in_default-put.ensures.ok
     (omega (arith, c.in_default.ensures.count, c.count.ensures.count, c.if-count-ge-LAST_NUMBER.false))
     (subst (λ f. IsItem f c.args.item) (sym c.in_default.ensures.schema)
-    (subst (λ f. IsItem f c.args.item) c.schema.ensures (c.accepts.ensures.0 c.if-not-accepts.false))))
+    (subst (λ f. IsItem f c.args.item) c.schema.ensures (c.accepts.ensures.0 c.if-not-accepts.false)))))
+    (λ q old apart. c.make_room.ensures.crash q old) c.self.invariant
+
+pub returns-clause-ok : goal.returns-clause-ok
+returns-clause-ok g c =
+    let told = g.D.Holder.bytes c.self.inside.device in
+    let told' = g.D.Holder.bytes c.make_room.new.device in
+    rw (← c.self.view_is) (puts_make told told' told' c.self.inside.core c.make_room.new.core c.put.new.self c.args.item c.in_default.ensures.ok
+    (written told' c.make_room.new.core c.put.new.self (Write.put c.args.item) c.in_default-put.ensures.ok
+    (omega (arith, c.in_default.ensures.count, c.count.ensures.count, c.if-count-ge-LAST_NUMBER.false))
+    (subst (λ f. IsItem f c.args.item) (sym c.in_default.ensures.schema)
+    (subst (λ f. IsItem f c.args.item) c.schema.ensures (c.accepts.ensures.0 c.if-not-accepts.false)))))
+
+pub invariant_of-self-in-Err-put : goal.invariant_of-self-in-Err-put
+invariant_of-self-in-Err-put g c =
+    call_keeps g.D.Holder.bytes g.D.Holder.may_leave g.met.D.Holder.may_stay IsLeft lets_left c.self.inside.device c.make_room.new.device
+    c.self.inside.core c.put.new.self
+    (room_left (g.D.Holder.bytes c.self.inside.device) (g.D.Holder.bytes c.make_room.new.device) c.self.inside.core c.make_room.new.core
+    c.put.new.self c.in_default.ensures.ok c.in-Err-put.ensures.err)
+    (λ q old apart. c.make_room.ensures.crash q old) c.self.invariant
+
+pub returns-in-Err-clause-err : goal.returns-in-Err-clause-err
+returns-in-Err-clause-err g c = rw (← c.self.view_is) c.in-Err.ensures.err
 
 pub returns-in-Err-put-clause-err : goal.returns-in-Err-put-clause-err
 returns-in-Err-put-clause-err g c =
-    room_left (g.D.Holder.bytes c.args.self.now.device) (g.D.Holder.bytes c.make_room.new.device) c.args.self.now.core c.make_room.new.core
-    c.put.new.self c.in_default.ensures.ok c.in-Err-put.ensures.err
+    rw (← c.self.view_is) (room_left (g.D.Holder.bytes c.self.inside.device) (g.D.Holder.bytes c.make_room.new.device) c.self.inside.core
+    c.make_room.new.core c.put.new.self c.in_default.ensures.ok c.in-Err-put.ensures.err)

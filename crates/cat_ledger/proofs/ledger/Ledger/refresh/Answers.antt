@@ -1,6 +1,32 @@
+use Rattle.std.proofs.Common.{sym}
+use Rattle.cat_ledger_lines.specs.LineLaws.{Refreshes}
+use Rattle.cat_ledger_model.specs.Replies.{IsLeft}
+use Rattle.cat_ledger.proofs.Lasting.{call_keeps, lets_left, lets_refresh}
 use Rattle.cat_ledger.proofs.Made.{untouched}
 use Rattle.cat_ledger.proofs.ledger.Ledger.refresh.Goals as goal
 
 pub returns-then-is_refused-clause-err : goal.returns-then-is_refused-clause-err
 returns-then-is_refused-clause-err g c =
     untouched (g.D.Holder.bytes c.args.self.now.device) c.args.self.now.core
+
+pub invariant_of-self : goal.invariant_of-self
+invariant_of-self g c =
+    call_keeps g.D.Holder.bytes g.D.Holder.may_leave g.met.D.Holder.may_stay IsLeft lets_left c.self.inside.device c.flush_and_record.new.device
+    c.self.inside.core c.flush_and_record.new.core c.in-Err.ensures.err (λ q old apart. c.flush_and_record.ensures.crash q old) c.self.invariant
+
+pub invariant_of-self-2 : goal.invariant_of-self-2
+invariant_of-self-2 g c =
+    call_keeps g.D.Holder.bytes g.D.Holder.may_leave g.met.D.Holder.may_stay Refreshes lets_refresh c.self.inside.device c.flush_and_record.new.device
+    c.self.inside.core c.flush_and_record.new.core c.in_default.ensures.ok (λ q old apart. c.flush_and_record.ensures.crash q old) c.self.invariant
+
+pub returns-in-Err-clause-err : goal.returns-in-Err-clause-err
+returns-in-Err-clause-err g c = rw (← c.self.view_is) c.in-Err.ensures.err
+
+pub returns-clause-ok : goal.returns-clause-ok
+returns-clause-ok g c = rw (← c.self.view_is) c.in_default.ensures.ok
+
+pub returns-in-Err-clause-full : goal.returns-in-Err-clause-full
+returns-in-Err-clause-full g c = rw (← c.self.view_is) (λ no. absurd (no (sym c.if-is_refused.ensures)))
+
+pub returns-clause-full : goal.returns-clause-full
+returns-clause-full g c = rw (← c.self.view_is) (λ no. absurd (no (sym c.if-is_refused.ensures)))

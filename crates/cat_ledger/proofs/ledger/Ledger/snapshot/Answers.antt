@@ -1,8 +1,18 @@
 use Rattle.std.proofs.Common.{refl}
+use Rattle.cat_ledger.proofs.Lasting.{memory_keeps, same_needs}
+use Rattle.cat_ledger_model.specs.Calls.{Snaps}
 use Rattle.cat_ledger_shape.proofs.Committed.{snaps_make}
 use Rattle.cat_ledger.proofs.ledger.Ledger.snapshot.Goals as goal
 
+pub invariant_of-self-2 : goal.invariant_of-self-2
+invariant_of-self-2 g c =
+    let told = g.D.Holder.bytes c.self.inside.device in
+    let n = c.in_ok-generation.generation in
+    memory_keeps g.D.Holder.bytes g.D.Holder.may_leave g.met.D.Holder.may_stay (Snaps n) c.self.inside.device c.self.inside.core c.snapshot.new.self
+    (same_needs _ _ c.in_ok-generation.ensures.ok.rest)
+    (snaps_make n c.self.inside.core c.snapshot.new.self told told c.in_ok-generation.ensures.ok (λ q. refl)) c.self.invariant
+
 pub returns-clause-ok : goal.returns-clause-ok
 returns-clause-ok g c =
-    snaps_make c.in_ok-generation.generation c.args.self.now.core c.snapshot.new.self (g.D.Holder.bytes c.args.self.now.device)
-    (g.D.Holder.bytes c.args.self.now.device) c.in_ok-generation.ensures.ok (λ q. refl)
+    let told = g.D.Holder.bytes c.self.inside.device in
+    rw (← c.self.view_is) (snaps_make c.in_ok-generation.generation c.self.inside.core c.snapshot.new.self told told c.in_ok-generation.ensures.ok (λ q. refl))

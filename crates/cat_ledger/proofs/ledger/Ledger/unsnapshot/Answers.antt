@@ -1,8 +1,18 @@
-use Rattle.std.proofs.Common.{refl}
+use Rattle.std.proofs.Common.{◌∙◌, refl}
+use Rattle.cat_ledger.proofs.Lasting.{memory_keeps, newest_stays, same_needs}
+use Rattle.cat_ledger_model.specs.Calls.{Unsnapped}
 use Rattle.cat_ledger_shape.proofs.Committed.{unsnaps_make}
 use Rattle.cat_ledger.proofs.ledger.Ledger.unsnapshot.Goals as goal
 
+pub invariant_of-self-2 : goal.invariant_of-self-2
+invariant_of-self-2 g c =
+    let told = g.D.Holder.bytes c.self.inside.device in
+    memory_keeps g.D.Holder.bytes g.D.Holder.may_leave g.met.D.Holder.may_stay (Unsnapped c.args.generation) c.self.inside.device c.self.inside.core
+    c.unsnapshot.new.self
+    (same_needs _ _ c.in_ok-left.ensures.ok.rest ∙ newest_stays c.unsnapshot.new.self.taken c.self.inside.core.commits)
+    (unsnaps_make c.args.generation c.self.inside.core c.unsnapshot.new.self told told c.in_ok-left.ensures.ok (λ q. refl)) c.self.invariant
+
 pub returns-clause-ok : goal.returns-clause-ok
 returns-clause-ok g c =
-    unsnaps_make c.args.generation c.args.self.now.core c.unsnapshot.new.self (g.D.Holder.bytes c.args.self.now.device) (g.D.Holder.bytes c.args.self.now.device)
-    c.in_ok-left.ensures.ok (λ q. refl)
+    let told = g.D.Holder.bytes c.self.inside.device in
+    rw (← c.self.view_is) (unsnaps_make c.args.generation c.self.inside.core c.unsnapshot.new.self told told c.in_ok-left.ensures.ok (λ q. refl))

@@ -1,0 +1,12 @@
+use Rattle.std.proofs.Common.{sym}
+use Rattle.cat_ledger.proofs.Lasting.{kept_still, let_go_carried, same_needs}
+use Rattle.cat_ledger.proofs.ledger.Ledger.release.Goals as goal
+
+pub invariant_of-self : goal.invariant_of-self
+invariant_of-self g c =
+    let s = c.self.inside.core in
+    let s' = c.let_go-had.new.self in
+    kept_still g.D.Holder.bytes g.D.Holder.may_leave g.met.D.Holder.may_stay c.self.inside.device c.self.inside.device s s'
+    (let_go_carried c.self.inside.policy (g.D.Holder.bytes c.self.inside.device) s s' c.args.session c.token-token.result
+    (sym c.if-not-is_held_by.ensures) c.let_go-had.ensures.released c.self.invariant.carried)
+    (same_needs _ _ c.let_go-had.ensures.released) (λ q needed e might. might) c.self.invariant

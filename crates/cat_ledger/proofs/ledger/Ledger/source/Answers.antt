@@ -1,0 +1,7 @@
+use Rattle.cat_ledger.proofs.Lasting.{reading_keeps}
+use Rattle.cat_ledger.proofs.ledger.Ledger.source.Goals as goal
+
+pub invariant_of-self : goal.invariant_of-self
+invariant_of-self g c =
+    reading_keeps g.D.Holder.bytes g.D.Holder.may_leave g.met.D.Holder.may_stay c.self.inside.device c.read_source.new.shelf c.self.inside.core
+    c.read_source.ensures.same c.read_source.ensures.crash c.self.invariant

@@ -1,0 +1,53 @@
+use Rattle.std.proofs.Common.{◌≡◌, ◌∙◌, Some, false, true, sym, ap, subst}
+use Rattle.std.proofs.lemmas.List.Elements.{All-contains}
+use Rattle.std.proofs.lemmas.Result.{err_from_is_err_and}
+use Rattle.std.specs.List.{HoldsAt, list_any, flat_map}
+use Rattle.cat_model.specs.View.{live_rows}
+use Rattle.cat_directory.specs.declared.name.FileName.TheVariants as file
+use Rattle.cat_search.specs.Sources.{IsLiveRowOf, has_id, has_live}
+use Rattle.cat_search.proofs.Stored.{none_stored, none_long, read_is, length-at, is_whole, not_cut}
+use Rattle.cat_ledger.proofs.reading.read_source.Goals as goal
+
+pub returns-in_default-clause-ok : goal.returns-in_default-clause-ok
+returns-in_default-clause-ok g c = λ files tells.
+    let leaves = c.leaves.ensures.value in
+    sym (none_stored files c.args.id.now c.args.view.now.leaves (subst (λ ls. list_any (has_id c.args.id.now) (flat_map live_rows ls) ≡ false) leaves c.in_default.ensures))
+
+pub returns-in_default-clause-whole : goal.returns-in_default-clause-whole
+returns-in_default-clause-whole g c =
+    let leaves = c.leaves.ensures.value in
+    sym (none_long c.args.id.now c.args.view.now.leaves (subst (λ ls. list_any (has_id c.args.id.now) (flat_map live_rows ls) ≡ false) leaves c.in_default.ensures))
+
+pub returns-clause-ok : goal.returns-clause-ok
+returns-clause-ok g c = λ files tells.
+    let told = g.S.Holder.bytes c.args.shelf.now in
+    let leaf = c.in-Some.leaf.now in
+    let leaves = c.leaves.ensures.value in
+    let is = subst (λ ls. IsLiveRowOf c.args.id.now ls leaf c.in-Some.row) leaves c.in-Some.ensures in
+    let tell = All-contains (λ l. has_live c.args.id.now l ≡ true → told (file.Source l.segment.number) ≡ Some (Some (files l.segment.number))) c.args.view.now.leaves leaf tells is.among is.has in
+    let number = c.number.ensures ∙ ap (λ s. s.number) c.segment-segment.ensures in
+    let read = c.in_ok-read.ensures.ok (files leaf.segment.number) (ap (λ n. told (file.Source n)) number ∙ tell) in
+    ap Some (read_is files leaf c.segment-segment.result.now c.in-Some.row c.source_offset-offset.result c.source_length.result c.in_ok-read.field-0.items c.segment-segment.ensures is.within c.source_offset-offset.ensures c.source_length.ensures read.1)
+    ∙ sym (is.source files)
+
+pub returns-clause-whole : goal.returns-clause-whole
+returns-clause-whole g c =
+    let leaf = c.in-Some.leaf.now in
+    let leaves = c.leaves.ensures.value in
+    let is = subst (λ ls. IsLiveRowOf c.args.id.now ls leaf c.in-Some.row) leaves c.in-Some.ensures in
+    let long = length-at leaf.segment.rows c.in-Some.row c.source_length.result is.within (subst (λ s. HoldsAt (λ r. r.length ≡ c.source_length.result) s.rows c.in-Some.row) c.segment-segment.ensures c.source_length.ensures) in
+    ap Some (c.in_ok-read.ensures.len ∙ sym long) ∙ sym is.long
+
+pub returns-in_err-read-clause-damaged : goal.returns-in_err-read-clause-damaged
+returns-in_err-read-clause-damaged g c =
+    let p = err_from_is_err_and c.from_residual.result c.from_residual.ensures.1 in
+    rw (p.1, p.2) (λ e files tells holds.
+    let told = g.S.Holder.bytes c.args.shelf.now in
+    let leaf = c.in-Some.leaf.now in
+    let leaves = c.leaves.ensures.value in
+    let is = subst (λ ls. IsLiveRowOf c.args.id.now ls leaf c.in-Some.row) leaves c.in-Some.ensures in
+    let tell = All-contains (λ l. has_live c.args.id.now l ≡ true → told (file.Source l.segment.number) ≡ Some (Some (files l.segment.number))) c.args.view.now.leaves leaf tells is.among is.has in
+    let number = c.number.ensures ∙ ap (λ s. s.number) c.segment-segment.ensures in
+    let short = c.in_err-read.ensures.damaged e (files leaf.segment.number) (ap (λ n. told (file.Source n)) number ∙ tell) in
+    not_cut files leaf c.segment-segment.result.now c.in-Some.row c.source_offset-offset.result c.source_length.result c.segment-segment.ensures is.within is.some c.source_offset-offset.ensures c.source_length.ensures
+    (is_whole files c.args.id.now c.args.view.now.leaves leaf c.in-Some.row is holds) short)
