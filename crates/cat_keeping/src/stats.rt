@@ -34,7 +34,10 @@ fn segments_of(
 }
 
 /// How the service stands. No set of rows is cached.
-fn stat_of_ledger<D: Directory + Shelf>(alloc: Global, ledger: &Ledger<D>) -> Result<Stat, AllocError>
+fn stat_of_ledger<D: Directory + Shelf>(
+    alloc: Global,
+    ledger: &Ledger<D>,
+) -> Result<Stat, AllocError>
     ensures { IfOk result (λ stat. stat_of stat ≡ stat_in (shape_in ledger.now)) }
 {
     let told = ledger.stat()?;

@@ -26,7 +26,11 @@ use cat_schema::{Item, id_ok};
 use std::alloc::Global;
 
 /// The item that the text is under the ledger's schema.
-fn read_item<D: Directory + Shelf>(alloc: Global, ledger: &Ledger<D>, text: &str) -> Result<Item, Refusal>
+fn read_item<D: Directory + Shelf>(
+    alloc: Global,
+    ledger: &Ledger<D>,
+    text: &str,
+) -> Result<Item, Refusal>
     ensures ok { IfOk result (λ i. item_of (shape_in ledger.now).schema text.now ≡ Ok i) }
     ensures typed { IfOk result (λ i. IsItem (shape_in ledger.now).schema i) }
     ensures err { IfErr result (λ e. e ≢ Memory → item_of (shape_in ledger.now).schema text.now ≡ Err e) }
@@ -36,7 +40,11 @@ fn read_item<D: Directory + Shelf>(alloc: Global, ledger: &Ledger<D>, text: &str
 }
 
 /// The query that the text spells under the ledger's schema.
-fn read_query<D: Directory + Shelf>(alloc: Global, ledger: &Ledger<D>, text: &str) -> Result<Query, Refusal>
+fn read_query<D: Directory + Shelf>(
+    alloc: Global,
+    ledger: &Ledger<D>,
+    text: &str,
+) -> Result<Query, Refusal>
     ensures ok { IfOk result (λ q. Spells (shape_in ledger.now).schema text.now (query_of q)) }
     ensures err { IfErr result (λ e. e ≢ Memory → (place : ℕ) × (e ≡ NoQuery place) × Fault (shape_in ledger.now).schema text.now place) }
     ensures due { (place : ℕ) → Fault (shape_in ledger.now).schema text.now place → result ≡ Err (NoQuery place) }
