@@ -14,7 +14,7 @@ use Rattle.cat_ledger_lines.specs.StayLaws.{changes_holds}
 use Rattle.cat_ledger_lines.proofs.KeptCalls.{held_views_stay, holds_stay, schema_stays}
 use Rattle.cat_ledger.specs.Answering.{AnswersSaid}
 use Rattle.cat_ledger.specs.Ledgers.{device_in, policy_in, shape_in}
-use Rattle.cat_ledger.specs.declared.ledger.Ledger.{Ledger}
+use Rattle.cat_ledger.specs.Ledgers.{Ledger}
 use Rattle.cat_holding.specs.Holding.{AreRights}
 use Rattle.cat_holding.proofs.Counted.{rights_kept}
 use Rattle.cat_world.specs.Lines.{Does}

@@ -7,7 +7,7 @@ use Rattle.cat_ledger_model.specs.Stored.{FileBytes}
 use Rattle.cat_ledger_shape.specs.Shapes.{Shape}
 use Rattle.cat_ledger_shape.specs.Ties.{ToldFiles, Carries}
 use Rattle.cat_ledger.specs.Ledgers.{device_in, policy_in, shape_in}
-use Rattle.cat_ledger.specs.declared.ledger.Ledger.{Ledger}
+use Rattle.cat_ledger.specs.Ledgers.{Ledger}
 use Rattle.cat_holding.specs.Holding.{AreRights}
 
 -- a ledger, and the rights to its views
