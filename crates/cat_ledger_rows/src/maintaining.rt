@@ -85,7 +85,10 @@ pub(crate) fn sweep<D: Directory + Shelf>(
 }
 
 /// How many writes there were, items wait and views are recorded, the segments, and how many files are pending.
-pub(crate) fn stat<D: Directory + Shelf>(alloc: Global, ledger: &Ledger<D>) -> Result<String, Refusal> {
+pub(crate) fn stat<D: Directory + Shelf>(
+    alloc: Global,
+    ledger: &Ledger<D>,
+) -> Result<String, Refusal> {
     let stat = ledger.stat()?;
     let standing = standing(alloc, &stat)?;
     let standing = standing.as_str();
@@ -94,7 +97,10 @@ pub(crate) fn stat<D: Directory + Shelf>(alloc: Global, ledger: &Ledger<D>) -> R
 }
 
 /// The same without the files.
-pub(crate) fn standing_of<D: Directory + Shelf>(alloc: Global, ledger: &Ledger<D>) -> Result<String, Refusal> {
+pub(crate) fn standing_of<D: Directory + Shelf>(
+    alloc: Global,
+    ledger: &Ledger<D>,
+) -> Result<String, Refusal> {
     let stat = ledger.stat()?;
     Ok(standing(alloc, &stat)?)
 }

@@ -1,4 +1,5 @@
 pub mod Names
+pub mod Outlasted
 pub mod Kept
 pub mod ReadAnswers
 pub mod Begun

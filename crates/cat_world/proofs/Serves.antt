@@ -14,6 +14,7 @@ use Rattle.cat_model.specs.Table.{Opened}
 use Rattle.cat_model.specs.Text.{Text}
 use Rattle.cat_model.proofs.Runs.{runs_go_on}
 use Rattle.cat_schema.specs.Reading.{json}
+use Rattle.cat_directory.specs.Devices.{FileContent}
 use Rattle.cat_directory.specs.declared.name.FileName.{FileName}
 use Rattle.cat_ledger_shape.specs.Shapes.{Shape}
 use Rattle.cat_ledger_shape.specs.Ties.{ToldFiles}
@@ -23,9 +24,10 @@ use Rattle.cat_serving.specs.Machine.{IsAnswered, Steps, opened_text, short_line
 use Rattle.cat_serving.specs.Serving.{EndsBy, IsRefused, LeadsTo, RefusedAt}
 use Rattle.cat_serving.specs.declared.machine.Stage.{Stage}
 use Rattle.cat_serving.specs.declared.machine.Unopened.{Unopened}
+use Rattle.cat_world.proofs.Outlasted.{newest_outlasts}
 use Rattle.cat_world.specs.Opening.{BeginsIn, HasSchemaText, OpensIn, OpensWorld}
-use Rattle.cat_world.specs.Promises.{LeavesFiles, LeavesPromised}
-use Rattle.cat_world.specs.Serving.{AreLike, Changes, IsLike, IsServedIn, OpensIfShort, ServesIn, SparesRefused, StepsIfShort, TellsAll, device_at}
+use Rattle.cat_world.specs.Promises.{LeavesFiles, LeavesPromised, WorldLasts}
+use Rattle.cat_world.specs.Serving.{AreLike, Changes, IsLike, IsServedIn, OpensIfShort, ServesIn, SparesRefused, StageLasts, StepsIfShort, TellsAll, device_at}
 use Rattle.cat_world.specs.Worlds.{Service, device_of, shape_of}
 
 -- ---- lines that are too long
@@ -44,7 +46,7 @@ counted told s from stands = ap (λ (x : Shape). x.count) (sym stands.carries.sh
 
 -- ---- one world
 
-module _ {D : Type 0} (bytes : D → ToldFiles) where
+module _ {D : Type 0} (bytes : D → ToldFiles) (may_leave : D → FileName → FileContent → Type 0) where
   -- what the machine does with a line that may be too long, the world does with the line
   line_if_short : (old new : Service D) (line : Text) (told : Outcome) (b : Bool) → nat_lt 10000 (length line) ≡ b
       → StepsIfShort bytes old (if b then None else Some line) told new
@@ -79,31 +81,37 @@ module _ {D : Type 0} (bytes : D → ToldFiles) where
     pub alike : AreLike outcomes fitting
     pub same : TellsAll bytes → outcomes ≡ fitting
     pub files : AllByRecursion TellsFiles outcomes
-    pub promised : LeavesPromised bytes left from (past ++ filter_map exchange fitting)
+    pub promised : LeavesPromised bytes may_leave left from (past ++ filter_map exchange fitting)
 
   -- the files stand that are promised
-  promise : (w : Service D) (from : Opened) (run : Run) → Stands (bytes (device_of w)) (shape_of w) from run → LeavesPromised bytes (device_of w) from run
-  promise w from run stands = record { users = (shape_of w).users; stand = promised_files_stand (bytes (device_of w)) (shape_of w) from run stands }
+  promise : (w : Service D) (from : Opened) (run : Run) → WorldLasts bytes may_leave w → Stands (bytes (device_of w)) (shape_of w) from run
+      → LeavesPromised bytes may_leave (device_of w) from run
+  promise w from run lasts stands = record {
+    users = (shape_of w).users;
+    stand = promised_files_stand (bytes (device_of w)) (shape_of w) from run stands;
+    outlasts = λ tells.
+        newest_outlasts (bytes (device_of w)) (may_leave (device_of w)) (shape_of w) from run (tells (device_of w)) (lasts tells) stands;
+  }
 
   -- the lines that the machine steps through are heard, and their exchanges go on with the run so far
   steps_go : (from : Opened) (past : Run) (old new : Service D) (lines : List Text) (outcomes : List Outcome)
-      → (shape_of old).schema ≡ from.start.schema → IsRun from past → Stands (bytes (device_of old)) (shape_of old) from past
+      → WorldLasts bytes may_leave new → (shape_of old).schema ≡ from.start.schema → IsRun from past → Stands (bytes (device_of old)) (shape_of old) from past
       → Steps (StepsIfShort bytes) old (map short_line lines) outcomes new → Goes from past lines outcomes (device_of new)
-  steps_go from past old new [] [] fields run stands s = record {
+  steps_go from past old new [] [] lasts fields run stands s = record {
     fitting = [];
     heard_all = tt;
     is_run = subst (IsRun from) (sym (append-nil past)) run;
     alike = tt;
     same = λ tells. refl;
     files = tt;
-    promised = subst (λ w. LeavesPromised bytes (device_of w) from (past ++ [])) (sym s)
-        (subst (LeavesPromised bytes (device_of old) from) (sym (append-nil past)) (promise old from past stands));
+    promised = subst (λ w. LeavesPromised bytes may_leave (device_of w) from (past ++ [])) (sym s)
+        (subst (LeavesPromised bytes may_leave (device_of old) from) (sym (append-nil past)) (promise old from past (subst (WorldLasts bytes may_leave) s lasts) stands));
   }
-  steps_go from past old new [] (told ∷ outcomes) fields run stands s = absurd s
-  steps_go from past old new (line ∷ lines) [] fields run stands s = absurd s
-  steps_go from past old new (line ∷ lines) (Outcome.unreadable ∷ outcomes) fields run stands (mid, step, steps) =
+  steps_go from past old new [] (told ∷ outcomes) lasts fields run stands s = absurd s
+  steps_go from past old new (line ∷ lines) [] lasts fields run stands s = absurd s
+  steps_go from past old new (line ∷ lines) (Outcome.unreadable ∷ outcomes) lasts fields run stands (mid, step, steps) =
       let here = line_if_short old mid line Outcome.unreadable (nat_lt 10000 (length line)) refl step in
-      let rest = steps_go from past mid new lines outcomes (ap (λ w. (shape_of w).schema) here.1 ∙ fields) run
+      let rest = steps_go from past mid new lines outcomes lasts (ap (λ w. (shape_of w).schema) here.1 ∙ fields) run
       (subst (λ w. Stands (bytes (device_of w)) (shape_of w) from past) (sym here.1) stands) steps in record {
         fitting = Outcome.unreadable ∷ rest.fitting;
         heard_all = (subst (λ schema. Hears json schema line Heard.unreadable) fields here.0, rest.heard_all);
@@ -113,11 +121,11 @@ module _ {D : Type 0} (bytes : D → ToldFiles) where
         files = (tt, rest.files);
         promised = rest.promised;
       }
-  steps_go from past old new (line ∷ lines) (Outcome.replied e ∷ outcomes) fields run stands (mid, step, steps) =
+  steps_go from past old new (line ∷ lines) (Outcome.replied e ∷ outcomes) lasts fields run stands (mid, step, steps) =
       let here = line_if_short old mid line (Outcome.replied e) (nat_lt 10000 (length line)) refl step in
       let next = here.1.2 from past (sym fields) run stands in
       let fit : Exchange = record { line = e.line; reply = next.0 } in
-      let rest = steps_go from (past ++ fit ∷ []) mid new lines outcomes (here.1.0 ∙ fields) (runs_go_on from past fit run next.2) next.3 steps in record {
+      let rest = steps_go from (past ++ fit ∷ []) mid new lines outcomes lasts (here.1.0 ∙ fields) (runs_go_on from past fit run next.2) next.3 steps in record {
         fitting = Outcome.replied fit ∷ rest.fitting;
         heard_all = (subst (λ schema. Hears json schema line (Heard.a_line e.line)) fields here.0, rest.heard_all);
         is_run = subst (IsRun from) (append_assoc past (fit ∷ []) (filter_map exchange rest.fitting)) rest.is_run;
@@ -127,17 +135,17 @@ module _ {D : Type 0} (bytes : D → ToldFiles) where
             (next.1.same (λ q. tells (device_of old) q)) (rest.same tells);
         files = (here.1.1, rest.files);
         promised =
-            subst (LeavesPromised bytes (device_of new) from) (append_assoc past (fit ∷ []) (filter_map exchange rest.fitting)) rest.promised;
+            subst (LeavesPromised bytes may_leave (device_of new) from) (append_assoc past (fit ∷ []) (filter_map exchange rest.fitting)) rest.promised;
       }
 
   -- ---- the world serves
 
   answered_in : (device : D) (first : Text) (lines : List Text) (text : Text)
       → (a : IsAnswered (OpensIfShort bytes device) (StepsIfShort bytes) (λ w. (shape_of w).count) first lines text)
-      → IsServedIn bytes device (device_of a.left) first lines text
-  answered_in device first lines text a =
+      → WorldLasts bytes may_leave a.left → IsServedIn bytes may_leave device (device_of a.left) first lines text
+  answered_in device first lines text a lasts =
       let opening = opening_if_short device first a.opened (nat_lt 10000 (length first)) a.begins in
-      let goes = steps_go opening.0 [] a.opened a.left lines a.outcomes opening.2 tt opening.3 a.steps in record {
+      let goes = steps_go opening.0 [] a.opened a.left lines a.outcomes lasts opening.2 tt opening.3 a.steps in record {
         from = opening.0;
         begins = opening.1;
         tolds = a.outcomes;
@@ -157,7 +165,7 @@ module _ {D : Type 0} (bytes : D → ToldFiles) where
 
   -- ---- the stage that is left
 
-  module _ (device : D) (stage : Stage (Service D) D) where
+  module _ (device : D) (stage : Stage (Service D) D) (lasts : StageLasts bytes may_leave stage) where
     abbrev leads_to : List Text → Text → Type 0
     leads_to = LeadsTo (OpensIfShort bytes) (StepsIfShort bytes) (λ w. (shape_of w).count) device stage
 
@@ -165,7 +173,7 @@ module _ {D : Type 0} (bytes : D → ToldFiles) where
     refused_at = RefusedAt (OpensIfShort bytes) device stage
 
     abbrev served : Text → List Text → Text → Type 0
-    served = IsServedIn bytes device (device_at stage)
+    served = IsServedIn bytes may_leave device (device_at stage)
 
     abbrev refuses : Text → Refusal → Type 0
     refuses first e = BeginsIn (bytes device) first (Err e)
@@ -173,7 +181,8 @@ module _ {D : Type 0} (bytes : D → ToldFiles) where
     some_answer : (lines : List Text) (text : Text) → leads_to lines text → Answered served lines text
     some_answer [] text so = so.1
     some_answer (first ∷ lines) text so =
-        subst (λ d. IsServedIn bytes device d first lines text) (sym (ap device_at so.1)) (answered_in device first lines text so.0)
+        subst (λ d. IsServedIn bytes may_leave device d first lines text) (sym (ap device_at so.1))
+        (answered_in device first lines text so.0 (subst (StageLasts bytes may_leave) so.1 lasts))
 
     some_refusal : (lines : List Text) (e : Refusal) → refused_at lines e → Refused refuses lines e
     some_refusal [] e so = so.1
@@ -188,7 +197,7 @@ module _ {D : Type 0} (bytes : D → ToldFiles) where
 
     -- What is served by a world's machine is served as is promised.
     pub served_in : (input left before after : Option Text) (r : Result (Unit {0}) Ending) → EndsBy leads_to refused_at input left before after r
-        → ServesIn bytes device (device_at stage) input left before after r
+        → ServesIn bytes may_leave device (device_at stage) input left before after r
     served_in input left before after (Ok u) so = (so.0, so.1, so.2, so.3, some_answer (lines_of so.0) so.3 so.4, so.5)
     served_in input left before after (Err Ending.schema) so = (so.0, so.1, so.2, so.3, so.4, some_refusal so.2 so.4 so.5, so.6)
     served_in input left before after (Err Ending.read) so = (so.0, so.1, so.2, some_answer (ended_lines so.0) so.2 so.3, so.4)

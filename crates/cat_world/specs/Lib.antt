@@ -1,5 +1,6 @@
 pub mod Worlds
 pub mod Named
+pub mod Outlasting
 pub mod Promises
 pub mod Lines
 pub mod Opening

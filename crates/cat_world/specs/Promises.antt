@@ -2,11 +2,14 @@
 use Rattle.std.specs.Prelude.{◌≡◌, List}
 use Rattle.cat_model.specs.Run.{Run}
 use Rattle.cat_model.specs.Table.{Opened}
+use Rattle.cat_directory.specs.Devices.{FileContent}
 use Rattle.cat_directory.specs.declared.name.FileName.{FileName}
+use Rattle.cat_ledger.specs.Lasting.{AlwaysTells, NewestLasts}
 use Rattle.cat_ledger_model.specs.Users.{Used}
 use Rattle.cat_ledger_shape.specs.Ties.{ToldFiles}
 use Rattle.cat_ledger_lines.specs.NeededLaws.{PromisedStand}
 use Rattle.cat_ledger_lines.specs.RunLaws.{Stands}
+use Rattle.cat_world.specs.Outlasting.{NewestOutlasts}
 use Rattle.cat_world.specs.Worlds.{Service, device_of, shape_of}
 
 -- Whatever run led here, the files stand of each token that is recorded, also by a session's hold, and of each commit that is kept, also
@@ -16,11 +19,18 @@ KeepsPromises bytes w =
     (from : Opened) (run : Run) → Stands (bytes (device_of w)) (shape_of w) from run
     → PromisedStand (bytes (device_of w)) (shape_of w).users from run
 
--- So they stand in a device that is left, for those who had them last.
-pub record LeavesPromised {D : Type 0} (bytes : D → ToldFiles) (left : D) (from : Opened) (run : Run) : Type 0 where
+-- So they stand in a device that is left, for those who had them last; and on devices that always tell of their files, the newest commit
+-- outlasts a crash. The first two arguments say what a device tells, and what a crash may leave.
+pub record LeavesPromised {D : Type 0} (bytes : D → ToldFiles) (may_leave : D → FileName → FileContent → Type 0) (left : D) (from : Opened)
+    (run : Run) : Type 0 where
   pub users : List Used
   pub stand : PromisedStand (bytes left) users from run
+  pub outlasts : AlwaysTells bytes → NewestOutlasts (bytes left) (may_leave left) users from run
 
 -- each file is told as it was
 abbrev pub LeavesFiles : {D : Type 0} → (D → ToldFiles) → D → D → Type 0
 LeavesFiles bytes device left = (q : FileName) → bytes left q ≡ bytes device q
+
+-- A crash leaves the files of the newest commit that memory keeps, on devices that always tell of their files.
+abbrev pub WorldLasts : {D : Type 0} → (D → ToldFiles) → (D → FileName → FileContent → Type 0) → Service D → Type 0
+WorldLasts bytes may_leave w = AlwaysTells bytes → NewestLasts (bytes (device_of w)) (may_leave (device_of w)) (shape_of w)

@@ -11,6 +11,7 @@ use Rattle.cat_model.specs.Served.{Ending, HeardAll, NamesFiles, Outcome, Serves
 use Rattle.cat_model.specs.Table.{Opened}
 use Rattle.cat_model.specs.Text.{Text}
 use Rattle.cat_schema.specs.Reading.{json}
+use Rattle.cat_directory.specs.Devices.{FileContent}
 use Rattle.cat_directory.specs.declared.name.FileName.{FileName}
 use Rattle.cat_ledger_shape.specs.Ties.{ToldFiles}
 use Rattle.cat_ledger_lines.specs.RunLaws.{AreAlike, IsStep}
@@ -18,7 +19,7 @@ use Rattle.cat_serving.specs.declared.machine.Stage.{Stage}
 use Rattle.cat_serving.specs.declared.machine.Stage.TheVariants.{Waiting, Refused, Open}
 use Rattle.cat_serving.specs.declared.machine.Unopened.{Unopened}
 use Rattle.cat_world.specs.Opening.{BeginsIn, OpensWorld}
-use Rattle.cat_world.specs.Promises.{LeavesFiles, LeavesPromised}
+use Rattle.cat_world.specs.Promises.{LeavesFiles, LeavesPromised, WorldLasts}
 use Rattle.cat_world.specs.Worlds.{Service, device_of, shape_of}
 
 -- ---- as a machine
@@ -64,8 +65,9 @@ TellsAll {D = D} bytes = (device : D) (q : FileName) → bytes device q ≢ None
 -- alone are told as names, and the replies to unreadable lines between. On devices that don't tell of their files, the text of a stored
 -- item may be another one of its length than the one that fits; on those that do, all that is told fits. In the directory that is left,
 -- the files stand of each token that is recorded at the end of the run, also by a session's hold, and of each commit that is kept, also
--- by a snapshot.
-pub record IsServedIn {D : Type 0} (bytes : D → ToldFiles) (device left : D) (first : Text) (lines : List Text) (text : Text) : Type 0 where
+-- by a snapshot; and a crash leaves the files of the newest commit.
+pub record IsServedIn {D : Type 0} (bytes : D → ToldFiles) (may_leave : D → FileName → FileContent → Type 0) (device left : D) (first : Text)
+    (lines : List Text) (text : Text) : Type 0 where
   pub from : Opened
   pub begins : BeginsIn (bytes device) first (Ok from)
   pub tolds : List Outcome
@@ -75,14 +77,14 @@ pub record IsServedIn {D : Type 0} (bytes : D → ToldFiles) (device left : D) (
   pub alike : AreLike tolds fitting
   pub same : TellsAll bytes → tolds ≡ fitting
   pub files : AllByRecursion TellsFiles tolds
-  pub promised : LeavesPromised bytes left from (filter_map exchange fitting)
+  pub promised : LeavesPromised bytes may_leave left from (filter_map exchange fitting)
   pub whole : text ≡ line_text (codes "OK" ∷ decimal from.start.token ∷ []) ++ flat_map outcome_text tolds
 
 -- What is written answers the lines that were read: it is the text of a run that fits them, from where the directory is opened; and
--- another directory is left. The first argument says what a device tells of its files.
-abbrev pub ServesIn : {D : Type 0} → (D → ToldFiles) → (device left : D) → (input rest before after : Option Text)
-    → Result (Unit {0}) Ending → Type 0
-ServesIn bytes device left = ServesBy (IsServedIn bytes device left) (λ first e. BeginsIn (bytes device) first (Err e))
+-- another directory is left. The first two arguments say what a device tells of its files, and what a crash may leave of them.
+abbrev pub ServesIn : {D : Type 0} → (D → ToldFiles) → (D → FileName → FileContent → Type 0) → (device left : D)
+    → (input rest before after : Option Text) → Result (Unit {0}) Ending → Type 0
+ServesIn bytes may_leave device left = ServesBy (IsServedIn bytes may_leave device left) (λ first e. BeginsIn (bytes device) first (Err e))
 
 -- where the schema line is refused, each file is told as it was
 abbrev pub SparesRefused : {D : Type 0} → (D → ToldFiles) → (device left : D) → Result (Unit {0}) Ending → Type 0
@@ -94,3 +96,9 @@ abbrev pub device_at : {D : Type 0} → Stage (Service D) D → D
 device_at (Waiting device) = device
 device_at (Refused device) = device
 device_at (Open w) = device_of w
+
+-- a crash leaves the files of the newest commit of a world that stands open
+abbrev pub StageLasts : {D : Type 0} → (D → ToldFiles) → (D → FileName → FileContent → Type 0) → Stage (Service D) D → Type 0
+StageLasts bytes may_leave (Waiting device) = Unit {0}
+StageLasts bytes may_leave (Refused device) = Unit {0}
+StageLasts bytes may_leave (Open w) = WorldLasts bytes may_leave w

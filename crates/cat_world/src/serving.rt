@@ -1,7 +1,7 @@
 //! Lines that are served over a directory.
 ghost use Rattle.std.specs.Prelude.{◌≡◌};
 ghost use Rattle.cat_serving.specs.Serving.{ended_as};
-ghost use Rattle.cat_world.specs.Serving.{ServesIn, SparesRefused, device_at};
+ghost use Rattle.cat_world.specs.Serving.{ServesIn, SparesRefused, StageLasts, device_at};
 
 use crate::world::World;
 use cat_directory::{Directory, Shelf};
@@ -20,12 +20,16 @@ pub struct Left<D> {
 
 /// The directory of the stage. A world that stands open ends.
 fn device_left<D: Directory + Shelf>(stage: Stage<World<D>, D>) -> D
-    ensures { result ≡ device_at stage }
+    ensures device { result ≡ device_at stage }
+    ensures lasts { StageLasts D.bytes D.may_leave stage }
 {
     match stage {
         Stage::Waiting(device) => device,
         Stage::Refused(device) => device,
-        Stage::Open(world) => world.end(),
+        Stage::Open(world) => {
+            world.newest_lasts();
+            world.end()
+        }
     }
 }
 
@@ -34,8 +38,8 @@ fn device_left<D: Directory + Shelf>(stage: Stage<World<D>, D>) -> D
 ///
 /// What it writes is the text of a run that fits the lines, and nothing else; where a directory doesn't tell of its files, the
 /// text of a stored item alone may be another of that length. In the directory that is left stand the files of every token that
-/// the run has recorded, held ones too, and of every commit that it keeps, with the table of each. Where the schema line is
-/// refused, the files are as they were. It flushes before each read, so that a client which waits for a
+/// the run has recorded, held ones too, and of every commit that it keeps, with the table of each; and a crash leaves those of
+/// the newest commit, where the directory tells of its files. Where the schema line is refused, the files are as they were. It flushes before each read, so that a client which waits for a
 /// reply has it. Its two buffers are taken before the first line is read, and replies are written without taking memory. The
 /// reader is called at most 4,294,967,295 times.
 pub fn serve<D: Directory + Shelf, R: Read, W: Write>(
@@ -44,7 +48,7 @@ pub fn serve<D: Directory + Shelf, R: Read, W: Write>(
     reader: &mut R,
     writer: &mut W,
 ) -> Left<D>
-    ensures served { ServesIn D.bytes device result.device (R.remaining reader.old) (R.remaining reader.new)
+    ensures served { ServesIn D.bytes D.may_leave device result.device (R.remaining reader.old) (R.remaining reader.new)
         (W.contents writer.old) (W.contents writer.new) (ended_as result.ended) }
     ensures spared { SparesRefused D.bytes device result.device (ended_as result.ended) }
 {

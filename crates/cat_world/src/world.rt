@@ -1,5 +1,6 @@
 //! The world: a ledger, and the rights that its sessions have.
 ghost use Rattle.std.specs.Prelude.{◌≡◌};
+ghost use Rattle.cat_world.specs.Promises.{WorldLasts};
 ghost use Rattle.cat_world.specs.Worlds.{device_of, shape_of};
 
 use cat_base::WriteNo;
@@ -52,6 +53,16 @@ impl<D: Directory + Shelf> World<D> {
         ensures { result.now ≡ (shape_of self.now).schema }
     {
         self.ledger.schema()
+    }
+
+    /// What always holds of it, for a caller's proof; it does nothing. A crash at this moment leaves each file of the newest
+    /// commit byte for byte as the directory tells of it, where such directories always tell of their files.
+    ///
+    /// Lucene's `IndexWriter.commit`, whose changes survive a crash of the system.
+    pub fn newest_lasts(&self)
+        ensures { WorldLasts D.bytes D.may_leave self.now }
+    {
+        self.ledger.newest_lasts();
     }
 
     /// Ends it: each right goes back to the ledger, and the directory is given out with its files as they stand. What waits,

@@ -4,14 +4,14 @@ use Rattle.cat_world.proofs.serving.serve.Goals as goal
 
 pub returns-clause-served : goal.returns-clause-served
 returns-clause-served g c =
-    rw c.device_left.ensures (
-    served_in g.D.Holder.bytes c.args.device c.serve_machine-served.result.stage _ _ _ _ (ended_as c.serve_machine-served.result.ended)
+    rw c.device_left.ensures.device (
+    served_in g.D.Holder.bytes g.D.Holder.may_leave c.args.device c.serve_machine-served.result.stage c.device_left.ensures.lasts _ _ _ _ (ended_as c.serve_machine-served.result.ended)
     c.serve_machine-served.ensures.ends
     )
 
 pub returns-clause-spared : goal.returns-clause-spared
 returns-clause-spared g c =
-    rw c.device_left.ensures (
-    spared_in g.D.Holder.bytes c.args.device c.serve_machine-served.result.stage _ _ _ _ (ended_as c.serve_machine-served.result.ended)
+    rw c.device_left.ensures.device (
+    spared_in g.D.Holder.bytes g.D.Holder.may_leave c.args.device c.serve_machine-served.result.stage c.device_left.ensures.lasts _ _ _ _ (ended_as c.serve_machine-served.result.ended)
     c.serve_machine-served.ensures.ends
     )

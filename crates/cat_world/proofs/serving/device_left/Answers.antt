@@ -1,0 +1,4 @@
+use Rattle.cat_world.proofs.serving.device_left.Goals as goal
+
+pub returns-in-Open-clause-lasts : goal.returns-in-Open-clause-lasts
+returns-in-Open-clause-lasts g c = rw c.in-Open.is c.newest_lasts.ensures
