@@ -29,6 +29,7 @@ from .errors import (
     UsageError,
     WrongKind,
 )
+from .folders import fields_of
 from .query import EVERYTHING, NOTHING, Query, all_of, any_of, between, none_of, prefix, quote, term, words
 from .view import FacetCount, Facets, Hit, Page, View
 
@@ -76,6 +77,7 @@ __all__ = [
     "all_of",
     "any_of",
     "between",
+    "fields_of",
     "none_of",
     "prefix",
     "quote",

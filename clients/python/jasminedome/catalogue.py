@@ -69,7 +69,10 @@ class Stat:
 
 @dataclass(frozen=True)
 class Snapshot:
-    """A commit that is kept, by its generation; `files` are the names of its files, in byte order."""
+    """A commit that is kept, by its generation; `files` are the names of its files, its own first.
+
+    A copy of these files in another folder, made while the snapshot stands, opens at that commit.
+    """
 
     generation: int
     files: Tuple[str, ...]
@@ -282,7 +285,7 @@ class Catalogue:
         return Stat(writes, buffered, recorded, cached, pending, segments)
 
     def _steps(self, command: str) -> List[str]:
-        told = []
+        told: List[str] = []
         while not told or told[-1] != "idle":
             told.append(self.ask(command, session=UPKEEP)[0])
         return told

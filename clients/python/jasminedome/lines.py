@@ -50,92 +50,90 @@ def reading() -> Iterator[None]:
         raise BadReply(f"no reply of the protocol: {error}") from None
 
 
-class Reply:
-    """The reply that one line waits for: its first line, and as many more as `more` says for what follows OK."""
+class _Awaited:
+    """Lines of replies that somebody waits for: so many as are wanted, or an error."""
 
-    def __init__(self, session: Optional[int], more: Callable[[str], int]) -> None:
-        self._head = b"" if session is None else b"%d " % session
-        self._more = more
-        self._wanted = 1
+    def __init__(self, wanted: int) -> None:
+        self._wanted = wanted
         self._lines: List[bytes] = []
         self._error: Optional[JasminedomeError] = None
-        self._done = threading.Event()
+        # Held until the replies are there. A bare lock, since an event costs a sixth of a round trip.
+        self._pending = threading.Lock()
+        self._pending.acquire()
 
     def take(self, lines: Sequence[bytes], start: int) -> int:
-        """Takes what is its own of the lines from `start` on, and answers the index of the first that isn't."""
-        while start < len(lines) and len(self._lines) < self._wanted:
-            self._lines.append(lines[start])
-            start += 1
-            if len(self._lines) == 1:
-                self._wanted += self._more_lines(self._lines[0])
-        if len(self._lines) == self._wanted:
-            self._done.set()
-        return start
+        """Takes what is its own of the lines from `start` on, and answers the index of the first that isn't.
 
-    @property
-    def is_whole(self) -> bool:
-        """Whether all of it has come."""
-        return len(self._lines) == self._wanted
-
-    def fail(self, error: JasminedomeError) -> None:
-        """Ends the wait with an exception."""
-        self._error = error
-        self._done.set()
-
-    def wait(self) -> List[str]:
-        """The texts behind the session's number, the first one's without its OK.
-
-        Raises the Refusal that came, ProgramEnded, or BadReply.
+        Isn't called any more once all of its lines have come.
         """
-        self._done.wait()
-        if self._error is not None:
-            raise self._error
-        first = self._lines[0]
-        if not first.startswith(self._head + b"OK"):
-            raise read_refusal(first)
-        skipped = len(self._head)
-        return [first[skipped + 3 :].decode(), *(later[skipped:].decode() for later in self._lines[1:])]
-
-    def _more_lines(self, first: bytes) -> int:
-        if first.startswith(self._head + b"OK "):
-            return self._more(first[len(self._head) + 3 :].decode())
-        read_refusal(first)  # raises BadReply where it is none
-        return 0
-
-
-class Replies:
-    """The replies of one line each that a batch of lines waits for."""
-
-    def __init__(self, count: int) -> None:
-        self._count = count
-        self._lines: List[bytes] = []
-        self._error: Optional[JasminedomeError] = None
-        self._done = threading.Event()
-
-    def take(self, lines: Sequence[bytes], start: int) -> int:
-        """Takes what is its own of the lines from `start` on, and answers the index of the first that isn't."""
-        end = min(len(lines), start + self._count - len(self._lines))
+        end = min(len(lines), start + self._wanted - len(self._lines))
         self._lines.extend(lines[start:end])
         if self.is_whole:
-            self._done.set()
+            self._pending.release()
         return end
 
     @property
     def is_whole(self) -> bool:
-        """Whether all of them have come."""
-        return len(self._lines) == self._count
+        """Whether all of its lines have come."""
+        return len(self._lines) == self._wanted
 
     def fail(self, error: JasminedomeError) -> None:
-        """Ends the wait with an exception."""
+        """Ends the wait with an exception, where not all of its lines have come."""
         self._error = error
-        self._done.set()
+        self._pending.release()
 
-    def wait(self) -> List[bytes]:
-        """The lines of the replies as they came. Raises ProgramEnded or BadReply."""
-        self._done.wait()
+    def _arrived(self) -> List[bytes]:
+        self._pending.acquire()
         if self._error is not None:
             raise self._error
         return self._lines
+
+
+class Reply(_Awaited):
+    """The reply that one line waits for: its first line, and as many more as `more` says for what follows OK."""
+
+    def __init__(self, session: Optional[int], more: Callable[[str], int]) -> None:
+        super().__init__(1)
+        self._head = b"" if session is None else b"%d " % session
+        self._more = more
+
+    def take(self, lines: Sequence[bytes], start: int) -> int:
+        """As `_Awaited.take`. Raises BadReply where the first line is none of a reply to this session."""
+        if not self._lines:
+            self._wanted += self._more_lines(lines[start])
+        return super().take(lines, start)
+
+    def wait(self) -> List[str]:
+        """The texts behind the session's number, the first one's without its OK. To be called once.
+
+        Raises the Refusal that came, ProgramEnded, or BadReply.
+        """
+        first, *more = self._arrived()
+        if not first.startswith(self._head + b"OK"):
+            raise read_refusal(first)
+        skipped = len(self._head)
+        for later in more:
+            if not later.startswith(self._head):
+                raise BadReply(f"no further line of a reply: {later[:200]!r}")
+        with reading():
+            return [first[skipped + 3 :].decode(), *(later[skipped:].decode() for later in more)]
+
+    def _more_lines(self, first: bytes) -> int:
+        if not first.startswith(self._head + b"OK "):
+            read_refusal(first)  # raises BadReply where it is none
+            return 0
+        more = self._more(first[len(self._head) + 3 :].decode())
+        if more < 0:
+            raise BadReply(f"no reply of the protocol: {first[:200]!r}")
+        return more
+
+
+class Replies(_Awaited):
+    """The replies of one line each that a batch of lines waits for."""
+
+    def wait(self) -> List[bytes]:
+        """The lines of the replies as they came. To be called once. Raises ProgramEnded or BadReply."""
+        return self._arrived()
 
 
 def read_refusal(first: bytes) -> Refusal:
@@ -159,7 +157,8 @@ class Program:
         self._said = tempfile.TemporaryFile()
         try:
             self._child = subprocess.Popen(
-                list(command), stdin=subprocess.PIPE, stdout=subprocess.PIPE, stderr=self._said, bufsize=0
+                list(command), stdin=subprocess.PIPE, stdout=subprocess.PIPE, stderr=self._said, bufsize=0,
+                start_new_session=True,  # an interrupt at the terminal is for the caller, who may want to commit first
             )
         except OSError as error:
             self._said.close()

@@ -1,6 +1,7 @@
 """A plain stand-in for the program: the whole line protocol over lists in memory, merges and files only as far as replies go.
 
-With the argument `swift` every line behind the first is answered as an accepted PUT, without being read: for speed.
+With the arguments `run FOLDER` a commit is kept there: a file with the head of a commit's, and beside it one in JSON that
+no other program reads. With the argument `swift` every line behind the first is answered as an accepted PUT, without being read: for speed.
 """
 
 import json
@@ -14,6 +15,7 @@ import query_grammar
 ID = re.compile(rb"[!-~]{1,64}\Z")
 NUMBER = re.compile(r"(0|[1-9][0-9]*)\Z")
 KINDS = ("text", "keyword", "number", "facet")
+FILE_KINDS = {"text": 1, "keyword": 2, "number": 3, "facet": 4}
 CONTROL = re.compile(r"[\x00-\x1f\x7f]")
 
 
@@ -74,9 +76,49 @@ def check_value(kind, value):
             raise No(13)
 
 
+class Folder:
+    """Where commits are kept; without a path they aren't."""
+
+    def __init__(self, path=None):
+        if path is not None and not os.path.isdir(path):
+            raise No(30)
+        self.path = path
+
+    def file(self, name, mode):
+        return open(os.path.join(self.path, name), mode)
+
+    def newest(self):
+        """The number of the newest commit and what it holds, or 0 and None."""
+        names = [name for name in os.listdir(self.path or ".") if name.startswith("segments_")] if self.path else []
+        newest = max((int(name.partition("_")[2]) for name in names), default=0)
+        if not newest:
+            return 0, None
+        with self.file(f"fake_{newest}.json", "r") as file:
+            return newest, json.load(file)
+
+    def keep(self, generation, text, fake):
+        if self.path is None:
+            return
+        if not os.path.isdir(self.path):
+            raise No(30)
+        with self.file(f"fake_{generation}.json", "w") as file:
+            json.dump([fake.fields, fake.writes, list(fake.table.items()), text], file)
+        spelled = [b"CSGM\2", generation.to_bytes(8, "big"), fake.writes.to_bytes(8, "big"), (1).to_bytes(8, "big")]
+        spelled += [len(text.encode()).to_bytes(4, "big"), text.encode(), len(fake.fields).to_bytes(4, "big")]
+        for name, kind in sorted(fake.fields.items()):
+            spelled += [len(name).to_bytes(4, "big"), name.encode(), bytes([FILE_KINDS[kind]])]
+        with self.file(f"segments_{generation}", "wb") as file:
+            file.write(b"".join([*spelled, bytes(4)]))
+
+    def drop(self, generation):
+        if self.path is not None:
+            os.remove(os.path.join(self.path, f"segments_{generation}"))
+
+
 class Fake:
-    def __init__(self, fields):
+    def __init__(self, fields, folder=None):
         self.fields = fields
+        self.folder = Folder(folder)
         self.table = {}  # id: (number, item, source), in the order of addition
         self.writes = 0
         self.records = {0: []}
@@ -84,6 +126,14 @@ class Fake:
         self.commits = {}
         self.snapshots = Counter()
         self.merging = []  # what the next MERGE lines answer
+        generation, kept = self.folder.newest()
+        if kept:
+            if kept[0] != fields:
+                raise No(13)
+            self.writes = kept[1]
+            self.table = {name: tuple(record) for name, record in kept[2]}
+            self.commits = {generation: kept[3]}
+            self.records = {self.writes: list(self.table.values())}
 
     def answer(self, session, line):
         command, *_ = line.split(" ", 1)
@@ -223,7 +273,7 @@ class Fake:
         if what == "t":
             names = ["_1.seg", "_1.sto"] if self.held(session, number(which)) else []
         elif number(which) in self.commits:
-            names = ["_1.seg", "_1.sto", f"segments_{which}"]
+            names = [f"segments_{which}", f"fake_{which}.json"]
         else:
             raise No(26)
         return [len(names), *names]
@@ -235,6 +285,9 @@ class Fake:
             raise No(13)
         generation = max(self.commits, default=0) + 1
         kept = {g: note for g, note in self.commits.items() if self.snapshots[g]}
+        self.folder.keep(generation, text, self)
+        for gone in self.commits.keys() - kept.keys():
+            self.folder.drop(gone)
         self.commits = {**kept, generation: text}
         return [generation]
 
@@ -246,6 +299,8 @@ class Fake:
     def do_snap(self, _):
         if not self.commits:
             raise No(26)
+        if self.snapshots[max(self.commits)] == 65_535:
+            raise No(16)
         self.snapshots[max(self.commits)] += 1
         return [max(self.commits)]
 
@@ -316,13 +371,14 @@ def main():
     source = sys.stdin.buffer if "swift" not in sys.argv else open(0, "rb", buffering=0, closefd=False)
     out = sys.stdout.buffer
     try:
-        fake = Fake(read_schema(source.readline().decode().rstrip("\n")))
+        folder = sys.argv[sys.argv.index("run") + 1] if "run" in sys.argv[:-1] else None
+        fake = Fake(read_schema(source.readline().decode().rstrip("\n")), folder)
     except No as no:
         out.write(b"NO %d\n" % no.args[0])
         out.flush()
         sys.stderr.write("schema refused\n")
         return 2
-    out.write(b"OK 0\n")
+    out.write(b"OK %d\n" % fake.writes)
     out.flush()
     if "swift" in sys.argv:
         answer_swiftly()

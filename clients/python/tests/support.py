@@ -1,6 +1,5 @@
 """Which program the tests start, and what they share. JASMINEDOME_PROGRAM names the real one; else it is the fake."""
 
-import contextlib
 import os
 import shlex
 import sys
@@ -35,13 +34,3 @@ class ShopTest(unittest.TestCase):
     def setUp(self):
         self.shop = shop()
         self.addCleanup(self.shop.close)
-
-    @contextlib.contextmanager
-    def served(self):
-        """Skips the test where the real program doesn't serve a command yet."""
-        try:
-            yield
-        except jasminedome.BadLine:
-            if REAL:
-                self.skipTest("the program doesn't serve this command yet")
-            raise

@@ -64,8 +64,7 @@ class Writes(support.ShopTest):
 
     def test_delete_where(self):
         self.shop.put_many([{"id": "a", "price": 1}, {"id": "b", "price": 2}, {"id": "c"}])
-        with self.served():
-            self.assertEqual(self.shop.delete_where(between("price", 2, None)), 4)
+        self.assertEqual(self.shop.delete_where(between("price", 2, None)), 4)
         self.assertRaises(jasminedome.BadQuery, self.shop.delete_where, "price:x")
         self.shop.refresh()
         with self.shop.open() as view:
@@ -138,7 +137,7 @@ class Views(support.ShopTest):
         self.assertEqual(again.find().total, 4)
 
     def test_facets(self):
-        with self.shop.open() as view, self.served():
+        with self.shop.open() as view:
             self.assertEqual(view.facets("color").counts, (FacetCount("red", 2), FacetCount("blue", 1)))
             self.assertEqual((view.facets("color", "*:*", 1).labels, view.facets("color").matching), (2, 2))
             self.assertEqual(view.facets("color", count=1).counts, (FacetCount("red", 2),))
@@ -146,19 +145,18 @@ class Views(support.ShopTest):
             self.assertRaises(UsageError, view.facets, "color 9 *:*")
 
     def test_stored_items(self):
-        with self.shop.open() as view, self.served():
+        with self.shop.open() as view:
             self.assertEqual(view.get("b"), {"id": "b", "color": ["red"]})
             self.assertEqual(view.source("b"), '{"id":"b","color":["red"]}')
             self.assertIsNone(view.get("z"))
             self.assertRaises(jasminedome.BadId, view.get, "a b")
 
     def test_files(self):
-        with self.shop.open() as view, self.served():
+        with self.shop.open() as view:
             self.assertIn("_1.seg", view.files())
 
     def test_prune(self):
-        with self.served():
-            self.assertEqual(self.shop.prune(1), 1)
+        self.assertEqual(self.shop.prune(1), 1)
         self.assertRaises(jasminedome.TokenGone, self.shop.open, 0)
 
     def test_64_held_tokens(self):
@@ -175,8 +173,7 @@ class Views(support.ShopTest):
 
 class Upkeep(support.ShopTest):
     def test_commits(self):
-        with self.served():
-            self.assertEqual(self.shop.commit("spring"), 1)
+        self.assertEqual(self.shop.commit("spring"), 1)
         self.assertEqual(self.shop.note(1), "spring")
         self.assertRaises(jasminedome.TooLarge, self.shop.commit, "x" * 257)
         self.assertRaises(jasminedome.WrongKind, self.shop.commit, "\t")
@@ -189,14 +186,12 @@ class Upkeep(support.ShopTest):
         self.assertRaises(jasminedome.NoCommit, self.shop.note, 1)
 
     def test_no_commit_no_snapshot(self):
-        with self.served():
-            with self.assertRaises(jasminedome.NoCommit):
-                with self.shop.snapshot():
-                    self.fail("there is no commit")
+        with self.assertRaises(jasminedome.NoCommit):
+            with self.shop.snapshot():
+                self.fail("there is no commit")
 
     def test_upkeep(self):
-        with self.served():
-            stat = self.shop.stat()
+        stat = self.shop.stat()
         self.assertEqual((stat.writes, stat.recorded, stat.segments), (0, 1, ()))
         self.assertFalse(self.shop.force())
         self.shop.put({"id": "a"})

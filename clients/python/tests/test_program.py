@@ -3,7 +3,6 @@
 import gc
 import itertools
 import os
-import random
 import signal
 import sys
 import threading
@@ -13,7 +12,7 @@ import unittest
 import support  # first: it finds the package
 
 import jasminedome
-from jasminedome import BadReply, ProgramEnded, UsageError, term
+from jasminedome import BadReply, ProgramEnded, UsageError
 
 
 class Replies(unittest.TestCase):
@@ -45,8 +44,9 @@ class Replies(unittest.TestCase):
         for reply in ("1 OK x", "1 OK ", "1 OK 1 2"):
             with support.scripted(reply) as shop:
                 self.assertRaises(BadReply, shop.open)
-        for replies in (("1 OK 1", "1 OK x 1"), ("1 OK 1", "1 OK 1 x\n1 1 a ."), ("1 OK 1", "1 OK 1 1\n1 1 a"), ("1 OK 1",)):
-            with support.scripted(*replies) as shop, shop.open() as view:
+        finds = ("1 OK x 1", "1 OK 1 x\n1 1 a .", "1 OK 1 1\n1 1 a", "1 OK 1 1\n2 1 a .", "1 OK -1 1")
+        for replies in (*((find,) for find in finds), ()):
+            with support.scripted("1 OK 1", *replies) as shop, shop.open() as view:
                 self.assertRaises((BadReply, ProgramEnded), view.find)
 
     def test_a_reply_in_pieces(self):
@@ -99,6 +99,30 @@ class Ends(unittest.TestCase):
                 self.assertFalse(thread.is_alive())
         self.assertEqual([type(error) for error in errors], [ProgramEnded] * 3)
 
+    def test_a_child_killed_under_eight_threads(self):
+        with support.shop() as shop:
+            errors = []
+            begun = threading.Barrier(9)
+
+            def call():
+                begun.wait()
+                while True:
+                    shop.put({"id": "a", "price": 1})
+                    shop.refresh()
+                    with shop.open() as view:
+                        view.find(sort="+price")
+
+            threads = [threading.Thread(target=self.catch, args=(call, errors)) for _ in range(8)]
+            for thread in threads:
+                thread.start()
+            begun.wait()
+            time.sleep(0.3)
+            os.kill(shop.pid, signal.SIGKILL)
+            for thread in threads:
+                thread.join(20)
+                self.assertFalse(thread.is_alive())
+        self.assertEqual([(type(error), error.status) for error in errors], [(ProgramEnded, -signal.SIGKILL)] * 8)
+
     def catch(self, call, errors):
         try:
             call()
@@ -147,52 +171,6 @@ class Threads(support.ShopTest):
             thread.start()
             thread.join()
         self.assertLess(next(self.shop._sessions._fresh), 5)
-
-    def test_many_threads_see_what_they_wrote(self):
-        failures = []
-        threads = [threading.Thread(target=self.work, args=(f"t{n}", failures)) for n in range(8)]
-        for thread in threads:
-            thread.start()
-        for thread in threads:
-            thread.join()
-        self.assertEqual(failures, [])
-
-    def work(self, name, failures):
-        """1,250 random operations over items of a brand of its own, held against a dictionary."""
-        chance = random.Random(name)
-        model = {}
-        views = []
-        try:
-            for _ in range(1_250):
-                what = chance.random()
-                id = f"{name}-{chance.randrange(12)}"
-                if what < 0.4:
-                    price = chance.randrange(100)
-                    self.shop.put({"id": id, "brand": name, "price": price})
-                    model[id] = price
-                elif what < 0.6:
-                    self.shop.delete(id)
-                    model.pop(id, None)
-                elif what < 0.65:
-                    many = {f"{name}-{n}": n for n in range(chance.randrange(12))}
-                    self.shop.put_many({"id": id, "brand": name, "price": price} for id, price in many.items())
-                    model.update(many)
-                elif what < 0.75 and len(views) < 5:
-                    self.shop.refresh()
-                    views.append((self.shop.open(), dict(model)))
-                elif views:
-                    self.look(chance, name, *chance.choice(views))
-                    if len(views) == 5:
-                        views.pop(chance.randrange(5))
-        except BaseException as error:
-            failures.append(repr(error))
-            raise
-
-    def look(self, chance, name, view, model):
-        pages = view.pages(term("brand", name), sort="+price", count=chance.randrange(1, 14))
-        hits = [hit for page in pages for hit in page.hits]
-        if {hit.id: hit.key for hit in hits} != model or [hit.key for hit in hits] != sorted(model.values()):
-            raise AssertionError((hits, model))
 
 
 class Speed(unittest.TestCase):

@@ -1,0 +1,75 @@
+"""What a folder says of itself: the fields of its newest commit, which whoever opens it has to name.
+
+Reads the file of the commit, `segments_<g>`, as docs/FORMATS.md lays it out, up to its fields and no further: whether
+the rest is whole, the program says.
+"""
+
+from __future__ import annotations
+
+import os
+import re
+from pathlib import Path
+from typing import BinaryIO, Dict, Optional, Union
+
+from .errors import Damaged
+
+Folder = Union[str, "os.PathLike[str]"]
+
+_COMMIT = re.compile(r"segments_([1-9][0-9]{0,18})\Z", re.ASCII)
+_KINDS = {1: "text", 2: "keyword", 3: "number", 4: "facet"}
+_MAX_FIELDS = 32
+_MAX_NAME = 32
+_MAX_TEXT = 256
+
+
+def fields_of(folder: Folder) -> Optional[Dict[str, str]]:
+    """The fields and kinds under which the folder's newest commit was made; None where it has no commit.
+
+    Raises Damaged where the commit's file isn't one, and OSError where the folder can't be read.
+    """
+    found = filter(None, (_COMMIT.match(name) for name in os.listdir(folder)))
+    newest = max((int(match.group(1)) for match in found), default=0)
+    if not newest:
+        return None
+    with open(Path(folder, f"segments_{newest}"), "rb") as file:
+        return _read_fields(file, newest)
+
+
+def _read_fields(file: BinaryIO, generation: int) -> Dict[str, str]:
+    if _take(file, 4) != b"CSGM":
+        raise Damaged()
+    version = _number(file, 1)
+    if version not in (1, 2) or _number(file, 8) != generation:
+        raise Damaged()
+    _take(file, 16)  # the token, and the number of the next segment
+    if version == 2:
+        _bytes(file, _MAX_TEXT)
+    count = _number(file, 4)
+    if count > _MAX_FIELDS:
+        raise Damaged()
+    fields = {}
+    for _ in range(count):
+        name = _bytes(file, _MAX_NAME)
+        kind = _KINDS.get(_number(file, 1))
+        if kind is None or not name.isascii():
+            raise Damaged()
+        fields[name.decode()] = kind
+    return fields
+
+
+def _take(file: BinaryIO, size: int) -> bytes:
+    data = file.read(size)
+    if len(data) != size:
+        raise Damaged()
+    return data
+
+
+def _number(file: BinaryIO, size: int) -> int:
+    return int.from_bytes(_take(file, size), "big")
+
+
+def _bytes(file: BinaryIO, most: int) -> bytes:
+    size = _number(file, 4)
+    if size > most:
+        raise Damaged()
+    return _take(file, size)
