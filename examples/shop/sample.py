@@ -63,8 +63,8 @@ def items() -> Iterator[Dict[str, object]]:
 
 
 def item(id: str, title: str, kind: str, brand: str, colors: List[str], price: int) -> Dict[str, object]:
-    """One item; `words` is all by which a visitor may look for it, and the price is in cents."""
-    words = " ".join([title, brand, kind, *colors])
+    """One item; `words` is all by which a visitor may look for it, in small letters, and the price is in cents."""
+    words = " ".join([title, brand, kind, *colors]).lower()
     return {"id": id, "title": title, "words": words, "kind": [kind], "brand": [brand], "color": colors, "price": price}
 
 

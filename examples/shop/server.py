@@ -7,7 +7,7 @@ from decimal import Decimal, InvalidOperation
 from http import HTTPStatus
 from http.server import BaseHTTPRequestHandler, ThreadingHTTPServer
 from pathlib import Path
-from typing import Dict, List, Optional, Tuple
+from typing import Callable, Dict, List, Optional, Tuple
 from urllib.parse import parse_qs, urlsplit
 
 from page import Form, address, page, price_text
@@ -23,6 +23,7 @@ _NUMBER = re.compile(r"[0-9]{1,9}\Z", re.ASCII)
 _MAX_FORM = 10_000  # bytes
 _MAX_TYPED = 200
 _MAX_LABELS = 8  # of a group, so that no query gets too many clauses
+_MAX_LABEL = 128  # bytes, as the program has it
 _MAX_PRICE = Decimal(1_000_000)
 
 
@@ -54,7 +55,7 @@ class Handler(BaseHTTPRequestHandler):
         """The page, a file of it, or the newest token."""
         asked = urlsplit(self.path)
         if asked.path == "/":
-            self._page(parse_qs(asked.query))
+            self._answer(lambda: self._page(parse_qs(asked.query)))
         elif asked.path == "/newest":
             self._send(HTTPStatus.OK, "text/plain", str(self.server.store.newest).encode(), "no-store")
         elif asked.path in FILES:
@@ -70,7 +71,14 @@ class Handler(BaseHTTPRequestHandler):
         elif not _NUMBER.match(size) or int(size) > _MAX_FORM:
             self.send_error(HTTPStatus.REQUEST_ENTITY_TOO_LARGE)
         else:
-            self._change(parse_qs(self.rfile.read(int(size)).decode(errors="replace"), keep_blank_values=True))
+            asked = parse_qs(self.rfile.read(int(size)).decode(errors="replace"), keep_blank_values=True)
+            self._answer(lambda: self._change(asked))
+
+    def _answer(self, answer: Callable[[], None]) -> None:
+        try:
+            answer()
+        except JasminedomeError as error:
+            self.send_error(HTTPStatus.SERVICE_UNAVAILABLE, explain=str(error))
 
     def _page(self, asked: Dict[str, List[str]], form: Optional[Form] = None, said: str = "") -> None:
         store = self.server.store
@@ -147,7 +155,7 @@ def _done(asked: Dict[str, List[str]]) -> str:
 def _wish(asked: Dict[str, List[str]]) -> Wish:
     chosen: List[Tuple[str, Tuple[str, ...]]] = []
     for group in GROUPS:
-        labels = tuple(dict.fromkeys(each for each in asked.get(group, []) if each.isprintable()))[:_MAX_LABELS]
+        labels = tuple(dict.fromkeys(each for each in asked.get(group, []) if _is_label(each)))[:_MAX_LABELS]
         chosen += [(group, labels)] if labels else []
     price, sort, number = (_one(asked, name) for name in ("price", "sort", "page"))
     return Wish(
@@ -159,12 +167,16 @@ def _wish(asked: Dict[str, List[str]]) -> Wish:
     )
 
 
+def _is_label(text: str) -> bool:
+    return text.isprintable() and len(text.encode(errors="replace")) <= _MAX_LABEL
+
+
 def _item(values: Dict[str, str]) -> Dict[str, object]:
     try:
         price = Decimal(values["price"].replace(",", "."))
     except InvalidOperation:
         raise Refused("the price is no number") from None
-    if not 0 <= price < _MAX_PRICE or price != round(price, 2):
+    if not price.is_finite() or not 0 <= price < _MAX_PRICE or price != round(price, 2):
         raise Refused("the price isn't one in euros and cents")
     if not values["title"]:
         raise Refused("the title is missing")

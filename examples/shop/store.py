@@ -48,7 +48,8 @@ class Wish:
 
     def query(self, without: str = "") -> Query:
         """What is looked for, but for the choice in one group: by the others it is told what that group could give."""
-        parts = [prefix("words", word) for word in _WORD.findall(self.typed)[:_WORDS]]
+        # The program takes A and a for one letter; of letters past ASCII both sides are made small here.
+        parts = [prefix("words", word) for word in _WORD.findall(self.typed.lower())[:_WORDS]]
         parts += [any_of(*(term(group, label) for label in labels)) for group, labels in self.chosen if group != without]
         if self.price and without != "price":
             parts.append(between("price", *PRICES[self.price]))
