@@ -87,8 +87,9 @@ class Catalogue:
     environment variable JASMINEDOME_PROGRAM is asked, and then `catalogue` on the PATH.
 
     Any thread may call: each speaks under a session of its own, and so does each open view, 9,999 in all. A call
-    raises the Refusal that the program answers (those that it names, and `BadLine` where the program doesn't serve
-    the command yet), ProgramEnded where the program is gone, and UsageError for what can't be sent.
+    raises the Refusal that the program answers (those that it names), ProgramEnded where the program is gone, and
+    UsageError for what can't be sent. The program is in a session of its own, so that an interrupt at the terminal
+    doesn't end it.
     """
 
     def __init__(

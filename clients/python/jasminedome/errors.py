@@ -50,10 +50,10 @@ class Refusal(JasminedomeError):
 
 
 class BadLine(Refusal):
-    """10: the line has no form, or it is a command that the program doesn't serve yet."""
+    """10: the line has no form, as a schema line with a factor or a least number of rows out of range."""
 
     number = 10
-    text = "the line has no form, or the program doesn't serve this command yet"
+    text = "the line has no form"
 
 
 class BadJson(Refusal):

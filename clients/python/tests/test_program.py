@@ -85,7 +85,7 @@ class Ends(unittest.TestCase):
             view.close()
 
     def test_a_child_killed_in_mid_call(self):
-        code = "import sys,time\nprint('OK 0', flush=True)\nsys.stdin.readline()\ntime.sleep(600)"
+        code = "import sys,time\nsys.stdin.readline()\nprint('OK 0', flush=True)\nsys.stdin.readline()\ntime.sleep(600)"
         with jasminedome.Catalogue({}, program=[sys.executable, "-c", code]) as shop:
             errors = []
             calls = [lambda: shop.put({"id": "a"}), lambda: shop.put_many([{"id": "a" * 60}] * 100_000), shop.open]
