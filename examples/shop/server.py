@@ -66,13 +66,19 @@ class Handler(BaseHTTPRequestHandler):
     def do_POST(self) -> None:
         """A change by the staff, from this page and no other."""
         size = self.headers.get("Content-Length", "")
-        if self.path != "/staff" or self.headers.get("Origin") not in (None, self.server.origin):
+        if self.path != "/staff" or not self._comes_from_here():
             self.send_error(HTTPStatus.FORBIDDEN)
         elif not _NUMBER.match(size) or int(size) > _MAX_FORM:
             self.send_error(HTTPStatus.REQUEST_ENTITY_TOO_LARGE)
         else:
             asked = parse_qs(self.rfile.read(int(size)).decode(errors="replace"), keep_blank_values=True)
             self._answer(lambda: self._change(asked))
+
+    def _comes_from_here(self) -> bool:
+        # A page of somebody else may send a form here too, by its address or under a name that it gave to this machine.
+        host = self.headers.get("Host", "")
+        is_own = host in (f"127.0.0.1:{self.server.server_port}", f"localhost:{self.server.server_port}")
+        return is_own and self.headers.get("Origin") in (None, f"http://{host}")
 
     def _answer(self, answer: Callable[[], None]) -> None:
         try:
@@ -119,7 +125,7 @@ class Handler(BaseHTTPRequestHandler):
             return self._page(back, Form(values, said=f"Not saved: {error}", is_refused=True))
         token = _one(back, "t")
         held = int(token) if _NUMBER.match(token) else None
-        done = {"out" if is_gone else "saved": values["id"]}
+        done = {"out": values["id"]} if is_gone else {"edit": values["id"], "saved": values["id"]}
         self._redirect(address(held, _wish(back), **done) + "#staff", HTTPStatus.SEE_OTHER)
 
     def _redirect(self, to: str, status: HTTPStatus = HTTPStatus.FOUND) -> None:

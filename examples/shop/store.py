@@ -8,7 +8,7 @@ import threading
 from collections import OrderedDict
 from dataclasses import dataclass, replace
 from pathlib import Path
-from typing import Dict, List, Optional, Sequence, Tuple
+from typing import Any, Dict, List, Optional, Sequence, Tuple
 
 sys.path.insert(0, str(Path(__file__).resolve().parents[2] / "clients" / "python"))
 
@@ -103,7 +103,7 @@ class Store:
         counts["price"] = {name: self._priced(view, wish, name) for name in PRICES if name}
         return Shelf(view.token, items, total, page, pages, counts)
 
-    def item(self, id: str) -> Optional[Dict[str, object]]:
+    def item(self, id: str) -> Optional[Dict[str, Any]]:
         """An item as it is now, which is what the staff changes."""
         view = self.view(self.newest)
         return view.get(id) if view else None

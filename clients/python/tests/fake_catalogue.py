@@ -16,7 +16,6 @@ ID = re.compile(rb"[!-~]{1,64}\Z")
 NUMBER = re.compile(r"(0|[1-9][0-9]*)\Z")
 KINDS = ("text", "keyword", "number", "facet")
 FILE_KINDS = {"text": 1, "keyword": 2, "number": 3, "facet": 4}
-CONTROL = re.compile(r"[\x00-\x1f\x7f]")
 
 
 class No(Exception):
@@ -72,7 +71,7 @@ def check_value(kind, value):
     elif kind == "keyword":
         if len(value.encode()) > 128:
             raise No(15)
-        if CONTROL.search(value):
+        if query_grammar.CONTROL.search(value):
             raise No(13)
 
 
@@ -281,7 +280,7 @@ class Fake:
     def do_commit(self, _, text=""):
         if len(text.encode()) > 256:
             raise No(15)
-        if CONTROL.search(text):
+        if query_grammar.CONTROL.search(text):
             raise No(13)
         generation = max(self.commits, default=0) + 1
         kept = {g: note for g, note in self.commits.items() if self.snapshots[g]}

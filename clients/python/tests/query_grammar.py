@@ -6,6 +6,7 @@ NAME = re.compile(rb"[a-z0-9_]+")
 BARE = re.compile(rb'[^ ()\[\]"*\\]+')
 QUOTED = re.compile(rb'"((?:[^"\\]|\\["\\])*)"', re.DOTALL)
 WORD = re.compile(rb"[A-Za-z0-9\x80-\xff]+")
+CONTROL = re.compile(r"[\x00-\x1f\x7f]")  # what no keyword may have
 INTEGER = re.compile(rb"-?[0-9]+\Z")
 
 

@@ -168,15 +168,20 @@ class Faults(support.ShopTest):
                         view.find(text)
                     self.assertEqual((caught.exception.number, caught.exception.place), (24, place))
 
-    def test_what_a_visitor_types_finds_itself(self):
-        typed = [text for text in texts() if text.isprintable() and text]
-        self.shop.put_many({"id": f"x{index}", "brand": text} for index, text in enumerate(typed))
+    def test_what_a_visitor_types_finds_itself_and_nothing_else(self):
+        typed = list(dict.fromkeys(texts()))
+        can_stand = [text for text in typed if not query_grammar.CONTROL.search(text)]
+        self.shop.put_many({"id": f"x{index}", "brand": text, "title": text} for index, text in enumerate(can_stand))
         self.shop.refresh()
+        places = {text: f"x{index}" for index, text in enumerate(can_stand)}
         with self.shop.open() as view:
-            for index, text in list(enumerate(typed))[::7]:
-                wanted = {f"x{other}" for other, same in enumerate(typed) if same == text}
-                found = view.find(all_of(term("brand", text), EVERYTHING))
-                self.assertEqual({hit.id for hit in found.hits}, wanted)
+            for text in typed if support.REAL else typed[::7]:
+                with self.subTest(text=text):
+                    found = view.find(all_of(term("brand", text), EVERYTHING)).hits
+                    self.assertEqual([hit.id for hit in found], [places[text]] if text in places else [])
+                    wanted = query_grammar.words(text.encode())
+                    has_all = sum(wanted <= query_grammar.words(other.encode()) for other in can_stand)
+                    self.assertEqual(view.find(words("title", text), count=0).total, has_all)
 
 
 if __name__ == "__main__":
