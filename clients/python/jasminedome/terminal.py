@@ -25,6 +25,8 @@ class Bar:
     def show(self, items: int, read: int, size: int) -> None:
         """Draws so many items and so many of the bytes, where the last picture is old enough."""
         now = time.monotonic()
+        if not items:
+            self._begun = now  # of what is told as so many a second, the look at the columns is no part
         if not self._shows or now - self._drawn < _REST:
             return
         self._drawn = now
