@@ -13,7 +13,7 @@ from itertools import islice
 from typing import Any, Callable, Deque, Iterable, Iterator, List, Mapping, Optional, Sequence, Tuple, Union
 
 from .errors import JasminedomeError, UsageError
-from .lines import Program, Replies, Reply, line, number, read_refusal, reading
+from .lines import MAX_LINE, Program, Replies, Reply, line, number, read_refusal, reading
 from .query import Query
 from .sessions import UPKEEP, Sessions
 from .view import View
@@ -25,6 +25,7 @@ PROGRAM = "JASMINEDOME_PROGRAM"
 """The environment variable that names the program, with arguments as a shell would split them."""
 
 _BATCH = 512  # items that go out in one write
+_MAX_CHARACTER = 4  # bytes of one in UTF-8
 _AHEAD = 8  # batches that wait for replies at the same time
 _to_json = json.JSONEncoder(ensure_ascii=False, allow_nan=False, separators=(",", ":")).encode
 
@@ -160,13 +161,14 @@ class Catalogue:
         waiting: Deque[Tuple[Replies, List[int]]] = deque()
         numbered = enumerate(items)
         while True:
-            lines, indices = load.lines(islice(numbered, _BATCH))
-            if not load.went_on:
+            batch = list(islice(numbered, _BATCH))
+            if not batch:
                 break
-            if lines:
-                replies = Replies(len(lines))
+            data, indices = load.lines(batch)
+            if indices:
+                replies = Replies(len(indices))
                 self.close_left()
-                self._program.send(b"".join(lines), replies)
+                self._program.send(data, replies)
                 waiting.append((replies, indices))
             if len(waiting) >= _AHEAD:
                 load.note(*waiting.popleft())
@@ -325,30 +327,42 @@ class _Load:
     """The items of one `put_many`: what goes out, what came back, and what was refused."""
 
     def __init__(self, session: int, progress: Optional[Callable[[int], object]]) -> None:
-        self._session = session
+        self._head = f"{session} PUT "
         self._ok = b"%d OK " % session
         self._progress = progress
         self._refused: List[RefusedItem] = []
         self._accepted = 0
         self._answered = 0
         self._last: Optional[int] = None
-        self.went_on = True
 
-    def lines(self, items: Iterable[Tuple[int, Item]]) -> Tuple[List[bytes], List[int]]:
+    def lines(self, items: Sequence[Tuple[int, Item]]) -> Tuple[bytes, List[int]]:
         """The lines of the items that can be sent, and the index of each; notes the others."""
+        together = self._together(items)
+        if together is not None:
+            return together, [index for index, _ in items]
         lines: List[bytes] = []
         indices: List[int] = []
-        self.went_on = False
         for index, item in items:
-            self.went_on = True
             try:
-                lines.append(line(f"{self._session} PUT {_json(item)}"))
+                lines.append(line(self._head + _json(item)))
             except UsageError as error:
                 self._refused.append(RefusedItem(index, error))
                 self._answered += 1
             else:
                 indices.append(index)
-        return lines, indices
+        return b"".join(lines), indices
+
+    def _together(self, items: Sequence[Tuple[int, Item]]) -> Optional[bytes]:
+        """The lines of all items, made in one go, which is twice as fast; None where one may not be fit to be sent."""
+        try:
+            texts = [item if isinstance(item, str) else _to_json(item) for _, item in items]
+            ended = "\n".join(texts) + "\n"
+            are_lines = ended.count("\n") == len(texts) and "\r\n" not in ended
+            if are_lines and max(map(len, texts)) <= (MAX_LINE - len(self._head)) // _MAX_CHARACTER:
+                return (self._head + ended[:-1].replace("\n", "\n" + self._head) + "\n").encode()
+        except (TypeError, ValueError, RecursionError):
+            pass  # one item is at fault, and which one is found by a look at each
+        return None
 
     def note(self, replies: Replies, indices: List[int]) -> None:
         """Waits for the replies to the items of these indices, and notes them."""

@@ -6,6 +6,7 @@ import support  # first: it finds the package
 
 import jasminedome
 from jasminedome import FacetCount, Hit, Page, UsageError, any_of, between, term
+from jasminedome.catalogue import _json, _Load
 
 
 class Writes(support.ShopTest):
@@ -53,6 +54,24 @@ class Writes(support.ShopTest):
         self.assertEqual(self.shop.put_many([]), jasminedome.PutMany(0, None, ()))
         self.assertEqual(self.shop.put_many([{"id": "\n", "price": {1}}] * 600).accepted, 0)
         self.assertEqual(self.shop.refresh(), 2_970)
+
+    def test_a_batch_that_is_made_in_one_go_has_the_lines_of_its_items(self):
+        odd = ["\u2028", "\x85", "é" * 600, "\r", "\n", "\t\x1c", '"\\', "\U0010ffff"]
+        items = [{"id": f"x{n}", "title": text, "color": [], "price": None} for n, text in enumerate(odd)]
+        items += ['{"id":"raw"}', '  {"id":\t"spaced"}  ', "", "[]", {}]
+        for count in (len(items), 1):
+            for at in range(0, len(items), count):
+                told, indices = _Load(7, None).lines(list(enumerate(items[at : at + count])))
+                self.assertEqual(indices, list(range(len(items[at : at + count]))))
+                wanted = [item if isinstance(item, str) else _json(item) for item in items[at : at + count]]
+                self.assertEqual(told, b"".join(b"7 PUT " + text.encode() + b"\n" for text in wanted))
+        for wrong in ("a\nb", "a\r", {"id": "\ud800"}, {"id": {1}}, "x" * 9_995):
+            for place in (0, 1, 2):
+                some = ['{"id":"a"}', '{"id":"b"}']
+                some.insert(place, wrong)
+                told, indices = _Load(7, None).lines(list(enumerate(some)))
+                self.assertEqual(told, b'7 PUT {"id":"a"}\n7 PUT {"id":"b"}\n')
+                self.assertEqual(indices, [index for index in range(3) if index != place])
 
     def test_an_iterator_that_fails_leaves_a_catalogue_that_works(self):
         def items():
