@@ -174,13 +174,14 @@ class Faults(support.ShopTest):
         self.shop.put_many({"id": f"x{index}", "brand": text, "title": text} for index, text in enumerate(can_stand))
         self.shop.refresh()
         places = {text: f"x{index}" for index, text in enumerate(can_stand)}
+        held = [query_grammar.words(text.encode()) for text in can_stand]
         with self.shop.open() as view:
             for text in typed if support.REAL else typed[::7]:
                 with self.subTest(text=text):
                     found = view.find(all_of(term("brand", text), EVERYTHING)).hits
                     self.assertEqual([hit.id for hit in found], [places[text]] if text in places else [])
                     wanted = query_grammar.words(text.encode())
-                    has_all = sum(wanted <= query_grammar.words(other.encode()) for other in can_stand)
+                    has_all = sum(wanted <= each for each in held)
                     self.assertEqual(view.find(words("title", text), count=0).total, has_all)
 
 

@@ -13,6 +13,7 @@ from jasminedome import Refusal
 from jasminedome.lines import Replies
 
 SNAPSHOTS = 65_535
+MEMORY = 24 << 20  # bytes of a program that is to get no more of it
 REAL_ALONE = unittest.skipUnless(support.REAL, "the stand-in has no files and no memory that can be wanting")
 
 
@@ -146,13 +147,16 @@ class Memory(unittest.TestCase):
     def test_a_program_that_gets_no_more_memory(self):
         code = "import os,resource,sys\nresource.setrlimit(resource.RLIMIT_AS, (int(sys.argv[1]),) * 2)\n"
         code += "os.execvp(sys.argv[2], sys.argv[2:])"
-        program = [sys.executable, "-c", code, str(64 << 20), *support.REAL]
-        items = ({"id": f"item-{n}", "title": "x" * 8_000} for n in range(20_000))
+        program = [sys.executable, "-c", code, str(MEMORY), *support.REAL]
         with jasminedome.Catalogue(support.FIELDS, program=program) as shop:
-            told = shop.put_many(items)
-            self.assertEqual({type(each.error) for each in told.refused}, {jasminedome.OutOfMemory})
-            self.assertGreater(told.accepted, 0)
-            shop.delete("item-0")  # takes no memory, and the program is still there
+            accepted, refused = 0, ()
+            while not refused:
+                self.assertLess(accepted * 8_000, MEMORY, "more was put than there is memory")
+                told = shop.put_many({"id": f"item-{accepted + n}", "title": "x" * 8_000} for n in range(100))
+                accepted, refused = accepted + told.accepted, told.refused
+            self.assertEqual({type(each.error) for each in refused}, {jasminedome.OutOfMemory})
+            self.assertGreater(accepted, 0)
+            self.assertEqual(shop.delete("item-0"), accepted + 1)  # takes no memory, and the program is still there
 
 
 if __name__ == "__main__":
