@@ -85,7 +85,7 @@ class BadId(Refusal):
 
 
 class TooLarge(Refusal):
-    """15: an item (8,192 bytes), a keyword or label (128 bytes), a list of labels (64) or a commit's text (256 bytes) is too large."""
+    """15: an item is above 8,192 bytes, a keyword or label above 128, a commit's text above 256, or labels are above 64."""
 
     number = 15
     text = "an item, a keyword, a label, a list of labels or a commit's text is too large"

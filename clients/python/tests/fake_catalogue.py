@@ -1,7 +1,8 @@
 """A plain stand-in for the program: the whole line protocol over lists in memory, merges and files only as far as replies go.
 
 With the arguments `run FOLDER` a commit is kept there: a file with the head of a commit's, and beside it one in JSON that
-no other program reads. With the argument `swift` every line behind the first is answered as an accepted PUT, without being read: for speed.
+no other program reads. With the argument `swift` every line behind the first is answered as an accepted PUT, without
+being read: for speed.
 """
 
 import json

@@ -51,8 +51,8 @@ class Tables(FileTest):
 
     def test_cell_rows(self):
         for delimiter in ",;\t":
-            text = '\ufeffid,title\r\na,"two\nlines, ""quoted"""\r\n\r\n,\r\nb\r\nc,d,e\r\nf,g,,\r\n"x"y,1\r\nh,i'.replace(",", delimiter)
-            rows = list(Table(self.file("a.csv", text)).rows())
+            text = '\ufeffid,title\r\na,"two\nlines, ""quoted"""\r\n\r\n,\r\nb\r\nc,d,e\r\nf,g,,\r\n"x"y,1\r\nh,i'
+            rows = list(Table(self.file("a.csv", text.replace(",", delimiter))).rows())
             told = [(line, row if isinstance(row, dict) else type(row)) for line, row in rows]
             quoted = 'two\nlines, "quoted"'.replace(",", delimiter)
             wanted = [(2, {"id": "a", "title": quoted}), (6, {"id": "b"}), (7, UsageError)]
@@ -123,7 +123,8 @@ class Loads(FileTest):
     def test_lines_of_json_go_byte_by_byte(self):
         told = self.load("a.jsonl", '{"id":"a",  "price":5}\n{"id":"b","price":"x","title":"\\u00e9"}\n{"id":"b"')
         self.assertEqual((told.accepted, told.commit, told.plan.fields), (1, 1, {"price": "number", "title": "text"}))
-        self.assertEqual([(each.line, type(each.error)) for each in told.refused], [(2, jasminedome.WrongKind), (3, jasminedome.BadJson)])
+        refused = [(each.line, type(each.error)) for each in told.refused]
+        self.assertEqual(refused, [(2, jasminedome.WrongKind), (3, jasminedome.BadJson)])
         self.assertEqual(told.refused[0].detail, 'price is "x"')
         fields = fields_of(self.folder)
         with jasminedome.Catalogue(fields, self.folder, program=PROGRAM) as shop, shop.open() as view:
@@ -189,7 +190,8 @@ class CommandLine(FileTest):
         path = self.file("a.csv", "id,price\na,1\nb,2\n")
         status, out, err = self.run_main("load", path, "--folder", self.folder)
         self.assertEqual((status, err), (0, ""))
-        self.assertRegex(out, r"\Aa\.csv: 2 of 2 items put in [0-9.]+ s \([0-9,]+ a second\), commit 1 of .*\nfields: price number\n\Z")
+        told = r"\Aa\.csv: 2 of 2 items put in [0-9.]+ s \([0-9,]+ a second\), commit 1 of .*\n"
+        self.assertRegex(out, told + r"fields: price number\n\Z")
 
     def test_a_summary_of_what_was_refused(self):
         path = self.file("a.jsonl", "".join('{"id":"a b"}\n' if n % 2 else '{"id":"c","N":1}\n' for n in range(60)))

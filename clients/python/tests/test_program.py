@@ -181,7 +181,8 @@ class Speed(unittest.TestCase):
             told = shop.put_many(items)
             spent, took = time.process_time() - spent, time.perf_counter() - began
         self.assertEqual(told.accepted, len(items))
-        print(f"\nput_many: {len(items) / spent:,.0f} items a second of the client's processor, {len(items) / took:,.0f} by the clock")
+        told_spent, told_took = f"{len(items) / spent:,.0f}", f"{len(items) / took:,.0f}"
+        print(f"\nput_many: {told_spent} items a second of the client's processor, {told_took} by the clock")
         self.assertLess(spent, 5, "seconds of processor for 50,000 items: ten times what they take")
 
 
