@@ -92,6 +92,10 @@ class Fields(FolderTest):
         for name in ("segments_", "segments_02", "segments_x", "segments_٣", "segments_3.tmp"):
             (self.folder / name).write_bytes(b"")
         self.assertEqual(fields_of(self.folder), {"color": "facet", "price": "number"})
+        newer = COMMIT[:12] + bytes([10]) + COMMIT[13:].replace(b"color", b"shade")
+        (self.folder / "segments_10").write_bytes(newer)
+        self.assertEqual(fields_of(self.folder), {"shade": "facet", "price": "number"})
+        (self.folder / "segments_10").unlink()
         fields_end = 63
         for size in range(fields_end):
             (self.folder / "segments_1").write_bytes(COMMIT[:size])

@@ -164,11 +164,13 @@ class Loads(FileTest):
 
     def test_many_items_and_progress(self):
         calls = []
-        lines = "".join(f'{{"id":"x{n}","price":{n}}}\n' if n % 1_000 else "{\n" for n in range(5_000))
+        lines = "".join(f'{{"id":"x{n}","price":{n}}}\n' if n % 3_000 else "{\n" for n in range(15_000))
         told = self.load("a.jsonl", lines, progress=lambda *call: calls.append(call))
-        self.assertEqual(told.accepted, 4_995)
-        self.assertEqual([each.line for each in told.refused], [1, 1_001, 2_001, 3_001, 4_001])
-        self.assertEqual(calls[-1], (5_000, len(lines), len(lines)))
+        self.assertEqual(told.accepted, 14_995)
+        self.assertEqual([each.line for each in told.refused], [1, 3_001, 6_001, 9_001, 12_001])
+        self.assertEqual(calls[-1], (15_000, len(lines), len(lines)))
+        with jasminedome.Catalogue(fields_of(self.folder), self.folder, program=PROGRAM) as shop:
+            self.assertLess(len(shop.stat().segments), 10, "ten segments of a size are merged into one")
         answered = [items for items, _, _ in calls]
         self.assertEqual(answered, sorted(answered))
 
