@@ -6,8 +6,8 @@ kill.py [PROGRAM] [--times 30] [--seed N] [--seconds 1.0] [--patience 60]
 A stream of writes, deletes, refreshes, commits, merges, snapshots and sweeps goes to `PROGRAM run FOLDER` until a SIGKILL. What
 opens next has to be the last commit that was answered OK, or a later one that was sent: its token, its text, its items in order
 and the text of each. The next life goes on from there, over the same folder. Where opening answers 31, the newest commit file
-goes while a lower one is there (docs/OPERATIONS.md). After a kill that leaves an unanswered commit's file, that file is also
-cut short in a copy of the folder, as a loss of power may leave it, and the copy has to come back the same way.
+goes while a lower one is there (docs/OPERATIONS.md). After a kill within a COMMIT that leaves its file, that file is also cut
+short in a copy of the folder, as a loss of power may leave it, and the copy has to come back the same way.
 
 A kill loses nothing that the program has handed to the system. What a loss of power does to a disk isn't tried here.
 """
@@ -465,7 +465,7 @@ def come_back(program, folder, candidates, patience):
 
 
 def try_cut(program, folder, candidates, rng, patience, counts):
-    """Cuts the file of an unanswered commit short in a copy of the folder, and has the copy come back."""
+    """Cuts the file of the commit that was under way short in a copy of the folder, and has the copy come back."""
     standing = commit_files(folder)
     if not standing or standing[-1] <= candidates[0].generation:
         return
@@ -498,6 +498,9 @@ class Run:
         self.candidates = [Commit(NEVER_COMMITTED, Shop())]
         # How long a commit takes here, from what was seen.
         self.commit_time = 0.01
+        # Whether the last kill came within a commit that was sent alone, so that no line behind it was begun. One of several
+        # lines may be done though its reply isn't out, and a sweep behind it may have taken what only the commit before needs.
+        self.was_in_commit = False
 
     def live(self, life):
         """Opens, checks what opened, and goes on until the kill."""
@@ -512,7 +515,8 @@ class Run:
         finally:
             child.kill()
             child.end()
-        try_cut(arguments.program, self.folder, self.candidates, self.rng, arguments.patience, counts)
+        if self.was_in_commit:
+            try_cut(arguments.program, self.folder, self.candidates, self.rng, arguments.patience, counts)
 
     def note_found(self, found, life):
         if life == 1:
@@ -523,23 +527,23 @@ class Run:
             self.counts.later += 1
 
     def stream(self, child, stream):
-        """Says lines until the program is gone. Half of the kills are aimed at a commit."""
-        is_aimed = self.rng.random() < 0.5
-        aim = self.rng.randint(1, 6) if is_aimed else 0
+        """Says lines until the program is gone: at any moment, or in every other life a moment after a COMMIT was sent alone."""
+        turns_left = self.rng.randint(1, 400) if self.rng.random() < 0.5 else None
         timer = threading.Timer(self.rng.uniform(0, self.arguments.seconds), child.kill)
-        if not is_aimed:
+        if turns_left is None:
             timer.start()
-        batch = []
+        batch, is_alone = [], True
         try:
-            while True:
+            while turns_left != 0:
                 batch = [stream.next() for _ in range(self.batch_size())]
-                sent = [commit for _, _, commit in batch if commit]
-                self.candidates += sent
-                self.counts.commits += len(sent)
-                is_last = is_aimed and stream.commits >= aim
-                self.say(child, batch, self.rng.uniform(0, 1.3 * self.commit_time) if is_last else None)
+                is_alone = len(batch) == 1
+                self.say(child, batch)
+                if turns_left is not None:
+                    turns_left -= 1
+            batch, is_alone = [stream.commit()], True
+            self.say(child, batch, is_last=True)
         except Killed:
-            self.note_kill(batch)
+            self.note_kill(batch, is_alone)
         finally:
             timer.cancel()
         status = child.end()
@@ -547,14 +551,28 @@ class Run:
             raise Mismatch(f"the program ended by itself, with status {status}")
 
     def batch_size(self):
-        return 1 if self.rng.random() < 0.8 else self.rng.randint(2, 40)
+        return 1 if self.rng.random() < 0.9 else self.rng.randint(2, 40)
 
-    def say(self, child, batch, until_kill):
-        """Sends the lines and takes their replies. What is answered leaves the batch."""
-        begun = time.monotonic()
+    def wait_in_commit(self, before):
+        """Waits for some moment within the commit that was just sent, or a little behind it: any, or once its file is there
+        beside those before."""
+        if self.rng.random() < 0.5:
+            time.sleep(self.rng.uniform(0, 1.3 * self.commit_time))
+            return
+        deadline = time.monotonic() + 1
+        while commit_files(self.folder) == before and time.monotonic() < deadline:
+            pass
+        time.sleep(self.rng.choice((0, self.rng.uniform(0, 0.2 * self.commit_time))))
+
+    def say(self, child, batch, is_last=False):
+        """Sends the lines and takes their replies, up to the kill if they are the last. What is answered leaves the batch."""
+        sent = [commit for _, _, commit in batch if commit]
+        self.candidates += sent
+        self.counts.commits += len(sent)
+        begun, before = time.monotonic(), commit_files(self.folder)
         child.send([line for line, _, _ in batch])
-        if until_kill is not None:
-            time.sleep(until_kill)
+        if is_last:
+            self.wait_in_commit(before)
             child.kill()
         is_commit = len(batch) == 1 and batch[0][2] is not None
         while batch:
@@ -568,13 +586,16 @@ class Run:
                 self.candidates = self.candidates[self.candidates.index(commit) :]
         if is_commit:
             self.commit_time += 0.2 * (time.monotonic() - begun - self.commit_time)
+        if is_last:
+            # The kill came behind the reply.
+            raise Killed
 
-    def note_kill(self, unanswered):
+    def note_kill(self, unanswered, is_alone):
+        has_commit = any(commit for _, _, commit in unanswered)
+        self.was_in_commit = has_commit and is_alone
         self.counts.kills += 1
-        if unanswered and unanswered[0][2]:
-            self.counts.in_commit += 1
-        elif any(commit for _, _, commit in unanswered):
-            self.counts.in_batch += 1
+        self.counts.in_commit += 1 if self.was_in_commit else 0
+        self.counts.in_batch += 1 if has_commit and not is_alone else 0
 
     def kill_while_opening(self):
         """Starts the program and kills it before, while or just after it opens, which deletes files that nobody needs."""
@@ -589,7 +610,7 @@ class Run:
 def closing_line(counts):
     return (
         f"{counts.kills} kills after {counts.lines} answered lines and {counts.commits} commits sent: "
-        f"{counts.in_commit} within a commit, {counts.in_batch} more with one sent behind other lines. "
+        f"{counts.in_commit} within a commit, {counts.in_batch} more with one among several lines. "
         f"What opened was {counts.answered} times the last commit answered OK, {counts.later} times a later one; "
         f"{counts.items} items compared. 31 came {counts.torn} times by a kill, and for each of {counts.cut} commit files "
         f"that were cut short in a copy. {counts.while_opening} further kills while it opened"

@@ -62,6 +62,49 @@ expect 'a folder again' 0 $'OK 1\n1 OK 1\n1 OK 1 1\n1 1 a .\n1 OK {"id":"a"}\n1 
 start run "$room/shop" <<<'SCHEMA 2 1 {}'
 expect 'a folder under another schema' 2 'NO 13' '[ERROR catalogue] schema refused'
 
+# a snapshot keeps its commit through a later one and a sweep, and a copy of the files that it needs opens at it
+mkdir "$room/kept" "$room/backup"
+start run "$room/kept" <<<"$schema"$'\n''1 PUT {"id":"a"}'$'\n''1 COMMIT log 1'$'\n''1 SNAP'$'\n''1 DEL a'$'\n''1 COMMIT log 2
+0 SWEEP
+1 FILES g 1'
+expect 'a snapshot' 0 $'OK 0\n1 OK 1\n1 OK 1\n1 OK 1\n1 OK 2\n1 OK 2\n0 OK 0\n1 OK 3\n1 segments_1\n1 _1.seg\n1 _1.sto' ''
+for name in segments_1 _1.seg _1.sto; do cp "$room/kept/$name" "$room/backup"; done
+start run "$room/backup" <<<"$schema"$'\n''1 SNAP'$'\n''1 NOTE 1'$'\n''1 OPEN'$'\n''1 GET 1 a'
+expect 'a backup' 0 $'OK 1\n1 OK 1\n1 OK =log 1\n1 OK 1\n1 OK {"id":"a"}' ''
+
+# a commit file that was cut short is 31, which deletes nothing, and without that file the commit below it opens
+mkdir "$room/torn"
+start run "$room/torn" <<<"$schema"$'\n''1 PUT {"id":"a"}'$'\n''1 COMMIT log 1'$'\n''1 PUT {"id":"b"}'$'\n''1 COMMIT log 2'
+expect 'two commits' 0 $'OK 0\n1 OK 1\n1 OK 1\n1 OK 2\n1 OK 2' ''
+truncate -s -8 "$room/torn/segments_2"
+files=$(ls -l "$room/torn")
+start run "$room/torn" <<<"$schema"
+expect 'a torn commit' 2 'NO 31' '[ERROR catalogue] schema refused'
+if [ "$(ls -l "$room/torn")" != "$files" ]; then
+  echo "program.sh: a torn commit FAILED: opening touched a file" >&2
+  failed=1
+fi
+rm "$room/torn/segments_2"
+start run "$room/torn" <<<"$schema"$'\n''1 SNAP'$'\n''1 NOTE 1'$'\n''1 OPEN'$'\n''1 FIND 1 9 . . *:*'
+expect 'the commit below' 0 $'OK 1\n1 OK 1\n1 OK =log 1\n1 OK 1\n1 OK 1 1\n1 1 a .' ''
+
+# a file that can't grow, as on a full disk: what has to write is refused, nothing is lost, and smaller things go on
+mkdir "$room/full"
+long=$(printf 'word%d ' {1..400})
+(
+  trap '' XFSZ
+  ulimit -f 1
+  start run "$room/full" <<<"$schema"$'\n''1 PUT {"id":"a","title":"'"$long"'"}'$'\n''1 REFRESH
+1 COMMIT
+1 PUT {"id":"a","title":"short"}
+1 REFRESH
+1 OPEN
+1 FIND 2 9 . . title:short
+0 SWEEP
+1 COMMIT'
+)
+expect 'a full disk' 0 $'OK 0\n1 OK 1\n1 NO 30\n1 NO 30\n1 OK 2\n1 OK 2\n1 OK 2\n1 OK 1 1\n1 2 a .\n0 OK 4\n1 OK 1' ''
+
 for folder in "$room/nowhere" "$room/status" ''; do
   start run "$folder" <<<"$schema"$'\n''1 OPEN'
   expect "no folder '$folder'" 2 'NO 30' '[ERROR catalogue] schema refused'
