@@ -569,7 +569,7 @@ class Run:
         sent = [commit for _, _, commit in batch if commit]
         self.candidates += sent
         self.counts.commits += len(sent)
-        begun, before = time.monotonic(), commit_files(self.folder)
+        begun, before = time.monotonic(), commit_files(self.folder) if is_last else []
         child.send([line for line, _, _ in batch])
         if is_last:
             self.wait_in_commit(before)
