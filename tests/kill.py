@@ -487,6 +487,12 @@ def try_cut(program, folder, candidates, rng, patience, counts):
 # Lives.
 
 
+def wait_until(moment):
+    """Waits without sleeping: where nothing waits for a disk, a commit is over before a sleep is."""
+    while time.monotonic() < moment:
+        pass
+
+
 class Run:
     """Lives of the program over one folder, one after the other."""
 
@@ -557,12 +563,12 @@ class Run:
         """Waits for some moment within the commit that was just sent, or a little behind it: any, or once its file is there
         beside those before."""
         if self.rng.random() < 0.5:
-            time.sleep(self.rng.uniform(0, 1.3 * self.commit_time))
+            wait_until(time.monotonic() + self.rng.uniform(0, 1.3 * self.commit_time))
             return
         deadline = time.monotonic() + 1
         while commit_files(self.folder) == before and time.monotonic() < deadline:
             pass
-        time.sleep(self.rng.choice((0, self.rng.uniform(0, 0.2 * self.commit_time))))
+        wait_until(time.monotonic() + self.rng.choice((0, self.rng.uniform(0, 0.2 * self.commit_time))))
 
     def say(self, child, batch, is_last=False):
         """Sends the lines and takes their replies, up to the kill if they are the last. What is answered leaves the batch."""
