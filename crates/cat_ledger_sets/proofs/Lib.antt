@@ -1,0 +1,4 @@
+pub mod Going
+pub mod Shaped
+pub mod Agreed
+pub mod Right

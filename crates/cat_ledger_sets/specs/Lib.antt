@@ -1,0 +1,4 @@
+pub mod Segments
+pub mod Sets
+pub mod SegmentLaws
+pub mod SetLaws
