@@ -67,7 +67,7 @@ mkdir "$room/kept" "$room/backup"
 start run "$room/kept" <<<"$schema"$'\n''1 PUT {"id":"a"}'$'\n''1 COMMIT log 1'$'\n''1 SNAP'$'\n''1 DEL a'$'\n''1 COMMIT log 2
 0 SWEEP
 1 FILES g 1'
-expect 'a snapshot' 0 $'OK 0\n1 OK 1\n1 OK 1\n1 OK 1\n1 OK 2\n1 OK 2\n0 OK 0\n1 OK 3\n1 segments_1\n1 _1.seg\n1 _1.sto' ''
+expect 'a snapshot' 0 $'OK 0\n1 OK 1\n1 OK 1\n1 OK 1\n1 OK 2\n1 OK 2\n0 OK 0\n1 OK 3\n1 _1.seg\n1 _1.sto\n1 segments_1' ''
 for name in segments_1 _1.seg _1.sto; do cp "$room/kept/$name" "$room/backup"; done
 start run "$room/backup" <<<"$schema"$'\n''1 SNAP'$'\n''1 NOTE 1'$'\n''1 OPEN'$'\n''1 GET 1 a'
 expect 'a backup' 0 $'OK 1\n1 OK 1\n1 OK =log 1\n1 OK 1\n1 OK {"id":"a"}' ''

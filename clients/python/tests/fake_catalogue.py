@@ -273,7 +273,7 @@ class Fake:
         if what == "t":
             names = ["_1.seg", "_1.sto"] if self.held(session, number(which)) else []
         elif number(which) in self.commits:
-            names = [f"segments_{which}", f"fake_{which}.json"]
+            names = [f"fake_{which}.json", f"segments_{which}"]
         else:
             raise No(26)
         return [len(names), *names]
