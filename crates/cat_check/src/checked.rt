@@ -1,0 +1,120 @@
+//! What is found of a directory.
+ghost use Rattle.std.specs.Prelude.{◌≡◌, All, IfOk, IfErr};
+ghost use Rattle.cat_base.specs.declared.refusal.Refusal.TheVariants.{Device};
+ghost use Rattle.cat_directory.specs.Devices.{NoMore};
+ghost use Rattle.cat_check.specs.Judged.{IsJudged};
+ghost use Rattle.cat_check.specs.Checked.{IsChecked, IsNewestReport};
+
+use crate::commits::commits_below;
+use crate::report::{Report, report_of};
+use crate::unnamed::{add_named, names_left};
+use cat_base::{Generation, Refusal};
+use cat_directory::{Directory, FileName, Shelf};
+use cat_opening::newest_commit;
+use std::alloc::{AllocError, Global};
+use std::collections::HashSet;
+
+/// What is found of a directory. (Lucene: `CheckIndex.Status`.)
+#[derive(Drop)]
+pub struct Checked {
+    /// Of its newest commit, if it has one: the one that is opened.
+    pub newest: Option<Report>,
+    /// Of the others, the newer first.
+    pub older: Vec<Report>,
+    /// The files that no commit names.
+    pub unnamed: Vec<FileName>,
+}
+
+/// What is found of the newest commit of these names.
+fn newest_report<S: Shelf>(
+    alloc: Global,
+    shelf: &mut S,
+    names: &[FileName],
+) -> Result<Option<Report>, AllocError>
+    ensures judged { IfOk result (IsNewestReport (S.bytes shelf.old) (S.can_fail shelf.old) names.now) }
+    ensures same { (q : FileName) → S.bytes shelf.new q ≡ S.bytes shelf.old q }
+    ensures crash { (q : FileName) → NoMore (S.may_leave shelf.old q) (S.may_leave shelf.new q) }
+    ensures can { S.can_fail shelf.new → S.can_fail shelf.old }
+{
+    let Some(generation) = newest_commit(names) else {
+        return Ok(None);
+    };
+    let report = report_of(alloc, shelf, generation)?;
+    Ok(Some(report))
+}
+
+/// What is found of the commits, in order.
+fn reports_of<S: Shelf>(
+    alloc: Global,
+    shelf: &mut S,
+    generations: &[Generation],
+) -> Result<Vec<Report>, AllocError>
+    ensures judged { IfOk result (λ v. All (λ r. IsJudged (S.bytes shelf.old) (S.can_fail shelf.old) r.generation r.verdict) v.items) }
+    ensures same { (q : FileName) → S.bytes shelf.new q ≡ S.bytes shelf.old q }
+    ensures crash { (q : FileName) → NoMore (S.may_leave shelf.old q) (S.may_leave shelf.new q) }
+    ensures can { S.can_fail shelf.new → S.can_fail shelf.old }
+{
+    let mut reports = Vec::new(alloc);
+    for generation in generations {
+        let report = report_of(alloc, shelf, *generation)?;
+        reports.push(report)?;
+    }
+    Ok(reports)
+}
+
+/// What is found of the commits of these names that are older than the newest.
+fn older_reports<S: Shelf>(
+    alloc: Global,
+    shelf: &mut S,
+    names: &[FileName],
+) -> Result<Vec<Report>, AllocError>
+    ensures judged { IfOk result (λ v. All (λ r. IsJudged (S.bytes shelf.old) (S.can_fail shelf.old) r.generation r.verdict) v.items) }
+    ensures same { (q : FileName) → S.bytes shelf.new q ≡ S.bytes shelf.old q }
+    ensures crash { (q : FileName) → NoMore (S.may_leave shelf.old q) (S.may_leave shelf.new q) }
+    ensures can { S.can_fail shelf.new → S.can_fail shelf.old }
+{
+    let bound = newest_commit(names).unwrap_or(0);
+    let generations = commits_below(alloc, names, bound)?;
+    let reports = reports_of(alloc, shelf, &generations)?;
+    Ok(reports)
+}
+
+/// Those of the names that none of the commits has.
+fn unnamed_by(
+    alloc: Global,
+    names: &[FileName],
+    newest: &Option<Report>,
+    older: &[Report],
+) -> Result<Vec<FileName>, AllocError> {
+    let mut named = HashSet::new(alloc);
+    if let Some(report) = newest {
+        add_named(&mut named, report)?;
+    }
+    for report in older {
+        add_named(&mut named, report)?;
+    }
+    names_left(alloc, names, &named)
+}
+
+/// Judges the directory without changing it: each of its commits, as an opening at it would under its own fields. (Lucene:
+/// `CheckIndex.checkIndex`.)
+///
+/// [`Refusal::Device`] where its files can't be listed, or [`Refusal::Memory`]. A device that fails behind that leaves the commit
+/// unread.
+pub fn check<D: Directory + Shelf>(alloc: Global, device: &mut D) -> Result<Checked, Refusal>
+    ensures ok { IfOk result (IsChecked (D.bytes device.old) (D.can_fail device.old)) }
+    ensures device { IfErr result (λ e. e ≡ Device → D.can_fail device.old) }
+    ensures same { (q : FileName) → D.bytes device.new q ≡ D.bytes device.old q }
+    ensures crash { (q : FileName) → NoMore (D.may_leave device.old q) (D.may_leave device.new q) }
+    ensures can { D.can_fail device.new → D.can_fail device.old }
+{
+    let names = device.names(alloc)?;
+    let newest = newest_report(alloc, device, &names)?;
+    let older = older_reports(alloc, device, &names)?;
+    let unnamed = unnamed_by(alloc, &names, &newest, &older)?;
+    Ok(Checked {
+        newest,
+        older,
+        unnamed,
+    })
+}

@@ -1,0 +1,39 @@
+//! How much there is of a commit.
+ghost use Rattle.std.specs.Prelude.{◌≡◌};
+ghost use Rattle.cat_directory.specs.Devices.{NoMore};
+
+use cat_directory::{FileName, Shelf};
+use cat_search::Leaf;
+
+/// How many rows a commit has, dead ones too, and how many of them are live.
+#[derive(Clone, Copy, Debug, PartialEq, Eq, Drop)]
+pub struct Counts {
+    pub rows: u64,
+    pub live_rows: u64,
+}
+
+/// The rows of the leaves, counted.
+pub(crate) fn counts_of(leaves: &[Leaf]) -> Counts {
+    let mut rows = 0u64;
+    let mut live_rows = 0u64;
+    for leaf in leaves {
+        let live = leaf.live();
+        rows = rows.saturating_add(live.len() as u64);
+        live_rows = live_rows.saturating_add(live.count() as u64);
+    }
+    Counts { rows, live_rows }
+}
+
+/// How many bytes those of the files have together that are there.
+pub(crate) fn bytes_in<S: Shelf>(shelf: &mut S, names: &[FileName]) -> u64
+    ensures same { (q : FileName) → S.bytes shelf.new q ≡ S.bytes shelf.old q }
+    ensures crash { (q : FileName) → NoMore (S.may_leave shelf.old q) (S.may_leave shelf.new q) }
+    ensures can { S.can_fail shelf.new → S.can_fail shelf.old }
+{
+    let mut bytes = 0u64;
+    for name in names {
+        let size = shelf.size(*name).unwrap_or(0);
+        bytes = bytes.saturating_add(size);
+    }
+    bytes
+}

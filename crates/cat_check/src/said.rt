@@ -1,0 +1,32 @@
+//! What a commit's own file says.
+ghost use Rattle.std.specs.Prelude.{◌≡◌, IfOk, IfErr};
+ghost use Rattle.cat_base.specs.declared.refusal.Refusal.TheVariants.{Device, Damaged};
+ghost use Rattle.cat_directory.specs.Devices.{CountsReading, NoMore};
+ghost use Rattle.cat_ledger_shape.specs.OpeningLaws.{MayHold};
+ghost use Rattle.cat_check.specs.Said.{SaysCommit, IsTorn};
+
+use crate::file::read_file;
+use cat_base::{Generation, Refusal};
+use cat_commits::Commit;
+use cat_directory::{FileName, Shelf};
+use std::alloc::Global;
+
+/// The commit that the file of the generation's name says, whatever number it gives itself. [`Refusal::Damaged`] where the file
+/// is absent, or its bytes are no commit's.
+pub(crate) fn read_said<S: Shelf>(
+    alloc: Global,
+    shelf: &mut S,
+    generation: Generation,
+) -> Result<Commit, Refusal>
+    ensures ok { IfOk result (SaysCommit (MayHold (S.bytes shelf.old)) generation) }
+    ensures torn { IfErr result (λ e. e ≡ Damaged → IsTorn (S.bytes shelf.old) generation) }
+    ensures device { IfErr result (λ e. e ≡ Device → S.can_fail shelf.old) }
+    ensures same { (q : FileName) → S.bytes shelf.new q ≡ S.bytes shelf.old q }
+    ensures crash { (q : FileName) → NoMore (S.may_leave shelf.old q) (S.may_leave shelf.new q) }
+    ensures can { S.can_fail shelf.new → S.can_fail shelf.old }
+    ensures counted { CountsReading (S.fault_count shelf.old) (S.fault_count shelf.new) result }
+{
+    let bytes = read_file(alloc, shelf, FileName::Commit(generation))?;
+    let commit = Commit::decode(alloc, &bytes)?;
+    Ok(commit)
+}

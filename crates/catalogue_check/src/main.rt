@@ -1,0 +1,13 @@
+//! The program that judges a folder without changing it: whether an opening reads its commits, and else which file breaks which
+//! rule. It can also delete the file of a torn commit.
+#![tactic(auto)]
+
+mod arguments;
+mod endings;
+mod running;
+
+use std::process::ExitCode;
+
+fn main(rt: HostRuntime) -> ExitCode {
+    running::run(&rt)
+}
