@@ -1,6 +1,7 @@
-use Rattle.std.proofs.Common.{refl}
-use Rattle.cat_base.specs.declared.refusal.Refusal.TheVariants.{Line as NoForm}
-use Rattle.cat_model.specs.Run.{Command}
+use Rattle.std.proofs.Common.{◌≡◌, refl}
+use Rattle.std.specs.Prelude.{Err}
+use Rattle.cat_base.specs.declared.refusal.Refusal.TheVariants.{Line as NoForm, Memory}
+use Rattle.cat_model.specs.Run.{Command, Reply}
 use Rattle.cat_ledger_lines.proofs.RefusalAnswers.{faults_answer}
 use Rattle.cat_world.specs.Worlds.{device_of, policy_of, shape_of}
 use Rattle.cat_world.proofs.Hearing.{open_says}
@@ -19,6 +20,7 @@ returns-in-NoForm g c = rw c.in-NoForm.is (record {
     );
     told = refused NoForm;
     names = tt;
+    memory = λ h. absurd (let no : ◌≡◌ {A = Reply} (Err NoForm) (Err Memory) = h in cc);
     can = λ x. x;
     schema = refl;
     policy = refl;

@@ -13,5 +13,5 @@ pub returns : goal.returns
 returns g c = rw (← c.self.view_is) (record {
   does = λ session.
       does g.D.Holder.bytes g.D.Holder.can_fail session (Said.commit c.args.text.now) c.self.inside.ledger (reply_of c.commit.result) c.commit.new.ledger
-      c.self.inside.rights c.self.inside.rights c.self.invariant (c.commit.ensures.answers session) c.commit.ensures.can c.commit.ensures.policy refl;
+      c.self.inside.rights c.self.inside.rights c.self.invariant (c.commit.ensures.answers session) c.commit.ensures.can c.commit.ensures.policy refl (λ _. refl);
 })

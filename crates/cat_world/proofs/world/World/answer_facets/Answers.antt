@@ -20,5 +20,5 @@ returns g c = rw (← c.self.view_is) (record {
       c.self.invariant.counted facets.dimension.now facets.count facets.query.now (reply_of c.count_facets.result) o
       (sym (option_map_twice (λ h. h.now) (λ h. h.view) c.get-right.result) ∙ ap (option_map (λ h. h.view)) c.get-right.ensures)
       (rw c.schema.ensures at c.count_facets.ensures.told))
-      (λ x. x) refl refl;
+      (λ x. x) refl refl (λ _. refl);
 })

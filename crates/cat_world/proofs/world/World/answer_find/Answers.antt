@@ -22,5 +22,5 @@ returns g c = rw (← c.self.view_is) (record {
       c.self.invariant.counted find.count (sort_of c.sort_asked.result) (sort_said find.sort) find.mark find.query.now (reply_of c.find.result) o
       c.sort_asked.ensures (sym (option_map_twice (λ h. h.now) (λ h. h.view) c.get-right.result) ∙ ap (option_map (λ h. h.view)) c.get-right.ensures)
       (rw c.schema.ensures at c.find.ensures.told))
-      (λ x. x) refl refl;
+      (λ x. x) refl refl (λ _. refl);
 })

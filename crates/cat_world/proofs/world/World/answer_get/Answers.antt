@@ -13,5 +13,5 @@ pub returns : goal.returns
 returns g c = rw (← c.self.view_is) (record {
   does =
       does g.D.Holder.bytes g.D.Holder.can_fail c.args.session (Said.get c.args.token c.args.id.now) c.self.inside.ledger (reply_of c.get.result) c.get.new.ledger
-      c.self.inside.rights c.self.inside.rights c.self.invariant c.get.ensures.answers c.get.ensures.can c.get.ensures.policy refl;
+      c.self.inside.rights c.self.inside.rights c.self.invariant c.get.ensures.answers c.get.ensures.can c.get.ensures.policy refl (λ _. refl);
 })

@@ -8,5 +8,5 @@ pub returns : goal.returns
 returns g c = rw (← c.self.view_is) (record {
   does = λ session.
       does g.D.Holder.bytes g.D.Holder.can_fail session (Said.text_of_commit c.args.generation) c.self.inside.ledger (reply_of c.text_of_commit.result) c.self.inside.ledger
-      c.self.inside.rights c.self.inside.rights c.self.invariant (c.text_of_commit.ensures.answers session) (λ x. x) refl refl;
+      c.self.inside.rights c.self.inside.rights c.self.invariant (c.text_of_commit.ensures.answers session) (λ x. x) refl refl (λ _. refl);
 })

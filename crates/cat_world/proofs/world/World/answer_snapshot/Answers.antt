@@ -13,5 +13,5 @@ pub returns : goal.returns
 returns g c = rw (← c.self.view_is) (record {
   does = λ session.
       does g.D.Holder.bytes g.D.Holder.can_fail session Said.snapshot c.self.inside.ledger (reply_of c.snapshot.result) c.snapshot.new.ledger
-      c.self.inside.rights c.self.inside.rights c.self.invariant (c.snapshot.ensures.answers session) c.snapshot.ensures.can c.snapshot.ensures.policy refl;
+      c.self.inside.rights c.self.inside.rights c.self.invariant (c.snapshot.ensures.answers session) c.snapshot.ensures.can c.snapshot.ensures.policy refl (λ _. refl);
 })
