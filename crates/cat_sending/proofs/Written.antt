@@ -4,7 +4,7 @@ use Rattle.std.specs.Prelude.{Option, Result, Ok, Err, map}
 use Rattle.std.specs.Result.{IsErr}
 use Rattle.std.specs.List.{flat_map}
 use Rattle.std.specs.Fmt.{decimal}
-use Rattle.std.proofs.lemmas.List.{take_more}
+use Rattle.std.proofs.lemmas.List.{take_more, take_rest}
 use Rattle.std.proofs.lemmas.List.Concat.{flat_map-append}
 use lib.Seq.{take-add, take-take}
 use Rattle.std.specs.Io.KnownBytes.{Appends, Keeps}
@@ -61,6 +61,13 @@ front_behind a b c x y all part = record {
 pub sent_behind : {T E : Type 0} (a b c : Option Text) (r : Result T E) (x y : Text) → Appends a b x → Sent b c r y → Sent a c r (x ++ y)
 sent_behind a b c (Ok u) x y all more = Appends-trans a b c x y all more
 sent_behind a b c (Err e) x y all part = front_behind a b c x y all part
+
+-- a front of the bytes went out, and the rest was sent
+pub sent_in_two : {T E : Type 0} (a b c : Option Text) (r : Result T E) (bytes : Text) (n : ℕ) → Appends a b (take n bytes)
+    → Sent b c r (take (length bytes - n) (drop n bytes)) → Sent a c r bytes
+sent_in_two a b c r bytes n all more =
+    subst (Sent a c r) (ap (λ l. take n bytes ++ l) (take_rest bytes n) ∙ take-append-drop n bytes)
+    (sent_behind a b c r (take n bytes) (take (length bytes - n) (drop n bytes)) all more)
 
 -- what a fault returns
 pub sent_at_fault : {T E : Type 0} {a b : Option Text} {x : Text} (r : Result T E) → IsErr r → AppendsFront a b x → Sent a b r x

@@ -12,6 +12,7 @@ use std::io::{ErrorKind, Write};
 pub struct WriteFault;
 
 /// One call of the writer. A call that a signal interrupts wrote nothing.
+#[inline(always)]
 fn send_some<W: Write>(bytes: &[u8], to: &mut W) -> Result<usize, WriteFault>
     ensures bound { IfOk result (λ n. n ≤ length bytes.now) }
     ensures ok { IfOk result (λ n. Appends (W.contents to.old) (W.contents to.new) (take n bytes.now)) }
@@ -25,8 +26,8 @@ fn send_some<W: Write>(bytes: &[u8], to: &mut W) -> Result<usize, WriteFault>
     }
 }
 
-/// Writes all of the bytes, in as many calls as the writer asks for. One that is interrupted without end is given up.
-pub fn send<W: Write>(bytes: &[u8], to: &mut W) -> Result<(), WriteFault>
+/// Writes the bytes in as many calls as the writer asks for. One that is interrupted without end is given up.
+fn send_rest<W: Write>(bytes: &[u8], to: &mut W) -> Result<(), WriteFault>
     ensures { Sent (W.contents to.old) (W.contents to.new) result bytes.now }
 {
     let mut sent = 0;
@@ -37,6 +38,24 @@ pub fn send<W: Write>(bytes: &[u8], to: &mut W) -> Result<(), WriteFault>
         sent += send_some(&bytes[sent..], to)?;
     }
     Err(WriteFault)
+}
+
+/// Writes all of the bytes, in as many calls as the writer asks for. One that is interrupted without end is given up.
+///
+/// A writer that gathers what it is given takes a piece in one call. That call is put in place of this one, so that a piece
+/// of a reply costs about what its copy does.
+#[inline(always)]
+pub fn send<W: Write>(bytes: &[u8], to: &mut W) -> Result<(), WriteFault>
+    ensures { Sent (W.contents to.old) (W.contents to.new) result bytes.now }
+{
+    if bytes.is_empty() {
+        return Ok(());
+    }
+    let sent = send_some(bytes, to)?;
+    if sent == bytes.len() {
+        return Ok(());
+    }
+    send_rest(&bytes[sent..], to)
 }
 
 /// Hands on what the writer holds back.
@@ -50,6 +69,7 @@ pub fn flush<W: Write>(to: &mut W) -> Result<(), WriteFault>
 }
 
 /// Writes a number in decimal, and the bytes behind it.
+#[inline]
 pub fn send_number<W: Write>(number: u64, behind: &[u8], to: &mut W) -> Result<(), WriteFault>
     ensures { Sent (W.contents to.old) (W.contents to.new) result (decimal number ++ behind.now) }
 {

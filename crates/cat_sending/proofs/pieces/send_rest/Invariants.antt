@@ -1,7 +1,7 @@
 -- What went out so far is a front of the bytes.
 use Rattle.std.proofs.Common.{◌≤◌, length, take}
 use Rattle.std.specs.Io.KnownBytes.{Appends}
-use Rattle.cat_sending.proofs.pieces.send.Given as goal
+use Rattle.cat_sending.proofs.pieces.send_rest.Given as goal
 
 abbrev pub invariant-loop : goal.invariant-loop
 invariant-loop g l = record {
