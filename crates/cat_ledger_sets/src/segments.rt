@@ -1,5 +1,6 @@
 //! The segments that memory has of a ledger, in its current list and in its recorded views.
 ghost use Rattle.cat_ledger_sets.specs.SegmentLaws.{CurrentAreAmong, SegmentsAreOne, SegmentsStay};
+ghost use Rattle.cat_ledger_sets.specs.KeptLaws.{RecordedAreAmong};
 
 use cat_segment::segments_are_told_by_their_bytes;
 
@@ -25,4 +26,11 @@ pub fn segments_are_one()
 /// Lucene's `DirectoryReader.open` over an `IndexWriter` has the `SegmentInfos` of now.
 pub fn current_are_among()
     ensures { CurrentAreAmong }
+{}
+
+/// The segments of a recorded view are among those that memory has.
+///
+/// Lucene's `SearcherLifetimeManager.acquire` gives a searcher whose leaves stand as long as it does.
+pub fn recorded_are_among()
+    ensures { RecordedAreAmong }
 {}
