@@ -7,6 +7,7 @@ use cat_base::WriteNo;
 use cat_directory::{Directory, Shelf};
 use cat_ledger_core::Core;
 use cat_schema::Schema;
+use cat_search::Leaf;
 use cat_upkeep::MergePolicy;
 use std::alloc::Global;
 use std::marker::Model;
@@ -52,6 +53,14 @@ impl<D: Directory + Shelf> Ledger<D> {
         ensures { result ≡ (shape_in self.now).count }
     {
         self.core.count()
+    }
+
+    /// The segments of now, in order, and which of their rows are live. (Lucene: the leaves of `DirectoryReader.open` over an
+    /// `IndexWriter`.)
+    pub fn leaves(&self) -> &[Leaf]
+        ensures { result.now ≡ (shape_in self.now).leaves }
+    {
+        self.core.leaves()
     }
 
     /// When it merges.
