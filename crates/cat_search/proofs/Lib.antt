@@ -18,3 +18,4 @@ pub mod Ranks
 pub mod Gathered
 pub mod ViewPages
 pub mod Stored
+pub mod Killed

@@ -1,5 +1,6 @@
 pub mod BestItems
 pub mod Sorts
+pub mod Ids
 pub mod Keys
 pub mod Standings
 pub mod Candidates

@@ -1,12 +1,14 @@
 //! Pages, and the entries that they show.
 ghost use Rattle.std.specs.Prelude.{◌≡◌, map, option_map, IfOk};
+ghost use Rattle.cat_search.specs.Ids.{id_of};
 ghost use Rattle.cat_search.specs.Keys.{key_of};
 ghost use Rattle.cat_search.specs.Standings.{key_shown, entry_shown};
 ghost use Rattle.cat_search.specs.Candidates.{standing_of, rank_of};
 
+use crate::ids::Id;
 use crate::keys::{Key, KeyRef};
 use crate::standings::{Candidate, Rank};
-use cat_base::{Text, WriteNo};
+use cat_base::WriteNo;
 use std::alloc::{AllocError, Global};
 use std::marker::Model;
 
@@ -14,18 +16,19 @@ use std::marker::Model;
 #[derive(Drop)]
 pub struct Entry {
     number: WriteNo,
-    id: Text,
+    id: Id,
     key: Option<Key>,
 }
 
 impl Model for Entry {
     ghost use Rattle.std.specs.Prelude.{option_map};
     ghost use Rattle.cat_model.specs.Page as model;
+    ghost use Rattle.cat_search.specs.Ids.{id_of};
     ghost use Rattle.cat_search.specs.Keys.{key_of};
 
     ghost Value = { model.Entry };
 
-    ghost view = { λ e. record { number = e.number; id = e.id; key = option_map key_of e.key } };
+    ghost view = { λ e. record { number = e.number; id = id_of e.id; key = option_map key_of e.key } };
 }
 
 impl Entry {
@@ -110,7 +113,7 @@ pub(crate) fn entry_of(alloc: Global, candidate: &Candidate) -> Result<Entry, Al
 {
     Ok(Entry {
         number: candidate.number,
-        id: Text::from_str(alloc, candidate.id)?,
+        id: Id::of(alloc, candidate.id)?,
         key: shown_key(alloc, &candidate.rank)?,
     })
 }

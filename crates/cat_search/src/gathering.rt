@@ -92,15 +92,15 @@ pub(crate) fn hits_of<'a>(
     ensures long { IfOk result (λ h. length (rows_of h) ≡ length leaf.now.segment.rows) }
 {
     if query.is_everything() {
-        return Ok(Hits::Live(leaf.live().rows()));
+        return Ok(Hits::live_in(leaf));
     }
     let rows = matched_rows(alloc, query, set, leaf)?;
     Ok(Hits::Matched(rows))
 }
 
 /// As many hits more. What a `usize` can't count doesn't fit in memory either.
-fn counted(total: usize, hits: &RowSet) -> Result<usize, AllocError>
-    ensures ok { IfOk result (λ n. n ≡ total + count_by (λ b. b) hits.now) }
+fn counted(total: usize, hits: &Hits) -> Result<usize, AllocError>
+    ensures ok { IfOk result (λ n. n ≡ total + count_by (λ b. b) (rows_of hits.now)) }
 {
     total.checked_add(hits.count()).ok_or(AllocError)
 }
@@ -188,8 +188,8 @@ fn best_hits<'a>(
     let mut best = Best::new(alloc, wanted.count);
     for (index, leaf) in leaves.iter().enumerate() {
         let hits = hits_of(alloc, query, set_at(sets, index), leaf)?;
+        total = counted(total, &hits)?;
         let rows = hits.rows();
-        total = counted(total, rows)?;
         let ranks = LeafRanks::of(leaf.segment(), wanted.order);
         offer_rows(&mut best, &ranks, rows, &wanted.mark)?;
     }
@@ -211,11 +211,11 @@ fn added_hits<'a>(
         ≡ take wanted.now.count (behind (mark_standing wanted.now.mark) (map (row_standing Added) (hits_in leaves.now (query_of query.now))))) }
 {
     let mut total = 0;
-    let mut taken = Vec::new(alloc);
+    let mut taken = Vec::with_capacity(alloc, wanted.count)?;
     for (index, leaf) in leaves.iter().enumerate() {
         let set = set_at(sets, index);
         let hits = hits_of(alloc, query, set, leaf)?;
-        total = counted(total, hits.rows())?;
+        total = counted(total, &hits)?;
         take_behind(&mut taken, wanted, leaf.segment(), hits)?;
     }
     Ok((total, taken))

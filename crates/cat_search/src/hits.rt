@@ -1,7 +1,8 @@
 //! The hits of a leaf: its own live set, lent, or a set that was made of what a query matches.
-ghost use Rattle.std.specs.Prelude.{◌≡◌, IfOk};
+ghost use Rattle.std.specs.Prelude.{◌≡◌, IfOk, count_by, length};
 ghost use Rattle.cat_search.specs.Hits.{rows_of};
 
+use crate::view::Leaf;
 use cat_values::RowSet;
 use std::alloc::AllocError;
 
@@ -9,18 +10,37 @@ use std::alloc::AllocError;
 #[derive(Drop)]
 pub(crate) enum Hits<'a> {
     /// All that are live: the live set of the leaf, lent.
-    Live(&'a RowSet),
+    Live(&'a Leaf),
     /// Those of the set.
     Matched(RowSet),
 }
 
-impl Hits<'_> {
+impl<'a> Hits<'a> {
+    /// All live rows of the leaf.
+    pub(crate) fn live_in(leaf: &'a Leaf) -> Hits<'a>
+        ensures rows { rows_of result ≡ leaf.now.live }
+        ensures long { length (rows_of result) ≡ length leaf.now.segment.rows }
+    {
+        prove!(leaf.live().len() == leaf.segment().len());
+        Hits::Live(leaf)
+    }
+
+    /// How many rows there are. Those of a live set are counted already.
+    pub(crate) fn count(&self) -> usize
+        ensures { result ≡ count_by (λ b. b) (rows_of self.now) }
+    {
+        match self {
+            Hits::Live(leaf) => leaf.live_count(),
+            Hits::Matched(rows) => rows.count(),
+        }
+    }
+
     /// The rows, borrowed.
     pub(crate) fn rows(&self) -> &RowSet
         ensures { result.now ≡ rows_of self.now }
     {
         match self {
-            Hits::Live(rows) => rows,
+            Hits::Live(leaf) => leaf.live().rows(),
             Hits::Matched(rows) => rows,
         }
     }
@@ -30,7 +50,7 @@ impl Hits<'_> {
         ensures ok { IfOk result (λ s. s ≡ rows_of self.entry) }
     {
         match self {
-            Hits::Live(rows) => rows.copy(),
+            Hits::Live(leaf) => leaf.live().rows().copy(),
             Hits::Matched(rows) => Ok(rows),
         }
     }

@@ -10,6 +10,7 @@ mod entries;
 mod gathering;
 mod hits;
 mod hold;
+mod ids;
 mod keys;
 mod leaf_ranks;
 mod lookup;

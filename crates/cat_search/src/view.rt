@@ -1,5 +1,5 @@
 //! Views: segments with their live rows, as a searcher sees them.
-ghost use Rattle.std.specs.Prelude.{◌≡◌, ◌<◌, ℕ, false, List, length, map, option_map, slice_set, Ok, None, IfOk, IfErr, OnOk, OnErr};
+ghost use Rattle.std.specs.Prelude.{◌≡◌, ◌<◌, ℕ, false, List, count_by, length, map, option_map, slice_set, Ok, None, IfOk, IfErr, OnOk, OnErr};
 ghost use Rattle.std.specs.Arc.{arc_value};
 ghost use Rattle.std.specs.List.{flat_map};
 ghost use Rattle.cat_base.specs.declared.refusal.Refusal.TheVariants.{Device, Damaged};
@@ -26,10 +26,12 @@ use std::sync::Arc;
 pub struct Leaf {
     segment: Arc<Segment>,
     live: Arc<Live>,
+    // How many rows are live, so that what matches every item is counted without a look at the rows.
+    count: usize,
 }
 
 impl Model for Leaf {
-    ghost use Rattle.std.specs.Prelude.{◌≡◌, length};
+    ghost use Rattle.std.specs.Prelude.{◌≡◌, count_by, length};
     ghost use Rattle.std.specs.Arc.{arc_value};
     ghost use Rattle.cat_model.specs.View as model;
 
@@ -37,7 +39,7 @@ impl Model for Leaf {
 
     ghost view = { λ l. record { segment = arc_value l.segment; live = arc_value l.live } };
 
-    ghost invariant = { λ l. length (arc_value l.live) ≡ length (arc_value l.segment).rows };
+    ghost invariant = { λ l. (length (arc_value l.live) ≡ length (arc_value l.segment).rows) × (l.count ≡ count_by (λ b. b) (arc_value l.live)) };
 }
 
 impl Leaf {
@@ -46,7 +48,12 @@ impl Leaf {
         requires { length (arc_value live) ≡ length (arc_value segment).rows }
         ensures { result ≡ record { segment = arc_value segment; live = arc_value live } }
     {
-        Leaf { segment, live }
+        let count = live.count();
+        Leaf {
+            segment,
+            live,
+            count,
+        }
     }
 
     /// The same leaf once more; all in it is shared. The error also stands for a full count of users.
@@ -55,7 +62,11 @@ impl Leaf {
     {
         let segment = Arc::try_clone(&self.segment)?;
         let live = Arc::try_clone(&self.live)?;
-        Ok(Leaf { segment, live })
+        Ok(Leaf {
+            segment,
+            live,
+            count: self.count,
+        })
     }
 
     /// The segment.
@@ -73,20 +84,31 @@ impl Leaf {
         &self.live
     }
 
+    /// How many rows are live, which is known without a look at them (Lucene: `IndexReader.numDocs`).
+    pub(crate) fn live_count(&self) -> usize
+        ensures { result ≡ count_by (λ b. b) self.now.live }
+    {
+        self.count
+    }
+
     /// Makes the row dead in this leaf alone; one that is dead stays so. A live set that other leaves share is copied first
     /// (Lucene: `PendingDeletes.delete`). An error changes nothing.
+    #[tactic(auto, using(crate::proofs::Killed::count_killed))]
     pub fn kill(&mut self, alloc: Global, row: usize) -> Result<(), AllocError>
         requires { row < length self.old.segment.rows }
         ensures ok { OnOk result (self.new ≡ record { segment = self.old.segment; live = slice_set self.old.live row false }) }
         ensures err { OnErr result (self.new ≡ self.old) }
     {
+        let lost = self.live.is_live(row) as usize;
         if let Some(live) = Arc::get_mut(&mut self.live) {
             live.kill(row);
+            self.count -= lost;
             return Ok(());
         }
         let mut copy = self.live.copy()?;
         copy.kill(row);
         self.live = Arc::new(alloc, copy)?;
+        self.count -= lost;
         Ok(())
     }
 

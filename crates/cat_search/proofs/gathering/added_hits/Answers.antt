@@ -1,4 +1,4 @@
-use Rattle.std.proofs.Common.{subst, ◌≡◌, ◌+◌, count_by, refl, sym, IfSome, ◌∙◌, map, take, ap}
+use Rattle.std.proofs.Common.{subst, ◌≡◌, refl, sym, IfSome, ◌∙◌, map, take, ap}
 use Rattle.cat_model.specs.View.{row_matches}
 use Rattle.cat_query.specs.View.{query_of}
 use Rattle.cat_search.specs.declared.sort.Order.TheVariants.{Added}
@@ -21,8 +21,7 @@ loop-index-preserved c =
     let rows = rows_of c.in_ok-hits.hits in
     record {
       total =
-          total_more q leaves i c.index-leaves-index.result c.index-leaves-index.is c.loop-index-test.true rows c.in_ok-hits.ensures.ok c.in_ok-hits.ensures.long c.loop-index.total c.in_ok-total.total c.loop-index.invariant.total
-          (c.in_ok-total.ensures.ok ∙ ap (λ s. c.loop-index.total + count_by (λ b. b) s) c.rows.ensures);
+          total_more q leaves i c.index-leaves-index.result c.index-leaves-index.is c.loop-index-test.true rows c.in_ok-hits.ensures.ok c.in_ok-hits.ensures.long c.loop-index.total c.in_ok-total.total c.loop-index.invariant.total c.in_ok-total.ensures.ok;
       taken = c.in_ok-take_behind.ensures.taken standings c.loop-index.invariant.taken
           ∙ ap (take c.args.wanted.now.count) (standings_more q leaves i c.index-leaves-index.result c.index-leaves-index.is c.loop-index-test.true rows c.in_ok-hits.ensures.ok mark Added segment (map (row_standing Added) segment.rows) c.segment.ensures refl);
     }

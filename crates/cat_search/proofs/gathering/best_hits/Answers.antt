@@ -1,4 +1,4 @@
-use Rattle.std.proofs.Common.{◌≡◌, sym, IfSome, ◌∙◌, List, length, map, take, ap, subst}
+use Rattle.std.proofs.Common.{◌≡◌, ◌+◌, count_by, sym, IfSome, ◌∙◌, List, length, map, take, ap, subst}
 use Rattle.std.proofs.lemmas.List.{take_all}
 use Rattle.cat_model.specs.Ranks.{sorted}
 use Rattle.cat_model.specs.View.{Leaf, row_matches, selected}
@@ -23,7 +23,8 @@ loop-index-preserved c =
     let rows = c.rows-rows.result.now in
     let is = ap (λ s. selected s c.index-leaves-index.result.segment.rows) c.rows-rows.ensures ∙ c.in_ok-hits.ensures.ok in
     record {
-      total = total_more q leaves i c.index-leaves-index.result c.index-leaves-index.is c.loop-index-test.true rows is (ap length c.rows-rows.ensures ∙ c.in_ok-hits.ensures.long) c.loop-index.total c.in_ok-total.total c.loop-index.invariant.total c.in_ok-total.ensures.ok;
+      total = total_more q leaves i c.index-leaves-index.result c.index-leaves-index.is c.loop-index-test.true rows is (ap length c.rows-rows.ensures ∙ c.in_ok-hits.ensures.long) c.loop-index.total c.in_ok-total.total c.loop-index.invariant.total
+          (c.in_ok-total.ensures.ok ∙ ap (λ s. c.loop-index.total + count_by (λ b. b) s) (sym c.rows-rows.ensures));
       limit = c.in_ok-offer_rows.ensures.limit ∙ c.loop-index.invariant.limit;
       best = subst (IsBestAt c.offer_rows.new.best)
           (standings_more q leaves i c.index-leaves-index.result c.index-leaves-index.is c.loop-index-test.true rows is mark o c.segment.result.now c.of-ranks.result c.segment.ensures c.of-ranks.ensures)

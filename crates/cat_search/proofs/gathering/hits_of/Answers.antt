@@ -1,4 +1,4 @@
-use Rattle.std.proofs.Common.{◌∙◌, length, sym, ap}
+use Rattle.std.proofs.Common.{◌∙◌, sym, ap}
 use Rattle.cat_model.specs.View.{live_rows, selected}
 use Rattle.cat_query.specs.View.{query_of}
 use Rattle.cat_search.proofs.Gathered.{everything}
@@ -8,6 +8,6 @@ pub returns-then-is_everything : goal.returns-then-is_everything
 returns-then-is_everything c =
     let leaf = c.args.leaf.now in
     record {
-      ok = ap (λ s. selected s leaf.segment.rows) (c.rows.ensures ∙ c.live.ensures.value) ∙ sym (everything (query_of c.args.query.now) (λ i. c.is_everything.ensures.all c.if-is_everything.true i) (live_rows leaf));
-      long = ap length (c.rows.ensures ∙ c.live.ensures.value) ∙ c.live.ensures.long;
+      ok = ap (λ s. selected s leaf.segment.rows) c.live_in.ensures.rows ∙ sym (everything (query_of c.args.query.now) (λ i. c.is_everything.ensures.all c.if-is_everything.true i) (live_rows leaf));
+      long = c.live_in.ensures.long;
     }
