@@ -8,14 +8,14 @@ use Rattle.std.proofs.lemmas.List.{take_more, take_rest}
 use Rattle.std.proofs.lemmas.List.Concat.{flat_map-append}
 use lib.Seq.{take-add, take-take}
 use Rattle.std.specs.Io.KnownBytes.{Appends, Keeps}
-use Rattle.std.proofs.KnownBytes.{Appends-trans, Appends-kept}
+use Rattle.std.proofs.KnownBytes.{Appends-nil, Appends-trans, Appends-kept}
 use Rattle.cat_base.specs.declared.refusal.Refusal.{Refusal}
 use Rattle.cat_base.specs.declared.refusal.Refusal.TheVariants.{Query}
 use Rattle.cat_base.specs.Refusals.{number_of}
 use Rattle.cat_model.specs.Text.{Text}
 use Rattle.cat_model.specs.Lines.{line_text, refusal_words}
 use Rattle.cat_model.specs.Served.{AppendsFront, refused_text}
-use Rattle.cat_sending.specs.Out.{Sent}
+use Rattle.cat_sending.specs.Out.{Gathers, PassesOn, Sent}
 
 -- ---- the bytes of one piece
 
@@ -76,6 +76,63 @@ sent_at_fault (Err e) is part = part
 
 pub front_as : {a b : Option Text} {x y : Text} → x ≡ y → AppendsFront a b x → AppendsFront a b y
 front_as {a} {b} e = subst (AppendsFront a b) e
+
+-- ---- pieces that are gathered
+
+-- a text that is taken in whole, so that nothing goes out
+pub taken_in : (a : Option Text) (waited waits text : Text) → waits ≡ waited ++ text → PassesOn a a waited waits text
+taken_in a waited waits text e = record { out = []; went = Appends-nil a; whole = sym e }
+
+-- all that waited went out, and the text was sent behind it
+pub all_out : {T E : Type 0} (a b c : Option Text) (r : Result T E) (waited waits text : Text) → waits ≡ [] → Appends a b waited → Sent b c r text
+    → Gathers a c waited waits r text
+all_out a b c (Ok u) waited waits text e before now = record {
+  out = waited ++ text;
+  went = Appends-trans a b c waited text before now;
+  whole = sym (append-nil (waited ++ text)) ∙ ap (λ l. (waited ++ text) ++ l) (sym e);
+}
+all_out a b c (Err u) waited waits text e before part = front_behind a b c waited text before part
+
+-- a front of what waited and of the first piece is a front of all
+pub gathered_before : {a b : Option Text} (waited x y : Text) → AppendsFront a b (waited ++ x) → AppendsFront a b (waited ++ (x ++ y))
+gathered_before waited x y part = front_as (append_assoc waited x y) (front_before y part)
+
+-- what a fault returns
+pub gathered_at_fault : {T E : Type 0} {a b : Option Text} (waited waits x : Text) (r : Result T E) → IsErr r → AppendsFront a b (waited ++ x)
+    → Gathers a b waited waits r x
+gathered_at_fault waited waits x (Ok u) is part = cc
+gathered_at_fault waited waits x (Err e) is part = part
+
+-- where a piece was taken in, what went out is all but what waits
+passed : (waited waits x y out : Text) → waited ++ x ≡ out ++ waits → out ++ (waits ++ y) ≡ waited ++ (x ++ y)
+passed waited waits x y out e = sym (append_assoc out waits y) ∙ ap (λ l. l ++ y) (sym e) ∙ append_assoc waited x y
+
+-- the first piece was taken in, and a front of the rest went out
+pub gathered_front : (a b c : Option Text) (waited waits x y : Text) → PassesOn a b waited waits x → AppendsFront b c (waits ++ y)
+    → AppendsFront a c (waited ++ (x ++ y))
+gathered_front a b c waited waits x y first part = front_as (passed waited waits x y first.out first.whole) (front_behind a b c first.out (waits ++ y) first.went part)
+
+-- one piece behind another
+pub both_taken : (a b c : Option Text) (waited between waits x y : Text) → PassesOn a b waited between x → PassesOn b c between waits y → PassesOn a c waited waits (x ++ y)
+both_taken a b c waited between waits x y first more = record {
+  out = first.out ++ more.out;
+  went = Appends-trans a b c first.out more.out first.went more.went;
+  whole = sym (passed waited between x y first.out first.whole) ∙ ap (λ l. first.out ++ l) more.whole ∙ sym (append_assoc first.out more.out waits);
+}
+
+pub gathered_behind : {T E : Type 0} (a b c : Option Text) (waited between waits : Text) (r : Result T E) (x y : Text)
+    → PassesOn a b waited between x → Gathers b c between waits r y → Gathers a c waited waits r (x ++ y)
+gathered_behind a b c waited between waits (Ok u) x y first more = both_taken a b c waited between waits x y first more
+gathered_behind a b c waited between waits (Err e) x y first part = gathered_front a b c waited between x y first part
+
+-- where nothing waited the text alone goes out
+pub unwaited : {a b : Option Text} (waited x : Text) → waited ≡ [] → AppendsFront a b (waited ++ x) → AppendsFront a b x
+unwaited waited x e = front_as (ap (λ l. l ++ x) e)
+
+pub gathered_sent : {T E : Type 0} (a b c : Option Text) (waited waits : Text) (r : Result T E) (x : Text) → waited ≡ []
+    → PassesOn a b waited waits x → Sent b c r waits → Sent a c r x
+gathered_sent a b c waited waits r x e taken last =
+    subst (Sent a c r) (sym taken.whole ∙ ap (λ l. l ++ x) e) (sent_behind a b c r taken.out waits taken.went last)
 
 -- ---- lists of lines
 
