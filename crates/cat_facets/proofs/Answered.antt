@@ -1,5 +1,5 @@
 -- The answers to FACETS over whatever records a view shows.
-use Rattle.std.proofs.Common.{◌≡◌, ℕ, ◌<◌, ◌≤◌, true, cond, List, length, map, nat_lt, Result, Ok, Err, IfErr, sym, ap, ◌∙◌, subst}
+use Rattle.std.proofs.Common.{◌≡◌, ℕ, ◌<◌, ◌≤◌, false, cond, List, length, map, nat_lt, Result, Ok, Err, IfErr, sym, ap, ◌∙◌, subst}
 use Rattle.std.specs.List.{flat_map}
 use Rattle.std.proofs.lemmas.Bool.{lt-ltb, le-ltb}
 use Rattle.std.specs.Prelude.{All}
@@ -18,24 +18,33 @@ use Rattle.cat_query.specs.View.{query_of}
 use Rattle.cat_facets.specs.declared.first.Ranked.{Ranked}
 use Rattle.cat_facets.specs.Met.{comes_first, met_from, told}
 use Rattle.cat_model.specs.GlobalOrdinals.{view_dictionary}
-use Rattle.cat_facets.specs.States.{ReaderState, HasLabels, answer_over}
+use Rattle.cat_facets.specs.States.{HasLabels, IsDimensionOf, answer_over}
 use Rattle.cat_facets.specs.Tallies.{has_label, hit_labels, labelled_count, AreCounts}
 use Rattle.cat_facets.proofs.Bridge.{view_labels}
 use Rattle.cat_facets.proofs.Leaves.{hits_heard}
 use Rattle.cat_facets.proofs.Told.{facets_are}
 
--- too many counts are asked for
-pub refused : (state : ReaderState) (q : Query) (n : ℕ) (rs : List Record) → is_facet_kind (kind_of state.view.schema state.dimension) ≡ true → page_limit < n → answer_over state q n rs ≡ Err Count
-refused state q n rs facet past =
-    ap (λ b. cond b (cond (nat_lt page_limit n) (Err Count) (Ok (Found.facets (facets_in rs (query_of q) state.dimension n)))) (Err NotFacet)) facet
-    ∙ ap (λ b. cond b (Err Count) (Ok (Found.facets (facets_in rs (query_of q) state.dimension n)))) (lt-ltb page_limit n past)
+-- the dimension is no facet field
+pub no_facet : (view : View) (dimension : Text) (q : Query) (n : ℕ) (rs : List Record) → is_facet_kind (kind_of view.schema dimension) ≡ false → answer_over view dimension q n rs ≡ Err NotFacet
+no_facet view dimension q n rs other =
+    ap (λ b. cond b (cond (nat_lt page_limit n) (Err Count) (Ok (Found.facets (facets_in rs (query_of q) dimension n)))) (Err NotFacet)) other
 
-pub found : (state : ReaderState) (q : Query) (n : ℕ) (rs : List Record) (f : Facets) → is_facet_kind (kind_of state.view.schema state.dimension) ≡ true → n ≤ page_limit
-    → f ≡ facets_of (hits rs (query_of q)) state.dimension n → answer_over state q n rs ≡ Ok (Found.facets f)
-found state q n rs f facet few is =
-    ap (λ b. cond b (cond (nat_lt page_limit n) (Err Count) (Ok (Found.facets (facets_in rs (query_of q) state.dimension n)))) (Err NotFacet)) facet
-    ∙ ap (λ b. cond b (Err Count) (Ok (Found.facets (facets_in rs (query_of q) state.dimension n)))) (le-ltb page_limit n few)
-    ∙ ap (λ g. Ok (Found.facets g)) (sym is)
+-- too many counts are asked for
+pub refused : (view : View) (dimension : Text) (q : Query) (n : ℕ) (rs : List Record) → IsDimensionOf view dimension → page_limit < n → answer_over view dimension q n rs ≡ Err Count
+refused view dimension q n rs facet past =
+    ap (λ b. cond b (cond (nat_lt page_limit n) (Err Count) (Ok (Found.facets (facets_in rs (query_of q) dimension n)))) (Err NotFacet)) facet
+    ∙ ap (λ b. cond b (Err Count) (Ok (Found.facets (facets_in rs (query_of q) dimension n)))) (lt-ltb page_limit n past)
+
+-- counts are due
+pub told_facets : (view : View) (dimension : Text) (q : Query) (n : ℕ) (rs : List Record) → IsDimensionOf view dimension → n ≤ page_limit
+    → answer_over view dimension q n rs ≡ Ok (Found.facets (facets_of (hits rs (query_of q)) dimension n))
+told_facets view dimension q n rs facet few =
+    ap (λ b. cond b (cond (nat_lt page_limit n) (Err Count) (Ok (Found.facets (facets_in rs (query_of q) dimension n)))) (Err NotFacet)) facet
+    ∙ ap (λ b. cond b (Err Count) (Ok (Found.facets (facets_in rs (query_of q) dimension n)))) (le-ltb page_limit n few)
+
+pub found : (view : View) (dimension : Text) (q : Query) (n : ℕ) (rs : List Record) (f : Facets) → IsDimensionOf view dimension → n ≤ page_limit
+    → f ≡ facets_of (hits rs (query_of q)) dimension n → answer_over view dimension q n rs ≡ Ok (Found.facets f)
+found view dimension q n rs f facet few is = told_facets view dimension q n rs facet few ∙ ap (λ g. Ok (Found.facets g)) (sym is)
 
 -- a refusal is due only where it is the answer
 pub due_refused : {X : Type 0} (given : Result X Refusal) (e : Refusal) (r : Result Found Refusal) → r ≡ Err e → given ≡ Err e → IfErr r (λ x. given ≡ Err x)

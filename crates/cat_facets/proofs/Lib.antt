@@ -5,6 +5,8 @@ pub mod Counted
 pub mod FacetFields
 pub mod Firsts
 pub mod Globals
+pub mod Kept
 pub mod Leaves
 pub mod Ranking
+pub mod SameSegments
 pub mod Told

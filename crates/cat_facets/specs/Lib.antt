@@ -1,3 +1,4 @@
-pub mod Tallies
+pub mod Kept
 pub mod Met
 pub mod States
+pub mod Tallies

@@ -1,21 +1,39 @@
--- A dimension of a view, and the answers to the reads that count in it.
-use Rattle.std.specs.Prelude.{◌≡◌, ℕ, ◌<◌, List, length, true, slice_index_or, All, Result, Ok}
+-- A dimension of segments, and the answers to the reads that count in it.
+use Rattle.std.specs.Prelude.{◌≡◌, ℕ, ◌<◌, List, [], length, map, true, slice_index_or, All, Result, Ok}
 use Rattle.cat_base.specs.declared.refusal.Refusal.{Refusal}
 use Rattle.cat_model.specs.Answer.{Found, Read, answer, is_facet_kind}
 use Rattle.cat_model.specs.Item.{Record, kind_of}
 use Rattle.cat_model.specs.Ordinals.{dictionary_of}
 use Rattle.cat_model.specs.Text.{Text}
-use Rattle.cat_model.specs.View.{Leaf, View, Shows}
+use Rattle.cat_model.specs.View.{Leaf, Segment, View, Shows}
 use Rattle.cat_query.specs.declared.query.Query.{Query}
 use Rattle.cat_query.specs.View.{query_of}
 use Rattle.cat_facets.specs.declared.segments.SegmentLabels.{SegmentLabels}
-use Rattle.cat_model.specs.GlobalOrdinals.{texts_in_leaf, view_dictionary, IsOrdinalMap}
+use Rattle.cat_model.specs.GlobalOrdinals.{leaf_dictionary, texts_in_leaf, IsOrdinalMap}
 use Rattle.cat_facets.specs.Tallies.{leaf_labels, labelled_count}
 
--- a view, and a dimension of it
+-- the segments of a view in order, and a dimension
 pub record ReaderState : Type 0 where
-  pub view : View
+  pub segments : List Segment
   pub dimension : Text
+
+-- ---- segments
+
+-- the segments of leaves
+abbrev pub segments_of : List Leaf → List Segment
+segments_of leaves = map (λ l. l.segment) leaves
+
+-- a segment as a leaf: what is kept of it doesn't ask which rows are live
+abbrev pub as_leaf : Segment → Leaf
+as_leaf s = record { segment = s; live = [] }
+
+-- segments as leaves
+abbrev pub as_leaves : List Segment → List Leaf
+as_leaves segments = map as_leaf segments
+
+-- the labels of all rows of these leaves: the union of their dictionaries
+abbrev pub union_in : Text → List Leaf → List Text
+union_in dimension leaves = dictionary_of (map (leaf_dictionary dimension) leaves)
 
 -- ---- what is kept
 
@@ -38,19 +56,26 @@ pub record AreKnown (dimension : Text) (all : List Text) (leaves : List Leaf) (k
   pub each : (i : ℕ) (leaf : Leaf) (d : SegmentLabels) → i < length leaves
       → IsKnown all (leaf_labels dimension (slice_index_or leaves i leaf)) (slice_index_or known i d)
 
--- what is kept of the dimension of a view
-pub record IsState (state : ReaderState) (all : List Text) (segments : List SegmentLabels) : Type 0 where
-  pub facet : is_facet_kind (kind_of state.view.schema state.dimension) ≡ true
-  pub texts : All (HasLabels state.dimension) state.view.leaves
-  pub labels : all ≡ view_dictionary state.dimension state.view
-  pub known : AreKnown state.dimension all state.view.leaves segments
+-- what is kept of the dimension of these leaves
+pub record IsKept (dimension : Text) (leaves : List Leaf) (all : List Text) (ordinals : List SegmentLabels) : Type 0 where
+  pub texts : All (HasLabels dimension) leaves
+  pub labels : all ≡ union_in dimension leaves
+  pub known : AreKnown dimension all leaves ordinals
+
+-- what is kept of the dimension of segments
+abbrev pub IsState : ReaderState → List Text → List SegmentLabels → Type 0
+IsState state all ordinals = IsKept state.dimension (as_leaves state.segments) all ordinals
 
 -- ---- answers
 
--- the answer to the FACETS over records
-abbrev pub answer_over : ReaderState → Query → ℕ → List Record → Result Found Refusal
-answer_over state q n rs = answer state.view.schema rs (Read.facets state.dimension n (Ok (query_of q)))
+-- one counts over the field of the name in the view
+abbrev pub IsDimensionOf : View → Text → Type 0
+IsDimensionOf view dimension = is_facet_kind (kind_of view.schema dimension) ≡ true
+
+-- the answer to the FACETS over records, under the schema of the view
+abbrev pub answer_over : View → Text → Query → ℕ → List Record → Result Found Refusal
+answer_over view dimension q n rs = answer view.schema rs (Read.facets dimension n (Ok (query_of q)))
 
 -- it is the answer over whatever records the view shows
-abbrev pub IsAnswerTo : ReaderState → Query → ℕ → Result Found Refusal → Type 0
-IsAnswerTo state q n found = (rs : List Record) → Shows state.view rs → answer_over state q n rs ≡ found
+abbrev pub IsAnswerTo : View → Text → Query → ℕ → Result Found Refusal → Type 0
+IsAnswerTo view dimension q n found = (rs : List Record) → Shows view rs → answer_over view dimension q n rs ≡ found

@@ -6,10 +6,14 @@ mod counting;
 mod facets;
 mod first;
 mod leaf;
+mod limits;
 mod segments;
 mod state;
+mod states;
 mod totals;
 mod uncounting;
 
 pub use facets::{FacetCount, Facets};
+pub use limits::MAX_KEPT_STATES;
 pub use state::ReaderState;
+pub use states::ReaderStates;

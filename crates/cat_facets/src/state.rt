@@ -1,5 +1,5 @@
-//! What counting in a dimension of a view needs.
-ghost use Rattle.std.specs.Prelude.{◌≡◌, ◌≢◌, ◌⊎◌, ◌<◌, List, length, option_map, false, Some, Ok, Err, IfOk, IfErr};
+//! What counting in a dimension of a view's segments needs.
+ghost use Rattle.std.specs.Prelude.{◌≡◌, ◌≢◌, ◌⊎◌, ◌<◌, List, length, option_map, false, Some, Ok, Err, IfOk, IfErr, OnOk};
 ghost use Rattle.std.specs.List.{HoldsAt};
 ghost use Rattle.cat_base.specs.declared.refusal.Refusal.TheVariants.{Memory, NotFacet};
 ghost use Rattle.cat_model.specs.Answer.{Found, is_facet_kind};
@@ -7,8 +7,8 @@ ghost use Rattle.cat_model.specs.Item.{Record, kind_of};
 ghost use Rattle.cat_model.specs.Ordinals.{text_at, IsOrdinal};
 ghost use Rattle.cat_model.specs.View.{Shows};
 ghost use Rattle.cat_schema.specs.Kinds.{field_kind_of};
-ghost use Rattle.cat_model.specs.GlobalOrdinals.{leaf_dictionary, view_dictionary};
-ghost use Rattle.cat_facets.specs.States.{answer_over, IsAnswerTo};
+ghost use Rattle.cat_model.specs.GlobalOrdinals.{leaf_dictionary};
+ghost use Rattle.cat_facets.specs.States.{answer_over, as_leaves, segments_of, union_in, IsAnswerTo, IsDimensionOf};
 
 use crate::facets::Facets;
 use crate::first::{counts_told, first_met};
@@ -18,20 +18,23 @@ use cat_base::{MAX_PAGE, Refusal, Text};
 use cat_schema::{Kind, kind_of};
 use cat_search::{Prepared, View};
 use cat_values::Dictionary;
-use std::alloc::Global;
+use std::alloc::{AllocError, Global};
 use std::marker::Model;
+use std::snapshot::Snapshot;
 
-/// The global ordinals of the labels that a view has in one dimension, made once for the view (Lucene: a
-/// `DefaultSortedSetDocValuesReaderState` with its `OrdinalMap`). It shares the view, and never changes.
+/// The global ordinals of the labels that the segments of a view have in one dimension, made once for them (Lucene: a
+/// `DefaultSortedSetDocValuesReaderState` with its `OrdinalMap`). It never changes, and serves each view of the same segments:
+/// which of their rows are live is asked when hits are counted. It holds no segment, so that it keeps none in memory.
 ///
-/// Contracts see it as the view and the name of the dimension.
+/// Contracts see it as the segments and the name of the dimension.
 ///
 ///     let state = ReaderState::of(alloc, &view, "color")?;
 ///     let prepared = Prepared::of(&view, Query::parse(view.schema(), alloc, "price:[1 TO 9]")?)?;
 ///     let facets = state.counts(alloc, &prepared, 10)?;
 #[derive(Drop)]
 pub struct ReaderState {
-    view: View,
+    // What it was made of, which clauses alone read.
+    made_of: Snapshot<View>,
     dimension: Text,
     /// The labels of all segments, those of dead rows too.
     labels: Dictionary,
@@ -40,27 +43,29 @@ pub struct ReaderState {
 }
 
 impl Model for ReaderState {
-    ghost use Rattle.cat_facets.specs.States as states;
+    ghost use Rattle.cat_facets.specs.States as model;
 
-    ghost Value = { states.ReaderState };
+    ghost Value = { model.ReaderState };
 
-    ghost view = { λ s. record { view = s.view; dimension = s.dimension } };
+    ghost view = { λ s. record { segments = model.segments_of s.made_of.value.leaves; dimension = s.dimension } };
 
-    ghost invariant = { λ s. states.IsState (record { view = s.view; dimension = s.dimension }) s.labels s.segments.items };
+    ghost invariant = { λ s. model.IsState (record { segments = model.segments_of s.made_of.value.leaves; dimension = s.dimension })
+        s.labels s.segments.items };
 }
 
 /// Whether one counts over fields of the kind.
-fn is_facet(kind: Option<Kind>) -> bool
+pub(crate) fn is_facet(kind: Option<Kind>) -> bool
     ensures { result ≡ is_facet_kind (option_map field_kind_of kind) }
 {
     matches!(kind, Some(Kind::Facet))
 }
 
 impl ReaderState {
-    /// The state of the view in the dimension. [`Refusal::NotFacet`] if that is no facet field of the view's schema; else
-    /// [`Refusal::Memory`], also where the view has 2^32 labels or more.
+    /// The state of the view's segments in the dimension. [`Refusal::NotFacet`] if that is no facet field of the view's schema;
+    /// else [`Refusal::Memory`], also where the segments have 2^32 labels or more.
     pub fn of(alloc: Global, view: &View, dimension: &str) -> Result<ReaderState, Refusal>
-        ensures ok { IfOk result (λ s. s ≡ record { view = view.now; dimension = dimension.now }) }
+        ensures ok { IfOk result (λ s. s ≡ record { segments = segments_of view.now.leaves; dimension = dimension.now }) }
+        ensures facet { OnOk result (IsDimensionOf view.now dimension.now) }
         ensures due { is_facet_kind (kind_of view.now.schema dimension.now) ≡ false → result ≡ Err NotFacet }
         ensures err { IfErr result (λ e. (e ≡ Memory) ⊎ (e ≡ NotFacet)) }
         ensures not_facet { IfErr result (λ e. e ≡ NotFacet → is_facet_kind (kind_of view.now.schema dimension.now) ≡ false) }
@@ -68,45 +73,66 @@ impl ReaderState {
         if !is_facet(kind_of(view.schema().fields(), dimension)) {
             return Err(Refusal::NotFacet);
         }
+        Ok(ReaderState::in_facet(alloc, view, dimension)?)
+    }
+
+    /// The state of the view's segments in the dimension, which is a facet field. An error also where they have 2^32 labels or
+    /// more.
+    pub(crate) fn in_facet(
+        alloc: Global,
+        view: &View,
+        dimension: &str,
+    ) -> Result<ReaderState, AllocError>
+        requires { IsDimensionOf view.now dimension.now }
+        ensures { IfOk result (λ s. s ≡ record { segments = segments_of view.now.leaves; dimension = dimension.now }) }
+    {
         let labels = union_of(alloc, view.leaves(), dimension)?;
         let segments = all_known(alloc, &labels, view.leaves(), dimension)?;
         Ok(ReaderState {
-            view: view.copy()?,
+            made_of: Snapshot::of(view),
             dimension: Text::from_str(alloc, dimension)?,
             labels,
             segments,
         })
     }
 
-    /// How many labels the segment of this index in the view has: its ordinals are below that (Lucene:
+    /// The dimension.
+    pub fn dimension(&self) -> &str
+        ensures { result.now ≡ self.now.dimension }
+    {
+        self.dimension.as_str()
+    }
+
+    /// How many labels the segment of this index has: its ordinals are below that (Lucene:
     /// `SortedSetDocValues.getValueCount`).
     pub fn label_count(&self, segment: usize) -> usize
-        requires { segment < length self.now.view.leaves }
-        ensures { HoldsAt (λ leaf. result ≡ length (leaf_dictionary self.now.dimension leaf)) self.now.view.leaves segment }
+        requires { segment < length self.now.segments }
+        ensures { HoldsAt (λ leaf. result ≡ length (leaf_dictionary self.now.dimension leaf)) (as_leaves self.now.segments) segment }
     {
         self.segments[segment].globals.len()
     }
 
-    /// The global ordinal of the label that has this ordinal in the segment of this index in the view: how many labels of all
-    /// segments come before it by bytes (Lucene: `OrdinalMap.getGlobalOrds`, and its `LongValues.get`).
+    /// The global ordinal of the label that has this ordinal in the segment of this index: how many labels of all segments come
+    /// before it by bytes (Lucene: `OrdinalMap.getGlobalOrds`, and its `LongValues.get`).
     pub fn global(&self, segment: usize, ordinal: usize) -> u64
-        requires segment { segment < length self.now.view.leaves }
-        requires ordinal { HoldsAt (λ leaf. ordinal < length (leaf_dictionary self.now.dimension leaf)) self.now.view.leaves segment }
-        ensures { HoldsAt (λ leaf. IsOrdinal (view_dictionary self.now.dimension self.now.view)
-            (text_at (leaf_dictionary self.now.dimension leaf) ordinal) (Some result)) self.now.view.leaves segment }
+        requires segment { segment < length self.now.segments }
+        requires ordinal { HoldsAt (λ leaf. ordinal < length (leaf_dictionary self.now.dimension leaf)) (as_leaves self.now.segments) segment }
+        ensures { HoldsAt (λ leaf. IsOrdinal (union_in self.now.dimension (as_leaves self.now.segments))
+            (text_at (leaf_dictionary self.now.dimension leaf) ordinal) (Some result)) (as_leaves self.now.segments) segment }
     {
         u64::from(self.segments[segment].globals[ordinal])
     }
 
     /// The counts over the hits of the query, of which the first n are told (Lucene:
-    /// `SortedSetDocValuesFacetCounts.getTopChildren`). The state was made of the query's view. [`Refusal::Count`] if n is
-    /// above [`MAX_PAGE`]; else [`Refusal::Memory`].
+    /// `SortedSetDocValuesFacetCounts.getTopChildren`). The query's view is one of the state's segments, whichever of their rows
+    /// are live in it. [`Refusal::Count`] if n is above [`MAX_PAGE`]; else [`Refusal::Memory`].
     pub fn counts(&self, alloc: Global, prepared: &Prepared, n: u64) -> Result<Facets, Refusal>
-        requires { prepared.now.view ≡ self.now.view }
-        ensures ok { IfOk result (λ f. IsAnswerTo self.now prepared.now.query n (Ok (Found.facets f))) }
-        ensures err { IfErr result (λ e. e ≢ Memory → IsAnswerTo self.now prepared.now.query n (Err e)) }
-        ensures due { (rs : List Record) → Shows self.now.view rs
-            → IfErr (answer_over self.now prepared.now.query n rs) (λ e. result ≡ Err e) }
+        requires segments { segments_of prepared.now.view.leaves ≡ self.now.segments }
+        requires facet { IsDimensionOf prepared.now.view self.now.dimension }
+        ensures ok { IfOk result (λ f. IsAnswerTo prepared.now.view self.now.dimension prepared.now.query n (Ok (Found.facets f))) }
+        ensures err { IfErr result (λ e. e ≢ Memory → IsAnswerTo prepared.now.view self.now.dimension prepared.now.query n (Err e)) }
+        ensures due { (rs : List Record) → Shows prepared.now.view rs
+            → IfErr (answer_over prepared.now.view self.now.dimension prepared.now.query n rs) (λ e. result ≡ Err e) }
     {
         let dimension = self.dimension.as_str();
         if n > MAX_PAGE as u64 {
