@@ -36,6 +36,8 @@ mod rows_run;
 #[cfg(test)]
 mod rows_stored;
 #[cfg(test)]
+mod rows_warming;
+#[cfg(test)]
 mod rows_writes;
 #[cfg(test)]
 mod script;

@@ -134,13 +134,6 @@ fn a_merge_without_a_live_row_leaves_no_segment(rt: HostRuntime) -> Result<(), F
     expect_rows(&rt, rt.alloc(), ROWS)
 }
 
-/// No set of rows is made yet, so that there is none to warm.
-#[test]
-fn nothing_is_warmed(rt: HostRuntime) -> Result<(), Fail> {
-    const ROWS: Rows<'static> = &[("0 WARM", "0 OK idle"), ("0 WARM 1", "0 NO 10")];
-    expect_rows(&rt, rt.alloc(), ROWS)
-}
-
 #[test]
 fn a_prune_keeps_the_newest_and_the_held(rt: HostRuntime) -> Result<(), Fail> {
     const ROWS: Rows<'static> = &[

@@ -5,6 +5,7 @@ use crate::script::SHOP;
 use cat_directory::MemoryDirectory;
 use cat_lines::Line;
 use cat_plain::{Answer, Plain};
+use cat_replies::{Answer as Told, News};
 use cat_world::World;
 use std::alloc::{AllocError, Global};
 use std::process::Abort;
@@ -165,6 +166,7 @@ fn maintain(rt: &impl Abort, world: &mut World<MemoryDirectory>, number: u64) ->
         5 if number % 5 == 0 => "0 FORCE",
         7 => "0 COMMIT",
         3 | 4 | 8 | 9 => "0 MERGE",
+        1 | 2 | 6 | 10 | 11 => "0 WARM",
         _ => return Ok(()),
     };
     let reply = world.step(&Line::read(line)?);
@@ -187,6 +189,15 @@ fn expect_all_alike(
         expect_alike(rt, alloc, world, &mut plain, &mut dice)?;
         maintain(rt, world, number)?;
     }
+    expect_sets(rt, world)
+}
+
+/// Sets of rows have to stand in the cache, so that replies were compared that came from them.
+fn expect_sets(rt: &impl Abort, world: &mut World<MemoryDirectory>) -> Result<(), Fail> {
+    let Ok(Told::News(News::State(stat))) = world.step(&Line::read("0 STAT")?).answer else {
+        panic!(rt; "STAT is answered");
+    };
+    assert!(rt; stat.cached > 0, "no set is cached");
     Ok(())
 }
 

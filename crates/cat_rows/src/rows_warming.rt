@@ -1,0 +1,313 @@
+//! Sets of rows that are made for the queries that were asked: what WARM and STAT tell of them, and that no other reply
+//! depends on them.
+use crate::script::{Rows, Script, expect_rows};
+use std::test::Fail;
+
+/// A set is begun only for a query that was asked, and each step tells what it did.
+#[test]
+fn a_set_is_made_for_a_query_that_was_asked(rt: HostRuntime) -> Result<(), Fail> {
+    const ROWS: Rows<'static> = &[
+        ("0 WARM", "0 OK idle"),
+        ("0 WARM 1", "0 NO 10"),
+        ("1 PUT {\"id\":\"a\",\"price\":1}", "1 OK 1"),
+        ("1 PUT {\"id\":\"b\",\"price\":2}", "1 OK 2"),
+        ("1 REFRESH", "1 OK 2"),
+        ("1 OPEN", "1 OK 2"),
+        ("0 WARM", "0 OK idle"),
+        ("1 FIND 2 9 . . price:1", "1 OK 1 1\n1 1 a ."),
+        ("0 STAT", "0 OK 2 0 1 2 0 0\n0 1 2 2"),
+        ("1 WARM", "1 NO 10"),
+        ("0 WARM", "0 OK begun"),
+        ("0 STAT", "0 OK 2 0 1 2 0 0\n0 1 2 2"),
+        ("1 WARM", "1 NO 10"),
+        ("0 WARM", "0 OK stored"),
+        ("0 STAT", "0 OK 2 0 1 2 1 0\n0 1 2 2"),
+        ("0 WARM", "0 OK idle"),
+        ("1 FIND 2 9 . . price:1", "1 OK 1 1\n1 1 a ."),
+        ("1 FACETS 2 color 9 price:2", "1 OK 0 0"),
+        ("0 WARM", "0 OK begun"),
+        ("0 WARM", "0 OK stored"),
+        ("0 WARM", "0 OK idle"),
+        ("0 STAT", "0 OK 2 0 1 2 2 0\n0 1 2 2"),
+    ];
+    expect_rows(&rt, rt.alloc(), ROWS)
+}
+
+#[test]
+fn a_refused_read_asks_for_no_set(rt: HostRuntime) -> Result<(), Fail> {
+    const ROWS: Rows<'static> = &[
+        ("1 PUT {\"id\":\"a\",\"price\":1}", "1 OK 1"),
+        ("1 REFRESH", "1 OK 1"),
+        ("1 FIND 1 9 . . price:1", "1 NO 20"),
+        ("1 OPEN", "1 OK 1"),
+        ("1 FIND 1 9 . . price:x", "1 NO 24 6"),
+        ("1 FIND 1 1001 . . price:1", "1 NO 25"),
+        ("1 FIND 1 9 . 7 price:1", "1 NO 23"),
+        ("1 FACETS 1 brand 9 price:1", "1 NO 29"),
+        ("0 WARM", "0 OK idle"),
+        ("1 FIND 1 0 . . price:1", "1 OK 0 1"),
+        ("0 WARM", "0 OK begun"),
+    ];
+    expect_rows(&rt, rt.alloc(), ROWS)
+}
+
+/// Steps pass 256 rows each, and a segment that comes meanwhile waits for its turn.
+#[test]
+fn a_set_is_made_in_steps(rt: HostRuntime) -> Result<(), Fail> {
+    let alloc = rt.alloc();
+    let mut script = Script::shop(alloc)?;
+    for number in 1..=300u64 {
+        let line = format!(in alloc; "1 PUT {{\"id\":\"{number}\",\"price\":{number}}}")?;
+        let reply = format!(in alloc; "1 OK {number}")?;
+        script.row(line.as_str(), reply.as_str())?;
+    }
+    const ROWS: Rows<'static> = &[
+        ("1 REFRESH", "1 OK 300"),
+        ("1 OPEN", "1 OK 300"),
+        (
+            "1 FIND 300 1 -price . price:[* TO 299]",
+            "1 OK 1 299\n1 299 299 299",
+        ),
+        ("0 WARM", "0 OK begun"),
+        ("1 PUT {\"id\":\"0\",\"price\":0}", "1 OK 301"),
+        ("0 WARM", "0 OK warmed 256"),
+        ("1 REFRESH", "1 OK 301"),
+        ("0 WARM", "0 OK stored"),
+        ("0 STAT", "0 OK 301 0 2 3 1 0\n0 1 300 300\n0 2 1 1"),
+        ("0 WARM", "0 OK begun"),
+        ("0 WARM", "0 OK stored"),
+        ("0 WARM", "0 OK idle"),
+        ("0 STAT", "0 OK 301 0 2 3 2 0\n0 1 300 300\n0 2 1 1"),
+        ("1 OPEN", "1 OK 301"),
+        (
+            "1 FIND 301 2 +price . price:[* TO 299]",
+            "1 OK 2 300\n1 301 0 0\n1 1 1 1",
+        ),
+    ];
+    script.rows(ROWS)?;
+    script.expect(&rt, alloc, Ok(()))
+}
+
+/// Four items, of which two match, in one segment, with its set cached.
+const WARMED: Rows<'static> = &[
+    (
+        "1 PUT {\"id\":\"a\",\"price\":1,\"color\":[\"red\"]}",
+        "1 OK 1",
+    ),
+    ("1 PUT {\"id\":\"b\",\"price\":2}", "1 OK 2"),
+    (
+        "1 PUT {\"id\":\"c\",\"price\":3,\"color\":[\"red\"]}",
+        "1 OK 3",
+    ),
+    (
+        "1 PUT {\"id\":\"d\",\"price\":1,\"color\":[\"blue\"]}",
+        "1 OK 4",
+    ),
+    ("1 REFRESH", "1 OK 4"),
+    ("1 OPEN", "1 OK 4"),
+    PAGE_OF_FOUR,
+    COUNTS_OF_FOUR,
+    ("0 WARM", "0 OK begun"),
+    ("0 WARM", "0 OK stored"),
+    ("0 WARM", "0 OK idle"),
+    PAGE_OF_FOUR,
+    COUNTS_OF_FOUR,
+];
+
+/// What token 4 shows of the query, with sets and without.
+const PAGE_OF_FOUR: (&str, &str) = (
+    "1 FIND 4 9 -price . price:1 color:red",
+    "1 OK 3 3\n1 3 c 3\n1 1 a 1\n1 4 d 1",
+);
+
+const COUNTS_OF_FOUR: (&str, &str) = (
+    "1 FACETS 4 color 9 price:1 color:red",
+    "1 OK 3 2\n1 2 red\n1 1 blue",
+);
+
+/// A set has dead rows too, and which of them live is asked where it is used.
+#[test]
+fn a_set_serves_older_and_newer_views(rt: HostRuntime) -> Result<(), Fail> {
+    const ROWS: Rows<'static> = &[
+        ("1 DEL c", "1 OK 5"),
+        ("1 REFRESH", "1 OK 5"),
+        ("1 OPEN", "1 OK 5"),
+        ("0 WARM", "0 OK idle"),
+        (
+            "1 FIND 5 9 -price . price:1 color:red",
+            "1 OK 2 2\n1 1 a 1\n1 4 d 1",
+        ),
+        (
+            "1 FACETS 5 color 9 price:1 color:red",
+            "1 OK 2 2\n1 1 blue\n1 1 red",
+        ),
+        PAGE_OF_FOUR,
+        COUNTS_OF_FOUR,
+        (
+            "1 PUT {\"id\":\"a\",\"price\":9,\"color\":[\"red\"]}",
+            "1 OK 6",
+        ),
+        ("1 REFRESH", "1 OK 6"),
+        ("1 OPEN", "1 OK 6"),
+        (
+            "1 FIND 6 9 -price . price:1 color:red",
+            "1 OK 2 2\n1 6 a 9\n1 4 d 1",
+        ),
+        ("0 WARM", "0 OK begun"),
+        ("0 WARM", "0 OK stored"),
+        ("0 WARM", "0 OK idle"),
+        ("0 STAT", "0 OK 6 0 2 4 2 0\n0 1 4 2\n0 2 1 1"),
+        (
+            "1 FIND 6 9 -price . price:1 color:red",
+            "1 OK 2 2\n1 6 a 9\n1 4 d 1",
+        ),
+        PAGE_OF_FOUR,
+    ];
+    let mut script = Script::shop(rt.alloc())?;
+    script.rows(WARMED)?;
+    script.rows(ROWS)?;
+    script.expect(&rt, rt.alloc(), Ok(()))
+}
+
+/// A merge takes segments out of the list. Their sets serve who holds them still, and the merged one wants a set of its own.
+#[test]
+fn a_merge_leaves_the_sets_of_what_is_held(rt: HostRuntime) -> Result<(), Fail> {
+    const ROWS: Rows<'static> = &[
+        ("1 PUT {\"id\":\"e\",\"price\":1}", "1 OK 5"),
+        ("1 DEL d", "1 OK 6"),
+        ("1 REFRESH", "1 OK 6"),
+        ("0 FORCE", "0 OK begun 2"),
+        ("0 MERGE", "0 OK copied 5"),
+        ("0 MERGE", "0 OK done"),
+        ("1 DEL none", "1 OK 7"),
+        ("1 REFRESH", "1 OK 7"),
+        ("0 PRUNE 0", "0 OK 2"),
+        ("0 SWEEP", "0 OK 2"),
+        ("0 STAT", "0 OK 7 0 1 2 1 0\n0 3 4 4"),
+        ("1 OPEN", "1 OK 7"),
+        (
+            "1 FIND 7 9 -price . price:1 color:red",
+            "1 OK 3 3\n1 3 c 3\n1 1 a 1\n1 5 e 1",
+        ),
+        PAGE_OF_FOUR,
+        COUNTS_OF_FOUR,
+        ("0 WARM", "0 OK begun"),
+        ("0 WARM", "0 OK stored"),
+        ("0 WARM", "0 OK idle"),
+        ("0 STAT", "0 OK 7 0 1 2 2 0\n0 3 4 4"),
+        (
+            "1 FIND 7 9 -price . price:1 color:red",
+            "1 OK 3 3\n1 3 c 3\n1 1 a 1\n1 5 e 1",
+        ),
+        ("1 FACETS 7 color 9 price:1 color:red", "1 OK 2 1\n1 2 red"),
+        PAGE_OF_FOUR,
+        COUNTS_OF_FOUR,
+    ];
+    let mut script = Script::shop(rt.alloc())?;
+    script.rows(WARMED)?;
+    script.rows(ROWS)?;
+    script.expect(&rt, rt.alloc(), Ok(()))
+}
+
+/// A set that is in the making over a segment that goes is made to its end, for who holds the segment still.
+#[test]
+fn a_set_of_a_segment_that_goes_is_finished(rt: HostRuntime) -> Result<(), Fail> {
+    const ROWS: Rows<'static> = &[
+        ("1 PUT {\"id\":\"a\",\"price\":1}", "1 OK 1"),
+        ("1 PUT {\"id\":\"b\",\"price\":2}", "1 OK 2"),
+        ("1 REFRESH", "1 OK 2"),
+        ("1 OPEN", "1 OK 2"),
+        ("1 FIND 2 9 . . price:1", "1 OK 1 1\n1 1 a ."),
+        ("0 WARM", "0 OK begun"),
+        ("1 DEL b", "1 OK 3"),
+        ("0 FORCE", "0 OK begun 1"),
+        ("0 MERGE", "0 OK copied 2"),
+        ("0 MERGE", "0 OK done"),
+        ("0 WARM", "0 OK stored"),
+        ("0 STAT", "0 OK 3 0 1 2 1 0\n0 2 1 1"),
+        ("1 FIND 2 9 . . price:1", "1 OK 1 1\n1 1 a ."),
+        ("0 WARM", "0 OK begun"),
+        ("0 WARM", "0 OK stored"),
+        ("0 WARM", "0 OK idle"),
+        ("1 REFRESH", "1 OK 3"),
+        ("1 OPEN", "1 OK 3"),
+        ("1 FIND 3 9 . . price:1", "1 OK 1 1\n1 1 a ."),
+        ("1 FIND 2 9 . . price:1", "1 OK 1 1\n1 1 a ."),
+        ("0 STAT", "0 OK 3 0 1 3 2 0\n0 2 1 1"),
+    ];
+    expect_rows(&rt, rt.alloc(), ROWS)
+}
+
+/// Of the queries that were asked the newest sixteen are noted: the first has no set once sixteen others were asked.
+#[test]
+fn the_newest_sixteen_queries_are_warmed(rt: HostRuntime) -> Result<(), Fail> {
+    let alloc = rt.alloc();
+    let mut script = Script::shop(alloc)?;
+    const ROWS: Rows<'static> = &[
+        ("1 PUT {\"id\":\"a\",\"price\":1}", "1 OK 1"),
+        ("1 REFRESH", "1 OK 1"),
+        ("1 OPEN", "1 OK 1"),
+    ];
+    script.rows(ROWS)?;
+    for price in 2..=20u64 {
+        let line = format!(in alloc; "1 FIND 1 9 . . price:{price}")?;
+        script.row(line.as_str(), "1 OK 0 0")?;
+    }
+    for _made in 0..16 {
+        script.row("0 WARM", "0 OK begun")?;
+        script.row("0 WARM", "0 OK stored")?;
+    }
+    script.row("0 WARM", "0 OK idle")?;
+    script.row("0 STAT", "0 OK 1 0 1 2 16 0\n0 1 1 1")?;
+    script.expect(&rt, alloc, Ok(()))
+}
+
+/// What was found out of the labels of a view serves those that have the same segments, whatever was deleted meanwhile.
+#[test]
+fn counts_are_the_same_however_often_they_are_asked(rt: HostRuntime) -> Result<(), Fail> {
+    const ROWS: Rows<'static> = &[
+        ("1 PUT {\"id\":\"a\",\"color\":[\"red\"]}", "1 OK 1"),
+        (
+            "1 PUT {\"id\":\"b\",\"color\":[\"red\",\"blue\"]}",
+            "1 OK 2",
+        ),
+        ("1 REFRESH", "1 OK 2"),
+        ("1 OPEN", "1 OK 2"),
+        ("1 FACETS 2 color 9 *:*", "1 OK 2 2\n1 2 red\n1 1 blue"),
+        ("1 FACETS 2 color 9 *:*", "1 OK 2 2\n1 2 red\n1 1 blue"),
+        (
+            "1 FACETS 2 color 9 color:blue",
+            "1 OK 1 2\n1 1 blue\n1 1 red",
+        ),
+        ("1 DEL a", "1 OK 3"),
+        ("1 REFRESH", "1 OK 3"),
+        ("1 OPEN", "1 OK 3"),
+        ("1 FACETS 3 color 9 *:*", "1 OK 1 2\n1 1 blue\n1 1 red"),
+        ("1 FACETS 2 color 9 *:*", "1 OK 2 2\n1 2 red\n1 1 blue"),
+        ("1 FACETS 3 color 9 *:*", "1 OK 1 2\n1 1 blue\n1 1 red"),
+        ("1 PUT {\"id\":\"c\",\"color\":[\"green\"]}", "1 OK 4"),
+        ("1 REFRESH", "1 OK 4"),
+        ("1 OPEN", "1 OK 4"),
+        (
+            "1 FACETS 4 color 9 *:*",
+            "1 OK 2 3\n1 1 blue\n1 1 green\n1 1 red",
+        ),
+        ("0 FORCE", "0 OK begun 2"),
+        ("0 MERGE", "0 OK copied 3"),
+        ("0 MERGE", "0 OK done"),
+        ("1 DEL c", "1 OK 5"),
+        ("1 REFRESH", "1 OK 5"),
+        ("1 OPEN", "1 OK 5"),
+        ("1 FACETS 5 color 9 *:*", "1 OK 1 2\n1 1 blue\n1 1 red"),
+        ("1 FACETS 2 color 9 *:*", "1 OK 2 2\n1 2 red\n1 1 blue"),
+        (
+            "1 FACETS 4 color 9 *:*",
+            "1 OK 2 3\n1 1 blue\n1 1 green\n1 1 red",
+        ),
+        (
+            "1 FACETS 5 color 9 color:red",
+            "1 OK 1 2\n1 1 blue\n1 1 red",
+        ),
+    ];
+    expect_rows(&rt, rt.alloc(), ROWS)
+}
