@@ -8,6 +8,9 @@ use Rattle.cat_model.specs.View.{Leaf}
 use Rattle.cat_directory.specs.Devices.{FileContent, NoMore}
 use Rattle.cat_directory.specs.Names.{name_of}
 use Rattle.cat_directory.specs.declared.name.FileName.{FileName}
+use Rattle.cat_filters.specs.Filters.{Filters, segments_of}
+use Rattle.cat_filters.specs.Steps.{IsStep}
+use Rattle.cat_filters.specs.declared.news.WarmNews.{WarmNews}
 use Rattle.cat_ledger_model.specs.Ledger.{IsNew}
 use Rattle.cat_ledger_model.specs.Plans.{MergePolicy}
 use Rattle.cat_ledger_model.specs.Users.{users_of}
@@ -19,13 +22,12 @@ use Rattle.cat_ledger.specs.Ledgers.{Ledger, device_in, shape_in}
 use Rattle.cat_ledger.specs.declared.telling.SegmentStat as ledger
 use Rattle.cat_replies.specs.declared.news.SegmentStat.{SegmentStat}
 use Rattle.cat_keeping.specs.declared.chores.Chore.{Chore}
-use Rattle.cat_keeping.specs.declared.chores.Chore.TheVariants.{Force, Merge, Stat, Sweep, Warm}
+use Rattle.cat_keeping.specs.declared.chores.Chore.TheVariants.{Force, Merge, Stat, Sweep}
 
 -- what the command asks for
 abbrev pub chore_of : Chore → run.Chore
 chore_of Merge = run.Chore.merge
 chore_of Force = run.Chore.force
-chore_of Warm = run.Chore.warm
 chore_of Sweep = run.Chore.sweep
 chore_of Stat = run.Chore.stat
 
@@ -43,25 +45,37 @@ segment_told leaf = record { number = leaf.segment.number; rows = length leaf.se
 abbrev pub pending_in : Shape → ℕ
 pending_in s = count_by (λ u. u.users == 0) s.users
 
--- How the service stands. No set of rows is cached.
-abbrev pub stat_in : Shape → run.Stat
-stat_in s = record {
+-- how the service stands, with so many sets of rows cached
+abbrev pub stat_in : ℕ → Shape → run.Stat
+stat_in sets s = record {
   writes = s.count;
   buffered = length s.buffered;
   views = length s.views;
-  cached = 0;
+  cached = sets;
   pending = pending_in s;
   segments = map segment_told s.leaves;
 }
 
--- What is told, besides its form: SWEEP tells of all files that nobody needs, and STAT of the ledger as it stands. No set of rows is
--- ever begun, so that none is to be warmed. What merges tell is said where they are answered.
-abbrev pub Tells : Shape → Chore → run.Answer → Type 0
-Tells s Merge a = Unit {0}
-Tells s Force a = Unit {0}
-Tells s Warm a = a ≡ run.Answer.news run.News.idle
-Tells s Sweep a = a ≡ run.Answer.news (run.News.swept (pending_in s))
-Tells s Stat a = a ≡ run.Answer.news (run.News.state (stat_in s))
+-- What is told, besides its form: SWEEP tells of all files that nobody needs, and STAT of the ledger as it stands, and of so many cached
+-- sets. What merges tell is said where they are answered.
+abbrev pub Tells : ℕ → Shape → Chore → run.Answer → Type 0
+Tells sets s Merge a = Unit {0}
+Tells sets s Force a = Unit {0}
+Tells sets s Sweep a = a ≡ run.Answer.news (run.News.swept (pending_in s))
+Tells sets s Stat a = a ≡ run.Answer.news (run.News.state (stat_in sets s))
+
+-- what is told of a step of warming
+abbrev pub warm_told : WarmNews → run.News
+warm_told WarmNews.Idle = run.News.idle
+warm_told WarmNews.Begun = run.News.begun_warming
+warm_told (WarmNews.Warmed rows) = run.News.warmed rows
+warm_told WarmNews.Stored = run.News.stored
+
+-- WARM takes a step over the segments of the list, and tells what it did.
+pub record IsWarmTold (s : Shape) (old new : Filters) (a : run.Answer) : Type 0 where
+  pub news : WarmNews
+  pub told : a ≡ run.Answer.news (warm_told news)
+  pub step : IsStep old (segments_of s.leaves) new news
 
 -- ---- when it is refused
 
@@ -77,11 +91,10 @@ pub record MayRefuseForce (s : Shape) (e : Refusal) : Type 0 where
   pub spent : e ≡ Spent → last_number < s.next_segment
   pub left : (e ≡ Memory) ⊎ (e ≡ Device) → s.next_segment ≤ last_number
 
--- Maintenance that session 0 asks for may be refused so. WARM never is.
+-- Maintenance that session 0 asks for may be refused so.
 abbrev pub MayRefuse : MergePolicy → Shape → Chore → Refusal → Type 0
 MayRefuse policy s Merge e = MayRefuseMerge policy s e
 MayRefuse policy s Force e = MayRefuseForce s e
-MayRefuse policy s Warm e = ⊥
 MayRefuse policy s Sweep e = (e ≡ Memory) ⊎ (e ≡ Device)
 MayRefuse policy s Stat e = e ≡ Memory
 

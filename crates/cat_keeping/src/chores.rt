@@ -1,7 +1,7 @@
 //! The commands of maintenance, which session 0 alone may give.
 //!
 //! Lucene's `IndexWriter.maybeMerge`, `forceMerge(1)` and `deleteUnusedFiles`, and what `getDocStats` tells.
-ghost use Rattle.std.specs.Prelude.{◌≡◌, ◌≢◌, ◌⊎◌, IfOk, IfErr, Err};
+ghost use Rattle.std.specs.Prelude.{◌≡◌, ◌≢◌, ◌⊎◌, IfOk, IfErr, Err, length};
 ghost use Rattle.cat_base.specs.declared.refusal.Refusal.TheVariants.{Device, Line as NoForm, Memory};
 ghost use Rattle.cat_model.specs.Lines.{Said};
 ghost use Rattle.cat_model.specs.Run as run;
@@ -15,19 +15,18 @@ use crate::merging::{force, merge_step};
 use crate::stats::tell_stat;
 use cat_base::{Refusal, SessionNo};
 use cat_directory::{Directory, Shelf};
+use cat_filters::Filters;
 use cat_ledger::Ledger;
 use cat_replies::{Answer, News};
 use std::alloc::Global;
 
-/// A command of maintenance.
+/// A command of maintenance that leaves the cached sets as they are; [`warm`](crate::warm) is the one that makes some.
 #[derive(Clone, Copy, Debug, PartialEq, Eq)]
 pub enum Chore {
     /// A step of the merge that the policy picks (Lucene: `IndexWriter.maybeMerge`).
     Merge,
     /// A merge of all segments is begun (Lucene: `IndexWriter.forceMerge(1)`).
     Force,
-    /// A step of a set of rows for the cache (Lucene: `LRUQueryCache`, which fills as it is asked).
-    Warm,
     /// The files go that nobody needs (Lucene: `IndexWriter.deleteUnusedFiles`).
     Sweep,
     /// How the service stands (Lucene: `IndexWriter.getDocStats`).
@@ -50,24 +49,24 @@ fn sweep<D: Directory + Shelf>(ledger: &mut Ledger<D>) -> Result<Answer, Refusal
     }
 }
 
-/// Answers a MERGE, FORCE, WARM, SWEEP or STAT.
+/// Answers a MERGE, FORCE, SWEEP or STAT.
 ///
 /// [`Refusal::Line`] for any session but 0, which comes first and changes nothing. Of session 0:
 ///
 /// - A MERGE is refused as [`Ledger::merge_step`] is, and a FORCE as [`Ledger::force`] is.
-/// - A WARM is never refused: no set of rows is begun yet, so that none is to be warmed.
 /// - A SWEEP is refused with [`Refusal::Device`] where the directory fails: the file that it failed at and those behind it
 ///   still wait; or with [`Refusal::Memory`], with nothing done.
-/// - A STAT is refused with [`Refusal::Memory`] alone.
+/// - A STAT, which tells of these cached sets, is refused with [`Refusal::Memory`] alone.
 pub fn maintain<D: Directory + Shelf>(
     alloc: Global,
     ledger: &mut Ledger<D>,
+    filters: &Filters,
     session: SessionNo,
     chore: Chore,
 ) -> Result<Answer, Refusal>
     ensures answers { AnswersSaid D.bytes session (Said.chore (chore_of chore)) ledger.old (reply_of result) ledger.new }
     ensures foreign { session ≢ 0 → (result ≡ Err NoForm) × (ledger.new ≡ ledger.old) }
-    ensures told { IfOk result (λ a. Tells (shape_in ledger.old) chore (answer_of a)) }
+    ensures told { IfOk result (λ a. Tells (length filters.now.cached) (shape_in ledger.old) chore (answer_of a)) }
     ensures refusal { session ≡ 0 → IfErr result (MayRefuse (policy_in ledger.old) (shape_in ledger.old) chore) }
     ensures device { IfErr result (λ e. e ≡ Device → HasRowsLeft (shape_in ledger.old).merging ⊎ D.can_fail (device_in ledger.old)) }
     ensures crash { SparesUsed D.may_leave ledger.old ledger.new }
@@ -80,8 +79,7 @@ pub fn maintain<D: Directory + Shelf>(
     match chore {
         Chore::Merge => merge_step(ledger),
         Chore::Force => force(ledger),
-        Chore::Warm => Ok(Answer::News(News::Idle)),
         Chore::Sweep => sweep(ledger),
-        Chore::Stat => tell_stat(alloc, ledger),
+        Chore::Stat => tell_stat(alloc, ledger, filters),
     }
 }

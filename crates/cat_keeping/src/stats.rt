@@ -1,7 +1,7 @@
 //! How a ledger stands, as session 0 asks for it.
 //!
 //! Lucene's `IndexWriter.getDocStats` and `numRamDocs`, `SegmentReader.maxDoc` and `numDocs`.
-ghost use Rattle.std.specs.Prelude.{◌≡◌, IfOk, IfErr, map};
+ghost use Rattle.std.specs.Prelude.{◌≡◌, IfOk, IfErr, length, map};
 ghost use Rattle.cat_base.specs.declared.refusal.Refusal.TheVariants.{Memory};
 ghost use Rattle.cat_model.specs.Run as run;
 ghost use Rattle.cat_ledger.specs.Answering.{Answers};
@@ -11,6 +11,7 @@ ghost use Rattle.cat_keeping.specs.Chores.{stat_in, stat_told};
 
 use cat_base::Refusal;
 use cat_directory::{Directory, Shelf};
+use cat_filters::Filters;
 use cat_ledger::Ledger;
 use cat_replies::{Answer, News, SegmentStat, Stat};
 use std::alloc::{AllocError, Global};
@@ -33,12 +34,13 @@ fn segments_of(
     Ok(segments)
 }
 
-/// How the service stands. No set of rows is cached.
+/// How the service stands.
 fn stat_of_ledger<D: Directory + Shelf>(
     alloc: Global,
     ledger: &Ledger<D>,
+    filters: &Filters,
 ) -> Result<Stat, AllocError>
-    ensures { IfOk result (λ stat. stat_of stat ≡ stat_in (shape_in ledger.now)) }
+    ensures { IfOk result (λ stat. stat_of stat ≡ stat_in (length filters.now.cached) (shape_in ledger.now)) }
 {
     let told = ledger.stat()?;
     let segments = segments_of(alloc, told.segments.as_slice())?;
@@ -46,7 +48,7 @@ fn stat_of_ledger<D: Directory + Shelf>(
         writes: told.writes,
         buffered: told.buffered,
         views: told.views,
-        cached: 0,
+        cached: filters.len(),
         pending: told.pending,
         segments,
     })
@@ -56,12 +58,13 @@ fn stat_of_ledger<D: Directory + Shelf>(
 pub(crate) fn tell_stat<D: Directory + Shelf>(
     alloc: Global,
     ledger: &Ledger<D>,
+    filters: &Filters,
 ) -> Result<Answer, Refusal>
     ensures answers { Answers D.bytes 0 (run.Command.chore run.Chore.stat) ledger.now (reply_of result) ledger.now }
-    ensures told { IfOk result (λ a. answer_of a ≡ run.Answer.news (run.News.state (stat_in (shape_in ledger.now)))) }
+    ensures told { IfOk result (λ a. answer_of a ≡ run.Answer.news (run.News.state (stat_in (length filters.now.cached) (shape_in ledger.now)))) }
     ensures refusal { IfErr result (λ e. e ≡ Memory) }
 {
-    match stat_of_ledger(alloc, ledger) {
+    match stat_of_ledger(alloc, ledger, filters) {
         Ok(stat) => Ok(Answer::News(News::State(stat))),
         Err(AllocError) => Err(Refusal::Memory),
     }

@@ -18,7 +18,7 @@ returns g c =
       writes = told.writes i;
       buffered = told.buffered i;
       views = told.views i;
-      cached = 0;
+      cached = c.len.ensures.value i;
       pending = told.pending i;
       segments = segments i;
     }
