@@ -27,6 +27,7 @@ PROGRAM = "JASMINEDOME_PROGRAM"
 _BATCH = 512  # items that go out in one write
 _MAX_CHARACTER = 4  # bytes of one in UTF-8
 _AHEAD = 8  # batches that wait for replies at the same time
+_MOST_SETS = 64  # sets that are kept
 _to_json = json.JSONEncoder(ensure_ascii=False, allow_nan=False, separators=(",", ":")).encode
 
 
@@ -269,18 +270,25 @@ class Catalogue:
         return True
 
     def warm(self) -> int:
-        """Makes the cached sets of the queries that were asked last, until none is missing; answers how many it made.
+        """Makes the cached sets of the queries that were asked last; answers how many it made.
 
-        Raises OutOfMemory.
+        It ends when none is missing, and at 64 in any case: as many are kept, and a further one would only take the place
+        of one of these. Raises OutOfMemory.
         """
-        return self._steps("WARM").count("stored")
+        made = 0
+        while made < _MOST_SETS:
+            told = self.ask("WARM", session=UPKEEP)[0]
+            if told == "idle":
+                break
+            made += told == "stored"
+        return made
 
     def sweep(self) -> int:
         """Deletes the files that nobody uses any more; answers how many. Raises DeviceFailed."""
         return self._number("SWEEP", UPKEEP)
 
     def stat(self) -> Stat:
-        """How the catalogue stands. Raises OutOfMemory."""
+        """How the catalogue stands, with the number of sets that are cached. Raises OutOfMemory."""
         first, *lines = self.ask("STAT", lambda told: int(told.split(" ")[2]), session=UPKEEP)
         with reading():
             writes, buffered, _, recorded, cached, pending = (int(word) for word in first.split(" "))

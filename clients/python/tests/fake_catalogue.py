@@ -126,6 +126,9 @@ class Fake:
         self.commits = {}
         self.snapshots = Counter()
         self.merging = []  # what the next MERGE lines answer
+        self.asked = []  # the newest 16 queries that were answered
+        self.warming = None
+        self.warmed = []
         generation, kept = self.folder.newest()
         if kept:
             if kept[0] != fields:
@@ -239,6 +242,7 @@ class Fake:
         shown = [record for record in hits if record[0] in behind][:count]
         keys = [record[1].get(field) if field else None for record in shown]
         spelled = ["." if key is None else f"={key}" if isinstance(key, str) else key for key in keys]
+        self.note(clauses)
         return [f"{len(shown)} {len(hits)}", *(f"{r[0]} {r[1]['id']} {key}" for r, key in zip(shown, spelled))]
 
     def sorted(self, records, sort):
@@ -253,7 +257,8 @@ class Fake:
 
     def do_facets(self, session, token, field, count, query):
         token, count = number(token), number(count)
-        hits = self.matching(self.parse(query), self.held(session, token))
+        clauses = self.parse(query)
+        hits = self.matching(clauses, self.held(session, token))
         if self.fields.get(field) != "facet":
             raise No(29)
         if count > 1000:
@@ -261,6 +266,7 @@ class Fake:
         labels = [set(record[1].get(field) or ()) for record in hits]
         counts = Counter(label for some in labels for label in some)
         ordered = sorted(counts.items(), key=lambda pair: (-pair[1], pair[0].encode()))
+        self.note(clauses)
         return [f"{sum(map(bool, labels))} {len(counts)}", *(f"{n} {label}" for label, n in ordered[:count])]
 
     def do_get(self, session, token, name):
@@ -329,8 +335,20 @@ class Fake:
         self.merging = [f"copied {len(self.table)}", "done"]
         return ["begun 1"]
 
+    def note(self, clauses):
+        if clauses not in self.asked:
+            self.asked = [*self.asked, clauses][-16:]
+
     def do_warm(self, _):
-        return ["idle"]
+        if self.warming is not None:
+            self.warmed.append(self.warming)
+            self.warming = None
+            return ["stored"]
+        missing = [clauses for clauses in self.asked if clauses not in self.warmed]
+        if not self.table or not missing:
+            return ["idle"]
+        self.warming = missing[0]
+        return ["begun"]
 
     def do_sweep(self, _):
         return [0]
@@ -338,7 +356,7 @@ class Fake:
     def do_stat(self, _):
         rows = len(self.table)
         segments = [f"1 {rows} {rows}"] if rows else []
-        return [f"{self.writes} 0 {len(segments)} {len(self.records)} 0 0", *segments]
+        return [f"{self.writes} 0 {len(segments)} {len(self.records)} {len(self.warmed)} 0", *segments]
 
 
 def reply(fake, line):

@@ -218,6 +218,22 @@ class Upkeep(support.ShopTest):
         self.assertEqual(self.shop.stat().segments, (jasminedome.SegmentStat(1, 1, 1),))
         self.assertEqual((self.shop.merge(), self.shop.warm(), self.shop.sweep()), (0, 0, 0))
 
+    def test_sets_are_made_for_queries_that_were_asked(self):
+        self.shop.put({"id": "a", "price": 1, "color": ["red"]})
+        self.shop.refresh()
+        with self.shop.open() as view:
+            pages = [view.find("price:1"), view.find("price:1"), view.find("price:2")]
+            counts = view.facets("color", "price:[1 TO 3]")
+            self.assertEqual((self.shop.stat().cached, self.shop.warm(), self.shop.stat().cached), (0, 3, 3))
+            self.assertEqual(self.shop.warm(), 0)
+            self.assertEqual([view.find("price:1"), view.find("price:1"), view.find("price:2")], pages)
+            self.assertEqual(view.facets("color", "price:[1 TO 3]"), counts)
+
+    def test_warming_ends_where_more_sets_are_missing_than_are_kept(self):
+        with support.scripted(*(["0 OK begun", "0 OK warmed 256", "0 OK stored"] * 65)) as shop:
+            self.assertEqual(shop.warm(), 64)
+            self.assertEqual(shop.ask("WARM", session=0), ["begun"])
+
 
 class Schemas(unittest.TestCase):
     def test_refused_schemas(self):
