@@ -116,6 +116,19 @@ pub(crate) fn expect<D: Directory + Shelf>(
     Ok(())
 }
 
+/// Makes the calls of each table in turn.
+pub(crate) fn expect_all<D: Directory + Shelf>(
+    rt: &impl Abort,
+    alloc: Global,
+    device: &mut D,
+    tables: &[&[Row<'_>]],
+) -> Result<(), Fail> {
+    for rows in tables {
+        expect(rt, alloc, device, rows)?;
+    }
+    Ok(())
+}
+
 /// Reads so many bytes of the file from an offset on. This has to be answered.
 pub(crate) fn expect_read<S: Shelf>(
     rt: &impl Abort,
@@ -134,6 +147,11 @@ pub(crate) fn expect_read<S: Shelf>(
 pub(crate) fn make_folder(rt: &(impl Files + Alloc), path: &str) -> Result<(), Fail> {
     let _ = fs::remove_dir_all(rt, path);
     Ok(fs::create_dir(rt, path)?)
+}
+
+/// Takes the folder at the path away, with all in it.
+pub(crate) fn remove_folder(rt: &(impl Files + Alloc), path: &str) -> Result<(), Fail> {
+    Ok(fs::remove_dir_all(rt, path)?)
 }
 
 /// Calls on a directory without a file. Four of them fail.

@@ -1,9 +1,12 @@
 //! A system for tests: it writes two bytes at a time, notes what is synced, and fails where it is told to.
 use std::alloc::{Allocator, Global};
 use std::cell::Cell;
-use std::fs::{Files, Metadata, OpenFile, OpenOptions};
+use std::fs::{Files, Metadata, OpenFile, OpenOptions, Permissions};
 use std::io;
-use std::io::{ErrorKind, Read, Seek, SeekFrom, Write};
+use std::io::{ErrorKind, PipeReader, PipeWriter, Read, Seek, SeekFrom, Write};
+use std::os::fd::BorrowedFd;
+use std::os::unix::net::SocketAddr;
+use std::path::PathBuf;
 use std::rc::Rc;
 
 /// What can fail: each call of a kind.
@@ -188,5 +191,46 @@ impl<R: Files> Files for FaultySystem<R> {
 
     fn remove_dir_all<B: Allocator>(&self, alloc: B, path: &str) -> io::Result<()> {
         self.rt.remove_dir_all(alloc, path)
+    }
+
+    // What no folder asks for. Left out, each would be proved from its default, which takes longer.
+    fn canonicalize<B: Allocator>(&self, alloc: B, path: &str) -> io::Result<PathBuf<B>> {
+        self.rt.canonicalize(alloc, path)
+    }
+
+    fn read_link<B: Allocator>(&self, alloc: B, path: &str) -> io::Result<PathBuf<B>> {
+        self.rt.read_link(alloc, path)
+    }
+
+    fn hard_link(&self, original: &str, link: &str) -> io::Result<()> {
+        self.rt.hard_link(original, link)
+    }
+
+    fn set_permissions(&self, path: &str, perm: Permissions) -> io::Result<()> {
+        self.rt.set_permissions(path, perm)
+    }
+
+    fn symlink(&self, original: &str, link: &str) -> io::Result<()> {
+        self.rt.symlink(original, link)
+    }
+
+    fn pipe(&self) -> io::Result<(PipeReader, PipeWriter)> {
+        self.rt.pipe()
+    }
+
+    fn chown(&self, path: &str, uid: Option<u32>, gid: Option<u32>) -> io::Result<()> {
+        self.rt.chown(path, uid, gid)
+    }
+
+    fn lchown(&self, path: &str, uid: Option<u32>, gid: Option<u32>) -> io::Result<()> {
+        self.rt.lchown(path, uid, gid)
+    }
+
+    fn create_dir_with_mode(&self, path: &str, mode: u32) -> io::Result<()> {
+        self.rt.create_dir_with_mode(path, mode)
+    }
+
+    fn bind_unix(&self, socket: BorrowedFd<'_>, addr: &SocketAddr) -> io::Result<()> {
+        self.rt.bind_unix(socket, addr)
     }
 }

@@ -1,5 +1,7 @@
 //! Memory and a folder, and what lies in a folder beside files.
-use crate::calls::{Call, FIRST, ROWS, Row, expect, expect_read, make_folder};
+use crate::calls::{
+    Call, FIRST, ROWS, Row, expect, expect_all, expect_read, make_folder, remove_folder,
+};
 use cat_directory::{FileName, Folder, FolderShelf, MemoryDirectory, Shelf};
 use std::fs;
 use std::fs::{Files, OpenOptions};
@@ -7,32 +9,32 @@ use std::os::unix::fs::symlink;
 use std::process::Abort;
 use std::test::Fail;
 
-/// Makes the calls in the folder at the path.
+/// Makes the calls of the tables in the folder at the path.
 fn expect_in<R: Abort + Files + AllocGlobal + Clone + Drop>(
     rt: &R,
     path: &str,
-    rows: &[Row<'_>],
+    tables: &[&[Row<'_>]],
 ) -> Result<(), Fail> {
     let mut folder = Folder::at(rt.clone()?, rt.alloc(), path)?;
-    expect(rt, rt.alloc(), &mut folder, rows)
+    expect_all(rt, rt.alloc(), &mut folder, tables)
 }
 
 const FOUR_FAILURES: &[Row<'static>] = &[(Call::Failures, "4")];
 
+/// The calls, and how many have failed.
+const TABLES: &[&[Row<'static>]] = &[ROWS, FOUR_FAILURES];
+
 #[test]
 fn memory_answers_as_a_folder_does(rt: HostRuntime) -> Result<(), Fail> {
     let mut memory = MemoryDirectory::new(rt.alloc());
-    expect(&rt, rt.alloc(), &mut memory, ROWS)?;
-    expect(&rt, rt.alloc(), &mut memory, FOUR_FAILURES)
+    expect_all(&rt, rt.alloc(), &mut memory, TABLES)
 }
 
 #[test]
 fn a_folder_answers_as_memory_does(rt: HostRuntime) -> Result<(), Fail> {
     make_folder(&rt, "files_test")?;
-    let mut folder = Folder::at(rt, rt.alloc(), "files_test")?;
-    expect(&rt, rt.alloc(), &mut folder, ROWS)?;
-    expect(&rt, rt.alloc(), &mut folder, FOUR_FAILURES)?;
-    Ok(fs::remove_dir_all(&rt, "files_test")?)
+    expect_in(&rt, "files_test", TABLES)?;
+    remove_folder(&rt, "files_test")
 }
 
 const ONE: &[Row<'static>] = &[(Call::Create(FIRST), ""), (Call::Append(FIRST, "one"), "")];
@@ -67,7 +69,7 @@ const TAKEN: FileName = FileName::Segment(9);
 /// No file has this name.
 const NO_NUMBER: FileName = FileName::Segment(0);
 
-const BESIDE_OTHERS: &[Row<'static>] = &[
+const BESIDE_OTHERS: &[&[Row<'static>]] = &[&[
     (Call::Names, ""),
     (Call::Create(TAKEN), "NO 30"),
     (Call::Append(TAKEN, "x"), "NO 30"),
@@ -81,7 +83,7 @@ const BESIDE_OTHERS: &[Row<'static>] = &[
     (Call::Append(FIRST, "whole"), ""),
     (Call::Names, "_1.seg "),
     (Call::Failures, "4"),
-];
+]];
 
 fn make_others(rt: &(impl Files + Alloc)) -> Result<(), Fail> {
     make_folder(rt, "others_test")?;
@@ -105,37 +107,46 @@ fn other_files_of_a_folder_stay(rt: HostRuntime) -> Result<(), Fail> {
     make_others(&rt)?;
     expect_in(&rt, "others_test/", BESIDE_OTHERS)?;
     expect_others(&rt)?;
-    Ok(fs::remove_dir_all(&rt, "others_test")?)
+    remove_folder(&rt, "others_test")
 }
 
-const WHOLE: &[Row<'static>] = &[
+const WHOLE: &[&[Row<'static>]] = &[&[
     (Call::Create(FIRST), ""),
     (Call::Append(FIRST, "whole"), ""),
-];
+]];
 
-const CUT: &[Row<'static>] = &[(Call::Create(FIRST), ""), (Call::Append(FIRST, "cut"), "")];
+const CUT: &[&[Row<'static>]] = &[&[(Call::Create(FIRST), ""), (Call::Append(FIRST, "cut"), "")]];
+
+/// The file is read, and is cut behind that.
+fn expect_cut<R: Abort + Files + AllocGlobal + Clone + Drop, S: Shelf>(
+    rt: &R,
+    shelf: &mut S,
+) -> Result<(), Fail> {
+    expect_read(rt, rt.alloc(), shelf, (FIRST, 1, 3), "hol")?;
+    expect_in(rt, "shelf_test", CUT)?;
+    expect_read(rt, rt.alloc(), shelf, (FIRST, 0, 5), "NO 31")?;
+    assert!(rt; shelf.size(FIRST)? == 3);
+    Ok(())
+}
 
 #[test]
 fn a_shelf_reads_the_files_of_its_folder(rt: HostRuntime) -> Result<(), Fail> {
     make_folder(&rt, "shelf_test")?;
     expect_in(&rt, "shelf_test", WHOLE)?;
     let mut shelf = FolderShelf::at(rt, rt.alloc(), "shelf_test")?;
-    expect_read(&rt, rt.alloc(), &mut shelf, (FIRST, 1, 3), "hol")?;
-    expect_in(&rt, "shelf_test", CUT)?;
-    expect_read(&rt, rt.alloc(), &mut shelf, (FIRST, 0, 5), "NO 31")?;
-    assert!(rt; shelf.size(FIRST)? == 3);
-    Ok(fs::remove_dir_all(&rt, "shelf_test")?)
+    expect_cut(&rt, &mut shelf)?;
+    remove_folder(&rt, "shelf_test")
 }
 
 const UNOPENED: &[&str] = &["no_folder_test", "absent_folder_test", "", "nul\0"];
 
-const IN_NO_FOLDER: &[Row<'static>] = &[
+const IN_NO_FOLDER: &[&[Row<'static>]] = &[&[
     (Call::Names, "NO 30"),
     (Call::Create(FIRST), "NO 30"),
     (Call::Append(FIRST, "x"), "NO 30"),
     (Call::Sync(&[]), "NO 30"),
     (Call::Failures, "4"),
-];
+]];
 
 #[test]
 fn a_folder_that_cannot_be_opened_fails(rt: HostRuntime) -> Result<(), Fail> {
@@ -156,7 +167,7 @@ fn make_read_only(rt: &(impl Files + Alloc)) -> Result<(), Fail> {
     Ok(fs::set_permissions(rt, READ_ONLY, permissions)?)
 }
 
-const HELD_BACK: &[Row<'static>] = &[
+const HELD_BACK: &[&[Row<'static>]] = &[&[
     (Call::Create(FIRST), "NO 30"),
     (Call::Append(FIRST, "x"), "NO 30"),
     (Call::Size(FIRST), "4"),
@@ -164,10 +175,10 @@ const HELD_BACK: &[Row<'static>] = &[
     (Call::Delete(FIRST), ""),
     (Call::Names, ""),
     (Call::Failures, "2"),
-];
+]];
 
 /// No permission holds root back, as whom `rt ci` runs no test.
-const AS_ROOT: &[Row<'static>] = &[
+const AS_ROOT: &[&[Row<'static>]] = &[&[
     (Call::Create(FIRST), ""),
     (Call::Append(FIRST, "x"), ""),
     (Call::Size(FIRST), "1"),
@@ -175,7 +186,7 @@ const AS_ROOT: &[Row<'static>] = &[
     (Call::Delete(FIRST), ""),
     (Call::Names, ""),
     (Call::Failures, "0"),
-];
+]];
 
 #[test]
 fn a_read_only_file_stays_as_it_is(rt: HostRuntime) -> Result<(), Fail> {
@@ -183,15 +194,15 @@ fn a_read_only_file_stays_as_it_is(rt: HostRuntime) -> Result<(), Fail> {
     let is_root = OpenOptions::new().append(true).open(&rt, READ_ONLY).is_ok();
     let rows = if is_root { AS_ROOT } else { HELD_BACK };
     expect_in(&rt, "read_only_test", rows)?;
-    Ok(fs::remove_dir_all(&rt, "read_only_test")?)
+    remove_folder(&rt, "read_only_test")
 }
 
-const FULL: &[Row<'static>] = &[(Call::Append(FIRST, "x"), "NO 30"), (Call::Failures, "1")];
+const FULL: &[&[Row<'static>]] = &[&[(Call::Append(FIRST, "x"), "NO 30"), (Call::Failures, "1")]];
 
 #[test]
 fn a_full_disk_is_a_failure(rt: HostRuntime) -> Result<(), Fail> {
     make_folder(&rt, "full_test")?;
     symlink(&rt, "/dev/full", "full_test/_1.seg")?;
     expect_in(&rt, "full_test", FULL)?;
-    Ok(fs::remove_dir_all(&rt, "full_test")?)
+    remove_folder(&rt, "full_test")
 }

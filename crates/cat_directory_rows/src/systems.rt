@@ -1,8 +1,8 @@
 //! What a folder asks of the system, and what it tells where the system fails.
-use crate::calls::{Call, FIRST, Row, SOURCE, expect, make_folder};
+use crate::calls::{Call, FIRST, Row, SOURCE, expect, make_folder, remove_folder};
 use crate::faulty_system::{Doing, FaultySystem, Notes};
-use cat_directory::Folder;
-use std::fs;
+use cat_directory::{Directory, Folder, Shelf};
+use std::alloc::Global;
 use std::fs::Files;
 use std::io::ErrorKind;
 use std::process::Abort;
@@ -13,7 +13,31 @@ use std::test::Fail;
 /// 4 for the folder.
 type Scene<'a> = (Option<(Doing, ErrorKind)>, &'a [Row<'a>], u8);
 
-/// Makes the calls of the scenes in a folder at the path, which had no file, in a system that fails as they say.
+/// Makes the calls of the scenes on the device, over a system that fails as they say.
+fn expect_each<D: Directory + Shelf>(
+    rt: &impl Abort,
+    alloc: Global,
+    device: &mut D,
+    notes: &Notes,
+    scenes: &[Scene<'_>],
+) -> Result<(), Fail> {
+    for (fault, rows, synced) in scenes {
+        notes.fault.set(*fault);
+        expect(rt, alloc, device, rows)?;
+        assert!(rt; notes.synced.get() == *synced);
+    }
+    Ok(())
+}
+
+/// The system that has these notes.
+fn system_of<R: Clone>(rt: &R, notes: &Rc<Notes>) -> Result<FaultySystem<R>, Fail> {
+    Ok(FaultySystem {
+        rt: rt.clone()?,
+        notes: notes.clone()?,
+    })
+}
+
+/// Makes the calls of the scenes in a new folder at the path, in a system that fails as they say.
 fn expect_scenes<R: Abort + Files + AllocGlobal + Clone + Drop>(
     rt: &R,
     path: &str,
@@ -21,17 +45,9 @@ fn expect_scenes<R: Abort + Files + AllocGlobal + Clone + Drop>(
 ) -> Result<(), Fail> {
     make_folder(rt, path)?;
     let notes = Rc::new(rt.alloc(), Notes::new())?;
-    let system = FaultySystem {
-        rt: rt.clone()?,
-        notes: notes.clone()?,
-    };
-    let mut folder = Folder::at(system, rt.alloc(), path)?;
-    for (fault, rows, synced) in scenes {
-        notes.fault.set(*fault);
-        expect(rt, rt.alloc(), &mut folder, rows)?;
-        assert!(rt; notes.synced.get() == *synced);
-    }
-    Ok(())
+    let mut folder = Folder::at(system_of(rt, &notes)?, rt.alloc(), path)?;
+    expect_each(rt, rt.alloc(), &mut folder, &notes, scenes)?;
+    remove_folder(rt, path)
 }
 
 /// Short writes are carried on, and a name that isn't UTF-8 is passed over.
@@ -52,8 +68,7 @@ const SYNCED: &[Scene<'static>] = &[(None, WHOLE, 0), (None, SYNC_NONE, 4), (Non
 
 #[test]
 fn a_folder_asks_the_system_for_all_it_needs(rt: HostRuntime) -> Result<(), Fail> {
-    expect_scenes(&rt, "system_test", SYNCED)?;
-    Ok(fs::remove_dir_all(&rt, "system_test")?)
+    expect_scenes(&rt, "system_test", SYNCED)
 }
 
 const MAKE: &[Row<'static>] = &[
@@ -106,8 +121,7 @@ const KINDS: &[Scene<'static>] = &[
 
 #[test]
 fn each_error_of_the_system_is_told_as_it_is(rt: HostRuntime) -> Result<(), Fail> {
-    expect_scenes(&rt, "kinds_test", KINDS)?;
-    Ok(fs::remove_dir_all(&rt, "kinds_test")?)
+    expect_scenes(&rt, "kinds_test", KINDS)
 }
 
 /// An absent file is a failure of this call alone.
@@ -134,6 +148,5 @@ const FAILED_SYNC: &[Scene<'static>] = &[
 
 #[test]
 fn after_a_failed_sync_none_succeeds(rt: HostRuntime) -> Result<(), Fail> {
-    expect_scenes(&rt, "sync_test", FAILED_SYNC)?;
-    Ok(fs::remove_dir_all(&rt, "sync_test")?)
+    expect_scenes(&rt, "sync_test", FAILED_SYNC)
 }
