@@ -2,7 +2,7 @@
 use Rattle.std.proofs.Common.{◌≡◌, ◌≢◌, ◌<◌, ◌≤◌, ◌^◌, ℕ, suc, ◌+◌, Bool, true, false, List, [], ◌∷◌, ◌++◌, length, map, get_or, Some, refl, sym, ap, ap₂, ◌∙◌, subst, arith, inl, inr}
 use Rattle.std.specs.Prelude.{All}
 use Rattle.std.specs.List.{AllPairs}
-use Rattle.std.proofs.lemmas.List.{length-map, get_or-map, same_lists, get_or_append_left, get_or_at, get_or_default, take_all}
+use Rattle.std.proofs.lemmas.List.{length_push, length-map, get_or-map, same_lists, get_or_append_left, get_or_at, get_or_default, take_all}
 use Rattle.std.proofs.lemmas.List.Elements.{All-append, All-cons, All-map}
 use Rattle.std.proofs.lemmas.List.Kept.{AllPairs-cons}
 use Rattle.cat_codec.specs.Parts.{column_in, heads_in, IsColumnParts}
@@ -23,7 +23,7 @@ use Rattle.cat_segment.specs.Laid.{contents_under}
 use Rattle.cat_values.proofs.Told as columns
 use Rattle.cat_merge.proofs.Passed.{rows-live, live_few, length-live_of_all}
 use Rattle.cat_merge.proofs.Read.{read_seen}
-use Rattle.cat_merge.specs.Fields.{kept_rows, IsMergedColumn, AreMergedColumns}
+use Rattle.cat_merge.specs.Fields.{kept_rows, IsMergedColumn, AreFirstColumns, AreMergedColumns}
 use Rattle.cat_merge.specs.Merging.{MayMerge}
 use Rattle.cat_merge.specs.Walk.{AreInputs}
 
@@ -146,7 +146,7 @@ pub each_cut : (schema : Schema) (rows : List Row) (parts : List ColumnParts) �
 each_cut schema rows parts are = λ k d lt. (are.each k (record { name = []; kind = Kind.text }) d (omega (arith, lt, are.many))).cut
 
 -- ---- with one column more
-pub columns_more : (fields : Schema) (rows : List Row) (parts : List ColumnParts) (index : ℕ) (new : ColumnParts) (kind : Kind) (g : Field) → length parts ≡ index → kind ≡ (get_or fields index g).kind → index < length fields
+columns_more : (fields : Schema) (rows : List Row) (parts : List ColumnParts) (index : ℕ) (new : ColumnParts) (kind : Kind) (g : Field) → length parts ≡ index → kind ≡ (get_or fields index g).kind → index < length fields
     → ((k : ℕ) (f : Field) (p : ColumnParts) → k < index → IsMergedColumn (get_or fields k f).kind k rows (get_or parts k p)) → IsMergedColumn kind index rows new
     → (k : ℕ) (f : Field) (p : ColumnParts) → k < index + 1 → IsMergedColumn (get_or fields k f).kind k rows (get_or (parts ++ new ∷ []) k p)
 columns_more fields rows parts index new kind g many same within each is k f p lt = elim (cases_lt k index) [
@@ -157,6 +157,19 @@ columns_more fields rows parts index new kind g many same within each is k f p l
       (subst (λ (q : ColumnParts). IsMergedColumn (get_or fields index f).kind index rows q) (sym (get_or_at parts new [] p index many))
       (subst (λ (h : Kind). IsMergedColumn h index rows new) (same ∙ ap (λ (h : Field). h.kind) (get_or_default fields index g f within)) is))
 ]
+
+pub column_more : (fields : Schema) (rows : List Row) (parts : List ColumnParts) (new : ColumnParts) (kind : Kind) (g : Field) → kind ≡ (get_or fields (length parts) g).kind → length parts < length fields
+    → AreFirstColumns fields rows parts → IsMergedColumn kind (length parts) rows new → AreFirstColumns fields rows (parts ++ new ∷ [])
+column_more fields rows parts new kind g same within first is = record {
+  many = omega (arith, within, length_push parts new);
+  each = λ k f p lt. columns_more fields rows parts (length parts) new kind g refl same within first.each is k f p (omega (arith, lt, length_push parts new));
+}
+
+pub all_columns : (fields : Schema) (rows : List Row) (parts : List ColumnParts) → length fields ≤ length parts → AreFirstColumns fields rows parts → AreMergedColumns fields rows parts
+all_columns fields rows parts all first = record {
+  many = omega (arith, all, first.many);
+  each = λ k f p lt. first.each k f p (omega (arith, lt, all));
+}
 
 -- ---- with one head more
 pub heads_push : (numbers : List ℕ) (ids : List Text) (lengths : List ℕ) (n : ℕ) (id : Text) (l : ℕ) → length ids ≡ length numbers → length lengths ≡ length numbers

@@ -1,5 +1,5 @@
 -- What rows have in a field that merged segments have columns of.
-use Rattle.std.specs.Prelude.{◌≡◌, ◌<◌, ◌^◌, ℕ, ℤ, List, [], length, map, Option, Some, slice_index_or}
+use Rattle.std.specs.Prelude.{◌≡◌, ◌≤◌, ◌<◌, ◌^◌, ℕ, ℤ, List, [], length, map, Option, Some, slice_index_or}
 use Rattle.std.specs.List.{flat_map}
 use Rattle.cat_codec.specs.Parts.{column_in, IsColumnParts}
 use Rattle.cat_codec.specs.declared.parts.ColumnParts.{ColumnParts}
@@ -58,4 +58,10 @@ texts_at index leaf = texts_under (kind_at index leaf) index leaf.segment.rows
 pub record AreMergedColumns (schema : Schema) (rows : List Row) (parts : List ColumnParts) : Type 0 where
   pub many : length parts ≡ length schema
   pub each : (index : ℕ) (f : Field) (p : ColumnParts) → index < length schema
+      → IsMergedColumn (slice_index_or schema index f).kind index rows (slice_index_or parts index p)
+
+-- one for each of the first fields
+pub record AreFirstColumns (schema : Schema) (rows : List Row) (parts : List ColumnParts) : Type 0 where
+  pub many : length parts ≤ length schema
+  pub each : (index : ℕ) (f : Field) (p : ColumnParts) → index < length parts
       → IsMergedColumn (slice_index_or schema index f).kind index rows (slice_index_or parts index p)

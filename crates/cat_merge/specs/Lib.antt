@@ -1,6 +1,8 @@
 pub mod Coded
 pub mod Copied
 pub mod Fields
+pub mod IdRuns
+pub mod Making
 pub mod Maps
 pub mod Merging
 pub mod Places

@@ -1,7 +1,7 @@
 //! The columns of a merged segment.
-ghost use Rattle.std.specs.Prelude.{◌≡◌, ◌<◌, ◌^◌, map, length, All, IfOk};
+ghost use Rattle.std.specs.Prelude.{◌≡◌, ◌<◌, ◌^◌, ◌+◌, map, length, All, IfOk, OnOk};
 ghost use Rattle.cat_schema.specs.Kinds.{field_kind_of};
-ghost use Rattle.cat_merge.specs.Fields.{kept_rows, HasField, IsMergedColumn, AreMergedColumns};
+ghost use Rattle.cat_merge.specs.Fields.{kept_rows, HasField, IsMergedColumn, AreFirstColumns, AreMergedColumns};
 ghost use Rattle.cat_merge.specs.Maps.{codes_of};
 ghost use Rattle.cat_merge.specs.Walk.{AreInputs};
 
@@ -45,24 +45,50 @@ pub(crate) fn merged_column(
     }
 }
 
-/// The columns of the fields, in the fields' order.
-pub(crate) fn merged_columns(
+/// Adds the column of the field behind those that have one.
+pub(crate) fn add_column(
     alloc: Global,
     fields: &[Field],
     inputs: &[Input],
     maps: &[Vec<u32>],
     rows: usize,
-) -> Result<Vec<ColumnParts>, AllocError>
+    columns: &mut Vec<ColumnParts>,
+) -> Result<(), AllocError>
     requires inputs { AreInputs inputs.now }
     requires few { rows < 2 ^ 32 }
     requires rows { rows ≡ length (kept_rows inputs.now) }
     requires fields { All (λ leaf. leaf.segment.schema ≡ fields.now) inputs.now }
     requires maps { map (λ m. m.items) maps.now ≡ codes_of 0 inputs.now }
-    ensures ok { IfOk result (λ v. AreMergedColumns fields.now (kept_rows inputs.now) v.items) }
+    requires left { length columns.old.items < length fields.now }
+    requires columns { AreFirstColumns fields.now (kept_rows inputs.now) columns.old.items }
+    ensures columns { AreFirstColumns fields.now (kept_rows inputs.now) columns.new.items }
+    ensures more { OnOk result (length columns.new.items ≡ length columns.old.items + 1) }
 {
-    let mut columns = Vec::with_capacity(alloc, fields.len())?;
-    for (index, field) in fields.iter().enumerate() {
-        columns.push(merged_column(alloc, inputs, maps, field.kind(), index, rows)?)?;
+    let index = columns.len();
+    let column = merged_column(alloc, inputs, maps, fields[index].kind(), index, rows)?;
+    columns.push(column)?;
+    Ok(())
+}
+
+/// Adds the columns of all fields behind those that have one.
+pub(crate) fn add_columns(
+    alloc: Global,
+    fields: &[Field],
+    inputs: &[Input],
+    maps: &[Vec<u32>],
+    rows: usize,
+    columns: &mut Vec<ColumnParts>,
+) -> Result<(), AllocError>
+    requires inputs { AreInputs inputs.now }
+    requires few { rows < 2 ^ 32 }
+    requires rows { rows ≡ length (kept_rows inputs.now) }
+    requires fields { All (λ leaf. leaf.segment.schema ≡ fields.now) inputs.now }
+    requires maps { map (λ m. m.items) maps.now ≡ codes_of 0 inputs.now }
+    requires columns { AreFirstColumns fields.now (kept_rows inputs.now) columns.old.items }
+    ensures ok { OnOk result (AreMergedColumns fields.now (kept_rows inputs.now) columns.new.items) }
+{
+    for _ in columns.len()..fields.len() {
+        add_column(alloc, fields, inputs, maps, rows, columns)?;
     }
-    Ok(columns)
+    Ok(())
 }

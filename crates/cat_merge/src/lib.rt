@@ -3,11 +3,13 @@
 
 mod columns;
 mod counting;
+mod id_row;
 mod id_runs;
 mod input;
 mod keyword_column;
 mod label_column;
 mod lists;
+mod making;
 mod merge;
 mod merged_terms;
 mod number_column;

@@ -13,6 +13,7 @@ ghost use Rattle.cat_merge.specs.Walk.{heads_at, source_at, AreInputs};
 
 use crate::counting::rows_in;
 use crate::input::Input;
+use crate::making::Parts;
 use crate::place::Place;
 use crate::rows::KeptRow;
 use crate::sealing::sealed;
@@ -36,6 +37,8 @@ pub struct Merge {
     passed: usize,
     place: Place,
     kept: Vec<KeptRow>,
+    // What is made for the end, a part in each step.
+    parts: Parts,
 }
 
 impl Model for Merge {
@@ -47,7 +50,7 @@ impl Model for Merge {
 
     ghost view = { λ m. record { number = m.number; schema = m.schema; inputs = m.inputs.items; passed = m.passed } };
 
-    ghost invariant = { λ m. IsWalk m.number m.schema m.inputs.items m.total m.passed m.place m.kept.items };
+    ghost invariant = { λ m. IsWalk m.number m.schema m.inputs.items m.total m.passed m.place m.kept.items m.parts };
 }
 
 /// Keeps the row of the place, if it was live at the beginning, and adds where its source stands.
@@ -116,14 +119,17 @@ impl Merge {
         requires { MayMerge number schema.now inputs.items }
         ensures ok { IfOk result (λ m. m ≡ record { number = number; schema = schema.now; inputs = inputs.items; passed = 0 }) }
     {
+        let total = rows_in(&inputs);
+        let parts = Parts::begin(alloc, &inputs)?;
         Ok(Merge {
             number,
             schema: schema.copy()?,
-            total: rows_in(&inputs),
             inputs,
+            total,
             passed: 0,
             place: Place::first(),
             kept: Vec::new(alloc),
+            parts,
         })
     }
 
@@ -155,6 +161,8 @@ impl Merge {
         ensures within { IfOk result (λ ranges. AreWithin self.old.inputs ranges.items) }
         ensures err { OnErr result (self.new ≡ self.old) }
     {
+        // A part of what the end needs, so that little is left to be made there.
+        self.parts.step(alloc, self.schema.fields(), &self.inputs)?;
         let count = self.rows_left().min(MAX_STEP_ROWS);
         let before = self.kept.len();
         match pass_rows(alloc, &self.inputs, self.place, count, &mut self.kept) {
@@ -198,7 +206,8 @@ impl Merge {
             passed: _,
             place: _,
             kept,
+            parts,
         } = self;
-        Ok(Some(sealed(alloc, number, schema, &inputs, kept)?))
+        Ok(Some(sealed(alloc, number, schema, &inputs, kept, parts)?))
     }
 }

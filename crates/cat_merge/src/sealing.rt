@@ -4,13 +4,12 @@ ghost use Rattle.cat_base.specs.declared.refusal.Refusal.TheVariants.{Memory};
 ghost use Rattle.cat_codec.specs.Parts.{heads_in};
 ghost use Rattle.cat_model.specs.Layout.{head_of};
 ghost use Rattle.cat_merge.specs.Fields.{kept_rows};
+ghost use Rattle.cat_merge.specs.Making.{AreParts};
 ghost use Rattle.cat_merge.specs.Merging.{MayMerge};
 ghost use Rattle.cat_merge.specs.Walk.{AreInputs};
 
-use crate::columns::merged_columns;
-use crate::id_runs::rows_in_runs;
 use crate::input::Input;
-use crate::row_maps::row_maps;
+use crate::making::Parts;
 use crate::rows::KeptRow;
 use cat_base::{Refusal, SegNo, Text, WriteNo};
 use cat_codec::SegmentParts;
@@ -55,17 +54,17 @@ pub(crate) fn sealed(
     schema: Schema,
     inputs: &[Input],
     kept: Vec<KeptRow>,
+    made: Parts,
 ) -> Result<Segment, AllocError>
     requires may { MayMerge number schema inputs.now }
     requires inputs { AreInputs inputs.now }
     requires kept { kept.items ≡ map head_of (kept_rows inputs.now) }
+    requires parts { AreParts schema inputs.now made }
     requires some { kept_rows inputs.now ≢ [] }
     ensures ok { IfOk result (λ s. s ≡ record { number = number; schema = schema; rows = kept_rows inputs.now }) }
     ensures some { IfOk result (λ s. kept_rows inputs.now ≢ []) }
 {
-    let maps = row_maps(alloc, inputs)?;
-    let columns = merged_columns(alloc, schema.fields(), inputs, &maps, kept.len())?;
-    let runs = rows_in_runs(alloc, inputs, &maps, kept.len())?;
+    let (columns, runs) = made.finish(alloc, schema.fields(), inputs)?;
     let (numbers, ids, lengths) = unzipped(alloc, kept)?;
     let parts = SegmentParts {
         number,

@@ -7,4 +7,4 @@ use Rattle.cat_merge.proofs.merge.Merge.copy_step.Goals as goal
 pub returns-in-Ok-clause-within : goal.returns-in-Ok-clause-within
 returns-in-Ok-clause-within c =
     subst (λ (m : Merging). AreWithin m.inputs c.in-Ok.ranges.items) c.self.view_is
-    (subst (λ (l : List Leaf). AreWithin l c.in-Ok.ranges.items) c.deref.ensures.value c.in-Ok.ensures.within)
+    (subst (λ (l : List Leaf). AreWithin l c.in-Ok.ranges.items) c.deref-2.ensures.value c.in-Ok.ensures.within)
