@@ -1,5 +1,5 @@
 -- Lines of replies in pieces.
-use Rattle.std.proofs.Common.{◌≡◌, ℕ, List, [], ◌∷◌, ◌++◌, ◌<◌, codes, length, take, get_or, sym, ap, ◌∙◌, append_assoc, append-nil}
+use Rattle.std.proofs.Common.{◌≡◌, ℕ, ◌+◌, List, [], ◌∷◌, ◌++◌, ◌<◌, codes, length, take, drop, get_or, sym, ap, ◌∙◌, append_assoc, append-nil}
 use Rattle.std.specs.Prelude.{Option, map}
 use Rattle.std.specs.List.{flat_map}
 use Rattle.std.specs.Fmt.{decimal}
@@ -12,7 +12,8 @@ use Rattle.cat_model.specs.Served.{AppendsFront}
 use Rattle.cat_directory.specs.Names.{file_text}
 use Rattle.cat_directory.specs.declared.name.FileName.{FileName}
 use Rattle.cat_directory.specs.declared.name.FileName.TheVariants.{Live}
-use Rattle.cat_sending.proofs.Written.{front_before, front_behind, flat_map_split}
+use Rattle.cat_sending.specs.Out.{PassesOn}
+use Rattle.cat_sending.proofs.Written.{front_before, front_behind, flat_map_more, flat_map_split, gathered_before, gathered_front, both_taken}
 use Rattle.cat_replies.specs.Reply.{segment_of}
 use Rattle.cat_replies.specs.declared.news.SegmentStat.{SegmentStat}
 use Rattle.cat_replies.specs.Words.{word_text, behind_space}
@@ -25,11 +26,9 @@ spaced_words first [] = sym (append-nil first)
 spaced_words first (word ∷ words) = ap (λ l. first ++ 32 ∷ l) (spaced_words (word_text word) words)
 
 pub line_in_pieces : (session : ℕ) (words : List Word)
-    → line_text (decimal session ∷ map word_text words) ≡ (decimal session ++ []) ++ (flat_map behind_space words ++ codes "\n")
+    → line_text (decimal session ∷ map word_text words) ≡ decimal session ++ (flat_map behind_space words ++ codes "\n")
 line_in_pieces session words =
-    ap (λ l. l ++ codes "\n") (spaced_words (decimal session) words)
-    ∙ append_assoc (decimal session) (flat_map behind_space words) (codes "\n")
-    ∙ ap (λ l. l ++ (flat_map behind_space words ++ codes "\n")) (sym (append-nil (decimal session)))
+    ap (λ l. l ++ codes "\n") (spaced_words (decimal session) words) ∙ append_assoc (decimal session) (flat_map behind_space words) (codes "\n")
 
 -- ---- lists
 
@@ -38,10 +37,20 @@ pub front_within : {X : Type 0} (f : X → Text) (xs : List X) (i : ℕ) (d : X)
     → AppendsFront b c (f (get_or xs i d)) → AppendsFront a c (flat_map f xs)
 front_within f xs i d a b c h before part = rw (flat_map_split f xs i d h) (front_behind _ _ _ _ _ before (front_before _ part))
 
+-- the elements before one were taken in, and of all that waited, with it, a front went out
+pub gathered_within : {X : Type 0} (f : X → Text) (xs : List X) (i : ℕ) (d : X) (a b c : Option Text) (waited waits : Text) → i < length xs
+    → PassesOn a b waited waits (flat_map f (take i xs)) → AppendsFront b c (waits ++ f (get_or xs i d)) → AppendsFront a c (waited ++ flat_map f xs)
+gathered_within f xs i d a b c waited waits h before part = rw (flat_map_split f xs i d h) (gathered_front _ _ _ _ _ _ _ before (gathered_before waits (f (get_or xs i d)) (flat_map f (drop (i + 1) xs)) part))
+
+-- one more element was taken in
+pub gathered_more : {X : Type 0} (f : X → Text) (xs : List X) (i : ℕ) (d : X) (a b c : Option Text) (waited between waits : Text) → i < length xs
+    → PassesOn a b waited between (flat_map f (take i xs)) → PassesOn b c between waits (f (get_or xs i d)) → PassesOn a c waited waits (flat_map f (take (i + 1) xs))
+gathered_more f xs i d a b c waited between waits h before now = rw (flat_map_more f xs i d h) (both_taken _ _ _ _ _ _ _ _ before now)
+
 -- ---- names
 
 pub live_in_pieces : (name : FileName) (segment generation : ℕ) → name ≡ Live segment generation
-    → file_text name ≡ (codes "_" ++ (decimal segment ++ codes "_")) ++ (decimal generation ++ codes ".liv")
+    → file_text name ≡ (codes "_" ++ (decimal segment ++ codes "_")) ++ (codes "" ++ (decimal generation ++ codes ".liv"))
 live_in_pieces name segment generation is = rw is (simp append_assoc)
 
 -- ---- the further lines

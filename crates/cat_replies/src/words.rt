@@ -4,12 +4,12 @@ ghost use Rattle.std.specs.Fmt.{decimal};
 ghost use Rattle.std.specs.List.{flat_map};
 ghost use Rattle.cat_model.specs.Lines.{line_text};
 ghost use Rattle.cat_directory.specs.Names.{file_text};
-ghost use Rattle.cat_sending.specs.Out.{Sent};
+ghost use Rattle.cat_sending.specs.Out.{Gathers, Sent};
 ghost use Rattle.cat_replies.specs.Words.{word_text, behind_space};
 
 use cat_base::SessionNo;
 use cat_directory::FileName;
-use cat_sending::{WriteFault, send, send_number, send_signed};
+use cat_sending::{Gathered, WriteFault};
 use std::io::Write;
 
 /// A word of a line.
@@ -27,56 +27,65 @@ pub(crate) enum Word<'a> {
     Name(FileName),
 }
 
-/// Writes a number between bytes.
-fn send_between<W: Write>(
+/// Adds a number between bytes.
+fn put_between<W: Write>(
+    line: &mut Gathered,
     before: &[u8],
     number: u64,
     behind: &[u8],
     to: &mut W,
 ) -> Result<(), WriteFault>
-    ensures { Sent (W.contents to.old) (W.contents to.new) result (before.now ++ (decimal number ++ behind.now)) }
+    ensures { Gathers (W.contents to.old) (W.contents to.new) line.old line.new result (before.now ++ (decimal number ++ behind.now)) }
 {
-    send(before, to)?;
-    send_number(number, behind, to)
+    line.put(before, to)?;
+    line.put_number(number, to)?;
+    line.put(behind, to)
 }
 
-/// Writes the text of the name, which the name itself gives only in memory of its own.
-fn send_name<W: Write>(name: FileName, to: &mut W) -> Result<(), WriteFault>
-    ensures { Sent (W.contents to.old) (W.contents to.new) result (file_text name) }
+/// Adds the text of the name, which the name itself gives only in memory of its own.
+fn put_name<W: Write>(line: &mut Gathered, name: FileName, to: &mut W) -> Result<(), WriteFault>
+    ensures { Gathers (W.contents to.old) (W.contents to.new) line.old line.new result (file_text name) }
 {
     match name {
-        FileName::Segment(segment) => send_between(b"_", segment, b".seg", to),
-        FileName::Source(segment) => send_between(b"_", segment, b".sto", to),
+        FileName::Segment(segment) => put_between(line, b"_", segment, b".seg", to),
+        FileName::Source(segment) => put_between(line, b"_", segment, b".sto", to),
         FileName::Live(segment, generation) => {
-            send_between(b"_", segment, b"_", to)?;
-            send_number(generation, b".liv", to)
+            put_between(line, b"_", segment, b"_", to)?;
+            put_between(line, b"", generation, b".liv", to)
         }
-        FileName::Commit(generation) => send_between(b"segments_", generation, b"", to),
+        FileName::Commit(generation) => put_between(line, b"segments_", generation, b"", to),
     }
 }
 
-fn send_word<W: Write>(word: Word, to: &mut W) -> Result<(), WriteFault>
-    ensures { Sent (W.contents to.old) (W.contents to.new) result (word_text word.entry) }
+fn put_word<W: Write>(line: &mut Gathered, word: Word, to: &mut W) -> Result<(), WriteFault>
+    ensures { Gathers (W.contents to.old) (W.contents to.new) line.old line.new result (word_text word.entry) }
 {
     match word {
-        Word::Number(number) => send_number(number, b"", to),
-        Word::Signed(number) => send_signed(number, to),
-        Word::Plain(bytes) => send(bytes, to),
+        Word::Number(number) => line.put_number(number, to),
+        Word::Signed(number) => line.put_signed(number, to),
+        Word::Plain(bytes) => line.put(bytes, to),
         Word::Marked(bytes) => {
-            send(b"=", to)?;
-            send(bytes, to)
+            line.put(b"=", to)?;
+            line.put(bytes, to)
         }
-        Word::Name(name) => send_name(name, to),
+        Word::Name(name) => put_name(line, name, to),
     }
 }
 
-/// Writes the words, each behind a space.
-fn send_words<W: Write>(words: &[Word], to: &mut W) -> Result<(), WriteFault>
-    ensures { Sent (W.contents to.old) (W.contents to.new) result (flat_map behind_space words.now) }
+/// Adds the word behind a space.
+fn put_behind_space<W: Write>(line: &mut Gathered, word: Word, to: &mut W) -> Result<(), WriteFault>
+    ensures { Gathers (W.contents to.old) (W.contents to.new) line.old line.new result (behind_space word.entry) }
+{
+    line.put(b" ", to)?;
+    put_word(line, word, to)
+}
+
+/// Adds the words, each behind a space.
+fn put_words<W: Write>(line: &mut Gathered, words: &[Word], to: &mut W) -> Result<(), WriteFault>
+    ensures { Gathers (W.contents to.old) (W.contents to.new) line.old line.new result (flat_map behind_space words.now) }
 {
     for word in words {
-        send(b" ", to)?;
-        send_word(*word, to)?;
+        put_behind_space(line, *word, to)?;
     }
     Ok(())
 }
@@ -89,7 +98,9 @@ pub(crate) fn send_line<W: Write>(
 ) -> Result<(), WriteFault>
     ensures { Sent (W.contents to.old) (W.contents to.new) result (line_text (decimal session ∷ map word_text words.now)) }
 {
-    send_number(session as u64, b"", to)?;
-    send_words(words, to)?;
-    send(b"\n", to)
+    let mut line = Gathered::new();
+    line.put_number(session as u64, to)?;
+    put_words(&mut line, words, to)?;
+    line.put(b"\n", to)?;
+    line.finish(to)
 }

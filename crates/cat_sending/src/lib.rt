@@ -7,4 +7,4 @@ mod pieces;
 
 pub use gathered::Gathered;
 pub use lines::{send_opened, send_reason, send_refused, send_unreadable};
-pub use pieces::{WriteFault, flush, send, send_number, send_signed};
+pub use pieces::{WriteFault, flush, send, send_number};

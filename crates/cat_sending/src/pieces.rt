@@ -1,6 +1,6 @@
 //! The pieces that a text is made of: bytes, and numbers with the bytes behind them.
 ghost use Rattle.std.specs.Prelude.{◌≤◌, ◌++◌, length, take, IfOk, OnErr};
-ghost use Rattle.std.specs.Fmt.{decimal, signed_decimal};
+ghost use Rattle.std.specs.Fmt.{decimal};
 ghost use Rattle.std.specs.Io.KnownBytes.{Appends, Keeps};
 ghost use Rattle.cat_sending.specs.Out.{Sent};
 
@@ -75,11 +75,4 @@ pub fn send_number<W: Write>(number: u64, behind: &[u8], to: &mut W) -> Result<(
 {
     send(Buffer::new().format(number).as_bytes(), to)?;
     send(behind, to)
-}
-
-/// Writes a number in decimal: with a `-` where it is below 0, and no sign otherwise.
-pub fn send_signed<W: Write>(number: i64, to: &mut W) -> Result<(), WriteFault>
-    ensures { Sent (W.contents to.old) (W.contents to.new) result (signed_decimal number) }
-{
-    send(Buffer::new().format(number).as_bytes(), to)
 }

@@ -1,18 +1,30 @@
-use Rattle.cat_sending.proofs.Written.{front_before, front_behind, sent_behind, sent_at_fault}
+use Rattle.std.proofs.Common.{◌++◌, codes}
+use Rattle.std.specs.List.{flat_map}
+use Rattle.cat_sending.proofs.Written.{both_taken, gathered_before, gathered_front, gathered_sent, sent_at_fault, unwaited}
+use Rattle.cat_replies.specs.Words.{behind_space}
 use Rattle.cat_replies.proofs.Pieces.{line_in_pieces}
 use Rattle.cat_replies.proofs.words.send_line.Goals as goal
 
-pub returns-in_err-send_number : goal.returns-in_err-send_number
-returns-in_err-send_number g c =
-    rw (line_in_pieces c.args.session c.args.words.now) (sent_at_fault _ c.from_residual.ensures.0 (front_before _ c.in_err-send_number.ensures))
-
-pub returns-in_err-send_words : goal.returns-in_err-send_words
-returns-in_err-send_words g c =
+pub returns-in_err-put_number : goal.returns-in_err-put_number
+returns-in_err-put_number g c =
     rw (line_in_pieces c.args.session c.args.words.now)
-    (sent_at_fault _ c.from_residual-in_err-send_words.ensures.0
-    (front_behind _ _ _ _ _ c.in_ok-send_number.ensures (front_before _ c.in_err-send_words.ensures)))
+    (sent_at_fault _ c.from_residual.ensures.0 (unwaited _ _ c.new-line.ensures (gathered_before _ _ (flat_map behind_space c.args.words.now ++ codes "\n") c.in_err-put_number.ensures)))
+
+pub returns-in_err-put_words : goal.returns-in_err-put_words
+returns-in_err-put_words g c =
+    rw (line_in_pieces c.args.session c.args.words.now)
+    (sent_at_fault _ c.from_residual-in_err-put_words.ensures.0
+    (unwaited _ _ c.new-line.ensures (gathered_front _ _ _ _ _ _ _ c.in_ok-put_number.ensures (gathered_before _ _ (codes "\n") c.in_err-put_words.ensures))))
+
+pub returns-in_err-put : goal.returns-in_err-put
+returns-in_err-put g c =
+    rw (line_in_pieces c.args.session c.args.words.now)
+    (sent_at_fault _ c.from_residual-in_err-put.ensures.0
+    (unwaited _ _ c.new-line.ensures (gathered_front _ _ _ _ _ _ _ c.in_ok-put_number.ensures (gathered_front _ _ _ _ _ _ (codes "\n") c.in_ok-put_words.ensures c.in_err-put.ensures))))
 
 pub returns : goal.returns
 returns g c =
     rw (line_in_pieces c.args.session c.args.words.now)
-    (sent_behind _ _ _ _ _ _ c.in_ok-send_number.ensures (sent_behind _ _ _ _ _ _ c.in_ok-send_words.ensures c.send.ensures))
+    (gathered_sent _ _ _ _ _ _ _ c.new-line.ensures
+    (both_taken _ _ _ _ _ _ _ _ c.in_ok-put_number.ensures (both_taken _ _ _ _ _ _ _ (codes "\n") c.in_ok-put_words.ensures c.in_ok-put.ensures))
+    c.finish.ensures)
