@@ -1,3 +1,4 @@
 pub mod Asked
+pub mod Cached
 pub mod Shown
 pub mod Told

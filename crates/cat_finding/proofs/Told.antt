@@ -1,6 +1,6 @@
 -- What a read for items is told, from what its calls say.
 use Rattle.std.proofs.Common.{◌≡◌, ℕ, List, ap, inl, inr, refl, subst, sym}
-use Rattle.std.specs.Prelude.{◌≢◌, ◌⊎◌, Option, None, Some, Result, Ok, Err, IfErr, IfSome, IsErr, IsErrAnd}
+use Rattle.std.specs.Prelude.{◌≢◌, ◌⊎◌, Option, None, Some, Result, Ok, Err, IsErr, IsErrAnd}
 use Rattle.cat_base.specs.declared.refusal.Refusal.{Refusal}
 use Rattle.cat_base.specs.declared.refusal.Refusal.TheVariants.{Memory, NotHeld, Query as NoQuery}
 use Rattle.cat_model.specs.Answer.{Found, Read, answer, query_refusal}
@@ -14,8 +14,7 @@ use Rattle.cat_model.specs.Run.{Reply, found_reply, or_not_held}
 use Rattle.cat_model.specs.Text.{Text}
 use Rattle.cat_model.specs.View.{View}
 use Rattle.cat_ledger_lines.specs.ReadLaws.{Finds}
-use Rattle.cat_model.proofs.QueryLaws.{one_query}
-use Rattle.cat_finding.specs.Reads.{GivesDue, MayTell}
+use Rattle.cat_finding.specs.Reads.{MayTell}
 
 -- whether it is want of memory
 is_memory : (e : Refusal) → (e ≡ Memory) ⊎ (e ≢ Memory)
@@ -79,23 +78,3 @@ module _ (schema : Schema) (text : Text) (asked : Result Query Refusal → Read)
 pub passed_on : {T E : Type 0} (r : Result T E) (e : E) → IsErr r × IsErrAnd r (λ x. x ≡ e) → r ≡ Err e
 passed_on (Err x) e is = ap Err is.1
 passed_on (Ok x) e is = absurd is.1
-
--- ---- what is due
-
--- what holds of the right that there is
-pub if_held : {A : Type 0} (P : A → Type 0) (right : Option A) (hold : A) → right ≡ Some hold → P hold → IfSome right P
-if_held P right hold held h = subst (λ o. IfSome o P) (sym held) h
-
--- the refusal that is due is due whatever would be given without it
-due_alike : (X Y : Type 0) (r : Result Found Refusal) (e : Refusal) → IfErr r (λ x. ◌≡◌ {A = Result X Refusal} (Err e) (Err x))
-    → IfErr r (λ x. ◌≡◌ {A = Result Y Refusal} (Err e) (Err x))
-due_alike X Y (Ok found) e due = tt
-due_alike X Y (Err x) e due = cc
-
--- A text spells one query, so what is due to it is due to each that it spells.
-pub due_to_each : (X Y : Type 0) (schema : Schema) (text : Text) (view : View) (asked : Query → Read) (e : Refusal) (one : Query)
-    → Spells schema text one → GivesDue {X = X} view (asked one) (Err e) → (q : Query) → Spells schema text q
-    → GivesDue {X = Y} view (asked q) (Err e)
-due_to_each X Y schema text view asked e one first due q other =
-    subst (λ p. GivesDue {X = Y} view (asked p) (Err e)) (one_query schema text one q first other)
-    (λ rs shown. due_alike X Y (answer view.schema rs (asked one)) e (due rs shown))

@@ -1,5 +1,5 @@
 //! FACETS: counts of the labels of the items that a query matches.
-ghost use Rattle.std.specs.Prelude.{◌≡◌, ◌≢◌, ℕ, Err, IfErr, IfOk, IfSome, None, Ok, Result, option_map};
+ghost use Rattle.std.specs.Prelude.{◌≡◌, ◌≢◌, ℕ, All, Err, IfErr, IfOk, IfSome, MatchOption, None, Ok, OnErr, Result, option_map};
 ghost use Rattle.cat_base.specs.declared.refusal.Refusal.{Refusal};
 ghost use Rattle.cat_base.specs.declared.refusal.Refusal.TheVariants.{Memory, NotHeld, Query as NoQuery};
 ghost use Rattle.cat_model.specs.Answer.{Found, Read, is_facet_kind};
@@ -9,17 +9,22 @@ ghost use Rattle.cat_model.specs.Heard.{IsQueryOf};
 ghost use Rattle.cat_model.specs.Query as model;
 ghost use Rattle.cat_schema.specs.Kinds.{field_kind_of};
 ghost use Rattle.cat_query.specs.View.{query_of};
+ghost use Rattle.cat_filters.specs.Filters.{segments_of};
+ghost use Rattle.cat_filters.specs.Known.{Knows, Remembers, RemembersBelow};
+ghost use Rattle.cat_facets.specs.Kept.{KnowsIn, RemembersOf, RemembersOfBelow};
 ghost use Rattle.cat_ledger_lines.specs.ReadLaws.{Finds};
 ghost use Rattle.cat_replies.specs.Reply.{reply_of};
 ghost use Rattle.cat_finding.specs.Reads.{GivesDue, MayTell};
 
 use crate::asking::read_query;
+use crate::preparing::prepare;
 use cat_base::{MAX_PAGE, Refusal};
-use cat_facets::{Facets, ReaderState};
+use cat_facets::{Facets, ReaderStates};
+use cat_filters::Filters;
 use cat_query::Query;
 use cat_replies::Answer;
 use cat_schema::{Kind, Schema, kind_of};
-use cat_search::{Hold, Prepared, View};
+use cat_search::{Hold, View};
 use std::alloc::Global;
 
 /// Whether one counts over fields of the kind.
@@ -43,20 +48,30 @@ fn judge(view: &View, dimension: &str, count: u64) -> Result<(), Refusal>
     Ok(())
 }
 
-/// The counts over the live rows of the view that the query matches.
+/// The counts over the live rows of the view that the query matches. The query is noted where they are told.
 fn counts_of(
     alloc: Global,
     view: &View,
+    filters: &mut Filters,
+    states: &mut ReaderStates,
     dimension: &str,
     count: u64,
     query: Query,
 ) -> Result<Facets, Refusal>
+    requires cached { All (Knows filters.old) (segments_of view.now.leaves) }
+    requires kept { All (KnowsIn states.old) (segments_of view.now.leaves) }
     ensures ok { IfOk result (λ f. Finds view.now (Read.facets dimension.now count (Ok (query_of query))) (Ok (Found.facets f))) }
     ensures err { IfErr result (λ e. e ≢ Memory → Finds view.now (Read.facets dimension.now count (Ok (query_of query))) (Err e)) }
+    ensures known { Remembers filters.old filters.new }
+    ensures below { RemembersBelow filters.old filters.new }
+    ensures refused { OnErr result (filters.new ≡ record filters.old { cached = filters.new.cached }) }
+    ensures kept { RemembersOf (segments_of view.now.leaves) states.old states.new }
+    ensures kept_below { RemembersOfBelow (segments_of view.now.leaves) states.old states.new }
 {
-    let state = ReaderState::of(alloc, view, dimension)?;
-    let prepared = Prepared::of(view, query)?;
-    state.counts(alloc, &prepared, count)
+    let prepared = prepare(filters, view, query)?;
+    let facets = states.counts(alloc, &prepared, dimension, count)?;
+    filters.note(prepared.query());
+    Ok(facets)
 }
 
 /// Answers a FACETS: how many of the live items that the query matches have each label of the dimension, of a view that the
@@ -67,20 +82,34 @@ fn counts_of(
 /// there is no right to the view, [`Refusal::NotFacet`] where the dimension is no facet field of the view's schema,
 /// [`Refusal::Count`] where more counts are asked for than [`MAX_PAGE`]. Where none of these is so, [`Refusal::Memory`] may
 /// come instead of the counts, also where the view has 2^32 labels or more: it hides no other refusal.
+///
+/// The sets that are at hand are lent to the query, which is noted where counts are told; so is the kept state of the view's
+/// segments, or it is made and kept.
 pub fn count_facets(
     alloc: Global,
     schema: &Schema,
     right: Option<&Hold>,
+    filters: &mut Filters,
+    states: &mut ReaderStates,
     dimension: &str,
     count: u64,
     text: &str,
 ) -> Result<Answer, Refusal>
+    requires cached { IfSome right (λ h. All (Knows filters.old) (segments_of h.now.view.leaves)) }
+    requires kept { IfSome right (λ h. All (KnowsIn states.old) (segments_of h.now.view.leaves)) }
     ensures told { (q : Result model.Query Refusal) × IsQueryOf schema.now text.now q
         × MayTell (option_map (λ h. h.now.view) right.entry) (Read.facets dimension.now count q) (reply_of result) }
     ensures fault { (place : ℕ) → Fault schema.now text.now place → result ≡ Err (NoQuery place) }
     ensures unheld { right.entry ≡ None → ((place : ℕ) → Fault schema.now text.now place → ⊥) → result ≡ Err NotHeld }
     ensures due { IfSome right.entry (λ h. (q : model.Query) → Spells schema.now text.now q
         → GivesDue h.now.view (Read.facets dimension.now count (Ok q)) result) }
+    ensures known { Remembers filters.old filters.new }
+    ensures below { RemembersBelow filters.old filters.new }
+    ensures refused { OnErr result (filters.new ≡ record filters.old { cached = filters.new.cached }) }
+    ensures kept { MatchOption right.entry (states.new ≡ states.old)
+        (λ h. RemembersOf (segments_of h.now.view.leaves) states.old states.new) }
+    ensures kept_below { MatchOption right.entry (states.new ≡ states.old)
+        (λ h. RemembersOfBelow (segments_of h.now.view.leaves) states.old states.new) }
 {
     let query = read_query(alloc, schema, text)?;
     let Some(hold) = right else {
@@ -92,6 +121,6 @@ pub fn count_facets(
     let Some(query) = query else {
         return Err(Refusal::Memory);
     };
-    let facets = counts_of(alloc, view, dimension, count, query)?;
+    let facets = counts_of(alloc, view, filters, states, dimension, count, query)?;
     Ok(Answer::Counts(facets))
 }

@@ -5,6 +5,7 @@ mod asking;
 mod counts;
 mod marks;
 mod pages;
+mod preparing;
 
 pub use counts::count_facets;
 pub use pages::find;

@@ -1,25 +1,31 @@
 //! FIND: pages of the items that a query matches.
-ghost use Rattle.std.specs.Prelude.{◌≡◌, ℕ, Err, IfErr, IfSome, None, Result, option_map};
+ghost use Rattle.std.specs.Prelude.{◌≡◌, ◌≢◌, ℕ, All, Err, IfErr, IfOk, IfSome, None, Ok, OnErr, Result, option_map};
 ghost use Rattle.cat_base.specs.declared.refusal.Refusal.{Refusal};
-ghost use Rattle.cat_base.specs.declared.refusal.Refusal.TheVariants.{NotHeld, Query as NoQuery};
-ghost use Rattle.cat_model.specs.Answer.{Read, can_sort, is_sort_kind};
+ghost use Rattle.cat_base.specs.declared.refusal.Refusal.TheVariants.{Memory, NotHeld, Query as NoQuery};
+ghost use Rattle.cat_model.specs.Answer.{Found, Read, can_sort, is_sort_kind};
 ghost use Rattle.cat_model.specs.Faults.{Fault};
 ghost use Rattle.cat_model.specs.Grammar.{Spells};
 ghost use Rattle.cat_model.specs.Heard.{IsQueryOf};
 ghost use Rattle.cat_model.specs.Query as model;
 ghost use Rattle.cat_schema.specs.Kinds.{field_kind_of};
+ghost use Rattle.cat_query.specs.View.{query_of};
 ghost use Rattle.cat_search.specs.Asks.{read_of};
 ghost use Rattle.cat_search.specs.Sorts.{sort_of};
+ghost use Rattle.cat_filters.specs.Filters.{segments_of};
+ghost use Rattle.cat_filters.specs.Known.{Knows, Remembers, RemembersBelow};
 ghost use Rattle.cat_ledger_lines.specs.ReadLaws.{Finds};
 ghost use Rattle.cat_replies.specs.Reply.{reply_of};
 ghost use Rattle.cat_finding.specs.Reads.{GivesDue, MayTell};
 
 use crate::asking::read_query;
 use crate::marks::is_shown;
+use crate::preparing::prepare;
 use cat_base::{MAX_PAGE, Refusal};
+use cat_filters::Filters;
+use cat_query::Query;
 use cat_replies::Answer;
 use cat_schema::{Kind, Schema, kind_of};
-use cat_search::{Ask, Hold, Sort, View};
+use cat_search::{Ask, Hold, Page, Sort, View};
 use std::alloc::Global;
 
 /// Whether one sorts by fields of the kind.
@@ -57,6 +63,27 @@ fn judge(view: &View, ask: Ask<'_>) -> Result<(), Refusal>
     }
 }
 
+/// The page of the live rows of the view that the query matches. The query is noted where it is told.
+fn page_of(
+    alloc: Global,
+    view: &View,
+    filters: &mut Filters,
+    ask: Ask<'_>,
+    query: Query,
+) -> Result<Page, Refusal>
+    requires { All (Knows filters.old) (segments_of view.now.leaves) }
+    ensures ok { IfOk result (λ p. Finds view.now (read_of ask.entry (query_of query)) (Ok (Found.page p))) }
+    ensures err { IfErr result (λ e. e ≢ Memory → Finds view.now (read_of ask.entry (query_of query)) (Err e)) }
+    ensures known { Remembers filters.old filters.new }
+    ensures below { RemembersBelow filters.old filters.new }
+    ensures refused { OnErr result (filters.new ≡ record filters.old { cached = filters.new.cached }) }
+{
+    let prepared = prepare(filters, view, query)?;
+    let page = prepared.page(alloc, ask)?;
+    filters.note(prepared.query());
+    Ok(page)
+}
+
 /// Answers a FIND: a page of the live items that the query matches, of a view that the session holds. (Lucene:
 /// `IndexSearcher.searchAfter` over the searcher of `SearcherLifetimeManager.acquire`.)
 ///
@@ -64,28 +91,36 @@ fn judge(view: &View, ask: Ask<'_>) -> Result<(), Refusal>
 /// there is no right to the view, [`Refusal::Count`] where more hits are asked for than [`MAX_PAGE`], [`Refusal::SortField`]
 /// where one can't sort by the field, [`Refusal::Mark`] where the mark is the number of no live row of the view. Where none
 /// of these is so, [`Refusal::Memory`] may come instead of the page: it hides no other refusal.
+///
+/// The sets that are at hand are lent to the query, which is noted where the page is told.
 pub fn find(
     alloc: Global,
     schema: &Schema,
     right: Option<&Hold>,
+    filters: &mut Filters,
     ask: Ask<'_>,
     text: &str,
 ) -> Result<Answer, Refusal>
+    requires { IfSome right (λ h. All (Knows filters.old) (segments_of h.now.view.leaves)) }
     ensures told { (q : Result model.Query Refusal) × IsQueryOf schema.now text.now q
         × MayTell (option_map (λ h. h.now.view) right.entry) (Read.find ask.entry.count (sort_of ask.entry.sort) ask.entry.after q) (reply_of result) }
     ensures fault { (place : ℕ) → Fault schema.now text.now place → result ≡ Err (NoQuery place) }
     ensures unheld { right.entry ≡ None → ((place : ℕ) → Fault schema.now text.now place → ⊥) → result ≡ Err NotHeld }
     ensures due { IfSome right.entry (λ h. (q : model.Query) → Spells schema.now text.now q → GivesDue h.now.view (read_of ask.entry q) result) }
+    ensures known { Remembers filters.old filters.new }
+    ensures below { RemembersBelow filters.old filters.new }
+    ensures refused { OnErr result (filters.new ≡ record filters.old { cached = filters.new.cached }) }
 {
     let query = read_query(alloc, schema, text)?;
     let Some(hold) = right else {
         return Err(Refusal::NotHeld);
     };
+    let view = hold.view();
+    // What is due without the query is told before the want of memory.
+    judge(view, ask)?;
     let Some(query) = query else {
-        // What is due without the query is told before the want of memory.
-        judge(hold.view(), ask)?;
         return Err(Refusal::Memory);
     };
-    let page = hold.page(alloc, &query, ask)?;
+    let page = page_of(alloc, view, filters, ask, query)?;
     Ok(Answer::Found(page))
 }

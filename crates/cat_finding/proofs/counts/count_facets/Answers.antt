@@ -1,8 +1,13 @@
-use Rattle.std.proofs.Common.{◌∙◌, ap, option_map, sym}
+use Rattle.std.proofs.Common.{◌≡◌, ◌∙◌, All, ap, option_map, refl, subst, sym}
 use Rattle.std.specs.Prelude.{Err, Ok, Some}
 use Rattle.cat_model.specs.Answer.{Found, Read}
 use Rattle.cat_model.specs.Grammar.{Spells}
 use Rattle.cat_query.specs.View.{query_of}
+use Rattle.cat_model.specs.View.{View}
+use Rattle.cat_filters.specs.Filters.{segments_of}
+use Rattle.cat_filters.specs.Known.{Knows}
+use Rattle.cat_facets.specs.Kept.{KnowsIn, RemembersOf, RemembersOfBelow}
+use Rattle.cat_finding.proofs.Cached.{by_any, by_right, of_right}
 use Rattle.cat_finding.proofs.Told.{facets_is, fault_told, found_told, memory_told, passed_on, refusal_told, unheld_told}
 use Rattle.cat_finding.proofs.counts.count_facets.Goals as goal
 
@@ -46,3 +51,65 @@ returns-clause-told c =
     found_told c.args.schema.now c.args.text.now (Read.facets c.args.dimension.now c.args.count) (facets_is c.args.dimension.now c.args.count)
     (query_of c.in-Some-query.query) spelled (option_map (λ h. h.now.view) c.args.right) c.view-view.result.now
     (ap (option_map (λ h. h.now.view)) c.in-Some.is ∙ ap Some (sym c.view-view.ensures)) (Ok (Found.facets c.in_ok-facets.facets)) c.in_ok-facets.ensures.ok
+
+pub counts_of-requires-clause-cached : goal.counts_of-requires-clause-cached
+counts_of-requires-clause-cached c =
+    subst (λ (v : View). All (Knows c.args.filters.now) (segments_of v.leaves)) (sym c.view-view.ensures)
+    (of_right (λ h. All (Knows c.args.filters.now) (segments_of h.now.view.leaves)) c.args.right c.in-Some.hold c.in-Some.is c.requires.cached)
+
+pub counts_of-requires-clause-kept : goal.counts_of-requires-clause-kept
+counts_of-requires-clause-kept c =
+    subst (λ (v : View). All (KnowsIn c.args.states.now) (segments_of v.leaves)) (sym c.view-view.ensures)
+    (of_right (λ h. All (KnowsIn c.args.states.now) (segments_of h.now.view.leaves)) c.args.right c.in-Some.hold c.in-Some.is c.requires.kept)
+
+pub returns-in_err-query-clause-kept : goal.returns-in_err-query-clause-kept
+returns-in_err-query-clause-kept c =
+    by_any (c.args.states.now ≡ c.args.states.now) (λ h. RemembersOf (segments_of h.now.view.leaves) c.args.states.now c.args.states.now) c.args.right refl (λ h s agrees known. known)
+
+pub returns-in_err-query-clause-kept_below : goal.returns-in_err-query-clause-kept_below
+returns-in_err-query-clause-kept_below c =
+    by_any (c.args.states.now ≡ c.args.states.now) (λ h. RemembersOfBelow (segments_of h.now.view.leaves) c.args.states.now c.args.states.now) c.args.right refl (λ h n agrees known. known)
+
+pub returns-in_default-clause-kept : goal.returns-in_default-clause-kept
+returns-in_default-clause-kept c =
+    by_any (c.args.states.now ≡ c.args.states.now) (λ h. RemembersOf (segments_of h.now.view.leaves) c.args.states.now c.args.states.now) c.args.right refl (λ h s agrees known. known)
+
+pub returns-in_default-clause-kept_below : goal.returns-in_default-clause-kept_below
+returns-in_default-clause-kept_below c =
+    by_any (c.args.states.now ≡ c.args.states.now) (λ h. RemembersOfBelow (segments_of h.now.view.leaves) c.args.states.now c.args.states.now) c.args.right refl (λ h n agrees known. known)
+
+pub returns-in_err-judge-clause-kept : goal.returns-in_err-judge-clause-kept
+returns-in_err-judge-clause-kept c =
+    by_any (c.args.states.now ≡ c.args.states.now) (λ h. RemembersOf (segments_of h.now.view.leaves) c.args.states.now c.args.states.now) c.args.right refl (λ h s agrees known. known)
+
+pub returns-in_err-judge-clause-kept_below : goal.returns-in_err-judge-clause-kept_below
+returns-in_err-judge-clause-kept_below c =
+    by_any (c.args.states.now ≡ c.args.states.now) (λ h. RemembersOfBelow (segments_of h.now.view.leaves) c.args.states.now c.args.states.now) c.args.right refl (λ h n agrees known. known)
+
+pub returns-in_default-query-clause-kept : goal.returns-in_default-query-clause-kept
+returns-in_default-query-clause-kept c =
+    by_any (c.args.states.now ≡ c.args.states.now) (λ h. RemembersOf (segments_of h.now.view.leaves) c.args.states.now c.args.states.now) c.args.right refl (λ h s agrees known. known)
+
+pub returns-in_default-query-clause-kept_below : goal.returns-in_default-query-clause-kept_below
+returns-in_default-query-clause-kept_below c =
+    by_any (c.args.states.now ≡ c.args.states.now) (λ h. RemembersOfBelow (segments_of h.now.view.leaves) c.args.states.now c.args.states.now) c.args.right refl (λ h n agrees known. known)
+
+pub returns-in_err-facets-clause-kept : goal.returns-in_err-facets-clause-kept
+returns-in_err-facets-clause-kept c =
+    by_right (c.counts_of.new.states ≡ c.args.states.now) (λ h. RemembersOf (segments_of h.now.view.leaves) c.args.states.now c.counts_of.new.states) c.args.right c.in-Some.hold c.in-Some.is
+    (subst (λ (v : View). RemembersOf (segments_of v.leaves) c.args.states.now c.counts_of.new.states) c.view-view.ensures c.counts_of.ensures.kept)
+
+pub returns-in_err-facets-clause-kept_below : goal.returns-in_err-facets-clause-kept_below
+returns-in_err-facets-clause-kept_below c =
+    by_right (c.counts_of.new.states ≡ c.args.states.now) (λ h. RemembersOfBelow (segments_of h.now.view.leaves) c.args.states.now c.counts_of.new.states) c.args.right c.in-Some.hold c.in-Some.is
+    (subst (λ (v : View). RemembersOfBelow (segments_of v.leaves) c.args.states.now c.counts_of.new.states) c.view-view.ensures c.counts_of.ensures.kept_below)
+
+pub returns-clause-kept : goal.returns-clause-kept
+returns-clause-kept c =
+    by_right (c.counts_of.new.states ≡ c.args.states.now) (λ h. RemembersOf (segments_of h.now.view.leaves) c.args.states.now c.counts_of.new.states) c.args.right c.in-Some.hold c.in-Some.is
+    (subst (λ (v : View). RemembersOf (segments_of v.leaves) c.args.states.now c.counts_of.new.states) c.view-view.ensures c.counts_of.ensures.kept)
+
+pub returns-clause-kept_below : goal.returns-clause-kept_below
+returns-clause-kept_below c =
+    by_right (c.counts_of.new.states ≡ c.args.states.now) (λ h. RemembersOfBelow (segments_of h.now.view.leaves) c.args.states.now c.counts_of.new.states) c.args.right c.in-Some.hold c.in-Some.is
+    (subst (λ (v : View). RemembersOfBelow (segments_of v.leaves) c.args.states.now c.counts_of.new.states) c.view-view.ensures c.counts_of.ensures.kept_below)

@@ -1,13 +1,14 @@
-use Rattle.std.proofs.Common.{◌∙◌, ap, option_map, sym}
+use Rattle.std.proofs.Common.{◌∙◌, All, ap, option_map, subst, sym}
 use Rattle.std.specs.Prelude.{Err, Ok, Some}
 use Rattle.cat_model.specs.Answer.{Found, Read}
 use Rattle.cat_model.specs.Grammar.{Spells}
-use Rattle.cat_model.specs.Query as model
 use Rattle.cat_query.specs.View.{query_of}
-use Rattle.cat_search.specs.Asks.{read_of}
 use Rattle.cat_search.specs.Sorts.{sort_of}
-use Rattle.cat_finding.specs.Reads.{GivesDue}
-use Rattle.cat_finding.proofs.Told.{due_to_each, fault_told, find_is, found_told, if_held, memory_told, passed_on, refusal_told, unheld_told}
+use Rattle.cat_model.specs.View.{View}
+use Rattle.cat_filters.specs.Filters.{segments_of}
+use Rattle.cat_filters.specs.Known.{Knows}
+use Rattle.cat_finding.proofs.Cached.{of_right}
+use Rattle.cat_finding.proofs.Told.{fault_told, find_is, found_told, memory_told, passed_on, refusal_told, unheld_told}
 use Rattle.cat_finding.proofs.pages.find.Goals as goal
 
 pub returns-in_err-query-clause-told : goal.returns-in_err-query-clause-told
@@ -30,8 +31,8 @@ returns-in_err-judge-clause-told c =
     let q = c.in_ok-query.ensures.spelled in
     rw (passed_on c.from_residual-in_err-judge.result c.in_err-judge.field-0.0 c.from_residual-in_err-judge.ensures)
     (found_told c.args.schema.now c.args.text.now (Read.find ask.count (sort_of ask.sort) ask.after) (find_is ask.count (sort_of ask.sort) ask.after)
-    q.0 q.1 (option_map (λ h. h.now.view) c.args.right) c.view.result.now
-    (ap (option_map (λ h. h.now.view)) c.in-Some.is ∙ ap Some (sym c.view.ensures)) (Err c.in_err-judge.field-0.0) (c.in_err-judge.ensures.err q.0))
+    q.0 q.1 (option_map (λ h. h.now.view) c.args.right) c.view-view.result.now
+    (ap (option_map (λ h. h.now.view)) c.in-Some.is ∙ ap Some (sym c.view-view.ensures)) (Err c.in_err-judge.field-0.0) (c.in_err-judge.ensures.err q.0))
 
 pub returns-in_default-query-clause-told : goal.returns-in_default-query-clause-told
 returns-in_default-query-clause-told c =
@@ -46,23 +47,18 @@ returns-in_err-page-clause-told c =
     let spelled : Spells c.args.schema.now c.args.text.now (query_of c.in-Some-query.query) = rw c.in-Some-query.is at c.in_ok-query.ensures.ok in
     rw (passed_on c.from_residual-in_err-page.result c.in_err-page.field-0.0 c.from_residual-in_err-page.ensures)
     (refusal_told c.args.schema.now c.args.text.now (Read.find ask.count (sort_of ask.sort) ask.after) (find_is ask.count (sort_of ask.sort) ask.after)
-    (query_of c.in-Some-query.query) spelled (option_map (λ h. h.now.view) c.args.right) c.in-Some.hold.now.view
-    (ap (option_map (λ h. h.now.view)) c.in-Some.is) c.in_err-page.field-0.0 c.in_err-page.ensures.err)
-
-pub returns-in_err-page-clause-due : goal.returns-in_err-page-clause-due
-returns-in_err-page-clause-due c =
-    let ask = c.args.ask in
-    let spelled : Spells c.args.schema.now c.args.text.now (query_of c.in-Some-query.query) = rw c.in-Some-query.is at c.in_ok-query.ensures.ok in
-    rw (passed_on c.from_residual-in_err-page.result c.in_err-page.field-0.0 c.from_residual-in_err-page.ensures)
-    (if_held (λ h. (q : model.Query) → Spells c.args.schema.now c.args.text.now q → GivesDue h.now.view (read_of ask q) (Err c.in_err-page.field-0.0)) c.args.right
-    c.in-Some.hold c.in-Some.is
-    (due_to_each _ _ c.args.schema.now c.args.text.now c.in-Some.hold.now.view (read_of ask) c.in_err-page.field-0.0 (query_of c.in-Some-query.query)
-    spelled c.in_err-page.ensures.due))
+    (query_of c.in-Some-query.query) spelled (option_map (λ h. h.now.view) c.args.right) c.view-view.result.now
+    (ap (option_map (λ h. h.now.view)) c.in-Some.is ∙ ap Some (sym c.view-view.ensures)) c.in_err-page.field-0.0 c.in_err-page.ensures.err)
 
 pub returns-clause-told : goal.returns-clause-told
 returns-clause-told c =
     let ask = c.args.ask in
     let spelled : Spells c.args.schema.now c.args.text.now (query_of c.in-Some-query.query) = rw c.in-Some-query.is at c.in_ok-query.ensures.ok in
     found_told c.args.schema.now c.args.text.now (Read.find ask.count (sort_of ask.sort) ask.after) (find_is ask.count (sort_of ask.sort) ask.after)
-    (query_of c.in-Some-query.query) spelled (option_map (λ h. h.now.view) c.args.right) c.in-Some.hold.now.view
-    (ap (option_map (λ h. h.now.view)) c.in-Some.is) (Ok (Found.page c.in_ok-page.page)) c.in_ok-page.ensures.ok
+    (query_of c.in-Some-query.query) spelled (option_map (λ h. h.now.view) c.args.right) c.view-view.result.now
+    (ap (option_map (λ h. h.now.view)) c.in-Some.is ∙ ap Some (sym c.view-view.ensures)) (Ok (Found.page c.in_ok-page.page)) c.in_ok-page.ensures.ok
+
+pub page_of-requires : goal.page_of-requires
+page_of-requires c =
+    subst (λ (v : View). All (Knows c.args.filters.now) (segments_of v.leaves)) (sym c.view-view.ensures)
+    (of_right (λ h. All (Knows c.args.filters.now) (segments_of h.now.view.leaves)) c.args.right c.in-Some.hold c.in-Some.is c.requires)

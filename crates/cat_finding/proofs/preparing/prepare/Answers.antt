@@ -1,0 +1,12 @@
+use Rattle.std.proofs.Common.{List, All, sym, subst}
+use Rattle.cat_model.specs.View.{Leaf}
+use Rattle.cat_query.specs.View.{query_of}
+use Rattle.cat_search.specs.Sets.{AreSets}
+use Rattle.cat_filters.specs.Filters.{segments_of}
+use Rattle.cat_filters.specs.Known.{Knows}
+use Rattle.cat_finding.proofs.preparing.prepare.Goals as goal
+
+pub with-requires : goal.with-requires
+with-requires c =
+    subst (λ (ls : List Leaf). AreSets (query_of c.args.query) ls c.in_ok-sets.sets.items) c.leaves.ensures.value
+    (c.in_ok-sets.ensures.lent (subst (λ (ls : List Leaf). All (Knows c.args.filters.now) (segments_of ls)) (sym c.leaves.ensures.value) c.requires))

@@ -1,0 +1,26 @@
+//! A query made ready for a view, with the sets that are at hand.
+ghost use Rattle.std.specs.Prelude.{◌≡◌, All, IfOk};
+ghost use Rattle.cat_filters.specs.Filters.{segments_of};
+ghost use Rattle.cat_filters.specs.Known.{Knows, Remembers, RemembersBelow};
+
+use cat_filters::Filters;
+use cat_query::Query;
+use cat_search::{Prepared, View};
+use std::alloc::AllocError;
+
+/// The query, to be put to the view, with the sets that are cached for the view's segments. (Lucene: what `IndexSearcher`
+/// asks its `LRUQueryCache` for.) It notes nothing.
+pub(crate) fn prepare(
+    filters: &mut Filters,
+    view: &View,
+    query: Query,
+) -> Result<Prepared, AllocError>
+    requires { All (Knows filters.old) (segments_of view.now.leaves) }
+    ensures ok { IfOk result (λ p. p ≡ record { view = view.now; query = query }) }
+    ensures known { Remembers filters.old filters.new }
+    ensures below { RemembersBelow filters.old filters.new }
+    ensures rest { filters.new ≡ record filters.old { cached = filters.new.cached } }
+{
+    let sets = filters.sets_for(&query, view.leaves())?;
+    Prepared::with(view, query, sets)
+}
