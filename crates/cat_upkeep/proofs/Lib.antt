@@ -1,2 +1,3 @@
 mod Sizes
 mod Made
+mod Spared

@@ -1,2 +1,3 @@
 pub mod News
 pub mod Due
+pub mod Spared

@@ -14,6 +14,7 @@ ghost use Rattle.cat_ledger_model.specs.Replies.{Maintains, IsLeft};
 ghost use Rattle.cat_ledger_shape.specs.Ties.{Makes};
 ghost use Rattle.cat_upkeep.specs.Due.{IsForceDue};
 ghost use Rattle.cat_upkeep.specs.News.{news_of};
+ghost use Rattle.cat_upkeep.specs.Spared.{SparesCommits};
 
 use crate::due::may_be_forced;
 use crate::news::MergeNews;
@@ -29,6 +30,7 @@ fn begin_all<D: Directory>(core: &mut Core, device: &mut D) -> Result<MergeNews,
     ensures err { OnErr result (Makes IsLeft (D.bytes device.old) core.old (D.bytes device.new) core.new) }
     ensures crash { (q : FileName) → (IsNew core.old.next_segment core.old.next_generation (name_of q) → ⊥)
         → NoMore (D.may_leave device.old q) (D.may_leave device.new q) }
+    ensures commits { SparesCommits (D.may_leave device.old) (D.may_leave device.new) }
     ensures due { OnErr result (IsForceDue core.old) }
     ensures spent { IfErr result (λ e. e ≡ Spent → last_number < core.old.next_segment) }
     ensures left { IfErr result (λ e. (e ≡ Memory) ⊎ (e ≡ Device) → core.old.next_segment ≤ last_number) }
@@ -60,6 +62,7 @@ pub fn force<D: Directory>(core: &mut Core, device: &mut D) -> Result<MergeNews,
     ensures err { OnErr result (Makes IsLeft (D.bytes device.old) core.old (D.bytes device.new) core.new) }
     ensures crash { (q : FileName) → (IsNew core.old.next_segment core.old.next_generation (name_of q) → ⊥)
         → NoMore (D.may_leave device.old q) (D.may_leave device.new q) }
+    ensures commits { SparesCommits (D.may_leave device.old) (D.may_leave device.new) }
     ensures due { OnErr result (IsForceDue core.old) }
     ensures spent { IfErr result (λ e. e ≡ Spent → last_number < core.old.next_segment) }
     ensures left { IfErr result (λ e. (e ≡ Memory) ⊎ (e ≡ Device) → core.old.next_segment ≤ last_number) }

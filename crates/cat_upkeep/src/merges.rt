@@ -18,6 +18,7 @@ ghost use Rattle.cat_ledger_core.specs.Installs.{IsOfMerge};
 ghost use Rattle.cat_ledger_lines.specs.PlanLaws.{sizes_in};
 ghost use Rattle.cat_upkeep.specs.Due.{IsMergeDue};
 ghost use Rattle.cat_upkeep.specs.News.{news_of};
+ghost use Rattle.cat_upkeep.specs.Spared.{SparesCommits};
 
 use crate::due::window_of;
 use crate::news::MergeNews;
@@ -41,6 +42,7 @@ fn begin_at<D: Directory>(
     ensures err { OnErr result (Makes IsLeft (D.bytes device.old) core.old (D.bytes device.new) core.new) }
     ensures crash { (q : FileName) → (IsNew core.old.next_segment core.old.next_generation (name_of q) → ⊥)
         → NoMore (D.may_leave device.old q) (D.may_leave device.new q) }
+    ensures commits { SparesCommits (D.may_leave device.old) (D.may_leave device.new) }
     ensures spent { IfErr result (λ e. e ≡ Spent → last_number < core.old.next_segment) }
     ensures left { IfErr result (λ e. (e ≡ Memory) ⊎ (e ≡ Device) → core.old.next_segment ≤ last_number) }
     ensures device { IfErr result (λ e. e ≡ Device → D.can_fail device.old) }
@@ -67,6 +69,7 @@ fn begin_window<D: Directory>(
     ensures err { OnErr result (Makes IsLeft (D.bytes device.old) core.old (D.bytes device.new) core.new) }
     ensures crash { (q : FileName) → (IsNew core.old.next_segment core.old.next_generation (name_of q) → ⊥)
         → NoMore (D.may_leave device.old q) (D.may_leave device.new q) }
+    ensures commits { SparesCommits (D.may_leave device.old) (D.may_leave device.new) }
     ensures due { IfErr result (λ e. e ≢ Memory → IsMergeDue policy core.old) }
     ensures spent { IfErr result (λ e. e ≡ Spent → last_number < core.old.next_segment) }
     ensures left { IfErr result (λ e. e ≡ Device → core.old.next_segment ≤ last_number) }
@@ -88,6 +91,7 @@ fn copy<D: Directory + Shelf>(core: &mut Core, device: &mut D) -> Result<usize, 
         (D.bytes device.old) core.old (D.bytes device.new) core.new) }
     ensures err { OnErr result (Makes IsLeft (D.bytes device.old) core.old (D.bytes device.new) core.new) }
     ensures crash { (q : FileName) → (IsOfMerge core.old.merging q → ⊥) → NoMore (D.may_leave device.old q) (D.may_leave device.new q) }
+    ensures commits { SparesCommits (D.may_leave device.old) (D.may_leave device.new) }
     ensures can { D.can_fail device.new → D.can_fail device.old }
     ensures refusal { IfErr result (λ e. (e ≡ Memory) ⊎ (e ≡ Device) ⊎ (e ≡ Damaged)) }
 {
@@ -108,6 +112,7 @@ fn finish<D: Directory>(core: &mut Core, device: &mut D) -> Result<(), Refusal>
         (D.bytes device.old) core.old (D.bytes device.new) core.new) }
     ensures err { OnErr result (Makes IsLeft (D.bytes device.old) core.old (D.bytes device.new) core.new) }
     ensures crash { (q : FileName) → (IsOfMerge core.old.merging q → ⊥) → NoMore (D.may_leave device.old q) (D.may_leave device.new q) }
+    ensures commits { SparesCommits (D.may_leave device.old) (D.may_leave device.new) }
     ensures device { IfErr result (λ e. e ≡ Device → D.can_fail device.old) }
     ensures can { D.can_fail device.new → D.can_fail device.old }
     ensures refusal { IfErr result (λ e. (e ≡ Memory) ⊎ (e ≡ Device)) }
@@ -127,6 +132,7 @@ fn go_on<D: Directory + Shelf>(core: &mut Core, device: &mut D) -> Result<MergeN
         (D.bytes device.old) core.old (D.bytes device.new) core.new) }
     ensures err { OnErr result (Makes IsLeft (D.bytes device.old) core.old (D.bytes device.new) core.new) }
     ensures crash { (q : FileName) → (IsOfMerge core.old.merging q → ⊥) → NoMore (D.may_leave device.old q) (D.may_leave device.new q) }
+    ensures commits { SparesCommits (D.may_leave device.old) (D.may_leave device.new) }
     ensures damaged { IfErr result (λ e. e ≡ Damaged → HasRowsLeft core.old.merging) }
     ensures device { IfErr result (λ e. e ≡ Device → HasRowsLeft core.old.merging ⊎ D.can_fail device.old) }
     ensures can { D.can_fail device.new → D.can_fail device.old }
@@ -163,6 +169,7 @@ pub fn merge_step<D: Directory + Shelf>(
     ensures err { OnErr result (Makes IsLeft (D.bytes device.old) core.old (D.bytes device.new) core.new) }
     ensures crash { (q : FileName) → (IsNew core.old.next_segment core.old.next_generation (name_of q) → ⊥)
         → (IsOfMerge core.old.merging q → ⊥) → NoMore (D.may_leave device.old q) (D.may_leave device.new q) }
+    ensures commits { SparesCommits (D.may_leave device.old) (D.may_leave device.new) }
     ensures spent { IfErr result (λ e. e ≡ Spent → IsMergeDue policy core.old × (last_number < core.old.next_segment)) }
     ensures left { IfErr result (λ e. (e ≡ Device) ⊎ (e ≡ Damaged)
         → (core.old.merging ≢ None) ⊎ (IsMergeDue policy core.old × (core.old.next_segment ≤ last_number))) }

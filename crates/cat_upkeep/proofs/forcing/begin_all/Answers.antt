@@ -4,6 +4,7 @@ use Rattle.cat_ledger_model.specs.Plans.{MayBeForced}
 use Rattle.cat_ledger_lines.specs.PlanLaws.{sizes_in, live_sets_in}
 use Rattle.cat_ledger_lines.proofs.Planned.{forces_rest}
 use Rattle.cat_upkeep.proofs.Made.{left_begun, all_fit, all_begun}
+use Rattle.cat_upkeep.proofs.Spared.{begun_spares}
 use Rattle.cat_upkeep.proofs.forcing.begin_all.Goals as goal
 
 abbrev MayAll : List Leaf → Type 0
@@ -31,3 +32,11 @@ returns-clause-ok g c = λ policy.
     c.args.core.now c.begin_merge.new.self (ap (λ (leaves : List Leaf). length leaves) c.leaves-count.ensures)
     (subst MayAll c.leaves.ensures (c.if-not-may_be_forced.ensures.0 refl)) c.in_default.ensures.ok c.begin_merge.ensures.others
     c.in_default.ensures.told
+
+pub returns-in-Err-clause-commits : goal.returns-in-Err-clause-commits
+returns-in-Err-clause-commits g c =
+    begun_spares (g.D.Holder.may_leave c.args.device.now) (g.D.Holder.may_leave c.begin_merge.new.device) c.args.core.now.next_segment c.begin_merge.ensures.crash
+
+pub returns-clause-commits : goal.returns-clause-commits
+returns-clause-commits g c =
+    begun_spares (g.D.Holder.may_leave c.args.device.now) (g.D.Holder.may_leave c.begin_merge.new.device) c.args.core.now.next_segment c.begin_merge.ensures.crash
