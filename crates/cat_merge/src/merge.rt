@@ -150,6 +150,9 @@ impl Merge {
     /// Passes as many rows more as one step may, or all that are left, dead ones counted, and answers where the texts stand that the items of
     /// those came as that it keeps. Each range lies within the sources of an input's segment, and no two neighbours could be one.
     /// An error leaves the merge as it was.
+    ///
+    /// Before, while one is left, it makes a part of what [`Merge::seal`] needs: the column of one field, or a part of the index of
+    /// the ids. So a step takes longer than its rows while parts are left, and the end takes little.
     pub fn copy_step(&mut self, alloc: Global) -> Result<Vec<SourceRange>, AllocError>
         ensures ok { OnOk result (self.new ≡ record self.old {
           passed = self.old.passed + min step_limit (length (rows_of_all self.old.inputs) - self.old.passed);
