@@ -3,6 +3,7 @@ use crate::ends::{Failing, Filling};
 use crate::tally::Tally;
 use cat_serving::{ServeFault, Served, Stage, serve_machine};
 use std::alloc::Global;
+use std::io::BufWriter;
 use std::process::Abort;
 use std::test::Fail;
 
@@ -156,6 +157,45 @@ fn a_long_first_line_is_refused(rt: HostRuntime) -> Result<(), Fail> {
     );
     for length in [10_000, 10_001, 100_000] {
         serve_long(&rt, rt.alloc(), length, wanted)?;
+    }
+    Ok(())
+}
+
+/// Serves the lines to a writer that has room for so many bytes, through a buffer of this capacity. What stays unsaid is a rest
+/// of what had to be said.
+fn serve_buffered(
+    rt: &(impl Abort + AllocGlobal),
+    capacity: usize,
+    room: usize,
+    ended: Result<(), ServeFault>,
+) -> Result<(), Fail> {
+    let filling = Filling {
+        held: Vec::new(rt.alloc()),
+        room,
+    };
+    let mut writer = BufWriter::with_capacity(rt.alloc(), capacity, filling)?;
+    let mut left = LINES;
+    let served: Served<Tally, u64> = serve_machine(rt.alloc(), SEED, &mut left, &mut writer);
+    assert_eq!(rt; served.ended, ended);
+    let (filling, _unsaid) = writer.into_parts();
+    assert!(rt; filling.held.as_slice() == &SAID[..room.min(SAID.len())]);
+    Ok(())
+}
+
+#[test]
+fn replies_longer_than_the_buffer_go_out_whole(rt: HostRuntime) -> Result<(), Fail> {
+    for capacity in 0..=SAID.len() + 1 {
+        serve_buffered(&rt, capacity, SAID.len(), Ok(()))?;
+    }
+    Ok(())
+}
+
+#[test]
+fn a_front_goes_out_through_a_buffer_to_a_writer_that_fails(rt: HostRuntime) -> Result<(), Fail> {
+    for capacity in [0, 1, 3, 8, 64] {
+        for room in 0..SAID.len() {
+            serve_buffered(&rt, capacity, room, Err(ServeFault::Write))?;
+        }
     }
     Ok(())
 }

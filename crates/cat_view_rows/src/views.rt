@@ -256,6 +256,51 @@ fn an_older_row_of_an_id_is_not_shown(rt: HostRuntime) -> Result<(), Fail> {
     expect_finds(&rt, rt.alloc(), REPLACED, &[1, 3, 6, 7], FINDS)
 }
 
+/// Ids of 39, 40, 41 and 64 bytes: a page holds the first two in its entries, and the others in memory of their own.
+const LONG_IDS: &[PutText<'static>] = &[
+    (
+        1,
+        true,
+        r#"{"id":"aaaaaaaaaaaaaaaaaaaaaaaaaaaaaaaaaaaaaaa","price":9}"#,
+    ),
+    (
+        2,
+        true,
+        r#"{"id":"bbbbbbbbbbbbbbbbbbbbbbbbbbbbbbbbbbbbbbbb","price":8}"#,
+    ),
+    (
+        3,
+        true,
+        r#"{"id":"ccccccccccccccccccccccccccccccccccccccccc","price":7}"#,
+    ),
+    (
+        4,
+        true,
+        r#"{"id":"dddddddddddddddddddddddddddddddddddddddddddddddddddddddddddddddd","price":6}"#,
+    ),
+];
+
+#[test]
+fn long_ids_are_shown_as_short_ones_are(rt: HostRuntime) -> Result<(), Fail> {
+    const FINDS: &[FindText<'static>] = &[
+        (
+            9,
+            ".",
+            None,
+            "*:*",
+            "4 of 4: 1 aaaaaaaaaaaaaaaaaaaaaaaaaaaaaaaaaaaaaaa ., 2 bbbbbbbbbbbbbbbbbbbbbbbbbbbbbbbbbbbbbbbb ., 3 ccccccccccccccccccccccccccccccccccccccccc ., 4 dddddddddddddddddddddddddddddddddddddddddddddddddddddddddddddddd .",
+        ),
+        (
+            9,
+            "+price",
+            None,
+            "*:*",
+            "4 of 4: 4 dddddddddddddddddddddddddddddddddddddddddddddddddddddddddddddddd 6, 3 ccccccccccccccccccccccccccccccccccccccccc 7, 2 bbbbbbbbbbbbbbbbbbbbbbbbbbbbbbbbbbbbbbbb 8, 1 aaaaaaaaaaaaaaaaaaaaaaaaaaaaaaaaaaaaaaa 9",
+        ),
+    ];
+    expect_finds(&rt, rt.alloc(), LONG_IDS, &[3, 4], FINDS)
+}
+
 #[test]
 fn words_are_lowered_and_kept_whole(rt: HostRuntime) -> Result<(), Fail> {
     const ROWS: &[PutText<'static>] = &[
