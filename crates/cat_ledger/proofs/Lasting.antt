@@ -1,5 +1,5 @@
 -- What keeps the newest commit: no call touches one of its files.
-use Rattle.std.proofs.Common.{◌≡◌, ◌⊎◌, ℕ, ◌<◌, Bool, true, false, ◌||◌, List, [], ◌∷◌, map, filter, length, cond, Option, Some, None, refl, sym, ◌∙◌, ap, ap₂, subst, arith, inl, inr}
+use Rattle.std.proofs.Common.{◌≡◌, ◌⊎◌, ℕ, ◌<◌, ◌≤◌, Bool, true, false, ◌||◌, List, [], ◌∷◌, map, filter, length, cond, Option, Some, None, refl, sym, ◌∙◌, ap, ap₂, subst, arith, inl, inr}
 use Rattle.std.specs.Prelude.{ltb, option_map, ◌==◌}
 use Rattle.std.specs.List.{flat_map, last_or, list_any, AllByRecursion}
 use Rattle.cat_model.specs.CommitFile.{CommitFile, ListedSegment, commit_needs, listed_names}
@@ -71,6 +71,12 @@ newest_among P o (c ∷ cs) first all =
 pub same_needs : (s s' : Shape) → s' ≡ s → newest_needs s'.commits ≡ newest_needs s.commits
 same_needs s s' e = ap (λ (x : Shape). newest_needs x.commits) e
 
+-- the number of the last is the last number
+last_number : (o : Option CommitFile) (cs : List CommitFile)
+    → last_or (option_map (λ (d : CommitFile). d.generation) o) (map (λ (d : CommitFile). d.generation) cs) ≡ option_map (λ (d : CommitFile). d.generation) (last_or o cs)
+last_number o [] = refl
+last_number o (d ∷ cs) = last_number (Some d) cs
+
 -- the newest commit stays, whatever goes
 module _ (taken : List Taken) where
   abbrev staying : Option ℕ → List CommitFile → List CommitFile
@@ -95,6 +101,15 @@ module _ (taken : List Taken) where
       → newest_needs (filter (λ (c : CommitFile). stays_kept taken (newest_generation cs) c.generation) cs) ≡ newest_needs cs
   newest_stays [] = refl
   newest_stays (c ∷ cs) = ap needs_of (stays_last (newest_generation (c ∷ cs)) None None c cs refl)
+
+  -- with its number
+  pub newest_same : (cs : List CommitFile)
+      → newest_generation (filter (λ (c : CommitFile). stays_kept taken (newest_generation cs) c.generation) cs) ≡ newest_generation cs
+  newest_same [] = refl
+  newest_same (c ∷ cs) =
+      last_number None (staying (newest_generation (c ∷ cs)) (c ∷ cs))
+      ∙ ap (option_map (λ (d : CommitFile). d.generation)) (stays_last (newest_generation (c ∷ cs)) None None c cs refl)
+      ∙ sym (last_number None (c ∷ cs))
 
 -- ---- what holds of each of them
 
@@ -134,7 +149,7 @@ module _ (s : Shape) (its : IsShape s) where
       newest_so (λ s n. 0 < users_of s.users n) used.commits
 
   -- its number was taken
-  newest_old : (q : FileName) → IsNeeded q → IsNew s.next_segment s.next_generation (name_of q) → ⊥
+  pub newest_old : (q : FileName) → IsNeeded q → IsNew s.next_segment s.next_generation (name_of q) → ⊥
   newest_old q needed =
       let l : model.Ledger = its.0 in
       let past = All-four (IsPast l.next_segment l.next_generation) (flat_map names_of_portion l.portions) (flat_map names_of_view l.views)
@@ -165,22 +180,26 @@ module _ (s : Shape) (its : IsShape s) where
 
 -- ---- calls that change no commit
 
--- the commits and the fields are the same
+-- the commits and the fields are the same, and generations that were taken stay taken
 pub record LetsCommits (l l' : model.Ledger) : Type 0 where
   pub commits : l'.commits ≡ l.commits
   pub schema : l'.schema ≡ l.schema
+  pub next : l.next_generation ≤ l'.next_generation
+
+no_less : {m n : ℕ} → n ≡ m → m ≤ n
+no_less same = omega (arith, same)
 
 lets_all : (l l' : model.Ledger) → l' ≡ l → LetsCommits l l'
-lets_all l l' k = record { commits = ap (λ (x : model.Ledger). x.commits) k; schema = ap (λ (x : model.Ledger). x.schema) k }
+lets_all l l' k = record { commits = ap (λ (x : model.Ledger). x.commits) k; schema = ap (λ (x : model.Ledger). x.schema) k; next = no_less (ap (λ (x : model.Ledger). x.next_generation) k) }
 
 lets_on : (l mid l' : model.Ledger) → LetsCommits l mid → LetsCommits mid l' → LetsCommits l l'
-lets_on l mid l' a b = record { commits = b.commits ∙ a.commits; schema = b.schema ∙ a.schema }
+lets_on l mid l' a b = record { commits = b.commits ∙ a.commits; schema = b.schema ∙ a.schema; next = omega (arith, a.next, b.next) }
 
 pub lets_write : (w : Write) (l l' : model.Ledger) → l' ≡ wrote l w → LetsCommits l l'
-lets_write w l l' k = record { commits = ap (λ (x : model.Ledger). x.commits) k; schema = ap (λ (x : model.Ledger). x.schema) k }
+lets_write w l l' k = record { commits = ap (λ (x : model.Ledger). x.commits) k; schema = ap (λ (x : model.Ledger). x.schema) k; next = no_less (ap (λ (x : model.Ledger). x.next_generation) k) }
 
 lets_flushed : (l l' : model.Ledger) → Flushed l l' → LetsCommits l l'
-lets_flushed l l' k = record { commits = ap (λ (x : model.Ledger). x.commits) k.rest; schema = ap (λ (x : model.Ledger). x.schema) k.rest }
+lets_flushed l l' k = record { commits = ap (λ (x : model.Ledger). x.commits) k.rest; schema = ap (λ (x : model.Ledger). x.schema) k.rest; next = no_less (ap (λ (x : model.Ledger). x.next_generation) k.rest) }
 
 pub lets_flush : (l l' : model.Ledger) → Flushes l l' → LetsCommits l l'
 lets_flush l l' (inl k) = lets_all l l' k.1
@@ -195,7 +214,7 @@ lets_put i l l' k = lets_on l k.0 l' (lets_room l k.0 (ltb (length l.buffered) b
 
 lets_record : (l l' : model.Ledger) (b : Bool) → cond b (l' ≡ l) (RecordsNow l l') → LetsCommits l l'
 lets_record l l' true k = lets_all l l' k
-lets_record l l' false k = record { commits = ap (λ (x : model.Ledger). x.commits) k.rest; schema = ap (λ (x : model.Ledger). x.schema) k.rest }
+lets_record l l' false k = record { commits = ap (λ (x : model.Ledger). x.commits) k.rest; schema = ap (λ (x : model.Ledger). x.schema) k.rest; next = no_less (ap (λ (x : model.Ledger). x.next_generation) k.rest) }
 
 pub lets_refresh : (l l' : model.Ledger) → Refreshes l l' → LetsCommits l l'
 lets_refresh l l' k = lets_on l k.0 l' (lets_flush l k.0 k.1) (lets_record k.0 l' (has_recorded k.0.views k.0.count) k.2)
@@ -209,27 +228,31 @@ lets_left l l' k = lets_on l k.flushed l' flushed (lets_on k.flushed k.ended l' 
     ended : LetsCommits k.flushed k.ended
     ended = elim k.merge [
       | inl e ↦ lets_all k.flushed k.ended e
-      | inr e ↦ record { commits = ap (λ (x : model.Ledger). x.commits) e.1.rest; schema = ap (λ (x : model.Ledger). x.schema) e.1.rest }
+      | inr e ↦ record { commits = ap (λ (x : model.Ledger). x.commits) e.1.rest; schema = ap (λ (x : model.Ledger). x.schema) e.1.rest; next = no_less (ap (λ (x : model.Ledger). x.next_generation) e.1.rest) }
     ]
 
     rest : LetsCommits k.ended l'
-    rest = record { commits = ap (λ (x : model.Ledger). x.commits) k.rest.rest; schema = ap (λ (x : model.Ledger). x.schema) k.rest.rest }
+    rest = record { commits = ap (λ (x : model.Ledger). x.commits) k.rest.rest; schema = ap (λ (x : model.Ledger). x.schema) k.rest.rest; next = k.rest.generations }
 
 pub lets_maintain : (policy : MergePolicy) (c : Chore) (n : News) (l l' : model.Ledger) → Maintains policy c n l l' → LetsCommits l l'
 lets_maintain policy Chore.merge News.idle l l' k = lets_all l l' k.2
 lets_maintain policy Chore.merge (News.begun_merge n) l l' k =
-    record { commits = ap (λ (x : model.Ledger). x.commits) k.3.rest; schema = ap (λ (x : model.Ledger). x.schema) k.3.rest }
+    record { commits = ap (λ (x : model.Ledger). x.commits) k.3.rest; schema = ap (λ (x : model.Ledger). x.schema) k.3.rest; next = no_less (ap (λ (x : model.Ledger). x.next_generation) k.3.rest) }
 lets_maintain policy Chore.merge (News.copied n) l l' k =
-    record { commits = ap (λ (x : model.Ledger). x.commits) k.1.rest; schema = ap (λ (x : model.Ledger). x.schema) k.1.rest }
+    record { commits = ap (λ (x : model.Ledger). x.commits) k.1.rest; schema = ap (λ (x : model.Ledger). x.schema) k.1.rest; next = no_less (ap (λ (x : model.Ledger). x.next_generation) k.1.rest) }
 lets_maintain policy Chore.merge News.done l l' k =
-    record { commits = ap (λ (x : model.Ledger). x.commits) k.1.rest; schema = ap (λ (x : model.Ledger). x.schema) k.1.rest }
+    record { commits = ap (λ (x : model.Ledger). x.commits) k.1.rest; schema = ap (λ (x : model.Ledger). x.schema) k.1.rest; next = no_less (ap (λ (x : model.Ledger). x.next_generation) k.1.rest) }
 lets_maintain policy Chore.force News.idle l l' k = lets_all l l' k.2
 lets_maintain policy Chore.force News.busy l l' k = lets_all l l' k.1
 lets_maintain policy Chore.force (News.begun_merge n) l l' k =
-    record { commits = ap (λ (x : model.Ledger). x.commits) k.2.rest; schema = ap (λ (x : model.Ledger). x.schema) k.2.rest }
+    record { commits = ap (λ (x : model.Ledger). x.commits) k.2.rest; schema = ap (λ (x : model.Ledger). x.schema) k.2.rest; next = no_less (ap (λ (x : model.Ledger). x.next_generation) k.2.rest) }
 lets_maintain policy Chore.sweep (News.swept n) l l' k =
-    record { commits = ap (λ (x : model.Ledger). x.commits) k.rest; schema = ap (λ (x : model.Ledger). x.schema) k.rest }
+    record { commits = ap (λ (x : model.Ledger). x.commits) k.rest; schema = ap (λ (x : model.Ledger). x.schema) k.rest; next = k.generations }
 lets_maintain policy c n l l' k = lets_all l l' k.1
+
+pub lets_sweep : (l l' : model.Ledger) → MayLeave [] l l' → LetsCommits l l'
+lets_sweep l l' k =
+    record { commits = ap (λ (x : model.Ledger). x.commits) k.rest; schema = ap (λ (x : model.Ledger). x.schema) k.rest; next = k.generations }
 
 -- ---- what a call keeps
 
@@ -239,8 +262,8 @@ carried_shape told s k = (k.0, k.2.shape, k.2.sound)
 pub carried_on : (call : model.Ledger → model.Ledger → Type 0) (told told' : ToldFiles) (s s' : Shape) → Makes call told s told' s' → IsCarried told s → IsCarried told' s'
 carried_on call told told' s s' makes k = let next = makes k.0 k.1 k.2 in (next.0, next.1, next.3)
 
--- memory has the same commits, where the model has
-commits_on : (call : model.Ledger → model.Ledger → Type 0) → ((l l' : model.Ledger) → call l l' → LetsCommits l l') → (told told' : ToldFiles) (s s' : Shape)
+-- memory has the same commits, where the model has,
+pub commits_on : (call : model.Ledger → model.Ledger → Type 0) → ((l l' : model.Ledger) → call l l' → LetsCommits l l') → (told told' : ToldFiles) (s s' : Shape)
     → Makes call told s told' s' → IsCarried told s → s'.commits ≡ s.commits
 commits_on call lets told told' s s' makes k =
     let next = makes k.0 k.1 k.2 in
@@ -248,6 +271,16 @@ commits_on call lets told told' s s' makes k =
     ap (λ (x : Shape). x.commits) (sym next.3.shape)
     ∙ ap₂ (λ (schema : Schema) (cs : List LedgerCommit). map (commit_file schema) cs) same.schema same.commits
     ∙ ap (λ (x : Shape). x.commits) k.2.shape
+
+-- and its generations go up
+pub next_on : (call : model.Ledger → model.Ledger → Type 0) → ((l l' : model.Ledger) → call l l' → LetsCommits l l') → (told told' : ToldFiles) (s s' : Shape)
+    → Makes call told s told' s' → IsCarried told s → s.next_generation ≤ s'.next_generation
+next_on call lets told told' s s' makes k =
+    let next = makes k.0 k.1 k.2 in
+    let less = (lets k.0 next.0 next.2).next in
+    let was = ap (λ (x : Shape). x.next_generation) k.2.shape in
+    let is = ap (λ (x : Shape). x.next_generation) next.3.shape in
+    omega (arith, less, was, is)
 
 module _ {D : Type 0} (bytes : D → ToldFiles) (left : D → FileName → FileContent → Type 0)
     (stay : (d : D) (q : FileName) (e : FileContent) → bytes d q ≡ Some e → left d q e) where

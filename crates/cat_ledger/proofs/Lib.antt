@@ -2,3 +2,4 @@ pub mod Lasting
 pub mod Made
 pub mod Results
 pub mod Swept
+pub mod Histories

@@ -3,6 +3,7 @@
 //! Lucene's `IndexWriter.commit` with `setLiveCommitData`, under a `SnapshotDeletionPolicy` over a `KeepOnlyLastCommitDeletionPolicy`.
 ghost use Rattle.cat_ledger_lines.specs.LineLaws.{Commits};
 ghost use Rattle.cat_base.specs.declared.refusal.Refusal.TheVariants.{Device, Memory, NoCommit, NoSnapshot, Spent};
+ghost use Rattle.cat_ledger.specs.Histories.{Event, Goes, SparesOtherCommits};
 ghost use Rattle.cat_ledger.specs.Lasting.{IsLasting};
 ghost use Rattle.cat_ledger.specs.Ledgers.{Does, Spares, device_in, policy_in, shape_in};
 ghost use Rattle.std.specs.Prelude.{Err, IfErr, IfOk, None, Ok, OnErr, OnOk, Some, ℕ, ◌-◌, ◌<◌, ◌≡◌, ◌≤◌, ◌⊎◌};
@@ -41,6 +42,9 @@ fn flush_and_commit<D: Directory>(
     ensures err { OnErr result (Makes IsLeft (D.bytes device.old) core.old (D.bytes device.new) core.new) }
     ensures crash { (q : FileName) → (IsNew core.old.next_segment core.old.next_generation (name_of q) → ⊥)
         → NoMore (D.may_leave device.old q) (D.may_leave device.new q) }
+    ensures commits { SparesOtherCommits core.old.next_generation (D.may_leave device.old) (D.may_leave device.new) }
+    ensures newest { IfOk result (λ g. newest_generation core.new.commits ≡ Some g) }
+    ensures next { OnOk result (core.old.next_generation ≤ core.new.next_generation) }
     ensures lasts { OnOk result (IsLasting D.bytes D.may_leave device.old core.old
         → IsLasting D.bytes D.may_leave device.new core.new) }
     ensures spent { IfErr result (λ e. e ≡ Spent → MayNotFlush core.old) }
@@ -82,6 +86,9 @@ impl<D: Directory + Shelf> Ledger<D> {
         ensures crash { Spares D.may_leave self.old self.new }
         ensures refusal { commit_text_of text.now ≡ Ok text.now → IfErr result (λ e. (e ≡ Memory) ⊎ (e ≡ Device) ⊎ (e ≡ Spent)) }
         ensures can { D.can_fail (device_in self.new) → D.can_fail (device_in self.old) }
+        ensures answered { IfOk result (λ g. Goes D.may_leave (Event.Answered g) self.old self.new) }
+        ensures refused { OnErr result (Goes D.may_leave Event.Other self.old self.new
+            ⊎ Goes D.may_leave (Event.Refused (shape_in self.old).next_generation) self.old self.new) }
         ensures policy { policy_in self.new ≡ policy_in self.old }
     {
         if let Err(refusal) = judge_commit_text(text) {
@@ -109,6 +116,7 @@ impl<D: Directory + Shelf> Ledger<D> {
         ensures refusal { IfErr result (λ e. (e ≡ NoCommit) ⊎ (e ≡ Spent) ⊎ (e ≡ Memory)) }
         ensures err { OnErr result (self.new ≡ self.old) }
         ensures same { device_in self.new ≡ device_in self.old }
+        ensures history { Goes D.may_leave Event.Other self.old self.new }
         ensures policy { policy_in self.new ≡ policy_in self.old }
     {
         let generation = self.core.snapshot()?;
@@ -129,6 +137,7 @@ impl<D: Directory + Shelf> Ledger<D> {
         ensures refusal { IfErr result (λ e. (e ≡ NoSnapshot) ⊎ (e ≡ Memory)) }
         ensures err { OnErr result (self.new ≡ self.old) }
         ensures same { device_in self.new ≡ device_in self.old }
+        ensures history { Goes D.may_leave Event.Other self.old self.new }
         ensures policy { policy_in self.new ≡ policy_in self.old }
     {
         let left = self.core.unsnapshot(generation)?;

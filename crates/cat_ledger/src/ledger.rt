@@ -1,4 +1,5 @@
 //! The ledger, which is its directory and what memory has of it.
+ghost use Rattle.cat_ledger.specs.Histories.{FoundIsTried, NewestIsAnswered, NewestIsFound, NoneIsLost};
 ghost use Rattle.cat_ledger.specs.Lasting.{AlwaysTells, IsCarried, NewestLasts};
 ghost use Rattle.cat_ledger.specs.Ledgers.{device_in, policy_in, shape_in};
 ghost use Rattle.std.specs.Prelude.{◌≡◌};
@@ -80,6 +81,29 @@ impl<D: Directory + Shelf> Ledger<D> {
         ensures carried { IsCarried (D.bytes (device_in self.now)) (shape_in self.now) }
         ensures lasts { AlwaysTells D.bytes
             → NewestLasts (D.bytes (device_in self.now)) (D.may_leave (device_in self.now)) (shape_in self.now) }
+    {
+        // A look at a field tells what holds of all of them.
+        let _core = &self.core;
+    }
+
+    /// What calls in a row leave of commits, for a caller's proof; it does nothing. Whatever calls led here, each of which says what it
+    /// left of commits in its clause `history` (of [`commit`](Ledger::commit): `answered` and `refused`):
+    ///
+    /// - The newest commit is the last one that was answered, or where none was, the one that the first ledger had.
+    /// - Where such directories always tell of their files, and a crash left no commit ahead of the first ledger's newest one, as
+    ///   once it was [opened](Ledger::open): in whatever a crash leaves at this moment, the newest commit that is found is that one,
+    ///   or one that was refused after it; and one is found, where the ledger has one. (Whether opening accepts a refused one, or
+    ///   finds it damaged, is for its bytes to say.)
+    /// - Once the files of such refused commits are taken away, that newest commit is the one that is found, and each file that it
+    ///   needs is byte for byte as the directory told of it.
+    ///
+    /// Lucene's `IndexWriter.commit`: after a crash `DirectoryReader.open` finds the last commit that returned, or one that was on
+    /// its way.
+    pub fn histories_last(&self)
+        ensures answered { NewestIsAnswered D.may_leave self.now }
+        ensures tried { FoundIsTried D.bytes D.may_leave self.now }
+        ensures lost { NoneIsLost D.bytes D.may_leave self.now }
+        ensures found { NewestIsFound D.bytes D.may_leave self.now }
     {
         // A look at a field tells what holds of all of them.
         let _core = &self.core;

@@ -9,6 +9,7 @@ ghost use Rattle.cat_ledger_model.specs.Replies.{Maintains, IsLeft};
 ghost use Rattle.cat_ledger_core.specs.Cores.{HasRowsLeft};
 ghost use Rattle.cat_upkeep.specs.Due.{IsForceDue, IsMergeDue};
 ghost use Rattle.cat_upkeep.specs.News.{news_of};
+ghost use Rattle.cat_ledger.specs.Histories.{Event, Goes};
 ghost use Rattle.cat_ledger.specs.Ledgers.{Does, Spares, device_in, policy_in, shape_in};
 
 use crate::ledger::Ledger;
@@ -36,6 +37,7 @@ impl<D: Directory + Shelf> Ledger<D> {
         ensures damaged { IfErr result (λ e. e ≡ Damaged → HasRowsLeft (shape_in self.old).merging) }
         ensures device { IfErr result (λ e. e ≡ Device → HasRowsLeft (shape_in self.old).merging ⊎ D.can_fail (device_in self.old)) }
         ensures can { D.can_fail (device_in self.new) → D.can_fail (device_in self.old) }
+        ensures history { Goes D.may_leave Event.Other self.old self.new }
         ensures policy { policy_in self.new ≡ policy_in self.old }
         ensures refusal { IfErr result (λ e. (e ≡ Memory) ⊎ (e ≡ Device) ⊎ (e ≡ Damaged) ⊎ (e ≡ Spent)) }
     {
@@ -59,6 +61,7 @@ impl<D: Directory + Shelf> Ledger<D> {
         ensures left { IfErr result (λ e. (e ≡ Memory) ⊎ (e ≡ Device) → (shape_in self.old).next_segment ≤ last_number) }
         ensures device { IfErr result (λ e. e ≡ Device → D.can_fail (device_in self.old)) }
         ensures can { D.can_fail (device_in self.new) → D.can_fail (device_in self.old) }
+        ensures history { Goes D.may_leave Event.Other self.old self.new }
         ensures policy { policy_in self.new ≡ policy_in self.old }
         ensures refusal { IfErr result (λ e. (e ≡ Memory) ⊎ (e ≡ Device) ⊎ (e ≡ Spent)) }
     {

@@ -10,7 +10,8 @@ ghost use Rattle.cat_directory.specs.declared.name.FileName.{FileName};
 ghost use Rattle.cat_ledger_model.specs.Users.{users_of};
 ghost use Rattle.cat_ledger_lines.specs.RunLaws.{Stands};
 ghost use Rattle.cat_ledger_opening.specs.Refused.{IsNewestDamaged, IsNewestForeign};
-ghost use Rattle.cat_ledger.specs.Lasting.{IsLasting};
+ghost use Rattle.cat_ledger.specs.Histories.{LeavesNoneAhead, NoneIsAhead};
+ghost use Rattle.cat_ledger.specs.Lasting.{AlwaysTells, IsLasting};
 ghost use Rattle.cat_ledger.specs.Ledgers.{device_in, policy_in, shape_in};
 ghost use Rattle.cat_ledger.specs.Openings.{IsOpenedLedger};
 
@@ -43,6 +44,7 @@ fn open_swept<D: Directory + Shelf>(
     ensures crash { IfOk result (λ s. (q : FileName) → 0 < users_of s.users (name_of q)
         → NoMore (D.may_leave device.old q) (D.may_leave device.new q)) }
     ensures lasts { IfOk result (IsLasting D.bytes D.may_leave device.new) }
+    ensures ahead { IfOk result (λ s. AlwaysTells D.bytes → NoneIsAhead (D.may_leave device.new) s) }
     ensures damaged { IfErr result (λ e. e ≡ Damaged → IsNewestDamaged (D.bytes device.old) schema) }
     ensures foreign { IfErr result (λ e. e ≡ Kind → IsNewestForeign (D.bytes device.old) schema) }
     ensures device { IfErr result (λ e. e ≡ Device → D.can_fail device.old) }
@@ -77,6 +79,7 @@ impl<D: Directory + Shelf> Ledger<D> {
             × Stands (D.bytes (device_in l)) (shape_in l) from []) }
         ensures crash { IfOk result (λ l. (q : FileName) → 0 < users_of (shape_in l).users (name_of q)
             → NoMore (D.may_leave device q) (D.may_leave (device_in l) q)) }
+        ensures ahead { IfOk result (λ l. AlwaysTells D.bytes → LeavesNoneAhead D.may_leave l) }
         ensures damaged { IfErr result (λ e. e.refusal ≡ Damaged → IsNewestDamaged (D.bytes device) schema) }
         ensures foreign { IfErr result (λ e. e.refusal ≡ Kind → IsNewestForeign (D.bytes device) schema) }
         ensures device { IfErr result (λ e. e.refusal ≡ Device → D.can_fail device) }

@@ -10,6 +10,7 @@ ghost use Rattle.cat_ledger_core.specs.Cores.{HasFlushed, MayNotFlush};
 ghost use Rattle.cat_directory.specs.Devices.{NoMore};
 ghost use Rattle.cat_model.specs.Limits.{buffer_limit};
 ghost use Rattle.cat_directory.specs.Names.{name_of};
+ghost use Rattle.cat_upkeep.specs.Spared.{SparesCommits};
 
 use cat_base::Refusal;
 use cat_directory::Directory;
@@ -28,6 +29,7 @@ pub(crate) fn flush<D: Directory>(core: &mut Core, device: &mut D) -> Result<(),
     ensures err { OnErr result (Makes IsLeft (D.bytes device.old) core.old (D.bytes device.new) core.new) }
     ensures crash { (q : FileName) → (IsNew core.old.next_segment core.old.next_generation (name_of q) → ⊥)
         → NoMore (D.may_leave device.old q) (D.may_leave device.new q) }
+    ensures commits { SparesCommits (D.may_leave device.old) (D.may_leave device.new) }
     ensures spent { IfErr result (λ e. e ≡ Spent → MayNotFlush core.old) }
     ensures due { IfErr result (λ e. (e ≡ Memory) ⊎ (e ≡ Device) → MayNotFlush core.old → ⊥) }
     ensures device { IfErr result (λ e. e ≡ Device → D.can_fail device.old) }
@@ -49,6 +51,7 @@ pub(crate) fn make_room<D: Directory>(core: &mut Core, device: &mut D) -> Result
     ensures err { OnErr result (Makes IsLeft (D.bytes device.old) core.old (D.bytes device.new) core.new) }
     ensures crash { (q : FileName) → (IsNew core.old.next_segment core.old.next_generation (name_of q) → ⊥)
         → NoMore (D.may_leave device.old q) (D.may_leave device.new q) }
+    ensures commits { SparesCommits (D.may_leave device.old) (D.may_leave device.new) }
     ensures spent { IfErr result (λ e. e ≡ Spent → (buffer_limit ≤ length core.old.buffered) × MayNotFlush core.old) }
     ensures due { IfErr result (λ e. (e ≡ Memory) ⊎ (e ≡ Device) → MayNotFlush core.old → ⊥) }
     ensures device { IfErr result (λ e. e ≡ Device → D.can_fail device.old) }

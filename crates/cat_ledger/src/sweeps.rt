@@ -2,6 +2,7 @@
 //!
 //! Lucene's `IndexWriter.deleteUnusedFiles`.
 ghost use Rattle.cat_base.specs.declared.refusal.Refusal.TheVariants.{Device, Memory};
+ghost use Rattle.cat_ledger.specs.Histories.{Event, Goes};
 ghost use Rattle.cat_ledger.specs.Ledgers.{Does, device_in, policy_in, shape_in};
 ghost use Rattle.cat_directory.specs.declared.name.FileName.{FileName};
 ghost use Rattle.std.specs.Prelude.{IfErr, IfOk, [], count_by, ◌<◌, ◌==◌, ◌≡◌, ◌⊎◌};
@@ -31,6 +32,7 @@ impl<D: Directory + Shelf> Ledger<D> {
         ensures refusal { IfErr result (λ e. (e ≡ Memory) ⊎ (e ≡ Device)) }
         ensures device { IfErr result (λ e. e ≡ Device → D.can_fail (device_in self.old)) }
         ensures can { D.can_fail (device_in self.new) → D.can_fail (device_in self.old) }
+        ensures history { Goes D.may_leave Event.Other self.old self.new }
         ensures policy { policy_in self.new ≡ policy_in self.old }
     {
         self.core.sweep(&mut self.device)

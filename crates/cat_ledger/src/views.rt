@@ -3,7 +3,9 @@
 //! Lucene's `SearcherLifetimeManager`, with `IndexWriter.getReader` for the view of now.
 ghost use Rattle.cat_directory.specs.Devices.{CountsReading, NoMore};
 ghost use Rattle.cat_base.specs.declared.refusal.Refusal.TheVariants.{Damaged, Device, Full, Gone, Memory, Spent};
+ghost use Rattle.cat_ledger.specs.Histories.{Event, Goes};
 ghost use Rattle.cat_ledger.specs.Ledgers.{Does, Spares, device_in, policy_in, shape_in};
+ghost use Rattle.cat_upkeep.specs.Spared.{SparesCommits};
 ghost use Rattle.std.specs.Prelude.{Err, IfErr, IfOk, List, None, Ok, OnErr, OnOk, [], false, length, not, option_map, true, ℕ, ◌&&◌, ◌-◌, ◌==◌, ◌≡◌, ◌≢◌, ◌⊎◌, Some, find};
 ghost use Rattle.cat_directory.specs.declared.name.FileName.{FileName};
 ghost use Rattle.cat_search.specs.Sources.{HoldsSource, TellsSource, stored_length};
@@ -95,6 +97,7 @@ fn flush_and_record<D: Directory>(core: &mut Core, device: &mut D) -> Result<(),
     ensures err { OnErr result (Makes IsLeft (D.bytes device.old) core.old (D.bytes device.new) core.new) }
     ensures crash { (q : FileName) → (IsNew core.old.next_segment core.old.next_generation (name_of q) → ⊥)
         → NoMore (D.may_leave device.old q) (D.may_leave device.new q) }
+    ensures commits { SparesCommits (D.may_leave device.old) (D.may_leave device.new) }
     ensures spent { IfErr result (λ e. e ≡ Spent → MayNotFlush core.old) }
     ensures due { IfErr result (λ e. (e ≡ Memory) ⊎ (e ≡ Device) → MayNotFlush core.old → ⊥) }
     ensures device { IfErr result (λ e. e ≡ Device → D.can_fail device.old) }
@@ -159,6 +162,7 @@ impl<D: Directory + Shelf> Ledger<D> {
         ensures refusal { IfErr result (λ e. (e ≡ Full) ⊎ (e ≡ Memory) ⊎ (e ≡ Device) ⊎ (e ≡ Spent)) }
         ensures device { IfErr result (λ e. e ≡ Device → D.can_fail (device_in self.old)) }
         ensures can { D.can_fail (device_in self.new) → D.can_fail (device_in self.old) }
+        ensures history { Goes D.may_leave Event.Other self.old self.new }
         ensures policy { policy_in self.new ≡ policy_in self.old }
     {
         let token = self.core.count();
@@ -184,6 +188,7 @@ impl<D: Directory + Shelf> Ledger<D> {
         ensures err { OnErr result (self.new ≡ self.old) }
         ensures same { device_in self.new ≡ device_in self.old }
         ensures refusal { IfErr result (λ e. (e ≡ Gone) ⊎ (e ≡ Memory)) }
+        ensures history { Goes D.may_leave Event.Other self.old self.new }
         ensures policy { policy_in self.new ≡ policy_in self.old }
     {
         let token = token.unwrap_or(self.core.newest_token());
@@ -212,6 +217,7 @@ impl<D: Directory + Shelf> Ledger<D> {
         ensures wrong { OnErr result (hold.session ≡ session → has_hold (shape_in self.old).holds session hold.view.token ≡ false) }
         ensures err { OnErr result (self.new ≡ self.old) }
         ensures same { device_in self.new ≡ device_in self.old }
+        ensures history { Goes D.may_leave Event.Other self.old self.new }
         ensures policy { policy_in self.new ≡ policy_in self.old }
     {
         let token = hold.token();
@@ -233,6 +239,7 @@ impl<D: Directory + Shelf> Ledger<D> {
         ensures ok { OnOk result (Does D.bytes (Pruned count) self.old self.new) }
         ensures err { OnErr result (self.new ≡ self.old) }
         ensures same { device_in self.new ≡ device_in self.old }
+        ensures history { Goes D.may_leave Event.Other self.old self.new }
         ensures policy { policy_in self.new ≡ policy_in self.old }
     {
         let went = self.core.prune(count)?;
@@ -258,6 +265,7 @@ impl<D: Directory + Shelf> Ledger<D> {
         ensures counted { CountsReading (D.fault_count (device_in self.old)) (D.fault_count (device_in self.new)) result }
         ensures device { IfErr result (λ e. e ≡ Device → D.can_fail (device_in self.old)) }
         ensures can { D.can_fail (device_in self.new) → D.can_fail (device_in self.old) }
+        ensures history { Goes D.may_leave Event.Other self.old self.new }
         ensures policy { policy_in self.new ≡ policy_in self.old }
     {
         read_source(hold.view(), self.alloc, &mut self.device, id)

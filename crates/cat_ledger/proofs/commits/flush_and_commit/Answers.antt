@@ -5,6 +5,7 @@ use Rattle.cat_ledger_lines.proofs.JoinedCalls.{flushed_commits_make}
 use Rattle.cat_ledger_shape.proofs.Committed.{commits_make}
 use Rattle.cat_ledger_shape.proofs.Listed.{names_are_begun}
 use Rattle.cat_ledger_shape.specs.CommitLaws.{names_begun}
+use Rattle.cat_ledger.proofs.Histories.{commit_spares_others, newest_committed, next_committed}
 use Rattle.cat_ledger.proofs.commits.flush_and_commit.Goals as goal
 
 pub returns-in-Ok-clause-ok : goal.returns-in-Ok-clause-ok
@@ -57,3 +58,27 @@ returns-in-Ok-clause-lasts g c = λ before.
     let makes = commits_make text mid new (bytes d) (bytes d') c.in_default.ensures.flushed c.in-Ok.ensures.ok.0 c.in-Ok.ensures.ok.1 in
     commit_lasts bytes left stay c.needed_are_synced.ensures text d d' mid new c.in-Ok.ensures.ok.0 (carried_on (Committed text) (bytes d) (bytes d') mid new makes flushed.carried)
     c.in-Ok.ensures.lasts c.in-Ok.ensures.crash flushed
+
+pub returns-in-Err-clause-commits : goal.returns-in-Err-clause-commits
+returns-in-Err-clause-commits g c =
+    λ n other. c.flush.ensures.commits n
+
+pub returns-in-Ok-clause-commits : goal.returns-in-Ok-clause-commits
+returns-in-Ok-clause-commits g c =
+    λ n other e after. c.flush.ensures.commits n e
+    (commit_spares_others c.flush.new.core c.args.core.now.next_generation (g.D.Holder.may_leave c.flush.new.device) (g.D.Holder.may_leave c.commit.new.device) c.in_default.ensures.generation
+    c.commit.ensures.crash n other e after)
+
+pub returns-in-Err-commit-clause-commits : goal.returns-in-Err-commit-clause-commits
+returns-in-Err-commit-clause-commits g c =
+    λ n other e after. c.flush.ensures.commits n e
+    (commit_spares_others c.flush.new.core c.args.core.now.next_generation (g.D.Holder.may_leave c.flush.new.device) (g.D.Holder.may_leave c.commit.new.device) c.in_default.ensures.generation
+    c.commit.ensures.crash n other e after)
+
+pub returns-in-Ok-clause-newest : goal.returns-in-Ok-clause-newest
+returns-in-Ok-clause-newest g c =
+    newest_committed c.args.text.now c.flush.new.core c.commit.new.self c.in-Ok.generation c.in-Ok.ensures.ok.0 c.in-Ok.ensures.number
+
+pub returns-in-Ok-clause-next : goal.returns-in-Ok-clause-next
+returns-in-Ok-clause-next g c =
+    next_committed c.args.text.now c.args.core.now.next_generation c.flush.new.core c.commit.new.self c.in-Ok.ensures.ok.0 c.in_default.ensures.generation

@@ -1,6 +1,7 @@
 use Rattle.std.proofs.Common.{◌∙◌}
 use Rattle.cat_ledger.proofs.Lasting.{opened_lasts}
 use Rattle.cat_ledger.proofs.Swept.{opened_alike, opened_begins, opened_schema, opened_shape, swept_users}
+use Rattle.cat_ledger.proofs.Histories.{opened_ahead}
 use Rattle.cat_ledger.proofs.opening.open_swept.Goals as goal
 
 pub returns-clause-ok : goal.returns-clause-ok
@@ -42,3 +43,10 @@ returns-clause-lasts g c =
     opened_lasts bytes g.D.Holder.may_leave g.met.D.Holder.may_stay c.args.device.now d d' mid new (opened_shape told c.args.schema told mid opened)
     (begins.2.ledger, begins.2.files, begins.2.carries) c.sweep-swept.ensures.leaves c.in_ok-core.ensures.lasts
     (λ q some. c.sweep-swept.ensures.used q some ∙ c.«open».ensures.same q) c.sweep-swept.ensures.crash
+
+pub returns-clause-ahead : goal.returns-clause-ahead
+returns-clause-ahead g c =
+    λ tells.
+    opened_ahead (g.D.Holder.bytes c.args.device.now) c.args.schema (g.D.Holder.bytes c.«open».new.device) c.in_ok-core.core c.sweep-swept.new.self (g.D.Holder.may_leave c.«open».new.device)
+    (g.D.Holder.may_leave c.sweep-swept.new.device) (tells c.args.device.now) c.in_ok-core.ensures.ok c.sweep-swept.ensures.leaves c.in_ok-core.ensures.gone
+    c.sweep-swept.ensures.files.back

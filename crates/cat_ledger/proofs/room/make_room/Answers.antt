@@ -1,5 +1,6 @@
 use Rattle.cat_ledger.proofs.Made.{flush_begun, left_begun, room_made}
 use Rattle.cat_ledger_core.specs.Cores.{flush_begins}
+use Rattle.cat_ledger.proofs.Histories.{flush_spares}
 use Rattle.cat_ledger.proofs.room.make_room.Goals as goal
 
 pub returns-in-Err-clause-err : goal.returns-in-Err-clause-err
@@ -11,3 +12,11 @@ pub returns-clause-ok : goal.returns-clause-ok
 returns-clause-ok g c =
     room_made (g.D.Holder.bytes c.args.device.now) (g.D.Holder.bytes c.flush.new.device) c.args.core.now c.flush.new.self
     (c.is_due.ensures.0 c.if-not-is_due.false) c.in_default.ensures.ok
+
+pub returns-in-Err-clause-commits : goal.returns-in-Err-clause-commits
+returns-in-Err-clause-commits g c =
+    flush_spares c.args.core.now (g.D.Holder.may_leave c.args.device.now) (g.D.Holder.may_leave c.flush.new.device) c.flush.ensures.crash
+
+pub returns-clause-commits : goal.returns-clause-commits
+returns-clause-commits g c =
+    flush_spares c.args.core.now (g.D.Holder.may_leave c.args.device.now) (g.D.Holder.may_leave c.flush.new.device) c.flush.ensures.crash

@@ -1,9 +1,13 @@
+use Rattle.std.proofs.Common.{inl, inr}
 use Rattle.cat_ledger.proofs.Lasting.{call_keeps, lets_left}
 use Rattle.cat_ledger.proofs.Made.{untouched}
 use Rattle.cat_ledger.proofs.Results.{on_ok, one_way}
 use Rattle.cat_ledger.specs.Lasting.{IsLasting}
 use Rattle.cat_ledger_model.specs.Replies.{IsLeft}
 use Rattle.cat_ledger_shape.specs.Ties.{Makes}
+use Rattle.cat_ledger.proofs.Histories.{answered_goes, if_answered, nothing_goes, on_err, refused_goes}
+use Rattle.cat_ledger.specs.Histories.{Event, Goes}
+use Rattle.cat_ledger_shape.specs.Steps.{newest_generation}
 use Rattle.cat_ledger.proofs.ledger.Ledger.commit.Goals as goal
 
 pub returns-in-Err-clause-err : goal.returns-in-Err-clause-err
@@ -28,3 +32,33 @@ returns-clause-ok g c = rw (← c.self.view_is) c.flush_and_commit.ensures.ok
 
 pub returns-clause-err : goal.returns-clause-err
 returns-clause-err g c = rw (← c.self.view_is) c.flush_and_commit.ensures.err
+
+pub returns-in-Err-clause-refused : goal.returns-in-Err-clause-refused
+returns-in-Err-clause-refused g c = inl (nothing_goes g.D.Holder.may_leave c.args.self.now)
+
+pub returns-then-next_generation-gt-LAST_NUMBER-clause-refused : goal.returns-then-next_generation-gt-LAST_NUMBER-clause-refused
+returns-then-next_generation-gt-LAST_NUMBER-clause-refused g c = inl (nothing_goes g.D.Holder.may_leave c.args.self.now)
+
+pub returns-clause-answered : goal.returns-clause-answered
+returns-clause-answered g c =
+    let done = c.flush_and_commit in
+    let bytes = g.D.Holder.bytes in
+    let left = g.D.Holder.may_leave in
+    let s = c.self.inside.core in
+    let policy = c.self.inside.policy in
+    rw (← c.self.view_is) (if_answered
+    (λ n. Goes left (Event.Answered n) (record { device = c.self.inside.device; core = s; policy = policy }) (record { device = done.new.device; core = done.new.core; policy = policy }))
+    s.next_generation done.new.core.next_generation (newest_generation done.new.core.commits) done.result done.ensures.number done.ensures.newest done.ensures.next
+    (λ n number newest next. answered_goes left bytes c.self.inside.device done.new.device s done.new.core policy policy n c.self.invariant.carried number newest next
+    done.ensures.commits))
+
+pub returns-clause-refused : goal.returns-clause-refused
+returns-clause-refused g c =
+    let done = c.flush_and_commit in
+    let bytes = g.D.Holder.bytes in
+    let left = g.D.Holder.may_leave in
+    let s = c.self.inside.core in
+    let policy = c.self.inside.policy in
+    rw (← c.self.view_is) (on_err done.result
+    (λ made. inr (refused_goes left bytes IsLeft lets_left c.self.inside.device done.new.device s done.new.core policy policy made c.self.invariant.carried
+    done.ensures.commits)) done.ensures.err)

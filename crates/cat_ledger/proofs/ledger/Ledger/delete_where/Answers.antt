@@ -1,9 +1,12 @@
-use Rattle.std.proofs.Common.{◌≡◌, arith}
+use Rattle.std.proofs.Common.{◌≡◌, arith, ap}
 use Rattle.cat_ledger.proofs.Lasting.{memory_keeps, same_needs}
 use Rattle.cat_ledger.proofs.Made.{written}
 use Rattle.cat_ledger_model.specs.Calls.{wrote}
 use Rattle.cat_model.specs.Write.{Write}
 use Rattle.cat_query.specs.View.{query_of}
+use Rattle.cat_ledger.proofs.Histories.{memory_goes, nothing_goes}
+use Rattle.cat_ledger_shape.specs.Shapes.{Shape}
+use Rattle.cat_ledger_shape.specs.Steps.{newest_generation}
 use Rattle.cat_ledger.proofs.ledger.Ledger.delete_where.Goals as goal
 
 pub invariant_of-self-2 : goal.invariant_of-self-2
@@ -20,3 +23,12 @@ returns-clause-ok g c =
     rw (← c.self.view_is) (written (g.D.Holder.bytes c.self.inside.device) c.self.inside.core c.delete_where.new.self
     (Write.delete_where (query_of c.args.query.now)) c.in_ok-delete_where.ensures.ok
     (omega (arith, c.count.ensures.count, c.if-count-ge-LAST_NUMBER.false)) tt)
+
+pub returns-then-count-ge-LAST_NUMBER-clause-history : goal.returns-then-count-ge-LAST_NUMBER-clause-history
+returns-then-count-ge-LAST_NUMBER-clause-history g c =
+    nothing_goes g.D.Holder.may_leave c.args.self.now
+
+pub returns-clause-history : goal.returns-clause-history
+returns-clause-history g c =
+    rw (← c.self.view_is) (memory_goes g.D.Holder.may_leave c.self.inside.device c.self.inside.core c.delete_where.new.self c.self.inside.policy c.self.inside.policy
+    (ap (λ (x : Shape). newest_generation x.commits) c.in_ok-delete_where.ensures.ok) (ap (λ (x : Shape). x.next_generation) c.in_ok-delete_where.ensures.ok))

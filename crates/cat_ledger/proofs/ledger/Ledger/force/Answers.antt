@@ -5,6 +5,8 @@ use Rattle.cat_upkeep.specs.News.{news_of}
 use Rattle.cat_ledger.proofs.Lasting.{call_keeps, lets_left, lets_maintain}
 use Rattle.cat_ledger.proofs.Results.{either_way, if_ok}
 use Rattle.cat_ledger.specs.Lasting.{IsLasting}
+use Rattle.cat_ledger.proofs.Histories.{call_goes, or_gone}
+use Rattle.cat_ledger.specs.Histories.{Event, Goes}
 use Rattle.cat_ledger.proofs.ledger.Ledger.force.Goals as goal
 
 pub invariant_of-self : goal.invariant_of-self
@@ -25,3 +27,17 @@ returns-clause-ok g c = rw (← c.self.view_is) (if_ok _ _ c.force.result (λ ne
 
 pub returns-clause-err : goal.returns-clause-err
 returns-clause-err g c = rw (← c.self.view_is) c.force.ensures.err
+
+pub returns-clause-history : goal.returns-clause-history
+returns-clause-history g c =
+    let done = c.force in
+    let policy = c.self.inside.policy in
+    let bytes = g.D.Holder.bytes in
+    let left = g.D.Holder.may_leave in
+    let spared = or_gone (left c.self.inside.device) (left done.new.device) done.ensures.commits in
+    rw (← c.self.view_is) (either_way
+    (Goes left Event.Other (record { device = c.self.inside.device; core = c.self.inside.core; policy = policy }) (record { device = done.new.device; core = done.new.core; policy = policy }))
+    (Makes IsLeft (bytes c.self.inside.device) c.self.inside.core (bytes done.new.device) done.new.core) done.result done.ensures.ok done.ensures.err
+    (λ news makes. call_goes left bytes (Maintains policy Chore.force (news_of news)) (lets_maintain policy Chore.force (news_of news)) c.self.inside.device
+    done.new.device c.self.inside.core done.new.core policy policy (makes policy) c.self.invariant.carried spared)
+    (λ made. call_goes left bytes IsLeft lets_left c.self.inside.device done.new.device c.self.inside.core done.new.core policy policy made c.self.invariant.carried spared))

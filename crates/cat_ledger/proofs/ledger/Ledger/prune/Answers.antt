@@ -1,7 +1,10 @@
-use Rattle.std.proofs.Common.{refl}
+use Rattle.std.proofs.Common.{refl, ap}
 use Rattle.cat_ledger.proofs.Lasting.{memory_keeps, same_needs}
 use Rattle.cat_ledger_model.specs.Calls.{Pruned}
 use Rattle.cat_ledger_shape.proofs.Views.{prunes_make}
+use Rattle.cat_ledger.proofs.Histories.{memory_goes}
+use Rattle.cat_ledger_shape.specs.Shapes.{Shape}
+use Rattle.cat_ledger_shape.specs.Steps.{newest_generation}
 use Rattle.cat_ledger.proofs.ledger.Ledger.prune.Goals as goal
 
 pub invariant_of-self-2 : goal.invariant_of-self-2
@@ -15,3 +18,8 @@ pub returns-clause-ok : goal.returns-clause-ok
 returns-clause-ok g c =
     let told = g.D.Holder.bytes c.self.inside.device in
     rw (← c.self.view_is) (prunes_make c.args.count c.self.inside.core c.prune.new.self told told c.in_ok-went.ensures.ok (λ q. refl))
+
+pub returns-clause-history : goal.returns-clause-history
+returns-clause-history g c =
+    rw (← c.self.view_is) (memory_goes g.D.Holder.may_leave c.self.inside.device c.self.inside.core c.prune.new.self c.self.inside.policy c.self.inside.policy
+    (ap (λ (x : Shape). newest_generation x.commits) c.in_ok-went.ensures.ok.rest) (ap (λ (x : Shape). x.next_generation) c.in_ok-went.ensures.ok.rest))

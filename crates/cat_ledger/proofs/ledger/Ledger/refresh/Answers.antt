@@ -3,6 +3,7 @@ use Rattle.cat_ledger_lines.specs.LineLaws.{Refreshes}
 use Rattle.cat_ledger_model.specs.Replies.{IsLeft}
 use Rattle.cat_ledger.proofs.Lasting.{call_keeps, lets_left, lets_refresh}
 use Rattle.cat_ledger.proofs.Made.{untouched}
+use Rattle.cat_ledger.proofs.Histories.{call_goes, nothing_goes, or_gone}
 use Rattle.cat_ledger.proofs.ledger.Ledger.refresh.Goals as goal
 
 pub returns-then-is_refused-clause-err : goal.returns-then-is_refused-clause-err
@@ -30,3 +31,17 @@ returns-in-Err-clause-full g c = rw (← c.self.view_is) (λ no. absurd (no (sym
 
 pub returns-clause-full : goal.returns-clause-full
 returns-clause-full g c = rw (← c.self.view_is) (λ no. absurd (no (sym c.if-is_refused.ensures)))
+
+pub returns-then-is_refused-clause-history : goal.returns-then-is_refused-clause-history
+returns-then-is_refused-clause-history g c =
+    nothing_goes g.D.Holder.may_leave c.args.self.now
+
+pub returns-in-Err-clause-history : goal.returns-in-Err-clause-history
+returns-in-Err-clause-history g c =
+    rw (← c.self.view_is) (call_goes g.D.Holder.may_leave g.D.Holder.bytes (IsLeft) (lets_left) c.self.inside.device c.flush_and_record.new.device c.self.inside.core c.flush_and_record.new.core
+    c.self.inside.policy c.self.inside.policy c.in-Err.ensures.err c.self.invariant.carried (or_gone (g.D.Holder.may_leave c.self.inside.device) (g.D.Holder.may_leave c.flush_and_record.new.device) c.flush_and_record.ensures.commits))
+
+pub returns-clause-history : goal.returns-clause-history
+returns-clause-history g c =
+    rw (← c.self.view_is) (call_goes g.D.Holder.may_leave g.D.Holder.bytes (Refreshes) (lets_refresh) c.self.inside.device c.flush_and_record.new.device c.self.inside.core c.flush_and_record.new.core
+    c.self.inside.policy c.self.inside.policy c.in_default.ensures.ok c.self.invariant.carried (or_gone (g.D.Holder.may_leave c.self.inside.device) (g.D.Holder.may_leave c.flush_and_record.new.device) c.flush_and_record.ensures.commits))

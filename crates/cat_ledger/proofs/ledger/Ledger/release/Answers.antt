@@ -1,5 +1,8 @@
-use Rattle.std.proofs.Common.{sym}
+use Rattle.std.proofs.Common.{sym, ap}
 use Rattle.cat_ledger.proofs.Lasting.{kept_still, let_go_carried, same_needs}
+use Rattle.cat_ledger.proofs.Histories.{memory_goes}
+use Rattle.cat_ledger_shape.specs.Shapes.{Shape}
+use Rattle.cat_ledger_shape.specs.Steps.{newest_generation}
 use Rattle.cat_ledger.proofs.ledger.Ledger.release.Goals as goal
 
 pub invariant_of-self : goal.invariant_of-self
@@ -10,3 +13,8 @@ invariant_of-self g c =
     (let_go_carried c.self.inside.policy (g.D.Holder.bytes c.self.inside.device) s s' c.args.session c.token-token.result
     (sym c.if-not-is_held_by.ensures) c.let_go-had.ensures.released c.self.invariant.carried)
     (same_needs _ _ c.let_go-had.ensures.released) (λ q needed e might. might) c.self.invariant
+
+pub returns-clause-history : goal.returns-clause-history
+returns-clause-history g c =
+    rw (← c.self.view_is) (memory_goes g.D.Holder.may_leave c.self.inside.device c.self.inside.core c.let_go-had.new.self c.self.inside.policy c.self.inside.policy
+    (ap (λ (x : Shape). newest_generation x.commits) c.let_go-had.ensures.released) (ap (λ (x : Shape). x.next_generation) c.let_go-had.ensures.released))

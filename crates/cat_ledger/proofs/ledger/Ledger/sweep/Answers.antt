@@ -1,5 +1,10 @@
+use Rattle.std.proofs.Common.{[]}
 use Rattle.cat_ledger.proofs.Lasting.{sweep_keeps}
 use Rattle.cat_ledger_shape.proofs.Writes.{sweeps_make}
+use Rattle.cat_ledger.proofs.Histories.{call_goes}
+use Rattle.cat_ledger.proofs.Lasting.{lets_sweep}
+use Rattle.cat_directory.specs.declared.name.FileName.TheVariants as file
+use Rattle.cat_ledger_model.specs.Calls.{MayLeave}
 use Rattle.cat_ledger.proofs.ledger.Ledger.sweep.Goals as goal
 
 pub invariant_of-self : goal.invariant_of-self
@@ -11,3 +16,9 @@ pub returns-clause-ok : goal.returns-clause-ok
 returns-clause-ok g c =
     rw (← c.self.view_is) (sweeps_make c.self.inside.core c.sweep.new.self (g.D.Holder.bytes c.self.inside.device) (g.D.Holder.bytes c.sweep.new.device)
     c.sweep.ensures.leaves c.sweep.ensures.used)
+
+pub returns-clause-history : goal.returns-clause-history
+returns-clause-history g c =
+    rw (← c.self.view_is) (call_goes g.D.Holder.may_leave g.D.Holder.bytes (MayLeave []) (lets_sweep) c.self.inside.device c.sweep.new.device c.self.inside.core c.sweep.new.self
+    c.self.inside.policy c.self.inside.policy (sweeps_make c.self.inside.core c.sweep.new.self (g.D.Holder.bytes c.self.inside.device) (g.D.Holder.bytes c.sweep.new.device)
+    c.sweep.ensures.leaves c.sweep.ensures.used) c.self.invariant.carried (λ n. c.sweep.ensures.files.back (file.Commit n)))

@@ -1,7 +1,11 @@
-use Rattle.std.proofs.Common.{◌∙◌, refl}
+use Rattle.std.proofs.Common.{◌∙◌, refl, ap}
 use Rattle.cat_ledger.proofs.Lasting.{memory_keeps, newest_stays, same_needs}
 use Rattle.cat_ledger_model.specs.Calls.{Unsnapped}
 use Rattle.cat_ledger_shape.proofs.Committed.{unsnaps_make}
+use Rattle.cat_ledger.proofs.Histories.{memory_goes}
+use Rattle.cat_ledger.proofs.Lasting.{newest_same}
+use Rattle.cat_ledger_shape.specs.Shapes.{Shape}
+use Rattle.cat_ledger_shape.specs.Steps.{newest_generation}
 use Rattle.cat_ledger.proofs.ledger.Ledger.unsnapshot.Goals as goal
 
 pub invariant_of-self-2 : goal.invariant_of-self-2
@@ -16,3 +20,9 @@ pub returns-clause-ok : goal.returns-clause-ok
 returns-clause-ok g c =
     let told = g.D.Holder.bytes c.self.inside.device in
     rw (← c.self.view_is) (unsnaps_make c.args.generation c.self.inside.core c.unsnapshot.new.self told told c.in_ok-left.ensures.ok (λ q. refl))
+
+pub returns-clause-history : goal.returns-clause-history
+returns-clause-history g c =
+    rw (← c.self.view_is) (memory_goes g.D.Holder.may_leave c.self.inside.device c.self.inside.core c.unsnapshot.new.self c.self.inside.policy c.self.inside.policy
+    (ap (λ (x : Shape). newest_generation x.commits) c.in_ok-left.ensures.ok.rest ∙ newest_same c.unsnapshot.new.self.taken c.self.inside.core.commits)
+    (ap (λ (x : Shape). x.next_generation) c.in_ok-left.ensures.ok.rest))

@@ -1,0 +1,464 @@
+-- What calls in a row leave of commits.
+use Rattle.std.proofs.Common.{◌≡◌, ◌⊎◌, ℕ, ◌<◌, ◌≤◌, Bool, true, false, ◌||◌, cond, List, [], ◌∷◌, ◌++◌, map, filter, Option, Some, None, refl, sym, ◌∙◌, ap, ap₂, subst, arith, inl, inr}
+use Rattle.std.specs.Prelude.{◌≢◌, ◌==◌, option_map, IfSome, IfOk, OnOk, OnErr, Result, Ok, Err}
+use Rattle.std.specs.List.{flat_map, last_or, AllByRecursion}
+use Rattle.std.proofs.lemmas.Bool.{cases_lt}
+use Rattle.std.proofs.lemmas.List.Elements.{All-from_recursion, recursion_from_All}
+use Rattle.cat_base.specs.declared.refusal.Refusal.{Refusal}
+use Rattle.cat_model.specs.CommitFile.{CommitFile, commit_needs, listed_names}
+use Rattle.cat_model.specs.Files.{Name}
+use Rattle.cat_model.specs.Item.{Schema}
+use Rattle.cat_model.specs.State.{stays_kept}
+use Rattle.cat_model.specs.Text.{Text}
+use Rattle.cat_directory.specs.Devices.{FileContent, IsSettled, NoMore, OrGone, Told}
+use Rattle.cat_directory.specs.Names.{name_of}
+use Rattle.cat_directory.specs.declared.name.FileName.{FileName}
+use Rattle.cat_directory.specs.declared.name.FileName.TheVariants as file
+use Rattle.cat_ledger_model.specs.Ledger as model
+use Rattle.cat_ledger_model.specs.Ledger.{LedgerCommit, commit_file}
+use Rattle.cat_ledger_model.specs.Plans as plans
+use Rattle.cat_ledger_model.specs.Stored.{FileBytes, IsCommitStored}
+use Rattle.cat_ledger_model.specs.Users.{has_name, same_file_name}
+use Rattle.cat_ledger_model.proofs.Counted.{same_name_is}
+use Rattle.cat_ledger_shape.specs.CommitLaws.{names_begun}
+use Rattle.cat_ledger_shape.specs.Shapes.{ListedLive, Shape}
+use Rattle.cat_ledger_shape.specs.Steps.{IsCommitted, Leaves, commit_now, listed_now, newest_generation}
+use Rattle.cat_ledger_shape.specs.Ties.{IsTold, Makes, ToldFiles}
+use Rattle.cat_ledger_shape.proofs.Told.{same_again}
+use Rattle.cat_ledger_core.specs.Cores.{flush_begins, is_begun}
+use Rattle.cat_ledger_opening.specs.Opened.{HasOpened}
+use Rattle.cat_upkeep.specs.Spared.{SparesCommits}
+use Rattle.cat_ledger.specs.Histories.{Call, Event, FoundIsTried, Goes, IsAnswered, IsCrashed, IsHistory, IsLastAnswered, IsPastNewest, IsTried, IsUnanswered, LeavesNoneAhead, NewestIsAnswered, NewestIsFound, NoneIsAhead, NoneIsLost, SparesOtherCommits, events_of, newest_after, newest_of, tells}
+use Rattle.cat_ledger.specs.Lasting.{AlwaysTells, IsCarried, NewestLasts, needs_of, newest_needs}
+use Rattle.cat_ledger.specs.Ledgers.{Ledger, device_in, shape_in}
+use Rattle.cat_ledger.proofs.Lasting.{LetsCommits, carried_shape, commits_on, newest_old, next_on}
+
+abbrev generation_of : CommitFile → ℕ
+generation_of c = c.generation
+
+-- ---- the newest commit's own file
+
+or_true : (b c : Bool) → b ≡ true → (b || c) ≡ true
+or_true true c e = refl
+or_true false c e = absurd (let no : false ≡ true = e in cc)
+
+own_named : (c : CommitFile) → has_name (Name.commit c.generation) (commit_needs c) ≡ true
+own_named c =
+    or_true (same_file_name (Name.commit c.generation) (Name.commit c.generation)) (has_name (Name.commit c.generation) (flat_map listed_names c.segments))
+    (same_again (Name.commit c.generation))
+
+-- the newest commit needs it
+own_last : (o : Option CommitFile) (cs : List CommitFile) (n : ℕ) → last_or (option_map generation_of o) (map generation_of cs) ≡ Some n
+    → has_name (Name.commit n) (needs_of (last_or o cs)) ≡ true
+own_last None [] n e = absurd (let no : None ≡ Some n = e in cc)
+own_last (Some c) [] n e =
+    let is : Some c.generation ≡ Some n = e in
+    let same : c.generation ≡ n = cc in
+    subst (λ m. has_name (Name.commit m) (commit_needs c) ≡ true) same (own_named c)
+own_last o (c ∷ cs) n e = own_last (Some c) cs n e
+
+pub own_needed : (s : Shape) (n : ℕ) → newest_generation s.commits ≡ Some n → has_name (Name.commit n) (newest_needs s.commits) ≡ true
+own_needed s n e = own_last None s.commits n e
+
+-- it stands, where the files of all commits do
+stored_last : (files : FileBytes) (schema : Schema) (o : Option LedgerCommit) (cs : List LedgerCommit) (n : ℕ) → IfSome o (IsCommitStored files schema)
+    → AllByRecursion (IsCommitStored files schema) cs
+    → last_or (option_map (λ (c : LedgerCommit). c.generation) o) (map generation_of (map (commit_file schema) cs)) ≡ Some n
+    → (bytes : Text) × (files (Name.commit n) ≡ Some bytes)
+stored_last files schema None [] n first all e = absurd (let no : None ≡ Some n = e in cc)
+stored_last files schema (Some c) [] n first all e =
+    let is : Some c.generation ≡ Some n = e in
+    let same : c.generation ≡ n = cc in
+    (first.commit.bytes, subst (λ m. files (Name.commit m) ≡ Some first.commit.bytes) same first.commit.there)
+stored_last files schema o (c ∷ cs) n first all e = stored_last files schema (Some c) cs n all.0 all.1 e
+
+-- so the device tells of it, where it tells of files
+own_told : (told : ToldFiles) (s : Shape) (n : ℕ) → IsCarried told s → newest_generation s.commits ≡ Some n → (content : FileContent)
+    → told (file.Commit n) ≡ Some content → (bytes : Text) × (content ≡ Some bytes)
+own_told told s n k e content is =
+    let l : model.Ledger = k.0 in
+    let files : FileBytes = k.1 in
+    let stands = stored_last files l.schema None l.commits n tt k.2.stored.commits (ap (λ (x : Shape). newest_generation x.commits) k.2.shape ∙ e) in
+    let agrees : IsTold (Some content) (files (Name.commit n)) = subst (λ (t : Told). IsTold t (files (Name.commit n))) is (k.2.agrees (Name.commit n)) in
+    (stands.0, agrees ∙ stands.1)
+
+-- a commit that comes next is past the newest one
+pub comes_past : (told : ToldFiles) (s : Shape) → IsCarried told s → IsPastNewest (newest_generation s.commits) s.next_generation
+comes_past told s k = by (newest_generation s.commits) refl
+  where
+    by : (o : Option ℕ) → newest_generation s.commits ≡ o → IsPastNewest o s.next_generation
+    by None e = tt
+    by (Some n) e = elim (cases_lt n s.next_generation) [
+      | inl less ↦ less
+      | inr more ↦ absurd (newest_old s (carried_shape told s k) (file.Commit n) (own_needed s n e) more)
+    ]
+
+-- the last commit is the one that was put behind the others
+newest_last : (o : Option ℕ) (cs : List CommitFile) (c : CommitFile) → last_or o (map generation_of (cs ++ c ∷ [])) ≡ Some c.generation
+newest_last o [] c = refl
+newest_last o (d ∷ cs) c = newest_last (Some d.generation) cs c
+
+pub newest_put : (cs : List CommitFile) (c : CommitFile) → newest_generation (cs ++ c ∷ []) ≡ Some c.generation
+newest_put cs c = newest_last None cs c
+
+-- what memory has that a commit was put to
+pub newest_committed : (text : Text) (s s' : Shape) (g : ℕ) → IsCommitted text s s' → g ≡ s.next_generation → newest_generation s'.commits ≡ Some g
+newest_committed text s s' g committed number =
+    ap (λ (x : Shape). newest_generation x.commits) committed.rest
+    ∙ newest_put (filter (λ (c : CommitFile). stays_kept s.taken (Some s.next_generation) c.generation) s.commits) (commit_now text s)
+    ∙ ap (λ n. Some n) (sym number)
+
+pub next_committed : (text : Text) (n : ℕ) (s s' : Shape) → IsCommitted text s s' → s.next_generation ≡ n → n ≤ s'.next_generation
+next_committed text n s s' committed same = omega (arith, same, ap (λ (x : Shape). x.next_generation) committed.rest)
+
+-- ---- files of commits
+
+-- a flush begins none,
+pub flush_spares : (s : Shape) (could can : FileName → FileContent → Type 0) → ((q : FileName) → is_begun (flush_begins s) q ≡ false → NoMore (could q) (can q))
+    → SparesCommits could can
+flush_spares s could can crash g = crash (file.Commit g) refl
+
+-- and a commit its own alone
+none_live : (g n : ℕ) (xs : List ListedLive)
+    → has_name (Name.commit g) (flat_map (λ (x : ListedLive). cond (x.file == n) (Name.live x.number x.file ∷ []) []) xs) ≡ false
+none_live g n [] = refl
+none_live g n (x ∷ xs) = by (x.file == n) (none_live g n xs)
+  where
+    rest : List Name
+    rest = flat_map (λ (x : ListedLive). cond (x.file == n) (Name.live x.number x.file ∷ []) []) xs
+
+    by : (b : Bool) → has_name (Name.commit g) rest ≡ false → has_name (Name.commit g) (cond b (Name.live x.number x.file ∷ []) [] ++ rest) ≡ false
+    by true e = e
+    by false e = e
+
+other_number : (g n : ℕ) → g ≢ n → (g == n) ≡ false
+other_number g n other = by (g == n) refl
+  where
+    by : (b : Bool) → (g == n) ≡ b → (g == n) ≡ false
+    by true e = absurd (other (let same : Name.commit g ≡ Name.commit n = same_name_is (Name.commit g) (Name.commit n) e in cc))
+    by false e = e
+
+pub commit_spares_others : (s : Shape) (n : ℕ) (could can : FileName → FileContent → Type 0) → s.next_generation ≡ n
+    → ((q : FileName) → is_begun (names_begun s) q ≡ false → NoMore (could q) (can q)) → SparesOtherCommits n could can
+commit_spares_others s n could can same crash g other =
+    crash (file.Commit g) (ap₂ (λ (a b : Bool). a || b) (other_number g s.next_generation (λ e. other (e ∙ same))) (none_live g s.next_generation (listed_now s)))
+
+-- what is spared may be gone
+pub or_gone : (could can : FileName → FileContent → Type 0) → SparesCommits could can → (g : ℕ) → OrGone (could (file.Commit g)) (can (file.Commit g))
+or_gone could can spared g e after = inl (spared g e after)
+
+-- ---- results
+
+-- what a commit's answer says of its generation
+pub if_answered : (P : ℕ → Type 0) (n next : ℕ) (newest : Option ℕ) (r : Result ℕ Refusal) → IfOk r (λ g. g ≡ n) → IfOk r (λ g. newest ≡ Some g) → OnOk r (n ≤ next)
+    → ((g : ℕ) → g ≡ n → newest ≡ Some g → n ≤ next → P g) → IfOk r P
+if_answered P n next newest (Ok g) number is more f = f g number is more
+if_answered P n next newest (Err e) number is more f = tt
+
+pub on_err : {X E A B : Type 0} (r : Result X E) → (A → B) → OnErr r A → OnErr r B
+on_err (Ok x) f a = tt
+on_err (Err e) f a = f a
+
+-- ---- calls
+
+module _ {D : Type 0} (left : D → FileName → FileContent → Type 0) where
+  -- a call that does nothing
+  pub nothing_goes : (l : Ledger D) → Goes left Event.Other l l
+  nothing_goes l = record { newest = refl; next = omega arith; asked = λ g no. absurd no; files = λ g other e after. inl after }
+
+  -- a call that leaves the files, the commits and the generations as they are,
+  pub memory_goes : (d : D) (s s' : Shape) (policy policy' : plans.MergePolicy) → newest_generation s'.commits ≡ newest_generation s.commits
+      → s'.next_generation ≡ s.next_generation
+      → Goes left Event.Other (record { device = d; core = s; policy = policy }) (record { device = d; core = s'; policy = policy' })
+  memory_goes d s s' policy policy' commits same =
+      record { newest = commits; next = omega (arith, same); asked = λ g no. absurd no; files = λ g other e after. inl after }
+
+  -- or memory as it is, where a crash leaves no more,
+  pub reading_goes : (d d' : D) (s : Shape) (policy policy' : plans.MergePolicy) → ((q : FileName) → NoMore (left d q) (left d' q))
+      → Goes left Event.Other (record { device = d; core = s; policy = policy }) (record { device = d'; core = s; policy = policy' })
+  reading_goes d d' s policy policy' crash =
+      record { newest = refl; next = omega arith; asked = λ g no. absurd no; files = λ g other e after. inl (crash (file.Commit g) e after) }
+
+  -- or spares the files of commits, and makes of each ledger one with the same commits
+  pub call_goes : (bytes : D → ToldFiles) (call : model.Ledger → model.Ledger → Type 0) → ((l l' : model.Ledger) → call l l' → LetsCommits l l') → (d d' : D)
+      (s s' : Shape) (policy policy' : plans.MergePolicy) → Makes call (bytes d) s (bytes d') s' → IsCarried (bytes d) s
+      → ((g : ℕ) → OrGone (left d (file.Commit g)) (left d' (file.Commit g)))
+      → Goes left Event.Other (record { device = d; core = s; policy = policy }) (record { device = d'; core = s'; policy = policy' })
+  call_goes bytes call lets d d' s s' policy policy' makes carried spared = record {
+    newest = ap newest_generation (commits_on call lets (bytes d) (bytes d') s s' makes carried);
+    next = next_on call lets (bytes d) (bytes d') s s' makes carried;
+    asked = λ g no. absurd no;
+    files = λ g other e after. spared g e after;
+  }
+
+  -- what the asked generation is
+  asked_next : (bytes : D → ToldFiles) (d : D) (s : Shape) → IsCarried (bytes d) s → (g : ℕ) → g ≡ s.next_generation
+      → (g ≡ s.next_generation) × IsPastNewest (newest_generation s.commits) g
+  asked_next bytes d s carried g same =
+      (same, subst (λ n. IsPastNewest (newest_generation s.commits) n) (sym same) (comes_past (bytes d) s carried))
+
+  -- a commit that is refused before anything is done
+  pub refused_first : (bytes : D → ToldFiles) (l : Ledger D) → IsCarried (bytes (device_in l)) (shape_in l)
+      → Goes left (Event.Refused (shape_in l).next_generation) l l
+  refused_first bytes l carried = record {
+    newest = refl;
+    next = omega arith;
+    asked = λ g same. asked_next bytes (device_in l) (shape_in l) carried g same;
+    files = λ g other e after. inl after;
+  }
+
+  -- a commit that is refused
+  pub refused_goes : (bytes : D → ToldFiles) (call : model.Ledger → model.Ledger → Type 0) → ((l l' : model.Ledger) → call l l' → LetsCommits l l') → (d d' : D)
+      (s s' : Shape) (policy policy' : plans.MergePolicy) → Makes call (bytes d) s (bytes d') s' → IsCarried (bytes d) s
+      → ((g : ℕ) → g ≢ s.next_generation → NoMore (left d (file.Commit g)) (left d' (file.Commit g)))
+      → Goes left (Event.Refused s.next_generation) (record { device = d; core = s; policy = policy }) (record { device = d'; core = s'; policy = policy' })
+  refused_goes bytes call lets d d' s s' policy policy' makes carried spared = record {
+    newest = ap newest_generation (commits_on call lets (bytes d) (bytes d') s s' makes carried);
+    next = next_on call lets (bytes d) (bytes d') s s' makes carried;
+    asked = λ g same. asked_next bytes d s carried g same;
+    files = λ g other e after. inl (spared g other e after);
+  }
+
+  -- and one that is answered
+  pub answered_goes : (bytes : D → ToldFiles) (d d' : D) (s s' : Shape) (policy policy' : plans.MergePolicy) (g : ℕ) → IsCarried (bytes d) s
+      → g ≡ s.next_generation → newest_generation s'.commits ≡ Some g → s.next_generation ≤ s'.next_generation
+      → ((h : ℕ) → h ≢ s.next_generation → NoMore (left d (file.Commit h)) (left d' (file.Commit h)))
+      → Goes left (Event.Answered g) (record { device = d; core = s; policy = policy }) (record { device = d'; core = s'; policy = policy' })
+  answered_goes bytes d d' s s' policy policy' g carried number newest next spared = record {
+    newest = newest;
+    next = next;
+    asked = λ h same. asked_next bytes d s carried h (same ∙ number);
+    files = λ h other e after. inl (spared h (λ is. other (is ∙ sym number)) e after);
+  }
+
+-- ---- the last commit that was answered
+
+-- one event more before the others
+tried_later : (event : Event) (events : List Event) (g : ℕ) → IsTried events g → IsTried (event ∷ events) g
+tried_later event events g t = record { before = event ∷ t.before; since = t.since; split = ap (λ es. event ∷ es) t.split; none = t.none }
+
+answered_later : (event : Event) (events : List Event) (g : ℕ) → IsAnswered events g → IsAnswered (event ∷ events) g
+answered_later event events g t = record { before = event ∷ t.before; since = t.since; split = ap (λ es. event ∷ es) t.split; none = t.none }
+
+last_answered : (first mid last : Option ℕ) (event : Event) (events : List Event) → mid ≡ newest_after event first → IsLastAnswered mid events last
+    → IsLastAnswered first (event ∷ events) last
+last_answered first mid last event events is (inl k) = inl (k.0, answered_later event events k.0 k.1, k.2)
+last_answered first mid last Event.Other events is (inr k) =
+    inr (All-from_recursion IsUnanswered (Event.Other ∷ events) (tt, recursion_from_All IsUnanswered events k.0), k.1 ∙ is)
+last_answered first mid last (Event.Refused h) events is (inr k) =
+    inr (All-from_recursion IsUnanswered (Event.Refused h ∷ events) (tt, recursion_from_All IsUnanswered events k.0), k.1 ∙ is)
+last_answered first mid last (Event.Answered h) events is (inr k) =
+    inl (h, record { before = []; since = events; split = refl; none = k.0 }, k.1 ∙ is)
+
+-- ---- what stands past the newest commit
+
+past_more : (o : Option ℕ) (g h : ℕ) → IsPastNewest o g → g < h → IsPastNewest o h
+past_more None g h past less = tt
+past_more (Some n) g h past less = omega (arith, past, less)
+
+same_or : (g h : ℕ) → (g ≡ h) ⊎ (g ≢ h)
+same_or g h = elim (cases_lt g h) [
+  | inl less ↦ inr (λ e. omega (arith, less, e))
+  | inr more ↦ elim (cases_lt h g) [
+    | inl greater ↦ inr (λ e. omega (arith, greater, e))
+    | inr fewer ↦ inl (omega (arith, more, fewer))
+  ]
+]
+
+module _ {D : Type 0} (left : D → FileName → FileContent → Type 0) where
+  pub newest_is_answered : (last : Ledger D) → NewestIsAnswered left last
+  newest_is_answered last first [] h = inr (All-from_recursion IsUnanswered [] tt, ap (λ (l : Ledger D). newest_of l) h)
+  newest_is_answered last first (call ∷ calls) h =
+      last_answered (newest_of first) (newest_of call.after) (newest_of last) call.event (events_of calls) h.0.newest (newest_is_answered last call.after calls h.1)
+
+  -- Past the newest commit a crash leaves only own files of these generations, of which none is past the one that comes next.
+  record IsAhead (T : ℕ → Type 0) (l : Ledger D) : Type 0 where
+    files : (g : ℕ) (e : FileContent) → IsPastNewest (newest_of l) g → left (device_in l) (file.Commit g) e → (e ≡ None) ⊎ T g
+    past : (g : ℕ) → T g → g ≤ (shape_in l).next_generation
+
+  abbrev or_refused : (ℕ → Type 0) → ℕ → ℕ → Type 0
+  or_refused T h g = T g ⊎ (g ≡ h)
+
+  other_ahead : (T : ℕ → Type 0) (l l' : Ledger D) → Goes left Event.Other l l' → IsAhead T l → IsAhead T l'
+  other_ahead T l l' go a = record {
+    files = λ g e past after. elim (go.files g (λ no. no) e after) [
+      | inl before ↦ a.files g e (subst (λ (o : Option ℕ). IsPastNewest o g) go.newest past) before
+      | inr gone ↦ inl gone
+    ];
+    past = λ g t. omega (arith, a.past g t, go.next);
+  }
+
+  refused_ahead : (T : ℕ → Type 0) (h : ℕ) (l l' : Ledger D) → Goes left (Event.Refused h) l l' → IsAhead T l → IsAhead (or_refused T h) l'
+  refused_ahead T h l l' go a = record {
+    files = λ g e past after. elim (same_or g h) [
+      | inl same ↦ inr (inr same)
+      | inr other ↦ elim (go.files g other e after) [
+        | inl before ↦ elim (a.files g e (subst (λ (o : Option ℕ). IsPastNewest o g) go.newest past) before) [ inl none ↦ inl none | inr t ↦ inr (inl t) ]
+        | inr gone ↦ inl gone
+      ]
+    ];
+    past = λ g which. elim which [ inl t ↦ omega (arith, a.past g t, go.next) | inr same ↦ omega (arith, same, (go.asked h refl).0, go.next) ];
+  }
+
+  answered_ahead : (T : ℕ → Type 0) (h : ℕ) (l l' : Ledger D) → Goes left (Event.Answered h) l l' → IsAhead T l → IsAhead (λ g. ⊥) l'
+  answered_ahead T h l l' go a = record {
+    files = λ g e past after.
+        let asked = go.asked h refl in
+        let more : h < g = subst (λ (o : Option ℕ). IsPastNewest o g) go.newest past in
+        elim (go.files g (λ same. omega (arith, same, more)) e after) [
+          | inl before ↦ elim (a.files g e (past_more (newest_of l) h g asked.1 more) before) [
+            | inl none ↦ inl none
+            | inr t ↦ absurd (omega (arith, a.past g t, asked.0, more))
+          ]
+          | inr gone ↦ inl gone
+        ];
+    past = λ g no. absurd no;
+  }
+
+  -- What stands past the newest commit was tried: of these generations, where none was answered since, or since.
+  abbrev IsLeft : (ℕ → Type 0) → List Event → ℕ → FileContent → Type 0
+  IsLeft T events g e = (e ≡ None) ⊎ ((AllByRecursion IsUnanswered events × T g) ⊎ IsTried events g)
+
+  after_other : (T : ℕ → Type 0) (events : List Event) (g : ℕ) (e : FileContent) → IsLeft T events g e → IsLeft T (Event.Other ∷ events) g e
+  after_other T events g e (inl none) = inl none
+  after_other T events g e (inr (inl k)) = inr (inl ((tt, k.0), k.1))
+  after_other T events g e (inr (inr tried)) = inr (inr (tried_later Event.Other events g tried))
+
+  after_refused : (T : ℕ → Type 0) (h : ℕ) (events : List Event) (g : ℕ) (e : FileContent) → IsLeft (or_refused T h) events g e
+      → IsLeft T (Event.Refused h ∷ events) g e
+  after_refused T h events g e (inl none) = inl none
+  after_refused T h events g e (inr (inl (k, inl t))) = inr (inl ((tt, k), t))
+  after_refused T h events g e (inr (inl (k, inr same))) = inr (inr (record {
+    before = [];
+    since = events;
+    split = ap (λ n. Event.Refused n ∷ events) (sym same);
+    none = All-from_recursion IsUnanswered events k;
+  }))
+  after_refused T h events g e (inr (inr tried)) = inr (inr (tried_later (Event.Refused h) events g tried))
+
+  after_answered : (T : ℕ → Type 0) (h : ℕ) (events : List Event) (g : ℕ) (e : FileContent) → IsLeft (λ n. ⊥) events g e
+      → IsLeft T (Event.Answered h ∷ events) g e
+  after_answered T h events g e (inl none) = inl none
+  after_answered T h events g e (inr (inl k)) = absurd k.1
+  after_answered T h events g e (inr (inr tried)) = inr (inr (tried_later (Event.Answered h) events g tried))
+
+  ahead_after : (T : ℕ → Type 0) (first : Ledger D) (calls : List (Call D)) (last : Ledger D) → IsAhead T first → IsHistory left first calls last
+      → (g : ℕ) (e : FileContent) → IsPastNewest (newest_of last) g → left (device_in last) (file.Commit g) e → IsLeft T (events_of calls) g e
+  ahead_after T first [] last a h g e past after =
+      let now : IsAhead T last = subst (λ (l : Ledger D). IsAhead T l) (sym h) a in
+      elim (now.files g e past after) [ inl none ↦ inl none | inr t ↦ inr (inl (tt, t)) ]
+  ahead_after T first (call ∷ calls) last a h g e past after =
+      by call.event h.0 (λ T mid. ahead_after T call.after calls last mid h.1 g e past after)
+    where
+      by : (event : Event) → Goes left event first call.after → ((T : ℕ → Type 0) → IsAhead T call.after → IsLeft T (events_of calls) g e)
+          → IsLeft T (event ∷ events_of calls) g e
+      by Event.Other go rest = after_other T (events_of calls) g e (rest T (other_ahead T first call.after go a))
+      by (Event.Refused n) go rest = after_refused T n (events_of calls) g e (rest (or_refused T n) (refused_ahead T n first call.after go a))
+      by (Event.Answered n) go rest = after_answered T n (events_of calls) g e (rest (λ m. ⊥) (answered_ahead T n first call.after go a))
+
+  -- so, where nothing was ahead at first
+  tried_after : (first : Ledger D) (calls : List (Call D)) (last : Ledger D) → LeavesNoneAhead left first → IsHistory left first calls last
+      → (g : ℕ) (e : FileContent) → IsPastNewest (newest_of last) g → left (device_in last) (file.Commit g) e → (e ≡ None) ⊎ IsTried (events_of calls) g
+  tried_after first calls last none h g e past after =
+      elim (ahead_after (λ n. ⊥) first calls last (record { files = λ g e past after. inl (none g e past after); past = λ g no. absurd no }) h g e past after) [
+        | inl gone ↦ inl gone
+        | inr more ↦ elim more [ inl k ↦ absurd k.1 | inr tried ↦ inr tried ]
+      ]
+
+  -- ---- what is found after a crash
+
+  module _ (bytes : D → ToldFiles) (last : Ledger D) (carried : IsCarried (bytes (device_in last)) (shape_in last))
+      (lasts : AlwaysTells bytes → NewestLasts (bytes (device_in last)) (left (device_in last)) (shape_in last)) where
+    -- the newest commit's own file is there
+    own_stands : AlwaysTells bytes → (n : ℕ) → newest_of last ≡ Some n → (image : FileName → FileContent) → IsCrashed (left (device_in last)) image
+        → (text : Text) × (image (file.Commit n) ≡ Some text)
+    own_stands always n newest image crashed = by (bytes (device_in last) (file.Commit n)) refl
+      where
+        by : (t : Told) → bytes (device_in last) (file.Commit n) ≡ t → (text : Text) × (image (file.Commit n) ≡ Some text)
+        by None e = absurd (always (device_in last) (file.Commit n) e)
+        by (Some content) e =
+            let own = own_told (bytes (device_in last)) (shape_in last) n carried newest content e in
+            (own.0, lasts always (file.Commit n) (own_needed (shape_in last) n newest) content (image (file.Commit n)) e (crashed (file.Commit n)) ∙ own.1)
+
+    pub found_is_tried : FoundIsTried bytes left last
+    found_is_tried first calls always none h image g crashed found = by (newest_of last) refl
+      where
+        past : IsPastNewest (newest_of last) g → IsTried (events_of calls) g
+        past more = elim (tried_after first calls last none h g (image (file.Commit g)) more (crashed (file.Commit g))) [
+          | inl gone ↦ absurd (found.there (ap (λ (c : FileContent). Some c) gone))
+          | inr tried ↦ tried
+        ]
+
+        by : (o : Option ℕ) → newest_of last ≡ o → (newest_of last ≡ Some g) ⊎ IsTried (events_of calls) g
+        by None e = inr (past (subst (λ (o : Option ℕ). IsPastNewest o g) (sym e) tt))
+        by (Some n) e = elim (cases_lt n g) [
+          | inl more ↦ inr (past (subst (λ (o : Option ℕ). IsPastNewest o g) (sym e) more))
+          | inr less ↦
+              let own = own_stands always n e image crashed in
+              let greatest : n ≤ g = found.greatest n own.0 (ap (λ (c : FileContent). Some c) own.1) in
+              let same : n ≡ g = omega (arith, less, greatest) in
+              inl (e ∙ ap (λ m. Some m) same)
+        ]
+
+    pub none_is_lost : NoneIsLost bytes left last
+    none_is_lost always image crashed lost = by (newest_of last) refl
+      where
+        by : (o : Option ℕ) → newest_of last ≡ o → newest_of last ≡ None
+        by None e = e
+        by (Some n) e = let own = own_stands always n e image crashed in absurd (lost n own.0 (ap (λ (c : FileContent). Some c) own.1))
+
+    one_content : (a b : FileContent) → ◌≡◌ {A = Told} (Some a) (Some b) → a ≡ b
+    one_content a b e = cc
+
+    pub newest_is_found : NewestIsFound bytes left last
+    newest_is_found newest always is image mended crashed same gone = (
+      record {
+        there = λ no. gone_not own.0 (sym (same (file.Commit newest) (own_needed (shape_in last) newest is) ∙ own.1)
+            ∙ one_content (mended (file.Commit newest)) None no);
+        greatest = λ g text e. elim (cases_lt newest g) [
+          | inl more ↦ absurd (gone_not text (sym (one_content (mended (file.Commit g)) (Some text) e) ∙ gone g more))
+          | inr less ↦ less
+        ];
+      },
+      λ q needed. by q needed (bytes (device_in last) q) refl,
+    )
+      where
+        own : (text : Text) × (image (file.Commit newest) ≡ Some text)
+        own = own_stands always newest is image crashed
+
+        gone_not : (text : Text) → ◌≡◌ {A = FileContent} (Some text) None → ⊥
+        gone_not text e = cc
+
+        by : (q : FileName) → has_name (name_of q) (newest_needs (shape_in last).commits) ≡ true → (t : Told) → bytes (device_in last) q ≡ t
+            → bytes (device_in last) q ≡ tells mended q
+        by q needed None e = absurd (always (device_in last) q e)
+        by q needed (Some content) e =
+            e ∙ ap (λ (c : FileContent). Some c) (sym (same q needed ∙ lasts always q needed content (image q) e (crashed q)))
+
+-- ---- what was opened
+
+-- a file of a commit that isn't told to be there is told to be absent, where a device tells of it
+absent : (told : ToldFiles) (g : ℕ) → told (file.Commit g) ≢ None → ((text : Text) → told (file.Commit g) ≡ Some (Some text) → ⊥) → told (file.Commit g) ≡ Some None
+absent told g tells none = by (told (file.Commit g)) refl
+  where
+    by : (t : Told) → told (file.Commit g) ≡ t → told (file.Commit g) ≡ Some None
+    by None e = absurd (tells e)
+    by (Some None) e = e
+    by (Some (Some text)) e = absurd (none text e)
+
+-- past the newest commit none is there
+absent_past : (told : ToldFiles) (schema : Schema) (told' : ToldFiles) (mid s : Shape) (g : ℕ) → HasOpened told schema told' mid → Leaves [] mid s
+    → IsPastNewest (newest_generation s.commits) g → (text : Text) → told (file.Commit g) ≡ Some (Some text) → ⊥
+absent_past told schema told' mid s g (inr o) swept past text e = o.none g text e
+absent_past told schema told' mid s g (inl o) swept past text e =
+    let commits : newest_generation s.commits ≡ Some o.restored.commit.generation =
+    ap (λ (x : Shape). newest_generation x.commits) swept.rest ∙ ap (λ (x : Shape). newest_generation x.commits) o.memory in
+    let more : o.restored.commit.generation < g = subst (λ (n : Option ℕ). IsPastNewest n g) commits past in
+    omega (arith, more, o.held.commit.number, o.newest.greatest g text e)
+
+pub opened_ahead : (told : ToldFiles) (schema : Schema) (told' : ToldFiles) (mid s : Shape) (left left' : FileName → FileContent → Type 0)
+    → ((q : FileName) → told q ≢ None) → HasOpened told schema told' mid → Leaves [] mid s
+    → ((q : FileName) → told q ≡ Some None → IsSettled (told q) (left q)) → ((q : FileName) → OrGone (left q) (left' q)) → NoneIsAhead left' s
+opened_ahead told schema told' mid s left left' tells opened swept gone back g e past after =
+    let none = absent told g (tells (file.Commit g)) (absent_past told schema told' mid s g opened swept past) in
+    elim (back (file.Commit g) e after) [ inl before ↦ gone (file.Commit g) none None e none before | inr removed ↦ removed ]

@@ -1,0 +1,142 @@
+-- Calls of a ledger in a row, and which commits a crash after them may leave.
+use Rattle.std.specs.Prelude.{◌≡◌, ◌≢◌, ◌⊎◌, ℕ, ◌<◌, ◌≤◌, true, List, [], ◌∷◌, ◌++◌, map, Option, Some, None, All}
+use Rattle.cat_directory.specs.Devices.{FileContent, NoMore, OrGone}
+use Rattle.cat_directory.specs.Names.{name_of}
+use Rattle.cat_directory.specs.declared.name.FileName.{FileName}
+use Rattle.cat_directory.specs.declared.name.FileName.TheVariants as file
+use Rattle.cat_ledger_model.specs.Users.{has_name}
+use Rattle.cat_ledger_shape.specs.Shapes.{Shape}
+use Rattle.cat_ledger_shape.specs.Steps.{newest_generation}
+use Rattle.cat_ledger_shape.specs.Ties.{ToldFiles}
+use Rattle.cat_ledger_opening.specs.Newest.{HasNoCommit, IsNewestCommit}
+use Rattle.cat_ledger.specs.Lasting.{AlwaysTells, newest_needs}
+use Rattle.cat_ledger.specs.Ledgers.{Ledger, device_in, shape_in}
+
+-- ---- what a call has to do with commits
+
+-- Another call than one for a commit, whatever it answered; a commit of this generation that was answered OK; or one that was refused,
+-- whose files may have been begun.
+pub data Event : Type 0 where
+  Other : Event
+  Answered : (generation : ℕ) → Event
+  Refused : (generation : ℕ) → Event
+
+-- no commit was answered
+abbrev pub IsUnanswered : Event → Type 0
+IsUnanswered (Event.Answered g) = ⊥
+IsUnanswered event = Unit {0}
+
+-- the call may have begun the own file of a commit of this generation
+abbrev pub MayBegin : Event → ℕ → Type 0
+MayBegin Event.Other g = ⊥
+MayBegin (Event.Answered h) g = g ≡ h
+MayBegin (Event.Refused h) g = g ≡ h
+
+-- the generation of the newest commit, if there is one
+abbrev pub newest_of : {D : Type 0} → Ledger D → Option ℕ
+newest_of l = newest_generation (shape_in l).commits
+
+-- the newest commit after the call, by the newest one before
+abbrev pub newest_after : Event → Option ℕ → Option ℕ
+newest_after (Event.Answered g) newest = Some g
+newest_after event newest = newest
+
+-- past this generation; where there is none, any is
+abbrev pub IsPastNewest : Option ℕ → ℕ → Type 0
+IsPastNewest None g = Unit {0}
+IsPastNewest (Some h) g = h < g
+
+-- What a call leaves of commits: the newest one is the one that it was answered, if it was; generations go up, and a commit asks for the
+-- one that comes next, which is past the newest; and a crash may leave of each commit's own file what it could have left before, or
+-- nothing, but of the one that the call may have begun. The first argument says what a crash may leave of a device's files.
+pub record Goes {D : Type 0} (left : D → FileName → FileContent → Type 0) (event : Event) (old new : Ledger D) : Type 0 where
+  pub newest : newest_of new ≡ newest_after event (newest_of old)
+  pub next : (shape_in old).next_generation ≤ (shape_in new).next_generation
+  pub asked : (g : ℕ) → MayBegin event g → (g ≡ (shape_in old).next_generation) × IsPastNewest (newest_of old) g
+  pub files : (g : ℕ) → (MayBegin event g → ⊥) → OrGone (left (device_in old) (file.Commit g)) (left (device_in new) (file.Commit g))
+
+-- A crash may leave of each commit's own file but this one's what it could have left before.
+abbrev pub SparesOtherCommits : ℕ → (FileName → FileContent → Type 0) → (FileName → FileContent → Type 0) → Type 0
+SparesOtherCommits n could can = (g : ℕ) → g ≢ n → NoMore (could (file.Commit g)) (can (file.Commit g))
+
+-- ---- calls in a row
+
+-- a call, and the ledger after it
+pub record Call (D : Type 0) : Type 0 where
+  pub event : Event
+  pub after : Ledger D
+
+-- the calls lead from the one to the other
+abbrev pub IsHistory : {D : Type 0} → (D → FileName → FileContent → Type 0) → Ledger D → List (Call D) → Ledger D → Type 0
+IsHistory {D} left first [] last = ◌≡◌ {A = Ledger D} last first
+IsHistory {D} left first (call ∷ calls) last = Goes left call.event first call.after × IsHistory left call.after calls last
+
+-- what they had to do with commits
+abbrev pub events_of : {D : Type 0} → List (Call D) → List Event
+events_of calls = map (λ call. call.event) calls
+
+-- a commit of the generation was refused, and none has been answered since
+pub record IsTried (events : List Event) (g : ℕ) : Type 0 where
+  pub before : List Event
+  pub since : List Event
+  pub split : events ≡ before ++ Event.Refused g ∷ since
+  pub none : All IsUnanswered since
+
+-- the generation of the last commit that was answered, if one was
+pub record IsAnswered (events : List Event) (g : ℕ) : Type 0 where
+  pub before : List Event
+  pub since : List Event
+  pub split : events ≡ before ++ Event.Answered g ∷ since
+  pub none : All IsUnanswered since
+
+-- it is that of the last commit that was answered, or, where none was, this one
+abbrev pub IsLastAnswered : Option ℕ → List Event → Option ℕ → Type 0
+IsLastAnswered first events newest = ((g : ℕ) × IsAnswered events g × (newest ≡ Some g)) ⊎ (All IsUnanswered events × (newest ≡ first))
+
+-- ---- what a crash leaves
+
+-- a crash leaves no commit's own file past the newest one that memory has
+abbrev pub NoneIsAhead : (FileName → FileContent → Type 0) → Shape → Type 0
+NoneIsAhead left s = (g : ℕ) (e : FileContent) → IsPastNewest (newest_generation s.commits) g → left (file.Commit g) e → e ≡ None
+
+-- so at this moment, as when a ledger was opened
+abbrev pub LeavesNoneAhead : {D : Type 0} → (D → FileName → FileContent → Type 0) → Ledger D → Type 0
+LeavesNoneAhead left l = NoneIsAhead (left (device_in l)) (shape_in l)
+
+-- what a crash leaves: of each file, by itself, something that it may leave
+abbrev pub IsCrashed : (FileName → FileContent → Type 0) → (FileName → FileContent) → Type 0
+IsCrashed left image = (q : FileName) → left q (image q)
+
+-- what a device tells that has these files
+abbrev pub tells : (FileName → FileContent) → ToldFiles
+tells image = λ q. Some (image q)
+
+-- ---- the laws
+
+-- The newest commit of a ledger is the last one that was answered, or else the one that it began with.
+abbrev pub NewestIsAnswered : {D : Type 0} → (D → FileName → FileContent → Type 0) → Ledger D → Type 0
+NewestIsAnswered {D} left last =
+    (first : Ledger D) (calls : List (Call D)) → IsHistory left first calls last → IsLastAnswered (newest_of first) (events_of calls) (newest_of last)
+
+-- Whatever a crash leaves, the newest commit that is found there has the generation of the ledger's newest one, or of one that was
+-- refused since that was answered.
+abbrev pub FoundIsTried : {D : Type 0} → (D → ToldFiles) → (D → FileName → FileContent → Type 0) → Ledger D → Type 0
+FoundIsTried {D} bytes left last =
+    (first : Ledger D) (calls : List (Call D)) → AlwaysTells bytes → LeavesNoneAhead left first → IsHistory left first calls last
+    → (image : FileName → FileContent) (g : ℕ) → IsCrashed (left (device_in last)) image → IsNewestCommit (tells image) g
+    → (newest_of last ≡ Some g) ⊎ IsTried (events_of calls) g
+
+-- Where a crash leaves no commit, the ledger has none.
+abbrev pub NoneIsLost : {D : Type 0} → (D → ToldFiles) → (D → FileName → FileContent → Type 0) → Ledger D → Type 0
+NoneIsLost bytes left last =
+    AlwaysTells bytes → (image : FileName → FileContent) → IsCrashed (left (device_in last)) image → HasNoCommit (tells image) → newest_of last ≡ None
+
+-- Once the commits past the ledger's newest one are taken away from what a crash left, with whatever else it doesn't need, that one is the
+-- newest that is found, and each file that it needs is what the device told of it.
+abbrev pub NewestIsFound : {D : Type 0} → (D → ToldFiles) → (D → FileName → FileContent → Type 0) → Ledger D → Type 0
+NewestIsFound {D} bytes left last =
+    (newest : ℕ) → AlwaysTells bytes → newest_of last ≡ Some newest → (image mended : FileName → FileContent) → IsCrashed (left (device_in last)) image
+    → ((q : FileName) → has_name (name_of q) (newest_needs (shape_in last).commits) ≡ true → mended q ≡ image q)
+    → ((g : ℕ) → newest < g → mended (file.Commit g) ≡ None)
+    → IsNewestCommit (tells mended) newest
+    × ((q : FileName) → has_name (name_of q) (newest_needs (shape_in last).commits) ≡ true → bytes (device_in last) q ≡ tells mended q)
