@@ -1,5 +1,6 @@
 //! The ordinals of labels over all segments of a view.
 ghost use Rattle.std.specs.Prelude.{◌≡◌, ◌<◌, length};
+ghost use Rattle.cat_facets.specs.States.{segments_of};
 
 use cat_facets::ReaderState;
 use cat_schema::Schema;
@@ -11,7 +12,7 @@ use std::test::Fail;
 
 /// Writes the global ordinals of the segment's labels.
 fn write_globals(text: &mut String, state: &ReaderState, segment: usize) -> Result<(), AllocError>
-    requires { segment < length state.now.view.leaves }
+    requires { segment < length state.now.segments }
 {
     for ordinal in 0..state.label_count(segment) {
         write!(text, "{} ", state.global(segment, ordinal))?;
@@ -21,7 +22,7 @@ fn write_globals(text: &mut String, state: &ReaderState, segment: usize) -> Resu
 
 /// The global ordinals of each segment's labels, as `1 2 |0 |`.
 fn globals_text(alloc: Global, view: &View, state: &ReaderState) -> Result<String, AllocError>
-    requires { state.now.view ≡ view.now }
+    requires { state.now.segments ≡ segments_of view.now.leaves }
 {
     let mut text = String::new(alloc);
     for segment in 0..view.leaves().len() {
