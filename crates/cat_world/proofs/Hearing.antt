@@ -16,6 +16,7 @@ use Rattle.cat_ledger_lines.specs.RunLaws.{IsStep}
 use Rattle.cat_world.specs.Lines.{IsCommandOf, StepsLine}
 use Rattle.cat_world.specs.Serving.{StepsIfShort}
 use Rattle.cat_world.specs.Worlds.{Service, device_of, shape_of}
+use Rattle.cat_world.proofs.Wanted.{wants_rightly}
 
 -- the exchange of a line with its reply
 abbrev pub told_to : ℕ → Command → Reply → Outcome
@@ -44,5 +45,5 @@ module _ {D : Type 0} (bytes : D → ToldFiles) (old : Service D) where
       → NamesFiles reply → StepsIfShort bytes old (Some line) (told_to session steps.0 reply) new
   heard_as new line text session said reply same readable spells steps fields names = (
     hears line session said steps.0 readable (subst (λ t. SpellsOrShows t session said) same spells) steps.1,
-    (fields, names, steps.2),
+    (fields, names, steps.2, λ k. wants_rightly (bytes (device_of old)) (shape_of old) session said steps.0 steps.1 (steps.3 k)),
   )

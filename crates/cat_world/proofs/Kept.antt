@@ -18,8 +18,9 @@ use Rattle.cat_ledger.specs.Ledgers.{device_in, policy_in, shape_in}
 use Rattle.cat_ledger.specs.Ledgers.{Ledger}
 use Rattle.cat_holding.specs.Holding.{AreRights}
 use Rattle.cat_holding.proofs.Counted.{rights_kept}
-use Rattle.cat_world.specs.Lines.{Does, takes_memory}
+use Rattle.cat_world.specs.Lines.{Does}
 use Rattle.cat_world.specs.Named.{TellsNeeded}
+use Rattle.cat_world.proofs.Wanted.{SaysMayWant}
 use Rattle.cat_world.specs.Worlds.{IsCarried, IsWorld}
 use Rattle.cat_world.proofs.Names.{names_files, says_files, told_none}
 
@@ -79,13 +80,13 @@ module _ {D : Type 0} (bytes : D → ToldFiles) (session : ℕ) (said : Said) (o
 -- what an answer makes of a world that tells the names that are needed
 pub does_telling : {D : Type 0} (bytes : D → ToldFiles) (can_fail : D → Type 0) (session : ℕ) (said : Said) (old : Ledger D) (reply : Reply) (new : Ledger D) (rights after : List Hold)
     → IsWorld bytes old rights → AnswersSaid bytes session said old reply new → (can_fail (device_in new) → can_fail (device_in old))
-    → policy_in new ≡ policy_in old → TellsNeeded (shape_in old) (Some said) reply → (reply ≡ Err Memory → takes_memory (Some said) ≡ true)
+    → policy_in new ≡ policy_in old → TellsNeeded (shape_in old) (Some said) reply → (reply ≡ Err Memory → SaysMayWant (bytes (device_in old)) (shape_in old) session said)
     → Does bytes can_fail session (Some said) (record { ledger = old; rights = rights }) reply (record { ledger = new; rights = after })
-does_telling bytes can_fail session said old reply new rights after w answered can policy told memory = record {
+does_telling bytes can_fail session said old reply new rights after w answered can policy told wanting = record {
   answers = answered;
   told = told;
   names = names_files (bytes (device_in old)) (shape_in old) w.carried.0 w.carried.1 w.carried.2 (Some said) reply told;
-  memory = memory;
+  wanting = λ k. wanting k answered.0 answered.1;
   can = can;
   schema = same_fields bytes session said old reply new rights w answered;
   policy = policy;
@@ -94,13 +95,13 @@ does_telling bytes can_fail session said old reply new rights after w answered c
 -- what one makes to a line that asks for no names
 pub does : {D : Type 0} (bytes : D → ToldFiles) (can_fail : D → Type 0) (session : ℕ) (said : Said) (old : Ledger D) (reply : Reply) (new : Ledger D) (rights after : List Hold)
     → IsWorld bytes old rights → AnswersSaid bytes session said old reply new → (can_fail (device_in new) → can_fail (device_in old))
-    → policy_in new ≡ policy_in old → says_files said ≡ false → (reply ≡ Err Memory → takes_memory (Some said) ≡ true)
+    → policy_in new ≡ policy_in old → says_files said ≡ false → (reply ≡ Err Memory → SaysMayWant (bytes (device_in old)) (shape_in old) session said)
     → Does bytes can_fail session (Some said) (record { ledger = old; rights = rights }) reply (record { ledger = new; rights = after })
-does bytes can_fail session said old reply new rights after w answered can policy none memory =
+does bytes can_fail session said old reply new rights after w answered can policy none wanting =
     does_telling bytes can_fail session said old reply new rights after w answered can policy (
     told_none (policy_in old) (bytes (device_in old)) (bytes (device_in new)) (shape_in old) (shape_in new) session said answered.0 reply
     w.carried.0 w.carried.1 w.carried.2 answered.1 answered.2 none
-    ) memory
+    ) wanting
 
 -- some right that was taken out leaves one less
 pub popped : {X : Type 0} (new rights : List X) (r : Option X) (x : X) → r ≡ Some x → length new + (if is_some r then 1 else 0) ≡ length rights

@@ -1,11 +1,11 @@
 -- Which names of files are told.
 use Rattle.std.proofs.Common.{◌≡◌, ℕ, List, [], ◌∷◌, map, Bool, true, false, cond, refl, sym, ◌∙◌, ap, subst, inl, inr}
-use Rattle.std.specs.Prelude.{◌≢◌, ◌⊎◌, ◌==◌, ◌<◌, ltb, Option, None, Some, Result, Ok, Err, IfOk, IfErr, find}
+use Rattle.std.specs.Prelude.{◌≢◌, ◌⊎◌, ◌==◌, ◌<◌, ltb, Option, None, Some, Result, Ok, Err, IfOk, find}
 use Rattle.std.specs.List.{flat_map, AllByRecursion}
 use Rattle.std.proofs.lemmas.List.Elements.{All-from_recursion, recursion_from_All}
 use Rattle.std.proofs.lemmas.List.Sorted.{All-permutation}
 use Rattle.cat_base.specs.declared.refusal.Refusal.{Refusal}
-use Rattle.cat_base.specs.declared.refusal.Refusal.TheVariants.{Memory, NotHeld, Spent}
+use Rattle.cat_base.specs.declared.refusal.Refusal.TheVariants.{Spent}
 use Rattle.cat_model.specs.Answer.{Found, Read, answer, query_refusal}
 use Rattle.cat_model.specs.CommitFile.{CommitFile, commit_needs}
 use Rattle.cat_model.specs.Files.{Name, IsFileName, text_of_name}
@@ -41,7 +41,6 @@ use Rattle.cat_ledger_lines.specs.RunLaws.{Answers, AreAlike, IsShown}
 use Rattle.cat_replies.specs.Reply.{answer_of, reply_of}
 use Rattle.cat_replies.specs.declared.answer.Answer as code
 use Rattle.cat_holding.specs.Holding.{said_open}
-use Rattle.cat_world.specs.Lines.{takes_memory}
 use Rattle.cat_world.specs.Named.{TellsNeeded, TellsNone}
 
 -- ---- commands that are told no names
@@ -221,17 +220,6 @@ told_none policy told told' s new session said c reply l files carries is answer
 pub opens_say_none : (token : Option ℕ) → says_files (said_open token) ≡ false
 opens_say_none None = refl
 opens_say_none (Some t) = refl
-
--- it may take memory
-pub opens_take : (token : Option ℕ) → takes_memory (Some (said_open token)) ≡ true
-opens_take None = refl
-opens_take (Some t) = refl
-
--- a CLOSE is never told that memory was wanting
-pub closes_take : (t : ℕ) (result : Result code.Answer Refusal) → IfErr result (λ e. e ≡ NotHeld) → reply_of result ≡ Err Memory
-    → takes_memory (Some (Said.close t)) ≡ true
-closes_take t (Ok a) h e = absurd (let no : ◌≡◌ {A = Reply} (Ok (answer_of a)) (Err Memory) = e in cc)
-closes_take t (Err x) h e = absurd (let no : ◌≡◌ {A = Reply} (Err NotHeld) (Err Memory) = subst (λ y. ◌≡◌ {A = Reply} (Err y) (Err Memory)) h e in cc)
 
 -- what is told to a FILES of a token, and to one of a commit
 pub files_of_token_told : (s : Shape) (t : ℕ) (result : Result code.Answer Refusal)

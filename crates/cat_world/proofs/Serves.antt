@@ -28,7 +28,9 @@ use Rattle.cat_world.proofs.Outlasted.{newest_outlasts}
 use Rattle.cat_world.specs.Opening.{BeginsIn, HasSchemaText, OpensIn, OpensWorld}
 use Rattle.cat_world.specs.Promises.{LeavesFiles, LeavesPromised, WorldLasts}
 use Rattle.cat_world.specs.Serving.{AreLike, Changes, IsLike, IsServedIn, OpensIfShort, ServesIn, SparesRefused, StageLasts, StepsIfShort, TellsAll, device_at}
+use Rattle.cat_world.specs.Wanting.{WantRightly}
 use Rattle.cat_world.specs.Worlds.{Service, device_of, shape_of}
+use Rattle.cat_world.proofs.Wanted.{alike_wants}
 
 -- ---- lines that are too long
 
@@ -80,6 +82,7 @@ module _ {D : Type 0} (bytes : D → ToldFiles) (may_leave : D → FileName → 
     pub is_run : IsRun from (past ++ filter_map exchange fitting)
     pub alike : AreLike outcomes fitting
     pub same : TellsAll bytes → outcomes ≡ fitting
+    pub wanting : WantRightly from past (filter_map exchange fitting)
     pub files : AllByRecursion TellsFiles outcomes
     pub promised : LeavesPromised bytes may_leave left from (past ++ filter_map exchange fitting)
 
@@ -103,6 +106,7 @@ module _ {D : Type 0} (bytes : D → ToldFiles) (may_leave : D → FileName → 
     is_run = subst (IsRun from) (sym (append-nil past)) run;
     alike = tt;
     same = λ tells. refl;
+    wanting = tt;
     files = tt;
     promised = subst (λ w. LeavesPromised bytes may_leave (device_of w) from (past ++ [])) (sym s)
         (subst (LeavesPromised bytes may_leave (device_of old) from) (sym (append-nil past)) (promise old from past (subst (WorldLasts bytes may_leave) s lasts) stands));
@@ -118,6 +122,7 @@ module _ {D : Type 0} (bytes : D → ToldFiles) (may_leave : D → FileName → 
         is_run = rest.is_run;
         alike = (tt, rest.alike);
         same = λ tells. ap (λ os. Outcome.unreadable ∷ os) (rest.same tells);
+        wanting = rest.wanting;
         files = (tt, rest.files);
         promised = rest.promised;
       }
@@ -133,6 +138,7 @@ module _ {D : Type 0} (bytes : D → ToldFiles) (may_leave : D → FileName → 
         same = λ tells.
             ap₂ (λ (r : Reply) (os : List Outcome). Outcome.replied (record { line = e.line; reply = r }) ∷ os)
             (next.1.same (λ q. tells (device_of old) q)) (rest.same tells);
+        wanting = (λ k. here.1.3 (alike_wants e.reply next.0 next.1.alike k) from past (sym fields) run stands, rest.wanting);
         files = (here.1.1, rest.files);
         promised =
             subst (LeavesPromised bytes may_leave (device_of new) from) (append_assoc past (fit ∷ []) (filter_map exchange rest.fitting)) rest.promised;
@@ -154,6 +160,7 @@ module _ {D : Type 0} (bytes : D → ToldFiles) (may_leave : D → FileName → 
         is_run = goes.is_run;
         alike = goes.alike;
         same = goes.same;
+        wanting = goes.wanting;
         files = goes.files;
         promised = goes.promised;
         whole = a.whole ∙ ap (λ n. opened_text n ++ flat_map outcome_text a.outcomes) (counted (bytes (device_of a.opened)) (shape_of a.opened) opening.0 opening.3);

@@ -2,6 +2,7 @@ pub mod Worlds
 pub mod Named
 pub mod Outlasting
 pub mod Promises
+pub mod Wanting
 pub mod Lines
 pub mod Opening
 pub mod Serving

@@ -1,5 +1,5 @@
 -- What a line makes of a world.
-use Rattle.std.specs.Prelude.{◌≡◌, ℕ, Bool, true, false, Option, None, Some, Err}
+use Rattle.std.specs.Prelude.{◌≡◌, ℕ, Option, None, Some, Err}
 use Rattle.cat_base.specs.declared.refusal.Refusal.TheVariants.{Memory}
 use Rattle.cat_model.specs.Heard.{IsCommand}
 use Rattle.cat_model.specs.Item.{Schema}
@@ -11,6 +11,7 @@ use Rattle.cat_ledger_shape.specs.Ties.{ToldFiles}
 use Rattle.cat_ledger_lines.specs.LineLaws.{line_of}
 use Rattle.cat_ledger_lines.specs.RunLaws.{Answers, IsStep}
 use Rattle.cat_world.specs.Named.{TellsNeeded}
+use Rattle.cat_world.specs.Wanting.{MayWant}
 use Rattle.cat_world.specs.Worlds.{Service, device_of, policy_of, shape_of}
 
 -- a line without a form, or that says this, is this command under the schema
@@ -25,26 +26,22 @@ AnswersLine bytes session said old reply new =
     (c : Command) × IsCommandOf (shape_of old).schema said c
     × Answers (policy_of old) (bytes (device_of old)) (shape_of old) (line_of session c) reply (bytes (device_of new)) (shape_of new)
 
--- Whatever run led here, a reply that is shown so fits it, and what is left stands for the longer run.
+-- Whatever run led here, a reply that is shown so fits it, and what is left stands for the longer run. Want of memory is told only where
+-- that may be.
 abbrev pub StepsLine : {D : Type 0} → (D → ToldFiles) → ℕ → Option Said → Service D → Reply → Service D → Type 0
 StepsLine bytes session said old reply new =
     (c : Command) × IsCommandOf (shape_of old).schema said c
     × IsStep (bytes (device_of old)) (shape_of old) (line_of session c) reply (bytes (device_of new)) (shape_of new)
-
--- an answer to the line may take memory: to one without a form it takes none, nor to a CLOSE
-abbrev pub takes_memory : Option Said → Bool
-takes_memory None = false
-takes_memory (Some (Said.close t)) = false
-takes_memory _ = true
+    × (reply ≡ Err Memory → MayWant (bytes (device_of old)) (shape_of old) session said c)
 
 -- What an answered line makes of a world: the reply answers it, and tells the names that are needed, which are those
--- of files; it says that memory was wanting only where some may be taken; a device that can't fail goes on so; and neither the fields change nor when it merges.
+-- of files; it says that memory was wanting only where that may be told; a device that can't fail goes on so; and neither the fields change nor when it merges.
 pub record Does {D : Type 0} (bytes : D → ToldFiles) (can_fail : D → Type 0) (session : ℕ) (said : Option Said)
     (old : Service D) (reply : Reply) (new : Service D) : Type 0 where
   pub answers : AnswersLine bytes session said old reply new
   pub told : TellsNeeded (shape_of old) said reply
   pub names : NamesFiles reply
-  pub memory : reply ≡ Err Memory → takes_memory said ≡ true
+  pub wanting : reply ≡ Err Memory → MayWant (bytes (device_of old)) (shape_of old) session said answers.0
   pub can : can_fail (device_of new) → can_fail (device_of old)
   pub schema : (shape_of new).schema ≡ (shape_of old).schema
   pub policy : policy_of new ≡ policy_of old

@@ -3,7 +3,7 @@ use Rattle.std.specs.Prelude.{◌≡◌, ◌≢◌, ◌⊎◌, ℕ, Option, None
 use Rattle.std.specs.List.{flat_map, AllByRecursion}
 use Rattle.std.specs.Fmt.{decimal}
 use Rattle.cat_base.specs.declared.refusal.Refusal.{Refusal}
-use Rattle.cat_base.specs.declared.refusal.Refusal.TheVariants.{Line as NoForm}
+use Rattle.cat_base.specs.declared.refusal.Refusal.TheVariants.{Line as NoForm, Memory}
 use Rattle.cat_model.specs.Heard.{Hears}
 use Rattle.cat_model.specs.Lines.{line_text}
 use Rattle.cat_model.specs.Run.{IsRun}
@@ -20,6 +20,7 @@ use Rattle.cat_serving.specs.declared.machine.Stage.TheVariants.{Waiting, Refuse
 use Rattle.cat_serving.specs.declared.machine.Unopened.{Unopened}
 use Rattle.cat_world.specs.Opening.{BeginsIn, OpensWorld}
 use Rattle.cat_world.specs.Promises.{LeavesFiles, LeavesPromised, WorldLasts}
+use Rattle.cat_world.specs.Wanting.{WantRightly, WantsRightly}
 use Rattle.cat_world.specs.Worlds.{Service, device_of, shape_of}
 
 -- ---- as a machine
@@ -29,12 +30,14 @@ abbrev pub OpensIfShort : {D : Type 0} → (D → ToldFiles) → D → Option Te
 OpensIfShort bytes device None r = r ≡ Err (record { refusal = NoForm; seed = device })
 OpensIfShort bytes device (Some line) r = OpensWorld bytes device line r
 
--- An unreadable line changes nothing. The reply to another is a step of every run that led here, and tells no names but those of files.
+-- An unreadable line changes nothing. The reply to another is a step of every run that led here, tells no names but those of files, and
+-- want of memory only where that may be.
 abbrev pub Changes : {D : Type 0} → (D → ToldFiles) → Service D → Outcome → Service D → Type 0
 Changes bytes old Outcome.unreadable new = new ≡ old
 Changes bytes old (Outcome.replied e) new =
     ((shape_of new).schema ≡ (shape_of old).schema) × NamesFiles e.reply
     × IsStep (bytes (device_of old)) (shape_of old) e.line e.reply (bytes (device_of new)) (shape_of new)
+    × (e.reply ≡ Err Memory → WantsRightly (bytes (device_of old)) (shape_of old) e.line.session e.line.command)
 
 -- a line, which may be too long, is heard and changes the world
 abbrev pub StepsIfShort : {D : Type 0} → (D → ToldFiles) → Service D → Option Text → Outcome → Service D → Type 0
@@ -62,7 +65,7 @@ abbrev pub TellsAll : {D : Type 0} → (D → ToldFiles) → Type 0
 TellsAll {D = D} bytes = (device : D) (q : FileName) → bytes device q ≢ None
 
 -- The text answers the schema line and the lines behind it: with a run from where the directory is opened, in which the names of files
--- alone are told as names, and the replies to unreadable lines between. On devices that don't tell of their files, the text of a stored
+-- alone are told as names, and the replies to unreadable lines between. Want of memory hides none of the refusals that the run tells. On devices that don't tell of their files, the text of a stored
 -- item may be another one of its length than the one that fits; on those that do, all that is told fits. In the directory that is left,
 -- the files stand of each token that is recorded at the end of the run, also by a session's hold, and of each commit that is kept, also
 -- by a snapshot; and a crash leaves the files of the newest commit.
@@ -76,6 +79,7 @@ pub record IsServedIn {D : Type 0} (bytes : D → ToldFiles) (may_leave : D → 
   pub is_run : IsRun from (filter_map exchange fitting)
   pub alike : AreLike tolds fitting
   pub same : TellsAll bytes → tolds ≡ fitting
+  pub wanting : WantRightly from [] (filter_map exchange fitting)
   pub files : AllByRecursion TellsFiles tolds
   pub promised : LeavesPromised bytes may_leave left from (filter_map exchange fitting)
   pub whole : text ≡ line_text (codes "OK" ∷ decimal from.start.token ∷ []) ++ flat_map outcome_text tolds

@@ -1,12 +1,11 @@
 //! Lines, answered one after another.
-ghost use Rattle.std.specs.Prelude.{◌≡◌, true, Err};
-ghost use Rattle.cat_base.specs.declared.refusal.Refusal.TheVariants.{Memory};
+ghost use Rattle.std.specs.Prelude.{◌≡◌};
 ghost use Rattle.cat_model.specs.Run.{Run};
 ghost use Rattle.cat_model.specs.Served.{NamesFiles};
 ghost use Rattle.cat_model.specs.Table.{Opened};
 ghost use Rattle.cat_lines.specs.Line.{said_of};
 ghost use Rattle.cat_replies.specs.Reply.{reply_of};
-ghost use Rattle.cat_world.specs.Lines.{Does, StepsLine, takes_memory};
+ghost use Rattle.cat_world.specs.Lines.{Does, StepsLine};
 ghost use Rattle.cat_world.specs.Named.{TellsNeeded};
 ghost use Rattle.cat_world.specs.Outlasting.{OutlastsCrash};
 ghost use Rattle.cat_world.specs.Promises.{KeepsPromises};
@@ -54,7 +53,8 @@ impl<D: Directory + Shelf> World<D> {
     /// Answers a line. Whatever run led here, the reply fits it, and what is left stands for the longer run; where the
     /// directory doesn't tell of its files, the text of a stored item alone may be another of that length. The files stand of
     /// each token that is recorded or held and of each commit that is kept, and a crash leaves those of the newest commit.
-    /// A CLOSE and a line without a form are never told [`Refusal::Memory`].
+    /// [`Refusal::Memory`] is told only where an OK fits, so that it hides no other refusal; and never of a CLOSE or of a line
+    /// without a form. Of a PUT that is known as far as its length and its UTF-8, and of a DELW as far as its query.
     pub fn step(&mut self, line: &Line) -> Reply
         ensures session { result.session ≡ line.now.session }
         ensures run { StepsLine D.bytes line.now.session (said_of line.now.command) self.old (reply_of result.answer) self.new }
@@ -62,7 +62,6 @@ impl<D: Directory + Shelf> World<D> {
         ensures outlasts { OutlastsCrash D.bytes D.may_leave self.new }
         ensures told { TellsNeeded (shape_of self.old) (said_of line.now.command) (reply_of result.answer) }
         ensures names { NamesFiles (reply_of result.answer) }
-        ensures memory { reply_of result.answer ≡ Err Memory → takes_memory (said_of line.now.command) ≡ true }
         ensures schema { (shape_of self.new).schema ≡ (shape_of self.old).schema }
         ensures policy { policy_of self.new ≡ policy_of self.old }
         ensures can { D.can_fail (device_of self.new) → D.can_fail (device_of self.old) }

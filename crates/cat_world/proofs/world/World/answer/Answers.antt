@@ -20,7 +20,7 @@ returns-in-NoForm g c = rw c.in-NoForm.is (record {
     );
     told = refused NoForm;
     names = tt;
-    memory = λ h. absurd (let no : ◌≡◌ {A = Reply} (Err NoForm) (Err Memory) = h in cc);
+    wanting = λ h. absurd (let no : ◌≡◌ {A = Reply} (Err NoForm) (Err Memory) = h in cc);
     can = λ x. x;
     schema = refl;
     policy = refl;

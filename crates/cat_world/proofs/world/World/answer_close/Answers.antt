@@ -1,9 +1,9 @@
 use Rattle.std.proofs.Common.{refl, subst}
 use Rattle.cat_model.specs.Lines.{Said}
 use Rattle.cat_replies.specs.Reply.{reply_of}
-use Rattle.cat_ledger.specs.Ledgers.{device_in}
+use Rattle.cat_ledger.specs.Ledgers.{device_in, shape_in}
 use Rattle.cat_world.proofs.Kept.{carried_on, does}
-use Rattle.cat_world.proofs.Names.{closes_take}
+use Rattle.cat_world.proofs.Wanted.{stopped, close_wants}
 use Rattle.cat_world.proofs.world.World.answer_close.Goals as goal
 
 pub invariant_of-self : goal.invariant_of-self
@@ -18,5 +18,6 @@ pub returns : goal.returns
 returns g c = rw (← c.self.view_is) (record {
   does =
       does g.D.Holder.bytes g.D.Holder.can_fail c.args.session (Said.close c.args.token) c.self.inside.ledger (reply_of c.close.result) c.close.new.ledger
-      c.self.inside.rights c.close.new.rights c.self.invariant c.close.ensures.answers (subst g.D.Holder.can_fail c.close.ensures.same) c.close.ensures.policy refl (closes_take c.args.token c.close.result c.close.ensures.refusal);
+      c.self.inside.rights c.close.new.rights c.self.invariant c.close.ensures.answers (subst g.D.Holder.can_fail c.close.ensures.same) c.close.ensures.policy refl 
+      (λ k. close_wants (g.D.Holder.bytes (device_in c.self.inside.ledger)) (shape_in c.self.inside.ledger) c.args.session c.close.result (stopped c.close.result k) c.args.token c.close.ensures.refusal);
 })

@@ -2,6 +2,8 @@ use Rattle.std.proofs.Common.{refl}
 use Rattle.cat_model.specs.Lines.{Said}
 use Rattle.cat_replies.specs.Reply.{reply_of}
 use Rattle.cat_world.proofs.Kept.{does, world_stays}
+use Rattle.cat_ledger.specs.Ledgers.{device_in, shape_in}
+use Rattle.cat_world.proofs.Wanted.{stopped, delete_wants}
 use Rattle.cat_world.proofs.world.World.answer_delete.Goals as goal
 
 pub invariant_of-self : goal.invariant_of-self
@@ -13,5 +15,6 @@ pub returns : goal.returns
 returns g c = rw (← c.self.view_is) (record {
   does = λ session.
       does g.D.Holder.bytes g.D.Holder.can_fail session (Said.delete c.args.id.now) c.self.inside.ledger (reply_of c.delete.result) c.delete.new.ledger
-      c.self.inside.rights c.self.inside.rights c.self.invariant (c.delete.ensures.answers session) c.delete.ensures.can c.delete.ensures.policy refl (λ _. refl);
+      c.self.inside.rights c.self.inside.rights c.self.invariant (c.delete.ensures.answers session) c.delete.ensures.can c.delete.ensures.policy refl 
+      (λ k. delete_wants (g.D.Holder.bytes (device_in c.self.inside.ledger)) (shape_in c.self.inside.ledger) session c.delete.result (stopped c.delete.result k) c.args.id.now c.delete.ensures.due c.delete.ensures.full);
 })

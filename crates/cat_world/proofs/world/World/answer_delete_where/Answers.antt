@@ -2,6 +2,8 @@ use Rattle.std.proofs.Common.{refl}
 use Rattle.cat_model.specs.Lines.{Said}
 use Rattle.cat_replies.specs.Reply.{reply_of}
 use Rattle.cat_world.proofs.Kept.{does, world_stays}
+use Rattle.cat_ledger.specs.Ledgers.{device_in, shape_in}
+use Rattle.cat_world.proofs.Wanted.{stopped, query_delete_wants}
 use Rattle.cat_world.proofs.world.World.answer_delete_where.Goals as goal
 
 pub invariant_of-self : goal.invariant_of-self
@@ -13,5 +15,6 @@ pub returns : goal.returns
 returns g c = rw (← c.self.view_is) (record {
   does = λ session.
       does g.D.Holder.bytes g.D.Holder.can_fail session (Said.delete_where c.args.text.now) c.self.inside.ledger (reply_of c.delete_where.result) c.delete_where.new.ledger
-      c.self.inside.rights c.self.inside.rights c.self.invariant (c.delete_where.ensures.answers session) c.delete_where.ensures.can c.delete_where.ensures.policy refl (λ _. refl);
+      c.self.inside.rights c.self.inside.rights c.self.invariant (c.delete_where.ensures.answers session) c.delete_where.ensures.can c.delete_where.ensures.policy refl 
+      (λ k. query_delete_wants (g.D.Holder.bytes (device_in c.self.inside.ledger)) (shape_in c.self.inside.ledger) session c.delete_where.result (stopped c.delete_where.result k) c.args.text.now c.delete_where.ensures.due);
 })

@@ -6,6 +6,7 @@ use Rattle.cat_ledger.specs.Ledgers.{device_in, policy_in, shape_in}
 use Rattle.cat_holding.proofs.Answered.{option_map_twice}
 use Rattle.cat_world.proofs.Kept.{does}
 use Rattle.cat_world.proofs.ReadAnswers.{facets_answers}
+use Rattle.cat_world.proofs.Wanted.{stopped, facets_wants}
 use Rattle.cat_world.proofs.world.World.answer_facets.Goals as goal
 
 pub returns : goal.returns
@@ -20,5 +21,10 @@ returns g c = rw (← c.self.view_is) (record {
       c.self.invariant.counted facets.dimension.now facets.count facets.query.now (reply_of c.count_facets.result) o
       (sym (option_map_twice (λ h. h.now) (λ h. h.view) c.get-right.result) ∙ ap (option_map (λ h. h.view)) c.get-right.ensures)
       (rw c.schema.ensures at c.count_facets.ensures.told))
-      (λ x. x) refl refl (λ _. refl);
+      (λ x. x) refl refl
+      (λ k.
+      facets_wants (g.D.Holder.bytes (device_in ledger)) (shape_in ledger) c.args.session c.count_facets.result (stopped c.count_facets.result k)
+      c.get-right.result (λ h. h.now) facets.token c.self.inside.rights c.self.invariant.counted facets.dimension.now facets.count facets.query.now
+      c.get-right.ensures (rw c.schema.ensures at c.count_facets.ensures.fault) (rw c.schema.ensures at c.count_facets.ensures.unheld)
+      (rw c.schema.ensures at c.count_facets.ensures.due));
 })

@@ -8,6 +8,7 @@ use Rattle.cat_ledger.specs.Ledgers.{device_in, policy_in, shape_in}
 use Rattle.cat_holding.proofs.Answered.{option_map_twice}
 use Rattle.cat_world.proofs.Kept.{does}
 use Rattle.cat_world.proofs.ReadAnswers.{find_answers}
+use Rattle.cat_world.proofs.Wanted.{stopped, find_wants}
 use Rattle.cat_world.proofs.world.World.answer_find.Goals as goal
 
 pub returns : goal.returns
@@ -22,5 +23,10 @@ returns g c = rw (← c.self.view_is) (record {
       c.self.invariant.counted find.count (sort_of c.sort_asked.result) (sort_said find.sort) find.mark find.query.now (reply_of c.find.result) o
       c.sort_asked.ensures (sym (option_map_twice (λ h. h.now) (λ h. h.view) c.get-right.result) ∙ ap (option_map (λ h. h.view)) c.get-right.ensures)
       (rw c.schema.ensures at c.find.ensures.told))
-      (λ x. x) refl refl (λ _. refl);
+      (λ x. x) refl refl
+      (λ k.
+      find_wants (g.D.Holder.bytes (device_in ledger)) (shape_in ledger) c.args.session c.find.result (stopped c.find.result k) c.get-right.result (λ h. h.now)
+      find.token c.self.inside.rights c.self.invariant.counted find.count (sort_of c.sort_asked.result) (sort_said find.sort) find.mark find.query.now
+      c.sort_asked.ensures c.get-right.ensures (rw c.schema.ensures at c.find.ensures.fault) (rw c.schema.ensures at c.find.ensures.unheld)
+      (rw c.schema.ensures at c.find.ensures.due));
 })

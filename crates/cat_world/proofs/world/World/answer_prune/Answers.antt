@@ -2,6 +2,8 @@ use Rattle.std.proofs.Common.{refl}
 use Rattle.cat_model.specs.Lines.{Said}
 use Rattle.cat_replies.specs.Reply.{reply_of}
 use Rattle.cat_world.proofs.Kept.{does, world_stays}
+use Rattle.cat_ledger.specs.Ledgers.{device_in, shape_in}
+use Rattle.cat_world.proofs.Wanted.{stopped, prune_wants}
 use Rattle.cat_world.proofs.world.World.answer_prune.Goals as goal
 
 pub invariant_of-self : goal.invariant_of-self
@@ -13,5 +15,6 @@ pub returns : goal.returns
 returns g c = rw (← c.self.view_is) (record {
   does = λ session.
       does g.D.Holder.bytes g.D.Holder.can_fail session (Said.prune c.args.count) c.self.inside.ledger (reply_of c.prune.result) c.prune.new.ledger
-      c.self.inside.rights c.self.inside.rights c.self.invariant (c.prune.ensures.answers session) c.prune.ensures.can c.prune.ensures.policy refl (λ _. refl);
+      c.self.inside.rights c.self.inside.rights c.self.invariant (c.prune.ensures.answers session) c.prune.ensures.can c.prune.ensures.policy refl 
+      (λ k. prune_wants (g.D.Holder.bytes (device_in c.self.inside.ledger)) (shape_in c.self.inside.ledger) session c.prune.result (stopped c.prune.result k) c.args.count);
 })
