@@ -8,6 +8,8 @@ use Rattle.cat_model.specs.Lines.{Said}
 use Rattle.cat_model.specs.Run.{Command, Reply}
 use Rattle.cat_schema.specs.Reading.{json}
 use Rattle.cat_search.specs.Holds.{Hold}
+use Rattle.cat_facets.specs.States.{ReaderState}
+use Rattle.cat_filters.specs.Filters.{Filters}
 use Rattle.cat_ledger_shape.specs.Ties.{ToldFiles}
 use Rattle.cat_ledger_lines.specs.LineLaws.{line_of}
 use Rattle.cat_ledger_lines.specs.RunLaws.{Answers}
@@ -16,12 +18,16 @@ use Rattle.cat_ledger_lines.proofs.KeptCalls.{held_views_stay, holds_stay, schem
 use Rattle.cat_ledger.specs.Answering.{AnswersSaid}
 use Rattle.cat_ledger.specs.Ledgers.{device_in, policy_in, shape_in}
 use Rattle.cat_ledger.specs.Ledgers.{Ledger}
+use Rattle.cat_ledger_sets.specs.Kept.{HasKept}
+use Rattle.cat_ledger_sets.specs.Sets.{HasSets}
+use Rattle.cat_ledger_sets.proofs.Knowing.{kept_stay}
+use Rattle.cat_ledger_sets.proofs.Right.{sets_stay}
 use Rattle.cat_holding.specs.Holding.{AreRights}
 use Rattle.cat_holding.proofs.Counted.{rights_kept}
 use Rattle.cat_world.specs.Lines.{Does}
 use Rattle.cat_world.specs.Named.{TellsNeeded}
 use Rattle.cat_world.proofs.Wanted.{SaysMayWant}
-use Rattle.cat_world.specs.Worlds.{IsCarried, IsWorld}
+use Rattle.cat_world.specs.Worlds.{IsCarried, IsWorld, segments_kept}
 use Rattle.cat_world.proofs.Names.{names_files, says_files, told_none}
 
 -- no right begins or ends by what is said
@@ -52,20 +58,32 @@ still schema (Said.release_snapshot g) c is k = ap changes_holds is
 still schema (Said.prune n) c is k = ap changes_holds is
 still schema (Said.chore what) c is k = ap changes_holds is
 
-module _ {D : Type 0} (bytes : D → ToldFiles) (session : ℕ) (said : Said) (old : Ledger D) (reply : Reply) (new : Ledger D) (rights : List Hold) where
+module _ {D : Type 0} {f : Filters} {ks : List ReaderState} (bytes : D → ToldFiles) (session : ℕ) (said : Said) (old : Ledger D) (reply : Reply) (new : Ledger D) (rights : List Hold) where
   -- what is carried after a line
-  pub carried_on : IsWorld bytes old rights → AnswersSaid bytes session said old reply new → IsCarried (bytes (device_in new)) (shape_in new)
+  pub carried_on : IsWorld bytes old rights f ks → AnswersSaid bytes session said old reply new → IsCarried (bytes (device_in new)) (shape_in new)
   carried_on w answered =
       let next = answered.2 w.carried.0 w.carried.1 w.carried.2 in (next.0, next.1, next.5)
 
   -- the fields stay
-  pub same_fields : IsWorld bytes old rights → AnswersSaid bytes session said old reply new → (shape_in new).schema ≡ (shape_in old).schema
+  pub same_fields : IsWorld bytes old rights f ks → AnswersSaid bytes session said old reply new → (shape_in new).schema ≡ (shape_in old).schema
   same_fields w answered =
       schema_stays (policy_in old) (bytes (device_in old)) (bytes (device_in new)) (shape_in old) (shape_in new) (line_of session answered.0) reply
       w.carried.0 w.carried.1 w.carried.2 answered.2
 
+  -- the sets stay right that are kept beside it
+  pub sets_on : IsWorld bytes old rights f ks → AnswersSaid bytes session said old reply new → HasSets f (shape_in new)
+  sets_on w answered =
+      sets_stay (policy_in old) (bytes (device_in old)) (bytes (device_in new)) (shape_in old) (shape_in new) (line_of session answered.0) reply
+      w.carried.0 w.carried.1 f w.carried.2 answered.2 w.sets
+
+  -- and so do the states
+  pub states_on : IsWorld bytes old rights f ks → AnswersSaid bytes session said old reply new → HasKept (segments_kept ks) (shape_in new)
+  states_on w answered =
+      kept_stay (policy_in old) (bytes (device_in old)) (bytes (device_in new)) (shape_in old) (shape_in new) (line_of session answered.0) reply
+      w.carried.0 w.carried.1 (segments_kept ks) w.carried.2 answered.2 w.kept
+
   -- a world stays one
-  pub world_stays : keeps_rights said ≡ true → IsWorld bytes old rights → AnswersSaid bytes session said old reply new → IsWorld bytes new rights
+  pub world_stays : keeps_rights said ≡ true → IsWorld bytes old rights f ks → AnswersSaid bytes session said old reply new → IsWorld bytes new rights f ks
   world_stays keeps w answered = record {
     carried = carried_on w answered;
     counted =
@@ -75,11 +93,13 @@ module _ {D : Type 0} (bytes : D → ToldFiles) (session : ℕ) (said : Said) (o
         (held_views_stay (policy_in old) (bytes (device_in old)) (bytes (device_in new)) (shape_in old) (shape_in new) (line_of session answered.0)
         reply w.carried.0 w.carried.1 w.carried.2 answered.2)
         w.counted;
+    sets = sets_on w answered;
+    kept = states_on w answered;
   }
 
 -- what an answer makes of a world that tells the names that are needed
-pub does_telling : {D : Type 0} (bytes : D → ToldFiles) (can_fail : D → Type 0) (session : ℕ) (said : Said) (old : Ledger D) (reply : Reply) (new : Ledger D) (rights after : List Hold)
-    → IsWorld bytes old rights → AnswersSaid bytes session said old reply new → (can_fail (device_in new) → can_fail (device_in old))
+pub does_telling : {D : Type 0} {f : Filters} {ks : List ReaderState} (bytes : D → ToldFiles) (can_fail : D → Type 0) (session : ℕ) (said : Said) (old : Ledger D) (reply : Reply) (new : Ledger D) (rights after : List Hold)
+    → IsWorld bytes old rights f ks → AnswersSaid bytes session said old reply new → (can_fail (device_in new) → can_fail (device_in old))
     → policy_in new ≡ policy_in old → TellsNeeded (shape_in old) (Some said) reply → (reply ≡ Err Memory → SaysMayWant (bytes (device_in old)) (shape_in old) session said)
     → Does bytes can_fail session (Some said) (record { ledger = old; rights = rights }) reply (record { ledger = new; rights = after })
 does_telling bytes can_fail session said old reply new rights after w answered can policy told wanting = record {
@@ -93,8 +113,8 @@ does_telling bytes can_fail session said old reply new rights after w answered c
 }
 
 -- what one makes to a line that asks for no names
-pub does : {D : Type 0} (bytes : D → ToldFiles) (can_fail : D → Type 0) (session : ℕ) (said : Said) (old : Ledger D) (reply : Reply) (new : Ledger D) (rights after : List Hold)
-    → IsWorld bytes old rights → AnswersSaid bytes session said old reply new → (can_fail (device_in new) → can_fail (device_in old))
+pub does : {D : Type 0} {f : Filters} {ks : List ReaderState} (bytes : D → ToldFiles) (can_fail : D → Type 0) (session : ℕ) (said : Said) (old : Ledger D) (reply : Reply) (new : Ledger D) (rights after : List Hold)
+    → IsWorld bytes old rights f ks → AnswersSaid bytes session said old reply new → (can_fail (device_in new) → can_fail (device_in old))
     → policy_in new ≡ policy_in old → says_files said ≡ false → (reply ≡ Err Memory → SaysMayWant (bytes (device_in old)) (shape_in old) session said)
     → Does bytes can_fail session (Some said) (record { ledger = old; rights = rights }) reply (record { ledger = new; rights = after })
 does bytes can_fail session said old reply new rights after w answered can policy none wanting =

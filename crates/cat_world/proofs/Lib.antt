@@ -2,6 +2,7 @@ pub mod Names
 pub mod Outlasted
 pub mod OkDue
 pub mod Wanted
+pub mod Beside
 pub mod Kept
 pub mod ReadAnswers
 pub mod Begun

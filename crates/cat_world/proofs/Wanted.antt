@@ -35,7 +35,7 @@ use Rattle.cat_replies.specs.Reply.{answer_of, reply_of}
 use Rattle.cat_replies.specs.declared.answer.Answer as code
 use Rattle.cat_keeping.specs.Chores.{MayRefuse, MayRefuseForce, chore_of}
 use Rattle.cat_keeping.specs.declared.chores.Chore as code_chore
-use Rattle.cat_keeping.specs.declared.chores.Chore.TheVariants.{Force, Merge, Stat, Sweep, Warm}
+use Rattle.cat_keeping.specs.declared.chores.Chore.TheVariants.{Force, Merge, Stat, Sweep}
 use Rattle.cat_ledger_model.specs.Plans.{MergePolicy}
 use Rattle.cat_holding.specs.Holding.{AreRights, said_open}
 use Rattle.cat_finding.specs.Reads.{GivesDue}
@@ -241,7 +241,6 @@ module _ (told : ToldFiles) (s : Shape) (session : ℕ) (result : Result code.An
   maintained_wants policy Force foreign refusal c is =
       let may : MayRefuseForce s Memory = of_memory (MayRefuseForce s) (refusal (zero foreign)) in
       (chore_due Chore.force foreign c is, may.due, may.left (inl refl))
-  maintained_wants policy Warm foreign refusal c is = chore_due Chore.warm foreign c is
   maintained_wants policy Sweep foreign refusal c is = chore_due Chore.sweep foreign c is
   maintained_wants policy Stat foreign refusal c is = chore_due Chore.stat foreign c is
 

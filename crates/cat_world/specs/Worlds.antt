@@ -1,5 +1,8 @@
--- What a world of sessions means: a ledger, and the rights that its sessions have.
-use Rattle.std.specs.Prelude.{ℕ, List}
+-- What a world of sessions means: a ledger, the rights that its sessions have, and what is kept beside it.
+use Rattle.std.specs.Prelude.{ℕ, List, map}
+use Rattle.cat_model.specs.View.{Segment}
+use Rattle.cat_facets.specs.States.{ReaderState}
+use Rattle.cat_filters.specs.Filters.{Filters}
 use Rattle.cat_search.specs.Holds.{Hold}
 use Rattle.cat_ledger_model.specs.Ledger as model
 use Rattle.cat_ledger_model.specs.Plans.{MergePolicy}
@@ -8,6 +11,8 @@ use Rattle.cat_ledger_shape.specs.Shapes.{Shape}
 use Rattle.cat_ledger_shape.specs.Ties.{ToldFiles, Carries}
 use Rattle.cat_ledger.specs.Ledgers.{device_in, policy_in, shape_in}
 use Rattle.cat_ledger.specs.Ledgers.{Ledger}
+use Rattle.cat_ledger_sets.specs.Kept.{HasKept}
+use Rattle.cat_ledger_sets.specs.Sets.{HasSets}
 use Rattle.cat_holding.specs.Holding.{AreRights}
 
 -- a ledger, and the rights to its views
@@ -31,8 +36,15 @@ policy_of w = policy_in w.ledger
 abbrev pub IsCarried : ToldFiles → Shape → Type 0
 IsCarried told s = (l : model.Ledger) × (files : FileBytes) × Carries told s l files
 
--- A world: a ledger of the model is carried, and the rights are those that it counts. The first argument says what a device tells of
--- its files.
-pub record IsWorld {D : Type 0} (bytes : D → ToldFiles) (ledger : Ledger D) (rights : List Hold) : Type 0 where
+-- the segments of the states that are kept
+abbrev pub segments_kept : List ReaderState → List (List Segment)
+segments_kept states = map (λ k. k.segments) states
+
+-- A world: a ledger of the model is carried, the rights are those that it counts, and the sets and the states that are kept beside it
+-- are right. The first argument says what a device tells of its files.
+pub record IsWorld {D : Type 0} (bytes : D → ToldFiles) (ledger : Ledger D) (rights : List Hold) (filters : Filters)
+    (states : List ReaderState) : Type 0 where
   pub carried : IsCarried (bytes (device_in ledger)) (shape_in ledger)
   pub counted : AreRights (shape_in ledger) rights
+  pub sets : HasSets filters (shape_in ledger)
+  pub kept : HasKept (segments_kept states) (shape_in ledger)

@@ -44,7 +44,7 @@ impl<D: Directory + Shelf> World<D> {
             Command::Prune(count) => self.answer_prune(count),
             Command::Merge => self.answer_chore(session, Chore::Merge),
             Command::Force => self.answer_chore(session, Chore::Force),
-            Command::Warm => self.answer_chore(session, Chore::Warm),
+            Command::Warm => self.answer_warm(session),
             Command::Sweep => self.answer_chore(session, Chore::Sweep),
             Command::Stat => self.answer_chore(session, Chore::Stat),
         }

@@ -1,6 +1,7 @@
 //! Lines that record views and let them go, and those of maintenance.
 ghost use Rattle.std.specs.Prelude.{ℕ, Some};
 ghost use Rattle.cat_model.specs.Lines.{Said};
+ghost use Rattle.cat_model.specs.Run as run;
 ghost use Rattle.cat_keeping.specs.Chores.{chore_of};
 ghost use Rattle.cat_replies.specs.Reply.{reply_of};
 ghost use Rattle.cat_world.specs.Lines.{Does};
@@ -9,6 +10,7 @@ use crate::world::World;
 use cat_base::{Refusal, SessionNo};
 use cat_directory::{Directory, Shelf};
 use cat_keeping::Chore;
+use cat_ledger_sets::segments_are_one;
 use cat_replies::Answer;
 
 impl<D: Directory + Shelf> World<D> {
@@ -26,7 +28,7 @@ impl<D: Directory + Shelf> World<D> {
         cat_keeping::prune(&mut self.ledger, count)
     }
 
-    /// Answers a MERGE, FORCE, WARM, SWEEP or STAT.
+    /// Answers a MERGE, FORCE, SWEEP or STAT.
     pub(crate) fn answer_chore(
         &mut self,
         session: SessionNo,
@@ -34,6 +36,15 @@ impl<D: Directory + Shelf> World<D> {
     ) -> Result<Answer, Refusal>
         ensures does { Does D.bytes D.can_fail session (Some (Said.chore (chore_of chore))) self.old (reply_of result) self.new }
     {
-        cat_keeping::maintain(self.alloc, &mut self.ledger, session, chore)
+        cat_keeping::maintain(self.alloc, &mut self.ledger, &self.filters, session, chore)
+    }
+
+    /// Answers a WARM.
+    pub(crate) fn answer_warm(&mut self, session: SessionNo) -> Result<Answer, Refusal>
+        ensures does { Does D.bytes D.can_fail session (Some (Said.chore run.Chore.warm)) self.old (reply_of result) self.new }
+    {
+        // The segments of now agree with those of the recorded views, whose sets are kept too.
+        segments_are_one();
+        cat_keeping::warm(&self.ledger, &mut self.filters, session)
     }
 }

@@ -1,7 +1,7 @@
 //! Worlds that a schema line opens in a directory.
 //!
 //! Lucene's constructor of `IndexWriter` under an `IndexWriterConfig`.
-ghost use Rattle.std.specs.Prelude.{◌≡◌};
+ghost use Rattle.std.specs.Prelude.{◌≡◌, [], IfOk, None};
 ghost use Rattle.cat_model.specs.Served.{SpellsSchema};
 ghost use Rattle.cat_model.specs.Text.{Text};
 ghost use Rattle.cat_world.specs.Opening.{OpensWorld};
@@ -9,13 +9,15 @@ ghost use Rattle.cat_world.specs.Opening.{OpensWorld};
 use crate::world::World;
 use cat_base::{MAX_LINE_BYTES, Refusal};
 use cat_directory::{Directory, Shelf};
+use cat_facets::ReaderStates;
+use cat_filters::Filters;
 use cat_ledger::{Ledger, NotOpened};
 use cat_lines::SchemaLine;
 use cat_rights::Rights;
 use cat_schema::Schema;
 use cat_serving::Unopened;
 use cat_upkeep::MergePolicy;
-use std::alloc::Global;
+use std::alloc::{AllocError, Global};
 
 /// The policy of the numbers that a schema line gives.
 fn policy_of(found: &SchemaLine) -> MergePolicy
@@ -26,6 +28,15 @@ fn policy_of(found: &SchemaLine) -> MergePolicy
         Some(policy) => policy,
         None => unreachable!(),
     }
+}
+
+/// What is kept beside a ledger that opens: no set of rows, and no state of facets. Their memory is taken here.
+fn nothing_kept(alloc: Global) -> Result<(Filters, ReaderStates), AllocError>
+    ensures { IfOk result (λ kept. (kept.0 ≡ record { cached = []; noted = []; warming = None }) × (kept.1 ≡ [])) }
+{
+    let filters = Filters::new(alloc)?;
+    let states = ReaderStates::new(alloc)?;
+    Ok((filters, states))
 }
 
 impl<D: Directory + Shelf> World<D> {
@@ -60,11 +71,19 @@ impl<D: Directory + Shelf> World<D> {
                 seed: device,
             }),
         };
+        let Ok((filters, states)) = nothing_kept(alloc) else {
+            return Err(Unopened {
+                refusal: Refusal::Memory,
+                seed: device,
+            });
+        };
         match Ledger::open(alloc, device, schema, policy_of(&found)) {
             Ok(ledger) => Ok(World {
                 alloc,
                 ledger,
                 rights: Rights::new(alloc),
+                filters,
+                states,
             }),
             Err(NotOpened { refusal, device }) => Err(Unopened {
                 refusal,

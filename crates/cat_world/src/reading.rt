@@ -9,6 +9,7 @@ ghost use Rattle.cat_world.specs.Lines.{Does};
 use crate::world::World;
 use cat_base::{Refusal, SessionNo};
 use cat_directory::{Directory, Shelf};
+use cat_ledger_sets::segments_are_one;
 use cat_lines::{Facets, Find};
 use cat_replies::Answer;
 use cat_search::{Ask, Sort};
@@ -26,10 +27,14 @@ fn sort_asked(sort: cat_lines::Sort<'_>) -> Sort<'_>
 
 impl<D: Directory + Shelf> World<D> {
     /// Answers a FIND.
-    pub(crate) fn answer_find(&self, session: SessionNo, find: Find<'_>) -> Result<Answer, Refusal>
+    pub(crate) fn answer_find(
+        &mut self,
+        session: SessionNo,
+        find: Find<'_>,
+    ) -> Result<Answer, Refusal>
         ensures does { Does D.bytes D.can_fail session
             (Some (Said.find find.entry.token find.entry.count (sort_said find.entry.sort) find.entry.mark find.entry.query.now))
-            self.now (reply_of result) self.now }
+            self.old (reply_of result) self.new }
     {
         let right = self.rights.get(session, find.token);
         let ask = Ask {
@@ -37,24 +42,35 @@ impl<D: Directory + Shelf> World<D> {
             after: find.mark,
             count: find.count,
         };
-        cat_finding::find(self.alloc, self.ledger.schema(), right, ask, find.query)
+        cat_finding::find(
+            self.alloc,
+            self.ledger.schema(),
+            right,
+            &mut self.filters,
+            ask,
+            find.query,
+        )
     }
 
     /// Answers a FACETS.
     pub(crate) fn answer_facets(
-        &self,
+        &mut self,
         session: SessionNo,
         facets: Facets<'_>,
     ) -> Result<Answer, Refusal>
         ensures does { Does D.bytes D.can_fail session
             (Some (Said.facets facets.entry.token facets.entry.dimension.now facets.entry.count facets.entry.query.now))
-            self.now (reply_of result) self.now }
+            self.old (reply_of result) self.new }
     {
         let right = self.rights.get(session, facets.token);
+        // The segments of what is recorded agree on their numbers, which the kept states are found by.
+        segments_are_one();
         cat_finding::count_facets(
             self.alloc,
             self.ledger.schema(),
             right,
+            &mut self.filters,
+            &mut self.states,
             facets.dimension,
             facets.count,
             facets.query,

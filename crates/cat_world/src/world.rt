@@ -1,10 +1,12 @@
-//! The world: a ledger, and the rights that its sessions have.
+//! The world: a ledger, the rights that its sessions have, and what is kept beside it so that it needn't be made anew.
 ghost use Rattle.std.specs.Prelude.{◌≡◌};
 ghost use Rattle.cat_world.specs.Promises.{WorldLasts};
 ghost use Rattle.cat_world.specs.Worlds.{device_of, shape_of};
 
 use cat_base::WriteNo;
 use cat_directory::{Directory, Shelf};
+use cat_facets::ReaderStates;
+use cat_filters::Filters;
 use cat_ledger::Ledger;
 use cat_rights::Rights;
 use cat_schema::Schema;
@@ -16,7 +18,9 @@ use std::marker::Model;
 ///
 /// It isn't dropped by leaving a scope: [`end`](World::end) gives its directory back.
 ///
-/// Contracts see it as its ledger, and the list of the rights.
+/// Contracts see it as its ledger, and the list of the rights. Beside these it keeps sets of rows and states of facets, which
+/// make answers cheaper and change none. (Lucene: the `LRUQueryCache` of an `IndexSearcher`, and the
+/// `SortedSetDocValuesReaderState`s of a program.)
 ///
 /// ```text
 /// let mut world = World::open(alloc, directory, r#"SCHEMA 10 1000 {"price":"number"}"#)?;
@@ -28,6 +32,10 @@ pub struct World<D: Directory + Shelf> {
     pub(crate) alloc: Global,
     pub(crate) ledger: Ledger<D>,
     pub(crate) rights: Rights,
+    // The sets that queries find at hand, and the queries that are noted for more.
+    pub(crate) filters: Filters,
+    // The states that counts find at hand.
+    pub(crate) states: ReaderStates,
 }
 
 impl<D: Directory + Shelf> Model for World<D> {
@@ -37,7 +45,7 @@ impl<D: Directory + Shelf> Model for World<D> {
 
     ghost view = { λ w. record { ledger = w.ledger; rights = w.rights } };
 
-    ghost invariant = { λ w. IsWorld D.bytes w.ledger w.rights };
+    ghost invariant = { λ w. IsWorld D.bytes w.ledger w.rights w.filters w.states };
 }
 
 impl<D: Directory + Shelf> World<D> {
@@ -75,6 +83,8 @@ impl<D: Directory + Shelf> World<D> {
             alloc: _,
             ledger,
             rights,
+            filters: _,
+            states: _,
         } = self;
         end_rights(rights);
         ledger.into_directory()

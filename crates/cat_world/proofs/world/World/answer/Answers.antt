@@ -82,7 +82,7 @@ pub returns-in-Force : goal.returns-in-Force
 returns-in-Force g c = rw c.in-Force.is (record { does = c.answer_chore-in-Force.ensures.does })
 
 pub returns-in-Warm : goal.returns-in-Warm
-returns-in-Warm g c = rw c.in-Warm.is (record { does = c.answer_chore-in-Warm.ensures.does })
+returns-in-Warm g c = rw c.in-Warm.is (record { does = c.answer_warm.ensures.does })
 
 pub returns-in-Sweep : goal.returns-in-Sweep
 returns-in-Sweep g c = rw c.in-Sweep.is (record { does = c.answer_chore-in-Sweep.ensures.does })

@@ -2,7 +2,7 @@ use Rattle.std.proofs.Common.{refl, subst}
 use Rattle.cat_model.specs.Lines.{Said}
 use Rattle.cat_replies.specs.Reply.{reply_of}
 use Rattle.cat_ledger.specs.Ledgers.{device_in, shape_in}
-use Rattle.cat_world.proofs.Kept.{carried_on, does}
+use Rattle.cat_world.proofs.Kept.{carried_on, does, sets_on, states_on}
 use Rattle.cat_world.proofs.Wanted.{stopped, close_wants}
 use Rattle.cat_world.proofs.world.World.answer_close.Goals as goal
 
@@ -12,12 +12,18 @@ invariant_of-self g c = record {
       carried_on g.D.Holder.bytes c.args.session (Said.close c.args.token) c.self.inside.ledger (reply_of c.close.result) c.close.new.ledger c.self.inside.rights
       c.self.invariant c.close.ensures.answers;
   counted = c.close.ensures.rights;
+  sets =
+      sets_on g.D.Holder.bytes c.args.session (Said.close c.args.token) c.self.inside.ledger (reply_of c.close.result) c.close.new.ledger c.self.inside.rights
+      c.self.invariant c.close.ensures.answers;
+  kept =
+      states_on g.D.Holder.bytes c.args.session (Said.close c.args.token) c.self.inside.ledger (reply_of c.close.result) c.close.new.ledger c.self.inside.rights
+      c.self.invariant c.close.ensures.answers;
 }
 
 pub returns : goal.returns
 returns g c = rw (← c.self.view_is) (record {
   does =
       does g.D.Holder.bytes g.D.Holder.can_fail c.args.session (Said.close c.args.token) c.self.inside.ledger (reply_of c.close.result) c.close.new.ledger
-      c.self.inside.rights c.close.new.rights c.self.invariant c.close.ensures.answers (subst g.D.Holder.can_fail c.close.ensures.same) c.close.ensures.policy refl 
+      c.self.inside.rights c.close.new.rights c.self.invariant c.close.ensures.answers (subst g.D.Holder.can_fail c.close.ensures.same) c.close.ensures.policy refl
       (λ k. close_wants (g.D.Holder.bytes (device_in c.self.inside.ledger)) (shape_in c.self.inside.ledger) c.args.session c.close.result (stopped c.close.result k) c.args.token c.close.ensures.refusal);
 })

@@ -15,6 +15,6 @@ pub returns : goal.returns
 returns g c = rw (← c.self.view_is) (record {
   does = λ session.
       does g.D.Holder.bytes g.D.Holder.can_fail session (Said.commit c.args.text.now) c.self.inside.ledger (reply_of c.commit.result) c.commit.new.ledger
-      c.self.inside.rights c.self.inside.rights c.self.invariant (c.commit.ensures.answers session) c.commit.ensures.can c.commit.ensures.policy refl 
+      c.self.inside.rights c.self.inside.rights c.self.invariant (c.commit.ensures.answers session) c.commit.ensures.can c.commit.ensures.policy refl
       (λ k. commit_wants (g.D.Holder.bytes (device_in c.self.inside.ledger)) (shape_in c.self.inside.ledger) session c.commit.result (stopped c.commit.result k) _ c.args.text.now c.commit.ensures.wrong c.commit.ensures.none);
 })

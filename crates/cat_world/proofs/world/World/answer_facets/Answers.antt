@@ -4,10 +4,39 @@ use Rattle.cat_model.specs.Lines.{Said}
 use Rattle.cat_replies.specs.Reply.{reply_of}
 use Rattle.cat_ledger.specs.Ledgers.{device_in, policy_in, shape_in}
 use Rattle.cat_holding.proofs.Answered.{option_map_twice}
+use Rattle.cat_ledger_sets.proofs.Right.{remembered_are_right}
+use Rattle.cat_world.proofs.Beside.{held_sets, held_states, states_after}
 use Rattle.cat_world.proofs.Kept.{does}
 use Rattle.cat_world.proofs.ReadAnswers.{facets_answers}
 use Rattle.cat_world.proofs.Wanted.{stopped, facets_wants}
 use Rattle.cat_world.proofs.world.World.answer_facets.Goals as goal
+
+pub count_facets-requires-clause-cached : goal.count_facets-requires-clause-cached
+count_facets-requires-clause-cached g c =
+    held_sets (shape_in c.self.inside.ledger) c.args.session c.args.facets.token c.self.inside.rights c.self.invariant.counted c.self.inside.filters
+    c.self.invariant.sets c.get-right.result (λ h. h.now) c.get-right.ensures
+
+pub count_facets-requires-clause-kept : goal.count_facets-requires-clause-kept
+count_facets-requires-clause-kept g c =
+    held_states (shape_in c.self.inside.ledger) c.args.session c.args.facets.token c.self.inside.rights c.self.invariant.counted c.self.inside.states
+    c.self.invariant.kept c.get-right.result (λ h. h.now) c.get-right.ensures
+
+pub invariant_of-self : goal.invariant_of-self
+invariant_of-self g c =
+    let ledger = c.self.inside.ledger in
+    let w = c.self.invariant in
+    let agree =
+    c.segments_are_one.ensures (g.D.Holder.bytes (device_in ledger)) (shape_in ledger) w.carried.0 w.carried.1 w.carried.2 in record {
+      carried = w.carried;
+      counted = w.counted;
+      sets =
+          remembered_are_right (shape_in ledger) c.self.inside.filters c.count_facets.new.filters c.count_facets.ensures.known c.count_facets.ensures.below
+          w.sets;
+      kept =
+          states_after (shape_in ledger) c.args.session c.args.facets.token c.self.inside.rights w.counted agree c.self.inside.states
+          c.count_facets.new.states c.get-right.result (λ h. h.now) c.get-right.ensures c.count_facets.ensures.kept c.count_facets.ensures.kept_below
+          w.kept;
+    }
 
 pub returns : goal.returns
 returns g c = rw (← c.self.view_is) (record {

@@ -6,10 +6,27 @@ use Rattle.cat_search.specs.Sorts.{sort_of}
 use Rattle.cat_replies.specs.Reply.{reply_of}
 use Rattle.cat_ledger.specs.Ledgers.{device_in, policy_in, shape_in}
 use Rattle.cat_holding.proofs.Answered.{option_map_twice}
+use Rattle.cat_ledger_sets.proofs.Right.{remembered_are_right}
+use Rattle.cat_world.proofs.Beside.{held_sets}
 use Rattle.cat_world.proofs.Kept.{does}
 use Rattle.cat_world.proofs.ReadAnswers.{find_answers}
 use Rattle.cat_world.proofs.Wanted.{stopped, find_wants}
 use Rattle.cat_world.proofs.world.World.answer_find.Goals as goal
+
+pub find-requires : goal.find-requires
+find-requires g c =
+    held_sets (shape_in c.self.inside.ledger) c.args.session c.args.find.token c.self.inside.rights c.self.invariant.counted c.self.inside.filters
+    c.self.invariant.sets c.get-right.result (λ h. h.now) c.get-right.ensures
+
+pub invariant_of-self : goal.invariant_of-self
+invariant_of-self g c = record {
+  carried = c.self.invariant.carried;
+  counted = c.self.invariant.counted;
+  sets =
+      remembered_are_right (shape_in c.self.inside.ledger) c.self.inside.filters c.find.new.filters c.find.ensures.known c.find.ensures.below
+      c.self.invariant.sets;
+  kept = c.self.invariant.kept;
+}
 
 pub returns : goal.returns
 returns g c = rw (← c.self.view_is) (record {

@@ -15,6 +15,6 @@ pub returns : goal.returns
 returns g c = rw (← c.self.view_is) (record {
   does =
       does g.D.Holder.bytes g.D.Holder.can_fail c.args.session (Said.get c.args.token c.args.id.now) c.self.inside.ledger (reply_of c.get.result) c.get.new.ledger
-      c.self.inside.rights c.self.inside.rights c.self.invariant c.get.ensures.answers c.get.ensures.can c.get.ensures.policy refl 
+      c.self.inside.rights c.self.inside.rights c.self.invariant c.get.ensures.answers c.get.ensures.can c.get.ensures.policy refl
       (λ k. get_wants (g.D.Holder.bytes (device_in c.self.inside.ledger)) (shape_in c.self.inside.ledger) c.args.session c.get.result (stopped c.get.result k) c.args.token c.args.id.now c.get.ensures.wrong c.get.ensures.due);
 })

@@ -15,6 +15,6 @@ pub returns : goal.returns
 returns g c = rw (← c.self.view_is) (record {
   does = λ session.
       does g.D.Holder.bytes g.D.Holder.can_fail session Said.refresh c.self.inside.ledger (reply_of c.refresh.result) c.refresh.new.ledger
-      c.self.inside.rights c.self.inside.rights c.self.invariant (c.refresh.ensures.answers session) c.refresh.ensures.can c.refresh.ensures.policy refl 
+      c.self.inside.rights c.self.inside.rights c.self.invariant (c.refresh.ensures.answers session) c.refresh.ensures.can c.refresh.ensures.policy refl
       (λ k. refresh_wants (g.D.Holder.bytes (device_in c.self.inside.ledger)) (shape_in c.self.inside.ledger) session c.refresh.result (stopped c.refresh.result k) c.refresh.ensures.full c.refresh.ensures.due);
 })

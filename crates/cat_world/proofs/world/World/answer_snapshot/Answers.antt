@@ -15,6 +15,6 @@ pub returns : goal.returns
 returns g c = rw (← c.self.view_is) (record {
   does = λ session.
       does g.D.Holder.bytes g.D.Holder.can_fail session Said.snapshot c.self.inside.ledger (reply_of c.snapshot.result) c.snapshot.new.ledger
-      c.self.inside.rights c.self.inside.rights c.self.invariant (c.snapshot.ensures.answers session) c.snapshot.ensures.can c.snapshot.ensures.policy refl 
+      c.self.inside.rights c.self.inside.rights c.self.invariant (c.snapshot.ensures.answers session) c.snapshot.ensures.can c.snapshot.ensures.policy refl
       (λ k. snap_wants (g.D.Holder.bytes (device_in c.self.inside.ledger)) (shape_in c.self.inside.ledger) session c.snapshot.result (stopped c.snapshot.result k) c.snapshot.ensures.due);
 })

@@ -1,9 +1,11 @@
-use Rattle.std.proofs.Common.{◌∙◌, arith, inr, refl, sym}
+use Rattle.std.proofs.Common.{◌∙◌, arith, inr, refl, subst, sym}
 use Rattle.std.specs.Prelude.{Ok, Err}
 use Rattle.cat_model.specs.Lines.{IsReadable}
 use Rattle.cat_model.specs.Served.{Begins}
 use Rattle.cat_ledger.specs.Ledgers.{device_in, shape_in}
-use Rattle.cat_world.proofs.Begun.{begins_so, begun, refused_schema, unopened}
+use Rattle.cat_holding.specs.Holding.{AreRights}
+use Rattle.cat_world.proofs.Begun.{begins_so, begun, carried_there, none_counted, refused_schema, unopened}
+use Rattle.cat_world.proofs.Beside.{no_sets, no_states}
 use Rattle.cat_world.proofs.world.World.open.Goals as goal
 
 pub returns-then-line-gt-MAX_LINE_BYTES : goal.returns-then-line-gt-MAX_LINE_BYTES
@@ -48,3 +50,16 @@ returns-in-Err-open g c =
           (unopened told c.in-Ok.schema e ensures.refusal ensures.damaged ensures.foreign)),
       ensures.same,
     )
+
+pub invariant_of-result : goal.invariant_of-result
+invariant_of-result g c =
+    let ledger = c.in-Ok-open.ledger in
+    let opened = c.in-Ok-open.ensures.ok in
+    let stands = c.in-Ok-open.ensures.stands in record {
+      carried = carried_there (g.D.Holder.bytes (device_in ledger)) (shape_in ledger) stands.0 stands.2;
+      counted =
+          subst (AreRights (shape_in ledger)) (sym c.new.ensures)
+          (none_counted (g.D.Holder.bytes c.args.device) (g.D.Holder.bytes (device_in ledger)) c.in-Ok.schema (shape_in ledger) opened);
+      sets = no_sets (shape_in ledger) c.in-Ok-nothing_kept.filters c.in-Ok-nothing_kept.ensures.0;
+      kept = no_states (shape_in ledger) c.in-Ok-nothing_kept.states c.in-Ok-nothing_kept.ensures.1;
+    }

@@ -1,0 +1,32 @@
+use Rattle.std.proofs.Common.{refl}
+use Rattle.cat_model.specs.Lines.{Said}
+use Rattle.cat_model.specs.Run.{Chore}
+use Rattle.cat_filters.specs.Filters.{segments_of}
+use Rattle.cat_replies.specs.Reply.{reply_of}
+use Rattle.cat_ledger.specs.Ledgers.{device_in, shape_in}
+use Rattle.cat_ledger_sets.proofs.Right.{current_are_among, warmed_are_right}
+use Rattle.cat_world.proofs.Kept.{does}
+use Rattle.cat_world.proofs.Wanted.{stopped, warm_wants}
+use Rattle.cat_world.proofs.world.World.answer_warm.Goals as goal
+
+pub invariant_of-self : goal.invariant_of-self
+invariant_of-self g c =
+    let ledger = c.self.inside.ledger in
+    let s = shape_in ledger in
+    let w = c.self.invariant in
+    let agree = c.segments_are_one.ensures (g.D.Holder.bytes (device_in ledger)) s w.carried.0 w.carried.1 w.carried.2 in record {
+      carried = w.carried;
+      counted = w.counted;
+      sets =
+          warmed_are_right s (segments_of s.leaves) c.self.inside.filters c.warm.new.filters agree (current_are_among s) c.warm.ensures.known
+          c.warm.ensures.below w.sets;
+      kept = w.kept;
+    }
+
+pub returns : goal.returns
+returns g c = rw (← c.self.view_is) (record {
+  does =
+      does g.D.Holder.bytes g.D.Holder.can_fail c.args.session (Said.chore Chore.warm) c.self.inside.ledger (reply_of c.warm.result) c.self.inside.ledger
+      c.self.inside.rights c.self.inside.rights c.self.invariant c.warm.ensures.answers (λ x. x) refl refl
+      (λ k. warm_wants (g.D.Holder.bytes (device_in c.self.inside.ledger)) (shape_in c.self.inside.ledger) c.args.session c.warm.result (stopped c.warm.result k) c.warm.ensures.foreign);
+})
