@@ -1,9 +1,11 @@
 //! Counts over views of worked rows, cut into segments in more ways than one, are those that a person worked out.
 ghost use Rattle.std.specs.Prelude.{◌<◌, IfOk, All};
 ghost use Rattle.cat_model.specs.Item.{IsItem};
+ghost use Rattle.cat_facets.specs.Kept.{KnowsIn};
+ghost use Rattle.cat_facets.specs.States.{segments_of};
 
 use cat_base::Refusal;
-use cat_facets::{Facets, ReaderState};
+use cat_facets::{Facets, ReaderState, ReaderStates};
 use cat_query::Query;
 use cat_schema::Schema;
 use cat_search::{Prepared, View};
@@ -16,11 +18,14 @@ use std::test::Fail;
 const FIELDS: &[u8] = br#"{"brand":"keyword","color":"facet","price":"number","title":"text"}"#;
 
 /// A FACETS: how many counts at most, the dimension, the query, and what is answered.
-type CountText<'a> = (u64, &'a str, &'a str, &'a str);
+pub(crate) type CountText<'a> = (u64, &'a str, &'a str, &'a str);
 
 /// What is answered: the hits that have a label, the labels that are met, and the first counts, as `3 2: 2 blue, 2 red`; or
 /// a refusal, as `NO 25`.
-fn answer_text(alloc: Global, answer: &Result<Facets, Refusal>) -> Result<String, AllocError> {
+pub(crate) fn answer_text(
+    alloc: Global,
+    answer: &Result<Facets, Refusal>,
+) -> Result<String, AllocError> {
     let facets = match answer {
         Ok(facets) => facets,
         Err(refusal) => return format!(in alloc; "NO {}", refusal.number()),
@@ -51,6 +56,50 @@ fn counts_by_sets(alloc: Global, view: &View, count: &CountText<'_>) -> Result<F
     state.counts(alloc, &Prepared::with(view, query, sets)?, n)
 }
 
+/// The same counts, by a state that is kept, or that is kept for the next counts over the view.
+pub(crate) fn counts_kept(
+    alloc: Global,
+    states: &mut ReaderStates,
+    view: &View,
+    count: &CountText<'_>,
+) -> Result<Facets, Refusal>
+    requires { All (KnowsIn states.old) (segments_of view.now.leaves) }
+    ensures { All (KnowsIn states.new) (segments_of view.now.leaves) }
+{
+    let (n, dimension, text, _) = *count;
+    let query = Query::parse(view.schema(), alloc, text)?;
+    // This tells that the segments of a view have different numbers, so that a state of them leaves each of them known.
+    prove!(view.leaves().len() >= 0);
+    states.counts(alloc, &Prepared::of(view, query)?, dimension, n)
+}
+
+/// Fails unless each FACETS is answered so over the view, of segments that end at these places, by a state that is made for
+/// it and by one that is kept.
+fn expect_counts_over(
+    rt: &impl Abort,
+    alloc: Global,
+    view: &View,
+    ends: &[usize],
+    counts: &[CountText<'_>],
+) -> Result<(), Fail> {
+    let mut states = ReaderStates::new(alloc)?;
+    for count in counts {
+        let found = answer_text(alloc, &counts_of(alloc, view, count))?;
+        assert_eq!(rt;
+            found.as_str(),
+            count.3,
+            "{count:?} in segments to {ends:?}"
+        );
+        let kept = answer_text(alloc, &counts_kept(alloc, &mut states, view, count))?;
+        assert_eq!(rt;
+            kept.as_str(),
+            count.3,
+            "{count:?} by a kept state in segments to {ends:?}"
+        );
+    }
+    Ok(())
+}
+
 /// Fails unless each FACETS is answered so over a view of the rows, in segments that end at these places.
 fn expect_counts(
     rt: &impl Abort,
@@ -65,15 +114,7 @@ fn expect_counts(
         panic!(rt; "no rows of a view");
     }
     let view = view_of(alloc, &schema, &puts, ends)?;
-    for count in counts {
-        let found = answer_text(alloc, &counts_of(alloc, &view, count))?;
-        assert_eq!(rt;
-            found.as_str(),
-            count.3,
-            "{count:?} in segments to {ends:?}"
-        );
-    }
-    Ok(())
+    expect_counts_over(rt, alloc, &view, ends, counts)
 }
 
 /// Four items, of which one has two labels, two have one, told twice in one of them, and one has none.

@@ -1,7 +1,10 @@
-//! Tests of counts over labels: what is counted in views that are made of texts, and the global ordinals of their labels.
+//! Tests of counts over labels: what is counted in views that are made of texts, by states that are made for one count and
+//! by kept ones, and the global ordinals of their labels.
 #![tactic(auto)]
 
 #[cfg(test)]
 mod counts;
+#[cfg(test)]
+mod kept;
 #[cfg(test)]
 mod ordinals;
