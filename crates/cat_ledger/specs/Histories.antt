@@ -1,5 +1,7 @@
 -- Calls of a ledger in a row, and which commits a crash after them may leave.
-use Rattle.std.specs.Prelude.{◌≡◌, ◌≢◌, ◌⊎◌, ℕ, ◌<◌, ◌≤◌, true, List, [], ◌∷◌, ◌++◌, map, Option, Some, None, All}
+use Rattle.std.specs.Prelude.{◌≡◌, ◌≢◌, ◌⊎◌, ℕ, ◌<◌, ◌≤◌, true, List, [], ◌∷◌, ◌++◌, map, Option, Some, None, Ok, Err, All}
+use Rattle.cat_model.specs.Lines.{Said}
+use Rattle.cat_model.specs.Run.{Answer, Reply}
 use Rattle.cat_directory.specs.Devices.{FileContent, NoMore, OrGone}
 use Rattle.cat_directory.specs.Names.{name_of}
 use Rattle.cat_directory.specs.declared.name.FileName.{FileName}
@@ -54,6 +56,15 @@ pub record Goes {D : Type 0} (left : D → FileName → FileContent → Type 0) 
   pub next : (shape_in old).next_generation ≤ (shape_in new).next_generation
   pub asked : (g : ℕ) → MayBegin event g → (g ≡ (shape_in old).next_generation) × IsPastNewest (newest_of old) g
   pub files : (g : ℕ) → (MayBegin event g → ⊥) → OrGone (left (device_in old) (file.Commit g)) (left (device_in new) (file.Commit g))
+
+-- What a line makes of commits, by its reply: a COMMIT that was answered OK keeps one of this generation; one that was refused may have
+-- begun the files of the generation that comes next; and no other line has to do with commits. (None is a line without a form.)
+abbrev pub GoesBy : {D : Type 0} → (D → FileName → FileContent → Type 0) → Option Said → Reply → Ledger D → Ledger D → Type 0
+GoesBy left (Some (Said.commit text)) (Ok (Answer.number g)) old new = Goes left (Event.Answered g) old new
+GoesBy left (Some (Said.commit text)) (Ok a) old new = ⊥
+GoesBy left (Some (Said.commit text)) (Err e) old new =
+    Goes left Event.Other old new ⊎ Goes left (Event.Refused (shape_in old).next_generation) old new
+GoesBy left said reply old new = Goes left Event.Other old new
 
 -- A crash may leave of each commit's own file but this one's what it could have left before.
 abbrev pub SparesOtherCommits : ℕ → (FileName → FileContent → Type 0) → (FileName → FileContent → Type 0) → Type 0

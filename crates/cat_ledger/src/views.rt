@@ -178,13 +178,15 @@ impl<D: Directory + Shelf> Ledger<D> {
     /// Grants the session the right to the view of the token, or of the newest one. It lasts until the session itself gives it
     /// back. (Lucene: `SearcherLifetimeManager.acquire`.)
     ///
-    /// [`Refusal::Gone`] where no view is recorded under the token; else [`Refusal::Memory`]. An error changes nothing.
+    /// [`Refusal::Gone`] where no view is recorded under the token; else [`Refusal::Memory`], but never where the session holds
+    /// the token already. An error changes nothing.
     pub fn acquire(&mut self, session: SessionNo, token: Option<Token>) -> Result<Grant, Refusal>
         ensures asked { IfOk result (λ grant. IsAsked (shape_in self.old) token (token_granted grant)) }
         ensures grant { IfOk result (IsGrant (shape_in self.old) session) }
         ensures held { IfOk result (λ grant. shape_in self.new ≡ holding session (token_granted grant) (shape_in self.old)) }
         ensures gone { IfErr result (λ e. e ≡ Gone → (t : ℕ) → IsAsked (shape_in self.old) token t → ⊥) }
-        ensures due { IfErr result (λ e. e ≡ Memory → (t : ℕ) × IsAsked (shape_in self.old) token t) }
+        ensures due { IfErr result (λ e. e ≡ Memory → (t : ℕ) × IsAsked (shape_in self.old) token t
+            × (has_hold (shape_in self.old).holds session t ≡ false)) }
         ensures err { OnErr result (self.new ≡ self.old) }
         ensures same { device_in self.new ≡ device_in self.old }
         ensures refusal { IfErr result (λ e. (e ≡ Gone) ⊎ (e ≡ Memory)) }
