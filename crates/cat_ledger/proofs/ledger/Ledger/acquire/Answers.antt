@@ -33,6 +33,7 @@ returns-in-Err-clause-due g c = rw (← c.self.view_is) (λ _. (
   c.unwrap_or-token.result,
   asked_is c.self.inside.core c.args.token c.newest_token.result c.unwrap_or-token.result c.unwrap_or-token.ensures
       c.newest_token.ensures.greatest (sym c.if-not-is_recorded.ensures),
+  sym c.if-is_held_by.ensures,
 ))
 
 pub returns-then-not-is_recorded-clause-gone : goal.returns-then-not-is_recorded-clause-gone
