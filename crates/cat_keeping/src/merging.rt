@@ -7,6 +7,7 @@ ghost use Rattle.cat_model.specs.Run as run;
 ghost use Rattle.cat_ledger_core.specs.Cores.{HasRowsLeft};
 ghost use Rattle.cat_upkeep.specs.News as merges;
 ghost use Rattle.cat_ledger.specs.Answering.{Answers};
+ghost use Rattle.cat_ledger.specs.Histories.{Event, Goes};
 ghost use Rattle.cat_ledger.specs.Ledgers.{Spares, device_in, policy_in, shape_in};
 ghost use Rattle.cat_replies.specs.Reply.{news_of, reply_of};
 ghost use Rattle.cat_keeping.specs.Chores.{MayRefuseForce, MayRefuseMerge};
@@ -37,6 +38,7 @@ pub(crate) fn merge_step<D: Directory + Shelf>(ledger: &mut Ledger<D>) -> Result
     ensures device { IfErr result (λ e. e ≡ Device → HasRowsLeft (shape_in ledger.old).merging ⊎ D.can_fail (device_in ledger.old)) }
     ensures crash { Spares D.may_leave ledger.old ledger.new }
     ensures can { D.can_fail (device_in ledger.new) → D.can_fail (device_in ledger.old) }
+    ensures history { Goes D.may_leave Event.Other ledger.old ledger.new }
     ensures policy { policy_in ledger.new ≡ policy_in ledger.old }
 {
     match ledger.merge_step() {
@@ -52,6 +54,7 @@ pub(crate) fn force<D: Directory + Shelf>(ledger: &mut Ledger<D>) -> Result<Answ
     ensures device { IfErr result (λ e. e ≡ Device → D.can_fail (device_in ledger.old)) }
     ensures crash { Spares D.may_leave ledger.old ledger.new }
     ensures can { D.can_fail (device_in ledger.new) → D.can_fail (device_in ledger.old) }
+    ensures history { Goes D.may_leave Event.Other ledger.old ledger.new }
     ensures policy { policy_in ledger.new ≡ policy_in ledger.old }
 {
     match ledger.force() {

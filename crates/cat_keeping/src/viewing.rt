@@ -7,6 +7,7 @@ ghost use Rattle.cat_model.specs.Lines.{Said};
 ghost use Rattle.cat_ledger_core.specs.Cores.{MayNotFlush};
 ghost use Rattle.cat_ledger_lines.specs.LineLaws.{MayRefresh};
 ghost use Rattle.cat_ledger.specs.Answering.{AnswersSaid};
+ghost use Rattle.cat_ledger.specs.Histories.{Event, Goes};
 ghost use Rattle.cat_ledger.specs.Ledgers.{Spares, device_in, policy_in, shape_in};
 ghost use Rattle.cat_replies.specs.Reply.{reply_of};
 
@@ -30,6 +31,7 @@ pub fn refresh<D: Directory + Shelf>(ledger: &mut Ledger<D>) -> Result<Answer, R
     ensures device { IfErr result (λ e. e ≡ Device → D.can_fail (device_in ledger.old)) }
     ensures crash { Spares D.may_leave ledger.old ledger.new }
     ensures can { D.can_fail (device_in ledger.new) → D.can_fail (device_in ledger.old) }
+    ensures history { Goes D.may_leave Event.Other ledger.old ledger.new }
     ensures policy { policy_in ledger.new ≡ policy_in ledger.old }
 {
     match ledger.refresh() {
@@ -48,6 +50,7 @@ pub fn prune<D: Directory + Shelf>(ledger: &mut Ledger<D>, count: u64) -> Result
     ensures err { OnErr result (ledger.new ≡ ledger.old) }
     ensures crash { Spares D.may_leave ledger.old ledger.new }
     ensures can { D.can_fail (device_in ledger.new) → D.can_fail (device_in ledger.old) }
+    ensures history { Goes D.may_leave Event.Other ledger.old ledger.new }
     ensures policy { policy_in ledger.new ≡ policy_in ledger.old }
 {
     match ledger.prune(count) {

@@ -14,6 +14,7 @@ ghost use Rattle.cat_schema.specs.Reading.{item_of, source_fault};
 ghost use Rattle.cat_query.specs.View.{query_of};
 ghost use Rattle.cat_ledger_core.specs.Cores.{MayNotFlush};
 ghost use Rattle.cat_ledger.specs.Answering.{AnswersSaid};
+ghost use Rattle.cat_ledger.specs.Histories.{Event, Goes};
 ghost use Rattle.cat_ledger.specs.Ledgers.{Spares, device_in, policy_in, shape_in};
 ghost use Rattle.cat_replies.specs.Reply.{reply_of};
 
@@ -71,6 +72,7 @@ pub fn put<D: Directory + Shelf>(
     ensures device { IfErr result (λ e. e ≡ Device → D.can_fail (device_in ledger.old)) }
     ensures crash { Spares D.may_leave ledger.old ledger.new }
     ensures can { D.can_fail (device_in ledger.new) → D.can_fail (device_in ledger.old) }
+    ensures history { Goes D.may_leave Event.Other ledger.old ledger.new }
     ensures policy { policy_in ledger.new ≡ policy_in ledger.old }
 {
     let item = match read_item(alloc, ledger, text) {
@@ -95,6 +97,7 @@ pub fn delete<D: Directory + Shelf>(ledger: &mut Ledger<D>, id: &str) -> Result<
     ensures err { OnErr result (ledger.new ≡ ledger.old) }
     ensures crash { Spares D.may_leave ledger.old ledger.new }
     ensures can { D.can_fail (device_in ledger.new) → D.can_fail (device_in ledger.old) }
+    ensures history { Goes D.may_leave Event.Other ledger.old ledger.new }
     ensures policy { policy_in ledger.new ≡ policy_in ledger.old }
 {
     if !id_ok(id) {
@@ -121,6 +124,7 @@ pub fn delete_where<D: Directory + Shelf>(
     ensures err { OnErr result (ledger.new ≡ ledger.old) }
     ensures crash { Spares D.may_leave ledger.old ledger.new }
     ensures can { D.can_fail (device_in ledger.new) → D.can_fail (device_in ledger.old) }
+    ensures history { Goes D.may_leave Event.Other ledger.old ledger.new }
     ensures policy { policy_in ledger.new ≡ policy_in ledger.old }
 {
     let query = match read_query(alloc, ledger, text) {

@@ -5,6 +5,7 @@ use Rattle.cat_ledger_lines.proofs.RefusalAnswers.{foreign_chores_answer}
 use Rattle.cat_replies.specs.Reply.{reply_of}
 use Rattle.cat_keeping.specs.Chores.{chore_of}
 use Rattle.cat_keeping.proofs.Answered.{at_zero}
+use Rattle.cat_keeping.proofs.Kept.{goes_same}
 use Rattle.cat_keeping.proofs.chores.maintain.Goals as goal
 
 pub returns-then-session-ne0-clause-answers : goal.returns-then-session-ne0-clause-answers
@@ -57,3 +58,9 @@ returns-in-Stat-clause-answers g c =
       at_zero (policy_in ledger) told told s s c.args.session (Command.chore Chore.stat) (reply_of c.tell_stat.result) c.if-session-ne0.false
           c.tell_stat.ensures.answers,
     )
+
+pub returns-then-session-ne0-clause-history : goal.returns-then-session-ne0-clause-history
+returns-then-session-ne0-clause-history g c = goes_same g.D.Holder.may_leave c.args.ledger.now
+
+pub returns-in-Stat-clause-history : goal.returns-in-Stat-clause-history
+returns-in-Stat-clause-history g c = goes_same g.D.Holder.may_leave c.args.ledger.now

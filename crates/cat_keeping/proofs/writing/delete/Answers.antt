@@ -6,7 +6,7 @@ use Rattle.cat_model.specs.Run.{Command}
 use Rattle.cat_ledger.specs.Ledgers.{device_in, policy_in, shape_in}
 use Rattle.cat_ledger_lines.proofs.LineAnswers.{deletes_answer}
 use Rattle.cat_keeping.proofs.Answered.{delete_refused, tells_same}
-use Rattle.cat_keeping.proofs.Kept.{unchanged}
+use Rattle.cat_keeping.proofs.Kept.{goes_same, unchanged}
 use Rattle.cat_keeping.proofs.writing.delete.Goals as goal
 
 pub returns-in-Ok-clause-answers : goal.returns-in-Ok-clause-answers
@@ -34,3 +34,6 @@ returns-in-Err-clause-answers g c = λ session.
       delete_refused (policy_in old) (g.D.Holder.bytes (device_in old)) (g.D.Holder.bytes (device_in new)) (shape_in old) (shape_in new) session
           c.args.id.now c.in-Err.refusal c.in-Err.ensures.spent (unchanged g.D.Holder.bytes old new c.in-Err.ensures.err) c.in-Err.ensures.refusal,
     )
+
+pub returns-then-not-id_ok-clause-history : goal.returns-then-not-id_ok-clause-history
+returns-then-not-id_ok-clause-history g c = goes_same g.D.Holder.may_leave c.args.ledger.now

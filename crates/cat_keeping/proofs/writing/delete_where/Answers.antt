@@ -6,7 +6,7 @@ use Rattle.cat_query.specs.View.{query_of}
 use Rattle.cat_ledger.specs.Ledgers.{device_in, policy_in, shape_in}
 use Rattle.cat_ledger_lines.proofs.LineAnswers.{query_deletes_answer}
 use Rattle.cat_keeping.proofs.Answered.{query_delete_refused, query_unread, tells_same}
-use Rattle.cat_keeping.proofs.Kept.{unchanged}
+use Rattle.cat_keeping.proofs.Kept.{goes_same, unchanged}
 use Rattle.cat_keeping.proofs.writing.delete_where.Goals as goal
 
 pub returns-in-Err-clause-answers : goal.returns-in-Err-clause-answers
@@ -41,3 +41,6 @@ returns-clause-answers g c = λ session.
           session q c.in-Err-delete_where.refusal c.in-Err-delete_where.ensures.spent
           (unchanged g.D.Holder.bytes old new c.in-Err-delete_where.ensures.err) c.in-Err-delete_where.ensures.refusal,
     )
+
+pub returns-in-Err-clause-history : goal.returns-in-Err-clause-history
+returns-in-Err-clause-history g c = goes_same g.D.Holder.may_leave c.args.ledger.now

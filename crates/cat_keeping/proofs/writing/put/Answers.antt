@@ -7,7 +7,7 @@ use Rattle.cat_ledger.specs.Ledgers.{device_in, policy_in, shape_in}
 use Rattle.cat_ledger_lines.proofs.LineAnswers.{puts_answer}
 use Rattle.cat_keeping.proofs.Answered.{err_is, failure_differs, limit_differs, not_memory, put_refused, put_unread, tells_same}
 use Rattle.cat_keeping.proofs.ItemFaults.{is_of_text}
-use Rattle.cat_keeping.proofs.Kept.{unchanged}
+use Rattle.cat_keeping.proofs.Kept.{goes_same, unchanged}
 use Rattle.cat_keeping.proofs.writing.put.Goals as goal
 
 pub returns-in-Err-clause-answers : goal.returns-in-Err-clause-answers
@@ -53,3 +53,6 @@ returns-in-Err-clause-device g c = λ is.
 pub returns-in-Err-clause-spent : goal.returns-in-Err-clause-spent
 returns-in-Err-clause-spent g c = λ is.
     absurd ((is_of_text (shape_in c.args.ledger.now).schema c.args.text.now c.in-Err.refusal (c.in-Err.ensures.err (not_memory Spent limit_differs is))).1 is)
+
+pub returns-in-Err-clause-history : goal.returns-in-Err-clause-history
+returns-in-Err-clause-history g c = goes_same g.D.Holder.may_leave c.args.ledger.now
