@@ -1,9 +1,9 @@
 -- Sets that are used, one after the other, and those that are found then.
-use Rattle.std.proofs.Common.{◌≡◌, ℕ, ◌+◌, ◌<◌, ◌≤◌, Bool, true, false, cond, List, [], ◌∷◌, ◌++◌, length, map, take, get_or, Option, Some, None, Result, Ok, Err, refl, sym, ap, subst, ◌∙◌, arith}
-use Rattle.std.specs.Prelude.{OnErr, OnOk}
+use Rattle.std.proofs.Common.{◌≡◌, ℕ, ◌+◌, ◌<◌, ◌≤◌, Bool, true, false, cond, List, [], ◌∷◌, ◌++◌, length, map, take, get_or, Option, Some, None, option_map, replicate, Result, Ok, Err, refl, sym, ap, subst, ◌∙◌, arith}
+use Rattle.std.specs.Prelude.{IfOk, OnErr, OnOk}
 use Rattle.std.specs.Option.{option_map_or}
 use Rattle.std.specs.Map.{lookup, lookup_entry, remove_entry}
-use Rattle.std.proofs.lemmas.List.{length-map, map-append, take-map, take_all, take_more}
+use Rattle.std.proofs.lemmas.List.{length-map, map-append, nil_from_length, take-map, take_all, take_more}
 use Rattle.cat_model.specs.Query.{Query}
 use Rattle.cat_model.specs.View.{Leaf, Segment}
 use Rattle.cat_cache.specs.Cached.{Entry, Key, same_key, used}
@@ -109,3 +109,28 @@ pub part_either : {A E : Type 0} (r : Result A E) (q : Query) (ss : List Segment
     → OnOk r (new ≡ used_in q ss es) → OnErr r (IsUsedInPart q ss es new) → IsUsedInPart q ss es new
 part_either (Ok x) q ss es new ok err = record { count = length ss; few = omega arith; used = ok ∙ ap (λ ss. used_in q ss es) (sym (take_all (length ss) ss (omega arith))) }
 part_either (Err e) q ss es new ok err = err
+
+-- ---- no sets are cached
+
+-- then a use changes nothing
+used_in-nil : (q : Query) (ss : List Segment) → used_in q ss [] ≡ []
+used_in-nil q [] = refl
+used_in-nil q (s ∷ ss) = used_in-nil q ss
+
+-- and none is found
+none_found : {A : Type 0} (g : A → List Bool) (q : Query) (leaves : List Leaf) → map (option_map g) (replicate (length leaves) None) ≡ map (set_in [] q) (segments_of leaves)
+none_found g q [] = refl
+none_found g q (l ∷ leaves) = ap (λ os. None ∷ os) (none_found g q leaves)
+
+module _ (q : Query) (es : List Entry) (empty : length es ≡ 0) where
+  none_used : (ss : List Segment) → es ≡ used_in q ss es
+  none_used ss = subst (λ l. l ≡ used_in q ss l) (sym (nil_from_length es empty)) (sym (used_in-nil q ss))
+
+  pub none_used_if : {A E : Type 0} (r : Result A E) (ss : List Segment) → OnOk r (es ≡ used_in q ss es)
+  none_used_if (Ok x) ss = none_used ss
+  none_used_if (Err e) ss = tt
+
+  pub none_found_if : {A B E : Type 0} (g : A → List Bool) (r : Result B E) (items : B → List (Option A)) (leaves : List Leaf)
+      → IfOk r (λ v. items v ≡ replicate (length leaves) None) → IfOk r (λ v. map (option_map g) (items v) ≡ map (set_in es q) (segments_of leaves))
+  none_found_if g (Ok v) items leaves e = ap (map (option_map g)) e ∙ none_found g q leaves ∙ ap (λ l. map (set_in l q) (segments_of leaves)) (sym (nil_from_length es empty))
+  none_found_if g (Err e) items leaves _ = tt

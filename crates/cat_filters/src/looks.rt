@@ -1,5 +1,5 @@
 //! Sets that are looked up for the segments of a view.
-ghost use Rattle.std.specs.Prelude.{◌≡◌, map, option_map, IfOk, OnErr, OnOk};
+ghost use Rattle.std.specs.Prelude.{◌≡◌, map, None, option_map, replicate, IfOk, OnErr, OnOk};
 ghost use Rattle.std.specs.Arc.{arc_value};
 ghost use Rattle.std.specs.Map.{lookup};
 ghost use Rattle.cat_cache.specs.Cached.{key_of, same_key, used};
@@ -24,6 +24,17 @@ fn set_under(cache: &mut FilterCache, key: &Key) -> Result<Option<Arc<DocSet>>, 
     }
 }
 
+/// No set, as many times as counted.
+fn no_sets(alloc: Global, count: usize) -> Result<Vec<Option<Arc<DocSet>>>, AllocError>
+    ensures { IfOk result (λ v. v.items ≡ replicate count None) }
+{
+    let mut sets = Vec::with_capacity(alloc, count)?;
+    for _ in 0..count {
+        sets.push(None)?;
+    }
+    Ok(sets)
+}
+
 /// The sets of the query that stand for the segments of the leaves, in order, each of which is the last used from its look
 /// on. An error leaves the uses of the leaves that were looked at.
 pub(crate) fn sets_under(
@@ -36,6 +47,10 @@ pub(crate) fn sets_under(
     ensures used { OnOk result (cache.new ≡ used_in (query_of query.now) (segments_of leaves.now) cache.old) }
     ensures err { OnErr result (IsUsedInPart (query_of query.now) (segments_of leaves.now) cache.old cache.new) }
 {
+    // Each look hashes the query, also where there is nothing to find.
+    if cache.len() == 0 {
+        return no_sets(alloc, leaves.len());
+    }
     let mut sets = Vec::with_capacity(alloc, leaves.len())?;
     let mut key = Key {
         segment: 0,

@@ -1,9 +1,18 @@
-use Rattle.std.proofs.Common.{◌≡◌, ◌+◌, ap, map, option_map, ◌∙◌, arith}
+use Rattle.std.proofs.Common.{◌≡◌, ◌+◌, ap, map, option_map, sym, ◌∙◌, arith}
 use Rattle.std.specs.Arc.{arc_value}
 use Rattle.cat_model.specs.View.{Segment}
 use Rattle.cat_query.specs.View.{query_of}
-use Rattle.cat_filters.proofs.Used.{on_err, part_of, sets_after, used_after}
+use Rattle.cat_filters.specs.Filters.{segments_of}
+use Rattle.cat_filters.proofs.Used.{none_found_if, none_used_if, on_err, part_of, sets_after, used_after}
 use Rattle.cat_filters.proofs.looks.sets_under.Goals as goal
+
+pub returns-then-len-eq0-clause-sets : goal.returns-then-len-eq0-clause-sets
+returns-then-len-eq0-clause-sets c =
+    none_found_if (query_of c.args.query.now) c.args.cache.now (sym c.len.ensures.value ∙ c.if-len-eq0.true) arc_value c.no_sets.result (λ v. v.items) c.args.leaves.now c.no_sets.ensures
+
+pub returns-then-len-eq0-clause-used : goal.returns-then-len-eq0-clause-used
+returns-then-len-eq0-clause-used c =
+    none_used_if (query_of c.args.query.now) c.args.cache.now (sym c.len.ensures.value ∙ c.if-len-eq0.true) c.no_sets.result (segments_of c.args.leaves.now)
 
 pub returns-in_err-set_under-clause-err : goal.returns-in_err-set_under-clause-err
 returns-in_err-set_under-clause-err c =
