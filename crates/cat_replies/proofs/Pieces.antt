@@ -5,7 +5,7 @@ use Rattle.std.specs.List.{flat_map}
 use Rattle.std.specs.Fmt.{decimal}
 use Rattle.std.specs.Io.KnownBytes.{Appends}
 use Rattle.cat_model.specs.Text.{Text}
-use Rattle.cat_model.specs.Lines.{line_text, spaced, entry_words, counted_words, segment_words}
+use Rattle.cat_model.specs.Lines.{line_text, spaced, entry_words, key_text, counted_words, segment_words}
 use Rattle.cat_model.specs.Page.{Entry}
 use Rattle.cat_model.specs.Facets.{Counted}
 use Rattle.cat_model.specs.Served.{AppendsFront}
@@ -66,3 +66,22 @@ name_line session name = line_text (decimal session ∷ file_text name ∷ [])
 
 abbrev pub segment_line : ℕ → SegmentStat → Text
 segment_line session segment = line_text (decimal session ∷ segment_words (segment_of segment))
+
+-- ---- the lines of a hit and of a label, by their words
+
+abbrev pub key_on : Text → Text
+key_on key = (32 ∷ key) ++ codes "\n"
+
+abbrev pub id_on : Text → Text → Text
+id_on id key = (32 ∷ id) ++ key_on key
+
+abbrev pub number_on : ℕ → Text → Text → Text
+number_on number id key = (32 ∷ decimal number) ++ id_on id key
+
+pub entry_in_pieces : (session : ℕ) (entry : Entry) (number : ℕ) (id key : Text) → number ≡ entry.number → id ≡ entry.id → key ≡ key_text entry.key
+    → entry_line session entry ≡ decimal session ++ number_on number id key
+entry_in_pieces session entry number id key n i k = rw (n, i, k) (simp append_assoc)
+
+pub counted_in_pieces : (session : ℕ) (counted : Counted) (count : ℕ) (label : Text) → count ≡ counted.count → label ≡ counted.label
+    → counted_line session counted ≡ decimal session ++ ((32 ∷ decimal count) ++ key_on label)
+counted_in_pieces session counted count label c l = rw (c, l) (simp append_assoc)

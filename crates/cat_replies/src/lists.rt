@@ -7,15 +7,15 @@ ghost use Rattle.cat_model.specs.Lines.{counted_words, entry_words, key_text, li
 ghost use Rattle.cat_model.specs.Run as run;
 ghost use Rattle.cat_directory.specs.Names.{file_text};
 ghost use Rattle.cat_search.specs.Keys.{key_of};
-ghost use Rattle.cat_sending.specs.Out.{Sent};
+ghost use Rattle.cat_sending.specs.Out.{Gathers, Sent};
 ghost use Rattle.cat_replies.specs.Words.{word_text};
 
-use crate::words::{Word, send_line};
+use crate::words::{Word, put_behind_space, send_line};
 use cat_base::SessionNo;
 use cat_directory::FileName;
 use cat_facets::{FacetCount, Facets};
 use cat_search::{Entry, Key, Page};
-use cat_sending::WriteFault;
+use cat_sending::{Gathered, WriteFault};
 use std::io::Write;
 
 /// Answers a page: how many hits are shown and how many there are, and a line for each that is shown.
@@ -42,23 +42,33 @@ fn send_entries<W: Write>(
     ensures { Sent (W.contents to.old) (W.contents to.new) result
         (flat_map (λ entry. line_text (decimal session ∷ entry_words entry)) entries.now) }
 {
+    let mut lines = Gathered::new();
     for entry in entries {
-        send_entry(session, entry, to)?;
+        put_entry(&mut lines, session, entry, to)?;
     }
-    Ok(())
+    lines.finish(to)
 }
 
-/// Writes the line of a hit.
-fn send_entry<W: Write>(session: SessionNo, entry: &Entry, to: &mut W) -> Result<(), WriteFault>
-    ensures { Sent (W.contents to.old) (W.contents to.new) result
+/// Adds the line of a hit. A page may have a thousand of them, so their words are put one by one, and the lines behind one
+/// another.
+fn put_entry<W: Write>(
+    lines: &mut Gathered,
+    session: SessionNo,
+    entry: &Entry,
+    to: &mut W,
+) -> Result<(), WriteFault>
+    ensures { Gathers (W.contents to.old) (W.contents to.new) lines.old lines.new result
         (line_text (decimal session ∷ entry_words entry.now)) }
 {
-    let number = Word::Number(entry.number());
-    let id = Word::Plain(entry.id().as_bytes());
-    send_line(session, &[number, id, key_word(entry.key())], to)
+    lines.put_number(session as u64, to)?;
+    put_behind_space(lines, Word::Number(entry.number()), to)?;
+    put_behind_space(lines, Word::Plain(entry.id().as_bytes()), to)?;
+    put_behind_space(lines, key_word(entry.key()), to)?;
+    lines.put(b"\n", to)
 }
 
 /// What a hit was sorted by: a number in decimal, a keyword behind `=`, and a dot where there is neither.
+#[inline(always)]
 fn key_word(key: Option<&Key>) -> Word
     ensures { word_text result ≡ key_text (option_map (λ k. key_of k.now) key.entry) }
 {
@@ -93,24 +103,27 @@ fn send_labels<W: Write>(
     ensures { Sent (W.contents to.old) (W.contents to.new) result
         (flat_map (λ counted. line_text (decimal session ∷ counted_words counted)) counts.now) }
 {
+    let mut lines = Gathered::new();
     for counted in counts {
-        send_label(session, counted, to)?;
+        put_label(&mut lines, session, counted, to)?;
     }
-    Ok(())
+    lines.finish(to)
 }
 
-/// Writes the line of a label.
-fn send_label<W: Write>(
+/// Adds the line of a label.
+fn put_label<W: Write>(
+    lines: &mut Gathered,
     session: SessionNo,
     counted: &FacetCount,
     to: &mut W,
 ) -> Result<(), WriteFault>
-    ensures { Sent (W.contents to.old) (W.contents to.new) result
+    ensures { Gathers (W.contents to.old) (W.contents to.new) lines.old lines.new result
         (line_text (decimal session ∷ counted_words counted.now)) }
 {
-    let count = Word::Number(counted.count() as u64);
-    let label = Word::Plain(counted.label().as_bytes());
-    send_line(session, &[count, label], to)
+    lines.put_number(session as u64, to)?;
+    put_behind_space(lines, Word::Number(counted.count() as u64), to)?;
+    put_behind_space(lines, Word::Plain(counted.label().as_bytes()), to)?;
+    lines.put(b"\n", to)
 }
 
 /// Answers names of files: how many, and a line for each.

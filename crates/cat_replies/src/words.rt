@@ -57,6 +57,7 @@ fn put_name<W: Write>(line: &mut Gathered, name: FileName, to: &mut W) -> Result
     }
 }
 
+#[inline(always)]
 fn put_word<W: Write>(line: &mut Gathered, word: Word, to: &mut W) -> Result<(), WriteFault>
     ensures { Gathers (W.contents to.old) (W.contents to.new) line.old line.new result (word_text word.entry) }
 {
@@ -73,7 +74,12 @@ fn put_word<W: Write>(line: &mut Gathered, word: Word, to: &mut W) -> Result<(),
 }
 
 /// Adds the word behind a space.
-fn put_behind_space<W: Write>(line: &mut Gathered, word: Word, to: &mut W) -> Result<(), WriteFault>
+#[inline(always)]
+pub(crate) fn put_behind_space<W: Write>(
+    line: &mut Gathered,
+    word: Word,
+    to: &mut W,
+) -> Result<(), WriteFault>
     ensures { Gathers (W.contents to.old) (W.contents to.new) line.old line.new result (behind_space word.entry) }
 {
     line.put(b" ", to)?;
