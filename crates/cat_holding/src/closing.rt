@@ -8,6 +8,7 @@ ghost use Rattle.cat_model.specs.State.{has_hold};
 ghost use Rattle.cat_ledger_lines.specs.HoldLaws.{letting_go};
 ghost use Rattle.cat_ledger_lines.specs.LineLaws.{tells};
 ghost use Rattle.cat_ledger.specs.Answering.{AnswersSaid};
+ghost use Rattle.cat_ledger.specs.Histories.{Event, Goes};
 ghost use Rattle.cat_ledger.specs.Ledgers.{device_in, policy_in, shape_in};
 ghost use Rattle.cat_replies.specs.Reply.{reply_of};
 ghost use Rattle.cat_holding.specs.Holding.{AreRights};
@@ -59,6 +60,7 @@ pub fn close<D: Directory + Shelf>(
     ensures held { OnOk result (shape_in ledger.new ≡ letting_go session token (shape_in ledger.old)) }
     ensures err { OnErr result ((ledger.new ≡ ledger.old) × (rights.new ≡ rights.old)) }
     ensures same { device_in ledger.new ≡ device_in ledger.old }
+    ensures history { Goes D.may_leave Event.Other ledger.old ledger.new }
     ensures policy { policy_in ledger.new ≡ policy_in ledger.old }
 {
     let Some(hold) = rights.remove(session, token) else {

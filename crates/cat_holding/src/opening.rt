@@ -1,7 +1,7 @@
 //! The command that gives a session a right to a view.
 //!
 //! Lucene's `SearcherLifetimeManager.acquire`.
-ghost use Rattle.std.specs.Prelude.{◌≡◌, ◌⊎◌, ℕ, IfErr, IfOk, None, OnErr, OnOk, true};
+ghost use Rattle.std.specs.Prelude.{◌≡◌, ◌⊎◌, ℕ, IfErr, IfOk, None, OnErr, OnOk, false, true};
 ghost use Rattle.cat_base.specs.declared.refusal.Refusal.TheVariants.{Gone, Memory};
 ghost use Rattle.cat_model.specs.Run as run;
 ghost use Rattle.cat_model.specs.State.{has_hold};
@@ -9,6 +9,7 @@ ghost use Rattle.cat_rights.specs.Rights.{PutsIn, right_of};
 ghost use Rattle.cat_ledger_lines.specs.HoldLaws.{holding, letting_go};
 ghost use Rattle.cat_ledger.specs.Answering.{AnswersSaid};
 ghost use Rattle.cat_ledger.specs.Grants.{IsAsked};
+ghost use Rattle.cat_ledger.specs.Histories.{Event, Goes};
 ghost use Rattle.cat_ledger.specs.Ledgers.{device_in, policy_in, shape_in};
 ghost use Rattle.cat_replies.specs.Reply.{answer_of, reply_of};
 ghost use Rattle.cat_holding.specs.Holding.{AreRights, said_open};
@@ -53,8 +54,8 @@ fn keep_right<D: Directory + Shelf>(
 /// Answers an OPEN of the token, or of the newest view: the session has a right to it until it closes it, and the answer is
 /// its token. Where the session holds it already nothing changes. (Lucene: `SearcherLifetimeManager.acquire`.)
 ///
-/// [`Refusal::Gone`] where no view is recorded under the token; else [`Refusal::Memory`]. A refusal changes neither what the
-/// ledger has in memory nor the rights.
+/// [`Refusal::Gone`] where no view is recorded under the token; else [`Refusal::Memory`], but never where the session holds
+/// the token already. A refusal changes neither what the ledger has in memory nor the rights.
 pub fn open<D: Directory + Shelf>(
     ledger: &mut Ledger<D>,
     rights: &mut Rights,
@@ -68,10 +69,12 @@ pub fn open<D: Directory + Shelf>(
         × (shape_in ledger.new ≡ holding session t (shape_in ledger.old))) }
     ensures refusal { IfErr result (λ e. (e ≡ Gone) ⊎ (e ≡ Memory)) }
     ensures gone { IfErr result (λ e. e ≡ Gone → (t : ℕ) → IsAsked (shape_in ledger.old) token t → ⊥) }
-    ensures due { IfErr result (λ e. e ≡ Memory → (t : ℕ) × IsAsked (shape_in ledger.old) token t) }
+    ensures due { IfErr result (λ e. e ≡ Memory → (t : ℕ) × IsAsked (shape_in ledger.old) token t
+        × (has_hold (shape_in ledger.old).holds session t ≡ false)) }
     ensures err { OnErr result ((shape_in ledger.new ≡ shape_in ledger.old)
         × ((u v : ℕ) → right_of rights.new u v ≡ right_of rights.old u v)) }
     ensures same { device_in ledger.new ≡ device_in ledger.old }
+    ensures history { Goes D.may_leave Event.Other ledger.old ledger.new }
     ensures policy { policy_in ledger.new ≡ policy_in ledger.old }
 {
     match ledger.acquire(session, token) {

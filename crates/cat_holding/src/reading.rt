@@ -11,6 +11,7 @@ ghost use Rattle.cat_directory.specs.declared.name.FileName.{FileName};
 ghost use Rattle.cat_search.specs.Sources.{HoldsSource, TellsSource};
 ghost use Rattle.cat_ledger_lines.specs.ReadLaws.{IsRecordedAs};
 ghost use Rattle.cat_ledger.specs.Answering.{AnswersSaid};
+ghost use Rattle.cat_ledger.specs.Histories.{Event, Goes};
 ghost use Rattle.cat_ledger.specs.Ledgers.{device_in, policy_in, shape_in};
 ghost use Rattle.cat_replies.specs.Reply.{reply_of};
 ghost use Rattle.cat_holding.specs.Holding.{AreRights};
@@ -47,6 +48,7 @@ pub fn get<D: Directory + Shelf>(
     ensures shape { shape_in ledger.new ≡ shape_in ledger.old }
     ensures same { (q : FileName) → D.bytes (device_in ledger.new) q ≡ D.bytes (device_in ledger.old) q }
     ensures can { D.can_fail (device_in ledger.new) → D.can_fail (device_in ledger.old) }
+    ensures history { Goes D.may_leave Event.Other ledger.old ledger.new }
     ensures policy { policy_in ledger.new ≡ policy_in ledger.old }
 {
     if !id_ok(id) {

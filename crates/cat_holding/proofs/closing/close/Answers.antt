@@ -1,10 +1,12 @@
 use Rattle.std.proofs.Common.{◌≡◌, ◌∙◌, ap, refl, subst, sym, true}
 use Rattle.cat_model.specs.Run.{Command}
 use Rattle.cat_model.specs.State.{has_hold}
+use Rattle.cat_ledger_shape.specs.Shapes.{Shape}
 use Rattle.cat_ledger.specs.Ledgers.{device_in, policy_in, shape_in}
 use Rattle.cat_ledger_lines.specs.HoldLaws.{letting_go}
 use Rattle.cat_ledger_lines.proofs.HoldAnswers.{closes_answer}
 use Rattle.cat_holding.proofs.Counted.{found_session, found_token, letting_go_kept, right_held, rights_at}
+use Rattle.cat_holding.proofs.Stays.{nothing, stays}
 use Rattle.cat_holding.proofs.closing.close.Goals as goal
 
 pub give_back-requires-clause-own : goal.give_back-requires-clause-own
@@ -42,3 +44,11 @@ returns-clause-answers g c =
       closes_answer (policy_in old) (g.D.Holder.bytes (device_in old)) (g.D.Holder.bytes (device_in new)) s (shape_in new) c.args.session
           c.args.token held (returns-clause-held g c) (λ q. ap (λ d. g.D.Holder.bytes d q) c.give_back.ensures.same),
     )
+
+pub returns-clause-history : goal.returns-clause-history
+returns-clause-history g c =
+    stays g.D.Holder.may_leave c.args.ledger.now c.give_back.new.ledger c.give_back.ensures.same
+    (ap (λ (s : Shape). s.commits) (returns-clause-held g c)) (ap (λ (s : Shape). s.next_generation) (returns-clause-held g c))
+
+pub returns-in_default-clause-history : goal.returns-in_default-clause-history
+returns-in_default-clause-history g c = nothing g.D.Holder.may_leave c.args.ledger.now

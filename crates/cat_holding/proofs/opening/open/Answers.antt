@@ -3,11 +3,13 @@ use Rattle.cat_base.specs.declared.refusal.Refusal.TheVariants.{Memory}
 use Rattle.cat_model.specs.State.{has_hold}
 use Rattle.cat_rights.specs.Rights.{right_of}
 use Rattle.cat_ledger.specs.Grants.{IsAsked, IsGrant, token_granted}
+use Rattle.cat_ledger.specs.Histories.{Event, Goes}
 use Rattle.cat_ledger.specs.Ledgers.{device_in, policy_in, shape_in}
 use Rattle.cat_ledger_lines.specs.HoldLaws.{holding}
 use Rattle.cat_holding.specs.Holding.{AreRights}
 use Rattle.cat_holding.proofs.Answered.{open_refused, opened}
 use Rattle.cat_holding.proofs.Counted.{holding_kept, let_go_again, rights_at}
+use Rattle.cat_holding.proofs.Stays.{stays_whole}
 use Rattle.cat_holding.proofs.opening.open.Goals as goal
 
 -- ---- a right that is kept
@@ -40,6 +42,10 @@ returns-in-Ok-clause-rights g c =
     (holding_kept s c.args.rights.now c.keep_right.new.rights hold c.requires
     (subst (λ n. has_hold s.holds n hold.view.token ≡ false) own grant.1) grant.2 c.in-Ok.ensures.found)
 
+pub returns-in-Ok-clause-history : goal.returns-in-Ok-clause-history
+returns-in-Ok-clause-history g c =
+    subst (λ l. Goes g.D.Holder.may_leave Event.Other c.args.ledger.now l) (sym c.in-Ok.ensures.kept) c.in-Ok-New.ensures.history
+
 -- ---- a right that is given back at once
 
 pub returns-in-Err-keep_right-clause-err : goal.returns-in-Err-keep_right-clause-err
@@ -70,6 +76,20 @@ returns-in-Err-keep_right-clause-answers g c =
       λ q. ap (λ d. g.D.Holder.bytes d q) (c.in-Err-keep_right.ensures.same ∙ c.in-Ok-New.ensures.same),
     )
     (inr refl)
+
+pub returns-in-Err-keep_right-clause-due : goal.returns-in-Err-keep_right-clause-due
+returns-in-Err-keep_right-clause-due g c =
+    let s = shape_in c.args.ledger.now in
+    let granted = c.in-Ok-New.field-0-is in λ _. (
+      c.in-Ok-New.hold.view.token,
+      subst (λ x. IsAsked s c.args.token (token_granted x)) granted c.in-Ok-New.ensures.asked,
+      (subst (λ x. IsGrant s c.args.session x) granted c.in-Ok-New.ensures.grant).1,
+    )
+
+pub returns-in-Err-keep_right-clause-history : goal.returns-in-Err-keep_right-clause-history
+returns-in-Err-keep_right-clause-history g c =
+    stays_whole g.D.Holder.may_leave c.args.ledger.now c.keep_right.new.ledger
+    (c.in-Err-keep_right.ensures.same ∙ c.in-Ok-New.ensures.same) (returns-in-Err-keep_right-clause-err g c).0
 
 -- ---- a token that is held, or that nothing is recorded under
 

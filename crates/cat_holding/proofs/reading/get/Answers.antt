@@ -10,6 +10,7 @@ use Rattle.cat_ledger.specs.Ledgers.{device_in, policy_in, shape_in}
 use Rattle.cat_ledger_lines.proofs.ReadAnswers.{gets_answer}
 use Rattle.cat_holding.proofs.Answered.{get_refused, option_map_twice, reading_refusal, sources_told}
 use Rattle.cat_holding.proofs.Counted.{right_held}
+use Rattle.cat_holding.proofs.Stays.{nothing}
 use Rattle.cat_holding.proofs.reading.get.Goals as goal
 
 pub returns-in-Ok-clause-answers : goal.returns-in-Ok-clause-answers
@@ -52,3 +53,9 @@ returns-in-Err-clause-answers g c =
           (reading_refusal (g.D.Holder.fault_count (device_in old)) (g.D.Holder.fault_count (device_in new)) c.in-Err.refusal
           c.in-Err.ensures.counted),
     )
+
+pub returns-then-not-id_ok-clause-history : goal.returns-then-not-id_ok-clause-history
+returns-then-not-id_ok-clause-history g c = nothing g.D.Holder.may_leave c.args.ledger.now
+
+pub returns-in_default-clause-history : goal.returns-in_default-clause-history
+returns-in_default-clause-history g c = nothing g.D.Holder.may_leave c.args.ledger.now
