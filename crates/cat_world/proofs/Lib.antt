@@ -10,3 +10,4 @@ pub mod Hearing
 pub mod Serves
 pub mod Copied
 pub mod Ran
+pub mod Histories

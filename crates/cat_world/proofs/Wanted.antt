@@ -1,5 +1,5 @@
 -- What it tells of a line that memory was wanting, by the refusals that it was due otherwise.
-use Rattle.std.proofs.Common.{◌≡◌, ◌≢◌, ℕ, ◌<◌, ◌≤◌, List, length, Bool, true, false, cond, ◌&&◌, not, ltb, refl, sym, ◌∙◌, ap, subst, inl, inr}
+use Rattle.std.proofs.Common.{◌≡◌, ◌≢◌, ℕ, ◌<◌, ◌≤◌, List, [], ◌∷◌, length, map, Bool, true, false, cond, ◌&&◌, not, ltb, refl, sym, ◌∙◌, ap, subst, inl, inr}
 use Rattle.std.specs.Prelude.{◌⊎◌, ◌==◌, Option, None, Some, Result, Ok, Err, IfErr, IfSome, if◌then◌else◌, is_some, nat_lt, option_map}
 use Rattle.std.specs.List.{list_all, list_any}
 use Rattle.std.specs.Str.{is_utf8}
@@ -17,20 +17,24 @@ use Rattle.cat_model.specs.Limits.{commit_text_limit, last_number, snapshot_limi
 use Rattle.cat_model.specs.Lines.{Said}
 use Rattle.cat_model.specs.Page.{Sort}
 use Rattle.cat_model.specs.Query.{Query}
-use Rattle.cat_model.specs.Run.{Answer, Chore, Command, Reply, is_full}
-use Rattle.cat_model.specs.State.{has_hold, held_in, snapshots_in}
+use Rattle.cat_model.specs.Run.{Answer, Chore, Command, Reply, Run, greatest, holds, is_full, view_tokens}
+use Rattle.cat_model.specs.State.{RecordedTable, has_hold, held_in, snapshots_in, table_recorded, tokens}
+use Rattle.cat_model.specs.Table.{Opened, Start}
 use Rattle.cat_model.specs.Text.{Text}
+use Rattle.cat_model.specs.View.{View}
 use Rattle.cat_schema.specs.Reading.{json, source_fault, text_fault}
 use Rattle.cat_search.specs.Holds.{Hold}
 use Rattle.cat_rights.specs.Rights.{right_of}
 use Rattle.cat_ledger_core.specs.Cores.{MayNotFlush}
 use Rattle.cat_ledger_lines.specs.LineLaws.{MayRefresh}
 use Rattle.cat_ledger_lines.specs.ReadLaws.{kept_under}
-use Rattle.cat_ledger_lines.specs.RunLaws.{AreAlike}
-use Rattle.cat_ledger_shape.specs.Shapes.{Shape}
+use Rattle.cat_ledger_lines.specs.RunLaws.{AreAlike, Stands}
+use Rattle.cat_ledger_lines.proofs.HoldAnswers.{held_as}
+use Rattle.cat_ledger_model.specs.Ledger.{view_shown}
+use Rattle.cat_ledger_shape.specs.Shapes.{Shape, recorded_view}
 use Rattle.cat_ledger_shape.specs.Steps.{newest_generation, tokens_of}
 use Rattle.cat_ledger_shape.specs.Ties.{ToldFiles}
-use Rattle.cat_ledger.specs.Grants.{IsAsked}
+use Rattle.cat_ledger_shape.proofs.Leaves.{map_twice}
 use Rattle.cat_replies.specs.Reply.{answer_of, reply_of}
 use Rattle.cat_replies.specs.declared.answer.Answer as code
 use Rattle.cat_keeping.specs.Chores.{MayRefuse, MayRefuseForce, chore_of}
@@ -41,7 +45,7 @@ use Rattle.cat_holding.specs.Holding.{AreRights, said_open}
 use Rattle.cat_finding.specs.Reads.{GivesDue}
 use Rattle.cat_world.proofs.OkDue.{commit_files_ok, commit_ok, chore_ok, delete_ok, facets_owed, find_owed, get_ok, held_read_ok, newest_ok, note_ok, ok_shaped, open_ok, other, prune_ok, refresh_ok, snap_ok, token_files_ok, unsnap_ok}
 use Rattle.cat_world.specs.Lines.{IsCommandOf}
-use Rattle.cat_world.specs.Wanting.{IsOkDue, MayWant, WantsRightly}
+use Rattle.cat_world.specs.Wanting.{AsksUnheld, IsOkDue, MayWant, WantsRightly}
 
 -- want of memory may be told of what is said, whatever command that is
 abbrev pub SaysMayWant : ToldFiles → Shape → ℕ → Said → Type 0
@@ -127,11 +131,14 @@ module _ (told : ToldFiles) (s : Shape) (session : ℕ) (result : Result code.An
       by false is = is
       by true is = absurd (not_given Full (λ is. cc is) (full (λ may. let no : true ≡ false = sym is ∙ may in cc)).0)
 
-  pub open_wants : (token : Option ℕ) → IfErr result (λ e. e ≡ Memory → (t : ℕ) × IsAsked s token t) → SaysMayWant told s session (said_open token)
-  open_wants None due c is = due_to Command.open_newest (ok_shaped told s session Command.open_newest (λ l e. newest_ok s l e session)) c is
+  pub open_wants : (token : Option ℕ) → IfErr result (λ e. e ≡ Memory → AsksUnheld s session token) → SaysMayWant told s session (said_open token)
+  open_wants None due c is = (
+    due_to Command.open_newest (ok_shaped told s session Command.open_newest (λ l e. newest_ok s l e session)) c is,
+    of_memory (λ e. e ≡ Memory → AsksUnheld s session None) due refl,
+  )
   open_wants (Some t) due c is =
-      let asked = of_memory (λ e. e ≡ Memory → (u : ℕ) × IsAsked s (Some t) u) due refl in
-      due_to (Command.open_at t) (ok_shaped told s session (Command.open_at t) (λ l e. open_ok s l e session t asked.1.1)) c is
+      let asked = of_memory (λ e. e ≡ Memory → AsksUnheld s session (Some t)) due refl in
+      (due_to (Command.open_at t) (ok_shaped told s session (Command.open_at t) (λ l e. open_ok s l e session t asked.1.1)) c is, asked)
 
   pub prune_wants : (n : ℕ) → SaysMayWant told s session (Said.prune n)
   prune_wants n c is = due_to (Command.prune n) (ok_shaped told s session (Command.prune n) (λ l e. prune_ok s l e session n)) c is
@@ -311,7 +318,37 @@ module _ (told : ToldFiles) (s : Shape) (session : ℕ) (result : Result code.An
 
 -- ---- behind a run
 
+-- the tokens of views are those that were recorded
+tokens_recorded : (start : Start) (run : Run) (ts : List ℕ) → tokens (map (table_recorded start run) ts) ≡ ts
+tokens_recorded start run [] = refl
+tokens_recorded start run (t ∷ ts) = ap (λ us. t ∷ us) (tokens_recorded start run ts)
+
 module _ (told : ToldFiles) (s : Shape) (session : ℕ) where
+  module _ (from : Opened) (run : Run) (stands : Stands told s from run) where
+    -- what the session doesn't hold by memory, it doesn't hold by the run
+    unheld_in : (t : ℕ) → has_hold s.holds session t ≡ false → holds session t run ≡ false
+    unheld_in t none =
+        sym (stands.stands.shows.holds_now session t) ∙ held_as s stands.ledger stands.carries.shape session t false none
+
+    -- and the newest view is the run's
+    newest_in : greatest (tokens_of s.views) ≡ greatest (view_tokens from.start run)
+    newest_in =
+        let l = stands.ledger in
+        let start = from.start in
+        let kept : tokens_of s.views ≡ map (λ v. v.token) l.views =
+        ap (λ (x : Shape). tokens_of x.views) (sym stands.carries.shape) ∙ map_twice (recorded_view l.schema) (λ (v : View). v.token) l.views in
+        let shown : map (λ v. v.token) l.views ≡ view_tokens start run =
+        sym (map_twice view_shown (λ (v : RecordedTable). v.token) l.views)
+        ∙ ap tokens stands.stands.shows.views_now
+        ∙ tokens_recorded start run (view_tokens start run) in
+        ap greatest (kept ∙ shown)
+
+    newest_unheld : AsksUnheld s session None → holds session (greatest (view_tokens from.start run)) run ≡ false
+    newest_unheld asked = subst (λ t. holds session t run ≡ false) (asked.1 ∙ newest_in) (unheld_in asked.0 asked.2)
+
+    token_unheld : (t : ℕ) → AsksUnheld s session (Some t) → holds session t run ≡ false
+    token_unheld t asked = subst (λ t. holds session t run ≡ false) asked.1.0 (unheld_in asked.0 asked.2)
+
   -- where nothing but that an OK fits is asked for
   fits : (d c : Command) → c ≡ d → IsOkDue told s session c → (IsOkDue told s session d → WantsRightly told s session d) → WantsRightly told s session c
   fits d c is ok as_due = subst (WantsRightly told s session) (sym is) (as_due (subst (IsOkDue told s session) is ok))
@@ -330,8 +367,10 @@ module _ (told : ToldFiles) (s : Shape) (session : ℕ) where
   wants_rightly (Some (Said.chore Chore.sweep)) c is may = fits (Command.chore Chore.sweep) c is may (λ ok. ok)
   wants_rightly (Some (Said.chore Chore.stat)) c is may = fits (Command.chore Chore.stat) c is may (λ ok. ok)
   wants_rightly (Some (Said.delete text)) c is may = fits (Command.delete (id_of text)) c is may (λ ok. ok)
-  wants_rightly (Some Said.open_newest) c is may = fits Command.open_newest c is may (λ ok. ok)
-  wants_rightly (Some (Said.open_at t)) c is may = fits (Command.open_at t) c is may (λ ok. ok)
+  wants_rightly (Some Said.open_newest) c is may =
+      fits Command.open_newest c is may.0 (λ ok from run fields is_run stands. (ok from run fields is_run stands, newest_unheld from run stands may.1))
+  wants_rightly (Some (Said.open_at t)) c is may =
+      fits (Command.open_at t) c is may.0 (λ ok from run fields is_run stands. (ok from run fields is_run stands, token_unheld from run stands t may.1))
   wants_rightly (Some (Said.find t n sort mark text)) c is may = fits (Command.read t (Read.find n sort mark is.0)) c is.2 may (λ ok. ok)
   wants_rightly (Some (Said.facets t dim n text)) c is may = fits (Command.read t (Read.facets dim n is.0)) c is.2 may (λ ok. ok)
   wants_rightly (Some (Said.get t text)) c is may = fits (Command.read t (Read.get (id_of text))) c is may (λ ok. ok)

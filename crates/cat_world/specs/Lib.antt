@@ -4,6 +4,7 @@ pub mod Outlasting
 pub mod Promises
 pub mod Wanting
 pub mod Lines
+pub mod Histories
 pub mod Opening
 pub mod Serving
 pub mod Copies

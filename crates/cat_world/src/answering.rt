@@ -3,6 +3,7 @@ ghost use Rattle.std.specs.Prelude.{◌≡◌};
 ghost use Rattle.cat_model.specs.Run.{Run};
 ghost use Rattle.cat_model.specs.Served.{NamesFiles};
 ghost use Rattle.cat_model.specs.Table.{Opened};
+ghost use Rattle.cat_ledger.specs.Histories.{GoesBy};
 ghost use Rattle.cat_lines.specs.Line.{said_of};
 ghost use Rattle.cat_replies.specs.Reply.{reply_of};
 ghost use Rattle.cat_world.specs.Lines.{Does, StepsLine};
@@ -22,6 +23,7 @@ impl<D: Directory + Shelf> World<D> {
     /// Answers a line, whose session stands in the reply.
     fn answer(&mut self, line: &Line) -> Result<Answer, Refusal>
         ensures does { Does D.bytes D.can_fail line.now.session (said_of line.now.command) self.old (reply_of result) self.new }
+        ensures history { GoesBy D.may_leave (said_of line.now.command) (reply_of result) self.old.ledger self.new.ledger }
     {
         let session = line.session;
         match line.command {
@@ -54,12 +56,15 @@ impl<D: Directory + Shelf> World<D> {
     /// directory doesn't tell of its files, the text of a stored item alone may be another of that length. The files stand of
     /// each token that is recorded or held and of each commit that is kept, and a crash leaves those of the newest commit.
     /// [`Refusal::Memory`] is told only where an OK fits, so that it hides no other refusal; and never of a CLOSE or of a line
-    /// without a form. Of a PUT that is known as far as its length and its UTF-8, and of a DELW as far as its query.
+    /// without a form, nor of an OPEN of a token that the session holds. Of a PUT that is known as far as its length and its UTF-8,
+    /// and of a DELW as far as its query. What the line makes of commits is known by its reply, from which
+    /// [`histories_last`](World::histories_last) tells what a crash leaves.
     pub fn step(&mut self, line: &Line) -> Reply
         ensures session { result.session ≡ line.now.session }
         ensures run { StepsLine D.bytes line.now.session (said_of line.now.command) self.old (reply_of result.answer) self.new }
         ensures promised { KeepsPromises D.bytes self.new }
         ensures outlasts { OutlastsCrash D.bytes D.may_leave self.new }
+        ensures history { GoesBy D.may_leave (said_of line.now.command) (reply_of result.answer) self.old.ledger self.new.ledger }
         ensures told { TellsNeeded (shape_of self.old) (said_of line.now.command) (reply_of result.answer) }
         ensures names { NamesFiles (reply_of result.answer) }
         ensures schema { (shape_of self.new).schema ≡ (shape_of self.old).schema }

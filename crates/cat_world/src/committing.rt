@@ -2,6 +2,7 @@
 ghost use Rattle.std.specs.Prelude.{ℕ, Some};
 ghost use Rattle.cat_model.specs.Lines.{Said};
 ghost use Rattle.cat_replies.specs.Reply.{reply_of};
+ghost use Rattle.cat_ledger.specs.Histories.{GoesBy};
 ghost use Rattle.cat_world.specs.Lines.{Does};
 
 use crate::world::World;
@@ -13,6 +14,7 @@ impl<D: Directory + Shelf> World<D> {
     /// Answers a COMMIT.
     pub(crate) fn answer_commit(&mut self, text: &str) -> Result<Answer, Refusal>
         ensures does { (session : ℕ) → Does D.bytes D.can_fail session (Some (Said.commit text.now)) self.old (reply_of result) self.new }
+        ensures history { GoesBy D.may_leave (Some (Said.commit text.now)) (reply_of result) self.old.ledger self.new.ledger }
     {
         cat_keeping::commit(&mut self.ledger, text)
     }
@@ -20,6 +22,7 @@ impl<D: Directory + Shelf> World<D> {
     /// Answers a SNAP.
     pub(crate) fn answer_snapshot(&mut self) -> Result<Answer, Refusal>
         ensures does { (session : ℕ) → Does D.bytes D.can_fail session (Some Said.snapshot) self.old (reply_of result) self.new }
+        ensures history { GoesBy D.may_leave (Some Said.snapshot) (reply_of result) self.old.ledger self.new.ledger }
     {
         cat_keeping::snapshot(&mut self.ledger)
     }
@@ -27,6 +30,7 @@ impl<D: Directory + Shelf> World<D> {
     /// Answers an UNSNAP.
     pub(crate) fn answer_unsnapshot(&mut self, generation: Generation) -> Result<Answer, Refusal>
         ensures does { (session : ℕ) → Does D.bytes D.can_fail session (Some (Said.release_snapshot generation)) self.old (reply_of result) self.new }
+        ensures history { GoesBy D.may_leave (Some (Said.release_snapshot generation)) (reply_of result) self.old.ledger self.new.ledger }
     {
         cat_keeping::release_snapshot(&mut self.ledger, generation)
     }

@@ -3,6 +3,7 @@ ghost use Rattle.std.specs.Prelude.{Some};
 ghost use Rattle.cat_model.specs.Lines.{Said};
 ghost use Rattle.cat_replies.specs.Reply.{reply_of};
 ghost use Rattle.cat_holding.specs.Holding.{said_open};
+ghost use Rattle.cat_ledger.specs.Histories.{GoesBy};
 ghost use Rattle.cat_world.specs.Lines.{Does};
 
 use crate::world::World;
@@ -18,6 +19,7 @@ impl<D: Directory + Shelf> World<D> {
         token: Option<Token>,
     ) -> Result<Answer, Refusal>
         ensures does { Does D.bytes D.can_fail session (Some (said_open token)) self.old (reply_of result) self.new }
+        ensures history { GoesBy D.may_leave (Some (said_open token)) (reply_of result) self.old.ledger self.new.ledger }
     {
         cat_holding::open(&mut self.ledger, &mut self.rights, session, token)
     }
@@ -29,6 +31,7 @@ impl<D: Directory + Shelf> World<D> {
         token: Token,
     ) -> Result<Answer, Refusal>
         ensures does { Does D.bytes D.can_fail session (Some (Said.close token)) self.old (reply_of result) self.new }
+        ensures history { GoesBy D.may_leave (Some (Said.close token)) (reply_of result) self.old.ledger self.new.ledger }
     {
         cat_holding::close(&mut self.ledger, &mut self.rights, session, token)
     }
@@ -52,6 +55,7 @@ impl<D: Directory + Shelf> World<D> {
         id: &str,
     ) -> Result<Answer, Refusal>
         ensures does { Does D.bytes D.can_fail session (Some (Said.get token id.now)) self.old (reply_of result) self.new }
+        ensures history { GoesBy D.may_leave (Some (Said.get token id.now)) (reply_of result) self.old.ledger self.new.ledger }
     {
         cat_holding::get(&mut self.ledger, &self.rights, session, token, id)
     }

@@ -4,6 +4,7 @@ ghost use Rattle.cat_model.specs.Lines.{Said};
 ghost use Rattle.cat_model.specs.Run as run;
 ghost use Rattle.cat_keeping.specs.Chores.{chore_of};
 ghost use Rattle.cat_replies.specs.Reply.{reply_of};
+ghost use Rattle.cat_ledger.specs.Histories.{GoesBy};
 ghost use Rattle.cat_world.specs.Lines.{Does};
 
 use crate::world::World;
@@ -17,6 +18,7 @@ impl<D: Directory + Shelf> World<D> {
     /// Answers a REFRESH.
     pub(crate) fn answer_refresh(&mut self) -> Result<Answer, Refusal>
         ensures does { (session : ℕ) → Does D.bytes D.can_fail session (Some Said.refresh) self.old (reply_of result) self.new }
+        ensures history { GoesBy D.may_leave (Some Said.refresh) (reply_of result) self.old.ledger self.new.ledger }
     {
         cat_keeping::refresh(&mut self.ledger)
     }
@@ -24,6 +26,7 @@ impl<D: Directory + Shelf> World<D> {
     /// Answers a PRUNE.
     pub(crate) fn answer_prune(&mut self, count: u64) -> Result<Answer, Refusal>
         ensures does { (session : ℕ) → Does D.bytes D.can_fail session (Some (Said.prune count)) self.old (reply_of result) self.new }
+        ensures history { GoesBy D.may_leave (Some (Said.prune count)) (reply_of result) self.old.ledger self.new.ledger }
     {
         cat_keeping::prune(&mut self.ledger, count)
     }
@@ -35,6 +38,7 @@ impl<D: Directory + Shelf> World<D> {
         chore: Chore,
     ) -> Result<Answer, Refusal>
         ensures does { Does D.bytes D.can_fail session (Some (Said.chore (chore_of chore))) self.old (reply_of result) self.new }
+        ensures history { GoesBy D.may_leave (Some (Said.chore (chore_of chore))) (reply_of result) self.old.ledger self.new.ledger }
     {
         cat_keeping::maintain(self.alloc, &mut self.ledger, &self.filters, session, chore)
     }
@@ -42,6 +46,7 @@ impl<D: Directory + Shelf> World<D> {
     /// Answers a WARM.
     pub(crate) fn answer_warm(&mut self, session: SessionNo) -> Result<Answer, Refusal>
         ensures does { Does D.bytes D.can_fail session (Some (Said.chore run.Chore.warm)) self.old (reply_of result) self.new }
+        ensures history { GoesBy D.may_leave (Some (Said.chore run.Chore.warm)) (reply_of result) self.old.ledger self.new.ledger }
     {
         // The segments of now agree with those of the recorded views, whose sets are kept too.
         segments_are_one();

@@ -6,6 +6,7 @@ mod committing;
 mod copying;
 mod holding;
 mod keeping;
+mod lasting;
 mod machine;
 mod opening;
 mod reading;

@@ -4,6 +4,8 @@
 ghost use Rattle.std.specs.Prelude.{◌≡◌, [], IfOk, None};
 ghost use Rattle.cat_model.specs.Served.{SpellsSchema};
 ghost use Rattle.cat_model.specs.Text.{Text};
+ghost use Rattle.cat_ledger.specs.Histories.{LeavesNoneAhead};
+ghost use Rattle.cat_ledger.specs.Lasting.{AlwaysTells};
 ghost use Rattle.cat_world.specs.Opening.{OpensWorld};
 
 use crate::world::World;
@@ -49,8 +51,12 @@ impl<D: Directory + Shelf> World<D> {
     /// of what is no schema; then [`Refusal::Kind`] where the commit has another schema, [`Refusal::Damaged`] where its
     /// files don't hold it, [`Refusal::Device`] where the directory fails. [`Refusal::Memory`] is told only of a line of the
     /// form.
+    ///
+    /// A crash leaves no commit that is newer than the one that was opened, where such directories always tell of their files:
+    /// so [`histories_last`](World::histories_last) speaks of what a crash leaves after the lines that come.
     pub fn open(alloc: Global, device: D, line: &str) -> Result<World<D>, Unopened<D>>
-        ensures { OpensWorld D.bytes device line.now result }
+        ensures opens { OpensWorld D.bytes device line.now result }
+        ensures ahead { IfOk result (λ w. AlwaysTells D.bytes → LeavesNoneAhead D.may_leave w.ledger) }
     {
         if MAX_LINE_BYTES < line.len() {
             return Err(Unopened {

@@ -4,6 +4,7 @@ ghost use Rattle.cat_model.specs.Lines.{Said};
 ghost use Rattle.cat_lines.specs.Line.{sort_said};
 ghost use Rattle.cat_search.specs.Sorts.{sort_of};
 ghost use Rattle.cat_replies.specs.Reply.{reply_of};
+ghost use Rattle.cat_ledger.specs.Histories.{GoesBy};
 ghost use Rattle.cat_world.specs.Lines.{Does};
 
 use crate::world::World;
@@ -35,6 +36,9 @@ impl<D: Directory + Shelf> World<D> {
         ensures does { Does D.bytes D.can_fail session
             (Some (Said.find find.entry.token find.entry.count (sort_said find.entry.sort) find.entry.mark find.entry.query.now))
             self.old (reply_of result) self.new }
+        ensures history { GoesBy D.may_leave
+            (Some (Said.find find.entry.token find.entry.count (sort_said find.entry.sort) find.entry.mark find.entry.query.now))
+            (reply_of result) self.old.ledger self.new.ledger }
     {
         let right = self.rights.get(session, find.token);
         let ask = Ask {
@@ -61,6 +65,9 @@ impl<D: Directory + Shelf> World<D> {
         ensures does { Does D.bytes D.can_fail session
             (Some (Said.facets facets.entry.token facets.entry.dimension.now facets.entry.count facets.entry.query.now))
             self.old (reply_of result) self.new }
+        ensures history { GoesBy D.may_leave
+            (Some (Said.facets facets.entry.token facets.entry.dimension.now facets.entry.count facets.entry.query.now))
+            (reply_of result) self.old.ledger self.new.ledger }
     {
         let right = self.rights.get(session, facets.token);
         // The segments of what is recorded agree on their numbers, which the kept states are found by.

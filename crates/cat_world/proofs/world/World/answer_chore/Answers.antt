@@ -12,10 +12,11 @@ invariant_of-self g c =
     world_stays g.D.Holder.bytes c.args.session (Said.chore (chore_of c.args.chore)) c.self.inside.ledger (reply_of c.maintain.result) c.maintain.new.ledger c.self.inside.rights
     refl c.self.invariant c.maintain.ensures.answers
 
-pub returns : goal.returns
-returns g c = rw (← c.self.view_is) (record {
-  does =
-      does g.D.Holder.bytes g.D.Holder.can_fail c.args.session (Said.chore (chore_of c.args.chore)) c.self.inside.ledger (reply_of c.maintain.result) c.maintain.new.ledger
-      c.self.inside.rights c.self.inside.rights c.self.invariant c.maintain.ensures.answers c.maintain.ensures.can c.maintain.ensures.policy refl
-      (λ k. maintained_wants (g.D.Holder.bytes (device_in c.self.inside.ledger)) (shape_in c.self.inside.ledger) c.args.session c.maintain.result (stopped c.maintain.result k) (policy_in c.self.inside.ledger) c.args.chore c.maintain.ensures.foreign c.maintain.ensures.refusal);
-})
+pub returns-clause-does : goal.returns-clause-does
+returns-clause-does g c = rw (← c.self.view_is) (
+    does g.D.Holder.bytes g.D.Holder.can_fail c.args.session (Said.chore (chore_of c.args.chore)) c.self.inside.ledger (reply_of c.maintain.result) c.maintain.new.ledger
+    c.self.inside.rights c.self.inside.rights c.self.invariant c.maintain.ensures.answers c.maintain.ensures.can c.maintain.ensures.policy refl
+    (λ k. maintained_wants (g.D.Holder.bytes (device_in c.self.inside.ledger)) (shape_in c.self.inside.ledger) c.args.session c.maintain.result (stopped c.maintain.result k) (policy_in c.self.inside.ledger) c.args.chore c.maintain.ensures.foreign c.maintain.ensures.refusal))
+
+pub returns-clause-history : goal.returns-clause-history
+returns-clause-history g c = rw (← c.self.view_is) c.maintain.ensures.history

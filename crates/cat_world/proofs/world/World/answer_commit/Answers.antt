@@ -11,10 +11,11 @@ invariant_of-self g c =
     world_stays g.D.Holder.bytes 0 (Said.commit c.args.text.now) c.self.inside.ledger (reply_of c.commit.result) c.commit.new.ledger c.self.inside.rights refl
     c.self.invariant (c.commit.ensures.answers 0)
 
-pub returns : goal.returns
-returns g c = rw (← c.self.view_is) (record {
-  does = λ session.
-      does g.D.Holder.bytes g.D.Holder.can_fail session (Said.commit c.args.text.now) c.self.inside.ledger (reply_of c.commit.result) c.commit.new.ledger
-      c.self.inside.rights c.self.inside.rights c.self.invariant (c.commit.ensures.answers session) c.commit.ensures.can c.commit.ensures.policy refl
-      (λ k. commit_wants (g.D.Holder.bytes (device_in c.self.inside.ledger)) (shape_in c.self.inside.ledger) session c.commit.result (stopped c.commit.result k) _ c.args.text.now c.commit.ensures.wrong c.commit.ensures.none);
-})
+pub returns-clause-does : goal.returns-clause-does
+returns-clause-does g c = rw (← c.self.view_is) (λ session.
+    does g.D.Holder.bytes g.D.Holder.can_fail session (Said.commit c.args.text.now) c.self.inside.ledger (reply_of c.commit.result) c.commit.new.ledger
+    c.self.inside.rights c.self.inside.rights c.self.invariant (c.commit.ensures.answers session) c.commit.ensures.can c.commit.ensures.policy refl
+    (λ k. commit_wants (g.D.Holder.bytes (device_in c.self.inside.ledger)) (shape_in c.self.inside.ledger) session c.commit.result (stopped c.commit.result k) _ c.args.text.now c.commit.ensures.wrong c.commit.ensures.none))
+
+pub returns-clause-history : goal.returns-clause-history
+returns-clause-history g c = rw (← c.self.view_is) c.commit.ensures.history

@@ -1,7 +1,8 @@
-use Rattle.std.proofs.Common.{refl, sym, ◌∙◌, ap, subst}
+use Rattle.std.proofs.Common.{refl, sym, ◌∙◌, ap}
 use Rattle.std.specs.Prelude.{option_map}
 use Rattle.cat_model.specs.Lines.{Said}
 use Rattle.cat_replies.specs.Reply.{reply_of}
+use Rattle.cat_ledger.proofs.Histories.{nothing_goes}
 use Rattle.cat_ledger.specs.Ledgers.{device_in, policy_in, shape_in}
 use Rattle.cat_holding.proofs.Answered.{option_map_twice}
 use Rattle.cat_ledger_sets.proofs.Right.{remembered_are_right}
@@ -38,22 +39,23 @@ invariant_of-self g c =
           w.kept;
     }
 
-pub returns : goal.returns
-returns g c = rw (← c.self.view_is) (record {
-  does =
-      let facets = c.args.facets in
-      let ledger = c.self.inside.ledger in
-      let o = option_map (λ h. h.now.view) c.get-right.result in
-      does g.D.Holder.bytes g.D.Holder.can_fail c.args.session (Said.facets facets.token facets.dimension.now facets.count facets.query.now)
-      ledger (reply_of c.count_facets.result) ledger c.self.inside.rights c.self.inside.rights c.self.invariant
-      (facets_answers (policy_in ledger) (g.D.Holder.bytes (device_in ledger)) (shape_in ledger) c.args.session facets.token c.self.inside.rights
-      c.self.invariant.counted facets.dimension.now facets.count facets.query.now (reply_of c.count_facets.result) o
-      (sym (option_map_twice (λ h. h.now) (λ h. h.view) c.get-right.result) ∙ ap (option_map (λ h. h.view)) c.get-right.ensures)
-      (rw c.schema.ensures at c.count_facets.ensures.told))
-      (λ x. x) refl refl
-      (λ k.
-      facets_wants (g.D.Holder.bytes (device_in ledger)) (shape_in ledger) c.args.session c.count_facets.result (stopped c.count_facets.result k)
-      c.get-right.result (λ h. h.now) facets.token c.self.inside.rights c.self.invariant.counted facets.dimension.now facets.count facets.query.now
-      c.get-right.ensures (rw c.schema.ensures at c.count_facets.ensures.fault) (rw c.schema.ensures at c.count_facets.ensures.unheld)
-      (rw c.schema.ensures at c.count_facets.ensures.due));
-})
+pub returns-clause-does : goal.returns-clause-does
+returns-clause-does g c = rw (← c.self.view_is) (
+    let facets = c.args.facets in
+    let ledger = c.self.inside.ledger in
+    let o = option_map (λ h. h.now.view) c.get-right.result in
+    does g.D.Holder.bytes g.D.Holder.can_fail c.args.session (Said.facets facets.token facets.dimension.now facets.count facets.query.now)
+    ledger (reply_of c.count_facets.result) ledger c.self.inside.rights c.self.inside.rights c.self.invariant
+    (facets_answers (policy_in ledger) (g.D.Holder.bytes (device_in ledger)) (shape_in ledger) c.args.session facets.token c.self.inside.rights
+    c.self.invariant.counted facets.dimension.now facets.count facets.query.now (reply_of c.count_facets.result) o
+    (sym (option_map_twice (λ h. h.now) (λ h. h.view) c.get-right.result) ∙ ap (option_map (λ h. h.view)) c.get-right.ensures)
+    (rw c.schema.ensures at c.count_facets.ensures.told))
+    (λ x. x) refl refl
+    (λ k.
+    facets_wants (g.D.Holder.bytes (device_in ledger)) (shape_in ledger) c.args.session c.count_facets.result (stopped c.count_facets.result k)
+    c.get-right.result (λ h. h.now) facets.token c.self.inside.rights c.self.invariant.counted facets.dimension.now facets.count facets.query.now
+    c.get-right.ensures (rw c.schema.ensures at c.count_facets.ensures.fault) (rw c.schema.ensures at c.count_facets.ensures.unheld)
+    (rw c.schema.ensures at c.count_facets.ensures.due)))
+
+pub returns-clause-history : goal.returns-clause-history
+returns-clause-history g c = rw (← c.self.view_is) (nothing_goes g.D.Holder.may_leave c.self.inside.ledger)

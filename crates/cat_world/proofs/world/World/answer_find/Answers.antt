@@ -1,9 +1,10 @@
-use Rattle.std.proofs.Common.{refl, sym, ◌∙◌, ap, subst}
+use Rattle.std.proofs.Common.{refl, sym, ◌∙◌, ap}
 use Rattle.std.specs.Prelude.{option_map}
 use Rattle.cat_model.specs.Lines.{Said}
 use Rattle.cat_lines.specs.Line.{sort_said}
 use Rattle.cat_search.specs.Sorts.{sort_of}
 use Rattle.cat_replies.specs.Reply.{reply_of}
+use Rattle.cat_ledger.proofs.Histories.{nothing_goes}
 use Rattle.cat_ledger.specs.Ledgers.{device_in, policy_in, shape_in}
 use Rattle.cat_holding.proofs.Answered.{option_map_twice}
 use Rattle.cat_ledger_sets.proofs.Right.{remembered_are_right}
@@ -28,22 +29,23 @@ invariant_of-self g c = record {
   kept = c.self.invariant.kept;
 }
 
-pub returns : goal.returns
-returns g c = rw (← c.self.view_is) (record {
-  does =
-      let find = c.args.find in
-      let ledger = c.self.inside.ledger in
-      let o = option_map (λ h. h.now.view) c.get-right.result in
-      does g.D.Holder.bytes g.D.Holder.can_fail c.args.session (Said.find find.token find.count (sort_said find.sort) find.mark find.query.now)
-      ledger (reply_of c.find.result) ledger c.self.inside.rights c.self.inside.rights c.self.invariant
-      (find_answers (policy_in ledger) (g.D.Holder.bytes (device_in ledger)) (shape_in ledger) c.args.session find.token c.self.inside.rights
-      c.self.invariant.counted find.count (sort_of c.sort_asked.result) (sort_said find.sort) find.mark find.query.now (reply_of c.find.result) o
-      c.sort_asked.ensures (sym (option_map_twice (λ h. h.now) (λ h. h.view) c.get-right.result) ∙ ap (option_map (λ h. h.view)) c.get-right.ensures)
-      (rw c.schema.ensures at c.find.ensures.told))
-      (λ x. x) refl refl
-      (λ k.
-      find_wants (g.D.Holder.bytes (device_in ledger)) (shape_in ledger) c.args.session c.find.result (stopped c.find.result k) c.get-right.result (λ h. h.now)
-      find.token c.self.inside.rights c.self.invariant.counted find.count (sort_of c.sort_asked.result) (sort_said find.sort) find.mark find.query.now
-      c.sort_asked.ensures c.get-right.ensures (rw c.schema.ensures at c.find.ensures.fault) (rw c.schema.ensures at c.find.ensures.unheld)
-      (rw c.schema.ensures at c.find.ensures.due));
-})
+pub returns-clause-does : goal.returns-clause-does
+returns-clause-does g c = rw (← c.self.view_is) (
+    let find = c.args.find in
+    let ledger = c.self.inside.ledger in
+    let o = option_map (λ h. h.now.view) c.get-right.result in
+    does g.D.Holder.bytes g.D.Holder.can_fail c.args.session (Said.find find.token find.count (sort_said find.sort) find.mark find.query.now)
+    ledger (reply_of c.find.result) ledger c.self.inside.rights c.self.inside.rights c.self.invariant
+    (find_answers (policy_in ledger) (g.D.Holder.bytes (device_in ledger)) (shape_in ledger) c.args.session find.token c.self.inside.rights
+    c.self.invariant.counted find.count (sort_of c.sort_asked.result) (sort_said find.sort) find.mark find.query.now (reply_of c.find.result) o
+    c.sort_asked.ensures (sym (option_map_twice (λ h. h.now) (λ h. h.view) c.get-right.result) ∙ ap (option_map (λ h. h.view)) c.get-right.ensures)
+    (rw c.schema.ensures at c.find.ensures.told))
+    (λ x. x) refl refl
+    (λ k.
+    find_wants (g.D.Holder.bytes (device_in ledger)) (shape_in ledger) c.args.session c.find.result (stopped c.find.result k) c.get-right.result (λ h. h.now)
+    find.token c.self.inside.rights c.self.invariant.counted find.count (sort_of c.sort_asked.result) (sort_said find.sort) find.mark find.query.now
+    c.sort_asked.ensures c.get-right.ensures (rw c.schema.ensures at c.find.ensures.fault) (rw c.schema.ensures at c.find.ensures.unheld)
+    (rw c.schema.ensures at c.find.ensures.due)))
+
+pub returns-clause-history : goal.returns-clause-history
+returns-clause-history g c = rw (← c.self.view_is) (nothing_goes g.D.Holder.may_leave c.self.inside.ledger)

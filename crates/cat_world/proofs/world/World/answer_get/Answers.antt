@@ -11,10 +11,11 @@ invariant_of-self g c =
     world_stays g.D.Holder.bytes c.args.session (Said.get c.args.token c.args.id.now) c.self.inside.ledger (reply_of c.get.result) c.get.new.ledger c.self.inside.rights
     refl c.self.invariant c.get.ensures.answers
 
-pub returns : goal.returns
-returns g c = rw (← c.self.view_is) (record {
-  does =
-      does g.D.Holder.bytes g.D.Holder.can_fail c.args.session (Said.get c.args.token c.args.id.now) c.self.inside.ledger (reply_of c.get.result) c.get.new.ledger
-      c.self.inside.rights c.self.inside.rights c.self.invariant c.get.ensures.answers c.get.ensures.can c.get.ensures.policy refl
-      (λ k. get_wants (g.D.Holder.bytes (device_in c.self.inside.ledger)) (shape_in c.self.inside.ledger) c.args.session c.get.result (stopped c.get.result k) c.args.token c.args.id.now c.get.ensures.wrong c.get.ensures.due);
-})
+pub returns-clause-does : goal.returns-clause-does
+returns-clause-does g c = rw (← c.self.view_is) (
+    does g.D.Holder.bytes g.D.Holder.can_fail c.args.session (Said.get c.args.token c.args.id.now) c.self.inside.ledger (reply_of c.get.result) c.get.new.ledger
+    c.self.inside.rights c.self.inside.rights c.self.invariant c.get.ensures.answers c.get.ensures.can c.get.ensures.policy refl
+    (λ k. get_wants (g.D.Holder.bytes (device_in c.self.inside.ledger)) (shape_in c.self.inside.ledger) c.args.session c.get.result (stopped c.get.result k) c.args.token c.args.id.now c.get.ensures.wrong c.get.ensures.due))
+
+pub returns-clause-history : goal.returns-clause-history
+returns-clause-history g c = rw (← c.self.view_is) c.get.ensures.history

@@ -1,8 +1,8 @@
-use Rattle.std.proofs.Common.{refl, subst}
-use Rattle.cat_model.specs.Lines.{Said}
+use Rattle.std.proofs.Common.{subst}
 use Rattle.cat_replies.specs.Reply.{reply_of}
 use Rattle.cat_holding.specs.Holding.{said_open}
 use Rattle.cat_ledger.specs.Ledgers.{device_in, shape_in}
+use Rattle.cat_world.proofs.Histories.{opens_go}
 use Rattle.cat_world.proofs.Kept.{carried_on, does, sets_on, states_on}
 use Rattle.cat_world.proofs.Names.{opens_say_none}
 use Rattle.cat_world.proofs.Wanted.{stopped, open_wants}
@@ -22,10 +22,11 @@ invariant_of-self g c = record {
       c.self.invariant c.«open».ensures.answers;
 }
 
-pub returns : goal.returns
-returns g c = rw (← c.self.view_is) (record {
-  does =
-      does g.D.Holder.bytes g.D.Holder.can_fail c.args.session (said_open c.args.token) c.self.inside.ledger (reply_of c.«open».result) c.«open».new.ledger
-      c.self.inside.rights c.«open».new.rights c.self.invariant c.«open».ensures.answers (subst g.D.Holder.can_fail c.«open».ensures.same) c.«open».ensures.policy (opens_say_none c.args.token)
-      (λ k. open_wants (g.D.Holder.bytes (device_in c.self.inside.ledger)) (shape_in c.self.inside.ledger) c.args.session c.«open».result (stopped c.«open».result k) c.args.token c.«open».ensures.due);
-})
+pub returns-clause-does : goal.returns-clause-does
+returns-clause-does g c = rw (← c.self.view_is) (
+    does g.D.Holder.bytes g.D.Holder.can_fail c.args.session (said_open c.args.token) c.self.inside.ledger (reply_of c.«open».result) c.«open».new.ledger
+    c.self.inside.rights c.«open».new.rights c.self.invariant c.«open».ensures.answers (subst g.D.Holder.can_fail c.«open».ensures.same) c.«open».ensures.policy (opens_say_none c.args.token)
+    (λ k. open_wants (g.D.Holder.bytes (device_in c.self.inside.ledger)) (shape_in c.self.inside.ledger) c.args.session c.«open».result (stopped c.«open».result k) c.args.token c.«open».ensures.due))
+
+pub returns-clause-history : goal.returns-clause-history
+returns-clause-history g c = rw (← c.self.view_is) (opens_go g.D.Holder.may_leave c.args.token (reply_of c.«open».result) c.self.inside.ledger c.«open».new.ledger c.«open».ensures.history)

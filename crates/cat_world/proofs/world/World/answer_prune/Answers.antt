@@ -11,10 +11,11 @@ invariant_of-self g c =
     world_stays g.D.Holder.bytes 0 (Said.prune c.args.count) c.self.inside.ledger (reply_of c.prune.result) c.prune.new.ledger c.self.inside.rights refl
     c.self.invariant (c.prune.ensures.answers 0)
 
-pub returns : goal.returns
-returns g c = rw (← c.self.view_is) (record {
-  does = λ session.
-      does g.D.Holder.bytes g.D.Holder.can_fail session (Said.prune c.args.count) c.self.inside.ledger (reply_of c.prune.result) c.prune.new.ledger
-      c.self.inside.rights c.self.inside.rights c.self.invariant (c.prune.ensures.answers session) c.prune.ensures.can c.prune.ensures.policy refl
-      (λ k. prune_wants (g.D.Holder.bytes (device_in c.self.inside.ledger)) (shape_in c.self.inside.ledger) session c.prune.result (stopped c.prune.result k) c.args.count);
-})
+pub returns-clause-does : goal.returns-clause-does
+returns-clause-does g c = rw (← c.self.view_is) (λ session.
+    does g.D.Holder.bytes g.D.Holder.can_fail session (Said.prune c.args.count) c.self.inside.ledger (reply_of c.prune.result) c.prune.new.ledger
+    c.self.inside.rights c.self.inside.rights c.self.invariant (c.prune.ensures.answers session) c.prune.ensures.can c.prune.ensures.policy refl
+    (λ k. prune_wants (g.D.Holder.bytes (device_in c.self.inside.ledger)) (shape_in c.self.inside.ledger) session c.prune.result (stopped c.prune.result k) c.args.count))
+
+pub returns-clause-history : goal.returns-clause-history
+returns-clause-history g c = rw (← c.self.view_is) c.prune.ensures.history

@@ -11,10 +11,11 @@ invariant_of-self g c =
     world_stays g.D.Holder.bytes 0 (Said.put c.args.text.now) c.self.inside.ledger (reply_of c.put.result) c.put.new.ledger c.self.inside.rights refl
     c.self.invariant (c.put.ensures.answers 0)
 
-pub returns : goal.returns
-returns g c = rw (← c.self.view_is) (record {
-  does = λ session.
-      does g.D.Holder.bytes g.D.Holder.can_fail session (Said.put c.args.text.now) c.self.inside.ledger (reply_of c.put.result) c.put.new.ledger
-      c.self.inside.rights c.self.inside.rights c.self.invariant (c.put.ensures.answers session) c.put.ensures.can c.put.ensures.policy refl
-      (λ k. put_wants (g.D.Holder.bytes (device_in c.self.inside.ledger)) (shape_in c.self.inside.ledger) session c.put.result (stopped c.put.result k) c.args.text.now c.put.ensures.due);
-})
+pub returns-clause-does : goal.returns-clause-does
+returns-clause-does g c = rw (← c.self.view_is) (λ session.
+    does g.D.Holder.bytes g.D.Holder.can_fail session (Said.put c.args.text.now) c.self.inside.ledger (reply_of c.put.result) c.put.new.ledger
+    c.self.inside.rights c.self.inside.rights c.self.invariant (c.put.ensures.answers session) c.put.ensures.can c.put.ensures.policy refl
+    (λ k. put_wants (g.D.Holder.bytes (device_in c.self.inside.ledger)) (shape_in c.self.inside.ledger) session c.put.result (stopped c.put.result k) c.args.text.now c.put.ensures.due))
+
+pub returns-clause-history : goal.returns-clause-history
+returns-clause-history g c = rw (← c.self.view_is) c.put.ensures.history

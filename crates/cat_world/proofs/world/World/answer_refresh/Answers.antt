@@ -11,10 +11,11 @@ invariant_of-self g c =
     world_stays g.D.Holder.bytes 0 Said.refresh c.self.inside.ledger (reply_of c.refresh.result) c.refresh.new.ledger c.self.inside.rights refl
     c.self.invariant (c.refresh.ensures.answers 0)
 
-pub returns : goal.returns
-returns g c = rw (← c.self.view_is) (record {
-  does = λ session.
-      does g.D.Holder.bytes g.D.Holder.can_fail session Said.refresh c.self.inside.ledger (reply_of c.refresh.result) c.refresh.new.ledger
-      c.self.inside.rights c.self.inside.rights c.self.invariant (c.refresh.ensures.answers session) c.refresh.ensures.can c.refresh.ensures.policy refl
-      (λ k. refresh_wants (g.D.Holder.bytes (device_in c.self.inside.ledger)) (shape_in c.self.inside.ledger) session c.refresh.result (stopped c.refresh.result k) c.refresh.ensures.full c.refresh.ensures.due);
-})
+pub returns-clause-does : goal.returns-clause-does
+returns-clause-does g c = rw (← c.self.view_is) (λ session.
+    does g.D.Holder.bytes g.D.Holder.can_fail session Said.refresh c.self.inside.ledger (reply_of c.refresh.result) c.refresh.new.ledger
+    c.self.inside.rights c.self.inside.rights c.self.invariant (c.refresh.ensures.answers session) c.refresh.ensures.can c.refresh.ensures.policy refl
+    (λ k. refresh_wants (g.D.Holder.bytes (device_in c.self.inside.ledger)) (shape_in c.self.inside.ledger) session c.refresh.result (stopped c.refresh.result k) c.refresh.ensures.full c.refresh.ensures.due))
+
+pub returns-clause-history : goal.returns-clause-history
+returns-clause-history g c = rw (← c.self.view_is) c.refresh.ensures.history

@@ -11,10 +11,11 @@ invariant_of-self g c =
     world_stays g.D.Holder.bytes 0 Said.snapshot c.self.inside.ledger (reply_of c.snapshot.result) c.snapshot.new.ledger c.self.inside.rights refl
     c.self.invariant (c.snapshot.ensures.answers 0)
 
-pub returns : goal.returns
-returns g c = rw (← c.self.view_is) (record {
-  does = λ session.
-      does g.D.Holder.bytes g.D.Holder.can_fail session Said.snapshot c.self.inside.ledger (reply_of c.snapshot.result) c.snapshot.new.ledger
-      c.self.inside.rights c.self.inside.rights c.self.invariant (c.snapshot.ensures.answers session) c.snapshot.ensures.can c.snapshot.ensures.policy refl
-      (λ k. snap_wants (g.D.Holder.bytes (device_in c.self.inside.ledger)) (shape_in c.self.inside.ledger) session c.snapshot.result (stopped c.snapshot.result k) c.snapshot.ensures.due);
-})
+pub returns-clause-does : goal.returns-clause-does
+returns-clause-does g c = rw (← c.self.view_is) (λ session.
+    does g.D.Holder.bytes g.D.Holder.can_fail session Said.snapshot c.self.inside.ledger (reply_of c.snapshot.result) c.snapshot.new.ledger
+    c.self.inside.rights c.self.inside.rights c.self.invariant (c.snapshot.ensures.answers session) c.snapshot.ensures.can c.snapshot.ensures.policy refl
+    (λ k. snap_wants (g.D.Holder.bytes (device_in c.self.inside.ledger)) (shape_in c.self.inside.ledger) session c.snapshot.result (stopped c.snapshot.result k) c.snapshot.ensures.due))
+
+pub returns-clause-history : goal.returns-clause-history
+returns-clause-history g c = rw (← c.self.view_is) c.snapshot.ensures.history

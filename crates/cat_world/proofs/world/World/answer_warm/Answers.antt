@@ -3,6 +3,7 @@ use Rattle.cat_model.specs.Lines.{Said}
 use Rattle.cat_model.specs.Run.{Chore}
 use Rattle.cat_filters.specs.Filters.{segments_of}
 use Rattle.cat_replies.specs.Reply.{reply_of}
+use Rattle.cat_ledger.proofs.Histories.{nothing_goes}
 use Rattle.cat_ledger.specs.Ledgers.{device_in, shape_in}
 use Rattle.cat_ledger_sets.proofs.Right.{current_are_among, warmed_are_right}
 use Rattle.cat_world.proofs.Kept.{does}
@@ -23,10 +24,11 @@ invariant_of-self g c =
       kept = w.kept;
     }
 
-pub returns : goal.returns
-returns g c = rw (← c.self.view_is) (record {
-  does =
-      does g.D.Holder.bytes g.D.Holder.can_fail c.args.session (Said.chore Chore.warm) c.self.inside.ledger (reply_of c.warm.result) c.self.inside.ledger
-      c.self.inside.rights c.self.inside.rights c.self.invariant c.warm.ensures.answers (λ x. x) refl refl
-      (λ k. warm_wants (g.D.Holder.bytes (device_in c.self.inside.ledger)) (shape_in c.self.inside.ledger) c.args.session c.warm.result (stopped c.warm.result k) c.warm.ensures.foreign);
-})
+pub returns-clause-does : goal.returns-clause-does
+returns-clause-does g c = rw (← c.self.view_is) (
+    does g.D.Holder.bytes g.D.Holder.can_fail c.args.session (Said.chore Chore.warm) c.self.inside.ledger (reply_of c.warm.result) c.self.inside.ledger
+    c.self.inside.rights c.self.inside.rights c.self.invariant c.warm.ensures.answers (λ x. x) refl refl
+    (λ k. warm_wants (g.D.Holder.bytes (device_in c.self.inside.ledger)) (shape_in c.self.inside.ledger) c.args.session c.warm.result (stopped c.warm.result k) c.warm.ensures.foreign))
+
+pub returns-clause-history : goal.returns-clause-history
+returns-clause-history g c = rw (← c.self.view_is) (nothing_goes g.D.Holder.may_leave c.self.inside.ledger)

@@ -8,15 +8,15 @@ use Rattle.cat_world.proofs.Begun.{begins_so, begun, carried_there, none_counted
 use Rattle.cat_world.proofs.Beside.{no_sets, no_states}
 use Rattle.cat_world.proofs.world.World.open.Goals as goal
 
-pub returns-then-line-gt-MAX_LINE_BYTES : goal.returns-then-line-gt-MAX_LINE_BYTES
-returns-then-line-gt-MAX_LINE_BYTES g c =
+pub returns-then-line-gt-MAX_LINE_BYTES-clause-opens : goal.returns-then-line-gt-MAX_LINE_BYTES-clause-opens
+returns-then-line-gt-MAX_LINE_BYTES-clause-opens g c =
     (inr (Begins.formless (λ readable factor least text spelled. absurd (omega (arith, readable.short, c.if-line-gt-MAX_LINE_BYTES.true)))), λ q. refl)
 
-pub returns-in_default : goal.returns-in_default
-returns-in_default g c = (inr (Begins.formless (λ _ factor least text spelled. c.in_default.ensures.none factor least text spelled)), λ q. refl)
+pub returns-in_default-clause-opens : goal.returns-in_default-clause-opens
+returns-in_default-clause-opens g c = (inr (Begins.formless (λ _ factor least text spelled. c.in_default.ensures.none factor least text spelled)), λ q. refl)
 
-pub returns-in-Err : goal.returns-in-Err
-returns-in-Err g c =
+pub returns-in-Err-clause-opens : goal.returns-in-Err-clause-opens
+returns-in-Err-clause-opens g c =
     let readable : IsReadable c.args.line.now = record { short = omega arith; utf8 = c.utf8.line } in
     let found = c.in-Some.found in (
       refused_schema (g.D.Holder.bytes c.args.device) c.args.line.now found.factor found.least found.json.now c.in-Err.refusal
@@ -24,8 +24,8 @@ returns-in-Err g c =
       λ q. refl,
     )
 
-pub returns-in-Ok-open : goal.returns-in-Ok-open
-returns-in-Ok-open g c =
+pub returns-in-Ok-open-clause-opens : goal.returns-in-Ok-open-clause-opens
+returns-in-Ok-open-clause-opens g c =
     let readable : IsReadable c.args.line.now = record { short = omega arith; utf8 = c.utf8.line } in
     let read = rw c.as_bytes.ensures.value at c.in-Ok.ensures.ok in
     let found = c.in-Some.found in
@@ -38,8 +38,11 @@ returns-in-Ok-open g c =
       begins.3,
     )
 
-pub returns-in-Err-open : goal.returns-in-Err-open
-returns-in-Err-open g c =
+pub returns-in-Ok-open-clause-ahead : goal.returns-in-Ok-open-clause-ahead
+returns-in-Ok-open-clause-ahead g c = c.in-Ok-open.ensures.ahead
+
+pub returns-in-Err-open-clause-opens : goal.returns-in-Err-open-clause-opens
+returns-in-Err-open-clause-opens g c =
     let readable : IsReadable c.args.line.now = record { short = omega arith; utf8 = c.utf8.line } in
     let read = rw c.as_bytes.ensures.value at c.in-Ok.ensures.ok in
     let found = c.in-Some.found in

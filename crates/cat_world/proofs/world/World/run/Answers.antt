@@ -3,8 +3,10 @@ use Rattle.std.proofs.lemmas.List.{take_all}
 use Rattle.cat_lines.specs.declared.line.Line.{Line}
 use Rattle.cat_lines.specs.declared.command.Command.TheVariants.{NoForm}
 use Rattle.cat_ledger_lines.proofs.NeededFiles.{promised_files_stand}
+use Rattle.cat_world.specs.Histories.{RunsHistory}
 use Rattle.cat_world.specs.Running.{RunsLines}
 use Rattle.cat_world.specs.Worlds.{device_of, shape_of}
+use Rattle.cat_world.proofs.Histories.{none_spoken, one_spoken}
 use Rattle.cat_world.proofs.Ran.{maps_more, none_runs, one_more}
 use Rattle.cat_world.proofs.world.World.run.Goals as goal
 
@@ -17,6 +19,9 @@ loop-line-init g c = record {
   policy = refl;
   can = λ x. x;
   runs = subst (λ rs. RunsLines g.D.Holder.bytes c.args.self.now [] rs c.args.self.now) (sym c.in_ok-replies.ensures.items) (none_runs g.D.Holder.bytes c.args.self.now);
+  spoken =
+      subst (λ rs. RunsHistory g.D.Holder.may_leave c.args.self.now [] rs c.args.self.now) (sym c.in_ok-replies.ensures.items)
+      (none_spoken g.D.Holder.may_leave c.args.self.now);
 }
 
 no_line : Line
@@ -32,6 +37,7 @@ loop-line-preserved g c = record {
   policy = c.step.ensures.policy ∙ c.loop-line.invariant.policy;
   can = λ x. c.loop-line.invariant.can (c.step.ensures.can x);
   runs = rw c.in-Ok.ensures.items (one_more g.D.Holder.bytes c.args.self.now c.loop-line.self c.step.new.self c.args.lines.now c.loop-line.line-index no_line c.loop-line.replies.items c.step.result c.loop-line-test.true c.loop-line.invariant.schema c.loop-line.invariant.runs c.step.ensures.run);
+  spoken = rw c.in-Ok.ensures.items (one_spoken g.D.Holder.may_leave c.args.self.now c.loop-line.self c.step.new.self c.args.lines.now c.loop-line.line-index no_line c.loop-line.replies.items c.step.result c.loop-line-test.true c.loop-line.invariant.spoken c.step.ensures.history);
 }
 
 pub returns-clause-sessions : goal.returns-clause-sessions
@@ -41,6 +47,11 @@ pub returns-clause-run : goal.returns-clause-run
 returns-clause-run g c =
     subst (λ ls. RunsLines g.D.Holder.bytes c.args.self.now ls c.loop-line.replies.items c.loop-line.self) (take_all _ _ c.loop-line-test.false)
     c.loop-line.invariant.runs
+
+pub returns-clause-history : goal.returns-clause-history
+returns-clause-history g c =
+    subst (λ ls. RunsHistory g.D.Holder.may_leave c.args.self.now ls c.loop-line.replies.items c.loop-line.self)
+    (take_all _ _ c.loop-line-test.false) c.loop-line.invariant.spoken
 
 pub returns-clause-promised : goal.returns-clause-promised
 returns-clause-promised g c from run stands =

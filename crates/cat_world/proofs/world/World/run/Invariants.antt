@@ -1,4 +1,5 @@
 use Rattle.std.proofs.Common.{◌≡◌, ◌≤◌, length, map, take, vec_len, vec_capacity}
+use Rattle.cat_world.specs.Histories.{RunsHistory}
 use Rattle.cat_world.specs.Running.{RunsLines}
 use Rattle.cat_world.specs.Worlds.{device_of, policy_of, shape_of}
 use Rattle.cat_world.proofs.world.World.run.Given as goal
@@ -12,4 +13,5 @@ invariant-loop-line g l = record {
   policy : policy_of l.self ≡ policy_of l.fn.self;
   can : g.D.Holder.can_fail (device_of l.self) → g.D.Holder.can_fail (device_of l.fn.self);
   runs : RunsLines g.D.Holder.bytes l.fn.self (take l.line-index l.lines) l.replies.items l.self;
+  spoken : RunsHistory g.D.Holder.may_leave l.fn.self (take l.line-index l.lines) l.replies.items l.self;
 }

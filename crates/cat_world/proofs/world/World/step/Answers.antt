@@ -19,6 +19,9 @@ returns-clause-run g c =
       does.wanting,
     )
 
+pub returns-clause-history : goal.returns-clause-history
+returns-clause-history g c = c.answer-answer.ensures.history
+
 pub returns-clause-promised : goal.returns-clause-promised
 returns-clause-promised g c from run stands =
     promised_files_stand (g.D.Holder.bytes (device_of c.answer-answer.new.self)) (shape_of c.answer-answer.new.self) from run stands

@@ -1,0 +1,107 @@
+-- What lines in a row have to do with commits.
+use Rattle.std.proofs.Common.{◌≡◌, ℕ, ◌+◌, ◌<◌, List, [], ◌∷◌, ◌++◌, length, take, get_or, refl, sym, ap, subst, inl, inr}
+use Rattle.std.specs.Prelude.{Option, None, Some, Ok, Err}
+use Rattle.std.proofs.lemmas.List.{take_more}
+use Rattle.cat_model.specs.Lines.{Said}
+use Rattle.cat_model.specs.Run.{Answer, Reply}
+use Rattle.cat_directory.specs.Devices.{FileContent}
+use Rattle.cat_directory.specs.declared.name.FileName.{FileName}
+use Rattle.cat_holding.specs.Holding.{said_open}
+use Rattle.cat_ledger.specs.Histories.{Call, Event, Goes, GoesBy}
+use Rattle.cat_ledger.specs.Ledgers.{Ledger}
+use Rattle.cat_lines.specs.Line.{said_of}
+use Rattle.cat_lines.specs.declared.line.Line.{Line}
+use Rattle.cat_replies.specs.Reply.{reply_of}
+use Rattle.cat_replies.specs.declared.reply.Reply as code
+use Rattle.cat_world.specs.Histories.{AreSpoken, IsEventOf, IsSpoken, LinesAreCalls, RunsHistory, Spoken}
+use Rattle.cat_world.specs.Worlds.{Service}
+
+module _ {D : Type 0} (left : D → FileName → FileContent → Type 0) where
+  -- an OPEN is another line than a COMMIT
+  pub opens_go : (token : Option ℕ) (reply : Reply) (old new : Ledger D) → Goes left Event.Other old new
+      → GoesBy left (Some (said_open token)) reply old new
+  opens_go None reply old new goes = goes
+  opens_go (Some t) reply old new goes = goes
+
+  -- ---- lines are calls
+
+  other_call : (old new : Ledger D) → Goes left Event.Other old new → (event : Event) × (event ≡ Event.Other) × Goes left event old new
+  other_call old new goes = (Event.Other, refl, goes)
+
+  -- the event of a line
+  abbrev HasEvent : Option Said → Reply → Ledger D → Ledger D → Type 0
+  HasEvent said reply old new = (event : Event) × IsEventOf said reply event × Goes left event old new
+
+  commit_call : (text : List ℕ) (reply : Reply) (old new : Ledger D) → GoesBy left (Some (Said.commit text)) reply old new
+      → HasEvent (Some (Said.commit text)) reply old new
+  commit_call text (Ok (Answer.number g)) old new goes = (Event.Answered g, refl, goes)
+  commit_call text (Ok (Answer.found f)) old new goes = absurd goes
+  commit_call text (Ok (Answer.names ns)) old new goes = absurd goes
+  commit_call text (Ok (Answer.commit_text t)) old new goes = absurd goes
+  commit_call text (Ok (Answer.news n)) old new goes = absurd goes
+  commit_call text (Err e) old new (inl goes) = (Event.Other, inl refl, goes)
+  commit_call text (Err e) old new (inr goes) = (Event.Refused _, inr (_, refl), goes)
+
+  line_call : (said : Option Said) (reply : Reply) (old new : Ledger D) → GoesBy left said reply old new → HasEvent said reply old new
+  line_call None reply old new goes = other_call old new goes
+  line_call (Some (Said.commit text)) reply old new goes = commit_call text reply old new goes
+  line_call (Some (Said.put text)) reply old new goes = other_call old new goes
+  line_call (Some (Said.delete text)) reply old new goes = other_call old new goes
+  line_call (Some (Said.delete_where text)) reply old new goes = other_call old new goes
+  line_call (Some Said.refresh) reply old new goes = other_call old new goes
+  line_call (Some Said.open_newest) reply old new goes = other_call old new goes
+  line_call (Some (Said.open_at t)) reply old new goes = other_call old new goes
+  line_call (Some (Said.close t)) reply old new goes = other_call old new goes
+  line_call (Some (Said.find t n sort mark text)) reply old new goes = other_call old new goes
+  line_call (Some (Said.facets t dim n text)) reply old new goes = other_call old new goes
+  line_call (Some (Said.get t text)) reply old new goes = other_call old new goes
+  line_call (Some (Said.files_of_token t)) reply old new goes = other_call old new goes
+  line_call (Some (Said.files_of_commit g)) reply old new goes = other_call old new goes
+  line_call (Some (Said.text_of_commit g)) reply old new goes = other_call old new goes
+  line_call (Some Said.snapshot) reply old new goes = other_call old new goes
+  line_call (Some (Said.release_snapshot g)) reply old new goes = other_call old new goes
+  line_call (Some (Said.prune n)) reply old new goes = other_call old new goes
+  line_call (Some (Said.chore what)) reply old new goes = other_call old new goes
+
+  pub lines_are_calls : (last : Service D) → LinesAreCalls left last
+  lines_are_calls last first [] same = ([], tt, ap (λ (w : Service D). w.ledger) same)
+  lines_are_calls last first (x ∷ xs) leads =
+      let one = line_call x.said x.reply first.ledger x.after.ledger leads.0 in
+      let rest = lines_are_calls last x.after xs leads.1 in
+      let call : Call D = record { event = one.0; after = x.after.ledger } in
+      (call ∷ rest.0, (one.1, rest.1), (one.2, rest.2))
+
+  -- ---- one line more
+
+  goes_on : (old mid : Service D) (xs : List (Spoken D)) (x : Spoken D) → IsSpoken left old xs mid
+      → GoesBy left x.said x.reply mid.ledger x.after.ledger → IsSpoken left old (xs ++ x ∷ []) x.after
+  goes_on old mid [] x same goes = (subst (λ (w : Service D). GoesBy left x.said x.reply w.ledger x.after.ledger) same goes, refl)
+  goes_on old mid (y ∷ xs) x leads goes = (leads.0, goes_on y.after mid xs x leads.1 goes)
+
+  spoken_on : (ls : List Line) (rs : List code.Reply) (xs : List (Spoken D)) (l : Line) (r : code.Reply) (x : Spoken D) → AreSpoken ls rs xs
+      → x.said ≡ said_of l.command → x.reply ≡ reply_of r.answer → AreSpoken (ls ++ l ∷ []) (rs ++ r ∷ []) (xs ++ x ∷ [])
+  spoken_on [] [] [] l r x all said reply = (said, reply, tt)
+  spoken_on (k ∷ ls) (q ∷ rs) (y ∷ xs) l r x all said reply = (all.0, all.1, spoken_on ls rs xs l r x all.2 said reply)
+  spoken_on [] [] (y ∷ xs) l r x all said reply = absurd all
+  spoken_on [] (q ∷ rs) [] l r x all said reply = absurd all
+  spoken_on [] (q ∷ rs) (y ∷ xs) l r x all said reply = absurd all
+  spoken_on (k ∷ ls) [] [] l r x all said reply = absurd all
+  spoken_on (k ∷ ls) [] (y ∷ xs) l r x all said reply = absurd all
+  spoken_on (k ∷ ls) (q ∷ rs) [] l r x all said reply = absurd all
+
+  -- no line leads nowhere
+  pub none_spoken : (w : Service D) → RunsHistory left w [] [] w
+  none_spoken w = record { spoken = []; are = tt; leads = refl }
+
+  -- and one line more goes on
+  pub one_spoken : (old mid new : Service D) (ls : List Line) (i : ℕ) (d : Line) (rs : List code.Reply) (r : code.Reply) → i < length ls
+      → RunsHistory left old (take i ls) rs mid → GoesBy left (said_of (get_or ls i d).command) (reply_of r.answer) mid.ledger new.ledger
+      → RunsHistory left old (take (i + 1) ls) (rs ++ r ∷ []) new
+  one_spoken old mid new ls i d rs r lt before goes =
+      let x : Spoken D = record { said = said_of (get_or ls i d).command; reply = reply_of r.answer; after = new } in record {
+        spoken = before.spoken ++ x ∷ [];
+        are =
+            subst (λ ks. AreSpoken ks (rs ++ r ∷ []) (before.spoken ++ x ∷ [])) (sym (take_more ls i d lt))
+            (spoken_on (take i ls) rs before.spoken (get_or ls i d) r x before.are refl refl);
+        leads = goes_on old mid before.spoken x before.leads goes;
+      }

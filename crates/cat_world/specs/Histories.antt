@@ -1,0 +1,64 @@
+-- Lines in a row with their replies, and which commits a crash after them may leave.
+use Rattle.std.specs.Prelude.{◌≡◌, ◌⊎◌, ℕ, List, [], ◌∷◌, Option, Some, Ok, Err}
+use Rattle.cat_model.specs.Lines.{Said}
+use Rattle.cat_model.specs.Run.{Answer, Reply}
+use Rattle.cat_directory.specs.Devices.{FileContent}
+use Rattle.cat_directory.specs.declared.name.FileName.{FileName}
+use Rattle.cat_lines.specs.Line.{said_of}
+use Rattle.cat_lines.specs.declared.line.Line.{Line}
+use Rattle.cat_ledger.specs.Histories.{Call, Event, GoesBy, IsHistory, events_of}
+use Rattle.cat_replies.specs.Reply.{reply_of}
+use Rattle.cat_replies.specs.declared.reply.Reply as code
+use Rattle.cat_world.specs.Worlds.{Service}
+
+-- ---- lines in a row
+
+-- what a line says, or that it has no form; its reply; and the world after it
+pub record Spoken (D : Type 0) : Type 0 where
+  pub said : Option Said
+  pub reply : Reply
+  pub after : Service D
+
+-- The lines lead from the one to the other, each of which makes of commits what it may by its reply. The first argument says what a
+-- crash may leave of a device's files.
+abbrev pub IsSpoken : {D : Type 0} → (D → FileName → FileContent → Type 0) → Service D → List (Spoken D) → Service D → Type 0
+IsSpoken {D} left first [] last = ◌≡◌ {A = Service D} last first
+IsSpoken {D} left first (x ∷ xs) last = GoesBy left x.said x.reply first.ledger x.after.ledger × IsSpoken left x.after xs last
+
+-- ---- what they have to do with commits
+
+-- A COMMIT that was answered OK is an answered commit of the generation that it was told; one that was refused is a refused commit, or
+-- did nothing; and any other line has nothing to do with commits.
+abbrev pub IsEventOf : Option Said → Reply → Event → Type 0
+IsEventOf (Some (Said.commit text)) (Ok (Answer.number g)) event = event ≡ Event.Answered g
+IsEventOf (Some (Said.commit text)) (Ok a) event = ⊥
+IsEventOf (Some (Said.commit text)) (Err e) event = (event ≡ Event.Other) ⊎ ((g : ℕ) × (event ≡ Event.Refused g))
+IsEventOf said reply event = event ≡ Event.Other
+
+-- so with each of the lines, in turn
+abbrev pub AreEvents : {D : Type 0} → List (Spoken D) → List Event → Type 0
+AreEvents [] [] = Unit {0}
+AreEvents (x ∷ xs) (event ∷ events) = IsEventOf x.said x.reply event × AreEvents xs events
+AreEvents _ _ = ⊥
+
+-- Lines are calls of the ledger, so that its laws speak of them: of the last COMMIT that was answered, and of those refused after it.
+abbrev pub LinesAreCalls : {D : Type 0} → (D → FileName → FileContent → Type 0) → Service D → Type 0
+LinesAreCalls {D} left last =
+    (first : Service D) (spoken : List (Spoken D)) → IsSpoken left first spoken last
+    → (calls : List (Call D)) × AreEvents spoken (events_of calls) × IsHistory left first.ledger calls last.ledger
+
+-- ---- lines that are answered one after another
+
+-- they are these lines with these replies
+abbrev pub AreSpoken : {D : Type 0} → List Line → List code.Reply → List (Spoken D) → Type 0
+AreSpoken [] [] [] = Unit {0}
+AreSpoken (line ∷ lines) (given ∷ replies) (x ∷ xs) =
+    (x.said ≡ said_of line.command) × (x.reply ≡ reply_of given.answer) × AreSpoken lines replies xs
+AreSpoken _ _ _ = ⊥
+
+-- the lines with their replies lead from the one to the other
+pub record RunsHistory {D : Type 0} (left : D → FileName → FileContent → Type 0) (old : Service D) (lines : List Line)
+    (replies : List code.Reply) (new : Service D) : Type 0 where
+  pub spoken : List (Spoken D)
+  pub are : AreSpoken lines replies spoken
+  pub leads : IsSpoken left old spoken new
