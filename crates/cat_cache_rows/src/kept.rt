@@ -37,14 +37,12 @@ fn key_in(alloc: Global, schema: &Schema, segment: SegNo, text: &str) -> Result<
     Ok(Key { segment, query })
 }
 
-/// A cache with the sets of the prices from 0 on, as many as there may be, and their segment.
-fn full_cache(alloc: Global) -> Result<(FilterCache, Arc<Segment>), Refusal> {
-    let segment = priced(alloc, 2)?;
-    let mut cache = FilterCache::new(alloc)?;
+/// Stores the sets of the segment's prices from 0 on, as many as there may be.
+fn fill(alloc: Global, cache: &mut FilterCache, segment: &Arc<Segment>) -> Result<(), Refusal> {
     for price in 0..MAX_CACHED_SETS {
-        store_price(alloc, &mut cache, &segment, price)?;
+        store_price(alloc, cache, segment, price)?;
     }
-    Ok((cache, segment))
+    Ok(())
 }
 
 /// Fails unless sets stand under these prices, and under the others below 70 none.
@@ -62,81 +60,113 @@ fn expect_all_but(
     Ok(())
 }
 
+/// Stores sets for which there is no room.
+fn store_past_room(
+    rt: &impl Abort,
+    alloc: Global,
+    cache: &mut FilterCache,
+    segment: &Arc<Segment>,
+) -> Result<(), Fail> {
+    fill(alloc, cache, segment)?;
+    assert_eq!(rt; cache.len(), 64);
+    let schema = segment.schema();
+    expect_all_but(rt, alloc, cache, schema, &[64, 65, 66, 67, 68, 69])?;
+    store_price(alloc, cache, segment, 64)?;
+    assert_eq!(rt; cache.len(), 64);
+    expect_all_but(rt, alloc, cache, schema, &[0, 65, 66, 67, 68, 69])?;
+    store_price(alloc, cache, segment, 1)?;
+    store_price(alloc, cache, segment, 65)?;
+    expect_all_but(rt, alloc, cache, schema, &[0, 2, 66, 67, 68, 69])
+}
+
 #[test]
 fn the_least_recently_used_set_goes(rt: HostRuntime) -> Result<(), Fail> {
-    let alloc = rt.alloc();
-    let (mut cache, segment) = full_cache(alloc)?;
-    assert_eq!(&rt; cache.len(), 64);
-    expect_all_but(
-        &rt,
-        alloc,
-        &cache,
-        segment.schema(),
-        &[64, 65, 66, 67, 68, 69],
-    )?;
-    store_price(alloc, &mut cache, &segment, 64)?;
-    assert_eq!(&rt; cache.len(), 64);
-    expect_all_but(
-        &rt,
-        alloc,
-        &cache,
-        segment.schema(),
-        &[0, 65, 66, 67, 68, 69],
-    )?;
-    store_price(alloc, &mut cache, &segment, 1)?;
-    store_price(alloc, &mut cache, &segment, 65)?;
-    expect_all_but(
-        &rt,
-        alloc,
-        &cache,
-        segment.schema(),
-        &[0, 2, 66, 67, 68, 69],
-    )
+    let segment = priced(rt.alloc(), 2)?;
+    let mut cache = FilterCache::new(rt.alloc())?;
+    store_past_room(&rt, rt.alloc(), &mut cache, &segment)
+}
+
+/// Whether a set stands under the price.
+fn has_price(
+    alloc: Global,
+    cache: &FilterCache,
+    schema: &Schema,
+    price: usize,
+) -> Result<bool, Refusal> {
+    Ok(cache.has(&price_key(alloc, schema, price)?))
+}
+
+/// How many rows the set under the price has, which is a use of it.
+fn look_at_price(
+    alloc: Global,
+    cache: &mut FilterCache,
+    schema: &Schema,
+    price: usize,
+) -> Result<Option<usize>, Refusal> {
+    let key = price_key(alloc, schema, price)?;
+    Ok(cache.look(&key).map(|set| set.count()))
+}
+
+/// Uses the set of the price 0, asks for that of 1, and stores one for which there is no room.
+fn look_and_store(
+    rt: &impl Abort,
+    alloc: Global,
+    cache: &mut FilterCache,
+    segment: &Arc<Segment>,
+) -> Result<(), Fail> {
+    fill(alloc, cache, segment)?;
+    let schema = segment.schema();
+    assert!(rt; has_price(alloc, cache, schema, 1)?);
+    assert_eq!(rt; look_at_price(alloc, cache, schema, 0)?, Some(1));
+    assert_eq!(rt; look_at_price(alloc, cache, schema, 99)?, None);
+    store_price(alloc, cache, segment, 64)?;
+    expect_all_but(rt, alloc, cache, schema, &[1, 65, 66, 67, 68, 69])
 }
 
 #[test]
 fn a_look_is_a_use_and_has_is_none(rt: HostRuntime) -> Result<(), Fail> {
-    let alloc = rt.alloc();
-    let (mut cache, segment) = full_cache(alloc)?;
-    let first = price_key(alloc, segment.schema(), 0)?;
-    let second = price_key(alloc, segment.schema(), 1)?;
-    assert!(&rt; cache.has(&second));
-    let rows = cache.look(&first).map(|set| set.count());
-    assert_eq!(&rt; rows, Some(1));
-    let rows = cache
-        .look(&price_key(alloc, segment.schema(), 99)?)
-        .map(|set| set.count());
-    assert_eq!(&rt; rows, None);
-    store_price(alloc, &mut cache, &segment, 64)?;
-    expect_all_but(
-        &rt,
-        alloc,
-        &cache,
-        segment.schema(),
-        &[1, 65, 66, 67, 68, 69],
-    )
+    let segment = priced(rt.alloc(), 2)?;
+    let mut cache = FilterCache::new(rt.alloc())?;
+    look_and_store(&rt, rt.alloc(), &mut cache, &segment)
+}
+
+/// Texts in a segment, and whether their key is that of `price:5 title:red` in segment 1.
+const SAME: &[(SegNo, &str, bool)] = &[
+    (1, "price:5 title:red", true),
+    (1, "price:\"005\" title:RED", true),
+    (1, " price:5  title:\"red\" ", true),
+    (2, "price:5 title:red", false),
+    (1, "title:red price:5", false),
+    (1, "price:5 title:red*", false),
+    (1, "+price:5 title:red", false),
+    (1, "(price:5 title:red)", false),
+    (1, "price:[5 TO 5] title:red", false),
+    (1, "price:5", false),
+];
+
+/// Whether the keys of the two texts, the first of them in segment 1, are the same.
+fn are_same(
+    alloc: Global,
+    schema: &Schema,
+    first: &str,
+    segment: SegNo,
+    second: &str,
+) -> Result<bool, Refusal> {
+    let key = key_in(alloc, schema, 1, first)?;
+    Ok(key == key_in(alloc, schema, segment, second)?)
+}
+
+/// Fails unless the keys are the same as the table says.
+fn expect_same(rt: &impl Abort, alloc: Global, schema: &Schema) -> Result<(), Fail> {
+    for &(segment, text, same) in SAME {
+        let found = are_same(alloc, schema, "price:5 title:red", segment, text)?;
+        assert_eq!(rt; found, same, "{text}");
+    }
+    Ok(())
 }
 
 #[test]
 fn a_key_is_a_segment_and_a_parsed_query(rt: HostRuntime) -> Result<(), Fail> {
-    const SAME: &[(SegNo, &str, bool)] = &[
-        (1, "price:5 title:red", true),
-        (1, "price:\"005\" title:RED", true),
-        (1, " price:5  title:\"red\" ", true),
-        (2, "price:5 title:red", false),
-        (1, "title:red price:5", false),
-        (1, "price:5 title:red*", false),
-        (1, "+price:5 title:red", false),
-        (1, "(price:5 title:red)", false),
-        (1, "price:[5 TO 5] title:red", false),
-        (1, "price:5", false),
-    ];
-    let alloc = rt.alloc();
-    let schema = Schema::read(alloc, br#"{"price":"number","title":"text"}"#)?;
-    let key = key_in(alloc, &schema, 1, "price:5 title:red")?;
-    for &(segment, text, same) in SAME {
-        let other = key_in(alloc, &schema, segment, text)?;
-        assert_eq!(&rt; key == other, same, "{text}");
-    }
-    Ok(())
+    let schema = Schema::read(rt.alloc(), br#"{"price":"number","title":"text"}"#)?;
+    expect_same(&rt, rt.alloc(), &schema)
 }

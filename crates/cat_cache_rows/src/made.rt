@@ -67,24 +67,38 @@ fn steps_text(alloc: Global, warm: &mut Warm, steps: u32) -> Result<String, Allo
 /// A number of rows, a query, and what is answered by two steps or three.
 type StepText<'a> = (u64, &'a str, u32, &'a str);
 
+/// Steps over fewer rows than 256, as many, and more.
+const STEPS: &[StepText<'static>] = &[
+    (1, "price:0", 1, "made 1 from 0"),
+    (1, "price:1", 1, "made 0"),
+    (256, "*:*", 1, "made 256 from 0"),
+    (257, "price:[250 TO *]", 2, "256 made 7 from 250"),
+    (300, "*:* -price:0", 2, "256 made 299 from 1"),
+    (512, "price:511", 2, "256 made 1 from 511"),
+    (513, "price:512", 3, "256 512 made 1 from 512"),
+];
+
+/// What the steps of a set in the making answer, with the segment of its key before it, as `1: made 0`.
+fn made_text(alloc: Global, rows: u64, query: &str, steps: u32) -> Result<String, Refusal> {
+    let segment = priced(alloc, rows)?;
+    let mut warm = begun(alloc, &segment, query)?;
+    let text = steps_text(alloc, &mut warm, steps)?;
+    Ok(format!(in alloc; "{}: {}", warm.key().segment, text.as_str())?)
+}
+
+/// Fails unless the steps answer this, for segment 1.
+fn expect_steps(rt: &impl Abort, alloc: Global, row: StepText<'_>) -> Result<(), Fail> {
+    let (rows, query, steps, answered) = row;
+    let text = made_text(alloc, rows, query, steps)?;
+    let wanted = format!(in alloc; "1: {answered}")?;
+    assert_eq!(rt; text.as_str(), wanted.as_str(), "{query} in {rows} rows");
+    Ok(())
+}
+
 #[test]
 fn a_step_passes_256_rows(rt: HostRuntime) -> Result<(), Fail> {
-    const STEPS: &[StepText<'static>] = &[
-        (1, "price:0", 1, "made 1 from 0"),
-        (1, "price:1", 1, "made 0"),
-        (256, "*:*", 1, "made 256 from 0"),
-        (257, "price:[250 TO *]", 2, "256 made 7 from 250"),
-        (300, "*:* -price:0", 2, "256 made 299 from 1"),
-        (512, "price:511", 2, "256 made 1 from 511"),
-        (513, "price:512", 3, "256 512 made 1 from 512"),
-    ];
-    let alloc = rt.alloc();
-    for &(rows, query, steps, answered) in STEPS {
-        let segment = priced(alloc, rows)?;
-        let mut warm = begun(alloc, &segment, query)?;
-        let text = steps_text(alloc, &mut warm, steps)?;
-        assert_eq!(&rt; text.as_str(), answered, "{query} in {rows} rows");
-        assert_eq!(&rt; warm.key().segment, 1);
+    for row in STEPS {
+        expect_steps(&rt, rt.alloc(), *row)?;
     }
     Ok(())
 }

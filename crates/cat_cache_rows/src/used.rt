@@ -64,24 +64,35 @@ const ROWS: &[PutText<'static>] = &[
     (7, false, r#"{"id":"g","price":7,"color":["red"]}"#),
 ];
 
-#[test]
-fn dead_rows_of_a_set_are_no_hits(rt: HostRuntime) -> Result<(), Fail> {
-    const HITS: &[(&str, &str)] = &[
-        ("color:red", "a b "),
-        ("*:*", "f a c b "),
-        ("*:* -color:red", "f c "),
-        ("price:[3 TO 6]", "f a c "),
-        ("price:[7 TO *]", ""),
-    ];
-    let alloc = rt.alloc();
+/// The hits of queries over them.
+const HITS: &[(&str, &str)] = &[
+    ("color:red", "a b "),
+    ("*:*", "f a c b "),
+    ("*:* -color:red", "f c "),
+    ("price:[3 TO 6]", "f a c "),
+    ("price:[7 TO *]", ""),
+];
+
+/// Their view; [`Refusal::Damaged`] where they are no rows of one.
+fn view_of_rows(alloc: Global) -> Result<View, Refusal> {
     let schema = Schema::read(alloc, br#"{"color":"facet","price":"number"}"#)?;
     let puts = read_puts(alloc, &schema, ROWS, false)?;
     if !are_in_order(&puts) {
-        panic!(&rt; "no rows of a view");
+        return Err(Refusal::Damaged);
     }
-    let view = view_of(alloc, &schema, &puts, &[2, 3, 5, 7])?;
+    view_of(alloc, &schema, &puts, &[2, 3, 5, 7])
+}
+
+/// Fails unless the queries have their hits.
+fn expect_all_hits(rt: &impl Abort, alloc: Global, view: &View) -> Result<(), Fail> {
     for &(text, ids) in HITS {
-        expect_hits(&rt, alloc, &view, text, ids)?;
+        expect_hits(rt, alloc, view, text, ids)?;
     }
     Ok(())
+}
+
+#[test]
+fn dead_rows_of_a_set_are_no_hits(rt: HostRuntime) -> Result<(), Fail> {
+    let view = view_of_rows(rt.alloc())?;
+    expect_all_hits(&rt, rt.alloc(), &view)
 }

@@ -48,16 +48,34 @@ pub(crate) fn acquire_at(
     Ok(true)
 }
 
-/// Views at the tokens from 0 on, as many as there may be; the first of them are held by as many sessions.
-pub(crate) fn full_records(alloc: Global, held: u64) -> Result<Records, Refusal> {
-    let mut records = records_at(alloc, 0)?;
+/// Records views at the tokens from 1 on, as many as there is room for beside that at 0.
+fn record_from_1(alloc: Global, records: &mut Records) -> Result<(), Refusal> {
     for token in 1..64 {
-        record_at(alloc, &mut records, token)?;
+        record_at(alloc, records, token)?;
     }
+    Ok(())
+}
+
+/// Lets a session hold as many of the tokens from 0 on.
+fn hold_from_0(records: &mut Records, held: u64) -> Result<(), AllocError> {
     for token in 0..held {
-        acquire_at(&mut records, 7, token)?;
+        acquire_at(records, 7, token)?;
     }
-    Ok(records)
+    Ok(())
+}
+
+/// Makes of the view at 0 alone views at the tokens from 0 on, as many as there may be, of which a session holds the first.
+pub(crate) fn fill(alloc: Global, records: &mut Records, held: u64) -> Result<(), Refusal> {
+    record_from_1(alloc, records)?;
+    Ok(hold_from_0(records, held)?)
+}
+
+/// Whether the token is found to have a view, which is at that token.
+pub(crate) fn finds_view(records: &Records, token: Token) -> bool {
+    match records.view(token) {
+        Some(view) => view.token() == token,
+        None => false,
+    }
 }
 
 /// The tokens, each with the number of its holders where it has some, as `3, 5 by 2`.

@@ -1,9 +1,19 @@
 //! Rights to views without rows.
+ghost use Rattle.std.specs.Prelude.{◌≡◌, IfOk};
+
 use cat_base::{Refusal, SessionNo, Token};
 use cat_rights::Rights;
 use cat_schema::Schema;
 use cat_search::{Hold, View};
 use std::alloc::Global;
+
+/// A view without rows at the token.
+fn view_at(alloc: Global, token: Token) -> Result<View, Refusal>
+    ensures { IfOk result (λ v. v.token ≡ token) }
+{
+    let schema = Schema::read(alloc, br#"{"price":"number"}"#)?;
+    Ok(View::of(alloc, schema, Vec::new(alloc), token)?)
+}
 
 /// Gives the session a right to a view without rows at the token, and answers whether it had none.
 pub(crate) fn add(
@@ -12,8 +22,7 @@ pub(crate) fn add(
     session: SessionNo,
     token: Token,
 ) -> Result<bool, Refusal> {
-    let schema = Schema::read(alloc, br#"{"price":"number"}"#)?;
-    let view = View::of(alloc, schema, Vec::new(alloc), token)?;
+    let view = view_at(alloc, token)?;
     if rights.get(session, view.token()).is_some() {
         return Ok(false);
     }
