@@ -1,14 +1,13 @@
-//! The state of a ledger where nothing is, its calls with what they ask for, and what is told of it.
+//! The state of a ledger where nothing is, and its calls with what they ask for.
 ghost use Rattle.std.specs.Prelude.{◌<◌, ◌≤◌, ◌+◌};
 ghost use Rattle.cat_model.specs.Limits.{last_number};
 
 use cat_base::{Generation, LAST_NUMBER, Refusal, SegNo, SessionNo, Token};
 use cat_commits::commit_text_ok;
-use cat_directory::{Directory, FileName, MemoryDirectory};
+use cat_directory::Directory;
 use cat_ledger_core::{Core, known_names};
 use cat_query::Query;
 use cat_schema::Schema;
-use cat_search::Leaf;
 use std::alloc::Global;
 
 /// No item, and these numbers are next.
@@ -37,10 +36,11 @@ pub(crate) fn put(core: &mut Core, alloc: Global, text: &str) -> Result<(), Refu
     Ok(core.put(item)?)
 }
 
-/// Puts the items in turn.
-pub(crate) fn put_all(core: &mut Core, alloc: Global, texts: &[&str]) -> Result<(), Refusal> {
-    for text in texts {
-        put(core, alloc, text)?;
+/// Puts so many items.
+pub(crate) fn put_many(core: &mut Core, alloc: Global, count: u32) -> Result<(), Refusal> {
+    for index in 0..count {
+        let text = format!(in alloc; r#"{{"id":"item{index}","price":{index}}}"#)?;
+        put(core, alloc, text.as_str())?;
     }
     Ok(())
 }
@@ -63,11 +63,37 @@ pub(crate) fn delete_where(core: &mut Core, alloc: Global, text: &str) -> Result
 }
 
 /// Records a view of now, where nothing waits, none of now is recorded and there is room.
-pub(crate) fn record(core: &mut Core) -> Result<(), Refusal> {
+fn record(core: &mut Core) -> Result<(), Refusal> {
     if !core.is_flushed() || core.is_recorded(core.count()) || core.is_full() {
         return Err(Refusal::Full);
     }
     Ok(core.record_view()?)
+}
+
+/// Puts an item of its own, flushes it and records a view.
+fn put_viewed<D: Directory>(
+    core: &mut Core,
+    alloc: Global,
+    device: &mut D,
+    index: u64,
+) -> Result<(), Refusal> {
+    let text = format!(in alloc; r#"{{"id":"item{index}","price":1}}"#)?;
+    put(core, alloc, text.as_str())?;
+    core.flush(device)?;
+    record(core)
+}
+
+/// Puts so many items, each in a segment of its own, and records a view behind each.
+pub(crate) fn put_all_viewed<D: Directory>(
+    core: &mut Core,
+    alloc: Global,
+    device: &mut D,
+    count: u64,
+) -> Result<(), Refusal> {
+    for index in 0..count {
+        put_viewed(core, alloc, device, index)?;
+    }
+    Ok(())
 }
 
 /// Lets the session hold the token, where a view is recorded under it.
@@ -89,63 +115,4 @@ pub(crate) fn commit<D: Directory>(
         return Err(Refusal::Kind);
     }
     core.commit(device, text)
-}
-
-/// The segments in order, each as its number and the ids of its rows, dead ones behind a minus.
-pub(crate) fn standing(core: &Core, alloc: Global) -> Result<String, Refusal> {
-    let mut text = String::new(alloc);
-    for leaf in core.leaves() {
-        push_leaf(&mut text, alloc, leaf)?;
-    }
-    Ok(text)
-}
-
-/// Appends the number of the segment and the ids of its rows.
-fn push_leaf(text: &mut String, alloc: Global, leaf: &Leaf) -> Result<(), Refusal> {
-    let number = leaf.segment().number();
-    text.push_str(format!(in alloc; "{number}:")?.as_str())?;
-    for row in 0..leaf.segment().len() {
-        let sign = if leaf.live().is_live(row) { "" } else { "-" };
-        let id = leaf.segment().id(row);
-        text.push_str(format!(in alloc; " {sign}{id}")?.as_str())?;
-    }
-    text.push(';')?;
-    Ok(())
-}
-
-/// How many writes there were, items wait and segments stand; the users of these names; and how many are pending.
-pub(crate) fn told(core: &Core, alloc: Global, names: &[FileName]) -> Result<String, Refusal> {
-    let count = core.count();
-    let waiting = core.waiting();
-    let standing = core.leaves().len();
-    let mut text = format!(in alloc; "{count} {waiting} {standing}:")?;
-    for name in names {
-        let users = core.users(*name);
-        text.push_str(format!(in alloc; " {users}")?.as_str())?;
-    }
-    let pending = core.pending();
-    text.push_str(format!(in alloc; "; {pending}")?.as_str())?;
-    Ok(text)
-}
-
-/// The names of the files that there are, as a text.
-pub(crate) fn names_text(alloc: Global, device: &mut MemoryDirectory) -> Result<String, Refusal> {
-    let mut text = String::new(alloc);
-    for name in &device.names(alloc)? {
-        text.push_str(format!(in alloc; " {name}")?.as_str())?;
-    }
-    Ok(text)
-}
-
-/// The text of the commit, and the names of the files that it needs.
-pub(crate) fn commit_text(core: &Core, alloc: Global, generation: u64) -> Result<String, Refusal> {
-    let Some(commit) = core.commit_at(generation) else {
-        return Ok(format!(in alloc; "none")?);
-    };
-    let said = commit.text.as_str();
-    let mut text = format!(in alloc; "{said}:")?;
-    for name in &commit.names()? {
-        text.push_str(format!(in alloc; " {name}")?.as_str())?;
-    }
-    Ok(text)
 }

@@ -10,6 +10,10 @@ mod flushing;
 #[cfg(test)]
 mod reopening;
 #[cfg(test)]
+mod steps;
+#[cfg(test)]
+mod telling;
+#[cfg(test)]
 mod viewing;
 #[cfg(test)]
 mod writing;

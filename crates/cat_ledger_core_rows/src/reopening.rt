@@ -4,12 +4,10 @@ ghost use Rattle.cat_directory.specs.Names.{name_of};
 ghost use Rattle.cat_ledger_model.specs.Ledger.{IsPast};
 ghost use Rattle.cat_model.specs.CommitFile.{commit_needs};
 
-use crate::calling::{
-    commit, commit_text, delete, empty_at, names_text, put, put_all, standing, told,
-};
+use crate::steps::{Device, Row, Step, expect_of, new_device, run_on};
 use cat_base::{Generation, Refusal, SegNo};
 use cat_commits::Commit;
-use cat_directory::{FileName, MemoryDirectory};
+use cat_directory::{FileName, Shelf};
 use cat_ledger_core::{Core, known_names};
 use cat_opening::read_commit;
 use cat_schema::Schema;
@@ -60,96 +58,85 @@ fn is_behind(commit: &Commit, segment: SegNo, generation: Generation) -> Result<
 }
 
 /// The state at the second commit of the directory, where the file of the first is still there.
-fn open_second(alloc: Global, device: &mut MemoryDirectory) -> Result<Core, Refusal> {
-    let refs = known_names(alloc, &[FileName::Commit(1)])?;
+fn open_second<S: Shelf>(alloc: Global, device: &mut S) -> Result<Core, Refusal> {
     let schema = Schema::read(alloc, br#"{"price":"number"}"#)?;
     let restored = read_commit(alloc, device, &schema, 2)?;
     if !is_behind(&restored.commit, 3, 3)? {
         return Err(Refusal::Damaged);
     }
+    let refs = known_names(alloc, &[FileName::Commit(1)])?;
     Ok(Core::opened(alloc, schema, restored, refs, 3, 3)?)
 }
 
 /// Makes two commits: a row of the first segment dies between, and a second segment comes. What is put behind is lost.
-fn two_commits(
-    core: &mut Core,
+const TWO_COMMITS: &[Row<'static>] = &[
+    (Step::Put(r#"{"id":"a","price":1}"#), "ok"),
+    (Step::Put(r#"{"id":"b","price":2}"#), "ok"),
+    (Step::Commit("one"), "1"),
+    (Step::Delete("a"), "ok"),
+    (Step::Put(r#"{"id":"c","price":3}"#), "ok"),
+    (Step::Commit("two"), "2"),
+    (Step::Put(r#"{"id":"d","price":4}"#), "ok"),
+];
+
+/// Takes the steps in the state at the second commit of the device.
+fn reopen(
+    rt: &impl Abort,
     alloc: Global,
-    device: &mut MemoryDirectory,
-) -> Result<(), Refusal> {
-    put_all(
-        core,
-        alloc,
-        &[r#"{"id":"a","price":1}"#, r#"{"id":"b","price":2}"#],
-    )?;
-    commit(core, device, "one")?;
-    delete(core, "a")?;
-    put(core, alloc, r#"{"id":"c","price":3}"#)?;
-    commit(core, device, "two")?;
-    put(core, alloc, r#"{"id":"d","price":4}"#)
+    device: &mut Device,
+    tables: &[&[Row<'_>]],
+) -> Result<(), Fail> {
+    let core = open_second(alloc, device)?;
+    expect_of(rt, alloc, core, device, tables)
 }
 
-/// The same, of a state that is gone then.
-fn leave_two(alloc: Global, device: &mut MemoryDirectory) -> Result<(), Refusal> {
-    let mut core = empty_at(alloc, 1, 1)?;
-    two_commits(&mut core, alloc, device)
+/// Takes the steps in a state that was left behind two commits, and is opened again.
+fn run_opened(rt: &impl Abort, alloc: Global, tables: &[&[Row<'_>]]) -> Result<(), Fail> {
+    let mut device = new_device(alloc);
+    run_on(rt, alloc, &mut device, &[TWO_COMMITS])?;
+    reopen(rt, alloc, &mut device, tables)
 }
 
 /// What the second commit has stands, under its token; it alone is kept, and the first one's file is swept.
-fn has_second(
-    rt: &impl Abort,
-    alloc: Global,
-    core: &mut Core,
-    device: &mut MemoryDirectory,
-) -> Result<(), Fail> {
-    assert_eq!(rt; standing(core, alloc)?.as_str(), "1: -a b;2: c;");
-    assert_eq!(rt; told(core, alloc, NAMES)?.as_str(), "4 0 2: 3 1 3 0 1; 1");
-    assert!(rt; core.is_recorded(4) && !core.is_recorded(0) && !core.is_recorded(3));
-    assert!(rt; core.newest() == Some(2) && core.snapshots_of(2) == 0 && !core.is_merging());
-    assert_eq!(rt;
-        commit_text(core, alloc, 2)?.as_str(),
-        "two: segments_2 _1.seg _1.sto _1_2.liv _2.seg _2.sto"
-    );
-    assert_eq!(rt; core.sweep(device), Ok(1));
-    assert_eq!(rt;
-        names_text(alloc, device)?.as_str(),
-        " _1.seg _1.sto _1_2.liv _2.seg _2.sto segments_2"
-    );
-    Ok(())
+const HAS_SECOND: &[Row<'static>] = &[
+    (Step::Standing, "1: -a b;2: c;"),
+    (Step::Told(NAMES), "4 0 2: 3 1 3 0 1; 1"),
+    (Step::IsRecorded(4), "yes"),
+    (Step::IsRecorded(0), "no"),
+    (Step::IsRecorded(3), "no"),
+    (Step::Newest, "2"),
+    (Step::SnapshotsOf(2), "0"),
+    (Step::IsMerging, "no"),
+    (
+        Step::CommitText(2),
+        "two: segments_2 _1.seg _1.sto _1_2.liv _2.seg _2.sto",
+    ),
+    (Step::Sweep, "1"),
+    (
+        Step::Names,
+        " _1.seg _1.sto _1_2.liv _2.seg _2.sto segments_2",
+    ),
+];
+
+#[test]
+fn a_committed_state_is_opened_again(rt: HostRuntime) -> Result<(), Fail> {
+    run_opened(&rt, rt.alloc(), &[HAS_SECOND])
 }
 
 /// The next commit has the next numbers, and keeps the live file of a segment that stayed as it was. The own files of the first
 /// two are pending then.
-fn goes_on(
-    rt: &impl Abort,
-    alloc: Global,
-    core: &mut Core,
-    device: &mut MemoryDirectory,
-) -> Result<(), Fail> {
-    put(core, alloc, r#"{"id":"a","price":5}"#)?;
-    assert_eq!(rt; commit(core, device, "three"), Ok(3));
-    assert_eq!(rt; standing(core, alloc)?.as_str(), "1: -a b;2: c;3: a;");
-    assert_eq!(rt;
-        commit_text(core, alloc, 3)?.as_str(),
-        "three: segments_3 _1.seg _1.sto _1_2.liv _2.seg _2.sto _3.seg _3.sto"
-    );
-    assert_eq!(rt; told(core, alloc, NAMES)?.as_str(), "5 0 3: 3 1 3 0 0; 2");
-    Ok(())
-}
-
-#[test]
-fn a_committed_state_is_opened_again(rt: HostRuntime) -> Result<(), Fail> {
-    let alloc = rt.alloc();
-    let mut device = MemoryDirectory::new(alloc);
-    leave_two(alloc, &mut device)?;
-    let mut core = open_second(alloc, &mut device)?;
-    has_second(&rt, alloc, &mut core, &mut device)
-}
+const GOES_ON: &[Row<'static>] = &[
+    (Step::Put(r#"{"id":"a","price":5}"#), "ok"),
+    (Step::Commit("three"), "3"),
+    (Step::Standing, "1: -a b;2: c;3: a;"),
+    (
+        Step::CommitText(3),
+        "three: segments_3 _1.seg _1.sto _1_2.liv _2.seg _2.sto _3.seg _3.sto",
+    ),
+    (Step::Told(NAMES), "5 0 3: 3 1 3 0 0; 2"),
+];
 
 #[test]
 fn an_opened_state_goes_on(rt: HostRuntime) -> Result<(), Fail> {
-    let alloc = rt.alloc();
-    let mut device = MemoryDirectory::new(alloc);
-    leave_two(alloc, &mut device)?;
-    let mut core = open_second(alloc, &mut device)?;
-    goes_on(&rt, alloc, &mut core, &mut device)
+    run_opened(&rt, rt.alloc(), &[GOES_ON])
 }
