@@ -24,6 +24,3 @@ pub use fault::{Fault, Rule};
 pub use report::{Report, report_of};
 pub use telling::{tell, tell_standing};
 pub use verdict::{Verdict, open_said};
-
-#[cfg(test)]
-mod tests;

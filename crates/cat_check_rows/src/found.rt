@@ -1,6 +1,6 @@
 //! What is found of a directory, and what an opening answers at it, as texts.
-use crate::{Checked, Report, Verdict, check, tell};
 use cat_base::{Generation, Refusal};
+use cat_check::{Checked, Report, Verdict, check, tell};
 use cat_directory::{Directory, Shelf};
 use cat_opening::read_commit;
 use cat_schema::Schema;

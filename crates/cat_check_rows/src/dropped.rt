@@ -1,7 +1,7 @@
 //! The way back after a crash in the middle of a commit.
-use super::files::{COMMIT, Content, Files, whole_but};
-use super::found::found;
-use crate::{Standing, drop_torn, tell_standing};
+use crate::files::{COMMIT, Content, Files, whole_but};
+use crate::found::found;
+use cat_check::{Standing, drop_torn, tell_standing};
 use cat_directory::{Directory, FileName};
 use std::process::Abort;
 use std::test::Fail;

@@ -1,10 +1,10 @@
 //! Damaged directories: which file breaks which rule, and that an opening is refused by 31 exactly there.
-use super::files::{
+use crate::files::{
     COMMIT, CommitText, Content, Files, LIVE_OF_ONE, LiveText, ONE, SegmentText, THREE, TWO, WHOLE,
     bytes_of, whole_but, write_bytes,
 };
-use super::found::{agrees, found};
-use crate::check;
+use crate::found::{agrees, found};
+use cat_check::check;
 use cat_directory::{FileName, MemoryDirectory};
 use std::alloc::Global;
 use std::process::Abort;

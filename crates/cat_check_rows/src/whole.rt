@@ -1,7 +1,7 @@
 //! All that is told of directories: commits with their numbers, and files that no commit names.
-use super::files::{COMMIT, CommitText, Content, Files, whole_but};
-use super::found::text_of;
-use crate::check;
+use crate::files::{COMMIT, CommitText, Content, Files, whole_but};
+use crate::found::text_of;
+use cat_check::check;
 use cat_directory::{Directory, FileName, MemoryDirectory};
 use std::test::Fail;
 

@@ -1,8 +1,8 @@
 //! Devices whose calls fail.
-use super::files::{Content, Files, WHOLE, bytes_of, whole_but};
-use super::found::found;
-use crate::{Standing, Verdict, check, drop_torn};
+use crate::files::{Content, Files, WHOLE, bytes_of, whole_but};
+use crate::found::found;
 use cat_base::Refusal;
+use cat_check::{Standing, Verdict, check, drop_torn};
 use cat_directory::{Directory, Faults, Faulty, FileName, Holder, MemoryDirectory, Shelf};
 use std::alloc::Global;
 use std::process::Abort;
