@@ -128,6 +128,3 @@ impl<T: Drop> From<AllocFailed<T>> for Refusal {
         Refusal::Memory
     }
 }
-
-#[cfg(test)]
-mod tests;

@@ -1,5 +1,5 @@
 //! What each refusal shows, and that a bare `?` lifts want of memory.
-use super::*;
+use cat_base::Refusal;
 use std::alloc::Global;
 use std::sync::Arc;
 use std::test::Fail;
