@@ -2,7 +2,7 @@
 //!
 //! Lucene's `IndexWriter.commit` with `setLiveCommitData`, and `SnapshotDeletionPolicy.snapshot` and `release`.
 ghost use Rattle.std.specs.Prelude.{◌≡◌, ◌⊎◌, ℕ, ◌<◌, IfErr, OnErr, Ok, Err, Some};
-ghost use Rattle.cat_base.specs.declared.refusal.Refusal.TheVariants.{Memory, Spent};
+ghost use Rattle.cat_base.specs.declared.refusal.Refusal.TheVariants.{Device, Memory, Spent};
 ghost use Rattle.cat_model.specs.Heard.{commit_text_of};
 ghost use Rattle.cat_model.specs.Limits.{last_number, snapshot_limit};
 ghost use Rattle.cat_model.specs.Lines.{Said};
@@ -33,6 +33,7 @@ pub fn commit<D: Directory + Shelf>(ledger: &mut Ledger<D>, text: &str) -> Resul
         → (result ≡ Err Spent) × (ledger.new ≡ ledger.old) }
     ensures spent { commit_text_of text.now ≡ Ok text.now → IfErr result (λ e. e ≡ Spent
         → (last_number < (shape_in ledger.old).next_generation) ⊎ MayNotFlush (shape_in ledger.old)) }
+    ensures device { commit_text_of text.now ≡ Ok text.now → IfErr result (λ e. e ≡ Device → D.can_fail (device_in ledger.old)) }
     ensures crash { Spares D.may_leave ledger.old ledger.new }
     ensures can { D.can_fail (device_in ledger.new) → D.can_fail (device_in ledger.old) }
     ensures history { GoesBy D.may_leave (Some (Said.commit text.now)) (reply_of result) ledger.old ledger.new }

@@ -3,3 +3,4 @@ pub mod Made
 pub mod Results
 pub mod Swept
 pub mod Histories
+pub mod Synced

@@ -4,7 +4,7 @@
 ghost use Rattle.cat_ledger_lines.specs.LineLaws.{Commits};
 ghost use Rattle.cat_base.specs.declared.refusal.Refusal.TheVariants.{Device, Memory, NoCommit, NoSnapshot, Spent};
 ghost use Rattle.cat_ledger.specs.Histories.{Event, Goes, SparesOtherCommits};
-ghost use Rattle.cat_ledger.specs.Lasting.{IsLasting};
+ghost use Rattle.cat_ledger.specs.Lasting.{IsCarried, IsLasting};
 ghost use Rattle.cat_ledger.specs.Ledgers.{Does, Spares, device_in, policy_in, shape_in};
 ghost use Rattle.std.specs.Prelude.{Err, IfErr, IfOk, None, Ok, OnErr, OnOk, Some, ℕ, ◌-◌, ◌<◌, ◌≡◌, ◌≤◌, ◌⊎◌};
 ghost use Rattle.cat_directory.specs.declared.name.FileName.{FileName};
@@ -48,6 +48,7 @@ fn flush_and_commit<D: Directory>(
     ensures lasts { OnOk result (IsLasting D.bytes D.may_leave device.old core.old
         → IsLasting D.bytes D.may_leave device.new core.new) }
     ensures spent { IfErr result (λ e. e ≡ Spent → MayNotFlush core.old) }
+    ensures device { IsCarried (D.bytes device.old) core.old → IfErr result (λ e. e ≡ Device → D.can_fail device.old) }
     ensures can { D.can_fail device.new → D.can_fail device.old }
     ensures refusal { IfErr result (λ e. (e ≡ Memory) ⊎ (e ≡ Device) ⊎ (e ≡ Spent)) }
 {
@@ -85,6 +86,7 @@ impl<D: Directory + Shelf> Ledger<D> {
         ensures err { OnErr result (Does D.bytes IsLeft self.old self.new) }
         ensures crash { Spares D.may_leave self.old self.new }
         ensures refusal { commit_text_of text.now ≡ Ok text.now → IfErr result (λ e. (e ≡ Memory) ⊎ (e ≡ Device) ⊎ (e ≡ Spent)) }
+        ensures device { commit_text_of text.now ≡ Ok text.now → IfErr result (λ e. e ≡ Device → D.can_fail (device_in self.old)) }
         ensures can { D.can_fail (device_in self.new) → D.can_fail (device_in self.old) }
         ensures answered { IfOk result (λ g. Goes D.may_leave (Event.Answered g) self.old self.new) }
         ensures refused { OnErr result (Goes D.may_leave Event.Other self.old self.new

@@ -46,8 +46,8 @@ impl Core {
     /// `IndexWriter.commit` with its user data.)
     ///
     /// [`Refusal::Spent`] where no number is left for a commit; else [`Refusal::Device`] where the directory fails, or doesn't
-    /// have a file that is to be synced, or [`Refusal::Memory`]. Then no commit comes and none goes; the files that were begun
-    /// are pending.
+    /// have a file of a segment that is to be synced, or [`Refusal::Memory`]. Then no commit comes and none goes; the files that
+    /// were begun are pending.
     pub fn commit<D: Directory>(
         &mut self,
         device: &mut D,
@@ -67,7 +67,8 @@ impl Core {
         ensures spent { IfErr result (λ e. e ≡ Spent → last_number < self.old.next_generation) }
         ensures due { IfErr result (λ e. (e ≡ Memory) ⊎ (e ≡ Device) → self.old.next_generation ≤ last_number) }
         ensures device { IfErr result (λ e. e ≡ Device → D.can_fail device.old
-            ⊎ ((q : FileName) × (has_name (name_of q) (names_synced self.old) ≡ true) × (D.bytes device.old q ≡ Some None))) }
+            ⊎ ((q : FileName) × (has_name (name_of q) (names_synced self.old) ≡ true) × (is_begun (names_begun self.old) q ≡ false)
+            × (D.bytes device.old q ≡ Some None))) }
         ensures can { D.can_fail device.new → D.can_fail device.old }
         ensures refusal { IfErr result (λ e. (e ≡ Memory) ⊎ (e ≡ Device) ⊎ (e ≡ Spent)) }
     {

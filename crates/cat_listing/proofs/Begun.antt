@@ -1,5 +1,5 @@
 -- What a draft begins is what a commit begins.
-use Rattle.std.proofs.Common.{◌≡◌, ℕ, List, [], ◌∷◌, map, Bool, true, false, ◌||◌, cond, refl, sym, ◌∙◌, subst}
+use Rattle.std.proofs.Common.{◌≡◌, ℕ, List, [], ◌∷◌, map, Bool, true, false, cond, refl, sym, ◌∙◌, subst}
 use Rattle.std.specs.Prelude.{◌==◌}
 use Rattle.std.specs.List.{AllByRecursion}
 use Rattle.std.proofs.lemmas.Bool.{eqb-true}
@@ -16,10 +16,7 @@ use Rattle.cat_listing.specs.Entries.{listing_after}
 use Rattle.cat_listing.specs.Unsynced.{new_live}
 use Rattle.cat_listing.specs.Drafts.{HasNewFile}
 use Rattle.cat_listing.specs.Laws.{DraftsWriteCommits}
-use Rattle.cat_listing.proofs.Writing.{neither}
-
-either_none : (a b : Bool) → a ≡ false → b ≡ false → (a || b) ≡ false
-either_none a b e f = rw (e, f) refl
+use Rattle.cat_listing.proofs.Writing.{neither, or_none}
 
 not_begun : (old : List ListedLive) (g : ℕ) (leaves : List Leaf) (q : Name) → has_name q (map (λ (leaf : Leaf). Name.live leaf.segment.number g) leaves) ≡ false
     → has_name q (new_live g (listing_after old g leaves)) ≡ false
@@ -27,13 +24,13 @@ not_begun old g [] q e = refl
 not_begun old g (l ∷ ls) q e =
     let k = neither (same_file_name q (Name.live l.segment.number g)) (has_name q (map (λ (leaf : Leaf). Name.live leaf.segment.number g) ls)) e in
     list_any-append (same_file_name q) (cond (file_for old g l == g) (Name.live l.segment.number (file_for old g l) ∷ []) []) (new_live g (listing_after old g ls))
-    ∙ either_none (has_name q (cond (file_for old g l == g) (Name.live l.segment.number (file_for old g l) ∷ []) [])) (has_name q (new_live g (listing_after old g ls)))
+    ∙ or_none (has_name q (cond (file_for old g l == g) (Name.live l.segment.number (file_for old g l) ∷ []) [])) (has_name q (new_live g (listing_after old g ls)))
     (by (file_for old g l == g) refl k.0) (not_begun old g ls q k.1)
   where
     by : (b : Bool) → (file_for old g l == g) ≡ b → same_file_name q (Name.live l.segment.number g) ≡ false
         → has_name q (cond b (Name.live l.segment.number (file_for old g l) ∷ []) []) ≡ false
     by true h n =
-        either_none (same_file_name q (Name.live l.segment.number (file_for old g l))) false
+        or_none (same_file_name q (Name.live l.segment.number (file_for old g l))) false
         (subst (λ f. same_file_name q (Name.live l.segment.number f) ≡ false) (sym (eqb-true (file_for old g l) g h)) n) refl
     by false h n = refl
 
@@ -46,7 +43,7 @@ pub drafts_write : DraftsWriteCommits
 drafts_write text s told told' others commit live = record {
   others = λ q e.
       let k = neither (same_file_name (name_of q) (Name.commit s.next_generation)) (has_name (name_of q) (map (λ (leaf : Leaf). Name.live leaf.segment.number s.next_generation) s.leaves)) e in
-      others q (either_none (same_file_name (name_of q) (Name.commit s.next_generation)) (has_name (name_of q) (new_live s.next_generation (listed_now s))) k.0
+      others q (or_none (same_file_name (name_of q) (Name.commit s.next_generation)) (has_name (name_of q) (new_live s.next_generation (listed_now s))) k.0
       (not_begun s.listed s.next_generation s.leaves (name_of q) k.1));
   commit = commit;
   live = new_told told' s s.leaves live;

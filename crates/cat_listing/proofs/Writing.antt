@@ -145,18 +145,30 @@ not_absent : (bytes : List ℕ) (t : Told) → told_after (written bytes) t ≡ 
 not_absent bytes None e = let no : None ≡ Some None = e in cc
 not_absent bytes (Some content) e = let no : Some (Some bytes) ≡ Some None = e in cc
 
--- a file that is absent once these are written was absent before
-pub absent_before : (files : List NewBytes) (a b : ToldFiles) (q : FileName) → TouchesOnly (names_of files) a b → All (IsWritten a b) files → b q ≡ Some None → a q ≡ Some None
+-- a file that is absent once these are written is none of them, and was absent before
+pub absent_before : (files : List NewBytes) (a b : ToldFiles) (q : FileName) → TouchesOnly (names_of files) a b → All (IsWritten a b) files → b q ≡ Some None
+    → (has_name (name_of q) (names_of files) ≡ false) × (a q ≡ Some None)
 absent_before files a b q others all e = by (has_name (name_of q) (names_of files)) refl
   where
     any_file : NewBytes
     any_file = record { name = q; bytes = [] }
 
-    by : (h : Bool) → has_name (name_of q) (names_of files) ≡ h → a q ≡ Some None
+    by : (h : Bool) → has_name (name_of q) (names_of files) ≡ h → (has_name (name_of q) (names_of files) ≡ false) × (a q ≡ Some None)
     by true h =
         let at = named_at files q any_file h in
         absurd (not_absent (get_or files at.index any_file).bytes (a (get_or files at.index any_file).name) (sym (all at.index any_file at.within) ∙ ap b (sym at.is) ∙ e))
-    by false h = sym (others q h) ∙ e
+    by false h = (h, sym (others q h) ∙ e)
+
+-- a name that is among these isn't one that is not
+pub none_of_both : (names : List Name) (q last : Name) → has_name last names ≡ false → has_name q names ≡ true → same_file_name q last ≡ false
+none_of_both names q last not has = by (same_file_name q last) refl
+  where
+    by : (b : Bool) → same_file_name q last ≡ b → same_file_name q last ≡ false
+    by true h = absurd (both_ways (has_name last names) not (subst (λ n. has_name n names ≡ true) (same_name_is q last h) has))
+    by false h = h
+
+pub or_none : (a b : Bool) → a ≡ false → b ≡ false → (a || b) ≡ false
+or_none a b e f = rw (e, f) refl
 
 -- ---- the last file
 

@@ -117,7 +117,7 @@ fn live_files_of(
 }
 
 impl Draft {
-    ghost use Rattle.std.specs.Prelude.{◌≡◌, ◌≢◌, ◌⊎◌, ◌∷◌, true, map, Some, None, AllPairs, OnOk, IfOk, IfErr};
+    ghost use Rattle.std.specs.Prelude.{◌≡◌, ◌≢◌, ◌⊎◌, ◌∷◌, false, true, map, Some, None, AllPairs, OnOk, IfOk, IfErr};
     ghost use Rattle.std.specs.List.{AllByRecursion};
     ghost use Rattle.cat_base.specs.declared.refusal.Refusal.TheVariants.{Memory, Device};
     ghost use Rattle.cat_model.specs.Files.{Name};
@@ -167,8 +167,8 @@ impl Draft {
     /// Writes the new live files, syncs all files that the commit before didn't list, and only then writes the commit's own
     /// file, which comes into being with its last sync. (Lucene: `IndexWriter.prepareCommit` and `finishCommit`.)
     ///
-    /// [`Refusal::Device`] where the device fails, or doesn't have a file that is to be synced; else [`Refusal::Memory`]. Then
-    /// none but the new files may have changed: what earlier commits need is as it was.
+    /// [`Refusal::Device`] where the device fails, or doesn't have a file that is to be synced and that isn't written here; else
+    /// [`Refusal::Memory`]. Then none but the new files may have changed: what earlier commits need is as it was.
     pub fn write<D: Directory>(&self, device: &mut D) -> Result<(), Refusal>
         ensures own { OnOk result (TellsBytes (D.bytes device.new) (FileName.Commit self.now.commit.generation)
             (λ bytes. SpellsCommit bytes self.now.commit)) }
@@ -181,7 +181,8 @@ impl Draft {
             (D.may_leave device.old) (D.may_leave device.new) }
         ensures refusal { IfErr result (λ e. (e ≡ Memory) ⊎ (e ≡ Device)) }
         ensures device { IfErr result (λ e. e ≡ Device → D.can_fail device.old
-            ⊎ ((q : FileName) × (has_name (name_of q) self.now.unsynced ≡ true) × (D.bytes device.old q ≡ Some None))) }
+            ⊎ ((q : FileName) × (has_name (name_of q) self.now.unsynced ≡ true)
+            × (has_name (name_of q) (begun self.now.commit.generation self.now.listing) ≡ false) × (D.bytes device.old q ≡ Some None))) }
         ensures can { D.can_fail device.new → D.can_fail device.old }
         ensures counted { CountsWriting (D.fault_count device.old) (D.fault_count device.new) result }
     {

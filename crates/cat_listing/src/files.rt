@@ -91,7 +91,8 @@ fn write_synced<D: Directory>(
     ensures ok { OnOk result (All (IsWritten (D.bytes device.old) (D.bytes device.new)) files.now) }
     ensures lasts { OnOk result (AreSettled (map name_of unsynced.now) (D.bytes device.new) (D.may_leave device.new)) }
     ensures device { IfErr result (λ e. e ≡ Device → D.can_fail device.old
-        ⊎ ((q : FileName) × (has_name (name_of q) (map name_of unsynced.now) ≡ true) × (D.bytes device.old q ≡ Some None))) }
+        ⊎ ((q : FileName) × (has_name (name_of q) (map name_of unsynced.now) ≡ true) × (has_name (name_of q) (names_of files.now) ≡ false)
+        × (D.bytes device.old q ≡ Some None))) }
     ensures can { D.can_fail device.new → D.can_fail device.old }
     ensures counted { CountsWriting (D.fault_count device.old) (D.fault_count device.new) result }
 {
@@ -124,7 +125,8 @@ pub(crate) fn write_in_order<D: Directory>(
     ensures order { ComesLast last.now.name (map name_of unsynced.now) (D.bytes device.old) (D.bytes device.new)
         (D.may_leave device.old) (D.may_leave device.new) }
     ensures device { IfErr result (λ e. e ≡ Device → D.can_fail device.old
-        ⊎ ((q : FileName) × (has_name (name_of q) (map name_of unsynced.now) ≡ true) × (D.bytes device.old q ≡ Some None))) }
+        ⊎ ((q : FileName) × (has_name (name_of q) (map name_of unsynced.now) ≡ true) × (has_name (name_of q) (names_of files.now) ≡ false)
+        × (D.bytes device.old q ≡ Some None))) }
     ensures can { D.can_fail device.new → D.can_fail device.old }
     ensures counted { CountsWriting (D.fault_count device.old) (D.fault_count device.new) result }
 {

@@ -1,3 +1,4 @@
+use Rattle.std.proofs.Common.{inl, inr}
 use Rattle.cat_ledger_model.specs.Calls.{Committed, Flushes}
 use Rattle.cat_ledger.proofs.Lasting.{call_keeps, carried_on, commit_lasts, lets_flush}
 use Rattle.cat_ledger.proofs.Made.{commit_spares, flushed_segment, left_behind}
@@ -6,6 +7,7 @@ use Rattle.cat_ledger_shape.proofs.Committed.{commits_make}
 use Rattle.cat_ledger_shape.proofs.Listed.{names_are_begun}
 use Rattle.cat_ledger_shape.specs.CommitLaws.{names_begun}
 use Rattle.cat_ledger.proofs.Histories.{commit_spares_others, newest_committed, next_committed}
+use Rattle.cat_ledger.proofs.Synced.{synced_stands}
 use Rattle.cat_ledger.proofs.commits.flush_and_commit.Goals as goal
 
 pub returns-in-Ok-clause-ok : goal.returns-in-Ok-clause-ok
@@ -82,3 +84,13 @@ returns-in-Ok-clause-newest g c =
 pub returns-in-Ok-clause-next : goal.returns-in-Ok-clause-next
 returns-in-Ok-clause-next g c =
     next_committed c.args.text.now c.args.core.now.next_generation c.flush.new.core c.commit.new.self c.in-Ok.ensures.ok.0 c.in_default.ensures.generation
+
+-- no file of a segment is absent, so the directory can fail
+pub returns-in-Err-commit-clause-device : goal.returns-in-Err-commit-clause-device
+returns-in-Err-commit-clause-device g c = λ before is.
+    let bytes = g.D.Holder.bytes in
+    let carried = carried_on Flushes (bytes c.args.device.now) (bytes c.flush.new.device) c.args.core.now c.flush.new.core c.in_default.ensures.ok before in
+    elim (c.in-Err-commit.ensures.device is) [
+      | inl fails ↦ c.flush.ensures.can fails
+      | inr w ↦ absurd (synced_stands (bytes c.flush.new.device) c.flush.new.core carried w.0 w.1 w.2 w.3)
+    ]

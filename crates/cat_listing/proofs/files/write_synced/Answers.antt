@@ -1,10 +1,11 @@
 use Rattle.std.proofs.Common.{◌≡◌, Some, None, inl, inr, map}
-use Rattle.std.specs.Prelude.{◌⊎◌, true}
+use Rattle.std.specs.Prelude.{◌⊎◌, false, true}
 use Rattle.cat_base.specs.declared.refusal.Refusal.{Refusal}
 use Rattle.cat_base.specs.declared.refusal.Refusal.TheVariants.{Device}
 use Rattle.cat_directory.specs.declared.name.FileName.{FileName}
 use Rattle.cat_directory.specs.Names.{name_of}
 use Rattle.cat_ledger_model.specs.Users.{has_name}
+use Rattle.cat_listing.specs.NewFiles.{names_of}
 use Rattle.cat_listing.proofs.Writing.{passed, settled, named, absent_before}
 use Rattle.cat_listing.proofs.files.write_synced.Goals as goal
 
@@ -15,13 +16,12 @@ returns-clause-lasts g c =
 pub returns-in_err-sync-clause-device : goal.returns-in_err-sync-clause-device
 returns-in_err-sync-clause-device g c =
     passed (λ (e : Refusal). e ≡ Device → g.D.Holder.can_fail c.args.device.now
-    ⊎ ((q : FileName) × (has_name (name_of q) (map name_of c.args.unsynced.now) ≡ true) × (g.D.Holder.bytes c.args.device.now q ≡ Some None))) _ _ c.from_residual-in_err-sync.ensures
+    ⊎ ((q : FileName) × (has_name (name_of q) (map name_of c.args.unsynced.now) ≡ true) × (has_name (name_of q) (names_of c.args.files.now) ≡ false)
+    × (g.D.Holder.bytes c.args.device.now q ≡ Some None))) _ _ c.from_residual-in_err-sync.ensures
     (λ is. elim c.in_err-sync.ensures.device.1 [
       | inl f ↦ inl (c.in_ok-write_files.ensures.can f)
-      | inr w ↦ inr (
-        w.0,
-        named c.args.unsynced.now w.0 w.1,
-        absent_before c.args.files.now (g.D.Holder.bytes c.args.device.now) (g.D.Holder.bytes c.write_files.new.device) w.0
-            c.in_ok-write_files.ensures.others c.in_ok-write_files.ensures.ok w.2,
-      )
+      | inr w ↦
+          let before = absent_before c.args.files.now (g.D.Holder.bytes c.args.device.now) (g.D.Holder.bytes c.write_files.new.device) w.0
+          c.in_ok-write_files.ensures.others c.in_ok-write_files.ensures.ok w.2 in
+          inr (w.0, named c.args.unsynced.now w.0 w.1, before.0, before.1)
     ])

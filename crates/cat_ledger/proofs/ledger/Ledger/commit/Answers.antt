@@ -62,3 +62,6 @@ returns-clause-refused g c =
     rw (← c.self.view_is) (on_err done.result
     (λ made. inr (refused_goes left bytes IsLeft lets_left c.self.inside.device done.new.device s done.new.core policy policy made c.self.invariant.carried
     done.ensures.commits)) done.ensures.err)
+
+pub returns-clause-device : goal.returns-clause-device
+returns-clause-device g c = λ formed. rw (← c.self.view_is) (c.flush_and_commit.ensures.device c.self.invariant.carried)

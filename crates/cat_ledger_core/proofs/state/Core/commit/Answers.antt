@@ -1,9 +1,13 @@
-use Rattle.std.proofs.Common.{◌≡◌, ◌+◌, [], ◌∷◌, List, map, filter, not, sym, ◌∙◌, ap, subst, inr, Some}
+use Rattle.std.proofs.Common.{◌≡◌, ◌+◌, [], ◌∷◌, List, map, filter, not, sym, ◌∙◌, ap, subst, inr, Some, None, true, false}
+use Rattle.std.specs.Prelude.{◌⊎◌}
+use Rattle.cat_base.specs.declared.refusal.Refusal.TheVariants.{Device}
 use Rattle.cat_model.specs.Files.{Name}
 use Rattle.cat_model.specs.CommitFile.{CommitFile, commit_needs}
 use Rattle.cat_model.specs.State.{stays_kept}
 use Rattle.cat_directory.specs.Names.{name_of}
+use Rattle.cat_directory.specs.declared.name.FileName.{FileName}
 use Rattle.cat_directory.specs.declared.name.FileName.TheVariants as file
+use Rattle.cat_ledger_model.specs.Users.{has_name}
 use Rattle.cat_ledger_shape.specs.Shapes.{names_of_commits}
 use Rattle.cat_ledger_shape.specs.CommitLaws.{names_begun}
 use Rattle.cat_ledger_shape.specs.Ties.{TouchesOnly}
@@ -121,3 +125,9 @@ pub returns-in-Err-clause-order : goal.returns-in-Err-clause-order
 returns-in-Err-clause-order g c =
     subst (λ d. ComesLast (file.Commit d.commit.generation) d.unsynced (g.D.Holder.bytes c.args.device.now) (g.D.Holder.bytes c.write.new.device) (g.D.Holder.may_leave c.args.device.now) (g.D.Holder.may_leave c.write.new.device))
     c.in_ok-draft.ensures c.in-Err.ensures.order
+
+pub returns-in-Err-clause-device : goal.returns-in-Err-clause-device
+returns-in-Err-clause-device g c =
+    subst (λ d. c.in-Err.refusal ≡ Device → g.D.Holder.can_fail c.args.device.now
+    ⊎ ((q : FileName) × (has_name (name_of q) d.unsynced ≡ true) × (has_name (name_of q) (begun d.commit.generation d.listing) ≡ false)
+    × (g.D.Holder.bytes c.args.device.now q ≡ Some None))) c.in_ok-draft.ensures c.in-Err.ensures.device

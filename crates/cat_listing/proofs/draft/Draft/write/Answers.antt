@@ -1,15 +1,18 @@
-use Rattle.std.proofs.Common.{◌≢◌, List, ◌∷◌, map, AllPairs, sym, ap, ap₂, ◌∙◌, subst}
-use Rattle.std.specs.Prelude.{All}
+use Rattle.std.proofs.Common.{◌≡◌, ◌≢◌, List, ◌∷◌, map, Some, None, AllPairs, IfErr, sym, ap, ap₂, ◌∙◌, subst, inl, inr}
+use Rattle.std.specs.Prelude.{◌⊎◌, false, true, All}
 use Rattle.std.specs.List.{AllByRecursion}
-use Rattle.std.proofs.lemmas.Result.{on_ok_weaker}
+use Rattle.std.proofs.lemmas.Result.{on_ok_weaker, IfErr-weaker}
+use Rattle.cat_base.specs.declared.refusal.Refusal.TheVariants.{Device}
 use Rattle.cat_model.specs.Files.{Name, IsFileName}
+use Rattle.cat_directory.specs.declared.name.FileName.{FileName}
 use Rattle.cat_directory.specs.Names.{name_of}
-use Rattle.cat_ledger_model.specs.Users.{has_name}
+use Rattle.cat_ledger_model.specs.Users.{has_name, same_file_name}
 use Rattle.cat_ledger_shape.specs.Ties.{TouchesOnly}
 use Rattle.cat_listing.specs.NewFiles.{NewBytes, names_of, IsWritten, NoMoreBut, AreSettled}
 use Rattle.cat_listing.specs.Unsynced.{begun}
 use Rattle.cat_listing.specs.Drafts.{Drafted, HasNewFile}
-use Rattle.cat_listing.proofs.Drafting.{names_begun, own_named, all_formed, all_apart, own_apart, all_told}
+use Rattle.cat_listing.proofs.Drafting.{names_begun, own_named, all_formed, all_apart, own_apart, own_unsynced, names_new, all_told}
+use Rattle.cat_listing.proofs.Writing.{none_of_both, or_none}
 use Rattle.cat_listing.proofs.draft.Draft.write.Goals as goal
 
 pub write_in_order-requires-clause-form : goal.write_in_order-requires-clause-form
@@ -48,3 +51,26 @@ returns-clause-lasts g c =
     (subst (λ ns. AreSettled ns (g.D.Holder.bytes c.write_in_order.new.device) (g.D.Holder.may_leave c.write_in_order.new.device))
     (ap₂ (λ (n : Name) (ns : List Name). n ∷ ns) (own_named _ _ _ _ c.self.invariant) (ap (map name_of) c.deref-2.ensures.value)) all))
     c.write_in_order.ensures.lasts
+
+-- a file that is absent is none that is begun: neither a new live file nor the commit's own, which isn't synced with the others
+pub returns-clause-device : goal.returns-clause-device
+returns-clause-device g c =
+    subst (λ (s : Drafted). IfErr c.write_in_order.result (λ e. e ≡ Device → g.D.Holder.can_fail c.args.device.now
+    ⊎ ((q : FileName) × (has_name (name_of q) s.unsynced ≡ true) × (has_name (name_of q) (begun s.commit.generation s.listing) ≡ false)
+    × (g.D.Holder.bytes c.args.device.now q ≡ Some None)))) c.self.view_is
+    (IfErr-weaker c.write_in_order.result _ _
+    (λ e given is. elim (given is) [
+      | inl fails ↦ inl fails
+      | inr w ↦
+          let unsynced = subst (λ ns. has_name (name_of w.0) (map name_of ns) ≡ true) c.deref-2.ensures.value w.1 in
+          let not_live = subst (λ fs. has_name (name_of w.0) (names_of fs) ≡ false) c.deref.ensures.value w.2 in
+          let own = own_unsynced _ _ _ _ c.self.invariant in
+          inr (
+            w.0,
+            unsynced,
+            or_none _ _ (subst (λ n. same_file_name (name_of w.0) n ≡ false) (own_named _ _ _ _ c.self.invariant) (none_of_both _ (name_of w.0) _ own unsynced))
+                (subst (λ ns. has_name (name_of w.0) ns ≡ false) (names_new _ _ _ _ c.self.invariant) not_live),
+            w.3,
+          )
+    ])
+    c.write_in_order.ensures.device)
