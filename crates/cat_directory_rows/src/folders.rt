@@ -37,6 +37,60 @@ fn a_folder_answers_as_memory_does(rt: HostRuntime) -> Result<(), Fail> {
     remove_folder(&rt, "files_test")
 }
 
+/// What is read of a file is what it has then, whatever was read of it before.
+const READ_AGAIN: &[&[Row<'static>]] = &[&[
+    (Call::Create(FIRST), ""),
+    (Call::Append(FIRST, "one"), ""),
+    (Call::Read(FIRST, 0, 3), "one"),
+    (Call::Append(FIRST, " two"), ""),
+    (Call::Read(FIRST, 0, 7), "one two"),
+    (Call::Size(FIRST), "7"),
+    (Call::Create(FIRST), ""),
+    (Call::Size(FIRST), "0"),
+    (Call::Read(FIRST, 0, 1), "NO 31"),
+    (Call::Append(FIRST, "six"), ""),
+    (Call::Read(FIRST, 0, 3), "six"),
+    (Call::Delete(FIRST), ""),
+    (Call::Read(FIRST, 0, 3), "NO 31"),
+    (Call::Size(FIRST), "NO 31"),
+]];
+
+#[test]
+fn a_file_that_is_open_is_read_as_it_is(rt: HostRuntime) -> Result<(), Fail> {
+    make_folder(&rt, "again_test")?;
+    expect_in(&rt, "again_test", READ_AGAIN)?;
+    remove_folder(&rt, "again_test")
+}
+
+/// Writes and reads more files than stay open, and then reads each once more.
+fn read_in_turn<R: Abort + Files + AllocGlobal + Clone + Drop>(
+    rt: &R,
+    path: &str,
+) -> Result<(), Fail> {
+    let mut folder = Folder::at(rt.clone()?, rt.alloc(), path)?;
+    for number in 1..=70 {
+        let name = FileName::Segment(number);
+        let rows = [
+            (Call::Create(name), ""),
+            (Call::Append(name, "x"), ""),
+            (Call::Read(name, 0, 1), "x"),
+        ];
+        expect(rt, rt.alloc(), &mut folder, &rows)?;
+    }
+    for number in 1..=70 {
+        let rows = [(Call::Read(FileName::Segment(number), 0, 1), "x")];
+        expect(rt, rt.alloc(), &mut folder, &rows)?;
+    }
+    Ok(())
+}
+
+#[test]
+fn more_files_are_read_than_stay_open(rt: HostRuntime) -> Result<(), Fail> {
+    make_folder(&rt, "many_test")?;
+    read_in_turn(&rt, "many_test")?;
+    remove_folder(&rt, "many_test")
+}
+
 const ONE: &[Row<'static>] = &[(Call::Create(FIRST), ""), (Call::Append(FIRST, "one"), "")];
 
 const ONE_MORE: &[Row<'static>] = &[
