@@ -82,7 +82,7 @@ pub(crate) fn is_there(
 }
 
 /// Writes the commit whose file has these bytes, and answers what it lists.
-fn written(
+pub(crate) fn written(
     alloc: Global,
     device: &mut MemoryDirectory,
     earlier: &Listing,
@@ -136,57 +136,120 @@ fn behind_third(alloc: Global, leaves: Vec<Leaf>) -> Result<Vec<Leaf>, Refusal> 
     Ok(all)
 }
 
-#[test]
-fn the_first_commit_has_no_live_file(rt: HostRuntime) -> Result<(), Fail> {
-    let alloc = rt.alloc();
+/// Writes the draft, and tells the files that it needs and those that are there. Its own file has to have just these bytes.
+fn told_of(
+    alloc: Global,
+    device: &mut MemoryDirectory,
+    draft: &Draft,
+    generation: u64,
+    said: &[u8],
+) -> Result<String, Refusal> {
+    draft.write(device)?;
+    if !is_there(alloc, device, generation, said)? {
+        return Err(Refusal::Damaged);
+    }
+    names_text(alloc, draft, device)
+}
+
+/// Writes the first commit of these leaves, and tells its files.
+fn first_of(
+    alloc: Global,
+    device: &mut MemoryDirectory,
+    leaves: &[Leaf],
+) -> Result<String, Refusal> {
+    let draft = draft_as(alloc, &Listing::new(alloc), leaves, FIRST)?;
+    told_of(alloc, device, &draft, 1, FIRST)
+}
+
+/// The files of the first commit.
+fn first_told(alloc: Global) -> Result<String, Refusal> {
     let mut device = directory_of(alloc, 2)?;
     let leaves = two_leaves(alloc)?;
-    let draft = draft_as(alloc, &Listing::new(alloc), &leaves, FIRST)?;
-    draft.write(&mut device)?;
-    assert!(rt; is_there(alloc, &mut device, 1, FIRST)?);
-    let names = names_text(alloc, &draft, &mut device)?;
+    first_of(alloc, &mut device, &leaves)
+}
+
+#[test]
+fn the_first_commit_has_no_live_file(rt: HostRuntime) -> Result<(), Fail> {
+    let told = first_told(rt.alloc())?;
     assert_eq!(rt;
-        names.as_str(),
+        told.as_str(),
         "segments_1 _1.seg _1.sto _2.seg _2.sto of _1.seg _1.sto _2.seg _2.sto segments_1"
     );
     Ok(())
 }
 
-#[test]
-fn a_live_file_is_new_or_kept(rt: HostRuntime) -> Result<(), Fail> {
-    let alloc = rt.alloc();
+/// What the live files say once three commits are written, whose own files have to have just their bytes.
+fn live_of_three(
+    alloc: Global,
+    device: &mut MemoryDirectory,
+    leaves: &mut [Leaf],
+) -> Result<String, Refusal> {
+    let _third = three_commits(alloc, device, leaves)?;
+    if is_there(alloc, device, 2, SECOND)? && is_there(alloc, device, 3, THIRD)? {
+        live_texts(alloc, device)
+    } else {
+        Err(Refusal::Damaged)
+    }
+}
+
+/// What the live files of the first three commits say.
+fn third_told(alloc: Global) -> Result<String, Refusal> {
     let mut device = directory_of(alloc, 2)?;
     let mut leaves = two_leaves(alloc)?;
-    let _third = three_commits(alloc, &mut device, &mut leaves)?;
-    assert!(rt; is_there(alloc, &mut device, 2, SECOND)?);
-    assert!(rt; is_there(alloc, &mut device, 3, THIRD)?);
-    let live = live_texts(alloc, &mut device)?;
-    assert_eq!(rt; live.as_str(), "101 - - - 01 - ");
+    live_of_three(alloc, &mut device, &mut leaves)
+}
+
+#[test]
+fn a_live_file_is_new_or_kept(rt: HostRuntime) -> Result<(), Fail> {
+    let told = third_told(rt.alloc())?;
+    assert_eq!(rt; told.as_str(), "101 - - - 01 - ");
     Ok(())
 }
 
-/// The fourth commit, of a segment more, which stands first.
-fn fourth(alloc: Global, device: &mut MemoryDirectory) -> Result<Draft, Refusal> {
+/// Segment 3, and behind it the leaves as the third commit lists them, but for a row more that is dead.
+fn leaves_of_fourth(alloc: Global, mut leaves: Vec<Leaf>) -> Result<Vec<Leaf>, Refusal> {
+    kill(alloc, &mut leaves, 0, 2)?;
+    behind_third(alloc, leaves)
+}
+
+/// Writes the fourth commit behind the third, and tells its files and what the live files say.
+fn fourth_of(
+    alloc: Global,
+    device: &mut MemoryDirectory,
+    third: &Listing,
+    leaves: &[Leaf],
+) -> Result<String, Refusal>
+    requires { AllPairs (λ a b. a.number ≢ b.number) third.now }
+{
+    let draft = draft_as(alloc, third, leaves, FOURTH)?;
+    let mut told = told_of(alloc, device, &draft, 4, FOURTH)?;
+    told.push_str("\n")?;
+    told.push_str(live_texts(alloc, device)?.as_str())?;
+    Ok(told)
+}
+
+/// Writes four commits over the device, the fourth of a segment more, which stands first.
+fn fourth_over(alloc: Global, device: &mut MemoryDirectory) -> Result<String, Refusal> {
     let mut leaves = two_leaves(alloc)?;
     let third = three_commits(alloc, device, &mut leaves)?;
-    kill(alloc, &mut leaves, 0, 2)?;
-    let all = behind_third(alloc, leaves)?;
-    draft_as(alloc, &third, &all, FOURTH)
+    let all = leaves_of_fourth(alloc, leaves)?;
+    fourth_of(alloc, device, &third, &all)
+}
+
+/// What is told of the fourth commit.
+fn fourth_told(alloc: Global) -> Result<String, Refusal> {
+    let mut device = directory_of(alloc, 3)?;
+    fourth_over(alloc, &mut device)
 }
 
 #[test]
 fn segments_are_found_by_number(rt: HostRuntime) -> Result<(), Fail> {
-    let alloc = rt.alloc();
-    let mut device = directory_of(alloc, 3)?;
-    let draft = fourth(alloc, &mut device)?;
-    draft.write(&mut device)?;
-    let live = live_texts(alloc, &mut device)?;
-    assert_eq!(rt; live.as_str(), "101 - 100 - 01 - ");
-    let names = names_text(alloc, &draft, &mut device)?;
+    let told = fourth_told(rt.alloc())?;
     assert_eq!(rt;
-        names.as_str(),
+        told.as_str(),
         "segments_4 _3.seg _3.sto _1.seg _1.sto _1_4.liv _2.seg _2.sto _2_3.liv of \
-_1.seg _1.sto _1_2.liv _1_4.liv _2.seg _2.sto _2_3.liv _3.seg _3.sto segments_1 segments_2 segments_3 segments_4"
+_1.seg _1.sto _1_2.liv _1_4.liv _2.seg _2.sto _2_3.liv _3.seg _3.sto segments_1 segments_2 segments_3 segments_4\n\
+101 - 100 - 01 - "
     );
     Ok(())
 }

@@ -1,36 +1,50 @@
 //! Each call of a device fails in turn.
-use crate::commits::{FIRST, SECOND, is_there, two_leaves};
+use crate::commits::{FIRST, SECOND, is_there, two_leaves, written};
 use crate::making::{bytes_of, directory_of, draft_as, kill, live_text};
 use cat_base::Refusal;
 use cat_directory::{Faults, Faulty, FileName, MemoryDirectory};
 use cat_listing::{Draft, Listing};
+use cat_search::Leaf;
 use std::alloc::Global;
 use std::test::Fail;
 
-/// The first commit, written, and a draft of the second.
-fn two_commits(alloc: Global) -> Result<(MemoryDirectory, Draft), Refusal> {
-    let mut device = directory_of(alloc, 2)?;
+/// A draft of the second commit, where the first is written.
+fn second_draft(alloc: Global, device: &mut MemoryDirectory) -> Result<Draft, Refusal> {
     let mut leaves = two_leaves(alloc)?;
-    let draft = draft_as(alloc, &Listing::new(alloc), &leaves, FIRST)?;
-    draft.write(&mut device)?;
-    let (_, listing) = draft.into_parts();
+    let first = written(alloc, device, &Listing::new(alloc), &leaves, FIRST)?;
     kill(alloc, &mut leaves, 0, 1)?;
-    let second = draft_as(alloc, &listing, &leaves, SECOND)?;
-    Ok((device, second))
+    draft_as(alloc, &first, &leaves, SECOND)
+}
+
+/// The number of the refusal, or 0 where there is none.
+fn number_of(done: Result<(), Refusal>) -> u8 {
+    match done {
+        Ok(()) => 0,
+        Err(refusal) => refusal.number(),
+    }
+}
+
+/// Writes the draft over the device, of which each call fails behind so many that pass, and tells what is refused, how many
+/// calls there were, and what stands then.
+fn failing_over(
+    alloc: Global,
+    device: MemoryDirectory,
+    draft: &Draft,
+    passing: u64,
+) -> Result<String, Refusal> {
+    let mut faulty = Faulty::new(device, Faults::All(passing));
+    let number = number_of(draft.write(&mut faulty));
+    let calls = faulty.calls();
+    let left = left_text(alloc, &mut faulty.into_device())?;
+    Ok(format!(in alloc; "{number} {calls} {left}")?)
 }
 
 /// What is refused where each call fails behind so many that pass, how many calls there were, and then the live file and the
 /// length of the commit's own file.
 fn failing(alloc: Global, passing: u64) -> Result<String, Refusal> {
-    let (device, draft) = two_commits(alloc)?;
-    let mut faulty = Faulty::new(device, Faults::All(passing));
-    let number = match draft.write(&mut faulty) {
-        Ok(()) => 0,
-        Err(refusal) => refusal.number(),
-    };
-    let calls = faulty.calls();
-    let left = left_text(alloc, &mut faulty.into_device())?;
-    Ok(format!(in alloc; "{number} {calls} {left}")?)
+    let mut device = directory_of(alloc, 2)?;
+    let draft = second_draft(alloc, &mut device)?;
+    failing_over(alloc, device, &draft, passing)
 }
 
 /// The new live file, and the length of the new commit's own file, where the first commit stands.
@@ -73,13 +87,27 @@ fn the_own_file_comes_last(rt: HostRuntime) -> Result<(), Fail> {
     Ok(())
 }
 
-#[test]
-fn a_segment_without_its_file_is_refused(rt: HostRuntime) -> Result<(), Fail> {
-    let alloc = rt.alloc();
+/// What the first commit of these leaves is refused with, and whether its own file is there.
+fn first_refused(
+    alloc: Global,
+    device: &mut MemoryDirectory,
+    leaves: &[Leaf],
+) -> Result<(u8, bool), Refusal> {
+    let draft = draft_as(alloc, &Listing::new(alloc), leaves, FIRST)?;
+    let number = number_of(draft.write(device));
+    let own = bytes_of(alloc, device, FileName::Commit(1))?;
+    Ok((number, own.is_some()))
+}
+
+/// The same over a directory that has the files of one segment alone.
+fn first_over_one(alloc: Global) -> Result<(u8, bool), Refusal> {
     let mut device = directory_of(alloc, 1)?;
     let leaves = two_leaves(alloc)?;
-    let draft = draft_as(alloc, &Listing::new(alloc), &leaves, FIRST)?;
-    assert_eq!(rt; draft.write(&mut device), Err(Refusal::Device));
-    assert!(rt; bytes_of(alloc, &mut device, FileName::Commit(1))?.is_none());
+    first_refused(alloc, &mut device, &leaves)
+}
+
+#[test]
+fn a_segment_without_its_file_is_refused(rt: HostRuntime) -> Result<(), Fail> {
+    assert_eq!(rt; first_over_one(rt.alloc())?, (30, false));
     Ok(())
 }
