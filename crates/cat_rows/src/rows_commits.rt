@@ -1,6 +1,92 @@
 //! Commits with their texts, snapshots, and the files that they and tokens need.
-use crate::script::{Rows, Script, expect_rows};
+use crate::script::{Rows, Script, expect_days, expect_rows};
 use std::test::Fail;
+
+/// Days of commits and snapshots, line by line.
+const COMMITS: &[&str] = &[
+    r#"== snapshots of a commit are counted
+> 1 COMMIT
+1 OK 1
+> 1 SNAP
+1 OK 1
+> 2 SNAP
+2 OK 1
+> 1 COMMIT
+1 OK 2
+> 3 UNSNAP 2
+3 NO 27
+> 3 UNSNAP 1
+3 OK 1
+> 3 FILES g 1
+3 OK 1
+3 segments_1
+> 3 UNSNAP 1
+3 OK 0
+> 3 FILES g 1
+3 NO 26
+> 3 FILES g 2
+3 OK 1
+3 segments_2
+"#,
+    r#"== the files of a token are told to who holds it
+> 1 OPEN
+1 OK 0
+> 1 FILES t 0
+1 OK 0
+> 1 PUT {"id":"a"}
+1 OK 1
+> 1 REFRESH
+1 OK 1
+> 1 FILES t 1
+1 NO 20
+> 1 OPEN
+1 OK 1
+> 2 FILES t 1
+2 NO 20
+> 1 FILES t 1
+1 OK 2
+1 _1.seg
+1 _1.sto
+> 1 PUT {"id":"b"}
+1 OK 2
+> 1 REFRESH
+1 OK 2
+> 1 OPEN
+1 OK 2
+> 1 FILES t 2
+1 OK 4
+1 _1.seg
+1 _1.sto
+1 _2.seg
+1 _2.sto
+"#,
+    r#"== a commit needs the live rows of its segments
+== The second commit writes which rows of the first segment are live.
+> 1 PUT {"id":"a"}
+1 OK 1
+> 1 PUT {"id":"b"}
+1 OK 2
+> 1 COMMIT
+1 OK 1
+> 1 DEL a
+1 OK 3
+> 1 COMMIT
+1 OK 2
+> 1 FILES g 2
+1 OK 4
+1 _1.seg
+1 _1.sto
+1 _1_2.liv
+1 segments_2
+> 0 SWEEP
+0 OK 1
+"#,
+];
+
+#[test]
+fn commits_are_answered_as_written(rt: HostRuntime) -> Result<(), Fail> {
+    expect_days(&rt, rt.alloc(), COMMITS)
+}
 
 /// A snapshot keeps a commit, and its files, until it is given back.
 pub(crate) const SNAPSHOT: Rows<'static> = &[
@@ -25,23 +111,6 @@ pub(crate) const SNAPSHOT: Rows<'static> = &[
 #[test]
 fn a_snapshot_keeps_the_files_of_its_commit(rt: HostRuntime) -> Result<(), Fail> {
     expect_rows(&rt, rt.alloc(), SNAPSHOT)
-}
-
-#[test]
-fn snapshots_of_a_commit_are_counted(rt: HostRuntime) -> Result<(), Fail> {
-    const ROWS: Rows<'static> = &[
-        ("1 COMMIT", "1 OK 1"),
-        ("1 SNAP", "1 OK 1"),
-        ("2 SNAP", "2 OK 1"),
-        ("1 COMMIT", "1 OK 2"),
-        ("3 UNSNAP 2", "3 NO 27"),
-        ("3 UNSNAP 1", "3 OK 1"),
-        ("3 FILES g 1", "3 OK 1\n3 segments_1"),
-        ("3 UNSNAP 1", "3 OK 0"),
-        ("3 FILES g 1", "3 NO 26"),
-        ("3 FILES g 2", "3 OK 1\n3 segments_2"),
-    ];
-    expect_rows(&rt, rt.alloc(), ROWS)
 }
 
 #[test]
@@ -76,44 +145,4 @@ fn a_text_of_a_commit_has_256_bytes_at_most(rt: HostRuntime) -> Result<(), Fail>
     let reply = format!(in alloc; "1 OK ={long}")?;
     script.row("1 NOTE 1", reply.as_str())?;
     script.expect(&rt, alloc, Ok(()))
-}
-
-#[test]
-fn the_files_of_a_token_are_told_to_who_holds_it(rt: HostRuntime) -> Result<(), Fail> {
-    const ROWS: Rows<'static> = &[
-        ("1 OPEN", "1 OK 0"),
-        ("1 FILES t 0", "1 OK 0"),
-        ("1 PUT {\"id\":\"a\"}", "1 OK 1"),
-        ("1 REFRESH", "1 OK 1"),
-        ("1 FILES t 1", "1 NO 20"),
-        ("1 OPEN", "1 OK 1"),
-        ("2 FILES t 1", "2 NO 20"),
-        ("1 FILES t 1", "1 OK 2\n1 _1.seg\n1 _1.sto"),
-        ("1 PUT {\"id\":\"b\"}", "1 OK 2"),
-        ("1 REFRESH", "1 OK 2"),
-        ("1 OPEN", "1 OK 2"),
-        (
-            "1 FILES t 2",
-            "1 OK 4\n1 _1.seg\n1 _1.sto\n1 _2.seg\n1 _2.sto",
-        ),
-    ];
-    expect_rows(&rt, rt.alloc(), ROWS)
-}
-
-/// The second commit writes which rows of the first segment are live.
-#[test]
-fn a_commit_needs_the_live_rows_of_its_segments(rt: HostRuntime) -> Result<(), Fail> {
-    const ROWS: Rows<'static> = &[
-        ("1 PUT {\"id\":\"a\"}", "1 OK 1"),
-        ("1 PUT {\"id\":\"b\"}", "1 OK 2"),
-        ("1 COMMIT", "1 OK 1"),
-        ("1 DEL a", "1 OK 3"),
-        ("1 COMMIT", "1 OK 2"),
-        (
-            "1 FILES g 2",
-            "1 OK 4\n1 _1.seg\n1 _1.sto\n1 _1_2.liv\n1 segments_2",
-        ),
-        ("0 SWEEP", "0 OK 1"),
-    ];
-    expect_rows(&rt, rt.alloc(), ROWS)
 }

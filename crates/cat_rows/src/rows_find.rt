@@ -1,7 +1,78 @@
 //! Pages of every query, in every sort and behind every mark.
-use crate::script::{Rows, Script, expect_rows};
+use crate::script::{Rows, Script, expect_days, expect_rows};
 use std::alloc::{AllocError, Global};
 use std::test::Fail;
+
+/// Days of searches, line by line.
+const FINDS: &[&str] = &[
+    r#"== a page shows the key that it is sorted by
+> 2 PUT {"id":"a","price":5,"color":["red"]}
+2 OK 1
+> 2 REFRESH
+2 OK 1
+> 3 OPEN
+3 OK 1
+> 3 FIND 1 10 +price . *:*
+3 OK 1 1
+3 1 a 5
+"#,
+    r#"== words are lowered and kept whole
+> 1 PUT {"id":"a","title":"Red-Shoe 42é","brand":"Acme"}
+1 OK 1
+> 1 PUT {"id":"b","title":"shoes","brand":"Zed"}
+1 OK 2
+> 1 REFRESH
+1 OK 2
+> 1 OPEN
+1 OK 2
+> 1 FIND 2 9 . . title:RED
+1 OK 1 1
+1 1 a .
+> 1 FIND 2 9 . . title:sho*
+1 OK 2 2
+1 1 a .
+1 2 b .
+> 1 FIND 2 9 . . title:42
+1 OK 0 0
+> 1 FIND 2 9 . . +brand:[B TO *] title:red
+1 OK 1 1
+1 2 b .
+> 1 FIND 2 9 -brand . *:*
+1 OK 2 2
+1 2 b =Zed
+1 1 a =Acme
+"#,
+    r#"== clauses are musts must nots and shoulds
+> 1 PUT {"id":"a","brand":"x","price":-3}
+1 OK 1
+> 1 PUT {"id":"b","brand":"y"}
+1 OK 2
+> 1 REFRESH
+1 OK 2
+> 1 OPEN
+1 OK 2
+> 1 FIND 2 9 . . price:[* TO 0]
+1 OK 1 1
+1 1 a .
+> 1 FIND 2 9 . . *:* -(-brand:x)
+1 OK 2 2
+1 1 a .
+1 2 b .
+> 1 FIND 2 9 . . (-brand:y)
+1 OK 0 0
+> 1 FIND 2 9 . . price:[3 TO -3]
+1 OK 0 0
+> 1 FIND 2 9 +price . *:*
+1 OK 2 2
+1 1 a -3
+1 2 b .
+"#,
+];
+
+#[test]
+fn finds_are_answered_as_written(rt: HostRuntime) -> Result<(), Fail> {
+    expect_days(&rt, rt.alloc(), FINDS)
+}
 
 /// Four items, of which two have one price and one has none.
 const PRICED: Rows<'static> = &[
@@ -12,20 +83,6 @@ const PRICED: Rows<'static> = &[
     ("1 REFRESH", "1 OK 4"),
     ("1 OPEN", "1 OK 4"),
 ];
-
-#[test]
-fn a_page_shows_the_key_that_it_is_sorted_by(rt: HostRuntime) -> Result<(), Fail> {
-    const ROWS: Rows<'static> = &[
-        (
-            "2 PUT {\"id\":\"a\",\"price\":5,\"color\":[\"red\"]}",
-            "2 OK 1",
-        ),
-        ("2 REFRESH", "2 OK 1"),
-        ("3 OPEN", "3 OK 1"),
-        ("3 FIND 1 10 +price . *:*", "3 OK 1 1\n3 1 a 5"),
-    ];
-    expect_rows(&rt, rt.alloc(), ROWS)
-}
 
 #[test]
 fn ties_go_by_number_and_a_missing_value_is_last(rt: HostRuntime) -> Result<(), Fail> {
@@ -65,56 +122,6 @@ fn a_mark_is_any_record_and_the_total_counts_all(rt: HostRuntime) -> Result<(), 
     ];
     script.rows(ROWS)?;
     script.expect(&rt, rt.alloc(), Ok(()))
-}
-
-#[test]
-fn words_are_lowered_and_kept_whole(rt: HostRuntime) -> Result<(), Fail> {
-    const ROWS: Rows<'static> = &[
-        (
-            "1 PUT {\"id\":\"a\",\"title\":\"Red-Shoe 42é\",\"brand\":\"Acme\"}",
-            "1 OK 1",
-        ),
-        (
-            "1 PUT {\"id\":\"b\",\"title\":\"shoes\",\"brand\":\"Zed\"}",
-            "1 OK 2",
-        ),
-        ("1 REFRESH", "1 OK 2"),
-        ("1 OPEN", "1 OK 2"),
-        ("1 FIND 2 9 . . title:RED", "1 OK 1 1\n1 1 a ."),
-        ("1 FIND 2 9 . . title:sho*", "1 OK 2 2\n1 1 a .\n1 2 b ."),
-        ("1 FIND 2 9 . . title:42", "1 OK 0 0"),
-        (
-            "1 FIND 2 9 . . +brand:[B TO *] title:red",
-            "1 OK 1 1\n1 2 b .",
-        ),
-        (
-            "1 FIND 2 9 -brand . *:*",
-            "1 OK 2 2\n1 2 b =Zed\n1 1 a =Acme",
-        ),
-    ];
-    expect_rows(&rt, rt.alloc(), ROWS)
-}
-
-#[test]
-fn clauses_are_musts_must_nots_and_shoulds(rt: HostRuntime) -> Result<(), Fail> {
-    const ROWS: Rows<'static> = &[
-        (
-            "1 PUT {\"id\":\"a\",\"brand\":\"x\",\"price\":-3}",
-            "1 OK 1",
-        ),
-        ("1 PUT {\"id\":\"b\",\"brand\":\"y\"}", "1 OK 2"),
-        ("1 REFRESH", "1 OK 2"),
-        ("1 OPEN", "1 OK 2"),
-        ("1 FIND 2 9 . . price:[* TO 0]", "1 OK 1 1\n1 1 a ."),
-        (
-            "1 FIND 2 9 . . *:* -(-brand:x)",
-            "1 OK 2 2\n1 1 a .\n1 2 b .",
-        ),
-        ("1 FIND 2 9 . . (-brand:y)", "1 OK 0 0"),
-        ("1 FIND 2 9 . . price:[3 TO -3]", "1 OK 0 0"),
-        ("1 FIND 2 9 +price . *:*", "1 OK 2 2\n1 1 a -3\n1 2 b ."),
-    ];
-    expect_rows(&rt, rt.alloc(), ROWS)
 }
 
 /// One item, shown to session 1.

@@ -1,7 +1,146 @@
 //! What a session sees under a token that it holds.
-use crate::script::{Rows, Script, expect_rows};
+use crate::script::{Rows, Script, expect_days, expect_rows};
 use std::alloc::Global;
 use std::test::Fail;
+
+/// Days of sessions that hold views, line by line.
+const HELD: &[&str] = &[
+    r#"== an open before a refresh sees no new write
+> 1 PUT {"id":"a"}
+1 OK 1
+> 1 OPEN
+1 OK 0
+> 1 OPEN 1
+1 NO 21
+> 1 FIND 0 10 . . *:*
+1 OK 0 0
+> 1 REFRESH
+1 OK 1
+> 1 OPEN
+1 OK 1
+> 1 FIND 1 10 . . *:*
+1 OK 1 1
+1 1 a .
+"#,
+    r#"== each token shows the table of its moment
+> 1 PUT {"id":"a"}
+1 OK 1
+> 1 PUT {"id":"b"}
+1 OK 2
+> 1 REFRESH
+1 OK 2
+> 1 OPEN
+1 OK 2
+> 1 DEL a
+1 OK 3
+> 1 REFRESH
+1 OK 3
+> 1 OPEN
+1 OK 3
+> 1 PUT {"id":"b","price":7}
+1 OK 4
+> 1 PUT {"id":"c"}
+1 OK 5
+> 1 REFRESH
+1 OK 5
+> 1 OPEN
+1 OK 5
+> 1 FIND 2 9 . . *:*
+1 OK 2 2
+1 1 a .
+1 2 b .
+> 1 FIND 3 9 . . *:*
+1 OK 1 1
+1 2 b .
+> 1 FIND 5 9 . . *:*
+1 OK 2 2
+1 4 b .
+1 5 c .
+> 1 FIND 2 9 . . *:*
+1 OK 2 2
+1 1 a .
+1 2 b .
+"#,
+    r#"== another sessions close ends no hold
+> 1 OPEN
+1 OK 0
+> 2 CLOSE 0
+2 NO 20
+> 2 OPEN 0
+2 OK 0
+> 2 CLOSE 0
+2 OK 0
+> 2 FIND 0 1 . . *:*
+2 NO 20
+> 1 FIND 0 1 . . *:*
+1 OK 0 0
+> 1 CLOSE 0
+1 OK 0
+> 1 FIND 0 1 . . *:*
+1 NO 20
+"#,
+    r#"== a token is held once however often it is opened
+> 1 OPEN
+1 OK 0
+> 1 OPEN
+1 OK 0
+> 1 OPEN 0
+1 OK 0
+> 1 CLOSE 0
+1 OK 0
+> 1 CLOSE 0
+1 NO 20
+> 1 OPEN 7
+1 NO 21
+"#,
+    r#"== a page shows the first hits and counts all
+> 1 PUT {"id":"a"}
+1 OK 1
+> 1 PUT {"id":"b"}
+1 OK 2
+> 1 PUT {"id":"c"}
+1 OK 3
+> 1 REFRESH
+1 OK 3
+> 1 OPEN
+1 OK 3
+> 1 FIND 3 0 . . *:*
+1 OK 0 3
+> 1 FIND 3 2 . . *:*
+1 OK 2 3
+1 1 a .
+1 2 b .
+> 1 FIND 3 3 . . *:*
+1 OK 3 3
+1 1 a .
+1 2 b .
+1 3 c .
+> 1 FIND 3 1000 . . *:*
+1 OK 3 3
+1 1 a .
+1 2 b .
+1 3 c .
+> 1 FIND 3 1001 . . *:*
+1 NO 25
+"#,
+    r#"== a refresh without a write keeps the token
+> 1 REFRESH
+1 OK 0
+> 1 PUT {"id":"a"}
+1 OK 1
+> 1 REFRESH
+1 OK 1
+> 2 REFRESH
+2 OK 1
+> 2 OPEN
+2 OK 1
+"#,
+];
+
+#[test]
+fn held_views_are_answered_as_written(rt: HostRuntime) -> Result<(), Fail> {
+    expect_days(&rt, rt.alloc(), HELD)
+}
 
 #[test]
 fn an_empty_catalogue_shows_nothing(rt: HostRuntime) -> Result<(), Fail> {
@@ -24,42 +163,6 @@ fn a_later_write_is_not_seen(rt: HostRuntime) -> Result<(), Fail> {
         ("1 OPEN", "1 OK 1"),
         ("1 FIND 1 10 . . *:*", "1 OK 1 1\n1 1 a ."),
         ("1 FIND 0 10 . . *:*", "1 OK 0 0"),
-    ];
-    expect_rows(&rt, rt.alloc(), ROWS)
-}
-
-#[test]
-fn an_open_before_a_refresh_sees_no_new_write(rt: HostRuntime) -> Result<(), Fail> {
-    const ROWS: Rows<'static> = &[
-        ("1 PUT {\"id\":\"a\"}", "1 OK 1"),
-        ("1 OPEN", "1 OK 0"),
-        ("1 OPEN 1", "1 NO 21"),
-        ("1 FIND 0 10 . . *:*", "1 OK 0 0"),
-        ("1 REFRESH", "1 OK 1"),
-        ("1 OPEN", "1 OK 1"),
-        ("1 FIND 1 10 . . *:*", "1 OK 1 1\n1 1 a ."),
-    ];
-    expect_rows(&rt, rt.alloc(), ROWS)
-}
-
-#[test]
-fn each_token_shows_the_table_of_its_moment(rt: HostRuntime) -> Result<(), Fail> {
-    const ROWS: Rows<'static> = &[
-        ("1 PUT {\"id\":\"a\"}", "1 OK 1"),
-        ("1 PUT {\"id\":\"b\"}", "1 OK 2"),
-        ("1 REFRESH", "1 OK 2"),
-        ("1 OPEN", "1 OK 2"),
-        ("1 DEL a", "1 OK 3"),
-        ("1 REFRESH", "1 OK 3"),
-        ("1 OPEN", "1 OK 3"),
-        ("1 PUT {\"id\":\"b\",\"price\":7}", "1 OK 4"),
-        ("1 PUT {\"id\":\"c\"}", "1 OK 5"),
-        ("1 REFRESH", "1 OK 5"),
-        ("1 OPEN", "1 OK 5"),
-        ("1 FIND 2 9 . . *:*", "1 OK 2 2\n1 1 a .\n1 2 b ."),
-        ("1 FIND 3 9 . . *:*", "1 OK 1 1\n1 2 b ."),
-        ("1 FIND 5 9 . . *:*", "1 OK 2 2\n1 4 b .\n1 5 c ."),
-        ("1 FIND 2 9 . . *:*", "1 OK 2 2\n1 1 a .\n1 2 b ."),
     ];
     expect_rows(&rt, rt.alloc(), ROWS)
 }
@@ -93,66 +196,6 @@ fn two_shops_that_agree_up_to_a_token_answer_alike(rt: HostRuntime) -> Result<()
     ];
     expect_rows(&rt, rt.alloc(), QUIET)?;
     expect_rows(&rt, rt.alloc(), BUSY)
-}
-
-#[test]
-fn another_sessions_close_ends_no_hold(rt: HostRuntime) -> Result<(), Fail> {
-    const ROWS: Rows<'static> = &[
-        ("1 OPEN", "1 OK 0"),
-        ("2 CLOSE 0", "2 NO 20"),
-        ("2 OPEN 0", "2 OK 0"),
-        ("2 CLOSE 0", "2 OK 0"),
-        ("2 FIND 0 1 . . *:*", "2 NO 20"),
-        ("1 FIND 0 1 . . *:*", "1 OK 0 0"),
-        ("1 CLOSE 0", "1 OK 0"),
-        ("1 FIND 0 1 . . *:*", "1 NO 20"),
-    ];
-    expect_rows(&rt, rt.alloc(), ROWS)
-}
-
-#[test]
-fn a_token_is_held_once_however_often_it_is_opened(rt: HostRuntime) -> Result<(), Fail> {
-    const ROWS: Rows<'static> = &[
-        ("1 OPEN", "1 OK 0"),
-        ("1 OPEN", "1 OK 0"),
-        ("1 OPEN 0", "1 OK 0"),
-        ("1 CLOSE 0", "1 OK 0"),
-        ("1 CLOSE 0", "1 NO 20"),
-        ("1 OPEN 7", "1 NO 21"),
-    ];
-    expect_rows(&rt, rt.alloc(), ROWS)
-}
-
-#[test]
-fn a_page_shows_the_first_hits_and_counts_all(rt: HostRuntime) -> Result<(), Fail> {
-    const ROWS: Rows<'static> = &[
-        ("1 PUT {\"id\":\"a\"}", "1 OK 1"),
-        ("1 PUT {\"id\":\"b\"}", "1 OK 2"),
-        ("1 PUT {\"id\":\"c\"}", "1 OK 3"),
-        ("1 REFRESH", "1 OK 3"),
-        ("1 OPEN", "1 OK 3"),
-        ("1 FIND 3 0 . . *:*", "1 OK 0 3"),
-        ("1 FIND 3 2 . . *:*", "1 OK 2 3\n1 1 a .\n1 2 b ."),
-        ("1 FIND 3 3 . . *:*", "1 OK 3 3\n1 1 a .\n1 2 b .\n1 3 c ."),
-        (
-            "1 FIND 3 1000 . . *:*",
-            "1 OK 3 3\n1 1 a .\n1 2 b .\n1 3 c .",
-        ),
-        ("1 FIND 3 1001 . . *:*", "1 NO 25"),
-    ];
-    expect_rows(&rt, rt.alloc(), ROWS)
-}
-
-#[test]
-fn a_refresh_without_a_write_keeps_the_token(rt: HostRuntime) -> Result<(), Fail> {
-    const ROWS: Rows<'static> = &[
-        ("1 REFRESH", "1 OK 0"),
-        ("1 PUT {\"id\":\"a\"}", "1 OK 1"),
-        ("1 REFRESH", "1 OK 1"),
-        ("2 REFRESH", "2 OK 1"),
-        ("2 OPEN", "2 OK 1"),
-    ];
-    expect_rows(&rt, rt.alloc(), ROWS)
 }
 
 /// The shop's script, where session 1 puts an item and refreshes 63 times, and opens each token if it holds them.

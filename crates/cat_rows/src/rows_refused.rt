@@ -1,19 +1,67 @@
 //! Lines that are refused, and what they leave as it was.
-use crate::script::{Rows, Script, expect_rows};
+use crate::script::{Rows, Script, expect_days, expect_rows};
 use std::alloc::{AllocError, Global};
 use std::test::Fail;
 
+/// Days of refused lines, line by line.
+const REFUSED: &[&str] = &[
+    r#"== wrong items are refused and take no number
+> 1 PUT {"id":"a","price":5.5}
+1 NO 13
+> 1 PUT {"id":"a","size":1}
+1 NO 12
+> 1 PUT {"id":""}
+1 NO 14
+> 1 PUT [1]
+1 NO 13
+> 1 PUT {
+1 NO 11
+> 1 DEL zz
+1 OK 1
+"#,
+    r#"== a refused update leaves the item
+> 1 PUT {"id":"a","price":5}
+1 OK 1
+> 1 PUT {"id":"a","price":"5"}
+1 NO 13
+> 1 REFRESH
+1 OK 1
+> 1 OPEN
+1 OK 1
+> 1 FIND 1 9 . . *:*
+1 OK 1 1
+1 1 a .
+"#,
+    r#"== maintenance of another session is refused
+== Whatever is to be done, only session 0 may ask for it.
+> 1 PUT {"id":"a"}
+1 OK 1
+> 1 REFRESH
+1 OK 1
+> 1 PUT {"id":"b"}
+1 OK 2
+> 1 REFRESH
+1 OK 2
+> 1 MERGE
+1 NO 10
+> 1 FORCE
+1 NO 10
+> 1 WARM
+1 NO 10
+> 1 SWEEP
+1 NO 10
+> 9999 STAT
+9999 NO 10
+> 0 STAT
+0 OK 2 0 2 3 0 0
+0 1 1 1
+0 2 1 1
+"#,
+];
+
 #[test]
-fn wrong_items_are_refused_and_take_no_number(rt: HostRuntime) -> Result<(), Fail> {
-    const ROWS: Rows<'static> = &[
-        ("1 PUT {\"id\":\"a\",\"price\":5.5}", "1 NO 13"),
-        ("1 PUT {\"id\":\"a\",\"size\":1}", "1 NO 12"),
-        ("1 PUT {\"id\":\"\"}", "1 NO 14"),
-        ("1 PUT [1]", "1 NO 13"),
-        ("1 PUT {", "1 NO 11"),
-        ("1 DEL zz", "1 OK 1"),
-    ];
-    expect_rows(&rt, rt.alloc(), ROWS)
+fn refusals_are_answered_as_written(rt: HostRuntime) -> Result<(), Fail> {
+    expect_days(&rt, rt.alloc(), REFUSED)
 }
 
 /// Adds a line with this many `x` between two texts.
@@ -45,18 +93,6 @@ fn long_ids_and_keywords_are_refused_and_take_no_number(rt: HostRuntime) -> Resu
     push_long(&mut script, alloc, brand, "1 NO 15")?;
     script.row("1 DEL zz", "1 OK 1")?;
     script.expect(&rt, alloc, Ok(()))
-}
-
-#[test]
-fn a_refused_update_leaves_the_item(rt: HostRuntime) -> Result<(), Fail> {
-    const ROWS: Rows<'static> = &[
-        ("1 PUT {\"id\":\"a\",\"price\":5}", "1 OK 1"),
-        ("1 PUT {\"id\":\"a\",\"price\":\"5\"}", "1 NO 13"),
-        ("1 REFRESH", "1 OK 1"),
-        ("1 OPEN", "1 OK 1"),
-        ("1 FIND 1 9 . . *:*", "1 OK 1 1\n1 1 a ."),
-    ];
-    expect_rows(&rt, rt.alloc(), ROWS)
 }
 
 #[test]
@@ -99,24 +135,6 @@ fn lines_without_a_form_are_refused(rt: HostRuntime) -> Result<(), Fail> {
         ("1 FIND 0 1 +Price . *:*", "1 NO 10"),
         ("1 FIND 0 1 . 01 *:*", "1 NO 10"),
         ("1 FIND 0 1 . .", "1 NO 10"),
-    ];
-    expect_rows(&rt, rt.alloc(), ROWS)
-}
-
-/// Whatever is to be done, only session 0 may ask for it.
-#[test]
-fn maintenance_of_another_session_is_refused(rt: HostRuntime) -> Result<(), Fail> {
-    const ROWS: Rows<'static> = &[
-        ("1 PUT {\"id\":\"a\"}", "1 OK 1"),
-        ("1 REFRESH", "1 OK 1"),
-        ("1 PUT {\"id\":\"b\"}", "1 OK 2"),
-        ("1 REFRESH", "1 OK 2"),
-        ("1 MERGE", "1 NO 10"),
-        ("1 FORCE", "1 NO 10"),
-        ("1 WARM", "1 NO 10"),
-        ("1 SWEEP", "1 NO 10"),
-        ("9999 STAT", "9999 NO 10"),
-        ("0 STAT", "0 OK 2 0 2 3 0 0\n0 1 1 1\n0 2 1 1"),
     ];
     expect_rows(&rt, rt.alloc(), ROWS)
 }

@@ -1,54 +1,173 @@
 //! Sets of rows that are made for the queries that were asked: what WARM and STAT tell of them, and that no other reply
 //! depends on them.
-use crate::script::{Rows, Script, expect_rows};
+use crate::script::{Rows, Script, expect_days, expect_rows};
 use std::test::Fail;
 
-/// A set is begun only for a query that was asked, and each step tells what it did.
-#[test]
-fn a_set_is_made_for_a_query_that_was_asked(rt: HostRuntime) -> Result<(), Fail> {
-    const ROWS: Rows<'static> = &[
-        ("0 WARM", "0 OK idle"),
-        ("0 WARM 1", "0 NO 10"),
-        ("1 PUT {\"id\":\"a\",\"price\":1}", "1 OK 1"),
-        ("1 PUT {\"id\":\"b\",\"price\":2}", "1 OK 2"),
-        ("1 REFRESH", "1 OK 2"),
-        ("1 OPEN", "1 OK 2"),
-        ("0 WARM", "0 OK idle"),
-        ("1 FIND 2 9 . . price:1", "1 OK 1 1\n1 1 a ."),
-        ("0 STAT", "0 OK 2 0 1 2 0 0\n0 1 2 2"),
-        ("1 WARM", "1 NO 10"),
-        ("0 WARM", "0 OK begun"),
-        ("0 STAT", "0 OK 2 0 1 2 0 0\n0 1 2 2"),
-        ("1 WARM", "1 NO 10"),
-        ("0 WARM", "0 OK stored"),
-        ("0 STAT", "0 OK 2 0 1 2 1 0\n0 1 2 2"),
-        ("0 WARM", "0 OK idle"),
-        ("1 FIND 2 9 . . price:1", "1 OK 1 1\n1 1 a ."),
-        ("1 FACETS 2 color 9 price:2", "1 OK 0 0"),
-        ("0 WARM", "0 OK begun"),
-        ("0 WARM", "0 OK stored"),
-        ("0 WARM", "0 OK idle"),
-        ("0 STAT", "0 OK 2 0 1 2 2 0\n0 1 2 2"),
-    ];
-    expect_rows(&rt, rt.alloc(), ROWS)
-}
+/// Days of filters that are warmed, line by line.
+const WARMINGS: &[&str] = &[
+    r#"== a set is made for a query that was asked
+== A set is begun only for a query that was asked, and each step tells what it did.
+> 0 WARM
+0 OK idle
+> 0 WARM 1
+0 NO 10
+> 1 PUT {"id":"a","price":1}
+1 OK 1
+> 1 PUT {"id":"b","price":2}
+1 OK 2
+> 1 REFRESH
+1 OK 2
+> 1 OPEN
+1 OK 2
+> 0 WARM
+0 OK idle
+> 1 FIND 2 9 . . price:1
+1 OK 1 1
+1 1 a .
+> 0 STAT
+0 OK 2 0 1 2 0 0
+0 1 2 2
+> 1 WARM
+1 NO 10
+> 0 WARM
+0 OK begun
+> 0 STAT
+0 OK 2 0 1 2 0 0
+0 1 2 2
+> 1 WARM
+1 NO 10
+> 0 WARM
+0 OK stored
+> 0 STAT
+0 OK 2 0 1 2 1 0
+0 1 2 2
+> 0 WARM
+0 OK idle
+> 1 FIND 2 9 . . price:1
+1 OK 1 1
+1 1 a .
+> 1 FACETS 2 color 9 price:2
+1 OK 0 0
+> 0 WARM
+0 OK begun
+> 0 WARM
+0 OK stored
+> 0 WARM
+0 OK idle
+> 0 STAT
+0 OK 2 0 1 2 2 0
+0 1 2 2
+"#,
+    r#"== a refused read asks for no set
+> 1 PUT {"id":"a","price":1}
+1 OK 1
+> 1 REFRESH
+1 OK 1
+> 1 FIND 1 9 . . price:1
+1 NO 20
+> 1 OPEN
+1 OK 1
+> 1 FIND 1 9 . . price:x
+1 NO 24 6
+> 1 FIND 1 1001 . . price:1
+1 NO 25
+> 1 FIND 1 9 . 7 price:1
+1 NO 23
+> 1 FACETS 1 brand 9 price:1
+1 NO 29
+> 0 WARM
+0 OK idle
+> 1 FIND 1 0 . . price:1
+1 OK 0 1
+> 0 WARM
+0 OK begun
+"#,
+    r#"== counts are the same however often they are asked
+== What was found out of the labels of a view serves those that have the same segments, whatever was deleted meanwhile.
+> 1 PUT {"id":"a","color":["red"]}
+1 OK 1
+> 1 PUT {"id":"b","color":["red","blue"]}
+1 OK 2
+> 1 REFRESH
+1 OK 2
+> 1 OPEN
+1 OK 2
+> 1 FACETS 2 color 9 *:*
+1 OK 2 2
+1 2 red
+1 1 blue
+> 1 FACETS 2 color 9 *:*
+1 OK 2 2
+1 2 red
+1 1 blue
+> 1 FACETS 2 color 9 color:blue
+1 OK 1 2
+1 1 blue
+1 1 red
+> 1 DEL a
+1 OK 3
+> 1 REFRESH
+1 OK 3
+> 1 OPEN
+1 OK 3
+> 1 FACETS 3 color 9 *:*
+1 OK 1 2
+1 1 blue
+1 1 red
+> 1 FACETS 2 color 9 *:*
+1 OK 2 2
+1 2 red
+1 1 blue
+> 1 FACETS 3 color 9 *:*
+1 OK 1 2
+1 1 blue
+1 1 red
+> 1 PUT {"id":"c","color":["green"]}
+1 OK 4
+> 1 REFRESH
+1 OK 4
+> 1 OPEN
+1 OK 4
+> 1 FACETS 4 color 9 *:*
+1 OK 2 3
+1 1 blue
+1 1 green
+1 1 red
+> 0 FORCE
+0 OK begun 2
+> 0 MERGE
+0 OK copied 3
+> 0 MERGE
+0 OK done
+> 1 DEL c
+1 OK 5
+> 1 REFRESH
+1 OK 5
+> 1 OPEN
+1 OK 5
+> 1 FACETS 5 color 9 *:*
+1 OK 1 2
+1 1 blue
+1 1 red
+> 1 FACETS 2 color 9 *:*
+1 OK 2 2
+1 2 red
+1 1 blue
+> 1 FACETS 4 color 9 *:*
+1 OK 2 3
+1 1 blue
+1 1 green
+1 1 red
+> 1 FACETS 5 color 9 color:red
+1 OK 1 2
+1 1 blue
+1 1 red
+"#,
+];
 
 #[test]
-fn a_refused_read_asks_for_no_set(rt: HostRuntime) -> Result<(), Fail> {
-    const ROWS: Rows<'static> = &[
-        ("1 PUT {\"id\":\"a\",\"price\":1}", "1 OK 1"),
-        ("1 REFRESH", "1 OK 1"),
-        ("1 FIND 1 9 . . price:1", "1 NO 20"),
-        ("1 OPEN", "1 OK 1"),
-        ("1 FIND 1 9 . . price:x", "1 NO 24 6"),
-        ("1 FIND 1 1001 . . price:1", "1 NO 25"),
-        ("1 FIND 1 9 . 7 price:1", "1 NO 23"),
-        ("1 FACETS 1 brand 9 price:1", "1 NO 29"),
-        ("0 WARM", "0 OK idle"),
-        ("1 FIND 1 0 . . price:1", "1 OK 0 1"),
-        ("0 WARM", "0 OK begun"),
-    ];
-    expect_rows(&rt, rt.alloc(), ROWS)
+fn warmings_are_answered_as_written(rt: HostRuntime) -> Result<(), Fail> {
+    expect_days(&rt, rt.alloc(), WARMINGS)
 }
 
 /// Steps pass 256 rows each, and a segment that comes meanwhile waits for its turn.
@@ -260,54 +379,4 @@ fn the_newest_sixteen_queries_are_warmed(rt: HostRuntime) -> Result<(), Fail> {
     script.row("0 WARM", "0 OK idle")?;
     script.row("0 STAT", "0 OK 1 0 1 2 16 0\n0 1 1 1")?;
     script.expect(&rt, alloc, Ok(()))
-}
-
-/// What was found out of the labels of a view serves those that have the same segments, whatever was deleted meanwhile.
-#[test]
-fn counts_are_the_same_however_often_they_are_asked(rt: HostRuntime) -> Result<(), Fail> {
-    const ROWS: Rows<'static> = &[
-        ("1 PUT {\"id\":\"a\",\"color\":[\"red\"]}", "1 OK 1"),
-        (
-            "1 PUT {\"id\":\"b\",\"color\":[\"red\",\"blue\"]}",
-            "1 OK 2",
-        ),
-        ("1 REFRESH", "1 OK 2"),
-        ("1 OPEN", "1 OK 2"),
-        ("1 FACETS 2 color 9 *:*", "1 OK 2 2\n1 2 red\n1 1 blue"),
-        ("1 FACETS 2 color 9 *:*", "1 OK 2 2\n1 2 red\n1 1 blue"),
-        (
-            "1 FACETS 2 color 9 color:blue",
-            "1 OK 1 2\n1 1 blue\n1 1 red",
-        ),
-        ("1 DEL a", "1 OK 3"),
-        ("1 REFRESH", "1 OK 3"),
-        ("1 OPEN", "1 OK 3"),
-        ("1 FACETS 3 color 9 *:*", "1 OK 1 2\n1 1 blue\n1 1 red"),
-        ("1 FACETS 2 color 9 *:*", "1 OK 2 2\n1 2 red\n1 1 blue"),
-        ("1 FACETS 3 color 9 *:*", "1 OK 1 2\n1 1 blue\n1 1 red"),
-        ("1 PUT {\"id\":\"c\",\"color\":[\"green\"]}", "1 OK 4"),
-        ("1 REFRESH", "1 OK 4"),
-        ("1 OPEN", "1 OK 4"),
-        (
-            "1 FACETS 4 color 9 *:*",
-            "1 OK 2 3\n1 1 blue\n1 1 green\n1 1 red",
-        ),
-        ("0 FORCE", "0 OK begun 2"),
-        ("0 MERGE", "0 OK copied 3"),
-        ("0 MERGE", "0 OK done"),
-        ("1 DEL c", "1 OK 5"),
-        ("1 REFRESH", "1 OK 5"),
-        ("1 OPEN", "1 OK 5"),
-        ("1 FACETS 5 color 9 *:*", "1 OK 1 2\n1 1 blue\n1 1 red"),
-        ("1 FACETS 2 color 9 *:*", "1 OK 2 2\n1 2 red\n1 1 blue"),
-        (
-            "1 FACETS 4 color 9 *:*",
-            "1 OK 2 3\n1 1 blue\n1 1 green\n1 1 red",
-        ),
-        (
-            "1 FACETS 5 color 9 color:red",
-            "1 OK 1 2\n1 1 blue\n1 1 red",
-        ),
-    ];
-    expect_rows(&rt, rt.alloc(), ROWS)
 }

@@ -68,6 +68,18 @@ impl Script {
         self.input.push('\n')
     }
 
+    /// Adds a line of a day: one that is served, or one of its replies. What the day shows is left out.
+    fn day_line(&mut self, line: &str) -> Result<(), AllocError> {
+        if let Some(said) = line.strip_prefix("> ") {
+            return self.unanswered(said);
+        }
+        if line.starts_with("== ") {
+            return Ok(());
+        }
+        self.wanted.push_str(line)?;
+        self.wanted.push('\n')
+    }
+
     pub(crate) fn rows(&mut self, rows: Rows<'_>) -> Result<(), AllocError> {
         for (line, replies) in rows {
             self.row(line, replies)?;
@@ -156,4 +168,22 @@ pub(crate) fn expect_rows(rt: &impl Abort, alloc: Global, rows: Rows<'_>) -> Res
     let mut script = Script::shop(alloc)?;
     script.rows(rows)?;
     script.expect(rt, alloc, Ok(()))
+}
+
+/// Serves the shop's schema line and the lines of each day, which have to get the replies that are written below them, and no
+/// others. A day is a text: what it shows, behind `== `; each line that is served, behind `> `; and below that its reply lines.
+pub(crate) fn expect_days(rt: &impl Abort, alloc: Global, days: &[&str]) -> Result<(), Fail> {
+    for day in days {
+        script_of(alloc, day)?.expect(rt, alloc, Ok(()))?;
+    }
+    Ok(())
+}
+
+/// The script that the day is written as.
+fn script_of(alloc: Global, day: &str) -> Result<Script, AllocError> {
+    let mut script = Script::shop(alloc)?;
+    for line in day.lines() {
+        script.day_line(line)?;
+    }
+    Ok(script)
 }
