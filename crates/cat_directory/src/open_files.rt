@@ -1,4 +1,4 @@
-//! The files that were read last, which stay open for the next read.
+//! The files that were opened last, which stay open for the next read.
 ghost use Rattle.std.specs.Prelude.{◌<◌, length, IfOk, IfSome};
 
 use crate::FileName;
