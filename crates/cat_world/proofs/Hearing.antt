@@ -10,12 +10,16 @@ use Rattle.cat_schema.specs.Reading.{json}
 use Rattle.cat_lines.specs.Line.{SpellsOrShows, said_of}
 use Rattle.cat_lines.specs.declared.command.Command.TheVariants as command
 use Rattle.cat_holding.specs.Holding.{said_open}
+use Rattle.cat_directory.specs.Devices.{FileContent}
+use Rattle.cat_directory.specs.declared.name.FileName.{FileName}
+use Rattle.cat_ledger.specs.Histories.{GoesBy}
 use Rattle.cat_ledger_shape.specs.Ties.{ToldFiles}
 use Rattle.cat_ledger_lines.specs.LineLaws.{line_of}
 use Rattle.cat_ledger_lines.specs.RunLaws.{IsStep}
 use Rattle.cat_world.specs.Lines.{IsCommandOf, StepsLine}
 use Rattle.cat_world.specs.Serving.{StepsIfShort}
 use Rattle.cat_world.specs.Worlds.{Service, device_of, shape_of}
+use Rattle.cat_world.proofs.Histories.{goes_told}
 use Rattle.cat_world.proofs.Wanted.{wants_rightly}
 
 -- the exchange of a line with its reply
@@ -27,9 +31,9 @@ pub open_says : (token : Option ℕ) → said_of (command.Open token) ≡ Some (
 open_says None = refl
 open_says (Some t) = refl
 
-module _ {D : Type 0} (bytes : D → ToldFiles) (old : Service D) where
+module _ {D : Type 0} (bytes : D → ToldFiles) (may_leave : D → FileName → FileContent → Type 0) (old : Service D) where
   pub unheard : (line : Text) → (IsReadable line → (session : ℕ) → ShowsSession line session → ⊥)
-      → StepsIfShort bytes old (Some line) Outcome.unreadable old
+      → StepsIfShort bytes may_leave old (Some line) Outcome.unreadable old
   unheard line none = (Hears.unreadable none, refl)
 
   hears : (line : Text) (session : ℕ) (said : Option Said) (c : Command) → IsReadable line → SpellsOrShows line session said
@@ -42,8 +46,15 @@ module _ {D : Type 0} (bytes : D → ToldFiles) (old : Service D) where
   -- a line that says something, or has no form
   pub heard_as : (new : Service D) (line text : Text) (session : ℕ) (said : Option Said) (reply : Reply) → text ≡ line → IsReadable line
       → SpellsOrShows text session said → (steps : StepsLine bytes session said old reply new) → (shape_of new).schema ≡ (shape_of old).schema
-      → NamesFiles reply → StepsIfShort bytes old (Some line) (told_to session steps.0 reply) new
-  heard_as new line text session said reply same readable spells steps fields names = (
+      → NamesFiles reply → GoesBy may_leave said reply old.ledger new.ledger
+      → StepsIfShort bytes may_leave old (Some line) (told_to session steps.0 reply) new
+  heard_as new line text session said reply same readable spells steps fields names goes = (
     hears line session said steps.0 readable (subst (λ t. SpellsOrShows t session said) same spells) steps.1,
-    (fields, names, steps.2, λ k. wants_rightly (bytes (device_of old)) (shape_of old) session said steps.0 steps.1 (steps.3 k)),
+    (
+      fields,
+      names,
+      steps.2,
+      (λ k. wants_rightly (bytes (device_of old)) (shape_of old) session said steps.0 steps.1 (steps.3 k)),
+      goes_told may_leave old new (shape_of old).schema said steps.0 reply steps.1 goes,
+    ),
   )

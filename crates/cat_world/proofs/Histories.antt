@@ -1,19 +1,28 @@
 -- What lines in a row have to do with commits.
-use Rattle.std.proofs.Common.{◌≡◌, ℕ, ◌+◌, ◌<◌, List, [], ◌∷◌, ◌++◌, length, take, get_or, refl, sym, ap, subst, inl, inr}
-use Rattle.std.specs.Prelude.{Option, None, Some, Ok, Err}
+use Rattle.std.proofs.Common.{◌≡◌, ℕ, ◌+◌, ◌<◌, List, [], ◌∷◌, ◌++◌, length, take, get_or, refl, sym, ap, subst, inl, inr, arith}
+use Rattle.std.specs.Prelude.{Option, None, Some, Result, Ok, Err}
 use Rattle.std.proofs.lemmas.List.{take_more}
+use Rattle.cat_base.specs.declared.refusal.Refusal.{Refusal}
+use Rattle.cat_model.specs.Heard.{commit_text_of}
+use Rattle.cat_model.specs.Item.{Schema}
 use Rattle.cat_model.specs.Lines.{Said}
-use Rattle.cat_model.specs.Run.{Answer, Reply}
+use Rattle.cat_model.specs.Run.{Answer, Command, Reply}
+use Rattle.cat_model.specs.Served.{Outcome}
+use Rattle.cat_model.specs.Text.{Text}
 use Rattle.cat_directory.specs.Devices.{FileContent}
 use Rattle.cat_directory.specs.declared.name.FileName.{FileName}
 use Rattle.cat_holding.specs.Holding.{said_open}
-use Rattle.cat_ledger.specs.Histories.{Call, Event, Goes, GoesBy}
+use Rattle.cat_ledger.specs.Histories.{Call, Event, Goes, GoesBy, IsHistory, events_of}
 use Rattle.cat_ledger.specs.Ledgers.{Ledger}
+use Rattle.cat_ledger_shape.specs.Ties.{ToldFiles}
 use Rattle.cat_lines.specs.Line.{said_of}
 use Rattle.cat_lines.specs.declared.line.Line.{Line}
 use Rattle.cat_replies.specs.Reply.{reply_of}
 use Rattle.cat_replies.specs.declared.reply.Reply as code
-use Rattle.cat_world.specs.Histories.{AreSpoken, IsEventOf, IsSpoken, LinesAreCalls, RunsHistory, Spoken}
+use Rattle.cat_serving.specs.Machine.{Steps}
+use Rattle.cat_world.specs.Histories.{AreSpoken, GoesTold, IsEventOf, IsSpoken, LinesAreCalls, MakeTold, Makes, MakesTold, RunsHistory, Spoken}
+use Rattle.cat_world.specs.Lines.{IsCommandOf}
+use Rattle.cat_world.specs.Serving.{StepsIfShort}
 use Rattle.cat_world.specs.Worlds.{Service}
 
 module _ {D : Type 0} (left : D → FileName → FileContent → Type 0) where
@@ -105,3 +114,78 @@ module _ {D : Type 0} (left : D → FileName → FileContent → Type 0) where
             (spoken_on (take i ls) rs before.spoken (get_or ls i d) r x before.are refl refl);
         leads = goes_on old mid before.spoken x before.leads goes;
       }
+
+  -- ---- commands
+
+  commit_makes : (text : Result Text Refusal) (said : Text) (reply : Reply) (event : Event) → IsEventOf (Some (Said.commit said)) reply event
+      → Makes (Command.commit text) reply event
+  commit_makes text said (Ok (Answer.number g)) event is = is
+  commit_makes text said (Ok (Answer.found f)) event is = is
+  commit_makes text said (Ok (Answer.names ns)) event is = is
+  commit_makes text said (Ok (Answer.commit_text t)) event is = is
+  commit_makes text said (Ok (Answer.news n)) event is = is
+  commit_makes text said (Err e) event is = is
+
+  -- a line makes of commits what its command makes of them
+  line_makes : (schema : Schema) (said : Option Said) (c : Command) (reply : Reply) (event : Event) → IsCommandOf schema said c
+      → IsEventOf said reply event → Makes c reply event
+  line_makes schema None c reply event is e = subst (λ k. Makes k reply event) (sym is) e
+  line_makes schema (Some (Said.commit text)) c reply event is e =
+      subst (λ k. Makes k reply event) (sym is) (commit_makes (commit_text_of text) text reply event e)
+  line_makes schema (Some (Said.put text)) c reply event is e = subst (λ k. Makes k reply event) (sym is) e
+  line_makes schema (Some (Said.delete text)) c reply event is e = subst (λ k. Makes k reply event) (sym is) e
+  line_makes schema (Some (Said.delete_where text)) c reply event is e = subst (λ k. Makes k reply event) (sym is.2) e
+  line_makes schema (Some Said.refresh) c reply event is e = subst (λ k. Makes k reply event) (sym is) e
+  line_makes schema (Some Said.open_newest) c reply event is e = subst (λ k. Makes k reply event) (sym is) e
+  line_makes schema (Some (Said.open_at t)) c reply event is e = subst (λ k. Makes k reply event) (sym is) e
+  line_makes schema (Some (Said.close t)) c reply event is e = subst (λ k. Makes k reply event) (sym is) e
+  line_makes schema (Some (Said.find t n sort mark text)) c reply event is e = subst (λ k. Makes k reply event) (sym is.2) e
+  line_makes schema (Some (Said.facets t dim n text)) c reply event is e = subst (λ k. Makes k reply event) (sym is.2) e
+  line_makes schema (Some (Said.get t text)) c reply event is e = subst (λ k. Makes k reply event) (sym is) e
+  line_makes schema (Some (Said.files_of_token t)) c reply event is e = subst (λ k. Makes k reply event) (sym is) e
+  line_makes schema (Some (Said.files_of_commit g)) c reply event is e = subst (λ k. Makes k reply event) (sym is) e
+  line_makes schema (Some (Said.text_of_commit g)) c reply event is e = subst (λ k. Makes k reply event) (sym is) e
+  line_makes schema (Some Said.snapshot) c reply event is e = subst (λ k. Makes k reply event) (sym is) e
+  line_makes schema (Some (Said.release_snapshot g)) c reply event is e = subst (λ k. Makes k reply event) (sym is) e
+  line_makes schema (Some (Said.prune n)) c reply event is e = subst (λ k. Makes k reply event) (sym is) e
+  line_makes schema (Some (Said.chore what)) c reply event is e = subst (λ k. Makes k reply event) (sym is) e
+
+  pub goes_told : (old new : Service D) (schema : Schema) (said : Option Said) (c : Command) (reply : Reply) → IsCommandOf schema said c
+      → GoesBy left said reply old.ledger new.ledger → GoesTold left c reply old new
+  goes_told old new schema said c reply is goes =
+      let one = line_call said reply old.ledger new.ledger goes in
+      (one.0, line_makes schema said c reply one.0 is one.1, one.2)
+
+  -- a line that can't be read has nothing to do with commits
+  stays : (l : Ledger D) → Goes left Event.Other l l
+  stays l = record {
+    newest = refl;
+    next = omega arith;
+    asked = λ g no. absurd no;
+    files = λ g none e after. inl after;
+  }
+
+  -- ---- lines that were served
+
+  -- what was told of lines one after another are calls of the ledger
+  pub tolds_are_calls : (bytes : D → ToldFiles) (old new : Service D) (lines : List (Option Text)) (tolds : List Outcome)
+      → Steps (StepsIfShort bytes left) old lines tolds new
+      → (calls : List (Call D)) × MakeTold tolds (events_of calls) × IsHistory left old.ledger calls new.ledger
+  tolds_are_calls bytes old new [] [] same = ([], tt, ap (λ (w : Service D). w.ledger) same)
+  tolds_are_calls bytes old new [] (told ∷ tolds) steps = absurd steps
+  tolds_are_calls bytes old new (line ∷ lines) [] steps = absurd steps
+  tolds_are_calls bytes old new (line ∷ lines) (told ∷ tolds) (mid, step, steps) =
+      let one = by line told step in
+      let rest = tolds_are_calls bytes mid new lines tolds steps in
+      let call : Call D = record { event = one.0; after = mid.ledger } in
+      (call ∷ rest.0, (one.1, rest.1), (one.2, rest.2))
+    where
+      unread : mid ≡ old → (event : Event) × (event ≡ Event.Other) × Goes left event old.ledger mid.ledger
+      unread same = (Event.Other, refl, subst (λ (w : Service D). Goes left Event.Other old.ledger w.ledger) (sym same) (stays old.ledger))
+
+      by : (line : Option Text) (told : Outcome) → StepsIfShort bytes left old line told mid
+          → (event : Event) × MakesTold told event × Goes left event old.ledger mid.ledger
+      by None Outcome.unreadable step = unread step.1
+      by None (Outcome.replied e) step = absurd (let no : Outcome.replied e ≡ Outcome.unreadable = step.0 in cc)
+      by (Some line) Outcome.unreadable step = unread step.1
+      by (Some line) (Outcome.replied e) step = step.1.4

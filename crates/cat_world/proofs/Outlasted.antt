@@ -1,9 +1,9 @@
 -- The newest commit of a run is the newest one that the ledger keeps.
 use Rattle.std.proofs.Common.{◌≡◌, ℕ, Bool, true, false, ◌||◌, List, [], ◌∷◌, map, Option, Some, None, refl, sym, ◌∙◌, ap, subst}
 use Rattle.std.specs.Prelude.{◌≢◌, ltb, option_map, All}
-use Rattle.std.specs.List.{last_or, AllByRecursion}
+use Rattle.std.specs.List.{flat_map, last_or, AllByRecursion}
 use Rattle.std.proofs.lemmas.List.Elements.{recursion_from_All}
-use Rattle.cat_model.specs.CommitFile.{CommitFile, SpellsCommit, commit_needs}
+use Rattle.cat_model.specs.CommitFile.{CommitFile, SpellsCommit, commit_needs, listed_names}
 use Rattle.cat_model.specs.Files.{Name}
 use Rattle.cat_model.specs.Item.{Record}
 use Rattle.cat_model.specs.Run.{Run, commits, is_kept, is_newest, newest_commit, snapshots, text_under, writes}
@@ -16,6 +16,7 @@ use Rattle.cat_directory.specs.Devices.{FileContent, IsSettled, Told}
 use Rattle.cat_directory.specs.Names.{name_of}
 use Rattle.cat_directory.specs.declared.name.FileName.{FileName}
 use Rattle.cat_directory.specs.declared.name.FileName.TheVariants as file
+use Rattle.cat_ledger.specs.Histories.{IsCrashed}
 use Rattle.cat_ledger.specs.Lasting.{NewestLasts, needs_of, newest_needs}
 use Rattle.cat_ledger_lines.specs.NeededLaws.{CommitStands, IsThere}
 use Rattle.cat_ledger_lines.specs.RunLaws.{Stands}
@@ -25,6 +26,7 @@ use Rattle.cat_ledger_model.specs.Users.{Used, has_name}
 use Rattle.cat_ledger_shape.specs.Shapes.{Shape}
 use Rattle.cat_ledger_shape.specs.Ties.{ToldFiles}
 use Rattle.cat_ledger_shape.proofs.Leaves.{map_twice}
+use Rattle.cat_ledger_shape.proofs.Told.{same_again}
 use Rattle.cat_world.specs.Outlasting.{NewestOutlasts, Outlasts}
 
 -- ---- the last of a list
@@ -68,23 +70,42 @@ same_file told users tells a b ra rb same sa sb = by (told (file.Commit b.genera
         let bytes : one.0 ≡ two.0 = one_text one.0 two.0 (sym one.1 ∙ two.1) in
         commits_are_told_by_their_bytes two.0 a b (subst (λ x. SpellsCommit x a) bytes one.2) two.2
 
+-- the newest commit that memory keeps has the number of the run's
+pub newest_number : (told : ToldFiles) (s : Shape) (from : Opened) (run : Run) → Stands told s from run
+    → last_or None (map (λ (c : CommitFile). c.generation) s.commits) ≡ newest_commit from run
+newest_number told s from run stands =
+    let l = stands.ledger in
+    ap (λ (x : Shape). last_or None (map (λ (c : CommitFile). c.generation) x.commits)) (sym stands.carries.shape)
+    ∙ ap (last_or None) (map_twice (commit_file l.schema) (λ (c : CommitFile). c.generation) l.commits)
+    ∙ ap (last_or None) (sym (map_twice commit_shown (λ (c : Commit). c.generation) l.commits))
+    ∙ stands.stands.keeps.newest
+
+-- the own file of a commit that outlasts a crash is there after it
+pub own_outlasts : (told : ToldFiles) (left : FileName → FileContent → Type 0) (users : List Used) (from : Opened) (run : Run) (g : ℕ)
+    → ((q : FileName) → told q ≢ None) → Outlasts told left users from run g → (image : FileName → FileContent) → IsCrashed left image
+    → (text : Text) × (image (file.Commit g) ≡ Some text)
+own_outlasts told left users from run g tells o image crashed =
+    subst (λ n. (text : Text) × (image (file.Commit n) ≡ Some text)) o.generation (by (told (file.Commit o.commit.generation)) refl)
+  where
+    by : (t : Told) → told (file.Commit o.commit.generation) ≡ t → (text : Text) × (image (file.Commit o.commit.generation) ≡ Some text)
+    by None e = absurd (tells (file.Commit o.commit.generation) e)
+    by (Some content) e =
+        let there = o.stands.file.there content e in
+        let needed : has_name (Name.commit o.commit.generation) (commit_needs o.commit) ≡ true =
+        ap (λ b. b || has_name (Name.commit o.commit.generation) (flat_map listed_names o.commit.segments)) (same_again (Name.commit o.commit.generation)) in (
+          there.0,
+          o.settled (file.Commit o.commit.generation) needed content (image (file.Commit o.commit.generation)) e
+              (crashed (file.Commit o.commit.generation)) ∙ there.1,
+        )
+
 module _ (told : ToldFiles) (left : FileName → FileContent → Type 0) (s : Shape) (from : Opened) (run : Run)
     (tells : (q : FileName) → told q ≢ None) (lasts : NewestLasts told left s) (stands : Stands told s from run) where
-  -- the newest commit that memory keeps has the number of the run's
-  newest_number : last_or None (map (λ (c : CommitFile). c.generation) s.commits) ≡ newest_commit from run
-  newest_number =
-      let l = stands.ledger in
-      ap (λ (x : Shape). last_or None (map (λ (c : CommitFile). c.generation) x.commits)) (sym stands.carries.shape)
-      ∙ ap (last_or None) (map_twice (commit_file l.schema) (λ (c : CommitFile). c.generation) l.commits)
-      ∙ ap (last_or None) (sym (map_twice commit_shown (λ (c : Commit). c.generation) l.commits))
-      ∙ stands.stands.keeps.newest
-
   pub newest_outlasts : NewestOutlasts told left s.users from run
   newest_outlasts g newest =
       let kept : is_kept from run g ≡ true =
       ap (λ o. is_newest o g || ltb 0 (snapshots run g)) newest ∙ ap (λ b. b || ltb 0 (snapshots run g)) (is_newest-self g) in
       let k = (promised_files_stand told s from run stands).kept g kept in
-      let last = last_numbered s.commits g (newest_number ∙ newest) in
+      let last = last_numbered s.commits g (newest_number told s from run stands ∙ newest) in
       let c : CommitFile = last.0 in
       let own = last_of_all (λ commit. (rs : List Record) × CommitStands told s.users commit rs) s.commits c
       (recursion_from_All (λ commit. (rs : List Record) × CommitStands told s.users commit rs) s.commits

@@ -1,12 +1,15 @@
 -- Lines in a row with their replies, and which commits a crash after them may leave.
-use Rattle.std.specs.Prelude.{◌≡◌, ◌⊎◌, ℕ, List, [], ◌∷◌, Option, Some, Ok, Err}
+use Rattle.std.specs.Prelude.{◌≡◌, ◌⊎◌, ℕ, ◌<◌, List, [], ◌∷◌, Option, Some, None, Ok, Err}
 use Rattle.cat_model.specs.Lines.{Said}
-use Rattle.cat_model.specs.Run.{Answer, Reply}
+use Rattle.cat_model.specs.Run.{Answer, Command, Reply}
+use Rattle.cat_model.specs.Served.{Outcome}
 use Rattle.cat_directory.specs.Devices.{FileContent}
 use Rattle.cat_directory.specs.declared.name.FileName.{FileName}
+use Rattle.cat_directory.specs.declared.name.FileName.TheVariants as file
 use Rattle.cat_lines.specs.Line.{said_of}
 use Rattle.cat_lines.specs.declared.line.Line.{Line}
-use Rattle.cat_ledger.specs.Histories.{Call, Event, GoesBy, IsHistory, events_of}
+use Rattle.cat_ledger.specs.Histories.{Call, Event, Goes, GoesBy, IsCrashed, IsHistory, IsTried, events_of, tells}
+use Rattle.cat_ledger_opening.specs.Newest.{HasNoCommit, IsNewestCommit}
 use Rattle.cat_replies.specs.Reply.{reply_of}
 use Rattle.cat_replies.specs.declared.reply.Reply as code
 use Rattle.cat_world.specs.Worlds.{Service}
@@ -62,3 +65,40 @@ pub record RunsHistory {D : Type 0} (left : D → FileName → FileContent → T
   pub spoken : List (Spoken D)
   pub are : AreSpoken lines replies spoken
   pub leads : IsSpoken left old spoken new
+
+-- ---- lines that are served
+
+-- The same of a command with its reply: a COMMIT that was answered OK is an answered commit, one that was refused is a refused commit or
+-- did nothing, and any other command has nothing to do with commits.
+abbrev pub Makes : Command → Reply → Event → Type 0
+Makes (Command.commit text) (Ok (Answer.number g)) event = event ≡ Event.Answered g
+Makes (Command.commit text) (Ok a) event = ⊥
+Makes (Command.commit text) (Err e) event = (event ≡ Event.Other) ⊎ ((g : ℕ) × (event ≡ Event.Refused g))
+Makes c reply event = event ≡ Event.Other
+
+-- so of what a line was told, which may have been unreadable
+abbrev pub MakesTold : Outcome → Event → Type 0
+MakesTold Outcome.unreadable event = event ≡ Event.Other
+MakesTold (Outcome.replied e) event = Makes e.line.command e.reply event
+
+-- so with each of the lines, in turn
+abbrev pub MakeTold : List Outcome → List Event → Type 0
+MakeTold [] [] = Unit {0}
+MakeTold (told ∷ tolds) (event ∷ events) = MakesTold told event × MakeTold tolds events
+MakeTold _ _ = ⊥
+
+-- what a command with its reply makes of commits, from one world to the next
+abbrev pub GoesTold : {D : Type 0} → (D → FileName → FileContent → Type 0) → Command → Reply → Service D → Service D → Type 0
+GoesTold left c reply old new = (event : Event) × Makes c reply event × Goes left event old.ledger new.ledger
+
+-- What a crash may leave after lines that were told this, of which the newest commit is the one that was answered last, or else was opened.
+-- The newest commit that is found is that one, or one that a COMMIT began which was refused after it was answered; one is found where there
+-- is one; and once the files of the refused ones are taken away, it is that one.
+pub record OutlivesCrash (left : FileName → FileContent → Type 0) (newest : Option ℕ) (tolds : List Outcome) : Type 0 where
+  pub events : List Event
+  pub make : MakeTold tolds events
+  pub found : (image : FileName → FileContent) (g : ℕ) → IsCrashed left image → IsNewestCommit (tells image) g
+      → (newest ≡ Some g) ⊎ IsTried events g
+  pub lost : (image : FileName → FileContent) → IsCrashed left image → HasNoCommit (tells image) → newest ≡ None
+  pub mended : (g : ℕ) → newest ≡ Some g → (image mended : FileName → FileContent) → IsCrashed left image
+      → mended (file.Commit g) ≡ image (file.Commit g) → ((h : ℕ) → g < h → mended (file.Commit h) ≡ None) → IsNewestCommit (tells mended) g

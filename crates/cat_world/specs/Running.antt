@@ -5,12 +5,12 @@ use Rattle.cat_model.specs.Run as run
 use Rattle.cat_model.specs.Table.{Opened}
 use Rattle.cat_lines.specs.Line.{said_of}
 use Rattle.cat_lines.specs.declared.line.Line.{Line}
+use Rattle.cat_ledger.specs.Lasting.{AlwaysTells}
 use Rattle.cat_ledger_lines.specs.RunLaws.{AreAlike, Stands}
 use Rattle.cat_ledger_shape.specs.Ties.{ToldFiles}
 use Rattle.cat_replies.specs.Reply.{reply_of}
 use Rattle.cat_replies.specs.declared.reply.Reply.{Reply}
 use Rattle.cat_world.specs.Lines.{IsCommandOf}
-use Rattle.cat_world.specs.Serving.{TellsAll}
 use Rattle.cat_world.specs.Worlds.{Service, device_of, shape_of}
 
 -- The exchange is of the line, under the schema, and its reply is the one that was given; on devices that don't tell of their files the
@@ -19,7 +19,7 @@ pub record IsAnsweredLine {D : Type 0} (bytes : D → ToldFiles) (schema : Schem
   pub session : e.line.session ≡ line.session
   pub command : IsCommandOf schema (said_of line.command) e.line.command
   pub alike : AreAlike (reply_of given.answer) e.reply
-  pub same : TellsAll bytes → reply_of given.answer ≡ e.reply
+  pub same : AlwaysTells bytes → reply_of given.answer ≡ e.reply
 
 -- so with each of them, in turn
 abbrev pub AreAnsweredLines : {D : Type 0} → (D → ToldFiles) → Schema → List Line → List Reply → run.Run → Type 0

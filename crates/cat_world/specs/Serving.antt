@@ -1,23 +1,26 @@
 -- A world of sessions as what is served: what its schema line opens, and what each line behind it does.
-use Rattle.std.specs.Prelude.{◌≡◌, ◌≢◌, ◌⊎◌, ℕ, Option, None, Some, Result, Ok, Err, List, [], ◌∷◌, ◌++◌, codes, filter_map}
+use Rattle.std.specs.Prelude.{◌≡◌, ◌≢◌, ◌⊎◌, ℕ, Option, None, Some, Result, Ok, Err, List, [], ◌∷◌, ◌++◌, codes, filter_map, IfOk}
 use Rattle.std.specs.List.{flat_map, AllByRecursion}
 use Rattle.std.specs.Fmt.{decimal}
 use Rattle.cat_base.specs.declared.refusal.Refusal.{Refusal}
 use Rattle.cat_base.specs.declared.refusal.Refusal.TheVariants.{Line as NoForm, Memory}
 use Rattle.cat_model.specs.Heard.{Hears}
 use Rattle.cat_model.specs.Lines.{line_text}
-use Rattle.cat_model.specs.Run.{IsRun}
+use Rattle.cat_model.specs.Run.{IsRun, newest_commit}
 use Rattle.cat_model.specs.Served.{Ending, HeardAll, NamesFiles, Outcome, ServesBy, TellsFiles, exchange, heard, outcome_text}
 use Rattle.cat_model.specs.Table.{Opened}
 use Rattle.cat_model.specs.Text.{Text}
 use Rattle.cat_schema.specs.Reading.{json}
 use Rattle.cat_directory.specs.Devices.{FileContent}
 use Rattle.cat_directory.specs.declared.name.FileName.{FileName}
+use Rattle.cat_ledger.specs.Histories.{FoundIsTried, LeavesNoneAhead, NoneIsLost}
+use Rattle.cat_ledger.specs.Lasting.{AlwaysTells}
 use Rattle.cat_ledger_shape.specs.Ties.{ToldFiles}
 use Rattle.cat_ledger_lines.specs.RunLaws.{AreAlike, IsStep}
 use Rattle.cat_serving.specs.declared.machine.Stage.{Stage}
 use Rattle.cat_serving.specs.declared.machine.Stage.TheVariants.{Waiting, Refused, Open}
 use Rattle.cat_serving.specs.declared.machine.Unopened.{Unopened}
+use Rattle.cat_world.specs.Histories.{GoesTold, OutlivesCrash}
 use Rattle.cat_world.specs.Opening.{BeginsIn, OpensWorld}
 use Rattle.cat_world.specs.Promises.{LeavesFiles, LeavesPromised, WorldLasts}
 use Rattle.cat_world.specs.Wanting.{WantRightly, WantsRightly}
@@ -26,23 +29,28 @@ use Rattle.cat_world.specs.Worlds.{Service, device_of, shape_of}
 -- ---- as a machine
 
 -- what opening by a first line may give, which may be too long
-abbrev pub OpensIfShort : {D : Type 0} → (D → ToldFiles) → D → Option Text → Result (Service D) (Unopened D) → Type 0
-OpensIfShort bytes device None r = r ≡ Err (record { refusal = NoForm; seed = device })
-OpensIfShort bytes device (Some line) r = OpensWorld bytes device line r
+abbrev pub OpensIfShort : {D : Type 0} → (D → ToldFiles) → (D → FileName → FileContent → Type 0) → D → Option Text
+    → Result (Service D) (Unopened D) → Type 0
+OpensIfShort bytes may_leave device None r = r ≡ Err (record { refusal = NoForm; seed = device })
+OpensIfShort bytes may_leave device (Some line) r =
+    OpensWorld bytes device line r × IfOk r (λ w. AlwaysTells bytes → LeavesNoneAhead may_leave w.ledger)
 
 -- An unreadable line changes nothing. The reply to another is a step of every run that led here, tells no names but those of files, and
--- want of memory only where that may be.
-abbrev pub Changes : {D : Type 0} → (D → ToldFiles) → Service D → Outcome → Service D → Type 0
-Changes bytes old Outcome.unreadable new = new ≡ old
-Changes bytes old (Outcome.replied e) new =
+-- want of memory only where that may be; and what it makes of commits is known by it.
+abbrev pub Changes : {D : Type 0} → (D → ToldFiles) → (D → FileName → FileContent → Type 0) → Service D → Outcome → Service D → Type 0
+Changes bytes may_leave old Outcome.unreadable new = new ≡ old
+Changes bytes may_leave old (Outcome.replied e) new =
     ((shape_of new).schema ≡ (shape_of old).schema) × NamesFiles e.reply
     × IsStep (bytes (device_of old)) (shape_of old) e.line e.reply (bytes (device_of new)) (shape_of new)
     × (e.reply ≡ Err Memory → WantsRightly (bytes (device_of old)) (shape_of old) e.line.session e.line.command)
+    × GoesTold may_leave e.line.command e.reply old new
 
 -- a line, which may be too long, is heard and changes the world
-abbrev pub StepsIfShort : {D : Type 0} → (D → ToldFiles) → Service D → Option Text → Outcome → Service D → Type 0
-StepsIfShort bytes old None told new = (told ≡ Outcome.unreadable) × (new ≡ old)
-StepsIfShort bytes old (Some line) told new = Hears json (shape_of old).schema line (heard told) × Changes bytes old told new
+abbrev pub StepsIfShort : {D : Type 0} → (D → ToldFiles) → (D → FileName → FileContent → Type 0) → Service D → Option Text → Outcome
+    → Service D → Type 0
+StepsIfShort bytes may_leave old None told new = (told ≡ Outcome.unreadable) × (new ≡ old)
+StepsIfShort bytes may_leave old (Some line) told new =
+    Hears json (shape_of old).schema line (heard told) × Changes bytes may_leave old told new
 
 -- ---- as it is served
 
@@ -60,15 +68,11 @@ AreLike [] (o ∷ os) = ⊥
 AreLike (told ∷ tolds) [] = ⊥
 AreLike (told ∷ tolds) (o ∷ os) = IsLike told o × AreLike tolds os
 
--- devices of this kind tell of each of their files
-abbrev pub TellsAll : {D : Type 0} → (D → ToldFiles) → Type 0
-TellsAll {D = D} bytes = (device : D) (q : FileName) → bytes device q ≢ None
-
 -- The text answers the schema line and the lines behind it: with a run from where the directory is opened, in which the names of files
 -- alone are told as names, and the replies to unreadable lines between. Want of memory hides none of the refusals that the run tells. On devices that don't tell of their files, the text of a stored
 -- item may be another one of its length than the one that fits; on those that do, all that is told fits. In the directory that is left,
 -- the files stand of each token that is recorded at the end of the run, also by a session's hold, and of each commit that is kept, also
--- by a snapshot; and a crash leaves the files of the newest commit.
+-- by a snapshot; a crash leaves the files of the newest commit, and no other commit ahead of it than one that was refused since.
 pub record IsServedIn {D : Type 0} (bytes : D → ToldFiles) (may_leave : D → FileName → FileContent → Type 0) (device left : D) (first : Text)
     (lines : List Text) (text : Text) : Type 0 where
   pub from : Opened
@@ -78,10 +82,11 @@ pub record IsServedIn {D : Type 0} (bytes : D → ToldFiles) (may_leave : D → 
   pub fitting : List Outcome
   pub is_run : IsRun from (filter_map exchange fitting)
   pub alike : AreLike tolds fitting
-  pub same : TellsAll bytes → tolds ≡ fitting
+  pub same : AlwaysTells bytes → tolds ≡ fitting
   pub wanting : WantRightly from [] (filter_map exchange fitting)
   pub files : AllByRecursion TellsFiles tolds
   pub promised : LeavesPromised bytes may_leave left from (filter_map exchange fitting)
+  pub outlives : AlwaysTells bytes → OutlivesCrash (may_leave left) (newest_commit from (filter_map exchange fitting)) tolds
   pub whole : text ≡ line_text (codes "OK" ∷ decimal from.start.token ∷ []) ++ flat_map outcome_text tolds
 
 -- What is written answers the lines that were read: it is the text of a run that fits them, from where the directory is opened; and
@@ -106,3 +111,9 @@ abbrev pub StageLasts : {D : Type 0} → (D → ToldFiles) → (D → FileName �
 StageLasts bytes may_leave (Waiting device) = Unit {0}
 StageLasts bytes may_leave (Refused device) = Unit {0}
 StageLasts bytes may_leave (Open w) = WorldLasts bytes may_leave w
+
+-- and the newest commit outlives it
+abbrev pub StageOutlives : {D : Type 0} → (D → ToldFiles) → (D → FileName → FileContent → Type 0) → Stage (Service D) D → Type 0
+StageOutlives bytes may_leave (Waiting device) = Unit {0}
+StageOutlives bytes may_leave (Refused device) = Unit {0}
+StageOutlives bytes may_leave (Open w) = FoundIsTried bytes may_leave w.ledger × NoneIsLost bytes may_leave w.ledger

@@ -1,7 +1,7 @@
 //! Lines that are served over a directory.
 ghost use Rattle.std.specs.Prelude.{◌≡◌};
 ghost use Rattle.cat_serving.specs.Serving.{ended_as};
-ghost use Rattle.cat_world.specs.Serving.{ServesIn, SparesRefused, StageLasts, device_at};
+ghost use Rattle.cat_world.specs.Serving.{ServesIn, SparesRefused, StageLasts, StageOutlives, device_at};
 
 use crate::world::World;
 use cat_directory::{Directory, Shelf};
@@ -22,12 +22,14 @@ pub struct Left<D> {
 fn device_left<D: Directory + Shelf>(stage: Stage<World<D>, D>) -> D
     ensures device { result ≡ device_at stage }
     ensures lasts { StageLasts D.bytes D.may_leave stage }
+    ensures outlives { StageOutlives D.bytes D.may_leave stage }
 {
     match stage {
         Stage::Waiting(device) => device,
         Stage::Refused(device) => device,
         Stage::Open(world) => {
             world.newest_lasts();
+            world.histories_last();
             world.end()
         }
     }
@@ -38,10 +40,13 @@ fn device_left<D: Directory + Shelf>(stage: Stage<World<D>, D>) -> D
 ///
 /// What it writes is the text of a run that fits the lines, and nothing else; where a directory doesn't tell of its files, the
 /// text of a stored item alone may be another of that length. In the directory that is left stand the files of every token that
-/// the run has recorded, held ones too, and of every commit that it keeps, with the table of each; and a crash leaves those of
-/// the newest commit, where the directory tells of its files. Where the schema line is refused, the files are as they were. It flushes before each read, so that a client which waits for a
-/// reply has it. Its two buffers are taken before the first line is read, and replies are written without taking memory. The
-/// reader is called at most 4,294,967,295 times.
+/// the run has recorded, held ones too, and of every commit that it keeps, with the table of each. Where the directory always
+/// tells of its files, a crash leaves those of the newest commit byte for byte: the commit that was opened, or that the last
+/// COMMIT was answered. What is found after the crash is that commit, or one of a COMMIT that was refused after it; and once the
+/// files of these are taken away, it is that commit. Where the schema line is refused, the files are as they were.
+///
+/// It flushes before each read, so that a client which waits for a reply has it. Its two buffers are taken before the first line
+/// is read, and replies are written without taking memory. The reader is called at most 4,294,967,295 times.
 pub fn serve<D: Directory + Shelf, R: Read, W: Write>(
     alloc: Global,
     device: D,
