@@ -5,39 +5,39 @@ use std::alloc::{AllocError, Global};
 
 /// What a commit's file says.
 #[derive(Clone, Copy)]
-pub(super) struct CommitText<'a> {
-    pub(super) generation: Generation,
-    pub(super) token: Token,
-    pub(super) next: SegNo,
+pub(crate) struct CommitText<'a> {
+    pub(crate) generation: Generation,
+    pub(crate) token: Token,
+    pub(crate) next: SegNo,
     /// The one field, a facet.
-    pub(super) field: &'a str,
+    pub(crate) field: &'a str,
     /// Each segment, with the commit that wrote its live file, or 0.
-    pub(super) segments: &'a [(SegNo, Generation)],
+    pub(crate) segments: &'a [(SegNo, Generation)],
 }
 
 /// What a segment's file says. No row has a label.
 #[derive(Clone, Copy)]
-pub(super) struct SegmentText<'a> {
-    pub(super) number: SegNo,
+pub(crate) struct SegmentText<'a> {
+    pub(crate) number: SegNo,
     /// The one field, and its kind: 4 is that of a facet.
-    pub(super) field: (&'a str, u8),
+    pub(crate) field: (&'a str, u8),
     /// Each row: the number of its write, its id, and how many bytes its item's text has.
-    pub(super) rows: &'a [(WriteNo, &'a str, u32)],
+    pub(crate) rows: &'a [(WriteNo, &'a str, u32)],
 }
 
 /// What a file of live rows says, of eight rows at most.
 #[derive(Clone, Copy)]
-pub(super) struct LiveText {
-    pub(super) number: SegNo,
-    pub(super) generation: Generation,
-    pub(super) rows: u32,
+pub(crate) struct LiveText {
+    pub(crate) number: SegNo,
+    pub(crate) generation: Generation,
+    pub(crate) rows: u32,
     /// A bit for each live row, from the lowest on.
-    pub(super) bits: u8,
+    pub(crate) bits: u8,
 }
 
 /// What a file says, and `Gone` where there is no file.
 #[derive(Clone, Copy)]
-pub(super) enum Content<'a> {
+pub(crate) enum Content<'a> {
     Commit(CommitText<'a>),
     Segment(SegmentText<'a>),
     Live(LiveText),
@@ -46,10 +46,10 @@ pub(super) enum Content<'a> {
 }
 
 /// Names of files, each with what the file says. Of a name that stands twice the last counts.
-pub(super) type Files<'a> = &'a [(FileName, Content<'a>)];
+pub(crate) type Files<'a> = &'a [(FileName, Content<'a>)];
 
 /// Commit 3, up to write 9. Of segment 1 the first row is dead since commit 2, of segment 3 since commit 3.
-pub(super) const COMMIT: CommitText<'static> = CommitText {
+pub(crate) const COMMIT: CommitText<'static> = CommitText {
     generation: 3,
     token: 9,
     next: 4,
@@ -57,32 +57,32 @@ pub(super) const COMMIT: CommitText<'static> = CommitText {
     segments: &[(1, 2), (2, 0), (3, 3)],
 };
 
-pub(super) const ONE: SegmentText<'static> = SegmentText {
+pub(crate) const ONE: SegmentText<'static> = SegmentText {
     number: 1,
     field: ("color", 4),
     rows: &[(1, "a", 10), (2, "b", 21)],
 };
 
-pub(super) const TWO: SegmentText<'static> = SegmentText {
+pub(crate) const TWO: SegmentText<'static> = SegmentText {
     number: 2,
     field: ("color", 4),
     rows: &[(4, "a", 10), (5, "c", 11)],
 };
 
-pub(super) const THREE: SegmentText<'static> = SegmentText {
+pub(crate) const THREE: SegmentText<'static> = SegmentText {
     number: 3,
     field: ("color", 4),
     rows: &[(7, "e", 10), (9, "d", 10)],
 };
 
-pub(super) const LIVE_OF_ONE: LiveText = LiveText {
+pub(crate) const LIVE_OF_ONE: LiveText = LiveText {
     number: 1,
     generation: 2,
     rows: 2,
     bits: 2,
 };
 
-pub(super) const LIVE_OF_THREE: LiveText = LiveText {
+pub(crate) const LIVE_OF_THREE: LiveText = LiveText {
     number: 3,
     generation: 3,
     rows: 2,
@@ -90,7 +90,7 @@ pub(super) const LIVE_OF_THREE: LiveText = LiveText {
 };
 
 /// The files of the commit.
-pub(super) const WHOLE: Files<'static> = &[
+pub(crate) const WHOLE: Files<'static> = &[
     (FileName::Commit(3), Content::Commit(COMMIT)),
     (FileName::Segment(1), Content::Segment(ONE)),
     (FileName::Live(1, 2), Content::Live(LIVE_OF_ONE)),
@@ -174,7 +174,7 @@ fn live_bytes(alloc: Global, said: &LiveText) -> Result<Vec<u8>, AllocError> {
 }
 
 /// The bytes of a file that says so, and `None` where there is none.
-pub(super) fn bytes_of(
+pub(crate) fn bytes_of(
     alloc: Global,
     content: &Content<'_>,
 ) -> Result<Option<Vec<u8>>, AllocError> {
@@ -189,7 +189,7 @@ pub(super) fn bytes_of(
 }
 
 /// Writes the bytes to a file of the name, which has a file's form.
-pub(super) fn write_bytes(
+pub(crate) fn write_bytes(
     directory: &mut impl Directory,
     alloc: Global,
     name: FileName,
@@ -202,7 +202,7 @@ pub(super) fn write_bytes(
 }
 
 /// Writes each of the files, or deletes it.
-pub(super) fn write_files(
+pub(crate) fn write_files(
     directory: &mut impl Directory,
     alloc: Global,
     files: Files<'_>,
@@ -217,7 +217,7 @@ pub(super) fn write_files(
 }
 
 /// The files of the commit, but for those that say something else.
-pub(super) fn whole_but(alloc: Global, others: Files<'_>) -> Result<MemoryDirectory, Refusal> {
+pub(crate) fn whole_but(alloc: Global, others: Files<'_>) -> Result<MemoryDirectory, Refusal> {
     let mut directory = MemoryDirectory::new(alloc);
     write_files(&mut directory, alloc, WHOLE)?;
     write_files(&mut directory, alloc, others)?;

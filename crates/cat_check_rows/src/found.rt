@@ -10,10 +10,10 @@ use std::process::Abort;
 use std::test::Fail;
 
 /// The fields of the commits.
-pub(super) const FIELDS: &[u8] = br#"{"color":"facet"}"#;
+pub(crate) const FIELDS: &[u8] = br#"{"color":"facet"}"#;
 
 /// `whole`, or each file with the rule that it breaks.
-pub(super) fn told_verdict(alloc: Global, verdict: &Verdict) -> Result<String, AllocError> {
+pub(crate) fn told_verdict(alloc: Global, verdict: &Verdict) -> Result<String, AllocError> {
     match verdict {
         Verdict::Whole(_) => String::from_str(alloc, "whole"),
         Verdict::Unread => String::from_str(alloc, "unread"),
@@ -31,7 +31,7 @@ pub(super) fn told_verdict(alloc: Global, verdict: &Verdict) -> Result<String, A
 }
 
 /// What an opening at the commit answers under the fields: `whole`, or the number of the refusal.
-pub(super) fn opened<S: Shelf>(
+pub(crate) fn opened<S: Shelf>(
     alloc: Global,
     shelf: &mut S,
     generation: Generation,
@@ -45,7 +45,7 @@ pub(super) fn opened<S: Shelf>(
 }
 
 /// Whether the report says whole exactly where an opening answers so, and damaged exactly where it is refused by 31.
-pub(super) fn agrees<S: Shelf>(
+pub(crate) fn agrees<S: Shelf>(
     alloc: Global,
     shelf: &mut S,
     report: &Report,
@@ -60,7 +60,7 @@ pub(super) fn agrees<S: Shelf>(
 }
 
 /// What is found of the newest commit, which is to agree with what an opening answers.
-pub(super) fn found<D: Directory + Shelf>(
+pub(crate) fn found<D: Directory + Shelf>(
     rt: &impl Abort,
     alloc: Global,
     device: &mut D,
@@ -78,7 +78,7 @@ pub(super) fn found<D: Directory + Shelf>(
 }
 
 /// The text of all that is found.
-pub(super) fn text_of(alloc: Global, checked: &Checked) -> Result<String, Fail> {
+pub(crate) fn text_of(alloc: Global, checked: &Checked) -> Result<String, Fail> {
     let mut out = Vec::new(alloc);
     tell(&mut out, checked)?;
     Ok(String::from_utf8(out).ok().ok_or("no text")?)

@@ -70,18 +70,18 @@ fn is_among(labels: &[Text], label: &str) -> bool
     labels.iter().any(|other| label == other.as_str())
 }
 
-/// Whether the record has the label.
-fn has_label(record: &Record, dim: &str, label: &str) -> bool
-    ensures { result ≡ list_any (same_text label.now) (labels_of dim.now record.now) }
+/// Whether the hit has the label.
+fn has_label(hit: &Record, dim: &str, label: &str) -> bool
+    ensures { result ≡ list_any (same_text label.now) (labels_of dim.now hit.now) }
 {
-    is_among(labels_in(record.item(), dim), label)
+    is_among(labels_in(hit.item(), dim), label)
 }
 
-/// Whether the record has a label at all.
-fn has_some_label(record: &Record, dim: &str) -> bool
-    ensures { result ≡ not (is_empty (labels_of dim.now record.now)) }
+/// Whether the hit has a label at all.
+fn has_some_label(hit: &Record, dim: &str) -> bool
+    ensures { result ≡ not (is_empty (labels_of dim.now hit.now)) }
 {
-    match labels_in(record.item(), dim) {
+    match labels_in(hit.item(), dim) {
         [] => false,
         [_, ..] => true,
     }
