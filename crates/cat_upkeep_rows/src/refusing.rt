@@ -1,47 +1,36 @@
 //! Merges that are refused.
-use crate::calling::{by_two, empty_at, put_apart, standing};
+use crate::calling::{Row, empty_at, expect, put_apart, standing, step};
 use cat_base::{LAST_NUMBER, Refusal};
 use cat_directory::{Faults, Faulty, MemoryDirectory};
 use cat_ledger_core::Core;
-use cat_upkeep::{MergeNews, force, merge_step};
+use cat_upkeep::MergeNews;
 use std::alloc::Global;
 use std::process::Abort;
 use std::test::Fail;
 
 /// The two last numbers are those of segments, and behind them there is none.
-fn last_number(rt: &impl Abort, alloc: Global, core: &mut Core) -> Result<(), Fail> {
-    let mut device = MemoryDirectory::new(alloc);
-    let policy = by_two()?;
-    put_apart(core, &mut device, alloc, &["a"])?;
-    assert_eq!(rt;
-        merge_step(core, &mut device, alloc, policy),
-        Ok(MergeNews::Idle)
-    );
-    put_apart(core, &mut device, alloc, &["b"])?;
-    assert_eq!(rt;
-        merge_step(core, &mut device, alloc, policy),
-        Err(Refusal::Spent)
-    );
-    assert_eq!(rt; force(core, &mut device), Err(Refusal::Spent));
-    assert!(rt; !core.is_merging());
-    Ok(())
-}
+const LAST_NUMBERS: &[Row<'static>] = &[
+    Row::PutApart(&["a"]),
+    Row::Step(Ok(MergeNews::Idle)),
+    Row::PutApart(&["b"]),
+    Row::Step(Err(Refusal::Spent)),
+    Row::Force(Err(Refusal::Spent)),
+    Row::Merging(false),
+];
 
 #[test]
 fn no_number_is_left(rt: HostRuntime) -> Result<(), Fail> {
     let alloc = rt.alloc();
-    let mut core = empty_at(alloc, LAST_NUMBER - 1)?;
-    last_number(&rt, alloc, &mut core)
+    expect(&rt, alloc, empty_at(alloc, LAST_NUMBER - 1)?, LAST_NUMBERS)
 }
 
 /// Each call of a merge's steps fails in turn, the file of its sources begun first; it is over then, and what it took stands.
 fn step_fails(rt: &impl Abort, alloc: Global, core: &mut Core, passing: u64) -> Result<bool, Fail> {
     let mut faulty = Faulty::new(MemoryDirectory::new(alloc), Faults::Never);
-    let policy = by_two()?;
     put_apart(core, &mut faulty, alloc, &["a", "b"])?;
     faulty.set_faults(Faults::One(passing));
     for _ in 0..3 {
-        if merge_step(core, &mut faulty, alloc, policy) == Err(Refusal::Device) {
+        if step(core, &mut faulty, alloc) == Err(Refusal::Device) {
             assert!(rt; !core.is_merging(), "{passing}");
             assert!(rt;
                 standing(core, alloc)?.as_str().starts_with("1: a;2: b; "),
