@@ -1,8 +1,7 @@
 //! The bytes of commits, of both versions, that a person worked out.
 use cat_base::Refusal;
 use cat_commits::{Commit, Version, commit_text_ok, judge_commit_text};
-use std::alloc::Global;
-use std::process::Abort;
+use std::alloc::{AllocError, Global};
 use std::test::Fail;
 
 /// `segments_1` of the first version: the fields color, a facet, and price, a number; and segment 1, all of it live.
@@ -18,6 +17,11 @@ const SECOND: &[u8] =
 const THIRD: &[u8] = b"CSGM\x02\0\0\0\0\0\0\0\x02\0\0\0\0\0\0\0\x02\0\0\0\0\0\0\0\x02\0\0\0\0\
 \0\0\0\x02\0\0\0\x05color\x04\0\0\0\x05price\x03\0\0\0\x01\0\0\0\0\0\0\0\x01\0\0\0\0\0\0\0\x02";
 
+/// The commit of a file.
+fn decoded(alloc: Global, bytes: &[u8]) -> Result<Commit, Refusal> {
+    Commit::decode(alloc, bytes)
+}
+
 /// The bytes as they are written again, where the file has the second version.
 fn written(alloc: Global, bytes: &[u8]) -> Result<Option<Vec<u8>>, Refusal> {
     let commit = Commit::decode(alloc, bytes)?;
@@ -27,111 +31,144 @@ fn written(alloc: Global, bytes: &[u8]) -> Result<Option<Vec<u8>>, Refusal> {
     }
 }
 
-/// What a commit says, as a text.
-fn told(alloc: Global, bytes: &[u8]) -> Result<String, Fail> {
-    let commit = Commit::decode(alloc, bytes)?;
-    let mut told = String::new(alloc);
+/// Whether the file has the second version and is written just so again.
+fn is_written_so(alloc: Global, bytes: &[u8]) -> Result<bool, Refusal> {
+    match written(alloc, bytes)? {
+        Some(out) => Ok(out.as_slice() == bytes),
+        None => Ok(false),
+    }
+}
+
+/// Whether the bytes are a commit's, which is then written just so again where the file has the second version.
+pub(crate) fn is_commit(alloc: Global, bytes: &[u8]) -> Result<bool, Refusal> {
+    match written(alloc, bytes) {
+        Ok(Some(out)) => Ok(out.as_slice() == bytes),
+        Ok(None) => Ok(true),
+        Err(Refusal::Damaged) => Ok(false),
+        Err(refusal) => Err(refusal),
+    }
+}
+
+/// Writes the numbers and the text of the commit.
+fn write_head(told: &mut String, commit: &Commit) -> Result<(), AllocError> {
     let version = match commit.version {
         Version::First => 1,
         Version::Second => 2,
     };
-    write!(told, "{version} {} {}", commit.generation, commit.token)?;
-    write!(told, " {} [{}]", commit.next_segment, commit.text)?;
+    write!(
+        told,
+        "{version} {} {} {} [{}]",
+        commit.generation, commit.token, commit.next_segment, commit.text
+    )
+}
+
+/// Writes the names of the fields, and the segments, each with its live file.
+fn write_lists(told: &mut String, commit: &Commit) -> Result<(), AllocError> {
     for field in commit.schema.fields() {
-        write!(told, " {}", field.name())?;
+        told.push(' ')?;
+        told.push_str(field.name())?;
     }
     for segment in &commit.segments {
         write!(told, " {} {:?}", segment.number(), segment.live_file())?;
     }
+    Ok(())
+}
+
+/// What a commit says, as a text.
+fn told(alloc: Global, bytes: &[u8]) -> Result<String, Refusal> {
+    let commit = decoded(alloc, bytes)?;
+    let mut told = String::new(alloc);
+    write_head(&mut told, &commit)?;
+    write_lists(&mut told, &commit)?;
     Ok(told)
 }
 
 /// The names that the commit needs, as a text.
-fn names(alloc: Global, bytes: &[u8]) -> Result<String, Fail> {
+fn names(alloc: Global, bytes: &[u8]) -> Result<String, Refusal> {
     let mut told = String::new(alloc);
-    for name in &Commit::decode(alloc, bytes)?.names()? {
+    for name in &decoded(alloc, bytes)?.names()? {
         write!(told, "{name} ")?;
     }
     Ok(told)
 }
 
-#[test]
-fn both_versions_are_read(rt: HostRuntime) -> Result<(), Fail> {
-    let alloc = rt.alloc();
-    assert_eq!(rt; FIRST.len(), 73);
-    assert_eq!(rt; SECOND.len(), 83);
-    let first = told(alloc, FIRST)?;
-    assert_eq!(rt; first.as_str(), "1 1 1 2 [] color price 1 None");
-    let second = told(alloc, SECOND)?;
-    assert_eq!(rt; second.as_str(), "2 1 1 2 [spring] color price 1 None");
-    let third = told(alloc, THIRD)?;
-    assert_eq!(rt; third.as_str(), "2 2 2 2 [] color price 1 Some(2)");
-    Ok(())
-}
+/// A file, how many bytes it has, what its commit says, which names it needs, and whether it has the second version, as which it is
+/// written again.
+type File<'a> = (&'a [u8], usize, &'a str, &'a str, bool);
+
+/// Both versions are read, the second is written, and live files are needed too.
+const FILES: &[File<'static>] = &[
+    (
+        FIRST,
+        73,
+        "1 1 1 2 [] color price 1 None",
+        "segments_1 _1.seg _1.sto ",
+        false,
+    ),
+    (
+        SECOND,
+        83,
+        "2 1 1 2 [spring] color price 1 None",
+        "segments_1 _1.seg _1.sto ",
+        true,
+    ),
+    (
+        THIRD,
+        77,
+        "2 2 2 2 [] color price 1 Some(2)",
+        "segments_2 _1.seg _1.sto _1_2.liv ",
+        true,
+    ),
+];
 
 #[test]
-fn the_second_version_is_written(rt: HostRuntime) -> Result<(), Fail> {
-    for &bytes in &[SECOND, THIRD] {
-        let Some(out) = written(rt.alloc(), bytes)? else {
-            assert!(rt; false, "the first version");
-            return Ok(());
-        };
-        assert_eq!(rt; out.as_slice(), bytes);
+fn files_say_what_their_bytes_say(rt: HostRuntime) -> Result<(), Fail> {
+    for &(bytes, length, says, needs, is_second) in FILES {
+        assert_eq!(rt; bytes.len(), length);
+        assert_eq!(rt; told(rt.alloc(), bytes)?.as_str(), says);
+        assert_eq!(rt; names(rt.alloc(), bytes)?.as_str(), needs);
+        assert_eq!(rt; is_written_so(rt.alloc(), bytes)?, is_second, "{says}");
     }
     Ok(())
 }
 
-#[test]
-fn live_files_are_needed_too(rt: HostRuntime) -> Result<(), Fail> {
-    let alloc = rt.alloc();
-    assert_eq!(rt; names(alloc, FIRST)?.as_str(), "segments_1 _1.seg _1.sto ");
-    assert_eq!(rt;
-        names(alloc, THIRD)?.as_str(),
-        "segments_2 _1.seg _1.sto _1_2.liv "
-    );
-    Ok(())
-}
-
-/// Every beginning of the bytes is refused.
-fn refuse_beginnings(rt: &impl Abort, alloc: Global, bytes: &[u8]) {
+/// The length of the first beginning of the bytes that is not refused, if there is one.
+fn read_beginning(alloc: Global, bytes: &[u8]) -> Option<usize> {
     for end in 0..bytes.len() {
         let (front, _) = bytes.split_at(end.min(bytes.len()));
-        assert!(rt;
-            matches!(Commit::decode(alloc, front), Err(Refusal::Damaged)),
-            "{end}"
-        );
+        if !matches!(decoded(alloc, front), Err(Refusal::Damaged)) {
+            return Some(end);
+        }
     }
+    None
 }
 
 /// With the byte of this offset turned to its complement, the bytes are a commit or none.
-fn turned(alloc: Global, bytes: &[u8], offset: usize) -> Result<bool, Fail> {
+fn turned(alloc: Global, bytes: &[u8], offset: usize) -> Result<bool, Refusal> {
     let mut changed = Vec::from_slice(alloc, bytes)?;
     if let Some(byte) = changed.get_mut(offset) {
         *byte = !*byte;
     }
-    match written(alloc, &changed) {
-        Ok(Some(out)) => Ok(out.as_slice() == changed.as_slice()),
-        Ok(None) => Ok(true),
-        Err(Refusal::Damaged) => Ok(false),
-        Err(refusal) => Err(Fail::from(refusal)),
-    }
+    is_commit(alloc, &changed)
 }
 
 /// Of the bytes turned each to its complement, those of the generation, the token and the next number but for the high byte of
-/// each leave another commit. All else leaves none.
-fn turn_each(rt: &impl Abort, alloc: Global, bytes: &[u8]) -> Result<(), Fail> {
+/// each leave another commit. All else leaves none. This is the first offset where it is not so, if there is one.
+fn turned_otherwise(alloc: Global, bytes: &[u8]) -> Result<Option<usize>, Refusal> {
     for offset in 0..bytes.len() {
         let want = matches!(offset, 6..=12 | 14..=20 | 22..=28);
-        assert_eq!(rt; turned(alloc, bytes, offset)?, want, "{offset}");
+        if turned(alloc, bytes, offset)? != want {
+            return Ok(Some(offset));
+        }
     }
-    Ok(())
+    Ok(None)
 }
 
 #[test]
 fn every_byte_counts(rt: HostRuntime) -> Result<(), Fail> {
     for &bytes in &[FIRST, SECOND] {
-        refuse_beginnings(&rt, rt.alloc(), bytes);
-        turn_each(&rt, rt.alloc(), bytes)?;
+        assert_eq!(rt; read_beginning(rt.alloc(), bytes), None);
+        assert_eq!(rt; turned_otherwise(rt.alloc(), bytes)?, None);
     }
     Ok(())
 }

@@ -1,6 +1,7 @@
 //! Files at the limits, and just past them.
+use crate::files::is_commit;
 use cat_base::{MAX_SEGMENTS, Refusal, put_bytes, put_u32, put_u64};
-use cat_commits::{Commit, Version, commit_text_ok, judge_commit_text};
+use cat_commits::{commit_text_ok, judge_commit_text};
 use std::alloc::{AllocError, Global};
 use std::test::Fail;
 
@@ -13,6 +14,8 @@ struct Said<'a> {
     next: u64,
     text: &'a [u8],
     segments: &'a [(u64, u64)],
+    /// What stands behind the commit.
+    rest: &'a [u8],
 }
 
 /// A file of one segment, with nothing wrong.
@@ -23,19 +26,26 @@ const GOOD: Said<'static> = Said {
     next: 8,
     text: b"ok",
     segments: &[(7, 3), (2, 0)],
+    rest: b"",
 };
 
 /// The bytes, without a field.
 fn spelled(alloc: Global, said: &Said<'_>) -> Result<Vec<u8>, AllocError> {
     let mut out = Vec::from_slice(alloc, b"CSGM")?;
     out.push(said.version)?;
-    put_u64(&mut out, said.generation)?;
-    put_u64(&mut out, said.token)?;
-    put_u64(&mut out, said.next)?;
+    put_numbers(&mut out, &[said.generation, said.token, said.next])?;
     put_text(&mut out, said.text)?;
-    put_u32(&mut out, 0)?;
     put_segments(&mut out, said.segments)?;
+    out.extend_from_slice(said.rest)?;
     Ok(out)
+}
+
+/// The numbers, one behind another.
+fn put_numbers(out: &mut Vec<u8>, numbers: &[u64]) -> Result<(), AllocError> {
+    for number in numbers {
+        put_u64(out, *number)?;
+    }
+    Ok(())
 }
 
 /// The text, whose length fits.
@@ -46,25 +56,19 @@ fn put_text(out: &mut Vec<u8>, text: &[u8]) -> Result<(), AllocError> {
     put_bytes(out, text)
 }
 
+/// No field, and then the segments.
 fn put_segments(out: &mut Vec<u8>, segments: &[(u64, u64)]) -> Result<(), AllocError> {
+    put_u32(out, 0)?;
     put_u32(out, segments.len().min(1_000_000) as u32)?;
     for (number, file) in segments {
-        put_u64(out, *number)?;
-        put_u64(out, *file)?;
+        put_numbers(out, &[*number, *file])?;
     }
     Ok(())
 }
 
-/// Whether the bytes are a commit's, which is then written just so again.
-fn is_commit(alloc: Global, bytes: &[u8]) -> Result<bool, Fail> {
-    match Commit::decode(alloc, bytes) {
-        Ok(commit) => match commit.version {
-            Version::First => Ok(true),
-            Version::Second => Ok(commit.encode()?.as_slice() == bytes),
-        },
-        Err(Refusal::Damaged) => Ok(false),
-        Err(refusal) => Err(Fail::from(refusal)),
-    }
+/// Whether the bytes that say this are a commit's, which is then written just so again.
+fn fits(alloc: Global, said: &Said<'_>) -> Result<bool, Refusal> {
+    is_commit(alloc, &spelled(alloc, said)?)
 }
 
 /// Numbers at their limits.
@@ -91,7 +95,7 @@ const FIT: &[Said<'static>] = &[
     Said { text: b"", ..GOOD },
 ];
 
-/// Numbers past them, numbers that agree, and what no version knows.
+/// Numbers past them, numbers that agree, what no version knows, and a byte that stands behind a commit.
 const MISFIT: &[Said<'static>] = &[
     Said { version: 0, ..GOOD },
     Said { version: 1, ..GOOD },
@@ -143,66 +147,49 @@ const MISFIT: &[Said<'static>] = &[
         segments: &[(7, 3), (2, 0), (7, 0)],
         ..GOOD
     },
+    Said {
+        rest: b"\0",
+        ..GOOD
+    },
 ];
 
 #[test]
 fn numbers_fit(rt: HostRuntime) -> Result<(), Fail> {
-    let alloc = rt.alloc();
-    for (index, said) in FIT.iter().enumerate() {
-        assert!(rt; is_commit(alloc, &spelled(alloc, said)?)?, "{index}");
-    }
-    for (index, said) in MISFIT.iter().enumerate() {
-        assert!(rt; !is_commit(alloc, &spelled(alloc, said)?)?, "{index}");
+    for &(table, want) in &[(FIT, true), (MISFIT, false)] {
+        for (index, said) in table.iter().enumerate() {
+            assert_eq!(rt; fits(rt.alloc(), said)?, want, "{index}");
+        }
     }
     Ok(())
 }
 
-#[test]
-fn nothing_stands_behind_a_commit(rt: HostRuntime) -> Result<(), Fail> {
-    let alloc = rt.alloc();
-    let mut bytes = spelled(alloc, &GOOD)?;
-    assert!(rt; is_commit(alloc, &bytes)?);
-    bytes.push(0)?;
-    assert!(rt; !is_commit(alloc, &bytes)?);
-    Ok(())
-}
-
-#[test]
-fn a_text_has_256_bytes_at_most(rt: HostRuntime) -> Result<(), Fail> {
-    let alloc = rt.alloc();
+/// A text of so many letters.
+fn letters(alloc: Global, count: usize) -> Result<String, AllocError> {
     let mut text = String::new(alloc);
-    for _ in 0..256 {
+    for _ in 0..count {
         text.push('x')?;
     }
-    assert!(rt; commit_text_ok(text.as_str()));
-    let bytes = spelled(
-        alloc,
-        &Said {
-            text: text.as_str().as_bytes(),
-            ..GOOD
-        },
-    )?;
-    assert!(rt; is_commit(alloc, &bytes)?);
-    text.push('x')?;
-    assert_eq!(rt; judge_commit_text(text.as_str()), Err(Refusal::Large));
-    let bytes = spelled(
-        alloc,
-        &Said {
-            text: text.as_str().as_bytes(),
-            ..GOOD
-        },
-    )?;
-    assert!(rt; !is_commit(alloc, &bytes)?);
-    Ok(())
+    Ok(text)
 }
 
-/// A file of so many segments, with the numbers from 1.
-fn many(alloc: Global, count: usize) -> Result<Vec<u8>, AllocError> {
+/// Whether a file that has the text is a commit's.
+fn text_fits(alloc: Global, text: &str) -> Result<bool, Refusal> {
+    fits(
+        alloc,
+        &Said {
+            text: text.as_bytes(),
+            ..GOOD
+        },
+    )
+}
+
+/// Whether a file of so many segments, with the numbers from 1, is a commit's.
+fn many_fit(alloc: Global, count: usize) -> Result<bool, Refusal> {
     let mut segments = Vec::new(alloc);
     for number in 0..count {
         segments.push((number as u64 + 1, 0))?;
     }
-    spelled(
+    fits(
         alloc,
         &Said {
             next: 100_000,
@@ -213,9 +200,19 @@ fn many(alloc: Global, count: usize) -> Result<Vec<u8>, AllocError> {
 }
 
 #[test]
-fn a_commit_has_65536_segments_at_most(rt: HostRuntime) -> Result<(), Fail> {
-    let alloc = rt.alloc();
-    assert!(rt; is_commit(alloc, &many(alloc, MAX_SEGMENTS)?)?);
-    assert!(rt; !is_commit(alloc, &many(alloc, MAX_SEGMENTS + 1)?)?);
+fn a_text_has_256_bytes_and_a_commit_65536_segments_at_most(rt: HostRuntime) -> Result<(), Fail> {
+    for &(count, want) in &[(256, Ok(())), (257, Err(Refusal::Large))] {
+        let text = letters(rt.alloc(), count)?;
+        assert_eq!(rt; judge_commit_text(text.as_str()), want);
+        assert_eq!(rt; commit_text_ok(text.as_str()), want.is_ok(), "{count}");
+        assert_eq!(rt;
+            text_fits(rt.alloc(), text.as_str())?,
+            want.is_ok(),
+            "{count}"
+        );
+    }
+    for &(count, want) in &[(MAX_SEGMENTS, true), (MAX_SEGMENTS + 1, false)] {
+        assert_eq!(rt; many_fit(rt.alloc(), count)?, want, "{count}");
+    }
     Ok(())
 }
