@@ -1,14 +1,24 @@
 //! The cache keeps 64 sets, and the least recently used goes first.
-use crate::made::{begun, priced};
+use crate::made::{begun, parsed, priced, step};
 use cat_base::{MAX_CACHED_SETS, Refusal, SegNo};
 use cat_cache::{FilterCache, Key, Warming};
-use cat_query::Query;
+use cat_query::DocSet;
 use cat_schema::Schema;
 use cat_segment::Segment;
-use std::alloc::Global;
-use std::process::Abort;
+use std::alloc::{AllocError, Global};
 use std::sync::Arc;
 use std::test::Fail;
+
+/// The text of a query for the price.
+fn price_text(alloc: Global, price: usize) -> Result<String, AllocError> {
+    format!(in alloc; "price:{price}")
+}
+
+/// Stores the set under the key.
+fn store(alloc: Global, cache: &mut FilterCache, key: &Key, set: DocSet) -> Result<(), AllocError> {
+    let set = Arc::new(alloc, set)?;
+    cache.store(key.copy()?, set)
+}
 
 /// Stores the set of the segment's rows of this price.
 fn store_price(
@@ -17,24 +27,24 @@ fn store_price(
     segment: &Arc<Segment>,
     price: usize,
 ) -> Result<(), Refusal> {
-    let text = format!(in alloc; "price:{price}")?;
+    let text = price_text(alloc, price)?;
     let mut warm = begun(alloc, segment, text.as_str())?;
-    if let Warming::Made(set) = warm.step(alloc)? {
-        cache.store(warm.key().copy()?, Arc::new(alloc, set)?)?;
+    if let Warming::Made(set) = step(alloc, &mut warm)? {
+        store(alloc, cache, warm.key(), set)?;
     }
     Ok(())
 }
 
-/// The key of the price in segment 1.
-fn price_key(alloc: Global, schema: &Schema, price: usize) -> Result<Key, Refusal> {
-    let text = format!(in alloc; "price:{price}")?;
-    key_in(alloc, schema, 1, text.as_str())
-}
-
 /// The key of the query in the segment of this number.
 fn key_in(alloc: Global, schema: &Schema, segment: SegNo, text: &str) -> Result<Key, Refusal> {
-    let query = Query::parse(schema, alloc, text)?;
+    let query = parsed(alloc, schema, text)?;
     Ok(Key { segment, query })
+}
+
+/// The key of the price in segment 1.
+fn price_key(alloc: Global, schema: &Schema, price: usize) -> Result<Key, Refusal> {
+    let text = price_text(alloc, price)?;
+    key_in(alloc, schema, 1, text.as_str())
 }
 
 /// Stores the sets of the segment's prices from 0 on, as many as there may be.
@@ -45,47 +55,6 @@ fn fill(alloc: Global, cache: &mut FilterCache, segment: &Arc<Segment>) -> Resul
     Ok(())
 }
 
-/// Fails unless sets stand under these prices, and under the others below 70 none.
-fn expect_all_but(
-    rt: &impl Abort,
-    alloc: Global,
-    cache: &FilterCache,
-    schema: &Schema,
-    gone: &[usize],
-) -> Result<(), Fail> {
-    for price in 0..70 {
-        let has = cache.has(&price_key(alloc, schema, price)?);
-        assert_eq!(rt; has, !gone.contains(&price), "{price} of {gone:?}");
-    }
-    Ok(())
-}
-
-/// Stores sets for which there is no room.
-fn store_past_room(
-    rt: &impl Abort,
-    alloc: Global,
-    cache: &mut FilterCache,
-    segment: &Arc<Segment>,
-) -> Result<(), Fail> {
-    fill(alloc, cache, segment)?;
-    assert_eq!(rt; cache.len(), 64);
-    let schema = segment.schema();
-    expect_all_but(rt, alloc, cache, schema, &[64, 65, 66, 67, 68, 69])?;
-    store_price(alloc, cache, segment, 64)?;
-    assert_eq!(rt; cache.len(), 64);
-    expect_all_but(rt, alloc, cache, schema, &[0, 65, 66, 67, 68, 69])?;
-    store_price(alloc, cache, segment, 1)?;
-    store_price(alloc, cache, segment, 65)?;
-    expect_all_but(rt, alloc, cache, schema, &[0, 2, 66, 67, 68, 69])
-}
-
-#[test]
-fn the_least_recently_used_set_goes(rt: HostRuntime) -> Result<(), Fail> {
-    let segment = priced(rt.alloc(), 2)?;
-    let mut cache = FilterCache::new(rt.alloc())?;
-    store_past_room(&rt, rt.alloc(), &mut cache, &segment)
-}
-
 /// Whether a set stands under the price.
 fn has_price(
     alloc: Global,
@@ -94,6 +63,21 @@ fn has_price(
     price: usize,
 ) -> Result<bool, Refusal> {
     Ok(cache.has(&price_key(alloc, schema, price)?))
+}
+
+/// Whether a set stands under each price below 70 but for these, and under these none does.
+fn has_all_but(
+    alloc: Global,
+    cache: &FilterCache,
+    schema: &Schema,
+    gone: &[usize],
+) -> Result<bool, Refusal> {
+    for price in 0..70 {
+        if has_price(alloc, cache, schema, price)? == gone.contains(&price) {
+            return Ok(false);
+        }
+    }
+    Ok(true)
 }
 
 /// How many rows the set under the price has, which is a use of it.
@@ -107,27 +91,79 @@ fn look_at_price(
     Ok(cache.look(&key).map(|set| set.count()))
 }
 
-/// Uses the set of the price 0, asks for that of 1, and stores one for which there is no room.
-fn look_and_store(
-    rt: &impl Abort,
+/// A call, with what it answers.
+#[derive(Clone, Copy, Drop)]
+enum Call<'a> {
+    /// As many sets are stored as there may be, from the price 0 on.
+    Fill,
+    /// The set of the price is stored.
+    Store(usize),
+    /// How many sets there are.
+    Len(usize),
+    /// Under these prices no set stands, and under all others below 70 one does.
+    HasAllBut(&'a [usize]),
+    /// Whether a set stands under the price.
+    Has(usize, bool),
+    /// How many rows the set under the price has, if there is one.
+    Look(usize, Option<usize>),
+}
+
+/// Whether the call is answered so.
+fn is_answered(
     alloc: Global,
     cache: &mut FilterCache,
     segment: &Arc<Segment>,
-) -> Result<(), Fail> {
-    fill(alloc, cache, segment)?;
+    call: Call<'_>,
+) -> Result<bool, Refusal> {
     let schema = segment.schema();
-    assert!(rt; has_price(alloc, cache, schema, 1)?);
-    assert_eq!(rt; look_at_price(alloc, cache, schema, 0)?, Some(1));
-    assert_eq!(rt; look_at_price(alloc, cache, schema, 99)?, None);
-    store_price(alloc, cache, segment, 64)?;
-    expect_all_but(rt, alloc, cache, schema, &[1, 65, 66, 67, 68, 69])
+    match call {
+        Call::Fill => fill(alloc, cache, segment)?,
+        Call::Store(price) => store_price(alloc, cache, segment, price)?,
+        Call::Len(len) => return Ok(cache.len() == len),
+        Call::HasAllBut(gone) => return has_all_but(alloc, cache, schema, gone),
+        Call::Has(price, has) => return Ok(has_price(alloc, cache, schema, price)? == has),
+        Call::Look(price, rows) => {
+            return Ok(look_at_price(alloc, cache, schema, price)? == rows);
+        }
+    }
+    Ok(true)
 }
 
+/// Sets are stored for which there is no room, and the least recently used goes.
+const PAST_ROOM: &[Call<'static>] = &[
+    Call::Fill,
+    Call::Len(64),
+    Call::HasAllBut(&[64, 65, 66, 67, 68, 69]),
+    Call::Store(64),
+    Call::Len(64),
+    Call::HasAllBut(&[0, 65, 66, 67, 68, 69]),
+    Call::Store(1),
+    Call::Store(65),
+    Call::HasAllBut(&[0, 2, 66, 67, 68, 69]),
+];
+
+/// The set of the price 0 is used, that of 1 is asked for, which is no use, and one is stored for which there is no room.
+const LOOKED_AT: &[Call<'static>] = &[
+    Call::Fill,
+    Call::Has(1, true),
+    Call::Look(0, Some(1)),
+    Call::Look(99, None),
+    Call::Store(64),
+    Call::HasAllBut(&[1, 65, 66, 67, 68, 69]),
+];
+
+/// A look is a use, as a store is, and to ask for a set is none. Each table's calls are made of a cache of its own.
 #[test]
-fn a_look_is_a_use_and_has_is_none(rt: HostRuntime) -> Result<(), Fail> {
-    let segment = priced(rt.alloc(), 2)?;
-    let mut cache = FilterCache::new(rt.alloc())?;
-    look_and_store(&rt, rt.alloc(), &mut cache, &segment)
+fn the_least_recently_used_set_goes(rt: HostRuntime) -> Result<(), Fail> {
+    for (table, calls) in [PAST_ROOM, LOOKED_AT].iter().enumerate() {
+        let segment = priced(rt.alloc(), 2)?;
+        let mut cache = FilterCache::new(rt.alloc())?;
+        for (index, call) in calls.iter().enumerate() {
+            let is_so = is_answered(rt.alloc(), &mut cache, &segment, *call)?;
+            assert!(rt; is_so, "call {index} of table {table}");
+        }
+    }
+    Ok(())
 }
 
 /// Texts in a segment, and whether their key is that of `price:5 title:red` in segment 1.
@@ -156,17 +192,12 @@ fn are_same(
     Ok(key == key_in(alloc, schema, segment, second)?)
 }
 
-/// Fails unless the keys are the same as the table says.
-fn expect_same(rt: &impl Abort, alloc: Global, schema: &Schema) -> Result<(), Fail> {
-    for &(segment, text, same) in SAME {
-        let found = are_same(alloc, schema, "price:5 title:red", segment, text)?;
-        assert_eq!(rt; found, same, "{text}");
-    }
-    Ok(())
-}
-
 #[test]
 fn a_key_is_a_segment_and_a_parsed_query(rt: HostRuntime) -> Result<(), Fail> {
     let schema = Schema::read(rt.alloc(), br#"{"price":"number","title":"text"}"#)?;
-    expect_same(&rt, rt.alloc(), &schema)
+    for &(segment, text, same) in SAME {
+        let found = are_same(rt.alloc(), &schema, "price:5 title:red", segment, text)?;
+        assert_eq!(rt; found, same, "{text}");
+    }
+    Ok(())
 }

@@ -1,11 +1,10 @@
 //! With sets at hand a query has the hits that it has without them.
+use crate::made::parsed;
 use cat_base::Refusal;
-use cat_query::Query;
 use cat_schema::Schema;
 use cat_search::{Ask, Page, Prepared, Sort, View};
 use cat_view_rows::{PutText, are_in_order, read_puts, sets_of, view_of};
 use std::alloc::{AllocError, Global};
-use std::process::Abort;
 use std::test::Fail;
 
 /// The first nine hits by falling price.
@@ -15,17 +14,19 @@ const ASK: Ask<'static> = Ask {
     count: 9,
 };
 
-/// The page without sets at hand.
-fn page_without(alloc: Global, view: &View, text: &str) -> Result<Page, Refusal> {
-    let query = Query::parse(view.schema(), alloc, text)?;
-    Prepared::of(view, query)?.page(alloc, ASK)
+/// The query made ready for the view, with sets at hand for two in three segments or without.
+fn prepared(alloc: Global, view: &View, text: &str, with_sets: bool) -> Result<Prepared, Refusal> {
+    let query = parsed(alloc, view.schema(), text)?;
+    if !with_sets {
+        return Ok(Prepared::of(view, query)?);
+    }
+    let sets = sets_of(alloc, view, &query)?;
+    Ok(Prepared::with(view, query, sets)?)
 }
 
-/// The page with sets at hand for two in three segments.
-fn page_with(alloc: Global, view: &View, text: &str) -> Result<Page, Refusal> {
-    let query = Query::parse(view.schema(), alloc, text)?;
-    let sets = sets_of(alloc, view, &query)?;
-    Prepared::with(view, query, sets)?.page(alloc, ASK)
+/// The page of the query.
+fn page(alloc: Global, prepared: &Prepared) -> Result<Page, Refusal> {
+    prepared.page(alloc, ASK)
 }
 
 /// The ids of the hits that are shown, each with a space behind it.
@@ -38,19 +39,10 @@ fn ids_text(alloc: Global, page: &Page) -> Result<String, AllocError> {
     Ok(text)
 }
 
-/// Fails unless the query has these hits, with sets at hand and without.
-fn expect_hits(
-    rt: &impl Abort,
-    alloc: Global,
-    view: &View,
-    text: &str,
-    ids: &str,
-) -> Result<(), Fail> {
-    let without = ids_text(alloc, &page_without(alloc, view, text)?)?;
-    assert_eq!(rt; without.as_str(), ids, "{text}");
-    let with = ids_text(alloc, &page_with(alloc, view, text)?)?;
-    assert_eq!(rt; with.as_str(), ids, "{text} with sets at hand");
-    Ok(())
+/// The ids of the hits in the view, with sets at hand or without.
+fn hits(alloc: Global, view: &View, text: &str, with_sets: bool) -> Result<String, Refusal> {
+    let prepared = prepared(alloc, view, text, with_sets)?;
+    Ok(ids_text(alloc, &page(alloc, &prepared)?)?)
 }
 
 /// Rows in four segments, some of them dead.
@@ -83,16 +75,18 @@ fn view_of_rows(alloc: Global) -> Result<View, Refusal> {
     view_of(alloc, &schema, &puts, &[2, 3, 5, 7])
 }
 
-/// Fails unless the queries have their hits.
-fn expect_all_hits(rt: &impl Abort, alloc: Global, view: &View) -> Result<(), Fail> {
-    for &(text, ids) in HITS {
-        expect_hits(rt, alloc, view, text, ids)?;
-    }
-    Ok(())
-}
-
 #[test]
 fn dead_rows_of_a_set_are_no_hits(rt: HostRuntime) -> Result<(), Fail> {
     let view = view_of_rows(rt.alloc())?;
-    expect_all_hits(&rt, rt.alloc(), &view)
+    for &(text, ids) in HITS {
+        for &with_sets in &[false, true] {
+            let found = hits(rt.alloc(), &view, text, with_sets)?;
+            assert_eq!(rt;
+                found.as_str(),
+                ids,
+                "{text} with sets at hand: {with_sets}"
+            );
+        }
+    }
+    Ok(())
 }
