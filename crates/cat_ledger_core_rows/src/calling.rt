@@ -1,24 +1,27 @@
 //! The state of a ledger where nothing is, and its calls with what they ask for.
-ghost use Rattle.std.specs.Prelude.{◌<◌, ◌≤◌, ◌+◌};
-ghost use Rattle.cat_model.specs.Limits.{last_number};
-
 use cat_base::{Generation, LAST_NUMBER, Refusal, SegNo, SessionNo, Token};
 use cat_commits::commit_text_ok;
-use cat_directory::Directory;
+use cat_directory::{Faulty, MemoryDirectory};
 use cat_ledger_core::{Core, known_names};
 use cat_query::Query;
 use cat_schema::Schema;
 use std::alloc::Global;
+
+/// A device in memory whose calls may fail.
+pub(crate) type Device = Faulty<MemoryDirectory>;
 
 /// No item, and these numbers are next.
 pub(crate) fn empty_at(
     alloc: Global,
     next_segment: SegNo,
     next_generation: Generation,
-) -> Result<Core, Refusal>
-    requires some { (0 < next_segment) × (0 < next_generation) }
-    requires left { (next_segment ≤ last_number + 1) × (next_generation ≤ last_number + 1) }
-{
+) -> Result<Core, Refusal> {
+    if next_segment == 0 || next_segment > LAST_NUMBER + 1 {
+        return Err(Refusal::Line);
+    }
+    if next_generation == 0 || next_generation > LAST_NUMBER + 1 {
+        return Err(Refusal::Line);
+    }
     let schema = Schema::read(alloc, br#"{"price":"number"}"#)?;
     let refs = known_names(alloc, &[])?;
     Ok(Core::empty(alloc, schema, refs, next_segment, next_generation)?)
@@ -70,24 +73,29 @@ fn record(core: &mut Core) -> Result<(), Refusal> {
     Ok(core.record_view()?)
 }
 
+/// Writes what waits to files.
+pub(crate) fn flush(core: &mut Core, device: &mut Device) -> Result<(), Refusal> {
+    core.flush(device)
+}
+
 /// Puts an item of its own, flushes it and records a view.
-fn put_viewed<D: Directory>(
+fn put_viewed(
     core: &mut Core,
     alloc: Global,
-    device: &mut D,
+    device: &mut Device,
     index: u64,
 ) -> Result<(), Refusal> {
     let text = format!(in alloc; r#"{{"id":"item{index}","price":1}}"#)?;
     put(core, alloc, text.as_str())?;
-    core.flush(device)?;
+    flush(core, device)?;
     record(core)
 }
 
 /// Puts so many items, each in a segment of its own, and records a view behind each.
-pub(crate) fn put_all_viewed<D: Directory>(
+pub(crate) fn put_all_viewed(
     core: &mut Core,
     alloc: Global,
-    device: &mut D,
+    device: &mut Device,
     count: u64,
 ) -> Result<(), Refusal> {
     for index in 0..count {
@@ -104,15 +112,20 @@ pub(crate) fn hold(core: &mut Core, session: SessionNo, token: Token) -> Result<
     Ok(core.hold(session, token)?)
 }
 
-/// Flushes, and keeps a commit with this text.
-pub(crate) fn commit<D: Directory>(
-    core: &mut Core,
-    device: &mut D,
-    text: &str,
-) -> Result<Generation, Refusal> {
-    core.flush(device)?;
+/// Keeps a commit with this text, where nothing waits.
+fn commit_flushed(core: &mut Core, device: &mut Device, text: &str) -> Result<Generation, Refusal> {
     if !core.is_flushed() || !commit_text_ok(text) {
         return Err(Refusal::Kind);
     }
     core.commit(device, text)
+}
+
+/// Flushes, and keeps a commit with this text.
+pub(crate) fn commit(
+    core: &mut Core,
+    device: &mut Device,
+    text: &str,
+) -> Result<Generation, Refusal> {
+    flush(core, device)?;
+    commit_flushed(core, device, text)
 }

@@ -1,9 +1,7 @@
 //! Commits, snapshots and sweeps.
-use crate::steps::{Row, Step, run, run_at};
+use crate::steps::{Case, Row, Step, run_each, run_failing};
 use cat_base::LAST_NUMBER;
-use cat_directory::{Faults, FileName};
-use std::alloc::Global;
-use std::process::Abort;
+use cat_directory::FileName;
 use std::test::Fail;
 
 /// The files of the first segment, its live file of the second commit, and the own files of two commits.
@@ -39,11 +37,6 @@ const THREE_COMMITS: &[Row<'static>] = &[
     (Step::Names, " _1.seg _1.sto _1_2.liv segments_3"),
 ];
 
-#[test]
-fn a_live_file_stays_while_a_commit_needs_it(rt: HostRuntime) -> Result<(), Fail> {
-    run(&rt, rt.alloc(), &[NONE, ONE_COMMIT, THREE_COMMITS])
-}
-
 /// The commit doesn't come, its names are pending and its number is taken.
 const SECOND_FAILS: &[Row<'static>] = &[
     (Step::Commit("two"), "NO 30"),
@@ -54,22 +47,18 @@ const SECOND_FAILS: &[Row<'static>] = &[
     (Step::Told(NAMES), "3 0 1: 2 2 0 0 0; 1"),
 ];
 
-/// The second commit fails at the call behind so many.
-fn second_fails(rt: &impl Abort, alloc: Global, passing: u64) -> Result<(), Fail> {
-    let fail = &[
-        (Step::Delete("a"), "ok"),
-        (Step::Fail(Faults::One(passing)), "ok"),
-    ];
-    run(rt, alloc, &[ONE_COMMIT, fail, SECOND_FAILS])
-}
+/// Two items in a segment, a commit of it, and one of them deleted.
+const ONE_DELETED: &[Row<'static>] = &[
+    (Step::Put(r#"{"id":"a","price":1}"#), "ok"),
+    (Step::Put(r#"{"id":"b","price":2}"#), "ok"),
+    (Step::Commit("one"), "1"),
+    (Step::Delete("a"), "ok"),
+];
 
 /// The live file is made and written, it is synced, and then the commit's own file is made, written and synced.
 #[test]
 fn a_refused_commit_is_none(rt: HostRuntime) -> Result<(), Fail> {
-    for passing in 0..6 {
-        second_fails(&rt, rt.alloc(), passing)?;
-    }
-    Ok(())
+    run_failing(&rt, rt.alloc(), ONE_DELETED, 6, SECOND_FAILS)
 }
 
 /// There is nothing to take a snapshot of.
@@ -93,11 +82,6 @@ const TWO_SNAPSHOTS: &[Row<'static>] = &[
     (Step::Sweep, "1"),
 ];
 
-#[test]
-fn a_snapshot_keeps_a_commit(rt: HostRuntime) -> Result<(), Fail> {
-    run(&rt, rt.alloc(), &[NO_COMMIT, ONE_COMMIT, TWO_SNAPSHOTS])
-}
-
 /// The newest commit stays, whether it has a snapshot or none.
 const NEWEST_STAYS: &[Row<'static>] = &[
     (Step::Snapshot, "1"),
@@ -106,11 +90,6 @@ const NEWEST_STAYS: &[Row<'static>] = &[
     (Step::Newest, "1"),
     (Step::Told(NAMES), "2 0 1: 2 2 0 1 0; 0"),
 ];
-
-#[test]
-fn the_newest_commit_needs_no_snapshot(rt: HostRuntime) -> Result<(), Fail> {
-    run(&rt, rt.alloc(), &[ONE_COMMIT, NEWEST_STAYS])
-}
 
 /// The last number is that of a commit, and behind it there is none.
 const LAST_COMMIT: &[Row<'static>] = &[
@@ -123,7 +102,16 @@ const LAST_COMMIT: &[Row<'static>] = &[
     (Step::Told(&[]), "0 0 0:; 0"),
 ];
 
+/// Each in a ledger of its own: a live file stays while a commit needs it, a snapshot keeps a commit, the newest commit needs no
+/// snapshot, and no commit is behind the last.
+const CASES: &[Case<'static>] = &[
+    ((1, 1), &[NONE, ONE_COMMIT, THREE_COMMITS]),
+    ((1, 1), &[NO_COMMIT, ONE_COMMIT, TWO_SNAPSHOTS]),
+    ((1, 1), &[ONE_COMMIT, NEWEST_STAYS]),
+    ((1, LAST_NUMBER), &[LAST_COMMIT]),
+];
+
 #[test]
-fn no_commit_is_behind_the_last(rt: HostRuntime) -> Result<(), Fail> {
-    run_at(&rt, rt.alloc(), 1, LAST_NUMBER, &[LAST_COMMIT])
+fn commits_and_snapshots_keep_their_files(rt: HostRuntime) -> Result<(), Fail> {
+    run_each(&rt, rt.alloc(), CASES)
 }

@@ -1,9 +1,7 @@
 //! Flushes, at their limits and on devices that fail.
-use crate::steps::{Row, Step, run, run_at};
+use crate::steps::{Case, Row, Step, run_each, run_failing};
 use cat_base::LAST_NUMBER;
 use cat_directory::{Faults, FileName};
-use std::alloc::Global;
-use std::process::Abort;
 use std::test::Fail;
 
 /// The files of the first segment, and of the second.
@@ -25,19 +23,10 @@ const FLUSH_FAILS: &[Row<'static>] = &[
     (Step::Standing, "2: a b;"),
 ];
 
-/// The flush fails at the call behind so many.
-fn flush_fails(rt: &impl Abort, alloc: Global, passing: u64) -> Result<(), Fail> {
-    let fail = &[(Step::Fail(Faults::One(passing)), "ok")];
-    run(rt, alloc, &[fail, FLUSH_FAILS])
-}
-
 /// Two files are made and written.
 #[test]
 fn each_call_of_a_flush_fails(rt: HostRuntime) -> Result<(), Fail> {
-    for passing in 0..4 {
-        flush_fails(&rt, rt.alloc(), passing)?;
-    }
-    Ok(())
+    run_failing(&rt, rt.alloc(), &[], 4, FLUSH_FAILS)
 }
 
 /// Nothing waits, and the device isn't called.
@@ -46,11 +35,6 @@ const NOTHING: &[Row<'static>] = &[
     (Step::Flush, "ok"),
     (Step::Calls, "0"),
 ];
-
-#[test]
-fn a_flush_of_nothing_asks_for_nothing(rt: HostRuntime) -> Result<(), Fail> {
-    run(&rt, rt.alloc(), &[NOTHING])
-}
 
 /// The last number is that of a segment, and behind it there is none.
 const LAST_SEGMENT: &[Row<'static>] = &[
@@ -62,11 +46,6 @@ const LAST_SEGMENT: &[Row<'static>] = &[
     (Step::Flush, "NO 16"),
     (Step::Told(&[]), "2 1 1:; 0"),
 ];
-
-#[test]
-fn no_number_is_behind_the_last(rt: HostRuntime) -> Result<(), Fail> {
-    run_at(&rt, rt.alloc(), LAST_NUMBER, 1, &[LAST_SEGMENT])
-}
 
 /// As many items as may wait, and then as many again.
 const FULL_BUFFER: &[Row<'static>] = &[
@@ -81,7 +60,14 @@ const FULL_BUFFER: &[Row<'static>] = &[
     (Step::Told(NAMES), "2047 0 2: 1 1 1 1; 0"),
 ];
 
+/// Each in a ledger of its own.
+const CASES: &[Case<'static>] = &[
+    ((1, 1), &[NOTHING]),
+    ((LAST_NUMBER, 1), &[LAST_SEGMENT]),
+    ((1, 1), &[FULL_BUFFER]),
+];
+
 #[test]
-fn a_full_buffer_is_flushed(rt: HostRuntime) -> Result<(), Fail> {
-    run(&rt, rt.alloc(), &[FULL_BUFFER])
+fn nothing_the_last_number_and_a_full_buffer_are_flushed(rt: HostRuntime) -> Result<(), Fail> {
+    run_each(&rt, rt.alloc(), CASES)
 }

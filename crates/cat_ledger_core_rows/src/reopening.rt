@@ -4,10 +4,11 @@ ghost use Rattle.cat_directory.specs.Names.{name_of};
 ghost use Rattle.cat_ledger_model.specs.Ledger.{IsPast};
 ghost use Rattle.cat_model.specs.CommitFile.{commit_needs};
 
-use crate::steps::{Device, Row, Step, expect_of, new_device, run_on};
+use crate::calling::Device;
+use crate::steps::{Row, Step, expect_of, new_device, run_on};
 use cat_base::{Generation, Refusal, SegNo};
 use cat_commits::Commit;
-use cat_directory::{FileName, Shelf};
+use cat_directory::FileName;
 use cat_ledger_core::{Core, known_names};
 use cat_opening::read_commit;
 use cat_schema::Schema;
@@ -58,7 +59,7 @@ fn is_behind(commit: &Commit, segment: SegNo, generation: Generation) -> Result<
 }
 
 /// The state at the second commit of the directory, where the file of the first is still there.
-fn open_second<S: Shelf>(alloc: Global, device: &mut S) -> Result<Core, Refusal> {
+fn open_second(alloc: Global, device: &mut Device) -> Result<Core, Refusal> {
     let schema = Schema::read(alloc, br#"{"price":"number"}"#)?;
     let restored = read_commit(alloc, device, &schema, 2)?;
     if !is_behind(&restored.commit, 3, 3)? {
@@ -93,7 +94,7 @@ fn reopen(
 /// Takes the steps in a state that was left behind two commits, and is opened again.
 fn run_opened(rt: &impl Abort, alloc: Global, tables: &[&[Row<'_>]]) -> Result<(), Fail> {
     let mut device = new_device(alloc);
-    run_on(rt, alloc, &mut device, &[TWO_COMMITS])?;
+    run_on(rt, alloc, &mut device, (1, 1), &[TWO_COMMITS])?;
     reopen(rt, alloc, &mut device, tables)
 }
 
@@ -118,11 +119,6 @@ const HAS_SECOND: &[Row<'static>] = &[
     ),
 ];
 
-#[test]
-fn a_committed_state_is_opened_again(rt: HostRuntime) -> Result<(), Fail> {
-    run_opened(&rt, rt.alloc(), &[HAS_SECOND])
-}
-
 /// The next commit has the next numbers, and keeps the live file of a segment that stayed as it was. The own files of the first
 /// two are pending then.
 const GOES_ON: &[Row<'static>] = &[
@@ -137,6 +133,7 @@ const GOES_ON: &[Row<'static>] = &[
 ];
 
 #[test]
-fn an_opened_state_goes_on(rt: HostRuntime) -> Result<(), Fail> {
+fn a_committed_state_is_opened_again_and_goes_on(rt: HostRuntime) -> Result<(), Fail> {
+    run_opened(&rt, rt.alloc(), &[HAS_SECOND])?;
     run_opened(&rt, rt.alloc(), &[GOES_ON])
 }

@@ -1,104 +1,111 @@
 //! Answers as texts: the refusal's number, or what came; and what is told of a ledger.
+use crate::calling::Device;
 use cat_base::Refusal;
 use cat_directory::{Directory, FileName};
 use cat_ledger_core::Core;
 use cat_search::Leaf;
-use std::alloc::Global;
+use std::alloc::{AllocError, Global};
+use std::fmt::Write;
 
-/// The number of the refusal. Want of memory is no answer, and is passed on.
-pub(crate) fn refused(alloc: Global, refusal: Refusal) -> Result<String, Refusal> {
-    if refusal == Refusal::Memory {
-        return Err(refusal);
-    }
-    let number = refusal.number();
-    Ok(format!(in alloc; "NO {number}")?)
+/// The number of the refusal.
+fn number_of(refusal: Refusal) -> u64 {
+    u64::from(refusal.number())
 }
 
-/// `ok` where it was done.
-pub(crate) fn done(alloc: Global, answer: Result<(), Refusal>) -> Result<String, Refusal> {
+/// Tells the number of the refusal. Want of memory is no answer, and is passed on.
+pub(crate) fn tell_refused(text: &mut String, refusal: Refusal) -> Result<(), Refusal> {
+    match refusal {
+        Refusal::Memory => Err(Refusal::Memory),
+        other => Ok(write!(text, "NO {}", number_of(other))?),
+    }
+}
+
+/// Tells `ok` where it was done.
+pub(crate) fn tell_done(text: &mut String, answer: Result<(), Refusal>) -> Result<(), Refusal> {
     match answer {
-        Ok(()) => Ok(String::from_str(alloc, "ok")?),
-        Err(refusal) => refused(alloc, refusal),
+        Ok(()) => Ok(text.push_str("ok")?),
+        Err(refusal) => tell_refused(text, refusal),
     }
 }
 
-/// A number.
-pub(crate) fn number(alloc: Global, answer: Result<u64, Refusal>) -> Result<String, Refusal> {
+/// Tells a number.
+pub(crate) fn tell_number(text: &mut String, answer: Result<u64, Refusal>) -> Result<(), Refusal> {
     match answer {
-        Ok(number) => Ok(format!(in alloc; "{number}")?),
-        Err(refusal) => refused(alloc, refusal),
+        Ok(number) => Ok(write!(text, "{number}")?),
+        Err(refusal) => tell_refused(text, refusal),
     }
 }
 
-/// `yes` or `no`.
-pub(crate) fn said(alloc: Global, answer: bool) -> Result<String, Refusal> {
-    let word = if answer { "yes" } else { "no" };
-    Ok(String::from_str(alloc, word)?)
+/// Tells `yes` or `no`.
+pub(crate) fn tell_whether(text: &mut String, answer: bool) -> Result<(), Refusal> {
+    Ok(text.push_str(if answer { "yes" } else { "no" })?)
 }
 
-/// The number of the newest commit; `none` where there is none.
-pub(crate) fn newest(alloc: Global, core: &Core) -> Result<String, Refusal> {
+/// Tells the number of the newest commit; `none` where there is none.
+pub(crate) fn tell_newest(text: &mut String, core: &Core) -> Result<(), Refusal> {
     match core.newest() {
-        Some(generation) => number(alloc, Ok(generation)),
-        None => Ok(String::from_str(alloc, "none")?),
+        Some(generation) => Ok(write!(text, "{generation}")?),
+        None => Ok(text.push_str("none")?),
     }
 }
 
-/// The segments in order, each as its number and the ids of its rows, dead ones behind a minus.
-pub(crate) fn standing(core: &Core, alloc: Global) -> Result<String, Refusal> {
-    let mut text = String::new(alloc);
-    for leaf in core.leaves() {
-        push_leaf(&mut text, alloc, leaf)?;
-    }
-    Ok(text)
-}
-
-/// Appends the number of the segment and the ids of its rows.
-fn push_leaf(text: &mut String, alloc: Global, leaf: &Leaf) -> Result<(), Refusal> {
-    let number = leaf.segment().number();
-    text.push_str(format!(in alloc; "{number}:")?.as_str())?;
-    for row in 0..leaf.segment().len() {
+/// Tells the number of the segment and the ids of its rows, dead ones behind a minus.
+fn tell_leaf(text: &mut String, leaf: &Leaf) -> Result<(), AllocError> {
+    let segment = leaf.segment();
+    write!(text, "{}:", segment.number())?;
+    for row in 0..segment.len() {
         let sign = if leaf.live().is_live(row) { "" } else { "-" };
-        let id = leaf.segment().id(row);
-        text.push_str(format!(in alloc; " {sign}{id}")?.as_str())?;
+        write!(text, " {sign}{}", segment.id(row))?;
     }
-    text.push(';')?;
+    text.push(';')
+}
+
+/// Tells the segments in order.
+pub(crate) fn tell_standing(text: &mut String, core: &Core) -> Result<(), Refusal> {
+    for leaf in core.leaves() {
+        tell_leaf(text, leaf)?;
+    }
     Ok(())
 }
 
-/// How many writes there were, items wait and segments stand; the users of these names; and how many are pending.
-pub(crate) fn told(core: &Core, alloc: Global, names: &[FileName]) -> Result<String, Refusal> {
-    let count = core.count();
-    let waiting = core.waiting();
+/// Tells how many writes there were, items wait and segments stand; the users of these names; and how many are pending.
+pub(crate) fn tell_counts(
+    text: &mut String,
+    core: &Core,
+    names: &[FileName],
+) -> Result<(), Refusal> {
     let standing = core.leaves().len();
-    let mut text = format!(in alloc; "{count} {waiting} {standing}:")?;
+    write!(text, "{} {} {standing}:", core.count(), core.waiting())?;
     for name in names {
-        let users = core.users(*name);
-        text.push_str(format!(in alloc; " {users}")?.as_str())?;
+        write!(text, " {}", core.users(*name))?;
     }
-    let pending = core.pending();
-    text.push_str(format!(in alloc; "; {pending}")?.as_str())?;
-    Ok(text)
+    Ok(write!(text, "; {}", core.pending())?)
 }
 
-/// The names of the files that there are, as a text.
-pub(crate) fn names_text<D: Directory>(alloc: Global, device: &mut D) -> Result<String, Refusal> {
-    let mut text = String::new(alloc);
-    for name in &device.names(alloc)? {
-        text.push_str(format!(in alloc; " {name}")?.as_str())?;
+/// Tells each of the names.
+fn tell_names(text: &mut String, names: &[FileName]) -> Result<(), Refusal> {
+    for name in names {
+        write!(text, " {name}")?;
     }
-    Ok(text)
+    Ok(())
 }
 
-/// The text of the commit, and the names of the files that it needs.
-pub(crate) fn commit_text(core: &Core, alloc: Global, generation: u64) -> Result<String, Refusal> {
+/// Tells the names of the files that there are.
+pub(crate) fn tell_files(
+    text: &mut String,
+    alloc: Global,
+    device: &mut Device,
+) -> Result<(), Refusal> {
+    let names = device.names(alloc)?;
+    tell_names(text, &names)
+}
+
+/// Tells the text of the commit, and the names of the files that it needs; `none` where there is no such commit.
+pub(crate) fn tell_commit(text: &mut String, core: &Core, generation: u64) -> Result<(), Refusal> {
     let Some(commit) = core.commit_at(generation) else {
-        return Ok(format!(in alloc; "none")?);
+        return Ok(text.push_str("none")?);
     };
-    let said = commit.text.as_str();
-    let mut text = format!(in alloc; "{said}:")?;
-    for name in &commit.names()? {
-        text.push_str(format!(in alloc; " {name}")?.as_str())?;
-    }
-    Ok(text)
+    write!(text, "{}:", commit.text)?;
+    let names = commit.names()?;
+    tell_names(text, &names)
 }

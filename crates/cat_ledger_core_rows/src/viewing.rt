@@ -1,5 +1,5 @@
 //! Recorded views, who holds them, and the users of their files.
-use crate::steps::{Row, Step, run};
+use crate::steps::{Case, Row, Step, run_each};
 use cat_directory::FileName;
 use std::test::Fail;
 
@@ -22,11 +22,6 @@ const PRUNED: &[Row<'static>] = &[
     (Step::Told(NAMES), "3 0 3: 2 2; 0"),
 ];
 
-#[test]
-fn a_held_view_outlives_a_prune(rt: HostRuntime) -> Result<(), Fail> {
-    run(&rt, rt.alloc(), &[PRUNED])
-}
-
 /// The view of nothing and 63 more are as many as may be; for the next one the least goes that nobody holds.
 const LEAST_GOES: &[Row<'static>] = &[
     (Step::PutViewed(63), "ok"),
@@ -40,7 +35,10 @@ const LEAST_GOES: &[Row<'static>] = &[
     (Step::IsRecorded(64), "yes"),
 ];
 
+/// Each in a ledger of its own.
+const CASES: &[Case<'static>] = &[((1, 1), &[PRUNED]), ((1, 1), &[LEAST_GOES])];
+
 #[test]
-fn the_least_free_view_goes(rt: HostRuntime) -> Result<(), Fail> {
-    run(&rt, rt.alloc(), &[LEAST_GOES])
+fn held_views_stay_and_others_go(rt: HostRuntime) -> Result<(), Fail> {
+    run_each(&rt, rt.alloc(), CASES)
 }

@@ -1,5 +1,5 @@
 //! Puts and deletes, of items that wait and of rows that stand.
-use crate::steps::{Row, Step, run};
+use crate::steps::{Case, Row, Step, run_each};
 use std::test::Fail;
 
 /// Three items in a segment, and one that waits.
@@ -22,11 +22,6 @@ const PUT_AGAIN: &[Row<'static>] = &[
     (Step::Standing, "1: a -b c;2: b d;"),
 ];
 
-#[test]
-fn an_item_is_put_again(rt: HostRuntime) -> Result<(), Fail> {
-    run(&rt, rt.alloc(), &[THREE_AND_ONE, PUT_AGAIN])
-}
-
 /// Deletes of what stands, of what waits, and of what isn't there, each of which is a write.
 const DELETED: &[Row<'static>] = &[
     (Step::Delete("d"), "ok"),
@@ -36,11 +31,6 @@ const DELETED: &[Row<'static>] = &[
     (Step::Standing, "1: a b -c;"),
 ];
 
-#[test]
-fn an_item_is_deleted(rt: HostRuntime) -> Result<(), Fail> {
-    run(&rt, rt.alloc(), &[THREE_AND_ONE, DELETED])
-}
-
 /// A query takes out rows that stand and items that wait.
 const DELETED_WHERE: &[Row<'static>] = &[
     (Step::DeleteWhere("price:[2 TO 4]"), "ok"),
@@ -48,7 +38,14 @@ const DELETED_WHERE: &[Row<'static>] = &[
     (Step::Standing, "1: a -b -c;"),
 ];
 
+/// Each in a ledger of its own.
+const CASES: &[Case<'static>] = &[
+    ((1, 1), &[THREE_AND_ONE, PUT_AGAIN]),
+    ((1, 1), &[THREE_AND_ONE, DELETED]),
+    ((1, 1), &[THREE_AND_ONE, DELETED_WHERE]),
+];
+
 #[test]
-fn items_are_deleted_by_a_query(rt: HostRuntime) -> Result<(), Fail> {
-    run(&rt, rt.alloc(), &[THREE_AND_ONE, DELETED_WHERE])
+fn items_are_put_again_and_deleted(rt: HostRuntime) -> Result<(), Fail> {
+    run_each(&rt, rt.alloc(), CASES)
 }
