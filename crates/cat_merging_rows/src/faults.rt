@@ -1,23 +1,15 @@
 //! Merges over devices that fail, and over files that are damaged.
-ghost use Rattle.std.specs.Prelude.{◌≡◌, ◌≢◌, ◌<◌, true, IfOk, All, AllPairs};
-ghost use Rattle.cat_directory.specs.Names.{name_of};
-ghost use Rattle.cat_model.specs.Files.{IsFileName};
-ghost use Rattle.cat_model.specs.Item.{IsItem};
-
 use crate::files::{
-    OTHER, OTHER_BYTES, directory_of, number_at, read_all, read_if_there, sources_of,
+    OTHER, OTHER_BYTES, directory_of, number_at, put_file, read_all, read_if_there, sources_of,
 };
-use crate::making::{Every, FIELDS, puts_of};
-use crate::running::{MERGED, begin_view, merge_view, settle_view};
+use crate::making::{Every, Rows, rows_of};
+use crate::merges::bytes_of;
+use crate::running::{MERGED, begin_view, copy_step, merge_view, settle_view, write_merged};
 use cat_base::Refusal;
-use cat_directory::{
-    Directory, Faults, Faulty, FileName, Holder, MemoryDirectory, Shelf, write_file,
-};
-use cat_merging::write_segment;
-use cat_schema::Schema;
+use cat_directory::{Directory, Faults, Faulty, FileName, Holder, MemoryDirectory, Shelf};
 use cat_search::View;
-use cat_segment::encode_seg;
-use cat_view_rows::{Put, view_of};
+use cat_segment::Segment;
+use cat_view_rows::Put;
 use std::alloc::Global;
 use std::process::Abort;
 use std::test::Fail;
@@ -26,12 +18,8 @@ use std::test::Fail;
 const ENDS: &[usize] = &[10, 30, 40];
 
 /// The rows, of which each third is dead.
-fn rows(rt: &impl Abort, alloc: Global, schema: &Schema) -> Result<Vec<Put>, Refusal>
-    ensures items { IfOk result (λ v. All (λ p. IsItem schema.now p.item) v.items) }
-    ensures order { IfOk result (λ v. AllPairs (λ a b. (a.number < b.number)
-        × (a.live ≡ true → b.live ≡ true → a.item.id ≢ b.item.id)) v.items) }
-{
-    puts_of(rt, alloc, schema, 40, Every(3))
+fn rows(alloc: Global) -> Result<Rows, Refusal> {
+    rows_of(alloc, 40, Every(3), ENDS)
 }
 
 /// Fails unless another's file and those of the segments that are merged hold what they held.
@@ -78,16 +66,14 @@ fn expect_failure(
 
 #[test]
 fn a_failing_call_touches_no_other_file(rt: HostRuntime) -> Result<(), Fail> {
-    let alloc = rt.alloc();
-    let schema = Schema::read(alloc, FIELDS)?;
-    let puts = rows(&rt, alloc, &schema)?;
-    let view = view_of(alloc, &schema, &puts, ENDS)?;
-    let calls = calls_of(alloc, &view, &puts)?;
+    let rows = rows(rt.alloc())?;
+    let calls = calls_of(rt.alloc(), &rows.view, &rows.puts)?;
     assert!(rt; calls > 4);
     for passes in 0..calls {
-        expect_failure(&rt, alloc, &view, &puts, passes)?;
+        expect_failure(&rt, rt.alloc(), &rows.view, &rows.puts, passes)?;
     }
-    Ok(())
+    expect_second_try(&rt, rt.alloc(), &rows, 0)?;
+    expect_second_try(&rt, rt.alloc(), &rows, 1)
 }
 
 /// Fails unless the merge finds damage, and writes no segment.
@@ -108,45 +94,11 @@ fn expect_damage(
     Ok(())
 }
 
-#[test]
-fn a_file_of_sources_that_is_cut_off_is_damaged(rt: HostRuntime) -> Result<(), Fail> {
-    let alloc = rt.alloc();
-    let schema = Schema::read(alloc, FIELDS)?;
-    let puts = rows(&rt, alloc, &schema)?;
-    let view = view_of(alloc, &schema, &puts, ENDS)?;
-    let mut directory = directory_of(alloc, &puts, ENDS)?;
-    cut_off(alloc, &mut directory, FileName::Source(1))?;
-    expect_damage(&rt, alloc, &view, &mut directory)
-}
-
 /// Takes the last byte of the file away.
-fn cut_off(alloc: Global, directory: &mut MemoryDirectory, name: FileName) -> Result<(), Refusal>
-    requires { IsFileName (name_of name) }
-{
+fn cut_off(alloc: Global, directory: &mut MemoryDirectory, name: FileName) -> Result<(), Refusal> {
     let mut bytes = read_all(alloc, directory, name)?;
     bytes.pop();
-    write_file(directory, alloc, name, &bytes)
-}
-
-#[test]
-fn an_absent_file_of_sources_is_damaged(rt: HostRuntime) -> Result<(), Fail> {
-    let alloc = rt.alloc();
-    let schema = Schema::read(alloc, FIELDS)?;
-    let puts = rows(&rt, alloc, &schema)?;
-    let view = view_of(alloc, &schema, &puts, ENDS)?;
-    let mut directory = directory_of(alloc, &puts, ENDS)?;
-    directory.delete(FileName::Source(3))?;
-    expect_damage(&rt, alloc, &view, &mut directory)
-}
-
-#[test]
-fn a_file_of_its_own_that_is_gone_is_a_failure(rt: HostRuntime) -> Result<(), Fail> {
-    let alloc = rt.alloc();
-    let schema = Schema::read(alloc, FIELDS)?;
-    let puts = rows(&rt, alloc, &schema)?;
-    let view = view_of(alloc, &schema, &puts, ENDS)?;
-    let mut directory = directory_of(alloc, &puts, ENDS)?;
-    expect_gone(&rt, alloc, &view, &mut directory)
+    put_file(directory, alloc, name, &bytes)
 }
 
 /// Fails unless a step fails once the file is gone that it appends to.
@@ -157,34 +109,58 @@ fn expect_gone(
     directory: &mut MemoryDirectory,
 ) -> Result<(), Fail> {
     let mut merge = begin_view(directory, alloc, view)?;
-    directory.delete(FileName::Source(MERGED))?;
-    assert!(rt; matches!(merge.copy_step(directory), Err(Refusal::Device)));
+    delete(directory, FileName::Source(MERGED))?;
+    assert!(rt; matches!(copy_step(&mut merge, directory), Err(Refusal::Device)));
     assert!(rt; directory.failures() == 1);
     Ok(())
 }
 
+/// Deletes the file.
+fn delete(directory: &mut MemoryDirectory, name: FileName) -> Result<(), Refusal> {
+    directory.delete(name)
+}
+
+#[test]
+fn damage_and_files_that_are_gone_are_found(rt: HostRuntime) -> Result<(), Fail> {
+    let rows = rows(rt.alloc())?;
+    let mut directory = directory_of(rt.alloc(), &rows.puts, ENDS)?;
+    cut_off(rt.alloc(), &mut directory, FileName::Source(1))?;
+    expect_damage(&rt, rt.alloc(), &rows.view, &mut directory)?;
+    let mut directory = directory_of(rt.alloc(), &rows.puts, ENDS)?;
+    delete(&mut directory, FileName::Source(3))?;
+    expect_damage(&rt, rt.alloc(), &rows.view, &mut directory)?;
+    let mut directory = directory_of(rt.alloc(), &rows.puts, ENDS)?;
+    expect_gone(&rt, rt.alloc(), &rows.view, &mut directory)
+}
+
 /// The call behind so many fails of those that write the segment of a merge that is settled. Until then it has no file; the next try
 /// makes the whole one, and the sources are as they were.
-fn expect_second_try(
-    rt: &impl Abort,
-    alloc: Global,
-    view: &View,
-    puts: &[Put],
-    passes: u64,
-) -> Result<(), Fail> {
-    let mut directory = directory_of(alloc, puts, ENDS)?;
-    let Some(leaf) = settle_view(&mut directory, alloc, view, 1, Every(4))? else {
+fn expect_second_try(rt: &impl Abort, alloc: Global, rows: &Rows, passes: u64) -> Result<(), Fail> {
+    let mut directory = directory_of(alloc, &rows.puts, ENDS)?;
+    let Some(leaf) = settle_view(&mut directory, alloc, &rows.view, 1, Every(4))? else {
         panic!(rt; "no row was kept");
     };
     assert!(rt; read_if_there(alloc, &mut directory, FileName::Segment(MERGED))?.is_none());
     let mut device = Faulty::new(directory, Faults::One(passes));
-    let refused = write_segment(&mut device, alloc, leaf.segment());
+    expect_written_again(rt, alloc, &mut device, leaf.segment(), passes)?;
+    let wanted = bytes_of(alloc, leaf.segment())?;
+    expect_written(rt, alloc, &mut device, &rows.puts, &wanted)?;
+    expect_others(rt, alloc, &mut device, &rows.puts)
+}
+
+/// Fails unless the segment is written at the second try alone.
+fn expect_written_again<D: Directory>(
+    rt: &impl Abort,
+    alloc: Global,
+    device: &mut D,
+    segment: &Segment,
+    passes: u64,
+) -> Result<(), Fail> {
+    let refused = write_merged(device, alloc, segment);
     assert!(rt; matches!(refused, Err(Refusal::Device)), "call {passes}");
-    write_segment(&mut device, alloc, leaf.segment())?;
+    write_merged(device, alloc, segment)?;
     assert!(rt; device.failures() == 1);
-    let wanted = encode_seg(alloc, leaf.segment())?;
-    expect_written(rt, alloc, &mut device, puts, &wanted)?;
-    expect_others(rt, alloc, &mut device, puts)
+    Ok(())
 }
 
 /// Fails unless the files of the merged segment hold these bytes, and the sources of the rows that it was made of.
@@ -200,14 +176,4 @@ fn expect_written<S: Shelf>(
     let copied = read_all(alloc, device, FileName::Source(MERGED))?;
     assert!(rt; copied.as_slice() == sources_of(alloc, puts, true)?.as_slice());
     Ok(())
-}
-
-#[test]
-fn a_segment_that_was_refused_is_written_again(rt: HostRuntime) -> Result<(), Fail> {
-    let alloc = rt.alloc();
-    let schema = Schema::read(alloc, FIELDS)?;
-    let puts = rows(&rt, alloc, &schema)?;
-    let view = view_of(alloc, &schema, &puts, ENDS)?;
-    expect_second_try(&rt, alloc, &view, &puts, 0)?;
-    expect_second_try(&rt, alloc, &view, &puts, 1)
 }

@@ -1,6 +1,4 @@
 //! Files with the sources of rows, and what stands in files.
-ghost use Rattle.cat_model.specs.Files.{IsFileNumber};
-
 use cat_base::{Refusal, SegNo};
 use cat_directory::{FileName, MemoryDirectory, Shelf, write_file};
 use cat_view_rows::Put;
@@ -13,9 +11,7 @@ pub(crate) const OTHER: FileName = FileName::Segment(77);
 pub(crate) const OTHER_BYTES: &[u8] = b"the segment of another";
 
 /// The number of the segment of this index.
-pub(crate) fn number_at(index: usize) -> SegNo
-    ensures { IsFileNumber result }
-{
+pub(crate) fn number_at(index: usize) -> SegNo {
     index as SegNo % 1_000 + 1
 }
 
@@ -34,6 +30,19 @@ pub(crate) fn sources_of(
     Ok(bytes)
 }
 
+/// Puts the file there; [`Refusal::Damaged`] where no file has the name.
+pub(crate) fn put_file(
+    directory: &mut MemoryDirectory,
+    alloc: Global,
+    name: FileName,
+    bytes: &[u8],
+) -> Result<(), Refusal> {
+    if !name.has_form() {
+        return Err(Refusal::Damaged);
+    }
+    write_file(directory, alloc, name, bytes)
+}
+
 /// A directory with another's file, and with those of the sources of the segments, of which the first has the number 1.
 pub(crate) fn directory_of(
     alloc: Global,
@@ -41,13 +50,13 @@ pub(crate) fn directory_of(
     ends: &[usize],
 ) -> Result<MemoryDirectory, Refusal> {
     let mut directory = MemoryDirectory::new(alloc);
-    write_file(&mut directory, alloc, OTHER, OTHER_BYTES)?;
+    put_file(&mut directory, alloc, OTHER, OTHER_BYTES)?;
     let mut start = 0;
     for (index, end) in ends.iter().enumerate() {
         let between = puts.get(start..*end).unwrap_or(&puts[..0]);
         let bytes = sources_of(alloc, between, false)?;
         let name = FileName::Source(number_at(index));
-        write_file(&mut directory, alloc, name, &bytes)?;
+        put_file(&mut directory, alloc, name, &bytes)?;
         start = *end;
     }
     Ok(directory)

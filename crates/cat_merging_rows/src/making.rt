@@ -1,19 +1,18 @@
 //! Rows cut into the segments of a view, and what stands in their place when a merge of them ends.
-ghost use Rattle.std.specs.Prelude.{◌≡◌, ◌≢◌, ◌<◌, ◌≤◌, true, length, IfOk, OnOk, All, AllPairs};
+ghost use Rattle.std.specs.Prelude.{◌≡◌, ◌≤◌, true, length, IfOk, OnOk, All};
 ghost use Rattle.cat_model.specs.Item.{IsItem};
 ghost use Rattle.cat_model.specs.Limits.{row_limit};
 ghost use Rattle.cat_model.specs.Merged.{AreDeletedFrom, LessLive, rows_of_all};
 
-use cat_base::{MAX_ROWS, Refusal, WriteNo};
+use cat_base::{MAX_ROWS, Refusal, SegNo, WriteNo};
 use cat_schema::Schema;
-use cat_search::Leaf;
-use cat_view_rows::{Put, are_in_order, read_put};
+use cat_search::{Leaf, View};
+use cat_segment::Segment;
+use cat_view_rows::{Put, are_in_order, read_put, segment_of, view_of};
 use std::alloc::{AllocError, Global};
-use std::process::Abort;
 
 /// A field of each kind.
-pub(crate) const FIELDS: &[u8] =
-    br#"{"brand":"keyword","color":"facet","price":"number","title":"text"}"#;
+const FIELDS: &[u8] = br#"{"brand":"keyword","color":"facet","price":"number","title":"text"}"#;
 
 /// Each row whose write has a number that is a multiple of this one; none, where it is 0.
 #[derive(Clone, Copy, Drop)]
@@ -37,45 +36,65 @@ fn item_text(alloc: Global, number: WriteNo) -> Result<String, AllocError> {
     )
 }
 
-/// So many rows, under the numbers from 1 on, of which those are dead.
-fn thrown_puts(alloc: Global, schema: &Schema, count: u64, dead: Every) -> Result<Vec<Put>, Refusal>
+/// So many rows, under the numbers from 1 on, of which those are dead, or the live ones of them alone.
+fn thrown_puts(
+    alloc: Global,
+    schema: &Schema,
+    count: u64,
+    dead: Every,
+    live_only: bool,
+) -> Result<Vec<Put>, Refusal>
     ensures { IfOk result (λ v. All (λ p. IsItem schema.now p.item) v.items) }
 {
     let mut puts = Vec::new(alloc);
     for index in 0..count {
         let number = index + 1;
+        if live_only && dead.has(number) {
+            continue;
+        }
         let text = item_text(alloc, number)?;
         puts.push(read_put(alloc, schema, (number, !dead.has(number), text.as_str()))?)?;
     }
     Ok(puts)
 }
 
-/// The rows, which can be those of a view.
-fn in_order(rt: &impl Abort, puts: Vec<Put>) -> Vec<Put>
-    ensures same { result.items ≡ puts.items }
-    ensures order { AllPairs (λ a b. (a.number < b.number)
-        × (a.live ≡ true → b.live ≡ true → a.item.id ≢ b.item.id)) result.items }
-{
-    if !are_in_order(&puts) {
-        panic!(rt; "no rows of a view");
-    }
-    puts
+/// Rows, and a view of them.
+#[derive(Drop)]
+pub(crate) struct Rows {
+    pub(crate) puts: Vec<Put>,
+    pub(crate) view: View,
 }
 
-/// So many rows of a view, under the numbers from 1 on, of which those are dead.
-pub(crate) fn puts_of(
-    rt: &impl Abort,
+/// So many rows, under the numbers from 1 on, of which those are dead, in segments that end there; [`Refusal::Damaged`] where they
+/// can't be those of a view.
+pub(crate) fn rows_of(
     alloc: Global,
-    schema: &Schema,
     count: u64,
     dead: Every,
-) -> Result<Vec<Put>, Refusal>
-    ensures items { IfOk result (λ v. All (λ p. IsItem schema.now p.item) v.items) }
-    ensures order { IfOk result (λ v. AllPairs (λ a b. (a.number < b.number)
-        × (a.live ≡ true → b.live ≡ true → a.item.id ≢ b.item.id)) v.items) }
-{
-    let puts = thrown_puts(alloc, schema, count, dead)?;
-    Ok(in_order(rt, puts))
+    ends: &[usize],
+) -> Result<Rows, Refusal> {
+    let schema = Schema::read(alloc, FIELDS)?;
+    let puts = thrown_puts(alloc, &schema, count, dead, false)?;
+    if !are_in_order(&puts) {
+        return Err(Refusal::Damaged);
+    }
+    let view = view_of(alloc, &schema, &puts, ends)?;
+    Ok(Rows { puts, view })
+}
+
+/// The segment of those of so many rows that aren't dead, and `None` where all are.
+pub(crate) fn kept_segment(
+    alloc: Global,
+    number: SegNo,
+    count: u64,
+    dead: Every,
+) -> Result<Option<Segment>, Refusal> {
+    let schema = Schema::read(alloc, FIELDS)?;
+    let kept = thrown_puts(alloc, &schema, count, dead, true)?;
+    if kept.is_empty() {
+        return Ok(None);
+    }
+    Ok(Some(segment_of(alloc, &schema, number, &kept)?))
 }
 
 /// Whether one segment can hold all rows of the leaves.
