@@ -1,7 +1,7 @@
 //! A thousand segments.
-use crate::making::{draft_as, kill, leaf_of};
+use crate::calling::{Call, Desk, desk_of, faults_by};
+use crate::making::leaf_of;
 use cat_base::{Refusal, put_u32, put_u64};
-use cat_listing::Listing;
 use cat_search::Leaf;
 use std::alloc::{AllocError, Global};
 use std::test::Fail;
@@ -20,16 +20,6 @@ fn many_leaves(alloc: Global, count: u64) -> Result<Vec<Leaf>, Refusal> {
         )?)?;
     }
     Ok(leaves)
-}
-
-/// Makes the first row dead of each segment whose index has this last digit.
-fn kill_each(alloc: Global, leaves: &mut [Leaf], digit: usize) -> Result<(), AllocError> {
-    for index in 0..leaves.len() {
-        if index % 10 == digit {
-            kill(alloc, leaves, index, 0)?;
-        }
-    }
-    Ok(())
 }
 
 /// Which commit wrote the live file of the segment of the index, as of the commit of the generation.
@@ -56,18 +46,35 @@ fn said(alloc: Global, generation: u64, count: u32) -> Result<Vec<u8>, AllocErro
     Ok(out)
 }
 
+/// Makes the first row dead of each leaf whose place has this last digit, and drafts the commit of the generation, which is to need
+/// so many names; which of these calls are answered otherwise.
+fn faults_with(
+    alloc: Global,
+    desk: &mut Desk,
+    digit: usize,
+    generation: u64,
+    wanted: &str,
+) -> Result<String, Refusal> {
+    let file = said(alloc, generation, 1_000)?;
+    let rows = [
+        (Call::KillEach(digit), ""),
+        (Call::Draft(&file), ""),
+        (Call::Count, wanted),
+    ];
+    faults_by(alloc, desk, &rows)
+}
+
+/// The same of two commits, with deletes between.
+fn faults_over_many(alloc: Global) -> Result<String, Refusal> {
+    let mut desk = desk_of(alloc, many_leaves(alloc, 1_000)?);
+    let mut faults = faults_with(alloc, &mut desk, 0, 1, "2101")?;
+    faults.push_str(faults_with(alloc, &mut desk, 5, 2, "2201")?.as_str())?;
+    Ok(faults)
+}
+
 #[test]
 fn a_thousand_segments_keep_their_files(rt: HostRuntime) -> Result<(), Fail> {
-    let alloc = rt.alloc();
-    let mut leaves = many_leaves(alloc, 1_000)?;
-    kill_each(alloc, &mut leaves, 0)?;
-    let first_said = said(alloc, 1, 1_000)?;
-    let draft = draft_as(alloc, &Listing::new(alloc), &leaves, &first_said)?;
-    assert_eq!(rt; draft.names().len(), 2_101);
-    let (_, first) = draft.into_parts();
-    kill_each(alloc, &mut leaves, 5)?;
-    let second_said = said(alloc, 2, 1_000)?;
-    let draft = draft_as(alloc, &first, &leaves, &second_said)?;
-    assert_eq!(rt; draft.names().len(), 2_201);
+    let faults = faults_over_many(rt.alloc())?;
+    assert_eq!(rt; faults.as_str(), "");
     Ok(())
 }
