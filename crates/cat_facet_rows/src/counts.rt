@@ -42,7 +42,7 @@ pub(crate) fn answer_text(
 /// The counts over the hits in the view.
 fn counts_of(alloc: Global, view: &View, count: &CountText<'_>) -> Result<Facets, Refusal> {
     let (n, dimension, text, _) = *count;
-    let state = ReaderState::of(alloc, view, dimension)?;
+    let mut state = ReaderState::of(alloc, view, dimension)?;
     let query = Query::parse(view.schema(), alloc, text)?;
     state.counts(alloc, &Prepared::of(view, query)?, n)
 }
@@ -50,7 +50,7 @@ fn counts_of(alloc: Global, view: &View, count: &CountText<'_>) -> Result<Facets
 /// The same counts, where sets of rows are at hand for some of the segments.
 fn counts_by_sets(alloc: Global, view: &View, count: &CountText<'_>) -> Result<Facets, Refusal> {
     let (n, dimension, text, _) = *count;
-    let state = ReaderState::of(alloc, view, dimension)?;
+    let mut state = ReaderState::of(alloc, view, dimension)?;
     let query = Query::parse(view.schema(), alloc, text)?;
     let sets = sets_of(alloc, view, &query)?;
     state.counts(alloc, &Prepared::with(view, query, sets)?, n)

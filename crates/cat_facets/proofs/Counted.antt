@@ -63,10 +63,10 @@ count-map {X} p f xs = sym (count-is p (map f xs)) ∙ each xs ∙ count-is (λ 
 
 -- ---- one place of a list is written
 
-same_place : (x g : ℕ) → eqb x g ≡ true → g ≡ x
+pub same_place : (x g : ℕ) → eqb x g ≡ true → g ≡ x
 same_place x g e = grind (arith, nat_tests)
 
-other_place : (x g : ℕ) → eqb x g ≡ false → g ≡ x → ⊥
+pub other_place : (x g : ℕ) → eqb x g ≡ false → g ≡ x → ⊥
 other_place x g e s = grind (arith, nat_tests)
 
 pub set_more : (totals : List ℕ) (x c t g : ℕ) → x < length totals → t ≡ get_or totals x 0 + c → get_or (set totals x t) g 0 ≡ get_or totals g 0 + cond (eqb x g) c 0

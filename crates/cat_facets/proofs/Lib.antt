@@ -6,6 +6,7 @@ pub mod FacetFields
 pub mod Firsts
 pub mod Globals
 pub mod Kept
+pub mod Learnt
 pub mod Leaves
 pub mod Ranking
 pub mod SameSegments

@@ -41,7 +41,7 @@ module _ (dimension : Text) (ls ks : List Leaf) (same : segments_of ls ≡ segme
   union_alike =
       ap dictionary_of (dictionaries ls ∙ ap (map (λ s. leaf_dictionary dimension (as_leaf s))) same ∙ sym (dictionaries ks))
 
-  known_alike : (all : List Text) (known : List SegmentLabels) → AreKnown dimension all ls known → AreKnown dimension all ks known
+  pub known_alike : (all : List Text) (known : List SegmentLabels) → AreKnown dimension all ls known → AreKnown dimension all ks known
   known_alike all known h = record {
     long = h.long ∙ long;
     each = λ i leaf d lt.

@@ -1,5 +1,5 @@
 -- A dimension of segments, and the answers to the reads that count in it.
-use Rattle.std.specs.Prelude.{◌≡◌, ℕ, ◌<◌, List, [], length, map, true, slice_index_or, All, Result, Ok}
+use Rattle.std.specs.Prelude.{◌≡◌, ℕ, ◌<◌, List, [], length, map, true, slice_index_or, All, IfSome, Result, Ok}
 use Rattle.cat_base.specs.declared.refusal.Refusal.{Refusal}
 use Rattle.cat_model.specs.Answer.{Found, Read, answer, is_facet_kind}
 use Rattle.cat_model.specs.Item.{Record, kind_of}
@@ -45,10 +45,10 @@ HasLabels dimension leaf = texts_in_leaf dimension leaf ≡ leaf_labels dimensio
 abbrev pub IsFacetIn : Text → Leaf → Type 0
 IsFacetIn dimension leaf = is_facet_kind (kind_of leaf.segment.schema dimension) ≡ true
 
--- what is kept of a segment: the global ordinals of its labels, and how many of its rows have a label
+-- what is kept of a segment: the global ordinals of its labels, and, once it was counted, how many of its rows have a label
 pub record IsKnown (all : List Text) (rows : List (List Text)) (known : SegmentLabels) : Type 0 where
   pub ordinals : IsOrdinalMap all (dictionary_of rows) known.globals.items
-  pub labelled : known.labelled ≡ labelled_count rows
+  pub labelled : IfSome known.labelled (λ n. n ≡ labelled_count rows)
 
 -- that is kept of each segment
 pub record AreKnown (dimension : Text) (all : List Text) (leaves : List Leaf) (known : List SegmentLabels) : Type 0 where

@@ -3,12 +3,12 @@ ghost use Rattle.std.specs.Prelude.{◌≡◌, ◌^◌, ◌<◌, length, map, Al
 ghost use Rattle.cat_model.specs.Ordinals.{dictionary_of};
 ghost use Rattle.cat_model.specs.GlobalOrdinals.{leaf_dictionary};
 ghost use Rattle.cat_facets.specs.States.{AreKnown, HasLabels, IsFacetIn, IsKnown};
-ghost use Rattle.cat_facets.specs.Tallies.{labelled_count, leaf_labels};
+ghost use Rattle.cat_facets.specs.Tallies.{leaf_labels};
 
 use crate::column::labels_of;
 use cat_base::Text;
 use cat_search::Leaf;
-use cat_values::{Dictionary, SetColumn};
+use cat_values::Dictionary;
 use std::alloc::{AllocError, Global};
 
 /// What is kept of a segment.
@@ -16,8 +16,8 @@ use std::alloc::{AllocError, Global};
 pub(crate) struct SegmentLabels {
     /// The global ordinal of each ordinal of the segment (Lucene: `OrdinalMap.getGlobalOrds`).
     pub(crate) globals: Vec<u32>,
-    /// How many rows have a label, live or dead.
-    pub(crate) labelled: usize,
+    /// How many rows have a label, live or dead, once that was asked for: it takes a look at every row.
+    pub(crate) labelled: Option<usize>,
 }
 
 /// The labels of the leaf's rows, live or dead, in byte order.
@@ -69,27 +69,6 @@ pub(crate) fn union_of(
     Ok(labels)
 }
 
-/// How many rows have a label.
-fn count_labelled(column: &SetColumn) -> usize
-    ensures { result ≡ labelled_count column.now }
-{
-    let mut labelled = 0;
-    for row in 0..column.len() {
-        labelled += usize::from(!column.ordinals(row).is_empty());
-    }
-    labelled
-}
-
-/// How many rows of the segment have a label in the dimension.
-fn labelled_in(leaf: &Leaf, dimension: &str) -> usize
-    ensures { result ≡ labelled_count (leaf_labels dimension.now leaf.now) }
-{
-    match labels_of(leaf.segment(), dimension) {
-        Some(labels) => count_labelled(labels.labels()),
-        None => 0,
-    }
-}
-
 /// What is kept of the leaf's segment.
 fn known_of(
     alloc: Global,
@@ -104,7 +83,7 @@ fn known_of(
 {
     Ok(SegmentLabels {
         globals: labels.remap(alloc, labels_in(leaf, dimension))?,
-        labelled: labelled_in(leaf, dimension),
+        labelled: None,
     })
 }
 

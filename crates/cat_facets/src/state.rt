@@ -28,7 +28,7 @@ use std::snapshot::Snapshot;
 ///
 /// Contracts see it as the segments and the name of the dimension.
 ///
-///     let state = ReaderState::of(alloc, &view, "color")?;
+///     let mut state = ReaderState::of(alloc, &view, "color")?;
 ///     let prepared = Prepared::of(&view, Query::parse(view.schema(), alloc, "price:[1 TO 9]")?)?;
 ///     let facets = state.counts(alloc, &prepared, 10)?;
 #[derive(Drop)]
@@ -125,14 +125,16 @@ impl ReaderState {
 
     /// The counts over the hits of the query, of which the first n are told (Lucene:
     /// `SortedSetDocValuesFacetCounts.getTopChildren`). The query's view is one of the state's segments, whichever of their rows
-    /// are live in it. [`Refusal::Count`] if n is above [`MAX_PAGE`]; else [`Refusal::Memory`].
-    pub fn counts(&self, alloc: Global, prepared: &Prepared, n: u64) -> Result<Facets, Refusal>
-        requires segments { segments_of prepared.now.view.leaves ≡ self.now.segments }
-        requires facet { IsDimensionOf prepared.now.view self.now.dimension }
-        ensures ok { IfOk result (λ f. IsAnswerTo prepared.now.view self.now.dimension prepared.now.query n (Ok (Found.facets f))) }
-        ensures err { IfErr result (λ e. e ≢ Memory → IsAnswerTo prepared.now.view self.now.dimension prepared.now.query n (Err e)) }
+    /// are live in it. [`Refusal::Count`] if n is above [`MAX_PAGE`]; else [`Refusal::Memory`]. The state stays as it is; how many
+    /// rows of a segment have a label is counted where most of them are hits, and kept for the next counts.
+    pub fn counts(&mut self, alloc: Global, prepared: &Prepared, n: u64) -> Result<Facets, Refusal>
+        requires segments { segments_of prepared.now.view.leaves ≡ self.old.segments }
+        requires facet { IsDimensionOf prepared.now.view self.old.dimension }
+        ensures ok { IfOk result (λ f. IsAnswerTo prepared.now.view self.old.dimension prepared.now.query n (Ok (Found.facets f))) }
+        ensures err { IfErr result (λ e. e ≢ Memory → IsAnswerTo prepared.now.view self.old.dimension prepared.now.query n (Err e)) }
         ensures due { (rs : List Record) → Shows prepared.now.view rs
-            → IfErr (answer_over prepared.now.view self.now.dimension prepared.now.query n rs) (λ e. result ≡ Err e) }
+            → IfErr (answer_over prepared.now.view self.old.dimension prepared.now.query n rs) (λ e. result ≡ Err e) }
+        ensures same { self.new ≡ self.old }
     {
         let dimension = self.dimension.as_str();
         if n > MAX_PAGE as u64 {
@@ -143,7 +145,7 @@ impl ReaderState {
             prepared,
             dimension,
             &self.labels,
-            &self.segments,
+            &mut self.segments,
         )?;
         let (met, ranked) = first_met(alloc, &totals, n as usize)?;
         let counts = counts_told(alloc, &self.labels, &ranked)?;

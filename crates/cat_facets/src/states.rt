@@ -141,7 +141,7 @@ impl ReaderStates {
         if n > MAX_PAGE as u64 {
             return Err(Refusal::Count);
         }
-        let kept = self.take(alloc, view, dimension)?;
+        let mut kept = self.take(alloc, view, dimension)?;
         let facets = kept.state.counts(alloc, prepared, n);
         self.keep(kept);
         facets

@@ -24,9 +24,10 @@ pub(crate) fn totals_of(
     prepared: &Prepared,
     dimension: &str,
     labels: &Dictionary,
-    known: &[SegmentLabels],
+    known: &mut [SegmentLabels],
 ) -> Result<(usize, Vec<usize>), AllocError>
-    requires { AreKnown dimension.now labels.now prepared.now.view.leaves known.now }
+    requires { AreKnown dimension.now labels.now prepared.now.view.leaves known.old }
+    ensures known { AreKnown dimension.now labels.now prepared.now.view.leaves known.new }
     ensures labelled { IfOk result (λ t. t.0
         ≡ labelled_count (flat_map (hit_labels (query_of prepared.now.query) dimension.now) prepared.now.view.leaves)) }
     ensures counts { IfOk result (λ t. AreCounts labels.now
@@ -41,7 +42,7 @@ pub(crate) fn totals_of(
             alloc,
             &mut totals,
             labels,
-            &known[index],
+            &mut known[index],
             leaf,
             dimension,
             &hits,

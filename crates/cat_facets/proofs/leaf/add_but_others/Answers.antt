@@ -41,7 +41,7 @@ overflow_sub-result c =
     let is = left hits c.and_not.new.self c.in_ok-others.others c.len.result c.and_not.ensures c.in_ok-others.ensures.ok c.len.ensures.value in
     let some = c.take_rows-unmatched.ensures.labelled ∙ counted labelled_count hits c.and_not.new.self c.labels.result.now column is c.labels.ensures in
     let parts = count-others (λ (ls : List Text). not (is_empty ls)) hits column c.requires.rows in
-    let known = c.requires.known.labelled in
+    let known = c.labelled_in.ensures.value ∙ ap labelled_count c.labels-2.ensures in
     omega (arith, some, parts, known)
 
 pub returns-clause-labelled : goal.returns-clause-labelled
@@ -51,7 +51,7 @@ returns-clause-labelled c =
     let is = left hits c.and_not.new.self c.in_ok-others.others c.len.result c.and_not.ensures c.in_ok-others.ensures.ok c.len.ensures.value in
     let some = c.take_rows-unmatched.ensures.labelled ∙ counted labelled_count hits c.and_not.new.self c.labels.result.now column is c.labels.ensures in
     let parts = count-others (λ (ls : List Text). not (is_empty ls)) hits column c.requires.rows in
-    let known = c.requires.known.labelled in
+    let known = c.labelled_in.ensures.value ∙ ap labelled_count c.labels-2.ensures in
     omega (arith, some, parts, known)
 
 pub returns-clause-counts : goal.returns-clause-counts

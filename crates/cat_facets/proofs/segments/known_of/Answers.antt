@@ -13,6 +13,6 @@ returns c = record {
       texts = c.in_ok-remap.ensures.texts ∙ c.labels_in.ensures.labels ∙ ap dictionary_of c.labels_in.ensures.texts;
       within = c.in_ok-remap.ensures.bound;
     };
-    labelled = c.labelled_in.ensures;
+    labelled = tt;
   };
 }

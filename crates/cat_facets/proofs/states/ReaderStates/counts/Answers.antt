@@ -20,14 +20,14 @@ pub returns-clause-known : goal.returns-clause-known
 returns-clause-known c =
     let view = c.args.prepared.now.view in
     subst (RemembersOf (segments_of view.leaves) c.args.self.now)
-    (sym (used view c.view-view.result.now c.args.dimension.now c.in_ok-kept.kept c.args.self.now c.take.new.self c.keep.new.self c.view-view.ensures
-    c.in_ok-kept.ensures.ok c.in_ok-kept.ensures.others c.keep.ensures))
+    (sym (used view c.view-view.result.now c.args.dimension.now c.counts-facets.new.self c.args.self.now c.take.new.self c.keep.new.self c.view-view.ensures
+    (c.counts-facets.ensures.same ∙ c.kept.view_is ∙ c.in_ok-kept.ensures.ok) c.in_ok-kept.ensures.others c.keep.ensures))
     (used_remembers (segments_of view.leaves) c.args.dimension.now c.args.self.now)
 
 pub returns-clause-below : goal.returns-clause-below
 returns-clause-below c =
     let view = c.args.prepared.now.view in
     subst (RemembersOfBelow (segments_of view.leaves) c.args.self.now)
-    (sym (used view c.view-view.result.now c.args.dimension.now c.in_ok-kept.kept c.args.self.now c.take.new.self c.keep.new.self c.view-view.ensures
-    c.in_ok-kept.ensures.ok c.in_ok-kept.ensures.others c.keep.ensures))
+    (sym (used view c.view-view.result.now c.args.dimension.now c.counts-facets.new.self c.args.self.now c.take.new.self c.keep.new.self c.view-view.ensures
+    (c.counts-facets.ensures.same ∙ c.kept.view_is ∙ c.in_ok-kept.ensures.ok) c.in_ok-kept.ensures.others c.keep.ensures))
     (used_below (segments_of view.leaves) c.args.dimension.now c.args.self.now)

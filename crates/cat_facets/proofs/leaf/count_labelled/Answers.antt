@@ -7,7 +7,7 @@ use Rattle.cat_model.specs.Text.{Text}
 use Rattle.cat_facets.specs.Tallies.{labelled_count}
 use Rattle.cat_facets.proofs.Counted.{count_by-both, count_one}
 use Rattle.cat_facets.proofs.Globals.{byte_is, is_row, one_le}
-use Rattle.cat_facets.proofs.segments.count_labelled.Goals as goal
+use Rattle.cat_facets.proofs.leaf.count_labelled.Goals as goal
 
 pub overflow_add-labelled : goal.overflow_add-labelled
 overflow_add-labelled c =
