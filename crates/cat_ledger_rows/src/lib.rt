@@ -1,19 +1,9 @@
-//! Tests of the ledger: a shop's day in memory and in a folder, openings again, refusals at their limits, and each call of a device failing.
+//! Tests of the ledger: in memory by each of its calls, its upkeep, and whole days over folders.
 #![tactic(auto)]
 
 #[cfg(test)]
-mod calling;
+mod ledger;
 #[cfg(test)]
-mod days;
+mod ledger_core;
 #[cfg(test)]
-mod failing;
-#[cfg(test)]
-mod limits;
-#[cfg(test)]
-mod maintaining;
-#[cfg(test)]
-mod telling;
-#[cfg(test)]
-mod viewing;
-#[cfg(test)]
-mod writing;
+mod upkeep;

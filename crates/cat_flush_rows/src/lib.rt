@@ -1,5 +1,0 @@
-//! Tests of the write buffer, from its first item to its flush.
-#![tactic(auto)]
-
-#[cfg(test)]
-mod buffers;

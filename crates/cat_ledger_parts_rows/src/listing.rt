@@ -1,0 +1,7 @@
+//! Tests of commits that are listed, drafted and written.
+
+mod calling;
+mod commits;
+mod failing;
+mod making;
+mod many;
