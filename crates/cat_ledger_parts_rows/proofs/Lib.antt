@@ -1,5 +1,4 @@
 mod Puts
-mod Said
 pub mod Empty
 pub mod Pushed
 pub mod Replaced

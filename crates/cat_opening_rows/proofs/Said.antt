@@ -7,7 +7,7 @@ use Rattle.cat_model.specs.CommitFile.{Version, ListedSegment, CommitFile, IsCom
 use Rattle.cat_ledger_shape.specs.Shapes.{ListedLive}
 use Rattle.cat_listing.specs.declared.heading.Heading.{Heading}
 use Rattle.cat_listing.specs.Drafts.{commit_listing}
-use Rattle.cat_ledger_parts_rows.specs.Same.{IsSecond, heading_in}
+use Rattle.cat_opening_rows.specs.Same.{IsSecond, heading_in}
 
 pub more : (xs : List ListedSegment) (i : ℕ) (x : ListedSegment) → i < length xs → x ≡ get_or xs i x → take (i + 1) xs ≡ take i xs ++ x ∷ []
 more xs i x lt is =

@@ -3,8 +3,8 @@ use Rattle.cat_ledger_shape.specs.Shapes.{ListedLive}
 use Rattle.cat_model.specs.CommitFile.{ListedSegment, CommitFile}
 use Rattle.cat_listing.specs.declared.heading.Heading.{Heading}
 use Rattle.cat_listing.specs.Entries.{listing_after}
-use Rattle.cat_ledger_parts_rows.proofs.Said.{said_again}
-use Rattle.cat_ledger_parts_rows.proofs.listing.making.draft_as.Goals as goal
+use Rattle.cat_opening_rows.proofs.Said.{said_again}
+use Rattle.cat_opening_rows.proofs.listing.making.draft_as.Goals as goal
 
 pub next-requires-clause-some : goal.next-requires-clause-some
 next-requires-clause-some c = subst (λ (x : CommitFile). 0 < x.generation) (sym c.commit.view_is) c.in_ok-commit.ensures.ok.form.generation.0

@@ -1,8 +1,8 @@
 use Rattle.std.proofs.Common.{◌≡◌, List, [], ◌∷◌, ◌++◌, sym, ap₂, ◌∙◌, arith}
 use Rattle.std.proofs.lemmas.List.{take_all}
 use Rattle.cat_model.specs.CommitFile.{ListedSegment}
-use Rattle.cat_ledger_parts_rows.proofs.Said.{more}
-use Rattle.cat_ledger_parts_rows.proofs.listing.making.are_same.Goals as goal
+use Rattle.cat_opening_rows.proofs.Said.{more}
+use Rattle.cat_opening_rows.proofs.listing.making.are_same.Goals as goal
 
 pub loop-index-preserved : goal.loop-index-preserved
 loop-index-preserved c =

@@ -1,6 +1,6 @@
 //! Leaves of few rows, drafts of commits whose files a person worked out, and what stands in files.
 ghost use Rattle.std.specs.Prelude.{◌≡◌, ◌≢◌, true, AllPairs};
-ghost use Rattle.cat_ledger_parts_rows.specs.Same.{IsSecond, heading_in};
+ghost use Rattle.cat_opening_rows.specs.Same.{IsSecond, heading_in};
 
 use cat_base::{Refusal, SegNo, WriteNo};
 use cat_commits::{Commit, ListedSegment, Version};

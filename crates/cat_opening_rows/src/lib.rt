@@ -1,0 +1,11 @@
+//! Tests of commits that are written, of what opening finds of them, and of the check of folders.
+#![tactic(auto)]
+
+#[cfg(test)]
+mod check;
+#[cfg(test)]
+mod files;
+#[cfg(test)]
+mod listing;
+#[cfg(test)]
+mod opening;
