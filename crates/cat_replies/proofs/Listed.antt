@@ -27,12 +27,12 @@ session_line session words = line_text (decimal session ∷ words)
 
 pub page_listed : (session total : ℕ) (page : Page) (entries : List Entry) → total ≡ page.total → entries ≡ page.entries
     → reply_text session (Ok (run.Answer.found (Found.page page)))
-    ≡ ok_line session (decimal (length entries) ∷ decimal total ∷ []) ++ flat_map (entry_line session) entries
+    ≡ ok_line session (decimal (length entries) ∷ decimal total ∷ []) ++ flat_map (entry_line (decimal session)) entries
 page_listed session total page entries t e = rw (t, e) (ap (λ l. ok_line session (decimal (length page.entries) ∷ decimal page.total ∷ []) ++ l) (flat_map-map (session_line session) entry_words page.entries))
 
 pub counts_listed : (session matching met : ℕ) (facets : Facets) (counts : List Counted) → matching ≡ facets.matching → met ≡ facets.met → counts ≡ facets.counts
     → reply_text session (Ok (run.Answer.found (Found.facets facets)))
-    ≡ ok_line session (decimal matching ∷ decimal met ∷ []) ++ flat_map (counted_line session) counts
+    ≡ ok_line session (decimal matching ∷ decimal met ∷ []) ++ flat_map (counted_line (decimal session)) counts
 counts_listed session matching met facets counts m k e =
     rw (m, k, e) (ap (λ l. ok_line session (decimal facets.matching ∷ decimal facets.met ∷ []) ++ l) (flat_map-map (session_line session) counted_words facets.counts))
 

@@ -55,11 +55,11 @@ live_in_pieces name segment generation is = rw is (simp append_assoc)
 
 -- ---- the further lines
 
-abbrev pub entry_line : ℕ → Entry → Text
-entry_line session entry = line_text (decimal session ∷ entry_words entry)
+abbrev pub entry_line : Text → Entry → Text
+entry_line session entry = line_text (session ∷ entry_words entry)
 
-abbrev pub counted_line : ℕ → Counted → Text
-counted_line session counted = line_text (decimal session ∷ counted_words counted)
+abbrev pub counted_line : Text → Counted → Text
+counted_line session counted = line_text (session ∷ counted_words counted)
 
 abbrev pub name_line : ℕ → FileName → Text
 name_line session name = line_text (decimal session ∷ file_text name ∷ [])
@@ -78,10 +78,10 @@ id_on id key = (32 ∷ id) ++ key_on key
 abbrev pub number_on : ℕ → Text → Text → Text
 number_on number id key = (32 ∷ decimal number) ++ id_on id key
 
-pub entry_in_pieces : (session : ℕ) (entry : Entry) (number : ℕ) (id key : Text) → number ≡ entry.number → id ≡ entry.id → key ≡ key_text entry.key
-    → entry_line session entry ≡ decimal session ++ number_on number id key
+pub entry_in_pieces : (session : Text) (entry : Entry) (number : ℕ) (id key : Text) → number ≡ entry.number → id ≡ entry.id → key ≡ key_text entry.key
+    → entry_line session entry ≡ session ++ number_on number id key
 entry_in_pieces session entry number id key n i k = rw (n, i, k) (simp append_assoc)
 
-pub counted_in_pieces : (session : ℕ) (counted : Counted) (count : ℕ) (label : Text) → count ≡ counted.count → label ≡ counted.label
-    → counted_line session counted ≡ decimal session ++ ((32 ∷ decimal count) ++ key_on label)
+pub counted_in_pieces : (session : Text) (counted : Counted) (count : ℕ) (label : Text) → count ≡ counted.count → label ≡ counted.label
+    → counted_line session counted ≡ session ++ ((32 ∷ decimal count) ++ key_on label)
 counted_in_pieces session counted count label c l = rw (c, l) (simp append_assoc)

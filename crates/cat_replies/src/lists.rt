@@ -16,6 +16,7 @@ use cat_directory::FileName;
 use cat_facets::{FacetCount, Facets};
 use cat_search::{Entry, Key, Page};
 use cat_sending::{Gathered, WriteFault};
+use itoa::Buffer;
 use std::io::Write;
 
 /// Answers a page: how many hits are shown and how many there are, and a line for each that is shown.
@@ -42,6 +43,8 @@ fn send_entries<W: Write>(
     ensures { Sent (W.contents to.old) (W.contents to.new) result
         (flat_map (λ entry. line_text (decimal session ∷ entry_words entry)) entries.now) }
 {
+    let mut digits = Buffer::new();
+    let session = digits.format(session as u64).as_bytes();
     let mut lines = Gathered::new();
     for entry in entries {
         put_entry(&mut lines, session, entry, to)?;
@@ -50,17 +53,17 @@ fn send_entries<W: Write>(
 }
 
 /// Adds the line of a hit. A page may have a thousand of them, so their words are put one by one, and the lines behind one
-/// another.
+/// another; the session is spelled once for all.
 fn put_entry<W: Write>(
     lines: &mut Gathered,
-    session: SessionNo,
+    session: &[u8],
     entry: &Entry,
     to: &mut W,
 ) -> Result<(), WriteFault>
     ensures { Gathers (W.contents to.old) (W.contents to.new) lines.old lines.new result
-        (line_text (decimal session ∷ entry_words entry.now)) }
+        (line_text (session.now ∷ entry_words entry.now)) }
 {
-    lines.put_number(session as u64, to)?;
+    lines.put(session, to)?;
     put_behind_space(lines, Word::Number(entry.number()), to)?;
     put_behind_space(lines, Word::Plain(entry.id().as_bytes()), to)?;
     put_behind_space(lines, key_word(entry.key()), to)?;
@@ -103,6 +106,8 @@ fn send_labels<W: Write>(
     ensures { Sent (W.contents to.old) (W.contents to.new) result
         (flat_map (λ counted. line_text (decimal session ∷ counted_words counted)) counts.now) }
 {
+    let mut digits = Buffer::new();
+    let session = digits.format(session as u64).as_bytes();
     let mut lines = Gathered::new();
     for counted in counts {
         put_label(&mut lines, session, counted, to)?;
@@ -110,17 +115,17 @@ fn send_labels<W: Write>(
     lines.finish(to)
 }
 
-/// Adds the line of a label.
+/// Adds the line of a label, of a session that is spelled already.
 fn put_label<W: Write>(
     lines: &mut Gathered,
-    session: SessionNo,
+    session: &[u8],
     counted: &FacetCount,
     to: &mut W,
 ) -> Result<(), WriteFault>
     ensures { Gathers (W.contents to.old) (W.contents to.new) lines.old lines.new result
-        (line_text (decimal session ∷ counted_words counted.now)) }
+        (line_text (session.now ∷ counted_words counted.now)) }
 {
-    lines.put_number(session as u64, to)?;
+    lines.put(session, to)?;
     put_behind_space(lines, Word::Number(counted.count() as u64), to)?;
     put_behind_space(lines, Word::Plain(counted.label().as_bytes()), to)?;
     lines.put(b"\n", to)
