@@ -9,8 +9,8 @@ use itoa::Buffer;
 use std::io::Write;
 use std::marker::Model;
 
-/// How many bytes are gathered: most lines of replies have fewer.
-const GATHERED_BYTES: usize = 128;
+/// How many bytes are gathered: a page of ten hits has fewer, and so goes out in one call.
+const GATHERED_BYTES: usize = 512;
 
 /// The pieces of a text that wait to be written, which lie in the value itself. A line of a reply has some ten pieces, of a
 /// few bytes each, and one call of a writer costs more than to copy such a piece.
@@ -44,6 +44,13 @@ impl Gathered {
     pub fn put<W: Write>(&mut self, bytes: &[u8], to: &mut W) -> Result<(), WriteFault>
         ensures { Gathers (W.contents to.old) (W.contents to.new) self.old self.new result bytes.now }
     {
+        // The spaces and ends of lines are every other piece: one byte is stored without a call.
+        if let [byte] = bytes {
+            return match self.bytes.try_push(*byte) {
+                Ok(()) => Ok(()),
+                Err(_) => self.put_long(bytes, to),
+            };
+        }
         match self.bytes.try_extend_from_slice(bytes) {
             Ok(()) => Ok(()),
             Err(_) => self.put_long(bytes, to),
