@@ -10,7 +10,7 @@ ghost use Rattle.cat_search.specs.Keys.{key_of};
 ghost use Rattle.cat_sending.specs.Out.{Gathers, Sent};
 ghost use Rattle.cat_replies.specs.Words.{word_text};
 
-use crate::words::{Word, put_behind_space, send_line};
+use crate::words::{Word, put_behind_space, put_number_behind_space, send_line};
 use cat_base::SessionNo;
 use cat_directory::FileName;
 use cat_facets::{FacetCount, Facets};
@@ -45,26 +45,28 @@ fn send_entries<W: Write>(
 {
     let mut digits = Buffer::new();
     let session = digits.format(session as u64).as_bytes();
+    let mut spelled = Buffer::new();
     let mut lines = Gathered::new();
     for entry in entries {
-        put_entry(&mut lines, session, entry, to)?;
+        put_entry(&mut lines, session, entry, &mut spelled, to)?;
     }
     lines.finish(to)
 }
 
 /// Adds the line of a hit. A page may have a thousand of them, so their words are put one by one, and the lines behind one
-/// another; the session is spelled once for all.
+/// another; the session is spelled once for all, and the numbers in one buffer.
 fn put_entry<W: Write>(
     lines: &mut Gathered,
     session: &[u8],
     entry: &Entry,
+    digits: &mut Buffer,
     to: &mut W,
 ) -> Result<(), WriteFault>
     ensures { Gathers (W.contents to.old) (W.contents to.new) lines.old lines.new result
         (line_text (session.now ∷ entry_words entry.now)) }
 {
     lines.put(session, to)?;
-    put_behind_space(lines, Word::Number(entry.number()), to)?;
+    put_number_behind_space(lines, entry.number(), digits, to)?;
     put_behind_space(lines, Word::Plain(entry.id().as_bytes()), to)?;
     put_behind_space(lines, key_word(entry.key()), to)?;
     lines.put(b"\n", to)
@@ -108,9 +110,10 @@ fn send_labels<W: Write>(
 {
     let mut digits = Buffer::new();
     let session = digits.format(session as u64).as_bytes();
+    let mut spelled = Buffer::new();
     let mut lines = Gathered::new();
     for counted in counts {
-        put_label(&mut lines, session, counted, to)?;
+        put_label(&mut lines, session, counted, &mut spelled, to)?;
     }
     lines.finish(to)
 }
@@ -120,13 +123,14 @@ fn put_label<W: Write>(
     lines: &mut Gathered,
     session: &[u8],
     counted: &FacetCount,
+    digits: &mut Buffer,
     to: &mut W,
 ) -> Result<(), WriteFault>
     ensures { Gathers (W.contents to.old) (W.contents to.new) lines.old lines.new result
         (line_text (session.now ∷ counted_words counted.now)) }
 {
     lines.put(session, to)?;
-    put_behind_space(lines, Word::Number(counted.count() as u64), to)?;
+    put_number_behind_space(lines, counted.count() as u64, digits, to)?;
     put_behind_space(lines, Word::Plain(counted.label().as_bytes()), to)?;
     lines.put(b"\n", to)
 }

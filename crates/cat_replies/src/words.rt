@@ -10,6 +10,7 @@ ghost use Rattle.cat_replies.specs.Words.{word_text, behind_space};
 use cat_base::SessionNo;
 use cat_directory::FileName;
 use cat_sending::{Gathered, WriteFault};
+use itoa::Buffer;
 use std::io::Write;
 
 /// A word of a line.
@@ -84,6 +85,20 @@ pub(crate) fn put_behind_space<W: Write>(
 {
     line.put(b" ", to)?;
     put_word(line, word, to)
+}
+
+/// Adds the number behind a space. The buffer that it is spelled in is lent, so that one serves all lines of a reply.
+#[inline(always)]
+pub(crate) fn put_number_behind_space<W: Write>(
+    line: &mut Gathered,
+    number: u64,
+    digits: &mut Buffer,
+    to: &mut W,
+) -> Result<(), WriteFault>
+    ensures { Gathers (W.contents to.old) (W.contents to.new) line.old line.new result (32 ∷ decimal number) }
+{
+    line.put(b" ", to)?;
+    line.put(digits.format(number).as_bytes(), to)
 }
 
 /// Adds the words, each behind a space.
