@@ -1,9 +1,9 @@
 -- What is asked of a page, and what a page takes of the standings of its hits.
-use Rattle.std.specs.Prelude.{◌≡◌, Bool, List, take, Result, Ok}
+use Rattle.std.specs.Prelude.{◌≡◌, Bool, List, map, take, Result, Ok}
 use Rattle.cat_base.specs.declared.refusal.Refusal.{Refusal}
 use Rattle.cat_model.specs.Answer.{Read, Found, answer}
 use Rattle.cat_model.specs.Item.{Schema, Item, Record}
-use Rattle.cat_model.specs.Page.{Page}
+use Rattle.cat_model.specs.Page.{Entry, Page}
 use Rattle.cat_model.specs.Query.{Query}
 use Rattle.cat_model.specs.Ranks.{sorted}
 use Rattle.cat_search.specs.declared.ask.Ask.{Ask}
@@ -11,7 +11,7 @@ use Rattle.cat_search.specs.declared.ask.Wanted.{Wanted}
 use Rattle.cat_search.specs.Candidates.{mark_standing}
 use Rattle.cat_search.specs.Pages.{answer_where, behind}
 use Rattle.cat_search.specs.Sorts.{sort_of}
-use Rattle.cat_search.specs.Standings.{Standing, standing_before}
+use Rattle.cat_search.specs.Standings.{Standing, entry_shown, standing_before}
 
 -- the ask for the hits of a query, as a read
 abbrev pub read_of : Ask → Query → Read
@@ -24,3 +24,7 @@ page_to schema rs accepts ask = answer_where schema rs accepts (sort_of ask.sort
 -- of these standings the first that are wanted, of those that the mark comes before
 abbrev pub first_wanted : Wanted → List Standing → List Standing
 first_wanted wanted standings = take wanted.count (sorted standing_before (behind (mark_standing wanted.mark) standings))
+
+-- and what a page shows of them
+abbrev pub first_shown : Wanted → List Standing → List Entry
+first_shown wanted standings = map entry_shown (first_wanted wanted standings)

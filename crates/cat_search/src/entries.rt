@@ -108,6 +108,7 @@ fn shown_key(alloc: Global, rank: &Rank) -> Result<Option<Key>, AllocError>
 }
 
 /// The hit as a page shows it.
+#[inline(always)]
 pub(crate) fn entry_of(alloc: Global, candidate: &Candidate) -> Result<Entry, AllocError>
     ensures ok { IfOk result (λ e. e ≡ entry_shown (standing_of candidate.now)) }
 {

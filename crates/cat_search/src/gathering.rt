@@ -5,16 +5,17 @@ ghost use Rattle.cat_model.specs.RowSets.{joined, both};
 ghost use Rattle.cat_model.specs.View.{live_rows, row_matches, selected};
 ghost use Rattle.cat_query.specs.View.{query_of};
 ghost use Rattle.cat_search.specs.declared.sort.Order.TheVariants.{Added};
-ghost use Rattle.cat_search.specs.Asks.{first_wanted};
+ghost use Rattle.cat_search.specs.Asks.{first_shown, first_wanted};
 ghost use Rattle.cat_search.specs.Candidates.{mark_standing, standing_of};
 ghost use Rattle.cat_search.specs.Hits.{rows_of};
 ghost use Rattle.cat_search.specs.Pages.{behind};
 ghost use Rattle.cat_search.specs.Rows.{hits_in, leaf_hits, row_standing};
 ghost use Rattle.cat_search.specs.Sets.{AreSets, set_at};
-ghost use Rattle.cat_search.specs.Standings.{Standing};
+ghost use Rattle.cat_search.specs.Standings.{Standing, entry_shown};
 
 use crate::ask::Wanted;
 use crate::best::Best;
+use crate::entries::{Entry, entries_of, entry_of};
 use crate::hits::Hits;
 use crate::leaf_ranks::LeafRanks;
 use crate::offers::{is_beyond, offer_rows};
@@ -121,42 +122,44 @@ fn rows_passed(segment: &Segment, mark: &Option<Candidate<'_>>) -> usize
     0
 }
 
-/// Takes in the hits of a segment in their order, as far as the mark comes before them, until there are n.
-fn take_rows<'a>(
-    taken: &mut Vec<Candidate<'a>>,
+/// Shows the hits of a segment in their order, as far as the mark comes before them, until n are shown.
+fn show_rows<'a>(
+    alloc: Global,
+    shown: &mut Vec<Entry>,
     n: usize,
     ranks: &LeafRanks<'a>,
     hits: &RowSet,
     mark: &Option<Candidate<'a>>,
 ) -> Result<(), AllocError>
     requires long { length hits.now ≡ length ranks.now }
-    ensures taken { OnOk result ((standings : List Standing) → map standing_of taken.old.items ≡ take n standings
-        → map standing_of taken.new.items ≡ take n (standings ++ behind (mark_standing mark.now) (selected hits.now ranks.now))) }
+    ensures shown { OnOk result ((standings : List Standing) → shown.old.items ≡ take n (map entry_shown standings)
+        → shown.new.items ≡ take n (map entry_shown (standings ++ behind (mark_standing mark.now) (selected hits.now ranks.now)))) }
 {
     for row in hits.iter() {
-        if taken.len() >= n {
+        if shown.len() >= n {
             return Ok(());
         }
         let candidate = ranks.at(row);
         if is_beyond(mark, &candidate) {
-            taken.push(candidate)?;
+            shown.push(entry_of(alloc, &candidate)?)?;
         }
     }
     Ok(())
 }
 
-/// Takes in the hits of a segment in order of addition, as far as the mark comes before them, until there are as many as are
+/// Shows the hits of a segment in order of addition, as far as the mark comes before them, until as many are shown as are
 /// wanted. The rows that earlier pages had are passed without a look at each, and a segment that has no others is left out.
-fn take_behind<'a>(
-    taken: &mut Vec<Candidate<'a>>,
-    wanted: &Wanted<'a>,
-    segment: &'a Segment,
+fn show_behind(
+    alloc: Global,
+    shown: &mut Vec<Entry>,
+    wanted: &Wanted<'_>,
+    segment: &Segment,
     hits: Hits<'_>,
 ) -> Result<(), AllocError>
     requires long { length (rows_of hits) ≡ length segment.now.rows }
-    ensures taken { OnOk result ((standings : List Standing) → map standing_of taken.old.items ≡ take wanted.now.count standings
-        → map standing_of taken.new.items ≡ take wanted.now.count (standings
-        ++ behind (mark_standing wanted.now.mark) (selected (rows_of hits.entry) (map (row_standing Added) segment.now.rows)))) }
+    ensures shown { OnOk result ((standings : List Standing) → shown.old.items ≡ take wanted.now.count (map entry_shown standings)
+        → shown.new.items ≡ take wanted.now.count (map entry_shown (standings
+        ++ behind (mark_standing wanted.now.mark) (selected (rows_of hits.entry) (map (row_standing Added) segment.now.rows))))) }
 {
     let passed = rows_passed(segment, &wanted.mark);
     if passed == segment.len() {
@@ -164,11 +167,18 @@ fn take_behind<'a>(
     }
     let ranks = LeafRanks::of(segment, Order::Added);
     if passed == 0 {
-        return take_rows(taken, wanted.count, &ranks, hits.rows(), &wanted.mark);
+        return show_rows(
+            alloc,
+            shown,
+            wanted.count,
+            &ranks,
+            hits.rows(),
+            &wanted.mark,
+        );
     }
     let mut left = hits.into_rows()?;
     left.remove_below(passed);
-    take_rows(taken, wanted.count, &ranks, &left, &wanted.mark)
+    show_rows(alloc, shown, wanted.count, &ranks, &left, &wanted.mark)
 }
 
 /// How many hits the leaves have, and the first that are wanted by the order's field.
@@ -197,46 +207,65 @@ fn best_hits<'a>(
     Ok((total, first))
 }
 
-/// How many hits the leaves have, and the first that are wanted in order of addition.
-fn added_hits<'a>(
+/// How many hits the leaves have, and the first that are wanted by the order's field, as a page shows them.
+fn best_entries(
     alloc: Global,
-    leaves: &'a [Leaf],
+    leaves: &[Leaf],
     query: &Query,
     sets: &[Option<Arc<DocSet>>],
-    wanted: &Wanted<'a>,
-) -> Result<(usize, Vec<Candidate<'a>>), AllocError>
+    wanted: &Wanted<'_>,
+) -> Result<(usize, Vec<Entry>), AllocError>
     requires { AreSets (query_of query.now) leaves.now sets.now }
     ensures total { IfOk result (λ r. r.0 ≡ length (hits_in leaves.now (query_of query.now))) }
-    ensures first { IfOk result (λ r. map standing_of r.1.items
-        ≡ take wanted.now.count (behind (mark_standing wanted.now.mark) (map (row_standing Added) (hits_in leaves.now (query_of query.now))))) }
+    ensures first { IfOk result (λ r. r.1.items
+        ≡ first_shown wanted.now (map (row_standing wanted.now.order) (hits_in leaves.now (query_of query.now)))) }
+{
+    let (total, best) = best_hits(alloc, leaves, query, sets, wanted)?;
+    let entries = entries_of(alloc, &best)?;
+    Ok((total, entries))
+}
+
+/// How many hits the leaves have, and the first that are wanted in order of addition, as a page shows them. They come in
+/// that order, so each is shown as it is met.
+fn added_entries(
+    alloc: Global,
+    leaves: &[Leaf],
+    query: &Query,
+    sets: &[Option<Arc<DocSet>>],
+    wanted: &Wanted<'_>,
+) -> Result<(usize, Vec<Entry>), AllocError>
+    requires { AreSets (query_of query.now) leaves.now sets.now }
+    ensures total { IfOk result (λ r. r.0 ≡ length (hits_in leaves.now (query_of query.now))) }
+    ensures first { IfOk result (λ r. r.1.items ≡ take wanted.now.count
+        (map entry_shown (behind (mark_standing wanted.now.mark) (map (row_standing Added) (hits_in leaves.now (query_of query.now)))))) }
 {
     let mut total = 0;
-    let mut taken = Vec::with_capacity(alloc, wanted.count)?;
+    let mut shown = Vec::with_capacity(alloc, wanted.count)?;
     for (index, leaf) in leaves.iter().enumerate() {
         let set = set_at(sets, index);
         let hits = hits_of(alloc, query, set, leaf)?;
         total = counted(total, &hits)?;
-        take_behind(&mut taken, wanted, leaf.segment(), hits)?;
+        show_behind(alloc, &mut shown, wanted, leaf.segment(), hits)?;
     }
-    Ok((total, taken))
+    Ok((total, shown))
 }
 
-/// How many hits the leaves have, and the first that are wanted.
-pub(crate) fn first_hits<'a>(
+/// How many hits the leaves have, and the first that are wanted, as a page shows them.
+pub(crate) fn first_entries(
     alloc: Global,
-    leaves: &'a [Leaf],
+    leaves: &[Leaf],
     query: &Query,
     sets: &[Option<Arc<DocSet>>],
-    wanted: &Wanted<'a>,
-) -> Result<(usize, Vec<Candidate<'a>>), AllocError>
+    wanted: &Wanted<'_>,
+) -> Result<(usize, Vec<Entry>), AllocError>
     requires rising { AllPairs (λ a b. a.number < b.number) (flat_map live_rows leaves.now) }
     requires sets { AreSets (query_of query.now) leaves.now sets.now }
     ensures total { IfOk result (λ r. r.0 ≡ length (hits_in leaves.now (query_of query.now))) }
-    ensures first { IfOk result (λ r. map standing_of r.1.items
-        ≡ first_wanted wanted.now (map (row_standing wanted.now.order) (hits_in leaves.now (query_of query.now)))) }
+    ensures first { IfOk result (λ r. r.1.items
+        ≡ first_shown wanted.now (map (row_standing wanted.now.order) (hits_in leaves.now (query_of query.now)))) }
 {
     match wanted.order {
-        Order::Added => added_hits(alloc, leaves, query, sets, wanted),
-        _ => best_hits(alloc, leaves, query, sets, wanted),
+        Order::Added => added_entries(alloc, leaves, query, sets, wanted),
+        _ => best_entries(alloc, leaves, query, sets, wanted),
     }
 }

@@ -12,8 +12,8 @@ ghost use Rattle.cat_search.specs.Sets.{AreSets};
 ghost use Rattle.cat_search.specs.Views.{IsAnswerTo, ViewsShowRecords, answer_over, page_in};
 
 use crate::ask::{Ask, Wanted};
-use crate::entries::{Page, entries_of};
-use crate::gathering::{first_hits, hits_of, set_at};
+use crate::entries::Page;
+use crate::gathering::{first_entries, hits_of, set_at};
 use crate::mark_rows::mark_in_leaves;
 use crate::view::View;
 use cat_base::Refusal;
@@ -158,8 +158,7 @@ pub(crate) fn page_over(
     let leaves = view.leaves();
     let mark = mark_in_leaves(leaves, order, ask.after)?;
     let wanted = Wanted { order, mark, count };
-    let (total, hits) = first_hits(alloc, leaves, query, sets, &wanted)?;
-    let entries = entries_of(alloc, &hits)?;
+    let (total, entries) = first_entries(alloc, leaves, query, sets, &wanted)?;
     Ok(Page::new(total, entries))
 }
 

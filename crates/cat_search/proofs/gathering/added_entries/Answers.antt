@@ -1,4 +1,4 @@
-use Rattle.std.proofs.Common.{subst, ◌≡◌, refl, sym, IfSome, ◌∙◌, map, take, ap}
+use Rattle.std.proofs.Common.{List, subst, ◌≡◌, refl, sym, IfSome, ◌∙◌, map, take, ap}
 use Rattle.cat_model.specs.View.{row_matches}
 use Rattle.cat_query.specs.View.{query_of}
 use Rattle.cat_search.specs.declared.sort.Order.TheVariants.{Added}
@@ -7,8 +7,9 @@ use Rattle.cat_search.specs.Hits.{rows_of}
 use Rattle.cat_search.specs.Pages.{behind}
 use Rattle.cat_search.specs.Rows.{hits_in, row_standing}
 use Rattle.cat_search.specs.Sets.{set_at}
+use Rattle.cat_search.specs.Standings.{Standing, entry_shown}
 use Rattle.cat_search.proofs.Gathered.{looked_at, total_more, standings_more}
-use Rattle.cat_search.proofs.gathering.added_hits.Goals as goal
+use Rattle.cat_search.proofs.gathering.added_entries.Goals as goal
 
 pub loop-index-preserved : goal.loop-index-preserved
 loop-index-preserved c =
@@ -22,8 +23,8 @@ loop-index-preserved c =
     record {
       total =
           total_more q leaves i c.index-leaves-index.result c.index-leaves-index.is c.loop-index-test.true rows c.in_ok-hits.ensures.ok c.in_ok-hits.ensures.long c.loop-index.total c.in_ok-total.total c.loop-index.invariant.total c.in_ok-total.ensures.ok;
-      taken = c.in_ok-take_behind.ensures.taken standings c.loop-index.invariant.taken
-          ∙ ap (take c.args.wanted.now.count) (standings_more q leaves i c.index-leaves-index.result c.index-leaves-index.is c.loop-index-test.true rows c.in_ok-hits.ensures.ok mark Added segment (map (row_standing Added) segment.rows) c.segment.ensures refl);
+      shown = c.in_ok-show_behind.ensures.shown standings c.loop-index.invariant.shown
+          ∙ ap (λ (l : List Standing). take c.args.wanted.now.count (map entry_shown l)) (standings_more q leaves i c.index-leaves-index.result c.index-leaves-index.is c.loop-index-test.true rows c.in_ok-hits.ensures.ok mark Added segment (map (row_standing Added) segment.rows) c.segment.ensures refl);
     }
 
 pub hits_of-requires : goal.hits_of-requires
