@@ -2,25 +2,17 @@
 #![tactic(auto)]
 
 #[cfg(test)]
-mod readers;
-#[cfg(test)]
 mod rows_chores;
 #[cfg(test)]
 mod rows_commits;
 #[cfg(test)]
-mod rows_cuts;
-#[cfg(test)]
 mod rows_facets;
-#[cfg(test)]
-mod rows_faults;
 #[cfg(test)]
 mod rows_find;
 #[cfg(test)]
 mod rows_folder;
 #[cfg(test)]
 mod rows_held;
-#[cfg(test)]
-mod rows_memory;
 #[cfg(test)]
 mod rows_opening;
 #[cfg(test)]
@@ -41,5 +33,3 @@ mod rows_warming;
 mod rows_writes;
 #[cfg(test)]
 mod script;
-#[cfg(test)]
-mod writers;

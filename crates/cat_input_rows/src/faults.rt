@@ -1,6 +1,6 @@
 //! What is said where reading or writing fails, and when it goes out.
 use crate::readers::{Broken, Interrupted, Waiting};
-use crate::script::{REPLIES, TRAFFIC, WHOLE, expect_end, expect_replies, serve_in_memory};
+use crate::traffic::{REPLIES, TRAFFIC, WHOLE, expect_end, expect_replies, serve_in_memory};
 use crate::writers::{Filling, Holding, Stubborn, Stuck, Trickling};
 use cat_serving::ServeFault;
 use std::alloc::{AllocError, Global};

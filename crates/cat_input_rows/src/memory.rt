@@ -3,12 +3,16 @@
 //! `rt try --test --fail-alloc N` makes the Nth allocation of each test fail. A script's own texts take memory too, so most
 //! tests fail then. The one below has to pass at every N from 3 on, and shows this: one line at most is refused for want of
 //! memory, and that line changes nothing. Its first two allocations are its own.
-use crate::script::{SHOP, serve_in_memory};
+use crate::traffic::serve_in_memory;
 use cat_serving::ServeFault;
 use std::alloc::{AllocError, Global};
 use std::process::Abort;
 use std::str::from_utf8;
 use std::test::Fail;
+
+/// The schema line.
+const SHOP: &str =
+    "SCHEMA 2 1 {\"brand\":\"keyword\",\"color\":\"facet\",\"price\":\"number\",\"title\":\"text\"}";
 
 const LINES: &[&str] = &[
     "1 PUT {\"id\":\"a\",\"title\":\"red shoe\",\"color\":[\"red\",\"blue\"]}",
@@ -50,7 +54,7 @@ fn written(
 ) -> Result<(Vec<u8>, Result<(), ServeFault>), AllocError> {
     let mut input = String::with_capacity(alloc, ROOM)?;
     let mut output = Vec::with_capacity(alloc, ROOM)?;
-    input.push_str(SHOP.0)?;
+    input.push_str(SHOP)?;
     push_lines(&mut input, first)?;
     push_lines(&mut input, others)?;
     let end = serve_in_memory(alloc, &mut input.as_bytes(), &mut output);

@@ -1,6 +1,6 @@
 //! How lines are cut, in whatever pieces they come.
 use crate::readers::{Dripping, Long};
-use crate::script::{TRAFFIC, WHOLE, expect_replies};
+use crate::traffic::{TRAFFIC, WHOLE, expect_replies};
 use cat_serving::ServeFault;
 use std::alloc::{AllocError, Global};
 use std::process::Abort;
