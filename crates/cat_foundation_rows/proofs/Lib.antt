@@ -1,3 +1,2 @@
 pub mod InOrder
-pub mod StayKnown
 pub mod Taken

@@ -1,7 +1,7 @@
 use Rattle.std.proofs.Common.{◌≡◌, List, [], ◌∷◌, subst, sym, rules}
 use Rattle.cat_model.specs.View.{AreRows, IsView, Leaf, Segment}
-use Rattle.cat_foundation_rows.proofs.StayKnown.{alone}
-use Rattle.cat_foundation_rows.proofs.facets.kept.view_with.Goals as goal
+use Rattle.cat_facet_rows.proofs.StayKnown.{alone}
+use Rattle.cat_facet_rows.proofs.facets.kept.view_with.Goals as goal
 
 pub of-requires : goal.of-requires
 of-requires c =

@@ -2,8 +2,8 @@ use Rattle.std.proofs.Common.{ap, subst}
 use Rattle.cat_model.specs.View.{View}
 use Rattle.cat_facets.specs.Kept.{RemembersOf}
 use Rattle.cat_facets.specs.States.{segments_of}
-use Rattle.cat_foundation_rows.proofs.StayKnown.{stay_known}
-use Rattle.cat_foundation_rows.proofs.facets.counts.counts_kept.Goals as goal
+use Rattle.cat_facet_rows.proofs.StayKnown.{stay_known}
+use Rattle.cat_facet_rows.proofs.facets.counts.counts_kept.Goals as goal
 
 pub returns : goal.returns
 returns c =

@@ -2,7 +2,7 @@ use Rattle.std.proofs.Common.{All, List, sym, subst}
 use Rattle.std.proofs.lemmas.List.Elements.{All-push}
 use Rattle.cat_model.specs.Item.{IsItem}
 use Rattle.cat_view_rows.specs.declared.put.Put.{Put}
-use Rattle.cat_foundation_rows.proofs.filters.making.priced_puts.Goals as goal
+use Rattle.cat_facet_rows.proofs.filters.making.priced_puts.Goals as goal
 
 pub loop-number-preserved : goal.loop-number-preserved
 loop-number-preserved c =

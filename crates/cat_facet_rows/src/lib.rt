@@ -1,0 +1,9 @@
+//! Tests of what views are read with: counts over labels, cached sets of rows, and noted queries.
+#![tactic(auto)]
+
+#[cfg(test)]
+mod cache;
+#[cfg(test)]
+mod facets;
+#[cfg(test)]
+mod filters;
