@@ -1,7 +1,9 @@
-//! Tests of what the ledger stands on: commits, windows and merges.
+//! Tests of what the ledger stands on: users of files, commits, windows and merges.
 #![tactic(auto)]
 
 #[cfg(test)]
 mod commits;
 #[cfg(test)]
 mod merge;
+#[cfg(test)]
+mod refs;

@@ -4,6 +4,3 @@
 mod refs;
 
 pub use refs::FileRefs;
-
-#[cfg(test)]
-mod tests;

@@ -1,11 +1,11 @@
-//! Users of files, and sweeps over a directory whose calls fail in turn.
+//! Tests of the users of files, and of sweeps over a directory whose calls fail in turn.
 ghost use Rattle.std.specs.Prelude.{◌≤◌, ◌<◌, length, IfOk};
 ghost use Rattle.cat_model.specs.Files.{Name};
 ghost use Rattle.cat_ledger_model.specs.Users.{users_of};
 
-use crate::FileRefs;
 use cat_base::Refusal;
 use cat_directory::{Directory, Faults, Faulty, FileName, MemoryDirectory};
+use cat_refs::FileRefs;
 use std::alloc::{AllocError, Global};
 use std::process::Abort;
 use std::test::Fail;
