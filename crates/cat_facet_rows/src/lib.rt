@@ -7,3 +7,5 @@ mod cache;
 mod facets;
 #[cfg(test)]
 mod filters;
+#[cfg(test)]
+mod priced;

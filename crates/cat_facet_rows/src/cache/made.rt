@@ -1,38 +1,21 @@
 //! A set is made in steps of 256 rows.
-ghost use Rattle.std.specs.Prelude.{IfOk, All};
-ghost use Rattle.cat_model.specs.Item.{IsItem};
 
+use crate::priced::{Dead, priced_puts};
 use cat_base::Refusal;
 use cat_cache::{Warm, Warming};
 use cat_query::{DocSet, Query};
 use cat_schema::Schema;
 use cat_segment::Segment;
-use cat_view_rows::{Put, read_put, segment_of};
+use cat_view_rows::segment_of;
 use std::alloc::{AllocError, Global};
 use std::fmt::Write;
 use std::sync::Arc;
 use std::test::Fail;
 
-/// So many rows, of which each has its number as its price.
-fn priced_puts(alloc: Global, schema: &Schema, count: u64) -> Result<Vec<Put>, Refusal>
-    ensures { IfOk result (λ v. All (λ p. IsItem schema.now p.item) v.items) }
-{
-    let mut puts = Vec::new(alloc);
-    for number in 0..count {
-        let text = format!(in alloc; "{{\"id\":\"{number}\",\"price\":{number}}}")?;
-        puts.push(read_put(
-            alloc,
-            schema,
-            (number.saturating_add(1), true, text.as_str()),
-        )?)?;
-    }
-    Ok(puts)
-}
-
 /// The segment of so many rows.
 pub(crate) fn priced(alloc: Global, count: u64) -> Result<Arc<Segment>, Refusal> {
     let schema = Schema::read(alloc, br#"{"price":"number"}"#)?;
-    let puts = priced_puts(alloc, &schema, count)?;
+    let puts = priced_puts(alloc, &schema, count, Dead::None)?;
     Ok(Arc::new(alloc, segment_of(alloc, &schema, 1, &puts)?)?)
 }
 

@@ -279,19 +279,28 @@ fn sixty_colors(alloc: Global, id: u64, first: u64) -> Result<String, AllocError
     Ok(text)
 }
 
+/// The row of this number with 60 colors: those of the first 20 are the numbers from 1000 on, and the one after them has the
+/// last 60 of these.
+fn colored_put(alloc: Global, schema: &Schema, number: u64) -> Result<Put, Refusal>
+    requires { number < 22 }
+    ensures { IfOk result (λ p. IsItem schema.now p.item) }
+{
+    let first = if number < 21 {
+        940 + number * 60
+    } else {
+        2_140
+    };
+    let text = sixty_colors(alloc, number, first)?;
+    read_put(alloc, schema, (number, true, text.as_str()))
+}
+
 /// The rows of 20 items with 60 colors each, from 1000 on, and of one more with the last 60 of them.
 fn colored_puts(alloc: Global, schema: &Schema) -> Result<Vec<Put>, Refusal>
     ensures { IfOk result (λ v. All (λ p. IsItem schema.now p.item) v.items) }
 {
     let mut puts = Vec::new(alloc);
     for number in 1..22 {
-        let first = if number < 21 {
-            940 + number * 60
-        } else {
-            2_140
-        };
-        let text = sixty_colors(alloc, number, first)?;
-        puts.push(read_put(alloc, schema, (number, true, text.as_str()))?)?;
+        puts.push(colored_put(alloc, schema, number)?)?;
     }
     Ok(puts)
 }

@@ -1,13 +1,14 @@
 //! Views of rows with prices, and calls of filters over them that are answered by texts.
-ghost use Rattle.std.specs.Prelude.{IfOk, All};
+ghost use Rattle.std.specs.Prelude.{All};
 ghost use Rattle.cat_model.specs.Item.{IsItem};
 
+use crate::priced::{Dead, priced_puts};
 use cat_base::{Refusal, SegNo};
 use cat_filters::{Filters, WarmNews};
 use cat_query::{DocSet, Query};
 use cat_schema::Schema;
 use cat_search::{Leaf, View};
-use cat_view_rows::{Put, are_in_order, read_put, view_of};
+use cat_view_rows::{Put, are_in_order, view_of};
 use std::alloc::{AllocError, Global};
 use std::fmt::Write;
 use std::process::Abort;
@@ -42,26 +43,6 @@ pub(crate) enum Call<'a> {
 /// A call, and what it is answered.
 pub(crate) type Row<'a> = (Call<'a>, &'a str);
 
-/// The row that has the number as its price and the one after it as the number of its write; every second one is dead.
-fn priced_put(alloc: Global, schema: &Schema, number: u64) -> Result<Put, Refusal>
-    ensures { IfOk result (λ p. IsItem schema.now p.item) }
-{
-    let text = format!(in alloc; "{{\"id\":\"{number}\",\"price\":{number}}}")?;
-    let row = (number.saturating_add(1), number % 2 == 0, text.as_str());
-    read_put(alloc, schema, row)
-}
-
-/// So many rows.
-fn priced_puts(alloc: Global, schema: &Schema, count: u64) -> Result<Vec<Put>, Refusal>
-    ensures { IfOk result (λ v. All (λ p. IsItem schema.now p.item) v.items) }
-{
-    let mut puts = Vec::new(alloc);
-    for number in 0..count {
-        puts.push(priced_put(alloc, schema, number)?)?;
-    }
-    Ok(puts)
-}
-
 /// The view of the rows, if they are in order.
 fn ordered_view(
     alloc: Global,
@@ -77,11 +58,11 @@ fn ordered_view(
     view_of(alloc, schema, puts, ends)
 }
 
-/// The view of rows with the prices from 0 on, in segments with the numbers from 1 on that end before these prices, the last of
-/// which is the count.
+/// The view of rows with the prices from 0 on, every second one dead, in segments with the numbers from 1 on that end before
+/// these prices, the last of which is the count.
 fn priced_view(alloc: Global, count: u64, ends: &[usize]) -> Result<View, Refusal> {
     let schema = Schema::read(alloc, br#"{"price":"number"}"#)?;
-    let puts = priced_puts(alloc, &schema, count)?;
+    let puts = priced_puts(alloc, &schema, count, Dead::EverySecond)?;
     ordered_view(alloc, &schema, &puts, ends)
 }
 

@@ -6,6 +6,7 @@ use cat_base::{Refusal, WriteNo};
 use cat_schema::Schema;
 use cat_view_rows::{Put, read_put};
 use std::alloc::{AllocError, Global};
+use std::fmt::Write;
 
 /// A field of each kind.
 pub(crate) const FIELDS: &[u8] =
@@ -77,9 +78,10 @@ fn item_text(alloc: Global, number: WriteNo) -> Result<String, AllocError> {
     let id = number.wrapping_mul(3_571) % 7_919;
     let mut text = format!(in alloc; "{{\"id\":\"i{id:04}\"")?;
     if number % 10 == 0 {
-        text.push_str(format!(in alloc;
+        write!(
+            text,
             ",\"brand\":\"b{number}\",\"color\":[\"c{number}\",\"red\"],\"title\":\"w{id} red\""
-        )?.as_str())?;
+        )?;
         text.push_str("}")?;
         return Ok(text);
     }
@@ -100,6 +102,14 @@ fn push_values(text: &mut String, number: WriteNo) -> Result<(), AllocError> {
     Ok(())
 }
 
+/// The row of this number, which is dead where it is one of those.
+fn thrown_put(alloc: Global, schema: &Schema, number: WriteNo, dead: Which) -> Result<Put, Refusal>
+    ensures { IfOk result (λ p. IsItem schema.now p.item) }
+{
+    let text = item_text(alloc, number)?;
+    read_put(alloc, schema, (number, !dead.has(number), text.as_str()))
+}
+
 /// So many rows, under the numbers from 1 on, of which those are dead.
 pub(crate) fn thrown_puts(
     alloc: Global,
@@ -111,9 +121,7 @@ pub(crate) fn thrown_puts(
 {
     let mut puts = Vec::new(alloc);
     for index in 0..count {
-        let number = index + 1;
-        let text = item_text(alloc, number)?;
-        puts.push(read_put(alloc, schema, (number, !dead.has(number), text.as_str()))?)?;
+        puts.push(thrown_put(alloc, schema, index + 1, dead)?)?;
     }
     Ok(puts)
 }
@@ -126,15 +134,21 @@ fn rising_text(alloc: Global, number: WriteNo) -> Result<String, AllocError> {
     Ok(text)
 }
 
+/// The live row of this number whose id comes behind those of lower numbers.
+fn rising_put(alloc: Global, schema: &Schema, number: WriteNo) -> Result<Put, Refusal>
+    ensures { IfOk result (λ p. IsItem schema.now p.item) }
+{
+    let text = rising_text(alloc, number)?;
+    read_put(alloc, schema, (number, true, text.as_str()))
+}
+
 /// So many rows, all live, under the numbers from 1 on; their ids rise.
 pub(crate) fn rising_puts(alloc: Global, schema: &Schema, count: u64) -> Result<Vec<Put>, Refusal>
     ensures { IfOk result (λ v. All (λ p. IsItem schema.now p.item) v.items) }
 {
     let mut puts = Vec::new(alloc);
     for index in 0..count {
-        let number = index + 1;
-        let text = rising_text(alloc, number)?;
-        puts.push(read_put(alloc, schema, (number, true, text.as_str()))?)?;
+        puts.push(rising_put(alloc, schema, index + 1)?)?;
     }
     Ok(puts)
 }

@@ -5,6 +5,7 @@ use cat_ledger::{SegmentStat, Stat};
 use cat_search::Page;
 use cat_upkeep::MergeNews;
 use std::alloc::{AllocError, Global};
+use std::fmt::Write;
 
 /// The number of the refusal. Want of memory is no answer, and is passed on.
 pub(crate) fn refused(alloc: Global, refusal: Refusal) -> Result<String, Refusal> {
@@ -45,7 +46,7 @@ fn shown(alloc: Global, page: &Page) -> Result<String, AllocError> {
     for entry in page.entries() {
         let id = entry.id();
         let number = entry.number();
-        text.push_str(format!(in alloc; " {id}#{number}")?.as_str())?;
+        write!(text, " {id}#{number}")?;
     }
     Ok(text)
 }
@@ -62,7 +63,7 @@ pub(crate) fn page(alloc: Global, answer: Result<Page, Refusal>) -> Result<Strin
 fn listed(alloc: Global, names: &[FileName]) -> Result<String, AllocError> {
     let mut text = String::new(alloc);
     for name in names {
-        text.push_str(format!(in alloc; " {name}")?.as_str())?;
+        write!(text, " {name}")?;
     }
     Ok(text)
 }
@@ -97,7 +98,7 @@ fn segments(alloc: Global, segments: &[SegmentStat]) -> Result<String, AllocErro
         let number = segment.number;
         let live = segment.live;
         let rows = segment.rows;
-        text.push_str(format!(in alloc; " {number}:{live}/{rows}")?.as_str())?;
+        write!(text, " {number}:{live}/{rows}")?;
     }
     Ok(text)
 }
