@@ -1,24 +1,46 @@
 //! A text, which contracts see as its bytes, and a set of texts, which they see as a list of these in order.
-ghost use Rattle.std.specs.Prelude.{◌≡◌, ℕ, ◌↔◌, List, [], length, IfOk, IsTrue, string_bytes, Contains};
+ghost use Rattle.std.specs.Prelude.{◌≡◌, ℕ, ◌↔◌, List, [], length, IfOk, IfSome, IsTrue, string_bytes, Contains};
 ghost use Rattle.cat_base.specs.Texts.{sorted_set, IsTextSet};
 
+use arrayvec::ArrayString;
 use std::alloc::{AllocError, Global};
 use std::cmp::Ordering;
 use std::fmt;
 use std::marker::Model;
 
+/// Texts of at most so many bytes lie in the value itself: most words, labels and ids. They take no memory of their own, and
+/// a search among texts that stand side by side looks nowhere else.
+const SHORT_BYTES: usize = 16;
+
+/// Where the bytes of a text lie.
+#[derive(Drop)]
+pub(crate) enum Place {
+    /// In the value.
+    Short(ArrayString<SHORT_BYTES>),
+    /// In memory of their own.
+    Long(String),
+}
+
 /// An owned text, equal to and ordered with others by its UTF-8 bytes. Contracts see it as the list of these bytes.
 #[derive(Drop)]
 pub struct Text {
-    text: String,
+    place: Place,
 }
 
 impl Model for Text {
-    ghost use Rattle.std.specs.Prelude.{ℕ, List, string_bytes};
+    ghost use Rattle.std.specs.Prelude.{ℕ, List};
+    ghost use Rattle.cat_base.specs.Texts.{bytes_in};
 
     ghost Value = { List ℕ };
 
-    ghost view = { λ t. string_bytes t.text };
+    ghost view = { λ t. bytes_in t.place };
+}
+
+/// The text in a value, if it is short.
+fn short(text: &str) -> Option<ArrayString<SHORT_BYTES>>
+    ensures { IfSome result (λ s. s.bytes ≡ text.now) }
+{
+    ArrayString::from(text).ok()
 }
 
 impl Text {
@@ -26,32 +48,43 @@ impl Text {
     pub fn new(text: String) -> Self
         ensures { result ≡ string_bytes text }
     {
-        Text { text }
+        let place = match short(text.as_str()) {
+            Some(short) => Place::Short(short),
+            None => Place::Long(text),
+        };
+        Text { place }
     }
 
     /// A copy of the text.
     pub fn from_str(alloc: Global, text: &str) -> Result<Self, AllocError>
         ensures ok { IfOk result (λ t. t ≡ text.now) }
     {
-        Ok(Text {
-            text: String::from_str(alloc, text)?,
-        })
+        let place = match short(text) {
+            Some(short) => Place::Short(short),
+            None => Place::Long(String::from_str(alloc, text)?),
+        };
+        Ok(Text { place })
     }
 
     /// The text, borrowed.
     pub fn as_str(&self) -> &str
         ensures { result.now ≡ self.now }
     {
-        self.text.as_str()
+        match &self.place {
+            Place::Short(short) => short.as_str(),
+            Place::Long(long) => long.as_str(),
+        }
     }
 
-    /// An equal text in memory of its own.
+    /// An equal text.
     pub fn copy(&self) -> Result<Self, AllocError>
         ensures ok { IfOk result (λ t. t ≡ self.now) }
     {
-        Ok(Text {
-            text: String::from_str(*self.text.allocator(), self.text.as_str())?,
-        })
+        let place = match &self.place {
+            Place::Short(short) => Place::Short(*short),
+            Place::Long(long) => Place::Long(String::from_str(*long.allocator(), long.as_str())?),
+        };
+        Ok(Text { place })
     }
 }
 
@@ -65,7 +98,7 @@ impl PartialEq for Text {
     ghost laws = { compare.partial_equiv_from_equiv nat_list_eq_equiv };
 
     fn eq(&self, other: &Text) -> bool {
-        self.text == other.text
+        self.as_str() == other.as_str()
     }
 }
 
@@ -89,7 +122,7 @@ impl Ord for Text {
     ghost matches_eq = { texts_ties };
 
     fn cmp(&self, other: &Text) -> Ordering {
-        self.text.cmp(&other.text)
+        self.as_str().cmp(other.as_str())
     }
 }
 
@@ -112,13 +145,13 @@ impl fmt::Display for Text {
     ghost output = { λ t. Some t };
 
     fn fmt<W: fmt::Write>(&self, f: &mut fmt::Formatter<W>) -> fmt::Result {
-        fmt::Display::fmt(self.text.as_str(), f)
+        fmt::Display::fmt(self.as_str(), f)
     }
 }
 
 impl fmt::Debug for Text {
     fn fmt<W: fmt::Write>(&self, f: &mut fmt::Formatter<W>) -> fmt::Result {
-        fmt::Debug::fmt(self.text.as_str(), f)
+        fmt::Debug::fmt(self.as_str(), f)
     }
 }
 

@@ -13,6 +13,12 @@ fn texts_compare_by_bytes(rt: HostRuntime) -> Result<(), Fail> {
         ("a", "Z", Ordering::Greater),
         ("a", "ab", Ordering::Less),
         ("z", "é", Ordering::Less),
+        // 16 bytes lie in the value, and 17 in memory of their own.
+        ("sixteen letters:", "sixteen letters:", Ordering::Equal),
+        ("sixteen letters:", "sixteen letters::", Ordering::Less),
+        ("seventeen letters", "seventeen letters", Ordering::Equal),
+        ("seventeen letters", "seventeen", Ordering::Greater),
+        ("seventeen letters", "z", Ordering::Less),
     ];
     for &(left, right, want) in ROWS {
         let (one, other) = (Text::from_str(alloc, left)?, Text::from_str(alloc, right)?);
@@ -31,6 +37,30 @@ fn texts_are_shown(rt: HostRuntime) -> Result<(), Fail> {
     assert_eq!(rt; text.copy()?, text);
     let shown = format!(in alloc; "{text}, {text:?}")?;
     assert_eq!(rt; shown.as_str(), "red \"shoe\", \"red \\\"shoe\\\"\"");
+    Ok(())
+}
+
+#[test]
+fn texts_of_each_length_are_kept(rt: HostRuntime) -> Result<(), Fail> {
+    let alloc = rt.alloc();
+    const TEXTS: &[&str] = &[
+        "",
+        "a",
+        "fifteen letters",
+        "sixteen letters:",
+        "ten bytes ééé",
+        "seventeen letters",
+        "fifteen bytes: é",
+    ];
+    for &text in TEXTS {
+        let (one, other) = (
+            Text::from_str(alloc, text)?,
+            Text::new(String::from_str(alloc, text)?),
+        );
+        assert_eq!(rt; one.as_str(), text);
+        assert_eq!(rt; other.as_str(), text);
+        assert_eq!(rt; one.copy()?, other, "{text}");
+    }
     Ok(())
 }
 

@@ -119,12 +119,13 @@ impl Schema {
         ensures typed { IfOk result (λ i. IsItem self.now i) }
     {
         let values = values_of(alloc, self.fields(), root)?;
-        Ok(Item::new(
+        let item = Item::new(
             self.shared()?,
             Text::from_str(alloc, id)?,
             values,
             Vec::from_slice(alloc, bytes)?,
-        ))
+        );
+        Ok(item)
     }
 
     /// The item that a text of JSON is under the schema: an object with a member `id` and, for any of the fields, a
