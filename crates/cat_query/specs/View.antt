@@ -58,6 +58,10 @@ clauses_of cs = query_from (map signed cs)
 abbrev pub query_of : Query → model.Query
 query_of q = clauses_of q.clauses.items
 
+-- one clause without a sign
+abbrev pub sole : model.Primary → model.Query
+sole p = model.Query.clause model.Sign.should p model.Query.no_clause
+
 -- the query is the one clause *:*, which no - stands before
 abbrev pub is_everything : model.Query → Bool
 is_everything (model.Query.clause model.Sign.must model.Primary.everything model.Query.no_clause) = true

@@ -1,11 +1,11 @@
 //! Which rows of a segment a query matches: its clauses one after another, each over the whole segment.
-ghost use Rattle.std.specs.Prelude.{◌≡◌, map, false, Some, IfOk};
+ghost use Rattle.std.specs.Prelude.{◌≡◌, map, false, Some, IfOk, IfSome};
 ghost use Rattle.std.specs.List.{list_any};
 ghost use Rattle.cat_model.specs.Item as model;
 ghost use Rattle.cat_model.specs.Query.{matches, supports, supported, primary_matches};
 ghost use Rattle.cat_model.specs.View.{item_in, row_matches};
 ghost use Rattle.cat_segment.specs.Contents.{contents_of};
-ghost use Rattle.cat_query.specs.View.{sign_of, tested, primary_of, clauses_of, query_of};
+ghost use Rattle.cat_query.specs.View.{sign_of, tested, primary_of, clauses_of, query_of, sole};
 ghost use Rattle.cat_query.specs.Tests.{passes};
 
 use crate::doc_set::DocSet;
@@ -23,8 +23,27 @@ impl Query {
     pub fn matches(&self, alloc: Global, segment: &Segment) -> Result<DocSet, AllocError>
         ensures ok { IfOk result (λ s. s ≡ map (row_matches (query_of self.now)) segment.now.rows) }
     {
-        let rows = clauses_set(alloc, &self.clauses, segment)?;
+        let rows = match sole_primary(&self.clauses) {
+            Some(primary) => primary_set(alloc, primary, segment)?,
+            None => clauses_set(alloc, &self.clauses, segment)?,
+        };
         Ok(DocSet::of(rows))
+    }
+}
+
+/// The primary of one clause without a sign, as most queries are: its rows are the query's, and no set is joined with
+/// another (`BooleanQuery.rewrite` of one clause).
+fn sole_primary(clauses: &[Clause]) -> Option<&Primary>
+    ensures { IfSome result (λ p. clauses_of clauses.now ≡ sole (primary_of p.now)) }
+{
+    match clauses {
+        [
+            Clause {
+                sign: Sign::Should,
+                primary,
+            },
+        ] => Some(primary),
+        _ => None,
     }
 }
 
