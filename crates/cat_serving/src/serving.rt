@@ -1,9 +1,9 @@
 //! Lines read from a reader, answered to a writer: the first opens the machine, and the others are answered by it.
-ghost use Rattle.std.specs.Prelude.{◌≡◌, ◌<◌, ◌≤◌, [], ◌∷◌, OnOk, length, take, map, option_map, vec_capacity};
+ghost use Rattle.std.specs.Prelude.{◌≡◌, ◌<◌, ◌≤◌, true, [], ◌∷◌, OnOk, length, take, map, option_map, vec_capacity};
 ghost use Rattle.cat_model.specs.Input.{ended_after, rest_after};
 ghost use Rattle.cat_model.specs.Served.{refused_text, ServesBy};
-ghost use Rattle.cat_serving.specs.declared.machine.Stage.TheVariants.{Waiting};
-ghost use Rattle.cat_serving.specs.Machine.{short_line, IsAnswered};
+ghost use Rattle.cat_serving.specs.declared.machine.Stage.TheVariants.{Waiting, Open};
+ghost use Rattle.cat_serving.specs.Machine.{short_line, stands_open, IsAnswered};
 ghost use Rattle.cat_serving.specs.Serving.{Comes, IsReady, IsRefusedAs, Says, ServesLines, ended_as, ended_of, last_lines};
 ghost use Rattle.cat_serving.specs.Serving.{EndsBy, IsRefused, LeadsTo, RefusedAt, StandsFrom};
 
@@ -83,6 +83,18 @@ fn open_machine<M: Machine, W: Write>(
     }
 }
 
+/// Answers one line.
+fn answer_line<M: Machine, W: Write>(
+    machine: &mut M,
+    line: &[u8],
+    to: &mut W,
+) -> Result<(), ServeFault>
+    ensures { ServesLines (Says M.opens M.step M.token) (Open machine.old) (short_line line.now ∷ []) (Open machine.new)
+        (W.contents to.old) (W.contents to.new) result }
+{
+    as_ended(machine.answer(if_short(line), to))
+}
+
 /// Answers one line, the first by opening the machine.
 fn serve_line<M: Machine, W: Write>(
     alloc: Global,
@@ -94,12 +106,11 @@ fn serve_line<M: Machine, W: Write>(
     ensures { ServesLines (Says M.opens M.step M.token) stage (short_line line.now ∷ []) result.stage
         (W.contents to.old) (W.contents to.new) result.ended }
 {
-    let given = if_short(line);
     match stage {
-        Stage::Waiting(seed) => open_machine(alloc, seed, given, to),
+        Stage::Waiting(seed) => open_machine(alloc, seed, if_short(line), to),
         Stage::Refused(_) => unreachable!(),
         Stage::Open(mut machine) => {
-            let ended = as_ended(machine.answer(given, to));
+            let ended = answer_line(&mut machine, line, to);
             Served {
                 stage: Stage::Open(machine),
                 ended,
@@ -108,7 +119,104 @@ fn serve_line<M: Machine, W: Write>(
     }
 }
 
-/// Answers the lines that the next bytes end, and gathers what comes after the last line feed.
+/// Answers the lines that the next bytes end, and gathers what comes after the last line feed. The machine stays where it
+/// is, so that a line costs no copy of it.
+fn answer_lines<M: Machine, W: Write>(
+    machine: &mut M,
+    gathered: &mut Vec<u8>,
+    bytes: &[u8],
+    to: &mut W,
+) -> Result<(), ServeFault>
+    requires room { MAX_GATHERED ≤ vec_capacity gathered.old }
+    requires short { length gathered.old.items ≤ MAX_GATHERED }
+    ensures served { ServesLines (Says M.opens M.step M.token) (Open machine.old)
+        (map short_line (ended_after gathered.old.items bytes.now))
+        (Open machine.new) (W.contents to.old) (W.contents to.new) result }
+    ensures gathered { OnOk result
+        (take MAX_GATHERED gathered.new.items ≡ take MAX_GATHERED (rest_after gathered.old.items bytes.now)) }
+    ensures room { MAX_GATHERED ≤ vec_capacity gathered.new }
+    ensures short { length gathered.new.items ≤ MAX_GATHERED }
+{
+    let mut rest = bytes;
+    'lines: while let Some((piece, more)) = split_line(rest) {
+        gather(gathered, piece);
+        answer_line(machine, without_return(gathered.as_slice()), to)?;
+        gathered.clear();
+        rest = more;
+    }
+    gather(gathered, rest);
+    Ok(())
+}
+
+/// The same for a stage at which a machine stands open.
+fn feed_open<M: Machine, W: Write>(
+    stage: Stage<M, M::Seed>,
+    gathered: &mut Vec<u8>,
+    bytes: &[u8],
+    to: &mut W,
+) -> Served<M, M::Seed>
+    requires open { stands_open stage ≡ true }
+    requires room { MAX_GATHERED ≤ vec_capacity gathered.old }
+    requires short { length gathered.old.items ≤ MAX_GATHERED }
+    ensures served { ServesLines (Says M.opens M.step M.token) stage
+        (map short_line (ended_after gathered.old.items bytes.now))
+        result.stage (W.contents to.old) (W.contents to.new) result.ended }
+    ensures gathered { OnOk result.ended
+        (take MAX_GATHERED gathered.new.items ≡ take MAX_GATHERED (rest_after gathered.old.items bytes.now)) }
+    ensures ready { OnOk result.ended (IsReady result.stage) }
+    ensures room { MAX_GATHERED ≤ vec_capacity gathered.new }
+    ensures short { length gathered.new.items ≤ MAX_GATHERED }
+{
+    match stage {
+        Stage::Waiting(_) | Stage::Refused(_) => unreachable!(),
+        Stage::Open(mut machine) => {
+            let ended = answer_lines(&mut machine, gathered, bytes, to);
+            Served {
+                stage: Stage::Open(machine),
+                ended,
+            }
+        }
+    }
+}
+
+/// Opens a machine by the first line that the next bytes end, where they end one, and answers the others.
+fn feed_first<M: Machine, W: Write>(
+    alloc: Global,
+    seed: M::Seed,
+    gathered: &mut Vec<u8>,
+    bytes: &[u8],
+    to: &mut W,
+) -> Served<M, M::Seed>
+    requires room { MAX_GATHERED ≤ vec_capacity gathered.old }
+    requires short { length gathered.old.items ≤ MAX_GATHERED }
+    ensures served { ServesLines (Says M.opens M.step M.token) (Waiting seed)
+        (map short_line (ended_after gathered.old.items bytes.now))
+        result.stage (W.contents to.old) (W.contents to.new) result.ended }
+    ensures gathered { OnOk result.ended
+        (take MAX_GATHERED gathered.new.items ≡ take MAX_GATHERED (rest_after gathered.old.items bytes.now)) }
+    ensures ready { OnOk result.ended (IsReady result.stage) }
+    ensures room { MAX_GATHERED ≤ vec_capacity gathered.new }
+    ensures short { length gathered.new.items ≤ MAX_GATHERED }
+{
+    let Some((piece, more)) = split_line(bytes) else {
+        gather(gathered, bytes);
+        return Served {
+            stage: Stage::Waiting(seed),
+            ended: Ok(()),
+        };
+    };
+    gather(gathered, piece);
+    let given = if_short(without_return(gathered.as_slice()));
+    let opened = open_machine(alloc, seed, given, to);
+    gathered.clear();
+    match opened.ended {
+        Ok(()) => feed_open(opened.stage, gathered, more, to),
+        Err(_) => opened,
+    }
+}
+
+/// Answers the lines that the next bytes end, the first of all by opening the machine, and gathers what comes after the
+/// last line feed.
 fn feed<M: Machine, W: Write>(
     alloc: Global,
     stage: Stage<M, M::Seed>,
@@ -128,22 +236,9 @@ fn feed<M: Machine, W: Write>(
     ensures room { MAX_GATHERED ≤ vec_capacity gathered.new }
     ensures short { length gathered.new.items ≤ MAX_GATHERED }
 {
-    let mut stage = stage;
-    let mut rest = bytes;
-    'lines: while let Some((piece, more)) = split_line(rest) {
-        gather(gathered, piece);
-        let served = serve_line(alloc, stage, without_return(gathered.as_slice()), to);
-        stage = match served.ended {
-            Ok(()) => served.stage,
-            Err(_) => return served,
-        };
-        gathered.clear();
-        rest = more;
-    }
-    gather(gathered, rest);
-    Served {
-        stage,
-        ended: Ok(()),
+    match stage {
+        Stage::Waiting(seed) => feed_first(alloc, seed, gathered, bytes, to),
+        ready => feed_open(ready, gathered, bytes, to),
     }
 }
 

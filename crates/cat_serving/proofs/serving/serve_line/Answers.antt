@@ -1,17 +1,8 @@
-use Rattle.std.proofs.Common.{sym, refl}
-use Rattle.cat_model.specs.Served.{outcome_text}
-use Rattle.cat_serving.specs.Serving.{Says}
-use Rattle.cat_serving.specs.declared.machine.Stage.TheVariants.{Open}
-use Rattle.cat_serving.proofs.Steps.{serves_sent, serves_with}
+use Rattle.std.proofs.Common.{sym}
 use Rattle.cat_serving.proofs.serving.serve_line.Goals as goal
 
 pub returns-in-Waiting : goal.returns-in-Waiting
-returns-in-Waiting g c = rw c.in-Waiting.is (rw (sym c.if_short-given.ensures) c.open_machine.ensures)
+returns-in-Waiting g c = rw c.in-Waiting.is (rw (sym c.if_short.ensures) c.open_machine.ensures)
 
 pub returns-in-Open : goal.returns-in-Open
-returns-in-Open g c =
-    let m = g.M.Machine in
-    let told = c.answer.ensures in
-    rw c.in-Open.is (rw (sym c.if_short-given.ensures)
-    (serves_with (sym c.as_ended-ended.ensures)
-    (serves_sent (Says m.opens m.step m.token) (Open c.in-Open.machine) _ (outcome_text told.0) c.answer.new.self _ _ c.answer.result (told.0, told.1, refl) told.2)))
+returns-in-Open g c = rw c.in-Open.is c.answer_line-ended.ensures

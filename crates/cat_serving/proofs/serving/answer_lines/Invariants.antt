@@ -4,16 +4,16 @@ use Rattle.std.specs.Prelude.{Option, Ok}
 use Rattle.cat_model.specs.Text.{Text}
 use Rattle.cat_model.specs.Input.{ended_after, rest_after}
 use Rattle.cat_serving.specs.Machine.{short_line}
-use Rattle.cat_serving.specs.Serving.{IsReady, Says, ServesLines}
-use Rattle.cat_serving.proofs.serving.feed.Given as goal
+use Rattle.cat_serving.specs.declared.machine.Stage.TheVariants.{Open}
+use Rattle.cat_serving.specs.Serving.{Says, ServesLines}
+use Rattle.cat_serving.proofs.serving.answer_lines.Given as goal
 
 abbrev pub invariant-lines : goal.invariant-lines
 invariant-lines g l = record {
-  ready : IsReady l.stage;
   room : 10002 ≤ vec_capacity l.gathered;
   short : length l.gathered.items ≤ 10002;
   done : List (Option Text);
-  served : ServesLines (Says g.M.Machine.opens g.M.Machine.step g.M.Machine.token) l.fn.stage done l.stage (g.W.Write.contents l.fn.to) (g.W.Write.contents l.to) (Ok tt);
+  served : ServesLines (Says g.M.Machine.opens g.M.Machine.step g.M.Machine.token) (Open l.fn.machine) done (Open l.machine) (g.W.Write.contents l.fn.to) (g.W.Write.contents l.to) (Ok tt);
   whole : done ++ map short_line (ended_after l.gathered.items l.rest) ≡ map short_line (ended_after l.fn.gathered.items l.fn.bytes);
   left : take 10002 (rest_after l.gathered.items l.rest) ≡ take 10002 (rest_after l.fn.gathered.items l.fn.bytes);
 }
