@@ -191,6 +191,14 @@ impl TextSet {
         TextSet { texts }
     }
 
+    /// The set of texts that rise by bytes, each once: they are taken over, and none is looked at.
+    pub fn from_sorted(texts: Vec<Text>) -> Self
+        requires { IsTextSet texts.items }
+        ensures { result ≡ texts.items }
+    {
+        TextSet { texts }
+    }
+
     /// The texts in byte order.
     pub fn as_slice(&self) -> &[Text]
         ensures value { result.now ≡ self.now }

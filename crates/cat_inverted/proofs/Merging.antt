@@ -225,12 +225,16 @@ module _ (len : ℕ) (texts : List (List Text)) (words : List Text) (lists : Lis
       ∙ ap (λ b. b && list_any (same_text q) words) (some_posting q texts)
       ∙ implied (list_any (list_any (same_text q)) texts) (list_any (same_text q) words) (enough q)
 
-  module _ (taken set : List Text) (left : List (List ℕ)) (ends rows : List ℕ) (take_is : taken ≡ map (λ e. e.0) (filter (λ e. is_some_list e.1) (zip words lists))) (set_is : set ≡ sorted_set taken)
+  words_taken : map (λ e. e.0) (filter (λ e. is_some_list e.1) (zip words lists)) ≡ used
+  words_taken = ap (λ (l : List (List ℕ)). map (λ e. e.0) (filter (λ e. is_some_list e.1) (zip words l))) lists_are ∙ zip_kept f is_some_list words
+
+  pub taken_rise : (taken : List Text) → taken ≡ map (λ e. e.0) (filter (λ e. is_some_list e.1) (zip words lists)) → IsTextSet taken
+  taken_rise taken take_is = subst IsTextSet (sym (take_is ∙ words_taken)) used_sorted
+
+  module _ (taken set : List Text) (left : List (List ℕ)) (ends rows : List ℕ) (take_is : taken ≡ map (λ e. e.0) (filter (λ e. is_some_list e.1) (zip words lists))) (set_is : set ≡ taken)
       (left_is : left ≡ filter is_some_list lists) (e : ends ≡ ends_from 0 left) (r : rows ≡ joined left) where
     set_used : set ≡ used
-    set_used =
-        set_is ∙ ap sorted_set (take_is ∙ ap (λ (l : List (List ℕ)). map (λ e. e.0) (filter (λ e. is_some_list e.1) (zip words l))) lists_are ∙ zip_kept f is_some_list words)
-        ∙ rising_set used used_sorted
+    set_used = set_is ∙ take_is ∙ words_taken
 
     left_used : left ≡ map f used
     left_used = left_is ∙ ap (filter is_some_list) lists_are ∙ kept_map is_some_list f words

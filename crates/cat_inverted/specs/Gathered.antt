@@ -5,6 +5,7 @@ use Rattle.std.specs.Option.{option_map_or}
 use Rattle.std.specs.HashMap.{HashMap, get_by}
 use Rattle.std.specs.Borrow.{Bor}
 use Rattle.std.specs.declared.vec.Vec.{Vec}
+use Rattle.smallvec.specs.SmallVec.{SmallVec}
 use Rattle.cat_model.specs.RowSets.{indices}
 use Rattle.cat_model.specs.Text.{Text}
 use Rattle.cat_inverted.specs.Postings.{is_among}
@@ -23,11 +24,11 @@ ends_from from [] = []
 ends_from from (list ∷ lists) = (from + length list) ∷ ends_from (from + length list) lists
 
 -- the lists of a list of lists
-abbrev pub lists_in : {Z S : Type 0} → Vec (Vec ℕ Z) S → List (List ℕ)
+abbrev pub lists_in : {S : Type 0} → Vec (SmallVec ℕ) S → List (List ℕ)
 lists_in v = map (λ list. list.items) v.items
 
 -- the list of the ordinal
-abbrev pub list_at : {Z S : Type 0} → Vec (Vec ℕ Z) S → ℕ → List ℕ
+abbrev pub list_at : {S : Type 0} → Vec (SmallVec ℕ) S → ℕ → List ℕ
 list_at v ordinal = slice_index_or (lists_in v) ordinal []
 
 -- the rows whose ordinals have this one

@@ -11,6 +11,7 @@ use crate::laying::add_list;
 use crate::terms::Terms;
 use cat_base::Text;
 use cat_values::Dictionary;
+use smallvec::SmallVec;
 use std::alloc::{AllocError, Global};
 
 /// What a merge takes of one segment: its terms, and where its rows go (Lucene: a `FieldsProducer` of a `MergeState` with its
@@ -23,20 +24,24 @@ pub struct MergeInput<'a> {
     pub row_map: &'a [u32],
 }
 
+/// Postings of at most so many rows take no memory of their own while they are gathered: those of most words of a merge of
+/// small segments.
+const FEW_ROWS: usize = 4;
+
 /// As many lists as there are to be, each empty.
-fn empty_lists(alloc: Global, count: usize) -> Result<Vec<Vec<u32>>, AllocError>
+fn empty_lists(alloc: Global, count: usize) -> Result<Vec<SmallVec<u32, FEW_ROWS>>, AllocError>
     ensures count { IfOk result (λ v. length v.items ≡ count) }
     ensures empty { IfOk result (λ v. All (λ list. list.items ≡ []) v.items) }
 {
     let mut lists = Vec::with_capacity(alloc, count)?;
     for _ in 0..count {
-        lists.push(Vec::new(alloc))?;
+        lists.push(SmallVec::new(alloc))?;
     }
     Ok(lists)
 }
 
 /// Adds the row of the code, unless the code is of none.
-fn add_row(list: &mut Vec<u32>, code: u32) -> Result<(), AllocError>
+fn add_row(list: &mut SmallVec<u32, FEW_ROWS>, code: u32) -> Result<(), AllocError>
     ensures ok { OnOk result (list.new.items ≡ list.old.items ++ row_in code) }
 {
     if code != 0 {
@@ -46,7 +51,11 @@ fn add_row(list: &mut Vec<u32>, code: u32) -> Result<(), AllocError>
 }
 
 /// Adds the rows of the result that these rows become.
-fn add_moved(list: &mut Vec<u32>, rows: &[u32], row_map: &[u32]) -> Result<(), AllocError>
+fn add_moved(
+    list: &mut SmallVec<u32, FEW_ROWS>,
+    rows: &[u32],
+    row_map: &[u32],
+) -> Result<(), AllocError>
     requires { All (λ r. r < length row_map.now) rows.now }
     ensures ok { OnOk result (list.new.items ≡ list.old.items ++ moved row_map.now rows.now) }
 {
@@ -59,7 +68,7 @@ fn add_moved(list: &mut Vec<u32>, rows: &[u32], row_map: &[u32]) -> Result<(), A
 /// Adds the rows of the input that each word has.
 fn add_input(
     alloc: Global,
-    lists: &mut Vec<Vec<u32>>,
+    lists: &mut Vec<SmallVec<u32, FEW_ROWS>>,
     words: &Dictionary,
     input: &MergeInput<'_>,
 ) -> Result<(), AllocError>
@@ -89,7 +98,7 @@ fn gathered(
     alloc: Global,
     words: &Dictionary,
     inputs: &[MergeInput<'_>],
-) -> Result<Vec<Vec<u32>>, AllocError>
+) -> Result<Vec<SmallVec<u32, FEW_ROWS>>, AllocError>
     requires few { length words.now < 2 ^ 32 }
     requires sorted { IsTextSet words.now }
     requires fits { All (λ p. length p.row_map.now ≡ length p.terms.now) inputs.now }
@@ -108,7 +117,11 @@ fn gathered(
 }
 
 /// The words whose lists aren't empty.
-fn used_words(alloc: Global, words: &[Text], lists: &[Vec<u32>]) -> Result<Vec<Text>, AllocError>
+fn used_words(
+    alloc: Global,
+    words: &[Text],
+    lists: &[SmallVec<u32, FEW_ROWS>],
+) -> Result<Vec<Text>, AllocError>
     requires { length lists.now ≡ length words.now }
     ensures ok { IfOk result (λ v. v.items
         ≡ map (λ e. e.0) (filter (λ e. nat_lt 0 (length e.1)) (zip words.now (map (λ list. list.items) lists.now)))) }
@@ -123,7 +136,7 @@ fn used_words(alloc: Global, words: &[Text], lists: &[Vec<u32>]) -> Result<Vec<T
 }
 
 /// Takes the lists of no row away.
-fn remove_empty(lists: &mut Vec<Vec<u32>>)
+fn remove_empty(lists: &mut Vec<SmallVec<u32, FEW_ROWS>>)
     ensures { lists.new.items ≡ filter (λ list. nat_lt 0 (length list.items)) lists.old.items }
 {
     lists.retain(|list| !list.is_empty());
@@ -141,7 +154,10 @@ fn words_of<'a>(alloc: Global, inputs: &[MergeInput<'a>]) -> Result<Vec<&'a [Tex
 }
 
 /// Where each list ends, and the lists, one behind another.
-fn laid(alloc: Global, lists: &[Vec<u32>]) -> Result<(Vec<u32>, Vec<u32>), AllocError>
+fn laid(
+    alloc: Global,
+    lists: &[SmallVec<u32, FEW_ROWS>],
+) -> Result<(Vec<u32>, Vec<u32>), AllocError>
     ensures ends { IfOk result (λ p. p.0.items ≡ ends_from 0 (map (λ list. list.items) lists.now)) }
     ensures rows { IfOk result (λ p. p.1.items ≡ flat_map (λ list. list) (map (λ list. list.items) lists.now)) }
     ensures few { IfOk result (λ p. length p.1.items < 2 ^ 32) }
@@ -178,7 +194,7 @@ impl Terms {
         let (ends, rows) = laid(alloc, &lists)?;
         Ok(Terms {
             len,
-            words: Dictionary::of(alloc, used)?,
+            words: Dictionary::from_sorted(alloc, used)?,
             ends,
             rows,
         })

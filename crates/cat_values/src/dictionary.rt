@@ -1,5 +1,5 @@
 //! A dictionary: the texts of a field in byte order, each found by its ordinal, and each ordinal by its text.
-ghost use Rattle.std.specs.Prelude.{◌≡◌, ℕ, ◌<◌, ◌^◌, ◌++◌, ◌↔◌, List, length, map, All, Contains, IfOk, IfSome, OnOk};
+ghost use Rattle.std.specs.Prelude.{◌≡◌, ℕ, ◌<◌, ◌≤◌, ◌^◌, ◌++◌, ◌↔◌, List, length, map, All, Contains, IfOk, IfSome, OnOk};
 ghost use Rattle.std.specs.List.{flat_map};
 ghost use Rattle.cat_base.specs.Texts.{sorted_set, IsTextSet};
 ghost use Rattle.cat_model.specs.Ordinals.{dictionary_of, text_at, IsOrdinal};
@@ -96,7 +96,30 @@ fn merged<'a>(
     Ok(all)
 }
 
-/// The texts of the sets, each text once: those of one half of the sets are merged with those of the other.
+/// How many of the sets make one of two parts that have about as many texts: so one great set among small ones, as merges
+/// have it, is gone through once, and not once more at each halving.
+fn front_part(sets: &[&[Text]]) -> usize
+    requires { 2 ≤ length sets.now }
+    ensures some { 0 < result }
+    ensures rest { result < length sets.now }
+{
+    let mut front = 1;
+    let mut back = sets.len() - 1;
+    let mut front_texts = sets[0].len();
+    let mut back_texts = sets[back].len();
+    while front < back {
+        if front_texts < back_texts {
+            front_texts = front_texts.saturating_add(sets[front].len());
+            front += 1;
+        } else {
+            back -= 1;
+            back_texts = back_texts.saturating_add(sets[back].len());
+        }
+    }
+    front
+}
+
+/// The texts of the sets, each text once: those of one part of the sets are merged with those of the other.
 fn united<'a>(alloc: Global, sets: &[&'a [Text]]) -> Result<Vec<&'a Text>, AllocError>
     ensures ok { IfOk result (λ v. (text : List ℕ)
         → Contains (map (λ t. t.now) v.items) text ↔ Contains (flat_map (λ s. s.now) sets.now) text) }
@@ -104,7 +127,7 @@ fn united<'a>(alloc: Global, sets: &[&'a [Text]]) -> Result<Vec<&'a Text>, Alloc
     if sets.len() < 2 {
         return texts_in(alloc, sets);
     }
-    let (left, right) = sets.split_at(sets.len() / 2);
+    let (left, right) = sets.split_at(front_part(sets));
     merged(alloc, &united(alloc, left)?, &united(alloc, right)?)
 }
 
@@ -146,12 +169,14 @@ impl Dictionary {
     }
 
     /// The dictionary of texts that rise by bytes, each once, as a file has them (see [`rises`](cat_base::rises)). They are
-    /// taken over.
+    /// taken over, and none is looked at.
     pub fn from_sorted(alloc: Global, texts: Vec<Text>) -> Result<Self, AllocError>
         requires { IsTextSet texts.items }
         ensures ok { IfOk result (λ d. d ≡ texts.items) }
     {
-        Dictionary::of(alloc, texts)
+        Ok(Dictionary {
+            texts: Arc::new(alloc, TextSet::from_sorted(texts))?,
+        })
     }
 
     /// The dictionary of the texts of all the sets, as Lucene's `OrdinalMap` has it. The texts of each set are in byte order,

@@ -1,4 +1,5 @@
-use Rattle.std.proofs.Common.{ℕ, ◌<◌, Vec, Global, List, length, get_or, map, ap, sym, ◌∙◌, ◌++◌, subst, arith, if◌then◌else◌, []}
+use Rattle.std.proofs.Common.{ℕ, ◌<◌, List, length, get_or, map, ap, sym, ◌∙◌, ◌++◌, subst, arith, if◌then◌else◌, []}
+use Rattle.smallvec.specs.SmallVec.{SmallVec}
 use Rattle.std.proofs.lemmas.List.{length-set, length-map, take_all}
 use Rattle.std.specs.List.{list_any}
 use Rattle.cat_base.specs.Texts.{IsTextSet}
@@ -24,7 +25,7 @@ loop-word-preserved c =
     let added = c.in_ok-add_moved.ensures.ok ∙ ap (λ (rows : List ℕ). c.index_mut-list.result.now.items ++ moved codes rows) c.postings_at.ensures.value in
     record {
       count = length-set lists o c.add_moved.new.list ∙ c.loop-word.invariant.count;
-      lists = λ q lt. part_more words texts codes ordinals c.requires.sorted rising same (λ (v : Vec ℕ Global). v.items) lists (list_at c.args.lists.now) j c.add_moved.new.list c.index_mut-list.result.now c.loop-word-test.true within (c.loop-word.invariant.count ∙ c.requires.count) c.index_mut-list.ensures.value added q lt (c.loop-word.invariant.lists q lt);
+      lists = λ q lt. part_more words texts codes ordinals c.requires.sorted rising same (λ (v : SmallVec ℕ). v.items) lists (list_at c.args.lists.now) j c.add_moved.new.list c.index_mut-list.result.now c.loop-word-test.true within (c.loop-word.invariant.count ∙ c.requires.count) c.index_mut-list.ensures.value added q lt (c.loop-word.invariant.lists q lt);
     }
 
 pub returns-clause-lists : goal.returns-clause-lists

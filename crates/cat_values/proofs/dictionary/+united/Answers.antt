@@ -3,10 +3,10 @@ use Rattle.cat_values.proofs.Merged.{if_ok, halves_have}
 use Rattle.cat_values.proofs.dictionary.+united.Goals as goal
 
 pub united-requires : goal.united-requires
-united-requires t c = (omega (arith, c.split_at.ensures.front_len, c.if-sets-lt2.false, c.decreases), tt)
+united-requires t c = (omega (arith, c.split_at.ensures.front_len, c.front_part.ensures.rest, c.decreases), tt)
 
 pub united-requires-2 : goal.united-requires-2
-united-requires-2 t c = (omega (arith, c.split_at.ensures.back_len, c.if-sets-lt2.false, c.decreases), tt)
+united-requires-2 t c = (omega (arith, c.split_at.ensures.back_len, c.front_part.ensures.some, c.front_part.ensures.rest, c.decreases), tt)
 
 pub returns : goal.returns
 returns t c = record {
