@@ -83,10 +83,10 @@ impl Gathered {
         self.put(Buffer::new().format(number).as_bytes(), to)
     }
 
-    /// Writes what waits.
+    /// Writes what waits, behind which no more is gathered.
     #[inline]
-    pub fn finish<W: Write>(self, to: &mut W) -> Result<(), WriteFault>
-        ensures { Sent (W.contents to.old) (W.contents to.new) result self }
+    pub fn finish<W: Write>(&self, to: &mut W) -> Result<(), WriteFault>
+        ensures { Sent (W.contents to.old) (W.contents to.new) result self.now }
     {
         send(self.bytes.as_slice(), to)
     }
