@@ -20,4 +20,4 @@ pub use numbers::{
 };
 pub use order::rises;
 pub use refusal::Refusal;
-pub use text::{Text, TextSet, sorted_sets_are_sets};
+pub use text::{SHORT_BYTES, Text, TextSet, sorted_sets_are_sets};

@@ -1,5 +1,5 @@
 //! A text, which contracts see as its bytes, and a set of texts, which they see as a list of these in order.
-ghost use Rattle.std.specs.Prelude.{◌≡◌, ℕ, ◌↔◌, List, [], length, IfOk, IfSome, IsTrue, string_bytes, Contains};
+ghost use Rattle.std.specs.Prelude.{◌≡◌, ◌≤◌, ℕ, ◌↔◌, List, [], length, IfOk, IsOk, IfSome, IsSome, IsTrue, string_bytes, Contains};
 ghost use Rattle.cat_base.specs.Texts.{sorted_set, IsTextSet};
 
 use arrayvec::ArrayString;
@@ -10,14 +10,14 @@ use std::marker::Model;
 
 /// Texts of at most so many bytes lie in the value itself: most words, labels and ids. They take no memory of their own, and
 /// a search among texts that stand side by side looks nowhere else.
-const SHORT_BYTES: usize = 16;
+pub const SHORT_BYTES: usize = 16;
 
 /// Where the bytes of a text lie.
 #[derive(Drop)]
 pub(crate) enum Place {
     /// In the value.
     Short(ArrayString<SHORT_BYTES>),
-    /// In memory of their own.
+    /// In memory of their own: more than `SHORT_BYTES` of them.
     Long(String),
 }
 
@@ -29,16 +29,19 @@ pub struct Text {
 
 impl Model for Text {
     ghost use Rattle.std.specs.Prelude.{ℕ, List};
-    ghost use Rattle.cat_base.specs.Texts.{bytes_in};
+    ghost use Rattle.cat_base.specs.Texts.{bytes_in, LiesRight};
 
     ghost Value = { List ℕ };
 
     ghost view = { λ t. bytes_in t.place };
+
+    ghost invariant = { λ t. LiesRight t.place };
 }
 
 /// The text in a value, if it is short.
 fn short(text: &str) -> Option<ArrayString<SHORT_BYTES>>
-    ensures { IfSome result (λ s. s.bytes ≡ text.now) }
+    ensures variant { IsSome result ↔ (length text.now ≤ SHORT_BYTES) }
+    ensures text { IfSome result (λ s. s.bytes ≡ text.now) }
 {
     ArrayString::from(text).ok()
 }
@@ -55,9 +58,10 @@ impl Text {
         Text { place }
     }
 
-    /// A copy of the text.
+    /// A copy of the text. One of at most `SHORT_BYTES` takes no memory.
     pub fn from_str(alloc: Global, text: &str) -> Result<Self, AllocError>
         ensures ok { IfOk result (λ t. t ≡ text.now) }
+        ensures short { length text.now ≤ SHORT_BYTES → IsOk result }
     {
         let place = match short(text) {
             Some(short) => Place::Short(short),
@@ -76,9 +80,10 @@ impl Text {
         }
     }
 
-    /// An equal text.
+    /// An equal text. One of at most `SHORT_BYTES` takes no memory.
     pub fn copy(&self) -> Result<Self, AllocError>
         ensures ok { IfOk result (λ t. t ≡ self.now) }
+        ensures short { length self.now ≤ SHORT_BYTES → IsOk result }
     {
         let place = match &self.place {
             Place::Short(short) => Place::Short(*short),

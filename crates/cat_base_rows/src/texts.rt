@@ -1,5 +1,5 @@
 //! Texts and sets of texts.
-use cat_base::{Text, TextSet};
+use cat_base::{SHORT_BYTES, Text, TextSet};
 use std::cmp::Ordering;
 use std::test::Fail;
 
@@ -60,6 +60,18 @@ fn texts_of_each_length_are_kept(rt: HostRuntime) -> Result<(), Fail> {
         assert_eq!(rt; one.as_str(), text);
         assert_eq!(rt; other.as_str(), text);
         assert_eq!(rt; one.copy()?, other, "{text}");
+    }
+    Ok(())
+}
+
+// `rt try --test --fail-alloc N` makes the Nth allocation of each test fail. This test has to pass at every N: it makes none.
+#[test]
+fn short_texts_take_no_memory(rt: HostRuntime) -> Result<(), Fail> {
+    const TEXTS: &[&str] = &["", "a", "ten bytes ééé", "sixteen letters:"];
+    for &text in TEXTS {
+        assert!(rt; text.len() <= SHORT_BYTES, "{text}");
+        let copy = Text::from_str(rt.alloc(), text)?.copy()?;
+        assert_eq!(rt; copy.as_str(), text);
     }
     Ok(())
 }
