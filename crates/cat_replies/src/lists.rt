@@ -10,7 +10,7 @@ ghost use Rattle.cat_search.specs.Keys.{key_of};
 ghost use Rattle.cat_sending.specs.Out.{Gathers, Sent};
 ghost use Rattle.cat_replies.specs.Words.{word_text};
 
-use crate::words::{Word, put_behind_space, put_number_behind_space, send_line};
+use crate::words::{Word, put_behind_space, put_line, put_number_behind_space, send_line};
 use cat_base::SessionNo;
 use cat_directory::FileName;
 use cat_facets::{FacetCount, Facets};
@@ -31,26 +31,30 @@ pub(crate) fn send_page<W: Write>(
     let entries = page.entries();
     let shown = Word::Number(entries.len() as u64);
     let total = Word::Number(page.total() as u64);
-    send_line(session, &[Word::Plain(b"OK"), shown, total], to)?;
-    send_entries(session, entries, to)
+    let words = [Word::Plain(b"OK"), shown, total];
+    let mut lines = Gathered::new();
+    put_line(&mut lines, session, &words, to)?;
+    put_entries(&mut lines, session, entries, to)?;
+    lines.finish(to)
 }
 
-fn send_entries<W: Write>(
+/// Adds a line for each hit.
+fn put_entries<W: Write>(
+    lines: &mut Gathered,
     session: SessionNo,
     entries: &[Entry],
     to: &mut W,
 ) -> Result<(), WriteFault>
-    ensures { Sent (W.contents to.old) (W.contents to.new) result
+    ensures { Gathers (W.contents to.old) (W.contents to.new) lines.old lines.new result
         (flat_map (λ entry. line_text (decimal session ∷ entry_words entry)) entries.now) }
 {
     let mut digits = Buffer::new();
     let session = digits.format(session as u64).as_bytes();
     let mut spelled = Buffer::new();
-    let mut lines = Gathered::new();
     for entry in entries {
-        put_entry(&mut lines, session, entry, &mut spelled, to)?;
+        put_entry(lines, session, entry, &mut spelled, to)?;
     }
-    lines.finish(to)
+    Ok(())
 }
 
 /// Adds the line of a hit. A page may have a thousand of them, so their words are put one by one, and the lines behind one
@@ -96,26 +100,30 @@ pub(crate) fn send_counts<W: Write>(
     let counts = facets.counts();
     let matching = Word::Number(facets.matching() as u64);
     let met = Word::Number(facets.met() as u64);
-    send_line(session, &[Word::Plain(b"OK"), matching, met], to)?;
-    send_labels(session, counts, to)
+    let words = [Word::Plain(b"OK"), matching, met];
+    let mut lines = Gathered::new();
+    put_line(&mut lines, session, &words, to)?;
+    put_labels(&mut lines, session, counts, to)?;
+    lines.finish(to)
 }
 
-fn send_labels<W: Write>(
+/// Adds a line for each count that is told.
+fn put_labels<W: Write>(
+    lines: &mut Gathered,
     session: SessionNo,
     counts: &[FacetCount],
     to: &mut W,
 ) -> Result<(), WriteFault>
-    ensures { Sent (W.contents to.old) (W.contents to.new) result
+    ensures { Gathers (W.contents to.old) (W.contents to.new) lines.old lines.new result
         (flat_map (λ counted. line_text (decimal session ∷ counted_words counted)) counts.now) }
 {
     let mut digits = Buffer::new();
     let session = digits.format(session as u64).as_bytes();
     let mut spelled = Buffer::new();
-    let mut lines = Gathered::new();
     for counted in counts {
-        put_label(&mut lines, session, counted, &mut spelled, to)?;
+        put_label(lines, session, counted, &mut spelled, to)?;
     }
-    lines.finish(to)
+    Ok(())
 }
 
 /// Adds the line of a label, of a session that is spelled already.

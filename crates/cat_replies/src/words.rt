@@ -111,6 +111,21 @@ fn put_words<W: Write>(line: &mut Gathered, words: &[Word], to: &mut W) -> Resul
     Ok(())
 }
 
+/// Adds a line of the session.
+pub(crate) fn put_line<W: Write>(
+    line: &mut Gathered,
+    session: SessionNo,
+    words: &[Word],
+    to: &mut W,
+) -> Result<(), WriteFault>
+    ensures { Gathers (W.contents to.old) (W.contents to.new) line.old line.new result
+        (line_text (decimal session ∷ map word_text words.now)) }
+{
+    line.put_number(session as u64, to)?;
+    put_words(line, words, to)?;
+    line.put(b"\n", to)
+}
+
 /// Writes a line of the session.
 pub(crate) fn send_line<W: Write>(
     session: SessionNo,
@@ -120,8 +135,6 @@ pub(crate) fn send_line<W: Write>(
     ensures { Sent (W.contents to.old) (W.contents to.new) result (line_text (decimal session ∷ map word_text words.now)) }
 {
     let mut line = Gathered::new();
-    line.put_number(session as u64, to)?;
-    put_words(&mut line, words, to)?;
-    line.put(b"\n", to)?;
+    put_line(&mut line, session, words, to)?;
     line.finish(to)
 }

@@ -1,13 +1,23 @@
-use Rattle.cat_sending.proofs.Written.{front_before, sent_behind, sent_at_fault}
+use Rattle.std.specs.Fmt.{decimal}
+use Rattle.std.specs.List.{flat_map}
+use Rattle.cat_sending.proofs.Written.{both_taken, gathered_before, gathered_front, gathered_sent, sent_at_fault, unwaited}
 use Rattle.cat_replies.proofs.Listed.{counts_listed}
+use Rattle.cat_replies.proofs.Pieces.{counted_line}
 use Rattle.cat_replies.proofs.lists.send_counts.Goals as goal
 
-pub returns-in_err-send_line : goal.returns-in_err-send_line
-returns-in_err-send_line g c =
+pub returns-in_err-put_line : goal.returns-in_err-put_line
+returns-in_err-put_line g c =
     rw (counts_listed c.args.session c.matching.result c.met.result c.args.facets.now c.counts-counts.result.now c.matching.ensures c.met.ensures c.counts-counts.ensures)
-    (sent_at_fault _ c.from_residual.ensures.0 (front_before _ c.in_err-send_line.ensures))
+    (sent_at_fault _ c.from_residual.ensures.0
+    (unwaited _ _ c.new-lines.ensures (gathered_before _ _ (flat_map (counted_line (decimal c.args.session)) c.counts-counts.result.now) c.in_err-put_line.ensures)))
+
+pub returns-in_err-put_labels : goal.returns-in_err-put_labels
+returns-in_err-put_labels g c =
+    rw (counts_listed c.args.session c.matching.result c.met.result c.args.facets.now c.counts-counts.result.now c.matching.ensures c.met.ensures c.counts-counts.ensures)
+    (sent_at_fault _ c.from_residual-in_err-put_labels.ensures.0
+    (unwaited _ _ c.new-lines.ensures (gathered_front _ _ _ _ _ _ _ c.in_ok-put_line.ensures c.in_err-put_labels.ensures)))
 
 pub returns : goal.returns
 returns g c =
     rw (counts_listed c.args.session c.matching.result c.met.result c.args.facets.now c.counts-counts.result.now c.matching.ensures c.met.ensures c.counts-counts.ensures)
-    (sent_behind _ _ _ _ _ _ c.in_ok-send_line.ensures c.send_labels.ensures)
+    (gathered_sent _ _ _ _ _ _ _ c.new-lines.ensures (both_taken _ _ _ _ _ _ _ _ c.in_ok-put_line.ensures c.in_ok-put_labels.ensures) c.finish.ensures)

@@ -1,30 +1,8 @@
-use Rattle.std.proofs.Common.{◌++◌, codes}
-use Rattle.std.specs.List.{flat_map}
-use Rattle.cat_sending.proofs.Written.{both_taken, gathered_before, gathered_front, gathered_sent, sent_at_fault, unwaited}
-use Rattle.cat_replies.specs.Words.{behind_space}
-use Rattle.cat_replies.proofs.Pieces.{line_in_pieces}
+use Rattle.cat_sending.proofs.Written.{gathered_sent, sent_at_fault, unwaited}
 use Rattle.cat_replies.proofs.words.send_line.Goals as goal
 
-pub returns-in_err-put_number : goal.returns-in_err-put_number
-returns-in_err-put_number g c =
-    rw (line_in_pieces c.args.session c.args.words.now)
-    (sent_at_fault _ c.from_residual.ensures.0 (unwaited _ _ c.new-line.ensures (gathered_before _ _ (flat_map behind_space c.args.words.now ++ codes "\n") c.in_err-put_number.ensures)))
-
-pub returns-in_err-put_words : goal.returns-in_err-put_words
-returns-in_err-put_words g c =
-    rw (line_in_pieces c.args.session c.args.words.now)
-    (sent_at_fault _ c.from_residual-in_err-put_words.ensures.0
-    (unwaited _ _ c.new-line.ensures (gathered_front _ _ _ _ _ _ _ c.in_ok-put_number.ensures (gathered_before _ _ (codes "\n") c.in_err-put_words.ensures))))
-
-pub returns-in_err-put : goal.returns-in_err-put
-returns-in_err-put g c =
-    rw (line_in_pieces c.args.session c.args.words.now)
-    (sent_at_fault _ c.from_residual-in_err-put.ensures.0
-    (unwaited _ _ c.new-line.ensures (gathered_front _ _ _ _ _ _ _ c.in_ok-put_number.ensures (gathered_front _ _ _ _ _ _ (codes "\n") c.in_ok-put_words.ensures c.in_err-put.ensures))))
+pub returns-in_err-put_line : goal.returns-in_err-put_line
+returns-in_err-put_line g c = sent_at_fault _ c.from_residual.ensures.0 (unwaited _ _ c.new-line.ensures c.in_err-put_line.ensures)
 
 pub returns : goal.returns
-returns g c =
-    rw (line_in_pieces c.args.session c.args.words.now)
-    (gathered_sent _ _ _ _ _ _ _ c.new-line.ensures
-    (both_taken _ _ _ _ _ _ _ _ c.in_ok-put_number.ensures (both_taken _ _ _ _ _ _ _ (codes "\n") c.in_ok-put_words.ensures c.in_ok-put.ensures))
-    c.finish.ensures)
+returns g c = gathered_sent _ _ _ _ _ _ _ c.new-line.ensures c.in_ok-put_line.ensures c.finish.ensures
