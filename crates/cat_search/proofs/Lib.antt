@@ -19,3 +19,4 @@ pub mod Gathered
 pub mod ViewPages
 pub mod Stored
 pub mod Killed
+pub mod Pushed

@@ -1,5 +1,5 @@
 //! Pages, and the entries that they show.
-ghost use Rattle.std.specs.Prelude.{◌≡◌, map, option_map, IfOk};
+ghost use Rattle.std.specs.Prelude.{◌≡◌, ◌++◌, ◌∷◌, [], map, option_map, IfOk, OnOk};
 ghost use Rattle.cat_search.specs.Ids.{id_of};
 ghost use Rattle.cat_search.specs.Keys.{key_of};
 ghost use Rattle.cat_search.specs.Standings.{key_shown, entry_shown};
@@ -107,16 +107,24 @@ fn shown_key(alloc: Global, rank: &Rank) -> Result<Option<Key>, AllocError>
     }
 }
 
-/// The hit as a page shows it.
+/// Adds the hit as a page shows it, behind the others.
 #[inline(always)]
-pub(crate) fn entry_of(alloc: Global, candidate: &Candidate) -> Result<Entry, AllocError>
-    ensures ok { IfOk result (λ e. e ≡ entry_shown (standing_of candidate.now)) }
+pub(crate) fn push_entry(
+    alloc: Global,
+    entries: &mut Vec<Entry>,
+    candidate: &Candidate,
+) -> Result<(), AllocError>
+    ensures ok { OnOk result (entries.new.items ≡ entries.old.items ++ entry_shown (standing_of candidate.now) ∷ []) }
 {
-    Ok(Entry {
+    entries.push(Entry {
         number: candidate.number,
-        id: Id::of(alloc, candidate.id)?,
+        id: Id::empty(),
         key: shown_key(alloc, &candidate.rank)?,
-    })
+    })?;
+    match entries.last_mut() {
+        Some(entry) => entry.id.fill(alloc, candidate.id),
+        None => unreachable!(),
+    }
 }
 
 /// The hits as a page shows them.
@@ -125,7 +133,7 @@ pub(crate) fn entries_of(alloc: Global, candidates: &[Candidate]) -> Result<Vec<
 {
     let mut entries = Vec::with_capacity(alloc, candidates.len())?;
     for candidate in candidates {
-        entries.push(entry_of(alloc, candidate)?)?;
+        push_entry(alloc, &mut entries, candidate)?;
     }
     Ok(entries)
 }

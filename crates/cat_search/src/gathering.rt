@@ -15,7 +15,7 @@ ghost use Rattle.cat_search.specs.Standings.{Standing, entry_shown};
 
 use crate::ask::Wanted;
 use crate::best::Best;
-use crate::entries::{Entry, entries_of, entry_of};
+use crate::entries::{Entry, entries_of, push_entry};
 use crate::hits::Hits;
 use crate::leaf_ranks::LeafRanks;
 use crate::offers::{is_beyond, offer_rows};
@@ -141,7 +141,7 @@ fn show_rows<'a>(
         }
         let candidate = ranks.at(row);
         if is_beyond(mark, &candidate) {
-            shown.push(entry_of(alloc, &candidate)?)?;
+            push_entry(alloc, shown, &candidate)?;
         }
     }
     Ok(())

@@ -1,5 +1,5 @@
 //! The ids of hits, held by the entries that show them.
-ghost use Rattle.std.specs.Prelude.{◌≡◌, IfOk};
+ghost use Rattle.std.specs.Prelude.{◌≡◌, [], OnOk};
 ghost use Rattle.cat_search.specs.Ids.{id_of};
 
 use arrayvec::ArrayString;
@@ -19,14 +19,26 @@ pub(crate) enum Id {
 }
 
 impl Id {
-    /// A copy of the id.
-    pub(crate) fn of(alloc: Global, id: &str) -> Result<Id, AllocError>
-        ensures ok { IfOk result (λ i. id_of i ≡ id.now) }
+    /// An id of no byte, to be filled.
+    pub(crate) fn empty() -> Id
+        ensures { id_of result ≡ [] }
     {
-        match ArrayString::from(id) {
-            Ok(short) => Ok(Id::Short(short)),
-            Err(_) => Ok(Id::Long(Text::from_str(alloc, id)?)),
+        Id::Short(ArrayString::new())
+    }
+
+    /// Becomes a copy of the id where it was empty, and stays where it lies: to move bytes that were just copied would
+    /// take longer than to copy them.
+    pub(crate) fn fill(&mut self, alloc: Global, id: &str) -> Result<(), AllocError>
+        requires { id_of self.old ≡ [] }
+        ensures ok { OnOk result (id_of self.new ≡ id.now) }
+    {
+        if let Id::Short(short) = self
+            && short.try_push_str(id).is_ok()
+        {
+            return Ok(());
         }
+        *self = Id::Long(Text::from_str(alloc, id)?);
+        Ok(())
     }
 
     /// The id, borrowed.
