@@ -1,9 +1,9 @@
 -- The bytes after what is read, without the value.
-use Rattle.std.proofs.Common.{◌≡◌, ℕ, zero, suc, ◌-◌, ◌+◌, ◌<◌, ◌≤◌, List, [], ◌∷◌, length, drop, Bool, true, false, cond, eqb, Option, Some, None, Result, Ok, Err, refl, sym, ap, ◌∙◌, subst, arith}
+use Rattle.std.proofs.Common.{◌≡◌, ℕ, zero, suc, ◌-◌, ◌+◌, ◌<◌, ◌≤◌, List, [], ◌∷◌, length, true, cond, eqb, Option, Some, None, Result, Ok, Err, refl, sym, ap, ◌∙◌, arith}
 use Rattle.std.proofs.lemmas.Bool.{eqb-true}
 use Rattle.std.proofs.lemmas.List.{nil_from_length}
 use Rattle.cat_model.specs.Item.{Field, Kind, Schema}
-use Rattle.cat_model.specs.Layout.{WordPostings, Laid, Layout, Head}
+use Rattle.cat_model.specs.Layout.{Laid, Layout, Head}
 use Rattle.cat_model.specs.Limits.{field_limit}
 use Rattle.cat_codec.specs.declared.cursor.Unreadable.{Unreadable}
 use Rattle.cat_codec.specs.Reading.{Reader, ◌>>=◌, u32_at, both_at, many_at, counted_at, text_at, rest_of, Passes}

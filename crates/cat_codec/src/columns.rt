@@ -1,5 +1,5 @@
 //! The columns of a segment, read.
-ghost use Rattle.std.specs.Prelude.{◌≡◌, ℕ, ◌^◌, ◌<◌, length, map, IfOk, All};
+ghost use Rattle.std.specs.Prelude.{◌≡◌, ◌^◌, ◌<◌, length, map, IfOk, All};
 ghost use Rattle.cat_model.specs.Layout.{AreEnds, pieces, paired_postings};
 ghost use Rattle.cat_schema.specs.Kinds.{field_kind_of};
 ghost use Rattle.cat_codec.specs.Reading.{Finds, Gives, many_at};

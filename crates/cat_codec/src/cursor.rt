@@ -1,5 +1,5 @@
 //! The cursor's calls, each as what the reading of its bytes gives.
-ghost use Rattle.std.specs.Prelude.{◌≡◌, length};
+ghost use Rattle.std.specs.Prelude.{◌≡◌};
 ghost use Rattle.std.specs.Str.{is_utf8};
 ghost use Rattle.cat_codec.specs.Reading.{Finds, byte_at, u32_at, u64_at, string_at, where_at};
 

@@ -1,5 +1,5 @@
 //! The parts of a segment's file, written one after the other.
-ghost use Rattle.std.specs.Prelude.{◌≡◌, ℕ, ◌^◌, ◌<◌, ◌++◌, length, OnOk};
+ghost use Rattle.std.specs.Prelude.{◌≡◌, ◌<◌, ◌++◌, length, OnOk};
 ghost use Rattle.std.specs.List.{flat_map};
 ghost use Rattle.cat_base.specs.Bytes.{spelled_u32, spelled_bytes};
 ghost use Rattle.cat_model.specs.Layout.{spelled_field, spelled_fields, spelled_head, spelled_list, spelled_texts, spelled_postings, spelled_number};

@@ -1,6 +1,5 @@
 //! Terms of a few rows, looked up by words and by ranges of words.
-ghost use Rattle.std.specs.Prelude.{◌≡◌, ◌^◌, ◌<◌, length, All, IfOk};
-ghost use Rattle.cat_base.specs.Texts.{IsTextSet};
+ghost use Rattle.std.specs.Prelude.{◌≡◌, ◌^◌, ◌<◌, length, IfOk};
 ghost use Rattle.cat_model.specs.Layout.{AreEnds};
 
 use crate::texts::{are_words, equal_rows, number, rows_in, set, texts};

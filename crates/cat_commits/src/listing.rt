@@ -1,5 +1,5 @@
 //! The segments of a commit as their bytes lie in its file, 16 for each: its number, and the commit that wrote its live rows.
-ghost use Rattle.std.specs.Prelude.{◌≡◌, ◌+◌, ◌*◌, ◌/◌, ◌<◌, ◌≤◌, ◌↔◌, ℕ, length, take, IfOk, IsTrue, option_map};
+ghost use Rattle.std.specs.Prelude.{◌≡◌, ◌+◌, ◌*◌, ◌/◌, ◌<◌, ◌≤◌, ◌↔◌, length, IfOk, IsTrue, option_map};
 ghost use Rattle.cat_codec.specs.Reading.{many_at, rest_of};
 ghost use Rattle.cat_commits.specs.Layouts.{listed_at};
 ghost use Rattle.cat_commits.specs.Listings.{number_in, listed_in, all_listed_in, Differ, DiffersFrom};

@@ -1,5 +1,5 @@
 //! Where the live row of each id stands.
-ghost use Rattle.std.specs.Prelude.{◌≡◌, ◌<◌, ◌≤◌, List, ℕ, length, map, IfOk};
+ghost use Rattle.std.specs.Prelude.{◌≡◌, ◌<◌, ◌≤◌, length, map, IfOk};
 ghost use Rattle.std.specs.List.{HoldsAt};
 ghost use Rattle.std.specs.HashMap.{get_by_text, spare};
 ghost use Rattle.cat_model.specs.Text.{Text};

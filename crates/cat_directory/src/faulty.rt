@@ -1,5 +1,5 @@
 //! A device around another, which fails where it is told to: by it is tested what a failure leaves, and a crash.
-ghost use Rattle.std.specs.Prelude.{◌≡◌, ◌+◌, ◌-◌, ◌^◌, min, ◌↔◌, IfErr, IsErr};
+ghost use Rattle.std.specs.Prelude.{◌≡◌, ◌-◌, ◌↔◌, IfErr, IsErr};
 ghost use Rattle.cat_base.specs.declared.refusal.Refusal.TheVariants.{Device};
 ghost use Rattle.cat_directory.specs.Devices.{CountsWriting};
 ghost use Rattle.cat_directory.specs.Fuses.{IsArmed, IsDue, Notes};

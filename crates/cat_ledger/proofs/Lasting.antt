@@ -18,7 +18,7 @@ use Rattle.cat_directory.specs.Names.{name_of}
 use Rattle.cat_directory.specs.declared.name.FileName.{FileName}
 use Rattle.cat_ledger_model.specs.Calls.{Flushed, Flushes, MayLeave, RecordsNow, has_recorded, listed_in, wrote}
 use Rattle.cat_ledger_model.specs.Ledger as model
-use Rattle.cat_ledger_model.specs.Ledger.{IsLedger, IsNew, IsOther, IsPast, LedgerCommit, Listed, NotOf, commit_file, listed_segment, names_of_commit, names_of_merging, names_of_portion, names_of_view, names_used}
+use Rattle.cat_ledger_model.specs.Ledger.{IsNew, IsOther, IsPast, LedgerCommit, NotOf, commit_file, listed_segment, names_of_commit, names_of_merging, names_of_portion, names_of_view, names_used}
 use Rattle.cat_ledger_model.specs.Plans.{MergePolicy}
 use Rattle.cat_ledger_model.specs.Portions.{Merging}
 use Rattle.cat_ledger_model.specs.Replies.{IsLeft, Maintains}

@@ -5,7 +5,6 @@ use Rattle.std.specs.List.{flat_map, AllByRecursion}
 use Rattle.std.proofs.lemmas.List.{length-append, length-take-le, length-drop}
 use Rattle.std.proofs.lemmas.Bool.{true≢false}
 use Rattle.cat_model.specs.Files.{Name}
-use Rattle.cat_model.specs.Item.{Schema}
 use Rattle.cat_model.specs.Layout.{SpellsSegment}
 use Rattle.cat_model.specs.Limits.{last_number, view_limit}
 use Rattle.cat_model.specs.Merged.{merged_leaf}

@@ -2,11 +2,10 @@
 //!
 //! Lucene's `DocumentsWriter.flush`, with `IndexWriter.publishFlushedSegment`. When it is due is left to who writes; that the
 //! files last, to a commit.
-ghost use Rattle.std.specs.Prelude.{◌≡◌, ◌≢◌, ◌⊎◌, false, ◌<◌, ◌≤◌, ◌+◌, ◌-◌, ◌^◌, ℕ, [], ◌∷◌, ◌++◌, length, take, Some, IfOk, IfErr, OnOk, OnErr};
+ghost use Rattle.std.specs.Prelude.{◌≡◌, ◌≢◌, ◌⊎◌, false, ◌<◌, ◌≤◌, ◌+◌, ◌-◌, ◌^◌, [], ◌∷◌, ◌++◌, length, take, Some, IfOk, IfErr, OnOk, OnErr};
 ghost use Rattle.cat_base.specs.declared.refusal.Refusal.TheVariants.{Memory, Device, Spent};
 ghost use Rattle.cat_model.specs.Files.{Name, IsFileNumber};
 ghost use Rattle.cat_model.specs.Layout.{SpellsSegment};
-ghost use Rattle.cat_model.specs.Limits.{last_number, segment_limit};
 ghost use Rattle.cat_directory.specs.Devices.{CountsWriting, NoMore};
 ghost use Rattle.cat_directory.specs.declared.name.FileName.{FileName};
 ghost use Rattle.cat_ledger_model.specs.Leaves.{AreLeaves};

@@ -1,18 +1,16 @@
 //! The end of a merge: its segment stands in the place of those that it took.
 //!
 //! Lucene's `IndexWriter.commitMerge`, with the end of `mergeMiddle`.
-ghost use Rattle.std.specs.Prelude.{◌≡◌, ◌≢◌, ◌⊎◌, ◌+◌, ◌<◌, ◌≤◌, ◌++◌, ◌∷◌, ℕ, [], map, length, take, drop, true, IfOk, IfErr, OnOk, OnErr};
-ghost use Rattle.std.specs.List.{flat_map, AllByRecursion};
+ghost use Rattle.std.specs.Prelude.{◌≡◌, ◌≢◌, ◌⊎◌, ◌+◌, ◌<◌, ◌++◌, ◌∷◌, [], map, length, take, IfOk, IfErr, OnOk, OnErr};
+ghost use Rattle.std.specs.List.{AllByRecursion};
 ghost use Rattle.std.specs.Option.{option_to_list};
 ghost use Rattle.cat_base.specs.declared.refusal.Refusal.TheVariants.{Memory, Device};
 ghost use Rattle.cat_model.specs.Files.{Name, IsFileNumber};
 ghost use Rattle.cat_model.specs.Layout.{SpellsSegment};
-ghost use Rattle.cat_model.specs.View.{live_rows};
 ghost use Rattle.cat_directory.specs.Devices.{NoMore};
 ghost use Rattle.cat_directory.specs.Names.{name_of};
 ghost use Rattle.cat_directory.specs.declared.name.FileName.{FileName};
-ghost use Rattle.cat_ledger_model.specs.Leaves.{AreLeaves};
-ghost use Rattle.cat_ledger_model.specs.Users.{users_of, is_known, times, Changes};
+ghost use Rattle.cat_ledger_model.specs.Users.{users_of, Changes};
 ghost use Rattle.cat_ledger_shape.specs.Shapes.{names_of_leaves};
 ghost use Rattle.cat_ledger_shape.specs.Steps.{window_now};
 ghost use Rattle.cat_ledger_shape.specs.Ties.{TellsBytes};

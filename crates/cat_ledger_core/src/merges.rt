@@ -1,17 +1,17 @@
 //! The merge in the making: begun, and copied step by step.
 //!
 //! Lucene's `IndexWriter.merge` (`mergeInit`, `mergeMiddle`). When one is due, and of which segments, is left to who asks.
-ghost use Rattle.std.specs.Prelude.{◌≡◌, ◌≢◌, ◌⊎◌, ◌+◌, ◌<◌, ◌≤◌, ◌^◌, ℕ, false, [], ◌∷◌, length, take, drop, Some, None, IfErr, OnOk, OnErr};
-ghost use Rattle.cat_base.specs.declared.refusal.Refusal.TheVariants.{Memory, Device, Damaged, Spent};
+ghost use Rattle.std.specs.Prelude.{◌≡◌, ◌≢◌, ◌⊎◌, ◌+◌, ◌<◌, ◌≤◌, ◌^◌, [], ◌∷◌, length, take, drop, Some, None, IfErr, OnOk, OnErr};
+ghost use Rattle.cat_base.specs.declared.refusal.Refusal.TheVariants.{Memory, Device, Spent};
 ghost use Rattle.cat_model.specs.Files.{Name};
 ghost use Rattle.cat_model.specs.Limits.{last_number, row_limit};
 ghost use Rattle.cat_model.specs.Merged.{rows_of_all};
-ghost use Rattle.cat_directory.specs.Devices.{CountsReading, CountsWriting, NoMore};
+ghost use Rattle.cat_directory.specs.Devices.{CountsReading, NoMore};
 ghost use Rattle.cat_directory.specs.declared.name.FileName.{FileName};
 ghost use Rattle.cat_ledger_model.specs.Users.{users_of, times, Changes};
 ghost use Rattle.cat_ledger_shape.specs.Steps.{IsBegun};
 ghost use Rattle.cat_ledger_shape.specs.Ties.{IsTold, TouchesOnly};
-ghost use Rattle.cat_ledger_core.specs.Cores.{HasCopied, HasEnded, HasGivenUp, HasRowsLeft, IsSourceOf, is_begun};
+ghost use Rattle.cat_ledger_core.specs.Cores.{HasCopied, HasEnded, HasGivenUp, HasRowsLeft, IsSourceOf};
 
 use crate::state::Core;
 use cat_base::{LAST_NUMBER, MAX_RECORDS, Refusal, SegNo};

@@ -1,5 +1,5 @@
 //! The users of names, as they come and go together.
-ghost use Rattle.std.specs.Prelude.{◌≡◌, ℕ, ◌+◌, ◌<◌, ◌≤◌, ◌^◌, OnOk, OnErr};
+ghost use Rattle.std.specs.Prelude.{◌≡◌, ◌+◌, ◌<◌, ◌≤◌, ◌^◌, OnOk, OnErr};
 ghost use Rattle.cat_ledger_model.specs.Users.{users_of, times, Changes};
 ghost use Rattle.cat_model.specs.Files.{Name};
 ghost use Rattle.cat_refs.specs.Counts.{names_in};

@@ -1,5 +1,5 @@
 -- A put under a number leaves all numbers below the next one.
-use Rattle.std.proofs.Common.{◌+◌, ◌≡◌, ◌<◌, ℕ, Bool, not, List, All, arith}
+use Rattle.std.proofs.Common.{◌+◌, ◌<◌, ℕ, Bool, not, List, All, arith}
 use Rattle.std.proofs.lemmas.List.Elements.{All-filter, All-push, All-weaker}
 use Rattle.cat_model.specs.Item.{Item, Record}
 use Rattle.cat_model.specs.Write.{Write, removes}

@@ -3,12 +3,10 @@ ghost use Rattle.std.specs.Prelude.{◌≡◌, ◌<◌, ◌≤◌, ◌^◌, ◌+
 ghost use Rattle.cat_base.specs.Texts.{IsTextSet};
 ghost use Rattle.cat_model.specs.Item.{Kind};
 ghost use Rattle.cat_model.specs.Layout.{code_in, keywords_of};
-ghost use Rattle.cat_model.specs.Ordinals.{dictionary_of, texts_of};
 ghost use Rattle.cat_model.specs.View.{selected};
 ghost use Rattle.cat_values.specs.Columns.{HasText};
 ghost use Rattle.cat_merge.specs.Coded.{moved_code, AreOrdinalsAmong};
 ghost use Rattle.cat_merge.specs.Fields.{texts_under, keywords_under, kept_rows, HasField, IsMergedColumn};
-ghost use Rattle.cat_merge.specs.Walk.{AreInputs};
 
 use crate::input::Input;
 use crate::ordinals::ordinals_among;

@@ -1,5 +1,5 @@
 //! Lists of numbers as the parts of a column have them: one behind another, with the end of each.
-ghost use Rattle.std.specs.Prelude.{◌≡◌, ◌≤◌, ◌<◌, ◌^◌, ◌++◌, ◌∷◌, [], map, length, take, All, IfOk, IsOk, OnOk, OnErr, slice_index};
+ghost use Rattle.std.specs.Prelude.{◌≡◌, ◌<◌, ◌^◌, ◌++◌, ◌∷◌, [], map, length, take, All, IfOk, IsOk, OnOk, OnErr, slice_index};
 ghost use Rattle.cat_model.specs.Layout.{pieces, AreEnds};
 
 use std::alloc::{AllocError, Global};

@@ -1,5 +1,5 @@
 //! The merge of segments in steps.
-ghost use Rattle.std.specs.Prelude.{◌≡◌, ◌≢◌, ◌+◌, ◌-◌, ◌++◌, ◌≤◌, ◌<◌, ◌^◌, ℕ, List, min, map, take, length, [], IfOk, OnOk, OnErr, MatchOption};
+ghost use Rattle.std.specs.Prelude.{◌≡◌, ◌≢◌, ◌+◌, ◌-◌, ◌++◌, ◌≤◌, ◌<◌, ℕ, List, min, map, take, length, [], IfOk, OnOk, OnErr, MatchOption};
 ghost use Rattle.std.specs.List.{flat_map};
 ghost use Rattle.cat_model.specs.Layout.{head_of};
 ghost use Rattle.cat_model.specs.Limits.{step_limit};

@@ -1,5 +1,5 @@
 //! The ordinals of the texts of one dictionary in another.
-ghost use Rattle.std.specs.Prelude.{◌≡◌, ◌<◌, ◌^◌, ◌+◌, length, All, IfOk};
+ghost use Rattle.std.specs.Prelude.{◌<◌, ◌^◌, ◌+◌, length, All, IfOk};
 ghost use Rattle.cat_base.specs.Texts.{IsTextSet};
 ghost use Rattle.cat_model.specs.Ordinals.{IsOrdinal};
 ghost use Rattle.cat_merge.specs.Coded.{AreOrdinalsAmong};

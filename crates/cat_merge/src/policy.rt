@@ -1,6 +1,6 @@
 //! Which segments are merged next, after Lucene's `LogDocMergePolicy`. How a level is reckoned, and which window is taken, are
 //! our own.
-ghost use Rattle.std.specs.Prelude.{◌≡◌, ℕ, List, ◌+◌, ◌<◌, ◌≤◌, drop, length};
+ghost use Rattle.std.specs.Prelude.{ℕ, List, ◌+◌, ◌<◌, drop, length};
 ghost use Rattle.cat_model.specs.Window.{IsLevel, IsWindow};
 ghost use Rattle.cat_merge.specs.Policy.{IsMergePolicy};
 ghost use Rattle.cat_merge.specs.Runs.{IsRun, IsFirstFrom};

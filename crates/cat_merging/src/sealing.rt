@@ -1,8 +1,7 @@
 //! The segment that a merge makes, and its file.
-ghost use Rattle.std.specs.Prelude.{◌≡◌, ◌≢◌, ◌⊎◌, Some, None, length, OnOk, IfOk, IfErr};
-ghost use Rattle.std.specs.List.{AllByRecursion};
+ghost use Rattle.std.specs.Prelude.{◌≡◌, ◌≢◌, Some, None, length, OnOk, IfOk, IfErr};
 ghost use Rattle.std.specs.Option.{option_to_list};
-ghost use Rattle.cat_base.specs.declared.refusal.Refusal.TheVariants.{Device, Memory};
+ghost use Rattle.cat_base.specs.declared.refusal.Refusal.TheVariants.{Device};
 ghost use Rattle.cat_directory.specs.Devices.{CountsWriting, NoMore};
 ghost use Rattle.cat_ledger_shape.specs.Ties.{TellsBytes};
 ghost use Rattle.cat_model.specs.Files.{IsFileNumber};

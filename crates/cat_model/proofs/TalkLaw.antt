@@ -1,5 +1,5 @@
 -- Two services that open alike, and whose writes agree up to t, answer alike under t.
-use Rattle.std.proofs.Common.{◌≡◌, ◌≢◌, ℕ, ◌+◌, ◌-◌, ◌≤◌, ◌<◌, ◌^◌, List, [], ◌∷◌, ◌++◌, map, length, true, refl, sym, ◌∙◌, ap, subst, append-nil, arith, codes}
+use Rattle.std.proofs.Common.{◌≡◌, ◌≢◌, ℕ, ◌+◌, ◌-◌, ◌≤◌, ◌<◌, ◌^◌, List, [], ◌∷◌, ◌++◌, map, length, true, refl, sym, ◌∙◌, ap, subst, arith}
 use Rattle.std.specs.Prelude.{IsTrue, Ok, Err}
 use Rattle.std.specs.List.{AllByRecursion}
 use Rattle.std.specs.Fmt.{decimal}
@@ -15,9 +15,9 @@ use Rattle.cat_model.specs.Lines.{Said, SpellsSaid, reply_text}
 use Rattle.cat_model.specs.Run.{Command, Reply, Exchange, Run, writes, now, holds, may_refuse, IsRun}
 use Rattle.cat_model.specs.Limits.{last_number}
 use Rattle.cat_model.specs.Heard.{Json, IsCommand, id_of}
-use Rattle.cat_model.specs.Served.{Opening, Begins, Outcome, outcome_text}
+use Rattle.cat_model.specs.Served.{Opening, Begins, outcome_text}
 use Rattle.cat_model.specs.Laws.{HeldRead}
-use Rattle.cat_model.specs.Talk.{Pair, Talked, IsTalk, IsWrite, WritesAgree, ReadsUnder, IsRead, HeldAsk, refusal_text, excepted_replies, AreAlike, ReadsLines, IsShownStart, IsShownOpened, OpensAs, TalksAgree, AnswersOfAnyStartAreTalks, TalksOfOneStartAgree}
+use Rattle.cat_model.specs.Talk.{Pair, Talked, IsWrite, WritesAgree, ReadsUnder, HeldAsk, excepted_replies, ReadsLines, IsShownStart, IsShownOpened, OpensAs, TalksAgree, AnswersOfAnyStartAreTalks, TalksOfOneStartAgree}
 use Rattle.cat_model.proofs.TalkOpenings.{OpensShown, OpenAlike}
 use Rattle.cat_model.proofs.Runs.{held_reads_agree, held_low, held_writes}
 use Rattle.cat_model.proofs.Sayings.{one_command}

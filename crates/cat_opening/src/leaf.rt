@@ -3,7 +3,7 @@ ghost use Rattle.std.specs.Prelude.{◌≡◌, ◌↔◌, ◌<◌, ◌^◌, Bool
 ghost use Rattle.cat_base.specs.declared.refusal.Refusal.TheVariants.{Device, Damaged};
 ghost use Rattle.cat_directory.specs.Devices.{CountsReading, NoMore};
 ghost use Rattle.cat_model.specs.View as model;
-ghost use Rattle.cat_ledger_model.specs.Opening.{HasSegment, HasSources, HasLiveFile, IsLeafOf};
+ghost use Rattle.cat_ledger_model.specs.Opening.{HasSources, HasLiveFile, IsLeafOf};
 ghost use Rattle.cat_opening.specs.Leaf.{IsReadAs, HasLive};
 ghost use Rattle.cat_ledger_shape.specs.OpeningLaws.{MayHold};
 ghost use Rattle.cat_opening.specs.Told.{Tells};

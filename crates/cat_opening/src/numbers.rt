@@ -1,5 +1,5 @@
 //! What the names of a directory's files say by themselves.
-ghost use Rattle.std.specs.Prelude.{◌≡◌, ◌↔◌, ◌≤◌, ◌^◌, ℕ, Contains, MatchOption};
+ghost use Rattle.std.specs.Prelude.{◌↔◌, ◌≤◌, ◌^◌, ℕ, Contains, MatchOption};
 ghost use Rattle.cat_directory.specs.Names.{name_of};
 ghost use Rattle.cat_ledger_model.specs.Ledger.{IsPast};
 ghost use Rattle.cat_model.specs.Files.{IsFileName};

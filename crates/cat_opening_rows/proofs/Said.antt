@@ -1,9 +1,7 @@
 -- A commit that a file says is said again.
 use Rattle.std.proofs.Common.{◌≡◌, ℕ, suc, ◌+◌, ◌<◌, List, [], ◌∷◌, ◌++◌, length, map, take, get_or, sym, ap, ◌∙◌, subst, arith}
 use Rattle.std.proofs.Math.Seq.{take-suc}
-use Rattle.cat_model.specs.Text.{Text}
-use Rattle.cat_model.specs.Item.{Schema}
-use Rattle.cat_model.specs.CommitFile.{Version, ListedSegment, CommitFile, IsCommitFile}
+use Rattle.cat_model.specs.CommitFile.{ListedSegment, CommitFile, IsCommitFile}
 use Rattle.cat_ledger_shape.specs.Shapes.{ListedLive}
 use Rattle.cat_listing.specs.declared.heading.Heading.{Heading}
 use Rattle.cat_listing.specs.Drafts.{commit_listing}

@@ -1,6 +1,6 @@
 //! Counts over the labels of hits, by one look at each hit for each label.
-ghost use Rattle.std.specs.Prelude.{◌≡◌, ◌++◌, count_by, filter, map, not, option_map, IfOk, OnOk};
-ghost use Rattle.std.specs.List.{flat_map, list_any};
+ghost use Rattle.std.specs.Prelude.{◌≡◌, ◌++◌, count_by, filter, map, not, IfOk, OnOk};
+ghost use Rattle.std.specs.List.{list_any};
 ghost use Rattle.cat_base.specs.Texts.{IsTextSet};
 ghost use Rattle.cat_model.specs.Facets.{counted, facets_in, facets_of, is_empty, labels_met, labels_of, more};
 ghost use Rattle.cat_model.specs.Item.{content_of, labels_in};

@@ -1,5 +1,5 @@
 -- Texts with backslashes: where the closing quote stands, and what they are without the backslashes.
-use Rattle.std.proofs.Common.{◌≡◌, ◌≢◌, ◌⊎◌, ℕ, zero, suc, ◌+◌, ◌<◌, List, [], ◌∷◌, ◌++◌, length, get_or, take, drop, Option, Some, None, Bool, true, false, eqb, cond, not, ◌&&◌, ◌||◌, refl, sym, ap, ◌∙◌, inl, inr, map, arith, rules, eqb-true, true≢false, append-nil, append_assoc, subst, IsUtf8, length-drop, get_or-drop, add-zero}
+use Rattle.std.proofs.Common.{◌≡◌, ◌≢◌, ◌⊎◌, ℕ, zero, suc, ◌+◌, ◌<◌, List, [], ◌∷◌, ◌++◌, length, get_or, take, drop, Option, Some, None, Bool, true, false, eqb, cond, not, ◌||◌, refl, sym, ap, ◌∙◌, inl, inr, map, arith, eqb-true, true≢false, append-nil, append_assoc, subst, IsUtf8, length-drop, get_or-drop, add-zero}
 use Rattle.std.specs.Str.{IsCharBoundary}
 use Rattle.std.proofs.lemmas.Str.{IsCharBoundary-before_ascii, IsCharBoundary-after_ascii, IsUtf8-drop}
 use Rattle.cat_query.proofs.Cuts.{plain_cut}
@@ -11,7 +11,7 @@ use Rattle.std.proofs.lemmas.Bool.{and_parts}
 use Rattle.cat_base.specs.Texts.{sorted_set}
 use Rattle.cat_model.specs.Text.{Text}
 use Rattle.cat_model.specs.Grammar.{is_bare_byte}
-use Rattle.cat_model.specs.Words.{is_word_byte, is_some_text, lowered, runs, words}
+use Rattle.cat_model.specs.Words.{is_word_byte, is_some_text, lowered, words}
 use Rattle.cat_model.specs.Reader.{quoted_at, with_byte}
 use Rattle.cat_query.specs.Reading.{behind_byte}
 use Rattle.cat_query.specs.Escapes.{unescaped_from, unescaped, is_escaped_from, is_escaped, closing_quote_from, is_no_backslash}

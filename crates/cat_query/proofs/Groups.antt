@@ -1,5 +1,5 @@
 -- A primary, by whether the text begins with a parenthesis.
-use Rattle.std.proofs.Common.{◌≡◌, ◌≢◌, ℕ, zero, suc, ◌+◌, ◌-◌, [], ◌∷◌, length, Result, Ok, Err, None, true, refl, sym, ap, ◌∙◌, arith}
+use Rattle.std.proofs.Common.{◌≡◌, ◌≢◌, ℕ, zero, suc, ◌+◌, ◌-◌, [], ◌∷◌, length, Ok, Err, None, true, refl, ap, ◌∙◌, arith}
 use Rattle.cat_model.specs.Text.{Text}
 use Rattle.cat_model.specs.Item.{Schema}
 use Rattle.cat_model.specs.Query.{Query, Primary, Sign}

@@ -1,5 +1,5 @@
 -- What a value means, by what is judged of its text with the backslashes.
-use Rattle.std.proofs.Common.{◌≡◌, ℕ, List, [], ◌∷◌, length, Option, Some, None, Ok, Err, Bool, true, cond, refl, sym, ap, ◌∙◌}
+use Rattle.std.proofs.Common.{◌≡◌, List, [], ◌∷◌, length, Option, Some, None, Ok, Err, Bool, true, cond, refl, sym, ap, ◌∙◌}
 use Rattle.std.specs.Prelude.{option_map, IfOk, IsSome}
 use Rattle.std.specs.List.{list_all}
 use Rattle.cat_model.specs.Text.{Text}

@@ -11,7 +11,7 @@ use Rattle.std.specs.declared.alloc.AllocError.{AllocError}
 use Rattle.cat_model.specs.Text.{Text, text_le}
 use Rattle.cat_model.specs.Item.{Content, content_of}
 use Rattle.cat_model.specs.Query as model
-use Rattle.cat_model.specs.Query.{has_some, open_or, obeys, supports, obeyed, supported, matches, primary_matches}
+use Rattle.cat_model.specs.Query.{has_some, open_or, obeys, supports, obeyed, supported, primary_matches}
 use Rattle.cat_model.specs.View.{Row, item_in}
 use Rattle.cat_model.specs.RowSets.{joined, both, either, first_only}
 use Rattle.cat_model.specs.Ordinals.{texts_of}

@@ -1,5 +1,5 @@
 -- What reading gives where a text doesn't begin with a mark.
-use Rattle.std.proofs.Common.{◌≡◌, ℕ, [], ◌∷◌, Ok, Err, Option, Some, None, Bool, true, false, cond, eqb, refl, sym, ap, ◌∙◌}
+use Rattle.std.proofs.Common.{◌≡◌, ℕ, [], ◌∷◌, Err, Option, Some, None, Bool, true, false, cond, eqb, refl, sym, ap, ◌∙◌}
 use Rattle.std.specs.Prelude.{option_map}
 use Rattle.cat_model.specs.Text.{Text}
 use Rattle.cat_model.specs.Grammar.{Asks}

@@ -1,5 +1,5 @@
 -- What the steps of reading say: the queries of the definitions, seen through what the code makes of them.
-use Rattle.std.specs.Prelude.{◌≡◌, ℕ, [], ◌∷◌, Option, Some, None, IsSome, Result, Ok, Err, IfOk, IfErr, ◌==◌, Bool, true, if◌then◌else◌, drop, length, nat_eq}
+use Rattle.std.specs.Prelude.{◌≡◌, ℕ, [], ◌∷◌, Option, Some, None, IsSome, Result, Ok, Err, IfOk, IfErr, ◌==◌, true, if◌then◌else◌, drop, length, nat_eq}
 use Rattle.std.specs.List.{starts_with}
 use Rattle.std.specs.declared.alloc.AllocError.{AllocError}
 use Rattle.std.specs.Borrow.{Bor}

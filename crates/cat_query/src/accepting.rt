@@ -1,7 +1,7 @@
 //! Which items a query accepts.
 ghost use Rattle.std.specs.Prelude.{◌≡◌, ◌&&◌, Some};
 ghost use Rattle.std.specs.List.{list_any};
-ghost use Rattle.cat_model.specs.Text.{same_text, text_le, has_prefix};
+ghost use Rattle.cat_model.specs.Text.{same_text, has_prefix};
 ghost use Rattle.cat_model.specs.Item as model;
 ghost use Rattle.cat_model.specs.Query.{matches, primary_matches, open_or, int_le};
 ghost use Rattle.cat_schema.specs.Contents.{field_content_of};

@@ -1,14 +1,13 @@
 -- Holds, and how many have a token.
-use Rattle.std.proofs.Common.{◌≡◌, ℕ, zero, suc, ◌+◌, ◌-◌, ◌<◌, ◌≤◌, List, [], ◌∷◌, ◌++◌, length, map, Bool, true, false, cond, not, ◌&&◌, ◌||◌, Option, Some, None, refl, sym, ◌∙◌, ap, subst, arith, inl, inr}
+use Rattle.std.proofs.Common.{◌≡◌, ℕ, suc, ◌+◌, ◌-◌, ◌<◌, List, [], ◌∷◌, ◌++◌, length, map, Bool, true, false, cond, not, ◌&&◌, ◌||◌, refl, sym, ◌∙◌, ap, arith, inl, inr}
 use Rattle.std.specs.Prelude.{◌==◌, ltb}
-use Rattle.std.specs.List.{list_any, count_by, filter, AllByRecursion, IsDistinct}
+use Rattle.std.specs.List.{count_by, filter, AllByRecursion, IsDistinct}
 use Rattle.std.specs.Set.{remove_key}
 use Rattle.std.proofs.lemmas.Bool.Decides.{nat_tests, eqb_tells}
 use Rattle.std.proofs.lemmas.List.Sums.{sum_by-append}
 use Rattle.cat_model.specs.State.{Hold, has_hold, held_in}
-use Rattle.cat_model.specs.View.{View}
 use Rattle.cat_records.specs.Counts.{AreCounted, TokensRise, token_of, one_more, views_of}
-use Rattle.cat_records.specs.Records.{has_token, holders_of}
+use Rattle.cat_records.specs.Records.{holders_of}
 use Rattle.cat_records.specs.declared.recorded.Recorded.{Recorded}
 
 pub count_by-cons : {X : Type 0} (p : X → Bool) (x : X) (xs : List X) → count_by p (x ∷ xs) ≡ cond (p x) 1 0 + count_by p xs

@@ -1,15 +1,13 @@
 -- The view that goes as one more is recorded: the first that nobody holds.
-use Rattle.std.proofs.Common.{◌≡◌, ℕ, zero, suc, ◌+◌, ◌<◌, ◌≤◌, List, [], ◌∷◌, ◌++◌, length, map, get_or, Bool, true, false, cond, not, ◌&&◌, ◌||◌, Option, Some, None, refl, sym, ◌∙◌, ap, subst, arith, inl, inr}
-use Rattle.std.specs.Prelude.{◌==◌, ltb, max}
+use Rattle.std.proofs.Common.{◌≡◌, ℕ, zero, suc, ◌<◌, ◌≤◌, List, [], ◌∷◌, length, map, get_or, Bool, true, false, cond, not, ◌&&◌, ◌||◌, Some, None, refl, sym, ◌∙◌, ap, arith}
+use Rattle.std.specs.Prelude.{ltb}
 use Rattle.std.specs.List.{list_any, list_all, filter, remove, position, AllByRecursion}
-use Rattle.std.proofs.lemmas.Bool.Decides.{nat_tests, leb_tells}
+use Rattle.std.proofs.lemmas.Bool.Decides.{nat_tests}
 use Rattle.std.proofs.lemmas.List.Quantifiers.{position-Some}
 use Rattle.std.proofs.lemmas.List.Sums.{fails_before_first}
 use Rattle.cat_model.proofs.Lists.{filter_alike, filter_none, All-each}
-use Rattle.cat_model.specs.Run.{greatest}
-use Rattle.cat_model.specs.View.{View}
 use Rattle.cat_ledger_model.specs.Calls.{stays_full}
-use Rattle.cat_records.specs.Counts.{TokensRise, token_of, views_of}
+use Rattle.cat_records.specs.Counts.{TokensRise, token_of}
 use Rattle.cat_records.specs.declared.recorded.Recorded.{Recorded}
 
 -- ---- the first that passes a test

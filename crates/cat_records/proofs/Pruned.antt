@@ -1,6 +1,6 @@
 -- Which views a PRUNE keeps: those from a token on, and the held ones.
 use Rattle.std.proofs.Common.{◌≡◌, ℕ, zero, suc, ◌+◌, ◌-◌, ◌<◌, ◌≤◌, List, [], ◌∷◌, length, map, get_or, min, max, Bool, true, false, cond, not, ◌||◌, refl, sym, ◌∙◌, ap, subst, arith, inl, inr}
-use Rattle.std.specs.Prelude.{◌==◌, ◌⊎◌, ltb, leb}
+use Rattle.std.specs.Prelude.{ltb, leb}
 use Rattle.std.specs.List.{count_by, filter, AllByRecursion}
 use Rattle.std.proofs.lemmas.Bool.Decides.{nat_tests, leb_tells}
 use Rattle.std.proofs.lemmas.List.{get_or_default}

@@ -2,7 +2,7 @@
 ghost use Rattle.std.specs.Prelude.{◌∷◌, [], codes, Ok};
 ghost use Rattle.std.specs.Fmt.{decimal};
 ghost use Rattle.std.specs.List.{flat_map};
-ghost use Rattle.cat_model.specs.Lines.{line_text, news_words, reply_text, segment_words};
+ghost use Rattle.cat_model.specs.Lines.{line_text, reply_text, segment_words};
 ghost use Rattle.cat_model.specs.Run as run;
 ghost use Rattle.cat_sending.specs.Out.{Sent};
 ghost use Rattle.cat_replies.specs.Reply.{news_of, segment_of, stat_of};

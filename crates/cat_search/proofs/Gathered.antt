@@ -6,7 +6,6 @@ use Rattle.std.proofs.lemmas.Bool.Decides.{nat_tests}
 use Rattle.std.proofs.lemmas.List.{map-append, length-take, take-append-le, take_all, take_more, flat_map_more}
 use Rattle.std.proofs.lemmas.List.Elements.{filter-append}
 use Rattle.cat_model.specs.RowSets.{indices}
-use Rattle.cat_model.specs.Page.{Sort}
 use Rattle.cat_model.specs.Item.{Item}
 use Rattle.cat_model.specs.Query.{Query, matches}
 use Rattle.cat_model.specs.Ranks.{sorted, insert_all}

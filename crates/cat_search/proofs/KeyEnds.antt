@@ -1,5 +1,5 @@
 -- What lies outside the ends would come after all that is kept, or not after the mark.
-use Rattle.std.proofs.Common.{◌≡◌, ◌++◌, ◌∷◌, ◌&&◌, ℕ, List, [], cond, Option, Some, None, option_map, Bool, true, false, is_none, is_some, inl, inr, ◌⊎◌, refl, sym, ◌∙◌, ap, subst, append-nil}
+use Rattle.std.proofs.Common.{◌≡◌, ◌++◌, ◌∷◌, ◌&&◌, List, [], cond, Option, Some, None, option_map, Bool, true, false, is_none, is_some, inl, inr, ◌⊎◌, refl, sym, ◌∙◌, ap, subst, append-nil}
 use Rattle.std.specs.Prelude.{IfSome, not}
 use Rattle.std.proofs.lemmas.List.{map-append}
 use Rattle.std.specs.declared.cmp.Ordering.{Ordering}

@@ -1,7 +1,7 @@
 -- What is asked of a page, and what a page takes of the standings of its hits.
-use Rattle.std.specs.Prelude.{◌≡◌, Bool, List, map, take, Result, Ok}
+use Rattle.std.specs.Prelude.{Bool, List, map, take, Result, Ok}
 use Rattle.cat_base.specs.declared.refusal.Refusal.{Refusal}
-use Rattle.cat_model.specs.Answer.{Read, Found, answer}
+use Rattle.cat_model.specs.Answer.{Read}
 use Rattle.cat_model.specs.Item.{Schema, Item, Record}
 use Rattle.cat_model.specs.Page.{Entry, Page}
 use Rattle.cat_model.specs.Query.{Query}

@@ -1,5 +1,5 @@
 -- The rows of a view as hits, and the columns that rank them.
-use Rattle.std.specs.Prelude.{ℕ, Bool, List, [], ◌∷◌, filter, map, replicate, Option, Some, None, option_map, find, ◌==◌}
+use Rattle.std.specs.Prelude.{ℕ, List, [], ◌∷◌, filter, map, replicate, Option, Some, None, option_map, find, ◌==◌}
 use Rattle.std.specs.Borrow.{Bor}
 use Rattle.std.specs.List.{flat_map}
 use Rattle.cat_model.specs.Item.{Record}

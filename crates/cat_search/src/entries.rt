@@ -6,7 +6,7 @@ ghost use Rattle.cat_search.specs.Standings.{key_shown, entry_shown};
 ghost use Rattle.cat_search.specs.Candidates.{standing_of, rank_of};
 
 use crate::ids::Id;
-use crate::keys::{Key, KeyRef};
+use crate::keys::Key;
 use crate::standings::{Candidate, Rank};
 use cat_base::WriteNo;
 use std::alloc::{AllocError, Global};

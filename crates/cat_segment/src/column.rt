@@ -1,5 +1,5 @@
 //! The columns of a segment: what its rows have in one field, with the terms of that field.
-ghost use Rattle.std.specs.Prelude.{◌≡◌, ◌<◌, ◌^◌, map, length, IfOk};
+ghost use Rattle.std.specs.Prelude.{◌≡◌, ◌<◌, map, IfOk};
 ghost use Rattle.cat_model.specs.Ordinals.{texts_of};
 
 use crate::inverting::{terms_of_keywords, terms_of_labels};

@@ -1,5 +1,5 @@
 //! Columns of the parts of a file, and whether rows have as few labels as they may.
-ghost use Rattle.std.specs.Prelude.{◌≡◌, ◌↔◌, ◌⊎◌, ◌≤◌, ◌<◌, ◌++◌, ◌∷◌, [], ℕ, length, map, All, Any, IfOk, IfErr, OnOk, IsTrue};
+ghost use Rattle.std.specs.Prelude.{◌≡◌, ◌↔◌, ◌⊎◌, ◌≤◌, ◌<◌, ◌++◌, ◌∷◌, [], All, Any, IfOk, IfErr, OnOk, IsTrue};
 ghost use Rattle.cat_base.specs.declared.refusal.Refusal.TheVariants.{Damaged, Memory};
 ghost use Rattle.cat_codec.specs.Parts.{column_in, IsColumnParts};
 ghost use Rattle.cat_codec.specs.declared.parts.ColumnParts.TheVariants as parts;

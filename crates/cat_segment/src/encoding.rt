@@ -1,5 +1,5 @@
 //! The bytes of a segment's file.
-ghost use Rattle.std.specs.Prelude.{◌≡◌, ◌<◌, ◌^◌, ◌++◌, length, map, IfOk, OnOk};
+ghost use Rattle.std.specs.Prelude.{◌≡◌, ◌<◌, ◌++◌, map, IfOk, OnOk};
 ghost use Rattle.std.specs.List.{flat_map};
 ghost use Rattle.cat_model.specs.Files.{IsFileNumber};
 ghost use Rattle.cat_model.specs.Layout.{Laid, word_postings_of, head_of, spelled_head, spelled_column, SpellsSegment};

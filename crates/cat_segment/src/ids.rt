@@ -1,5 +1,5 @@
 //! The ids of the rows of a segment, and the index by which the row of an id is found.
-ghost use Rattle.std.specs.Prelude.{◌≡◌, ◌≢◌, ◌↔◌, ◌⊎◌, ◌<◌, ◌^◌, [], length, map, All, IfOk, IfErr, IfSome, IsTrue, MatchOption, slice_index_or};
+ghost use Rattle.std.specs.Prelude.{◌≡◌, ◌≢◌, ◌↔◌, ◌⊎◌, ◌<◌, ◌^◌, length, All, IfOk, IfErr, IfSome, IsTrue, MatchOption};
 ghost use Rattle.std.specs.List.{AllPairs, HoldsAt, range_with_len};
 ghost use Rattle.cat_base.specs.declared.refusal.Refusal.TheVariants.{Damaged, Memory};
 ghost use Rattle.std.specs.List.Sorted.{IsSortedByKey};

@@ -1,9 +1,8 @@
 //! The terms of a column whose rows' texts are ordinals of a dictionary.
-ghost use Rattle.std.specs.Prelude.{◌≡◌, ℕ, ◌<◌, ◌^◌, ◌++◌, length, map, All, IfOk, OnOk};
+ghost use Rattle.std.specs.Prelude.{◌≡◌, ◌<◌, ◌^◌, ◌++◌, length, map, All, IfOk, OnOk};
 ghost use Rattle.std.specs.List.Sorted.{IsStrictlySortedBy};
 ghost use Rattle.std.specs.Ordering.{nat_cmp};
-ghost use Rattle.cat_base.specs.Texts.{IsTextSet};
-ghost use Rattle.cat_model.specs.Layout.{pieces, ordinal_in, AreEnds};
+ghost use Rattle.cat_model.specs.Layout.{pieces, AreEnds};
 ghost use Rattle.cat_model.specs.Ordinals.{dictionary_of, text_at, texts_of};
 ghost use Rattle.cat_segment.specs.Parts.{ordinals_of};
 

@@ -1,5 +1,5 @@
 //! Files of segments with texts, labels and fields of as many as there may be, and of one more.
-ghost use Rattle.std.specs.Prelude.{◌≡◌, ◌<◌, ◌^◌, length, IfOk};
+ghost use Rattle.std.specs.Prelude.{◌<◌};
 
 use crate::bytes::{expect_damaged, expect_exact};
 use cat_base::{MAX_FIELDS, MAX_LABELS, put_bytes, put_u32};

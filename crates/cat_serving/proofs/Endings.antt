@@ -7,7 +7,7 @@ use Rattle.cat_base.specs.declared.refusal.Refusal.{Refusal}
 use Rattle.cat_base.specs.declared.refusal.Refusal.TheVariants.{Memory}
 use Rattle.cat_model.specs.Text.{Text}
 use Rattle.cat_model.specs.Served as model
-use Rattle.cat_model.specs.Served.{Outcome, Ending, outcome_text, refused_text, AppendsFront, Answered, ServesBy, IsDue}
+use Rattle.cat_model.specs.Served.{Outcome, Ending, outcome_text, refused_text, Answered, ServesBy, IsDue}
 use Rattle.cat_model.specs.Input.{HaveCome, ended_lines, lines_of}
 use Rattle.cat_sending.specs.declared.pieces.WriteFault.{WriteFault}
 use Rattle.cat_sending.proofs.Written.{front_whole}

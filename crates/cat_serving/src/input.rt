@@ -1,5 +1,5 @@
 //! Lines cut out of bytes that come in pieces, the last of which is gathered in memory that is taken once.
-ghost use Rattle.std.specs.Prelude.{◌≡◌, ◌≢◌, ℕ, ◌<◌, ◌≤◌, ◌++◌, List, [], ◌∷◌};
+ghost use Rattle.std.specs.Prelude.{◌≡◌, ◌≢◌, ℕ, ◌<◌, ◌≤◌, ◌++◌, [], ◌∷◌};
 ghost use Rattle.std.specs.Prelude.{IfSome, IfNone, length, take, slice_index, option_map, vec_capacity};
 ghost use Rattle.std.specs.Io.BufRead.{strip_last};
 ghost use Rattle.cat_model.specs.Text.{Text};

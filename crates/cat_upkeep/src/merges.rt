@@ -1,7 +1,7 @@
 //! Merges of the segments that the policy picks, step by step.
 //!
 //! Lucene's `IndexWriter.maybeMerge` with a `LogDocMergePolicy`; there a scheduler's threads run a merge whole.
-ghost use Rattle.std.specs.Prelude.{◌≡◌, ◌≢◌, ◌⊎◌, ◌<◌, ◌≤◌, ℕ, is_some, true, Some, None, IfOk, IfErr, OnOk, OnErr, IsTrue};
+ghost use Rattle.std.specs.Prelude.{◌≡◌, ◌≢◌, ◌⊎◌, ◌<◌, ◌≤◌, is_some, Some, None, IfOk, IfErr, OnOk, OnErr, IsTrue};
 ghost use Rattle.cat_base.specs.declared.refusal.Refusal.TheVariants.{Memory, Device, Damaged, Spent};
 ghost use Rattle.cat_model.specs.Limits.{last_number};
 ghost use Rattle.cat_model.specs.Run.{Chore, News};

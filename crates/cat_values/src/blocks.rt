@@ -1,7 +1,6 @@
 //! Blocks of 64 bits, changed block by block. Row r is bit r % 64, from the lowest, of block r / 64.
-ghost use Rattle.std.specs.Prelude.{◌≡◌, ◌==◌, ℕ, ◌+◌, ◌*◌, ◌/◌, ◌%◌, ◌^◌, ◌<◌, ◌≤◌, ◌||◌, length, true, false, count_by, sum_by, count_ones, IfOk, IfErr, nat_lt, if◌then◌else◌, All, IsTrue, ◌↔◌};
+ghost use Rattle.std.specs.Prelude.{◌≡◌, ◌==◌, ℕ, ◌+◌, ◌*◌, ◌/◌, ◌%◌, ◌^◌, ◌<◌, ◌≤◌, ◌||◌, length, true, false, count_by, sum_by, count_ones, IfOk, nat_lt, if◌then◌else◌, All, IsTrue, ◌↔◌};
 ghost use Rattle.std.specs.List.{range_with_len, list_any};
-ghost use Rattle.cat_base.specs.declared.refusal.Refusal.TheVariants.{Memory};
 ghost use Rattle.cat_model.specs.RowSets.{both, either, first_only};
 ghost use Rattle.cat_values.specs.Bits.{is_set};
 

@@ -1,11 +1,10 @@
 //! A column of keywords: a dictionary, and the ordinal in it of each row's keyword.
-ghost use Rattle.std.specs.Prelude.{◌≡◌, ◌≢◌, ◌↔◌, ◌==◌, ◌⊎◌, ℕ, ◌+◌, Err, ◌^◌, ◌<◌, ◌≤◌, List, length, map, Option, option_map, None, IfOk, IfErr, OnOk, IfSome, All, IsTrue, slice_index_or};
+ghost use Rattle.std.specs.Prelude.{◌≡◌, ◌↔◌, ◌⊎◌, ℕ, ◌+◌, Err, ◌^◌, ◌<◌, ◌≤◌, List, length, map, Option, option_map, None, IfOk, IfErr, IfSome, All, IsTrue, slice_index_or};
 ghost use Rattle.std.specs.List.{list_any, flat_map};
 ghost use Rattle.cat_base.specs.declared.refusal.Refusal.TheVariants.{Damaged, Memory};
 ghost use Rattle.cat_model.specs.Text.{Text, same_text};
 ghost use Rattle.cat_model.specs.Layout.{code_in, keywords_of};
 ghost use Rattle.cat_model.specs.Ordinals.{dictionary_of, text_at, texts_of};
-ghost use Rattle.cat_model.specs.RowSets.{has_row};
 ghost use Rattle.cat_values.specs.Columns.{has_text, HasText, text_of_code, texts_behind, AreCodes, IsLaidAsKeywords, HasNoKeywords};
 
 use crate::covering::covers;

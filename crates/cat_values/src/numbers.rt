@@ -1,6 +1,5 @@
 //! A column of numbers, with the rows that have one.
-ghost use Rattle.std.specs.Prelude.{◌≡◌, ℕ, ℤ, pos, ◌+◌, ◌*◌, ◌/◌, ◌^◌, ◌<◌, ◌≤◌, Bool, false, ◌&&◌, length, map, IfOk, IfErr, None, slice_index_or, unwrap_or, is_some};
-ghost use Rattle.cat_base.specs.declared.refusal.Refusal.TheVariants.{Memory};
+ghost use Rattle.std.specs.Prelude.{◌≡◌, ℕ, ℤ, pos, ◌+◌, ◌*◌, ◌/◌, ◌^◌, ◌<◌, ◌≤◌, false, ◌&&◌, length, map, IfOk, None, slice_index_or, unwrap_or, is_some};
 ghost use Rattle.cat_model.specs.Query.{has_some, open_or, int_le};
 ghost use Rattle.cat_values.specs.Bits.{has_bit, is_set};
 ghost use Rattle.cat_values.specs.Columns.{is_within, is_between};

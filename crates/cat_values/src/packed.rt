@@ -1,6 +1,5 @@
 //! Rows as bytes. Row r is bit r % 8, from the lowest, of byte r / 8, so that a block has the bits of eight bytes.
-ghost use Rattle.std.specs.Prelude.{◌≡◌, ◌↔◌, ℕ, ◌+◌, ◌*◌, ◌/◌, ◌^◌, ◌<◌, ◌≤◌, length, true, false, All, IfOk, IfErr, IsTrue, replicate, slice_index};
-ghost use Rattle.cat_base.specs.declared.refusal.Refusal.TheVariants.{Memory};
+ghost use Rattle.std.specs.Prelude.{◌≡◌, ◌↔◌, ℕ, ◌+◌, ◌*◌, ◌/◌, ◌<◌, ◌≤◌, length, true, false, All, IfOk, IsTrue, replicate, slice_index};
 ghost use Rattle.cat_model.specs.RowSets.{has_row};
 ghost use Rattle.cat_values.specs.Bits.{has_bit, is_set, has_row_bit};
 

@@ -1,5 +1,5 @@
 //! A set of the rows of one segment.
-ghost use Rattle.std.specs.Prelude.{◌≡◌, ◌⊎◌, ◌++◌, Bool, List, ℕ, ◌+◌, ◌*◌, ◌^◌, ◌<◌, ◌≤◌, true, false, length, replicate, drop, slice_set, count_by, ◌↔◌, IfOk, IfErr, IsTrue, All};
+ghost use Rattle.std.specs.Prelude.{◌≡◌, ◌⊎◌, ◌++◌, Bool, List, ◌+◌, ◌*◌, ◌^◌, ◌<◌, ◌≤◌, true, false, length, replicate, drop, slice_set, count_by, ◌↔◌, IfOk, IfErr, IsTrue, All};
 ghost use Rattle.cat_base.specs.declared.refusal.Refusal.TheVariants.{Damaged, Memory};
 ghost use Rattle.cat_model.specs.RowSets.{joined, both, either, first_only, has_row, indices, with_rows, IsPacked};
 ghost use Rattle.cat_values.specs.Bits.{flags_of, IsBits, HasNoSet};

@@ -1,5 +1,5 @@
 //! A column of sets of labels: a dictionary, the ordinals of each row's labels, and where each row's end.
-ghost use Rattle.std.specs.Prelude.{◌≡◌, ◌≢◌, ◌↔◌, ◌⊎◌, ℕ, ◌+◌, Err, ◌^◌, ◌<◌, ◌≤◌, ◌++◌, ◌∷◌, List, [], length, map, IfOk, IfErr, OnOk, All, Contains, IsTrue, slice_index, slice_index_or};
+ghost use Rattle.std.specs.Prelude.{◌≡◌, ◌↔◌, ◌⊎◌, ℕ, ◌+◌, Err, ◌^◌, ◌<◌, ◌++◌, ◌∷◌, List, [], length, map, IfOk, IfErr, OnOk, All, Contains, IsTrue, slice_index, slice_index_or};
 ghost use Rattle.std.specs.List.{list_any, flat_map};
 ghost use Rattle.std.specs.List.Sorted.{IsStrictlyIncreasing};
 ghost use Rattle.cat_base.specs.Texts.{IsTextSet};

@@ -1,9 +1,9 @@
 -- What an opened world begins with.
-use Rattle.std.proofs.Common.{◌≡◌, ℕ, ◌≤◌, ◌<◌, List, [], ◌∷◌, ap, ap₂, append-nil, length, false, true, map, refl, sym, ◌∙◌, subst, inl, inr, arith}
+use Rattle.std.proofs.Common.{◌≡◌, ℕ, List, [], ◌∷◌, ap, ap₂, append-nil, map, refl, sym, ◌∙◌, subst, inl, inr}
 use Rattle.std.specs.List.{AllByRecursion}
 use Rattle.std.specs.Prelude.{◌≢◌, ◌⊎◌, Some, None, Result, Ok, Err, ◌++◌}
 use Rattle.cat_base.specs.declared.refusal.Refusal.{Refusal}
-use Rattle.cat_base.specs.declared.refusal.Refusal.TheVariants.{Damaged, Device, Kind, Line as NoForm, Memory}
+use Rattle.cat_base.specs.declared.refusal.Refusal.TheVariants.{Damaged, Device, Kind, Memory}
 use Rattle.cat_model.specs.CommitFile.{CommitFile}
 use Rattle.cat_model.specs.Item.{Record, Schema}
 use Rattle.cat_model.specs.Lines.{IsReadable}
@@ -12,8 +12,8 @@ use Rattle.cat_model.specs.State.{IsFresh, StandsFor, has_hold, newest_told, ope
 use Rattle.cat_model.specs.Table.{Opened}
 use Rattle.cat_model.specs.Text.{Text}
 use Rattle.cat_model.proofs.Opening.{fresh_begins}
-use Rattle.cat_schema.specs.Reading.{json, schema_of}
-use Rattle.cat_ledger_model.specs.Ledger.{Ledger, IsWholeCommit, commit_file, commit_shown, portions_in, state_of, table_of}
+use Rattle.cat_schema.specs.Reading.{schema_of}
+use Rattle.cat_ledger_model.specs.Ledger.{Ledger, IsWholeCommit, commit_shown, portions_in, state_of, table_of}
 use Rattle.cat_ledger_model.specs.Portions.{Portion, leaf_of, records_of}
 use Rattle.cat_ledger_model.specs.Stored.{FileBytes, IsCommitStored}
 use Rattle.cat_ledger_shape.specs.Shapes.{Shape}
@@ -26,7 +26,7 @@ use Rattle.cat_ledger_opening.specs.Refused.{IsNewestDamaged, IsNewestForeign}
 use Rattle.cat_ledger.specs.Openings.{IsOpenedLedger}
 use Rattle.cat_ledger.proofs.Swept.{KeepsUsed}
 use Rattle.cat_holding.specs.Holding.{AreRights}
-use Rattle.cat_world.specs.Opening.{BeginsAtCommit, BeginsIn, HasSchemaText, HoldsTable, OpensIn}
+use Rattle.cat_world.specs.Opening.{BeginsIn, HasSchemaText, HoldsTable, OpensIn}
 use Rattle.cat_world.specs.Worlds.{IsCarried}
 
 -- what is opened, and the run that begins there

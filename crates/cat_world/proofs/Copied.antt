@@ -1,11 +1,11 @@
 -- Two directories with the same files of a commit hold the same commit and the same table.
-use Rattle.std.proofs.Common.{◌≡◌, ℕ, ◌≤◌, List, [], ◌∷◌, ◌++◌, length, map, Bool, true, false, cond, refl, sym, ◌∙◌, ap, ap₂, subst, inl, inr, arith}
-use Rattle.std.specs.Prelude.{◌≢◌, ◌==◌, Option, None, Some}
+use Rattle.std.proofs.Common.{◌≡◌, ℕ, ◌≤◌, List, [], ◌∷◌, length, map, Bool, true, false, cond, refl, sym, ◌∙◌, ap, ap₂, subst, inl, inr, arith}
+use Rattle.std.specs.Prelude.{◌==◌, Option, None, Some}
 use Rattle.std.specs.List.{find, flat_map, AllByRecursion}
 use Rattle.std.proofs.lemmas.Bool.Decides.{eqb_tells}
 use Rattle.cat_model.specs.CommitFile.{CommitFile, SpellsCommit, commit_needs}
 use Rattle.cat_model.specs.Files.{Name}
-use Rattle.cat_model.specs.Item.{Record, Schema}
+use Rattle.cat_model.specs.Item.{Schema}
 use Rattle.cat_model.specs.Layout.{SpellsSegment}
 use Rattle.cat_model.specs.LiveFile.{LiveRows, SpellsLive}
 use Rattle.cat_model.specs.Run.{Run, commits, is_kept, commit_under, found_text, text_under, writes}
@@ -14,24 +14,22 @@ use Rattle.cat_model.specs.Table.{CommitText, Opened, table}
 use Rattle.cat_model.specs.Text.{Text}
 use Rattle.cat_model.specs.View.{Segment, row_of, sourced}
 use Rattle.cat_directory.specs.Devices.{Told}
-use Rattle.cat_directory.specs.declared.name.FileName.{FileName}
 use Rattle.cat_directory.specs.declared.name.FileName.TheVariants as file
 use Rattle.cat_ledger_model.specs.Ledger.{Ledger, LedgerCommit, Listed, IsWholeCommit, commit_file, commit_shown, listed_segment, names_of_commit, names_of_listed, portions_in}
-use Rattle.cat_ledger_model.specs.Portions.{ArePortions, Portion, records_of, segment_of}
+use Rattle.cat_ledger_model.specs.Portions.{Portion, records_of, segment_of}
 use Rattle.cat_ledger_model.specs.Stored.{FileBytes, HasLive, IsCommitStored, IsLiveStored, IsStored, joined_sources}
 use Rattle.cat_ledger_model.proofs.Sourced.{portions_are_read}
 use Rattle.cat_ledger_model.proofs.Users.{All-split}
 use Rattle.cat_ledger_model.proofs.Written.{commits_need_their_names}
-use Rattle.cat_ledger_shape.specs.OpeningLaws.{MayHold}
 use Rattle.cat_ledger_shape.specs.Shapes.{Shape}
-use Rattle.cat_ledger_shape.specs.Ties.{Agrees, Carries, IsTold, ToldFiles, file_of}
+use Rattle.cat_ledger_shape.specs.Ties.{Agrees, IsTold, ToldFiles, file_of}
 use Rattle.cat_ledger_lines.specs.ReadLaws.{kept_under}
 use Rattle.cat_ledger_lines.specs.RunLaws.{Stands}
-use Rattle.cat_ledger_lines.proofs.Found.{All-and, All-unmap, found_in, holds_found}
+use Rattle.cat_ledger_lines.proofs.Found.{All-unmap, found_in, holds_found}
 use Rattle.cat_ledger_opening.specs.Newest.{IsNewestCommit}
 use Rattle.cat_opening.proofs.Agreeing.{LiveLaw, SegmentsLaw}
 use Rattle.cat_world.specs.Copies.{BeginsAtTable, CopiesOpenAlike, HasCopies, TellsEach}
-use Rattle.cat_world.specs.Opening.{BeginsAtCommit, HoldsTable}
+use Rattle.cat_world.specs.Opening.{BeginsAtCommit}
 
 abbrev CommitsLaw : Type 0
 CommitsLaw = (bytes : List ℕ) (one two : CommitFile) → SpellsCommit bytes one → SpellsCommit bytes two → one ≡ two

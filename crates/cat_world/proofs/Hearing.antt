@@ -15,7 +15,6 @@ use Rattle.cat_directory.specs.declared.name.FileName.{FileName}
 use Rattle.cat_ledger.specs.Histories.{GoesBy}
 use Rattle.cat_ledger_shape.specs.Ties.{ToldFiles}
 use Rattle.cat_ledger_lines.specs.LineLaws.{line_of}
-use Rattle.cat_ledger_lines.specs.RunLaws.{IsStep}
 use Rattle.cat_world.specs.Lines.{IsCommandOf, StepsLine}
 use Rattle.cat_world.specs.Serving.{StepsIfShort}
 use Rattle.cat_world.specs.Worlds.{Service, device_of, shape_of}

@@ -1,5 +1,5 @@
 -- What is kept of a world by what it answers.
-use Rattle.std.proofs.Common.{◌≡◌, ℕ, ◌+◌, ◌<◌, Bool, true, false, List, length, ap, subst, arith, refl, sym, ◌∙◌}
+use Rattle.std.proofs.Common.{◌≡◌, ℕ, ◌+◌, ◌<◌, Bool, true, false, List, length, ap, subst, arith}
 use Rattle.std.specs.Prelude.{Option, Some, Err, is_some, if◌then◌else◌}
 use Rattle.cat_base.specs.declared.refusal.Refusal.TheVariants.{Memory}
 use Rattle.cat_model.specs.Heard.{IsCommand}
@@ -12,7 +12,6 @@ use Rattle.cat_facets.specs.States.{ReaderState}
 use Rattle.cat_filters.specs.Filters.{Filters}
 use Rattle.cat_ledger_shape.specs.Ties.{ToldFiles}
 use Rattle.cat_ledger_lines.specs.LineLaws.{line_of}
-use Rattle.cat_ledger_lines.specs.RunLaws.{Answers}
 use Rattle.cat_ledger_lines.specs.StayLaws.{changes_holds}
 use Rattle.cat_ledger_lines.proofs.KeptCalls.{held_views_stay, holds_stay, schema_stays}
 use Rattle.cat_ledger.specs.Answering.{AnswersSaid}
@@ -22,7 +21,6 @@ use Rattle.cat_ledger_sets.specs.Kept.{HasKept}
 use Rattle.cat_ledger_sets.specs.Sets.{HasSets}
 use Rattle.cat_ledger_sets.proofs.Knowing.{kept_stay}
 use Rattle.cat_ledger_sets.proofs.Right.{sets_stay}
-use Rattle.cat_holding.specs.Holding.{AreRights}
 use Rattle.cat_holding.proofs.Counted.{rights_kept}
 use Rattle.cat_world.specs.Lines.{Does}
 use Rattle.cat_world.specs.Named.{TellsNeeded}

@@ -1,19 +1,19 @@
 -- Which names of files are told.
 use Rattle.std.proofs.Common.{◌≡◌, ℕ, List, [], ◌∷◌, map, Bool, true, false, cond, refl, sym, ◌∙◌, ap, subst, inl, inr}
-use Rattle.std.specs.Prelude.{◌≢◌, ◌⊎◌, ◌==◌, ◌<◌, ltb, Option, None, Some, Result, Ok, Err, IfOk, find}
+use Rattle.std.specs.Prelude.{◌==◌, ltb, Option, None, Some, Result, Ok, Err, IfOk, find}
 use Rattle.std.specs.List.{flat_map, AllByRecursion}
 use Rattle.std.proofs.lemmas.List.Elements.{All-from_recursion, recursion_from_All}
 use Rattle.std.proofs.lemmas.List.Sorted.{All-permutation}
 use Rattle.cat_base.specs.declared.refusal.Refusal.{Refusal}
 use Rattle.cat_base.specs.declared.refusal.Refusal.TheVariants.{Spent}
-use Rattle.cat_model.specs.Answer.{Found, Read, answer, query_refusal}
+use Rattle.cat_model.specs.Answer.{Found, answer, query_refusal}
 use Rattle.cat_model.specs.CommitFile.{CommitFile, commit_needs}
 use Rattle.cat_model.specs.Files.{Name, IsFileName, text_of_name}
 use Rattle.cat_model.specs.Heard.{IsCommand}
 use Rattle.cat_model.specs.Item.{Schema}
 use Rattle.cat_model.specs.Limits.{last_number, snapshot_limit}
 use Rattle.cat_model.specs.Lines.{Said}
-use Rattle.cat_model.specs.Run.{Answer, Chore, Command, Line, News, Reply, found_reply, or_not_held, read_reply, snapshot_of}
+use Rattle.cat_model.specs.Run.{Answer, Command, News, Reply, found_reply, or_not_held, snapshot_of}
 use Rattle.cat_model.specs.Served.{NamesFiles}
 use Rattle.cat_model.specs.State.{Halts, has_hold, refuses_refresh, snapshots_in}
 use Rattle.cat_model.specs.Text.{Text}
@@ -22,14 +22,14 @@ use Rattle.cat_schema.specs.Reading.{json}
 use Rattle.cat_directory.specs.Names.{name_of}
 use Rattle.cat_ledger.specs.Answering.{TellsNames}
 use Rattle.cat_ledger_model.proofs.Shown.{All-map}
-use Rattle.cat_ledger_model.specs.Ledger.{Ledger, IsLedger, names_of_commit, names_of_merging, names_of_portion, names_of_view, names_used, state_of}
+use Rattle.cat_ledger_model.specs.Ledger.{Ledger, names_of_commit, names_of_merging, names_of_portion, names_of_view, state_of}
 use Rattle.cat_ledger_model.specs.Calls.{has_recorded, newest_in}
 use Rattle.cat_ledger_model.specs.Plans.{MergePolicy}
 use Rattle.cat_ledger_model.specs.Replies.{Calls, CarriesOut, FindsNone}
 use Rattle.cat_ledger_model.specs.Stored.{FileBytes}
 use Rattle.cat_ledger_model.proofs.Users.{Four, All-four}
 use Rattle.cat_ledger_model.proofs.Written.{used_may_be_named}
-use Rattle.cat_ledger_shape.specs.Shapes.{Shape, names_of_commits, names_of_views, shape_of}
+use Rattle.cat_ledger_shape.specs.Shapes.{Shape, names_of_commits, names_of_views}
 use Rattle.cat_ledger_shape.specs.Ties.{Carries, ToldFiles}
 use Rattle.cat_ledger_shape.proofs.Committed.{commits_named}
 use Rattle.cat_ledger_shape.proofs.Leaves.{map_twice, views_named}
@@ -37,7 +37,7 @@ use Rattle.cat_ledger_model.proofs.Users.{All-split}
 use Rattle.cat_ledger_lines.specs.LineLaws.{line_of}
 use Rattle.cat_ledger_lines.proofs.Found.{All-unmap, holds_found}
 use Rattle.cat_ledger_lines.specs.ReadLaws.{IsRecordedAs, kept_under}
-use Rattle.cat_ledger_lines.specs.RunLaws.{Answers, AreAlike, IsShown}
+use Rattle.cat_ledger_lines.specs.RunLaws.{Answers, AreAlike}
 use Rattle.cat_replies.specs.Reply.{answer_of, reply_of}
 use Rattle.cat_replies.specs.declared.answer.Answer as code
 use Rattle.cat_holding.specs.Holding.{said_open}

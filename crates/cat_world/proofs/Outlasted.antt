@@ -1,27 +1,27 @@
 -- The newest commit of a run is the newest one that the ledger keeps.
-use Rattle.std.proofs.Common.{◌≡◌, ℕ, Bool, true, false, ◌||◌, List, [], ◌∷◌, map, Option, Some, None, refl, sym, ◌∙◌, ap, subst}
-use Rattle.std.specs.Prelude.{◌≢◌, ltb, option_map, All}
+use Rattle.std.proofs.Common.{◌≡◌, ℕ, true, ◌||◌, List, [], ◌∷◌, map, Option, Some, None, refl, sym, ◌∙◌, ap, subst}
+use Rattle.std.specs.Prelude.{◌≢◌, ltb, option_map}
 use Rattle.std.specs.List.{flat_map, last_or, AllByRecursion}
 use Rattle.std.proofs.lemmas.List.Elements.{recursion_from_All}
 use Rattle.cat_model.specs.CommitFile.{CommitFile, SpellsCommit, commit_needs, listed_names}
 use Rattle.cat_model.specs.Files.{Name}
 use Rattle.cat_model.specs.Item.{Record}
 use Rattle.cat_model.specs.Run.{Run, commits, is_kept, is_newest, newest_commit, snapshots, text_under, writes}
-use Rattle.cat_model.specs.State.{Commit, newest_of}
+use Rattle.cat_model.specs.State.{Commit}
 use Rattle.cat_model.specs.Table.{Opened, table}
 use Rattle.cat_model.specs.Text.{Text}
 use Rattle.cat_model.proofs.CommitFiles.{commits_are_told_by_their_bytes}
 use Rattle.cat_model.proofs.Commits.{is_newest-self}
-use Rattle.cat_directory.specs.Devices.{FileContent, IsSettled, Told}
+use Rattle.cat_directory.specs.Devices.{FileContent, Told}
 use Rattle.cat_directory.specs.Names.{name_of}
 use Rattle.cat_directory.specs.declared.name.FileName.{FileName}
 use Rattle.cat_directory.specs.declared.name.FileName.TheVariants as file
 use Rattle.cat_ledger.specs.Histories.{IsCrashed}
-use Rattle.cat_ledger.specs.Lasting.{NewestLasts, needs_of, newest_needs}
-use Rattle.cat_ledger_lines.specs.NeededLaws.{CommitStands, IsThere}
+use Rattle.cat_ledger.specs.Lasting.{NewestLasts, needs_of}
+use Rattle.cat_ledger_lines.specs.NeededLaws.{CommitStands}
 use Rattle.cat_ledger_lines.specs.RunLaws.{Stands}
 use Rattle.cat_ledger_lines.proofs.NeededFiles.{needed_files_stand, promised_files_stand}
-use Rattle.cat_ledger_model.specs.Ledger.{LedgerCommit, commit_file, commit_shown, state_of}
+use Rattle.cat_ledger_model.specs.Ledger.{commit_file, commit_shown}
 use Rattle.cat_ledger_model.specs.Users.{Used, has_name}
 use Rattle.cat_ledger_shape.specs.Shapes.{Shape}
 use Rattle.cat_ledger_shape.specs.Ties.{ToldFiles}

@@ -3,7 +3,6 @@ use Rattle.std.proofs.Common.{◌≡◌, ℕ, ◌+◌, ◌<◌, List, [], ◌∷
 use Rattle.std.proofs.lemmas.List.{take_more, map-append}
 use Rattle.cat_model.specs.Item.{Schema}
 use Rattle.cat_model.specs.Run.{Command, Exchange, IsRun, Run}
-use Rattle.cat_model.specs.Table.{Opened}
 use Rattle.cat_model.proofs.Runs.{runs_go_on}
 use Rattle.cat_lines.specs.Line.{said_of}
 use Rattle.cat_lines.specs.declared.line.Line.{Line}
@@ -13,7 +12,7 @@ use Rattle.cat_ledger_shape.specs.Ties.{ToldFiles}
 use Rattle.cat_replies.specs.Reply.{reply_of}
 use Rattle.cat_replies.specs.declared.reply.Reply.{Reply}
 use Rattle.cat_world.specs.Lines.{StepsLine}
-use Rattle.cat_world.specs.Running.{AreAnsweredLines, GoesOn, IsAnsweredLine, RunsLines}
+use Rattle.cat_world.specs.Running.{AreAnsweredLines, IsAnsweredLine, RunsLines}
 use Rattle.cat_world.specs.Worlds.{Service, device_of, shape_of}
 
 -- what is read of the first i lines and of their replies agrees for one more

@@ -1,14 +1,14 @@
 -- What is answered to a read, from what it may be told over the right that the session has.
-use Rattle.std.proofs.Common.{◌≡◌, ℕ, true, false, List, refl, sym, ◌∙◌, ap, subst, inl, inr}
+use Rattle.std.proofs.Common.{◌≡◌, ℕ, List, refl, sym, ◌∙◌, ap, subst, inl, inr}
 use Rattle.std.specs.Prelude.{Option, None, Some, option_map, is_some, Result, Err}
 use Rattle.cat_base.specs.declared.refusal.Refusal.{Refusal}
 use Rattle.cat_base.specs.declared.refusal.Refusal.TheVariants.{Memory}
-use Rattle.cat_model.specs.Answer.{Read, query_refusal}
+use Rattle.cat_model.specs.Answer.{Read}
 use Rattle.cat_model.specs.Heard.{IsCommand, IsQueryOf}
 use Rattle.cat_model.specs.Lines.{Said}
 use Rattle.cat_model.specs.Page.{Sort}
 use Rattle.cat_model.specs.Query.{Query}
-use Rattle.cat_model.specs.Run.{Command, Reply, found_reply, or_not_held}
+use Rattle.cat_model.specs.Run.{Command, Reply}
 use Rattle.cat_model.specs.Text.{Text}
 use Rattle.cat_model.specs.View.{View}
 use Rattle.cat_schema.specs.Reading.{json}

@@ -1,7 +1,7 @@
 -- A world that answers as its machine does serves its input as is promised.
 use Rattle.std.proofs.Common.{inl, inr, ◌≡◌, ℕ, List, [], ◌∷◌, ◌++◌, length, map, Bool, true, false, refl, sym, ◌∙◌, ap, ap₂, subst, arith, append-nil, append_assoc}
 use Rattle.std.specs.List.{flat_map, AllByRecursion}
-use Rattle.std.specs.Prelude.{◌≢◌, ◌⊎◌, ◌<◌, Option, None, Some, Result, Ok, Err, nat_lt, if◌then◌else◌, filter_map}
+use Rattle.std.specs.Prelude.{◌⊎◌, ◌<◌, Option, None, Some, Result, Ok, Err, nat_lt, if◌then◌else◌, filter_map}
 use Rattle.std.proofs.lemmas.Bool.{cases_lt}
 use Rattle.std.proofs.lemmas.Bool.Decides.{nat_tests}
 use Rattle.cat_base.specs.declared.refusal.Refusal.{Refusal}
@@ -35,9 +35,9 @@ use Rattle.cat_serving.specs.declared.machine.Unopened.{Unopened}
 use Rattle.cat_world.proofs.Histories.{tolds_are_calls}
 use Rattle.cat_world.proofs.Outlasted.{newest_number, newest_outlasts, own_outlasts}
 use Rattle.cat_world.specs.Histories.{OutlivesCrash}
-use Rattle.cat_world.specs.Opening.{BeginsIn, HasSchemaText, OpensIn, OpensWorld}
+use Rattle.cat_world.specs.Opening.{BeginsIn, OpensWorld}
 use Rattle.cat_world.specs.Promises.{LeavesFiles, LeavesPromised, WorldLasts}
-use Rattle.cat_world.specs.Serving.{AreLike, Changes, IsLike, IsServedIn, OpensIfShort, ServesIn, SparesRefused, StageLasts, StageOutlives, StepsIfShort, device_at}
+use Rattle.cat_world.specs.Serving.{AreLike, Changes, IsServedIn, OpensIfShort, ServesIn, SparesRefused, StageLasts, StageOutlives, StepsIfShort, device_at}
 use Rattle.cat_world.specs.Wanting.{WantRightly}
 use Rattle.cat_world.specs.Worlds.{Service, device_of, shape_of}
 use Rattle.cat_world.proofs.Wanted.{alike_wants}

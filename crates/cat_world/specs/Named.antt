@@ -1,5 +1,5 @@
 -- Which names of files are told.
-use Rattle.std.specs.Prelude.{◌≡◌, ◌≢◌, List, Option, None, Some, Ok, Err}
+use Rattle.std.specs.Prelude.{◌≡◌, ◌≢◌, List, Option, Some, Ok, Err}
 use Rattle.cat_model.specs.CommitFile.{CommitFile, commit_needs}
 use Rattle.cat_model.specs.Lines.{Said}
 use Rattle.cat_model.specs.Run.{Answer, Reply}

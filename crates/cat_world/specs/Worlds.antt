@@ -1,5 +1,5 @@
 -- What a world of sessions means: a ledger, the rights that its sessions have, and what is kept beside it.
-use Rattle.std.specs.Prelude.{ℕ, List, map}
+use Rattle.std.specs.Prelude.{List, map}
 use Rattle.cat_model.specs.View.{Segment}
 use Rattle.cat_facets.specs.States.{ReaderState}
 use Rattle.cat_filters.specs.Filters.{Filters}

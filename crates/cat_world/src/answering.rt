@@ -1,8 +1,6 @@
 //! Lines, answered one after another.
 ghost use Rattle.std.specs.Prelude.{◌≡◌};
-ghost use Rattle.cat_model.specs.Run.{Run};
 ghost use Rattle.cat_model.specs.Served.{NamesFiles};
-ghost use Rattle.cat_model.specs.Table.{Opened};
 ghost use Rattle.cat_ledger.specs.Histories.{GoesBy};
 ghost use Rattle.cat_lines.specs.Line.{said_of};
 ghost use Rattle.cat_replies.specs.Reply.{reply_of};
@@ -13,7 +11,7 @@ ghost use Rattle.cat_world.specs.Promises.{KeepsPromises};
 ghost use Rattle.cat_world.specs.Worlds.{device_of, policy_of, shape_of};
 
 use crate::world::World;
-use cat_base::{Refusal, SessionNo};
+use cat_base::Refusal;
 use cat_directory::{Directory, Shelf};
 use cat_keeping::Chore;
 use cat_lines::{Command, Line};

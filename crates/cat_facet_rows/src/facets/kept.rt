@@ -4,7 +4,7 @@ ghost use Rattle.cat_facets.specs.Kept.{KnowsIn};
 ghost use Rattle.cat_facets.specs.States.{segments_of};
 
 use crate::facets::counts::{CountText, answer_text, counts_kept};
-use cat_base::{Refusal, Token};
+use cat_base::Token;
 use cat_facets::{MAX_KEPT_STATES, ReaderStates};
 use cat_schema::Schema;
 use cat_search::{Leaf, View};

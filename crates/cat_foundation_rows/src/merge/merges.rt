@@ -1,6 +1,5 @@
 //! Merges of segments with fields of each kind, with rows that are dead when they begin and rows that are killed meanwhile.
-ghost use Rattle.std.specs.Prelude.{◌≡◌, ◌≢◌, ◌<◌, true, IfOk, All, AllPairs};
-ghost use Rattle.cat_model.specs.Item.{IsItem};
+ghost use Rattle.std.specs.Prelude.{◌≡◌, ◌≢◌, ◌<◌, true, AllPairs};
 
 use crate::merge::running::expect_merge;
 use crate::merge::thrown::{FIELDS, Which, thrown_puts};

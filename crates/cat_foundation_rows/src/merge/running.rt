@@ -1,12 +1,12 @@
 //! Merges that are run step by step, beside what has to come of them.
-ghost use Rattle.std.specs.Prelude.{◌≡◌, ◌≢◌, ◌<◌, true, map, length, OnOk, IfOk, IfSome, All, AllPairs};
+ghost use Rattle.std.specs.Prelude.{◌≡◌, ◌≢◌, ◌<◌, true, map, OnOk, IfOk, All, AllPairs};
 ghost use Rattle.cat_merge.specs.Merging.{with_live};
 ghost use Rattle.cat_model.specs.Item.{IsItem};
 ghost use Rattle.cat_model.specs.Merged.{AreDeletedFrom};
 
 use crate::merge::making::{MERGED, Taken, kept_live, kept_segment, taken_of};
 use crate::merge::thrown::Which;
-use cat_base::{MAX_STEP_ROWS, SegNo};
+use cat_base::MAX_STEP_ROWS;
 use cat_merge::{Merge, SourceRange};
 use cat_schema::Schema;
 use cat_segment::{Live, Segment, encode_seg};

@@ -1,5 +1,5 @@
 //! A segment that comes in the place of two, while rows of these die.
-ghost use Rattle.std.specs.Prelude.{◌≡◌, IfOk, OnOk, All};
+ghost use Rattle.std.specs.Prelude.{IfOk, OnOk, All};
 ghost use Rattle.cat_model.specs.Item.{IsItem};
 ghost use Rattle.cat_ledger_parts_rows.specs.Windows.{MayReplace};
 

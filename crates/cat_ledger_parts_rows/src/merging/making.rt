@@ -1,5 +1,5 @@
 //! Rows cut into the segments of a view, and what stands in their place when a merge of them ends.
-ghost use Rattle.std.specs.Prelude.{◌≡◌, ◌≤◌, true, length, IfOk, OnOk, All};
+ghost use Rattle.std.specs.Prelude.{◌≡◌, ◌≤◌, true, length, IfOk, All};
 ghost use Rattle.cat_model.specs.Item.{IsItem};
 ghost use Rattle.cat_model.specs.Limits.{row_limit};
 ghost use Rattle.cat_model.specs.Merged.{AreDeletedFrom, LessLive, rows_of_all};

@@ -2,7 +2,7 @@
 use crate::records::making::{acquire_at, expect_tokens, fill, finds_view, record_at, records_at};
 use cat_base::{Refusal, Token};
 use cat_records::Records;
-use std::alloc::{AllocError, Global};
+use std::alloc::Global;
 use std::process::Abort;
 use std::test::Fail;
 

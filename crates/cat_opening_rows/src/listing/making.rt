@@ -2,7 +2,7 @@
 ghost use Rattle.std.specs.Prelude.{◌≡◌, ◌≢◌, true, AllPairs};
 ghost use Rattle.cat_opening_rows.specs.Same.{IsSecond, heading_in};
 
-use cat_base::{Refusal, SegNo, WriteNo};
+use cat_base::{Refusal, SegNo};
 use cat_commits::{Commit, ListedSegment, Version};
 use cat_directory::{Directory, FileName, MemoryDirectory, Shelf, write_file};
 use cat_listing::{Draft, Heading, Listing};

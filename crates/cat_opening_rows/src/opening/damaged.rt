@@ -1,9 +1,9 @@
 //! Files that each have their form, and hold no commit together; and files of which one byte is spoilt.
 use crate::files::{
     COMMIT, CommitText, Content, Files, LIVE_OF_ONE, LiveText, ONE, SegmentText, THREE, TWO, WHOLE,
-    WHOLE_TOLD, bytes_of, whole_but, write_bytes,
+    bytes_of, whole_but, write_bytes,
 };
-use crate::opening::told::{told, told_under};
+use crate::opening::told::told;
 use cat_directory::{FileName, MemoryDirectory};
 use std::alloc::Global;
 use std::process::Abort;

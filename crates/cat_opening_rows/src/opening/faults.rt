@@ -2,7 +2,7 @@
 use crate::files::{WHOLE, WHOLE_TOLD, bytes_of, whole_but};
 use crate::opening::told::{FIELDS, told};
 use cat_base::Refusal;
-use cat_directory::{Directory, Faults, Faulty, FileName, Holder, MemoryDirectory, Shelf};
+use cat_directory::{Directory, Faults, Faulty, Holder, MemoryDirectory, Shelf};
 use cat_opening::read_commit;
 use cat_schema::Schema;
 use std::alloc::Global;

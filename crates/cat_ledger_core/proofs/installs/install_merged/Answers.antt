@@ -1,4 +1,4 @@
-use Rattle.std.proofs.Common.{◌≡◌, ◌+◌, ◌-◌, ◌∙◌, List, map, take, drop, ap, sym}
+use Rattle.std.proofs.Common.{◌≡◌, ◌+◌, ◌-◌, ◌∙◌, List, map, take, drop, ap}
 use Rattle.cat_model.specs.View.{Leaf}
 use Rattle.cat_directory.specs.Names.{name_of}
 use Rattle.cat_ledger_shape.specs.Steps.{window_now}

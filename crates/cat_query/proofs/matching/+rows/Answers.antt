@@ -1,6 +1,6 @@
 use Rattle.std.proofs.Common.{◌∙◌, sym, ap, refl, true, false}
 use Rattle.cat_model.specs.Query as model
-use Rattle.cat_model.specs.Query.{matches, supported, primary_matches}
+use Rattle.cat_model.specs.Query.{matches, supported}
 use Rattle.cat_model.specs.RowSets.{either}
 use Rattle.cat_model.specs.View.{item_in}
 use Rattle.cat_query.specs.View.{primary_of, clauses_of}

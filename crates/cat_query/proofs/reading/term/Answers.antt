@@ -1,4 +1,4 @@
-use Rattle.std.proofs.Common.{length, ◌∙◌}
+use Rattle.std.proofs.Common.{length}
 use Rattle.cat_model.specs.Reader.{meaning}
 use Rattle.cat_schema.specs.Kinds.{field_kind_of}
 use Rattle.cat_query.specs.Reading.{asks_of}

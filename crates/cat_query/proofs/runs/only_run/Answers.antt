@@ -1,4 +1,4 @@
-use Rattle.std.proofs.Common.{◌≡◌, ◌<◌, [], ◌∷◌, ◌∙◌, map, length, drop, ap, sym, subst, arith, refl, false-eqb, IsUtf8}
+use Rattle.std.proofs.Common.{◌<◌, [], ◌∷◌, ◌∙◌, map, drop, sym, subst, arith, refl, false-eqb, IsUtf8}
 use Rattle.std.specs.Prelude.{option_map}
 use Rattle.std.proofs.lemmas.Str.{IsUtf8-drop}
 use Rattle.cat_model.specs.Words.{lowered, runs}

@@ -1,6 +1,4 @@
-use Rattle.std.proofs.Common.{rules, ◌∙◌, sym, ap, subst}
-use Rattle.std.specs.Prelude.{IfSome, ◌<◌, ◌≡◌, length, is_some}
-use Rattle.std.specs.List.{HoldsAt}
+use Rattle.std.proofs.Common.{rules}
 use Rattle.std.proofs.lemmas.Fn.{always_returns_same}
 use Rattle.cat_records.specs.Counts.{token_of}
 use Rattle.cat_records.proofs.Searched.{searched_some, searched_none}

@@ -1,4 +1,4 @@
-use Rattle.std.proofs.Common.{◌≡◌, ◌∙◌, Some, sym, ap}
+use Rattle.std.proofs.Common.{◌∙◌, Some, sym, ap}
 use Rattle.std.specs.Prelude.{◌==◌}
 use Rattle.cat_records.specs.Counts.{token_of}
 use Rattle.cat_records.proofs.Searched.{found_at, not_found}

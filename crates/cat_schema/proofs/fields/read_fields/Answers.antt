@@ -1,4 +1,4 @@
-use Rattle.std.proofs.Common.{◌≡◌, ◌≤◌, Ok, true, length, is_some, refl, sym, ◌∙◌, arith}
+use Rattle.std.proofs.Common.{◌≡◌, Ok, true, refl, sym, ◌∙◌, arith}
 use Rattle.std.specs.Map.Iter.{deref_pair}
 use Rattle.std.proofs.lemmas.Map.Iter.{rest_more}
 use Rattle.serde_json.specs.View.{members_view}

@@ -1,4 +1,4 @@
-use Rattle.std.proofs.Common.{[], ◌∷◌, ◌++◌, map, take, sym, ap, refl, ◌∙◌, arith}
+use Rattle.std.proofs.Common.{[], ◌∷◌, ◌++◌, map, take, sym, ap, ◌∙◌, arith}
 use lib.Seq.{take-take}
 use Rattle.std.specs.Io.BufRead.{strip_last}
 use Rattle.cat_model.specs.Input.{ended_after}

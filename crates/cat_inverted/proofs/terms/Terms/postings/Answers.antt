@@ -1,4 +1,4 @@
-use Rattle.std.proofs.Common.{ℕ, List, take, drop, sym, ap, ◌∙◌}
+use Rattle.std.proofs.Common.{ℕ, List, take, drop, ap, ◌∙◌}
 use Rattle.cat_model.specs.Ordinals.{postings_of}
 use Rattle.cat_model.specs.Layout.{pieces}
 use Rattle.cat_inverted.proofs.Parts.{joined}

@@ -1,9 +1,8 @@
-use Rattle.std.proofs.Common.{◌≡◌, ◌≤◌, ◌∙◌, [], ◌∷◌, length, Some, sym, ap, subst}
+use Rattle.std.proofs.Common.{◌≤◌, ◌∙◌, [], ◌∷◌, length, Some, sym, ap, subst}
 use Rattle.std.specs.Prelude.{option_map}
 use Rattle.cat_model.specs.Files.{Name}
 use Rattle.cat_model.specs.Limits.{segment_limit}
 use Rattle.cat_ledger_model.specs.Users.{Changes}
-use Rattle.cat_ledger_shape.specs.Shapes.{Shape}
 use Rattle.cat_ledger_shape.proofs.MergeInstalls.{installs_keep}
 use Rattle.cat_ledger_core.specs.Cores.{shape_in}
 use Rattle.cat_ledger_core.specs.Installs.{HasAllPassed, HasFailed, HasInstalled}

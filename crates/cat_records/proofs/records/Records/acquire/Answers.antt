@@ -1,7 +1,6 @@
-use Rattle.std.proofs.Common.{◌≡◌, ◌+◌, ◌<◌, ◌∙◌, ◌^◌, List, [], ◌∷◌, ◌++◌, Bool, true, false, cond, not, ap, length, map, drop, take, refl, sym, subst, arith}
-use Rattle.std.specs.Prelude.{◌==◌, ◌&&◌}
+use Rattle.std.proofs.Common.{◌≡◌, ◌+◌, ◌<◌, ◌∙◌, ◌^◌, List, [], ◌∷◌, ◌++◌, true, false, cond, ap, length, map, drop, take, sym, subst, arith}
 use Rattle.std.specs.List.{list_any}
-use Rattle.cat_model.specs.State.{Hold, has_hold}
+use Rattle.cat_model.specs.State.{Hold}
 use Rattle.cat_records.specs.Counts.{AreKept, one_more, views_of}
 use Rattle.cat_records.specs.Records.{Records, acquired, has_token}
 use Rattle.cat_records.specs.declared.recorded.Recorded.{Recorded}

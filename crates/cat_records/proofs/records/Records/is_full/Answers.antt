@@ -1,4 +1,4 @@
-use Rattle.std.proofs.Common.{◌≡◌, ◌≤◌, ◌∙◌, ap, length, not, rules, arith}
+use Rattle.std.proofs.Common.{◌≤◌, ◌∙◌, ap, length, not, arith}
 use Rattle.std.specs.Prelude.{ltb}
 use Rattle.std.specs.List.{position}
 use Rattle.cat_model.specs.Run.{is_full}

@@ -1,4 +1,4 @@
-use Rattle.std.proofs.Common.{◌≡◌, ◌∙◌, ap}
+use Rattle.std.proofs.Common.{◌∙◌, ap}
 use Rattle.std.specs.Prelude.{◌==◌, find}
 use Rattle.cat_model.specs.State.{held_in}
 use Rattle.cat_records.specs.Counts.{token_of}

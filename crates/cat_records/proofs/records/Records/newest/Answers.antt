@@ -1,4 +1,4 @@
-use Rattle.std.proofs.Common.{◌≡◌, ◌-◌, ◌<◌, ◌≤◌, ◌∙◌, All, ap, length, get_or, sym, subst, rules, arith}
+use Rattle.std.proofs.Common.{◌≡◌, ◌-◌, ◌≤◌, ◌∙◌, All, ap, length, get_or, sym, subst, rules, arith}
 use Rattle.cat_model.specs.Run.{greatest}
 use Rattle.cat_records.specs.Counts.{token_of}
 use Rattle.cat_records.specs.Records.{Records, tokens_of}

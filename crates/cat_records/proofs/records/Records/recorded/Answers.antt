@@ -1,6 +1,5 @@
 use Rattle.std.proofs.Common.{subst}
 use Rattle.cat_records.specs.Records.{AreRecords}
-use Rattle.cat_records.proofs.Holders.{equal_either}
 use Rattle.cat_records.proofs.Shown.{are_records, flipped}
 use Rattle.cat_records.proofs.records.Records.recorded.Goals as goal
 

@@ -1,7 +1,7 @@
-use Rattle.std.proofs.Common.{◌≡◌, ◌+◌, ◌<◌, ◌∙◌, List, [], ◌∷◌, ◌++◌, Bool, true, false, not, ap, length, map, drop, take, sym, subst, arith}
-use Rattle.std.specs.List.{filter, list_any}
+use Rattle.std.proofs.Common.{◌≡◌, ◌+◌, ◌∙◌, List, ◌++◌, true, not, ap, length, map, drop, take, sym, subst}
+use Rattle.std.specs.List.{filter}
 use Rattle.cat_model.specs.State.{Hold, has_hold}
-use Rattle.cat_records.specs.Counts.{AreKept, one_more, views_of}
+use Rattle.cat_records.specs.Counts.{AreKept, one_more}
 use Rattle.cat_records.specs.Records.{Records, released}
 use Rattle.cat_records.specs.declared.recorded.Recorded.{Recorded}
 use Rattle.cat_records.proofs.Holders.{is_of, length-more}

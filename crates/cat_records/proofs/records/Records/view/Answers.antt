@@ -1,4 +1,4 @@
-use Rattle.std.proofs.Common.{◌≡◌, ◌∙◌, Some, None, ap}
+use Rattle.std.proofs.Common.{◌∙◌, Some, None, ap}
 use Rattle.std.specs.Prelude.{◌==◌, find}
 use Rattle.cat_records.specs.Counts.{token_of}
 use Rattle.cat_records.specs.Records.{Records}

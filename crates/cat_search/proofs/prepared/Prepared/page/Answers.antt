@@ -1,4 +1,4 @@
-use Rattle.std.proofs.Common.{◌≡◌, ◌≢◌, Ok, Err, IfOk, IfErr, map, subst}
+use Rattle.std.proofs.Common.{◌≡◌, ◌≢◌, Ok, Err, IfOk, IfErr, subst}
 use Rattle.cat_base.specs.declared.refusal.Refusal.TheVariants.{Memory}
 use Rattle.cat_search.specs.Views.{Prepared}
 use Rattle.cat_search.proofs.ViewPages.{over, ok_shown, err_shown, due_of_shown}

@@ -1,4 +1,4 @@
-use Rattle.std.proofs.Common.{◌++◌, [], ◌∷◌, map, get_or, take, ap, sym, ◌∙◌, refl, subst, arith}
+use Rattle.std.proofs.Common.{[], map, ap, sym, ◌∙◌, refl, subst, arith}
 use Rattle.std.proofs.lemmas.List.{take_all}
 use Rattle.cat_lines.specs.declared.line.Line.{Line}
 use Rattle.cat_lines.specs.declared.command.Command.TheVariants.{NoForm}

@@ -1,4 +1,3 @@
-use Rattle.cat_lines.specs.Line.{said_of}
 use Rattle.cat_replies.specs.Reply.{reply_of}
 use Rattle.cat_ledger_lines.proofs.Answered.{answers_are_steps}
 use Rattle.cat_ledger_lines.proofs.NeededFiles.{promised_files_stand}
