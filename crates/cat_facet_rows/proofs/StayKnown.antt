@@ -6,11 +6,11 @@ use Rattle.std.proofs.lemmas.List.Elements.{All-cons, All-map, All-nil}
 use Rattle.std.specs.Prelude.{◌≢◌}
 use Rattle.std.specs.List.{flat_map}
 use Rattle.cat_model.specs.Item.{Schema}
-use Rattle.cat_model.specs.View.{AreRows, IsView, Leaf, Segment, live_rows}
+use Rattle.cat_model.specs.View.{AreRows, IsView, Leaf, Segment, live_rows, AgreesWith, segments_of}
 use Rattle.cat_model.proofs.Places.{all_pairs, each_pair}
 use Rattle.cat_search.proofs.Selected.{Pairs-pieces}
-use Rattle.cat_facets.specs.Kept.{AgreesWith, KnowsIn, RemembersOf}
-use Rattle.cat_facets.specs.States.{ReaderState, segments_of}
+use Rattle.cat_facets.specs.Kept.{KnowsIn, RemembersOf}
+use Rattle.cat_facets.specs.States.{ReaderState}
 
 -- no state is kept
 pub none_kept : (segments : List Segment) → All (KnowsIn []) segments

@@ -5,8 +5,8 @@ use Rattle.std.specs.Option.{option_map_or}
 use Rattle.std.specs.Cmp.Lexicographic.{pointwise, same_text as same_list}
 use Rattle.std.proofs.lemmas.List.Elements.{All-append, All-drop, All-head, All-push, All-tail, All-take, All-weaker}
 use Rattle.cat_model.specs.Text.{Text, same_text}
-use Rattle.cat_model.specs.View.{Segment}
-use Rattle.cat_facets.specs.Kept.{is_kept_as, last_kept, numbers_of, others, used_in, AgreesWith, KnowsIn, RemembersOf, RemembersOfBelow}
+use Rattle.cat_model.specs.View.{Segment, AgreesWith}
+use Rattle.cat_facets.specs.Kept.{is_kept_as, last_kept, numbers_of, others, used_in, KnowsIn, RemembersOf, RemembersOfBelow}
 use Rattle.cat_facets.specs.States.{ReaderState}
 
 -- ---- what is said of every state stays so

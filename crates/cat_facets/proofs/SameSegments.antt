@@ -4,10 +4,10 @@ use Rattle.std.proofs.lemmas.List.{get_or-map, length-map}
 use Rattle.std.proofs.lemmas.List.Elements.{All-map}
 use Rattle.cat_model.specs.Ordinals.{dictionary_of}
 use Rattle.cat_model.specs.Text.{Text}
-use Rattle.cat_model.specs.View.{Leaf, Segment}
+use Rattle.cat_model.specs.View.{Leaf, Segment, segments_of}
 use Rattle.cat_model.specs.GlobalOrdinals.{leaf_dictionary}
 use Rattle.cat_facets.specs.declared.segments.SegmentLabels.{SegmentLabels}
-use Rattle.cat_facets.specs.States.{as_leaf, as_leaves, segments_of, union_in, AreKnown, HasLabels, IsKept, IsKnown}
+use Rattle.cat_facets.specs.States.{as_leaf, as_leaves, union_in, AreKnown, HasLabels, IsKept, IsKnown}
 use Rattle.cat_facets.specs.Tallies.{leaf_labels}
 
 -- the segment of a leaf

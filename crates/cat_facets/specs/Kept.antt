@@ -1,10 +1,10 @@
 -- The states that are kept, the last used last, and what segments they are of.
-use Rattle.std.specs.Prelude.{◌≡◌, ◌&&◌, ℕ, ◌-◌, ◌<◌, Bool, List, [], ◌∷◌, ◌++◌, length, drop, map, nat_eq, All}
+use Rattle.std.specs.Prelude.{◌&&◌, ℕ, ◌-◌, ◌<◌, Bool, List, [], ◌∷◌, ◌++◌, length, drop, map, nat_eq, All}
 use Rattle.std.specs.Cmp.Lexicographic.{pointwise}
 use Rattle.std.specs.List.{position, remove}
 use Rattle.std.specs.Option.{option_map_or}
 use Rattle.cat_model.specs.Text.{Text, same_text}
-use Rattle.cat_model.specs.View.{Segment}
+use Rattle.cat_model.specs.View.{Segment, AgreesWith}
 use Rattle.cat_facets.specs.States.{ReaderState}
 use Rattle.cat_facets.specs.declared.limits.TheConstants as base
 
@@ -35,10 +35,6 @@ abbrev pub used_in : ReaderState → List ReaderState → List ReaderState
 used_in k ks = last_kept (others (numbers_of k.segments) k.dimension ks ++ k ∷ [])
 
 -- ---- what segments are known
-
--- the other is the segment, if it has the number of it
-abbrev pub AgreesWith : Segment → Segment → Type 0
-AgreesWith s t = t.number ≡ s.number → t ≡ s
 
 -- each segment of a kept state that has the number of the segment is it
 abbrev pub KnowsIn : List ReaderState → Segment → Type 0

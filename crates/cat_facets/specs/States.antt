@@ -19,10 +19,6 @@ pub record ReaderState : Type 0 where
 
 -- ---- segments
 
--- the segments of leaves
-abbrev pub segments_of : List Leaf → List Segment
-segments_of leaves = map (λ l. l.segment) leaves
-
 -- a segment as a leaf: what is kept of it doesn't ask which rows are live
 abbrev pub as_leaf : Segment → Leaf
 as_leaf s = record { segment = s; live = [] }

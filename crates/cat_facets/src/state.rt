@@ -5,10 +5,10 @@ ghost use Rattle.cat_base.specs.declared.refusal.Refusal.TheVariants.{Memory, No
 ghost use Rattle.cat_model.specs.Answer.{Found, is_facet_kind};
 ghost use Rattle.cat_model.specs.Item.{Record, kind_of};
 ghost use Rattle.cat_model.specs.Ordinals.{text_at, IsOrdinal};
-ghost use Rattle.cat_model.specs.View.{Shows};
+ghost use Rattle.cat_model.specs.View.{Shows, segments_of};
 ghost use Rattle.cat_schema.specs.Kinds.{field_kind_of};
 ghost use Rattle.cat_model.specs.GlobalOrdinals.{leaf_dictionary};
-ghost use Rattle.cat_facets.specs.States.{answer_over, as_leaves, segments_of, union_in, IsAnswerTo, IsDimensionOf};
+ghost use Rattle.cat_facets.specs.States.{answer_over, as_leaves, union_in, IsAnswerTo, IsDimensionOf};
 
 use crate::facets::Facets;
 use crate::first::{counts_told, first_met};
@@ -43,13 +43,14 @@ pub struct ReaderState {
 }
 
 impl Model for ReaderState {
+    ghost use Rattle.cat_model.specs.View.{segments_of};
     ghost use Rattle.cat_facets.specs.States as model;
 
     ghost Value = { model.ReaderState };
 
-    ghost view = { λ s. record { segments = model.segments_of s.made_of.value.leaves; dimension = s.dimension } };
+    ghost view = { λ s. record { segments = segments_of s.made_of.value.leaves; dimension = s.dimension } };
 
-    ghost invariant = { λ s. model.IsState (record { segments = model.segments_of s.made_of.value.leaves; dimension = s.dimension })
+    ghost invariant = { λ s. model.IsState (record { segments = segments_of s.made_of.value.leaves; dimension = s.dimension })
         s.labels s.segments.items };
 }
 

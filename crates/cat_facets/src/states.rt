@@ -4,9 +4,9 @@ ghost use Rattle.std.specs.List.{position};
 ghost use Rattle.cat_base.specs.declared.refusal.Refusal.TheVariants.{Memory};
 ghost use Rattle.cat_model.specs.Answer.{Found};
 ghost use Rattle.cat_model.specs.Item.{Record};
-ghost use Rattle.cat_model.specs.View.{Shows};
+ghost use Rattle.cat_model.specs.View.{Shows, segments_of};
 ghost use Rattle.cat_facets.specs.Kept.{is_kept_as, last_kept, most_kept, numbers_of, others, used_in, KnowsIn, RemembersOf, RemembersOfBelow};
-ghost use Rattle.cat_facets.specs.States.{answer_over, segments_of, IsAnswerTo, IsDimensionOf};
+ghost use Rattle.cat_facets.specs.States.{answer_over, IsAnswerTo, IsDimensionOf};
 
 use crate::facets::Facets;
 use crate::limits::MAX_KEPT_STATES;

@@ -5,11 +5,11 @@ use Rattle.std.specs.Arc.{arc_value}
 use Rattle.std.specs.declared.sync.Arc.{Arc}
 use Rattle.std.proofs.lemmas.List.Elements.{All-head, All-tail, All-weaker}
 use Rattle.cat_model.specs.Query.{Query}
-use Rattle.cat_model.specs.View.{Leaf, Segment, row_matches}
+use Rattle.cat_model.specs.View.{Leaf, Segment, row_matches, segments_of}
 use Rattle.cat_cache.specs.Cached.{Entry, Key, same_key}
 use Rattle.cat_cache.proofs.Shown.{keys_decided}
 use Rattle.cat_search.specs.Sets.{AreSets, set_at}
-use Rattle.cat_filters.specs.Filters.{Filters, key_in, segments_of, set_in}
+use Rattle.cat_filters.specs.Filters.{Filters, key_in, set_in}
 use Rattle.cat_filters.specs.Known.{HasRowsOf, Knows}
 use Rattle.cat_filters.proofs.Found.{All-lookup}
 

@@ -6,11 +6,11 @@ use Rattle.std.specs.List.{find}
 use Rattle.std.specs.Map.{lookup_entry, remove_entry}
 use Rattle.std.proofs.lemmas.List.Elements.{All-append, All-cons, All-head, All-map, All-nil, All-tail, All-take}
 use Rattle.cat_model.specs.Query.{Query}
-use Rattle.cat_model.specs.View.{Segment, row_matches}
+use Rattle.cat_model.specs.View.{Segment, row_matches, AgreesWith}
 use Rattle.cat_cache.specs.Cached.{Entry, Key, same_key, stored, used}
 use Rattle.cat_cache.specs.Warmed.{Warm}
 use Rattle.cat_filters.specs.Filters.{Filters, IsUsedInPart, Pair, begun, first_missing, is_missing, key_in, pairs, used_in, without}
-use Rattle.cat_filters.specs.Known.{AgreesWith, HasRowsOf, IsBelow, Knows, Remembers, RemembersBelow, RemembersOf, RemembersOfBelow}
+use Rattle.cat_filters.specs.Known.{HasRowsOf, IsBelow, Knows, Remembers, RemembersBelow, RemembersOf, RemembersOfBelow}
 use Rattle.cat_filters.specs.Steps.{IsLeft, IsMade, IsStep}
 use Rattle.cat_filters.specs.declared.news.WarmNews.{WarmNews}
 use Rattle.cat_filters.specs.declared.news.WarmNews.TheVariants as news

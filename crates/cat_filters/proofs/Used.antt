@@ -5,10 +5,10 @@ use Rattle.std.specs.Option.{option_map_or}
 use Rattle.std.specs.Map.{lookup, lookup_entry, remove_entry}
 use Rattle.std.proofs.lemmas.List.{length-map, map-append, nil_from_length, take-map, take_all, take_more}
 use Rattle.cat_model.specs.Query.{Query}
-use Rattle.cat_model.specs.View.{Leaf, Segment}
+use Rattle.cat_model.specs.View.{Leaf, Segment, segments_of}
 use Rattle.cat_cache.specs.Cached.{Entry, Key, same_key, used}
 use Rattle.cat_cache.proofs.Shown.{keys_decided, kept_first}
-use Rattle.cat_filters.specs.Filters.{IsUsedInPart, key_in, segments_of, set_in, used_in}
+use Rattle.cat_filters.specs.Filters.{IsUsedInPart, key_in, set_in, used_in}
 use Rattle.cat_filters.proofs.Found.{entry_passes}
 
 module _ {K X : Type 0} (t u : K → Bool) (apart : (k : K) → t k ≡ true → u k ≡ true → ⊥) where

@@ -5,7 +5,7 @@ use Rattle.std.specs.List.{find, flat_map, fold, list_any}
 use Rattle.std.specs.Map.{lookup}
 use Rattle.cat_base.specs.declared.numbers.TheConstants as base
 use Rattle.cat_model.specs.Query as model
-use Rattle.cat_model.specs.View.{Leaf, Segment}
+use Rattle.cat_model.specs.View.{Leaf, Segment, segments_of}
 use Rattle.cat_query.specs.Same.{same_query}
 use Rattle.cat_cache.specs.Cached.{Entry, Key, same_key, used}
 use Rattle.cat_cache.specs.Warmed.{Warm}
@@ -31,9 +31,6 @@ abbrev pub noted_with : model.Query → List model.Query → List model.Query
 noted_with q noted = cond (list_any (λ p. same_query p q) noted) noted (newest most_noted (noted ++ q ∷ []))
 
 -- ---- sets that are at hand
-
-abbrev pub segments_of : List Leaf → List Segment
-segments_of leaves = map (λ l. l.segment) leaves
 
 -- what the set of the query in the segment stands under
 abbrev pub key_in : model.Query → Segment → Key

@@ -1,6 +1,6 @@
 -- What segments the sets are of.
 use Rattle.std.specs.Prelude.{◌≡◌, ℕ, ◌<◌, List, map, All, IfSome}
-use Rattle.cat_model.specs.View.{Segment, row_matches}
+use Rattle.cat_model.specs.View.{Segment, row_matches, AgreesWith}
 use Rattle.cat_cache.specs.Cached.{Entry}
 use Rattle.cat_filters.specs.Filters.{Filters}
 
@@ -18,10 +18,6 @@ pub record Knows (f : Filters) (s : Segment) : Type 0 where
 pub record IsBelow (n : ℕ) (f : Filters) : Type 0 where
   pub cached : All (λ e. e.0.segment < n) f.cached
   pub warming : IfSome f.warming (λ w. w.segment.number < n)
-
--- the other is the segment, if it has the number of it
-abbrev pub AgreesWith : Segment → Segment → Type 0
-AgreesWith s t = t.number ≡ s.number → t ≡ s
 
 -- whatever segment was known is
 abbrev pub Remembers : Filters → Filters → Type 0

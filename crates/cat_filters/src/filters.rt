@@ -6,9 +6,10 @@ ghost use Rattle.std.specs.Option.{option_map_or};
 ghost use Rattle.cat_cache.specs.Cached.{most_sets};
 ghost use Rattle.cat_query.specs.View.{query_of};
 ghost use Rattle.cat_search.specs.Sets.{AreSets};
-ghost use Rattle.cat_filters.specs.Filters.{IsUsedInPart, most_noted, newest, noted_with, segments_of, set_in, used_in, without};
+ghost use Rattle.cat_filters.specs.Filters.{IsUsedInPart, most_noted, newest, noted_with, set_in, used_in, without};
 ghost use Rattle.cat_filters.specs.Known.{Knows, Remembers, RemembersBelow, RemembersOf, RemembersOfBelow};
 ghost use Rattle.cat_filters.specs.Steps.{IsLeft, IsStep};
+ghost use Rattle.cat_model.specs.View.{segments_of};
 
 use crate::looks::sets_under;
 use crate::making::{next_begun, pass_on};

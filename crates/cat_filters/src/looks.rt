@@ -4,7 +4,8 @@ ghost use Rattle.std.specs.Arc.{arc_value};
 ghost use Rattle.std.specs.Map.{lookup};
 ghost use Rattle.cat_cache.specs.Cached.{key_of, same_key, used};
 ghost use Rattle.cat_query.specs.View.{query_of};
-ghost use Rattle.cat_filters.specs.Filters.{IsUsedInPart, segments_of, set_in, used_in};
+ghost use Rattle.cat_filters.specs.Filters.{IsUsedInPart, set_in, used_in};
+ghost use Rattle.cat_model.specs.View.{segments_of};
 
 use cat_cache::{FilterCache, Key};
 use cat_query::{DocSet, Query};

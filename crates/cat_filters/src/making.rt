@@ -1,8 +1,9 @@
 //! Sets in the making: which is begun next, and one step of it.
 ghost use Rattle.std.specs.Prelude.{◌≡◌, find, map, option_map, IfOk, OnErr};
 ghost use Rattle.cat_query.specs.View.{query_of};
-ghost use Rattle.cat_filters.specs.Filters.{begun, is_missing, pairs, segments_of};
+ghost use Rattle.cat_filters.specs.Filters.{begun, is_missing, pairs};
 ghost use Rattle.cat_filters.specs.Steps.{IsMade, IsMadeInPart};
+ghost use Rattle.cat_model.specs.View.{segments_of};
 
 use cat_cache::{FilterCache, Key, Warm, Warming};
 use cat_query::Query;

@@ -9,7 +9,7 @@ ghost use Rattle.cat_model.specs.Heard.{IsQueryOf};
 ghost use Rattle.cat_model.specs.Query as model;
 ghost use Rattle.cat_schema.specs.Kinds.{field_kind_of};
 ghost use Rattle.cat_query.specs.View.{query_of};
-ghost use Rattle.cat_filters.specs.Filters.{segments_of};
+ghost use Rattle.cat_model.specs.View.{segments_of};
 ghost use Rattle.cat_filters.specs.Known.{Knows, Remembers, RemembersBelow};
 ghost use Rattle.cat_facets.specs.Kept.{KnowsIn, RemembersOf, RemembersOfBelow};
 ghost use Rattle.cat_ledger_lines.specs.ReadLaws.{Finds};

@@ -11,7 +11,7 @@ ghost use Rattle.cat_schema.specs.Kinds.{field_kind_of};
 ghost use Rattle.cat_query.specs.View.{query_of};
 ghost use Rattle.cat_search.specs.Asks.{read_of};
 ghost use Rattle.cat_search.specs.Sorts.{sort_of};
-ghost use Rattle.cat_filters.specs.Filters.{segments_of};
+ghost use Rattle.cat_model.specs.View.{segments_of};
 ghost use Rattle.cat_filters.specs.Known.{Knows, Remembers, RemembersBelow};
 ghost use Rattle.cat_ledger_lines.specs.ReadLaws.{Finds};
 ghost use Rattle.cat_replies.specs.Reply.{reply_of};

@@ -1,6 +1,6 @@
 //! A query made ready for a view, with the sets that are at hand.
 ghost use Rattle.std.specs.Prelude.{◌≡◌, All, IfOk};
-ghost use Rattle.cat_filters.specs.Filters.{segments_of};
+ghost use Rattle.cat_model.specs.View.{segments_of};
 ghost use Rattle.cat_filters.specs.Known.{Knows, Remembers, RemembersBelow};
 
 use cat_filters::Filters;

@@ -4,11 +4,11 @@ use Rattle.cat_base.specs.declared.refusal.Refusal.{Refusal}
 use Rattle.cat_base.specs.declared.refusal.Refusal.TheVariants.{Damaged, Device, Memory, Spent}
 use Rattle.cat_model.specs.Limits.{last_number}
 use Rattle.cat_model.specs.Run as run
-use Rattle.cat_model.specs.View.{Leaf}
+use Rattle.cat_model.specs.View.{Leaf, segments_of}
 use Rattle.cat_directory.specs.Devices.{FileContent, NoMore}
 use Rattle.cat_directory.specs.Names.{name_of}
 use Rattle.cat_directory.specs.declared.name.FileName.{FileName}
-use Rattle.cat_filters.specs.Filters.{Filters, segments_of}
+use Rattle.cat_filters.specs.Filters.{Filters}
 use Rattle.cat_filters.specs.Steps.{IsStep}
 use Rattle.cat_filters.specs.declared.news.WarmNews.{WarmNews}
 use Rattle.cat_ledger_model.specs.Ledger.{IsNew}

@@ -5,7 +5,7 @@ ghost use Rattle.std.specs.Prelude.{◌≡◌, ◌≢◌, IfOk, IfErr, Err};
 ghost use Rattle.cat_base.specs.declared.refusal.Refusal.TheVariants.{Line as NoForm, Memory};
 ghost use Rattle.cat_model.specs.Lines.{Said};
 ghost use Rattle.cat_model.specs.Run as run;
-ghost use Rattle.cat_filters.specs.Filters.{segments_of};
+ghost use Rattle.cat_model.specs.View.{segments_of};
 ghost use Rattle.cat_filters.specs.Known.{RemembersOf, RemembersOfBelow};
 ghost use Rattle.cat_filters.specs.Steps.{IsLeft};
 ghost use Rattle.cat_ledger.specs.Answering.{AnswersSaid};

@@ -7,14 +7,13 @@ use Rattle.cat_model.specs.Files.{Name}
 use Rattle.cat_model.specs.Item.{Schema}
 use Rattle.cat_model.specs.Layout.{SpellsSegment}
 use Rattle.cat_model.specs.Text.{Text}
-use Rattle.cat_model.specs.View.{Segment}
+use Rattle.cat_model.specs.View.{Segment, AgreesWith}
 use Rattle.cat_model.proofs.Lists.{All-weaken}
 use Rattle.cat_ledger_model.specs.Ledger.{IsLedger, IsPast, Ledger, NotOf, RecordedView, names_of_commit, names_of_merging, names_of_portion, names_of_view}
 use Rattle.cat_ledger_model.specs.Portions.{Merging, Portion}
 use Rattle.cat_ledger_model.specs.Stored.{AreStored, FileBytes, IsStored}
 use Rattle.cat_ledger_model.proofs.Users.{All-split, All-four, Four}
 use Rattle.cat_ledger_shape.specs.Shapes.{merging_shape, shape_of}
-use Rattle.cat_filters.specs.Known.{AgreesWith}
 use Rattle.cat_ledger_sets.specs.Segments.{IsMergeNumber, SegmentsAgree, segments_in}
 use Rattle.cat_ledger_sets.specs.SegmentLaws.{SegmentsAreOne}
 use Rattle.cat_ledger_sets.proofs.Going.{OfLedger, OfPortion, OfView}

@@ -3,9 +3,7 @@ use Rattle.std.proofs.Common.{◌≡◌, ℕ, ◌<◌, ◌≤◌, List, Option, 
 use Rattle.std.specs.Prelude.{◌==◌, slice_index_or, All, Contains, IfSome, IsSomeAnd}
 use Rattle.std.specs.List.{flat_map, AllByRecursion}
 use Rattle.std.proofs.lemmas.List.Elements.{All-contains, All-contains_itself, All-from_recursion, All-weaker, recursion_from_All}
-use Rattle.cat_model.specs.View.{Segment, View}
-use Rattle.cat_filters.specs.Filters.{segments_of}
-use Rattle.cat_filters.specs.Known.{AgreesWith}
+use Rattle.cat_model.specs.View.{Segment, View, AgreesWith, segments_of}
 use Rattle.cat_ledger_model.proofs.Users.{All-split}
 use Rattle.cat_ledger_model.proofs.Views.{All-unflat}
 use Rattle.cat_ledger_shape.specs.Shapes.{MergingShape, Shape}

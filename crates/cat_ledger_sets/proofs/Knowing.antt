@@ -2,8 +2,7 @@
 use Rattle.std.proofs.Common.{◌≡◌, ◌≢◌, ℕ, ◌<◌, ◌≤◌, List, [], map, refl, sym, ◌∙◌, ap, arith}
 use Rattle.std.specs.Prelude.{slice_index_or, All}
 use Rattle.std.proofs.lemmas.List.Elements.{All-from_recursion, All-map, All-nil, All-weaker, recursion_from_All}
-use Rattle.cat_model.specs.View.{Segment}
-use Rattle.cat_filters.specs.Known.{AgreesWith}
+use Rattle.cat_model.specs.View.{Segment, AgreesWith}
 use Rattle.cat_ledger_lines.proofs.Found.{All-unmap}
 use Rattle.cat_ledger_sets.specs.Beside.{AnyIsKnown}
 use Rattle.cat_ledger_sets.specs.Kept.{AreBelow, HaveNoneOf, KnowsIn, RemembersIn, RemembersInBelow}

@@ -3,10 +3,10 @@ use Rattle.std.proofs.Common.{◌≡◌, ◌≢◌, ℕ, ◌<◌, ◌≤◌, Boo
 use Rattle.std.specs.Prelude.{slice_index_or, Contains, IfSome}
 use Rattle.std.specs.List.{flat_map}
 use Rattle.std.proofs.lemmas.List.Elements.{All-contains_itself, All-nil, All-weaker, Contains-append_left}
-use Rattle.cat_model.specs.View.{Row, Segment, View, row_matches}
+use Rattle.cat_model.specs.View.{Row, Segment, View, row_matches, segments_of}
 use Rattle.cat_cache.specs.Cached.{Entry}
 use Rattle.cat_cache.specs.Warmed.{Warm}
-use Rattle.cat_filters.specs.Filters.{Filters, segments_of}
+use Rattle.cat_filters.specs.Filters.{Filters}
 use Rattle.cat_filters.specs.Known.{HasRowsOf, IsBelow, Knows}
 use Rattle.cat_ledger_shape.specs.Shapes.{MergingShape}
 use Rattle.cat_ledger_sets.specs.Segments.{segments_in}

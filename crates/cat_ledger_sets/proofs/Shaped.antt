@@ -4,13 +4,12 @@ use Rattle.std.specs.Prelude.{Contains, IfSome, IsSomeAnd}
 use Rattle.std.specs.List.{flat_map, AllByRecursion}
 use Rattle.std.proofs.lemmas.List.Elements.{All-contains_itself, All-from_recursion, recursion_from_All}
 use Rattle.cat_model.specs.Item.{Schema}
-use Rattle.cat_model.specs.View.{Segment, View}
+use Rattle.cat_model.specs.View.{Segment, View, segments_of}
 use Rattle.cat_model.proofs.Lists.{All-both, All-weaken}
 use Rattle.cat_ledger_model.specs.Ledger.{Ledger, RecordedView}
 use Rattle.cat_ledger_model.specs.Portions.{Merging, Portion, leaf_of}
 use Rattle.cat_ledger_model.proofs.Users.{All-split}
 use Rattle.cat_ledger_shape.specs.Shapes.{Shape, merging_shape, recorded_view, shape_of}
-use Rattle.cat_filters.specs.Filters.{segments_of}
 use Rattle.cat_ledger_sets.specs.Segments.{IsOldOrNew, IsUnused, SegmentsGo, segments_in}
 use Rattle.cat_ledger_sets.specs.SegmentLaws.{SegmentsStay}
 use Rattle.cat_ledger_sets.proofs.Going.{Goes, OfLedger, OfPortion, OfView, Unused, calls_go}

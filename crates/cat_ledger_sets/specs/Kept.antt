@@ -1,8 +1,7 @@
 -- What was made of lists of segments, as the ordinals of a field's labels over a view, and is kept beside a ledger: here only the
 -- lists that it was made of.
 use Rattle.std.specs.Prelude.{◌≢◌, ℕ, ◌<◌, List, All}
-use Rattle.cat_model.specs.View.{Segment}
-use Rattle.cat_filters.specs.Known.{AgreesWith}
+use Rattle.cat_model.specs.View.{Segment, AgreesWith}
 use Rattle.cat_ledger_shape.specs.Shapes.{Shape}
 use Rattle.cat_ledger_sets.specs.Beside.{IsRightBeside}
 

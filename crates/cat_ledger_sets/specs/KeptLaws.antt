@@ -1,8 +1,7 @@
 -- The laws of what is kept of lists of segments beside a ledger.
 use Rattle.std.specs.Prelude.{◌↔◌, ℕ, List, [], All, Contains}
 use Rattle.cat_model.specs.Run.{Line, Reply}
-use Rattle.cat_model.specs.View.{Segment, View}
-use Rattle.cat_filters.specs.Filters.{segments_of}
+use Rattle.cat_model.specs.View.{Segment, View, segments_of}
 use Rattle.cat_ledger_model.specs.Ledger.{Ledger}
 use Rattle.cat_ledger_model.specs.Plans.{MergePolicy}
 use Rattle.cat_ledger_model.specs.Stored.{FileBytes}

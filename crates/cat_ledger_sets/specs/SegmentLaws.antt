@@ -7,7 +7,7 @@ use Rattle.cat_ledger_model.specs.Stored.{FileBytes}
 use Rattle.cat_ledger_shape.specs.Shapes.{Shape}
 use Rattle.cat_ledger_shape.specs.Ties.{ToldFiles, Carries}
 use Rattle.cat_ledger_lines.specs.RunLaws.{Answers}
-use Rattle.cat_filters.specs.Filters.{segments_of}
+use Rattle.cat_model.specs.View.{segments_of}
 use Rattle.cat_ledger_sets.specs.Segments.{SegmentsAgree, SegmentsGo, segments_in}
 
 -- Whatever line is answered, a segment is new only under a number that none has had.

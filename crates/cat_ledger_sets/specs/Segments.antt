@@ -1,9 +1,7 @@
 -- The segments that memory has of a ledger, in its current list and in its recorded views, and what a line may make of them.
 use Rattle.std.specs.Prelude.{◌≡◌, ◌⊎◌, ℕ, ◌<◌, ◌≤◌, List, ◌++◌, All, Contains, IfSome, IsSomeAnd}
 use Rattle.std.specs.List.{flat_map}
-use Rattle.cat_model.specs.View.{Segment, View}
-use Rattle.cat_filters.specs.Filters.{segments_of}
-use Rattle.cat_filters.specs.Known.{AgreesWith}
+use Rattle.cat_model.specs.View.{Segment, View, AgreesWith, segments_of}
 use Rattle.cat_ledger_shape.specs.Shapes.{Shape}
 
 -- those of the current list, and then those of each recorded view

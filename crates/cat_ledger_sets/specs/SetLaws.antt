@@ -1,8 +1,8 @@
 -- The laws of the sets that are kept beside a ledger.
 use Rattle.std.specs.Prelude.{◌↔◌, ℕ, List, [], None, All, Contains}
 use Rattle.cat_model.specs.Run.{Line, Reply}
-use Rattle.cat_model.specs.View.{Segment, View}
-use Rattle.cat_filters.specs.Filters.{Filters, segments_of}
+use Rattle.cat_model.specs.View.{Segment, View, segments_of}
+use Rattle.cat_filters.specs.Filters.{Filters}
 use Rattle.cat_filters.specs.Known.{Knows, Remembers, RemembersBelow, RemembersOf, RemembersOfBelow}
 use Rattle.cat_ledger_model.specs.Ledger.{Ledger}
 use Rattle.cat_ledger_model.specs.Plans.{MergePolicy}

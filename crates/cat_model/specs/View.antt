@@ -69,6 +69,14 @@ pub record Leaf : Type 0 where
   pub segment : Segment
   pub live : List Bool
 
+-- the segments of leaves
+abbrev pub segments_of : List Leaf → List Segment
+segments_of leaves = map (λ l. l.segment) leaves
+
+-- the other is the segment, if it has the number of it
+abbrev pub AgreesWith : Segment → Segment → Type 0
+AgreesWith s t = t.number ≡ s.number → t ≡ s
+
 -- what a searcher sees of the catalogue: segments in order, under the number of writes that they take in
 pub record View : Type 0 where
   pub schema : Schema

@@ -2,11 +2,11 @@
 use Rattle.std.proofs.Common.{◌≡◌, ℕ, ◌<◌, List, [], sym, subst}
 use Rattle.std.specs.Prelude.{Option, None, Some, All, IfSome, MatchOption, option_map}
 use Rattle.std.proofs.lemmas.List.Elements.{All-weaker}
-use Rattle.cat_model.specs.View.{Segment, View}
+use Rattle.cat_model.specs.View.{Segment, View, AgreesWith, segments_of}
 use Rattle.cat_facets.specs.States.{ReaderState}
 use Rattle.cat_facets.specs.Kept as facets
-use Rattle.cat_filters.specs.Filters.{Filters, segments_of}
-use Rattle.cat_filters.specs.Known.{AgreesWith, Knows}
+use Rattle.cat_filters.specs.Filters.{Filters}
+use Rattle.cat_filters.specs.Known.{Knows}
 use Rattle.cat_search.specs.Holds.{Hold}
 use Rattle.cat_rights.specs.Rights.{right_of}
 use Rattle.cat_ledger_lines.specs.ReadLaws.{IsRecordedAs}

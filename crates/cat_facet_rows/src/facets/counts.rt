@@ -2,7 +2,7 @@
 ghost use Rattle.std.specs.Prelude.{◌<◌, IfOk, All};
 ghost use Rattle.cat_model.specs.Item.{IsItem};
 ghost use Rattle.cat_facets.specs.Kept.{KnowsIn};
-ghost use Rattle.cat_facets.specs.States.{segments_of};
+ghost use Rattle.cat_model.specs.View.{segments_of};
 
 use cat_base::Refusal;
 use cat_facets::{Facets, ReaderState, ReaderStates};

@@ -1,7 +1,7 @@
 //! Counts by states that are kept from one view to the next, which are those that a person worked out.
 ghost use Rattle.std.specs.Prelude.{◌≡◌, ◌∷◌, [], IfOk, All};
 ghost use Rattle.cat_facets.specs.Kept.{KnowsIn};
-ghost use Rattle.cat_facets.specs.States.{segments_of};
+ghost use Rattle.cat_model.specs.View.{segments_of};
 
 use crate::facets::counts::{CountText, answer_text, counts_kept};
 use cat_base::Token;

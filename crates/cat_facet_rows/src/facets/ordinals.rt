@@ -1,6 +1,6 @@
 //! The ordinals of labels over all segments of a view.
 ghost use Rattle.std.specs.Prelude.{◌≡◌, ◌<◌, length};
-ghost use Rattle.cat_facets.specs.States.{segments_of};
+ghost use Rattle.cat_model.specs.View.{segments_of};
 
 use cat_facets::ReaderState;
 use cat_schema::Schema;

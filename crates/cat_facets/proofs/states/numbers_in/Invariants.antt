@@ -1,6 +1,6 @@
 use Rattle.std.proofs.Common.{◌≡◌, take}
 use Rattle.cat_facets.specs.Kept.{numbers_of}
-use Rattle.cat_facets.specs.States.{segments_of}
+use Rattle.cat_model.specs.View.{segments_of}
 use Rattle.cat_facets.proofs.states.numbers_in.Given as goal
 
 abbrev pub invariant-loop-leaf : goal.invariant-loop-leaf

@@ -1,8 +1,7 @@
 use Rattle.std.proofs.Common.{◌≡◌, ◌+◌, ap, map, option_map, sym, ◌∙◌, arith}
 use Rattle.std.specs.Arc.{arc_value}
-use Rattle.cat_model.specs.View.{Segment}
+use Rattle.cat_model.specs.View.{Segment, segments_of}
 use Rattle.cat_query.specs.View.{query_of}
-use Rattle.cat_filters.specs.Filters.{segments_of}
 use Rattle.cat_filters.proofs.Used.{none_found_if, none_used_if, on_err, part_of, sets_after, used_after}
 use Rattle.cat_filters.proofs.looks.sets_under.Goals as goal
 

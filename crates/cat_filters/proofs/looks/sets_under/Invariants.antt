@@ -1,8 +1,9 @@
 use Rattle.std.proofs.Common.{◌≡◌, map, option_map, take}
 use Rattle.std.specs.Arc.{arc_value}
 use Rattle.cat_query.specs.View.{query_of}
-use Rattle.cat_filters.specs.Filters.{segments_of, set_in, used_in}
+use Rattle.cat_filters.specs.Filters.{set_in, used_in}
 use Rattle.cat_filters.proofs.looks.sets_under.Given as goal
+use Rattle.cat_model.specs.View.{segments_of}
 
 abbrev pub invariant-loop-leaf : goal.invariant-loop-leaf
 invariant-loop-leaf l = record {

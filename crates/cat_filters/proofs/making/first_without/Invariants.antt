@@ -1,8 +1,9 @@
 use Rattle.std.proofs.Common.{◌≡◌, drop}
 use Rattle.std.specs.List.{find}
 use Rattle.cat_query.specs.View.{query_of}
-use Rattle.cat_filters.specs.Filters.{is_missing, segments_of}
+use Rattle.cat_filters.specs.Filters.{is_missing}
 use Rattle.cat_filters.proofs.making.first_without.Given as goal
+use Rattle.cat_model.specs.View.{segments_of}
 
 abbrev pub invariant-loop-leaf : goal.invariant-loop-leaf
 invariant-loop-leaf l = record {

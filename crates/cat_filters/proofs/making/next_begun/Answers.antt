@@ -1,6 +1,6 @@
 use Rattle.std.proofs.Common.{◌∙◌}
 use Rattle.cat_query.specs.View.{query_of}
-use Rattle.cat_filters.specs.Filters.{segments_of}
+use Rattle.cat_model.specs.View.{segments_of}
 use Rattle.cat_filters.proofs.Begun.{begun_here, none_here}
 use Rattle.cat_filters.proofs.making.next_begun.Goals as goal
 

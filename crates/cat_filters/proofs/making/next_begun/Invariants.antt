@@ -1,5 +1,5 @@
 use Rattle.std.proofs.Common.{◌≡◌, drop}
-use Rattle.cat_filters.specs.Filters.{segments_of}
+use Rattle.cat_model.specs.View.{segments_of}
 use Rattle.cat_filters.proofs.Begun.{first_from}
 use Rattle.cat_filters.proofs.making.next_begun.Given as goal
 

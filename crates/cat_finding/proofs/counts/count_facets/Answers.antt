@@ -3,8 +3,7 @@ use Rattle.std.specs.Prelude.{Err, Ok, Some}
 use Rattle.cat_model.specs.Answer.{Found, Read}
 use Rattle.cat_model.specs.Grammar.{Spells}
 use Rattle.cat_query.specs.View.{query_of}
-use Rattle.cat_model.specs.View.{View}
-use Rattle.cat_filters.specs.Filters.{segments_of}
+use Rattle.cat_model.specs.View.{View, segments_of}
 use Rattle.cat_filters.specs.Known.{Knows}
 use Rattle.cat_facets.specs.Kept.{KnowsIn, RemembersOf, RemembersOfBelow}
 use Rattle.cat_finding.proofs.Cached.{by_any, by_right, of_right}

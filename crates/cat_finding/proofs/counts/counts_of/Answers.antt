@@ -3,8 +3,9 @@ use Rattle.std.specs.Prelude.{Ok}
 use Rattle.cat_model.specs.Answer.{Found}
 use Rattle.cat_search.specs.Views.{Prepared}
 use Rattle.cat_facets.specs.Kept.{RemembersOf, RemembersOfBelow}
-use Rattle.cat_facets.specs.States.{segments_of, IsAnswerTo}
+use Rattle.cat_facets.specs.States.{IsAnswerTo}
 use Rattle.cat_finding.proofs.counts.counts_of.Goals as goal
+use Rattle.cat_model.specs.View.{segments_of}
 
 pub returns-clause-ok : goal.returns-clause-ok
 returns-clause-ok c =

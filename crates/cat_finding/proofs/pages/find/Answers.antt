@@ -4,8 +4,7 @@ use Rattle.cat_model.specs.Answer.{Found, Read}
 use Rattle.cat_model.specs.Grammar.{Spells}
 use Rattle.cat_query.specs.View.{query_of}
 use Rattle.cat_search.specs.Sorts.{sort_of}
-use Rattle.cat_model.specs.View.{View}
-use Rattle.cat_filters.specs.Filters.{segments_of}
+use Rattle.cat_model.specs.View.{View, segments_of}
 use Rattle.cat_filters.specs.Known.{Knows}
 use Rattle.cat_finding.proofs.Cached.{of_right}
 use Rattle.cat_finding.proofs.Told.{fault_told, find_is, found_told, memory_told, passed_on, refusal_told, unheld_told}

@@ -1,8 +1,7 @@
 use Rattle.std.proofs.Common.{List, All, sym, subst}
-use Rattle.cat_model.specs.View.{Leaf}
+use Rattle.cat_model.specs.View.{Leaf, segments_of}
 use Rattle.cat_query.specs.View.{query_of}
 use Rattle.cat_search.specs.Sets.{AreSets}
-use Rattle.cat_filters.specs.Filters.{segments_of}
 use Rattle.cat_filters.specs.Known.{Knows}
 use Rattle.cat_finding.proofs.preparing.prepare.Goals as goal
 

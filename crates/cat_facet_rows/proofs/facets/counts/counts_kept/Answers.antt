@@ -1,7 +1,6 @@
 use Rattle.std.proofs.Common.{ap, subst}
-use Rattle.cat_model.specs.View.{View}
+use Rattle.cat_model.specs.View.{View, segments_of}
 use Rattle.cat_facets.specs.Kept.{RemembersOf}
-use Rattle.cat_facets.specs.States.{segments_of}
 use Rattle.cat_facet_rows.proofs.StayKnown.{stay_known}
 use Rattle.cat_facet_rows.proofs.facets.counts.counts_kept.Goals as goal
 

@@ -1,8 +1,9 @@
 use Rattle.std.proofs.Common.{List, All, sym, subst}
 use Rattle.cat_facets.specs.Kept.{KnowsIn}
-use Rattle.cat_facets.specs.States.{ReaderState, segments_of}
+use Rattle.cat_facets.specs.States.{ReaderState}
 use Rattle.cat_facet_rows.proofs.StayKnown.{none_kept}
 use Rattle.cat_facet_rows.proofs.facets.counts.expect_counts_over.Goals as goal
+use Rattle.cat_model.specs.View.{segments_of}
 
 pub loop-count-init : goal.loop-count-init
 loop-count-init g c =

@@ -1,7 +1,6 @@
 use Rattle.std.proofs.Common.{◌≡◌, [], ◌∷◌, All, ◌∙◌, sym, ap, subst}
-use Rattle.cat_model.specs.View.{Leaf, Segment}
+use Rattle.cat_model.specs.View.{Leaf, Segment, segments_of}
 use Rattle.cat_facets.specs.Kept.{KnowsIn}
-use Rattle.cat_facets.specs.States.{segments_of}
 use Rattle.cat_facet_rows.proofs.facets.kept.expect_over_deletes.Goals as goal
 
 pub expect_kept-requires-3 : goal.expect_kept-requires-3

@@ -5,12 +5,12 @@ use Rattle.std.specs.List.{flat_map}
 use Rattle.cat_base.specs.Texts.{IsTextSet}
 use Rattle.cat_base.specs.declared.refusal.Refusal.TheVariants.{Count}
 use Rattle.cat_model.specs.Text.{Text}
-use Rattle.cat_model.specs.View.{Leaf}
+use Rattle.cat_model.specs.View.{Leaf, segments_of}
 use Rattle.cat_query.specs.View.{query_of}
 use Rattle.cat_values.proofs.Ordinals.{dictionary_rises}
 use Rattle.cat_model.specs.GlobalOrdinals.{leaf_dictionary}
 use Rattle.cat_facets.specs.declared.segments.SegmentLabels.{SegmentLabels}
-use Rattle.cat_facets.specs.States.{ReaderState, answer_over, as_leaves, segments_of, union_in, AreKnown, IsKept, IsState}
+use Rattle.cat_facets.specs.States.{ReaderState, answer_over, as_leaves, union_in, AreKnown, IsKept, IsState}
 use Rattle.cat_facets.specs.Tallies.{hit_labels, labelled_count, AreCounts}
 use Rattle.cat_facets.proofs.Answered.{counted_facets, due_refused, found, refused}
 use Rattle.cat_facets.proofs.Ranking.{first_within}

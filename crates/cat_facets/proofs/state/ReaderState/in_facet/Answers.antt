@@ -1,8 +1,8 @@
 use Rattle.std.proofs.Common.{◌≡◌, ◌∙◌, List, All, sym, ap, subst}
 use Rattle.cat_model.specs.Text.{Text}
-use Rattle.cat_model.specs.View.{Leaf, View}
+use Rattle.cat_model.specs.View.{Leaf, View, segments_of}
 use Rattle.cat_facets.specs.declared.segments.SegmentLabels.{SegmentLabels}
-use Rattle.cat_facets.specs.States.{as_leaves, segments_of, union_in, AreKnown, HasLabels, IsKept}
+use Rattle.cat_facets.specs.States.{as_leaves, union_in, AreKnown, HasLabels, IsKept}
 use Rattle.cat_facets.proofs.SameSegments.{kept_alike, segments-as_leaves}
 use Rattle.cat_facets.proofs.state.ReaderState.in_facet.Goals as goal
 

@@ -1,8 +1,8 @@
 use Rattle.std.proofs.Common.{◌≡◌, ◌∙◌, List, [], ◌∷◌, ◌++◌, sym, ap, subst}
 use Rattle.cat_model.specs.Text.{Text}
-use Rattle.cat_model.specs.View.{View}
+use Rattle.cat_model.specs.View.{View, segments_of}
 use Rattle.cat_facets.specs.Kept.{last_kept, numbers_of, others, used_in, RemembersOf, RemembersOfBelow}
-use Rattle.cat_facets.specs.States.{ReaderState, segments_of}
+use Rattle.cat_facets.specs.States.{ReaderState}
 use Rattle.cat_facets.proofs.Kept.{used_below, used_remembers}
 use Rattle.cat_facets.proofs.states.ReaderStates.counts.Goals as goal
 

@@ -1,6 +1,6 @@
 use Rattle.std.proofs.Common.{◌≡◌, ◌∙◌, find, sym, ap}
 use Rattle.cat_facets.specs.Kept.{is_kept_as, numbers_of, others}
-use Rattle.cat_facets.specs.States.{segments_of}
+use Rattle.cat_model.specs.View.{segments_of}
 use Rattle.cat_facets.proofs.Kept.{found_is}
 use Rattle.cat_facets.proofs.states.ReaderStates.take.Goals as goal
 

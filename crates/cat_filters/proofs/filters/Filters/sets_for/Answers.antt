@@ -1,11 +1,12 @@
 use Rattle.std.proofs.Common.{ap, map, subst}
 use Rattle.cat_query.specs.View.{query_of}
-use Rattle.cat_filters.specs.Filters.{Filters, segments_of}
+use Rattle.cat_filters.specs.Filters.{Filters}
 use Rattle.cat_filters.specs.Known.{Remembers, RemembersBelow}
 use Rattle.cat_filters.proofs.Lent.{lent_if}
 use Rattle.cat_filters.proofs.Remembered.{part_below, part_remembers}
 use Rattle.cat_filters.proofs.Used.{part_either}
 use Rattle.cat_filters.proofs.filters.Filters.sets_for.Goals as goal
+use Rattle.cat_model.specs.View.{segments_of}
 
 pub returns-clause-lent : goal.returns-clause-lent
 returns-clause-lent c =

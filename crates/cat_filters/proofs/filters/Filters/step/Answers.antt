@@ -1,11 +1,12 @@
 use Rattle.std.proofs.Common.{map, None, subst}
 use Rattle.std.specs.Prelude.{Option, ℕ}
 use Rattle.cat_query.specs.View.{query_of}
-use Rattle.cat_filters.specs.Filters.{Filters, segments_of}
+use Rattle.cat_filters.specs.Filters.{Filters}
 use Rattle.cat_filters.specs.Known.{RemembersOf, RemembersOfBelow}
 use Rattle.cat_filters.specs.Steps.{IsMade}
 use Rattle.cat_filters.proofs.Remembered.{begun_below, begun_remembers, stored_below, stored_remembers}
 use Rattle.cat_filters.proofs.filters.Filters.step.Goals as goal
+use Rattle.cat_model.specs.View.{segments_of}
 
 pub returns-in-None-clause-known : goal.returns-in-None-clause-known
 returns-in-None-clause-known c =

@@ -1,7 +1,7 @@
 use Rattle.std.proofs.Common.{refl}
 use Rattle.cat_model.specs.Lines.{Said}
 use Rattle.cat_model.specs.Run.{Chore}
-use Rattle.cat_filters.specs.Filters.{segments_of}
+use Rattle.cat_model.specs.View.{segments_of}
 use Rattle.cat_replies.specs.Reply.{reply_of}
 use Rattle.cat_ledger.proofs.Histories.{nothing_goes}
 use Rattle.cat_ledger.specs.Ledgers.{device_in, shape_in}
