@@ -55,7 +55,6 @@ impl Model for Merge {
 
 /// Keeps the row of the place, if it was live at the beginning, and adds where its source stands.
 fn pass_row(
-    alloc: Global,
     inputs: &[Input],
     place: Place,
     kept: &mut Vec<KeptRow>,
@@ -71,7 +70,7 @@ fn pass_row(
 {
     let input = &inputs[place.input];
     if input.live().is_live(place.row) {
-        kept.push(KeptRow::of(alloc, input.segment(), place.row)?)?;
+        kept.push(KeptRow::of(input.segment(), place.row)?)?;
         add_source(ranges, input.segment(), place.row)?;
     }
     Ok(())
@@ -102,7 +101,7 @@ fn pass_rows(
     let mut place = from;
     let mut ranges = Vec::new(alloc);
     for _ in 0..count {
-        pass_row(alloc, inputs, place, kept, &mut ranges)?;
+        pass_row(inputs, place, kept, &mut ranges)?;
         place = place.next(inputs);
     }
     Ok((place, ranges))

@@ -5,7 +5,7 @@ ghost use Rattle.cat_model.specs.Layout.{head_of};
 
 use cat_base::{Text, WriteNo};
 use cat_segment::Segment;
-use std::alloc::{AllocError, Global};
+use std::alloc::AllocError;
 use std::marker::Model;
 
 /// The number of the write that put a row, the row's id, and the length of the text that its item came as.
@@ -26,13 +26,13 @@ impl Model for KeptRow {
 
 impl KeptRow {
     /// What is kept of the row of this index.
-    pub(crate) fn of(alloc: Global, segment: &Segment, row: usize) -> Result<KeptRow, AllocError>
+    pub(crate) fn of(segment: &Segment, row: usize) -> Result<KeptRow, AllocError>
         requires { row < length segment.now.rows }
         ensures ok { IfOk result (λ k. HoldsAt (λ r. head_of r ≡ k) segment.now.rows row) }
     {
         Ok(KeptRow {
             number: segment.write_number(row),
-            id: Text::from_str(alloc, segment.id(row))?,
+            id: segment.id_text(row).copy()?,
             length: segment.source_length(row),
         })
     }

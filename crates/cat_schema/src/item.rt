@@ -119,6 +119,13 @@ impl Item {
         self.id.as_str()
     }
 
+    /// The id as it is kept, for who may never look at it: where its bytes lie isn't found out here.
+    pub fn id_text(&self) -> &Text
+        ensures { result.now ≡ self.now.id }
+    {
+        &self.id
+    }
+
     /// What the item has in each field, in the order of the schema's fields. A word has 1 to 4,294,967,295 bytes, a
     /// keyword at most 128, a label 1 to 128, and labels are at most 64.
     pub fn values(&self) -> &[FieldValue]

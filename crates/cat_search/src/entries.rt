@@ -96,7 +96,9 @@ impl Page {
     }
 }
 
-/// The key that the rank shows, in memory of its own.
+/// The key that the rank shows, in memory of its own. In order of addition there is none, and this is known where it is
+/// inlined.
+#[inline(always)]
 fn shown_key(alloc: Global, rank: &Rank) -> Result<Option<Key>, AllocError>
     ensures ok { IfOk result (λ k. option_map key_of k ≡ key_shown (rank_of rank.now)) }
 {
@@ -122,7 +124,7 @@ pub(crate) fn push_entry(
         key: shown_key(alloc, &candidate.rank)?,
     })?;
     match entries.last_mut() {
-        Some(entry) => entry.id.fill(alloc, candidate.id),
+        Some(entry) => entry.id.fill(alloc, candidate.id.as_str()),
         None => unreachable!(),
     }
 }

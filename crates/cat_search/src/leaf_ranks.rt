@@ -94,7 +94,7 @@ impl<'a> LeafRanks<'a> {
         Candidate {
             rank: rank_with(key, self.order),
             number: self.segment.write_number(row),
-            id: self.segment.id(row),
+            id: self.segment.id_text(row),
         }
     }
 

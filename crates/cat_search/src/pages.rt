@@ -80,7 +80,7 @@ fn candidate_of<'a, R: Numbered>(hit: &'a R, order: Order) -> Candidate<'a>
     Candidate {
         rank: rank_in(item, order),
         number: hit.number(),
-        id: item.id(),
+        id: item.id_text(),
     }
 }
 

@@ -1,6 +1,7 @@
 //! Where a hit stands among others.
 
 use crate::keys::KeyRef;
+use cat_base::Text;
 use std::cmp::Reverse;
 
 /// Where a key stands in its order: a missing one stands last, both ways.
@@ -18,5 +19,6 @@ pub(crate) struct Candidate<'a> {
     pub(crate) rank: Rank<'a>,
     pub(crate) number: u64,
     #[derive_where(skip(EqHashOrd))]
-    pub(crate) id: &'a str,
+    // As it is kept: most hits that are offered are never shown.
+    pub(crate) id: &'a Text,
 }

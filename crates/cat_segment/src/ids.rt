@@ -132,6 +132,14 @@ impl Ids {
         }
     }
 
+    /// The id of the row, as it is kept.
+    pub(crate) fn text(&self, row: usize) -> &Text
+        requires { row < length self.now }
+        ensures { result.now ≡ text_at self.now row }
+    {
+        &self.ids[row]
+    }
+
     /// The id of the row.
     pub(crate) fn id(&self, row: usize) -> &str
         requires { row < length self.now }

@@ -17,7 +17,7 @@ use crate::building::{columns_of, ids, sources, write_numbers};
 use crate::column::Column;
 use crate::ids::Ids;
 use crate::sources::Sources;
-use cat_base::{SegNo, WriteNo};
+use cat_base::{SegNo, Text, WriteNo};
 use cat_schema::{Item, Schema, index_of};
 use std::alloc::{AllocError, Global};
 use std::marker::Model;
@@ -149,6 +149,14 @@ impl Segment {
         ensures { HoldsAt (λ r. r.id ≡ result.now) self.now.rows row }
     {
         self.ids.id(row)
+    }
+
+    /// The id of the row as it is kept, for who may never look at it: where its bytes lie isn't found out here.
+    pub fn id_text(&self, row: usize) -> &Text
+        requires { row < length self.now.rows }
+        ensures { HoldsAt (λ r. r.id ≡ result.now) self.now.rows row }
+    {
+        self.ids.text(row)
     }
 
     /// The row of the id, if there is one, by binary search (Lucene: `TermsEnum.seekExact` in a primary key's field).

@@ -15,7 +15,7 @@ returns c =
           last_set entries c.push.new.self.items _ _ _ c.in_ok-push.ensures.items long
           ∙ ap (λ (e : Entry). entries ++ e ∷ []) (λ j. record {
             number = ap (λ (e : Entry). e.number) same j;
-            id = filled j;
+            id = (filled ∙ c.as_str.ensures) j;
             key = (ap (λ (e : Entry). e.key) same ∙ c.in_ok-shown_key.ensures.ok) j;
           })) c.fill.ensures.ok;
     }

@@ -19,8 +19,8 @@ write_number-requires c =
     let long = length-standings c.self.inside.order (keys_by c.self.inside.column (length rows)) rows c.self.invariant in
     omega (arith, c.requires, ap length c.self.view_is, long)
 
-pub id-requires : goal.id-requires
-id-requires c =
+pub id_text-requires : goal.id_text-requires
+id_text-requires c =
     let rows = c.self.inside.segment.now.rows in
     let long = length-standings c.self.inside.order (keys_by c.self.inside.column (length rows)) rows c.self.invariant in
     omega (arith, c.requires, ap length c.self.view_is, long)
@@ -42,6 +42,6 @@ returns c = λ d.
           ∙ sym w.key_at-key.ensures ∙ ap (option_map key_ref_of) (sym w.key-is)
       | in-None w ↦ ap (λ x. get_or (keys_by x (length rows)) c.args.row None) w.in-None.is ∙ no_key-at (length rows) c.args.row ∙ ap (option_map key_ref_of) (sym w.key-is)
     ] in
-    (λ j. record { rank = c.rank_with.ensures j; number = c.write_number.result; id = c.id.result.now })
-    ∙ keyed-at o keys rows c.args.row d (option_map key_ref_of c.match-self.key) c.write_number.result c.id.result.now c.self.invariant within key c.write_number.ensures c.id.ensures
+    (λ j. record { rank = c.rank_with.ensures j; number = c.write_number.result; id = c.id_text.result.now })
+    ∙ keyed-at o keys rows c.args.row d (option_map key_ref_of c.match-self.key) c.write_number.result c.id_text.result.now c.self.invariant within key c.write_number.ensures c.id_text.ensures
     ∙ ap (λ ps. get_or ps c.args.row d) c.self.view_is
