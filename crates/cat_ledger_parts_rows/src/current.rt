@@ -3,4 +3,5 @@
 mod making;
 mod merging;
 mod standing;
+mod steps;
 mod told;

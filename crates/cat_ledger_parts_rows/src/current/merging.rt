@@ -1,15 +1,17 @@
 //! A segment that comes in the place of two, while rows of these die.
-ghost use Rattle.std.specs.Prelude.{IfOk, OnOk, All};
+ghost use Rattle.std.specs.Prelude.{◌≡◌, [], IfOk, OnOk, All};
 ghost use Rattle.cat_model.specs.Item.{IsItem};
-ghost use Rattle.cat_ledger_parts_rows.specs.Windows.{MayReplace};
+ghost use Rattle.cat_ledger_parts_rows.specs.Windows.{rows_put, HasBehind, MayReplace, StandsAround};
 
-use crate::current::making::{asked, fields, is_unused, leaf_of, push};
+use crate::current::making::{asked, fields, is_unused, leaf_at, leaf_of, push};
+use crate::current::steps::{Step, run};
 use crate::current::told::expect;
-use cat_base::Refusal;
+use cat_base::{Refusal, SegNo};
 use cat_current::Current;
 use cat_schema::Schema;
 use cat_view_rows::{Put, PutText, read_puts};
 use std::alloc::Global;
+use std::process::Abort;
 use std::test::Fail;
 
 const FIRST: &[PutText] = &[(1, true, r#"{"id":"a","price":1}"#)];
@@ -26,27 +28,42 @@ const LAST: &[PutText] = &[
     (7, true, r#"{"id":"g","price":7}"#),
 ];
 
-/// The segments that stand, and alone the segment that the second and the third of them are merged into.
-fn cut(
+/// Puts the rows last, as a segment of this number.
+fn put_last(
     alloc: Global,
     schema: &Schema,
-    first: &[Put],
-    middle: &[Put],
-    last: &[Put],
-) -> Result<(Current, Current), Refusal>
-    requires first { All (λ p. IsItem schema.now p.item) first.now }
-    requires middle { All (λ p. IsItem schema.now p.item) middle.now }
-    requires last { All (λ p. IsItem schema.now p.item) last.now }
+    current: &mut Current,
+    number: SegNo,
+    puts: &[Put],
+) -> Result<(), Refusal>
+    requires { All (λ p. IsItem schema.now p.item) puts.now }
+    ensures { OnOk result (HasBehind current.old current.new (rows_put puts.now)) }
+{
+    push(current, leaf_of(alloc, schema, number, puts)?)
+}
+
+/// Puts four segments where nothing stands: the second has half of the rows, the third the others.
+fn stand(alloc: Global, schema: &Schema, current: &mut Current, puts: &[Put]) -> Result<(), Refusal>
+    requires empty { current.old ≡ [] }
+    requires items { All (λ p. IsItem schema.now p.item) puts.now }
+    ensures { OnOk result (StandsAround current.new puts.now) }
+{
+    let half = puts.len() / 2;
+    push(current, leaf_at(alloc, 1, FIRST)?)?;
+    put_last(alloc, schema, current, 2, &puts[..half])?;
+    put_last(alloc, schema, current, 3, &puts[half..])?;
+    push(current, leaf_at(alloc, 4, LAST)?)
+}
+
+/// The segments that stand, and alone the segment that the second and the third of them are merged into.
+fn cut(alloc: Global, schema: &Schema, puts: &[Put]) -> Result<(Current, Current), Refusal>
+    requires { All (λ p. IsItem schema.now p.item) puts.now }
     ensures { IfOk result (λ p. MayReplace p.0 p.1) }
 {
-    let half = middle.len() / 2;
     let mut current = Current::new(alloc);
-    push(&mut current, leaf_of(alloc, schema, 1, first)?)?;
-    push(&mut current, leaf_of(alloc, schema, 2, &middle[..half])?)?;
-    push(&mut current, leaf_of(alloc, schema, 3, &middle[half..])?)?;
-    push(&mut current, leaf_of(alloc, schema, 4, last)?)?;
+    stand(alloc, schema, &mut current, puts)?;
     let mut merged = Current::new(alloc);
-    push(&mut merged, leaf_of(alloc, schema, 9, middle)?)?;
+    put_last(alloc, schema, &mut merged, 9, puts)?;
     Ok((current, merged))
 }
 
@@ -55,10 +72,8 @@ fn window(alloc: Global) -> Result<(Current, Current), Refusal>
     ensures { IfOk result (λ p. MayReplace p.0 p.1) }
 {
     let schema = fields(alloc)?;
-    let first = read_puts(alloc, &schema, FIRST, false)?;
-    let middle = read_puts(alloc, &schema, MIDDLE, false)?;
-    let last = read_puts(alloc, &schema, LAST, false)?;
-    cut(alloc, &schema, &first, &middle, &last)
+    let puts = read_puts(alloc, &schema, MIDDLE, false)?;
+    cut(alloc, &schema, &puts)
 }
 
 /// Deletes the id where the segments stand and in the merged one.
@@ -106,57 +121,95 @@ fn install(current: &mut Current, merged: &Current) -> Result<(), Refusal>
     Ok(())
 }
 
+/// Takes a step in both, or looks at what stands.
+fn step_both(
+    rt: &impl Abort,
+    alloc: Global,
+    current: &mut Current,
+    merged: &mut Current,
+    step: Step<'_>,
+) -> Result<(), Fail>
+    requires { MayReplace current.old merged.old }
+    ensures { OnOk result (MayReplace current.new merged.new) }
+{
+    match step {
+        Step::Delete(id) => Ok(delete(current, merged, id)?),
+        Step::DeleteWhere(text) => Ok(delete_where(alloc, current, merged, text)?),
+        Step::Stands(leaves, ids) => expect(rt, alloc, current, leaves, ids),
+        Step::Push(_, _) | Step::Pop => Err(Refusal::Line.into()),
+    }
+}
+
+/// Takes the steps in both, installs the merged segment, and takes the steps behind that.
+fn install_behind(
+    rt: &impl Abort,
+    alloc: Global,
+    current: &mut Current,
+    merged: &mut Current,
+    meanwhile: &[Step<'_>],
+    behind: &[Step<'_>],
+) -> Result<(), Fail>
+    requires { MayReplace current.old merged.old }
+{
+    for step in meanwhile {
+        step_both(rt, alloc, current, merged, *step)?;
+    }
+    install(current, merged)?;
+    run(rt, alloc, current, behind)
+}
+
+/// The same over the segments above.
+fn run_over_window(
+    rt: &impl Abort,
+    alloc: Global,
+    meanwhile: &[Step<'_>],
+    behind: &[Step<'_>],
+) -> Result<(), Fail> {
+    let (mut current, mut merged) = window(alloc)?;
+    install_behind(rt, alloc, &mut current, &mut merged, meanwhile, behind)
+}
+
+const AS_IT_STOOD: &[Step] = &[Step::Stands("1: a; 2: b c; 3: d e; 4: f g", "abcdefg")];
+
+const MOVED: &[Step] = &[
+    Step::Stands("1: a; 9: b c d e; 4: f g", "abcdefg"),
+    Step::Delete("d"),
+    Step::Delete("g"),
+    Step::DeleteWhere("price:3"),
+    Step::Stands("1: a; 9: b -c -d e; 4: -f -g", "abe"),
+];
+
 #[test]
 fn ids_move(rt: HostRuntime) -> Result<(), Fail> {
-    let alloc = rt.alloc();
-    let (mut current, merged) = window(alloc)?;
-    expect(
-        &rt,
-        alloc,
-        &current,
-        "1: a; 2: b c; 3: d e; 4: f g",
-        "abcdefg",
-    )?;
-    install(&mut current, &merged)?;
-    expect(&rt, alloc, &current, "1: a; 9: b c d e; 4: f g", "abcdefg")?;
-    current.delete("d")?;
-    current.delete("g")?;
-    current.delete_where(&asked(alloc, "price:3")?)?;
-    expect(&rt, alloc, &current, "1: a; 9: b -c -d e; 4: -f -g", "abe")
+    run_over_window(&rt, rt.alloc(), AS_IT_STOOD, MOVED)
 }
+
+const ROWS_DIE: &[Step] = &[
+    Step::Delete("c"),
+    Step::Delete("f"),
+    Step::DeleteWhere("price:2"),
+    Step::Stands("1: a; 2: -b -c; 3: -d e; 4: -f g", "aeg"),
+];
+
+const DEAD: &[Step] = &[Step::Stands("1: a; 9: -b -c -d e; 4: -f g", "aeg")];
 
 #[test]
 fn rows_die_meanwhile(rt: HostRuntime) -> Result<(), Fail> {
-    let alloc = rt.alloc();
-    let (mut current, mut merged) = window(alloc)?;
-    delete(&mut current, &mut merged, "c")?;
-    delete(&mut current, &mut merged, "f")?;
-    delete_where(alloc, &mut current, &mut merged, "price:2")?;
-    expect(
-        &rt,
-        alloc,
-        &current,
-        "1: a; 2: -b -c; 3: -d e; 4: -f g",
-        "aeg",
-    )?;
-    install(&mut current, &merged)?;
-    expect(&rt, alloc, &current, "1: a; 9: -b -c -d e; 4: -f g", "aeg")
+    run_over_window(&rt, rt.alloc(), ROWS_DIE, DEAD)
 }
+
+const ALL_DIE: &[Step] = &[
+    Step::DeleteWhere("price:[2 TO 5]"),
+    Step::Stands("1: a; 2: -b -c; 3: -d -e; 4: -f g", "ag"),
+];
+
+const NONE_LEFT: &[Step] = &[
+    Step::Stands("1: a; 4: -f g", "ag"),
+    Step::Delete("g"),
+    Step::Stands("1: a; 4: -f -g", "a"),
+];
 
 #[test]
 fn nothing_comes_where_no_row_is_left(rt: HostRuntime) -> Result<(), Fail> {
-    let alloc = rt.alloc();
-    let (mut current, mut merged) = window(alloc)?;
-    delete_where(alloc, &mut current, &mut merged, "price:[2 TO 5]")?;
-    expect(
-        &rt,
-        alloc,
-        &current,
-        "1: a; 2: -b -c; 3: -d -e; 4: -f g",
-        "ag",
-    )?;
-    install(&mut current, &merged)?;
-    expect(&rt, alloc, &current, "1: a; 4: -f g", "ag")?;
-    current.delete("g")?;
-    expect(&rt, alloc, &current, "1: a; 4: -f -g", "a")
+    run_over_window(&rt, rt.alloc(), ALL_DIE, NONE_LEFT)
 }

@@ -1,10 +1,11 @@
 //! Segments that come and go, and rows that die.
-use crate::current::making::{asked, leaf_at, push};
-use crate::current::told::{expect, leaves_text};
-use cat_base::Refusal;
+use crate::current::steps::{Step, run};
+use crate::current::told::leaves_text;
 use cat_current::Current;
+use cat_search::Leaf;
 use cat_view_rows::PutText;
 use std::alloc::Global;
+use std::process::Abort;
 use std::test::Fail;
 
 const FIRST: &[PutText] = &[
@@ -23,71 +24,106 @@ const THIRD: &[PutText] = &[
     (7, true, r#"{"id":"g","price":40}"#),
 ];
 
-/// The three segments.
-fn three(alloc: Global) -> Result<Current, Refusal> {
-    let mut current = Current::new(alloc);
-    push(&mut current, leaf_at(alloc, 1, FIRST)?)?;
-    push(&mut current, leaf_at(alloc, 2, SECOND)?)?;
-    push(&mut current, leaf_at(alloc, 3, THIRD)?)?;
-    Ok(current)
+/// The three segments come.
+const THREE: &[Step] = &[
+    Step::Push(1, FIRST),
+    Step::Push(2, SECOND),
+    Step::Push(3, THIRD),
+    Step::Stands("1: a b c; 2: d e; 3: f g", "abcdefg"),
+];
+
+/// Puts the three segments where nothing stands, and takes the steps.
+fn run_behind_three(
+    rt: &impl Abort,
+    alloc: Global,
+    current: &mut Current,
+    steps: &[Step<'_>],
+) -> Result<(), Fail> {
+    run(rt, alloc, current, THREE)?;
+    run(rt, alloc, current, steps)
 }
 
-/// Takes the last segment out, if there is one.
-fn pop(current: &mut Current) {
-    if !current.leaves().is_empty() {
-        current.pop();
-    }
+/// The same over segments that are gone then.
+fn run_over_three(rt: &impl Abort, alloc: Global, steps: &[Step<'_>]) -> Result<(), Fail> {
+    let mut current = Current::new(alloc);
+    run_behind_three(rt, alloc, &mut current, steps)
 }
+
+const BY_ID: &[Step] = &[
+    Step::Delete("b"),
+    Step::Delete("g"),
+    Step::Stands("1: a -b c; 2: d e; 3: f -g", "acdef"),
+    Step::Delete("b"),
+    Step::Delete("z"),
+    Step::Stands("1: a -b c; 2: d e; 3: f -g", "acdef"),
+];
 
 #[test]
 fn deletes_by_id(rt: HostRuntime) -> Result<(), Fail> {
-    let alloc = rt.alloc();
-    let mut current = three(alloc)?;
-    expect(&rt, alloc, &current, "1: a b c; 2: d e; 3: f g", "abcdefg")?;
-    current.delete("b")?;
-    current.delete("g")?;
-    expect(&rt, alloc, &current, "1: a -b c; 2: d e; 3: f -g", "acdef")?;
-    current.delete("b")?;
-    current.delete("z")?;
-    expect(&rt, alloc, &current, "1: a -b c; 2: d e; 3: f -g", "acdef")
+    run_over_three(&rt, rt.alloc(), BY_ID)
 }
+
+const BY_QUERY: &[Step] = &[
+    Step::DeleteWhere("price:[10 TO 20]"),
+    Step::Stands("1: -a -b c; 2: -d e; 3: -f g", "ceg"),
+    Step::DeleteWhere("price:10"),
+    Step::Stands("1: -a -b c; 2: -d e; 3: -f g", "ceg"),
+    Step::DeleteWhere("*:*"),
+    Step::Stands("1: -a -b -c; 2: -d -e; 3: -f -g", ""),
+];
 
 #[test]
 fn deletes_by_query(rt: HostRuntime) -> Result<(), Fail> {
-    let alloc = rt.alloc();
-    let mut current = three(alloc)?;
-    current.delete_where(&asked(alloc, "price:[10 TO 20]")?)?;
-    expect(&rt, alloc, &current, "1: -a -b c; 2: -d e; 3: -f g", "ceg")?;
-    current.delete_where(&asked(alloc, "price:10")?)?;
-    expect(&rt, alloc, &current, "1: -a -b c; 2: -d e; 3: -f g", "ceg")?;
-    current.delete_where(&asked(alloc, "*:*")?)?;
-    expect(&rt, alloc, &current, "1: -a -b -c; 2: -d -e; 3: -f -g", "")
+    run_over_three(&rt, rt.alloc(), BY_QUERY)
+}
+
+const TAKEN_BACK: &[Step] = &[
+    Step::Delete("f"),
+    Step::Pop,
+    Step::Stands("1: a b c; 2: d e", "abcde"),
+    Step::Push(3, THIRD),
+    Step::Delete("f"),
+    Step::Stands("1: a b c; 2: d e; 3: -f g", "abcdeg"),
+    Step::Pop,
+    Step::Pop,
+    Step::Pop,
+    Step::Stands("", ""),
+];
+
+#[test]
+fn a_push_is_taken_back(rt: HostRuntime) -> Result<(), Fail> {
+    run_over_three(&rt, rt.alloc(), TAKEN_BACK)
+}
+
+const BEHIND_A_COPY: &[Step] = &[
+    Step::Delete("a"),
+    Step::DeleteWhere("price:20"),
+    Step::Stands("1: -a -b c; 2: d e; 3: -f g", "cdeg"),
+];
+
+/// The leaves that were copied before stay as they were.
+fn expect_apart(
+    rt: &impl Abort,
+    alloc: Global,
+    current: &mut Current,
+    before: &[Leaf],
+) -> Result<(), Fail> {
+    run(rt, alloc, current, BEHIND_A_COPY)?;
+    let text = leaves_text(alloc, before)?;
+    assert_eq!(rt; text.as_str(), "1: a b c; 2: d e; 3: f g");
+    Ok(())
+}
+
+/// The same of the three segments, whose copy is gone then.
+fn expect_copied(rt: &impl Abort, alloc: Global, current: &mut Current) -> Result<(), Fail> {
+    run(rt, alloc, current, THREE)?;
+    let before = current.copy()?;
+    expect_apart(rt, alloc, current, &before)
 }
 
 #[test]
 fn copies_stay_as_they_were(rt: HostRuntime) -> Result<(), Fail> {
     let alloc = rt.alloc();
-    let mut current = three(alloc)?;
-    let before = current.copy()?;
-    current.delete("a")?;
-    current.delete_where(&asked(alloc, "price:20")?)?;
-    let text = leaves_text(alloc, &before)?;
-    assert_eq!(&rt; text.as_str(), "1: a b c; 2: d e; 3: f g");
-    expect(&rt, alloc, &current, "1: -a -b c; 2: d e; 3: -f g", "cdeg")
-}
-
-#[test]
-fn a_push_is_taken_back(rt: HostRuntime) -> Result<(), Fail> {
-    let alloc = rt.alloc();
-    let mut current = three(alloc)?;
-    current.delete("f")?;
-    pop(&mut current);
-    expect(&rt, alloc, &current, "1: a b c; 2: d e", "abcde")?;
-    push(&mut current, leaf_at(alloc, 3, THIRD)?)?;
-    current.delete("f")?;
-    expect(&rt, alloc, &current, "1: a b c; 2: d e; 3: -f g", "abcdeg")?;
-    pop(&mut current);
-    pop(&mut current);
-    pop(&mut current);
-    expect(&rt, alloc, &current, "", "")
+    let mut current = Current::new(alloc);
+    expect_copied(&rt, alloc, &mut current)
 }

@@ -11,8 +11,8 @@ fn write_leaf(text: &mut String, leaf: &Leaf) -> Result<(), AllocError> {
     let segment = leaf.segment();
     write!(text, "{}:", segment.number())?;
     for row in 0..segment.len() {
-        let sign = if leaf.live().is_live(row) { "" } else { "-" };
-        write!(text, " {sign}{}", segment.id(row))?;
+        text.push_str(if leaf.live().is_live(row) { " " } else { " -" })?;
+        text.push_str(segment.id(row))?;
     }
     Ok(())
 }
