@@ -1,5 +1,5 @@
 //! The files that were opened last, which stay open for the next read.
-ghost use Rattle.std.specs.Prelude.{◌<◌, length, IfOk, IfSome};
+ghost use Rattle.std.specs.Prelude.{◌<◌, ◌≤◌, length, IfOk, IfSome};
 
 use crate::FileName;
 use std::alloc::{AllocError, Global};
@@ -21,6 +21,7 @@ pub(crate) struct OpenedFile<F: Drop> {
 pub(crate) struct OpenFiles<F: Drop> {
     // It has room for all of them from the beginning.
     pub(crate) files: Vec<OpenedFile<F>>,
+    ghost few: { length files.items ≤ 64 },
 }
 
 impl<F: Drop> OpenFiles<F> {

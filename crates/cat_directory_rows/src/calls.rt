@@ -181,6 +181,7 @@ pub(crate) const ROWS: &[Row<'static>] = &[
     (Call::Names, "_1.seg _10.sto _2.sto _2_1.liv segments_3 "),
     (Call::Sync(&[FIRST, FileName::Source(2)]), ""),
     (Call::Sync(&[FIRST, FileName::Segment(2)]), "NO 30"),
+    (Call::Delete(FIRST), ""),
     (Call::Create(FIRST), ""),
     (Call::Size(FIRST), "0"),
     (Call::Delete(FIRST), ""),

@@ -13,7 +13,7 @@ enum Trial<'a> {
     One(usize),
     /// Each call behind so many fails, and these names are listed then.
     All(usize, &'a str),
-    /// The call behind so many fails, behind two files, as these rows write a file and read it.
+    /// The call behind so many fails, behind another file, as these rows write a file and read it.
     Written(u64, &'a [Row<'a>]),
 }
 
@@ -71,19 +71,16 @@ fn fail_all<D: Directory + Shelf>(
     expect_failures(rt, alloc, device, after)
 }
 
-/// Two files.
-const BEFORE: &[Row<'static>] = &[
-    (Call::WriteLasting(SOURCE, "other"), ""),
-    (Call::Write(FIRST, "before"), ""),
-];
+/// Another file.
+const BEFORE: &[Row<'static>] = &[(Call::WriteLasting(SOURCE, "other"), "")];
 
-/// One is written anew. It takes three calls: `create`, `append` and `sync`. The one behind so many fails.
+/// A file is written. It takes three calls: `create`, `append` and `sync`. The one behind so many fails.
 const WRITINGS: &[(u64, &[Row<'static>])] = &[
     (
         0,
         &[
             (Call::WriteLasting(FIRST, "whole"), "NO 30"),
-            (Call::Read(FIRST, 0, 6), "before"),
+            (Call::Size(FIRST), "NO 31"),
         ],
     ),
     (
@@ -206,8 +203,10 @@ const NAMES: &[(usize, usize, &str)] = &[
     (19, 20, "_1.seg segments_3 "),
     (20, 21, "_1.seg _2_1.liv segments_3 "),
     (21, 22, "_1.seg _2.sto _2_1.liv segments_3 "),
-    (22, 28, "_1.seg _10.sto _2.sto _2_1.liv segments_3 "),
-    (28, ROWS.len(), "_10.sto _2.sto _2_1.liv segments_3 "),
+    (22, 26, "_1.seg _10.sto _2.sto _2_1.liv segments_3 "),
+    (26, 27, "_10.sto _2.sto _2_1.liv segments_3 "),
+    (27, 29, "_1.seg _10.sto _2.sto _2_1.liv segments_3 "),
+    (29, ROWS.len(), "_10.sto _2.sto _2_1.liv segments_3 "),
 ];
 
 fn fail_between(

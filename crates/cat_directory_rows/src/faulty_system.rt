@@ -1,7 +1,9 @@
-//! A system for tests: it writes two bytes at a time, notes what is synced, and fails where it is told to.
+//! A system for tests: it writes two bytes at a time, notes what is synced and how many files are open, and fails where it is
+//! told to.
+use cat_directory::Lockable;
 use std::alloc::{Allocator, Global};
 use std::cell::Cell;
-use std::fs::{Files, Metadata, OpenFile, OpenOptions, Permissions};
+use std::fs::{Files, Metadata, OpenFile, OpenOptions, Permissions, TryLockError};
 use std::io;
 use std::io::{ErrorKind, PipeReader, PipeWriter, Read, Seek, SeekFrom, Write};
 use std::os::fd::BorrowedFd;
@@ -15,6 +17,12 @@ pub(crate) enum Doing {
     Opening,
     Reading,
     Syncing,
+    /// Listing a folder, behind all its names.
+    Listing,
+    /// Asking what an entry of a folder is.
+    Asking,
+    Removing,
+    Locking,
 }
 
 /// What calls meet, and which files were synced.
@@ -24,6 +32,10 @@ pub(crate) struct Notes {
     pub(crate) fault: Cell<Option<(Doing, ErrorKind)>>,
     /// 1 for a segment's file, 2 for one of sources, 4 for the folder.
     pub(crate) synced: Cell<u8>,
+    /// How many files are open now.
+    pub(crate) open: Cell<u32>,
+    /// How many were open at once.
+    pub(crate) most_open: Cell<u32>,
 }
 
 impl Notes {
@@ -31,7 +43,21 @@ impl Notes {
         Notes {
             fault: Cell::new(None),
             synced: Cell::new(0),
+            open: Cell::new(0),
+            most_open: Cell::new(0),
         }
+    }
+
+    /// A file was opened.
+    fn opened(&self) {
+        let open = self.open.get().saturating_add(1);
+        self.open.set(open);
+        self.most_open.set(self.most_open.get().max(open));
+    }
+
+    /// A file was closed.
+    fn closed(&self) {
+        self.open.set(self.open.get().saturating_sub(1));
     }
 }
 
@@ -45,23 +71,35 @@ pub(crate) struct FaultySystem<R> {
     pub(crate) notes: Rc<Notes>,
 }
 
-#[derive(Drop)]
 pub(crate) struct FaultyFile<F> {
     file: F,
     notes: Rc<Notes>,
     mark: u8,
 }
 
+impl<F: Drop> Drop for FaultyFile<F> {
+    fn drop(self) {
+        self.notes.closed();
+        let FaultyFile {
+            file: _,
+            notes: _,
+            mark: _,
+        } = self;
+    }
+}
+
 /// The listing of any folder.
 #[derive(Drop)]
 pub(crate) struct Names {
     is_read: bool,
+    notes: Rc<Notes>,
 }
 
 impl Read for Names {
     fn read(&mut self, buf: &mut [u8]) -> io::Result<usize> {
         let count = NAMES.len();
         if self.is_read || buf.len() < count {
+            meet(&self.notes, Doing::Listing)?;
             return Ok(0);
         }
         self.is_read = true;
@@ -70,9 +108,20 @@ impl Read for Names {
     }
 }
 
+/// Linux's number of the error that a name is too long.
+const NAME_TOO_LONG: i32 = 36;
+
+/// An error of the kind, as the system gives it.
+fn error_of(kind: ErrorKind) -> io::Error {
+    match kind {
+        ErrorKind::InvalidFilename => io::Error::from_raw_os_error(NAME_TOO_LONG),
+        kind => kind.into(),
+    }
+}
+
 fn meet(notes: &Notes, doing: Doing) -> io::Result<()> {
     match notes.fault.get() {
-        Some((failing, kind)) if failing == doing => Err(kind.into()),
+        Some((failing, kind)) if failing == doing => Err(error_of(kind)),
         _ => Ok(()),
     }
 }
@@ -134,6 +183,25 @@ impl<F: OpenFile> OpenFile for FaultyFile<F> {
     }
 }
 
+/// What a lock is answered where nobody else asks for it.
+fn locked(notes: &Notes) -> Result<(), TryLockError> {
+    match meet(notes, Doing::Locking) {
+        Ok(()) => Ok(()),
+        Err(error) if error.kind() == ErrorKind::WouldBlock => Err(TryLockError::WouldBlock),
+        Err(error) => Err(TryLockError::Error(error)),
+    }
+}
+
+impl<F> Lockable for FaultyFile<F> {
+    fn try_lock(&self) -> Result<(), TryLockError> {
+        locked(&self.notes)
+    }
+
+    fn try_lock_shared(&self) -> Result<(), TryLockError> {
+        locked(&self.notes)
+    }
+}
+
 impl<R: Alloc<A = Global>> Alloc for FaultySystem<R> {
     type A = Global;
 
@@ -149,16 +217,22 @@ impl<R: Files> Files for FaultySystem<R> {
 
     fn open_file(&self, how: &OpenOptions, path: &str) -> io::Result<FaultyFile<R::File>> {
         meet(&self.notes, Doing::Opening)?;
+        let file = self.rt.open_file(how, path)?;
+        let notes = self.notes.clone()?;
+        notes.opened();
         Ok(FaultyFile {
-            file: self.rt.open_file(how, path)?,
-            notes: self.notes.clone()?,
+            file,
+            notes,
             mark: mark_of(path),
         })
     }
 
     fn open_dir(&self, _path: &str) -> io::Result<Names> {
         meet(&self.notes, Doing::Opening)?;
-        Ok(Names { is_read: false })
+        Ok(Names {
+            is_read: false,
+            notes: self.notes.clone()?,
+        })
     }
 
     fn metadata(&self, path: &str) -> io::Result<Metadata> {
@@ -166,6 +240,7 @@ impl<R: Files> Files for FaultySystem<R> {
     }
 
     fn symlink_metadata(&self, path: &str) -> io::Result<Metadata> {
+        meet(&self.notes, Doing::Asking)?;
         self.rt.symlink_metadata(path)
     }
 
@@ -178,6 +253,7 @@ impl<R: Files> Files for FaultySystem<R> {
     }
 
     fn remove_file(&self, path: &str) -> io::Result<()> {
+        meet(&self.notes, Doing::Removing)?;
         self.rt.remove_file(path)
     }
 

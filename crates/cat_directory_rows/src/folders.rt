@@ -37,6 +37,48 @@ fn a_folder_answers_as_memory_does(rt: HostRuntime) -> Result<(), Fail> {
     remove_folder(&rt, "files_test")
 }
 
+/// A file that is there is made and written anew.
+const ANEW: &[&[Row<'static>]] = &[&[
+    (Call::Create(FIRST), ""),
+    (Call::Append(FIRST, "before"), ""),
+    (Call::Create(FIRST), ""),
+    (Call::Size(FIRST), "0"),
+    (Call::Write(FIRST, "one"), ""),
+    (Call::WriteLasting(FIRST, "whole"), ""),
+    (Call::Read(FIRST, 0, 5), "whole"),
+    (Call::Size(FIRST), "5"),
+    (Call::Failures, "0"),
+]];
+
+#[test]
+fn memory_makes_a_file_anew(rt: HostRuntime) -> Result<(), Fail> {
+    let mut memory = MemoryDirectory::new(rt.alloc());
+    expect_all(&rt, rt.alloc(), &mut memory, ANEW)
+}
+
+/// A file that is there stays as it is, until it is deleted.
+const NOT_ANEW: &[&[Row<'static>]] = &[&[
+    (Call::Create(FIRST), ""),
+    (Call::Append(FIRST, "before"), ""),
+    (Call::Create(FIRST), "NO 30"),
+    (Call::Write(FIRST, "one"), "NO 30"),
+    (Call::WriteLasting(FIRST, "whole"), "NO 30"),
+    (Call::Read(FIRST, 0, 6), "before"),
+    (Call::Size(FIRST), "6"),
+    (Call::Failures, "3"),
+    (Call::Delete(FIRST), ""),
+    (Call::WriteLasting(FIRST, "whole"), ""),
+    (Call::Read(FIRST, 0, 5), "whole"),
+    (Call::Failures, "3"),
+]];
+
+#[test]
+fn a_folder_makes_no_file_anew(rt: HostRuntime) -> Result<(), Fail> {
+    make_folder(&rt, "anew_test")?;
+    expect_in(&rt, "anew_test", NOT_ANEW)?;
+    remove_folder(&rt, "anew_test")
+}
+
 /// What is read of a file is what it has then, whatever was read of it before.
 const READ_AGAIN: &[&[Row<'static>]] = &[&[
     (Call::Create(FIRST), ""),
@@ -45,6 +87,7 @@ const READ_AGAIN: &[&[Row<'static>]] = &[&[
     (Call::Append(FIRST, " two"), ""),
     (Call::Read(FIRST, 0, 7), "one two"),
     (Call::Size(FIRST), "7"),
+    (Call::Delete(FIRST), ""),
     (Call::Create(FIRST), ""),
     (Call::Size(FIRST), "0"),
     (Call::Read(FIRST, 0, 1), "NO 31"),
@@ -169,15 +212,13 @@ const WHOLE: &[&[Row<'static>]] = &[&[
     (Call::Append(FIRST, "whole"), ""),
 ]];
 
-const CUT: &[&[Row<'static>]] = &[&[(Call::Create(FIRST), ""), (Call::Append(FIRST, "cut"), "")]];
-
 /// The file is read, and is cut behind that.
 fn expect_cut<R: Abort + Files + AllocGlobal + Clone + Drop, S: Shelf>(
     rt: &R,
     shelf: &mut S,
 ) -> Result<(), Fail> {
     expect_read(rt, rt.alloc(), shelf, (FIRST, 1, 3), "hol")?;
-    expect_in(rt, "shelf_test", CUT)?;
+    fs::write(rt, "shelf_test/_1.seg", "cut")?;
     expect_read(rt, rt.alloc(), shelf, (FIRST, 0, 5), "NO 31")?;
     assert!(rt; shelf.size(FIRST)? == 3);
     Ok(())
@@ -233,13 +274,13 @@ const HELD_BACK: &[&[Row<'static>]] = &[&[
 
 /// No permission holds root back, as whom `rt ci` runs no test.
 const AS_ROOT: &[&[Row<'static>]] = &[&[
-    (Call::Create(FIRST), ""),
+    (Call::Create(FIRST), "NO 30"),
     (Call::Append(FIRST, "x"), ""),
-    (Call::Size(FIRST), "1"),
+    (Call::Size(FIRST), "5"),
     (Call::Sync(&[FIRST]), ""),
     (Call::Delete(FIRST), ""),
     (Call::Names, ""),
-    (Call::Failures, "0"),
+    (Call::Failures, "1"),
 ]];
 
 #[test]

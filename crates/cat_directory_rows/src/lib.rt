@@ -10,6 +10,8 @@ mod faulty_system;
 #[cfg(test)]
 mod folders;
 #[cfg(test)]
+mod locks;
+#[cfg(test)]
 mod names;
 #[cfg(test)]
 mod systems;

@@ -1,7 +1,7 @@
 //! What a folder asks of the system, and what it tells where the system fails.
 use crate::calls::{Call, FIRST, Row, SOURCE, expect, make_folder, remove_folder};
 use crate::faulty_system::{Doing, FaultySystem, Notes};
-use cat_directory::{Directory, Folder, Shelf};
+use cat_directory::{Directory, FileName, Folder, Shelf};
 use std::alloc::Global;
 use std::fs::Files;
 use std::io::ErrorKind;
@@ -30,7 +30,7 @@ fn expect_each<D: Directory + Shelf>(
 }
 
 /// The system that has these notes.
-fn system_of<R: Clone>(rt: &R, notes: &Rc<Notes>) -> Result<FaultySystem<R>, Fail> {
+pub(crate) fn system_of<R: Clone>(rt: &R, notes: &Rc<Notes>) -> Result<FaultySystem<R>, Fail> {
     Ok(FaultySystem {
         rt: rt.clone()?,
         notes: notes.clone()?,
@@ -149,4 +149,113 @@ const FAILED_SYNC: &[Scene<'static>] = &[
 #[test]
 fn after_a_failed_sync_none_succeeds(rt: HostRuntime) -> Result<(), Fail> {
     expect_scenes(&rt, "sync_test", FAILED_SYNC)
+}
+
+const FOLDER_NOT_SYNCED: &[Row<'static>] = &[(Call::Sync(&[]), "NO 30")];
+
+const FAILED_FOLDER_SYNC: &[Scene<'static>] = &[
+    (None, SYNC_ABSENT, 5),
+    (
+        Some((Doing::Syncing, ErrorKind::Other)),
+        FOLDER_NOT_SYNCED,
+        5,
+    ),
+    (None, NEVER_SYNCED, 5),
+];
+
+#[test]
+fn after_a_failed_sync_of_the_folder_none_succeeds(rt: HostRuntime) -> Result<(), Fail> {
+    expect_scenes(&rt, "folder_sync_test", FAILED_FOLDER_SYNC)
+}
+
+const LISTED: &[Row<'static>] = &[
+    (Call::Create(FIRST), ""),
+    (Call::Create(SOURCE), ""),
+    (Call::Names, "_1.seg _2.sto "),
+];
+
+const NOT_LISTED: &[Row<'static>] = &[(Call::Names, "NO 30")];
+
+const LISTED_AGAIN: &[Row<'static>] = &[(Call::Names, "_1.seg _2.sto "), (Call::Failures, "5")];
+
+/// The listing fails behind all names, and then what an entry is can't be asked: nothing is told to be all that is there. That
+/// the system calls a name too long isn't that a name is no text.
+const FAILED_LISTING: &[Scene<'static>] = &[
+    (None, LISTED, 0),
+    (Some((Doing::Listing, ErrorKind::Other)), NOT_LISTED, 0),
+    (
+        Some((Doing::Listing, ErrorKind::InvalidFilename)),
+        NOT_LISTED,
+        0,
+    ),
+    (
+        Some((Doing::Asking, ErrorKind::PermissionDenied)),
+        NOT_LISTED,
+        0,
+    ),
+    (Some((Doing::Asking, ErrorKind::NotFound)), NOT_LISTED, 0),
+    (
+        Some((Doing::Asking, ErrorKind::InvalidFilename)),
+        NOT_LISTED,
+        0,
+    ),
+    (None, LISTED_AGAIN, 0),
+];
+
+#[test]
+fn a_listing_that_fails_is_no_list(rt: HostRuntime) -> Result<(), Fail> {
+    expect_scenes(&rt, "listing_test", FAILED_LISTING)
+}
+
+const NOT_DELETED: &[Row<'static>] = &[
+    (Call::Delete(FIRST), "NO 30"),
+    (Call::Read(FIRST, 0, 5), "whole"),
+];
+
+const DELETED: &[Row<'static>] = &[
+    (Call::Read(FIRST, 0, 5), "whole"),
+    (Call::Delete(FIRST), ""),
+    (Call::Size(FIRST), "NO 31"),
+    (Call::Failures, "2"),
+];
+
+const DENIED_DELETE: &[Scene<'static>] = &[
+    (None, MAKE, 0),
+    (
+        Some((Doing::Removing, ErrorKind::PermissionDenied)),
+        NOT_DELETED,
+        0,
+    ),
+    (Some((Doing::Removing, ErrorKind::Other)), NOT_DELETED, 0),
+    (None, DELETED, 0),
+];
+
+#[test]
+fn a_denied_delete_is_a_failure(rt: HostRuntime) -> Result<(), Fail> {
+    expect_scenes(&rt, "delete_test", DENIED_DELETE)
+}
+
+/// Writes a file of each of these numbers, and reads it.
+fn write_and_read<D: Directory + Shelf>(
+    rt: &impl Abort,
+    alloc: Global,
+    device: &mut D,
+) -> Result<(), Fail> {
+    for number in 1..=70 {
+        let name = FileName::Segment(number);
+        let rows = [(Call::Write(name, "x"), ""), (Call::Read(name, 0, 1), "x")];
+        expect(rt, alloc, device, &rows)?;
+    }
+    Ok(())
+}
+
+/// As many files stay open as may, and one beside them is in hand.
+#[test]
+fn few_files_are_open_at_once(rt: HostRuntime) -> Result<(), Fail> {
+    make_folder(&rt, "open_test")?;
+    let notes = Rc::new(rt.alloc(), Notes::new())?;
+    let mut folder = Folder::at(system_of(&rt, &notes)?, rt.alloc(), "open_test")?;
+    write_and_read(&rt, rt.alloc(), &mut folder)?;
+    assert!(rt; notes.most_open.get() == 65);
+    remove_folder(&rt, "open_test")
 }
