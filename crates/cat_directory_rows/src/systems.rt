@@ -37,16 +37,39 @@ pub(crate) fn system_of<R: Clone>(rt: &R, notes: &Rc<Notes>) -> Result<FaultySys
     })
 }
 
-/// Makes the calls of the scenes in a new folder at the path, in a system that fails as they say.
-fn expect_scenes<R: Abort + Files + AllocGlobal + Clone + Drop>(
+/// What is done in a folder over a system for tests.
+#[derive(Clone, Copy)]
+enum Job<'a> {
+    /// These calls are made.
+    Scenes(&'a [Scene<'a>]),
+    /// More files are read than stay open.
+    Many,
+}
+
+/// Does the job on the device.
+fn do_job<D: Directory + Shelf>(
+    rt: &impl Abort,
+    alloc: Global,
+    device: &mut D,
+    notes: &Notes,
+    job: Job<'_>,
+) -> Result<(), Fail> {
+    match job {
+        Job::Scenes(scenes) => expect_each(rt, alloc, device, notes, scenes),
+        Job::Many => expect_few(rt, alloc, device, notes),
+    }
+}
+
+/// Does the job in a new folder at the path, in a system that fails as it says.
+fn expect_job<R: Abort + Files + AllocGlobal + Clone + Drop>(
     rt: &R,
     path: &str,
-    scenes: &[Scene<'_>],
+    job: Job<'_>,
 ) -> Result<(), Fail> {
     make_folder(rt, path)?;
     let notes = Rc::new(rt.alloc(), Notes::new())?;
     let mut folder = Folder::at(system_of(rt, &notes)?, rt.alloc(), path)?;
-    expect_each(rt, rt.alloc(), &mut folder, &notes, scenes)?;
+    do_job(rt, rt.alloc(), &mut folder, &notes, job)?;
     remove_folder(rt, path)
 }
 
@@ -68,7 +91,7 @@ const SYNCED: &[Scene<'static>] = &[(None, WHOLE, 0), (None, SYNC_NONE, 4), (Non
 
 #[test]
 fn a_folder_asks_the_system_for_all_it_needs(rt: HostRuntime) -> Result<(), Fail> {
-    expect_scenes(&rt, "system_test", SYNCED)
+    expect_job(&rt, "system_test", Job::Scenes(SYNCED))
 }
 
 const MAKE: &[Row<'static>] = &[
@@ -121,7 +144,7 @@ const KINDS: &[Scene<'static>] = &[
 
 #[test]
 fn each_error_of_the_system_is_told_as_it_is(rt: HostRuntime) -> Result<(), Fail> {
-    expect_scenes(&rt, "kinds_test", KINDS)
+    expect_job(&rt, "kinds_test", Job::Scenes(KINDS))
 }
 
 /// An absent file is a failure of this call alone.
@@ -148,7 +171,7 @@ const FAILED_SYNC: &[Scene<'static>] = &[
 
 #[test]
 fn after_a_failed_sync_none_succeeds(rt: HostRuntime) -> Result<(), Fail> {
-    expect_scenes(&rt, "sync_test", FAILED_SYNC)
+    expect_job(&rt, "sync_test", Job::Scenes(FAILED_SYNC))
 }
 
 const FOLDER_NOT_SYNCED: &[Row<'static>] = &[(Call::Sync(&[]), "NO 30")];
@@ -165,7 +188,7 @@ const FAILED_FOLDER_SYNC: &[Scene<'static>] = &[
 
 #[test]
 fn after_a_failed_sync_of_the_folder_none_succeeds(rt: HostRuntime) -> Result<(), Fail> {
-    expect_scenes(&rt, "folder_sync_test", FAILED_FOLDER_SYNC)
+    expect_job(&rt, "folder_sync_test", Job::Scenes(FAILED_FOLDER_SYNC))
 }
 
 const LISTED: &[Row<'static>] = &[
@@ -204,7 +227,7 @@ const FAILED_LISTING: &[Scene<'static>] = &[
 
 #[test]
 fn a_listing_that_fails_is_no_list(rt: HostRuntime) -> Result<(), Fail> {
-    expect_scenes(&rt, "listing_test", FAILED_LISTING)
+    expect_job(&rt, "listing_test", Job::Scenes(FAILED_LISTING))
 }
 
 const NOT_DELETED: &[Row<'static>] = &[
@@ -232,7 +255,7 @@ const DENIED_DELETE: &[Scene<'static>] = &[
 
 #[test]
 fn a_denied_delete_is_a_failure(rt: HostRuntime) -> Result<(), Fail> {
-    expect_scenes(&rt, "delete_test", DENIED_DELETE)
+    expect_job(&rt, "delete_test", Job::Scenes(DENIED_DELETE))
 }
 
 /// Writes a file of each of these numbers, and reads it.
@@ -250,12 +273,18 @@ fn write_and_read<D: Directory + Shelf>(
 }
 
 /// As many files stay open as may, and one beside them is in hand.
+fn expect_few<D: Directory + Shelf>(
+    rt: &impl Abort,
+    alloc: Global,
+    device: &mut D,
+    notes: &Notes,
+) -> Result<(), Fail> {
+    write_and_read(rt, alloc, device)?;
+    assert!(rt; notes.most_open.get() == 65);
+    Ok(())
+}
+
 #[test]
 fn few_files_are_open_at_once(rt: HostRuntime) -> Result<(), Fail> {
-    make_folder(&rt, "open_test")?;
-    let notes = Rc::new(rt.alloc(), Notes::new())?;
-    let mut folder = Folder::at(system_of(&rt, &notes)?, rt.alloc(), "open_test")?;
-    write_and_read(&rt, rt.alloc(), &mut folder)?;
-    assert!(rt; notes.most_open.get() == 65);
-    remove_folder(&rt, "open_test")
+    expect_job(&rt, "open_test", Job::Many)
 }
