@@ -68,9 +68,9 @@ fn open_folder<R: Files>(rt: &R, alloc: Global, path: &str) -> Result<R::File, L
     }
 }
 
-/// The lock of a folder. While it is kept nobody else has it, in this program or another. The system takes it back where it is
-/// dropped, and when the program ends, however it does: no file stands for it, and a program that is started by this one
-/// doesn't inherit it. (Lucene: `NativeFSLockFactory.obtainLock`, over a file of its own.)
+/// The lock of a folder, or a share of it. While one has the lock nobody else has it or a share, in this program or another. The
+/// system takes it back where the value is dropped, and when the program ends, however it does: no file stands for it, and a
+/// program that is started by this one doesn't inherit it. (Lucene: `NativeFSLockFactory.obtainLock`, over a file of its own.)
 #[derive(Drop)]
 pub struct FolderLock<F: Drop> {
     // The folder, open: closed, it is unlocked.
