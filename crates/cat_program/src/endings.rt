@@ -1,8 +1,30 @@
 //! How the program ends.
 ghost use Rattle.std.specs.Prelude.{◌≡◌};
-ghost use Rattle.cat_program.specs.Ended.{ending_of, message_of, status_of};
+ghost use Rattle.cat_program.specs.Ended.{ending_of, in_use_fault, message_of, status_of};
 
 use cat_serving::ServeFault;
+
+/// What ends serving early.
+#[derive(Clone, Copy, Debug, PartialEq, Eq)]
+pub(crate) enum RunFault {
+    /// Another program works over the folder.
+    InUse,
+    /// Serving ended so.
+    Serving(ServeFault),
+}
+
+impl RunFault {
+    /// What ended serving that found the folder in use, and so served nothing: that, unless a read or a write failed.
+    pub(crate) fn in_use(served: Result<(), ServeFault>) -> RunFault
+        ensures { result ≡ in_use_fault served }
+    {
+        match served {
+            Err(ServeFault::Read) => RunFault::Serving(ServeFault::Read),
+            Err(ServeFault::Write) => RunFault::Serving(ServeFault::Write),
+            Ok(()) | Err(ServeFault::Schema) => RunFault::InUse,
+        }
+    }
+}
 
 /// The ways in which the program ends.
 #[derive(Clone, Copy, Debug, PartialEq, Eq)]
@@ -15,13 +37,13 @@ pub(crate) enum Ending {
 }
 
 impl Ending {
-    pub(crate) fn of(served: Result<(), ServeFault>) -> Ending
+    pub(crate) fn of(served: Result<(), RunFault>) -> Ending
         ensures { result ≡ ending_of served }
     {
         match served {
             Ok(()) => Ending::EndOfInput,
-            Err(ServeFault::Schema) => Ending::SchemaRefused,
-            Err(ServeFault::Read | ServeFault::Write) => Ending::Fault,
+            Err(RunFault::InUse | RunFault::Serving(ServeFault::Schema)) => Ending::SchemaRefused,
+            Err(RunFault::Serving(ServeFault::Read | ServeFault::Write)) => Ending::Fault,
         }
     }
 
@@ -39,12 +61,13 @@ impl Ending {
 }
 
 /// What the program says of a fault.
-pub(crate) fn message(fault: ServeFault) -> &'static str
+pub(crate) fn message(fault: RunFault) -> &'static str
     ensures { result.now ≡ message_of fault }
 {
     match fault {
-        ServeFault::Schema => "schema refused",
-        ServeFault::Read => "read fault",
-        ServeFault::Write => "write fault",
+        RunFault::InUse => "folder in use",
+        RunFault::Serving(ServeFault::Schema) => "schema refused",
+        RunFault::Serving(ServeFault::Read) => "read fault",
+        RunFault::Serving(ServeFault::Write) => "write fault",
     }
 }
