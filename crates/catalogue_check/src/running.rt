@@ -7,8 +7,8 @@ use crate::arguments::{Task, USAGE};
 use crate::endings::Ending;
 use cat_base::Refusal;
 use cat_check::{Checked, check, drop_torn, tell, tell_standing};
-use cat_directory::Folder;
-use std::fs::Files;
+use cat_directory::{Folder, FolderLock, LockRefusal};
+use std::fs::{File, Files};
 use std::io::{BufWriter, Write};
 use std::process::ExitCode;
 use std::rt::Env;
@@ -36,6 +36,27 @@ fn judge<R: AllocGlobal + Print + Files + Clone + Drop>(
     Ok(Ending::of(&checked))
 }
 
+/// Says on standard error that a program works over the folder, which may so be changed while it is judged.
+fn tell_use<R: Eprint>(rt: &R) {
+    let _ = eprintln!(rt; "catalogue_check: folder in use");
+}
+
+/// Asks whether a program works over the folder at the path, and says so. The share of the lock that tells it is given back at
+/// once: to judge keeps no program from the folder.
+fn ask_use<R: AllocGlobal + Eprint + Files<File = File>>(
+    rt: &R,
+    path: &str,
+) -> Result<(), Refusal> {
+    match FolderLock::share(rt, rt.alloc(), path) {
+        Ok(_) | Err(LockRefusal::Device) => Ok(()),
+        Err(LockRefusal::InUse) => {
+            tell_use(rt);
+            Ok(())
+        }
+        Err(LockRefusal::Memory) => Err(Refusal::Memory),
+    }
+}
+
 /// Judges the folder at the path.
 fn judge_at<R: AllocGlobal + Print + Files + Clone + Drop>(
     rt: &R,
@@ -45,15 +66,50 @@ fn judge_at<R: AllocGlobal + Print + Files + Clone + Drop>(
     judge(rt, &mut folder)
 }
 
-/// Deletes the file of a torn commit over a whole one in the folder at the path, and judges what is there then.
-fn drop_at<R: AllocGlobal + Print + Files + Clone + Drop>(
+/// Judges the folder at the path, and says whether a program works over it.
+fn judge_asked<R: AllocGlobal + Print + Eprint + Files<File = File> + Clone + Drop>(
     rt: &R,
     path: &str,
+) -> Result<Ending, Refusal> {
+    ask_use(rt, path)?;
+    judge_at(rt, path)
+}
+
+/// Deletes the file of a torn commit over a whole one in the folder at the path, whose lock is kept to the end, and judges what
+/// is there then.
+fn drop_locked<R: AllocGlobal + Print + Files + Clone + Drop, F: Drop>(
+    rt: &R,
+    path: &str,
+    _lock: FolderLock<F>,
 ) -> Result<Ending, Refusal> {
     let mut folder = Folder::at(rt.clone()?, rt.alloc(), path)?;
     let standing = drop_torn(rt.alloc(), &mut folder)?;
     let _ = tell_standing(&mut io::writer(rt), standing);
     judge(rt, &mut folder)
+}
+
+/// Deletes nothing in the folder at the path, over which a program works, and judges it.
+fn drop_nothing<R: AllocGlobal + Print + Eprint + Files + Clone + Drop>(
+    rt: &R,
+    path: &str,
+) -> Result<Ending, Refusal> {
+    tell_use(rt);
+    let _ = rt.println("dropped nothing: a program works over the folder");
+    judge_at(rt, path)
+}
+
+/// Deletes the file of a torn commit over a whole one in the folder at the path, unless a program works over it, and judges
+/// what is there then.
+fn drop_at<R: AllocGlobal + Print + Eprint + Files<File = File> + Clone + Drop>(
+    rt: &R,
+    path: &str,
+) -> Result<Ending, Refusal> {
+    match FolderLock::take(rt, rt.alloc(), path) {
+        Ok(lock) => drop_locked(rt, path, lock),
+        Err(LockRefusal::InUse) => drop_nothing(rt, path),
+        Err(LockRefusal::Device) => Err(Refusal::Device),
+        Err(LockRefusal::Memory) => Err(Refusal::Memory),
+    }
 }
 
 /// How the program ends that judged so. A refusal is told on standard error.
@@ -68,12 +124,12 @@ fn ending_after<R: Eprint>(rt: &R, judged: Result<Ending, Refusal>) -> Ending {
 }
 
 /// Does what the words ask for.
-fn do_task<R: AllocGlobal + Print + Eprint + Files + Clone + Drop>(
+fn do_task<R: AllocGlobal + Print + Eprint + Files<File = File> + Clone + Drop>(
     rt: &R,
     task: Task<'_>,
 ) -> Ending {
     match task {
-        Task::Judge(path) => ending_after(rt, judge_at(rt, path)),
+        Task::Judge(path) => ending_after(rt, judge_asked(rt, path)),
         Task::DropTorn(path) => ending_after(rt, drop_at(rt, path)),
         Task::Usage => {
             let _ = rt.eprintln(USAGE);
@@ -83,7 +139,9 @@ fn do_task<R: AllocGlobal + Print + Eprint + Files + Clone + Drop>(
 }
 
 /// Does what the arguments ask for. Words that can't be read ask for nothing that the program does.
-fn do_asked<R: Env + AllocGlobal + Print + Eprint + Files + Clone + Drop>(rt: &R) -> Ending {
+fn do_asked<R: Env + AllocGlobal + Print + Eprint + Files<File = File> + Clone + Drop>(
+    rt: &R,
+) -> Ending {
     match words(rt) {
         Ok(words) => do_task(rt, Task::asked_by(words.as_slice())),
         Err(_) => do_task(rt, Task::Usage),
@@ -99,7 +157,7 @@ fn exit(ending: Ending) -> ExitCode
 
 /// Runs the program, and says the exit status: 0 where the newest commit is whole, 1 where it isn't or there is none, 2 where
 /// the arguments are wrong or the folder can't be read.
-pub(crate) fn run<R: Env + AllocGlobal + Print + Eprint + Files + Clone + Drop>(
+pub(crate) fn run<R: Env + AllocGlobal + Print + Eprint + Files<File = File> + Clone + Drop>(
     rt: &R,
 ) -> ExitCode {
     exit(do_asked(rt))
