@@ -28,7 +28,7 @@ pub use joining::{
 pub use needing::{needed_files_stand, needed_names_stand, promised_files_stand};
 pub use planning::{
     forced_fit, forces_begin, forces_rest, forces_wait, merges_are_done, merges_begin, merges_copy,
-    merges_rest, windows_fit,
+    merges_rest, merges_tell, windows_fit,
 };
 pub use reading::{
     commit_files_answer, files_answer, gets_answer, reads_answer, sources_are_whole, texts_answer,
