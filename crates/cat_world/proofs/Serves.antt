@@ -36,8 +36,8 @@ use Rattle.cat_world.proofs.Histories.{tolds_are_calls}
 use Rattle.cat_world.proofs.Outlasted.{newest_number, newest_outlasts, own_outlasts}
 use Rattle.cat_world.specs.Histories.{OutlivesCrash}
 use Rattle.cat_world.specs.Opening.{BeginsIn, OpensWorld}
-use Rattle.cat_world.specs.Promises.{LeavesFiles, LeavesPromised, WorldLasts}
-use Rattle.cat_world.specs.Serving.{AreLike, Changes, IsServedIn, OpensIfShort, ServesIn, SparesRefused, StageLasts, StageOutlives, StepsIfShort, device_at}
+use Rattle.cat_world.specs.Promises.{LeavesFiles, LeavesPromised, SparesCrash, WorldLasts}
+use Rattle.cat_world.specs.Serving.{AreLike, Changes, IsServedIn, OpensIfShort, ServesIn, SparesUnserved, StageLasts, StageOutlives, StepsIfShort, device_at}
 use Rattle.cat_world.specs.Wanting.{WantRightly}
 use Rattle.cat_world.specs.Worlds.{Service, device_of, shape_of}
 use Rattle.cat_world.proofs.Wanted.{alike_wants}
@@ -88,7 +88,7 @@ module _ {D : Type 0} (bytes : D → ToldFiles) (may_leave : D → FileName → 
   line_if_short old new line told false long s = s
 
   opening_if_short : (device : D) (line : Text) (w : Service D) (b : Bool) → OpensIfShort bytes may_leave device (if b then None else Some line) (Ok w)
-      → OpensWorld bytes device line (Ok w) × (AlwaysTells bytes → LeavesNoneAhead may_leave w.ledger)
+      → OpensWorld bytes may_leave device line (Ok w) × (AlwaysTells bytes → LeavesNoneAhead may_leave w.ledger)
   opening_if_short device line w true o =
       absurd (let no : ◌≡◌ {A = Result (Service D) (Unopened D)} (Ok w) (Err (record { refusal = NoForm; seed = device })) = o in cc)
   opening_if_short device line w false o = o
@@ -272,25 +272,34 @@ module _ {D : Type 0} (bytes : D → ToldFiles) (may_leave : D → FileName → 
     served_in input left before after (Err Ending.write) so = (so.0, so.1, so.2, so.3, so.4, some_due so.2 so.4 so.5, so.6)
 
     -- what opening gave back has its files as they were
-    given_back : (first : Text) (u : Unopened D) (b : Bool) → OpensIfShort bytes may_leave device (if b then None else Some first) (Err u) → LeavesFiles bytes device u.seed
-    given_back first u true o q =
+    given_back : (first : Text) (u : Unopened D) (b : Bool) → OpensIfShort bytes may_leave device (if b then None else Some first) (Err u)
+        → LeavesFiles bytes device u.seed × SparesCrash may_leave device u.seed
+    given_back first u true o =
         let same : u ≡ record { refusal = NoForm; seed = device } = err_same u (record { refusal = NoForm; seed = device }) o in
-        ap (λ (x : Unopened D). bytes x.seed q) same
+        subst (λ (x : Unopened D). LeavesFiles bytes device x.seed × SparesCrash may_leave device x.seed) (sym same) ((λ q. refl), λ q e h. h)
       where
         err_same : (a b : Unopened D) → ◌≡◌ {A = Result (Service D) (Unopened D)} (Err a) (Err b) → a ≡ b
         err_same a b e = cc
-    given_back first u false o q = o.0.1 q
+    given_back first u false o = o.0.1
 
-    spared_at : (lines : List Text) (e : Refusal) → refused_at lines e → LeavesFiles bytes device (device_at stage)
-    spared_at [] e so q = ap (λ (x : Stage (Service D) D). bytes (device_at x) q) so.0
-    spared_at (first ∷ lines) e so q =
-        ap (λ (x : Stage (Service D) D). bytes (device_at x) q) so.2
-        ∙ given_back first (record { refusal = e; seed = so.0 }) (nat_lt 10000 (length first)) so.1 q
+    spared_at : (lines : List Text) (e : Refusal) → refused_at lines e
+        → LeavesFiles bytes device (device_at stage) × SparesCrash may_leave device (device_at stage)
+    spared_at [] e so =
+        subst (λ (x : Stage (Service D) D). LeavesFiles bytes device (device_at x) × SparesCrash may_leave device (device_at x)) (sym so.0)
+        ((λ q. refl), λ q e h. h)
+    spared_at (first ∷ lines) e so =
+        subst (λ (x : Stage (Service D) D). LeavesFiles bytes device (device_at x) × SparesCrash may_leave device (device_at x)) (sym so.2)
+        (given_back first (record { refusal = e; seed = so.0 }) (nat_lt 10000 (length first)) so.1)
 
-    -- and where the schema line is refused the files are as they were
+    -- where no line came the seed waits as it was
+    unread : (lines : List Text) (text : Text) → leads_to lines text → lines ≡ [] → ◌≡◌ {A = D} (device_at stage) device
+    unread [] text so e = ap device_at so.0
+    unread (first ∷ lines) text so e = absurd (let no : ◌≡◌ {A = List Text} (first ∷ lines) [] = e in cc)
+
+    -- and where the schema line is refused the files are as they were, and where no line came the directory
     pub spared_in : (input left before after : Option Text) (r : Result (Unit {0}) Ending) → EndsBy leads_to refused_at input left before after r
-        → SparesRefused bytes device (device_at stage) r
+        → SparesUnserved bytes may_leave device (device_at stage) input left r
     spared_in input left before after (Ok u) so = tt
     spared_in input left before after (Err Ending.schema) so = spared_at so.2 so.4 so.5
-    spared_in input left before after (Err Ending.read) so = tt
+    spared_in input left before after (Err Ending.read) so = (so.0, so.1, unread (ended_lines so.0) so.2 so.3)
     spared_in input left before after (Err Ending.write) so = tt

@@ -2,8 +2,10 @@
 use Rattle.std.specs.Prelude.{◌≡◌, Option, None, Some, Result, Ok, Err, List, [], ◌∷◌, ◌++◌, codes, filter_map, IfOk}
 use Rattle.std.specs.List.{flat_map, AllByRecursion}
 use Rattle.std.specs.Fmt.{decimal}
+use Rattle.std.specs.Io.KnownBytes.{Consumes}
 use Rattle.cat_base.specs.declared.refusal.Refusal.TheVariants.{Line as NoForm, Memory}
 use Rattle.cat_model.specs.Heard.{Hears}
+use Rattle.cat_model.specs.Input.{ended_lines}
 use Rattle.cat_model.specs.Lines.{line_text}
 use Rattle.cat_model.specs.Run.{IsRun, newest_commit}
 use Rattle.cat_model.specs.Served.{Ending, HeardAll, NamesFiles, Outcome, ServesBy, TellsFiles, exchange, heard, outcome_text}
@@ -21,7 +23,7 @@ use Rattle.cat_serving.specs.declared.machine.Stage.TheVariants.{Waiting, Refuse
 use Rattle.cat_serving.specs.declared.machine.Unopened.{Unopened}
 use Rattle.cat_world.specs.Histories.{GoesTold, OutlivesCrash}
 use Rattle.cat_world.specs.Opening.{BeginsIn, OpensWorld}
-use Rattle.cat_world.specs.Promises.{LeavesFiles, LeavesPromised, WorldLasts}
+use Rattle.cat_world.specs.Promises.{LeavesFiles, LeavesPromised, SparesCrash, WorldLasts}
 use Rattle.cat_world.specs.Wanting.{WantRightly, WantsRightly}
 use Rattle.cat_world.specs.Worlds.{Service, device_of, shape_of}
 
@@ -32,7 +34,7 @@ abbrev pub OpensIfShort : {D : Type 0} → (D → ToldFiles) → (D → FileName
     → Result (Service D) (Unopened D) → Type 0
 OpensIfShort bytes may_leave device None r = r ≡ Err (record { refusal = NoForm; seed = device })
 OpensIfShort bytes may_leave device (Some line) r =
-    OpensWorld bytes device line r × IfOk r (λ w. AlwaysTells bytes → LeavesNoneAhead may_leave w.ledger)
+    OpensWorld bytes may_leave device line r × IfOk r (λ w. AlwaysTells bytes → LeavesNoneAhead may_leave w.ledger)
 
 -- An unreadable line changes nothing. The reply to another is a step of every run that led here, tells no names but those of files, and
 -- want of memory only where that may be; and what it makes of commits is known by it.
@@ -94,10 +96,14 @@ abbrev pub ServesIn : {D : Type 0} → (D → ToldFiles) → (D → FileName →
     → (input rest before after : Option Text) → Result (Unit {0}) Ending → Type 0
 ServesIn bytes may_leave device left = ServesBy (IsServedIn bytes may_leave device left) (λ first e. BeginsIn (bytes device) first (Err e))
 
--- where the schema line is refused, each file is told as it was
-abbrev pub SparesRefused : {D : Type 0} → (D → ToldFiles) → (device left : D) → Result (Unit {0}) Ending → Type 0
-SparesRefused bytes device left (Err Ending.schema) = LeavesFiles bytes device left
-SparesRefused bytes device left ended = Unit {0}
+-- Where the schema line is refused, each file is told as it was, and a crash may leave no more of it than it could have. Where a read failed
+-- before any line had ended, the directory is the one that was given. The reader went from `input` to `rest`.
+abbrev pub SparesUnserved : {D : Type 0} → (D → ToldFiles) → (D → FileName → FileContent → Type 0) → (device left : D)
+    → (input rest : Option Text) → Result (Unit {0}) Ending → Type 0
+SparesUnserved bytes may_leave device left input rest (Err Ending.schema) = LeavesFiles bytes device left × SparesCrash may_leave device left
+SparesUnserved {D = D} bytes may_leave device left input rest (Err Ending.read) =
+    (read : Text) × Consumes input rest read × (ended_lines read ≡ [] → ◌≡◌ {A = D} left device)
+SparesUnserved bytes may_leave device left input rest ended = Unit {0}
 
 -- the directory of a stage: of one that stands open, the world's
 abbrev pub device_at : {D : Type 0} → Stage (Service D) D → D

@@ -1,7 +1,7 @@
 //! Lines that are served over a directory.
 ghost use Rattle.std.specs.Prelude.{◌≡◌};
 ghost use Rattle.cat_serving.specs.Serving.{ended_as};
-ghost use Rattle.cat_world.specs.Serving.{ServesIn, SparesRefused, StageLasts, StageOutlives, device_at};
+ghost use Rattle.cat_world.specs.Serving.{ServesIn, SparesUnserved, StageLasts, StageOutlives, device_at};
 
 use crate::world::World;
 use cat_directory::{Directory, Shelf};
@@ -43,7 +43,8 @@ fn device_left<D: Directory + Shelf>(stage: Stage<World<D>, D>) -> D
 /// the run has recorded, held ones too, and of every commit that it keeps, with the table of each. Where the directory always
 /// tells of its files, a crash leaves those of the newest commit byte for byte: the commit that was opened, or that the last
 /// COMMIT was answered. What is found after the crash is that commit, or one of a COMMIT that was refused after it; and once the
-/// files of these are taken away, it is that commit. Where the schema line is refused, the files are as they were.
+/// files of these are taken away, it is that commit. Where the schema line is refused, the files are as they were, also in whatever a
+/// crash may leave; and where a read failed before any line had ended, the directory is untouched.
 ///
 /// It flushes before each read, so that a client which waits for a reply has it. Its two buffers are taken before the first line
 /// is read, and replies are written without taking memory. The reader is called at most 4,294,967,295 times.
@@ -55,7 +56,8 @@ pub fn serve<D: Directory + Shelf, R: Read, W: Write>(
 ) -> Left<D>
     ensures served { ServesIn D.bytes D.may_leave device result.device (R.remaining reader.old) (R.remaining reader.new)
         (W.contents writer.old) (W.contents writer.new) (ended_as result.ended) }
-    ensures spared { SparesRefused D.bytes device result.device (ended_as result.ended) }
+    ensures spared { SparesUnserved D.bytes D.may_leave device result.device (R.remaining reader.old) (R.remaining reader.new)
+        (ended_as result.ended) }
 {
     let served = serve_machine::<World<D>, R, W>(alloc, device, reader, writer);
     Left {
