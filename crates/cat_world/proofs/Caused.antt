@@ -6,7 +6,9 @@ use Rattle.std.proofs.lemmas.Bool.Decides.{eqb_tells}
 use Rattle.cat_base.specs.declared.refusal.Refusal.{Refusal}
 use Rattle.cat_base.specs.declared.refusal.Refusal.TheVariants.{Damaged, Device, Kind as WrongKind, Large, Line as NoForm, Spent}
 use Rattle.cat_model.specs.Forms.{is_plain_byte}
+use Rattle.cat_model.specs.Answer.{Read}
 use Rattle.cat_model.specs.Heard.{commit_text_of}
+use Rattle.cat_model.specs.Item.{Schema}
 use Rattle.cat_model.specs.Limits.{buffer_limit, commit_text_limit, last_number}
 use Rattle.cat_model.specs.Lines.{Said}
 use Rattle.cat_model.specs.Run.{Answer, Chore, Command, News, Reply}
@@ -33,7 +35,8 @@ use Rattle.cat_replies.specs.Reply.{answer_of, reply_of}
 use Rattle.cat_replies.specs.declared.answer.Answer as code
 use Rattle.cat_search.specs.Holds.{Hold}
 use Rattle.cat_search.specs.Sources.{HoldsSource, TellsSource}
-use Rattle.cat_world.specs.Causes.{HasCause, IsDamagedTo, IsSpentTo, MayFailTo, TakesNumbers, TellsSo}
+use Rattle.cat_world.specs.Causes.{FailsBy, HasCause, IsDamagedTo, IsSpentTo, MayFailTo, TakesNumbers, TellsSo}
+use Rattle.cat_world.specs.Lines.{IsCommandOf}
 use Rattle.cat_world.specs.Worlds.{IsCarried, Service}
 
 -- ---- replies
@@ -233,3 +236,58 @@ module _ {D : Type 0} (bytes : D → ToldFiles) (can_fail : D → Type 0) (old :
           → IfOk result (λ a. Tells sets (shape_in old) chore (answer_of a)) → (session ≡ 0 → IfErr result (MayRefuse (policy_in old) (shape_in old) chore))
           → IfErr result (λ e. e ≡ Device → FailsFor chore (shape_in old).merging (can_fail (device_in old))) → Causes (Said.chore (chore_of chore))
       chore_caused sets chore answers told may device = refuses chore may device (maintain_told sets chore result (λ k. (foreign k).0) answers told)
+
+-- ---- of commands
+
+-- the command that is said may be told of a failure where what is said may be
+pub failing_by : {D : Type 0} (can_fail : D → Type 0) (device : D) (s : Shape) (schema : Schema) (said : Option Said) (c : Command)
+    → IsCommandOf schema said c → MayFailTo can_fail device s said → FailsBy (can_fail device) c
+failing_by can_fail device s schema None c is m = subst (FailsBy (can_fail device)) (sym is) tt
+failing_by can_fail device s schema (Some (Said.put text)) c is m = subst (FailsBy (can_fail device)) (sym is) m
+failing_by can_fail device s schema (Some (Said.delete text)) c is m = subst (FailsBy (can_fail device)) (sym is) tt
+failing_by can_fail device s schema (Some (Said.delete_where text)) c is m = subst (FailsBy (can_fail device)) (sym is.2) tt
+failing_by can_fail device s schema (Some Said.refresh) c is m = subst (FailsBy (can_fail device)) (sym is) m
+failing_by can_fail device s schema (Some Said.open_newest) c is m = subst (FailsBy (can_fail device)) (sym is) tt
+failing_by can_fail device s schema (Some (Said.open_at t)) c is m = subst (FailsBy (can_fail device)) (sym is) tt
+failing_by can_fail device s schema (Some (Said.close t)) c is m = subst (FailsBy (can_fail device)) (sym is) tt
+failing_by can_fail device s schema (Some (Said.find t n sort mark text)) c is m = subst (FailsBy (can_fail device)) (sym is.2) tt
+failing_by can_fail device s schema (Some (Said.facets t dim n text)) c is m = subst (FailsBy (can_fail device)) (sym is.2) tt
+failing_by can_fail device s schema (Some (Said.get t text)) c is m = subst (FailsBy (can_fail device)) (sym is) m
+failing_by can_fail device s schema (Some (Said.files_of_token t)) c is m = subst (FailsBy (can_fail device)) (sym is) tt
+failing_by can_fail device s schema (Some (Said.files_of_commit g)) c is m = subst (FailsBy (can_fail device)) (sym is) tt
+failing_by can_fail device s schema (Some (Said.commit text)) c is m = subst (FailsBy (can_fail device)) (sym is) m
+failing_by can_fail device s schema (Some (Said.text_of_commit g)) c is m = subst (FailsBy (can_fail device)) (sym is) tt
+failing_by can_fail device s schema (Some Said.snapshot) c is m = subst (FailsBy (can_fail device)) (sym is) tt
+failing_by can_fail device s schema (Some (Said.release_snapshot g)) c is m = subst (FailsBy (can_fail device)) (sym is) tt
+failing_by can_fail device s schema (Some (Said.prune n)) c is m = subst (FailsBy (can_fail device)) (sym is) tt
+failing_by can_fail device s schema (Some (Said.chore Chore.merge)) c is m = subst (FailsBy (can_fail device)) (sym is) tt
+failing_by can_fail device s schema (Some (Said.chore Chore.force)) c is m = subst (FailsBy (can_fail device)) (sym is) m
+failing_by can_fail device s schema (Some (Said.chore Chore.sweep)) c is m = subst (FailsBy (can_fail device)) (sym is) m
+failing_by can_fail device s schema (Some (Said.chore Chore.warm)) c is m = subst (FailsBy (can_fail device)) (sym is) tt
+failing_by can_fail device s schema (Some (Said.chore Chore.stat)) c is m = subst (FailsBy (can_fail device)) (sym is) tt
+
+-- what may fail where the one does may fail where the other does
+pub failing_on : (A B : Type 0) → (A → B) → (c : Command) → FailsBy A c → FailsBy B c
+failing_on A B f Command.formless m = tt
+failing_on A B f (Command.put item) m = f m
+failing_on A B f (Command.delete id) m = tt
+failing_on A B f (Command.delete_where q) m = tt
+failing_on A B f Command.refresh m = f m
+failing_on A B f Command.open_newest m = tt
+failing_on A B f (Command.open_at t) m = tt
+failing_on A B f (Command.close t) m = tt
+failing_on A B f (Command.read t (Read.find n sort mark q)) m = tt
+failing_on A B f (Command.read t (Read.facets dim n q)) m = tt
+failing_on A B f (Command.read t (Read.get id)) m = f m
+failing_on A B f (Command.prune n) m = tt
+failing_on A B f (Command.commit text) m = f m
+failing_on A B f Command.snapshot m = tt
+failing_on A B f (Command.release_snapshot g) m = tt
+failing_on A B f (Command.files_of_token t) m = tt
+failing_on A B f (Command.files_of_commit g) m = tt
+failing_on A B f (Command.text_of_commit g) m = tt
+failing_on A B f (Command.chore Chore.merge) m = tt
+failing_on A B f (Command.chore Chore.force) m = f m
+failing_on A B f (Command.chore Chore.warm) m = tt
+failing_on A B f (Command.chore Chore.sweep) m = f m
+failing_on A B f (Command.chore Chore.stat) m = tt

@@ -168,22 +168,22 @@ module _ {D : Type 0} (left : D → FileName → FileContent → Type 0) where
   -- ---- lines that were served
 
   -- what was told of lines one after another are calls of the ledger
-  pub tolds_are_calls : (bytes : D → ToldFiles) (old new : Service D) (lines : List (Option Text)) (tolds : List Outcome)
+  pub tolds_are_calls : (bytes : D → ToldFiles) (can_fail : D → Type 0) (old new : Service D) (lines : List (Option Text)) (tolds : List Outcome)
       → Steps (StepsIfShort bytes left) old lines tolds new
       → (calls : List (Call D)) × MakeTold tolds (events_of calls) × IsHistory left old.ledger calls new.ledger
-  tolds_are_calls bytes old new [] [] same = ([], tt, ap (λ (w : Service D). w.ledger) same)
-  tolds_are_calls bytes old new [] (told ∷ tolds) steps = absurd steps
-  tolds_are_calls bytes old new (line ∷ lines) [] steps = absurd steps
-  tolds_are_calls bytes old new (line ∷ lines) (told ∷ tolds) (mid, step, steps) =
+  tolds_are_calls bytes can_fail old new [] [] same = ([], tt, ap (λ (w : Service D). w.ledger) same)
+  tolds_are_calls bytes can_fail old new [] (told ∷ tolds) steps = absurd steps
+  tolds_are_calls bytes can_fail old new (line ∷ lines) [] steps = absurd steps
+  tolds_are_calls bytes can_fail old new (line ∷ lines) (told ∷ tolds) (mid, step, steps) =
       let one = by line told step in
-      let rest = tolds_are_calls bytes mid new lines tolds steps in
+      let rest = tolds_are_calls bytes can_fail mid new lines tolds steps in
       let call : Call D = record { event = one.0; after = mid.ledger } in
       (call ∷ rest.0, (one.1, rest.1), (one.2, rest.2))
     where
       unread : mid ≡ old → (event : Event) × (event ≡ Event.Other) × Goes left event old.ledger mid.ledger
       unread same = (Event.Other, refl, subst (λ (w : Service D). Goes left Event.Other old.ledger w.ledger) (sym same) (stays old.ledger))
 
-      by : (line : Option Text) (told : Outcome) → StepsIfShort bytes left old line told mid
+      by : (line : Option Text) (told : Outcome) → StepsIfShort bytes left can_fail old line told mid
           → (event : Event) × MakesTold told event × Goes left event old.ledger mid.ledger
       by None Outcome.unreadable step = unread step.1
       by None (Outcome.replied e) step = absurd (let no : Outcome.replied e ≡ Outcome.unreadable = step.0 in cc)

@@ -7,6 +7,7 @@ ghost use Rattle.cat_model.specs.Text.{Text};
 ghost use Rattle.cat_ledger.specs.Histories.{LeavesNoneAhead};
 ghost use Rattle.cat_ledger.specs.Lasting.{AlwaysTells};
 ghost use Rattle.cat_world.specs.Opening.{OpensWorld};
+ghost use Rattle.cat_world.specs.Worlds.{device_of};
 
 use crate::world::World;
 use cat_base::{MAX_LINE_BYTES, Refusal};
@@ -58,6 +59,7 @@ impl<D: Directory + Shelf> World<D> {
     pub fn open(alloc: Global, device: D, line: &str) -> Result<World<D>, Unopened<D>>
         ensures opens { OpensWorld D.bytes D.may_leave device line.now result }
         ensures ahead { IfOk result (λ w. AlwaysTells D.bytes → LeavesNoneAhead D.may_leave w.ledger) }
+        ensures can { IfOk result (λ w. D.can_fail (device_of w) → D.can_fail device) }
     {
         if MAX_LINE_BYTES < line.len() {
             return Err(Unopened {

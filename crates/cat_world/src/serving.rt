@@ -38,7 +38,8 @@ fn device_left<D: Directory + Shelf>(stage: Stage<World<D>, D>) -> D
 /// Answers each line of the reader: the first opens the newest commit of the directory, or an empty catalogue where there is
 /// none, and the others are its sessions'.
 ///
-/// What it writes is the text of a run that fits the lines, and nothing else; where a directory doesn't tell of its files, the
+/// What it writes is the text of a run that fits the lines, and nothing else, and of a directory that can't fail it says to no line but
+/// a MERGE that it did; where a directory doesn't tell of its files, the
 /// text of a stored item alone may be another of that length. In the directory that is left stand the files of every token that
 /// the run has recorded, held ones too, and of every commit that it keeps, with the table of each. Where the directory always
 /// tells of its files, a crash leaves those of the newest commit byte for byte: the commit that was opened, or that the last
@@ -54,7 +55,7 @@ pub fn serve<D: Directory + Shelf, R: Read, W: Write>(
     reader: &mut R,
     writer: &mut W,
 ) -> Left<D>
-    ensures served { ServesIn D.bytes D.may_leave device result.device (R.remaining reader.old) (R.remaining reader.new)
+    ensures served { ServesIn D.bytes D.may_leave D.can_fail device result.device (R.remaining reader.old) (R.remaining reader.new)
         (W.contents writer.old) (W.contents writer.new) (ended_as result.ended) }
     ensures spared { SparesUnserved D.bytes D.may_leave device result.device (R.remaining reader.old) (R.remaining reader.new)
         (ended_as result.ended) }
