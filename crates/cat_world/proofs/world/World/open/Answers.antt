@@ -42,6 +42,9 @@ returns-in-Ok-open-clause-opens g c =
 pub returns-in-Ok-open-clause-ahead : goal.returns-in-Ok-open-clause-ahead
 returns-in-Ok-open-clause-ahead g c = c.in-Ok-open.ensures.ahead
 
+pub returns-in-Ok-open-clause-can : goal.returns-in-Ok-open-clause-can
+returns-in-Ok-open-clause-can g c = c.in-Ok-open.ensures.can
+
 pub returns-in-Err-open-clause-opens : goal.returns-in-Err-open-clause-opens
 returns-in-Err-open-clause-opens g c =
     let readable : IsReadable c.args.line.now = record { short = omega arith; utf8 = c.utf8.line } in
