@@ -1,5 +1,5 @@
 -- The files that are needed.
-use Rattle.std.proofs.Common.{◌≡◌, ℕ, ◌<◌, List, [], ◌∷◌, map, Bool, true, false, ◌&&◌, cond, Some, refl, sym, ◌∙◌, ap, subst, inl, inr}
+use Rattle.std.proofs.Common.{◌≡◌, ℕ, ◌<◌, List, [], ◌∷◌, length, map, Bool, true, false, ◌&&◌, cond, Some, refl, sym, ◌∙◌, ap, subst, inl, inr}
 use Rattle.std.specs.Prelude.{◌==◌, All}
 use Rattle.std.specs.List.{flat_map, list_any, AllByRecursion}
 use Rattle.std.proofs.lemmas.Bool.Decides.{eqb_tells}
@@ -9,13 +9,13 @@ use Rattle.cat_model.specs.Files.{Name}
 use Rattle.cat_model.specs.Item.{Record}
 use Rattle.cat_model.specs.Layout.{SpellsSegment}
 use Rattle.cat_model.specs.LiveFile.{SpellsLive}
-use Rattle.cat_model.specs.Run.{Run, writes, has, holds, view_tokens, commits, commit_under, found_text, is_kept, text_under}
+use Rattle.cat_model.specs.Run.{Run, writes, has, holds, view_tokens, commits, commit_under, committed_at, found_text, is_kept, text_under}
 use Rattle.cat_model.specs.State.{Commit, Hold, RecordedTable, IsCommitOf, StandsFor, has_hold, held_in, table_recorded, told_by}
 use Rattle.cat_model.specs.Table.{Opened, table}
 use Rattle.cat_model.specs.Text.{Text}
 use Rattle.cat_model.specs.View.{View}
 use Rattle.cat_model.proofs.Lists.{All-weaken, All-both, All-each}
-use Rattle.cat_ledger_model.specs.Ledger.{Listed, Ledger, LedgerCommit, IsLedger, RecordedView, commit_file, commit_shown, names_of_commit, names_of_listed, names_of_merging, names_of_portion, names_of_view, names_used, portions_in, state_of, view_shown}
+use Rattle.cat_ledger_model.specs.Ledger.{Listed, Ledger, LedgerCommit, IsLedger, IsWholeCommit, RecordedView, commit_file, commit_shown, names_of_commit, names_of_listed, names_of_merging, names_of_portion, names_of_view, names_used, portions_in, state_of, view_shown}
 use Rattle.cat_ledger_model.specs.Portions.{Portion, records_of, segment_of}
 use Rattle.cat_ledger_model.specs.Stored.{FileBytes, AreStored, HasLive, IsCommitStored, IsLiveStored, IsStored, joined_sources}
 use Rattle.cat_ledger_model.specs.Users.{users_of, times}
@@ -39,6 +39,16 @@ names_have_users : (l : Ledger) → IsLedger l → Four (Used l) (flat_map names
 names_have_users l ok =
     All-four (Used l) (flat_map names_of_portion l.portions) (flat_map names_of_view l.views) (flat_map names_of_commit l.commits) (names_of_merging l.merging)
     (All-weaken (λ q. 0 < times q (names_used l)) (Used l) (λ q h. subst (λ n. 0 < n) (sym (ok.users q)) h) (names_used l) (each_used [] (names_used l)))
+
+-- a live set has one value for each record
+abbrev IsLong : Portion → Type 0
+IsLong p = length p.live ≡ length p.records
+
+abbrev AreLong : LedgerCommit → Type 0
+AreLong c = AllByRecursion IsLong (portions_in c)
+
+all_long : (l : Ledger) → IsLedger l → AllByRecursion AreLong l.commits
+all_long l ok = All-weaken (IsWholeCommit l.schema l.count) AreLong (λ c w. w.1.portions.lengths) l.commits ok.commits
 
 module _ (told : ToldFiles) (l : Ledger) (files : FileBytes) (agrees : Agrees told files) where
   there : (q : Name) (is_so : Text → Type 0) (bytes : Text) → Used l q → files q ≡ Some bytes → is_so bytes → IsThere told l.users q is_so
@@ -79,22 +89,23 @@ module _ (told : ToldFiles) (l : Ledger) (files : FileBytes) (agrees : Agrees to
       let r = All-split (Used l) (names_of_listed x) (flat_map names_of_listed xs) used in
       (live_by x (x.file == 0) r.0.1.1 h.0, lives xs r.1 h.1)
 
-  commit : (c : LedgerCommit) → AllByRecursion (Used l) (names_of_commit c) → IsCommitStored files l.schema c → CommitStands told l.users (commit_file l.schema c) (records_of (portions_in c))
-  commit c used h = record {
+  commit : (c : LedgerCommit) → AllByRecursion IsLong (portions_in c) → AllByRecursion (Used l) (names_of_commit c) → IsCommitStored files l.schema c → CommitStands told l.users (commit_file l.schema c) (records_of (portions_in c))
+  commit c long used h = record {
     listed = c.listed;
     lists = refl;
     file = there (Name.commit c.generation) (λ bytes. SpellsCommit bytes (commit_file l.schema c)) h.commit.bytes used.0 h.commit.there h.commit.spelled;
     segments = listed c.listed used.1 h.portions;
     live = lives c.listed used.1 h.live;
+    lengths = All-unmap IsLong (λ (x : Listed). x.portion) c.listed long;
     table = refl;
   }
 
-  kept : (cs : List LedgerCommit) → AllByRecursion (Used l) (flat_map names_of_commit cs) → AllByRecursion (IsCommitStored files l.schema) cs
+  kept : (cs : List LedgerCommit) → AllByRecursion AreLong cs → AllByRecursion (Used l) (flat_map names_of_commit cs) → AllByRecursion (IsCommitStored files l.schema) cs
       → AllByRecursion (λ (c : LedgerCommit). CommitStands told l.users (commit_file l.schema c) (records_of (portions_in c))) cs
-  kept [] used h = tt
-  kept (c ∷ cs) used h =
+  kept [] long used h = tt
+  kept (c ∷ cs) long used h =
       let r = All-split (Used l) (names_of_commit c) (flat_map names_of_commit cs) used in
-      (commit c r.0 h.0, kept cs r.1 h.1)
+      (commit c long.0 r.0 h.0, kept cs long.1 r.1 h.1)
 
   -- ---- by names
 
@@ -128,15 +139,15 @@ module _ (told : ToldFiles) (l : Ledger) (files : FileBytes) (agrees : Agrees to
       let r = All-split (Used l) (names_of_view v) (flat_map names_of_view vs) used in
       All-both (IsKept told l.users) (names_of_view v) (flat_map names_of_view vs) (segments_named v.portions (segments v.portions r.0 h.0)) (views_kept vs r.1 h.1)
 
-  commits_kept : (cs : List LedgerCommit) → AllByRecursion (Used l) (flat_map names_of_commit cs) → AllByRecursion (IsCommitStored files l.schema) cs
+  commits_kept : (cs : List LedgerCommit) → AllByRecursion AreLong cs → AllByRecursion (Used l) (flat_map names_of_commit cs) → AllByRecursion (IsCommitStored files l.schema) cs
       → AllByRecursion (IsKept told l.users) (flat_map names_of_commit cs)
-  commits_kept [] used h = tt
-  commits_kept (c ∷ cs) used h =
+  commits_kept [] long used h = tt
+  commits_kept (c ∷ cs) long used h =
       let r = All-split (Used l) (names_of_commit c) (flat_map names_of_commit cs) used in
-      let k = commit c r.0 h.0 in
+      let k = commit c long.0 r.0 h.0 in
       All-both (IsKept told l.users) (names_of_commit c) (flat_map names_of_commit cs)
       (named (Name.commit c.generation) (λ bytes. SpellsCommit bytes (commit_file l.schema c)) k.file, listed_named c.listed (listed c.listed r.0.1 h.0.portions) (lives c.listed r.0.1 h.0.live))
-      (commits_kept cs r.1 h.1)
+      (commits_kept cs long.1 r.1 h.1)
 
 -- ---- of what memory has
 
@@ -148,7 +159,7 @@ needed_files_stand told s l files c =
     let vs : AllByRecursion (λ (v : RecordedView). is_view (recorded_view l.schema v)) l.views =
     All-weaken (λ (v : RecordedView). ViewStands told l.users (recorded_view l.schema v) (records_of v.portions)) (λ (v : RecordedView). is_view (recorded_view l.schema v)) (λ v h. (records_of v.portions, h)) l.views (views told l files c.agrees l.views four.views c.stored.views) in
     let cs : AllByRecursion (λ (x : LedgerCommit). is_commit (commit_file l.schema x)) l.commits =
-    All-weaken (λ (x : LedgerCommit). CommitStands told l.users (commit_file l.schema x) (records_of (portions_in x))) (λ (x : LedgerCommit). is_commit (commit_file l.schema x)) (λ x h. (records_of (portions_in x), h)) l.commits (kept told l files c.agrees l.commits four.commits c.stored.commits) in
+    All-weaken (λ (x : LedgerCommit). CommitStands told l.users (commit_file l.schema x) (records_of (portions_in x))) (λ (x : LedgerCommit). is_commit (commit_file l.schema x)) (λ x h. (records_of (portions_in x), h)) l.commits (kept told l files c.agrees l.commits (all_long l c.sound) four.commits c.stored.commits) in
     subst (λ (s : Shape). All (λ view. (rs : List Record) × ViewStands told s.users view rs) s.views × All (λ commit. (rs : List Record) × CommitStands told s.users commit rs) s.commits) c.shape (
       All-from_recursion is_view (map (recorded_view l.schema) l.views) (All-map is_view (recorded_view l.schema) l.views vs),
       All-from_recursion is_commit (map (commit_file l.schema) l.commits) (All-map is_commit (commit_file l.schema) l.commits cs),
@@ -161,7 +172,7 @@ needed_names_stand told s l files c =
       All-from_recursion (IsKept told l.users) (names_of_views (map (recorded_view l.schema) l.views))
           (subst (λ ns. AllByRecursion (IsKept told l.users) ns) (sym (views_named l.schema l.views)) (views_kept told l files c.agrees l.views four.views c.stored.views)),
       All-from_recursion (IsKept told l.users) (names_of_commits (map (commit_file l.schema) l.commits))
-          (subst (λ ns. AllByRecursion (IsKept told l.users) ns) (sym (commits_named l.schema l.commits)) (commits_kept told l files c.agrees l.commits four.commits c.stored.commits)),
+          (subst (λ ns. AllByRecursion (IsKept told l.users) ns) (sym (commits_named l.schema l.commits)) (commits_kept told l files c.agrees l.commits (all_long l c.sound) four.commits c.stored.commits)),
     )
 
 -- ---- of a run
@@ -204,22 +215,26 @@ module _ (told : ToldFiles) (from : Opened) (run : Run) (l : Ledger) (files : Fi
 
   commit_stands : (g : ℕ) → is_kept from run g ≡ true → GenerationStands told l.users from run g
   commit_stands g h =
-      let is_of : LedgerCommit → Type 0 = λ c. CommitStands told l.users (commit_file l.schema c) (records_of (portions_in c)) × (IsCommitOf from.start run (commit_shown c) × (commit_under (commits from run) c.generation ≡ Some (told_by (commit_shown c)))) in
+      let is_told : LedgerCommit → Type 0 = λ c. (commit_under (commits from run) c.generation ≡ Some (told_by (commit_shown c))) × (committed_at from run c.generation ≡ Some c.token) in
+      let is_of : LedgerCommit → Type 0 = λ c. CommitStands told l.users (commit_file l.schema c) (records_of (portions_in c)) × (IsCommitOf from.start run (commit_shown c) × is_told c) in
       let all : AllByRecursion is_of l.commits =
-      All-and (λ (c : LedgerCommit). CommitStands told l.users (commit_file l.schema c) (records_of (portions_in c))) (λ (c : LedgerCommit). IsCommitOf from.start run (commit_shown c) × (commit_under (commits from run) c.generation ≡ Some (told_by (commit_shown c)))) l.commits
-      (kept told l files agrees l.commits (names_have_users l ok).commits stored.commits)
-      (All-and (λ (c : LedgerCommit). IsCommitOf from.start run (commit_shown c)) (λ (c : LedgerCommit). commit_under (commits from run) c.generation ≡ Some (told_by (commit_shown c))) l.commits
+      All-and (λ (c : LedgerCommit). CommitStands told l.users (commit_file l.schema c) (records_of (portions_in c))) (λ (c : LedgerCommit). IsCommitOf from.start run (commit_shown c) × is_told c) l.commits
+      (kept told l files agrees l.commits (all_long l ok) (names_have_users l ok).commits stored.commits)
+      (All-and (λ (c : LedgerCommit). IsCommitOf from.start run (commit_shown c)) is_told l.commits
       (All-unmap (IsCommitOf from.start run) commit_shown l.commits stands.keeps.tables)
-      (All-unmap (λ (c : Commit). commit_under (commits from run) c.generation ≡ Some (told_by c)) commit_shown l.commits stands.keeps.texts)) in
+      (All-and (λ (c : LedgerCommit). commit_under (commits from run) c.generation ≡ Some (told_by (commit_shown c))) (λ (c : LedgerCommit). committed_at from run c.generation ≡ Some c.token) l.commits
+      (All-unmap (λ (c : Commit). commit_under (commits from run) c.generation ≡ Some (told_by c)) commit_shown l.commits stands.keeps.texts)
+      (All-unmap (λ (c : Commit). committed_at from run c.generation ≡ Some c.token) commit_shown l.commits stands.keeps.reaches))) in
       let has_one : list_any (λ (c : LedgerCommit). g == c.generation) l.commits ≡ true = sym (any_map commit_shown (λ (c : Commit). g == c.generation) l.commits) ∙ stands.keeps.kept g ∙ h in
       let x = some_that is_of (λ (c : LedgerCommit). g == c.generation) l.commits all has_one in
-      let is : g ≡ x.0.generation = equals g x.0.generation x.2 in (
-        commit_file l.schema x.0,
-        sym is,
-        sym (ap (text_under (commits from run)) is ∙ ap found_text x.1.1.1),
-        x.1.1.0.reached,
-        subst (CommitStands told l.users (commit_file l.schema x.0)) x.1.1.0.table x.1.0,
-      )
+      let is : g ≡ x.0.generation = equals g x.0.generation x.2 in record {
+        commit = commit_file l.schema x.0;
+        generation = sym is;
+        text = sym (ap (text_under (commits from run)) is ∙ ap found_text x.1.1.1.0);
+        reaches = ap (committed_at from run) is ∙ x.1.1.1.1;
+        so_far = x.1.1.0.reached;
+        stands = subst (CommitStands told l.users (commit_file l.schema x.0)) x.1.1.0.table x.1.0;
+      }
 
   promised : PromisedStand told l.users from run
   promised = record { recorded = λ t h. recorded_stands t (tokens_told t ∙ h); held = held_stands; kept = commit_stands }

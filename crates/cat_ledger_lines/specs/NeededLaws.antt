@@ -1,12 +1,12 @@
 -- The law of the files that are needed: each stands with its bytes, and each view and each commit has its table in them.
-use Rattle.std.specs.Prelude.{◌≡◌, ℕ, ◌<◌, ◌≤◌, ◌==◌, true, List, map, cond, Some, All}
+use Rattle.std.specs.Prelude.{◌≡◌, ℕ, ◌<◌, ◌≤◌, ◌==◌, true, List, length, map, cond, Some, All}
 use Rattle.std.specs.List.{AllByRecursion}
 use Rattle.cat_model.specs.CommitFile.{CommitFile, SpellsCommit}
 use Rattle.cat_model.specs.Files.{Name}
 use Rattle.cat_model.specs.Item.{Schema, Record}
 use Rattle.cat_model.specs.Layout.{SpellsSegment}
 use Rattle.cat_model.specs.LiveFile.{SpellsLive}
-use Rattle.cat_model.specs.Run.{Run, writes, now, has, holds, view_tokens, commits, is_kept, text_under}
+use Rattle.cat_model.specs.Run.{Run, writes, now, has, holds, view_tokens, commits, committed_at, is_kept, text_under}
 use Rattle.cat_model.specs.Table.{Opened, table}
 use Rattle.cat_model.specs.Text.{Text}
 use Rattle.cat_model.specs.View.{View}
@@ -46,13 +46,15 @@ pub record ViewStands (told : ToldFiles) (users : List Used) (view : View) (rs :
   pub segments : AllByRecursion (SegmentStands told users view.schema) portions
   pub table : records_of portions ≡ rs
 
--- The commit's own file stands, and those of its segments and of their live sets; and their live records are these.
+-- The commit's own file stands, and those of its segments and of their live sets, which have a value for each record; and their live
+-- records are these.
 pub record CommitStands (told : ToldFiles) (users : List Used) (commit : CommitFile) (rs : List Record) : Type 0 where
   pub listed : List Listed
   pub lists : commit.segments ≡ map listed_segment listed
   pub file : IsThere told users (Name.commit commit.generation) (λ bytes. SpellsCommit bytes commit)
   pub segments : AllByRecursion (λ x. SegmentStands told users commit.schema x.portion) listed
   pub live : AllByRecursion (LiveStands told users) listed
+  pub lengths : AllByRecursion (λ x. length x.portion.live ≡ length x.portion.records) listed
   pub table : records_of (map (λ x. x.portion) listed) ≡ rs
 
 -- ---- of what memory has
@@ -81,11 +83,15 @@ abbrev pub TokenStands : ToldFiles → List Used → Opened → Run → ℕ → 
 TokenStands told users from run t =
     (view : View) × (view.token ≡ t) × ViewStands told users view (table from.start (writes run) t)
 
--- the files of a commit of the generation stand, with its text, and have the run's table at its token
-abbrev pub GenerationStands : ToldFiles → List Used → Opened → Run → ℕ → Type 0
-GenerationStands told users from run g =
-    (commit : CommitFile) × (commit.generation ≡ g) × (commit.text ≡ text_under (commits from run) g) × (commit.token ≤ now from.start run)
-    × CommitStands told users commit (table from.start (writes run) commit.token)
+-- The files of a commit of the generation stand, with its text. Its token is the number of writes that were accepted before the COMMIT
+-- that made it, or of those that the opened one has; and the files have the run's table at it.
+pub record GenerationStands (told : ToldFiles) (users : List Used) (from : Opened) (run : Run) (g : ℕ) : Type 0 where
+  pub commit : CommitFile
+  pub generation : commit.generation ≡ g
+  pub text : commit.text ≡ text_under (commits from run) g
+  pub reaches : committed_at from run g ≡ Some commit.token
+  pub so_far : commit.token ≤ now from.start run
+  pub stands : CommitStands told users commit (table from.start (writes run) commit.token)
 
 -- The files stand of each token that is recorded, also by a session's hold, and of each commit that is kept, also by a snapshot.
 pub record PromisedStand (told : ToldFiles) (users : List Used) (from : Opened) (run : Run) : Type 0 where

@@ -10,8 +10,8 @@
 -- keeps, is nobody's promise. A COMMIT may be told any generation above those before it.
 --
 -- Each command but `formless` is what some line says (`Said` of Lines.antt), and is answered.
-use Rattle.std.specs.Prelude.{◌≡◌, ◌⊎◌, ℕ, ◌+◌, ◌-◌, ◌<◌, ◌≤◌, Bool, true, false, not, ◌&&◌, ◌||◌, ltb, max, List, [], ◌∷◌, ◌++◌, length, filter, filter_map, map, count_by, Option, Some, None, option_to_list, find, Result, Ok, Err, cond, IsTrue, ◌==◌}
-use Rattle.std.specs.List.{list_any, list_all, last_or}
+use Rattle.std.specs.Prelude.{◌≡◌, ◌⊎◌, ℕ, ◌+◌, ◌-◌, ◌<◌, ◌≤◌, Bool, true, false, not, ◌&&◌, ◌||◌, ltb, max, List, [], ◌∷◌, ◌++◌, length, filter, filter_map, map, count_by, Option, Some, None, option_map, option_to_list, find, Result, Ok, Err, cond, IsTrue, ◌==◌}
+use Rattle.std.specs.List.{cons_option, list_any, list_all, last_or}
 use Rattle.cat_base.specs.declared.refusal.Refusal.{Refusal}
 use Rattle.cat_base.specs.declared.refusal.Refusal.TheVariants.{Line as NoForm, Spent, NotHeld, Gone, Full, NoCommit, NoSnapshot, Device, Damaged, Memory}
 use Rattle.cat_model.specs.Text.{Text}
@@ -209,6 +209,33 @@ commit_by _ _ = None
 -- the commits so far, kept or not: the opened one first, where one was opened
 abbrev pub commits : Opened → Run → List CommitText
 commits from run = option_to_list from.commit ++ filter_map (λ e. commit_by e.line.command e.reply) run
+
+-- how far a commit reaches: its generation, and how many writes were accepted before it
+pub record CommitMark : Type 0 where
+  pub generation : ℕ
+  pub token : ℕ
+
+-- the mark of a commit that has n writes before it
+abbrev pub mark_of : ℕ → CommitText → CommitMark
+mark_of n c = record { generation = c.generation; token = n }
+
+-- the marks of the commits that the rest of a run made, behind its past; a COMMIT that was answered OK has all writes of its past
+abbrev pub marks_from : Start → Run → Run → List CommitMark
+marks_from start past [] = []
+marks_from start past (e ∷ rest) =
+    cons_option (option_map (mark_of (now start past)) (commit_by e.line.command e.reply)) (marks_from start (past ++ e ∷ []) rest)
+
+-- the marks of the commits so far: the opened one first, where one was opened, which has the writes of the start
+abbrev pub marks : Opened → Run → List CommitMark
+marks from run = option_to_list (option_map (mark_of from.start.token) from.commit) ++ marks_from from.start [] run
+
+-- the token of a mark that was found
+abbrev pub token_of : Option CommitMark → Option ℕ
+token_of m = option_map (λ x. x.token) m
+
+-- how many writes were accepted before the commit of this generation
+abbrev pub committed_at : Opened → Run → ℕ → Option ℕ
+committed_at from run g = token_of (find (λ m. m.generation == g) (marks from run))
 
 -- their generations
 abbrev pub generations : Opened → Run → List ℕ

@@ -8,7 +8,7 @@ use Rattle.cat_model.specs.Files.{Name}
 use Rattle.cat_model.specs.Item.{Schema}
 use Rattle.cat_model.specs.Layout.{SpellsSegment}
 use Rattle.cat_model.specs.LiveFile.{LiveRows, SpellsLive}
-use Rattle.cat_model.specs.Run.{Run, commits, is_kept, commit_under, found_text, text_under, writes}
+use Rattle.cat_model.specs.Run.{Run, commits, is_kept, commit_under, committed_at, found_text, text_under, writes}
 use Rattle.cat_model.specs.State.{Commit, IsCommitOf, told_by}
 use Rattle.cat_model.specs.Table.{CommitText, Opened, table}
 use Rattle.cat_model.specs.Text.{Text}
@@ -156,18 +156,22 @@ module _ (segments : SegmentsLaw) (lives : LiveLaw) (one_commit : CommitsLaw) (t
     whole : IsWholeCommit l.schema l.count c
     of_run : IsCommitOf from.start run (commit_shown c)
     text : commit_under (commits from run) c.generation ≡ Some (told_by (commit_shown c))
+    reaches : committed_at from run c.generation ≡ Some c.token
 
   each_kept : AllByRecursion IsKeptCommit l.commits
   each_kept =
       joined l.commits stands.carries.stored.commits stands.carries.sound.commits (All-unmap (IsCommitOf from.start run) commit_shown l.commits stands.stands.keeps.tables)
       (All-unmap (λ (c : Commit). commit_under (commits from run) c.generation ≡ Some (told_by c)) commit_shown l.commits stands.stands.keeps.texts)
+      (All-unmap (λ (c : Commit). committed_at from run c.generation ≡ Some c.token) commit_shown l.commits stands.stands.keeps.reaches)
     where
       joined : (cs : List LedgerCommit) → AllByRecursion (IsCommitStored stands.files l.schema) cs → AllByRecursion (IsWholeCommit l.schema l.count) cs
           → AllByRecursion (λ (c : LedgerCommit). IsCommitOf from.start run (commit_shown c)) cs
           → AllByRecursion (λ (c : LedgerCommit). commit_under (commits from run) c.generation ≡ Some (told_by (commit_shown c))) cs
+          → AllByRecursion (λ (c : LedgerCommit). committed_at from run c.generation ≡ Some c.token) cs
           → AllByRecursion IsKeptCommit cs
-      joined [] a b c d = tt
-      joined (x ∷ xs) a b c d = (record { stored = a.0; whole = b.0; of_run = c.0; text = d.0 }, joined xs a.1 b.1 c.1 d.1)
+      joined [] a b c d e = tt
+      joined (x ∷ xs) a b c d e =
+          (record { stored = a.0; whole = b.0; of_run = c.0; text = d.0; reaches = e.0 }, joined xs a.1 b.1 c.1 d.1 e.1)
 
   -- the kept commit, as the ledger has it
   one : (c : LedgerCommit) × (commit_file l.schema c ≡ commit) × IsKeptCommit c
@@ -251,6 +255,10 @@ module _ (segments : SegmentsLaw) (lives : LiveLaw) (one_commit : CommitsLaw) (t
     fields = b.fields ∙ sym fields ∙ ap (λ (x : CommitFile). x.schema) one.1;
     records = b.table.table ∙ ap records_of same_table ∙ one.2.of_run.table ∙ ap (table from.start (writes run)) (ap (λ (x : CommitFile). x.token) one.1);
     token = b.token ∙ ap (λ (x : CommitFile). x.token) same_commit;
+    reaches =
+        ap (committed_at from run) (sym (ap (λ (x : CommitFile). x.generation) one.1))
+        ∙ one.2.reaches
+        ∙ ap Some (ap (λ (x : CommitFile). x.token) (one.1 ∙ sym same_commit) ∙ sym b.token);
     commit_is = b.commit ∙ ap (λ (x : CommitFile). Some (record { generation = x.generation; text = x.text })) same_commit ∙ told_text;
   }
     where

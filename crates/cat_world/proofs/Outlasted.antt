@@ -110,11 +110,12 @@ module _ (told : ToldFiles) (left : FileName → FileContent → Type 0) (s : Sh
       let own = last_of_all (λ commit. (rs : List Record) × CommitStands told s.users commit rs) s.commits c
       (recursion_from_All (λ commit. (rs : List Record) × CommitStands told s.users commit rs) s.commits
       (needed_files_stand told s stands.ledger stands.files stands.carries).1) last.1 in
-      let same : k.0 ≡ c =
-      same_file told s.users tells k.0 c (table from.start (writes run) k.0.token) own.0 (k.1 ∙ sym last.2) k.4 own.1 in record {
+      let same : k.commit ≡ c =
+      same_file told s.users tells k.commit c (table from.start (writes run) k.commit.token) own.0 (k.generation ∙ sym last.2) k.stands own.1 in record {
         commit = c;
         generation = last.2;
-        text = subst (λ (x : CommitFile). x.text ≡ text_under (commits from run) g) same k.2;
-        stands = subst (λ (x : CommitFile). CommitStands told s.users x (table from.start (writes run) x.token)) same k.4;
+        text = subst (λ (x : CommitFile). x.text ≡ text_under (commits from run) g) same k.text;
+        reaches = k.reaches ∙ ap (λ (x : CommitFile). Some x.token) same;
+        stands = subst (λ (x : CommitFile). CommitStands told s.users x (table from.start (writes run) x.token)) same k.stands;
         settled = λ q is. lasts q (subst (λ o. has_name (name_of q) (needs_of o) ≡ true) (sym last.1) is);
       }

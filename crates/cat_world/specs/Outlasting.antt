@@ -1,7 +1,7 @@
 -- What a crash leaves of the newest commit of a run.
 use Rattle.std.specs.Prelude.{◌≡◌, ℕ, true, List, Some}
 use Rattle.cat_model.specs.CommitFile.{CommitFile, commit_needs}
-use Rattle.cat_model.specs.Run.{Run, commits, newest_commit, text_under, writes}
+use Rattle.cat_model.specs.Run.{Run, commits, committed_at, newest_commit, text_under, writes}
 use Rattle.cat_model.specs.Table.{Opened, table}
 use Rattle.cat_directory.specs.Devices.{FileContent, IsSettled}
 use Rattle.cat_directory.specs.Names.{name_of}
@@ -13,12 +13,14 @@ use Rattle.cat_ledger_model.specs.Users.{Used, has_name}
 use Rattle.cat_ledger_shape.specs.Ties.{ToldFiles}
 use Rattle.cat_world.specs.Worlds.{Service, device_of, shape_of}
 
--- The commit of this generation stands, with the text that the run gave it and with the run's table at its token; and a crash at this
--- moment leaves each file that it needs byte for byte as the device tells of it, and nothing else.
+-- The commit of this generation stands, with the text that the run gave it. Its token is the number of writes that were accepted before
+-- the COMMIT that made it, or of those that the opened one has; its files have the run's table at it; and a crash at this moment leaves
+-- each file that it needs byte for byte as the device tells of it, and nothing else.
 pub record Outlasts (told : ToldFiles) (left : FileName → FileContent → Type 0) (users : List Used) (from : Opened) (run : Run) (g : ℕ) : Type 0 where
   pub commit : CommitFile
   pub generation : commit.generation ≡ g
   pub text : commit.text ≡ text_under (commits from run) g
+  pub reaches : committed_at from run g ≡ Some commit.token
   pub stands : CommitStands told users commit (table from.start (writes run) commit.token)
   pub settled : (q : FileName) → has_name (name_of q) (commit_needs commit) ≡ true → IsSettled (told q) (left q)
 
