@@ -1,5 +1,5 @@
 -- What maintenance tells of a ledger, when it is refused, and which files it spares.
-use Rattle.std.specs.Prelude.{ℕ, ◌≡◌, ◌≢◌, ◌⊎◌, ◌<◌, ◌≤◌, ◌==◌, None, length, map, count_by}
+use Rattle.std.specs.Prelude.{ℕ, ◌≡◌, ◌≢◌, ◌⊎◌, ◌<◌, ◌≤◌, ◌==◌, None, Option, length, map, count_by}
 use Rattle.cat_base.specs.declared.refusal.Refusal.{Refusal}
 use Rattle.cat_base.specs.declared.refusal.Refusal.TheVariants.{Damaged, Device, Memory, Spent}
 use Rattle.cat_model.specs.Limits.{last_number}
@@ -14,7 +14,7 @@ use Rattle.cat_filters.specs.declared.news.WarmNews.{WarmNews}
 use Rattle.cat_ledger_model.specs.Ledger.{IsNew}
 use Rattle.cat_ledger_model.specs.Plans.{MergePolicy}
 use Rattle.cat_ledger_model.specs.Users.{users_of}
-use Rattle.cat_ledger_shape.specs.Shapes.{Shape}
+use Rattle.cat_ledger_shape.specs.Shapes.{MergingShape, Shape}
 use Rattle.cat_ledger_core.specs.Cores.{HasRowsLeft}
 use Rattle.cat_ledger_core.specs.Installs.{IsOfMerge}
 use Rattle.cat_upkeep.specs.Due.{IsForceDue, IsMergeDue}
@@ -90,6 +90,12 @@ pub record MayRefuseForce (s : Shape) (e : Refusal) : Type 0 where
   pub due : IsForceDue s
   pub spent : e ≡ Spent → last_number < s.next_segment
   pub left : (e ≡ Memory) ⊎ (e ≡ Device) → s.next_segment ≤ last_number
+
+-- The device can fail; or a MERGE is to copy rows, and the file that it copies to or from may be gone. Where the device can't fail, no other
+-- maintenance is told that it did.
+abbrev pub FailsFor : Chore → Option MergingShape → Type 0 → Type 0
+FailsFor Merge merging fails = HasRowsLeft merging ⊎ fails
+FailsFor chore merging fails = fails
 
 -- Maintenance that session 0 asks for may be refused so.
 abbrev pub MayRefuse : MergePolicy → Shape → Chore → Refusal → Type 0

@@ -5,12 +5,11 @@ ghost use Rattle.std.specs.Prelude.{◌≡◌, ◌≢◌, ◌⊎◌, IfOk, IfErr
 ghost use Rattle.cat_base.specs.declared.refusal.Refusal.TheVariants.{Device, Line as NoForm, Memory};
 ghost use Rattle.cat_model.specs.Lines.{Said};
 ghost use Rattle.cat_model.specs.Run as run;
-ghost use Rattle.cat_ledger_core.specs.Cores.{HasRowsLeft};
 ghost use Rattle.cat_ledger.specs.Answering.{Answers, AnswersSaid};
 ghost use Rattle.cat_ledger.specs.Histories.{Event, Goes};
 ghost use Rattle.cat_ledger.specs.Ledgers.{device_in, policy_in, shape_in};
 ghost use Rattle.cat_replies.specs.Reply.{answer_of, reply_of};
-ghost use Rattle.cat_keeping.specs.Chores.{MayRefuse, SparesUsed, Tells, chore_of, pending_in};
+ghost use Rattle.cat_keeping.specs.Chores.{FailsFor, MayRefuse, SparesUsed, Tells, chore_of, pending_in};
 
 use crate::merging::{force, merge_step};
 use crate::stats::tell_stat;
@@ -70,7 +69,7 @@ pub fn maintain<D: Directory + Shelf>(
     ensures foreign { session ≢ 0 → (result ≡ Err NoForm) × (ledger.new ≡ ledger.old) }
     ensures told { IfOk result (λ a. Tells (length filters.now.cached) (shape_in ledger.old) chore (answer_of a)) }
     ensures refusal { session ≡ 0 → IfErr result (MayRefuse (policy_in ledger.old) (shape_in ledger.old) chore) }
-    ensures device { IfErr result (λ e. e ≡ Device → HasRowsLeft (shape_in ledger.old).merging ⊎ D.can_fail (device_in ledger.old)) }
+    ensures device { IfErr result (λ e. e ≡ Device → FailsFor chore (shape_in ledger.old).merging (D.can_fail (device_in ledger.old))) }
     ensures crash { SparesUsed D.may_leave ledger.old ledger.new }
     ensures can { D.can_fail (device_in ledger.new) → D.can_fail (device_in ledger.old) }
     ensures history { Goes D.may_leave Event.Other ledger.old ledger.new }

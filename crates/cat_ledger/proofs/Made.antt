@@ -153,11 +153,12 @@ flush_still told told' told'' s mid new flush same nothing =
 
 -- a flush, and a refused call behind it
 pub left_behind : (begun : List Name) (told told' told'' : ToldFiles) (s mid new : Shape) → HasFlushed told s told' mid
-    → AllByRecursion (IsNew mid.next_segment mid.next_generation) begun → HasGivenUp begun told' mid told'' new → Makes IsLeft told s told'' new
-left_behind begun told told' told'' s mid new flush names (inl k) =
+    → has_name (Name.source mid.next_segment) begun ≡ false → AllByRecursion (IsNew mid.next_segment mid.next_generation) begun
+    → HasGivenUp begun told' mid told'' new → Makes IsLeft told s told'' new
+left_behind begun told told' told'' s mid new flush no_source names (inl k) =
     flushes_are_left told told'' s new (flush_made told told'' s new (flush_still told told' told'' s mid new flush k.0 k.1))
-left_behind begun told told' told'' s mid new flush names (inr k) =
-    flushed_are_left begun told told' told'' s mid new (flush_made told told' s mid flush) (refusals_make begun mid new told' told'' k.0 names k.1)
+left_behind begun told told' told'' s mid new flush no_source names (inr k) =
+    flushed_are_left begun told told' told'' s mid new no_source (flush_made told told' s mid flush) (refusals_make begun mid new told' told'' k.0 names k.1)
 
 -- a flush, and a call behind it that is refused and changes nothing
 pub flush_left : (told told' : ToldFiles) (s mid new : Shape) → HasFlushed told s told' mid → new ≡ mid → Makes IsLeft told s told' new

@@ -80,6 +80,7 @@ impl<D: Directory + Shelf> Ledger<D> {
         ensures crash { IfOk result (λ l. (q : FileName) → 0 < users_of (shape_in l).users (name_of q)
             → NoMore (D.may_leave device q) (D.may_leave (device_in l) q)) }
         ensures ahead { IfOk result (λ l. AlwaysTells D.bytes → LeavesNoneAhead D.may_leave l) }
+        ensures can { IfOk result (λ l. D.can_fail (device_in l) → D.can_fail device) }
         ensures damaged { IfErr result (λ e. e.refusal ≡ Damaged → IsNewestDamaged (D.bytes device) schema) }
         ensures foreign { IfErr result (λ e. e.refusal ≡ Kind → IsNewestForeign (D.bytes device) schema) }
         ensures device { IfErr result (λ e. e.refusal ≡ Device → D.can_fail device) }

@@ -5,11 +5,14 @@ ghost use Rattle.cat_base.specs.declared.refusal.Refusal.TheVariants.{Device, Me
 ghost use Rattle.cat_ledger.specs.Histories.{Event, Goes};
 ghost use Rattle.cat_ledger.specs.Ledgers.{Does, device_in, policy_in, shape_in};
 ghost use Rattle.cat_directory.specs.declared.name.FileName.{FileName};
-ghost use Rattle.std.specs.Prelude.{IfErr, IfOk, [], count_by, ◌<◌, ◌==◌, ◌≡◌, ◌⊎◌};
+ghost use Rattle.std.specs.Prelude.{IfErr, IfOk, OnOk, [], false, count_by, ◌<◌, ◌==◌, ◌≡◌, ◌⊎◌};
 ghost use Rattle.cat_ledger_model.specs.Calls.{MayLeave};
 ghost use Rattle.cat_directory.specs.Devices.{NoMore};
 ghost use Rattle.cat_directory.specs.Names.{name_of};
 ghost use Rattle.cat_ledger_model.specs.Users.{users_of};
+ghost use Rattle.cat_model.specs.Files.{Name};
+ghost use Rattle.cat_refs.specs.Counts.{IsPending, is_pending};
+ghost use Rattle.cat_refs.specs.Swept.{Swept};
 
 use crate::ledger::Ledger;
 use cat_base::Refusal;
@@ -24,6 +27,13 @@ impl<D: Directory + Shelf> Ledger<D> {
     /// [`Refusal::Memory`], with nothing done.
     pub fn sweep(&mut self) -> Result<u64, Refusal>
         ensures ok { Does D.bytes (MayLeave []) self.old self.new }
+        ensures files { Swept (shape_in self.old).users (shape_in self.new).users (D.bytes (device_in self.old)) (D.bytes (device_in self.new))
+            (D.may_leave (device_in self.old)) (D.may_leave (device_in self.new)) }
+        ensures none { OnOk result ((q : Name) → is_pending (shape_in self.new).users q ≡ false) }
+        ensures memory { IfErr result (λ e. e ≡ Memory → (shape_in self.new ≡ shape_in self.old)
+            × ((q : FileName) → D.bytes (device_in self.new) q ≡ D.bytes (device_in self.old) q)
+            × ((q : FileName) → NoMore (D.may_leave (device_in self.old) q) (D.may_leave (device_in self.new) q))) }
+        ensures stays { IfErr result (λ e. e ≡ Device → (q : FileName) × IsPending (shape_in self.new).users q) }
         ensures count { IfOk result (λ n. n ≡ count_by (λ u. u.users == 0) (shape_in self.old).users) }
         ensures used { (q : FileName) → 0 < users_of (shape_in self.old).users (name_of q)
             → D.bytes (device_in self.new) q ≡ D.bytes (device_in self.old) q }

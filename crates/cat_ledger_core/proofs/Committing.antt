@@ -1,6 +1,6 @@
 -- What a commit makes of a shape, and of what a device tells.
-use Rattle.std.proofs.Common.{◌≡◌, ℕ, ◌+◌, ◌<◌, ◌≤◌, ◌^◌, Bool, List, [], ◌∷◌, ◌++◌, filter, length, not, Some, sym, ◌∙◌, ap, ap₂, subst, arith}
-use Rattle.std.specs.List.{AllByRecursion}
+use Rattle.std.proofs.Common.{◌≡◌, ℕ, ◌+◌, ◌<◌, ◌≤◌, ◌^◌, Bool, List, [], ◌∷◌, ◌++◌, filter, length, not, Some, sym, ◌∙◌, ap, ap₂, subst, arith, inl, inr, ◌||◌, refl, false, true, cond}
+use Rattle.std.specs.List.{AllByRecursion, flat_map}
 use Rattle.cat_model.specs.Text.{Text}
 use Rattle.cat_model.specs.Item.{Schema, IsSchema}
 use Rattle.cat_model.specs.Files.{Name}
@@ -10,7 +10,7 @@ use Rattle.cat_model.specs.CommitFile.{CommitFile, IsCommitFile, SpellsCommit, c
 use Rattle.cat_model.specs.State.{stays_kept}
 use Rattle.cat_model.specs.View.{Leaf}
 use Rattle.cat_directory.specs.declared.name.FileName.TheVariants as file
-use Rattle.cat_ledger_model.specs.Users.{Used, users_of, times, Changes}
+use Rattle.cat_ledger_model.specs.Users.{Used, users_of, times, Changes, has_name}
 use Rattle.cat_ledger_shape.specs.Shapes.{ListedLive, Shape, IsShape, names_of_commits}
 use Rattle.cat_ledger_shape.specs.Steps.{IsCommitted, Leaves, listed_now, commit_now}
 use Rattle.cat_ledger_shape.specs.Ties.{ToldFiles, TellsBytes, TouchesOnly}
@@ -24,6 +24,8 @@ use Rattle.cat_listing.specs.Laws.{DraftsWriteCommits}
 use Rattle.cat_listing.specs.Unsynced.{begun}
 use Rattle.cat_ledger_core.specs.Commits.{draft_now}
 use Rattle.cat_ledger_core.proofs.Counting.{changes_join, given_after, users_undone, known_undone}
+use Rattle.cat_ledger_shape.proofs.Told.{same_again}
+use Rattle.std.specs.Prelude.{◌==◌}
 
 -- ---- the draft
 
@@ -94,6 +96,12 @@ commit_writes text s d told told' law is others own live =
 pub segments_fit : (s : Shape) → IsShape s → s.next_segment ≤ last_number + 1
 segments_fit s its = subst (λ x. x.next_segment ≤ last_number + 1) its.1 its.2.fits.1
 
+-- the commit's own file is begun
+own_begun : (s : Shape) → has_name (Name.commit s.next_generation) (names_begun s) ≡ true
+own_begun s =
+    ap (λ b. b || has_name (Name.commit s.next_generation) (flat_map (λ (x : ListedLive). cond (x.file == s.next_generation) (Name.live x.number x.file ∷ []) []) (listed_now s)))
+    (same_again (Name.commit s.next_generation))
+
 -- names were taken and given again, and those that were begun are known
 pub commit_left : (text : Text) (s : Shape) (reserved : List CommitFile) (taken given : List Name) (mid users' : List Used) → IsShape s
     → s.next_generation ≤ last_number → reserved ≡ s.commits → taken ≡ commit_needs (commit_now text s) → given ≡ commit_needs (commit_now text s)
@@ -108,6 +116,8 @@ commit_left text s reserved taken given mid users' its left room needs same taki
       users = users_undone names s.users mid users' first second;
       segments = omega arith;
       generations = omega arith;
+      one_segment = inl refl;
+      one_generation = inr (refl, own_begun s);
       left = (segments_fit s its, omega (arith, left));
       rest = ap (λ cs. record s { commits = cs; users = users'; next_generation = s.next_generation + 1 }) room;
     }

@@ -1,5 +1,5 @@
 -- What a flush makes of a shape, and of what a device tells.
-use Rattle.std.proofs.Common.{◌≡◌, ◌≢◌, ℕ, ◌+◌, ◌-◌, ◌<◌, ◌≤◌, ◌^◌, Bool, true, false, ◌||◌, cond, List, [], ◌∷◌, ◌++◌, length, map, take, replicate, Some, refl, sym, ◌∙◌, ap, ap₂, subst, arith}
+use Rattle.std.proofs.Common.{◌≡◌, ◌≢◌, ℕ, ◌+◌, ◌-◌, ◌<◌, ◌≤◌, ◌^◌, Bool, true, false, ◌||◌, cond, List, [], ◌∷◌, ◌++◌, length, map, take, replicate, Some, refl, sym, ◌∙◌, ap, ap₂, subst, arith, inl, inr}
 use Rattle.std.proofs.lemmas.Bool.{true≢false}
 use Rattle.std.proofs.Math.Seq.{take-append_seam}
 use Rattle.std.proofs.lemmas.List.{length-map, length-append}
@@ -118,6 +118,8 @@ flush_left s leaf leaves' mid users' its is left leaves taken second =
       users = users_undone (flush_begins s) s.users mid users' first second;
       segments = omega arith;
       generations = omega arith;
+      one_segment = inr (refl, has_second s.next_segment);
+      one_generation = inl refl;
       left = (omega arith, generations_fit s its);
       rest = ap (λ ls. record s { leaves = ls; users = users'; next_segment = s.next_segment + 1 }) leaves;
     }

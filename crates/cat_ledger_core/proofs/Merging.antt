@@ -1,5 +1,5 @@
 -- What the steps of a merge make of a shape.
-use Rattle.std.proofs.Common.{◌≡◌, ◌≢◌, ◌↔◌, IsTrue, not, Bool, true, false, ℕ, ◌+◌, ◌-◌, ◌<◌, ◌≤◌, ◌^◌, cond, List, [], ◌∷◌, Option, Some, None, length, take, drop, refl, sym, ◌∙◌, ap, subst, arith}
+use Rattle.std.proofs.Common.{◌≡◌, ◌≢◌, ◌↔◌, IsTrue, not, Bool, true, false, ℕ, ◌+◌, ◌-◌, ◌<◌, ◌≤◌, ◌^◌, cond, List, [], ◌∷◌, Option, Some, None, length, take, drop, refl, sym, ◌∙◌, ap, subst, arith, inl, inr, ◌||◌}
 use Rattle.std.specs.Prelude.{option_map}
 use Rattle.std.proofs.lemmas.Bool.{true≢false}
 use Rattle.cat_model.specs.Files.{Name}
@@ -21,6 +21,7 @@ use Rattle.cat_ledger_shape.proofs.Writes.{numbers_may_be_taken}
 use Rattle.cat_ledger_core.specs.Cores.{MergesUnder, HasRowsLeft}
 use Rattle.cat_ledger_core.proofs.Counting.{users_undone, known_undone}
 use Rattle.cat_ledger_core.proofs.Flushing.{at_most_one, generations_fit}
+use Rattle.cat_ledger_shape.proofs.Told.{same_number}
 
 -- ---- begun
 
@@ -94,6 +95,8 @@ begun_left s mid users' its left first second = record {
   users = users_undone (Name.source s.next_segment ∷ []) s.users mid users' first second;
   segments = omega arith;
   generations = omega arith;
+  one_segment = inr (refl, ap (λ b. b || false) (same_number s.next_segment));
+  one_generation = inl refl;
   left = (omega arith, generations_fit s its);
   rest = refl;
 }

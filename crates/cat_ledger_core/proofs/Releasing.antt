@@ -59,6 +59,8 @@ sweep_leaves s users' its same = record {
   users = same;
   segments = omega arith;
   generations = omega arith;
+  one_segment = inl refl;
+  one_generation = inl refl;
   left = (segments_fit s its, generations_fit s its);
   rest = refl;
 }

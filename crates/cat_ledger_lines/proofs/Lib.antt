@@ -9,3 +9,4 @@ pub mod RefusalAnswers
 pub mod StopAnswers
 pub mod KeptCalls
 pub mod NeededFiles
+pub mod Numbered

@@ -1,5 +1,5 @@
 -- Maintenance, lines that are stopped, and what they leave.
-use Rattle.std.proofs.Common.{◌≡◌, ℕ, ◌<◌, ◌≤◌, List, [], ◌∷◌, length, map, Bool, true, false, cond, ltb, Option, Some, None, refl, sym, ap, subst, arith, inl, inr}
+use Rattle.std.proofs.Common.{◌≡◌, ℕ, ◌<◌, ◌≤◌, List, [], ◌∷◌, length, map, Bool, true, false, cond, ltb, Option, Some, None, refl, sym, ap, subst, arith, inl, inr, ◌+◌, ◌∙◌}
 use Rattle.std.specs.Prelude.{◌⊎◌, Ok, Err, IsTrue}
 use Rattle.std.specs.List.{flat_map, last_or, AllByRecursion}
 use Rattle.std.proofs.lemmas.Bool.Decides.{nat_tests}
@@ -8,7 +8,7 @@ use Rattle.cat_model.specs.Answer.{Read, Found, stored}
 use Rattle.cat_model.specs.Limits.{last_number, buffer_limit}
 use Rattle.cat_model.specs.Run.{Chore, News, Command, Answer, Reply, may_tell, read_reply}
 use Rattle.cat_model.specs.State.{State, Commit, has_hold, is_below, newest_of, committed, table_under}
-use Rattle.cat_ledger_model.specs.Calls.{Flushes, Flushed, MayLeave}
+use Rattle.cat_ledger_model.specs.Calls.{Flushes, Flushed, MayLeave, TakesOne}
 use Rattle.cat_ledger_model.specs.Ledger.{Ledger, LedgerCommit, IsLedger, IsPast, commit_shown, names_of_portion, names_of_view, names_of_commit, names_of_merging, state_of}
 use Rattle.cat_ledger_model.specs.Replies.{Maintains, IsLeft}
 use Rattle.cat_ledger_model.proofs.Users.{All-split, All-four}
@@ -18,6 +18,8 @@ use Rattle.cat_ledger_lines.specs.LineLaws.{line_of}
 use Rattle.cat_ledger_lines.specs.StopLaws.{ChoresAnswer, SweepsTell, WarmsTell, StatsTell, StoppedCommitsAnswer, StoppedChoresAnswer, StoppedGetsAnswer, NothingIsLeft, BegunAreLeft, FlushesAreLeft, RoomIsLeft, FlushedAreLeft, EndedAreLeft}
 use Rattle.cat_ledger_lines.proofs.LineAnswers.{alike_self, answers_by, given}
 use Rattle.cat_ledger_lines.proofs.HoldAnswers.{held_as}
+use Rattle.cat_model.specs.Files.{Name}
+use Rattle.cat_ledger_model.specs.Users.{has_name}
 
 -- ---- maintenance
 
@@ -105,6 +107,8 @@ untouched l ok = record {
   users = λ q. refl;
   segments = omega arith;
   generations = omega arith;
+  one_segment = inl refl;
+  one_generation = inl refl;
   left = (ok.fits.1, ok.fits.2);
   rest = refl;
 }
@@ -117,9 +121,25 @@ room_made : (l mid : Ledger) (b : Bool) → cond b (mid ≡ l) (Flushed l mid) �
 room_made l mid true k = inl k
 room_made l mid false k = inr k
 
+-- a flush takes one number, if there was one
+flush_takes : (l mid : Ledger) → (mid ≡ l) ⊎ Flushed l mid → mid.next_segment ≤ l.next_segment + 1
+flush_takes l mid (inl k) = let same : mid.next_segment ≡ l.next_segment = ap (λ (x : Ledger). x.next_segment) k in omega (arith, same)
+flush_takes l mid (inr k) = let one : mid.next_segment ≡ l.next_segment + 1 = ap (λ (x : Ledger). x.next_segment) k.rest in omega (arith, one)
+
+-- one number is taken at most
+pub takes_one : (begun : List Name) (q : Name) (n next : ℕ) → TakesOne begun q n next → next ≤ n + 1
+takes_one begun q n next (inl k) = omega (arith, k)
+takes_one begun q n next (inr k) = omega (arith, k.0)
+
+-- and none where the file wasn't begun
+takes_none : (begun : List Name) (q : Name) (n next : ℕ) → has_name q begun ≡ false → TakesOne begun q n next → next ≡ n
+takes_none begun q n next out (inl k) = k
+takes_none begun q n next out (inr k) = absurd (let both : true ≡ false = sym k.1 ∙ out in cc)
+
 -- a flush, if there was one, with nothing begun after it
 flush_left : (l mid : Ledger) → IsLedger mid → (mid ≡ l) ⊎ Flushed l mid → IsLeft l mid
-flush_left l mid ok f = record { flushed = mid; ended = mid; begun = []; flush = f; merge = inl refl; rest = untouched mid ok }
+flush_left l mid ok f =
+    record { flushed = mid; ended = mid; begun = []; flush = f; merge = inl refl; one_segment = flush_takes l mid f; rest = untouched mid ok }
 
 pub nothing_is_left : NothingIsLeft
 nothing_is_left told told' s new still l files c =
@@ -127,7 +147,15 @@ nothing_is_left told told' s new still l files c =
     (x.0, x.1, flush_left l x.0 x.3.sound (inl x.2), x.3)
 
 pub begun_are_left : BegunAreLeft
-begun_are_left begun told told' s new = makes_of (MayLeave begun) IsLeft told told' s new (λ l l' e k. record { flushed = l; ended = l; begun = begun; flush = inl refl; merge = inl refl; rest = k })
+begun_are_left begun told told' s new = makes_of (MayLeave begun) IsLeft told told' s new (λ l l' e k. record {
+  flushed = l;
+  ended = l;
+  begun = begun;
+  flush = inl refl;
+  merge = inl refl;
+  one_segment = takes_one begun (Name.source l.next_segment) l.next_segment l'.next_segment k.one_segment;
+  rest = k;
+})
 
 pub flushes_are_left : FlushesAreLeft
 flushes_are_left told told' s new m l files c =
@@ -140,12 +168,28 @@ room_is_left told told' s new m l files c =
     (x.0, x.1, flush_left l x.0 x.3.sound (room_made l x.0 (ltb (length l.buffered) buffer_limit) x.2), x.3)
 
 pub flushed_are_left : FlushedAreLeft
-flushed_are_left begun told told' told'' s mid new first second l files c =
+flushed_are_left begun told told' told'' s mid new none_begun first second l files c =
     let x = first l files c in
     let y = second x.0 x.1 x.3 in
-    (y.0, y.1, record { flushed = x.0; ended = x.0; begun = begun; flush = flush_made l x.0 x.2; merge = inl refl; rest = y.2 }, y.3)
+    let flush = flush_made l x.0 x.2 in
+    let at_mid : mid.next_segment ≡ x.0.next_segment = ap (λ (s : Shape). s.next_segment) (sym x.3.shape) in
+    let none : has_name (Name.source x.0.next_segment) begun ≡ false = subst (λ n. has_name (Name.source n) begun ≡ false) at_mid none_begun in
+    let still : y.0.next_segment ≡ x.0.next_segment =
+    takes_none begun (Name.source x.0.next_segment) x.0.next_segment y.0.next_segment none y.2.one_segment in
+    let one : x.0.next_segment ≤ l.next_segment + 1 = flush_takes l x.0 flush in (
+      y.0,
+      y.1,
+      record { flushed = x.0; ended = x.0; begun = begun; flush = flush; merge = inl refl; one_segment = omega (arith, still, one); rest = y.2 },
+      y.3,
+    )
 
 pub ended_are_left : EndedAreLeft
 ended_are_left m told told' s new call l files c =
     let x = call l files c in
-    (x.0, x.1, record { flushed = l; ended = x.0; begun = []; flush = inl refl; merge = inr (x.2.0, x.2.2); rest = untouched x.0 x.3.sound }, x.3)
+    let same : x.0.next_segment ≡ l.next_segment = ap (λ (y : Ledger). y.next_segment) x.2.2.rest in
+    let one : x.0.next_segment ≤ l.next_segment + 1 = omega (arith, same) in (
+      x.0,
+      x.1,
+      record { flushed = l; ended = x.0; begun = []; flush = inl refl; merge = inr (x.2.0, x.2.2); one_segment = one; rest = untouched x.0 x.3.sound },
+      x.3,
+    )

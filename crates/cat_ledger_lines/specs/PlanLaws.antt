@@ -1,17 +1,21 @@
 -- The laws of when segments are merged, over shapes.
-use Rattle.std.specs.Prelude.{◌≡◌, ◌≢◌, ℕ, ◌+◌, ◌≤◌, Bool, List, length, map, take, drop, Some, None}
+use Rattle.std.specs.Prelude.{◌≡◌, ◌≢◌, ℕ, ◌+◌, ◌<◌, ◌≤◌, Bool, List, length, map, take, drop, Some, None, Ok}
 use Rattle.cat_model.specs.Limits.{row_limit}
 use Rattle.cat_model.specs.Merged.{rows_of_all}
-use Rattle.cat_model.specs.Run.{Chore, News}
+use Rattle.cat_model.specs.Run.{Answer, Chore, Command, News}
 use Rattle.cat_model.specs.View.{Leaf}
 use Rattle.cat_model.specs.Window.{IsWindow}
 use Rattle.cat_ledger_model.specs.Calls.{Begun, Copied, Installed}
+use Rattle.cat_ledger_model.specs.Ledger.{Ledger}
 use Rattle.cat_ledger_model.specs.Plans.{MergePolicy, MayBeForced}
 use Rattle.cat_ledger_model.specs.Replies.{Maintains}
+use Rattle.cat_ledger_model.specs.Stored.{FileBytes}
 use Rattle.cat_ledger_shape.specs.Shapes.{MergingShape, Shape}
 use Rattle.cat_ledger_shape.specs.Steps.{passed_on}
-use Rattle.cat_ledger_shape.specs.Ties.{ToldFiles, Makes, TouchesNothing}
+use Rattle.cat_ledger_shape.specs.Ties.{Carries, ToldFiles, Makes, TouchesNothing}
 use Rattle.cat_ledger_shape.specs.MergeLaws.{OfMerge}
+use Rattle.cat_ledger_lines.specs.LineLaws.{line_of}
+use Rattle.cat_ledger_lines.specs.RunLaws.{Answers}
 
 -- how many rows each leaf has, deleted ones counted, and which of them are live
 abbrev pub sizes_in : List Leaf → List ℕ
@@ -75,3 +79,30 @@ WindowsFit =
 abbrev pub ForcedFit : Type 0
 ForcedFit = (leaves : List Leaf) → MayBeForced (sizes_in leaves) (live_sets_in leaves)
     → length (rows_of_all (take (length leaves) (drop 0 leaves))) ≤ row_limit
+
+-- ---- what is told is so
+
+-- What MERGE tells is so of memory: it had nothing to do, began the merge of the window, passed more rows of the one in the making, or ended it.
+abbrev pub TellsMerge : MergePolicy → Shape → News → Type 0
+TellsMerge policy s News.idle = (s.merging ≡ None) × IsWindow policy.factor policy.least (sizes_in s.leaves) None
+TellsMerge policy s (News.begun_merge k) =
+    (s.merging ≡ None) × (k ≡ policy.factor) × (index : ℕ) × IsWindow policy.factor policy.least (sizes_in s.leaves) (Some index)
+TellsMerge policy s (News.copied n) =
+    (m : MergingShape) × (s.merging ≡ Some m) × (m.passed < length (rows_of_all m.inputs)) × (n ≡ (passed_on m).passed)
+TellsMerge policy s News.done = (m : MergingShape) × (s.merging ≡ Some m) × (m.passed ≡ length (rows_of_all m.inputs))
+TellsMerge policy s n = ⊥
+
+-- And what FORCE tells: it had nothing to do, a merge is in the making, or it began that of all segments.
+abbrev pub TellsForce : Shape → News → Type 0
+TellsForce s News.idle = (s.merging ≡ None) × (MayBeForced (sizes_in s.leaves) (live_sets_in s.leaves) → ⊥)
+TellsForce s News.busy = s.merging ≢ None
+TellsForce s (News.begun_merge k) =
+    (s.merging ≡ None) × (k ≡ length s.leaves) × MayBeForced (sizes_in s.leaves) (live_sets_in s.leaves)
+TellsForce s n = ⊥
+
+-- So it is with what answers their lines, where some ledger is carried.
+abbrev pub MergesTell : Type 0
+MergesTell =
+    (policy : MergePolicy) (told told' : ToldFiles) (s new : Shape) (n : News) (l : Ledger) (files : FileBytes) → Carries told s l files
+    → (Answers policy told s (line_of 0 (Command.chore Chore.merge)) (Ok (Answer.news n)) told' new → TellsMerge policy s n)
+    × (Answers policy told s (line_of 0 (Command.chore Chore.force)) (Ok (Answer.news n)) told' new → TellsForce s n)

@@ -1,5 +1,5 @@
 -- The laws of what an answered line leaves as it was, where some ledger is carried: who serves lines keeps its own state by them.
-use Rattle.std.specs.Prelude.{◌≡◌, ℕ, Bool, true, false}
+use Rattle.std.specs.Prelude.{◌≡◌, ℕ, ◌+◌, ◌≤◌, Bool, true, false}
 use Rattle.cat_model.specs.Run.{Command, Line, Reply}
 use Rattle.cat_model.specs.State.{held_in}
 use Rattle.cat_model.specs.View.{View}
@@ -36,3 +36,15 @@ HeldViewsStay =
     (policy : MergePolicy) (told told' : ToldFiles) (s new : Shape) (line : Line) (reply : Reply) (l : Ledger) (files : FileBytes)
     → Carries told s l files → Answers policy told s line reply told' new
     → (t : ℕ) (view : View) → held_in s.holds t ≡ true → IsRecordedAs s.views t view → IsRecordedAs new.views t view
+
+-- A number that comes next is the same, or one more.
+abbrev pub IsOneMoreAtMost : ℕ → ℕ → Type 0
+IsOneMoreAtMost n next = (n ≤ next) × (next ≤ n + 1)
+
+-- A line takes the number of one segment at most, and one generation, whatever it is answered: so what refuses lines uses up no numbers
+-- beyond that.
+abbrev pub NumbersRise : Type 0
+NumbersRise =
+    (policy : MergePolicy) (told told' : ToldFiles) (s new : Shape) (line : Line) (reply : Reply) (l : Ledger) (files : FileBytes)
+    → Carries told s l files → Answers policy told s line reply told' new
+    → IsOneMoreAtMost s.next_segment new.next_segment × IsOneMoreAtMost s.next_generation new.next_generation

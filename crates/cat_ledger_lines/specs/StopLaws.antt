@@ -1,5 +1,5 @@
 -- The laws of maintenance, of lines that are stopped, and of what these leave.
-use Rattle.std.specs.Prelude.{◌≡◌, ℕ, ◌≤◌, true, List, [], Ok, Err, IsTrue}
+use Rattle.std.specs.Prelude.{◌≡◌, ℕ, ◌≤◌, true, List, [], Ok, Err, IsTrue, false}
 use Rattle.cat_base.specs.declared.refusal.Refusal.{Refusal}
 use Rattle.cat_model.specs.Answer.{Read}
 use Rattle.cat_model.specs.Files.{Name}
@@ -15,6 +15,7 @@ use Rattle.cat_ledger_shape.specs.Shapes.{MergingShape, Shape}
 use Rattle.cat_ledger_shape.specs.Ties.{ToldFiles, Makes}
 use Rattle.cat_ledger_lines.specs.RunLaws.{Answers}
 use Rattle.cat_ledger_lines.specs.LineLaws.{line_of, NothingChanges}
+use Rattle.cat_ledger_model.specs.Users.{has_name}
 
 -- ---- maintenance
 
@@ -76,10 +77,10 @@ FlushesAreLeft = (told told' : ToldFiles) (s new : Shape) → Makes Flushes told
 abbrev pub RoomIsLeft : Type 0
 RoomIsLeft = (told told' : ToldFiles) (s new : Shape) → Makes MakesRoom told s told' new → Makes IsLeft told s told' new
 
--- a flush, and files that were begun after it,
+-- a flush, and files that were begun after it, none of them of sources,
 abbrev pub FlushedAreLeft : Type 0
 FlushedAreLeft = (begun : List Name) (told told' told'' : ToldFiles) (s mid new : Shape)
-    → Makes Flushes told s told' mid → Makes (MayLeave begun) told' mid told'' new → Makes IsLeft told s told'' new
+    → has_name (Name.source mid.next_segment) begun ≡ false → Makes Flushes told s told' mid → Makes (MayLeave begun) told' mid told'' new → Makes IsLeft told s told'' new
 
 -- or the end of the merge in the making.
 abbrev pub EndedAreLeft : Type 0

@@ -28,7 +28,7 @@ pub use joining::{
 pub use needing::{needed_files_stand, needed_names_stand, promised_files_stand};
 pub use planning::{
     forced_fit, forces_begin, forces_rest, forces_wait, merges_are_done, merges_begin, merges_copy,
-    merges_rest, windows_fit,
+    merges_rest, merges_tell, windows_fit,
 };
 pub use reading::{
     commit_files_answer, files_answer, gets_answer, reads_answer, sources_are_whole, texts_answer,
@@ -39,7 +39,7 @@ pub use refusing::{
     snapless_unsnaps_answer, spent_commits_answer, spent_snaps_answer, spent_writes_answer,
 };
 pub use running::{answers_are_steps, empty_stand, opened_stand};
-pub use staying::{held_views_stay, holds_stay, schema_stays};
+pub use staying::{held_views_stay, holds_stay, numbers_rise, schema_stays};
 pub use stopping::{
     begun_are_left, chores_answer, ended_are_left, flushed_are_left, flushes_are_left,
     nothing_is_left, room_is_left, stats_tell, stopped_chores_answer, stopped_commits_answer,

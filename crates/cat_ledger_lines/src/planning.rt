@@ -1,6 +1,6 @@
 //! When segments are merged.
 
-ghost use Rattle.cat_ledger_lines.specs.PlanLaws.{MergesBegin, MergesRest, MergesCopy, MergesAreDone, ForcesBegin, ForcesRest, ForcesWait, WindowsFit, ForcedFit};
+ghost use Rattle.cat_ledger_lines.specs.PlanLaws.{MergesBegin, MergesRest, MergesCopy, MergesAreDone, ForcesBegin, ForcesRest, ForcesWait, WindowsFit, ForcedFit, MergesTell};
 
 /// A merge of the window is what MERGE begins where one is found.
 ///
@@ -49,4 +49,11 @@ pub fn windows_fit()
 /// One segment can hold the rows of all, where it is of some use to merge them.
 pub fn forced_fit()
     ensures { ForcedFit }
+{}
+
+/// What MERGE and FORCE tell is so of the segments that stand, and of the merge in the making.
+///
+/// Lucene's `IndexWriter.maybeMerge` and `forceMerge` tell nothing.
+pub fn merges_tell()
+    ensures { MergesTell }
 {}

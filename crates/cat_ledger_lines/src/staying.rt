@@ -1,5 +1,5 @@
 //! What an answered line leaves as it was.
-ghost use Rattle.cat_ledger_lines.specs.StayLaws.{SchemaStays, HoldsStay, HeldViewsStay};
+ghost use Rattle.cat_ledger_lines.specs.StayLaws.{SchemaStays, HoldsStay, HeldViewsStay, NumbersRise};
 
 /// No line changes the fields.
 ///
@@ -20,4 +20,11 @@ pub fn holds_stay()
 /// Lucene's `SearcherLifetimeManager.prune` drops views in use too; here it doesn't.
 pub fn held_views_stay()
     ensures { HeldViewsStay }
+{}
+
+/// A line takes the number of one segment at most, and one generation.
+///
+/// Lucene's `SegmentInfos.counter` and `generation`.
+pub fn numbers_rise()
+    ensures { NumbersRise }
 {}

@@ -215,13 +215,20 @@ files_begun l = Name.commit l.next_generation ∷ map (λ (p : Portion). Name.li
 
 -- ---- sweeps and refusals
 
--- What a refusal may leave: names that were begun are known and have no users, numbers that were taken stay taken, and
--- nothing else changed. A sweep asks for no more: each name keeps its users, and names that nobody has are known or forgotten.
+-- The next number is the same, or one more where the file was begun that has the one before.
+abbrev pub TakesOne : List Name → Name → ℕ → ℕ → Type 0
+TakesOne begun q n next = (next ≡ n) ⊎ ((next ≡ n + 1) × (has_name q begun ≡ true))
+
+-- What a refusal may leave: names that were begun are known and have no users, numbers that were taken stay taken, of each kind
+-- one at most and only for a file that was begun, and nothing else changed. A sweep asks for no more: each name keeps its users,
+-- and names that nobody has are known or forgotten.
 pub record MayLeave (begun : List Name) (l new : Ledger) : Type 0 where
   pub known : (q : Name) → has_name q begun ≡ true → is_known new.users q ≡ true
   pub users : (q : Name) → users_of new.users q ≡ users_of l.users q
   pub segments : l.next_segment ≤ new.next_segment
   pub generations : l.next_generation ≤ new.next_generation
+  pub one_segment : TakesOne begun (Name.source l.next_segment) l.next_segment new.next_segment
+  pub one_generation : TakesOne begun (Name.commit l.next_generation) l.next_generation new.next_generation
   pub left : (new.next_segment ≤ last_number + 1) × (new.next_generation ≤ last_number + 1)
   pub rest : new ≡ record l { users = new.users; next_segment = new.next_segment; next_generation = new.next_generation }
 

@@ -92,13 +92,14 @@ CarriesOut policy l s (Command.text_of_commit g) r new =
     × (new ≡ l)
 
 -- what a command leaves that was stopped: a flush that ended stays done, the merge in the making may have ended, files that
--- were begun are known, and numbers that were taken stay taken
+-- were begun are known, and numbers that were taken stay taken, of each kind one at most
 pub record IsLeft (l new : Ledger) : Type 0 where
   pub flushed : Ledger
   pub ended : Ledger
   pub begun : List Name
   pub flush : (flushed ≡ l) ⊎ Flushed l flushed
   pub merge : (ended ≡ flushed) ⊎ ((m : Merging) × Ended m flushed ended)
+  pub one_segment : new.next_segment ≤ l.next_segment + 1
   pub rest : MayLeave begun ended new
 
 -- a COMMIT that finds no generation left is refused before it does anything

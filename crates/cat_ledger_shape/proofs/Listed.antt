@@ -23,7 +23,7 @@ use Rattle.cat_ledger_model.proofs.Commits.{AllPairs-from_Apart}
 use Rattle.cat_ledger_model.proofs.Written.{used_may_be_named}
 use Rattle.cat_ledger_shape.specs.Shapes.{ListedLive, Shape, shape_of, listed_live, names_of_commits}
 use Rattle.cat_ledger_shape.specs.Steps.{file_in, file_for, listed_now}
-use Rattle.cat_ledger_shape.specs.CommitLaws.{ListedDiffer, LiveMayBeWritten, LeavingAreCounted, NamesAreBegun}
+use Rattle.cat_ledger_shape.specs.CommitLaws.{ListedDiffer, LiveMayBeWritten, LeavingAreCounted, NamesAreBegun, names_begun}
 use Rattle.cat_ledger_shape.proofs.Leaves.{map_filter}
 use Rattle.cat_ledger_shape.proofs.Committed.{commits_named, commits_are_counted}
 
@@ -152,6 +152,21 @@ all_used g (x ∷ xs) q some h =
       | inl k ↦ or_first (has_name q names) (has_name q rest) (own_used g x q some k)
       | inr k ↦ or_second (has_name q names) (has_name q rest) (all_used g xs q some k)
     ]
+
+-- none of those that a commit begins is a file of sources
+pub no_source_begun : (s : Shape) (n : ℕ) → has_name (Name.source n) (names_begun s) ≡ false
+no_source_begun s n = none s.next_generation (listed_now s)
+  where
+    none : (g : ℕ) (xs : List ListedLive) → has_name (Name.source n) (flat_map (begun_by g) xs) ≡ false
+    none g [] = refl
+    none g (x ∷ xs) =
+        list_any-append (same_file_name (Name.source n)) (begun_by g x) (flat_map (begun_by g) xs)
+        ∙ ap (λ b. b || has_name (Name.source n) (flat_map (begun_by g) xs)) (by (x.file == g))
+        ∙ none g xs
+      where
+        by : (b : Bool) → has_name (Name.source n) (cond b (Name.live x.number x.file ∷ []) []) ≡ false
+        by true = refl
+        by false = refl
 
 pub names_are_begun : NamesAreBegun
 names_are_begun text s its =

@@ -108,7 +108,7 @@ refusal_lifts begun s new call l ok e = lifted (subst (λ s. Leaves begun s new)
     lifted c = (
       record l { users = new.users; next_segment = new.next_segment; next_generation = new.next_generation },
       sym c.rest,
-      record { known = c.known; users = c.users; segments = c.segments; generations = c.generations; left = c.left; rest = refl },
+      record { known = c.known; users = c.users; segments = c.segments; generations = c.generations; one_segment = c.one_segment; one_generation = c.one_generation; left = c.left; rest = refl },
     )
 
 refusal_sound : (begun : List Name) (l : Ledger) → KeepsSound (MayLeave begun) l

@@ -10,7 +10,7 @@ use Rattle.cat_model.specs.CommitFile.{Version, CommitFile, commit_needs}
 use Rattle.cat_model.specs.Merged.{rows_of_all, merged_leaf}
 use Rattle.cat_model.specs.State.{held_in, snapshots_in, stays_kept}
 use Rattle.cat_model.specs.View.{Leaf, View, needs}
-use Rattle.cat_ledger_model.specs.Calls.{stays_recorded, stays_pruned, same_live, all_alive}
+use Rattle.cat_ledger_model.specs.Calls.{TakesOne, stays_recorded, stays_pruned, same_live, all_alive}
 use Rattle.cat_ledger_model.specs.Leaves.{leaves_after}
 use Rattle.cat_ledger_model.specs.Users.{users_of, is_known, has_name, Changes}
 use Rattle.cat_ledger_shape.specs.Shapes.{ListedLive, MergingShape, Shape, names_of_leaves, names_of_views, names_of_commits, flushed_leaf, view_now}
@@ -182,12 +182,14 @@ pub record IsUnsnapped (g : ℕ) (s new : Shape) : Type 0 where
 
 -- ---- sweeps and refusals
 
--- What a refusal may leave: names that were begun are known and have no users, numbers that were taken stay taken, and nothing else
--- changed. A sweep asks for no more.
+-- What a refusal may leave: names that were begun are known and have no users, numbers that were taken stay taken, of each kind one at
+-- most and only for a file that was begun, and nothing else changed. A sweep asks for no more.
 pub record Leaves (begun : List Name) (s new : Shape) : Type 0 where
   pub known : (q : Name) → has_name q begun ≡ true → is_known new.users q ≡ true
   pub users : (q : Name) → users_of new.users q ≡ users_of s.users q
   pub segments : s.next_segment ≤ new.next_segment
   pub generations : s.next_generation ≤ new.next_generation
+  pub one_segment : TakesOne begun (Name.source s.next_segment) s.next_segment new.next_segment
+  pub one_generation : TakesOne begun (Name.commit s.next_generation) s.next_generation new.next_generation
   pub left : (new.next_segment ≤ last_number + 1) × (new.next_generation ≤ last_number + 1)
   pub rest : new ≡ record s { users = new.users; next_segment = new.next_segment; next_generation = new.next_generation }

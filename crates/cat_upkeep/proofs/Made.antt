@@ -1,5 +1,5 @@
 -- What steps of merges make of each ledger that is carried: the words of their contracts from those of the core's.
-use Rattle.std.proofs.Common.{◌≡◌, ℕ, ◌≤◌, List, [], ◌∷◌, length, take, drop, Bool, ◌||◌, true, false, Option, Some, None, is_some, IsTrue, inl, inr, refl, sym, ◌∙◌, ap, subst, arith}
+use Rattle.std.proofs.Common.{◌≡◌, ℕ, ◌≤◌, List, [], ◌∷◌, length, take, drop, Bool, ◌||◌, true, false, Option, Some, None, is_some, IsTrue, inl, inr, refl, sym, ◌∙◌, ap, subst, arith, ◌+◌}
 use Rattle.std.specs.Prelude.{option_map}
 use Rattle.std.proofs.lemmas.Bool.{cases_lt}
 use Rattle.cat_model.specs.Files.{Name}
@@ -26,6 +26,8 @@ use Rattle.cat_ledger_core.proofs.Merging.{passed_within}
 use Rattle.cat_ledger_lines.specs.PlanLaws.{sizes_in, live_sets_in}
 use Rattle.cat_ledger_lines.proofs.Planned.{merges_begin, merges_copy, merges_are_done, forces_begin, windows_fit, forced_fit}
 use Rattle.cat_ledger_lines.proofs.StopAnswers.{nothing_is_left, begun_are_left, ended_are_left}
+use Rattle.cat_ledger_model.specs.Calls.{TakesOne}
+use Rattle.cat_ledger_model.specs.Ledger.{Ledger}
 
 -- ---- what is left
 
@@ -54,6 +56,12 @@ one_of_two : (n : ℕ) (told told' : ToldFiles) → TouchesOnly (Name.segment n 
 one_of_two n told told' others q e =
     others q (last_of_two (same_file_name (name_of q) (Name.source n)) (same_file_name (name_of q) (Name.segment n)) e)
 
+-- no number is taken where no file was begun
+still_one : {l : Ledger} (mid new : Ledger) → mid.next_segment ≡ l.next_segment
+    → TakesOne [] (Name.source mid.next_segment) mid.next_segment new.next_segment → new.next_segment ≤ l.next_segment + 1
+still_one mid new same (inl k) = omega (arith, same, k)
+still_one mid new same (inr k) = absurd (let no : false ≡ true = k.1 in cc)
+
 -- also with names that nobody uses
 pub left_failed : (told told' : ToldFiles) (s new : Shape) → HasFailed told s told' new → Makes IsLeft told s told' new
 left_failed told told' s new k l files carried =
@@ -61,7 +69,15 @@ left_failed told told' s new k l files carried =
     let left = refusals_make [] k.mid new told' told' k.left tt (λ q e. refl) ended.0 ended.1 ended.3 in (
       left.0,
       left.1,
-      record { flushed = l; ended = ended.0; begun = []; flush = inl refl; merge = inr (ended.2.0, ended.2.2); rest = left.2 },
+      record {
+        flushed = l;
+        ended = ended.0;
+        begun = [];
+        flush = inl refl;
+        merge = inr (ended.2.0, ended.2.2);
+        one_segment = still_one ended.0 left.0 (ap (λ (x : Ledger). x.next_segment) ended.2.2.rest) left.2.one_segment;
+        rest = left.2;
+      },
       left.3,
     )
 

@@ -15,6 +15,8 @@ use Rattle.cat_directory.specs.declared.name.FileName.{FileName}
 use Rattle.cat_ledger.specs.Histories.{GoesBy}
 use Rattle.cat_ledger_shape.specs.Ties.{ToldFiles}
 use Rattle.cat_ledger_lines.specs.LineLaws.{line_of}
+use Rattle.cat_world.proofs.Caused.{failing_by}
+use Rattle.cat_world.specs.Causes.{HasCause}
 use Rattle.cat_world.specs.Lines.{IsCommandOf, StepsLine}
 use Rattle.cat_world.specs.Serving.{StepsIfShort}
 use Rattle.cat_world.specs.Worlds.{Service, device_of, shape_of}
@@ -30,9 +32,9 @@ pub open_says : (token : Option ℕ) → said_of (command.Open token) ≡ Some (
 open_says None = refl
 open_says (Some t) = refl
 
-module _ {D : Type 0} (bytes : D → ToldFiles) (may_leave : D → FileName → FileContent → Type 0) (old : Service D) where
+module _ {D : Type 0} (bytes : D → ToldFiles) (may_leave : D → FileName → FileContent → Type 0) (can_fail : D → Type 0) (old : Service D) where
   pub unheard : (line : Text) → (IsReadable line → (session : ℕ) → ShowsSession line session → ⊥)
-      → StepsIfShort bytes may_leave old (Some line) Outcome.unreadable old
+      → StepsIfShort bytes may_leave can_fail old (Some line) Outcome.unreadable old
   unheard line none = (Hears.unreadable none, refl)
 
   hears : (line : Text) (session : ℕ) (said : Option Said) (c : Command) → IsReadable line → SpellsOrShows line session said
@@ -46,8 +48,9 @@ module _ {D : Type 0} (bytes : D → ToldFiles) (may_leave : D → FileName → 
   pub heard_as : (new : Service D) (line text : Text) (session : ℕ) (said : Option Said) (reply : Reply) → text ≡ line → IsReadable line
       → SpellsOrShows text session said → (steps : StepsLine bytes session said old reply new) → (shape_of new).schema ≡ (shape_of old).schema
       → NamesFiles reply → GoesBy may_leave said reply old.ledger new.ledger
-      → StepsIfShort bytes may_leave old (Some line) (told_to session steps.0 reply) new
-  heard_as new line text session said reply same readable spells steps fields names goes = (
+      → HasCause bytes can_fail old said reply → (can_fail (device_of new) → can_fail (device_of old))
+      → StepsIfShort bytes may_leave can_fail old (Some line) (told_to session steps.0 reply) new
+  heard_as new line text session said reply same readable spells steps fields names goes cause can = (
     hears line session said steps.0 readable (subst (λ t. SpellsOrShows t session said) same spells) steps.1,
     (
       fields,
@@ -55,5 +58,7 @@ module _ {D : Type 0} (bytes : D → ToldFiles) (may_leave : D → FileName → 
       steps.2,
       (λ k. wants_rightly (bytes (device_of old)) (shape_of old) session said steps.0 steps.1 (steps.3 k)),
       goes_told may_leave old new (shape_of old).schema said steps.0 reply steps.1 goes,
+      (λ k. failing_by can_fail (device_of old) (shape_of old) (shape_of old).schema said steps.0 steps.1 (cause.device k)),
+      can,
     ),
   )

@@ -20,7 +20,8 @@ use Rattle.cat_lines.specs.declared.line.Line.{Line}
 use Rattle.cat_replies.specs.Reply.{reply_of}
 use Rattle.cat_replies.specs.declared.reply.Reply as code
 use Rattle.cat_serving.specs.Machine.{Steps}
-use Rattle.cat_world.specs.Histories.{AreSpoken, GoesTold, IsEventOf, IsSpoken, LinesAreCalls, MakeTold, Makes, MakesTold, RunsHistory, Spoken}
+use Rattle.cat_world.specs.Histories.{AreSpoken, GoesTold, HaveCauses, IsEventOf, IsSpoken, LinesAreCalls, MakeTold, Makes, MakesTold, RunsHistory, Spoken}
+use Rattle.cat_world.specs.Causes.{HasCause}
 use Rattle.cat_world.specs.Lines.{IsCommandOf}
 use Rattle.cat_world.specs.Serving.{StepsIfShort}
 use Rattle.cat_world.specs.Worlds.{Service}
@@ -98,22 +99,32 @@ module _ {D : Type 0} (left : D → FileName → FileContent → Type 0) where
   spoken_on (k ∷ ls) [] (y ∷ xs) l r x all said reply = absurd all
   spoken_on (k ∷ ls) (q ∷ rs) [] l r x all said reply = absurd all
 
-  -- no line leads nowhere
-  pub none_spoken : (w : Service D) → RunsHistory left w [] [] w
-  none_spoken w = record { spoken = []; are = tt; leads = refl }
+  module _ (bytes : D → ToldFiles) (can_fail : D → Type 0) where
+    -- one cause more
+    causes_on : (first mid : Service D) (xs : List (Spoken D)) (x : Spoken D) → IsSpoken left first xs mid → HaveCauses bytes can_fail first xs
+        → HasCause bytes can_fail mid x.said x.reply → HaveCauses bytes can_fail first (xs ++ x ∷ [])
+    causes_on first mid [] x same all cause = (subst (λ (w : Service D). HasCause bytes can_fail w x.said x.reply) same cause, tt)
+    causes_on first mid (y ∷ ys) x leads all cause = (all.0, causes_on y.after mid ys x leads.1 all.1 cause)
 
-  -- and one line more goes on
-  pub one_spoken : (old mid new : Service D) (ls : List Line) (i : ℕ) (d : Line) (rs : List code.Reply) (r : code.Reply) → i < length ls
-      → RunsHistory left old (take i ls) rs mid → GoesBy left (said_of (get_or ls i d).command) (reply_of r.answer) mid.ledger new.ledger
-      → RunsHistory left old (take (i + 1) ls) (rs ++ r ∷ []) new
-  one_spoken old mid new ls i d rs r lt before goes =
-      let x : Spoken D = record { said = said_of (get_or ls i d).command; reply = reply_of r.answer; after = new } in record {
-        spoken = before.spoken ++ x ∷ [];
-        are =
-            subst (λ ks. AreSpoken ks (rs ++ r ∷ []) (before.spoken ++ x ∷ [])) (sym (take_more ls i d lt))
-            (spoken_on (take i ls) rs before.spoken (get_or ls i d) r x before.are refl refl);
-        leads = goes_on old mid before.spoken x before.leads goes;
-      }
+    -- no line leads nowhere
+    pub none_spoken : (w : Service D) → RunsHistory bytes can_fail left w [] [] w
+    none_spoken w = record { spoken = []; are = tt; leads = refl; causes = tt }
+
+    -- and one line more goes on
+    pub one_spoken : (old mid new : Service D) (ls : List Line) (i : ℕ) (d : Line) (rs : List code.Reply) (r : code.Reply) → i < length ls
+        → RunsHistory bytes can_fail left old (take i ls) rs mid
+        → GoesBy left (said_of (get_or ls i d).command) (reply_of r.answer) mid.ledger new.ledger
+        → HasCause bytes can_fail mid (said_of (get_or ls i d).command) (reply_of r.answer)
+        → RunsHistory bytes can_fail left old (take (i + 1) ls) (rs ++ r ∷ []) new
+    one_spoken old mid new ls i d rs r lt before goes cause =
+        let x : Spoken D = record { said = said_of (get_or ls i d).command; reply = reply_of r.answer; after = new } in record {
+          spoken = before.spoken ++ x ∷ [];
+          are =
+              subst (λ ks. AreSpoken ks (rs ++ r ∷ []) (before.spoken ++ x ∷ [])) (sym (take_more ls i d lt))
+              (spoken_on (take i ls) rs before.spoken (get_or ls i d) r x before.are refl refl);
+          leads = goes_on old mid before.spoken x before.leads goes;
+          causes = causes_on old mid before.spoken x before.leads before.causes cause;
+        }
 
   -- ---- commands
 
@@ -168,22 +179,22 @@ module _ {D : Type 0} (left : D → FileName → FileContent → Type 0) where
   -- ---- lines that were served
 
   -- what was told of lines one after another are calls of the ledger
-  pub tolds_are_calls : (bytes : D → ToldFiles) (old new : Service D) (lines : List (Option Text)) (tolds : List Outcome)
+  pub tolds_are_calls : (bytes : D → ToldFiles) (can_fail : D → Type 0) (old new : Service D) (lines : List (Option Text)) (tolds : List Outcome)
       → Steps (StepsIfShort bytes left) old lines tolds new
       → (calls : List (Call D)) × MakeTold tolds (events_of calls) × IsHistory left old.ledger calls new.ledger
-  tolds_are_calls bytes old new [] [] same = ([], tt, ap (λ (w : Service D). w.ledger) same)
-  tolds_are_calls bytes old new [] (told ∷ tolds) steps = absurd steps
-  tolds_are_calls bytes old new (line ∷ lines) [] steps = absurd steps
-  tolds_are_calls bytes old new (line ∷ lines) (told ∷ tolds) (mid, step, steps) =
+  tolds_are_calls bytes can_fail old new [] [] same = ([], tt, ap (λ (w : Service D). w.ledger) same)
+  tolds_are_calls bytes can_fail old new [] (told ∷ tolds) steps = absurd steps
+  tolds_are_calls bytes can_fail old new (line ∷ lines) [] steps = absurd steps
+  tolds_are_calls bytes can_fail old new (line ∷ lines) (told ∷ tolds) (mid, step, steps) =
       let one = by line told step in
-      let rest = tolds_are_calls bytes mid new lines tolds steps in
+      let rest = tolds_are_calls bytes can_fail mid new lines tolds steps in
       let call : Call D = record { event = one.0; after = mid.ledger } in
       (call ∷ rest.0, (one.1, rest.1), (one.2, rest.2))
     where
       unread : mid ≡ old → (event : Event) × (event ≡ Event.Other) × Goes left event old.ledger mid.ledger
       unread same = (Event.Other, refl, subst (λ (w : Service D). Goes left Event.Other old.ledger w.ledger) (sym same) (stays old.ledger))
 
-      by : (line : Option Text) (told : Outcome) → StepsIfShort bytes left old line told mid
+      by : (line : Option Text) (told : Outcome) → StepsIfShort bytes left can_fail old line told mid
           → (event : Event) × MakesTold told event × Goes left event old.ledger mid.ledger
       by None Outcome.unreadable step = unread step.1
       by None (Outcome.replied e) step = absurd (let no : Outcome.replied e ≡ Outcome.unreadable = step.0 in cc)

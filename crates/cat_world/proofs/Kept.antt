@@ -13,6 +13,7 @@ use Rattle.cat_filters.specs.Filters.{Filters}
 use Rattle.cat_ledger_shape.specs.Ties.{ToldFiles}
 use Rattle.cat_ledger_lines.specs.LineLaws.{line_of}
 use Rattle.cat_ledger_lines.specs.StayLaws.{changes_holds}
+use Rattle.cat_ledger_lines.proofs.Numbered.{numbers_rise}
 use Rattle.cat_ledger_lines.proofs.KeptCalls.{held_views_stay, holds_stay, schema_stays}
 use Rattle.cat_ledger.specs.Answering.{AnswersSaid}
 use Rattle.cat_ledger.specs.Ledgers.{device_in, policy_in, shape_in}
@@ -22,6 +23,7 @@ use Rattle.cat_ledger_sets.specs.Sets.{HasSets}
 use Rattle.cat_ledger_sets.proofs.Knowing.{kept_stay}
 use Rattle.cat_ledger_sets.proofs.Right.{sets_stay}
 use Rattle.cat_holding.proofs.Counted.{rights_kept}
+use Rattle.cat_world.specs.Causes.{HasCause, TakesNumbers}
 use Rattle.cat_world.specs.Lines.{Does}
 use Rattle.cat_world.specs.Named.{TellsNeeded}
 use Rattle.cat_world.proofs.Wanted.{SaysMayWant}
@@ -68,6 +70,13 @@ module _ {D : Type 0} {f : Filters} {ks : List ReaderState} (bytes : D → ToldF
       schema_stays (policy_in old) (bytes (device_in old)) (bytes (device_in new)) (shape_in old) (shape_in new) (line_of session answered.0) reply
       w.carried.0 w.carried.1 w.carried.2 answered.2
 
+  -- one number of a segment is taken at most, and one generation
+  pub taken_numbers : IsWorld bytes old rights f ks → AnswersSaid bytes session said old reply new → TakesNumbers (shape_in old) (shape_in new)
+  taken_numbers w answered =
+      let rise = numbers_rise (policy_in old) (bytes (device_in old)) (bytes (device_in new)) (shape_in old) (shape_in new) (line_of session answered.0) reply
+      w.carried.0 w.carried.1 w.carried.2 answered.2 in
+      record { segment = rise.0; generation = rise.1 }
+
   -- the sets stay right that are kept beside it
   pub sets_on : IsWorld bytes old rights f ks → AnswersSaid bytes session said old reply new → HasSets f (shape_in new)
   sets_on w answered =
@@ -97,14 +106,17 @@ module _ {D : Type 0} {f : Filters} {ks : List ReaderState} (bytes : D → ToldF
 
 -- what an answer makes of a world that tells the names that are needed
 pub does_telling : {D : Type 0} {f : Filters} {ks : List ReaderState} (bytes : D → ToldFiles) (can_fail : D → Type 0) (session : ℕ) (said : Said) (old : Ledger D) (reply : Reply) (new : Ledger D) (rights after : List Hold)
-    → IsWorld bytes old rights f ks → AnswersSaid bytes session said old reply new → (can_fail (device_in new) → can_fail (device_in old))
+    → IsWorld bytes old rights f ks → HasCause bytes can_fail (record { ledger = old; rights = rights }) (Some said) reply
+    → AnswersSaid bytes session said old reply new → (can_fail (device_in new) → can_fail (device_in old))
     → policy_in new ≡ policy_in old → TellsNeeded (shape_in old) (Some said) reply → (reply ≡ Err Memory → SaysMayWant (bytes (device_in old)) (shape_in old) session said)
     → Does bytes can_fail session (Some said) (record { ledger = old; rights = rights }) reply (record { ledger = new; rights = after })
-does_telling bytes can_fail session said old reply new rights after w answered can policy told wanting = record {
+does_telling bytes can_fail session said old reply new rights after w cause answered can policy told wanting = record {
   answers = answered;
   told = told;
   names = names_files (bytes (device_in old)) (shape_in old) w.carried.0 w.carried.1 w.carried.2 (Some said) reply told;
   wanting = λ k. wanting k answered.0 answered.1;
+  cause = cause;
+  numbers = taken_numbers bytes session said old reply new rights w answered;
   can = can;
   schema = same_fields bytes session said old reply new rights w answered;
   policy = policy;
@@ -112,11 +124,12 @@ does_telling bytes can_fail session said old reply new rights after w answered c
 
 -- what one makes to a line that asks for no names
 pub does : {D : Type 0} {f : Filters} {ks : List ReaderState} (bytes : D → ToldFiles) (can_fail : D → Type 0) (session : ℕ) (said : Said) (old : Ledger D) (reply : Reply) (new : Ledger D) (rights after : List Hold)
-    → IsWorld bytes old rights f ks → AnswersSaid bytes session said old reply new → (can_fail (device_in new) → can_fail (device_in old))
+    → IsWorld bytes old rights f ks → HasCause bytes can_fail (record { ledger = old; rights = rights }) (Some said) reply
+    → AnswersSaid bytes session said old reply new → (can_fail (device_in new) → can_fail (device_in old))
     → policy_in new ≡ policy_in old → says_files said ≡ false → (reply ≡ Err Memory → SaysMayWant (bytes (device_in old)) (shape_in old) session said)
     → Does bytes can_fail session (Some said) (record { ledger = old; rights = rights }) reply (record { ledger = new; rights = after })
-does bytes can_fail session said old reply new rights after w answered can policy none wanting =
-    does_telling bytes can_fail session said old reply new rights after w answered can policy (
+does bytes can_fail session said old reply new rights after w cause answered can policy none wanting =
+    does_telling bytes can_fail session said old reply new rights after w cause answered can policy (
     told_none (policy_in old) (bytes (device_in old)) (bytes (device_in new)) (shape_in old) (shape_in new) session said answered.0 reply
     w.carried.0 w.carried.1 w.carried.2 answered.1 answered.2 none
     ) wanting

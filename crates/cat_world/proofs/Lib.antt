@@ -11,3 +11,4 @@ pub mod Serves
 pub mod Copied
 pub mod Ran
 pub mod Histories
+pub mod Caused

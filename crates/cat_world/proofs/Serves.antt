@@ -34,10 +34,12 @@ use Rattle.cat_serving.specs.declared.machine.Stage.TheVariants.{Open}
 use Rattle.cat_serving.specs.declared.machine.Unopened.{Unopened}
 use Rattle.cat_world.proofs.Histories.{tolds_are_calls}
 use Rattle.cat_world.proofs.Outlasted.{newest_number, newest_outlasts, own_outlasts}
+use Rattle.cat_world.proofs.Caused.{failing_on}
+use Rattle.cat_world.specs.Causes.{FailsRightly}
 use Rattle.cat_world.specs.Histories.{OutlivesCrash}
 use Rattle.cat_world.specs.Opening.{BeginsIn, OpensWorld}
-use Rattle.cat_world.specs.Promises.{LeavesFiles, LeavesPromised, WorldLasts}
-use Rattle.cat_world.specs.Serving.{AreLike, Changes, IsServedIn, OpensIfShort, ServesIn, SparesRefused, StageLasts, StageOutlives, StepsIfShort, device_at}
+use Rattle.cat_world.specs.Promises.{LeavesFiles, LeavesPromised, SparesCrash, WorldLasts}
+use Rattle.cat_world.specs.Serving.{AreLike, Changes, IsServedIn, OpensIfShort, ServesIn, SparesUnserved, StageLasts, StageOutlives, StepsIfShort, device_at}
 use Rattle.cat_world.specs.Wanting.{WantRightly}
 use Rattle.cat_world.specs.Worlds.{Service, device_of, shape_of}
 use Rattle.cat_world.proofs.Wanted.{alike_wants}
@@ -77,24 +79,25 @@ newest_of_mended g mended text own gone = record {
 
 -- ---- one world
 
-module _ {D : Type 0} (bytes : D → ToldFiles) (may_leave : D → FileName → FileContent → Type 0) where
+module _ {D : Type 0} (bytes : D → ToldFiles) (may_leave : D → FileName → FileContent → Type 0) (can_fail : D → Type 0) where
   -- what the machine does with a line that may be too long, the world does with the line
   line_if_short : (old new : Service D) (line : Text) (told : Outcome) (b : Bool) → nat_lt 10000 (length line) ≡ b
-      → StepsIfShort bytes may_leave old (if b then None else Some line) told new
-      → Hears json (shape_of old).schema line (heard told) × Changes bytes may_leave old told new
+      → StepsIfShort bytes may_leave can_fail old (if b then None else Some line) told new
+      → Hears json (shape_of old).schema line (heard told) × Changes bytes may_leave can_fail old told new
   line_if_short old new line told true long s =
-      subst (λ t. Hears json (shape_of old).schema line (heard t) × Changes bytes may_leave old t new) (sym s.0)
+      subst (λ t. Hears json (shape_of old).schema line (heard t) × Changes bytes may_leave can_fail old t new) (sym s.0)
       (Hears.unreadable (λ readable session shows. too_long line long readable), s.1)
   line_if_short old new line told false long s = s
 
-  opening_if_short : (device : D) (line : Text) (w : Service D) (b : Bool) → OpensIfShort bytes may_leave device (if b then None else Some line) (Ok w)
-      → OpensWorld bytes device line (Ok w) × (AlwaysTells bytes → LeavesNoneAhead may_leave w.ledger)
+  opening_if_short : (device : D) (line : Text) (w : Service D) (b : Bool) → OpensIfShort bytes may_leave can_fail device (if b then None else Some line) (Ok w)
+      → OpensWorld bytes may_leave device line (Ok w) × (AlwaysTells bytes → LeavesNoneAhead may_leave w.ledger)
+      × (can_fail (device_of w) → can_fail device)
   opening_if_short device line w true o =
       absurd (let no : ◌≡◌ {A = Result (Service D) (Unopened D)} (Ok w) (Err (record { refusal = NoForm; seed = device })) = o in cc)
   opening_if_short device line w false o = o
 
   refusal_if_short : (device : D) (line : Text) (u : Unopened D) (b : Bool) → nat_lt 10000 (length line) ≡ b
-      → OpensIfShort bytes may_leave device (if b then None else Some line) (Err u) → (u.refusal ≡ Memory) ⊎ BeginsIn (bytes device) line (Err u.refusal)
+      → OpensIfShort bytes may_leave can_fail device (if b then None else Some line) (Err u) → (u.refusal ≡ Memory) ⊎ BeginsIn (bytes device) line (Err u.refusal)
   refusal_if_short device line u true long o =
       let same : u ≡ record { refusal = NoForm; seed = device } = err_same u (record { refusal = NoForm; seed = device }) o in
       inr (subst (λ x. BeginsIn (bytes device) line (Err x)) (sym (ap (λ x. x.refusal) same))
@@ -105,7 +108,7 @@ module _ {D : Type 0} (bytes : D → ToldFiles) (may_leave : D → FileName → 
   refusal_if_short device line u false long o = elim o.0.0 [ inl stopped ↦ inl stopped.0 | inr begins ↦ inr begins ]
 
   -- what comes of lines behind a past run: what was told, what fits, and what is promised of the device that is left
-  pub record Goes (from : Opened) (past : Run) (lines : List Text) (outcomes : List Outcome) (left : D) (commits : List CommitFile) : Type 0 where
+  pub record Goes (fails : Type 0) (from : Opened) (past : Run) (lines : List Text) (outcomes : List Outcome) (left : D) (commits : List CommitFile) : Type 0 where
     pub fitting : List Outcome
     pub heard_all : HeardAll json from.start.schema lines outcomes
     pub is_run : IsRun from (past ++ filter_map exchange fitting)
@@ -113,6 +116,7 @@ module _ {D : Type 0} (bytes : D → ToldFiles) (may_leave : D → FileName → 
     pub same : AlwaysTells bytes → outcomes ≡ fitting
     pub wanting : WantRightly from past (filter_map exchange fitting)
     pub files : AllByRecursion TellsFiles outcomes
+    pub failing : AllByRecursion (FailsRightly fails) outcomes
     pub promised : LeavesPromised bytes may_leave left from (past ++ filter_map exchange fitting)
     pub newest : newest_generation commits ≡ newest_commit from (past ++ filter_map exchange fitting)
 
@@ -127,11 +131,11 @@ module _ {D : Type 0} (bytes : D → ToldFiles) (may_leave : D → FileName → 
   }
 
   -- the lines that the machine steps through are heard, and their exchanges go on with the run so far
-  steps_go : (from : Opened) (past : Run) (old new : Service D) (lines : List Text) (outcomes : List Outcome)
-      → WorldLasts bytes may_leave new → (shape_of old).schema ≡ from.start.schema → IsRun from past → Stands (bytes (device_of old)) (shape_of old) from past
-      → Steps (StepsIfShort bytes may_leave) old (map short_line lines) outcomes new
-      → Goes from past lines outcomes (device_of new) (shape_of new).commits
-  steps_go from past old new [] [] lasts fields run stands s = record {
+  steps_go : (fails : Type 0) (from : Opened) (past : Run) (old new : Service D) (lines : List Text) (outcomes : List Outcome)
+      → WorldLasts bytes may_leave new → (can_fail (device_of old) → fails) → (shape_of old).schema ≡ from.start.schema → IsRun from past → Stands (bytes (device_of old)) (shape_of old) from past
+      → Steps (StepsIfShort bytes may_leave can_fail) old (map short_line lines) outcomes new
+      → Goes fails from past lines outcomes (device_of new) (shape_of new).commits
+  steps_go fails from past old new [] [] lasts can fields run stands s = record {
     fitting = [];
     heard_all = tt;
     is_run = subst (IsRun from) (sym (append-nil past)) run;
@@ -139,6 +143,7 @@ module _ {D : Type 0} (bytes : D → ToldFiles) (may_leave : D → FileName → 
     same = λ tells. refl;
     wanting = tt;
     files = tt;
+    failing = tt;
     promised = subst (λ w. LeavesPromised bytes may_leave (device_of w) from (past ++ [])) (sym s)
         (subst (LeavesPromised bytes may_leave (device_of old) from) (sym (append-nil past)) (promise old from past (subst (WorldLasts bytes may_leave) s lasts) stands));
     newest =
@@ -146,11 +151,11 @@ module _ {D : Type 0} (bytes : D → ToldFiles) (may_leave : D → FileName → 
         ∙ newest_number (bytes (device_of old)) (shape_of old) from past stands
         ∙ ap (newest_commit from) (sym (append-nil past));
   }
-  steps_go from past old new [] (told ∷ outcomes) lasts fields run stands s = absurd s
-  steps_go from past old new (line ∷ lines) [] lasts fields run stands s = absurd s
-  steps_go from past old new (line ∷ lines) (Outcome.unreadable ∷ outcomes) lasts fields run stands (mid, step, steps) =
+  steps_go fails from past old new [] (told ∷ outcomes) lasts can fields run stands s = absurd s
+  steps_go fails from past old new (line ∷ lines) [] lasts can fields run stands s = absurd s
+  steps_go fails from past old new (line ∷ lines) (Outcome.unreadable ∷ outcomes) lasts can fields run stands (mid, step, steps) =
       let here = line_if_short old mid line Outcome.unreadable (nat_lt 10000 (length line)) refl step in
-      let rest = steps_go from past mid new lines outcomes lasts (ap (λ w. (shape_of w).schema) here.1 ∙ fields) run
+      let rest = steps_go fails from past mid new lines outcomes lasts (subst (λ w. can_fail (device_of w) → fails) (sym here.1) can) (ap (λ w. (shape_of w).schema) here.1 ∙ fields) run
       (subst (λ w. Stands (bytes (device_of w)) (shape_of w) from past) (sym here.1) stands) steps in record {
         fitting = Outcome.unreadable ∷ rest.fitting;
         heard_all = (subst (λ schema. Hears json schema line Heard.unreadable) fields here.0, rest.heard_all);
@@ -159,14 +164,15 @@ module _ {D : Type 0} (bytes : D → ToldFiles) (may_leave : D → FileName → 
         same = λ tells. ap (λ os. Outcome.unreadable ∷ os) (rest.same tells);
         wanting = rest.wanting;
         files = (tt, rest.files);
+        failing = (tt, rest.failing);
         promised = rest.promised;
         newest = rest.newest;
       }
-  steps_go from past old new (line ∷ lines) (Outcome.replied e ∷ outcomes) lasts fields run stands (mid, step, steps) =
+  steps_go fails from past old new (line ∷ lines) (Outcome.replied e ∷ outcomes) lasts can fields run stands (mid, step, steps) =
       let here = line_if_short old mid line (Outcome.replied e) (nat_lt 10000 (length line)) refl step in
       let next = here.1.2 from past (sym fields) run stands in
       let fit : Exchange = record { line = e.line; reply = next.0 } in
-      let rest = steps_go from (past ++ fit ∷ []) mid new lines outcomes lasts (here.1.0 ∙ fields) (runs_go_on from past fit run next.2) next.3 steps in record {
+      let rest = steps_go fails from (past ++ fit ∷ []) mid new lines outcomes lasts (λ k. can (here.1.6 k)) (here.1.0 ∙ fields) (runs_go_on from past fit run next.2) next.3 steps in record {
         fitting = Outcome.replied fit ∷ rest.fitting;
         heard_all = (subst (λ schema. Hears json schema line (Heard.a_line e.line)) fields here.0, rest.heard_all);
         is_run = subst (IsRun from) (append_assoc past (fit ∷ []) (filter_map exchange rest.fitting)) rest.is_run;
@@ -176,6 +182,7 @@ module _ {D : Type 0} (bytes : D → ToldFiles) (may_leave : D → FileName → 
             (next.1.same (λ q. tells (device_of old) q)) (rest.same tells);
         wanting = (λ k. here.1.3 (alike_wants e.reply next.0 next.1.alike k) from past (sym fields) run stands, rest.wanting);
         files = (here.1.1, rest.files);
+        failing = (λ k. failing_on (can_fail (device_of old)) fails can e.line.command (here.1.5 k), rest.failing);
         promised =
             subst (LeavesPromised bytes may_leave (device_of new) from) (append_assoc past (fit ∷ []) (filter_map exchange rest.fitting)) rest.promised;
         newest = rest.newest ∙ ap (newest_commit from) (append_assoc past (fit ∷ []) (filter_map exchange rest.fitting));
@@ -185,11 +192,11 @@ module _ {D : Type 0} (bytes : D → ToldFiles) (may_leave : D → FileName → 
 
   -- The newest commit outlives a crash after the lines that the machine stepped through.
   outlives : (opened last : Service D) (lines : List Text) (outcomes : List Outcome) (from : Opened) (run : Run)
-      → Steps (StepsIfShort bytes may_leave) opened (map short_line lines) outcomes last → AlwaysTells bytes
+      → Steps (StepsIfShort bytes may_leave can_fail) opened (map short_line lines) outcomes last → AlwaysTells bytes
       → LeavesNoneAhead may_leave opened.ledger → StageOutlives bytes may_leave (Open last) → LeavesPromised bytes may_leave (device_of last) from run
       → newest_generation (shape_of last).commits ≡ newest_commit from run → OutlivesCrash (may_leave (device_of last)) (newest_commit from run) outcomes
   outlives opened last lines outcomes from run steps always none laws promised newest =
-      let calls = tolds_are_calls may_leave bytes opened last (map short_line lines) outcomes steps in record {
+      let calls = tolds_are_calls may_leave bytes can_fail opened last (map short_line lines) outcomes steps in record {
         events = events_of calls.0;
         make = calls.1;
         found = λ image g crashed is.
@@ -205,12 +212,12 @@ module _ {D : Type 0} (bytes : D → ToldFiles) (may_leave : D → FileName → 
   -- ---- the world serves
 
   answered_in : (device : D) (first : Text) (lines : List Text) (text : Text)
-      → (a : IsAnswered (OpensIfShort bytes may_leave device) (StepsIfShort bytes may_leave) (λ w. (shape_of w).count) first lines text)
-      → WorldLasts bytes may_leave a.left → StageOutlives bytes may_leave (Open a.left) → IsServedIn bytes may_leave device (device_of a.left) first lines text
+      → (a : IsAnswered (OpensIfShort bytes may_leave can_fail device) (StepsIfShort bytes may_leave can_fail) (λ w. (shape_of w).count) first lines text)
+      → WorldLasts bytes may_leave a.left → StageOutlives bytes may_leave (Open a.left) → IsServedIn bytes may_leave can_fail device (device_of a.left) first lines text
   answered_in device first lines text a lasts laws =
       let opened = opening_if_short device first a.opened (nat_lt 10000 (length first)) a.begins in
       let opening = opened.0 in
-      let goes = steps_go opening.0 [] a.opened a.left lines a.outcomes lasts opening.2 tt opening.3 a.steps in record {
+      let goes = steps_go (can_fail device) opening.0 [] a.opened a.left lines a.outcomes lasts opened.2 opening.2 tt opening.3 a.steps in record {
         from = opening.0;
         begins = opening.1;
         tolds = a.outcomes;
@@ -221,13 +228,14 @@ module _ {D : Type 0} (bytes : D → ToldFiles) (may_leave : D → FileName → 
         same = goes.same;
         wanting = goes.wanting;
         files = goes.files;
+        failing = goes.failing;
         promised = goes.promised;
         outlives = λ always.
             outlives a.opened a.left lines a.outcomes opening.0 (filter_map exchange goes.fitting) a.steps always (opened.1 always) laws goes.promised goes.newest;
         whole = a.whole ∙ ap (λ n. opened_text n ++ flat_map outcome_text a.outcomes) (counted (bytes (device_of a.opened)) (shape_of a.opened) opening.0 opening.3);
       }
 
-  refused_in : (device : D) (first : Text) (e : Refusal) → IsRefused (OpensIfShort bytes may_leave device) first e
+  refused_in : (device : D) (first : Text) (e : Refusal) → IsRefused (OpensIfShort bytes may_leave can_fail device) first e
       → (e ≡ Memory) ⊎ BeginsIn (bytes device) first (Err e)
   refused_in device first e (back, o) = refusal_if_short device first (record { refusal = e; seed = back }) (nat_lt 10000 (length first)) refl o
 
@@ -235,13 +243,13 @@ module _ {D : Type 0} (bytes : D → ToldFiles) (may_leave : D → FileName → 
 
   module _ (device : D) (stage : Stage (Service D) D) (lasts : StageLasts bytes may_leave stage) (laws : StageOutlives bytes may_leave stage) where
     abbrev leads_to : List Text → Text → Type 0
-    leads_to = LeadsTo (OpensIfShort bytes may_leave) (StepsIfShort bytes may_leave) (λ w. (shape_of w).count) device stage
+    leads_to = LeadsTo (OpensIfShort bytes may_leave can_fail) (StepsIfShort bytes may_leave can_fail) (λ w. (shape_of w).count) device stage
 
     abbrev refused_at : List Text → Refusal → Type 0
-    refused_at = RefusedAt (OpensIfShort bytes may_leave) device stage
+    refused_at = RefusedAt (OpensIfShort bytes may_leave can_fail) device stage
 
     abbrev served : Text → List Text → Text → Type 0
-    served = IsServedIn bytes may_leave device (device_at stage)
+    served = IsServedIn bytes may_leave can_fail device (device_at stage)
 
     abbrev refuses : Text → Refusal → Type 0
     refuses first e = BeginsIn (bytes device) first (Err e)
@@ -249,7 +257,7 @@ module _ {D : Type 0} (bytes : D → ToldFiles) (may_leave : D → FileName → 
     some_answer : (lines : List Text) (text : Text) → leads_to lines text → Answered served lines text
     some_answer [] text so = so.1
     some_answer (first ∷ lines) text so =
-        subst (λ d. IsServedIn bytes may_leave device d first lines text) (sym (ap device_at so.1))
+        subst (λ d. IsServedIn bytes may_leave can_fail device d first lines text) (sym (ap device_at so.1))
         (answered_in device first lines text so.0 (subst (StageLasts bytes may_leave) so.1 lasts) (subst (StageOutlives bytes may_leave) so.1 laws))
 
     some_refusal : (lines : List Text) (e : Refusal) → refused_at lines e → Refused refuses lines e
@@ -265,32 +273,41 @@ module _ {D : Type 0} (bytes : D → ToldFiles) (may_leave : D → FileName → 
 
     -- What is served by a world's machine is served as is promised.
     pub served_in : (input left before after : Option Text) (r : Result (Unit {0}) Ending) → EndsBy leads_to refused_at input left before after r
-        → ServesIn bytes may_leave device (device_at stage) input left before after r
+        → ServesIn bytes may_leave can_fail device (device_at stage) input left before after r
     served_in input left before after (Ok u) so = (so.0, so.1, so.2, so.3, some_answer (lines_of so.0) so.3 so.4, so.5)
     served_in input left before after (Err Ending.schema) so = (so.0, so.1, so.2, so.3, so.4, some_refusal so.2 so.4 so.5, so.6)
     served_in input left before after (Err Ending.read) so = (so.0, so.1, so.2, some_answer (ended_lines so.0) so.2 so.3, so.4)
     served_in input left before after (Err Ending.write) so = (so.0, so.1, so.2, so.3, so.4, some_due so.2 so.4 so.5, so.6)
 
     -- what opening gave back has its files as they were
-    given_back : (first : Text) (u : Unopened D) (b : Bool) → OpensIfShort bytes may_leave device (if b then None else Some first) (Err u) → LeavesFiles bytes device u.seed
-    given_back first u true o q =
+    given_back : (first : Text) (u : Unopened D) (b : Bool) → OpensIfShort bytes may_leave can_fail device (if b then None else Some first) (Err u)
+        → LeavesFiles bytes device u.seed × SparesCrash may_leave device u.seed
+    given_back first u true o =
         let same : u ≡ record { refusal = NoForm; seed = device } = err_same u (record { refusal = NoForm; seed = device }) o in
-        ap (λ (x : Unopened D). bytes x.seed q) same
+        subst (λ (x : Unopened D). LeavesFiles bytes device x.seed × SparesCrash may_leave device x.seed) (sym same) ((λ q. refl), λ q e h. h)
       where
         err_same : (a b : Unopened D) → ◌≡◌ {A = Result (Service D) (Unopened D)} (Err a) (Err b) → a ≡ b
         err_same a b e = cc
-    given_back first u false o q = o.0.1 q
+    given_back first u false o = o.0.1
 
-    spared_at : (lines : List Text) (e : Refusal) → refused_at lines e → LeavesFiles bytes device (device_at stage)
-    spared_at [] e so q = ap (λ (x : Stage (Service D) D). bytes (device_at x) q) so.0
-    spared_at (first ∷ lines) e so q =
-        ap (λ (x : Stage (Service D) D). bytes (device_at x) q) so.2
-        ∙ given_back first (record { refusal = e; seed = so.0 }) (nat_lt 10000 (length first)) so.1 q
+    spared_at : (lines : List Text) (e : Refusal) → refused_at lines e
+        → LeavesFiles bytes device (device_at stage) × SparesCrash may_leave device (device_at stage)
+    spared_at [] e so =
+        subst (λ (x : Stage (Service D) D). LeavesFiles bytes device (device_at x) × SparesCrash may_leave device (device_at x)) (sym so.0)
+        ((λ q. refl), λ q e h. h)
+    spared_at (first ∷ lines) e so =
+        subst (λ (x : Stage (Service D) D). LeavesFiles bytes device (device_at x) × SparesCrash may_leave device (device_at x)) (sym so.2)
+        (given_back first (record { refusal = e; seed = so.0 }) (nat_lt 10000 (length first)) so.1)
 
-    -- and where the schema line is refused the files are as they were
+    -- where no line came the seed waits as it was
+    unread : (lines : List Text) (text : Text) → leads_to lines text → lines ≡ [] → ◌≡◌ {A = D} (device_at stage) device
+    unread [] text so e = ap device_at so.0
+    unread (first ∷ lines) text so e = absurd (let no : ◌≡◌ {A = List Text} (first ∷ lines) [] = e in cc)
+
+    -- and where the schema line is refused the files are as they were, and where no line came the directory
     pub spared_in : (input left before after : Option Text) (r : Result (Unit {0}) Ending) → EndsBy leads_to refused_at input left before after r
-        → SparesRefused bytes device (device_at stage) r
+        → SparesUnserved bytes may_leave device (device_at stage) input left r
     spared_in input left before after (Ok u) so = tt
     spared_in input left before after (Err Ending.schema) so = spared_at so.2 so.4 so.5
-    spared_in input left before after (Err Ending.read) so = tt
+    spared_in input left before after (Err Ending.read) so = (so.0, so.1, unread (ended_lines so.0) so.2 so.3)
     spared_in input left before after (Err Ending.write) so = tt

@@ -10,8 +10,10 @@ use Rattle.cat_lines.specs.Line.{said_of}
 use Rattle.cat_lines.specs.declared.line.Line.{Line}
 use Rattle.cat_ledger.specs.Histories.{Call, Event, Goes, GoesBy, IsCrashed, IsHistory, IsTried, events_of, tells}
 use Rattle.cat_ledger_opening.specs.Newest.{HasNoCommit, IsNewestCommit}
+use Rattle.cat_ledger_shape.specs.Ties.{ToldFiles}
 use Rattle.cat_replies.specs.Reply.{reply_of}
 use Rattle.cat_replies.specs.declared.reply.Reply as code
+use Rattle.cat_world.specs.Causes.{HasCause}
 use Rattle.cat_world.specs.Worlds.{Service}
 
 -- ---- lines in a row
@@ -59,12 +61,19 @@ AreSpoken (line ∷ lines) (given ∷ replies) (x ∷ xs) =
     (x.said ≡ said_of line.command) × (x.reply ≡ reply_of given.answer) × AreSpoken lines replies xs
 AreSpoken _ _ _ = ⊥
 
--- the lines with their replies lead from the one to the other
-pub record RunsHistory {D : Type 0} (left : D → FileName → FileContent → Type 0) (old : Service D) (lines : List Line)
-    (replies : List code.Reply) (new : Service D) : Type 0 where
+-- each reply has its cause in the world before its line
+abbrev pub HaveCauses : {D : Type 0} → (D → ToldFiles) → (D → Type 0) → Service D → List (Spoken D) → Type 0
+HaveCauses bytes can_fail first [] = Unit {0}
+HaveCauses bytes can_fail first (x ∷ xs) = HasCause bytes can_fail first x.said x.reply × HaveCauses bytes can_fail x.after xs
+
+-- The lines with their replies lead from the one to the other, and each reply has its cause. The first three arguments say what a device tells
+-- of its files, whether it can fail, and what a crash may leave.
+pub record RunsHistory {D : Type 0} (bytes : D → ToldFiles) (can_fail : D → Type 0) (left : D → FileName → FileContent → Type 0)
+    (old : Service D) (lines : List Line) (replies : List code.Reply) (new : Service D) : Type 0 where
   pub spoken : List (Spoken D)
   pub are : AreSpoken lines replies spoken
   pub leads : IsSpoken left old spoken new
+  pub causes : HaveCauses bytes can_fail old spoken
 
 -- ---- lines that are served
 

@@ -3,6 +3,7 @@ pub mod Named
 pub mod Outlasting
 pub mod Promises
 pub mod Wanting
+pub mod Causes
 pub mod Lines
 pub mod Histories
 pub mod Opening

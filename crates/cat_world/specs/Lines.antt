@@ -10,6 +10,7 @@ use Rattle.cat_schema.specs.Reading.{json}
 use Rattle.cat_ledger_shape.specs.Ties.{ToldFiles}
 use Rattle.cat_ledger_lines.specs.LineLaws.{line_of}
 use Rattle.cat_ledger_lines.specs.RunLaws.{Answers, IsStep}
+use Rattle.cat_world.specs.Causes.{HasCause, TakesNumbers}
 use Rattle.cat_world.specs.Named.{TellsNeeded}
 use Rattle.cat_world.specs.Wanting.{MayWant}
 use Rattle.cat_world.specs.Worlds.{Service, device_of, policy_of, shape_of}
@@ -35,13 +36,15 @@ StepsLine bytes session said old reply new =
     × (reply ≡ Err Memory → MayWant (bytes (device_of old)) (shape_of old) session said c)
 
 -- What an answered line makes of a world: the reply answers it, and tells the names that are needed, which are those
--- of files; it says that memory was wanting only where that may be told; a device that can't fail goes on so; and neither the fields change nor when it merges.
+-- of files; it says that memory was wanting only where that may be told, and has its cause in what memory has; a device that can't fail goes on so; and neither the fields change nor when it merges.
 pub record Does {D : Type 0} (bytes : D → ToldFiles) (can_fail : D → Type 0) (session : ℕ) (said : Option Said)
     (old : Service D) (reply : Reply) (new : Service D) : Type 0 where
   pub answers : AnswersLine bytes session said old reply new
   pub told : TellsNeeded (shape_of old) said reply
   pub names : NamesFiles reply
   pub wanting : reply ≡ Err Memory → MayWant (bytes (device_of old)) (shape_of old) session said answers.0
+  pub cause : HasCause bytes can_fail old said reply
+  pub numbers : TakesNumbers (shape_of old) (shape_of new)
   pub can : can_fail (device_of new) → can_fail (device_of old)
   pub schema : (shape_of new).schema ≡ (shape_of old).schema
   pub policy : policy_of new ≡ policy_of old

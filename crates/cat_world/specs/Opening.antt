@@ -8,6 +8,7 @@ use Rattle.cat_model.specs.Served.{Begins, OpensEmpty, Opening, SpellsSchema}
 use Rattle.cat_model.specs.Table.{Opened}
 use Rattle.cat_model.specs.Text.{Text}
 use Rattle.cat_schema.specs.Reading.{json}
+use Rattle.cat_directory.specs.Devices.{FileContent, NoMore}
 use Rattle.cat_directory.specs.declared.name.FileName.{FileName}
 use Rattle.cat_ledger_model.specs.Ledger.{LedgerCommit, commit_file, portions_in}
 use Rattle.cat_ledger_model.specs.Opening.{Restored, IsRestored}
@@ -60,11 +61,13 @@ HasSchemaText line = IsReadable line × (factor least : ℕ) × (text : Text) ×
 abbrev pub BeginsIn : ToldFiles → Text → Result Opened Refusal → Type 0
 BeginsIn told line r = Begins json (OpensIn told) line r
 
--- What opening a directory by the text of a line may give. The first argument says what a device tells of its files.
-abbrev pub OpensWorld : {D : Type 0} → (D → ToldFiles) → D → Text → Result (Service D) (Unopened D) → Type 0
-OpensWorld bytes device line (Ok w) =
+-- What opening a directory by the text of a line may give. A device that isn't opened comes back with each file as it was told, and a crash may
+-- leave no more of it than it could have. The first two arguments say what a device tells of its files, and what a crash may leave.
+abbrev pub OpensWorld : {D : Type 0} → (D → ToldFiles) → (D → FileName → FileContent → Type 0) → D → Text → Result (Service D) (Unopened D)
+    → Type 0
+OpensWorld bytes may_leave device line (Ok w) =
     (from : Opened) × BeginsIn (bytes device) line (Ok from) × ((shape_of w).schema ≡ from.start.schema)
     × Stands (bytes (device_of w)) (shape_of w) from []
-OpensWorld bytes device line (Err u) =
+OpensWorld bytes may_leave device line (Err u) =
     (((u.refusal ≡ Memory) × HasSchemaText line) ⊎ BeginsIn (bytes device) line (Err u.refusal))
-    × ((q : FileName) → bytes u.seed q ≡ bytes device q)
+    × ((q : FileName) → bytes u.seed q ≡ bytes device q) × ((q : FileName) → NoMore (may_leave device q) (may_leave u.seed q))

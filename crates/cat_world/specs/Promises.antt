@@ -2,7 +2,7 @@
 use Rattle.std.specs.Prelude.{◌≡◌, List}
 use Rattle.cat_model.specs.Run.{Run}
 use Rattle.cat_model.specs.Table.{Opened}
-use Rattle.cat_directory.specs.Devices.{FileContent}
+use Rattle.cat_directory.specs.Devices.{FileContent, NoMore}
 use Rattle.cat_directory.specs.declared.name.FileName.{FileName}
 use Rattle.cat_ledger.specs.Lasting.{AlwaysTells, NewestLasts}
 use Rattle.cat_ledger_model.specs.Users.{Used}
@@ -30,6 +30,10 @@ pub record LeavesPromised {D : Type 0} (bytes : D → ToldFiles) (may_leave : D 
 -- each file is told as it was
 abbrev pub LeavesFiles : {D : Type 0} → (D → ToldFiles) → D → D → Type 0
 LeavesFiles bytes device left = (q : FileName) → bytes left q ≡ bytes device q
+
+-- and a crash may leave no more of it than it could have
+abbrev pub SparesCrash : {D : Type 0} → (D → FileName → FileContent → Type 0) → D → D → Type 0
+SparesCrash may_leave device left = (q : FileName) → NoMore (may_leave device q) (may_leave left q)
 
 -- A crash leaves the files of the newest commit that memory keeps, on devices that always tell of their files.
 abbrev pub WorldLasts : {D : Type 0} → (D → ToldFiles) → (D → FileName → FileContent → Type 0) → Service D → Type 0

@@ -4,6 +4,7 @@ ghost use Rattle.cat_model.specs.Served.{NamesFiles};
 ghost use Rattle.cat_ledger.specs.Histories.{GoesBy};
 ghost use Rattle.cat_lines.specs.Line.{said_of};
 ghost use Rattle.cat_replies.specs.Reply.{reply_of};
+ghost use Rattle.cat_world.specs.Causes.{HasCause, TakesNumbers};
 ghost use Rattle.cat_world.specs.Lines.{Does, StepsLine};
 ghost use Rattle.cat_world.specs.Named.{TellsNeeded};
 ghost use Rattle.cat_world.specs.Outlasting.{OutlastsCrash};
@@ -55,7 +56,10 @@ impl<D: Directory + Shelf> World<D> {
     /// each token that is recorded or held and of each commit that is kept, and a crash leaves those of the newest commit.
     /// [`Refusal::Memory`] is told only where an OK fits, so that it hides no other refusal; and never of a CLOSE or of a line
     /// without a form, nor of an OPEN of a token that the session holds. Of a PUT that is known as far as its length and its UTF-8,
-    /// and of a DELW as far as its query. What the line makes of commits is known by its reply, from which
+    /// and of a DELW as far as its query. A refusal that stands in place of an OK has its cause: [`Refusal::Spent`] that a number or
+    /// a limit is spent, [`Refusal::Device`] that the directory can fail, [`Refusal::Damaged`] that a file is damaged; but a MERGE that
+    /// copies rows may be told these two also where a file is gone. COMMIT tells the generation that comes next, and maintenance
+    /// what is so. A line takes one number of a segment and one generation at most. What the line makes of commits is known by its reply, from which
     /// [`histories_last`](World::histories_last) tells what a crash leaves.
     pub fn step(&mut self, line: &Line) -> Reply
         ensures session { result.session ≡ line.now.session }
@@ -65,6 +69,8 @@ impl<D: Directory + Shelf> World<D> {
         ensures history { GoesBy D.may_leave (said_of line.now.command) (reply_of result.answer) self.old.ledger self.new.ledger }
         ensures told { TellsNeeded (shape_of self.old) (said_of line.now.command) (reply_of result.answer) }
         ensures names { NamesFiles (reply_of result.answer) }
+        ensures cause { HasCause D.bytes D.can_fail self.old (said_of line.now.command) (reply_of result.answer) }
+        ensures numbers { TakesNumbers (shape_of self.old) (shape_of self.new) }
         ensures schema { (shape_of self.new).schema ≡ (shape_of self.old).schema }
         ensures policy { policy_of self.new ≡ policy_of self.old }
         ensures can { D.can_fail (device_of self.new) → D.can_fail (device_of self.old) }

@@ -15,9 +15,9 @@ impl<D: Directory + Shelf> Machine for World<D> {
     ghost use Rattle.cat_world.specs.Serving.{OpensIfShort, StepsIfShort};
     ghost use Rattle.cat_world.specs.Worlds.{shape_of};
 
-    ghost opens = { OpensIfShort D.bytes D.may_leave };
+    ghost opens = { OpensIfShort D.bytes D.may_leave D.can_fail };
 
-    ghost step = { StepsIfShort D.bytes D.may_leave };
+    ghost step = { StepsIfShort D.bytes D.may_leave D.can_fail };
 
     ghost token = { λ w. (shape_of w).count };
 

@@ -13,14 +13,14 @@ use std::alloc::AllocError;
 
 impl<D: Directory + Shelf> World<D> {
     /// Answers the lines in turn. Whatever run led here, the replies fit it one after another, as those of
-    /// [`step`](World::step) do, and the files stand that are promised at the end. What the lines make of commits is known by their
+    /// [`step`](World::step) do, each has its cause in the world before its line, and the files stand that are promised at the end. What the lines make of commits is known by their
     /// replies, from which [`histories_last`](World::histories_last) tells what a crash leaves.
     ///
     /// The list of replies is taken before the first line is answered, so an error changes nothing.
     pub fn run(&mut self, lines: &[Line]) -> Result<Vec<Reply>, AllocError>
         ensures sessions { IfOk result (λ replies. map (λ r. r.session) replies.items ≡ map (λ l. l.session) lines.now) }
         ensures run { IfOk result (λ replies. RunsLines D.bytes self.old lines.now replies.items self.new) }
-        ensures history { IfOk result (λ replies. RunsHistory D.may_leave self.old lines.now replies.items self.new) }
+        ensures history { IfOk result (λ replies. RunsHistory D.bytes D.can_fail D.may_leave self.old lines.now replies.items self.new) }
         ensures promised { KeepsPromises D.bytes self.new }
         ensures schema { (shape_of self.new).schema ≡ (shape_of self.old).schema }
         ensures policy { policy_of self.new ≡ policy_of self.old }

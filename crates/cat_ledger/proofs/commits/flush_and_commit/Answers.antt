@@ -4,7 +4,7 @@ use Rattle.cat_ledger.proofs.Lasting.{call_keeps, carried_on, commit_lasts, lets
 use Rattle.cat_ledger.proofs.Made.{commit_spares, flushed_segment, left_behind}
 use Rattle.cat_ledger_lines.proofs.JoinedCalls.{flushed_commits_make}
 use Rattle.cat_ledger_shape.proofs.Committed.{commits_make}
-use Rattle.cat_ledger_shape.proofs.Listed.{names_are_begun}
+use Rattle.cat_ledger_shape.proofs.Listed.{names_are_begun, no_source_begun}
 use Rattle.cat_ledger_shape.specs.CommitLaws.{names_begun}
 use Rattle.cat_ledger.proofs.Histories.{commit_spares_others, newest_committed, next_committed}
 use Rattle.cat_ledger.proofs.Synced.{synced_stands}
@@ -32,7 +32,7 @@ pub returns-in-Err-commit-clause-err : goal.returns-in-Err-commit-clause-err
 returns-in-Err-commit-clause-err g c =
     left_behind (names_begun c.flush.new.core) (g.D.Holder.bytes c.args.device.now) (g.D.Holder.bytes c.flush.new.device)
     (g.D.Holder.bytes c.commit.new.device) c.args.core.now c.flush.new.core c.commit.new.self c.in_default.ensures.made
-    (names_are_begun c.args.text.now c.flush.new.core c.count-count.ensures.shape).new c.in-Err-commit.ensures.err
+    (no_source_begun c.flush.new.core c.flush.new.core.next_segment) (names_are_begun c.args.text.now c.flush.new.core c.count-count.ensures.shape).new c.in-Err-commit.ensures.err
 
 pub returns-in-Err-commit-clause-crash : goal.returns-in-Err-commit-clause-crash
 returns-in-Err-commit-clause-crash g c =

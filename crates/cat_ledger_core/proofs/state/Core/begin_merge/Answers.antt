@@ -1,10 +1,11 @@
-use Rattle.std.proofs.Common.{◌≡◌, ◌+◌, ◌≤◌, [], ◌∷◌, None, length, take, drop, sym, ap, subst}
+use Rattle.std.proofs.Common.{◌≡◌, ◌+◌, ◌≤◌, [], ◌∷◌, None, inr, length, take, drop, sym, ap, subst}
 use Rattle.cat_model.specs.Files.{Name}
 use Rattle.cat_model.specs.Limits.{row_limit}
 use Rattle.cat_model.specs.Merged.{rows_of_all}
 use Rattle.cat_ledger_shape.proofs.MergeSteps.{begun_keep}
 use Rattle.cat_ledger_shape.proofs.Writes.{refusals_keep}
-use Rattle.cat_ledger_core.specs.Cores.{shape_in}
+use Rattle.cat_ledger_shape.specs.Ties.{TouchesOnly}
+use Rattle.cat_ledger_core.specs.Cores.{HasGivenUp, shape_in}
 use Rattle.cat_ledger_core.proofs.Merging.{run_is, may_merge, one_fits, begun_is, begun_left}
 use Rattle.cat_ledger_core.proofs.state.Core.begin_merge.Goals as goal
 
@@ -43,3 +44,13 @@ invariant_of-self-in-Err-1 g c =
       few = c.self.invariant.few;
       merges = c.self.invariant.merges;
     }
+
+pub returns-in-Err-clause-err : goal.returns-in-Err-clause-err
+returns-in-Err-clause-err g c =
+    let left = begun_left (shape_in c.self.inside) c.take_source.new.refs c.give_source.new.refs c.self.invariant.shape c.if-number-gt-LAST_NUMBER.false
+    c.in_ok-take_source.ensures.ok c.give_source.ensures in
+    let told = g.D.Holder.bytes c.args.device.now in
+    let told' = g.D.Holder.bytes c.begin_file.new.device in
+    let touched = subst (λ n. TouchesOnly (Name.source n ∷ []) told told') (ap (λ m. m.shape.number) c.in_ok-merge.ensures.ok) c.in-Err.ensures.others in
+    let new = record (shape_in c.self.inside) { users = c.give_source.new.refs; next_segment = c.self.inside.next_segment + 1 } in
+    subst (λ s. HasGivenUp (Name.source s.next_segment ∷ []) told s told' new) c.self.view_is (inr (left, touched))

@@ -1,4 +1,4 @@
-use Rattle.std.proofs.Common.{◌≡◌, refl}
+use Rattle.std.proofs.Common.{◌≡◌, refl, arith}
 use Rattle.std.specs.Prelude.{Err}
 use Rattle.cat_base.specs.declared.refusal.Refusal.TheVariants.{Line as NoForm, Memory}
 use Rattle.cat_model.specs.Run.{Command, Reply}
@@ -21,6 +21,8 @@ returns-in-NoForm-clause-does g c = rw c.in-NoForm.is (record {
   told = refused NoForm;
   names = tt;
   wanting = λ h. absurd (let no : ◌≡◌ {A = Reply} (Err NoForm) (Err Memory) = h in cc);
+  cause = record { spent = λ k. tt; device = λ k. tt; damaged = λ k. tt; told = tt };
+  numbers = record { segment = (omega arith, omega arith); generation = (omega arith, omega arith) };
   can = λ x. x;
   schema = refl;
   policy = refl;

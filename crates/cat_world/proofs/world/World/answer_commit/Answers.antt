@@ -2,6 +2,7 @@ use Rattle.std.proofs.Common.{refl}
 use Rattle.cat_model.specs.Lines.{Said}
 use Rattle.cat_replies.specs.Reply.{reply_of}
 use Rattle.cat_world.proofs.Kept.{does, world_stays}
+use Rattle.cat_world.proofs.Caused.{commit_caused}
 use Rattle.cat_ledger.specs.Ledgers.{device_in, shape_in}
 use Rattle.cat_world.proofs.Wanted.{stopped, commit_wants}
 use Rattle.cat_world.proofs.world.World.answer_commit.Goals as goal
@@ -14,7 +15,7 @@ invariant_of-self g c =
 pub returns-clause-does : goal.returns-clause-does
 returns-clause-does g c = rw (← c.self.view_is) (λ session.
     does g.D.Holder.bytes g.D.Holder.can_fail session (Said.commit c.args.text.now) c.self.inside.ledger (reply_of c.commit.result) c.commit.new.ledger
-    c.self.inside.rights c.self.inside.rights c.self.invariant (c.commit.ensures.answers session) c.commit.ensures.can c.commit.ensures.policy refl
+    c.self.inside.rights c.self.inside.rights c.self.invariant (commit_caused g.D.Holder.bytes g.D.Holder.can_fail c.self.inside.ledger c.self.inside.rights c.commit.result _ g.D.Holder.may_leave c.args.text.now c.commit.new.ledger c.commit.ensures.wrong c.commit.ensures.spent c.commit.ensures.device c.commit.ensures.history) (c.commit.ensures.answers session) c.commit.ensures.can c.commit.ensures.policy refl
     (λ k. commit_wants (g.D.Holder.bytes (device_in c.self.inside.ledger)) (shape_in c.self.inside.ledger) session c.commit.result (stopped c.commit.result k) _ c.args.text.now c.commit.ensures.wrong c.commit.ensures.none))
 
 pub returns-clause-history : goal.returns-clause-history

@@ -2,6 +2,7 @@ use Rattle.std.proofs.Common.{refl}
 use Rattle.cat_model.specs.Lines.{Said}
 use Rattle.cat_replies.specs.Reply.{reply_of}
 use Rattle.cat_world.proofs.Kept.{does, world_stays}
+use Rattle.cat_world.proofs.Caused.{refresh_caused}
 use Rattle.cat_ledger.specs.Ledgers.{device_in, shape_in}
 use Rattle.cat_world.proofs.Wanted.{stopped, refresh_wants}
 use Rattle.cat_world.proofs.world.World.answer_refresh.Goals as goal
@@ -14,7 +15,7 @@ invariant_of-self g c =
 pub returns-clause-does : goal.returns-clause-does
 returns-clause-does g c = rw (← c.self.view_is) (λ session.
     does g.D.Holder.bytes g.D.Holder.can_fail session Said.refresh c.self.inside.ledger (reply_of c.refresh.result) c.refresh.new.ledger
-    c.self.inside.rights c.self.inside.rights c.self.invariant (c.refresh.ensures.answers session) c.refresh.ensures.can c.refresh.ensures.policy refl
+    c.self.inside.rights c.self.inside.rights c.self.invariant (refresh_caused g.D.Holder.bytes g.D.Holder.can_fail c.self.inside.ledger c.self.inside.rights c.refresh.result c.refresh.ensures.spent c.refresh.ensures.device) (c.refresh.ensures.answers session) c.refresh.ensures.can c.refresh.ensures.policy refl
     (λ k. refresh_wants (g.D.Holder.bytes (device_in c.self.inside.ledger)) (shape_in c.self.inside.ledger) session c.refresh.result (stopped c.refresh.result k) c.refresh.ensures.full c.refresh.ensures.due))
 
 pub returns-clause-history : goal.returns-clause-history

@@ -10,10 +10,10 @@ use Rattle.cat_world.proofs.world.World.open.Goals as goal
 
 pub returns-then-line-gt-MAX_LINE_BYTES-clause-opens : goal.returns-then-line-gt-MAX_LINE_BYTES-clause-opens
 returns-then-line-gt-MAX_LINE_BYTES-clause-opens g c =
-    (inr (Begins.formless (λ readable factor least text spelled. absurd (omega (arith, readable.short, c.if-line-gt-MAX_LINE_BYTES.true)))), λ q. refl)
+    (inr (Begins.formless (λ readable factor least text spelled. absurd (omega (arith, readable.short, c.if-line-gt-MAX_LINE_BYTES.true)))), (λ q. refl), λ q e h. h)
 
 pub returns-in_default-clause-opens : goal.returns-in_default-clause-opens
-returns-in_default-clause-opens g c = (inr (Begins.formless (λ _ factor least text spelled. c.in_default.ensures.none factor least text spelled)), λ q. refl)
+returns-in_default-clause-opens g c = (inr (Begins.formless (λ _ factor least text spelled. c.in_default.ensures.none factor least text spelled)), (λ q. refl), λ q e h. h)
 
 pub returns-in-Err-clause-opens : goal.returns-in-Err-clause-opens
 returns-in-Err-clause-opens g c =
@@ -22,6 +22,7 @@ returns-in-Err-clause-opens g c =
       refused_schema (g.D.Holder.bytes c.args.device) c.args.line.now found.factor found.least found.json.now c.in-Err.refusal
           c.in-Some.ensures.found (rw c.as_bytes.ensures.value at c.in-Err.ensures.err) readable,
       λ q. refl,
+      λ q e h. h,
     )
 
 pub returns-in-Ok-open-clause-opens : goal.returns-in-Ok-open-clause-opens
@@ -41,6 +42,9 @@ returns-in-Ok-open-clause-opens g c =
 pub returns-in-Ok-open-clause-ahead : goal.returns-in-Ok-open-clause-ahead
 returns-in-Ok-open-clause-ahead g c = c.in-Ok-open.ensures.ahead
 
+pub returns-in-Ok-open-clause-can : goal.returns-in-Ok-open-clause-can
+returns-in-Ok-open-clause-can g c = c.in-Ok-open.ensures.can
+
 pub returns-in-Err-open-clause-opens : goal.returns-in-Err-open-clause-opens
 returns-in-Err-open-clause-opens g c =
     let readable : IsReadable c.args.line.now = record { short = omega arith; utf8 = c.utf8.line } in
@@ -52,6 +56,7 @@ returns-in-Err-open-clause-opens g c =
       inr (begins_so told c.args.line.now found.factor found.least found.json.now c.in-Ok.schema (Err e) readable c.in-Some.ensures.found read
           (unopened told c.in-Ok.schema e ensures.refusal ensures.damaged ensures.foreign)),
       ensures.same,
+      ensures.spared,
     )
 
 pub invariant_of-result : goal.invariant_of-result
