@@ -56,22 +56,22 @@ sound told first from (Begins.opened f l text schema r readable a is opens) = so
 
 -- ---- what a call says
 
-module _ {D : Type 0} (bytes : D → ToldFiles) (may_leave : D → FileName → FileContent → Type 0) (device left : D) where
+module _ {D : Type 0} (bytes : D → ToldFiles) (may_leave : D → FileName → FileContent → Type 0) (can_fail : D → Type 0) (device left : D) where
   abbrev pub Served : List Text → Text → Type 0
-  Served lines output = AnsweredBy (IsServedIn bytes may_leave device left) lines output
+  Served lines output = AnsweredBy (IsServedIn bytes may_leave can_fail device left) lines output
 
-  pub answered_is : (input output : Text) (lines : List Text) → Answered bytes may_leave device left input output lines → Served lines output × AllByRecursion IsOneLine lines
+  pub answered_is : (input output : Text) (lines : List Text) → Answered bytes may_leave can_fail device left input output lines → Served lines output × AllByRecursion IsOneLine lines
   answered_is input output _ (Answered.to_the_end s) =
       let same : input ≡ s.0 = s.1 ∙ append-nil s.0 in
-      (subst (λ b. AnsweredBy (IsServedIn bytes may_leave device left) (lines_of b) output) (sym same) (subst (AnsweredBy (IsServedIn bytes may_leave device left) (lines_of s.0)) (sym s.5) s.4), lines_are_lines input)
+      (subst (λ b. AnsweredBy (IsServedIn bytes may_leave can_fail device left) (lines_of b) output) (sym same) (subst (AnsweredBy (IsServedIn bytes may_leave can_fail device left) (lines_of s.0)) (sym s.5) s.4), lines_are_lines input)
   answered_is input output _ (Answered.to_a_fault rest s) =
       let same : input ≡ s.0 = append_cancel_right input s.0 rest s.1 in
-      (subst (λ b. AnsweredBy (IsServedIn bytes may_leave device left) (ended_lines b) output) (sym same) (subst (AnsweredBy (IsServedIn bytes may_leave device left) (ended_lines s.0)) (sym s.4) s.3), ended_are_lines input)
+      (subst (λ b. AnsweredBy (IsServedIn bytes may_leave can_fail device left) (ended_lines b) output) (sym same) (subst (AnsweredBy (IsServedIn bytes may_leave can_fail device left) (ended_lines s.0)) (sym s.4) s.3), ended_are_lines input)
 
-  pub served_first : (input output first : Text) (lines : List Text) → Answered bytes may_leave device left input output (first ∷ lines) → IsServedIn bytes may_leave device left first lines output
+  pub served_first : (input output first : Text) (lines : List Text) → Answered bytes may_leave can_fail device left input output (first ∷ lines) → IsServedIn bytes may_leave can_fail device left first lines output
   served_first input output first lines a = (answered_is input output (first ∷ lines) a).0
 
-  abbrev pub said_by : (first : Text) (lines : List Text) (output : Text) (s : IsServedIn bytes may_leave device left first lines output) → AllByRecursion IsOneLine lines → IsSaid json (AlwaysTells bytes) s.from lines output
+  abbrev pub said_by : (first : Text) (lines : List Text) (output : Text) (s : IsServedIn bytes may_leave can_fail device left first lines output) → AllByRecursion IsOneLine lines → IsSaid json (AlwaysTells bytes) s.from lines output
   said_by first lines output s one =
       let o : IsSound s.from = sound (bytes device) first s.from s.begins in
       record {
@@ -88,18 +88,18 @@ module _ {D : Type 0} (bytes : D → ToldFiles) (may_leave : D → FileName → 
         whole = s.whole;
       }
 
-  abbrev pub call_said : (first : Text) (lines : List Text) (output : Text) (c : IsCall bytes may_leave device left first lines output) → IsSaid json (AlwaysTells bytes) c.served.from lines output
+  abbrev pub call_said : (first : Text) (lines : List Text) (output : Text) (c : IsCall bytes may_leave can_fail device left first lines output) → IsSaid json (AlwaysTells bytes) c.served.from lines output
   call_said first lines output c = said_by first lines output c.served (answered_is c.input output (first ∷ lines) c.answered).1.1
 
 -- ---- the laws
 
-pub calls_opened : {D : Type 0} (bytes : D → ToldFiles) (may_leave : D → FileName → FileContent → Type 0) → CallsAreOpened bytes may_leave
-calls_opened bytes may_leave device left input output first lines a =
-    let s : IsServedIn bytes may_leave device left first lines output = served_first bytes may_leave device left input output first lines a in
+pub calls_opened : {D : Type 0} (bytes : D → ToldFiles) (may_leave : D → FileName → FileContent → Type 0) (can_fail : D → Type 0) → CallsAreOpened bytes may_leave can_fail
+calls_opened bytes may_leave can_fail device left input output first lines a =
+    let s : IsServedIn bytes may_leave can_fail device left first lines output = served_first bytes may_leave can_fail device left input output first lines a in
     (record { input = input; answered = a; served = s }, s.begins)
 
-pub calls_agree : {D E : Type 0} (bytes₁ : D → ToldFiles) (may_leave₁ : D → FileName → FileContent → Type 0) (bytes₂ : E → ToldFiles) (may_leave₂ : E → FileName → FileContent → Type 0)
-    → HeldReadsAgree bytes₁ may_leave₁ bytes₂ may_leave₂
-calls_agree bytes₁ may_leave₁ bytes₂ may_leave₂ device₁ left₁ device₂ left₂ first₁ first₂ lines₁ lines₂ output₁ output₂ one two =
+pub calls_agree : {D E : Type 0} (bytes₁ : D → ToldFiles) (may_leave₁ : D → FileName → FileContent → Type 0) (can_fail₁ : D → Type 0) (bytes₂ : E → ToldFiles) (may_leave₂ : E → FileName → FileContent → Type 0) (can_fail₂ : E → Type 0)
+    → HeldReadsAgree bytes₁ may_leave₁ can_fail₁ bytes₂ may_leave₂ can_fail₂
+calls_agree bytes₁ may_leave₁ can_fail₁ bytes₂ may_leave₂ can_fail₂ device₁ left₁ device₂ left₂ first₁ first₂ lines₁ lines₂ output₁ output₂ one two =
     reads_agree (AlwaysTells bytes₁) (AlwaysTells bytes₂) json one.served.from two.served.from first₁ first₂ lines₁ lines₂ output₁ output₂ reads_lines
-    (call_said bytes₁ may_leave₁ device₁ left₁ first₁ lines₁ output₁ one) (call_said bytes₂ may_leave₂ device₂ left₂ first₂ lines₂ output₂ two)
+    (call_said bytes₁ may_leave₁ can_fail₁ device₁ left₁ first₁ lines₁ output₁ one) (call_said bytes₂ may_leave₂ can_fail₂ device₂ left₂ first₂ lines₂ output₂ two)

@@ -335,8 +335,8 @@ refused_since tolds events g m tried =
 same_told : (told : ToldFiles) (image : FileName → FileContent) → TellsJust told image → told ≡ tells image
 same_told told image just = λ i. λ q. just q i
 
-module _ {D : Type 0} (bytes : D → ToldFiles) (may_leave : D → FileName → FileContent → Type 0) (device left : D) (segments : SegmentsLaw) (lives : LiveLaw) (always : AlwaysTells bytes)
-    (first : Text) (lines : List Text) (output : Text) (s : IsServedIn bytes may_leave device left first lines output) (image : FileName → FileContent) (crashed : IsLeft (may_leave left) image)
+module _ {D : Type 0} (bytes : D → ToldFiles) (may_leave : D → FileName → FileContent → Type 0) (can_fail : D → Type 0) (device left : D) (segments : SegmentsLaw) (lives : LiveLaw) (always : AlwaysTells bytes)
+    (first : Text) (lines : List Text) (output : Text) (s : IsServedIn bytes may_leave can_fail device left first lines output) (image : FileName → FileContent) (crashed : IsLeft (may_leave left) image)
     (told₂ : ToldFiles) (just : TellsJust told₂ image) where
   abbrev run : Run
   run = filter_map exchange s.fitting
@@ -360,9 +360,9 @@ module _ {D : Type 0} (bytes : D → ToldFiles) (may_leave : D → FileName → 
   pub found_by : (first₂ : Text) (found : Opened) → BeginsIn told₂ first₂ (Ok found) → Finds s.from run found
   found_by first₂ found (Begins.opened f l text schema r readable a is opens) = found_at schema found opens
 
-pub calls_are_found : SegmentsLaw → LiveLaw → {D E : Type 0} (bytes : D → ToldFiles) (may_leave : D → FileName → FileContent → Type 0) (bytes₂ : E → ToldFiles) → CallsAreFound bytes may_leave bytes₂
-calls_are_found segments lives bytes may_leave bytes₂ always device left first lines output s image crashed device₂ first₂ found just begins =
-    found_by bytes may_leave device left segments lives always first lines output s image crashed (bytes₂ device₂) just first₂ found begins
+pub calls_are_found : SegmentsLaw → LiveLaw → {D E : Type 0} (bytes : D → ToldFiles) (may_leave : D → FileName → FileContent → Type 0) (can_fail : D → Type 0) (bytes₂ : E → ToldFiles) → CallsAreFound bytes may_leave can_fail bytes₂
+calls_are_found segments lives bytes may_leave can_fail bytes₂ always device left first lines output s image crashed device₂ first₂ found just begins =
+    found_by bytes may_leave can_fail device left segments lives always first lines output s image crashed (bytes₂ device₂) just first₂ found begins
 
 -- ---- the table that was found
 
@@ -379,12 +379,12 @@ first_table : (start : Start) (ws : List Write) → AllByRecursion (λ r. r.numb
 first_table start ws a =
     table-more start [] ws start.token (omega arith) ∙ ap (filter (stands start.token [])) (append-nil start.records) ∙ whole_table start.token start.records a
 
-pub reads_afterwards : {D E : Type 0} (bytes₁ : D → ToldFiles) (may_leave₁ : D → FileName → FileContent → Type 0) (bytes₂ : E → ToldFiles) (may_leave₂ : E → FileName → FileContent → Type 0)
-    → ReadsAgreeAfterwards bytes₁ may_leave₁ bytes₂ may_leave₂
-reads_afterwards bytes₁ may_leave₁ bytes₂ may_leave₂ device₁ left₁ device₂ left₂ first₁ first₂ lines₁ lines₂ output₁ output₂ one two finds schemas talk₁ talk₂ cut₁ cut₂ s₁ s₂ text reply₁ reply₂ read ask₁ ask₂ =
+pub reads_afterwards : {D E : Type 0} (bytes₁ : D → ToldFiles) (may_leave₁ : D → FileName → FileContent → Type 0) (can_fail₁ : D → Type 0) (bytes₂ : E → ToldFiles) (may_leave₂ : E → FileName → FileContent → Type 0) (can_fail₂ : E → Type 0)
+    → ReadsAgreeAfterwards bytes₁ may_leave₁ can_fail₁ bytes₂ may_leave₂ can_fail₂
+reads_afterwards bytes₁ may_leave₁ can_fail₁ bytes₂ may_leave₂ can_fail₂ device₁ left₁ device₂ left₂ first₁ first₂ lines₁ lines₂ output₁ output₂ one two finds schemas talk₁ talk₂ cut₁ cut₂ s₁ s₂ text reply₁ reply₂ read ask₁ ask₂ =
     let tables = sym finds.records ∙ sym (first_table two.served.from.start (writes (filter_map exchange two.served.fitting)) (sound (bytes₂ device₂) first₂ two.served.from two.served.begins).seen) in
     reads_agree_where (AlwaysTells bytes₁) (AlwaysTells bytes₂) json one.served.from two.served.from first₁ first₂ lines₁ lines₂ output₁ output₂ reads_lines
-    (call_said bytes₁ may_leave₁ device₁ left₁ first₁ lines₁ output₁ one) (call_said bytes₂ may_leave₂ device₂ left₂ first₂ lines₂ output₂ two)
+    (call_said bytes₁ may_leave₁ can_fail₁ device₁ left₁ first₁ lines₁ output₁ one) (call_said bytes₂ may_leave₂ can_fail₂ device₂ left₂ first₂ lines₂ output₂ two)
     schemas talk₁ talk₂ cut₁ cut₂ two.served.from.start.token s₁ s₂ text reply₁ reply₂ tables read ask₁ ask₂
 
 -- ---- one way to open

@@ -59,22 +59,22 @@ pub data Finds (from : Opened) (run : Run) (found : Opened) : Type 0 where
 
 -- Whatever a crash leaves of the files of a call that always tells of them: however a directory with these files is opened, it finds the
 -- newest commit of the call's run; or one of a COMMIT that was refused since; or, where there is none, nothing.
-abbrev pub CallsAreFound : {D E : Type 0} → (D → ToldFiles) → (D → FileName → FileContent → Type 0) → (E → ToldFiles) → Type 0
-CallsAreFound {D} {E} bytes may_leave bytes₂ =
+abbrev pub CallsAreFound : {D E : Type 0} → (D → ToldFiles) → (D → FileName → FileContent → Type 0) → (D → Type 0) → (E → ToldFiles) → Type 0
+CallsAreFound {D} {E} bytes may_leave can_fail bytes₂ =
     AlwaysTells bytes
-    → (device left : D) (first : Text) (lines : List Text) (output : Text) (s : IsServedIn bytes may_leave device left first lines output)
+    → (device left : D) (first : Text) (lines : List Text) (output : Text) (s : IsServedIn bytes may_leave can_fail device left first lines output)
     → (image : FileName → FileContent) → IsLeft (may_leave left) image
     → (device₂ : E) (first₂ : Text) (found : Opened) → TellsJust (bytes₂ device₂) image → BeginsIn (bytes₂ device₂) first₂ (Ok found)
     → Finds s.from (filter_map exchange s.fitting) found
 
 -- For every two calls, the second of which found the newest commit of the first, under one schema: a read under the token that the second
 -- opened with, which is what its first reply tells, has the same reply in both, for sessions that hold it.
-abbrev pub ReadsAgreeAfterwards : {D E : Type 0} → (D → ToldFiles) → (D → FileName → FileContent → Type 0) → (E → ToldFiles)
-    → (E → FileName → FileContent → Type 0) → Type 0
-ReadsAgreeAfterwards {D} {E} bytes₁ may_leave₁ bytes₂ may_leave₂ =
+abbrev pub ReadsAgreeAfterwards : {D E : Type 0} → (D → ToldFiles) → (D → FileName → FileContent → Type 0) → (D → Type 0) → (E → ToldFiles)
+    → (E → FileName → FileContent → Type 0) → (E → Type 0) → Type 0
+ReadsAgreeAfterwards {D} {E} bytes₁ may_leave₁ can_fail₁ bytes₂ may_leave₂ can_fail₂ =
     (device₁ left₁ : D) (device₂ left₂ : E) (first₁ first₂ : Text) (lines₁ lines₂ : List Text) (output₁ output₂ : Text)
-    → (one : IsCall bytes₁ may_leave₁ device₁ left₁ first₁ lines₁ output₁)
-    → (two : IsCall bytes₂ may_leave₂ device₂ left₂ first₂ lines₂ output₂)
+    → (one : IsCall bytes₁ may_leave₁ can_fail₁ device₁ left₁ first₁ lines₁ output₁)
+    → (two : IsCall bytes₂ may_leave₂ can_fail₂ device₂ left₂ first₂ lines₂ output₂)
     → FindsNewest one.served.from (filter_map exchange one.served.fitting) two.served.from
     → one.served.from.start.schema ≡ two.served.from.start.schema
     → (talk₁ talk₂ : List Pair) → IsTalk (first₁ ∷ lines₁) output₁ talk₁ → IsTalk (first₂ ∷ lines₂) output₂ talk₂

@@ -21,10 +21,10 @@ use cat_segment::{live_rows_are_told_by_their_bytes, segments_are_told_by_their_
 ///
 /// (Lucene: `SearcherLifetimeManager`, whose searchers stay as they were recorded; `DirectoryReader.open` of an `IndexCommit`.)
 pub fn the_catalogue_holds<D: Directory + Shelf, E: Directory + Shelf>()
-    ensures opened { CallsAreOpened D.bytes D.may_leave }
-    ensures agree { HeldReadsAgree D.bytes D.may_leave E.bytes E.may_leave }
-    ensures found { CallsAreFound D.bytes D.may_leave E.bytes }
-    ensures afterwards { ReadsAgreeAfterwards D.bytes D.may_leave E.bytes E.may_leave }
+    ensures opened { CallsAreOpened D.bytes D.may_leave D.can_fail }
+    ensures agree { HeldReadsAgree D.bytes D.may_leave D.can_fail E.bytes E.may_leave E.can_fail }
+    ensures found { CallsAreFound D.bytes D.may_leave D.can_fail E.bytes }
+    ensures afterwards { ReadsAgreeAfterwards D.bytes D.may_leave D.can_fail E.bytes E.may_leave E.can_fail }
 {
     segments_are_told_by_their_bytes();
     live_rows_are_told_by_their_bytes();
