@@ -12,9 +12,11 @@ from dataclasses import dataclass
 from pathlib import Path
 from typing import Callable, Dict, Iterator, Mapping, Optional, Tuple, Union
 
-from .catalogue import Catalogue, Command, Item
+from .catalogue import Catalogue
 from .errors import JasminedomeError, UsageError
 from .folders import fields_of
+from .putting import Item
+from .starting import Command
 from .tables import INTEGER, LABELS, Column, Table
 
 SKIP = "skip"

@@ -9,9 +9,10 @@ import os
 import sys
 from typing import Callable, Dict, Iterator, List, Optional, TextIO, Tuple, Union
 
-from .catalogue import Catalogue, Command
+from .catalogue import Catalogue
 from .errors import BadQuery, JasminedomeError, ProgramEnded, Refusal, UsageError
 from .folders import fields_of
+from .starting import Command
 from .terminal import shown, table
 from .view import Page, View
 

@@ -6,7 +6,7 @@ import support  # first: it finds the package
 
 import jasminedome
 from jasminedome import FacetCount, Hit, Page, UsageError, any_of, between, term
-from jasminedome.catalogue import _json, _Load
+from jasminedome.putting import Load, item_text
 
 
 class Writes(support.ShopTest):
@@ -61,17 +61,18 @@ class Writes(support.ShopTest):
         items += ['{"id":"raw"}', '  {"id":\t"spaced"}  ', "", "[]", {}]
         for count in (len(items), 1):
             for at in range(0, len(items), count):
-                told, indices = _Load(7, None).lines(list(enumerate(items[at : at + count])))
-                self.assertEqual(indices, list(range(len(items[at : at + count]))))
-                wanted = [item if isinstance(item, str) else _json(item) for item in items[at : at + count]]
+                some = list(enumerate(items[at : at + count]))
+                told, sent = Load(7, support.FIELDS).lines(some)
+                self.assertEqual(sent, some)
+                wanted = [item if isinstance(item, str) else item_text(item) for item in items[at : at + count]]
                 self.assertEqual(told, b"".join(b"7 PUT " + text.encode() + b"\n" for text in wanted))
         for wrong in ("a\nb", "a\r", {"id": "\ud800"}, {"id": {1}}, "x" * 9_995):
             for place in (0, 1, 2):
                 some = ['{"id":"a"}', '{"id":"b"}']
                 some.insert(place, wrong)
-                told, indices = _Load(7, None).lines(list(enumerate(some)))
+                told, sent = Load(7, support.FIELDS).lines(list(enumerate(some)))
                 self.assertEqual(told, b'7 PUT {"id":"a"}\n7 PUT {"id":"b"}\n')
-                self.assertEqual(indices, [index for index in range(3) if index != place])
+                self.assertEqual([index for index, _ in sent], [index for index in range(3) if index != place])
 
     def test_an_iterator_that_fails_leaves_a_catalogue_that_works(self):
         def items():

@@ -10,7 +10,7 @@ import support  # before the package: it finds it
 
 import jasminedome
 from jasminedome import Refusal
-from jasminedome.lines import Replies
+from jasminedome.replies import Replies
 
 SNAPSHOTS = 65_535
 MEMORY = 24 << 20  # bytes of a program that is to get no more of it
