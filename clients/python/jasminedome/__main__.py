@@ -39,7 +39,8 @@ def main(arguments: Optional[List[str]] = None) -> int:
             print(f"jasminedome: {shown(line)}", file=sys.stderr)
         return FAILED
     except KeyboardInterrupt:
-        left = "what wasn't committed is gone" if is_shell else "what was committed stays, and the same command goes on from there"
+        goes_on = "what was committed stays, and the same command goes on from there"
+        left = "what wasn't committed is gone" if is_shell else goes_on
         print(f"\njasminedome: interrupted; {left}", file=sys.stderr)
         return INTERRUPTED
 
@@ -80,7 +81,7 @@ def _add_load(parser: argparse.ArgumentParser) -> None:
     )
     parser.add_argument("--id", metavar="NAME", help="the column that tells items apart, where that isn't id")
     parser.add_argument("--format", choices=FORMS, help="what the file is, where its name doesn't tell")
-    parser.add_argument("--encoding", metavar="NAME", help="what the file is written in, where that isn't UTF-8: latin-1, say")
+    parser.add_argument("--encoding", metavar="NAME", help="what it is written in, where that isn't UTF-8: latin-1, say")
     parser.add_argument("--every", type=int, default=EVERY, metavar="N", help="items between two commits (%(default)s)")
 
 

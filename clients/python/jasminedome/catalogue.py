@@ -294,7 +294,8 @@ class Catalogue:
         stat = self.stat()
         if len(stat.segments) > most_segments(stat, self._factor, self._least):
             is_forced = self.force()
-            log.info("%d segments stood, and %s", len(stat.segments), "are one now" if is_forced else "can't be forced into one")
+            what = "are one now" if is_forced else "can't be forced into one"
+            log.info("%d segments stood, and %s", len(stat.segments), what)
         self.sweep()
         return self.stat()
 

@@ -19,8 +19,8 @@ class Timeout(JasminedomeError, TimeoutError):
 
     `was_sent` says what the call left. False: nothing of it went out, and nothing of it will ever be done. True: it went
     out, or will, so that it may be done now, later, or not at all where the program ends before. Its reply, if it still
-    comes, is matched to this call and dropped; a view that is opened late is closed. A PUT, DEL or COMMIT may be said
-    again without harm.
+    comes, is matched to this call and dropped; a view that is opened late is closed. A write or a commit may be said
+    again, where nobody else writes the same items.
     """
 
     def __init__(self, seconds: float, was_sent: bool) -> None:

@@ -65,7 +65,8 @@ def planned(
         raise UsageError("\n".join(unclear))
     cents = _check_asked(asked, kinds, existing is None)
     if len(kinds) > _MAX_FIELDS:
-        raise UsageError(f"{len(kinds)} fields, and a catalogue has at most {_MAX_FIELDS}: leave some out by --field NAME:{SKIP}")
+        most = f"{len(kinds)} fields, and a catalogue has at most {_MAX_FIELDS}"
+        raise UsageError(f"{most}: leave some out by --field NAME:{SKIP}")
     return Plan(dict(sorted(kinds.items())), own, names, cents)
 
 

@@ -2,7 +2,6 @@
 
 from __future__ import annotations
 
-import json
 import os
 import shlex
 from typing import List, Mapping, Optional, Sequence, Union
@@ -18,7 +17,6 @@ PROGRAM = "JASMINEDOME_PROGRAM"
 """The environment variable that names the program, with arguments as a shell would split them."""
 
 _IN_USE = "folder in use"  # what the program says of a folder that another one has
-_WORDS = 500  # characters of the program's last words that an exception repeats
 
 
 def schema_line(fields: object, factor: object, least: object) -> str:
@@ -47,25 +45,18 @@ def command_for(program: object, folder: Optional[str]) -> List[str]:
 
 
 def explained(refusal: Refusal, folder: Optional[str], fields: Mapping[str, str], last_words: str) -> Refusal:
-    """A refusal of the schema line, with what is known of its reason: the folder, the fields, the program's words."""
-    words = _message(last_words)
+    """A refusal of the schema line, with the folder or the fields that it is about, and why a folder doesn't open.
+
+    `last_words` is what the program wrote to standard error.
+    """
     if folder is None:
         return type(refusal)(refusal.number, None, f"the fields {dict(fields)!r:.300}")
-    if isinstance(refusal, DeviceFailed):
-        kind = FolderInUse if _IN_USE in words else DeviceFailed
-        why = "isn't there" if not os.path.lexists(folder) else "is no folder" if not os.path.isdir(folder) else words
-        return kind(refusal.number, None, f"{folder}{f' {why}' if why and kind is DeviceFailed else ''}")
-    return type(refusal)(refusal.number, None, f"the folder {folder}, under the fields {dict(fields)!r:.300}")
-
-
-def _message(last_words: str) -> str:
-    """What the last line of the program's log says."""
-    last = last_words.rpartition("\n")[2]
-    try:
-        told = json.loads(last)
-    except ValueError:
-        return last[:_WORDS]
-    return str(told.get("message", last) if isinstance(told, dict) else last)[:_WORDS]
+    if not isinstance(refusal, DeviceFailed):
+        return type(refusal)(refusal.number, None, f"the folder {folder}, under the fields {dict(fields)!r:.300}")
+    if last_words.endswith(_IN_USE):
+        return FolderInUse(refusal.number, None, folder)
+    why = "isn't there" if not os.path.lexists(folder) else "is no folder" if not os.path.isdir(folder) else "can't be opened"
+    return DeviceFailed(refusal.number, None, f"{folder} {why}")
 
 
 def _command(program: object) -> List[str]:

@@ -36,7 +36,7 @@ class Hit:
 
 @dataclass(frozen=True)
 class Page:
-    """Some of the hits of a query, in order, and how many hits there are in all. To go through it is to go through `hits`."""
+    """Some of the hits of a query, in order, and how many hits there are in all. It is gone through as `hits` is."""
 
     total: int
     hits: Tuple[Hit, ...]

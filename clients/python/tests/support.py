@@ -26,16 +26,16 @@ PROGRAM = REAL or FAKE
 FIELDS = {"brand": "keyword", "color": "facet", "price": "number", "title": "text"}
 
 
-def shop(**options):
+def shop(program=PROGRAM, **options):
     """A catalogue with the fields of the tests."""
-    return jasminedome.Catalogue(FIELDS, program=PROGRAM, **options)
+    return jasminedome.Catalogue(FIELDS, program=program, **options)
 
 
-def scripted(*replies):
-    """A program that answers the schema, and then these lines, one for each line that it reads, and ends."""
+def scripted(*replies, **options):
+    """A program that answers the schema, and then these replies, one for each line that it reads, and ends."""
     code = "import sys\nsys.stdin.readline()\nprint('OK 0', flush=True)\n"
     code += f"for reply in {replies!r}:\n    sys.stdin.readline()\n    print(reply, flush=True)\n"
-    return jasminedome.Catalogue(FIELDS, program=[sys.executable, "-c", code])
+    return jasminedome.Catalogue(FIELDS, program=[sys.executable, "-c", code], **options)
 
 
 class ShopTest(unittest.TestCase):

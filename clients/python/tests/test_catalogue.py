@@ -230,6 +230,38 @@ class Upkeep(support.ShopTest):
             self.assertEqual([view.find("price:1"), view.find("price:1"), view.find("price:2")], pages)
             self.assertEqual(view.facets("color", "price:[1 TO 3]"), counts)
 
+    def test_segments_that_no_merge_takes_are_forced_into_one(self):
+        stat = "0 OK 30000 0 30 1 0 0\n" + "\n".join(f"0 {n} {1_024 if n % 10 else 784} 1" for n in range(1, 31))
+        replies = ["0 OK idle", stat, "0 OK begun 30", "0 OK copied 30000", "0 OK done", "0 OK 60"]
+        replies += ["0 OK 30000 0 1 1 0 0\n0 31 30000 1"]
+        with support.scripted(*replies, least=1000) as shop:
+            self.assertEqual(shop.upkeep().segments, (jasminedome.SegmentStat(31, 30_000, 1),))
+        with support.scripted("0 OK idle", stat, "0 OK idle", "0 OK 0", stat, least=1000) as shop:
+            self.assertEqual(len(shop.upkeep().segments), 30)  # the program forces no more than so many rows
+        few = "0 OK 30000 0 18 1 0 0\n" + "\n".join(f"0 {n} {1_024 if n % 10 else 784} 1" for n in range(1, 19))
+        with support.scripted("0 OK idle", few, "0 OK 5", few, least=1000) as shop:
+            self.assertEqual(len(shop.upkeep().segments), 18)  # nine of each of two levels
+
+    @unittest.skipUnless(support.REAL, "the stand-in has no segments")
+    def test_segments_of_full_buffers_and_of_refreshes_are_merged(self):
+        for least, is_merged in ((1_000, False), (1_024, True)):
+            with self.subTest(least=least), support.shop(least=least) as shop:
+                for turn in range(4):
+                    shop.put_many({"id": f"x{turn}-{n}", "price": n} for n in range(10_000))
+                    shop.refresh()
+                    shop.prune(1)
+                    shop.merge()
+                self.assertEqual(len(shop.stat().segments) <= 27, is_merged)
+                stat = shop.upkeep()
+                self.assertLessEqual(len(stat.segments), 27)
+                self.assertEqual((stat.live, stat.pending), (40_000, 0))
+                with shop.open() as view:
+                    self.assertEqual(view.find(count=0).total, 40_000)
+
+    def test_the_default_is_a_full_buffer(self):
+        with support.scripted() as shop:
+            self.assertEqual((shop._factor, shop._least), (10, 1_024))
+
     def test_warming_ends_where_more_sets_are_missing_than_are_kept(self):
         with support.scripted(*(["0 OK begun", "0 OK warmed 256", "0 OK stored"] * 65)) as shop:
             self.assertEqual(shop.warm(), 64)

@@ -35,7 +35,8 @@ class Wheels(unittest.TestCase):
             names = {each for each in wheel.namelist() if ".dist-info" not in each}
             record = wheel.read(f"jasminedome-{jasminedome.__version__}.dist-info/RECORD").decode().splitlines()
             self.assertEqual({line.split(",")[0] for line in record}, set(wheel.namelist()))
-        sources = {f"jasminedome/{path.name}" for path in (PACKAGE / "jasminedome").iterdir() if path.suffix in (".py", ".typed")}
+        modules = [path.name for path in (PACKAGE / "jasminedome").iterdir()]
+        sources = {f"jasminedome/{name}" for name in modules if name.endswith((".py", ".typed"))}
         self.assertEqual(names, sources)
         jasminedome_build.build_wheel(str(self.room))
         self.assertEqual((self.room / name).read_bytes(), first)
@@ -53,19 +54,26 @@ class Wheels(unittest.TestCase):
 
     @unittest.skipUnless(HAS_PIP, "there is no pip")
     def test_pip_installs_it_without_a_network(self):
-        before = sorted(PACKAGE.rglob("*"))
+        before = sources_of(PACKAGE)
         target = self.room / "site"
+        dead = "http://127.0.0.1:9"
+        offline = {**os.environ, "PIP_ROOT_USER_ACTION": "ignore", "http_proxy": dead, "https_proxy": dead}
         command = [sys.executable, "-m", "pip", "install", "--no-index", "--quiet", "--disable-pip-version-check"]
-        offline = {**os.environ, "PIP_NO_INDEX": "1", "http_proxy": "http://127.0.0.1:9", "https_proxy": "http://127.0.0.1:9"}
         subprocess.run([*command, "--target", str(target), str(PACKAGE)], check=True, env=offline)
-        self.assertEqual([each for each in sorted(PACKAGE.rglob("*")) if "__pycache__" not in each.parts],
-                         [each for each in before if "__pycache__" not in each.parts])  # fmt: skip
-        code = "import jasminedome, importlib.metadata as m\nprint(jasminedome.__file__, m.version('jasminedome'))"
+        self.assertEqual(sources_of(PACKAGE), before)
         clean = {**offline, "PYTHONPATH": str(target)}
-        told = subprocess.check_output([sys.executable, "-c", code], env=clean, cwd=self.room, text=True).split()
-        self.assertEqual(told, [str(target / "jasminedome" / "__init__.py"), jasminedome.__version__])
-        said = subprocess.check_output([sys.executable, "-m", "jasminedome", "--version"], env=clean, cwd=self.room, text=True)
-        self.assertEqual(said, f"jasminedome {jasminedome.__version__}\n")
+
+        def said(*words):
+            return subprocess.check_output([sys.executable, *words], env=clean, cwd=self.room, text=True).split()
+
+        code = "import jasminedome, importlib.metadata as m\nprint(jasminedome.__file__, m.version('jasminedome'))"
+        self.assertEqual(said("-c", code), [str(target / "jasminedome" / "__init__.py"), jasminedome.__version__])
+        self.assertEqual(said("-m", "jasminedome", "--version"), ["jasminedome", jasminedome.__version__])
+
+
+def sources_of(folder):
+    """The files of a folder, but what Python keeps of them."""
+    return sorted(path for path in folder.rglob("*") if "__pycache__" not in path.parts)
 
 
 if __name__ == "__main__":

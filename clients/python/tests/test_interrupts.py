@@ -17,6 +17,7 @@ import jasminedome
 from jasminedome import ProgramEnded, Timeout, UsageError, program, replies
 
 PACKAGE = str(support.HERE.parent)
+SOON = 30  # seconds, for what would last for ever: the machine may be busy
 ENDLESS = """
 import os, signal, sys, threading
 sys.path.insert(0, {package!r})
@@ -100,26 +101,30 @@ class Interrupts(support.ShopTest):
     def test_half_a_line_is_never_said(self):
         # The pipe is full of a long line when the catalogue is closed: the rest of it can't go out.
         code = "import sys,time\nsys.stdin.readline()\nprint('OK 0', flush=True)\ntime.sleep(600)"
-        shop = jasminedome.Catalogue(support.FIELDS, program=[sys.executable, "-c", code], timeout=0.3)
+        shop = jasminedome.Catalogue(support.FIELDS, program=[sys.executable, "-c", code])
+        shop.timeout = 0.3
         self.assertRaises(Timeout, shop.put_many, ({"id": "a" * 60, "title": "x" * 5_000} for _ in range(1_000)))
         shop._program.close(patience=0.2)
         self.assertEqual(shop._program._child.returncode, -signal.SIGKILL)
 
 
 class Timeouts(unittest.TestCase):
-    def shop(self, **options):
-        shop = support.shop(**options)
+    def impatient(self):
+        """A catalogue whose calls wait for little, once it is open."""
+        shop = support.shop()
         self.addCleanup(shop.close)
+        shop.timeout = 0.3
         return shop
 
     def test_a_stopped_program_holds_nobody(self):
-        shop = self.shop(timeout=0.3)
+        shop = self.impatient()
         stopped(shop)
-        for call in (lambda: shop.put({"id": "a"}), shop.refresh, shop.stat, shop.open, lambda: shop.put_many([{"id": "b"}])):
+        puts = [lambda: shop.put({"id": "a"}), lambda: shop.put_many([{"id": "b"}])]
+        for call in (*puts, shop.refresh, shop.stat, shop.open):
             begun = time.monotonic()
             with self.assertRaises(Timeout) as caught:
                 call()
-            self.assertLess(time.monotonic() - begun, 3)
+            self.assertLess(time.monotonic() - begun, SOON)
             self.assertTrue(caught.exception.was_sent)
             self.assertIsInstance(caught.exception, TimeoutError)
         continued(shop)
@@ -128,7 +133,7 @@ class Timeouts(unittest.TestCase):
         self.assertEqual(shop.refresh(), 3)
 
     def test_a_view_that_is_opened_late_is_closed(self):
-        shop = self.shop(timeout=0.3)
+        shop = self.impatient()
         stopped(shop)
         self.assertRaises(Timeout, shop.open)
         continued(shop)
@@ -140,7 +145,7 @@ class Timeouts(unittest.TestCase):
         self.assertLess(taken, 5)
 
     def test_what_never_went_out_is_never_done(self):
-        shop = self.shop(timeout=0.3)
+        shop = self.impatient()
         stopped(shop)
         self.assertRaises(Timeout, shop.put_many, ({"id": f"x{n}", "title": "x" * 5_000} for n in range(2_000)))
         with self.assertRaises(Timeout) as caught:
@@ -157,21 +162,27 @@ class Timeouts(unittest.TestCase):
 
     def test_a_late_reply_is_no_other_calls(self):
         code = "import sys,time\nsys.stdin.readline()\nprint('OK 0', flush=True)\n"
-        code += "for pause in (0.6, 0, 0):\n    sys.stdin.readline()\n    time.sleep(pause)\n    print('1 OK', 7 if pause else 8, flush=True)"
-        with jasminedome.Catalogue({}, program=[sys.executable, "-c", code], timeout=0.2) as shop:
+        code += "for pause in (0.6, 0, 0):\n    sys.stdin.readline()\n    time.sleep(pause)\n"
+        code += "    print('1 OK', 7 if pause else 8, flush=True)"
+        with jasminedome.Catalogue({}, program=[sys.executable, "-c", code]) as shop:
+            shop.timeout = 0.2
             self.assertRaises(Timeout, shop.refresh)
-            shop.timeout = 10
+            shop.timeout = None
             self.assertEqual((shop.refresh(), shop.refresh()), (8, 8))
 
     def test_a_program_that_never_opens(self):
         begun = time.monotonic()
         with self.assertRaises(Timeout):
             jasminedome.Catalogue({}, program=[sys.executable, "-c", "import time; time.sleep(600)"], timeout=0.5)
-        self.assertLess(time.monotonic() - begun, 5)
+        self.assertLess(time.monotonic() - begun, SOON)
 
     def test_what_is_no_timeout(self):
+        shop = self.impatient()
         for wrong in (0, -1, "5", True, float("nan"), float("inf"), 1e300):
-            self.assertRaises(UsageError, self.shop, timeout=wrong)
+            self.assertRaises(UsageError, support.shop, timeout=wrong)
+            with self.assertRaises(UsageError):
+                shop.timeout = wrong
+        self.assertEqual(shop.timeout, 0.3)
 
 
 class Forks(support.ShopTest):
@@ -200,10 +211,11 @@ class Forks(support.ShopTest):
 
     def test_a_fork_is_told_at_once(self):
         view = self.shop.open()
-        for call in (lambda: self.shop.put({"id": "a"}), view.find, self.shop.open, lambda: self.shop.put_many([{"id": "a"}])):
+        puts = [lambda: self.shop.put({"id": "a"}), lambda: self.shop.put_many([{"id": "a"}])]
+        for call in (*puts, view.find, self.shop.open):
             begun = time.monotonic()
             self.assertRegex(self.in_fork(call), "^UsageError: a fork may not use the catalogue of its parent")
-            self.assertLess(time.monotonic() - begun, 5)
+            self.assertLess(time.monotonic() - begun, SOON)
         self.assertEqual(self.in_fork(self.shop.close), "it was done")
         self.assertEqual((self.shop.put({"id": "b"}), view.find().total), (1, 0))
 
@@ -227,7 +239,7 @@ class Forks(support.ShopTest):
         self.in_fork(lambda: None, stays=True)
         begun = time.monotonic()
         self.shop.close()
-        self.assertLess(time.monotonic() - begun, 5)
+        self.assertLess(time.monotonic() - begun, jasminedome.program._PATIENCE)
         self.assertEqual(self.shop._program._child.returncode, 0)
 
 

@@ -183,12 +183,17 @@ class Stopped(FileTest):
         self.assertEqual(told.skipped, 0)
 
     def test_a_program_that_dies(self):
+        opened = []
+
+        def opening(*arguments, **named):
+            opened.append(jasminedome.Catalogue(*arguments, **named))
+            return opened[0]
+
         def kill(answered, _, __):
             if answered >= 1_000:
-                for pid in (int(line) for line in children()):
-                    os.kill(pid, signal.SIGKILL)
+                os.kill(opened[0].pid, signal.SIGKILL)
 
-        with self.assertRaises(JasminedomeError):
+        with mock.patch("jasminedome.loading.Catalogue", opening), self.assertRaises(JasminedomeError):
             self.load("a.csv", self.content(), every=700, progress=kill)
         self.assertEqual(self.load("a.csv", self.content(), every=700).skipped, 700)
 
@@ -198,12 +203,6 @@ class Stopped(FileTest):
         self.assertEqual(len(self.items()), 2)
         for every in (0, -1, "5", None):
             self.assertRaises(UsageError, self.load, "a.csv", "id\n", every=every)
-
-
-def children():
-    """The process ids of this process's programs."""
-    with open(f"/proc/self/task/{os.getpid()}/children") as file:
-        return file.read().split()
 
 
 class Said(CommandTest):
