@@ -148,7 +148,10 @@ class Store:
 
     def _show(self) -> None:
         """Has a view of what was written: at once, or as soon as one may be made."""
-        self._views.make()
+        try:
+            self._views.make()
+        except JasminedomeError as error:
+            log.error("no view of what was saved: %s", error)  # it is saved all the same
         self._is_written.set()
 
     def _keep(self) -> None:

@@ -16,11 +16,11 @@ from typing import Callable, Dict, Iterator, List, Mapping, Optional, Tuple, Uni
 from .catalogue import Catalogue
 from .errors import JasminedomeError, NoCommit, Refusal, UsageError
 from .folders import fields_of
-from .lines import number
+from .lines import number, text
 from .plans import Plan, planned
 from .putting import Item
 from .sources import Source
-from .starting import Command, Folder
+from .starting import Command, Folder, folder_path
 from .tables import DECIMAL, INTEGER, LABELS, Column, Ids, Table
 
 EVERY = 50_000
@@ -82,22 +82,41 @@ def load(
     from there. Raises UsageError where the file can't be a catalogue, OSError, and what `Catalogue`, `put_many`, `merge`
     and `commit` raise.
     """
-    if number(every, "every") == 0:
-        raise UsageError("a load commits after 1 item or more")
+    _check(fields, id_column, every)
+    kept = _folder(folder)
     begun = time.monotonic()
     with Source(path, form, encoding) as source:
         table = Table(source)
         told_progress = _told(source, progress)
         columns = table.columns(lambda: told_progress(0), id_column)
-        existing = fields_of(folder) if Path(folder).is_dir() else None
+        existing = fields_of(kept) if kept.is_dir() else None
         plan = planned(columns, fields or {}, existing, id_column)
-        Path(folder).mkdir(parents=True, exist_ok=True)
-        with Catalogue(plan.fields, folder, program=program) as shop:
+        kept.mkdir(parents=True, exist_ok=True)
+        with Catalogue(plan.fields, kept, program=program) as shop:
             work = _Work(shop, table, plan, columns, told_progress)
             work.run(every)
     ids = table.ids.get(plan.id_column, Ids())
     took = time.monotonic() - begun
     return Loaded(plan, work.accepted, work.refused, work.commit, took, work.skipped, ids.count, tuple(ids.told))
+
+
+def _folder(folder: object) -> Path:
+    path = folder_path(folder)
+    if path is None:
+        raise UsageError("a load needs a folder")
+    return Path(path)
+
+
+def _check(fields: object, id_column: object, every: object) -> None:
+    if fields is not None and not isinstance(fields, Mapping):
+        raise UsageError(f"the fields {fields!r:.200} are no mapping of columns to kinds")
+    for column, kind in (fields or {}).items():
+        text(column, "the column")
+        text(kind, "the kind")
+    if id_column is not None:
+        text(id_column, "the column of the id")
+    if number(every, "every") == 0:
+        raise UsageError("a load commits after 1 item or more")
 
 
 def _told(source: Source, progress: Optional[Progress]) -> Callable[[int], None]:
@@ -220,14 +239,14 @@ def hundredths(value: object) -> object:
     """The hundredths of a price: 1999 of "19.99" or "19,99", 1900 of 19; what is no price stays what it is."""
     if isinstance(value, bool) or not isinstance(value, (str, int, float)):
         return value
-    text = str(value)
-    if re.match(r"-?[0-9]{1,16}\Z", text, re.ASCII):
-        return int(text) * 100
-    found = DECIMAL.match(text)
+    spelled = str(value)
+    if re.match(r"-?[0-9]{1,16}\Z", spelled, re.ASCII):
+        return int(spelled) * 100
+    found = DECIMAL.match(spelled)
     if found is None:
         return value
     cents = int(found.group(1)) * 100 + int(found.group(2).ljust(2, "0"))
-    return -cents if text.startswith("-") else cents
+    return -cents if spelled.startswith("-") else cents
 
 
 def _of_cell(kind: str, cell: str) -> object:

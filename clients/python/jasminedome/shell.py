@@ -218,7 +218,12 @@ def run(folder: Folder, program: Optional[Command] = None) -> int:
             print(f"{_found(shop)} in {os.fspath(folder)}. A query finds, .help tells more.")
         try:
             for line in _lines(shell, is_dialogue):
-                refused |= not shell.say(line)
+                try:
+                    refused |= not shell.say(line)
+                except KeyboardInterrupt:
+                    if not is_dialogue:
+                        raise
+                    print("\ninterrupted: what was said may be done yet")
         except Quit:
             pass
         if shell.uncommitted:

@@ -16,6 +16,7 @@ from pathlib import Path
 from typing import Any, BinaryIO, Iterator, Optional, Union
 
 from .errors import UsageError
+from .lines import text
 
 STANDARD_INPUT = "-"
 """In place of a path: what is read from standard input."""
@@ -38,8 +39,10 @@ class Source:
         """Raises UsageError for a form or encoding that isn't known, or a name that tells none; OSError where there is
         no such file.
         """
+        if not isinstance(path, (str, os.PathLike)) or not os.fspath(path):
+            raise UsageError(f"{path!r:.200} is no path of a file")
         if form is not None and form not in FORMS:
-            raise UsageError(f"{form!r} is no form: {', '.join(FORMS)}")
+            raise UsageError(f"{form!r:.200} is no form: {', '.join(FORMS)}")
         self._path = Path(path) if os.fspath(path) != STANDARD_INPUT else None
         self._kept = None if self._path else _kept_input()
         self.name = self._path.name if self._path else "standard input"
@@ -49,7 +52,7 @@ class Source:
         self._is_packed = begun.startswith(_GZIP)
         self._file: Optional[BinaryIO] = None
         self._read = 0
-        self.encoding = _known(encoding) if encoding else self._marked_encoding()
+        self.encoding = self._marked_encoding() if encoding is None else _known(encoding)
         self.form = form or self._told_form()
 
     def __enter__(self) -> "Source":
@@ -78,16 +81,16 @@ class Source:
         with self._bytes() as file, _packed_well(self.name):
             self._file = file
             unpacked: Any = gzip.GzipFile(fileobj=file) if self._is_packed else file
-            text = io.TextIOWrapper(unpacked, self.encoding, "surrogateescape", newline="\n")
+            decoded = io.TextIOWrapper(unpacked, self.encoding, "surrogateescape", newline="\n")
             try:
-                for number, line in enumerate(text):
+                for number, line in enumerate(decoded):
                     yield line if number else line[line.startswith("\ufeff") :]
             except UnicodeError as error:
                 raise UsageError(f"{self.name} isn't {self.encoding}: {error}") from None
             finally:
                 self._read = file.tell()
                 with contextlib.suppress(ValueError):
-                    text.detach()
+                    decoded.detach()
 
     def digest(self) -> str:
         """A text that other bytes don't have."""
@@ -137,8 +140,8 @@ def _packed_well(name: str) -> Iterator[None]:
 
 def _known(encoding: str) -> str:
     try:
-        return codecs.lookup(encoding).name
-    except LookupError:
+        return codecs.lookup(text(encoding, "the encoding")).name
+    except (LookupError, ValueError):
         raise UsageError(f"{encoding!r} is no encoding") from None
 
 

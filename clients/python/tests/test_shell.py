@@ -1,5 +1,6 @@
 """The dialogue: what it says to who types something else than a query, its keys, and what goes into a pipe."""
 
+import contextlib
 import io
 import os
 import shlex
@@ -7,6 +8,7 @@ import subprocess
 import sys
 import unittest
 from pathlib import Path
+from types import SimpleNamespace
 from unittest import mock
 
 from support import HERE, PROGRAM, CommandTest  # before the package: it finds it
@@ -69,6 +71,17 @@ class Dialogue(CommandTest):
                 Shell(shop, shop.fields, out).say("*:*")
         self.assertIn("…", out.getvalue())
         self.assertLessEqual(max(map(len, out.getvalue().splitlines())), 50)
+
+    def test_an_interrupt_ends_a_line_and_not_the_dialogue(self):
+        out = io.StringIO()
+        with contextlib.ExitStack() as patches:
+            patches.enter_context(mock.patch.dict(os.environ, {"XDG_STATE_HOME": str(self.room)}))
+            patches.enter_context(mock.patch.object(sys, "stdin", SimpleNamespace(isatty=lambda: True)))
+            patches.enter_context(mock.patch("builtins.input", side_effect=["*:*", "*:*", ".quit"]))
+            patches.enter_context(mock.patch.object(Shell, "say", side_effect=[KeyboardInterrupt, True, shell.Quit]))
+            patches.enter_context(contextlib.redirect_stdout(out))
+            self.assertEqual(shell.run(self.folder, PROGRAM), 0)
+        self.assertIn("interrupted: what was said may be done yet", out.getvalue())
 
     def test_a_reader_that_goes_away(self):
         command = [sys.executable, "-m", "jasminedome", "shell", str(self.folder)]

@@ -10,6 +10,7 @@ import threading
 import time
 import unittest
 from pathlib import Path
+from unittest import mock
 from urllib.parse import urlencode
 
 import support  # first: it finds the package
@@ -213,6 +214,12 @@ class Page(unittest.TestCase):
         self.ask("/staff", "POST", {"do": "delete", "id": "boot-1", "back": f"/?t={token}"})
         self.assertIn("There is no boot-1 any more.", self.ask(f"/?t={token}&edit=boot-1")[1])
         self.assertEqual(jasminedome.fields_of(self.folder), sample.FIELDS)
+
+    def test_what_is_saved_is_saved_though_no_view_can_be_made(self):
+        with mock.patch.object(self.store._views, "make", side_effect=jasminedome.AllHeld), self.assertLogs("shop") as caught:
+            self.save("12.34")
+        self.assertIn("64 tokens are recorded", caught.output[0])
+        self.assertEqual(self.shop.stat().writes, len(ITEMS) + 1)
 
     def test_the_last_save_comes_into_a_view_by_itself(self):
         self.serve(1.0)

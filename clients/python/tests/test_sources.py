@@ -78,6 +78,17 @@ class Forms(FileTest):
         list(source.lines())
         self.assertEqual(source.read, source.size)
 
+    def test_arguments_of_a_wrong_type(self):
+        path = self.file("a.csv", TABLE)
+        for odd in (5, b"x", [], {"a"}, object()):
+            for wrong in ({"fields": odd}, {"fields": {"price": odd}}, {"id_column": odd}, {"form": odd}, {"encoding": odd}):
+                self.assertRaises(UsageError, load, path, self.folder, program=PROGRAM, **wrong)
+            self.assertRaises(UsageError, load, odd, self.folder, program=PROGRAM)
+            self.assertRaises(UsageError, load, path, odd, program=PROGRAM)
+        self.assertRaises(UsageError, load, None, self.folder)
+        self.assertRaises(UsageError, load, path, None)
+        self.assertFalse(self.folder.exists())
+
     def test_cells_are_stripped(self):
         self.assertEqual(self.loaded("a.csv", " id ,\ttitle , price\n 1 , Red shoe  , 5\n2,Größe,\t6 \n"), ITEMS)
         told = self.load("b.csv", "id,title,\n3,x,\n4,y,z\n")
