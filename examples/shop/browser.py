@@ -95,6 +95,11 @@ class Browser:
         """The texts of the elements that a CSS selector names."""
         return list(self.run("return [...document.querySelectorAll(arguments[0])].map(e => e.textContent.trim())", selector))
 
+    def press(self, key: str) -> None:
+        """Presses a key and lets it go: a letter, or one of the protocol's, as \ue004 for the tabulator."""
+        steps = [{"type": "keyDown", "value": key}, {"type": "keyUp", "value": key}]
+        self.ask("POST", "/actions", actions=[{"type": "key", "id": "keys", "actions": steps}])
+
     def tabs(self) -> List[str]:
         """The names of the tabs."""
         return list(self.ask("GET", "/window/handles"))

@@ -93,11 +93,12 @@ def _filters(shelf: Shelf, wish: Wish) -> str:
     prices = "".join(
         _choice(address(shelf.token, replace(wish, price="" if wish.price == name else name, page=1)), PRICE_NAMES[name],
                 shelf.counts["price"][name], wish.price == name)
-        for name in PRICES if name
+        for name in PRICES if name and (shelf.counts["price"][name] or wish.price == name)
     )  # fmt: skip
+    prices = f'<h2>Price</h2><ul data-group="price">{prices}</ul>' if prices else ""
     return f"""<nav aria-label="Filters">
 <input type="checkbox" id="filters" class="opener"><label for="filters">Filters{f' ({many})' if many else ''}</label>
-<div class="panel">{groups}<h2>Price</h2><ul data-group="price">{prices}</ul></div>
+<div class="panel">{groups}{prices}</div>
 </nav>"""
 
 
@@ -106,15 +107,23 @@ def _group(shelf: Shelf, wish: Wish, group: str) -> str:
     lines = []
     for label, count in shelf.counts[group].items():
         is_chosen = label in chosen
+        if not count and not is_chosen:
+            continue
         labels = [each for each in chosen if each != label] if is_chosen else [*chosen, label]
         mark = f'<i style="--color:{COLORS[label]}"></i>' if group == "color" and label in COLORS else ""
         lines.append(_choice(address(shelf.token, wish.with_labels(group, labels)), label, count, is_chosen, mark))
-    return f'<h2>{group.capitalize()}</h2><ul data-group="{group}">{"".join(lines)}</ul>'
+    return f'<h2>{group.capitalize()}</h2><ul data-group="{group}">{"".join(lines)}</ul>' if lines else ""
 
 
 def _choice(href: str, name: str, count: int, is_chosen: bool, mark: str = "") -> str:
     chosen = ' aria-current="true"' if is_chosen else ""
-    return f'<li><a href="{_e(href)}"{chosen}>{mark}<span>{_e(name)}</span><small>{count:,}</small></a></li>'
+    label = f"{'Without' if is_chosen else 'Only'} {name}, {_counted(count)}"
+    shown = f"{mark}<span>{_e(name)}</span><small>{count:,}</small>"
+    return f'<li><a href="{_e(href)}" aria-label="{_e(label)}"{chosen}>{shown}</a></li>'
+
+
+def _counted(count: int) -> str:
+    return f"{count:,} {'item' if count == 1 else 'items'}"
 
 
 def _chosen(shelf: Shelf, wish: Wish) -> str:
@@ -136,7 +145,7 @@ def _chosen(shelf: Shelf, wish: Wish) -> str:
         f'{" aria-current=true" if wish.sort == name else ""}>{SORT_NAMES[name]}</a>'
         for name in SORTS
     )
-    items = "item" if shelf.total == 1 else "items"
+    items = _counted(shelf.total).partition(" ")[2]
     return f"""<div class="bar"><h1><span class="total">{shelf.total:,}</span> {items}</h1>{spelled}
 <div class="sorts" role="group" aria-label="Order">{sorts}</div></div>"""
 
@@ -158,7 +167,8 @@ def _item(item: Dict[str, object], shelf: Shelf, wish: Wish) -> str:
 <svg role="img" aria-label="{_e(kind)}"><use href="/icons.svg#{icon}"/></svg></div>
 <p class="title">{_e(str(item.get("title", id)))}</p><p class="brand">{_e(brand)}</p>
 <p class="foot"><b class="price">{_e(price_text(item.get("price")))}</b>
-<span class="colors" title="{_e(", ".join(colors))}">{dots}</span><a class="edit" href="{_e(edit)}">Edit</a></p></li>"""
+<span class="colors" title="{_e(", ".join(colors))}">{dots}</span>
+<a class="edit" href="{_e(edit)}" aria-label="Edit {_e(str(item.get("title", id)))}, {_e(id)}">Edit</a></p></li>"""
 
 
 def _texts(value: object) -> List[str]:
@@ -180,7 +190,8 @@ def _pages(shelf: Shelf, wish: Wish) -> str:
         if number - before > 1:
             parts.append("<span>…</span>")
         current = ' aria-current="page"' if number == shelf.page else ""
-        parts.append(f'<a href="{_e(address(shelf.token, replace(wish, page=number)))}"{current}>{number:,}</a>')
+        href = _e(address(shelf.token, replace(wish, page=number)))
+        parts.append(f'<a href="{href}" aria-label="Page {number:,}"{current}>{number:,}</a>')
     if shelf.page > 1:
         parts.insert(0, f'<a rel="prev" href="{_e(address(shelf.token, replace(wish, page=shelf.page - 1)))}">‹ Before</a>')
     if shelf.page < shelf.pages:

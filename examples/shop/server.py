@@ -7,7 +7,7 @@ from decimal import Decimal, InvalidOperation
 from http import HTTPStatus
 from http.server import BaseHTTPRequestHandler, ThreadingHTTPServer
 from pathlib import Path
-from typing import Callable, Dict, List, Optional, Tuple
+from typing import Any, Callable, Dict, List, Optional, Tuple
 from urllib.parse import parse_qs, urlsplit
 
 from page import Form, address, page, price_text
@@ -63,6 +63,10 @@ class Handler(BaseHTTPRequestHandler):
         else:
             self.send_error(HTTPStatus.NOT_FOUND)
 
+    def do_HEAD(self) -> None:
+        """What GET answers, without its body."""
+        self.do_GET()
+
     def do_POST(self) -> None:
         """A change by the staff, from this page and no other."""
         size = self.headers.get("Content-Length", "")
@@ -95,7 +99,7 @@ class Handler(BaseHTTPRequestHandler):
             more = {"gone": told} if _NUMBER.match(told) else {}
             return self._redirect(address(store.newest, wish, **more))
         if _NUMBER.match(_one(asked, "gone")):
-            said = f"The view of {int(_one(asked, 'gone')):,} isn't kept any more."
+            said = f"The view of {int(_one(asked, 'gone')):,} isn't kept any more: this is the newest."
         form = form or self._form(_one(asked, "edit"), _done(asked))
         status = HTTPStatus.BAD_REQUEST if form.is_refused else HTTPStatus.OK
         text = page(store.shelf(view, wish), wish, store.newest, form, said)
@@ -143,7 +147,8 @@ class Handler(BaseHTTPRequestHandler):
         policy = "default-src 'none'; img-src 'self'; style-src 'self' 'unsafe-inline'; script-src 'self'; connect-src 'self'"
         self.send_header("Content-Security-Policy", policy + "; form-action 'self'; base-uri 'none'; frame-ancestors 'none'")
         self.end_headers()
-        self.wfile.write(body)
+        if self.command != "HEAD":
+            self.wfile.write(body)
 
     def log_message(self, format: str, *args: object) -> None:
         """Says nothing: a visitor's every step is no news."""
@@ -177,7 +182,7 @@ def _is_label(text: str) -> bool:
     return text.isprintable() and len(text.encode(errors="replace")) <= _MAX_LABEL
 
 
-def _item(values: Dict[str, str]) -> Dict[str, object]:
+def _item(values: Dict[str, str]) -> Dict[str, Any]:
     try:
         price = Decimal(values["price"].replace(",", "."))
     except InvalidOperation:

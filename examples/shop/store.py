@@ -1,29 +1,37 @@
-"""The shop's catalogue: the views that its visitors look at, and what the staff changes."""
+"""The shop's catalogue: what its visitors look for, and what the staff changes."""
 
 from __future__ import annotations
 
+import logging
 import re
 import sys
 import threading
-from collections import OrderedDict
 from dataclasses import dataclass, replace
 from pathlib import Path
 from typing import Any, Dict, List, Optional, Sequence, Tuple
 
 sys.path.insert(0, str(Path(__file__).resolve().parents[2] / "clients" / "python"))
 
-from jasminedome import Catalogue, Query, TokenGone, View, all_of, any_of, between, prefix, term  # noqa: E402
+from views import Views  # noqa: E402
+
+from jasminedome import Catalogue, JasminedomeError, Query, View, all_of, any_of, between, prefix, term  # noqa: E402
 
 PAGE = 24
 GROUPS = ("kind", "color", "brand")
 PRICES = {"": (None, None), "0-25": (0, 2_499), "25-50": (2_500, 4_999), "50-100": (5_000, 9_999), "100-": (10_000, None)}
 SORTS = {"": None, "cheap": "+price", "dear": "-price"}
 
-_HELD = 40  # views that are kept open for visitors; the program records 64
-_WORDS = 12  # of what a visitor types
+EVERY = 5.0
+"""The least seconds between two views for visitors, where nothing else is said."""
+
+_WORDS = 10  # of what a visitor types: each may be two clauses and a group, and a query has at most 64
 _LABELS = 12  # of a group
 _CHUNK = 1_000  # hits that one FIND may answer
 _WORD = re.compile(r"[A-Za-z0-9\u0080-\U0010ffff]+")
+_PLURALS = (("ies", "y"), ("ves", "f"), ("sses", "ss"), ("shes", "sh"), ("ches", "ch"), ("xes", "x"), ("ss", "ss"), ("s", ""))
+_SHORTEST = 3  # letters that are left of a word whose ending goes
+
+log = logging.getLogger("shop")
 
 
 @dataclass(frozen=True)
@@ -49,7 +57,7 @@ class Wish:
     def query(self, without: str = "") -> Query:
         """What is looked for, but for the choice in one group: by the others it is told what that group could give."""
         # The program takes A and a for one letter; of letters past ASCII both sides are made small here.
-        parts = [prefix("words", word) for word in _WORD.findall(self.typed.lower())[:_WORDS]]
+        parts = [_word(word) for word in _WORD.findall(self.typed.lower())[:_WORDS]]
         parts += [any_of(*(term(group, label) for label in labels)) for group, labels in self.chosen if group != without]
         if self.price and without != "price":
             parts.append(between("price", *PRICES[self.price]))
@@ -69,26 +77,36 @@ class Shelf:
 
 
 class Store:
-    """A catalogue with the views that visitors hold. Any thread may call."""
+    """A catalogue with the views that visitors hold. Any thread may call.
 
-    def __init__(self, catalogue: Catalogue) -> None:
+    The staff's changes are committed one after another; a thread makes the views of them and keeps the folder in order,
+    and no visitor waits for either but for the one line that the program is at.
+    """
+
+    def __init__(self, catalogue: Catalogue, every: float = EVERY) -> None:
         self._catalogue = catalogue
-        self._views: "OrderedDict[int, View]" = OrderedDict()
-        self._lock = threading.Lock()
-        self.newest = catalogue.refresh()
+        self._views = Views(catalogue, every)
+        self._saving = threading.Lock()
+        self._unseen: Dict[str, Tuple[int, Optional[Dict[str, Any]]]] = {}  # by id, what no view has yet
+        self._is_written = threading.Event()
+        self._is_closed = threading.Event()
+        self._keeper = threading.Thread(target=self._keep, name="shop upkeep", daemon=True)
+        self._keeper.start()
+
+    def close(self) -> None:
+        """Ends the upkeep. The catalogue is the caller's to close."""
+        self._is_closed.set()
+        self._is_written.set()
+        self._keeper.join()
+
+    @property
+    def newest(self) -> int:
+        """The token of the newest view."""
+        return self._views.newest
 
     def view(self, token: int) -> Optional[View]:
         """The view of a token, or None where it isn't kept any more."""
-        with self._lock:
-            try:
-                view = self._views.pop(token, None) or self._catalogue.open(token)
-            except TokenGone:
-                return None
-            self._views[token] = view
-            while len(self._views) > _HELD:
-                # Whoever still reads from it has it; then it is forgotten, and so closed.
-                self._views.popitem(last=False)
-            return view
+        return self._views.get(token)
 
     def shelf(self, view: View, wish: Wish) -> Shelf:
         """The page of the view that the visitor asks for, or the last one where there are fewer."""
@@ -98,33 +116,55 @@ class Store:
         pages = max(1, -(-total // PAGE))
         page = min(wish.page, pages)
         found = view.find(query, sort, _mark(view, query, sort, (page - 1) * PAGE), PAGE)
-        items = [view.get(hit.id) or {} for hit in found.hits]
+        items = [item or {} for item in view.get_many(found)]
         counts = {group: self._counts(view, wish, group) for group in GROUPS}
         counts["price"] = {name: self._priced(view, wish, name) for name in PRICES if name}
         return Shelf(view.token, items, total, page, pages, counts)
 
     def item(self, id: str) -> Optional[Dict[str, Any]]:
-        """An item as it is now, which is what the staff changes."""
-        view = self.view(self.newest)
-        return view.get(id) if view else None
+        """An item as it is now, which is what the staff changes; None where there is none."""
+        number, item = self._unseen.get(id, (0, None))
+        return item if number > self.newest else self._views.current().get(id)
 
-    def put(self, item: Dict[str, object]) -> int:
-        """Puts an item, so that it is there for the next visitor and after the next start; answers the new token."""
-        self._catalogue.put(item)
-        return self._show(f"put {item['id']}")
+    def put(self, item: Dict[str, Any]) -> None:
+        """Puts an item, so that it is there for a later view and after the next start."""
+        id = str(item["id"])
+        with self._saving:
+            self._wrote(self._catalogue.put(item), id, item)
+            self._catalogue.commit(f"put {id}")
+        self._show()
 
-    def delete(self, id: str) -> int:
+    def delete(self, id: str) -> None:
         """Takes an item out likewise."""
-        self._catalogue.delete(id)
-        return self._show(f"delete {id}")
+        with self._saving:
+            self._wrote(self._catalogue.delete(id), id, None)
+            self._catalogue.commit(f"delete {id}")
+        self._show()
 
-    def _show(self, text: str) -> int:
-        with self._lock:
-            self.newest = self._catalogue.refresh()
-            self._catalogue.merge()
-            self._catalogue.commit(text)
-            self._catalogue.sweep()
-            return self.newest
+    def _wrote(self, number: int, id: str, item: Optional[Dict[str, Any]]) -> None:
+        seen = self.newest
+        kept = {name: each for name, each in self._unseen.items() if each[0] > seen}
+        self._unseen = {**kept, id: (number, item)}
+
+    def _show(self) -> None:
+        """Has a view of what was written: at once, or as soon as one may be made."""
+        try:
+            self._views.make()
+        except JasminedomeError as error:
+            log.error("no view of what was saved: %s", error)  # it is saved all the same
+        self._is_written.set()
+
+    def _keep(self) -> None:
+        while True:
+            self._is_written.wait()
+            if self._is_closed.wait(self._views.wait()):
+                return
+            self._is_written.clear()
+            try:
+                self._views.make()
+                self._catalogue.upkeep()
+            except JasminedomeError as error:
+                log.error("upkeep: %s", error)
 
     def _counts(self, view: View, wish: Wish, group: str) -> Dict[str, int]:
         query = wish.query(without=group)
@@ -136,6 +176,16 @@ class Store:
 
     def _priced(self, view: View, wish: Wish, name: str) -> int:
         return view.find(replace(wish, price=name).query(), count=0).total
+
+
+def _word(word: str) -> Query:
+    """Items with a word that begins so, or with the singular of it: boots finds a boot."""
+    for ending, instead in _PLURALS:
+        if word.endswith(ending):
+            single = word[: len(word) - len(ending)] + instead
+            is_other = single != word and len(single) >= _SHORTEST
+            return any_of(prefix("words", word), prefix("words", single)) if is_other else prefix("words", word)
+    return prefix("words", word)
 
 
 def _mark(view: View, query: Query, sort: Optional[str], skipped: int) -> Optional[int]:

@@ -1,6 +1,8 @@
 """Search over a catalogue whose views hold still: a client that starts the program and speaks its line protocol."""
 
-from .catalogue import Catalogue, PutMany, RefusedItem, SegmentStat, Snapshot, Stat
+import logging
+
+from .catalogue import Catalogue
 from .errors import (
     REFUSALS,
     AllHeld,
@@ -12,6 +14,7 @@ from .errors import (
     BadReply,
     Damaged,
     DeviceFailed,
+    FolderInUse,
     JasminedomeError,
     NoCommit,
     NoSnapshot,
@@ -22,6 +25,7 @@ from .errors import (
     OutOfMemory,
     ProgramEnded,
     Refusal,
+    Timeout,
     TokenGone,
     TooLarge,
     TooMany,
@@ -30,7 +34,10 @@ from .errors import (
     WrongKind,
 )
 from .folders import fields_of
+from .putting import PutMany, RefusedItem
 from .query import EVERYTHING, NOTHING, Query, all_of, any_of, between, none_of, prefix, quote, term, words
+from .stats import SegmentStat, Snapshot, Stat
+from .version import __version__
 from .view import FacetCount, Facets, Hit, Page, View
 
 __all__ = [
@@ -47,6 +54,7 @@ __all__ = [
     "EVERYTHING",
     "FacetCount",
     "Facets",
+    "FolderInUse",
     "Hit",
     "JasminedomeError",
     "NOTHING",
@@ -67,6 +75,7 @@ __all__ = [
     "SegmentStat",
     "Snapshot",
     "Stat",
+    "Timeout",
     "TokenGone",
     "TooLarge",
     "TooMany",
@@ -74,6 +83,7 @@ __all__ = [
     "UsageError",
     "View",
     "WrongKind",
+    "__version__",
     "all_of",
     "any_of",
     "between",
@@ -84,3 +94,5 @@ __all__ = [
     "term",
     "words",
 ]
+
+logging.getLogger(__name__).addHandler(logging.NullHandler())  # whoever wants to hear it sets a handler

@@ -9,11 +9,15 @@ from collections import Counter
 from typing import Dict, List, Optional, Tuple
 
 from . import shell
-from .errors import JasminedomeError
-from .loading import KINDS, SKIP, Loaded, load
+from .errors import JasminedomeError, Refusal, UsageError
+from .loading import EVERY, Loaded, load
+from .plans import ASKED, CENTS, SKIP
+from .sources import FORMS, STANDARD_INPUT
 from .terminal import Bar, shown
+from .version import __version__
 
 _SHOWN = 20  # refused lines that a summary tells one by one
+_REPEATS = 5  # ids that come again which it tells
 
 REFUSED = 1
 FAILED = 2
@@ -23,35 +27,34 @@ INTERRUPTED = 130
 def main(arguments: Optional[List[str]] = None) -> int:
     """Does what the arguments say; answers the exit status: 0, 1 where something was refused, 2 where it wasn't done."""
     asked = _parser().parse_args(arguments)
+    is_shell = asked.command == "shell"
     try:
-        return shell.run(asked.folder, asked.program) if asked.command == "shell" else _load(asked)
+        return shell.run(asked.folder, asked.program) if is_shell else _load(asked)
+    except BrokenPipeError:
+        # Whoever read the output has seen enough of it.
+        os.dup2(os.open(os.devnull, os.O_WRONLY), sys.stdout.fileno())
+        return 0
     except (JasminedomeError, OSError) as error:
-        print(f"jasminedome: {shown(str(error))}", file=sys.stderr)
+        for line in str(error).split("\n"):
+            print(f"jasminedome: {shown(line)}", file=sys.stderr)
         return FAILED
     except KeyboardInterrupt:
-        print("\njasminedome: interrupted; what wasn't committed is gone", file=sys.stderr)
+        goes_on = "what was committed stays, and the same command goes on from there"
+        left = "what wasn't committed is gone" if is_shell else goes_on
+        print(f"\njasminedome: interrupted; {left}", file=sys.stderr)
         return INTERRUPTED
 
 
 def _parser() -> argparse.ArgumentParser:
     parser = argparse.ArgumentParser("jasminedome", description="Load a catalogue from a file, and look into it.")
+    parser.add_argument("--version", action="version", version=f"%(prog)s {__version__}")
     commands = parser.add_subparsers(dest="command", required=True)
     loading = commands.add_parser(
         "load",
         help="put the items of a file into a folder, and commit them",
         description="Puts the items of FILE into a folder, which is made where there is none, and commits them.",
     )
-    loading.add_argument("file", metavar="FILE", help="lines of JSON (.jsonl), or a table with a line of names (.csv)")
-    loading.add_argument("--folder", required=True, metavar="F", help="where the catalogue is kept")
-    loading.add_argument(
-        "--field",
-        action="append",
-        default=[],
-        type=_field,
-        metavar="NAME:KIND",
-        help=f"what a column is: {', '.join(KINDS)}, or {SKIP} to leave it out; the others go by their values",
-    )
-    loading.add_argument("--id", metavar="NAME", help="the column that tells items apart, where that isn't id")
+    _add_load(loading)
     shelled = commands.add_parser("shell", help="ask a folder's catalogue", description="Asks the catalogue of a folder.")
     shelled.add_argument("folder", metavar="F", help="where the catalogue is kept")
     for each in (loading, shelled):
@@ -59,20 +62,47 @@ def _parser() -> argparse.ArgumentParser:
     return parser
 
 
+def _add_load(parser: argparse.ArgumentParser) -> None:
+    parser.add_argument(
+        "file",
+        metavar="FILE",
+        help="lines of JSON (.jsonl), an array of JSON (.json), or a table with a line of names (.csv, .tsv), any of them "
+        f"packed (.gz); {STANDARD_INPUT} for standard input",
+    )
+    parser.add_argument("--folder", required=True, metavar="F", help="where the catalogue is kept")
+    parser.add_argument(
+        "--field",
+        action="append",
+        default=[],
+        type=_field,
+        metavar="NAME:KIND",
+        help=f"what a column is: {', '.join(ASKED[:-2])}; {CENTS} for prices such as 19.99, which become a number; or "
+        f"{SKIP} to leave it out; the others go by their values",
+    )
+    parser.add_argument("--id", metavar="NAME", help="the column that tells items apart, where that isn't id")
+    parser.add_argument("--format", choices=FORMS, help="what the file is, where its name doesn't tell")
+    parser.add_argument("--encoding", metavar="NAME", help="what it is written in, where that isn't UTF-8: latin-1, say")
+    parser.add_argument("--every", type=int, default=EVERY, metavar="N", help="items between two commits (%(default)s)")
+
+
 def _field(text: str) -> Tuple[str, str]:
     name, colon, kind = text.rpartition(":")
-    if not colon or not name or kind not in (*KINDS, SKIP):
-        raise argparse.ArgumentTypeError(f"{text!r} isn't NAME:KIND, with {', '.join(KINDS)} or {SKIP}")
+    if not colon or not name or kind not in ASKED:
+        raise argparse.ArgumentTypeError(f"{text!r} isn't NAME:KIND, with {', '.join(ASKED[:-1])} or {SKIP}")
     return name, kind
 
 
 def _load(asked: argparse.Namespace) -> int:
     bar = Bar(sys.stderr)
     try:
-        told = load(asked.file, asked.folder, dict(asked.field), asked.id, asked.program, bar.show)
+        told = load(
+            asked.file, asked.folder, dict(asked.field), asked.id, asked.program, bar.show, asked.format, asked.encoding,
+            asked.every,
+        )  # fmt: skip
     finally:
         bar.end()
-    for line in _summary(told, os.path.basename(asked.file), asked.folder):
+    name = "standard input" if asked.file == STANDARD_INPUT else os.path.basename(asked.file)
+    for line in _summary(told, name, asked.folder):
         print(shown(line))
     return REFUSED if told.refused else 0
 
@@ -86,20 +116,36 @@ def _summary(told: Loaded, name: str, folder: str) -> List[str]:
     renamed = {column: field for column, field in told.plan.names.items() if column != field}
     if renamed:
         lines.append("renamed: " + ", ".join(f"{column!r} to {field}" for column, field in renamed.items()))
+    if told.skipped:
+        lines.append(f"went on behind row {told.skipped:,}, up to which a load that was stopped had committed")
+    if told.repeated:
+        lines += _repeated(told)
     if told.refused:
         lines += _refused(told)
     return lines
 
 
+def _repeated(told: Loaded) -> List[str]:
+    ids = "id comes" if told.repeated == 1 else "ids come"
+    lines = [f"{told.repeated:,} {ids} again, and the last of each counts:"]
+    lines += [f"  line {line:,}: {id}, as in line {first:,}" for id, first, line in told.repeats[:_REPEATS]]
+    return lines + ([f"  and {told.repeated - _REPEATS:,} more"] if told.repeated > _REPEATS else [])
+
+
 def _refused(told: Loaded) -> List[str]:
-    reasons: Dict[str, int] = Counter(str(each.error) for each in told.refused)
+    reasons: Dict[str, int] = Counter(_reason(each.error) for each in told.refused)
     lines = [f"{len(told.refused):,} refused:"]
-    for each in told.refused[:_SHOWN]:
-        lines.append(f"  line {each.line:,}: {each.error}{f': {each.detail}' if each.detail else ''}")
+    lines += [f"  line {each.line:,}: {each.error}" for each in told.refused[:_SHOWN]]
     if len(told.refused) > _SHOWN:
         lines.append(f"  and {len(told.refused) - _SHOWN:,} more; in all:")
         lines += [f"  {count:,} times: {reason}" for reason, count in Counter(reasons).most_common()]
+    if any(isinstance(each.error, UsageError) and "UTF-8" in str(each.error) for each in told.refused):
+        lines.append("what isn't UTF-8 is read by --encoding: latin-1 or cp1252, say")
     return lines
+
+
+def _reason(error: JasminedomeError) -> str:
+    return f"{error.text} (refusal {error.number})" if isinstance(error, Refusal) else str(error).partition(": ")[0]
 
 
 if __name__ == "__main__":

@@ -2,82 +2,33 @@
 
 from __future__ import annotations
 
+import asyncio
 import contextlib
-import json
-import os
-import shlex
+import logging
 import weakref
 from collections import deque
-from dataclasses import dataclass
 from itertools import islice
-from typing import Any, Callable, Deque, Iterable, Iterator, List, Mapping, Optional, Sequence, Tuple, Union
+from typing import Callable, Deque, Iterable, Iterator, List, Mapping, Optional, Sequence, Tuple, Union
 
-from .errors import JasminedomeError, UsageError
-from .lines import MAX_LINE, Program, Replies, Reply, line, number, read_refusal, reading
-from .query import Query
+from .errors import JasminedomeError, Refusal, Timeout, UsageError
+from .lines import line, number, reading, seconds
+from .lines import text as _text
+from .program import Program
+from .putting import AHEAD, BATCH, Item, Load, Numbered, PutMany, explained, item_text
+from .query import Query, query_text
+from .replies import NEVER, Limit, Replies, Reply, Together
 from .sessions import UPKEEP, Sessions
+from .starting import Command, Folder, command_for, folder_path, schema_line
+from .starting import explained as explained_opening
+from .stats import Snapshot, Stat, most_segments, read_stat
 from .view import View
 
-Item = Union[str, Mapping[str, object]]
-Command = Union[str, "os.PathLike[str]", Sequence[str]]
-
-PROGRAM = "JASMINEDOME_PROGRAM"
-"""The environment variable that names the program, with arguments as a shell would split them."""
-
-_BATCH = 512  # items that go out in one write
-_MAX_CHARACTER = 4  # bytes of one in UTF-8
-_AHEAD = 8  # batches that wait for replies at the same time
 _MOST_SETS = 64  # sets that are kept
-_to_json = json.JSONEncoder(ensure_ascii=False, allow_nan=False, separators=(",", ":")).encode
 
+log = logging.getLogger("jasminedome")
 
-@dataclass(frozen=True)
-class RefusedItem:
-    """An item that wasn't put: which one it was, from 0, and why (a Refusal, or a UsageError where it wasn't sent)."""
-
-    index: int
-    error: JasminedomeError
-
-
-@dataclass(frozen=True)
-class PutMany:
-    """How many items were put, the number of the last write among them (None where none was), and what was refused."""
-
-    accepted: int
-    last: Optional[int]
-    refused: Tuple[RefusedItem, ...]
-
-
-@dataclass(frozen=True)
-class SegmentStat:
-    """A segment: its number, its rows, and how many of them are live."""
-
-    number: int
-    rows: int
-    live: int
-
-
-@dataclass(frozen=True)
-class Stat:
-    """How many writes were taken, items are buffered, tokens recorded, sets cached, and names of files pending."""
-
-    writes: int
-    buffered: int
-    recorded: int
-    cached: int
-    pending: int
-    segments: Tuple[SegmentStat, ...]
-
-
-@dataclass(frozen=True)
-class Snapshot:
-    """A commit that is kept, by its generation; `files` are the names of its files, its own first.
-
-    A copy of these files in another folder, made while the snapshot stands, opens at that commit.
-    """
-
-    generation: int
-    files: Tuple[str, ...]
+More = Callable[[str], int]
+"""Of what follows OK in a reply's first line, how many lines the reply goes on for."""
 
 
 class Catalogue:
@@ -85,48 +36,72 @@ class Catalogue:
 
     `fields` maps each field's name to its kind: "text", "keyword", "number" or "facet". `folder` is one that exists,
     for a catalogue that outlives the program; None keeps it in memory. `factor` (2 to 100) and `least` (1 to 100,000
-    rows) say when segments are merged. `program` is the program's path, or a command with arguments; without it the
-    environment variable JASMINEDOME_PROGRAM is asked, and then `catalogue` on the PATH.
+    rows) say when segments are merged: with 1,024 or more a full buffer's segment is of the lowest level, as those of a
+    REFRESH are, so that merges go on. `program` is the program's path, or a command with arguments; without it the
+    environment variable JASMINEDOME_PROGRAM is asked, and then `catalogue` on the PATH. `timeout` is how many seconds a
+    call waits for its reply; None waits for ever.
 
     Any thread may call: each speaks under a session of its own, and so does each open view, 9,999 in all. A call
-    raises the Refusal that the program answers (those that it names), ProgramEnded where the program is gone, and
-    UsageError for what can't be sent. The program is in a session of its own, so that an interrupt at the terminal
-    doesn't end it.
+    raises the Refusal that the program answers (those that it names), ProgramEnded where the program is gone, Timeout,
+    and UsageError for what can't be sent. The program is in a session of its own, so that an interrupt at the terminal
+    doesn't end it; one that comes in a call leaves a catalogue that can be asked.
     """
 
     def __init__(
         self,
         fields: Mapping[str, str],
-        folder: Union[None, str, "os.PathLike[str]"] = None,
+        folder: Optional[Folder] = None,
         factor: int = 10,
-        least: int = 1000,
+        least: int = 1024,
         program: Optional[Command] = None,
+        timeout: Optional[float] = None,
     ) -> None:
         """Starts the program. Raises WrongKind for wrong fields, or ones that aren't the folder's; BadLine for a factor
-        or least out of range; DeviceFailed and Damaged for a folder that can't be opened; ProgramEnded where the
-        program can't be started.
+        or least out of range; DeviceFailed and Damaged for a folder that can't be opened, FolderInUse for one that
+        another program has; ProgramEnded where the program can't be started.
         """
-        schema = f"SCHEMA {number(factor, 'the factor')} {number(least, 'least')} {_json(dict(fields))}"
-        line(schema)  # what can't be sent starts no program
-        command = _command(program)
-        if folder is not None:
-            command += ["run", os.fspath(folder)]
-        self._program = Program(command)
+        schema = schema_line(fields, factor, least)
+        self.folder = folder_path(folder)
+        self.fields = dict(fields)
+        self._factor, self._least = factor, least
+        self.timeout = timeout
+        self._program = Program(command_for(program, self.folder))
         self._sessions = Sessions()
         self._left: Deque[Tuple[int, int]] = deque()
         self._leave = weakref.finalize(self, self._program.leave)
+        self.opened_at = self._opened(schema)
+        """The number of writes that it opened with."""
+
+    def _opened(self, schema: str) -> int:
         try:
             with reading():
-                self.opened_at = int(self._program.ask(None, schema)[0])
+                return int(self._program.ask(None, schema, limit=self._limit())[0])
+        except Refusal as refused:
+            self.close()
+            raise explained_opening(refused, self.folder, self.fields, self._program.last_words) from None
+        except Timeout:
+            self._leave.detach()
+            self._program.close(patience=0)
+            raise
         except BaseException:
             self.close()
             raise
+
+    def __repr__(self) -> str:
+        where = "memory" if self.folder is None else repr(self.folder)
+        return f"<Catalogue in {where}, process {self.pid}{'' if self._leave.alive else ', closed'}>"
 
     def __enter__(self) -> "Catalogue":
         return self
 
     def __exit__(self, *_: object) -> None:
         self.close()
+
+    async def __aenter__(self) -> "Catalogue":
+        return self
+
+    async def __aexit__(self, *_: object) -> None:
+        await asyncio.to_thread(self.close)
 
     def close(self) -> None:
         """Ends the program, once it has answered what was asked, and waits for its end. Nothing is committed by this.
@@ -141,6 +116,18 @@ class Catalogue:
         """The program's process id."""
         return self._program.pid
 
+    @property
+    def timeout(self) -> Optional[float]:
+        """How many seconds a call waits; None waits for ever. It may be set, and holds for calls that begin later."""
+        return self._timeout
+
+    @timeout.setter
+    def timeout(self, value: Optional[float]) -> None:
+        self._timeout = seconds(value)
+
+    def _limit(self) -> Limit:
+        return NEVER if self._timeout is None else Limit(self._timeout)
+
     # Writes
 
     def put(self, item: Item) -> int:
@@ -149,32 +136,39 @@ class Catalogue:
         Raises BadJson, WrongKind, BadId, UnknownField, TooLarge, NumberSpent, DeviceFailed, OutOfMemory; UsageError
         where it is no JSON at all, or the line passes 10,000 bytes.
         """
-        return self._number(f"PUT {_json(item)}")
+        try:
+            return self._number(f"PUT {item_text(item)}")
+        except Refusal as refused:
+            raise explained(refused, item, self.fields) from None
 
     def put_many(self, items: Iterable[Item], progress: Optional[Callable[[int], object]] = None) -> PutMany:
         """Puts items in order without waiting for each reply, and tells which were refused; the others are put.
 
-        `progress` is called with how many items were answered so far, every 512 items or so. Raises ProgramEnded, and
-        what `items` or `progress` raise: the items that were taken from `items` before may then be put or not.
+        `progress` is called with how many items were answered so far, every 512 items or so. Raises ProgramEnded,
+        Timeout, and what `items` or `progress` raise, or an interrupt: of the items that were taken from `items` before,
+        the first so many are put then, and the catalogue can be asked how it stands (`stat().writes`).
         """
-        session = self._sessions.own()
-        load = _Load(session, progress)
-        waiting: Deque[Tuple[Replies, List[int]]] = deque()
+        if isinstance(items, (str, bytes, Mapping)) or not isinstance(items, Iterable):
+            raise UsageError(f"{items!r:.200} are no items: an iterable of mappings or texts of JSON")
+        if progress is not None and not callable(progress):
+            raise UsageError(f"the progress {progress!r:.200} can't be called")
+        load = Load(self._session(), self.fields, progress)
+        waiting: Deque[Tuple[Replies, Sequence[Numbered]]] = deque()
         numbered = enumerate(items)
         while True:
-            batch = list(islice(numbered, _BATCH))
+            batch = list(islice(numbered, BATCH))
             if not batch:
                 break
-            data, indices = load.lines(batch)
-            if indices:
-                replies = Replies(len(indices))
+            data, sent = load.lines(batch)
+            if sent:
+                replies = Replies(len(sent))
                 self.close_left()
-                self._program.send(data, replies)
-                waiting.append((replies, indices))
-            if len(waiting) >= _AHEAD:
-                load.note(*waiting.popleft())
-        for replies, indices in waiting:
-            load.note(replies, indices)
+                self._program.send(data, replies, self._limit())
+                waiting.append((replies, sent))
+            if len(waiting) >= AHEAD:
+                load.note(*waiting.popleft(), self._limit())
+        for replies, sent in waiting:
+            load.note(replies, sent, self._limit())
         return load.told()
 
     def delete(self, id: str) -> int:
@@ -182,14 +176,14 @@ class Catalogue:
 
         Raises BadId, NumberSpent, DeviceFailed.
         """
-        return self._number(f"DEL {id}")
+        return self._number(f"DEL {_text(id, 'the id')}")
 
     def delete_where(self, query: Union[str, Query]) -> int:
         """Takes out every item that the query matches now; answers the write's number.
 
         Raises BadQuery, NumberSpent, DeviceFailed, OutOfMemory.
         """
-        return self._number(f"DELW {query}")
+        return self._number(f"DELW {query_text(query)}")
 
     # Views
 
@@ -205,14 +199,19 @@ class Catalogue:
 
         Raises TokenGone, OutOfMemory.
         """
-        text = "OPEN" if token is None else f"OPEN {number(token, 'the token')}"
-        session = self._sessions.take()
+        asked = "OPEN" if token is None else f"OPEN {number(token, 'the token')}"
+        self.close_left()  # first of all, since their sessions may be the only ones
+        session, limit = self._sessions.take(), self._limit()
+        reply = Reply(session, lambda _: 0)
         try:
-            opened = self._number(text, session)
+            self._program.send(line(f"{session} {asked}"), reply, limit)
+            with reading():
+                opened = int(reply.wait(limit)[0])
         except BaseException as error:
-            # Whether an interrupted OPEN was answered isn't known: its session isn't used again.
-            if isinstance(error, JasminedomeError):
+            if isinstance(error, JasminedomeError) and not (isinstance(error, Timeout) and error.was_sent):
                 self._sessions.give(session)
+            else:
+                _close_late(reply, session, self._left, self._sessions)
             raise
         return View(self, session, opened, self._left)
 
@@ -230,7 +229,8 @@ class Catalogue:
 
         Raises TooLarge and WrongKind for the text (no control characters), NumberSpent, DeviceFailed, OutOfMemory.
         """
-        return self._number(f"COMMIT {text}" if text else "COMMIT")
+        note = _text(text, "the commit's text")
+        return self._number(f"COMMIT {note}" if note else "COMMIT")
 
     def note(self, generation: int) -> str:
         """The text of a commit that is kept. Raises NoCommit, OutOfMemory."""
@@ -283,17 +283,29 @@ class Catalogue:
             made += told == "stored"
         return made
 
+    def upkeep(self) -> Stat:
+        """Merges what is due, to the end, and deletes the files that nobody needs; answers how the catalogue stands then.
+
+        Where more segments stand than merges leave (`factor - 1` of each level), no merge is due for their sizes don't
+        fit together: then all are forced into one, which the program does up to 262,144 rows. Raises what `merge`,
+        `force` and `sweep` do.
+        """
+        self.merge()
+        stat = self.stat()
+        if len(stat.segments) > most_segments(stat, self._factor, self._least):
+            is_forced = self.force()
+            what = "are one now" if is_forced else "can't be forced into one"
+            log.info("%d segments stood, and %s", len(stat.segments), what)
+        self.sweep()
+        return self.stat()
+
     def sweep(self) -> int:
         """Deletes the files that nobody uses any more; answers how many. Raises DeviceFailed."""
         return self._number("SWEEP", UPKEEP)
 
     def stat(self) -> Stat:
         """How the catalogue stands, with the number of sets that are cached. Raises OutOfMemory."""
-        first, *lines = self.ask("STAT", lambda told: int(told.split(" ")[2]), session=UPKEEP)
-        with reading():
-            writes, buffered, _, recorded, cached, pending = (int(word) for word in first.split(" "))
-            segments = tuple(SegmentStat(*(int(word) for word in told.split(" "))) for told in lines)
-        return Stat(writes, buffered, recorded, cached, pending, segments)
+        return read_stat(self.ask("STAT", lambda told: int(told.split(" ")[2]), session=UPKEEP))
 
     def _steps(self, command: str) -> List[str]:
         told: List[str] = []
@@ -303,15 +315,33 @@ class Catalogue:
 
     # Lines
 
-    def ask(self, text: str, more: Callable[[str], int] = lambda _: 0, session: Optional[int] = None) -> List[str]:
+    def ask(self, text: str, more: More = lambda _: 0, session: Optional[int] = None) -> List[str]:
         """Sends a line and waits for its reply: for what this package has no method for.
 
         `text` is the line behind the session's number, which is the calling thread's where none is given. `more` says,
         of what follows OK, how many lines the reply goes on for. Answers these, without OK and the session's number.
         """
-        speaker = self._sessions.own() if session is None else session
+        asked = _text(text, "the line")
+        self.close_left()  # first of all, since a thread may get the session of one
+        return self._program.ask(self._session(session), asked, more, self._limit())
+
+    def ask_many(self, asked: Iterable[Tuple[str, More]], session: Optional[int] = None) -> List[List[str]]:
+        """Sends lines in one piece, each with its `more`, and waits for all of their replies, as `ask` does for one.
+
+        Raises the first Refusal among them.
+        """
         self.close_left()
-        return self._program.ask(speaker, text, more)
+        speaker, limit = self._session(session), self._limit()
+        data, replies = [], []
+        for spelled, more in asked:
+            data.append(line(f"{speaker} {_text(spelled, 'the line')}"))
+            replies.append(Reply(speaker, more))
+        if replies:
+            self._program.send(b"".join(data), Together(replies), limit)
+        return [reply.wait(limit) for reply in replies]
+
+    def _session(self, session: Optional[int] = None) -> int:
+        return self._sessions.own() if session is None else number(session, "the session")
 
     def _number(self, text: str, session: Optional[int] = None) -> int:
         told = self.ask(text, session=session)[0]
@@ -325,87 +355,27 @@ class Catalogue:
                 session, token = self._left.popleft()
             except IndexError:  # another thread was first
                 return
-            with contextlib.suppress(JasminedomeError):
-                # Whatever the session says next comes behind this line, so the number is free at once.
-                self._program.send(line(f"{session} CLOSE {token}"), Reply(session, lambda _: 0))
-                self._sessions.give(session)
-
-
-class _Load:
-    """The items of one `put_many`: what goes out, what came back, and what was refused."""
-
-    def __init__(self, session: int, progress: Optional[Callable[[int], object]]) -> None:
-        self._head = f"{session} PUT "
-        self._ok = b"%d OK " % session
-        self._progress = progress
-        self._refused: List[RefusedItem] = []
-        self._accepted = 0
-        self._answered = 0
-        self._last: Optional[int] = None
-
-    def lines(self, items: Sequence[Tuple[int, Item]]) -> Tuple[bytes, List[int]]:
-        """The lines of the items that can be sent, and the index of each; notes the others."""
-        together = self._together(items)
-        if together is not None:
-            return together, [index for index, _ in items]
-        lines: List[bytes] = []
-        indices: List[int] = []
-        for index, item in items:
             try:
-                lines.append(line(self._head + _json(item)))
-            except UsageError as error:
-                self._refused.append(RefusedItem(index, error))
-                self._answered += 1
-            else:
-                indices.append(index)
-        return b"".join(lines), indices
-
-    def _together(self, items: Sequence[Tuple[int, Item]]) -> Optional[bytes]:
-        """The lines of all items, made in one go, which is twice as fast; None where one may not be fit to be sent."""
-        try:
-            texts = [item if isinstance(item, str) else _to_json(item) for _, item in items]
-            ended = "\n".join(texts) + "\n"
-            are_lines = ended.count("\n") == len(texts) and "\r\n" not in ended
-            if are_lines and max(map(len, texts)) <= (MAX_LINE - len(self._head)) // _MAX_CHARACTER:
-                return (self._head + ended[:-1].replace("\n", "\n" + self._head) + "\n").encode()
-        except (TypeError, ValueError, RecursionError):
-            pass  # one item is at fault, and which one is found by a look at each
-        return None
-
-    def note(self, replies: Replies, indices: List[int]) -> None:
-        """Waits for the replies to the items of these indices, and notes them."""
-        last = b""
-        for index, reply in zip(indices, replies.wait()):
-            if reply.startswith(self._ok):
-                self._accepted += 1
-                last = reply[len(self._ok) :]
-            else:
-                self._refused.append(RefusedItem(index, read_refusal(reply)))
-        if last:
-            with reading():
-                self._last = int(last)
-        self._answered += len(indices)
-        if self._progress is not None:
-            self._progress(self._answered)
-
-    def told(self) -> PutMany:
-        """All that was noted."""
-        refused = tuple(sorted(self._refused, key=lambda each: each.index))
-        return PutMany(self._accepted, self._last, refused)
+                # Whatever the session says next comes behind this line, so the number is free at once.
+                self._program.send(line(f"{session} CLOSE {token}"), Reply(session, lambda _: 0), Limit(0))
+            except JasminedomeError as error:
+                if isinstance(error, Timeout) and not error.was_sent:  # the pipe is full: at a later call
+                    self._left.appendleft((session, token))
+                    return
+            except BaseException:
+                self._left.appendleft((session, token))
+                raise
+            self._sessions.give(session)
 
 
-def _json(value: Any) -> str:
-    if isinstance(value, str):
-        return value
-    try:
-        return _to_json(value)
-    except (TypeError, ValueError, RecursionError) as error:
-        raise UsageError(f"no JSON: {error}") from None
+def _close_late(reply: Reply, session: int, left: "Deque[Tuple[int, int]]", sessions: Sessions) -> None:
+    """Has the view closed that the reply may open yet, for which nobody waits any more, and its session given back."""
 
+    def settle() -> None:
+        token = reply.accepted
+        if token is not None and token.isdigit():
+            left.append((session, int(token)))
+        else:
+            sessions.give(session)
 
-def _command(program: Optional[Command]) -> List[str]:
-    if program is None:
-        return shlex.split(os.environ.get(PROGRAM, "")) or ["catalogue"]
-    if isinstance(program, (str, os.PathLike)):
-        return [os.fspath(program)]
-    return list(program)
+    reply.then(settle)

@@ -2,7 +2,8 @@
 
 from __future__ import annotations
 
-from typing import Dict, Optional, Type
+import copy
+from typing import Dict, Optional, Tuple, Type, TypeVar
 
 
 class JasminedomeError(Exception):
@@ -10,7 +11,26 @@ class JasminedomeError(Exception):
 
 
 class UsageError(JasminedomeError, ValueError):
-    """A call was wrong in itself, and nothing was sent: a line feed in an argument, a number out of range, a closed view."""
+    """A call was wrong in itself, and nothing was sent: an argument of a wrong type, a line feed in it, a closed view."""
+
+
+class Timeout(JasminedomeError, TimeoutError):
+    """The program didn't answer within the catalogue's `timeout`. The catalogue stays open, and may be asked again.
+
+    `was_sent` says what the call left. False: nothing of it went out, and nothing of it will ever be done. True: it went
+    out, or will, so that it may be done now, later, or not at all where the program ends before. Its reply, if it still
+    comes, is matched to this call and dropped; a view that is opened late is closed. A write or a commit may be said
+    again, where nobody else writes the same items.
+    """
+
+    def __init__(self, seconds: float, was_sent: bool) -> None:
+        self.seconds = seconds
+        self.was_sent = was_sent
+        left = "it was sent, and may be done yet" if was_sent else "nothing of it was sent"
+        super().__init__(f"no reply within {seconds:g} s: {left}")
+
+    def __reduce__(self) -> "Tuple[Type[Timeout], Tuple[float, bool]]":
+        return type(self), (self.seconds, self.was_sent)
 
 
 class ProgramEnded(JasminedomeError):
@@ -26,6 +46,9 @@ class ProgramEnded(JasminedomeError):
         text = "the program ended" if status is None else f"the program ended with status {status}"
         super().__init__(f"{text}: {self.said}" if self.said else text)
 
+    def __reduce__(self) -> "Tuple[Type[ProgramEnded], Tuple[Optional[int], str]]":
+        return type(self), (self.status, self.said)
+
 
 class BadReply(JasminedomeError):
     """A reply isn't one of the protocol. Where that leaves open which line the next one answers, the program is ended."""
@@ -35,18 +58,23 @@ class Refusal(JasminedomeError):
     """The program refused a line, which changed nothing.
 
     `number` is the refusal's number in the protocol, `text` what it means in words, and `place` the offset of the
-    fault in the query, in bytes of its UTF-8 from 0 (None for every refusal but `BadQuery`).
+    fault in the query, in bytes of its UTF-8 from 0 (None for every refusal but `BadQuery`). `detail` is what the package
+    knows beside: the folder that doesn't open, say; it is empty where it knows nothing.
     """
 
     number = 0
     text = "the program refused the line"
 
-    def __init__(self, number: Optional[int] = None, place: Optional[int] = None) -> None:
+    def __init__(self, number: Optional[int] = None, place: Optional[int] = None, detail: str = "") -> None:
         if number is not None:
             self.number = number
         self.place = place
+        self.detail = detail
         at = "" if place is None else f", at byte {place}"
-        super().__init__(f"{self.text}{at} (refusal {self.number})")
+        super().__init__(f"{self.text}{at} (refusal {self.number}){f': {detail}' if detail else ''}")
+
+    def __reduce__(self) -> "Tuple[Type[Refusal], Tuple[int, Optional[int], str]]":
+        return type(self), (self.number, self.place, self.detail)
 
 
 class BadLine(Refusal):
@@ -175,6 +203,12 @@ class DeviceFailed(Refusal):
     text = "a device failed"
 
 
+class FolderInUse(DeviceFailed):
+    """30 of a schema line: another program works over the folder."""
+
+    text = "another program works over the folder"
+
+
 class Damaged(Refusal):
     """31: a file of the folder is damaged or missing."""
 
@@ -196,3 +230,11 @@ REFUSALS: Dict[int, Type[Refusal]] = {kind.number: kind for kind in Refusal.__su
 def refusal(number: int, place: Optional[int] = None) -> Refusal:
     """The exception for a refusal's number; the base class where this package doesn't know the number."""
     return REFUSALS.get(number, Refusal)(number, place)
+
+
+_Error = TypeVar("_Error", bound=JasminedomeError)
+
+
+def fresh(error: _Error) -> _Error:
+    """An exception like this one that was never raised: one that is raised again and again keeps every caller's frames."""
+    return copy.copy(error)

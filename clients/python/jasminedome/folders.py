@@ -9,11 +9,10 @@ from __future__ import annotations
 import os
 import re
 from pathlib import Path
-from typing import BinaryIO, Dict, Optional, Union
+from typing import BinaryIO, Dict, Optional
 
-from .errors import Damaged
-
-Folder = Union[str, "os.PathLike[str]"]
+from .errors import Damaged, UsageError
+from .starting import Folder, folder_path
 
 _COMMIT = re.compile(r"segments_([1-9][0-9]{0,18})\Z", re.ASCII)
 _KINDS = {1: "text", 2: "keyword", 3: "number", 4: "facet"}
@@ -25,13 +24,17 @@ _MAX_TEXT = 256
 def fields_of(folder: Folder) -> Optional[Dict[str, str]]:
     """The fields and kinds under which the folder's newest commit was made; None where it has no commit.
 
-    Raises Damaged where the commit's file isn't one, and OSError where the folder can't be read.
+    Raises Damaged where the commit's file isn't one, UsageError for what is no path, and OSError where the folder can't
+    be read.
     """
-    found = filter(None, (_COMMIT.match(name) for name in os.listdir(folder)))
+    path = folder_path(folder)
+    if path is None:
+        raise UsageError("None is no folder")
+    found = filter(None, (_COMMIT.match(name) for name in os.listdir(path)))
     newest = max((int(match.group(1)) for match in found), default=0)
     if not newest:
         return None
-    with open(Path(folder, f"segments_{newest}"), "rb") as file:
+    with open(Path(path, f"segments_{newest}"), "rb") as file:
         return _read_fields(file, newest)
 
 

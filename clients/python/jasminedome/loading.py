@@ -2,37 +2,34 @@
 
 from __future__ import annotations
 
-import contextlib
+import hashlib
 import json
 import os
 import re
 import time
 from array import array
 from dataclasses import dataclass
+from itertools import islice
 from pathlib import Path
-from typing import Callable, Dict, Iterator, Mapping, Optional, Tuple, Union
+from typing import Callable, Dict, Iterator, List, Mapping, Optional, Tuple, Union
 
-from .catalogue import Catalogue, Command, Item
-from .errors import JasminedomeError, UsageError
+from .catalogue import Catalogue
+from .errors import JasminedomeError, NoCommit, Refusal, UsageError
 from .folders import fields_of
-from .tables import INTEGER, LABELS, Column, Table
+from .lines import number, text
+from .plans import Plan, planned
+from .putting import Item
+from .sources import Source
+from .starting import Command, Folder, folder_path
+from .tables import DECIMAL, INTEGER, LABELS, Column, Ids, Table
 
-SKIP = "skip"
-"""In place of a kind: the column is left out."""
+EVERY = 50_000
+"""After how many items a load commits, where nothing else is said."""
 
-KINDS = ("text", "keyword", "number", "facet")
-_ID = re.compile(r"[!-~]{1,64}\Z")
-_MAX_FIELDS = 32
-_DETAIL = 40  # characters of a value at fault that are told
+_NAME = 100  # characters of a file's name that a commit's text tells
+_DONE_ROWS = re.compile(r"load .*: ([0-9]{1,18}) rows of ([0-9a-f]{32})\Z", re.DOTALL)
 
-
-@dataclass(frozen=True)
-class Plan:
-    """What becomes of a file's columns: the catalogue's fields, the column of the id, and the field of each other one."""
-
-    fields: Dict[str, str]
-    id_column: str
-    names: Dict[str, str]
+Progress = Callable[[int, int, int], object]
 
 
 @dataclass(frozen=True)
@@ -46,153 +43,168 @@ class RefusedLine:
 
 @dataclass(frozen=True)
 class Loaded:
-    """What a load did; `commit` is None where no item was put, and so nothing was committed. Times are in seconds."""
+    """What a load did; `commit` is None where no item was put, and so nothing was committed. Times are in seconds.
+
+    `skipped` are the rows that an earlier load of this file had put before it was stopped. `repeated` tells how many
+    ids came again in the file, of which the last counts, and of the first of these the id and both lines.
+    """
 
     plan: Plan
     accepted: int
     refused: Tuple[RefusedLine, ...]
     commit: Optional[int]
     seconds: float
+    skipped: int = 0
+    repeated: int = 0
+    repeats: Tuple[Tuple[str, int, int], ...] = ()
 
 
 def load(
     path: Union[str, "os.PathLike[str]"],
-    folder: Union[str, "os.PathLike[str]"],
+    folder: Folder,
     fields: Optional[Mapping[str, str]] = None,
     id_column: Optional[str] = None,
     program: Optional[Command] = None,
-    progress: Optional[Callable[[int, int, int], object]] = None,
+    progress: Optional[Progress] = None,
+    form: Optional[str] = None,
+    encoding: Optional[str] = None,
+    every: int = EVERY,
 ) -> Loaded:
-    """Puts the items of a .jsonl or .csv file into the folder, which is made where there is none, and commits them.
+    """Puts the items of a file into the folder, which is made where there is none, and commits them.
 
-    `fields` says the kind of some fields, or "skip" to leave one out; each other one has the kind that the folder says,
-    or else the one that takes most of its values: number integers, facet lists, text texts (of a .csv every cell, so that
-    number is for columns without anything else). `id_column` names the column of the id. `progress` is called with the
-    items answered so far, the bytes read and the bytes there are.
+    `path` is a file, packed by gzip or not, or "-" for standard input. `form` is "jsonl", "json", "csv" or "tsv"; without
+    it the name tells, or the first character of standard input. `fields` says the kind of some fields, "cents" for prices
+    with a point, or "skip" to leave one out; each other one has the kind that the folder says, or else the one that takes
+    most of its values. `id_column` names the column of the id. `progress` is called with the items answered so far, the
+    bytes read and the bytes there are.
 
-    Raises UsageError where the file can't be a catalogue, OSError, and what `Catalogue`, `put_many`, `merge` and
-    `commit` raise.
+    It commits after every `every` items, with a text that says how far it is: where it was stopped, the same call goes on
+    from there. Raises UsageError where the file can't be a catalogue, OSError, and what `Catalogue`, `put_many`, `merge`
+    and `commit` raise.
     """
+    _check(fields, id_column, every)
+    kept = _folder(folder)
     begun = time.monotonic()
-    table = Table(path)
+    with Source(path, form, encoding) as source:
+        table = Table(source)
+        told_progress = _told(source, progress)
+        columns = table.columns(lambda: told_progress(0), id_column)
+        existing = fields_of(kept) if kept.is_dir() else None
+        plan = planned(columns, fields or {}, existing, id_column)
+        kept.mkdir(parents=True, exist_ok=True)
+        with Catalogue(plan.fields, kept, program=program) as shop:
+            work = _Work(shop, table, plan, columns, told_progress)
+            work.run(every)
+    ids = table.ids.get(plan.id_column, Ids())
+    took = time.monotonic() - begun
+    return Loaded(plan, work.accepted, work.refused, work.commit, took, work.skipped, ids.count, tuple(ids.told))
 
-    def told_progress(answered: int = 0) -> None:
+
+def _folder(folder: object) -> Path:
+    path = folder_path(folder)
+    if path is None:
+        raise UsageError("a load needs a folder")
+    return Path(path)
+
+
+def _check(fields: object, id_column: object, every: object) -> None:
+    if fields is not None and not isinstance(fields, Mapping):
+        raise UsageError(f"the fields {fields!r:.200} are no mapping of columns to kinds")
+    for column, kind in (fields or {}).items():
+        text(column, "the column")
+        text(kind, "the kind")
+    if id_column is not None:
+        text(id_column, "the column of the id")
+    if number(every, "every") == 0:
+        raise UsageError("a load commits after 1 item or more")
+
+
+def _told(source: Source, progress: Optional[Progress]) -> Callable[[int], None]:
+    """Calls `progress` with what was answered and how far the source is read."""
+
+    def told(answered: int) -> None:
         if progress is not None:
-            progress(answered, table.read, table.size)
+            progress(answered, source.read, source.size)
 
-    columns = table.columns(told_progress)
-    existing = fields_of(folder) if Path(folder).is_dir() else None
-    plan = planned(columns, fields or {}, existing, id_column)
-    rows = _Rows(table, plan, columns)
-    Path(folder).mkdir(parents=True, exist_ok=True)
-    with Catalogue(plan.fields, folder, program=program) as shop:
-        told = shop.put_many(rows.items(), told_progress)
-        commit = None
-        if told.accepted:
-            shop.merge()
-            commit = shop.commit(_commit_text(table.path.name))
-            shop.sweep()
-    refused = {rows.lines[each.index]: each.error for each in told.refused}
-    return Loaded(plan, told.accepted, rows.told(refused), commit, time.monotonic() - begun)
+    return told
 
 
-def planned(
-    columns: Mapping[str, Column],
-    asked: Mapping[str, str],
-    existing: Optional[Mapping[str, str]],
-    id_column: Optional[str] = None,
-) -> Plan:
-    """The plan for a file with these columns; `existing` are the fields of the folder's commit. Raises UsageError."""
-    own = _id_column(columns, id_column)
-    names: Dict[str, str] = {}
-    kinds: Dict[str, str] = dict(existing or {})
-    for column, found in columns.items():
-        name = field_name(column)
-        kind = asked.get(column, asked.get(name))
-        if column == own or kind == SKIP:
-            continue
-        if name in names.values() or name == "id":
-            raise UsageError(f"two columns would be the field {name}: leave one out by --field '{column}:{SKIP}'")
-        names[column] = name
-        if existing is None:
-            kinds[name] = kind or found.kind
-        elif name not in existing:
-            raise UsageError(f"the folder has no field {name}: leave it out by --field '{column}:{SKIP}'")
-    _check_asked(asked, kinds, existing is None)
-    if len(kinds) > _MAX_FIELDS:
-        raise UsageError(f"{len(kinds)} fields, and a catalogue has at most {_MAX_FIELDS}: leave some out by --field NAME:{SKIP}")
-    return Plan(dict(sorted(kinds.items())), own, names)
+class _Work:
+    """One load into an open catalogue: some items, a commit, and so on."""
 
+    def __init__(
+        self, shop: Catalogue, table: Table, plan: Plan, columns: Mapping[str, Column], progress: Callable[[int], None]
+    ) -> None:
+        self._shop = shop
+        self._name = table.source.name
+        told = f"{table.source.digest()} {table.source.form} {table.source.encoding} {plan!r}"
+        self._digest = hashlib.blake2b(told.encode(errors="replace"), digest_size=16).hexdigest()
+        self.skipped = _rows_done(shop, self._digest)
+        self._rows = _Rows(table, plan, columns, self.skipped)
+        self._progress = progress
+        self._refused: Dict[int, JasminedomeError] = {}
+        self._answered = 0
+        self.accepted = 0
+        self.commit: Optional[int] = None
 
-def field_name(column: str) -> str:
-    """The field that a column becomes: small letters, digits and `_`. Raises UsageError where nothing is left of it."""
-    name = re.sub(r"[^a-z0-9_]+", "_", column.lower()).strip("_").lstrip("0123456789_")[:32]
-    if not name:
-        raise UsageError(f"{column!r} gives no field a name: leave it out by --field '{column}:{SKIP}'")
-    return name
+    def run(self, every: int) -> None:
+        """Puts all items, with a commit behind every so many."""
+        items = self._rows.items()
+        while self._put(islice(items, every)) == every:
+            self._keep(f"load {_short(self._name)}: {self._rows.taken} rows of {self._digest}")
+        self._keep(f"load {_short(self._name)}")
 
+    @property
+    def refused(self) -> Tuple[RefusedLine, ...]:
+        """All lines that were refused, here or by the program."""
+        errors = {**self._rows.refused, **self._refused}
+        told = sorted(errors.items())
+        return tuple(RefusedLine(line, error, error.detail if isinstance(error, Refusal) else "") for line, error in told)
 
-def _id_column(columns: Mapping[str, Column], asked: Optional[str]) -> str:
-    if asked is not None:
-        if asked not in columns:
-            raise UsageError(f"no column is named {asked}: there are {', '.join(columns) or 'none'}")
-        return asked
-    for column in ("id", *columns):
-        if column in columns and column.lower() == "id":
-            return column
-    raise UsageError(f"no column is named id: --id says which one tells items apart, of {', '.join(columns) or 'none'}")
+    def _put(self, items: Iterator[Item]) -> int:
+        """Puts the next items; answers how many there were."""
+        self._rows.lines = array("q")
+        before = self._answered
+        told = self._shop.put_many(items, lambda answered: self._progress(before + answered))
+        for each in told.refused:
+            self._refused[self._rows.lines[each.index]] = each.error
+        self.accepted += told.accepted
+        self._answered += len(self._rows.lines)
+        return len(self._rows.lines)
 
-
-def _check_asked(asked: Mapping[str, str], kinds: Dict[str, str], is_new: bool) -> None:
-    for name, kind in asked.items():
-        if kind not in (*KINDS, SKIP):
-            raise UsageError(f"{kind!r} is no kind: text, keyword, number, facet or {SKIP}")
-        if kind == SKIP:
-            continue
-        target = field_name(name)
-        if is_new:
-            kinds.setdefault(target, kind)  # no column of this file fills it; a later file may
-        if kinds.get(target) != kind:
-            raise UsageError(f"the folder has {target} as {kinds.get(target, 'no field')}, and not as {kind}")
+    def _keep(self, text: str) -> None:
+        if self.accepted or self.skipped:
+            self._shop.upkeep()
+            self.commit = self._shop.commit(text)
+            self._shop.sweep()
 
 
 class _Rows:
     """The items of a file's rows, the line of each, and the rows that can't be items."""
 
-    def __init__(self, table: Table, plan: Plan, columns: Mapping[str, Column]) -> None:
+    def __init__(self, table: Table, plan: Plan, columns: Mapping[str, Column], skipped: int) -> None:
         self._table = table
         self._plan = plan
+        self._skipped = skipped
         # Lines of JSON that can go as they are go byte by byte.
-        is_same = plan.id_column == "id" and all(column == name for column, name in plan.names.items())
+        is_same = plan.id_column == "id" and all(column == name for column, name in plan.names.items()) and not plan.cents
         is_whole = len(plan.names) + 1 == len(columns)
         self._goes_as_it_is = table.has_json and is_same and is_whole and not columns["id"].counts["integer"]
+        self.taken = 0
         self.lines = array("q")
-        self._refused: Dict[int, JasminedomeError] = {}
+        self.refused: Dict[int, JasminedomeError] = {}
 
     def items(self) -> Iterator[Item]:
-        """The items, in the file's order."""
+        """The items, in the file's order, but those that were put before."""
         for line, row in self._table.rows():
+            self.taken += 1
+            if self.taken <= self._skipped:
+                continue
             if isinstance(row, UsageError):
-                self._refused[line] = row
+                self.refused[line] = row
             else:
                 self.lines.append(line)
                 yield self._item(row)
-
-    def told(self, refused: Mapping[int, JasminedomeError]) -> Tuple[RefusedLine, ...]:
-        """All lines that were refused, here or by the program; the file is read once more for what is wrong in them."""
-        errors = {**self._refused, **refused}
-        if not errors:
-            return ()
-        details = {line: self._detail(row) for line, row in self._table.rows() if line in refused}
-        return tuple(RefusedLine(line, errors[line], details.get(line, "")) for line in sorted(errors))
-
-    def _detail(self, row: Union[str, Dict[str, object], UsageError]) -> str:
-        item = {} if isinstance(row, UsageError) else self._item(row)
-        with contextlib.suppress(ValueError, RecursionError):
-            members = json.loads(item) if isinstance(item, str) else item
-            if isinstance(members, Mapping):
-                return ", ".join(_faults(members, self._plan.fields))
-        return ""
 
     def _item(self, row: Union[str, Dict[str, object]]) -> Item:
         if isinstance(row, dict):
@@ -207,6 +219,9 @@ class _Rows:
         if not isinstance(members, dict):
             return text
         item = {name: members[column] for column, name in self._plan.names.items() if column in members}
+        for name in self._plan.cents:
+            if name in item:
+                item[name] = hundredths(item[name])
         own = members.get(self._plan.id_column)
         is_integer = isinstance(own, int) and not isinstance(own, bool)
         return {"id": str(own) if is_integer else own, **item}
@@ -215,8 +230,23 @@ class _Rows:
         item: Dict[str, object] = {"id": cells.get(self._plan.id_column)}
         for column, name in self._plan.names.items():
             if column in cells:
-                item[name] = _of_cell(self._plan.fields[name], str(cells[column]))
+                cell = str(cells[column])
+                item[name] = hundredths(cell) if name in self._plan.cents else _of_cell(self._plan.fields[name], cell)
         return item
+
+
+def hundredths(value: object) -> object:
+    """The hundredths of a price: 1999 of "19.99" or "19,99", 1900 of 19; what is no price stays what it is."""
+    if isinstance(value, bool) or not isinstance(value, (str, int, float)):
+        return value
+    spelled = str(value)
+    if re.match(r"-?[0-9]{1,16}\Z", spelled, re.ASCII):
+        return int(spelled) * 100
+    found = DECIMAL.match(spelled)
+    if found is None:
+        return value
+    cents = int(found.group(1)) * 100 + int(found.group(2).ljust(2, "0"))
+    return -cents if spelled.startswith("-") else cents
 
 
 def _of_cell(kind: str, cell: str) -> object:
@@ -227,20 +257,20 @@ def _of_cell(kind: str, cell: str) -> object:
     return cell
 
 
-def _faults(members: Mapping[str, object], fields: Mapping[str, str]) -> Iterator[str]:
-    """The members whose values aren't of their fields' kinds, with the beginning of each value."""
-    wanted = {"number": int, "text": str, "keyword": str, "facet": list}
-    for name, value in members.items():
-        if name == "id":
-            is_good = isinstance(value, str) and bool(_ID.match(value))
-        elif name not in fields or value is None:
-            is_good = name in fields
-        else:
-            is_good = isinstance(value, wanted[fields[name]]) and not isinstance(value, bool)
-        if not is_good:
-            yield f"{name} is {json.dumps(value, ensure_ascii=False)[:_DETAIL]}"
+def _rows_done(shop: Catalogue, digest: str) -> int:
+    """How many rows the newest commit says to have of this file, where it was made by a load that was stopped."""
+    try:
+        with shop.snapshot() as kept:
+            found = _DONE_ROWS.match(shop.note(kept.generation))
+    except NoCommit:
+        return 0
+    return int(found.group(1)) if found and found.group(2) == digest else 0
 
 
-def _commit_text(name: str) -> str:
-    text = f"load {name}"
-    return text if text.isprintable() and len(text.encode()) <= 256 else "load"
+def _short(name: str) -> str:
+    """The name, as far as a commit's text can have it."""
+    letters: List[str] = [each if each.isprintable() else "?" for each in name.encode(errors="replace").decode()]
+    short = "".join(letters)[:_NAME]
+    while len(short.encode()) > _NAME:
+        short = short[:-1]
+    return short

@@ -12,6 +12,7 @@ from dataclasses import dataclass
 from typing import Optional, Union
 
 from .errors import UsageError
+from .lines import text as _a_text
 
 Value = Union[str, int]
 
@@ -22,13 +23,25 @@ _WORDS = re.compile(r"[A-Za-z0-9\u0080-\U0010ffff]+")
 
 @dataclass(frozen=True)
 class Query:
-    """A query's text. `is_clause` says that it is one clause without a sign, and needs no parentheses to be joined."""
+    """A query's text. `is_clause` says that it is one clause without a sign, and needs no parentheses to be joined.
+
+    `a & b` is `all_of(a, b)`, `a | b` is `any_of(a, b)`, and `~a` is `none_of(a)`.
+    """
 
     text: str
     is_clause: bool = False
 
     def __str__(self) -> str:
         return self.text
+
+    def __and__(self, other: "Query") -> "Query":
+        return all_of(self, other) if isinstance(other, Query) else NotImplemented
+
+    def __or__(self, other: "Query") -> "Query":
+        return any_of(self, other) if isinstance(other, Query) else NotImplemented
+
+    def __invert__(self) -> "Query":
+        return none_of(self)
 
 
 EVERYTHING = Query("*:*", True)
@@ -38,12 +51,21 @@ NOTHING = Query("-*:*")
 """Matches no item."""
 
 
+def query_text(query: object) -> str:
+    """The text of a query, made here or written as a text. Raises UsageError for anything else."""
+    if isinstance(query, Query):
+        return query.text
+    if isinstance(query, str):
+        return query
+    raise UsageError(f"{query!r:.200} is no query: neither a Query nor a text")
+
+
 def quote(text: str) -> str:
     """The text as a quoted value: in a query it means the text itself, whatever it holds.
 
     Raises UsageError where it holds a line feed, which no line can carry, or a lone surrogate, which UTF-8 can't.
     """
-    if "\n" in text:
+    if "\n" in _a_text(text, "the value"):
         raise UsageError("a line feed can't stand in a query")
     _encodable(text)
     return '"' + text.replace("\\", "\\\\").replace('"', '\\"') + '"'
@@ -64,7 +86,7 @@ def prefix(field: str, text: str) -> Query:
     A prefix can't be quoted: raises UsageError where the text is empty or holds a space, one of `( ) [ ] " * \\`, or a
     line feed, or the field's name isn't one.
     """
-    if not text or _NOT_BARE.search(text):
+    if not _a_text(text, "the prefix") or _NOT_BARE.search(text):
         raise UsageError(f"{text!r} can't be a prefix: it is empty, or holds what would have to be quoted")
     _encodable(text)
     return Query(f"{_field(field)}:{text}*", True)
@@ -75,7 +97,7 @@ def words(field: str, text: str) -> Query:
 
     This is for a search box. Raises UsageError where the field's name isn't one, or UTF-8 can't hold the text.
     """
-    _encodable(text)
+    _encodable(_a_text(text, "what was typed"))
     name = _field(field)
     found = dict.fromkeys(_WORDS.findall(text))
     return all_of(*[term(name, word) for word in found])
@@ -121,7 +143,7 @@ def _clause(query: Query) -> str:
 
 
 def _field(name: str) -> str:
-    if not _FIELD.match(name) or name == "id":
+    if not isinstance(name, str) or not _FIELD.match(name) or name == "id":
         raise UsageError(f"{name!r} is no name of a field")
     return name
 

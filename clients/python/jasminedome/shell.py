@@ -2,21 +2,24 @@
 
 from __future__ import annotations
 
-import contextlib
-import importlib
 import json
 import os
+import re
 import sys
-from typing import Callable, Dict, Iterator, List, Optional, TextIO, Tuple, Union
+from typing import Callable, Dict, Iterator, List, Optional, TextIO, Tuple
 
-from .catalogue import Catalogue, Command
+from .catalogue import Catalogue
 from .errors import BadQuery, JasminedomeError, ProgramEnded, Refusal, UsageError
 from .folders import fields_of
+from .keys import keys
+from .starting import Command, Folder
 from .terminal import shown, table
 from .view import Page, View
 
 HELP = """\
-A query shows its first page; *:* matches everything. Reads are of one view, which holds still until .refresh.
+A query names a field, a colon and a value: title:red, price:[10 TO 20], brand:ac*. Several of them find what has any
+of these; +title:red +title:shoe finds what has both, and -title:boot leaves out. *:* matches everything.
+A query shows its first page. Reads are of one view, which holds still until .refresh.
   .next                 the next page of the last query
   .sort +FIELD|-FIELD   sort by a number or keyword field, rising or falling; .sort alone: the order of addition
   .count N              items on a page, 1 to 1,000
@@ -29,6 +32,11 @@ A query shows its first page; *:* matches everything. Reads are of one view, whi
   .commit [TEXT]        keep what was written
   .fields  .stat  .files  .merge  .sweep
   .quit                 or the end of the input"""
+
+
+_HELP_WORDS = ("help", "?", "h", "/help", "\\h", "\\?")
+_QUIT_WORDS = ("quit", "exit", "bye", ":q", "\\q", "q")
+_WORD = re.compile(r"[A-Za-z0-9\u0080-\U0010ffff]+")
 
 
 class Quit(Exception):
@@ -69,6 +77,11 @@ class Shell:
         }
 
     @property
+    def words(self) -> List[str]:
+        """What a line may begin with: commands, and fields with their colon."""
+        return [*(f".{name}" for name in self._commands), *(f"{name}:" for name in self._fields)]
+
+    @property
     def prompt(self) -> str:
         """What stands before the next line: the token of the view."""
         return f"{self._view.token:,}> "
@@ -84,12 +97,29 @@ class Shell:
         except ProgramEnded:
             raise
         except BadQuery as error:
-            self._tell(*_pointed(text, error))
+            self._tell(*(self._advice(text) or _pointed(text, error)))
             return False
         except JasminedomeError as error:
             self._tell(f"refused: {error}" if isinstance(error, Refusal) else str(error))
             return False
         return True
+
+    def _advice(self, text: str) -> List[str]:
+        """What to type in place of words that name no field; nothing where they name one, or stand behind a dot."""
+        if text.startswith(".") or ":" in text:
+            return []
+        if text in _HELP_WORDS:
+            return HELP.split("\n")
+        if text in _QUIT_WORDS:
+            return [".quit ends this"]
+        if text.partition(" ")[0].lower() in self._commands:
+            return [f"commands begin with a dot: .{text}"]
+        field = next((name for name, kind in self._fields.items() if kind == "text"), None)
+        words = _WORD.findall(text)
+        if field is None or not words:
+            return [f"a query names a field and a colon ({', '.join(self._fields)}); .help tells more"]
+        query = " ".join(f"+{field}:{word}" for word in words) if len(words) > 1 else f"{field}:{words[0]}"
+        return [f"a query names a field: {query}", f"the fields are {', '.join(self._fields)}; .help tells more"]
 
     def _command(self, name: str, rest: str) -> None:
         if name not in self._commands:
@@ -108,9 +138,9 @@ class Shell:
 
     def _show(self, page: Page) -> None:
         if page.hits:
-            items = [(hit.id, self._view.get(hit.id) or {}) for hit in page.hits]
-            rows = [[id, *(_cell(item.get(name)) for name in self._fields)] for id, item in items]
-            self._tell(*table(["id", *self._fields], rows))
+            items = zip(page, self._view.get_many(page))
+            rows = [[hit.id, *(_cell((item or {}).get(name)) for name in self._fields)] for hit, item in items]
+            self._table(["id", *self._fields], rows)
         self._after = page.hits[-1].number if len(page.hits) == self._count else None
         more = ", .next shows more" if self._after is not None else ""
         self._tell(f"{len(page.hits):,} shown, {page.total:,} found{more}")
@@ -127,7 +157,7 @@ class Shell:
     def _facets(self, text: str) -> None:
         field, query = _parted(text)
         told = self._view.facets(field, query or "*:*")
-        self._tell(*table(["count", field], [[f"{each.count:,}", each.label] for each in told.counts]))
+        self._table(["count", field], [[f"{each.count:,}", each.label] for each in told.counts])
         self._tell(f"{len(told.counts):,} labels shown, {told.labels:,} found on {told.matching:,} items")
 
     def _get(self, text: str) -> None:
@@ -154,16 +184,17 @@ class Shell:
 
     def _stat(self, _: str) -> None:
         stat = self._shop.stat()
-        rows = sum(each.rows for each in stat.segments)
-        live = sum(each.live for each in stat.segments)
         self._tell(
             f"{stat.writes:,} writes, {stat.buffered:,} of them waiting, {self.uncommitted:,} not committed",
-            f"{len(stat.segments):,} segments with {rows:,} rows, {live:,} of them live",
+            f"{len(stat.segments):,} segments with {stat.rows:,} rows, {stat.live:,} of them live",
             f"{stat.recorded:,} views recorded, {stat.cached:,} sets cached, {stat.pending:,} files to be deleted",
         )
 
     def _quit(self, _: str) -> None:
         raise Quit
+
+    def _table(self, header: List[str], rows: List[List[str]]) -> None:
+        self._tell(*table(header, rows, is_cut=self._out.isatty()))
 
     def _tell(self, *lines: str) -> None:
         for line in lines:
@@ -171,7 +202,7 @@ class Shell:
         self._out.flush()
 
 
-def run(folder: Union[str, "os.PathLike[str]"], program: Optional[Command] = None) -> int:
+def run(folder: Folder, program: Optional[Command] = None) -> int:
     """Talks over the folder with whoever is at standard input; answers the exit status, 1 where something was refused.
 
     Raises UsageError where the folder has no commit, OSError, and what `Catalogue` raises.
@@ -187,7 +218,12 @@ def run(folder: Union[str, "os.PathLike[str]"], program: Optional[Command] = Non
             print(f"{_found(shop)} in {os.fspath(folder)}. A query finds, .help tells more.")
         try:
             for line in _lines(shell, is_dialogue):
-                refused |= not shell.say(line)
+                try:
+                    refused |= not shell.say(line)
+                except KeyboardInterrupt:
+                    if not is_dialogue:
+                        raise
+                    print("\ninterrupted: what was said may be done yet")
         except Quit:
             pass
         if shell.uncommitted:
@@ -204,20 +240,19 @@ def _lines(shell: Shell, is_dialogue: bool) -> Iterator[str]:
     if not is_dialogue:
         yield from sys.stdin
         return
-    with contextlib.suppress(ImportError):
-        importlib.import_module("readline")  # keys and a history, where the system has them
-    while True:
-        try:
-            line = input(shell.prompt)
-            if line.strip() in (".quit", ".q", ".exit") and not _is_sure(shell):
+    with keys(lambda: shell.words):
+        while True:
+            try:
+                line = input(shell.prompt)
+                if line.strip() in (".quit", ".q", ".exit") and not _is_sure(shell):
+                    continue
+            except KeyboardInterrupt:
+                print()
                 continue
-        except KeyboardInterrupt:
-            print()
-            continue
-        except EOFError:
-            print()
-            return
-        yield line
+            except EOFError:
+                print()
+                return
+            yield line
 
 
 def _is_sure(shell: Shell) -> bool:

@@ -51,13 +51,14 @@ def shown(text: str) -> str:
     return "".join(each if each.isprintable() else repr(each)[1:-1] for each in text)
 
 
-def table(header: Sequence[str], rows: Sequence[Sequence[str]]) -> List[str]:
-    """Lines of columns that fit a terminal: a head, a rule, the rows. What is too long ends in an ellipsis."""
-    cells = [[_cut(shown(cell), _MOST) for cell in row] for row in (header, *rows)]
+def table(header: Sequence[str], rows: Sequence[Sequence[str]], is_cut: bool = True) -> List[str]:
+    """Lines of columns: a head, a rule, the rows. For a terminal (`is_cut`) what is too long ends in an ellipsis."""
+    cells = [[_cut(shown(cell), _MOST) if is_cut else shown(cell) for cell in row] for row in (header, *rows)]
     widths = [max(map(_width, column)) for column in zip(*cells)]
     cells.insert(1, ["-" * width for width in widths])
+    lines = [_GAP.join(map(_padded, row, widths)).rstrip() for row in cells]
     most = shutil.get_terminal_size().columns
-    return [_cut(_GAP.join(map(_padded, row, widths)).rstrip(), most) for row in cells]
+    return [_cut(line, most) for line in lines] if is_cut else lines
 
 
 def _width(text: str) -> int:

@@ -6,11 +6,11 @@ import json
 import re
 import weakref
 from dataclasses import dataclass
-from typing import TYPE_CHECKING, Any, Callable, Deque, Dict, Iterator, List, Optional, Tuple, Union
+from typing import TYPE_CHECKING, Any, Callable, Deque, Dict, Iterable, Iterator, List, Mapping, Optional, Tuple, Union
 
 from .errors import UsageError
-from .lines import number, reading
-from .query import Query
+from .lines import number, reading, text
+from .query import Query, query_text
 
 if TYPE_CHECKING:
     from .catalogue import Catalogue
@@ -36,10 +36,19 @@ class Hit:
 
 @dataclass(frozen=True)
 class Page:
-    """Some of the hits of a query, in order, and how many hits there are in all."""
+    """Some of the hits of a query, in order, and how many hits there are in all. It is gone through as `hits` is."""
 
     total: int
     hits: Tuple[Hit, ...]
+
+    def __iter__(self) -> Iterator[Hit]:
+        return iter(self.hits)
+
+    def __len__(self) -> int:
+        return len(self.hits)
+
+    def __bool__(self) -> bool:
+        return bool(self.hits)
 
 
 @dataclass(frozen=True)
@@ -80,6 +89,12 @@ class View:
     def __exit__(self, *_: object) -> None:
         self.close()
 
+    async def __aenter__(self) -> "View":
+        return self
+
+    async def __aexit__(self, *_: object) -> None:
+        self.close()
+
     def __repr__(self) -> str:
         return f"<View of token {self.token}{'' if self._forget.alive else ', closed'}>"
 
@@ -98,10 +113,11 @@ class View:
         Raises BadQuery with the fault's place, TooMany, NotSortable, BadMark (`after` is no record of this view),
         OutOfMemory, and UsageError where an argument has no form.
         """
-        if sort is not None and not _SORT.match(sort):
-            raise UsageError(f"the sort {sort!r} isn't + or - and a field")
+        if sort is not None and not _SORT.match(text(sort, "the sort")):
+            raise UsageError(f"the sort {sort!r:.200} isn't + or - and a field")
         mark = "." if after is None else number(after, "the mark")
-        first, *lines = self._ask(f"FIND {self.token} {number(count, 'the count')} {sort or '.'} {mark} {query}", _shown)
+        shown = number(count, "the count")
+        first, *lines = self._ask(f"FIND {self.token} {shown} {sort or '.'} {mark} {query_text(query)}", _shown)
         with reading():
             return Page(int(first.split(" ")[1]), tuple(_hit(line) for line in lines))
 
@@ -130,41 +146,67 @@ class View:
         By falling count, ties by bytes. Raises BadQuery, NotFacet, TooMany, OutOfMemory, and UsageError where an
         argument has no form.
         """
-        if not _NAME.match(field):
-            raise UsageError(f"{field!r} is no name of a field")
+        return _read_facets(self._ask(*self._facets_line(field, query, count)))
+
+    def facets_many(self, fields: Iterable[str], query: QueryText = "*:*", count: int = 20) -> Dict[str, Facets]:
+        """The counts of several fields for one query, asked in one write; by the field. Raises what `facets` does."""
+        names = list(_names(fields))
+        told = self._ask_many(self._facets_line(name, query, count) for name in names)
+        return {name: _read_facets(each) for name, each in zip(names, told)}
+
+    def _facets_line(self, field: str, query: QueryText, count: int) -> "Tuple[str, Callable[[str], int]]":
+        if not _NAME.match(text(field, "the field")):
+            raise UsageError(f"{field!r:.200} is no name of a field")
         shown = number(count, "the count")
-        first, *lines = self._ask(
-            f"FACETS {self.token} {field} {shown} {query}", lambda told: min(shown, int(told.split(" ")[1]))
-        )
-        with reading():
-            matching, labels = first.split(" ")
-            counts = (line.split(" ", 1) for line in lines)
-            return Facets(int(matching), int(labels), tuple(FacetCount(label, int(many)) for many, label in counts))
+        asked = f"FACETS {self.token} {field} {shown} {query_text(query)}"
+        return asked, lambda told: min(shown, int(told.split(" ")[1]))
 
     def source(self, id: str) -> Optional[str]:
         """The JSON text that the item came as, or None where the view has no such item.
 
         Raises BadId, DeviceFailed, Damaged, OutOfMemory, and UsageError where the id can't stand in a line.
         """
-        told = self._ask(f"GET {self.token} {id}")[0]
-        return None if told == "." else told
+        return _source(self._ask(self._get_line(id)))
 
     def get(self, id: str) -> Optional[Dict[str, Any]]:
         """The item, or None where the view has no such one. Raises what `source` does."""
-        source = self.source(id)
-        if source is None:
-            return None
-        with reading():
-            return dict(json.loads(source))
+        return _item(self.source(id))
+
+    def get_many(self, ids: Iterable[Union[str, Hit]]) -> List[Optional[Dict[str, Any]]]:
+        """The items of these ids, or of a page's hits, asked in one write; None for one that isn't there.
+
+        `view.get_many(page)` are the items of a page, in its order. Raises what `source` does.
+        """
+        asked = [self._get_line(each.id if isinstance(each, Hit) else each) for each in _names(ids)]
+        return [_item(_source(each)) for each in self._ask_many((line, _none) for line in asked)]
+
+    def _get_line(self, id: str) -> str:
+        return f"GET {self.token} {text(id, 'the id')}"
 
     def files(self) -> List[str]:
         """The names of the files that the view needs, in byte order. Raises OutOfMemory."""
         return self._ask(f"FILES t {self.token}", int)[1:]
 
-    def _ask(self, text: str, more: Callable[[str], int] = lambda _: 0) -> List[str]:
+    def _ask(self, asked: str, more: Callable[[str], int] = lambda _: 0) -> List[str]:
+        return self._open().ask(asked, more, session=self._session)
+
+    def _ask_many(self, asked: "Iterable[Tuple[str, Callable[[str], int]]]") -> List[List[str]]:
+        return self._open().ask_many(asked, session=self._session)
+
+    def _open(self) -> "Catalogue":
         if not self._forget.alive:
             raise UsageError("the view is closed")
-        return self._catalogue.ask(text, more, session=self._session)
+        return self._catalogue
+
+
+def _names(given: Iterable[Any]) -> Iterable[Any]:
+    if isinstance(given, (str, bytes, Mapping)) or not isinstance(given, Iterable):
+        raise UsageError(f"{given!r:.200} is no list")
+    return given
+
+
+def _none(_: str) -> int:
+    return 0
 
 
 def _shown(told: str) -> int:
@@ -176,3 +218,22 @@ def _hit(line: str) -> Hit:
     if key == ".":
         return Hit(int(told), id, None)
     return Hit(int(told), id, key[1:] if key.startswith("=") else int(key))
+
+
+def _source(told: List[str]) -> Optional[str]:
+    return None if told[0] == "." else told[0]
+
+
+def _item(source: Optional[str]) -> Optional[Dict[str, Any]]:
+    if source is None:
+        return None
+    with reading():
+        return dict(json.loads(source))
+
+
+def _read_facets(told: List[str]) -> Facets:
+    first, *lines = told
+    with reading():
+        matching, labels = first.split(" ")
+        counts = (line.split(" ", 1) for line in lines)
+        return Facets(int(matching), int(labels), tuple(FacetCount(label, int(many)) for many, label in counts))

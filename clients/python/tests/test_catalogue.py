@@ -6,7 +6,7 @@ import support  # first: it finds the package
 
 import jasminedome
 from jasminedome import FacetCount, Hit, Page, UsageError, any_of, between, term
-from jasminedome.catalogue import _json, _Load
+from jasminedome.putting import Load, item_text
 
 
 class Writes(support.ShopTest):
@@ -61,17 +61,18 @@ class Writes(support.ShopTest):
         items += ['{"id":"raw"}', '  {"id":\t"spaced"}  ', "", "[]", {}]
         for count in (len(items), 1):
             for at in range(0, len(items), count):
-                told, indices = _Load(7, None).lines(list(enumerate(items[at : at + count])))
-                self.assertEqual(indices, list(range(len(items[at : at + count]))))
-                wanted = [item if isinstance(item, str) else _json(item) for item in items[at : at + count]]
+                some = list(enumerate(items[at : at + count]))
+                told, sent = Load(7, support.FIELDS).lines(some)
+                self.assertEqual(sent, some)
+                wanted = [item if isinstance(item, str) else item_text(item) for item in items[at : at + count]]
                 self.assertEqual(told, b"".join(b"7 PUT " + text.encode() + b"\n" for text in wanted))
         for wrong in ("a\nb", "a\r", {"id": "\ud800"}, {"id": {1}}, "x" * 9_995):
             for place in (0, 1, 2):
                 some = ['{"id":"a"}', '{"id":"b"}']
                 some.insert(place, wrong)
-                told, indices = _Load(7, None).lines(list(enumerate(some)))
+                told, sent = Load(7, support.FIELDS).lines(list(enumerate(some)))
                 self.assertEqual(told, b'7 PUT {"id":"a"}\n7 PUT {"id":"b"}\n')
-                self.assertEqual(indices, [index for index in range(3) if index != place])
+                self.assertEqual([index for index, _ in sent], [index for index in range(3) if index != place])
 
     def test_an_iterator_that_fails_leaves_a_catalogue_that_works(self):
         def items():
@@ -228,6 +229,38 @@ class Upkeep(support.ShopTest):
             self.assertEqual(self.shop.warm(), 0)
             self.assertEqual([view.find("price:1"), view.find("price:1"), view.find("price:2")], pages)
             self.assertEqual(view.facets("color", "price:[1 TO 3]"), counts)
+
+    def test_segments_that_no_merge_takes_are_forced_into_one(self):
+        stat = "0 OK 30000 0 30 1 0 0\n" + "\n".join(f"0 {n} {1_024 if n % 10 else 784} 1" for n in range(1, 31))
+        replies = ["0 OK idle", stat, "0 OK begun 30", "0 OK copied 30000", "0 OK done", "0 OK 60"]
+        replies += ["0 OK 30000 0 1 1 0 0\n0 31 30000 1"]
+        with support.scripted(*replies, least=1000) as shop:
+            self.assertEqual(shop.upkeep().segments, (jasminedome.SegmentStat(31, 30_000, 1),))
+        with support.scripted("0 OK idle", stat, "0 OK idle", "0 OK 0", stat, least=1000) as shop:
+            self.assertEqual(len(shop.upkeep().segments), 30)  # the program forces no more than so many rows
+        few = "0 OK 30000 0 18 1 0 0\n" + "\n".join(f"0 {n} {1_024 if n % 10 else 784} 1" for n in range(1, 19))
+        with support.scripted("0 OK idle", few, "0 OK 5", few, least=1000) as shop:
+            self.assertEqual(len(shop.upkeep().segments), 18)  # nine of each of two levels
+
+    @unittest.skipUnless(support.REAL, "the stand-in has no segments")
+    def test_segments_of_full_buffers_and_of_refreshes_are_merged(self):
+        for least, is_merged in ((1_000, False), (1_024, True)):
+            with self.subTest(least=least), support.shop(least=least) as shop:
+                for turn in range(4):
+                    shop.put_many({"id": f"x{turn}-{n}", "price": n} for n in range(10_000))
+                    shop.refresh()
+                    shop.prune(1)
+                    shop.merge()
+                self.assertEqual(len(shop.stat().segments) <= 27, is_merged)
+                stat = shop.upkeep()
+                self.assertLessEqual(len(stat.segments), 27)
+                self.assertEqual((stat.live, stat.pending), (40_000, 0))
+                with shop.open() as view:
+                    self.assertEqual(view.find(count=0).total, 40_000)
+
+    def test_the_default_is_a_full_buffer(self):
+        with support.scripted() as shop:
+            self.assertEqual((shop._factor, shop._least), (10, 1_024))
 
     def test_warming_ends_where_more_sets_are_missing_than_are_kept(self):
         with support.scripted(*(["0 OK begun", "0 OK warmed 256", "0 OK stored"] * 65)) as shop:

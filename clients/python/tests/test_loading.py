@@ -1,58 +1,28 @@
 """Files of items: what is read of them, what the fields become, and what `python -m jasminedome load` says."""
 
-import contextlib
 import io
 import json
-import os
-import shlex
-import shutil
-import sys
-import tempfile
 import unittest
-from pathlib import Path
-from unittest import mock
 
-import support  # before the package: it finds it
+from support import PROGRAM, CommandTest, FileTest  # before the package: it finds it
 
 import jasminedome
-from jasminedome import UsageError, __main__, fields_of
-from jasminedome.loading import Plan, load, planned
-from jasminedome.tables import Column, Table
+from jasminedome import UsageError, fields_of
+from jasminedome.plans import Plan, planned
+from jasminedome.sources import Source
+from jasminedome.tables import Column
 from jasminedome.terminal import Bar, shown, table
-
-PROGRAM = support.REAL or support.FAKE
-
-
-class FileTest(unittest.TestCase):
-    def setUp(self):
-        self.room = Path(tempfile.mkdtemp())
-        self.addCleanup(shutil.rmtree, self.room)
-        self.folder = self.room / "new" / "folder"
-
-    def file(self, name, content):
-        path = self.room / name
-        path.write_bytes(content if isinstance(content, bytes) else content.encode())
-        return path
-
-    def load(self, name, content, **options):
-        return load(self.file(name, content), self.folder, program=PROGRAM, **options)
-
-    def items(self):
-        """Every item of the folder as it is stored, in the order of addition."""
-        with jasminedome.Catalogue(fields_of(self.folder), self.folder, program=PROGRAM) as shop, shop.open() as view:
-            return [view.get(hit.id) for page in view.pages(count=1_000) for hit in page.hits]
-
 
 class Tables(FileTest):
     def test_json_rows(self):
-        rows = list(Table(self.file("a.jsonl", '\ufeff{"id":"a"}\r\n\n  {"id":"b"} \nx')).rows())
+        rows = list(self.table("a.jsonl", '\ufeff{"id":"a"}\r\n\n  {"id":"b"} \nx').rows())
         self.assertEqual(rows, [(1, '{"id":"a"}'), (3, '{"id":"b"}'), (4, "x")])
-        self.assertEqual(list(Table(self.file("b.jsonl", "")).rows()), [])
+        self.assertEqual(list(self.table("b.jsonl", "").rows()), [])
 
     def test_cell_rows(self):
         for delimiter in ",;\t":
             text = '\ufeffid,title\r\na,"two\nlines, ""quoted"""\r\n\r\n,\r\nb\r\nc,d,e\r\nf,g,,\r\n"x"y,1\r\nh,i'
-            rows = list(Table(self.file("a.csv", text.replace(",", delimiter))).rows())
+            rows = list(self.table("a.csv", text.replace(",", delimiter)).rows())
             told = [(line, row if isinstance(row, dict) else type(row)) for line, row in rows]
             quoted = 'two\nlines, "quoted"'.replace(",", delimiter)
             wanted = [(2, {"id": "a", "title": quoted}), (6, {"id": "b"}), (7, UsageError)]
@@ -60,20 +30,20 @@ class Tables(FileTest):
             self.assertEqual(told, wanted)
 
     def test_files_that_are_none(self):
-        self.assertRaises(UsageError, Table, self.file("a.txt", ""))
-        self.assertRaises(OSError, Table, self.room / "b.csv")
-        self.assertRaises(UsageError, list, Table(self.file("c.csv", "a,a\n1,2\n")).rows())
-        self.assertEqual(list(Table(self.file("d.csv", "")).rows()), [])
+        self.assertRaises(UsageError, Source, self.file("a.txt", ""))
+        self.assertRaises(OSError, Source, self.room / "b.csv")
+        self.assertRaises(UsageError, list, self.table("c.csv", "a,a\n1,2\n").rows())
+        self.assertEqual(list(self.table("d.csv", "").rows()), [])
 
     def test_columns(self):
         lines = [{"id": 1, "n": 5, "f": ["x"], "t": "5", "m": 1, "o": 1.5, "e": None}, {"id": "a", "n": None, "m": "x"}]
         lines += [{"m": 2}, [1], "x"]
-        columns = Table(self.file("a.jsonl", "\n".join(map(json.dumps, lines)) + "\n{")).columns()
+        columns = self.table("a.jsonl", "\n".join(map(json.dumps, lines)) + "\n{").columns()
         kinds = {name: column.kind for name, column in columns.items()}
         self.assertEqual(
             kinds, {"id": "number", "n": "number", "f": "facet", "t": "text", "m": "number", "o": "text"}
         )
-        columns = Table(self.file("a.csv", "id,n,z,t,e,big\n1,-5,007,5,,9223372036854775808\n2,0,7,x,,1")).columns()
+        columns = self.table("a.csv", "id,n,z,t,e,big\n1,-5,007,5,,9223372036854775808\n2,0,7,x,,1").columns()
         kinds = {name: column.kind for name, column in columns.items()}
         self.assertEqual(kinds, {"id": "number", "n": "number", "z": "text", "t": "text", "e": "text", "big": "text"})
 
@@ -175,19 +145,7 @@ class Loads(FileTest):
         self.assertEqual(answered, sorted(answered))
 
 
-class CommandLine(FileTest):
-    def run_main(self, *arguments, said=""):
-        out, err = io.StringIO(), io.StringIO()
-        environment = {"JASMINEDOME_PROGRAM": shlex.join(PROGRAM)}
-        streams = [contextlib.redirect_stdout(out), contextlib.redirect_stderr(err)]
-        with mock.patch.dict(os.environ, environment), mock.patch.object(sys, "stdin", io.StringIO(said)):
-            with streams[0], streams[1]:
-                try:
-                    status = __main__.main([str(each) for each in arguments])
-                except SystemExit as ended:
-                    status = ended.code
-        return status, out.getvalue(), err.getvalue()
-
+class CommandLine(CommandTest):
     def test_load(self):
         path = self.file("a.csv", "id,price\na,1\nb,2\n")
         status, out, err = self.run_main("load", path, "--folder", self.folder)

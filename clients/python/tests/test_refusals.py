@@ -10,7 +10,7 @@ import support  # before the package: it finds it
 
 import jasminedome
 from jasminedome import Refusal
-from jasminedome.lines import Replies
+from jasminedome.replies import Replies
 
 SNAPSHOTS = 65_535
 MEMORY = 24 << 20  # bytes of a program that is to get no more of it
@@ -110,6 +110,24 @@ class Folders(unittest.TestCase):
         for folder in (self.folder / "nowhere", Path(__file__)):
             with self.assertRaises(jasminedome.DeviceFailed):
                 support.shop(folder=folder)
+
+    def test_what_is_told_of_a_folder(self):
+        for folder, why in ((self.folder / "nowhere", "isn't there"), (Path(__file__), "is no folder")):
+            with self.assertRaises(jasminedome.DeviceFailed) as caught:
+                support.shop(folder=folder)
+            self.assertEqual(caught.exception.detail, f"{folder} {why}")
+        with self.assertRaises(jasminedome.WrongKind) as caught:
+            jasminedome.Catalogue({"title": "prose"}, self.folder, program=support.PROGRAM)
+        self.assertIn(str(self.folder), str(caught.exception))
+        self.assertIn("prose", str(caught.exception))
+
+    def test_a_folder_in_use(self):
+        code = "import sys\nsys.stdin.readline()\nprint('NO 30')\nsys.exit('[ERROR catalogue] %s')"
+        for said, kind in (("folder in use", jasminedome.FolderInUse), ("schema refused", jasminedome.DeviceFailed)):
+            with self.assertRaises(jasminedome.DeviceFailed) as caught:
+                support.shop(folder=self.folder, program=[sys.executable, "-c", code % said])
+            self.assertIs(type(caught.exception), kind)
+            self.assertIn(str(self.folder), str(caught.exception))
 
     def test_a_folder_that_is_gone(self):
         with support.shop(folder=self.folder) as shop:

@@ -1,0 +1,73 @@
+"""How the program is started: its command, its schema line, and what a schema line that is refused means."""
+
+from __future__ import annotations
+
+import os
+import shlex
+from typing import List, Mapping, Optional, Sequence, Union
+
+from .errors import DeviceFailed, FolderInUse, Refusal, UsageError
+from .lines import line, number, text
+from .putting import json_text
+
+Command = Union[str, "os.PathLike[str]", Sequence[str]]
+Folder = Union[str, "os.PathLike[str]"]
+
+PROGRAM = "JASMINEDOME_PROGRAM"
+"""The environment variable that names the program, with arguments as a shell would split them."""
+
+_IN_USE = "folder in use"  # what the program says of a folder that another one has
+
+
+def schema_line(fields: object, factor: object, least: object) -> str:
+    """The line that opens a catalogue. Raises UsageError for what can be no schema at all."""
+    if not isinstance(fields, Mapping):
+        raise UsageError(f"the fields {fields!r:.200} are no mapping of names to kinds")
+    kinds = {text(name, "the field"): text(kind, f"the kind of {name}") for name, kind in fields.items()}
+    spelled = f"SCHEMA {number(factor, 'the factor')} {number(least, 'least')} {json_text(kinds)}"
+    line(spelled)  # what can't be sent starts no program
+    return spelled
+
+
+def folder_path(folder: object) -> Optional[str]:
+    """The path of a catalogue's folder; None where it is to be in memory. Raises UsageError for what is no path."""
+    if folder is None:
+        return None
+    path = folder if isinstance(folder, str) else os.fspath(folder) if isinstance(folder, os.PathLike) else None
+    if not isinstance(path, str) or not path or "\0" in path:
+        raise UsageError(f"the folder {folder!r:.200} is no path")
+    return path
+
+
+def command_for(program: object, folder: Optional[str]) -> List[str]:
+    """The command that starts the program over the folder. Raises UsageError for what is no command."""
+    return _command(program) + ([] if folder is None else ["run", folder])
+
+
+def explained(refusal: Refusal, folder: Optional[str], fields: Mapping[str, str], last_words: str) -> Refusal:
+    """A refusal of the schema line, with the folder or the fields that it is about, and why a folder doesn't open.
+
+    `last_words` is what the program wrote to standard error.
+    """
+    if folder is None:
+        return type(refusal)(refusal.number, None, f"the fields {dict(fields)!r:.300}")
+    if not isinstance(refusal, DeviceFailed):
+        return type(refusal)(refusal.number, None, f"the folder {folder}, under the fields {dict(fields)!r:.300}")
+    if last_words.endswith(_IN_USE):
+        return FolderInUse(refusal.number, None, folder)
+    why = "isn't there" if not os.path.lexists(folder) else "is no folder" if not os.path.isdir(folder) else "can't be opened"
+    return DeviceFailed(refusal.number, None, f"{folder} {why}")
+
+
+def _command(program: object) -> List[str]:
+    if program is None:
+        try:
+            return shlex.split(os.environ.get(PROGRAM, "")) or ["catalogue"]
+        except ValueError as error:
+            raise UsageError(f"{PROGRAM} is no command: {error}") from None
+    if isinstance(program, os.PathLike):
+        program = os.fspath(program)
+    words = [program] if isinstance(program, str) else list(program) if isinstance(program, Sequence) else []
+    if not words or not words[0] or not all(isinstance(word, str) for word in words):
+        raise UsageError(f"the program {program!r:.200} is neither a path nor a command with arguments")
+    return words
