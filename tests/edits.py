@@ -249,16 +249,20 @@ def copied(crate, room):
 def batches_of(crate, edits):
     """Batches for the edits, and of those that can't be applied why."""
     batches, faults = [], {}
-    for edit in edits:
-        with tempfile.TemporaryDirectory(prefix="edits-") as room:
-            copied(crate, Path(room))
-            units, why = (None, edit.fault) if edit.fault else edit.apply(Path(room))
-        if why:
-            faults[edit] = why
-            continue
-        if not any(it.takes(edit, units) for it in batches):
-            batches.append(Batch(crate))
-            batches[-1].takes(edit, units)
+    with tempfile.TemporaryDirectory(prefix="edits-") as room:
+        room = Path(room)
+        if edits:
+            copied(crate, room)
+        for edit in edits:
+            units, why = (None, edit.fault) if edit.fault else edit.apply(room)
+            for path in {path for path, _, _ in edit.pairs}:
+                if (room / path).is_file():
+                    shutil.copyfile(TOP / "crates" / crate / path, room / path)
+            if why:
+                faults[edit] = why
+            elif not any(it.takes(edit, units) for it in batches):
+                batches.append(Batch(crate))
+                batches[-1].takes(edit, units)
     return batches, faults
 
 
