@@ -50,31 +50,27 @@ FALSE = "the facts known there allow values at which this goal is false"
 class Unit:
     """What is proved as one: a function, or the cycle of functions that it is in."""
 
-    def __init__(self, file, path, cycle, first, last):
-        self.file, self.path, self.cycle, self.first, self.last = file, path, cycle, first, last
-        self.key = ("cycle", cycle) if cycle else ("fn", path)
+    def __init__(self, file, module, names, cycle, first, last):
+        self.file, self.cycle, self.first, self.last = file, cycle, first, last
+        self.path = "::".join([*module, *names])
+        # A closure of the function stands beside it in the module, below `fn`.
+        self.closures = "::".join([*module, "fn", *names])
+        self.key = ("cycle", cycle) if cycle else ("fn", self.path)
 
     def owns_line(self, file, line):
         return file == self.file and self.first <= line <= self.last
 
     def owns_proof(self, file):
         """Whether the file is one of this function's proof: below proofs/ the folders are named as its path is."""
-        folder = file[len("proofs/") :].rpartition("/")[0]
-        mine = self.path.replace("::", "/")
-        *module, name = self.path.split("::")
+        folder = file[len("proofs/") :].rpartition("/")[0].replace("/", "::")
+        above, _, name = self.path.rpartition("::")
         # A cycle of functions has one proof; one that calls itself is a cycle of its own.
-        of_cycle = folder.rpartition("/")[2] == f"+{self.cycle}" or folder == "/".join([*module, f"+{name}"])
-        # A closure's folder stands beside those of functions, below `fn`.
-        home = Path(self.file).with_suffix("").relative_to("src").as_posix()
-        home = "" if home in ("lib", "main") else f"{home}/"
-        closures = f"{home}fn/{mine[len(home):]}/"
-        return folder == mine or of_cycle or f"{folder}/".startswith(closures)
+        of_cycle = folder.rpartition("::")[2] == f"+{self.cycle}" or folder == (f"{above}::+{name}" if above else f"+{name}")
+        return folder == self.path or of_cycle or f"{folder}::".startswith(f"{self.closures}::")
 
     def owns_name(self, name):
         """Whether a check's line on this name speaks of the function, or of a closure in it."""
-        home = Path(self.file).with_suffix("").relative_to("src").as_posix().replace("/", "::")
-        home = "" if home in ("lib", "main") else f"{home}::"
-        return name == self.path or name.startswith(f"{home}fn::{self.path[len(home):]}::")
+        return name == self.path or name.startswith(f"{self.closures}::")
 
 
 def without_brackets(text):
@@ -114,7 +110,18 @@ def owner_of(header):
     return type_word(of) + type_word(trait) + arguments
 
 
-def unit_at(file, text, at):
+def module_of(file):
+    path = Path(file).with_suffix("").relative_to("src").as_posix()
+    return [] if path in ("lib", "main") else path.split("/")
+
+
+def home_of(room, name, file):
+    """The module of the crate's type of this name: a type's own methods are named by that, and not by where they stand."""
+    found = [it for it in sorted(room.glob("src/**/*.rt")) if re.search(rf"(?m)^\s*(pub(\([^)]*\))? )?(struct|enum) {name}\b", it.read_text(encoding="utf-8"))]
+    return module_of(found[0].relative_to(room).as_posix()) if len(found) == 1 else module_of(file)
+
+
+def unit_at(room, file, text, at):
     """The function of the file that has this place in its body, or None."""
     lines = text.split("\n")
     row = text.count("\n", 0, at)
@@ -128,14 +135,16 @@ def unit_at(file, text, at):
     last = next((it for it in range(first, len(lines)) if re.match(rf"{indent}\}}", lines[it])), first)
     if last < row:
         return None
-    module = Path(file).with_suffix("").relative_to("src").as_posix()
-    words = [] if module in ("lib", "main") else module.split("/")
+    module, names = module_of(file), [name]
     if indent:
         for head in range(first, -1, -1):
             if re.match(r"(unsafe )?impl\b|(pub(\([^)]*\))? )?trait\b", lines[head]):
                 header = "\n".join(lines[head : first + 1]).partition("{")[0]
-                is_trait = "trait " in lines[head].partition("<")[0] and not lines[head].startswith(("impl", "unsafe impl"))
-                words.append(re.search(r"trait (\w+)", lines[head])[1] if is_trait else owner_of(header))
+                trait = re.match(r"(pub(\([^)]*\))? )?trait (\w+)", header)
+                owner = trait[3] if trait else owner_of(header)
+                if not trait and " for " not in without_brackets(header):
+                    module = home_of(room, owner, file)
+                names.insert(0, owner)
                 break
     cycle = None
     for above in range(first - 1, -1, -1):
@@ -144,7 +153,7 @@ def unit_at(file, text, at):
             break
         of = re.fullmatch(r"#\[cycle\((\w+)\)\]", line)
         cycle = of[1] if of else cycle
-    return Unit(file, "::".join([*words, name]), cycle, first + 1, last + 1)
+    return Unit(file, module, names, cycle, first + 1, last + 1)
 
 
 class Edit:
@@ -187,7 +196,7 @@ class Edit:
             if count != 1:
                 return None, f"an 'old:' text stands in {path} {count} times, and not once"
             at = texts[path].index(old)
-            unit = unit_at(path, texts[path], at)
+            unit = unit_at(room, path, texts[path], at)
             if unit:
                 units[unit.path] = unit
             texts[path] = texts[path].replace(old, new)
@@ -213,7 +222,7 @@ def unit_named(room, name):
     for file in sorted(room.glob("src/**/*.rt")):
         path, text = file.relative_to(room).as_posix(), file.read_text(encoding="utf-8")
         for found in re.finditer(rf"\bfn {re.escape(name.split('::')[-1])}\b", text):
-            unit = unit_at(path, text, found.start())
+            unit = unit_at(room, path, text, found.start())
             if unit and unit.path == name:
                 return unit
     return None
