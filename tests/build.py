@@ -1,7 +1,7 @@
 #!/usr/bin/env python3
 """Proves and builds programs of this repository, crate by crate: the libraries below them, and then each program.
 
-usage: tests/build.py [PROGRAM..]
+usage: tests/build.py [--lanes N] [PROGRAM..]
 
 Crates that don't wait for each other are proved side by side, one a processor where there are 4 GB of memory for each, first
 those with the longest chain of others behind them; processors that no crate waits for become more jobs of those that are
@@ -64,6 +64,7 @@ class Builder:
 
 def main():
     parser = argparse.ArgumentParser("build.py", description="Proves and builds programs of this repository.")
+    parser.add_argument("--lanes", type=int, help="how many processors it uses")
     parser.add_argument("programs", nargs="*", metavar="PROGRAM", default=["catalogue"])
     asked = parser.parse_args()
     sources = Sources()
@@ -76,7 +77,7 @@ def main():
     libraries = [it for it in whole if not sources.is_program(it)]
     behind = sources.size_behind(libraries)
     builder, start, done, failed = Builder(libraries), time.monotonic(), [], False
-    lanes = builder.lanes()
+    lanes = max(1, asked.lanes) if asked.lanes and builder.crates else builder.lanes()
     print(f"run: proving {len(whole)} crates, {lanes} at once, which takes long the first time (./try shows the program unproved)", file=sys.stderr, flush=True)
     telling = threading.Lock()
 
