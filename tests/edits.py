@@ -160,7 +160,7 @@ class Edit:
     def __init__(self, crate, file):
         self.crate, self.file, self.name = crate, file, file.stem
         self.label = f"{crate}/{self.name}"
-        self.pairs, self.only, self.fault = [], [], None
+        self.pairs, self.only, self.lemmas, self.fault = [], [], [], None
         path = old = None
         for line in file.read_text(encoding="utf-8").split("\n"):
             if line.startswith("file: "):
@@ -179,6 +179,9 @@ class Edit:
             elif line.startswith("# only: "):
                 # The functions that have to refuse an edit that stands in none, as one of a type.
                 self.only += line[len("# only: ") :].split()
+            elif line.startswith("# lemma: "):
+                # The files of lemmas that say of the type what the functions' contracts rest on.
+                self.lemmas += line[len("# lemma: ") :].split()
             elif line.strip() and not line.startswith("#"):
                 self.fault = f"the line '{line[:60]}' is not read"
         if not self.pairs and not self.fault:
@@ -329,7 +332,7 @@ def judged(edit, units, ran):
                 if UNREAD.search(re.sub(r"`[^`]*`", "``", text)):
                     return BAD, f"the prover can't read the edited text: {line[:200]}"
                 refused.append(line)
-        elif file.startswith("proofs/") and any(it.owns_proof(file) for it in units) and text.startswith("error: "):
+        elif (file in edit.lemmas or file.startswith("proofs/") and any(it.owns_proof(file) for it in units)) and text.startswith("error: "):
             if NAMES.search(text):
                 gone.append(line)
                 gone_goals.update(re.findall(r"has no `([^`]+)`", text))
