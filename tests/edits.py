@@ -307,7 +307,8 @@ def judged(edit, units, ran):
         if found:
             said[found[1]] = found[2]
     mine = {name: status for name, status in said.items() if any(it.owns_name(name) for it in units)}
-    if ran.returncode not in (0, 1) or not mine:
+    # 3 says that the prover couldn't tell of some function, which its own line says too.
+    if ran.returncode not in (0, 1, 3) or not mine:
         first = next((it for it in lines if "error" in it), lines[0])
         if ran.returncode == 1 and re.search(r"\berror\[[\w-]+\]", ran.stdout):
             return BAD, f"it doesn't reach the prover: {first[:200]}"
