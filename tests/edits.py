@@ -161,6 +161,8 @@ class Edit:
         self.crate, self.file, self.name = crate, file, file.stem
         self.label = f"{crate}/{self.name}"
         self.pairs, self.only, self.lemmas, self.fault = [], [], [], None
+        # Whether it stands in no function, so that it changes more than one.
+        self.is_wide = False
         path = old = None
         for line in file.read_text(encoding="utf-8").split("\n"):
             if line.startswith("file: "):
@@ -203,8 +205,11 @@ class Edit:
             if unit:
                 units[unit.path] = unit
             texts[path] = texts[path].replace(old, new)
+        self.is_wide = not units
         if not units and not self.only:
-            return None, "it stands in no function: name those that have to refuse it, by a line '# only: NAME..'"
+            units = {unit.path: unit for path, text in texts.items() for unit in units_of(room, path, text)}
+            if not units:
+                return None, "no function stands in its file: name those that have to refuse it, by a line '# only: NAME..'"
         for path, text in texts.items():
             if (room / path).read_text(encoding="utf-8") == text:
                 return None, "it changes nothing"
@@ -220,13 +225,17 @@ class Edit:
         return list(units.values()), None
 
 
+def units_of(room, path, text):
+    """The functions of the file."""
+    found = [unit_at(room, path, text, it.start()) for it in re.finditer(r"(?m)^ *(?:pub(?:\([^)]*\))? )?(?:(?:const|unsafe) )*fn \w+", text)]
+    return [it for it in found if it]
+
+
 def unit_named(room, name):
     """The function of this path in the crate."""
     for file in sorted(room.glob("src/**/*.rt")):
-        path, text = file.relative_to(room).as_posix(), file.read_text(encoding="utf-8")
-        for found in re.finditer(rf"\bfn {re.escape(name.split('::')[-1])}\b", text):
-            unit = unit_at(room, path, text, found.start())
-            if unit and unit.path == name:
+        for unit in units_of(room, file.relative_to(room).as_posix(), file.read_text(encoding="utf-8")):
+            if unit.path == name:
                 return unit
     return None
 
@@ -244,11 +253,11 @@ class Batch:
 
     def takes(self, edit, units):
         keys = {it.key for it in units}
-        if self.edits and (edit.only or self.is_alone or keys & self.keys):
+        if self.edits and (edit.is_wide or self.is_alone or keys & self.keys):
             return False
         self.edits.append(edit)
         self.keys |= keys
-        self.is_alone = bool(edit.only)
+        self.is_alone = edit.is_wide
         return True
 
 
