@@ -624,9 +624,8 @@ def closing_line(counts):
 
 
 def read_arguments():
-    built = Path(__file__).resolve().parent.parent / "crates/catalogue/out/catalogue"
     parser = argparse.ArgumentParser(description=__doc__.split("\n\n")[0])
-    parser.add_argument("program", nargs="?", default=str(built))
+    parser.add_argument("program", nargs="?", help="the program; else the one that ./run would run")
     parser.add_argument("--times", type=int, default=30, help="how many kills (30)")
     parser.add_argument("--seed", type=int, help="the seed of the lines; the moments of kills are by the clock too")
     parser.add_argument("--seconds", type=float, default=1.0, help="the longest life of those that end at any moment (1)")
@@ -634,6 +633,12 @@ def read_arguments():
     arguments = parser.parse_args()
     if arguments.times < 1:
         parser.error("--times is at least 1")
+    if arguments.program is None:
+        run = Path(__file__).resolve().parent.parent / "run"
+        told = subprocess.run([run, "--path"], stdout=subprocess.PIPE, text=True)
+        if told.returncode:
+            sys.exit(2)
+        arguments.program = told.stdout.rstrip("\n")
     if arguments.seed is None:
         arguments.seed = random.SystemRandom().randrange(2**32)
     return arguments

@@ -1,15 +1,17 @@
 #!/usr/bin/env bash
-# program.sh [PROGRAM]: starts the built program, or the one that is named, and holds its status, its replies and what it
-# says on standard error against what is wanted: what no contract can say, and no stored run looks at.
+# program.sh [PROGRAM]: starts the program that ./run would run, or the one that is named, and holds its status, its replies
+# and what it says on standard error against what is wanted: what no contract can say, and no stored run looks at. The last
+# line is 'N passed, M failed'.
 set -euo pipefail
 
-program=${1:-$(cd "$(dirname "${BASH_SOURCE[0]}")/.." && pwd)/crates/catalogue/out/catalogue}
+program=${1:-$("$(dirname "${BASH_SOURCE[0]}")/../run" --path)}
 if [ ! -x "$program" ]; then
-  echo "program.sh: $program isn't built (./run builds it)" >&2
+  echo "program.sh: there is no program $program" >&2
   exit 1
 fi
 room=$(mktemp -d)
 trap 'rm -rf "$room"' EXIT
+passed=0
 failed=0
 
 usage='usage: catalogue [run [FOLDER]]'
@@ -23,7 +25,9 @@ expect() {
     echo "program.sh: $1 FAILED: status $(cat "$room/status"), wanted $status" >&2
     diff <(printf '%s\n' "$replies") "$room/out" >&2 || true
     diff <(printf '%s\n' "$said") "$room/err" >&2 || true
-    failed=1
+    failed=$((failed + 1))
+  else
+    passed=$((passed + 1))
   fi
 }
 
@@ -82,7 +86,7 @@ start run "$room/torn" <<<"$schema"
 expect 'a torn commit' 2 'NO 31' '[ERROR catalogue] schema refused'
 if [ "$(ls -l "$room/torn")" != "$files" ]; then
   echo "program.sh: a torn commit FAILED: opening touched a file" >&2
-  failed=1
+  failed=$((failed + 1))
 fi
 rm "$room/torn/segments_2"
 start run "$room/torn" <<<"$schema"$'\n''1 SNAP'$'\n''1 NOTE 1'$'\n''1 OPEN'$'\n''1 FIND 1 9 . . *:*'
@@ -143,10 +147,16 @@ for asked in "$schema|OK 0" '1 OPEN|1 OK 0' '1 CLOSE 0|1 OK 0'; do
   IFS= read -r -t 60 -u 4 reply || true
   if [ "$reply" != "${asked#*|}" ]; then
     echo "program.sh: before the next line '${asked%|*}' FAILED: it was answered '$reply'" >&2
-    failed=1
+    failed=$((failed + 1))
+  else
+    passed=$((passed + 1))
   fi
 done
 exec 3>&- 4<&-
-wait $! || failed=1
+if ! wait $!; then
+  echo "program.sh: the last run FAILED" >&2
+  failed=$((failed + 1))
+fi
 
-[ "$failed" -eq 0 ] && echo "program.sh: the program passed"
+echo "$passed passed, $failed failed"
+[ "$failed" -eq 0 ]

@@ -1,6 +1,6 @@
 """How fast the client is with a program: items a second of `put_many`, and round trips a second of `find`.
 
-    JASMINEDOME_PROGRAM=crates/catalogue/out/catalogue python3 clients/python/tests/speed.py
+    JASMINEDOME_PROGRAM=$(./run --path) python3 clients/python/tests/speed.py
 """
 
 import threading

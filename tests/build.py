@@ -1,0 +1,139 @@
+#!/usr/bin/env python3
+"""Proves and builds programs of this repository, crate by crate: the libraries below them, and then each program.
+
+usage: tests/build.py [--lanes N] [PROGRAM..]
+
+Crates that don't wait for each other are proved side by side, one a processor where there are 4 GB of memory for each, first
+those with the longest chain of others behind them; processors that no crate waits for become more jobs of those that are
+proved. What earlier runs proved of the same files is not proved again. It says on standard error how far it is, and, where
+a crate isn't proved, what its check said.
+"""
+
+import argparse
+import os
+import subprocess
+import sys
+import tempfile
+import threading
+import time
+from concurrent.futures import FIRST_COMPLETED, ThreadPoolExecutor, wait
+from pathlib import Path
+
+sys.path.insert(0, str(Path(__file__).resolve().parent))
+
+import kit  # noqa: E402
+from sources import TOP, Sources  # noqa: E402
+
+# rt runs what it has built: an input that ends well makes its status the build's.
+INPUT = b"SCHEMA 2 1 {}\n"
+
+
+class Builder:
+    """Builds one library as `rt lib` does. That holds each crate below it for itself, so two such commands go in turn; here
+    all are held at once, and the order is ours. Where a kit has nothing of the kind, `rt lib` is called."""
+
+    def __init__(self, names):
+        self.crates, self.held = {}, []
+        try:
+            rt = kit.rt()
+            # Commands end with us, and what starts them can't be made beside threads.
+            rt.rtlib.guarded()
+            found = {it.name: it for it in rt.rtlib.crates_below(str(TOP))}
+            self.held = rt.rtlib.lock([found[it] for it in names])
+            rt.share_work(True)
+            self.crates = found
+        except Exception as error:
+            print(f"build: this kit's rt builds one crate at a time ({type(error).__name__}: {error})", file=sys.stderr)
+
+    def lanes(self):
+        return kit.lanes() if self.crates else 1
+
+    def build(self, name, jobs, out):
+        crate = self.crates.get(name)
+        if not crate:
+            return subprocess.run(["rt", "lib", "--jobs", str(jobs)], cwd=TOP / "crates" / name, stdin=subprocess.DEVNULL, stdout=out, stderr=out).returncode
+        os.makedirs(f"{crate.folder}/out", exist_ok=True)
+        crate.out = out
+        return crate.build_rlib(["--jobs", str(jobs)], anew=False)
+
+    def end(self):
+        for it in self.held:
+            os.close(it)
+        self.held = []
+
+
+def main():
+    parser = argparse.ArgumentParser("build.py", description="Proves and builds programs of this repository.")
+    parser.add_argument("--lanes", type=int, help="how many processors it uses")
+    parser.add_argument("programs", nargs="*", metavar="PROGRAM", default=["catalogue"])
+    asked = parser.parse_args()
+    sources = Sources()
+    programs = asked.programs or ["catalogue"]
+    wrong = [it for it in programs if it not in sources.uses or not sources.is_program(it)]
+    if wrong or not kit.home():
+        print(f"build: {wrong[0]} is no program of crates.txt" if wrong else "build: no rt on PATH", file=sys.stderr)
+        return 2
+    whole = sources.below(*programs)
+    libraries = [it for it in whole if not sources.is_program(it)]
+    behind = sources.size_behind(libraries)
+    builder, start, done, failed = Builder(libraries), time.monotonic(), [], False
+    lanes = max(1, asked.lanes) if asked.lanes and builder.crates else builder.lanes()
+    print(f"run: proving {len(whole)} crates, {lanes} at once, which takes long the first time (./try shows the program unproved)", file=sys.stderr, flush=True)
+    telling = threading.Lock()
+
+    def tell(name):
+        with telling:
+            done.append(name)
+            spent = int(time.monotonic() - start)
+            print(f"run: {len(done)} of {len(whole)} done: {name}, after {spent // 60} min {spent % 60} s", file=sys.stderr, flush=True)
+
+    def work(name, jobs):
+        with tempfile.TemporaryFile("w+", errors="replace") as out:
+            try:
+                status = builder.build(name, jobs, out)
+            except SystemExit:
+                status = 2
+            if not status:
+                tell(name)
+                return True
+            out.seek(0)
+            with telling:
+                print(f"{out.read()}run: {name} is not proved", file=sys.stderr, flush=True)
+            return False
+
+    left, running = sorted(libraries, key=lambda it: -behind[it]), {}
+    with ThreadPoolExecutor(lanes) as pool:
+        while running or left and not failed:
+            ready = [] if failed else [it for it in left if all(dep in done for dep in sources.uses[it])]
+            for at, name in enumerate(ready):
+                idle = lanes - sum(jobs for _, jobs in running.values())
+                if idle < 1:
+                    break
+                jobs = max(1, min(4, idle // (len(ready) - at)))
+                left.remove(name)
+                running[pool.submit(work, name, jobs)] = name, jobs
+            if not running:
+                break
+            for it in wait(running, return_when=FIRST_COMPLETED).done:
+                running.pop(it)
+                failed = failed or not it.result()
+    builder.end()
+    if failed:
+        print("run: not all was proved, so no program was built", file=sys.stderr)
+        return 1
+    for name in programs:
+        words = ["rt", "run", "--jobs", str(min(4, lanes))]
+        ran = subprocess.run(words, cwd=TOP / "crates" / name, input=INPUT, stdout=subprocess.PIPE, stderr=subprocess.STDOUT)
+        # catalogue_check wants a folder, and says so: what counts is that it was built.
+        made = TOP / "crates" / name / "out" / name
+        is_made = made.is_file() and b"logic=not-proved" not in ran.stdout and b"error[" not in ran.stdout and (TOP / "crates" / name / "out" / f"{name}.stamp").is_file()
+        if not is_made or ran.returncode and name == "catalogue":
+            sys.stderr.buffer.write(ran.stdout)
+            print(f"run: {name} was not built", file=sys.stderr)
+            return 1
+        tell(name)
+    return 0
+
+
+if __name__ == "__main__":
+    sys.exit(main())

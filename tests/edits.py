@@ -1,0 +1,458 @@
+#!/usr/bin/env python3
+"""Tries the must-fail edits of tests/edits, and of crates/*/must-fail: wrong bodies, each of which its own crate's contracts have to refuse.
+
+usage: tests/edits.py [--anew] [--lanes N] [CRATE..]
+
+All edits of a crate go into one copy of it, and one check proves the functions that they change and no others; of two edits
+of one function the second goes into a further check. An edit is refused where its function is not proved, and for what it
+does: a goal of its own function is left open, or an answer to one no longer proves it. Where nothing but names that are gone
+tells against it, it shows nothing of the contract, and counts as not refused.
+
+A crate is tried over the libraries below it as `rt ci` built and kept them on this machine, or else over those that `rt lib`
+builds. What an edit came to is kept beside the kit by the checksums of all that it stands on, and not tried again before one
+of these changes; --anew tries all. The last line is `N refused, M not`, and the status 0 where M is.
+"""
+
+import argparse
+import hashlib
+import json
+import os
+import re
+import shutil
+import subprocess
+import sys
+import tempfile
+import threading
+import time
+from concurrent.futures import ThreadPoolExecutor
+from pathlib import Path
+
+sys.path.insert(0, str(Path(__file__).resolve().parent))
+
+import kit  # noqa: E402
+from sources import TOP, Sources  # noqa: E402
+
+EDITS = TOP / "tests" / "edits"
+REFUSED, BY_NAMES, MISSED, BAD, UNTRIED = "refused", "refused for a name alone", "NOT REFUSED", "BAD EDIT", "NOT TRIED"
+SETTLED = (REFUSED, BY_NAMES, MISSED, BAD)
+
+# Errors that only say that a name is gone.
+NAMES = re.compile(r"has no field|is not in scope|has no `|was not admitted|is no name")
+# Errors by which the edited text itself can't be read.
+UNREAD = re.compile(r"is not in scope|has no field|is no name|operand is missing|expected the end|cannot continue")
+# Where a person wants to read what the checks said.
+LOGS = os.environ.get("EDITS_LOGS")
+TOLD = re.compile(r"(?:note: )?(?:\./)?((?:src|proofs|specs)/[^:\s]+):(\d+):\d+: (.*)")
+OPEN = re.compile(r"it is not proved that")
+FALSE = "the facts known there allow values at which this goal is false"
+
+
+class Unit:
+    """What is proved as one: a function, or the cycle of functions that it is in."""
+
+    def __init__(self, file, module, names, cycle, first, last):
+        self.file, self.cycle, self.first, self.last = file, cycle, first, last
+        self.path = "::".join([*module, *names])
+        # A closure of the function stands beside it in the module, below `fn`.
+        self.closures = "::".join([*module, "fn", *names])
+        self.key = ("cycle", cycle) if cycle else ("fn", self.path)
+
+    def owns_line(self, file, line):
+        return file == self.file and self.first <= line <= self.last
+
+    def owns_proof(self, file):
+        """Whether the file is one of this function's proof: below proofs/ the folders are named as its path is."""
+        folder = file[len("proofs/") :].rpartition("/")[0].replace("/", "::")
+        above, _, name = self.path.rpartition("::")
+        # A cycle of functions has one proof; one that calls itself is a cycle of its own.
+        of_cycle = folder.rpartition("::")[2] == f"+{self.cycle}" or folder == (f"{above}::+{name}" if above else f"+{name}")
+        return folder == self.path or of_cycle or f"{folder}::".startswith(f"{self.closures}::")
+
+    def owns_name(self, name):
+        """Whether a check's line on this name speaks of the function, or of a closure in it."""
+        return name == self.path or name.startswith(f"{self.closures}::")
+
+
+def without_brackets(text):
+    """The text without what stands between angle brackets, and those."""
+    while True:
+        less = re.sub(r"<[^<>]*>", "", text)
+        if less == text:
+            return text
+        text = less
+
+
+def type_word(text):
+    """The word that rattle makes of a type in a path: its last name, and those of its arguments."""
+    text = re.sub(r"'\w+\s*,?\s*", "", text.strip())
+    text = re.sub(r"<\s*>", "", text)
+    if text.startswith("&"):
+        return "Ref" + type_word(text[1:].replace("mut ", "Mut", 1))
+    return without_brackets(text).split("::")[-1].strip()
+
+
+def owner_of(header):
+    """What stands for an impl's type, or its type and trait, in a function's path."""
+    header = re.sub(r"\s+", " ", header).partition(" where ")[0].strip()
+    header = re.sub(r"^(unsafe )?impl\b\s*", "", header)
+    if header.startswith("<"):
+        depth = 0
+        for at, letter in enumerate(header):
+            depth += (letter == "<") - (letter == ">" and header[at - 1] != "-")
+            if not depth:
+                header = header[at + 1 :].strip()
+                break
+    trait, is_of_trait, of = header.partition(" for ")
+    if not is_of_trait:
+        return type_word(header)
+    inside = re.search(r"<(.*)>", trait)
+    arguments = "".join(type_word(it) for it in inside[1].split(",")) if inside else ""
+    return type_word(of) + type_word(trait) + arguments
+
+
+def module_of(file):
+    path = Path(file).with_suffix("").relative_to("src").as_posix()
+    return [] if path in ("lib", "main") else path.split("/")
+
+
+def home_of(room, name, file):
+    """The module of the crate's type of this name: a type's own methods are named by that, and not by where they stand."""
+    found = [it for it in sorted(room.glob("src/**/*.rt")) if re.search(rf"(?m)^\s*(pub(\([^)]*\))? )?(struct|enum) {name}\b", it.read_text(encoding="utf-8"))]
+    return module_of(found[0].relative_to(room).as_posix()) if len(found) == 1 else module_of(file)
+
+
+def unit_at(room, file, text, at):
+    """The function of the file that has this place in its body, or None."""
+    lines = text.split("\n")
+    row = text.count("\n", 0, at)
+    for first in range(row, -1, -1):
+        found = re.match(r"(\s*)(?:pub(?:\([^)]*\))? )?(?:(?:const|unsafe|ghost) )*fn (\w+)", lines[first])
+        if found:
+            break
+    else:
+        return None
+    indent, name = found[1], found[2]
+    last = next((it for it in range(first, len(lines)) if re.match(rf"{indent}\}}", lines[it])), first)
+    if last < row:
+        return None
+    module, names = module_of(file), [name]
+    if indent:
+        for head in range(first, -1, -1):
+            if re.match(r"(unsafe )?impl\b|(pub(\([^)]*\))? )?trait\b", lines[head]):
+                header = "\n".join(lines[head : first + 1]).partition("{")[0]
+                trait = re.match(r"(pub(\([^)]*\))? )?trait (\w+)", header)
+                owner = trait[3] if trait else owner_of(header)
+                if not trait and " for " not in without_brackets(header):
+                    module = home_of(room, owner, file)
+                names.insert(0, owner)
+                break
+    cycle = None
+    for above in range(first - 1, -1, -1):
+        line = lines[above].strip()
+        if not line.startswith(("#[", "//", "///")):
+            break
+        of = re.fullmatch(r"#\[cycle\((\w+)\)\]", line)
+        cycle = of[1] if of else cycle
+    return Unit(file, module, names, cycle, first + 1, last + 1)
+
+
+class Edit:
+    def __init__(self, crate, file):
+        self.crate, self.file, self.name = crate, file, file.stem
+        self.label = f"{crate}/{self.name}"
+        self.pairs, self.only, self.lemmas, self.fault = [], [], [], None
+        # Whether it stands in no function, so that it changes more than one.
+        self.is_wide = False
+        path = old = None
+        for line in file.read_text(encoding="utf-8").split("\n"):
+            if line.startswith("file: "):
+                path = line[len("file: ") :].strip()
+                if not path.startswith("src/") or os.path.normpath(path) != path:
+                    self.fault = f"{path} is no file of src/: an edit of a contract, a definition or a proof shows nothing"
+            elif line.startswith("old: "):
+                old = line[len("old: ") :]
+            elif line.startswith("new:"):
+                new = line[len("new:") :]
+                if path is None or not old:
+                    self.fault = "a 'new:' line stands before a 'file:' or 'old:' line"
+                    break
+                self.pairs.append((path, old, new[1:] if new.startswith(" ") else new))
+                old = None
+            elif line.startswith("# only: "):
+                # The functions that have to refuse an edit that stands in none, as one of a type.
+                self.only += line[len("# only: ") :].split()
+            elif line.startswith("# lemma: "):
+                # The files of lemmas that say of the type what the functions' contracts rest on.
+                self.lemmas += line[len("# lemma: ") :].split()
+            elif line.strip() and not line.startswith("#"):
+                self.fault = f"the line '{line[:60]}' is not read"
+        if not self.pairs and not self.fault:
+            self.fault = "it has no 'old:' and 'new:' pair"
+
+    def apply(self, room):
+        """Writes the edit into the copy of the crate, and gives the functions that it changes, or why it can't be applied."""
+        texts, units = {}, {}
+        for path, old, new in self.pairs:
+            if path not in texts:
+                if not (room / path).is_file():
+                    return None, f"there is no {path}"
+                texts[path] = (room / path).read_text(encoding="utf-8")
+            count = texts[path].count(old)
+            if count != 1:
+                return None, f"an 'old:' text stands in {path} {count} times, and not once"
+            at = texts[path].index(old)
+            unit = unit_at(room, path, texts[path], at)
+            if unit:
+                units[unit.path] = unit
+            texts[path] = texts[path].replace(old, new)
+        self.is_wide = not units
+        if not units and not self.only:
+            units = {unit.path: unit for path, text in texts.items() for unit in units_of(room, path, text)}
+            if not units:
+                return None, "no function stands in its file: name those that have to refuse it, by a line '# only: NAME..'"
+        for path, text in texts.items():
+            if (room / path).read_text(encoding="utf-8") == text:
+                return None, "it changes nothing"
+        for name in self.only:
+            unit = unit_named(room, name)
+            if not unit:
+                return None, f"no function {name} stands in src/"
+            units[name] = unit
+        for path, text in texts.items():
+            (room / path).write_text(text, encoding="utf-8")
+        if self.only:
+            units = {it: units[it] for it in self.only}
+        return list(units.values()), None
+
+
+def units_of(room, path, text):
+    """The functions of the file."""
+    found = [unit_at(room, path, text, it.start()) for it in re.finditer(r"(?m)^ *(?:pub(?:\([^)]*\))? )?(?:(?:const|unsafe) )*fn \w+", text)]
+    return [it for it in found if it]
+
+
+def unit_named(room, name):
+    """The function of this path in the crate."""
+    for file in sorted(room.glob("src/**/*.rt")):
+        for unit in units_of(room, file.relative_to(room).as_posix(), file.read_text(encoding="utf-8")):
+            if unit.path == name:
+                return unit
+    return None
+
+
+def files_of(crate):
+    """The files of the crate's edits: those of tests/edits, and those that `rt ci` tries too."""
+    return sorted([*(EDITS / crate).glob("*.edit"), *(TOP / "crates" / crate / "must-fail").glob("*.edit")], key=lambda it: it.name)
+
+
+class Batch:
+    """Edits of one crate that go into one check: no two change one function."""
+
+    def __init__(self, crate):
+        self.crate, self.edits, self.keys, self.is_alone = crate, [], set(), False
+
+    def takes(self, edit, units):
+        keys = {it.key for it in units}
+        if self.edits and (edit.is_wide or self.is_alone or keys & self.keys):
+            return False
+        self.edits.append(edit)
+        self.keys |= keys
+        self.is_alone = edit.is_wide
+        return True
+
+
+def copied(crate, room):
+    for part in ("src", "specs", "proofs"):
+        if (TOP / "crates" / crate / part).is_dir():
+            shutil.copytree(TOP / "crates" / crate / part, room / part)
+
+
+def batches_of(crate, edits):
+    """Batches for the edits, and of those that can't be applied why."""
+    batches, faults = [], {}
+    with tempfile.TemporaryDirectory(prefix="edits-") as room:
+        room = Path(room)
+        if edits:
+            copied(crate, room)
+        for edit in edits:
+            units, why = (None, edit.fault) if edit.fault else edit.apply(room)
+            for path in {path for path, _, _ in edit.pairs}:
+                if (room / path).is_file():
+                    shutil.copyfile(TOP / "crates" / crate / path, room / path)
+            if why:
+                faults[edit] = why
+            elif not any(it.takes(edit, units) for it in batches):
+                batches.append(Batch(crate))
+                batches[-1].takes(edit, units)
+    return batches, faults
+
+
+def check(crate, edits, words):
+    """Checks the crate with these edits, and gives what each came to; one that doesn't go with the others stands in no answer."""
+    with tempfile.TemporaryDirectory(prefix="edits-") as room:
+        room = Path(room)
+        copied(crate, room)
+        units = {}
+        for edit in edits:
+            found, why = edit.apply(room)
+            if why is None:
+                units[edit] = found
+        # What an edit adds or takes away is one line for one line, so the places of functions stay.
+        only = sorted({unit.path for found in units.values() for unit in found})
+        asked = [word for name in only for word in ("--only", name)]
+        ran = subprocess.run([*words, *asked], cwd=room, stdin=subprocess.DEVNULL, stdout=subprocess.PIPE, stderr=subprocess.STDOUT, errors="replace")
+        if LOGS:
+            log = Path(LOGS) / f"{edits[0].crate}-{'all' if len(edits) > 1 else edits[0].name}.log"
+            log.write_text(f"{' '.join(asked)}\n{ran.stdout}", encoding="utf-8")
+        return {edit: judged(edit, found, ran) for edit, found in units.items()}
+
+
+def judged(edit, units, ran):
+    """What the check says of the edit, and by which words."""
+    lines = ran.stdout.split("\n")
+    said = {}
+    for line in lines:
+        found = re.match(rf"fn {edit.crate}::(\S+): (.*)", line)
+        if found:
+            said[found[1]] = found[2]
+    mine = {name: status for name, status in said.items() if any(it.owns_name(name) for it in units)}
+    # 3 says that the prover couldn't tell of some function, which its own line says too.
+    if ran.returncode not in (0, 1, 3) or not mine:
+        first = next((it for it in lines if "error" in it), lines[0])
+        if ran.returncode == 1 and re.search(r"\berror\[[\w-]+\]", ran.stdout):
+            return BAD, f"it doesn't reach the prover: {first[:200]}"
+        limit = next((it for it in lines if "no verdict" in it), first)
+        return UNTRIED, f"its check ended with status {ran.returncode}: {limit[:200]}"
+    unproved = {name: status for name, status in mine.items() if status.startswith(("not proved", "no proof"))}
+    if not unproved:
+        if all(status.startswith("proved") for status in mine.values()):
+            return MISSED, f"{', '.join(mine)} is still proved"
+        return UNTRIED, "; ".join(f"{name}: {status}" for name, status in mine.items())[:200]
+    opened, refused, gone, gone_goals, is_false = [], [], [], set(), False
+    for line in lines:
+        told = TOLD.match(line)
+        if not told:
+            continue
+        file, row, text = told[1], int(told[2]), told[3]
+        if file.startswith("src/") and any(it.owns_line(file, row) for it in units):
+            if OPEN.search(text):
+                opened.append((re.findall(r"\(`([^`]+)`\)", text), line))
+                is_false = is_false or FALSE in text
+            elif text.startswith("error: "):
+                if UNREAD.search(re.sub(r"`[^`]*`", "``", text)):
+                    return BAD, f"the prover can't read the edited text: {line[:200]}"
+                refused.append(line)
+        elif (file in edit.lemmas or file.startswith("proofs/") and any(it.owns_proof(file) for it in units)) and text.startswith("error: "):
+            if NAMES.search(text):
+                gone.append(line)
+                gone_goals.update(re.findall(r"has no `([^`]+)`", text))
+            else:
+                refused.append(line)
+    # A goal that was renamed stands open for want of its answer: it says something only where its answer is no longer there to be missed.
+    if refused or opened and (is_false or not gone or len(opened) > len(gone_goals)):
+        first = refused[0] if refused and not is_false else next((it for _, it in opened if FALSE in it), opened[0][1] if opened else refused[0])
+        return REFUSED, re.sub(r"^(note: )?(\./)?", "", first)[:200]
+    if gone or opened:
+        return BY_NAMES, (gone or [opened[0][1]])[0][:200]
+    return BY_NAMES, f"no goal of its own is left open: {'; '.join(f'{name}: {status}' for name, status in unproved.items())[:200]}"
+
+
+class Results:
+    """What edits came to earlier on this machine, each by the sum of all that it stands on."""
+
+    def __init__(self, sources, anew):
+        self.at, self.sources, self.anew = kit.store() / "edits", sources, anew
+        judge = b"".join(Path(__file__).with_name(it).read_bytes() for it in ("edits.py", "sources.py", "kit.py"))
+        self.judge = hashlib.sha256(judge).hexdigest()
+
+    def name(self, edit):
+        made = (kit.line(), self.judge, self.sources.sum_below(edit.crate), edit.name, edit.file.read_text(encoding="utf-8"))
+        return hashlib.sha256(repr(made).encode()).hexdigest()
+
+    def known(self, edit):
+        if self.anew:
+            return None
+        try:
+            found = json.loads((self.at / self.name(edit)).read_text(encoding="utf-8"))
+            return (found["kind"], found["text"]) if found["kind"] in SETTLED else None
+        except (OSError, ValueError, KeyError, TypeError):
+            return None
+
+    def keep(self, edit, kind, text):
+        if kind not in SETTLED:
+            return
+        try:
+            self.at.mkdir(parents=True, exist_ok=True)
+            with tempfile.NamedTemporaryFile("w", dir=self.at, delete=False, encoding="utf-8") as new:
+                json.dump({"edit": edit.label, "kind": kind, "text": text}, new)
+            os.replace(new.name, self.at / self.name(edit))
+        except OSError:
+            pass
+
+
+def tried(batch, libraries):
+    """What each edit of the batch comes to. Where they don't go together, each is tried by itself."""
+    words = libraries.words(batch.crate)
+    if words is None:
+        return {edit: (UNTRIED, "the crate, or a library below it, isn't built as it stands") for edit in batch.edits}
+    found = check(batch.crate, batch.edits, words)
+    for edit in batch.edits:
+        if edit not in found or found[edit][0] in (BAD, UNTRIED) and len(batch.edits) > 1:
+            found.update(check(batch.crate, [edit], words))
+    return found
+
+
+def main():
+    parser = argparse.ArgumentParser("edits.py", description="Tries the must-fail edits of tests/edits.")
+    parser.add_argument("--anew", action="store_true", help="try those too whose result is kept")
+    parser.add_argument("--lanes", type=int, help="how many checks go side by side")
+    parser.add_argument("--only", help="edits whose names have these letters")
+    parser.add_argument("crates", nargs="*", metavar="CRATE")
+    asked = parser.parse_args()
+    sources = Sources()
+    crates = asked.crates or sorted({*(it.name for it in EDITS.iterdir()), *(it for it in sources.uses if files_of(it))})
+    for it in crates:
+        if it not in sources.uses or not files_of(it):
+            print(f"edits: no edits of a crate {it} stand in tests/edits or in its must-fail", file=sys.stderr)
+            return 2
+    edits = [Edit(crate, file) for crate in crates for file in files_of(crate)]
+    edits = [it for it in edits if not asked.only or asked.only in it.name]
+    results = Results(sources, asked.anew)
+    told = {edit: found for edit in edits for found in [results.known(edit)] if found}
+    old = len(told)
+    if old:
+        print(f"edits: {old} of {len(edits)} were tried by an earlier run on this machine, and nothing that they stand on has changed", flush=True)
+    batches = []
+    for crate in crates:
+        left = [it for it in edits if it.crate == crate and it not in told]
+        made, faults = batches_of(crate, left)
+        batches += made
+        told.update({edit: (BAD, why) for edit, why in faults.items()})
+    libraries = kit.Libraries(sources, sorted({it.crate for it in batches}))
+    printing, start = threading.Lock(), time.monotonic()
+    # The longest checks first.
+    batches.sort(key=lambda it: -sources.size_below(it.crate))
+
+    def work(batch):
+        found = tried(batch, libraries)
+        with printing:
+            for edit, (kind, text) in found.items():
+                told[edit] = kind, text
+                results.keep(edit, kind, text)
+                print(f"edits: {edit.label}: {kind}: {text}", flush=True)
+
+    with ThreadPoolExecutor(max(1, asked.lanes or kit.lanes())) as pool:
+        for it in [pool.submit(work, batch) for batch in batches]:
+            it.result()
+    libraries.close()
+    for edit in edits:
+        if told[edit][0] != REFUSED:
+            print(f"edits: {edit.label}: {told[edit][0]}: {told[edit][1]}")
+    refused = sum(told[it][0] == REFUSED for it in edits)
+    print(f"edits: {len(edits) - old} of {len(edits)} were tried in this run, in {len(batches)} checks and {time.monotonic() - start:.0f} s; the others are kept")
+    print(f"{refused} refused, {len(edits) - refused} not")
+    return 1 if refused < len(edits) or not edits else 0
+
+
+if __name__ == "__main__":
+    sys.exit(main())

@@ -1,0 +1,160 @@
+"""The Rattle kit on this machine: where it is, what it calls itself, and what of this repository it has built."""
+
+import hashlib
+import importlib.machinery
+import importlib.util
+import json
+import os
+import shutil
+import subprocess
+import sys
+import tempfile
+from pathlib import Path
+
+from sources import TOP
+
+
+def home():
+    """The kit's folder, by the `rt` on the PATH, or None."""
+    rt = shutil.which("rt")
+    return Path(rt).resolve().parent.parent if rt else None
+
+
+def line():
+    """The kit's line, as `rt version` says it, or None where there is no kit."""
+    at = home()
+    return (at / "KIT-ID").read_text(encoding="utf-8").split("\n")[0].strip() if at else None
+
+
+def store():
+    """A folder beside the kit for what runs on this machine found out, or one of the user's own where that can't be written."""
+    beside = home().parent / "jasminedome-kept"
+    try:
+        beside.mkdir(mode=0o700, exist_ok=True)
+        if beside.stat().st_uid == os.geteuid() and os.access(beside, os.W_OK):
+            return beside
+    except OSError:
+        pass
+    return Path(os.environ.get("XDG_CACHE_HOME") or Path.home() / ".cache") / "jasminedome-kept"
+
+
+def memory():
+    """The bytes of memory that are free."""
+    for said in Path("/proc/meminfo").read_text().splitlines():
+        if said.startswith("MemAvailable:"):
+            return 1024 * int(said.split()[1])
+    return 0
+
+
+def lanes():
+    """How many checks go side by side: one a processor, where there are 4 GB of memory for each."""
+    return max(1, min(len(os.sched_getaffinity(0)), memory() // 4_000_000_000))
+
+
+class Libraries:
+    """The libraries below some crates, as the prover built them of the files that stand there now."""
+
+    def __init__(self, sources, crates):
+        self.sources, self.room, self.at, self.failed = sources, None, {}, set()
+        self.take_kept(sources.below(*crates))
+        if not self.at:
+            self.take_left(sources.below(*crates))
+        for crate in crates:
+            if any(it not in self.at for it in self.sources.below(crate)):
+                self.build(crate)
+
+    def take_kept(self, names):
+        """Takes what `rt ci` proved of the same files over the same libraries, by the sums under which it keeps that."""
+        try:
+            found = kept_by_gate(self.sources, names)
+        except Exception as error:  # a kit that keeps it otherwise
+            print(f"kit: what rt ci kept can't be read ({type(error).__name__}: {error}), so libraries are built", file=sys.stderr)
+            return
+        if any(name not in found for name in names):
+            return
+        self.room = tempfile.mkdtemp(prefix="libraries-")
+        for name in names:
+            if self.sources.is_program(name):
+                self.at[name] = None
+                continue
+            entry, files = found[name]
+            for number, path in enumerate(files):
+                to = Path(self.room) / path
+                to.parent.mkdir(parents=True, exist_ok=True)
+                try:
+                    os.link(entry / str(number), to)
+                except OSError:
+                    shutil.copyfile(entry / str(number), to)
+            self.at[name] = Path(self.room) / "rlib" / f"{name}.rlib"
+
+    def take_left(self, names):
+        """Takes what `rt ci` left in out/, where it could keep nothing: ./prove notes of which sources that is."""
+        rlibs = {name: TOP / "crates" / name / "out" / "rlib" / f"{name}.rlib" for name in names if not self.sources.is_program(name)}
+        # What rt itself built for later checks has a stamp, and may be of other sources.
+        if any(not (it / "format").is_file() or it.with_name("stamp").exists() for it in rlibs.values()):
+            return
+        words = ["bash", "-c", 'top=$1 && . "$top/release/common.sh" && [ "$(told "$record" sources)" = "$(sources_sum)" ]', "", str(TOP)]
+        if not subprocess.run(words, stderr=subprocess.DEVNULL).returncode:
+            self.at = {name: rlibs.get(name) for name in names}
+
+    def build(self, crate):
+        """Has rt prove the crate and build the libraries below it; rt builds none that stands there of the same files."""
+        verb = "check" if self.sources.is_program(crate) else "lib"
+        ran = subprocess.run(["rt", verb, "--jobs", "1"], cwd=TOP / "crates" / crate, stdin=subprocess.DEVNULL, stdout=subprocess.PIPE, stderr=subprocess.STDOUT, errors="replace")
+        if ran.returncode:
+            print(f"kit: {crate} isn't proved as it stands:\n{ran.stdout[-2000:]}", file=sys.stderr)
+            self.failed.add(crate)
+            return
+        for name in self.sources.below(crate):
+            self.at[name] = None if self.sources.is_program(name) else TOP / "crates" / name / "out" / "rlib" / f"{name}.rlib"
+
+    def words(self, crate):
+        """The words that check the crate in a copy of its folder, or None where a library below isn't there."""
+        if crate in self.failed or any(it not in self.at for it in self.sources.below(crate)):
+            return None
+        kit = home()
+        words = [str(kit / "bin" / "rattle"), "check", "--crate-name", crate]
+        words += ["src/main.rt" if self.sources.is_program(crate) else "src/lib.rt"]
+        for name in ("std", *self.sources.of_kit[crate]):
+            words += ["--extern", f"{name}={kit}/rlibs/{name}.rlib"]
+        words += ["-L", f"dependency={kit}/rlibs"]
+        for name in self.sources.uses[crate]:
+            words += ["--extern", f"{name}={self.at[name]}"]
+        for name in self.sources.below(crate)[:-1]:
+            words += ["-L", f"dependency={self.at[name].parent}"]
+        words += ["--antt-project", f"{kit}/rattle/logic/antt-project.json", "--logic-built", f"{kit}/logic_built"]
+        return [*words, "--links", f"{crate}=", "--jobs", "1"]
+
+    def close(self):
+        if self.room:
+            shutil.rmtree(self.room, ignore_errors=True)
+
+
+def rt():
+    """The kit's own rt, for what no command of it does."""
+    sys.dont_write_bytecode = True
+    loader = importlib.machinery.SourceFileLoader("rt_of_the_kit", str(home() / "bin" / "rt"))
+    made = importlib.util.module_from_spec(importlib.util.spec_from_loader("rt_of_the_kit", loader))
+    loader.exec_module(made)
+    return made
+
+
+def kept_by_gate(sources, names):
+    """For each of these crates that `rt ci` proved as it stands: where its files are kept, and their paths below out/."""
+    kits = rt()
+    kits.Crate.allowed = kits.handles_of(str(TOP))
+    kits.rtlib.Crate = kits.Crate
+    crates = {it.name: it for it in kits.rtlib.crates_below(str(TOP))}
+    kept, found = kits.Kept([]), {}
+    for name in sources.below(*names):
+        entry = Path(kept.place(crates[name], False, kept.key(crates[name])))
+        if not (entry / "made.json").is_file():
+            continue
+        made = json.loads((entry / "made.json").read_text(encoding="utf-8"))
+        files = [(path, total) for path, total in made["files"]]
+        for number, (path, total) in enumerate(files):
+            if hashlib.sha256((entry / str(number)).read_bytes()).hexdigest() != total:
+                raise ValueError(f"{entry} is damaged")
+        kept.rlibs[name] = hashlib.sha256(repr([] if sources.is_program(name) else files).encode()).hexdigest()
+        found[name] = entry, [path for path, _ in files]
+    return found

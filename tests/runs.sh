@@ -1,0 +1,35 @@
+#!/usr/bin/env bash
+# Runs every test that wants built programs and no proof, side by side. The last line is 'N passed, M failed', and the status 0
+# where M is.
+#
+# usage: tests/runs.sh PROGRAM CHECK        (the catalogue, and catalogue_check)
+set -euo pipefail
+
+if [ "$#" -ne 2 ] || ! [ -x "$1" ] || ! [ -x "$2" ]; then
+  echo "usage: tests/runs.sh PROGRAM CHECK, both built" >&2
+  exit 2
+fi
+program=$(realpath "$1")
+check=$(realpath "$2")
+cd "$(dirname "${BASH_SOURCE[0]}")/.."
+# shellcheck source=tests/count.sh
+. tests/count.sh
+
+begin 'tests/program.sh' tests/program.sh "$program"
+if ! command -v python3 >/dev/null || ! python3 -c 'import sys; sys.exit(sys.version_info < (3, 9))'; then
+  fail "python3, 3.9 or later, is wanting, so of the tests of the programs only tests/program.sh was run"
+else
+  named=$(printf %q "$program")
+  begin 'tests/days.py' tests/days.py "$program" "$check"
+  if [ -x tests/limits.py ]; then begin 'tests/limits.py' tests/limits.py "$program"; fi
+  if [ -x tests/folder.py ]; then begin 'tests/folder.py' tests/folder.py "$program" "$check"; fi
+  begin 'clients/python' env JASMINEDOME_PROGRAM="$named" python3 clients/python/tests
+  if command -v chromium >/dev/null && command -v chromedriver >/dev/null; then
+    begin 'examples/shop/test' env JASMINEDOME_PROGRAM="$named" examples/shop/test
+  else
+    echo "left out for want of Chromium and its driver: examples/shop/test, which drives the sample shop's page" >&2
+  fi
+fi
+await
+
+finish
