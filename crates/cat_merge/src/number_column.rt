@@ -33,7 +33,7 @@ fn add_input(numbers: &mut Vec<Option<i64>>, input: &Input, index: usize) -> Res
     ensures { OnOk result (numbers.new.items ≡ numbers.old.items ++ selected input.now.live (numbers_under index input.now.segment.rows)) }
 {
     match input.column(index) {
-        Column::Number(values) => add_numbers(numbers, values, input.live()),
+        Column::Number(column) => add_numbers(numbers, column.values(), input.live()),
         _ => unreachable!(),
     }
 }

@@ -125,7 +125,7 @@ fn column_set(alloc: Global, test: &Test, column: &Column) -> Result<RowSet, All
     match column {
         Column::Text(terms) => words_set(alloc, test, terms),
         Column::Keyword(keywords) => keywords_set(alloc, test, keywords),
-        Column::Number(numbers) => numbers_set(alloc, test, numbers),
+        Column::Number(numbers) => numbers_set(alloc, test, numbers.values()),
         Column::Facet(labels) => labels_set(alloc, test, labels),
     }
 }

@@ -20,3 +20,6 @@ pub mod ViewPages
 pub mod Stored
 pub mod Killed
 pub mod Pushed
+pub mod Arranged
+pub mod Walked
+pub mod Ordered

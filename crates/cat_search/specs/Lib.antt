@@ -14,3 +14,4 @@ pub mod OrdinalBars
 pub mod Sets
 pub mod Hits
 pub mod Holds
+pub mod Walks

@@ -7,7 +7,7 @@ use std::alloc::{AllocError, Global};
 use std::marker::Model;
 
 /// By how many items more than the limit a short page gathers at least, before they are put in order.
-const LEAST_SPARE: usize = 16;
+pub(crate) const LEAST_SPARE: usize = 16;
 
 /// The least items, in the order of `T`, of all that were offered, at most as many as its limit; of equal items those
 /// that were offered first.

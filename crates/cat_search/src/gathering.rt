@@ -22,6 +22,7 @@ use crate::offers::{is_beyond, offer_rows};
 use crate::sort::Order;
 use crate::standings::{Candidate, Rank};
 use crate::view::Leaf;
+use crate::walk::Reach;
 use cat_query::{DocSet, Query};
 use cat_segment::{Live, Segment};
 use cat_values::RowSet;
@@ -198,10 +199,12 @@ fn best_hits<'a>(
     let mut best = Best::new(alloc, wanted.count);
     for (index, leaf) in leaves.iter().enumerate() {
         let hits = hits_of(alloc, query, set_at(sets, index), leaf)?;
+        let before = total;
         total = counted(total, &hits)?;
         let rows = hits.rows();
         let ranks = LeafRanks::of(leaf.segment(), wanted.order);
-        offer_rows(&mut best, &ranks, rows, &wanted.mark)?;
+        let reach = Reach::of(total - before, ranks.len(), wanted.count);
+        offer_rows(&mut best, &ranks, rows, &wanted.mark, reach)?;
     }
     let first = best.into_items()?;
     Ok((total, first))

@@ -8,6 +8,7 @@ ghost use Rattle.cat_search.specs.Candidates.{standing_of};
 ghost use Rattle.cat_search.specs.Keys.{key_ref_of};
 ghost use Rattle.cat_search.specs.Rows.{bare_record, keys_by, row_standing};
 ghost use Rattle.cat_search.specs.Sorts.{sort_in};
+ghost use Rattle.cat_search.specs.Walks.{IsWalk};
 
 use crate::keys::KeyRef;
 use crate::sort::{Order, rank_with};
@@ -58,7 +59,7 @@ fn key_at(column: &Column, row: usize) -> Option<KeyRef>
     ensures { option_map key_ref_of result ≡ key_in (slice_get (contents_of column.now) row) }
 {
     match column {
-        Column::Number(numbers) => match numbers.value(row) {
+        Column::Number(numbers) => match numbers.values().value(row) {
             Some(number) => Some(KeyRef::Number(number)),
             None => None,
         },
@@ -80,6 +81,13 @@ impl<'a> LeafRanks<'a> {
             order,
             column: column_by(order, segment),
         }
+    }
+
+    /// How many rows there are.
+    pub(crate) fn len(&self) -> usize
+        ensures { result ≡ length self.now }
+    {
+        self.segment.len()
     }
 
     /// The row as a hit.
@@ -105,7 +113,23 @@ impl<'a> LeafRanks<'a> {
         let Column::Number(numbers) = self.column? else {
             return None;
         };
-        Some((numbers, self.order))
+        Some((numbers.values(), self.order))
+    }
+
+    /// All rows in the order of the page, where the sort is by a number field.
+    pub(crate) fn walk(&self) -> Option<&'a [u32]>
+        ensures { IfSome result (λ w. IsWalk self.now w.now) }
+    {
+        let Column::Number(numbers) = self.column? else {
+            return None;
+        };
+        // Its contract says that the numbers of the rows rise.
+        let _rows = self.segment.len();
+        match self.order {
+            Order::Added => None,
+            Order::Rising(_) => Some(numbers.rising()),
+            Order::Falling(_) => Some(numbers.falling()),
+        }
     }
 
     /// The keywords that rank the rows, and in which order, where the sort is by a keyword field.

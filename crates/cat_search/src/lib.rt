@@ -23,6 +23,7 @@ mod prepared;
 mod sort;
 mod standings;
 mod view;
+mod walk;
 
 pub use ask::Ask;
 pub use best::Best;

@@ -11,6 +11,7 @@ use crate::leaf_ranks::LeafRanks;
 use crate::number_bar::NumberRows;
 use crate::ordinal_bar::KeywordRows;
 use crate::standings::Candidate;
+use crate::walk::{Reach, offer_walk, rows_passed};
 use cat_values::RowSet;
 use std::alloc::AllocError;
 
@@ -81,17 +82,28 @@ fn offer_by<'a, B: Bar<'a>>(
     Ok(())
 }
 
-/// Offers the hits of a segment to the page, as far as the mark comes before them.
+/// Offers the hits of a segment to the page, as far as the mark comes before them: in the order of the page as far as it takes
+/// them, where the reach covers that, and else with a look at each hit.
 pub(crate) fn offer_rows<'a>(
     best: &mut Best<Candidate<'a>>,
     ranks: &LeafRanks<'a>,
     hits: &RowSet,
     mark: &Option<Candidate<'a>>,
+    reach: Option<Reach>,
 ) -> Result<(), AllocError>
     requires { length hits.now ≡ length ranks.now }
     ensures limit { best.new.limit ≡ best.old.limit }
     ensures best { OnOk result (TakesIn best.old best.new (behind (mark_standing mark.now) (selected hits.now ranks.now))) }
 {
+    if let Some(reach) = reach
+        && let Some(walk) = ranks.walk()
+    {
+        let first = rows_passed(ranks, walk, mark);
+        let (_, left) = walk.split_at(first);
+        if reach.covers(left, hits) {
+            return offer_walk(best, ranks, walk, first, hits, mark);
+        }
+    }
     if let Some((numbers, order)) = ranks.numbers() {
         return offer_by(
             best,

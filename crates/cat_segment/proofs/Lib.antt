@@ -16,3 +16,4 @@ pub mod Spelled
 pub mod Steps
 pub mod Through
 pub mod Worded
+pub mod RowOrders

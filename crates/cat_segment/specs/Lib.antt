@@ -6,3 +6,4 @@ pub mod Laid
 pub mod LiveStart
 pub mod Parts
 pub mod Sources
+pub mod Orders

@@ -12,6 +12,7 @@ ghost use Rattle.cat_segment.specs.Fields.{content_in, contents_in, contents_by_
 use crate::column::{Column, Keywords, Labels};
 use crate::field_values::{keywords, numbers, texts};
 use crate::ids::Ids;
+use crate::numbers::Numbers;
 use crate::segment::Row;
 use crate::sources::Sources;
 use cat_base::{Text, WriteNo};
@@ -57,7 +58,8 @@ fn column_of(
         }
         Kind::Number => {
             let numbers = numbers(alloc, index, rows)?;
-            Ok(Column::Number(NumberColumn::of(alloc, &numbers)?))
+            let values = NumberColumn::of(alloc, &numbers)?;
+            Ok(Column::Number(Numbers::joined(alloc, values)?))
         }
         Kind::Facet => {
             let texts = texts(alloc, index, rows)?;

@@ -3,8 +3,9 @@ ghost use Rattle.std.specs.Prelude.{◌≡◌, ◌<◌, map, IfOk};
 ghost use Rattle.cat_model.specs.Ordinals.{texts_of};
 
 use crate::inverting::{terms_of_keywords, terms_of_labels};
+use crate::numbers::Numbers;
 use cat_inverted::Terms;
-use cat_values::{KeywordColumn, NumberColumn, SetColumn};
+use cat_values::{KeywordColumn, SetColumn};
 use std::alloc::{AllocError, Global};
 use std::marker::Model;
 
@@ -102,7 +103,7 @@ pub enum Column {
     /// The text of each row of a keyword field.
     Keyword(Keywords),
     /// The integer of each row of a number field (Lucene: `NumericDocValues`).
-    Number(NumberColumn),
+    Number(Numbers),
     /// The labels of each row of a facet field.
     Facet(Labels),
 }

@@ -11,6 +11,7 @@ ghost use Rattle.cat_segment.specs.Sources.{lengths_between, Rise};
 ghost use Rattle.cat_segment.specs.declared.column.Column as declared;
 
 use crate::column::{Column, Keywords, Labels};
+use crate::numbers::Numbers;
 use cat_base::{MAX_LABELS, Refusal, Text};
 use cat_codec::ColumnParts;
 use cat_inverted::Terms;
@@ -126,7 +127,8 @@ fn numbers_from(alloc: Global, rows: usize, numbers: Vec<Option<i64>>) -> Result
     ensures ok { IfOk result (IsColumnOf rows (parts.Number numbers)) }
     ensures due { HasNoColumn rows (parts.Number numbers) → ⊥ }
 {
-    Ok(Column::Number(NumberColumn::of(alloc, &numbers)?))
+    let values = NumberColumn::of(alloc, &numbers)?;
+    Ok(Column::Number(Numbers::joined(alloc, values)?))
 }
 
 /// The column of the parts, of as many rows. [`Refusal::Damaged`] where no column is laid out so.

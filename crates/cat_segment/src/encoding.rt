@@ -64,7 +64,7 @@ fn put_column(out: &mut Vec<u8>, column: &Column) -> Result<(), AllocError>
     match column {
         Column::Text(terms) => put_words(out, terms),
         Column::Keyword(keywords) => put_keywords(out, keywords.values()),
-        Column::Number(values) => put_integers(out, values),
+        Column::Number(numbers) => put_integers(out, numbers.values()),
         Column::Facet(labels) => put_labels(out, labels.labels()),
     }
 }

@@ -45,7 +45,7 @@ fn id_at(ids: &[Text], row: u32) -> &str
 }
 
 /// The rows from 0 on.
-fn all_rows(alloc: Global, len: u32) -> Result<Vec<u32>, AllocError>
+pub(crate) fn all_rows(alloc: Global, len: u32) -> Result<Vec<u32>, AllocError>
     ensures ok { IfOk result (λ v. v.items ≡ range_with_len 0 len) }
 {
     let mut rows = Vec::with_capacity(alloc, len as usize)?;

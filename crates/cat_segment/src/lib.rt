@@ -12,6 +12,7 @@ mod ids;
 mod inverting;
 mod live;
 mod live_file;
+mod numbers;
 mod segment;
 mod sources;
 
@@ -21,4 +22,5 @@ pub use decoding::{decode_seg, segments_are_told_by_their_bytes};
 pub use encoding::encode_seg;
 pub use live::Live;
 pub use live_file::{LiveFile, decode_liv, encode_liv, live_rows_are_told_by_their_bytes};
+pub use numbers::Numbers;
 pub use segment::{Row, Segment};

@@ -6,6 +6,8 @@ mod making;
 mod put;
 #[cfg(test)]
 mod views;
+#[cfg(test)]
+mod walks;
 
 pub use making::{PutText, are_in_order, read_put, read_puts, segment_of, sets_of, view_of};
 pub use put::Put;

@@ -15,7 +15,8 @@ use std::fmt::Write;
 use std::process::Abort;
 use std::test::Fail;
 
-const FIELDS: &[u8] = br#"{"brand":"keyword","color":"facet","price":"number","title":"text"}"#;
+pub(crate) const FIELDS: &[u8] =
+    br#"{"brand":"keyword","color":"facet","price":"number","title":"text"}"#;
 
 /// A FIND: how many hits at most, the sort, the mark, the query, and what is shown.
 type FindText<'a> = (u64, &'a str, Option<WriteNo>, &'a str, &'a str);
@@ -60,13 +61,18 @@ fn answer_text(alloc: Global, answer: &Result<Page, Refusal>) -> Result<String, 
 }
 
 /// What the FIND of the query shows over the view.
-fn shown_by_view(alloc: Global, view: &View, query: &str, ask: Ask<'_>) -> Result<String, Refusal> {
+pub(crate) fn shown_by_view(
+    alloc: Global,
+    view: &View,
+    query: &str,
+    ask: Ask<'_>,
+) -> Result<String, Refusal> {
     let prepared = Prepared::of(view, Query::parse(view.schema(), alloc, query)?)?;
     Ok(answer_text(alloc, &prepared.page(alloc, ask))?)
 }
 
 /// The same over the records.
-fn shown_by_records(
+pub(crate) fn shown_by_records(
     alloc: Global,
     schema: &Schema,
     records: &[Put],

@@ -13,10 +13,10 @@ returns-in_ok-joined-in-Keyword-clause-ok c =
     let filled = rw c.in-Keyword.is at c.requires.filled in
     keywords_told c.args.index c.args.rows.now filled _ (c.in_ok-joined-in-Keyword.ensures.ok ∙ c.in_ok-values-in-Keyword.ensures.ok ∙ ap (map (option_map (λ t. t.now))) c.deref-in-Keyword.ensures.value ∙ c.in_ok-keywords-in-Keyword.ensures.ok)
 
-pub returns-in_ok-of-in-Number-clause-ok : goal.returns-in_ok-of-in-Number-clause-ok
-returns-in_ok-of-in-Number-clause-ok c =
+pub returns-in_ok-joined-in-Number-clause-ok : goal.returns-in_ok-joined-in-Number-clause-ok
+returns-in_ok-joined-in-Number-clause-ok c =
     let filled = rw c.in-Number.is at c.requires.filled in
-    numbers_told c.args.index c.args.rows.now filled _ (c.in_ok-of-in-Number.ensures.ok ∙ c.deref-in-Number.ensures.value ∙ c.in_ok-numbers-in-Number.ensures.ok)
+    numbers_told c.args.index c.args.rows.now filled _ (c.in_ok-joined-in-Number.ensures.ok ∙ c.in_ok-values-in-Number.ensures.ok ∙ c.deref-in-Number.ensures.value ∙ c.in_ok-numbers-in-Number.ensures.ok)
 
 pub returns-in_ok-joined-in-Facet-clause-ok : goal.returns-in_ok-joined-in-Facet-clause-ok
 returns-in_ok-joined-in-Facet-clause-ok c =
@@ -38,8 +38,8 @@ returns-in_ok-joined-in-Keyword-clause-fitting c =
       words = words_of_none c.args.index c.args.rows.now Kind.keyword (λ e. (cc)) (rw c.in-Keyword.is at c.requires.filled);
     }
 
-pub returns-in_ok-of-in-Number-clause-fitting : goal.returns-in_ok-of-in-Number-clause-fitting
-returns-in_ok-of-in-Number-clause-fitting c =
+pub returns-in_ok-joined-in-Number-clause-fitting : goal.returns-in_ok-joined-in-Number-clause-fitting
+returns-in_ok-joined-in-Number-clause-fitting c =
     record {
       formed = c.in_ok-numbers-in-Number.ensures.formed;
       words = words_of_none c.args.index c.args.rows.now Kind.number (λ e. (cc)) (rw c.in-Number.is at c.requires.filled);

@@ -9,14 +9,19 @@ use Rattle.cat_segment.proofs.column_parts.numbers_from.Goals as goal
 pub returns-clause-ok : goal.returns-clause-ok
 returns-clause-ok c =
     let read = numbers_read c.args.rows c.args.numbers.items c.requires.laid in
-    subst (λ (zs : List (Option ℤ)). IsColumnOf c.args.rows (parts.Number c.args.numbers) (Number zs)) (sym (c.in_ok-of.ensures.ok ∙ c.deref.ensures.value)) (record { contents = read.0; spelled = read.1 })
+    subst (λ (zs : List (Option ℤ)). IsColumnOf c.args.rows (parts.Number c.args.numbers) (Number zs)) (sym (c.in_ok-joined.ensures.ok ∙ c.in_ok-values.ensures.ok ∙ c.deref.ensures.value)) (record { contents = read.0; spelled = read.1 })
 
 pub returns-clause-due : goal.returns-clause-due
 returns-clause-due c = λ none.
     let read = numbers_read c.args.rows c.args.numbers.items c.requires.laid in
     none (map Content.number c.args.numbers.items) read.0 read.1
 
-pub returns-in_err-of-clause-due : goal.returns-in_err-of-clause-due
-returns-in_err-of-clause-due c = λ none.
+pub returns-in_err-values-clause-due : goal.returns-in_err-values-clause-due
+returns-in_err-values-clause-due c = λ none.
+    let read = numbers_read c.args.rows c.args.numbers.items c.requires.laid in
+    none (map Content.number c.args.numbers.items) read.0 read.1
+
+pub returns-in_err-joined-clause-due : goal.returns-in_err-joined-clause-due
+returns-in_err-joined-clause-due c = λ none.
     let read = numbers_read c.args.rows c.args.numbers.items c.requires.laid in
     none (map Content.number c.args.numbers.items) read.0 read.1

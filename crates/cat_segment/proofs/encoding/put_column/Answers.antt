@@ -4,7 +4,7 @@ use Rattle.cat_model.specs.Layout.{Laid, spelled_column}
 use Rattle.cat_segment.proofs.Columned.{words_laid, keywords_laid, numbers_laid, labels_laid}
 use Rattle.cat_segment.specs.Laid.{laid_in}
 use Rattle.cat_segment.specs.declared.column.Column.{Column}
-use Rattle.cat_segment.specs.declared.column.Column.TheVariants.{Keyword, Facet}
+use Rattle.cat_segment.specs.declared.column.Column.TheVariants.{Keyword, Number, Facet}
 use Rattle.cat_segment.proofs.encoding.put_column.Goals as goal
 
 -- the column is laid out as what was put
@@ -20,7 +20,7 @@ returns-in-Keyword c =
     record { ok = put c.put_keywords.result _ _ c.args.column.now _ (sym (keywords_laid c.values.result.now) ∙ ap (λ (k : List _). laid_in (Keyword k)) c.values.ensures ∙ ap laid_in (sym c.in-Keyword.is)) c.put_keywords.ensures.ok }
 
 pub returns-in-Number : goal.returns-in-Number
-returns-in-Number c = record { ok = put c.put_integers.result _ _ c.args.column.now _ (sym (numbers_laid c.in-Number.values) ∙ ap laid_in (sym c.in-Number.is)) c.put_integers.ensures.ok }
+returns-in-Number c = record { ok = put c.put_integers.result _ _ c.args.column.now _ (sym (numbers_laid c.values-in-Number.result.now) ∙ ap (λ (n : List _). laid_in (Number n)) c.values-in-Number.ensures ∙ ap laid_in (sym c.in-Number.is)) c.put_integers.ensures.ok }
 
 pub returns-in-Facet : goal.returns-in-Facet
 returns-in-Facet c =

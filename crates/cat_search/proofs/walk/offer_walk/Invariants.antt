@@ -1,0 +1,12 @@
+use Rattle.std.proofs.Common.{◌≡◌, ◌+◌, ◌++◌, List, filter, take}
+use Rattle.cat_model.specs.RowSets.{has_row}
+use Rattle.cat_search.specs.Candidates.{IsBestAt, mark_standing}
+use Rattle.cat_search.specs.Standings.{Standing}
+use Rattle.cat_search.proofs.Gathered.{standings_at}
+use Rattle.cat_search.proofs.walk.offer_walk.Given as goal
+
+abbrev pub invariant-loop-row : goal.invariant-loop-row
+invariant-loop-row l = record {
+  limit : l.best.limit ≡ l.initial.best.limit;
+  best : (ps : List Standing) → IsBestAt l.initial.best ps → IsBestAt l.best (ps ++ standings_at (mark_standing l.mark) l.ranks (filter (has_row l.hits) (take (l.first + l.row-index) l.walk)));
+}
