@@ -1,195 +1,96 @@
--- Sets of texts that are merged, and what is told of elements by their codes.
-use Rattle.std.proofs.Common.{◌≡◌, ℕ, ◌+◌, ◌-◌, ◌<◌, ◌≤◌, ◌⊎◌, inl, inr, List, [], ◌∷◌, ◌++◌, length, get_or, take, drop, map, Result, Ok, Err, refl, sym, ap, ◌∙◌, subst, arith}
-use Rattle.std.proofs.lemmas.Bool.{cases_eq, cases_lt}
-use Rattle.std.proofs.lemmas.Grind.{flat_map-append}
-use Rattle.std.proofs.lemmas.List.{get_or_default, get_or-drop, get_or-map, length-drop, length-map, map-append, drop-map, take-append-drop, take_rest}
-use Rattle.std.proofs.lemmas.List.Elements.{Contains-push, Contains-push_cases, Contains-get_or, Contains-append_left, Contains-append_right, Contains-append_cases}
+-- Sets of texts that are merged.
+use Rattle.std.proofs.Common.{◌≡◌, ◌+◌, List, [], ◌∷◌, ◌++◌, get_or, map, Bool, true, Result, Ok, Err, Option, refl, sym, ap, ◌∙◌, subst, arith, append-nil, nat_cmp}
+use Rattle.std.proofs.lemmas.Iterator.Consumers.{YieldsList-from_first}
+use Rattle.std.proofs.lemmas.List.Elements.{All-map, All-weaker}
+use Rattle.std.proofs.lemmas.List.Kept.{Contains-dedup, Contains-from_dedup, IsStrictlySortedBy-dedup}
+use Rattle.std.proofs.lemmas.List.MinMax.{ranks_by}
+use Rattle.std.proofs.lemmas.List.Sorted.{Contains-permutation, IsPermutation-sym}
+use Rattle.std.proofs.lemmas.Map.Keys.{Less-from_sorted}
+use Rattle.std.proofs.lemmas.Slice.Eq.{bytes_eq-Decides}
 use Rattle.std.specs.Borrow.{Bor}
+use Rattle.std.specs.Cmp.{IsEquivalence, IsStrictWeakOrder}
+use Rattle.std.specs.Cmp.Lexicographic.{slice_cmp, pointwise, nat_list_cmp_total, nat_list_eq_equiv, texts_ties}
+use Rattle.std.specs.Iterator.{YieldsFirst, AlwaysYields, DrainsIf}
+use Rattle.std.specs.Iterator.Runs.{Run, YieldsRun}
 use Rattle.std.specs.List.{flat_map}
-use Rattle.std.specs.Prelude.{Contains, IfOk, ◌↔◌}
-use Rattle.cat_base.specs.Texts.{sorted_set}
+use Rattle.std.specs.List.Sorted.{IsPermutation, IsSortedBy}
+use Rattle.std.specs.Ordering.{is_lt, ordering_reverse}
+use Rattle.std.specs.Prelude.{Contains, IfOk, All, ◌↔◌, nat_eq}
+use Rattle.itertools.specs.KMerge.{SourcesGive, joined_lists}
+use Rattle.itertools.specs.List.{dedup}
+use Rattle.cat_base.specs.Texts.{sorted_set, IsTextSet}
 use Rattle.cat_base.proofs.TextSets.{sorted_set_members, sorted_set_only, IsTextSet-sorted_set}
 use Rattle.cat_model.specs.Text.{Text}
 use Rattle.cat_model.specs.Ordinals.{dictionary_of}
-use Rattle.cat_values.specs.Merged.{HasBoth}
 
 pub if_ok : {X E : Type 0} (P Q : X → Type 0) → ((x : X) → P x → Q x) → (r : Result X E) → IfOk r P → IfOk r Q
 if_ok P Q f (Ok x) h = f x h
 if_ok P Q f (Err e) h = tt
 
--- ---- sets of texts
+-- ---- the merge
 
--- a text more behind references
-pub seen_more : (xs ys : List (Bor Text)) (x : Bor Text) → ys ≡ xs ++ x ∷ [] → map (λ t. t.now) ys ≡ map (λ t. t.now) xs ++ x.now ∷ []
-seen_more xs ys x push = ap (map (λ t. t.now)) push ∙ map-append (λ t. t.now) xs (x ∷ [])
+-- each set gives its texts
+pub sources_give : (ls : List (List Text)) → SourcesGive (λ u j. j ≡ u) (YieldsFirst (λ (texts : List Text). texts)) ls ls
+sources_give [] = tt
+sources_give (l ∷ ls) = (
+  λ j same. subst (λ u. AlwaysYields (YieldsFirst (λ (texts : List Text). texts)) (λ x. x) u l) (sym same) (YieldsList-from_first (λ x. x) (λ (texts : List Text). texts) l refl).runs,
+  sources_give ls,
+)
 
-pub seen_at : (xs : List (Bor Text)) (i : ℕ) (x : Bor Text) → i < length xs → x ≡ get_or xs i x → x.now ≡ get_or (map (λ t. t.now) xs) i []
-seen_at xs i x lt is = ap (λ (t : Bor Text). t.now) is ∙ sym (get_or-map (λ t. t.now) xs i x [] lt)
+-- what the calls of a run gave
+pub run_drains : {S A : Type 0} (steps : S → Option A → S → Type 0) (s : S) (q : Run steps) → q.from ≡ s → DrainsIf steps (q.whole ≡ true) s q.items
+unfolding YieldsRun
+run_drains steps s q at = subst (λ u. DrainsIf steps (q.whole ≡ true) u q.items) at q.gave.0
 
--- what is read twice is one
-pub seen_twice : (xs : List (Bor Text)) (i : ℕ) (x y : Bor Text) → i < length xs → x ≡ get_or xs i x → y ≡ get_or xs i y → x.now ≡ y.now
-seen_twice xs i x y lt one other = seen_at xs i x lt one ∙ sym (seen_at xs i y lt other)
+-- ---- the texts without doubles
 
--- as many of the first texts of both lists are there, and none but texts of theirs
-pub record AreMerged (left right all : List Text) (i j : ℕ) : Type 0 where
-  pub in_left : i ≤ length left
-  pub in_right : j ≤ length right
-  pub only : (t : Text) → Contains all t → Contains (left ++ right) t
-  pub lefts : (k : ℕ) → k < i → Contains all (get_or left k [])
-  pub rights : (k : ℕ) → k < j → Contains all (get_or right k [])
+abbrev same_as_kept : Text → Text → Bool
+same_as_kept text kept = pointwise nat_eq kept text
 
-pub merged_none : (left right all : List Text) → all ≡ [] → AreMerged left right all 0 0
-merged_none left right all none = record {
-  in_left = omega arith;
-  in_right = omega arith;
-  only = λ t h. absurd (omega (arith, h.1, ap length none));
-  lefts = λ k lt. absurd (omega arith);
-  rights = λ k lt. absurd (omega arith);
+same_either_way : IsEquivalence same_as_kept
+same_either_way = record {
+  refl = nat_list_eq_equiv.refl;
+  symm = λ x y. nat_list_eq_equiv.symm y x;
+  congr = λ x y z e. nat_list_eq_equiv.symm z x ∙ nat_list_eq_equiv.congr x y z (nat_list_eq_equiv.symm x y ∙ e) ∙ nat_list_eq_equiv.symm y z;
 }
 
--- one text more, of one of the lists or of both
-merged_only : (left right all all' : List Text) (text : Text) → Contains (left ++ right) text → all' ≡ all ++ text ∷ [] → ((t : Text) → Contains all t → Contains (left ++ right) t)
-    → (t : Text) → Contains all' t → Contains (left ++ right) t
-merged_only left right all all' text there push only t h = elim (Contains-push_cases all text t (subst (λ (l : List Text). Contains l t) push h)) [
-  | inl old ↦ only t old
-  | inr new ↦ subst (λ u. Contains (left ++ right) u) new there
-]
+exact : (x y : Text) → same_as_kept x y ≡ true → x ≡ y
+exact x y e = sym ((bytes_eq-Decides y x).0 e)
 
-merged_kept : (all all' : List Text) (text t : Text) → all' ≡ all ++ text ∷ [] → Contains all t → Contains all' t
-merged_kept all all' text t push h = subst (λ (l : List Text). Contains l t) (sym push) (Contains-append_left all (text ∷ []) t h)
+pub members_kept : (ls : List (List Text)) (xs rest : List Text) → IsPermutation (joined_lists ls) (xs ++ rest) → rest ≡ []
+    → (t : Text) → Contains (dedup (pointwise nat_eq) xs) t ↔ Contains (joined_lists ls) t
+members_kept ls xs rest moved none t =
+    let all : xs ++ rest ≡ xs = ap (λ l. xs ++ l) none ∙ append-nil xs in
+    let same : IsPermutation (joined_lists ls) xs = subst (λ l. IsPermutation (joined_lists ls) l) all moved in (
+      λ h. Contains-permutation xs (joined_lists ls) t (IsPermutation-sym (joined_lists ls) xs same) (Contains-from_dedup same_as_kept xs t h),
+      λ h. Contains-dedup same_either_way exact xs t (Contains-permutation (joined_lists ls) xs t same h),
+    )
 
-merged_new : (all all' : List Text) (text : Text) → all' ≡ all ++ text ∷ [] → Contains all' text
-merged_new all all' text push = subst (λ (l : List Text). Contains l text) (sym push) (Contains-push all text)
+abbrev pub before : Text → Text → Bool
+before x y = is_lt (slice_cmp nat_cmp x y)
 
-merged_texts : (xs all all' : List Text) (text : Text) (i : ℕ) → text ≡ get_or xs i [] → all' ≡ all ++ text ∷ [] → ((k : ℕ) → k < i → Contains all (get_or xs k []))
-    → (k : ℕ) → k < i + 1 → Contains all' (get_or xs k [])
-merged_texts xs all all' text i is push old k lt = elim (cases_eq k i) [
-  | inl same ↦ subst (λ u. Contains all' u) (is ∙ ap (λ n. get_or xs n []) (sym same)) (merged_new all all' text push)
-  | inr apart ↦ merged_kept all all' text (get_or xs k []) push (old k (omega arith))
-]
+pub before_ranks : IsStrictWeakOrder before
+before_ranks = ranks_by nat_list_cmp_total (λ (x : Text). x)
 
-abbrev pub seen : List (Bor Text) → List Text
-seen xs = map (λ t. t.now) xs
+pub rising_kept : (xs : List Text) → IsSortedBy before xs → IsTextSet (dedup (pointwise nat_eq) xs)
+rising_kept = IsStrictlySortedBy-dedup nat_list_cmp_total (λ x y. nat_list_eq_equiv.symm y x ∙ texts_ties x y)
 
-within_seen : (xs : List (Bor Text)) (i : ℕ) → i < length xs → i < length (seen xs)
-within_seen xs i lt = omega (arith, length-map xs (λ (t : Bor Text). t.now))
+set_rises : (xs : List Text) → IsTextSet xs → IsSortedBy before xs
+set_rises xs set k d from next =
+    let less = Less-from_sorted (slice_cmp nat_cmp) xs k (k + 1) d set (omega arith) next in
+    ap is_lt (nat_list_cmp_total.antisymm (get_or xs (k + 1) d) (get_or xs k d) ∙ ap ordering_reverse less)
 
-pub merged_left : (left right all all' : List (Bor Text)) (x : Bor Text) (i j : ℕ) → AreMerged (seen left) (seen right) (seen all) i j → i < length left → x ≡ get_or left i x → all' ≡ all ++ x ∷ []
-    → AreMerged (seen left) (seen right) (seen all') (i + 1) j
-merged_left left right all all' x i j m lt is push =
-    let at : x.now ≡ get_or (seen left) i [] = seen_at left i x lt is in
-    let more : seen all' ≡ seen all ++ x.now ∷ [] = seen_more all all' x push in
-    let within : i < length (seen left) = within_seen left i lt in record {
-      in_left = omega arith;
-      in_right = m.in_right;
-      only =
-          merged_only (seen left) (seen right) (seen all) (seen all') x.now
-          (subst (λ u. Contains (seen left ++ seen right) u) (sym at) (Contains-append_left (seen left) (seen right) (get_or (seen left) i []) (Contains-get_or (seen left) i [] within))) more m.only;
-      lefts = merged_texts (seen left) (seen all) (seen all') x.now i at more m.lefts;
-      rights = λ k below. merged_kept (seen all) (seen all') x.now (get_or (seen right) k []) more (m.rights k below);
-    }
+pub sets_rise : (sets : List (Bor (List Text))) → All (λ s. IsTextSet s.now) sets → All (IsSortedBy before) (map (λ s. s.now) sets)
+sets_rise sets all = All-map (IsSortedBy before) (λ s. s.now) sets (All-weaker (λ s. IsTextSet s.now) (λ s. IsSortedBy before s.now) (λ s. set_rises s.now) sets all)
 
-pub merged_right : (left right all all' : List (Bor Text)) (x : Bor Text) (i j : ℕ) → AreMerged (seen left) (seen right) (seen all) i j → j < length right → x ≡ get_or right j x → all' ≡ all ++ x ∷ []
-    → AreMerged (seen left) (seen right) (seen all') i (j + 1)
-merged_right left right all all' x i j m lt is push =
-    let at : x.now ≡ get_or (seen right) j [] = seen_at right j x lt is in
-    let more : seen all' ≡ seen all ++ x.now ∷ [] = seen_more all all' x push in
-    let within : j < length (seen right) = within_seen right j lt in record {
-      in_left = m.in_left;
-      in_right = omega arith;
-      only =
-          merged_only (seen left) (seen right) (seen all) (seen all') x.now
-          (subst (λ u. Contains (seen left ++ seen right) u) (sym at) (Contains-append_right (seen left) (seen right) (get_or (seen right) j []) (Contains-get_or (seen right) j [] within))) more m.only;
-      lefts = λ k below. merged_kept (seen all) (seen all') x.now (get_or (seen left) k []) more (m.lefts k below);
-      rights = merged_texts (seen right) (seen all) (seen all') x.now j at more m.rights;
-    }
+-- ---- the dictionary
 
-pub merged_same : (left right all all' : List (Bor Text)) (x y : Bor Text) (i j : ℕ) → AreMerged (seen left) (seen right) (seen all) i j → i < length left → j < length right → x ≡ get_or left i x
-    → y ≡ get_or right j y → x.now ≡ y.now → all' ≡ all ++ x ∷ [] → AreMerged (seen left) (seen right) (seen all') (i + 1) (j + 1)
-merged_same left right all all' x y i j m lt below is other same push =
-    let one = merged_left left right all all' x i j m lt is push in
-    let within : j < length (seen right) = within_seen right j below in record {
-      in_left = one.in_left;
-      in_right = omega arith;
-      only = one.only;
-      lefts = one.lefts;
-      rights = merged_texts (seen right) (seen all) (seen all') x.now j (same ∙ seen_at right j y below other) (seen_more all all' x push) m.rights;
-    }
-
--- and then the others of both
-rest_there : (xs all : List Text) (i : ℕ) (t : Text) → ((k : ℕ) → k < i → Contains all (get_or xs k [])) → Contains xs t → Contains all t ⊎ Contains (drop i xs) t
-rest_there xs all i t first h = elim (cases_lt h.0 i) [
-  | inl before ↦ inl (subst (λ u. Contains all u) (get_or_default xs h.0 [] t h.1 ∙ h.2) (first h.0 before))
-  | inr after ↦
-      let at : i + (h.0 - i) ≡ h.0 = omega arith in
-      inr (h.0 - i, omega (arith, h.1, length-drop i xs), get_or-drop i xs (h.0 - i) t ∙ ap (λ k. get_or xs k t) at ∙ h.2)
-]
-
-rest_only : (xs : List Text) (i : ℕ) (t : Text) → Contains (drop i xs) t → Contains xs t
-rest_only xs i t h = subst (λ (l : List Text). Contains l t) (take-append-drop i xs) (Contains-append_right (take i xs) (drop i xs) t h)
-
-merged_whole : (left right all most whole : List Text) (i j : ℕ) → AreMerged left right all i j → most ≡ all ++ drop i left → whole ≡ most ++ drop j right → HasBoth left right whole
-merged_whole left right all most whole i j m one other t = (
-  λ h. elim (Contains-append_cases most (drop j right) t (subst (λ (l : List Text). Contains l t) other h)) [
-    | inl early ↦ elim (Contains-append_cases all (drop i left) t (subst (λ (l : List Text). Contains l t) one early)) [
-      | inl there ↦ m.only t there
-      | inr rest ↦ Contains-append_left left right t (rest_only left i t rest)
-    ]
-    | inr rest ↦ Contains-append_right left right t (rest_only right j t rest)
-  ],
-  λ h. subst (λ (l : List Text). Contains l t) (sym other) (elim (Contains-append_cases left right t h) [
-    | inl there ↦ Contains-append_left most (drop j right) t (subst (λ (l : List Text). Contains l t) (sym one) (from_either all (drop i left) (rest_there left all i t m.lefts there)))
-    | inr there ↦ elim (rest_there right all j t m.rights there) [
-      | inl before ↦ Contains-append_left most (drop j right) t (subst (λ (l : List Text). Contains l t) (sym one) (Contains-append_left all (drop i left) t before))
-      | inr rest ↦ Contains-append_right most (drop j right) t rest
-    ]
-  ]),
-)
-  where
-    from_either : (xs ys : List Text) → Contains xs t ⊎ Contains ys t → Contains (xs ++ ys) t
-    from_either xs ys (inl h) = Contains-append_left xs ys t h
-    from_either xs ys (inr h) = Contains-append_right xs ys t h
-
-rest_seen : (xs : List (Bor Text)) (i : ℕ) → seen (take (length xs - i) (drop i xs)) ≡ drop i (seen xs)
-rest_seen xs i = ap seen (take_rest xs i) ∙ sym (drop-map (λ (t : Bor Text). t.now) i xs)
-
-pub merged_all : (left right all most whole : List (Bor Text)) (i j : ℕ) → AreMerged (seen left) (seen right) (seen all) i j → seen most ≡ seen all ++ seen (take (length left - i) (drop i left))
-    → seen whole ≡ seen most ++ seen (take (length right - j) (drop j right)) → HasBoth (seen left) (seen right) (seen whole)
-merged_all left right all most whole i j m one other =
-    merged_whole (seen left) (seen right) (seen all) (seen most) (seen whole) i j m (one ∙ ap (λ (l : List Text). seen all ++ l) (rest_seen left i))
-    (other ∙ ap (λ (l : List Text). seen most ++ l) (rest_seen right j))
-
--- the texts of some sets and of the others are those of all
-halves_are : (sets one other : List (Bor (List Text))) (left right all : List Text) → sets ≡ one ++ other → ((t : Text) → Contains left t ↔ Contains (flat_map (λ s. s.now) one) t)
-    → ((t : Text) → Contains right t ↔ Contains (flat_map (λ s. s.now) other) t) → HasBoth left right all → (t : Text) → Contains all t ↔ Contains (flat_map (λ s. s.now) sets) t
-halves_are sets one other left right all parts lefts rights both t = (
-  λ h. subst (λ (l : List Text). Contains l t) (sym whole) (elim (Contains-append_cases left right t ((both t).0 h)) [
-    | inl there ↦ Contains-append_left (flat_map (λ s. s.now) one) (flat_map (λ s. s.now) other) t ((lefts t).0 there)
-    | inr there ↦ Contains-append_right (flat_map (λ s. s.now) one) (flat_map (λ s. s.now) other) t ((rights t).0 there)
-  ]),
-  λ h. (both t).1 (elim (Contains-append_cases (flat_map (λ s. s.now) one) (flat_map (λ s. s.now) other) t (subst (λ (l : List Text). Contains l t) whole h)) [
-    | inl there ↦ Contains-append_left left right t ((lefts t).1 there)
-    | inr there ↦ Contains-append_right left right t ((rights t).1 there)
-  ]),
-)
-  where
-    whole : flat_map (λ s. s.now) sets ≡ flat_map (λ s. s.now) one ++ flat_map (λ s. s.now) other
-    whole = ap (flat_map (λ s. s.now)) parts ∙ flat_map-append (λ s. s.now) one other
-
-pub halves_have : (sets one other : List (Bor (List Text))) (lefts lefts' rights rights' all : List (Bor Text)) → sets ≡ one ++ other → lefts' ≡ lefts → rights' ≡ rights
-    → ((t : Text) → Contains (seen lefts) t ↔ Contains (flat_map (λ s. s.now) one) t) → ((t : Text) → Contains (seen rights) t ↔ Contains (flat_map (λ s. s.now) other) t)
-    → HasBoth (seen lefts') (seen rights') (seen all) → (t : Text) → Contains (seen all) t ↔ Contains (flat_map (λ s. s.now) sets) t
-halves_have sets one other lefts lefts' rights rights' all parts as_left as_right in_one in_other both =
-    halves_are sets one other (seen lefts) (seen rights) (seen all) parts in_one in_other (subst (λ (r : List (Bor Text)). HasBoth (seen lefts) (seen r) (seen all)) as_right (subst (λ (l : List (Bor Text)). HasBoth (seen l) (seen rights') (seen all)) as_left both))
-
-flat_seen : (sets : List (Bor (List Text))) → flat_map (λ s. s.now) sets ≡ flat_map (λ l. l) (map (λ s. s.now) sets)
+pub flat_seen : (sets : List (Bor (List Text))) → flat_map (λ s. s.now) sets ≡ flat_map (λ l. l) (map (λ s. s.now) sets)
 flat_seen [] = refl
 flat_seen (s ∷ sets) = ap (λ (l : List Text). s.now ++ l) (flat_seen sets)
 
 -- what has the texts of all sets makes the dictionary of them
-pub union_is : (sets : List (Bor (List Text))) (copies : List Text) (gathered : List (Bor Text)) → copies ≡ seen gathered → ((q : Text) → Contains (seen gathered) q ↔ Contains (flat_map (λ s. s.now) sets) q)
-    → sorted_set copies ≡ dictionary_of (map (λ s. s.now) sets)
-union_is sets copies gathered are members =
-    ap sorted_set are
-    ∙ sorted_set_only (flat_map (λ s. s.now) sets) (sorted_set (seen gathered)) (IsTextSet-sorted_set (seen gathered)) (λ q. (λ h. (members q).0 ((sorted_set_members (seen gathered) q).0 h), λ h. (sorted_set_members (seen gathered) q).1 ((members q).1 h)))
+pub union_is : (sets : List (Bor (List Text))) (texts : List Text) → ((q : Text) → Contains texts q ↔ Contains (flat_map (λ s. s.now) sets) q) → sorted_set texts ≡ dictionary_of (map (λ s. s.now) sets)
+union_is sets texts members =
+    sorted_set_only (flat_map (λ s. s.now) sets) (sorted_set texts) (IsTextSet-sorted_set texts) (λ q. (λ h. (members q).0 ((sorted_set_members texts q).0 h), λ h. (sorted_set_members texts q).1 ((members q).1 h)))
     ∙ ap sorted_set (flat_seen sets)

@@ -1,6 +1,6 @@
 -- Lists that are merged one behind another, with some elements left out. Each element has a code: 0 where it is left out, else
 -- its index in the result plus 1.
-use Rattle.std.specs.Prelude.{◌≡◌, ℕ, zero, suc, ◌+◌, ◌++◌, ◌↔◌, List, [], ◌∷◌, slice_index_or, Contains}
+use Rattle.std.specs.Prelude.{◌≡◌, ℕ, zero, suc, ◌+◌, List, [], ◌∷◌, slice_index_or}
 use Rattle.std.specs.List.{flat_map}
 
 -- the elements that aren't left out
@@ -24,7 +24,3 @@ abbrev pub AreNumbered : ℕ → List ℕ → Type 0
 AreNumbered from [] = Unit {0}
 AreNumbered from (zero ∷ codes) = AreNumbered from codes
 AreNumbered from (suc index ∷ codes) = (index ≡ from) × AreNumbered (from + 1) codes
-
--- the texts are those of both lists, whatever their order and however often
-abbrev pub HasBoth : List (List ℕ) → List (List ℕ) → List (List ℕ) → Type 0
-HasBoth left right all = (text : List ℕ) → Contains all text ↔ Contains (left ++ right) text
