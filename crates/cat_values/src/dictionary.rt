@@ -30,6 +30,17 @@ impl Model for Dictionary {
     ghost invariant = { λ d. IsTextSet (arc_value d.texts) };
 }
 
+/// Copies of the texts.
+fn copied(alloc: Global, texts: &[&Text]) -> Result<Vec<Text>, AllocError>
+    ensures ok { IfOk result (λ v. v.items ≡ map (λ t. t.now) texts.now) }
+{
+    let mut copies = Vec::with_capacity(alloc, texts.len())?;
+    for text in texts {
+        copies.push(text.copy()?)?;
+    }
+    Ok(copies)
+}
+
 /// How many texts are looked at one by one before a binary search.
 const NEAR: usize = 16;
 
@@ -68,11 +79,11 @@ impl Dictionary {
     }
 
     /// The dictionary of the texts of all the sets, as Lucene's `OrdinalMap` has it. The texts of each set are in byte order,
-    /// and so are merged, all sets at a time, and not sorted anew; each distinct text is copied once.
+    /// and so are merged, two sets at a time, and not sorted anew; each distinct text is copied once.
     pub fn union(alloc: Global, sets: &[&[Text]]) -> Result<Self, AllocError>
         ensures ok { IfOk result (λ d. d ≡ dictionary_of (map (λ s. s.now) sets.now)) }
     {
-        Dictionary::of(alloc, united(alloc, sets)?)
+        Dictionary::of(alloc, copied(alloc, &united(alloc, sets)?)?)
     }
 
     /// The same dictionary once more; the texts are shared and not copied.

@@ -1,123 +1,140 @@
-//! The texts of many sets, each once.
-ghost use Rattle.std.specs.Prelude.{◌≡◌, ℕ, ◌↔◌, List, map, All, Contains, IfOk};
+//! The texts of many sets, each once. Sets are merged two at a time, those first that have few texts.
+ghost use Rattle.std.specs.Prelude.{◌≡◌, ◌++◌, ◌-◌, ◌^◌, ◌<◌, true, [], map, IfOk, OnOk};
 ghost use Rattle.std.specs.List.{flat_map};
-ghost use Rattle.std.specs.Iterator.{YieldsFirst, item_count};
-ghost use Rattle.cat_base.specs.Texts.{IsTextSet};
+ghost use Rattle.cat_values.specs.Merged.{HaveSame, texts_in};
 
 use cat_base::Text;
-use itertools::Itertools;
 use std::alloc::{AllocError, Global};
 use std::cmp::Ordering;
-use std::marker::Model;
-use std::slice::Iter;
 
-/// A text that lies in one of the sets. Contracts see it as the list of its bytes, wherever it lies.
-#[derive(Drop)]
-struct TextRef<'a> {
-    text: &'a Text,
-}
-
-impl<'a> Model for TextRef<'a> {
-    ghost use Rattle.std.specs.Prelude.{ℕ, List};
-
-    ghost Value = { List ℕ };
-
-    ghost view = { λ t. t.text.now };
-}
-
-impl<'a> PartialEq for TextRef<'a> {
-    ghost use Rattle.std.specs.Prelude.{nat_eq};
-    ghost use Rattle.std.specs.Cmp.Lexicographic.{pointwise, nat_list_eq_equiv};
-    ghost use Rattle.std.specs.Cmp as compare;
-
-    ghost eq = { pointwise nat_eq };
-
-    ghost laws = { compare.partial_equiv_from_equiv nat_list_eq_equiv };
-
-    fn eq(&self, other: &TextRef<'a>) -> bool {
-        *self.text == *other.text
+/// The texts of a set.
+fn texts_of<'a>(alloc: Global, set: &'a [Text]) -> Result<Vec<&'a Text>, AllocError>
+    ensures ok { IfOk result (λ v. map (λ t. t.now) v.items ≡ set.now) }
+{
+    let mut texts = Vec::with_capacity(alloc, set.len())?;
+    for text in set {
+        texts.push(text)?;
     }
+    Ok(texts)
 }
 
-impl<'a> PartialOrd for TextRef<'a> {
-    ghost use Rattle.std.specs.Ordering.{nat_cmp, as_partial_cmp};
-    ghost use Rattle.std.specs.Cmp.Lexicographic.{slice_cmp, texts_po};
-
-    ghost partial_cmp = { as_partial_cmp (slice_cmp nat_cmp) };
-
-    ghost laws = { texts_po };
-
-    fn partial_cmp(&self, other: &TextRef<'a>) -> Option<Ordering> {
-        Some(self.text.cmp(other.text))
+/// Adds the texts.
+fn add_all<'a>(all: &mut Vec<&'a Text>, texts: &[&'a Text]) -> Result<(), AllocError>
+    ensures ok { OnOk result (map (λ t. t.now) all.new.items ≡ map (λ t. t.now) all.old.items ++ map (λ t. t.now) texts.now) }
+{
+    for text in texts {
+        all.push(*text)?;
     }
+    Ok(())
 }
 
-/// The texts of a set that are still to come, in its order.
-#[derive(Drop)]
-struct TextRefs<'a> {
-    texts: Iter<'a, Text>,
-}
-
-impl<'a> Model for TextRefs<'a> {
-    ghost use Rattle.std.specs.Prelude.{ℕ, List};
-    ghost use Rattle.std.specs.Slice.Iter.{iter_rest};
-
-    ghost Value = { List (List ℕ) };
-
-    ghost view = { λ s. iter_rest s.texts };
-}
-
-impl<'a> Iterator for TextRefs<'a> {
-    type Item = TextRef<'a>;
-
-    ghost next_gives = { YieldsFirst (λ texts. texts) };
-
-    ghost remaining = { item_count (λ texts. texts) };
-
-    fn next(&mut self) -> Option<TextRef<'a>> {
-        match self.texts.next() {
-            Some(text) => Some(TextRef { text }),
-            None => None,
+/// The texts of both lists. Where both are in byte order, each text once, so is what comes out.
+fn merged<'a>(
+    alloc: Global,
+    left: &[&'a Text],
+    right: &[&'a Text],
+) -> Result<Vec<&'a Text>, AllocError>
+    ensures ok { IfOk result (λ v. HaveSame (map (λ t. t.now) v.items) (map (λ t. t.now) left.now ++ map (λ t. t.now) right.now)) }
+{
+    let mut all = Vec::with_capacity(alloc, left.len() + right.len())?;
+    let mut i = 0;
+    let mut j = 0;
+    while i < left.len() && j < right.len() {
+        match left[i].cmp(right[j]) {
+            Ordering::Less => {
+                all.push(left[i])?;
+                i += 1;
+            }
+            Ordering::Greater => {
+                all.push(right[j])?;
+                j += 1;
+            }
+            Ordering::Equal => {
+                all.push(left[i])?;
+                i += 1;
+                j += 1;
+            }
         }
     }
+    add_all(&mut all, &left[i..])?;
+    add_all(&mut all, &right[j..])?;
+    Ok(all)
 }
 
-/// The texts of each set, from its first on.
-fn sources<'a>(alloc: Global, sets: &[&'a [Text]]) -> Result<Vec<TextRefs<'a>>, AllocError>
-    ensures ok { IfOk result (λ v. v.items ≡ map (λ s. s.now) sets.now) }
+/// The texts of both lists, as by [`merged`]; a list beside an empty one is handed on.
+fn joined<'a>(
+    alloc: Global,
+    left: Vec<&'a Text>,
+    right: Vec<&'a Text>,
+) -> Result<Vec<&'a Text>, AllocError>
+    ensures ok { IfOk result (λ v. HaveSame (map (λ t. t.now) v.items) (map (λ t. t.now) left.entry.items ++ map (λ t. t.now) right.entry.items)) }
 {
-    let mut sources = Vec::with_capacity(alloc, sets.len())?;
+    if left.is_empty() {
+        return Ok(right);
+    }
+    if right.is_empty() {
+        return Ok(left);
+    }
+    merged(alloc, &left, &right)
+}
+
+/// Whether so many texts are joined with those of the part below: it has at most twice as many, or no more than `least`.
+fn is_joined(below: usize, len: usize, least: usize) -> bool
+    ensures { least ≡ 2 ^ 64 - 1 → below < 2 ^ 64 → result ≡ true }
+{
+    below <= least || below / 2 <= len
+}
+
+/// The part with the texts of those that are taken off the end of the parts: each is taken while it has at most twice as many
+/// texts as what was joined so far, or no more than `least`; the greatest `least` takes all. So a text that is moved stands among
+/// half as many again each time, and where a part stays, it has more than twice the texts of what comes behind it.
+fn settled<'a>(
+    alloc: Global,
+    parts: &mut Vec<Vec<&'a Text>>,
+    part: Vec<&'a Text>,
+    least: usize,
+) -> Result<Vec<&'a Text>, AllocError>
+    ensures ok { IfOk result (λ v. HaveSame (texts_in parts.new.items ++ map (λ t. t.now) v.items) (texts_in parts.old.items ++ map (λ t. t.now) part.entry.items)) }
+    ensures all { IfOk result (λ _. least ≡ 2 ^ 64 - 1 → parts.new.items ≡ []) }
+{
+    let mut all = part;
+    while let Some(below) = parts.pop() {
+        if !is_joined(below.len(), all.len(), least) {
+            parts.push(below)?;
+            return Ok(all);
+        }
+        all = joined(alloc, below, all)?;
+    }
+    Ok(all)
+}
+
+/// Adds a set to the parts, of which each has more than twice the texts of what stands behind it. Parts with no more texts than
+/// the set are joined first, so that a great set is gone through once.
+fn add_set<'a>(
+    alloc: Global,
+    parts: &mut Vec<Vec<&'a Text>>,
+    set: &'a [Text],
+) -> Result<(), AllocError>
+    ensures ok { OnOk result (HaveSame (texts_in parts.new.items) (texts_in parts.old.items ++ set.now)) }
+{
+    if set.is_empty() {
+        return Ok(());
+    }
+    let small = settled(alloc, parts, Vec::new(alloc), set.len())?;
+    let part = joined(alloc, small, texts_of(alloc, set)?)?;
+    let part = settled(alloc, parts, part, 0)?;
+    parts.push(part)?;
+    Ok(())
+}
+
+/// The texts of the sets. Where each set is in byte order, so are they, each once. No call stands for a set, and the time is that
+/// of the texts, times the logarithm of how many sets there are.
+pub(crate) fn united<'a>(alloc: Global, sets: &[&'a [Text]]) -> Result<Vec<&'a Text>, AllocError>
+    ensures ok { IfOk result (λ v. HaveSame (map (λ t. t.now) v.items) (flat_map (λ s. s.now) sets.now)) }
+{
+    let mut parts = Vec::new(alloc);
     for set in sets {
-        sources.push(TextRefs { texts: set.iter() })?;
+        add_set(alloc, &mut parts, set)?;
     }
-    Ok(sources)
-}
-
-/// The texts of the sets. Where each set is in byte order, so are they, each once.
-///
-/// The merge keeps the next text of each set in a heap, where a set that is empty or at its end has no place. So no call stands
-/// for a set, and the time is that of the texts, times the logarithm of how many sets have any, and that of going once through
-/// the sets.
-fn merged<'a>(alloc: Global, sets: &[&'a [Text]]) -> Result<Vec<TextRef<'a>>, AllocError>
-    ensures members { IfOk result (λ v. (text : List ℕ)
-        → Contains v.items text ↔ Contains (flat_map (λ s. s.now) sets.now) text) }
-    ensures order { IfOk result (λ v. All (λ s. IsTextSet s.now) sets.now → IsTextSet v.items) }
-{
-    let sources = sources(alloc, sets)?;
-    let merge = sources.into_iter().kmerge(alloc)?;
-    merge.dedup().collect_vec(alloc)
-}
-
-/// Copies of the texts of the sets. Where each set is in byte order, so are they, each once.
-pub(crate) fn united(alloc: Global, sets: &[&[Text]]) -> Result<Vec<Text>, AllocError>
-    ensures members { IfOk result (λ v. (text : List ℕ)
-        → Contains v.items text ↔ Contains (flat_map (λ s. s.now) sets.now) text) }
-    ensures order { IfOk result (λ v. All (λ s. IsTextSet s.now) sets.now → IsTextSet v.items) }
-{
-    let texts = merged(alloc, sets)?;
-    let mut copies = Vec::with_capacity(alloc, texts.len())?;
-    for text in &texts {
-        copies.push(text.text.copy()?)?;
-    }
-    Ok(copies)
+    settled(alloc, &mut parts, Vec::new(alloc), usize::MAX)
 }
