@@ -1,21 +1,25 @@
 -- Sets of texts that are merged, and what is told of elements by their codes.
-use Rattle.std.proofs.Common.{◌≡◌, ℕ, ◌+◌, ◌-◌, ◌<◌, ◌≤◌, ◌⊎◌, inl, inr, List, [], ◌∷◌, ◌++◌, length, get_or, take, drop, map, Result, Ok, Err, refl, sym, ap, ◌∙◌, subst, arith}
+use Rattle.std.proofs.Common.{◌≡◌, ℕ, ◌+◌, ◌-◌, ◌<◌, ◌≤◌, ◌⊎◌, inl, inr, List, [], ◌∷◌, ◌++◌, length, get_or, take, drop, map, Result, Ok, Err, refl, sym, ap, ◌∙◌, subst, arith, append_assoc, append-nil}
 use Rattle.std.proofs.lemmas.Bool.{cases_eq, cases_lt}
 use Rattle.std.proofs.lemmas.Grind.{flat_map-append}
 use Rattle.std.proofs.lemmas.List.{get_or_default, get_or-drop, get_or-map, length-drop, length-map, map-append, drop-map, take-append-drop, take_rest}
 use Rattle.std.proofs.lemmas.List.Elements.{Contains-push, Contains-push_cases, Contains-get_or, Contains-append_left, Contains-append_right, Contains-append_cases}
 use Rattle.std.specs.Borrow.{Bor}
 use Rattle.std.specs.List.{flat_map}
-use Rattle.std.specs.Prelude.{Contains, IfOk, ◌↔◌}
+use Rattle.std.specs.Prelude.{Contains, IfOk, ◌↔◌, Vec}
 use Rattle.cat_base.specs.Texts.{sorted_set}
 use Rattle.cat_base.proofs.TextSets.{sorted_set_members, sorted_set_only, IsTextSet-sorted_set}
 use Rattle.cat_model.specs.Text.{Text}
 use Rattle.cat_model.specs.Ordinals.{dictionary_of}
-use Rattle.cat_values.specs.Merged.{HasBoth}
+use Rattle.cat_values.specs.Merged.{HaveSame, texts_in}
 
 pub if_ok : {X E : Type 0} (P Q : X → Type 0) → ((x : X) → P x → Q x) → (r : Result X E) → IfOk r P → IfOk r Q
 if_ok P Q f (Ok x) h = f x h
 if_ok P Q f (Err e) h = tt
+
+pub if_ok_both : {X E : Type 0} (P Q R : X → Type 0) → ((x : X) → P x → Q x → R x) → (r : Result X E) → IfOk r P → IfOk r Q → IfOk r R
+if_ok_both P Q R f (Ok x) h k = f x h k
+if_ok_both P Q R f (Err e) h k = tt
 
 -- ---- sets of texts
 
@@ -128,7 +132,7 @@ rest_there xs all i t first h = elim (cases_lt h.0 i) [
 rest_only : (xs : List Text) (i : ℕ) (t : Text) → Contains (drop i xs) t → Contains xs t
 rest_only xs i t h = subst (λ (l : List Text). Contains l t) (take-append-drop i xs) (Contains-append_right (take i xs) (drop i xs) t h)
 
-merged_whole : (left right all most whole : List Text) (i j : ℕ) → AreMerged left right all i j → most ≡ all ++ drop i left → whole ≡ most ++ drop j right → HasBoth left right whole
+merged_whole : (left right all most whole : List Text) (i j : ℕ) → AreMerged left right all i j → most ≡ all ++ drop i left → whole ≡ most ++ drop j right → HaveSame whole (left ++ right)
 merged_whole left right all most whole i j m one other t = (
   λ h. elim (Contains-append_cases most (drop j right) t (subst (λ (l : List Text). Contains l t) other h)) [
     | inl early ↦ elim (Contains-append_cases all (drop i left) t (subst (λ (l : List Text). Contains l t) one early)) [
@@ -154,33 +158,81 @@ rest_seen : (xs : List (Bor Text)) (i : ℕ) → seen (take (length xs - i) (dro
 rest_seen xs i = ap seen (take_rest xs i) ∙ sym (drop-map (λ (t : Bor Text). t.now) i xs)
 
 pub merged_all : (left right all most whole : List (Bor Text)) (i j : ℕ) → AreMerged (seen left) (seen right) (seen all) i j → seen most ≡ seen all ++ seen (take (length left - i) (drop i left))
-    → seen whole ≡ seen most ++ seen (take (length right - j) (drop j right)) → HasBoth (seen left) (seen right) (seen whole)
+    → seen whole ≡ seen most ++ seen (take (length right - j) (drop j right)) → HaveSame (seen whole) (seen left ++ seen right)
 merged_all left right all most whole i j m one other =
     merged_whole (seen left) (seen right) (seen all) (seen most) (seen whole) i j m (one ∙ ap (λ (l : List Text). seen all ++ l) (rest_seen left i))
     (other ∙ ap (λ (l : List Text). seen most ++ l) (rest_seen right j))
 
--- the texts of some sets and of the others are those of all
-halves_are : (sets one other : List (Bor (List Text))) (left right all : List Text) → sets ≡ one ++ other → ((t : Text) → Contains left t ↔ Contains (flat_map (λ s. s.now) one) t)
-    → ((t : Text) → Contains right t ↔ Contains (flat_map (λ s. s.now) other) t) → HasBoth left right all → (t : Text) → Contains all t ↔ Contains (flat_map (λ s. s.now) sets) t
-halves_are sets one other left right all parts lefts rights both t = (
-  λ h. subst (λ (l : List Text). Contains l t) (sym whole) (elim (Contains-append_cases left right t ((both t).0 h)) [
-    | inl there ↦ Contains-append_left (flat_map (λ s. s.now) one) (flat_map (λ s. s.now) other) t ((lefts t).0 there)
-    | inr there ↦ Contains-append_right (flat_map (λ s. s.now) one) (flat_map (λ s. s.now) other) t ((rights t).0 there)
-  ]),
-  λ h. (both t).1 (elim (Contains-append_cases (flat_map (λ s. s.now) one) (flat_map (λ s. s.now) other) t (subst (λ (l : List Text). Contains l t) whole h)) [
-    | inl there ↦ Contains-append_left left right t ((lefts t).1 there)
-    | inr there ↦ Contains-append_right left right t ((rights t).1 there)
-  ]),
+-- a part that is joined with those behind it
+pub part_joined : (front below part all whole : List Text) → HaveSame all (below ++ part) → HaveSame ((front ++ below) ++ part) whole → HaveSame (front ++ all) whole
+part_joined front below part all whole both same t = (
+  λ h. (same t).0 (subst (λ (l : List Text). Contains l t) (sym (append_assoc front below part)) (elim (Contains-append_cases front all t h) [
+    | inl there ↦ Contains-append_left front (below ++ part) t there
+    | inr there ↦ Contains-append_right front (below ++ part) t ((both t).0 there)
+  ])),
+  λ h. elim (Contains-append_cases front (below ++ part) t (subst (λ (l : List Text). Contains l t) (append_assoc front below part) ((same t).1 h))) [
+    | inl there ↦ Contains-append_left front all t there
+    | inr there ↦ Contains-append_right front all t ((both t).1 there)
+  ],
 )
-  where
-    whole : flat_map (λ s. s.now) sets ≡ flat_map (λ s. s.now) one ++ flat_map (λ s. s.now) other
-    whole = ap (flat_map (λ s. s.now)) parts ∙ flat_map-append (λ s. s.now) one other
 
-pub halves_have : (sets one other : List (Bor (List Text))) (lefts lefts' rights rights' all : List (Bor Text)) → sets ≡ one ++ other → lefts' ≡ lefts → rights' ≡ rights
-    → ((t : Text) → Contains (seen lefts) t ↔ Contains (flat_map (λ s. s.now) one) t) → ((t : Text) → Contains (seen rights) t ↔ Contains (flat_map (λ s. s.now) other) t)
-    → HasBoth (seen lefts') (seen rights') (seen all) → (t : Text) → Contains (seen all) t ↔ Contains (flat_map (λ s. s.now) sets) t
-halves_have sets one other lefts lefts' rights rights' all parts as_left as_right in_one in_other both =
-    halves_are sets one other (seen lefts) (seen rights) (seen all) parts in_one in_other (subst (λ (r : List (Bor Text)). HasBoth (seen lefts) (seen r) (seen all)) as_right (subst (λ (l : List (Bor Text)). HasBoth (seen l) (seen rights') (seen all)) as_left both))
+-- the texts of the parts once one stands behind them
+pub texts_in-push : {A : Type 0} (parts : List (Vec (Bor Text) A)) (part : Vec (Bor Text) A) → texts_in (parts ++ part ∷ []) ≡ texts_in parts ++ map (λ t. t.now) part.items
+texts_in-push parts part = flat_map-append (λ p. map (λ t. t.now) p.items) parts (part ∷ []) ∙ ap (λ (l : List Text). texts_in parts ++ l) (append-nil (map (λ t. t.now) part.items))
+
+-- what is said of lists that are read elsewhere
+pub same_read : (all left left' right right' : List (Bor Text)) → left' ≡ left → right' ≡ right → HaveSame (seen all) (seen left' ++ seen right') → HaveSame (seen all) (seen left ++ seen right)
+same_read all left left' right right' as_left as_right same =
+    subst (λ (r : List (Bor Text)). HaveSame (seen all) (seen left ++ seen r)) as_right (subst (λ (l : List (Bor Text)). HaveSame (seen all) (seen l ++ seen right')) as_left same)
+
+-- what is the same stays the same
+pub same_itself : (xs : List Text) → HaveSame xs xs
+same_itself xs t = (λ h. h, λ h. h)
+
+pub same_by : (xs ys zs : List Text) → HaveSame xs ys → HaveSame ys zs → HaveSame xs zs
+same_by xs ys zs one other t = (λ h. (other t).0 ((one t).0 h), λ h. (one t).1 ((other t).1 h))
+
+pub same_front : (front xs ys : List Text) → HaveSame xs ys → HaveSame (front ++ xs) (front ++ ys)
+same_front front xs ys same t = (
+  λ h. elim (Contains-append_cases front xs t h) [
+    | inl there ↦ Contains-append_left front ys t there
+    | inr there ↦ Contains-append_right front ys t ((same t).0 there)
+  ],
+  λ h. elim (Contains-append_cases front ys t h) [
+    | inl there ↦ Contains-append_left front xs t there
+    | inr there ↦ Contains-append_right front xs t ((same t).1 there)
+  ],
+)
+
+pub same_back : (xs ys back : List Text) → HaveSame xs ys → HaveSame (xs ++ back) (ys ++ back)
+same_back xs ys back same t = (
+  λ h. elim (Contains-append_cases xs back t h) [
+    | inl there ↦ Contains-append_left ys back t ((same t).0 there)
+    | inr there ↦ Contains-append_right ys back t there
+  ],
+  λ h. elim (Contains-append_cases ys back t h) [
+    | inl there ↦ Contains-append_left xs back t ((same t).1 there)
+    | inr there ↦ Contains-append_right xs back t there
+  ],
+)
+
+-- a set that is added to the parts
+pub set_added : (olds one two threes small part last set : List Text) → threes ≡ two ++ last → HaveSame (two ++ last) (one ++ part) → HaveSame part (small ++ set) → HaveSame (one ++ small) (olds ++ [])
+    → HaveSame threes (olds ++ set)
+set_added olds one two threes small part last set pushed settled joined before =
+    subst (λ (l : List Text). HaveSame l (olds ++ set)) (sym pushed)
+    (same_by (two ++ last) (one ++ part) (olds ++ set) settled
+    (same_by (one ++ part) (one ++ (small ++ set)) (olds ++ set) (same_front one part (small ++ set) joined)
+    (subst (λ (l : List Text). HaveSame l (olds ++ set)) (append_assoc one small set)
+    (subst (λ (l : List Text). HaveSame ((one ++ small) ++ set) (l ++ set)) (append-nil olds) (same_back (one ++ small) (olds ++ []) set before)))))
+
+-- one set more
+pub more_sets : (sets : List (Bor (List Text))) (i : ℕ) (set : Bor (List Text)) (olds news : List Text) → take (i + 1) sets ≡ take i sets ++ set ∷ [] → HaveSame olds (flat_map (λ s. s.now) (take i sets)) → HaveSame news (olds ++ set.now)
+    → HaveSame news (flat_map (λ s. s.now) (take (i + 1) sets))
+more_sets sets i set olds news next before added =
+    let all : flat_map (λ s. s.now) (take (i + 1) sets) ≡ flat_map (λ s. s.now) (take i sets) ++ set.now =
+    ap (flat_map (λ s. s.now)) next ∙ flat_map-append (λ (s : Bor (List Text)). s.now) (take i sets) (set ∷ []) ∙ ap (λ (l : List Text). flat_map (λ s. s.now) (take i sets) ++ l) (append-nil set.now) in
+    subst (HaveSame news) (sym all) (same_by news (olds ++ set.now) (flat_map (λ s. s.now) (take i sets) ++ set.now) added (same_back olds (flat_map (λ s. s.now) (take i sets)) set.now before))
 
 flat_seen : (sets : List (Bor (List Text))) → flat_map (λ s. s.now) sets ≡ flat_map (λ l. l) (map (λ s. s.now) sets)
 flat_seen [] = refl

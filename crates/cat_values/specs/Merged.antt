@@ -1,6 +1,7 @@
 -- Lists that are merged one behind another, with some elements left out. Each element has a code: 0 where it is left out, else
 -- its index in the result plus 1.
-use Rattle.std.specs.Prelude.{◌≡◌, ℕ, zero, suc, ◌+◌, ◌++◌, ◌↔◌, List, [], ◌∷◌, slice_index_or, Contains}
+use Rattle.std.specs.Prelude.{◌≡◌, ℕ, zero, suc, ◌+◌, ◌↔◌, List, [], ◌∷◌, map, slice_index_or, Contains, Vec}
+use Rattle.std.specs.Borrow.{Bor}
 use Rattle.std.specs.List.{flat_map}
 
 -- the elements that aren't left out
@@ -25,6 +26,10 @@ AreNumbered from [] = Unit {0}
 AreNumbered from (zero ∷ codes) = AreNumbered from codes
 AreNumbered from (suc index ∷ codes) = (index ≡ from) × AreNumbered (from + 1) codes
 
--- the texts are those of both lists, whatever their order and however often
-abbrev pub HasBoth : List (List ℕ) → List (List ℕ) → List (List ℕ) → Type 0
-HasBoth left right all = (text : List ℕ) → Contains all text ↔ Contains (left ++ right) text
+-- both lists have the same texts, whatever their order and however often
+abbrev pub HaveSame : List (List ℕ) → List (List ℕ) → Type 0
+HaveSame xs ys = (text : List ℕ) → Contains xs text ↔ Contains ys text
+
+-- the texts of all the parts, one part behind another
+abbrev pub texts_in : {A : Type 0} → List (Vec (Bor (List ℕ)) A) → List (List ℕ)
+texts_in parts = flat_map (λ p. map (λ t. t.now) p.items) parts

@@ -1,13 +1,11 @@
 //! A dictionary: the texts of a field in byte order, each found by its ordinal, and each ordinal by its text.
-ghost use Rattle.std.specs.Prelude.{◌≡◌, ℕ, ◌<◌, ◌≤◌, ◌^◌, ◌++◌, ◌↔◌, List, length, map, All, Contains, IfOk, IfSome, OnOk};
-ghost use Rattle.std.specs.List.{flat_map};
+ghost use Rattle.std.specs.Prelude.{◌≡◌, ◌<◌, ◌^◌, length, map, All, Contains, IfOk, IfSome};
 ghost use Rattle.cat_base.specs.Texts.{sorted_set, IsTextSet};
 ghost use Rattle.cat_model.specs.Ordinals.{dictionary_of, text_at, IsOrdinal};
-ghost use Rattle.cat_values.specs.Merged.{HasBoth};
 
+use crate::union::united;
 use cat_base::{Text, TextSet};
 use std::alloc::{AllocError, Global};
-use std::cmp::Ordering;
 use std::marker::Model;
 use std::sync::Arc;
 
@@ -30,105 +28,6 @@ impl Model for Dictionary {
     ghost view = { λ d. arc_value d.texts };
 
     ghost invariant = { λ d. IsTextSet (arc_value d.texts) };
-}
-
-/// Adds the texts of the set.
-fn add_texts<'a>(texts: &mut Vec<&'a Text>, set: &'a [Text]) -> Result<(), AllocError>
-    ensures ok { OnOk result (map (λ t. t.now) texts.new.items ≡ map (λ t. t.now) texts.old.items ++ set.now) }
-{
-    for text in set {
-        texts.push(text)?;
-    }
-    Ok(())
-}
-
-/// The texts of the sets, one set behind another.
-fn texts_in<'a>(alloc: Global, sets: &[&'a [Text]]) -> Result<Vec<&'a Text>, AllocError>
-    ensures ok { IfOk result (λ v. map (λ t. t.now) v.items ≡ flat_map (λ s. s.now) sets.now) }
-{
-    let mut texts = Vec::new(alloc);
-    for set in sets {
-        add_texts(&mut texts, set)?;
-    }
-    Ok(texts)
-}
-
-/// Adds the texts.
-fn add_all<'a>(all: &mut Vec<&'a Text>, texts: &[&'a Text]) -> Result<(), AllocError>
-    ensures ok { OnOk result (map (λ t. t.now) all.new.items ≡ map (λ t. t.now) all.old.items ++ map (λ t. t.now) texts.now) }
-{
-    for text in texts {
-        all.push(*text)?;
-    }
-    Ok(())
-}
-
-/// The texts of both lists. Where both are in byte order, each text once, so is what comes out.
-fn merged<'a>(
-    alloc: Global,
-    left: &[&'a Text],
-    right: &[&'a Text],
-) -> Result<Vec<&'a Text>, AllocError>
-    ensures ok { IfOk result (λ v. HasBoth (map (λ t. t.now) left.now) (map (λ t. t.now) right.now) (map (λ t. t.now) v.items)) }
-{
-    let mut all = Vec::with_capacity(alloc, left.len() + right.len())?;
-    let mut i = 0;
-    let mut j = 0;
-    while i < left.len() && j < right.len() {
-        match left[i].cmp(right[j]) {
-            Ordering::Less => {
-                all.push(left[i])?;
-                i += 1;
-            }
-            Ordering::Greater => {
-                all.push(right[j])?;
-                j += 1;
-            }
-            Ordering::Equal => {
-                all.push(left[i])?;
-                i += 1;
-                j += 1;
-            }
-        }
-    }
-    add_all(&mut all, &left[i..])?;
-    add_all(&mut all, &right[j..])?;
-    Ok(all)
-}
-
-/// How many of the sets make one of two parts that have about as many texts: so one great set among small ones, as merges
-/// have it, is gone through once, and not once more at each halving.
-fn front_part(sets: &[&[Text]]) -> usize
-    requires { 2 ≤ length sets.now }
-    ensures some { 0 < result }
-    ensures rest { result < length sets.now }
-{
-    let mut front = 1;
-    let mut back = sets.len() - 1;
-    let mut front_texts = sets[0].len();
-    let mut back_texts = sets[back].len();
-    while front < back {
-        if front_texts < back_texts {
-            front_texts = front_texts.saturating_add(sets[front].len());
-            front += 1;
-        } else {
-            back -= 1;
-            back_texts = back_texts.saturating_add(sets[back].len());
-        }
-    }
-    front
-}
-
-/// The texts of the sets, each text once: those of one part of the sets are merged with those of the other.
-fn united<'a>(alloc: Global, sets: &[&'a [Text]]) -> Result<Vec<&'a Text>, AllocError>
-    ensures ok { IfOk result (λ v. (text : List ℕ)
-        → Contains (map (λ t. t.now) v.items) text ↔ Contains (flat_map (λ s. s.now) sets.now) text) }
-{
-    if sets.len() < 2 {
-        return texts_in(alloc, sets);
-    }
-    let (left, right) = sets.split_at(front_part(sets));
-    merged(alloc, &united(alloc, left)?, &united(alloc, right)?)
 }
 
 /// Copies of the texts.

@@ -12,6 +12,7 @@ mod packed;
 mod row_set;
 mod scan;
 mod sets;
+mod union;
 
 pub use dictionary::Dictionary;
 pub use keywords::KeywordColumn;

@@ -1,7 +1,7 @@
 use Rattle.std.proofs.Common.{sym, ◌∙◌}
 use Rattle.std.proofs.lemmas.Map.Lookups.{exact_bytes}
 use Rattle.cat_values.proofs.Merged.{seen_twice, merged_left, merged_right, merged_same, merged_all}
-use Rattle.cat_values.proofs.dictionary.merged.Goals as goal
+use Rattle.cat_values.proofs.union.merged.Goals as goal
 
 pub loop-i-preserved-in-Less : goal.loop-i-preserved-in-Less
 loop-i-preserved-in-Less c =
