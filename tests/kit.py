@@ -55,27 +55,28 @@ class Libraries:
     """The libraries below some crates, as the prover built them of the files that stand there now."""
 
     def __init__(self, sources, crates):
-        self.sources, self.room, self.at, self.failed = sources, None, {}, set()
-        self.take_kept(sources.below(*crates))
-        if not self.at:
-            self.take_left(sources.below(*crates))
+        # For each crate, where it finds itself and those below it: they fit together only as they were built.
+        self.sources, self.room, self.at = sources, None, {}
+        self.take_kept(crates)
+        if len(self.at) < len(crates):
+            self.take_left([it for it in crates if it not in self.at])
         for crate in crates:
-            if any(it not in self.at for it in self.sources.below(crate)):
+            if crate not in self.at:
                 self.build(crate)
 
-    def take_kept(self, names):
+    def take_kept(self, crates):
         """Takes what `rt ci` proved of the same files over the same libraries, by the sums under which it keeps that."""
+        names = self.sources.below(*crates)
         try:
             found = kept_by_gate(self.sources, names)
         except Exception as error:  # a kit that keeps it otherwise
             print(f"kit: what rt ci kept can't be read ({type(error).__name__}: {error}), so libraries are built", file=sys.stderr)
             return
-        if any(name not in found for name in names):
-            return
-        self.room = tempfile.mkdtemp(prefix="libraries-")
-        for name in names:
+        whole = [it for it in crates if all(name in found for name in self.sources.below(it))]
+        wanted = self.sources.below(*whole)
+        self.room = tempfile.mkdtemp(prefix="libraries-") if wanted else None
+        for name in wanted:
             if self.sources.is_program(name):
-                self.at[name] = None
                 continue
             entry, files = found[name]
             for number, path in enumerate(files):
@@ -85,17 +86,22 @@ class Libraries:
                     os.link(entry / str(number), to)
                 except OSError:
                     shutil.copyfile(entry / str(number), to)
-            self.at[name] = Path(self.room) / "rlib" / f"{name}.rlib"
+        for crate in whole:
+            self.at[crate] = {name: Path(self.room) / "rlib" / f"{name}.rlib" for name in self.sources.below(crate)}
 
-    def take_left(self, names):
+    def in_out(self, crate):
+        return {name: TOP / "crates" / name / "out" / "rlib" / f"{name}.rlib" for name in self.sources.below(crate)}
+
+    def take_left(self, crates):
         """Takes what `rt ci` left in out/, where it could keep nothing: ./prove notes of which sources that is."""
-        rlibs = {name: TOP / "crates" / name / "out" / "rlib" / f"{name}.rlib" for name in names if not self.sources.is_program(name)}
-        # What rt itself built for later checks has a stamp, and may be of other sources.
-        if any(not (it / "format").is_file() or it.with_name("stamp").exists() for it in rlibs.values()):
-            return
         words = ["bash", "-c", 'top=$1 && . "$top/release/common.sh" && [ "$(told "$record" sources)" = "$(sources_sum)" ]', "", str(TOP)]
-        if not subprocess.run(words, stderr=subprocess.DEVNULL).returncode:
-            self.at = {name: rlibs.get(name) for name in names}
+        if subprocess.run(words, stderr=subprocess.DEVNULL).returncode:
+            return
+        for crate in crates:
+            rlibs = [it for name, it in self.in_out(crate).items() if not self.sources.is_program(name)]
+            # What rt itself built for later checks has a stamp, and may be of other sources.
+            if all((it / "format").is_file() and not it.with_name("stamp").exists() for it in rlibs):
+                self.at[crate] = self.in_out(crate)
 
     def build(self, crate):
         """Has rt prove the crate and build the libraries below it; rt builds none that stands there of the same files."""
@@ -103,25 +109,23 @@ class Libraries:
         ran = subprocess.run(["rt", verb, "--jobs", "1"], cwd=TOP / "crates" / crate, stdin=subprocess.DEVNULL, stdout=subprocess.PIPE, stderr=subprocess.STDOUT, errors="replace")
         if ran.returncode:
             print(f"kit: {crate} isn't proved as it stands:\n{ran.stdout[-2000:]}", file=sys.stderr)
-            self.failed.add(crate)
-            return
-        for name in self.sources.below(crate):
-            self.at[name] = None if self.sources.is_program(name) else TOP / "crates" / name / "out" / "rlib" / f"{name}.rlib"
+        else:
+            self.at[crate] = self.in_out(crate)
 
     def words(self, crate):
         """The words that check the crate in a copy of its folder, or None where a library below isn't there."""
-        if crate in self.failed or any(it not in self.at for it in self.sources.below(crate)):
+        if crate not in self.at:
             return None
-        kit = home()
+        kit, at = home(), self.at[crate]
         words = [str(kit / "bin" / "rattle"), "check", "--crate-name", crate]
         words += ["src/main.rt" if self.sources.is_program(crate) else "src/lib.rt"]
         for name in ("std", *self.sources.of_kit[crate]):
             words += ["--extern", f"{name}={kit}/rlibs/{name}.rlib"]
         words += ["-L", f"dependency={kit}/rlibs"]
         for name in self.sources.uses[crate]:
-            words += ["--extern", f"{name}={self.at[name]}"]
-        for name in self.sources.below(crate)[:-1]:
-            words += ["-L", f"dependency={self.at[name].parent}"]
+            words += ["--extern", f"{name}={at[name]}"]
+        for folder in dict.fromkeys(str(at[name].parent) for name in self.sources.below(crate)[:-1]):
+            words += ["-L", f"dependency={folder}"]
         words += ["--antt-project", f"{kit}/rattle/logic/antt-project.json", "--logic-built", f"{kit}/logic_built"]
         return [*words, "--links", f"{crate}=", "--jobs", "1"]
 
