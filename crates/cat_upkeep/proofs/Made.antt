@@ -57,10 +57,10 @@ one_of_two n told told' others q e =
     others q (last_of_two (same_file_name (name_of q) (Name.source n)) (same_file_name (name_of q) (Name.segment n)) e)
 
 -- no number is taken where no file was begun
-still_one : {l : Ledger} (mid new : Ledger) → mid.next_segment ≡ l.next_segment
+still_one : (l mid new : Ledger) → mid.next_segment ≡ l.next_segment
     → TakesOne [] (Name.source mid.next_segment) mid.next_segment new.next_segment → new.next_segment ≤ l.next_segment + 1
-still_one mid new same (inl k) = omega (arith, same, k)
-still_one mid new same (inr k) = absurd (let no : false ≡ true = k.1 in cc)
+still_one l mid new same (inl k) = omega (arith, same, k)
+still_one l mid new same (inr k) = absurd (let no : false ≡ true = k.1 in cc)
 
 -- also with names that nobody uses
 pub left_failed : (told told' : ToldFiles) (s new : Shape) → HasFailed told s told' new → Makes IsLeft told s told' new
@@ -75,7 +75,7 @@ left_failed told told' s new k l files carried =
         begun = [];
         flush = inl refl;
         merge = inr (ended.2.0, ended.2.2);
-        one_segment = still_one ended.0 left.0 (ap (λ (x : Ledger). x.next_segment) ended.2.2.rest) left.2.one_segment;
+        one_segment = still_one l ended.0 left.0 (ap (λ (x : Ledger). x.next_segment) ended.2.2.rest) left.2.one_segment;
         rest = left.2;
       },
       left.3,
