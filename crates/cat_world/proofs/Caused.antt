@@ -1,5 +1,5 @@
 -- The causes of replies, as those who answer tell them.
-use Rattle.std.proofs.Common.{◌≡◌, ◌≢◌, ℕ, ◌<◌, ◌≤◌, Bool, true, false, cond, ltb, length, refl, sym, ◌∙◌, ap, subst, inl, inr}
+use Rattle.std.proofs.Common.{◌≡◌, ◌≢◌, ℕ, ◌<◌, ◌≤◌, List, Bool, true, false, cond, ltb, length, refl, sym, ◌∙◌, ap, subst, inl, inr}
 use Rattle.std.specs.Prelude.{◌⊎◌, ◌==◌, Option, None, Some, Result, Ok, Err, IfErr, IfOk}
 use Rattle.std.specs.List.{list_all}
 use Rattle.std.proofs.lemmas.Bool.Decides.{eqb_tells}
@@ -16,6 +16,7 @@ use Rattle.cat_model.specs.Text.{Text}
 use Rattle.cat_model.specs.View.{View}
 use Rattle.cat_directory.specs.Devices.{FileContent}
 use Rattle.cat_directory.specs.declared.name.FileName.{FileName}
+use Rattle.cat_holding.specs.Holding.{said_open}
 use Rattle.cat_keeping.specs.Chores.{FailsFor, MayRefuse, MayRefuseForce, MayRefuseMerge, Tells, chore_of, stat_in}
 use Rattle.cat_keeping.specs.declared.chores.Chore as code_chore
 use Rattle.cat_keeping.specs.declared.chores.Chore.TheVariants.{Force, Merge, Stat, Sweep}
@@ -92,6 +93,11 @@ module _ {D : Type 0} (bytes : D → ToldFiles) (can_fail : D → Type 0) (old :
     damaged = given_so (IsDamagedTo (bytes (device_in old)) (shape_in old) (Some (Said.get t id))) Damaged result Damaged damaged refl;
     told = tt;
   }
+
+  -- an OPEN, of which the run says what it is told
+  pub open_caused : (token : Option ℕ) → Causes (said_open token)
+  open_caused None = record { spent = λ k. tt; device = λ k. tt; damaged = λ k. tt; told = tt }
+  open_caused (Some t) = record { spent = λ k. tt; device = λ k. tt; damaged = λ k. tt; told = tt }
 
   -- ---- COMMIT
 

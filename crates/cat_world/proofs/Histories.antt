@@ -180,7 +180,7 @@ module _ {D : Type 0} (left : D → FileName → FileContent → Type 0) where
 
   -- what was told of lines one after another are calls of the ledger
   pub tolds_are_calls : (bytes : D → ToldFiles) (can_fail : D → Type 0) (old new : Service D) (lines : List (Option Text)) (tolds : List Outcome)
-      → Steps (StepsIfShort bytes left) old lines tolds new
+      → Steps (StepsIfShort bytes left can_fail) old lines tolds new
       → (calls : List (Call D)) × MakeTold tolds (events_of calls) × IsHistory left old.ledger calls new.ledger
   tolds_are_calls bytes can_fail old new [] [] same = ([], tt, ap (λ (w : Service D). w.ledger) same)
   tolds_are_calls bytes can_fail old new [] (told ∷ tolds) steps = absurd steps

@@ -288,7 +288,7 @@ module _ {D : Type 0} (bytes : D → ToldFiles) (may_leave : D → FileName → 
       where
         err_same : (a b : Unopened D) → ◌≡◌ {A = Result (Service D) (Unopened D)} (Err a) (Err b) → a ≡ b
         err_same a b e = cc
-    given_back first u false o = o.0.1
+    given_back first u false o = (o.0.1, o.0.2)
 
     spared_at : (lines : List Text) (e : Refusal) → refused_at lines e
         → LeavesFiles bytes device (device_at stage) × SparesCrash may_leave device (device_at stage)

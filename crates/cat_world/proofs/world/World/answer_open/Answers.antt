@@ -2,6 +2,7 @@ use Rattle.std.proofs.Common.{subst}
 use Rattle.cat_replies.specs.Reply.{reply_of}
 use Rattle.cat_holding.specs.Holding.{said_open}
 use Rattle.cat_ledger.specs.Ledgers.{device_in, shape_in}
+use Rattle.cat_world.proofs.Caused.{open_caused}
 use Rattle.cat_world.proofs.Histories.{opens_go}
 use Rattle.cat_world.proofs.Kept.{carried_on, does, sets_on, states_on}
 use Rattle.cat_world.proofs.Names.{opens_say_none}
@@ -25,7 +26,7 @@ invariant_of-self g c = record {
 pub returns-clause-does : goal.returns-clause-does
 returns-clause-does g c = rw (← c.self.view_is) (
     does g.D.Holder.bytes g.D.Holder.can_fail c.args.session (said_open c.args.token) c.self.inside.ledger (reply_of c.«open».result) c.«open».new.ledger
-    c.self.inside.rights c.«open».new.rights c.self.invariant (record { spent = λ k. tt; device = λ k. tt; damaged = λ k. tt; told = tt }) c.«open».ensures.answers (subst g.D.Holder.can_fail c.«open».ensures.same) c.«open».ensures.policy (opens_say_none c.args.token)
+    c.self.inside.rights c.«open».new.rights c.self.invariant (open_caused g.D.Holder.bytes g.D.Holder.can_fail c.self.inside.ledger c.self.inside.rights c.«open».result c.args.token) c.«open».ensures.answers (subst g.D.Holder.can_fail c.«open».ensures.same) c.«open».ensures.policy (opens_say_none c.args.token)
     (λ k. open_wants (g.D.Holder.bytes (device_in c.self.inside.ledger)) (shape_in c.self.inside.ledger) c.args.session c.«open».result (stopped c.«open».result k) c.args.token c.«open».ensures.due))
 
 pub returns-clause-history : goal.returns-clause-history

@@ -21,7 +21,7 @@ loop-line-init g c = record {
   runs = subst (λ rs. RunsLines g.D.Holder.bytes c.args.self.now [] rs c.args.self.now) (sym c.in_ok-replies.ensures.items) (none_runs g.D.Holder.bytes c.args.self.now);
   spoken =
       subst (λ rs. RunsHistory g.D.Holder.bytes g.D.Holder.can_fail g.D.Holder.may_leave c.args.self.now [] rs c.args.self.now) (sym c.in_ok-replies.ensures.items)
-      (none_spoken g.D.Holder.may_leave g.D.Holder.bytes g.D.Holder.can_fail g.D.Holder.bytes g.D.Holder.can_fail c.args.self.now);
+      (none_spoken g.D.Holder.may_leave g.D.Holder.bytes g.D.Holder.can_fail c.args.self.now);
 }
 
 no_line : Line
