@@ -163,8 +163,8 @@ module _ (json : Json) (from : Opened) (tells : Type 0) where
         text = said_reply;
         like = w.like;
         same = λ y.
-        let sames = split_all (λ b. b.told ≡ b.fits) p.past (p.here ∷ p.later) (subst (AllByRecursion (λ b. b.told ≡ b.fits)) p.whole (same y)) in
-        same_reply w.w u.x (sym w.told ∙ sames.1.0 ∙ u.told);
+            let sames = split_all (λ b. b.told ≡ b.fits) p.past (p.here ∷ p.later) (subst (AllByRecursion (λ b. b.told ≡ b.fits)) p.whole (same y)) in
+            same_reply w.w u.x (sym w.told ∙ sames.1.0 ∙ u.told);
         fits = somes.1.0 u.x u.told;
         undisturbed = undisturbed_fits s w.w.reply u.x.reply w.like (subst (λ r. AllByRecursion (λ stop. r ≢ stop) (excepted_replies s)) said_reply a.undisturbed);
       }
@@ -316,8 +316,7 @@ module _ (json : Json) (tells₁ tells₂ : Type 0) (from₁ from₂ : Opened) (
       search (Said.facets u dim n text) asked rs tt (facets_told from₁.start.schema rs dim n a₁.is.0 part) a₁ a₂ replies (is asked (a₁.is.2 ∙ ap (λ v. Command.read v asked) under))
   common (Said.get u text) under rs part a₁ a₂ replies is =
       let asked : Read = Read.get (id_of text) in
-      let whole : HasOneLine a₁.x.reply = subst HasOneLine (sym (is asked (a₁.is ∙ ap (λ v. Command.read v asked) under))) (get_one_line from₁.start.schema rs (id_of text)) in
-      (
+      let whole : HasOneLine a₁.x.reply = subst HasOneLine (sym (is asked (a₁.is ∙ ap (λ v. Command.read v asked) under))) (get_one_line from₁.start.schema rs (id_of text)) in (
         (λ y₁ y₂. same_said s₁ s₂ reply₁ reply₂ a₁.told a₂.told a₁.text a₂.text (a₁.same y₁ ∙ replies ∙ sym (a₂.same y₂)) (subst HasOneLine (sym (a₁.same y₁)) whole)),
         long_said s₁ s₂ reply₁ reply₂ a₁.told a₂.told a₁.x.reply a₁.text a₂.text a₁.like (subst (ReplyLike a₂.told) (sym replies) a₂.like) whole,
       )

@@ -1,5 +1,6 @@
 //! The theorem: what holds of every two calls of `serve`, by the bytes that they read and wrote.
 #![tactic(auto)]
+
 ghost use Rattle.cat_theorem.specs.Calls.{CallsAreOpened, HeldReadsAgree};
 ghost use Rattle.cat_theorem.specs.Found.{CallsAreFound, DirectoriesOpenOneWay, ReadsAgreeAfterwards};
 
