@@ -28,7 +28,7 @@ use Rattle.cat_ledger_shape.specs.OpeningLaws.{MayHold}
 use Rattle.cat_ledger_shape.specs.Ties.{ToldFiles}
 use Rattle.cat_world.specs.Opening.{BeginsAtCommit, BeginsIn, OpensIn}
 use Rattle.cat_world.specs.Serving.{IsServedIn, ServesIn}
-use Rattle.cat_theorem.specs.Calls.{Answered, CallsAreOpened, FreshCallsAnswer, FreshTalk, HeldReadsAgree, HeldReadsAgreeInFreshCalls, IsCall}
+use Rattle.cat_theorem.specs.Calls.{Answered, CallsAreOpened, HeldReadsAgree, IsCall}
 use Rattle.cat_theorem.proofs.Law.{reads_agree}
 use Rattle.cat_theorem.proofs.Opened.{opened_part, opened_seen}
 use Rattle.cat_theorem.proofs.Told.{IsSaid, PartRecord}
