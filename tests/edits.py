@@ -354,6 +354,10 @@ def judged(edit, units, ran):
         return REFUSED, re.sub(r"^(note: )?(\./)?", "", first)[:200]
     if gone or opened:
         return BY_NAMES, (gone or [opened[0][1]])[0][:200]
+    # A function without a proof of its own has no line for an open goal: its verdict says which goal the search left.
+    left = [f"{name}: {status}" for name, status in unproved.items() if "`search` did not prove `" in status]
+    if left:
+        return REFUSED, left[0][:200]
     return BY_NAMES, f"no goal of its own is left open: {'; '.join(f'{name}: {status}' for name, status in unproved.items())[:200]}"
 
 
