@@ -604,6 +604,8 @@ class Tests:
         write_segment(self.folder, self.segments, items[-per:])
         write_commit(self.folder, len(items), self.segments)
         what, token, rows = "all in one", len(items), len(items)
+        # The next number lies above each that stands in a name.
+        number = max(int(name[1:].partition(".")[0].partition("_")[0]) for name in os.listdir(self.folder) if name.startswith("_")) + 1
         child = self.open_folder(what, schema_line(100, 1_024), token)
         try:
             told = [child.ask("0 FORCE")] + child.say(["0 MERGE"] * (-(-rows // 256) + 1))
@@ -615,7 +617,7 @@ class Tests:
             self.reads(what, child, token, items)
             self.expect(f"{what}: COMMIT", child.ask("1 COMMIT in one"), "OK 2")
             self.expect(f"{what}: SWEEP", child.ask("0 SWEEP"), f"OK {2 * self.segments + 1}")
-            self.expect(f"{what}: files", sorted(os.listdir(self.folder)), sorted([f"_{self.segments + 1}.seg", f"_{self.segments + 1}.sto", "segments_2"]))
+            self.expect(f"{what}: files", sorted(os.listdir(self.folder)), sorted([f"_{number}.seg", f"_{number}.sto", "segments_2"]))
             self.expect(f"{what}: the end", child.end(), "status 0")
         finally:
             child.kill()
