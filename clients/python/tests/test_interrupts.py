@@ -20,6 +20,7 @@ PACKAGE = str(support.HERE.parent)
 SOON = 30  # seconds, for what would last for ever: the machine may be busy
 ENDLESS = """
 import os, signal, sys, threading
+signal.signal(signal.SIGINT, signal.default_int_handler)  # a shell's job in the background begins with it ignored
 sys.path.insert(0, {package!r})
 from jasminedome import Catalogue
 shop = Catalogue({{"title": "text"}}, {folder!r}, program={command!r})
