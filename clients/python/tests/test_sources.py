@@ -1,5 +1,6 @@
 """What the loader takes and asks: forms, encodings, columns that aren't plain, ids that come again, and loads that were stopped."""
 
+import contextlib
 import gzip
 import io
 import json
@@ -201,8 +202,10 @@ class Stopped(FileTest):
             return opened[0]
 
         def kill(answered, _, __):
+            # It may be told once more of what was answered before the end.
             if answered >= 1_000:
-                os.kill(opened[0].pid, signal.SIGKILL)
+                with contextlib.suppress(ProcessLookupError):
+                    os.kill(opened[0].pid, signal.SIGKILL)
 
         with mock.patch("jasminedome.loading.Catalogue", opening), self.assertRaises(JasminedomeError):
             self.load("a.csv", self.content(), every=700, progress=kill)
