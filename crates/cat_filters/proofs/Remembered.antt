@@ -9,7 +9,7 @@ use Rattle.cat_model.specs.Query.{Query}
 use Rattle.cat_model.specs.View.{Segment, row_matches, AgreesWith}
 use Rattle.cat_cache.specs.Cached.{Entry, Key, same_key, stored, used}
 use Rattle.cat_cache.specs.Warmed.{Warm}
-use Rattle.cat_filters.specs.Filters.{Filters, IsUsedInPart, Pair, begun, first_missing, is_missing, key_in, pairs, used_in, without}
+use Rattle.cat_filters.specs.Filters.{Filters, Pair, begun, first_missing, is_missing, key_in, pairs, used_in, without}
 use Rattle.cat_filters.specs.Known.{HasRowsOf, IsBelow, Knows, Remembers, RemembersBelow, RemembersOf, RemembersOfBelow}
 use Rattle.cat_filters.specs.Steps.{IsLeft, IsMade, IsStep}
 use Rattle.cat_filters.specs.declared.news.WarmNews.{WarmNews}
@@ -137,13 +137,6 @@ used_below q ss old m k =
     below m (record old { cached = used_in q ss old.cached }) (used_holds (λ e. e.0.segment < m) (λ s. s.number < m) (below_made m) q ss old (k.cached, k.warming))
 
 -- ---- of calls
-
-module _ (q : Query) (ss : List Segment) (old : Filters) (es : List Entry) (part : IsUsedInPart q ss old.cached es) where
-  pub part_remembers : Remembers old (record old { cached = es })
-  part_remembers = subst (λ (es : List Entry). Remembers old (record old { cached = es })) (sym part.used) (used_remembers q (take part.count ss) old)
-
-  pub part_below : RemembersBelow old (record old { cached = es })
-  part_below = subst (λ (es : List Entry). RemembersBelow old (record old { cached = es })) (sym part.used) (used_below q (take part.count ss) old)
 
 pub begun_remembers : {E : Type 0} (r : Result WarmNews E) (old new : Filters) (ss : List Segment) → IfOk r (IsStep old ss new) → OnErr r (new ≡ old) → RemembersOf ss old new
 begun_remembers (Ok n) old new ss ok err = step_remembers old new ss n ok

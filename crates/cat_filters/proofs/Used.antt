@@ -1,14 +1,14 @@
 -- Sets that are used, one after the other, and those that are found then.
 use Rattle.std.proofs.Common.{◌≡◌, ℕ, ◌+◌, ◌<◌, ◌≤◌, Bool, true, false, cond, List, [], ◌∷◌, ◌++◌, length, map, take, get_or, Option, Some, None, option_map, replicate, Result, Ok, Err, refl, sym, ap, subst, ◌∙◌, arith}
-use Rattle.std.specs.Prelude.{IfOk, OnErr, OnOk}
+use Rattle.std.specs.Prelude.{IfOk, MatchResult}
 use Rattle.std.specs.Option.{option_map_or}
 use Rattle.std.specs.Map.{lookup, lookup_entry, remove_entry}
-use Rattle.std.proofs.lemmas.List.{length-map, map-append, nil_from_length, take-map, take_all, take_more}
+use Rattle.std.proofs.lemmas.List.{map-append, nil_from_length, take_more}
 use Rattle.cat_model.specs.Query.{Query}
 use Rattle.cat_model.specs.View.{Leaf, Segment, segments_of}
 use Rattle.cat_cache.specs.Cached.{Entry, Key, same_key, used}
 use Rattle.cat_cache.proofs.Shown.{keys_decided, kept_first}
-use Rattle.cat_filters.specs.Filters.{IsUsedInPart, key_in, set_in, used_in}
+use Rattle.cat_filters.specs.Filters.{key_in, set_in, used_in}
 use Rattle.cat_filters.proofs.Found.{entry_passes}
 
 module _ {K X : Type 0} (t u : K → Bool) (apart : (k : K) → t k ≡ true → u k ≡ true → ⊥) where
@@ -71,10 +71,6 @@ sets_more g q es leaves i d items x lt before here =
 
 -- ---- one look
 
-pub on_err : {A E P : Type 0} (r : Result A E) → P → OnErr r P
-on_err (Ok x) p = tt
-on_err (Err e) p = p
-
 -- the leaf of this index is looked up under a key of this number and this query
 module _ (q : Query) (es now : List Entry) (leaves : List Leaf) (i : ℕ) (leaf : Leaf) (n : ℕ) (p : Query)
     (lt : i < length leaves) (item : leaf ≡ get_or leaves i leaf) (number : n ≡ leaf.segment.number) (query : p ≡ q)
@@ -97,18 +93,20 @@ module _ (q : Query) (es now : List Entry) (leaves : List Leaf) (i : ℕ) (leaf 
       sets_more g q es leaves i leaf items x lt done
       (e ∙ ap (λ (k : Key). lookup (same_key k) now) key_is ∙ ap (lookup (same_key (key_in q (get_or leaves i leaf).segment))) before)
 
-pub part_of : (q : Query) (es new : List Entry) (leaves : List Leaf) (k : ℕ) → k ≤ length leaves → new ≡ used_in q (segments_of (take k leaves)) es → IsUsedInPart q (segments_of leaves) es new
-part_of q es new leaves k few e = record {
-  count = k;
-  few = omega (arith, few, length-map leaves (λ (l : Leaf). l.segment));
-  used = e ∙ ap (λ ss. used_in q ss es) (sym (take-map (λ (l : Leaf). l.segment) k leaves));
-}
-
--- whether all leaves were looked at or a front of them, a front of them was
-pub part_either : {A E : Type 0} (r : Result A E) (q : Query) (ss : List Segment) (es new : List Entry)
-    → OnOk r (new ≡ used_in q ss es) → OnErr r (IsUsedInPart q ss es new) → IsUsedInPart q ss es new
-part_either (Ok x) q ss es new ok err = record { count = length ss; few = omega arith; used = ok ∙ ap (λ ss. used_in q ss es) (sym (take_all (length ss) ss (omega arith))) }
-part_either (Err e) q ss es new ok err = err
+-- the sets that were found, with the last one that was
+pub sets_found : {A V E : Type 0} (items : V → List A) (g : A → Option (List Bool)) (q : Query) (es now : List Entry) (leaves : List Leaf) (i : ℕ) (leaf : Leaf) (n : ℕ) (p : Query)
+    → (lt : i < length leaves) (item : leaf ≡ get_or leaves i leaf) (number : n ≡ leaf.segment.number) (query : p ≡ q)
+    → (before : now ≡ used_in q (segments_of (take i leaves)) es)
+    → (sets : Result V E) (set : Result A E) (r : Result V E)
+    → IfOk r (λ v. MatchResult sets (λ old. MatchResult set (λ s. items v ≡ items old ++ s ∷ []) (λ e. ⊥)) (λ e. ⊥))
+    → IfOk set (λ x. g x ≡ lookup (same_key (record { segment = n; query = p })) now)
+    → IfOk sets (λ v. map g (items v) ≡ map (set_in es q) (segments_of (take i leaves)))
+    → IfOk r (λ v. map g (items v) ≡ map (set_in es q) (segments_of (take (i + 1) leaves)))
+sets_found items g q es now leaves i leaf n p lt item number query before sets set (Err e) is found done = tt
+sets_found items g q es now leaves i leaf n p lt item number query before (Err e) set (Ok v) is found done = absurd is
+sets_found items g q es now leaves i leaf n p lt item number query before (Ok old) (Err e) (Ok v) is found done = absurd is
+sets_found items g q es now leaves i leaf n p lt item number query before (Ok old) (Ok s) (Ok v) is found done =
+    ap (map g) is ∙ sets_after q es now leaves i leaf n p lt item number query before g (items old) s found done
 
 -- ---- no sets are cached
 
@@ -123,12 +121,8 @@ none_found g q [] = refl
 none_found g q (l ∷ leaves) = ap (λ os. None ∷ os) (none_found g q leaves)
 
 module _ (q : Query) (es : List Entry) (empty : length es ≡ 0) where
-  none_used : (ss : List Segment) → es ≡ used_in q ss es
+  pub none_used : (ss : List Segment) → es ≡ used_in q ss es
   none_used ss = subst (λ l. l ≡ used_in q ss l) (sym (nil_from_length es empty)) (sym (used_in-nil q ss))
-
-  pub none_used_if : {A E : Type 0} (r : Result A E) (ss : List Segment) → OnOk r (es ≡ used_in q ss es)
-  none_used_if (Ok x) ss = none_used ss
-  none_used_if (Err e) ss = tt
 
   pub none_found_if : {A B E : Type 0} (g : A → List Bool) (r : Result B E) (items : B → List (Option A)) (leaves : List Leaf)
       → IfOk r (λ v. items v ≡ replicate (length leaves) None) → IfOk r (λ v. map (option_map g) (items v) ≡ map (set_in es q) (segments_of leaves))

@@ -1,5 +1,5 @@
 -- The cached sets, the queries that were noted, and the set in the making.
-use Rattle.std.specs.Prelude.{◌≡◌, ℕ, ◌-◌, ◌≤◌, Bool, not, List, [], ◌∷◌, ◌++◌, length, take, drop, map, cond, Option, Some, None, is_some}
+use Rattle.std.specs.Prelude.{ℕ, ◌-◌, Bool, not, List, [], ◌∷◌, ◌++◌, length, drop, map, cond, Option, Some, None, is_some}
 use Rattle.std.specs.Option.{option_map_or}
 use Rattle.std.specs.List.{find, flat_map, fold, list_any}
 use Rattle.std.specs.Map.{lookup}
@@ -43,12 +43,6 @@ set_in cached q s = lookup (same_key (key_in q s)) cached
 -- the sets of the query in these segments were used, one after the other
 abbrev pub used_in : model.Query → List Segment → List Entry → List Entry
 used_in q segments cached = fold (λ entries s. used (key_in q s) entries) cached segments
-
--- those in a front of these segments were
-pub record IsUsedInPart (q : model.Query) (segments : List Segment) (old new : List Entry) : Type 0 where
-  pub count : ℕ
-  pub few : count ≤ length segments
-  pub used : new ≡ used_in q (take count segments) old
 
 -- ---- the set in the making
 

@@ -1,12 +1,12 @@
 //! The queries that were noted, with the sets of rows that are at hand for them.
-ghost use Rattle.std.specs.Prelude.{◌≡◌, ◌≤◌, ◌⊎◌, ◌==◌, [], ◌∷◌, ◌++◌, false, length, map, None, option_map, All, IfOk, OnErr, OnOk};
+ghost use Rattle.std.specs.Prelude.{◌≡◌, ◌≤◌, ◌==◌, [], ◌∷◌, ◌++◌, false, length, map, not, None, option_map, All, IfOk, OnErr};
 ghost use Rattle.std.specs.Arc.{arc_value};
 ghost use Rattle.std.specs.List.{list_any};
 ghost use Rattle.std.specs.Option.{option_map_or};
 ghost use Rattle.cat_cache.specs.Cached.{most_sets};
 ghost use Rattle.cat_query.specs.View.{query_of};
 ghost use Rattle.cat_search.specs.Sets.{AreSets};
-ghost use Rattle.cat_filters.specs.Filters.{IsUsedInPart, most_noted, newest, noted_with, set_in, used_in, without};
+ghost use Rattle.cat_filters.specs.Filters.{most_noted, newest, noted_with, set_in, used_in, without};
 ghost use Rattle.cat_filters.specs.Known.{Knows, Remembers, RemembersBelow, RemembersOf, RemembersOfBelow};
 ghost use Rattle.cat_filters.specs.Steps.{IsLeft, IsStep};
 ghost use Rattle.cat_model.specs.View.{segments_of};
@@ -15,18 +15,12 @@ use crate::looks::sets_under;
 use crate::making::{next_begun, pass_on};
 use crate::news::WarmNews;
 use cat_base::{MAX_NOTED_QUERIES, SegNo};
-use cat_cache::{FilterCache, Warm};
+use cat_cache::{FilterCache, Key, Warm};
 use cat_query::{DocSet, Query};
 use cat_search::Leaf;
 use std::alloc::{AllocError, Global};
 use std::marker::Model;
 use std::sync::Arc;
-
-/// That a query was noted. [`Filters::note`] alone makes one, so who asks for it is sure that a query was handed over.
-#[derive(Drop)]
-pub struct Noted {
-    by_note: (),
-}
 
 /// The queries that were noted, and the sets of rows that are at hand for them (Lucene: an `LRUQueryCache` with its
 /// `UsageTrackingQueryCachingPolicy`).
@@ -89,18 +83,15 @@ impl Filters {
     }
 
     /// Notes the query as the newest, and the oldest goes where there are too many; one that is noted already keeps its
-    /// place. Where memory is wanting nothing changes. (`UsageTrackingQueryCachingPolicy.onUse`.)
-    pub fn note(&mut self, query: &Query) -> Noted
-        ensures noted { (self.new ≡ record self.old { noted = noted_with (query_of query.now) self.old.noted }) ⊎ (self.new ≡ self.old) }
+    /// place. It takes no memory. (`UsageTrackingQueryCachingPolicy.onUse`.)
+    pub fn note(&mut self, query: Query)
+        ensures noted { self.new ≡ record self.old { noted = noted_with (query_of query) self.old.noted } }
         ensures known { Remembers self.old self.new }
         ensures below { RemembersBelow self.old self.new }
     {
-        if !self.noted.contains(query) {
-            if let Ok(query) = query.copy() {
-                self.note_newest(query);
-            }
+        if !self.noted.contains(&query) {
+            self.note_newest(query);
         }
-        Noted { by_note: () }
     }
 
     /// Puts the query last, and takes the oldest out where there are too many.
@@ -113,26 +104,24 @@ impl Filters {
         self.noted.push_reserved(query);
     }
 
-    /// For each leaf in order the set that stands under the number of its segment and the query, else none; a set that is
-    /// found is the last used from its look on. So the sets can be lent to the query over a view of these leaves, where each
-    /// segment is known. An error changes the order of use alone: that of the leaves that were looked at, a front of all.
+    /// For each leaf in order the set that stands under the number of its segment and the key's query, else none; a set that
+    /// is found is the last used from its look on, also where memory is wanting for the answer. So the sets can be lent to the
+    /// query over a view of these leaves, where each segment is known. The key's segment may be any, and is any afterwards.
     /// (`LRUQueryCache.get`, once for each leaf.)
     pub fn sets_for(
         &mut self,
-        query: &Query,
+        key: &mut Key,
         leaves: &[Leaf],
     ) -> Result<Vec<Option<Arc<DocSet>>>, AllocError>
         ensures sets { IfOk result (λ v. map (option_map arc_value) v.items
-            ≡ map (set_in self.old.cached (query_of query.now)) (segments_of leaves.now)) }
-        ensures used { OnOk result (self.new ≡ record self.old { cached = used_in (query_of query.now) (segments_of leaves.now) self.old.cached }) }
-        ensures err { OnErr result (self.new ≡ record self.old { cached = self.new.cached }) }
-        ensures err_used { OnErr result (IsUsedInPart (query_of query.now) (segments_of leaves.now) self.old.cached self.new.cached) }
-
-        ensures lent { IfOk result (λ v. All (Knows self.old) (segments_of leaves.now) → AreSets (query_of query.now) leaves.now v.items) }
+            ≡ map (set_in self.old.cached (query_of key.old.query)) (segments_of leaves.now)) }
+        ensures used { self.new ≡ record self.old { cached = used_in (query_of key.old.query) (segments_of leaves.now) self.old.cached } }
+        ensures query { key.new.query ≡ key.old.query }
+        ensures lent { IfOk result (λ v. All (Knows self.old) (segments_of leaves.now) → AreSets (query_of key.old.query) leaves.now v.items) }
         ensures known { Remembers self.old self.new }
         ensures below { RemembersBelow self.old self.new }
     {
-        sets_under(self.alloc, &mut self.cache, query, leaves)
+        sets_under(self.alloc, &mut self.cache, key, leaves)
     }
 
     /// One step of warming, where the leaves are those of the current segments.
@@ -190,13 +179,14 @@ impl Filters {
         }
     }
 
-    /// Gives up the set in the making where it is over one of these segments, as when their merge is done. It takes no memory.
-    pub fn forget_among(&mut self, leaves: &[Leaf])
-        ensures value { self.new ≡ without (λ n. list_any (λ l. l.segment.number == n) leaves.now) self.old }
+    /// Gives up the set in the making where it is over none of these segments, as when its segment was merged away. It takes
+    /// no memory. (Lucene: `LRUQueryCache.clearCoreCacheKey`, as a segment's core is closed.)
+    pub fn keep_among(&mut self, leaves: &[Leaf])
+        ensures value { self.new ≡ without (λ n. not (list_any (λ l. l.segment.number == n) leaves.now)) self.old }
         ensures known { Remembers self.old self.new }
         ensures below { RemembersBelow self.old self.new }
     {
-        if self.is_making_among(leaves) {
+        if !self.is_making_among(leaves) {
             self.warming = None;
         }
     }

@@ -6,5 +6,5 @@ mod looks;
 mod making;
 mod news;
 
-pub use filters::{Filters, Noted};
+pub use filters::Filters;
 pub use news::WarmNews;

@@ -1,14 +1,14 @@
 //! Sets that are looked up for the segments of a view.
-ghost use Rattle.std.specs.Prelude.{◌≡◌, map, None, option_map, replicate, IfOk, OnErr, OnOk};
+ghost use Rattle.std.specs.Prelude.{◌≡◌, [], ◌∷◌, ◌++◌, map, None, option_map, replicate, IfOk, MatchResult};
 ghost use Rattle.std.specs.Arc.{arc_value};
 ghost use Rattle.std.specs.Map.{lookup};
 ghost use Rattle.cat_cache.specs.Cached.{key_of, same_key, used};
 ghost use Rattle.cat_query.specs.View.{query_of};
-ghost use Rattle.cat_filters.specs.Filters.{IsUsedInPart, set_in, used_in};
+ghost use Rattle.cat_filters.specs.Filters.{set_in, used_in};
 ghost use Rattle.cat_model.specs.View.{segments_of};
 
 use cat_cache::{FilterCache, Key};
-use cat_query::{DocSet, Query};
+use cat_query::DocSet;
 use cat_search::Leaf;
 use std::alloc::{AllocError, Global};
 use std::sync::Arc;
@@ -36,30 +36,40 @@ fn no_sets(alloc: Global, count: usize) -> Result<Vec<Option<Arc<DocSet>>>, Allo
     Ok(sets)
 }
 
-/// The sets of the query that stand for the segments of the leaves, in order, each of which is the last used from its look
-/// on. An error leaves the uses of the leaves that were looked at.
+/// The sets with one more, where there was memory for all of them.
+fn with_last(
+    sets: Result<Vec<Option<Arc<DocSet>>>, AllocError>,
+    set: Result<Option<Arc<DocSet>>, AllocError>,
+) -> Result<Vec<Option<Arc<DocSet>>>, AllocError>
+    ensures { IfOk result (λ v. MatchResult sets
+        (λ old. MatchResult set (λ s. v.items ≡ old.items ++ s ∷ []) (λ e. ⊥)) (λ e. ⊥)) }
+{
+    let mut sets = sets?;
+    sets.push(set?)?;
+    Ok(sets)
+}
+
+/// The sets of the key's query that stand for the segments of the leaves, in order, each of which is the last used from its
+/// look on, also where memory is wanting for the answer. The key may name any segment.
 pub(crate) fn sets_under(
     alloc: Global,
     cache: &mut FilterCache,
-    query: &Query,
+    key: &mut Key,
     leaves: &[Leaf],
 ) -> Result<Vec<Option<Arc<DocSet>>>, AllocError>
-    ensures sets { IfOk result (λ v. map (option_map arc_value) v.items ≡ map (set_in cache.old (query_of query.now)) (segments_of leaves.now)) }
-    ensures used { OnOk result (cache.new ≡ used_in (query_of query.now) (segments_of leaves.now) cache.old) }
-    ensures err { OnErr result (IsUsedInPart (query_of query.now) (segments_of leaves.now) cache.old cache.new) }
+    ensures sets { IfOk result (λ v. map (option_map arc_value) v.items
+        ≡ map (set_in cache.old (query_of key.old.query)) (segments_of leaves.now)) }
+    ensures used { cache.new ≡ used_in (query_of key.old.query) (segments_of leaves.now) cache.old }
+    ensures query { key.new.query ≡ key.old.query }
 {
     // Each look hashes the query, also where there is nothing to find.
     if cache.len() == 0 {
         return no_sets(alloc, leaves.len());
     }
-    let mut sets = Vec::with_capacity(alloc, leaves.len())?;
-    let mut key = Key {
-        segment: 0,
-        query: query.copy()?,
-    };
+    let mut sets = Vec::with_capacity(alloc, leaves.len());
     for leaf in leaves {
         key.segment = leaf.segment().number();
-        sets.push(set_under(cache, &key)?)?;
+        sets = with_last(sets, set_under(cache, key));
     }
-    Ok(sets)
+    sets
 }

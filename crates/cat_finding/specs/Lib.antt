@@ -1,1 +1,2 @@
 pub mod Reads
+pub mod Uses

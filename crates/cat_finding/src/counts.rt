@@ -1,5 +1,5 @@
 //! FACETS: counts of the labels of the items that a query matches.
-ghost use Rattle.std.specs.Prelude.{◌≡◌, ◌≢◌, ℕ, All, Err, IfErr, IfOk, IfSome, MatchOption, None, Ok, OnErr, Result, option_map};
+ghost use Rattle.std.specs.Prelude.{◌≡◌, ◌≢◌, ℕ, All, Err, IfErr, IfOk, IfSome, MatchOption, None, Ok, OnErr, OnOk, Result, option_map};
 ghost use Rattle.cat_base.specs.declared.refusal.Refusal.{Refusal};
 ghost use Rattle.cat_base.specs.declared.refusal.Refusal.TheVariants.{Memory, NotHeld, Query as NoQuery};
 ghost use Rattle.cat_model.specs.Answer.{Found, Read, is_facet_kind};
@@ -15,6 +15,7 @@ ghost use Rattle.cat_facets.specs.Kept.{KnowsIn, RemembersOf, RemembersOfBelow};
 ghost use Rattle.cat_ledger_lines.specs.ReadLaws.{Finds};
 ghost use Rattle.cat_replies.specs.Reply.{reply_of};
 ghost use Rattle.cat_finding.specs.Reads.{GivesDue, MayTell};
+ghost use Rattle.cat_finding.specs.Uses.{NotesSpelled, Uses, UsesAndNotes, UsesSpelled};
 
 use crate::asking::read_query;
 use crate::preparing::prepare;
@@ -48,7 +49,8 @@ fn judge(view: &View, dimension: &str, count: u64) -> Result<(), Refusal>
     Ok(())
 }
 
-/// The counts over the live rows of the view that the query matches. The query is noted where they are told.
+/// The counts over the live rows of the view that the query matches. The sets that are at hand for the query are used, also
+/// where the counts are refused; the query is noted where they are told.
 fn counts_of(
     alloc: Global,
     view: &View,
@@ -62,15 +64,20 @@ fn counts_of(
     requires kept { All (KnowsIn states.old) (segments_of view.now.leaves) }
     ensures ok { IfOk result (λ f. Finds view.now (Read.facets dimension.now count (Ok (query_of query))) (Ok (Found.facets f))) }
     ensures err { IfErr result (λ e. e ≢ Memory → Finds view.now (Read.facets dimension.now count (Ok (query_of query))) (Err e)) }
+    ensures due { GivesDue view.now (Read.facets dimension.now count (Ok (query_of query))) result }
+    ensures noted { OnOk result (UsesAndNotes (query_of query) view.now filters.old filters.new) }
+    ensures used { OnErr result (Uses (query_of query) view.now filters.old filters.new) }
     ensures known { Remembers filters.old filters.new }
     ensures below { RemembersBelow filters.old filters.new }
-    ensures refused { OnErr result (filters.new ≡ record filters.old { cached = filters.new.cached }) }
     ensures kept { RemembersOf (segments_of view.now.leaves) states.old states.new }
     ensures kept_below { RemembersOfBelow (segments_of view.now.leaves) states.old states.new }
 {
-    let prepared = prepare(filters, view, query)?;
+    let prepared = prepare(filters, view, query);
+    // What is due without the query is told before the want of memory.
+    judge(view, dimension, count)?;
+    let prepared = prepared?;
     let facets = states.counts(alloc, &prepared, dimension, count)?;
-    filters.note(prepared.query());
+    filters.note(prepared.into_query());
     Ok(facets)
 }
 
@@ -83,8 +90,9 @@ fn counts_of(
 /// [`Refusal::Count`] where more counts are asked for than [`MAX_PAGE`]. Where none of these is so, [`Refusal::Memory`] may
 /// come instead of the counts, also where the view has 2^32 labels or more: it hides no other refusal.
 ///
-/// The sets that are at hand are lent to the query, which is noted where counts are told; so is the kept state of the view's
-/// segments, or it is made and kept.
+/// The sets that are at hand are lent to the query; so is the kept state of the view's segments, or it is made and kept. The
+/// sets count as used from where the text spells a query and the view is held, also where the counts are refused after that;
+/// but for want of memory, which may leave all as it was. The query is noted where counts are told.
 pub fn count_facets(
     alloc: Global,
     schema: &Schema,
@@ -103,9 +111,11 @@ pub fn count_facets(
     ensures unheld { right.entry ≡ None → ((place : ℕ) → Fault schema.now text.now place → ⊥) → result ≡ Err NotHeld }
     ensures due { IfSome right.entry (λ h. (q : model.Query) → Spells schema.now text.now q
         → GivesDue h.now.view (Read.facets dimension.now count (Ok q)) result) }
+    ensures noted { OnOk result (IfSome right.entry (λ h. NotesSpelled schema.now text.now h.now.view filters.old filters.new)) }
+    ensures used { OnErr result (MatchOption right.entry (filters.new ≡ filters.old)
+        (λ h. UsesSpelled schema.now text.now h.now.view filters.old filters.new)) }
     ensures known { Remembers filters.old filters.new }
     ensures below { RemembersBelow filters.old filters.new }
-    ensures refused { OnErr result (filters.new ≡ record filters.old { cached = filters.new.cached }) }
     ensures kept { MatchOption right.entry (states.new ≡ states.old)
         (λ h. RemembersOf (segments_of h.now.view.leaves) states.old states.new) }
     ensures kept_below { MatchOption right.entry (states.new ≡ states.old)
@@ -116,9 +126,8 @@ pub fn count_facets(
         return Err(Refusal::NotHeld);
     };
     let view = hold.view();
-    // What is due without the query is told before the want of memory.
-    judge(view, dimension, count)?;
     let Some(query) = query else {
+        judge(view, dimension, count)?;
         return Err(Refusal::Memory);
     };
     let facets = counts_of(alloc, view, filters, states, dimension, count, query)?;

@@ -1,5 +1,5 @@
 //! FIND: pages of the items that a query matches.
-ghost use Rattle.std.specs.Prelude.{◌≡◌, ◌≢◌, ℕ, All, Err, IfErr, IfOk, IfSome, None, Ok, OnErr, Result, option_map};
+ghost use Rattle.std.specs.Prelude.{◌≡◌, ◌≢◌, ℕ, All, Err, IfErr, IfOk, IfSome, MatchOption, None, Ok, OnErr, OnOk, Result, option_map};
 ghost use Rattle.cat_base.specs.declared.refusal.Refusal.{Refusal};
 ghost use Rattle.cat_base.specs.declared.refusal.Refusal.TheVariants.{Memory, NotHeld, Query as NoQuery};
 ghost use Rattle.cat_model.specs.Answer.{Found, Read, can_sort, is_sort_kind};
@@ -16,6 +16,7 @@ ghost use Rattle.cat_filters.specs.Known.{Knows, Remembers, RemembersBelow};
 ghost use Rattle.cat_ledger_lines.specs.ReadLaws.{Finds};
 ghost use Rattle.cat_replies.specs.Reply.{reply_of};
 ghost use Rattle.cat_finding.specs.Reads.{GivesDue, MayTell};
+ghost use Rattle.cat_finding.specs.Uses.{NotesSpelled, Uses, UsesAndNotes, UsesSpelled};
 
 use crate::asking::read_query;
 use crate::marks::is_shown;
@@ -63,7 +64,8 @@ fn judge(view: &View, ask: Ask<'_>) -> Result<(), Refusal>
     }
 }
 
-/// The page of the live rows of the view that the query matches. The query is noted where it is told.
+/// The page of the live rows of the view that the query matches. The sets that are at hand for the query are used, also where
+/// the page is refused; the query is noted where the page is told.
 fn page_of(
     alloc: Global,
     view: &View,
@@ -74,13 +76,18 @@ fn page_of(
     requires { All (Knows filters.old) (segments_of view.now.leaves) }
     ensures ok { IfOk result (λ p. Finds view.now (read_of ask.entry (query_of query)) (Ok (Found.page p))) }
     ensures err { IfErr result (λ e. e ≢ Memory → Finds view.now (read_of ask.entry (query_of query)) (Err e)) }
+    ensures due { GivesDue view.now (read_of ask.entry (query_of query)) result }
+    ensures noted { OnOk result (UsesAndNotes (query_of query) view.now filters.old filters.new) }
+    ensures used { OnErr result (Uses (query_of query) view.now filters.old filters.new) }
     ensures known { Remembers filters.old filters.new }
     ensures below { RemembersBelow filters.old filters.new }
-    ensures refused { OnErr result (filters.new ≡ record filters.old { cached = filters.new.cached }) }
 {
-    let prepared = prepare(filters, view, query)?;
+    let prepared = prepare(filters, view, query);
+    // What is due without the query is told before the want of memory.
+    judge(view, ask)?;
+    let prepared = prepared?;
     let page = prepared.page(alloc, ask)?;
-    filters.note(prepared.query());
+    filters.note(prepared.into_query());
     Ok(page)
 }
 
@@ -92,7 +99,9 @@ fn page_of(
 /// where one can't sort by the field, [`Refusal::Mark`] where the mark is the number of no live row of the view. Where none
 /// of these is so, [`Refusal::Memory`] may come instead of the page: it hides no other refusal.
 ///
-/// The sets that are at hand are lent to the query, which is noted where the page is told.
+/// The sets that are at hand are lent to the query. They count as used from where the text spells a query and the view is
+/// held, also where the page is refused after that; but for want of memory, which may leave all as it was. The query is noted
+/// where the page is told.
 pub fn find(
     alloc: Global,
     schema: &Schema,
@@ -107,18 +116,19 @@ pub fn find(
     ensures fault { (place : ℕ) → Fault schema.now text.now place → result ≡ Err (NoQuery place) }
     ensures unheld { right.entry ≡ None → ((place : ℕ) → Fault schema.now text.now place → ⊥) → result ≡ Err NotHeld }
     ensures due { IfSome right.entry (λ h. (q : model.Query) → Spells schema.now text.now q → GivesDue h.now.view (read_of ask.entry q) result) }
+    ensures noted { OnOk result (IfSome right.entry (λ h. NotesSpelled schema.now text.now h.now.view filters.old filters.new)) }
+    ensures used { OnErr result (MatchOption right.entry (filters.new ≡ filters.old)
+        (λ h. UsesSpelled schema.now text.now h.now.view filters.old filters.new)) }
     ensures known { Remembers filters.old filters.new }
     ensures below { RemembersBelow filters.old filters.new }
-    ensures refused { OnErr result (filters.new ≡ record filters.old { cached = filters.new.cached }) }
 {
     let query = read_query(alloc, schema, text)?;
     let Some(hold) = right else {
         return Err(Refusal::NotHeld);
     };
     let view = hold.view();
-    // What is due without the query is told before the want of memory.
-    judge(view, ask)?;
     let Some(query) = query else {
+        judge(view, ask)?;
         return Err(Refusal::Memory);
     };
     let page = page_of(alloc, view, filters, ask, query)?;

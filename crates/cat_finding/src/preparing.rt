@@ -1,15 +1,18 @@
 //! A query made ready for a view, with the sets that are at hand.
 ghost use Rattle.std.specs.Prelude.{◌≡◌, All, IfOk};
 ghost use Rattle.cat_model.specs.View.{segments_of};
+ghost use Rattle.cat_query.specs.View.{query_of};
 ghost use Rattle.cat_filters.specs.Known.{Knows, Remembers, RemembersBelow};
+ghost use Rattle.cat_finding.specs.Uses.{Uses};
 
+use cat_cache::Key;
 use cat_filters::Filters;
 use cat_query::Query;
 use cat_search::{Prepared, View};
 use std::alloc::AllocError;
 
-/// The query, to be put to the view, with the sets that are cached for the view's segments. (Lucene: what `IndexSearcher`
-/// asks its `LRUQueryCache` for.) It notes nothing.
+/// The query, to be put to the view, with the sets that are cached for the view's segments, which are the last used from now
+/// on, also where memory is wanting. (Lucene: what `IndexSearcher` asks its `LRUQueryCache` for.) It notes nothing.
 pub(crate) fn prepare(
     filters: &mut Filters,
     view: &View,
@@ -17,10 +20,12 @@ pub(crate) fn prepare(
 ) -> Result<Prepared, AllocError>
     requires { All (Knows filters.old) (segments_of view.now.leaves) }
     ensures ok { IfOk result (λ p. p ≡ record { view = view.now; query = query }) }
+    ensures used { Uses (query_of query) view.now filters.old filters.new }
     ensures known { Remembers filters.old filters.new }
     ensures below { RemembersBelow filters.old filters.new }
-    ensures rest { filters.new ≡ record filters.old { cached = filters.new.cached } }
 {
-    let sets = filters.sets_for(&query, view.leaves())?;
-    Prepared::with(view, query, sets)
+    // Which segment the key names first doesn't matter.
+    let mut key = Key { segment: 0, query };
+    let sets = filters.sets_for(&mut key, view.leaves())?;
+    Prepared::with(view, key.query, sets)
 }

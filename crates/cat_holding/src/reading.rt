@@ -1,11 +1,14 @@
 //! The command that reads a stored item under a right to a view.
 //!
 //! Lucene's `StoredFields.document`, over a reader that `SearcherLifetimeManager.acquire` gave.
-ghost use Rattle.std.specs.Prelude.{◌≡◌, ◌⊎◌, ℕ, Err, IfErr, List, Ok, false, true};
+ghost use Rattle.std.specs.Prelude.{◌≡◌, ◌⊎◌, ℕ, Err, IfErr, IfOk, List, Ok, Option, false, true};
 ghost use Rattle.cat_base.specs.declared.refusal.Refusal.TheVariants.{Damaged, Device, Memory, NotHeld};
+ghost use Rattle.cat_model.specs.Answer.{Found, HasNoLineFeed};
 ghost use Rattle.cat_model.specs.Heard.{id_of};
 ghost use Rattle.cat_model.specs.Lines.{Said};
+ghost use Rattle.cat_model.specs.Run as run;
 ghost use Rattle.cat_model.specs.State.{has_hold};
+ghost use Rattle.cat_model.specs.Text.{Text};
 ghost use Rattle.cat_model.specs.View.{View};
 ghost use Rattle.cat_directory.specs.declared.name.FileName.{FileName};
 ghost use Rattle.cat_search.specs.Sources.{HoldsSource, TellsSource};
@@ -13,7 +16,7 @@ ghost use Rattle.cat_ledger_lines.specs.ReadLaws.{IsRecordedAs};
 ghost use Rattle.cat_ledger.specs.Answering.{AnswersSaid};
 ghost use Rattle.cat_ledger.specs.Histories.{Event, Goes};
 ghost use Rattle.cat_ledger.specs.Ledgers.{device_in, policy_in, shape_in};
-ghost use Rattle.cat_replies.specs.Reply.{reply_of};
+ghost use Rattle.cat_replies.specs.Reply.{answer_of, reply_of};
 ghost use Rattle.cat_holding.specs.Holding.{AreRights};
 
 use cat_base::{Refusal, SessionNo, Token};
@@ -27,8 +30,9 @@ use cat_schema::id_ok;
 /// (Lucene: `StoredFields.document`.)
 ///
 /// The first of these that is so is the refusal: [`Refusal::Id`] where the id has the wrong form, [`Refusal::NotHeld`] where
-/// the session doesn't hold the token; [`Refusal::Damaged`] where the file with the bytes is absent, or ends before they do;
-/// [`Refusal::Device`] where the directory fails; else [`Refusal::Memory`]. The ledger stays as it is in each case.
+/// the session doesn't hold the token; [`Refusal::Damaged`] where the file with the bytes is absent, ends before they do, or has
+/// a line feed in them; [`Refusal::Device`] where the directory fails; else [`Refusal::Memory`]. So no bytes that are told go
+/// beyond their line. The ledger stays as it is in each case.
 pub fn get<D: Directory + Shelf>(
     ledger: &mut Ledger<D>,
     rights: &Rights,
@@ -42,6 +46,7 @@ pub fn get<D: Directory + Shelf>(
     ensures due { id_of id.now ≡ Ok id.now → has_hold (shape_in ledger.old).holds session token ≡ false → result ≡ Err NotHeld }
     ensures refusal { id_of id.now ≡ Ok id.now → has_hold (shape_in ledger.old).holds session token ≡ true
         → IfErr result (λ e. (e ≡ Memory) ⊎ (e ≡ Device) ⊎ (e ≡ Damaged)) }
+    ensures one_line { IfOk result (λ a. (source : Option Text) × (answer_of a ≡ run.Answer.found (Found.source source)) × HasNoLineFeed source) }
     ensures damaged { IfErr result (λ e. e ≡ Damaged → (view : View) → IsRecordedAs (shape_in ledger.old).views token view
         → (files : ℕ → List ℕ) → TellsSource (D.bytes (device_in ledger.old)) files view id.now → HoldsSource files view id.now → ⊥) }
     ensures device { IfErr result (λ e. e ≡ Device → D.can_fail (device_in ledger.old)) }

@@ -1,5 +1,6 @@
 -- What maintenance tells of a ledger, when it is refused, and which files it spares.
-use Rattle.std.specs.Prelude.{ℕ, ◌≡◌, ◌≢◌, ◌⊎◌, ◌<◌, ◌≤◌, ◌==◌, None, Option, length, map, count_by}
+use Rattle.std.specs.Prelude.{ℕ, ◌≡◌, ◌≢◌, ◌⊎◌, ◌<◌, ◌≤◌, ◌==◌, Bool, not, None, Option, length, map, count_by}
+use Rattle.std.specs.List.{list_any}
 use Rattle.cat_base.specs.declared.refusal.Refusal.{Refusal}
 use Rattle.cat_base.specs.declared.refusal.Refusal.TheVariants.{Damaged, Device, Memory, Spent}
 use Rattle.cat_model.specs.Limits.{last_number}
@@ -8,7 +9,7 @@ use Rattle.cat_model.specs.View.{Leaf, segments_of}
 use Rattle.cat_directory.specs.Devices.{FileContent, NoMore}
 use Rattle.cat_directory.specs.Names.{name_of}
 use Rattle.cat_directory.specs.declared.name.FileName.{FileName}
-use Rattle.cat_filters.specs.Filters.{Filters}
+use Rattle.cat_filters.specs.Filters.{Filters, without}
 use Rattle.cat_filters.specs.Steps.{IsStep}
 use Rattle.cat_filters.specs.declared.news.WarmNews.{WarmNews}
 use Rattle.cat_ledger_model.specs.Ledger.{IsNew}
@@ -76,6 +77,18 @@ pub record IsWarmTold (s : Shape) (old new : Filters) (a : run.Answer) : Type 0 
   pub news : WarmNews
   pub told : a ≡ run.Answer.news (warm_told news)
   pub step : IsStep old (segments_of s.leaves) new news
+
+-- ---- what is left of the sets that are kept beside it
+
+-- a segment of the list has the number
+abbrev pub is_listed : Shape → ℕ → Bool
+is_listed s n = list_any (λ l. l.segment.number == n) s.leaves
+
+-- A MERGE gives up the set in the making where its segment isn't in the list that is left, as when the merge that took it is done. Other
+-- maintenance leaves the sets as they are.
+abbrev pub sets_left : Chore → Shape → Filters → Filters
+sets_left Merge s f = without (λ n. not (is_listed s n)) f
+sets_left _ s f = f
 
 -- ---- when it is refused
 

@@ -5,11 +5,13 @@ ghost use Rattle.std.specs.Prelude.{◌≡◌, ◌≢◌, ◌⊎◌, IfOk, IfErr
 ghost use Rattle.cat_base.specs.declared.refusal.Refusal.TheVariants.{Device, Line as NoForm, Memory};
 ghost use Rattle.cat_model.specs.Lines.{Said};
 ghost use Rattle.cat_model.specs.Run as run;
+ghost use Rattle.cat_filters.specs.Known.{Remembers, RemembersBelow};
+ghost use Rattle.cat_ledger_core.specs.Cores.{HasRowsLeft};
 ghost use Rattle.cat_ledger.specs.Answering.{Answers, AnswersSaid};
 ghost use Rattle.cat_ledger.specs.Histories.{Event, Goes};
-ghost use Rattle.cat_ledger.specs.Ledgers.{device_in, policy_in, shape_in};
+ghost use Rattle.cat_ledger.specs.Ledgers.{Spares, device_in, policy_in, shape_in};
 ghost use Rattle.cat_replies.specs.Reply.{answer_of, reply_of};
-ghost use Rattle.cat_keeping.specs.Chores.{FailsFor, MayRefuse, SparesUsed, Tells, chore_of, pending_in};
+ghost use Rattle.cat_keeping.specs.Chores.{FailsFor, MayRefuse, MayRefuseMerge, SparesUsed, Tells, chore_of, pending_in, sets_left};
 
 use crate::merging::{force, merge_step};
 use crate::stats::tell_stat;
@@ -20,7 +22,7 @@ use cat_ledger::Ledger;
 use cat_replies::{Answer, News};
 use std::alloc::Global;
 
-/// A command of maintenance that leaves the cached sets as they are; [`warm`](crate::warm) is the one that makes some.
+/// A command of maintenance that makes no cached set; [`warm`](crate::warm) is the one that does.
 #[derive(Clone, Copy, Debug, PartialEq, Eq)]
 pub enum Chore {
     /// A step of the merge that the policy picks (Lucene: `IndexWriter.maybeMerge`).
@@ -31,6 +33,28 @@ pub enum Chore {
     Sweep,
     /// How the service stands (Lucene: `IndexWriter.getDocStats`).
     Stat,
+}
+
+/// Answers a MERGE of session 0. Once a merge is done, the set in the making over a segment that it took is given up.
+fn merge<D: Directory + Shelf>(
+    ledger: &mut Ledger<D>,
+    filters: &mut Filters,
+) -> Result<Answer, Refusal>
+    ensures answers { Answers D.bytes 0 (run.Command.chore run.Chore.merge) ledger.old (reply_of result) ledger.new }
+    ensures refusal { IfErr result (MayRefuseMerge (policy_in ledger.old) (shape_in ledger.old)) }
+    ensures device { IfErr result (λ e. e ≡ Device → HasRowsLeft (shape_in ledger.old).merging ⊎ D.can_fail (device_in ledger.old)) }
+    ensures crash { Spares D.may_leave ledger.old ledger.new }
+    ensures can { D.can_fail (device_in ledger.new) → D.can_fail (device_in ledger.old) }
+    ensures history { Goes D.may_leave Event.Other ledger.old ledger.new }
+    ensures policy { policy_in ledger.new ≡ policy_in ledger.old }
+    ensures sets { filters.new ≡ sets_left Chore.Merge (shape_in ledger.new) filters.old }
+    ensures known { Remembers filters.old filters.new }
+    ensures below { RemembersBelow filters.old filters.new }
+{
+    let answer = merge_step(ledger);
+    // Only a merge that is done takes segments out of the list.
+    filters.keep_among(ledger.leaves());
+    answer
 }
 
 /// Answers a SWEEP of session 0.
@@ -54,32 +78,36 @@ fn sweep<D: Directory + Shelf>(ledger: &mut Ledger<D>) -> Result<Answer, Refusal
 ///
 /// [`Refusal::Line`] for any session but 0, which comes first and changes nothing. Of session 0:
 ///
-/// - A MERGE is refused as [`Ledger::merge_step`] is, and a FORCE as [`Ledger::force`] is.
+/// - A MERGE is refused as [`Ledger::merge_step`] is, and a FORCE as [`Ledger::force`] is. Once a merge is done, the set in
+///   the making over a segment that it took is given up: its segment is in the list no more. Nothing else changes these sets.
 /// - A SWEEP is refused with [`Refusal::Device`] where the directory fails: the file that it failed at and those behind it
 ///   still wait; or with [`Refusal::Memory`], with nothing done.
 /// - A STAT, which tells of these cached sets, is refused with [`Refusal::Memory`] alone.
 pub fn maintain<D: Directory + Shelf>(
     alloc: Global,
     ledger: &mut Ledger<D>,
-    filters: &Filters,
+    filters: &mut Filters,
     session: SessionNo,
     chore: Chore,
 ) -> Result<Answer, Refusal>
     ensures answers { AnswersSaid D.bytes session (Said.chore (chore_of chore)) ledger.old (reply_of result) ledger.new }
-    ensures foreign { session ≢ 0 → (result ≡ Err NoForm) × (ledger.new ≡ ledger.old) }
-    ensures told { IfOk result (λ a. Tells (length filters.now.cached) (shape_in ledger.old) chore (answer_of a)) }
+    ensures foreign { session ≢ 0 → (result ≡ Err NoForm) × (ledger.new ≡ ledger.old) × (filters.new ≡ filters.old) }
+    ensures told { IfOk result (λ a. Tells (length filters.old.cached) (shape_in ledger.old) chore (answer_of a)) }
     ensures refusal { session ≡ 0 → IfErr result (MayRefuse (policy_in ledger.old) (shape_in ledger.old) chore) }
     ensures device { IfErr result (λ e. e ≡ Device → FailsFor chore (shape_in ledger.old).merging (D.can_fail (device_in ledger.old))) }
     ensures crash { SparesUsed D.may_leave ledger.old ledger.new }
     ensures can { D.can_fail (device_in ledger.new) → D.can_fail (device_in ledger.old) }
     ensures history { Goes D.may_leave Event.Other ledger.old ledger.new }
     ensures policy { policy_in ledger.new ≡ policy_in ledger.old }
+    ensures sets { session ≡ 0 → filters.new ≡ sets_left chore (shape_in ledger.new) filters.old }
+    ensures known { Remembers filters.old filters.new }
+    ensures below { RemembersBelow filters.old filters.new }
 {
     if session != 0 {
         return Err(Refusal::Line);
     }
     match chore {
-        Chore::Merge => merge_step(ledger),
+        Chore::Merge => merge(ledger, filters),
         Chore::Force => force(ledger),
         Chore::Sweep => sweep(ledger),
         Chore::Stat => tell_stat(alloc, ledger, filters),

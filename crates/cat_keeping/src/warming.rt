@@ -37,8 +37,8 @@ fn news_told(news: WarmNews) -> News
 /// [`MAX_STEP_ROWS`](cat_base::MAX_STEP_ROWS) rows, and with the last of them the set stands in the cache. (Lucene:
 /// `LRUQueryCache.cacheImpl`, in one go.)
 ///
-/// A set that was begun goes on to its end also where a merge has taken its segment out of the list: numbers of segments aren't
-/// used again, so no other segment asks for it, and recorded views may still have that one.
+/// A set in the making is over a segment of the list: the end of a merge that takes its segment out gives it up (see
+/// [`maintain`](crate::maintain)).
 ///
 /// [`Refusal::Line`] for any session but 0, which comes first and changes nothing; else [`Refusal::Memory`] alone, after which the
 /// set in the making may have passed its last rows without being stored: the next step stores it. The ledger isn't changed.

@@ -5,7 +5,6 @@ mod commits;
 mod ledger;
 mod merges;
 mod opening;
-mod reading;
 mod room;
 mod sweeps;
 mod telling;

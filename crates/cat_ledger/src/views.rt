@@ -22,12 +22,11 @@ ghost use Rattle.cat_model.specs.Run.{is_full};
 ghost use Rattle.std.specs.List.{list_any};
 ghost use Rattle.cat_directory.specs.Names.{name_of};
 ghost use Rattle.cat_model.specs.View.{records_in};
-ghost use Rattle.cat_model.specs.Answer.{stored};
+ghost use Rattle.cat_model.specs.Answer.{HasNoLineFeed, stored};
 ghost use Rattle.cat_ledger_shape.specs.Steps.{tokens_of};
 ghost use Rattle.cat_ledger.specs.declared.views.Grant.{Grant};
 
 use crate::ledger::Ledger;
-use crate::reading::read_source;
 use crate::room::flush;
 use cat_base::{Refusal, SessionNo, Token};
 use cat_directory::{Directory, Shelf};
@@ -252,12 +251,13 @@ impl<D: Directory + Shelf> Ledger<D> {
     /// `StoredFields.document`.) It is what [`Hold::get`] answers on this ledger's directory, whose files stay as they are, also in
     /// a crash.
     ///
-    /// [`Refusal::Damaged`] if the file with the text is absent, or ends before the text does. [`Refusal::Device`] if the
-    /// directory fails; else [`Refusal::Memory`].
+    /// [`Refusal::Damaged`] if the file with the text is absent, ends before the text does, or has a line feed in it.
+    /// [`Refusal::Device`] if the directory fails; else [`Refusal::Memory`].
     pub fn source(&mut self, hold: &Hold, id: &str) -> Result<Option<Vec<u8>>, Refusal>
         ensures ok { IfOk result (λ found. (files : ℕ → List ℕ) → TellsSource (D.bytes (device_in self.old)) files hold.now.view id.now
             → option_map (λ bytes. bytes.items) found ≡ stored (records_in files hold.now.view) id.now) }
         ensures whole { IfOk result (λ found. option_map (λ bytes. length bytes.items) found ≡ stored_length hold.now.view id.now) }
+        ensures one_line { IfOk result (λ found. HasNoLineFeed (option_map (λ bytes. bytes.items) found)) }
         ensures none { stored_length hold.now.view id.now ≡ None → result ≡ Ok None }
         ensures damaged { IfErr result (λ e. e ≡ Damaged → (files : ℕ → List ℕ)
             → TellsSource (D.bytes (device_in self.old)) files hold.now.view id.now → HoldsSource files hold.now.view id.now → ⊥) }
@@ -270,6 +270,6 @@ impl<D: Directory + Shelf> Ledger<D> {
         ensures history { Goes D.may_leave Event.Other self.old self.new }
         ensures policy { policy_in self.new ≡ policy_in self.old }
     {
-        read_source(hold.view(), self.alloc, &mut self.device, id)
+        hold.get(self.alloc, &mut self.device, id)
     }
 }

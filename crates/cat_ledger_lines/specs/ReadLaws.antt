@@ -65,7 +65,7 @@ GetsAnswer =
     → has_hold s.holds session t ≡ true → IsRecordedAs s.views t view → IsTextOf told view id found → NothingChanges told s told' new
     → Answers policy told s (line_of session (Command.read t (Read.get (Ok id)))) (Ok (Answer.found (Found.source found))) told' new
 
--- Where the device tells the sources of a recorded view, each is as long as its row says: so no GET finds a file that is damaged.
+-- Where the device tells the sources of a recorded view, each is as long as its row says: so no GET finds a file that is too short.
 abbrev pub SourcesAreWhole : Type 0
 SourcesAreWhole =
     (told : ToldFiles) (s : Shape) (l : Ledger) (files : FileBytes) → Carries told s l files

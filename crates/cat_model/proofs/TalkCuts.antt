@@ -1,8 +1,8 @@
 -- A text is cut into replies in one way.
 use Rattle.std.proofs.Common.{◌≡◌, List, [], ◌∷◌, ◌++◌, map, refl, sym, ◌∙◌, ap, subst, append_assoc}
 use Rattle.std.specs.List.{flat_map, AllByRecursion}
-use Rattle.cat_model.specs.Text.{Text}
-use Rattle.cat_model.specs.Talk.{Pair, IsOneLine, BeginsReply, IsReply}
+use Rattle.cat_model.specs.Text.{Text, IsOneLine}
+use Rattle.cat_model.specs.Talk.{Pair, BeginsReply, IsReply}
 
 -- two lines that stand before a line feed
 pub same_line : (a b r q : Text) → IsOneLine a → IsOneLine b → a ++ 10 ∷ r ≡ b ++ 10 ∷ q → (a ≡ b) × (r ≡ q)

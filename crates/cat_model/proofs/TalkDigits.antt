@@ -4,7 +4,7 @@ use Rattle.std.specs.Prelude.{pos, negsuc, zero, true, false, cond, ◌==◌, �
 use Rattle.std.specs.List.{AllByRecursion}
 use Rattle.std.specs.Fmt.{decimal, signed_decimal, digits, digits_onto, digit_glyph}
 use Rattle.std.proofs.lemmas.Bool.Decides.{nat_tests}
-use Rattle.cat_model.specs.Talk.{IsOneLine}
+use Rattle.cat_model.specs.Text.{IsOneLine}
 use Rattle.cat_model.proofs.Lists.{All-weaken}
 
 -- a byte from 0 to 9

@@ -4,9 +4,8 @@ use Rattle.std.specs.Prelude.{zero, true, false, cond}
 use Rattle.std.specs.List.{AllByRecursion}
 use Rattle.std.specs.Io.BufRead.{strip_last, ends_with_byte}
 use Rattle.std.proofs.lemmas.Bool.Decides.{eqb_tells}
-use Rattle.cat_model.specs.Text.{Text}
+use Rattle.cat_model.specs.Text.{Text, IsOneLine}
 use Rattle.cat_model.specs.Input.{ended_after, rest_after, last_line, ended_lines, lines_of}
-use Rattle.cat_model.specs.Talk.{IsOneLine}
 use Rattle.cat_model.proofs.Lists.{All-both}
 
 taken : (n : ℕ) (xs : Text) → IsOneLine xs → IsOneLine (take n xs)

@@ -136,7 +136,7 @@ whole_talk json opens talk reads opened o =
     let t = o.is_talk in
     let s = served json opens o.input o.output o.lines o.answering in
     let answered = subst (λ ls. Rattle.cat_model.specs.Served.Answered (Rattle.cat_model.specs.Served.IsServed json opens) ls o.output) t.read s.0 in
-    let lines = subst (AllByRecursion Rattle.cat_model.specs.Talk.IsOneLine) t.read s.1 in
+    let lines = subst (AllByRecursion Rattle.cat_model.specs.Text.IsOneLine) t.read s.1 in
     whole_of json opens reads opened t.first (map (λ p. p.line) talk) o.output lines.1 answered talk (record { first = t.first; opening = t.opening; one_line = t.one_line; read = refl; replies = t.replies; written = t.written })
 
 pub talks_agree : (json : Json) (opens₁ opens₂ : Opening) → ReadsLines json → OpensShown json opens₁ → OpensShown json opens₂ → TalksAgree json opens₁ opens₂ (OpenAlike json opens₁ opens₂)

@@ -7,12 +7,12 @@ use Rattle.std.specs.Fmt.{decimal}
 use Rattle.cat_base.specs.declared.refusal.Refusal.{Refusal}
 use Rattle.cat_base.specs.declared.refusal.Refusal.TheVariants as refusal
 use Rattle.cat_base.specs.Refusals.{number_of}
-use Rattle.cat_model.specs.Text.{Text}
+use Rattle.cat_model.specs.Text.{Text, IsOneLine}
 use Rattle.cat_model.specs.Page.{Key}
 use Rattle.cat_model.specs.Answer.{Found}
 use Rattle.cat_model.specs.Lines.{spaced, key_text, source_text, news_words, answer_words, entry_words, counted_words, segment_words, further, refusal_words, line_text, reply_text, unreadable_text}
 use Rattle.cat_model.specs.Run.{Answer, News, SegmentStat, Reply}
-use Rattle.cat_model.specs.Talk.{IsOneLine, BeginsReply, IsReply}
+use Rattle.cat_model.specs.Talk.{BeginsReply, IsReply}
 use Rattle.cat_model.proofs.Lists.{All-both, All-weaken}
 use Rattle.cat_model.proofs.TalkCuts.{ended}
 use Rattle.cat_model.proofs.TalkHeard.{spaced_head}

@@ -9,7 +9,7 @@ use Rattle.cat_base.specs.declared.refusal.Refusal.TheVariants.{Count, SortField
 use Rattle.std.proofs.lemmas.List.Elements.{All-from_recursion, recursion_from_All}
 use Rattle.std.proofs.lemmas.Map.Views.{All-insert_key}
 use Rattle.cat_base.specs.Texts.{sorted_set}
-use Rattle.cat_model.specs.Text.{Text, same_text, text_cmp}
+use Rattle.cat_model.specs.Text.{Text, same_text, text_cmp, IsOneLine}
 use Rattle.cat_model.specs.Item.{Item, Schema, Content, FieldContent, Record, kind_of, content_of, labels_in}
 use Rattle.cat_model.specs.Write.{Write}
 use Rattle.cat_model.specs.Query.{Query}
@@ -24,7 +24,7 @@ use Rattle.cat_model.specs.Run.{Chore, Command, News, may_tell, Answer, Reply, R
 use Rattle.cat_model.specs.Lines.{Said}
 use Rattle.cat_model.specs.Heard.{Json, IsCommand, id_of, commit_text_of}
 use Rattle.cat_model.specs.Served.{NamesFiles}
-use Rattle.cat_model.specs.Talk.{IsOneLine, HasOneLines, IsShownInLines}
+use Rattle.cat_model.specs.Talk.{HasOneLines, IsShownInLines}
 use Rattle.cat_model.proofs.Lists.{All-both, All-kept}
 use Rattle.cat_model.proofs.Runs.{answered}
 use Rattle.cat_model.proofs.TalkDigits.{decimal_one_line, decimal_one_word}

@@ -5,7 +5,7 @@ use Rattle.cat_base.specs.declared.refusal.Refusal.{Refusal}
 use Rattle.std.specs.List.{flat_map, cons_option, AllByRecursion}
 use Rattle.std.specs.Fmt.{decimal}
 use Rattle.std.proofs.lemmas.List.{append_cancel_right}
-use Rattle.cat_model.specs.Text.{Text}
+use Rattle.cat_model.specs.Text.{Text, IsOneLine}
 use Rattle.cat_model.specs.Item.{Schema, IsSchema}
 use Rattle.cat_model.specs.Write.{Write}
 use Rattle.cat_model.specs.Table.{Opened, CommitText}
@@ -14,7 +14,7 @@ use Rattle.cat_model.specs.Run.{Command, Answer, Reply, Exchange, Run, accepted,
 use Rattle.cat_model.specs.Heard.{Json, Hears, IsCommand, commit_text_of}
 use Rattle.cat_model.specs.Input.{lines_of, ended_lines}
 use Rattle.cat_model.specs.Served.{Opening, Begins, Outcome, heard, exchange, outcome_text, NamesFiles, TellsFiles, IsServed, Answered}
-use Rattle.cat_model.specs.Talk.{Pair, IsOneLine, IsReply, IsTalk, Answering, ReadsLines, HasShownText, IsShownOpened, AnswersAreTalks}
+use Rattle.cat_model.specs.Talk.{Pair, IsReply, IsTalk, Answering, ReadsLines, HasShownText, IsShownOpened, AnswersAreTalks}
 use Rattle.cat_model.proofs.TalkOpenings.{OpensShown}
 use Rattle.cat_model.proofs.Lists.{All-both}
 use Rattle.cat_model.proofs.Runs.{writes-push}

@@ -4,7 +4,7 @@ use Rattle.std.specs.Prelude.{ℕ, Bool, true, false, ltb, List, find as first_w
 use Rattle.std.specs.List.{list_any}
 use Rattle.cat_base.specs.declared.refusal.Refusal.{Refusal}
 use Rattle.cat_base.specs.declared.refusal.Refusal.TheVariants.{Count, SortField, NotFacet, Mark}
-use Rattle.cat_model.specs.Text.{Text, same_text}
+use Rattle.cat_model.specs.Text.{Text, IsOneLine, same_text}
 use Rattle.cat_model.specs.Item.{Schema, Kind, kind_of, Record}
 use Rattle.cat_model.specs.Query.{Query}
 use Rattle.cat_model.specs.Page.{Sort, Page, page_of}
@@ -26,6 +26,11 @@ pub data Found : Type 0 where
 -- the source of the record of this id, if there is one
 abbrev pub stored : List Record → Text → Option Text
 stored rs id = option_map (λ r. r.item.source) (first_where (λ r. same_text r.item.id id) rs)
+
+-- the source, if there is one, has no line feed
+abbrev pub HasNoLineFeed : Option Text → Type 0
+HasNoLineFeed None = Unit {0}
+HasNoLineFeed (Some text) = IsOneLine text
 
 -- one sorts by keywords and numbers
 abbrev pub is_sort_kind : Option Kind → Bool

@@ -10,6 +10,7 @@ use Rattle.cat_model.specs.Item.{Schema}
 use Rattle.cat_model.specs.Table.{Opened}
 use Rattle.cat_model.specs.Limits.{least_factor, greatest_factor, least_minimum, greatest_minimum}
 use Rattle.cat_model.specs.Files.{Name, IsFileName, text_of_name}
+use Rattle.cat_model.specs.Answer.{Found, HasNoLineFeed}
 use Rattle.cat_model.specs.Run.{Answer, Reply, Exchange, IsRun}
 use Rattle.cat_model.specs.Lines.{spaced, IsReadable, reply_text, refusal_words, line_text, unreadable_text}
 use Rattle.cat_model.specs.Heard.{Json, Heard, Hears}
@@ -66,9 +67,11 @@ abbrev pub outcome_text : Outcome → Text
 outcome_text Outcome.unreadable = unreadable_text
 outcome_text (Outcome.replied e) = reply_text e.line.session e.reply
 
--- The names that are told are those of files. Which files a FILES has to tell is said where files are.
+-- The names that are told are those of files, and the source that is told has no line feed: so neither can be taken for a reply.
+-- Which files a FILES has to tell is said where files are.
 abbrev pub NamesFiles : Reply → Type 0
 NamesFiles (Ok (Answer.names texts)) = (names : List Name) × AllByRecursion IsFileName names × (texts ≡ map text_of_name names)
+NamesFiles (Ok (Answer.found (Found.source stored))) = HasNoLineFeed stored
 NamesFiles _ = Unit {0}
 
 -- and so it is with what was told to a line

@@ -3,7 +3,7 @@
 use Rattle.std.specs.Prelude.{◌≡◌, ◌≢◌, ℕ, ◌≤◌, ◌⊎◌, List, [], ◌∷◌, ◌++◌, codes, map, Contains, Option, Some, None, Ok, Err}
 use Rattle.std.specs.List.{flat_map, AllByRecursion}
 use Rattle.std.specs.Fmt.{decimal}
-use Rattle.cat_model.specs.Text.{Text}
+use Rattle.cat_model.specs.Text.{Text, IsOneLine}
 use Rattle.cat_model.specs.Item.{Schema, IsSchema, Content, Item}
 use Rattle.cat_model.specs.Table.{Start, Opened, CommitText}
 use Rattle.cat_model.specs.Limits.{last_number, session_limit}
@@ -18,10 +18,6 @@ use Rattle.cat_model.specs.Served.{Opening, Ending, Serves}
 pub record Pair : Type 0 where
   pub line : Text
   pub reply : Text
-
--- a text without a line feed
-abbrev pub IsOneLine : Text → Type 0
-IsOneLine text = AllByRecursion (λ b. b ≢ 10) text
 
 -- a line that begins a reply: its second word is OK or NO
 pub record BeginsReply (line : Text) : Type 0 where

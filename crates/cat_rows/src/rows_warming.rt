@@ -1,6 +1,7 @@
 //! Sets of rows that are made for the queries that were asked: what WARM and STAT tell of them, and that no other reply
 //! depends on them.
 use crate::script::{Rows, Script, expect_days, expect_rows};
+use std::alloc::{AllocError, Global};
 use std::test::Fail;
 
 /// Days of filters that are warmed, line by line.
@@ -328,9 +329,10 @@ fn a_merge_leaves_the_sets_of_what_is_held(rt: HostRuntime) -> Result<(), Fail> 
     script.expect(&rt, rt.alloc(), Ok(()))
 }
 
-/// A set that is in the making over a segment that goes is made to its end, for who holds the segment still.
+/// A set that is in the making over a segment that a merge takes is given up once the merge is done, and not before. The merged
+/// segment gets a set of its own; who holds the old one finds its items without a set.
 #[test]
-fn a_set_of_a_segment_that_goes_is_finished(rt: HostRuntime) -> Result<(), Fail> {
+fn a_set_of_a_segment_that_goes_is_given_up(rt: HostRuntime) -> Result<(), Fail> {
     const ROWS: Rows<'static> = &[
         ("1 PUT {\"id\":\"a\",\"price\":1}", "1 OK 1"),
         ("1 PUT {\"id\":\"b\",\"price\":2}", "1 OK 2"),
@@ -342,19 +344,183 @@ fn a_set_of_a_segment_that_goes_is_finished(rt: HostRuntime) -> Result<(), Fail>
         ("0 FORCE", "0 OK begun 1"),
         ("0 MERGE", "0 OK copied 2"),
         ("0 MERGE", "0 OK done"),
-        ("0 WARM", "0 OK stored"),
-        ("0 STAT", "0 OK 3 0 1 2 1 0\n0 2 1 1"),
-        ("1 FIND 2 9 . . price:1", "1 OK 1 1\n1 1 a ."),
         ("0 WARM", "0 OK begun"),
+        ("0 STAT", "0 OK 3 0 1 2 0 0\n0 2 1 1"),
+        ("1 FIND 2 9 . . price:1", "1 OK 1 1\n1 1 a ."),
         ("0 WARM", "0 OK stored"),
         ("0 WARM", "0 OK idle"),
         ("1 REFRESH", "1 OK 3"),
         ("1 OPEN", "1 OK 3"),
         ("1 FIND 3 9 . . price:1", "1 OK 1 1\n1 1 a ."),
         ("1 FIND 2 9 . . price:1", "1 OK 1 1\n1 1 a ."),
-        ("0 STAT", "0 OK 3 0 1 3 2 0\n0 2 1 1"),
+        ("0 STAT", "0 OK 3 0 1 3 1 0\n0 2 1 1"),
     ];
     expect_rows(&rt, rt.alloc(), ROWS)
+}
+
+/// Until the merge is done the set goes on, and over a segment that no merge takes it goes on behind that too.
+#[test]
+fn a_set_goes_on_beside_a_merge(rt: HostRuntime) -> Result<(), Fail> {
+    const ROWS: Rows<'static> = &[
+        ("1 PUT {\"id\":\"a\",\"price\":1}", "1 OK 1"),
+        ("1 REFRESH", "1 OK 1"),
+        ("1 OPEN", "1 OK 1"),
+        ("1 FIND 1 9 . . price:1", "1 OK 1 1\n1 1 a ."),
+        ("1 DEL a", "1 OK 2"),
+        ("0 FORCE", "0 OK begun 1"),
+        ("0 WARM", "0 OK begun"),
+        ("0 MERGE", "0 OK copied 1"),
+        ("0 WARM", "0 OK stored"),
+        ("1 PUT {\"id\":\"b\",\"price\":1}", "1 OK 3"),
+        ("1 REFRESH", "1 OK 3"),
+        ("0 WARM", "0 OK begun"),
+        ("0 MERGE", "0 OK done"),
+        ("0 WARM", "0 OK stored"),
+        ("0 WARM", "0 OK idle"),
+        ("0 STAT", "0 OK 3 0 1 3 2 1\n0 3 1 1"),
+    ];
+    expect_rows(&rt, rt.alloc(), ROWS)
+}
+
+/// Sixty-five queries are asked one after the other, and each gets its set; sixty-four sets stay. The set of the first is then
+/// begun anew, and given up as its segment goes without leaving a row.
+#[test]
+fn the_set_of_a_segment_that_leaves_no_row_is_given_up(rt: HostRuntime) -> Result<(), Fail> {
+    let alloc = rt.alloc();
+    let mut script = Script::shop(alloc)?;
+    const FIRST: Rows<'static> = &[
+        ("1 PUT {\"id\":\"a\",\"price\":1}", "1 OK 1"),
+        ("1 REFRESH", "1 OK 1"),
+        ("1 OPEN", "1 OK 1"),
+    ];
+    script.rows(FIRST)?;
+    for price in 1..=65u64 {
+        let line = format!(in alloc; "1 FIND 1 0 . . price:{price}")?;
+        let reply = if price == 1 { "1 OK 0 1" } else { "1 OK 0 0" };
+        script.row(line.as_str(), reply)?;
+        script.row("0 WARM", "0 OK begun")?;
+        script.row("0 WARM", "0 OK stored")?;
+    }
+    const LAST: Rows<'static> = &[
+        ("0 STAT", "0 OK 1 0 1 2 64 0\n0 1 1 1"),
+        ("1 FIND 1 9 . . price:1", "1 OK 1 1\n1 1 a ."),
+        ("0 WARM", "0 OK begun"),
+        ("1 DEL a", "1 OK 2"),
+        ("0 FORCE", "0 OK begun 1"),
+        ("0 MERGE", "0 OK copied 1"),
+        ("0 MERGE", "0 OK done"),
+        ("0 WARM", "0 OK idle"),
+        ("1 FIND 1 9 . . price:1", "1 OK 1 1\n1 1 a ."),
+    ];
+    script.rows(LAST)?;
+    script.expect(&rt, alloc, Ok(()))
+}
+
+/// A query of everything has a set as any other; and two spellings of one query share theirs.
+#[test]
+fn each_query_has_one_set(rt: HostRuntime) -> Result<(), Fail> {
+    let alloc = rt.alloc();
+    let mut script = Script::shop(alloc)?;
+    const FIRST: Rows<'static> = &[
+        ("1 PUT {\"id\":\"a\",\"price\":5}", "1 OK 1"),
+        ("1 REFRESH", "1 OK 1"),
+        ("1 OPEN", "1 OK 1"),
+        ("1 FIND 1 9 . . price:5", "1 OK 1 1\n1 1 a ."),
+        ("1 FIND 1 9 . . price:\"005\"", "1 OK 1 1\n1 1 a ."),
+        ("0 WARM", "0 OK begun"),
+        ("0 WARM", "0 OK stored"),
+        ("0 WARM", "0 OK idle"),
+    ];
+    script.rows(FIRST)?;
+    for number in 2..=301u64 {
+        let line = format!(in alloc; "1 PUT {{\"id\":\"{number}\"}}")?;
+        let reply = format!(in alloc; "1 OK {number}")?;
+        script.row(line.as_str(), reply.as_str())?;
+    }
+    const LAST: Rows<'static> = &[
+        ("1 REFRESH", "1 OK 301"),
+        ("1 OPEN", "1 OK 301"),
+        ("1 FIND 301 0 . . *:*", "1 OK 0 301"),
+        // That of the first query in the new segment, and those of everything in both.
+        ("0 WARM", "0 OK begun"),
+        ("0 WARM", "0 OK warmed 256"),
+        ("0 WARM", "0 OK stored"),
+        ("0 WARM", "0 OK begun"),
+        ("0 WARM", "0 OK stored"),
+        ("0 WARM", "0 OK begun"),
+        ("0 WARM", "0 OK warmed 256"),
+        ("0 WARM", "0 OK stored"),
+        ("0 WARM", "0 OK idle"),
+    ];
+    script.rows(LAST)?;
+    script.expect(&rt, alloc, Ok(()))
+}
+
+/// Lines that are refused after the query was read and the view was found to be held, each with its reply.
+const REFUSED_LATE: Rows<'static> = &[
+    ("1 FIND 4 1001 . . price:1", "1 NO 25"),
+    ("1 FIND 4 9 +title . price:1", "1 NO 28"),
+    ("1 FIND 4 9 . 5 price:1", "1 NO 23"),
+    ("1 FACETS 4 brand 9 price:1", "1 NO 29"),
+    ("1 FACETS 4 color 1001 price:1", "1 NO 25"),
+];
+
+/// Lines that are refused before that.
+const REFUSED_EARLY: Rows<'static> = &[
+    ("2 FIND 4 9 . . price:1", "2 NO 20"),
+    ("1 FIND 3 9 . . price:1", "1 NO 20"),
+    ("1 FACETS 3 color 9 price:1", "1 NO 20"),
+    ("1 FIND 4 9 . . price:1 price:", "1 NO 24 14"),
+];
+
+/// A script in which the sets of sixteen queries stand for four segments, as many as there is room for, those of `price:1` the
+/// least recently used; then this line is said, and a seventeenth query gets its sets. The next WARM answers as it is told.
+fn used_by(alloc: Global, said: (&str, &str), next: &str) -> Result<Script, AllocError> {
+    let mut script = Script::shop(alloc)?;
+    for number in 1..=4u64 {
+        let line = format!(in alloc; "1 PUT {{\"id\":\"{number}\"}}")?;
+        let reply = format!(in alloc; "1 OK {number}")?;
+        script.row(line.as_str(), reply.as_str())?;
+        script.row("1 REFRESH", reply.as_str())?;
+    }
+    script.row("1 OPEN", "1 OK 4")?;
+    for price in 1..=16u64 {
+        let line = format!(in alloc; "1 FIND 4 0 . . price:{price}")?;
+        script.row(line.as_str(), "1 OK 0 0")?;
+    }
+    for _made in 0..64 {
+        script.row("0 WARM", "0 OK begun")?;
+        script.row("0 WARM", "0 OK stored")?;
+    }
+    script.row("0 WARM", "0 OK idle")?;
+    script.row(said.0, said.1)?;
+    script.row("1 FIND 4 0 . . price:17", "1 OK 0 0")?;
+    for _made in 0..4 {
+        script.row("0 WARM", "0 OK begun")?;
+        script.row("0 WARM", "0 OK stored")?;
+    }
+    script.row("0 WARM", next)?;
+    Ok(script)
+}
+
+/// The sets that a refused page or counts were looked up for count as used: those of the second query went in their place, and
+/// one of these is begun next.
+#[test]
+fn refused_reads_use_the_sets_of_their_query(rt: HostRuntime) -> Result<(), Fail> {
+    for said in REFUSED_LATE {
+        used_by(rt.alloc(), *said, "0 OK begun")?.expect(&rt, rt.alloc(), Ok(()))?;
+    }
+    Ok(())
+}
+
+/// Where the text spells no query, or the view isn't held, none is looked up: the sets of the first query went, which isn't one
+/// of the newest sixteen any more.
+#[test]
+fn reads_that_are_refused_early_use_no_sets(rt: HostRuntime) -> Result<(), Fail> {
+    for said in REFUSED_EARLY {
+        used_by(rt.alloc(), *said, "0 OK idle")?.expect(&rt, rt.alloc(), Ok(()))?;
+    }
+    Ok(())
 }
 
 /// Of the queries that were asked the newest sixteen are noted: the first has no set once sixteen others were asked.

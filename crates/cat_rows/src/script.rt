@@ -87,6 +87,21 @@ impl Script {
         Ok(())
     }
 
+    /// Serves the lines to the end over a directory in memory, and gives back the directory that is left. They have to get
+    /// these replies and no others.
+    pub(crate) fn expect_left(
+        &self,
+        rt: &impl Abort,
+        alloc: Global,
+    ) -> Result<MemoryDirectory, Fail> {
+        let mut input = self.input.as_bytes();
+        let mut written = Vec::new(alloc);
+        let left = serve(alloc, MemoryDirectory::new(alloc), &mut input, &mut written);
+        assert_eq!(rt; from_utf8(written.as_slice())?, self.wanted.as_str());
+        assert_eq!(rt; left.ended, Ok(()));
+        Ok(left.device)
+    }
+
     /// Serves the lines. They have to get these replies and no others, and serving has to end so.
     pub(crate) fn expect(
         &self,

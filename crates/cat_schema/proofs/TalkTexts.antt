@@ -11,11 +11,11 @@ use Rattle.serde_json.specs.Find.{get_member, as_object, as_str}
 use Rattle.cat_base.specs.declared.refusal.Refusal.{Refusal}
 use Rattle.cat_base.specs.declared.refusal.Refusal.TheVariants as refusal
 use Rattle.cat_base.specs.Texts.{sorted_set}
-use Rattle.cat_model.specs.Text.{Text}
+use Rattle.cat_model.specs.Text.{Text, IsOneLine}
 use Rattle.cat_model.specs.Item.{Field, Kind, Schema, IsSchema, Item, is_id}
 use Rattle.cat_model.specs.Forms.{is_plain_byte}
 use Rattle.cat_model.specs.Served.{OpensEmpty, Begins}
-use Rattle.cat_model.specs.Talk.{IsOneLine, HasOneLines, IsShownInLines, ReadsLines, IsShownOpened}
+use Rattle.cat_model.specs.Talk.{HasOneLines, IsShownInLines, ReadsLines, IsShownOpened}
 use Rattle.cat_model.proofs.TalkOpenings.{OpensShown, OpenAlike}
 use Rattle.cat_model.proofs.Lists.{All-weaken}
 use Rattle.cat_model.proofs.TalkWhole.{answers_are_talks}

@@ -20,6 +20,7 @@ pub mod ViewPages
 pub mod Stored
 pub mod Killed
 pub mod Pushed
+pub mod LineFeeds
 pub mod Arranged
 pub mod Walked
 pub mod Ordered

@@ -9,10 +9,10 @@ use Rattle.std.proofs.lemmas.List.Elements.{Contains-from_at, recursion_from_All
 use Rattle.std.proofs.lemmas.List.Folds.{find-append}
 use Rattle.std.proofs.lemmas.List.Sums.{sum_by-cons}
 use Rattle.std.proofs.lemmas.Slice.Eq.{bytes_eq-Decides}
-use Rattle.cat_model.specs.Answer.{stored}
+use Rattle.cat_model.specs.Answer.{HasNoLineFeed, stored}
 use Rattle.cat_model.specs.Item.{Record}
 use Rattle.cat_model.specs.RowSets.{has_row}
-use Rattle.cat_model.specs.Text.{Text, same_text}
+use Rattle.cat_model.specs.Text.{Text, IsOneLine, same_text}
 use Rattle.cat_model.specs.View.{Row, Leaf, Segment, IsFormedRow, selected, live_rows, sourced}
 use Rattle.cat_model.proofs.Insert.{which}
 use Rattle.cat_model.proofs.Lists.{list_any-append, list_any_none, All-weaken}
@@ -282,3 +282,10 @@ is_whole files id ls leaf row is whole =
     let a : option_map (λ text. length text) (stored_in files ls id) ≡ Some (length (source_in files leaf row)) = ap (option_map (λ text. length text)) (is.source files) in
     let b : length_in ls id ≡ Some (length_at leaf row) = is.long in
     cc (a, b, whole)
+
+-- what is read of it is one line, if its source is
+pub one_line_read : (files : ℕ → List ℕ) (id : Text) (ls : List Leaf) (leaf : Leaf) (row : ℕ) (text : Text) → IsLiveRowOf id ls leaf row
+    → text ≡ source_in files leaf row → HasNoLineFeed (stored_in files ls id) → IsOneLine text
+one_line_read files id ls leaf row text is same h =
+    let one : IsOneLine (source_in files leaf row) = subst HasNoLineFeed (is.source files) h in
+    subst IsOneLine (sym same) one

@@ -1,7 +1,7 @@
 -- The stored sources of the rows of a view.
 use Rattle.std.specs.Prelude.{◌≡◌, ◌≤◌, ◌<◌, ℕ, Bool, true, List, length, map, take, drop, slice_index, Option, Some, option_map, find, All, Contains}
 use Rattle.std.specs.List.{flat_map, list_any, HoldsAt}
-use Rattle.cat_model.specs.Answer.{stored}
+use Rattle.cat_model.specs.Answer.{HasNoLineFeed, stored}
 use Rattle.cat_model.specs.RowSets.{has_row}
 use Rattle.cat_model.specs.Text.{Text, same_text}
 use Rattle.cat_model.specs.View.{Row, Leaf, View, IsSegment, live_rows, records_in, selected, sourced}
@@ -58,6 +58,7 @@ abbrev pub TellsSource : (FileName → Told) → (ℕ → List ℕ) → View →
 TellsSource told files view id =
     All (λ leaf. has_live id leaf ≡ true → told (file.Source leaf.segment.number) ≡ Some (Some (files leaf.segment.number))) view.leaves
 
--- the file of the live row of the id holds its source whole
-abbrev pub HoldsSource : (ℕ → List ℕ) → View → Text → Type 0
-HoldsSource files view id = option_map (λ text. length text) (stored (records_in files view) id) ≡ stored_length view id
+-- the file of the live row of the id holds its source whole, as one line
+pub record HoldsSource (files : ℕ → List ℕ) (view : View) (id : Text) : Type 0 where
+  pub whole : option_map (λ text. length text) (stored (records_in files view) id) ≡ stored_length view id
+  pub one_line : HasNoLineFeed (stored (records_in files view) id)

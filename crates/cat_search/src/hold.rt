@@ -1,10 +1,10 @@
 //! A session's right to a view.
 ghost use Rattle.std.specs.Prelude.{◌≡◌, ◌≢◌, ℕ, List, length, map, option_map, Ok, Err, None, IfOk, IfErr};
 ghost use Rattle.cat_base.specs.declared.refusal.Refusal.TheVariants.{Damaged, Device, Memory};
-ghost use Rattle.cat_model.specs.Answer.{Found, stored};
+ghost use Rattle.cat_model.specs.Answer.{Found, HasNoLineFeed, stored};
 ghost use Rattle.cat_model.specs.Item.{Record};
 ghost use Rattle.cat_model.specs.View.{Shows, needs, records_in};
-ghost use Rattle.cat_directory.specs.Devices.{CountsReading};
+ghost use Rattle.cat_directory.specs.Devices.{CountsReading, NoMore};
 ghost use Rattle.cat_directory.specs.Names.{name_of};
 ghost use Rattle.cat_search.specs.Holds.{put_to};
 ghost use Rattle.cat_search.specs.Sources.{HoldsSource, TellsSource, stored_length};
@@ -87,8 +87,8 @@ impl Hold {
     /// The text that the item of this id came as, as [`View::get`] reads it from the shelf; none where no live row has the
     /// id, and then no file is read (Lucene: `StoredFields.document`).
     ///
-    /// [`Refusal::Damaged`] if the file with the text is absent, or ends before the text does. [`Refusal::Device`] if the
-    /// shelf fails; else [`Refusal::Memory`].
+    /// [`Refusal::Damaged`] if the file with the text is absent, ends before the text does, or has a line feed in it.
+    /// [`Refusal::Device`] if the shelf fails; else [`Refusal::Memory`].
     pub fn get<S: Shelf>(
         &self,
         alloc: Global,
@@ -98,11 +98,13 @@ impl Hold {
         ensures ok { IfOk result (λ found. (files : ℕ → List ℕ) → TellsSource (S.bytes shelf.old) files self.now.view id.now
             → option_map (λ bytes. bytes.items) found ≡ stored (records_in files self.now.view) id.now) }
         ensures whole { IfOk result (λ found. option_map (λ bytes. length bytes.items) found ≡ stored_length self.now.view id.now) }
+        ensures one_line { IfOk result (λ found. HasNoLineFeed (option_map (λ bytes. bytes.items) found)) }
         ensures none { stored_length self.now.view id.now ≡ None → (result ≡ Ok None) × (S.fault_count shelf.new ≡ S.fault_count shelf.old) }
         ensures damaged { IfErr result (λ e. e ≡ Damaged → (files : ℕ → List ℕ) → TellsSource (S.bytes shelf.old) files self.now.view id.now
             → HoldsSource files self.now.view id.now → ⊥) }
         ensures device { IfErr result (λ e. e ≡ Device → S.can_fail shelf.old) }
         ensures same { (q : FileName) → S.bytes shelf.new q ≡ S.bytes shelf.old q }
+        ensures crash { (q : FileName) → NoMore (S.may_leave shelf.old q) (S.may_leave shelf.new q) }
         ensures can { S.can_fail shelf.new → S.can_fail shelf.old }
         ensures counted { CountsReading (S.fault_count shelf.old) (S.fault_count shelf.new) result }
     {

@@ -13,6 +13,7 @@ mod hold;
 mod ids;
 mod keys;
 mod leaf_ranks;
+mod lines;
 mod lookup;
 mod mark_rows;
 mod number_bar;

@@ -98,6 +98,13 @@ impl Prepared {
         &self.query
     }
 
+    /// The query once more its owner's, where nothing is asked of it any longer. It takes no memory.
+    pub fn into_query(self) -> Query
+        ensures { query_of result ≡ query_of self.query }
+    {
+        self.query
+    }
+
     /// The live rows of the leaf of this index in the view that the query matches, as a set of the rows of its segment
     /// (Lucene: `Weight.bulkScorer` over a `LeafReaderContext`, with the leaf's `liveDocs`).
     pub fn hits(&self, alloc: Global, index: usize) -> Result<RowSet, AllocError>

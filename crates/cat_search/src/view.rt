@@ -3,14 +3,15 @@ ghost use Rattle.std.specs.Prelude.{◌≡◌, ◌<◌, ℕ, false, List, count_
 ghost use Rattle.std.specs.Arc.{arc_value};
 ghost use Rattle.std.specs.List.{flat_map};
 ghost use Rattle.cat_base.specs.declared.refusal.Refusal.TheVariants.{Device, Damaged};
-ghost use Rattle.cat_model.specs.Answer.{stored};
+ghost use Rattle.cat_model.specs.Answer.{HasNoLineFeed, stored};
 ghost use Rattle.cat_model.specs.View.{IsView, needs, records_in};
-ghost use Rattle.cat_directory.specs.Devices.{CountsReading};
+ghost use Rattle.cat_directory.specs.Devices.{CountsReading, NoMore};
 ghost use Rattle.cat_directory.specs.Names.{name_of};
 ghost use Rattle.cat_search.specs.Rows.{first_in};
 ghost use Rattle.cat_search.specs.Sources.{HoldsSource, TellsSource, stored_length};
 ghost use Rattle.cat_search.specs.Views.{leaf_names};
 
+use crate::lines::is_one_line;
 use crate::lookup::live_row_with;
 use cat_base::{Refusal, Token, WriteNo};
 use cat_directory::{FileName, Shelf};
@@ -226,8 +227,11 @@ impl View {
     /// The text that the item of this id came as, read from the file of its segment's sources; none where no live row has
     /// the id, and then no file is read. (Lucene: `StoredFields.document` of the document that a primary key finds.)
     ///
-    /// [`Refusal::Damaged`] if that file is absent, or ends before the text does; what other files hold is not looked at.
-    /// [`Refusal::Device`] if the shelf fails; else [`Refusal::Memory`].
+    /// What is read has no line feed, so nobody takes it for lines of a reply: no item's text has one, since each came as one
+    /// line. A crash may leave no more of the files than before.
+    ///
+    /// [`Refusal::Damaged`] if that file is absent, ends before the text does, or has a line feed in it; what other files hold
+    /// is not looked at. [`Refusal::Device`] if the shelf fails; else [`Refusal::Memory`].
     pub fn get<S: Shelf>(
         &self,
         alloc: Global,
@@ -237,11 +241,13 @@ impl View {
         ensures ok { IfOk result (λ found. (files : ℕ → List ℕ) → TellsSource (S.bytes shelf.old) files self.now id.now
             → option_map (λ bytes. bytes.items) found ≡ stored (records_in files self.now) id.now) }
         ensures whole { IfOk result (λ found. option_map (λ bytes. length bytes.items) found ≡ stored_length self.now id.now) }
+        ensures one_line { IfOk result (λ found. HasNoLineFeed (option_map (λ bytes. bytes.items) found)) }
         ensures none { stored_length self.now id.now ≡ None → (result ≡ Ok None) × (S.fault_count shelf.new ≡ S.fault_count shelf.old) }
         ensures damaged { IfErr result (λ e. e ≡ Damaged → (files : ℕ → List ℕ) → TellsSource (S.bytes shelf.old) files self.now id.now
             → HoldsSource files self.now id.now → ⊥) }
         ensures device { IfErr result (λ e. e ≡ Device → S.can_fail shelf.old) }
         ensures same { (q : FileName) → S.bytes shelf.new q ≡ S.bytes shelf.old q }
+        ensures crash { (q : FileName) → NoMore (S.may_leave shelf.old q) (S.may_leave shelf.new q) }
         ensures can { S.can_fail shelf.new → S.can_fail shelf.old }
         ensures counted { CountsReading (S.fault_count shelf.old) (S.fault_count shelf.new) result }
     {
@@ -251,7 +257,11 @@ impl View {
         let segment = leaf.segment();
         let name = FileName::Source(segment.number());
         let offset = segment.source_offset(row);
-        Ok(Some(shelf.read(alloc, name, offset, segment.source_length(row))?))
+        let text = shelf.read(alloc, name, offset, segment.source_length(row))?;
+        if !is_one_line(&text) {
+            return Err(Refusal::Damaged);
+        }
+        Ok(Some(text))
     }
 }
 

@@ -606,6 +606,15 @@ const C: &[u8] = br#"{"id":"c","price":7}"#;
 
 const C_CUT: &[u8] = br#"{"id":"c","price":7"#;
 
+/// Texts as long as that of `b` and `c`, with a line feed first, last, and between.
+const B_BROKEN: &[u8] = b"{\"id\":\"b\"\n";
+
+const C_BROKEN: &[&[u8]] = &[
+    b"\n\"id\":\"c\",\"price\":7}",
+    b"{\"id\":\"c\",\"price\":7\n",
+    b"{\"id\":\"c\"}\n1 OK 9999",
+];
+
 const D: &[u8] = br#"{"id":"d","price":2}"#;
 
 const E: &[u8] = br#"{"id":"e","price":3}"#;
@@ -628,4 +637,19 @@ fn a_view_gives_the_texts_of_live_ids(rt: HostRuntime) -> Result<(), Fail> {
     store(rt.alloc(), &mut files, 2, &[B, C_CUT])?;
     expect_damaged(&rt, rt.alloc(), &view, &mut files, "c");
     Ok(())
+}
+
+/// A text that somebody broke into lines isn't given, so no reader of replies takes its lines for replies.
+#[test]
+fn a_text_with_a_line_feed_is_damaged(rt: HostRuntime) -> Result<(), Fail> {
+    let schema = Schema::read(rt.alloc(), FIELDS)?;
+    let view = view_of_texts(&rt, rt.alloc(), &schema, PRICED, &[1, 3, 6])?;
+    let mut files = MemoryDirectory::new(rt.alloc());
+    for &text in C_BROKEN {
+        store(rt.alloc(), &mut files, 2, &[B, text])?;
+        expect_damaged(&rt, rt.alloc(), &view, &mut files, "c");
+    }
+    // A line feed in another text is nobody's trouble but of who reads that one.
+    store(rt.alloc(), &mut files, 2, &[B_BROKEN, C])?;
+    expect_texts(&rt, rt.alloc(), &view, &mut files, &[("c", Some(C))])
 }

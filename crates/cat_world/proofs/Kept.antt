@@ -28,7 +28,7 @@ use Rattle.cat_world.specs.Lines.{Does}
 use Rattle.cat_world.specs.Named.{TellsNeeded}
 use Rattle.cat_world.proofs.Wanted.{SaysMayWant}
 use Rattle.cat_world.specs.Worlds.{IsCarried, IsWorld, segments_kept}
-use Rattle.cat_world.proofs.Names.{names_files, says_files, told_none}
+use Rattle.cat_world.proofs.Names.{names_files, says_texts, told_none}
 
 -- no right begins or ends by what is said
 abbrev pub keeps_rights : Said → Bool
@@ -104,7 +104,7 @@ module _ {D : Type 0} {f : Filters} {ks : List ReaderState} (bytes : D → ToldF
     kept = states_on w answered;
   }
 
--- what an answer makes of a world that tells the names that are needed
+-- what an answer makes of a world that tells what is needed
 pub does_telling : {D : Type 0} {f : Filters} {ks : List ReaderState} (bytes : D → ToldFiles) (can_fail : D → Type 0) (session : ℕ) (said : Said) (old : Ledger D) (reply : Reply) (new : Ledger D) (rights after : List Hold)
     → IsWorld bytes old rights f ks → HasCause bytes can_fail (record { ledger = old; rights = rights }) (Some said) reply
     → AnswersSaid bytes session said old reply new → (can_fail (device_in new) → can_fail (device_in old))
@@ -122,11 +122,11 @@ does_telling bytes can_fail session said old reply new rights after w cause answ
   policy = policy;
 }
 
--- what one makes to a line that asks for no names
+-- what one makes to a line that asks for no names and no source
 pub does : {D : Type 0} {f : Filters} {ks : List ReaderState} (bytes : D → ToldFiles) (can_fail : D → Type 0) (session : ℕ) (said : Said) (old : Ledger D) (reply : Reply) (new : Ledger D) (rights after : List Hold)
     → IsWorld bytes old rights f ks → HasCause bytes can_fail (record { ledger = old; rights = rights }) (Some said) reply
     → AnswersSaid bytes session said old reply new → (can_fail (device_in new) → can_fail (device_in old))
-    → policy_in new ≡ policy_in old → says_files said ≡ false → (reply ≡ Err Memory → SaysMayWant (bytes (device_in old)) (shape_in old) session said)
+    → policy_in new ≡ policy_in old → says_texts said ≡ false → (reply ≡ Err Memory → SaysMayWant (bytes (device_in old)) (shape_in old) session said)
     → Does bytes can_fail session (Some said) (record { ledger = old; rights = rights }) reply (record { ledger = new; rights = after })
 does bytes can_fail session said old reply new rights after w cause answered can policy none wanting =
     does_telling bytes can_fail session said old reply new rights after w cause answered can policy (

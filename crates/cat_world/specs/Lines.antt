@@ -36,7 +36,7 @@ StepsLine bytes session said old reply new =
     × (reply ≡ Err Memory → MayWant (bytes (device_of old)) (shape_of old) session said c)
 
 -- What an answered line makes of a world: the reply answers it, and tells the names that are needed, which are those
--- of files; it says that memory was wanting only where that may be told, and has its cause in what memory has; a device that can't fail goes on so; and neither the fields change nor when it merges.
+-- of files, and a source that is one line; it says that memory was wanting only where that may be told, and has its cause in what memory has; a device that can't fail goes on so; and neither the fields change nor when it merges.
 pub record Does {D : Type 0} (bytes : D → ToldFiles) (can_fail : D → Type 0) (session : ℕ) (said : Option Said)
     (old : Service D) (reply : Reply) (new : Service D) : Type 0 where
   pub answers : AnswersLine bytes session said old reply new

@@ -75,7 +75,7 @@ AreLike (told ∷ tolds) [] = ⊥
 AreLike (told ∷ tolds) (o ∷ os) = IsLike told o × AreLike tolds os
 
 -- The text answers the schema line and the lines behind it: with a run from where the directory is opened, in which the names of files
--- alone are told as names, and the replies to unreadable lines between. Want of memory hides none of the refusals that the run tells, and where the device can't fail no line but a MERGE is told that it did. On devices that don't tell of their files, the text of a stored
+-- alone are told as names, and no source that is told has a line feed, and the replies to unreadable lines between. Want of memory hides none of the refusals that the run tells, and where the device can't fail no line but a MERGE is told that it did. On devices that don't tell of their files, the text of a stored
 -- item may be another one of its length than the one that fits; on those that do, all that is told fits. In the directory that is left,
 -- the files stand of each token that is recorded at the end of the run, also by a session's hold, and of each commit that is kept, also
 -- by a snapshot; a crash leaves the files of the newest commit, and no other commit ahead of it than one that was refused since.

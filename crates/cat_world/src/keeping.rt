@@ -40,7 +40,13 @@ impl<D: Directory + Shelf> World<D> {
         ensures does { Does D.bytes D.can_fail session (Some (Said.chore (chore_of chore))) self.old (reply_of result) self.new }
         ensures history { GoesBy D.may_leave (Some (Said.chore (chore_of chore))) (reply_of result) self.old.ledger self.new.ledger }
     {
-        cat_keeping::maintain(self.alloc, &mut self.ledger, &self.filters, session, chore)
+        cat_keeping::maintain(
+            self.alloc,
+            &mut self.ledger,
+            &mut self.filters,
+            session,
+            chore,
+        )
     }
 
     /// Answers a WARM.

@@ -40,7 +40,7 @@ fn device_left<D: Directory + Shelf>(stage: Stage<World<D>, D>) -> D
 ///
 /// What it writes is the text of a run that fits the lines, and nothing else, and of a directory that can't fail it says to no line but
 /// a MERGE that it did; where a directory doesn't tell of its files, the
-/// text of a stored item alone may be another of that length. In the directory that is left stand the files of every token that
+/// text of a stored item alone may be another of that length, and has no line feed either. In the directory that is left stand the files of every token that
 /// the run has recorded, held ones too, and of every commit that it keeps, with the table of each. Where the directory always
 /// tells of its files, a crash leaves those of the newest commit byte for byte: the commit that was opened, or that the last
 /// COMMIT was answered. What is found after the crash is that commit, or one of a COMMIT that was refused after it; and once the

@@ -6,15 +6,16 @@ use std::test::Fail;
 fn a_set_over_the_segment_is_given_up(rt: HostRuntime) -> Result<(), Fail> {
     const ROWS: &[Row<'static>] = &[
         (Call::Forget(1), ""),
+        (Call::KeepFrom(0), ""),
         (Call::Note("price:299"), ""),
         (Call::Steps(2), "begun 256 "),
-        // It is over another segment than these.
+        // It is over another segment than this one, and over one of these.
         (Call::Forget(2), ""),
-        (Call::ForgetFrom(2), ""),
-        (Call::ForgetFrom(1), ""),
+        (Call::KeepFrom(0), ""),
         (Call::Steps(2), "stored begun "),
-        // It is over one of these.
-        (Call::ForgetFrom(0), ""),
+        (Call::KeepFrom(1), ""),
+        // It is over none of these.
+        (Call::KeepFrom(2), ""),
         (Call::Steps(1), "begun "),
         // Its segment is gone.
         (Call::Forget(2), ""),

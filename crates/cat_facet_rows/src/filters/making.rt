@@ -4,6 +4,7 @@ ghost use Rattle.cat_model.specs.Item.{IsItem};
 
 use crate::priced::{Dead, priced_puts};
 use cat_base::{Refusal, SegNo};
+use cat_cache::Key;
 use cat_filters::{Filters, WarmNews};
 use cat_query::{DocSet, Query};
 use cat_schema::Schema;
@@ -36,8 +37,8 @@ pub(crate) enum Call<'a> {
     Len,
     /// Gives up a set over the segment of this number. It is answered nothing.
     Forget(SegNo),
-    /// Gives up a set over one of the leaves from this place on. It is answered nothing.
-    ForgetFrom(usize),
+    /// Gives up a set that is over none of the leaves from this place on. It is answered nothing.
+    KeepFrom(usize),
 }
 
 /// A call, and what it is answered.
@@ -73,7 +74,7 @@ fn note_text(
     schema: &Schema,
     text: &str,
 ) -> Result<(), Refusal> {
-    let _noted = filters.note(&Query::parse(schema, alloc, text)?);
+    filters.note(Query::parse(schema, alloc, text)?);
     Ok(())
 }
 
@@ -133,6 +134,14 @@ fn write_counts(text: &mut String, sets: &[Option<Arc<DocSet>>]) -> Result<(), A
     Ok(())
 }
 
+/// A key of the query that the text spells, which may be of any segment.
+fn key_of(alloc: Global, view: &View, text: &str) -> Result<Key, Refusal> {
+    Ok(Key {
+        segment: 0,
+        query: Query::parse(view.schema(), alloc, text)?,
+    })
+}
+
 /// Writes how many rows the sets of the query have.
 fn write_sets(
     alloc: Global,
@@ -141,8 +150,8 @@ fn write_sets(
     view: &View,
     query: &str,
 ) -> Result<(), Refusal> {
-    let query = Query::parse(view.schema(), alloc, query)?;
-    write_counts(text, &filters.sets_for(&query, view.leaves())?)?;
+    let mut key = key_of(alloc, view, query)?;
+    write_counts(text, &filters.sets_for(&mut key, view.leaves())?)?;
     Ok(())
 }
 
@@ -164,8 +173,8 @@ fn write_found(
     view: &View,
     query: &str,
 ) -> Result<(), Refusal> {
-    let query = Query::parse(view.schema(), alloc, query)?;
-    text.push(sign_of(&filters.sets_for(&query, view.leaves())?))?;
+    let mut key = key_of(alloc, view, query)?;
+    text.push(sign_of(&filters.sets_for(&mut key, view.leaves())?))?;
     Ok(())
 }
 
@@ -213,7 +222,7 @@ fn write_answer(
         Call::Prices(below) => write_prices(alloc, text, filters, view, below)?,
         Call::Len => write!(text, "{}", filters.len())?,
         Call::Forget(segment) => filters.forget(segment),
-        Call::ForgetFrom(place) => filters.forget_among(leaves_from(leaves, place)),
+        Call::KeepFrom(place) => filters.keep_among(leaves_from(leaves, place)),
     }
     Ok(())
 }

@@ -1,4 +1,4 @@
-use Rattle.std.proofs.Common.{◌≡◌, ◌∙◌, All, ap, option_map, refl, subst, sym}
+use Rattle.std.proofs.Common.{◌≡◌, ◌∙◌, All, ap, inl, option_map, refl, subst, sym}
 use Rattle.std.specs.Prelude.{Err, Ok, Some}
 use Rattle.cat_model.specs.Answer.{Found, Read}
 use Rattle.cat_model.specs.Grammar.{Spells}
@@ -6,7 +6,8 @@ use Rattle.cat_query.specs.View.{query_of}
 use Rattle.cat_model.specs.View.{View, segments_of}
 use Rattle.cat_filters.specs.Known.{Knows}
 use Rattle.cat_facets.specs.Kept.{KnowsIn, RemembersOf, RemembersOfBelow}
-use Rattle.cat_finding.proofs.Cached.{by_any, by_right, of_right}
+use Rattle.cat_finding.specs.Uses.{NotesSpelled, Uses, UsesAndNotes, UsesSpelled}
+use Rattle.cat_finding.proofs.Cached.{by_any, by_right, of_right, to_right, unchanged}
 use Rattle.cat_finding.proofs.Told.{facets_is, fault_told, found_told, memory_told, passed_on, refusal_told, unheld_told}
 use Rattle.cat_finding.proofs.counts.count_facets.Goals as goal
 
@@ -112,3 +113,33 @@ pub returns-clause-kept_below : goal.returns-clause-kept_below
 returns-clause-kept_below c =
     by_right (c.counts_of.new.states ≡ c.args.states.now) (λ h. RemembersOfBelow (segments_of h.now.view.leaves) c.args.states.now c.counts_of.new.states) c.args.right c.in-Some.hold c.in-Some.is
     (subst (λ (v : View). RemembersOfBelow (segments_of v.leaves) c.args.states.now c.counts_of.new.states) c.view-view.ensures c.counts_of.ensures.kept_below)
+
+pub returns-in_err-query-clause-used : goal.returns-in_err-query-clause-used
+returns-in_err-query-clause-used c = unchanged (λ h. h.now.view) c.args.schema.now c.args.text.now c.args.filters.now c.args.right
+
+pub returns-in_default-clause-used : goal.returns-in_default-clause-used
+returns-in_default-clause-used c = unchanged (λ h. h.now.view) c.args.schema.now c.args.text.now c.args.filters.now c.args.right
+
+pub returns-in_err-judge-clause-used : goal.returns-in_err-judge-clause-used
+returns-in_err-judge-clause-used c = unchanged (λ h. h.now.view) c.args.schema.now c.args.text.now c.args.filters.now c.args.right
+
+pub returns-in_default-query-clause-used : goal.returns-in_default-query-clause-used
+returns-in_default-query-clause-used c = unchanged (λ h. h.now.view) c.args.schema.now c.args.text.now c.args.filters.now c.args.right
+
+pub returns-in_err-facets-clause-used : goal.returns-in_err-facets-clause-used
+returns-in_err-facets-clause-used c =
+    let q = query_of c.in-Some-query.query in
+    let old = c.args.filters.now in
+    let new = c.counts_of.new.filters in
+    let spelled : Spells c.args.schema.now c.args.text.now q = rw c.in-Some-query.is at c.in_ok-query.ensures.ok in
+    by_right (new ≡ old) (λ h. UsesSpelled c.args.schema.now c.args.text.now h.now.view old new) c.args.right c.in-Some.hold c.in-Some.is
+    (inl (q, spelled, subst (λ (v : View). Uses q v old new) c.view-view.ensures c.in_err-facets.ensures.used))
+
+pub returns-clause-noted : goal.returns-clause-noted
+returns-clause-noted c =
+    let q = query_of c.in-Some-query.query in
+    let old = c.args.filters.now in
+    let new = c.counts_of.new.filters in
+    let spelled : Spells c.args.schema.now c.args.text.now q = rw c.in-Some-query.is at c.in_ok-query.ensures.ok in
+    to_right (λ h. NotesSpelled c.args.schema.now c.args.text.now h.now.view old new) c.args.right c.in-Some.hold c.in-Some.is
+    (q, spelled, subst (λ (v : View). UsesAndNotes q v old new) c.view-view.ensures c.in_ok-facets.ensures.noted)

@@ -1,4 +1,4 @@
-use Rattle.std.proofs.Common.{◌∙◌, All, ap, option_map, subst, sym}
+use Rattle.std.proofs.Common.{◌≡◌, ◌∙◌, All, ap, inl, option_map, subst, sym}
 use Rattle.std.specs.Prelude.{Err, Ok, Some}
 use Rattle.cat_model.specs.Answer.{Found, Read}
 use Rattle.cat_model.specs.Grammar.{Spells}
@@ -6,7 +6,8 @@ use Rattle.cat_query.specs.View.{query_of}
 use Rattle.cat_search.specs.Sorts.{sort_of}
 use Rattle.cat_model.specs.View.{View, segments_of}
 use Rattle.cat_filters.specs.Known.{Knows}
-use Rattle.cat_finding.proofs.Cached.{of_right}
+use Rattle.cat_finding.specs.Uses.{NotesSpelled, Uses, UsesAndNotes, UsesSpelled}
+use Rattle.cat_finding.proofs.Cached.{by_right, of_right, to_right, unchanged}
 use Rattle.cat_finding.proofs.Told.{fault_told, find_is, found_told, memory_told, passed_on, refusal_told, unheld_told}
 use Rattle.cat_finding.proofs.pages.find.Goals as goal
 
@@ -56,6 +57,36 @@ returns-clause-told c =
     found_told c.args.schema.now c.args.text.now (Read.find ask.count (sort_of ask.sort) ask.after) (find_is ask.count (sort_of ask.sort) ask.after)
     (query_of c.in-Some-query.query) spelled (option_map (λ h. h.now.view) c.args.right) c.view-view.result.now
     (ap (option_map (λ h. h.now.view)) c.in-Some.is ∙ ap Some (sym c.view-view.ensures)) (Ok (Found.page c.in_ok-page.page)) c.in_ok-page.ensures.ok
+
+pub returns-in_err-query-clause-used : goal.returns-in_err-query-clause-used
+returns-in_err-query-clause-used c = unchanged (λ h. h.now.view) c.args.schema.now c.args.text.now c.args.filters.now c.args.right
+
+pub returns-in_default-clause-used : goal.returns-in_default-clause-used
+returns-in_default-clause-used c = unchanged (λ h. h.now.view) c.args.schema.now c.args.text.now c.args.filters.now c.args.right
+
+pub returns-in_err-judge-clause-used : goal.returns-in_err-judge-clause-used
+returns-in_err-judge-clause-used c = unchanged (λ h. h.now.view) c.args.schema.now c.args.text.now c.args.filters.now c.args.right
+
+pub returns-in_default-query-clause-used : goal.returns-in_default-query-clause-used
+returns-in_default-query-clause-used c = unchanged (λ h. h.now.view) c.args.schema.now c.args.text.now c.args.filters.now c.args.right
+
+pub returns-in_err-page-clause-used : goal.returns-in_err-page-clause-used
+returns-in_err-page-clause-used c =
+    let q = query_of c.in-Some-query.query in
+    let old = c.args.filters.now in
+    let new = c.page_of.new.filters in
+    let spelled : Spells c.args.schema.now c.args.text.now q = rw c.in-Some-query.is at c.in_ok-query.ensures.ok in
+    by_right (new ≡ old) (λ h. UsesSpelled c.args.schema.now c.args.text.now h.now.view old new) c.args.right c.in-Some.hold c.in-Some.is
+    (inl (q, spelled, subst (λ (v : View). Uses q v old new) c.view-view.ensures c.in_err-page.ensures.used))
+
+pub returns-clause-noted : goal.returns-clause-noted
+returns-clause-noted c =
+    let q = query_of c.in-Some-query.query in
+    let old = c.args.filters.now in
+    let new = c.page_of.new.filters in
+    let spelled : Spells c.args.schema.now c.args.text.now q = rw c.in-Some-query.is at c.in_ok-query.ensures.ok in
+    to_right (λ h. NotesSpelled c.args.schema.now c.args.text.now h.now.view old new) c.args.right c.in-Some.hold c.in-Some.is
+    (q, spelled, subst (λ (v : View). UsesAndNotes q v old new) c.view-view.ensures c.in_ok-page.ensures.noted)
 
 pub page_of-requires : goal.page_of-requires
 page_of-requires c =

@@ -21,11 +21,11 @@ returns-then-session-ne0-clause-answers g c =
 pub returns-in-Merge-clause-answers : goal.returns-in-Merge-clause-answers
 returns-in-Merge-clause-answers g c =
     let old = c.args.ledger.now in
-    let new = c.merge_step.new.ledger in (
+    let new = c.merge.new.ledger in (
       Command.chore Chore.merge,
       ap (λ x. Command.chore (chore_of x)) (sym c.in-Merge.is),
       at_zero (policy_in old) (g.D.Holder.bytes (device_in old)) (g.D.Holder.bytes (device_in new)) (shape_in old) (shape_in new) c.args.session
-          (Command.chore Chore.merge) (reply_of c.merge_step.result) c.if-session-ne0.false c.merge_step.ensures.answers,
+          (Command.chore Chore.merge) (reply_of c.merge.result) c.if-session-ne0.false c.merge.ensures.answers,
     )
 
 pub returns-in-Force-clause-answers : goal.returns-in-Force-clause-answers

@@ -2,6 +2,8 @@ use Rattle.std.proofs.Common.{length, refl}
 use Rattle.cat_model.specs.Lines.{Said}
 use Rattle.cat_replies.specs.Reply.{reply_of}
 use Rattle.cat_keeping.specs.Chores.{chore_of}
+use Rattle.cat_ledger_sets.proofs.Right.{remembered_are_right}
+use Rattle.cat_world.specs.Worlds.{IsWorld}
 use Rattle.cat_world.proofs.Kept.{does, world_stays}
 use Rattle.cat_world.proofs.Caused.{chore_caused}
 use Rattle.cat_ledger.specs.Ledgers.{device_in, policy_in, shape_in}
@@ -10,14 +12,22 @@ use Rattle.cat_world.proofs.world.World.answer_chore.Goals as goal
 
 pub invariant_of-self : goal.invariant_of-self
 invariant_of-self g c =
+    let w : IsWorld g.D.Holder.bytes c.maintain.new.ledger c.self.inside.rights c.self.inside.filters c.self.inside.states =
     world_stays g.D.Holder.bytes c.args.session (Said.chore (chore_of c.args.chore)) c.self.inside.ledger (reply_of c.maintain.result) c.maintain.new.ledger c.self.inside.rights
-    refl c.self.invariant c.maintain.ensures.answers
+    refl c.self.invariant c.maintain.ensures.answers in record {
+      carried = w.carried;
+      counted = w.counted;
+      sets =
+          remembered_are_right (shape_in c.maintain.new.ledger) c.self.inside.filters c.maintain.new.filters c.maintain.ensures.known
+          c.maintain.ensures.below w.sets;
+      kept = w.kept;
+    }
 
 pub returns-clause-does : goal.returns-clause-does
 returns-clause-does g c = rw (← c.self.view_is) (
     does g.D.Holder.bytes g.D.Holder.can_fail c.args.session (Said.chore (chore_of c.args.chore)) c.self.inside.ledger (reply_of c.maintain.result) c.maintain.new.ledger
-    c.self.inside.rights c.self.inside.rights c.self.invariant (chore_caused g.D.Holder.bytes g.D.Holder.can_fail c.self.inside.ledger c.self.inside.rights c.maintain.result c.args.session c.maintain.new.ledger c.self.invariant.carried c.maintain.ensures.foreign (length c.self.inside.filters.cached) c.args.chore c.maintain.ensures.answers c.maintain.ensures.told c.maintain.ensures.refusal c.maintain.ensures.device) c.maintain.ensures.answers c.maintain.ensures.can c.maintain.ensures.policy refl
-    (λ k. maintained_wants (g.D.Holder.bytes (device_in c.self.inside.ledger)) (shape_in c.self.inside.ledger) c.args.session c.maintain.result (stopped c.maintain.result k) (policy_in c.self.inside.ledger) c.args.chore c.maintain.ensures.foreign c.maintain.ensures.refusal))
+    c.self.inside.rights c.self.inside.rights c.self.invariant (chore_caused g.D.Holder.bytes g.D.Holder.can_fail c.self.inside.ledger c.self.inside.rights c.maintain.result c.args.session c.maintain.new.ledger c.self.invariant.carried (λ k. let f = c.maintain.ensures.foreign k in (f.0, f.1)) (length c.self.inside.filters.cached) c.args.chore c.maintain.ensures.answers c.maintain.ensures.told c.maintain.ensures.refusal c.maintain.ensures.device) c.maintain.ensures.answers c.maintain.ensures.can c.maintain.ensures.policy refl
+    (λ k. maintained_wants (g.D.Holder.bytes (device_in c.self.inside.ledger)) (shape_in c.self.inside.ledger) c.args.session c.maintain.result (stopped c.maintain.result k) (policy_in c.self.inside.ledger) c.args.chore (λ k. let f = c.maintain.ensures.foreign k in (f.0, f.1)) c.maintain.ensures.refusal))
 
 pub returns-clause-history : goal.returns-clause-history
 returns-clause-history g c = rw (← c.self.view_is) c.maintain.ensures.history

@@ -1,7 +1,8 @@
 use Rattle.std.proofs.Common.{refl}
 use Rattle.cat_model.specs.Lines.{Said}
 use Rattle.cat_replies.specs.Reply.{reply_of}
-use Rattle.cat_world.proofs.Kept.{does, world_stays}
+use Rattle.cat_world.proofs.Kept.{does_telling, world_stays}
+use Rattle.cat_world.proofs.Names.{source_told}
 use Rattle.cat_world.proofs.Caused.{get_caused}
 use Rattle.cat_ledger.specs.Ledgers.{device_in, shape_in}
 use Rattle.cat_world.proofs.Wanted.{stopped, get_wants}
@@ -14,8 +15,9 @@ invariant_of-self g c =
 
 pub returns-clause-does : goal.returns-clause-does
 returns-clause-does g c = rw (← c.self.view_is) (
-    does g.D.Holder.bytes g.D.Holder.can_fail c.args.session (Said.get c.args.token c.args.id.now) c.self.inside.ledger (reply_of c.get.result) c.get.new.ledger
-    c.self.inside.rights c.self.inside.rights c.self.invariant (get_caused g.D.Holder.bytes g.D.Holder.can_fail c.self.inside.ledger c.self.inside.rights c.get.result c.args.token c.args.id.now c.get.ensures.damaged c.get.ensures.device) c.get.ensures.answers c.get.ensures.can c.get.ensures.policy refl
+    does_telling g.D.Holder.bytes g.D.Holder.can_fail c.args.session (Said.get c.args.token c.args.id.now) c.self.inside.ledger (reply_of c.get.result) c.get.new.ledger
+    c.self.inside.rights c.self.inside.rights c.self.invariant (get_caused g.D.Holder.bytes g.D.Holder.can_fail c.self.inside.ledger c.self.inside.rights c.get.result c.args.token c.args.id.now c.get.ensures.damaged c.get.ensures.device) c.get.ensures.answers c.get.ensures.can c.get.ensures.policy
+    (source_told (shape_in c.self.inside.ledger) c.args.token c.args.id.now c.get.result c.get.ensures.one_line)
     (λ k. get_wants (g.D.Holder.bytes (device_in c.self.inside.ledger)) (shape_in c.self.inside.ledger) c.args.session c.get.result (stopped c.get.result k) c.args.token c.args.id.now c.get.ensures.wrong c.get.ensures.due))
 
 pub returns-clause-history : goal.returns-clause-history
