@@ -1,6 +1,7 @@
 //! The command that reads a stored item under a right to a view.
 //!
 //! Lucene's `StoredFields.document`, over a reader that `SearcherLifetimeManager.acquire` gave.
+ghost use Rattle.cat_directory.specs.Devices.{CountsOne};
 ghost use Rattle.std.specs.Prelude.{◌≡◌, ◌⊎◌, ℕ, Err, IfErr, IfOk, List, Ok, Option, false, true};
 ghost use Rattle.cat_base.specs.declared.refusal.Refusal.TheVariants.{Damaged, Device, Memory, NotHeld};
 ghost use Rattle.cat_model.specs.Answer.{Found, HasNoLineFeed};
@@ -47,6 +48,7 @@ pub fn get<D: Directory + Shelf>(
     ensures refusal { id_of id.now ≡ Ok id.now → has_hold (shape_in ledger.old).holds session token ≡ true
         → IfErr result (λ e. (e ≡ Memory) ⊎ (e ≡ Device) ⊎ (e ≡ Damaged)) }
     ensures one_line { IfOk result (λ a. (source : Option Text) × (answer_of a ≡ run.Answer.found (Found.source source)) × HasNoLineFeed source) }
+    ensures counted { IfErr result (λ e. e ≡ Device → CountsOne (D.fault_count (device_in ledger.old)) (D.fault_count (device_in ledger.new))) }
     ensures damaged { IfErr result (λ e. e ≡ Damaged → (view : View) → IsRecordedAs (shape_in ledger.old).views token view
         → (files : ℕ → List ℕ) → TellsSource (D.bytes (device_in ledger.old)) files view id.now → HoldsSource files view id.now → ⊥) }
     ensures device { IfErr result (λ e. e ≡ Device → D.can_fail (device_in ledger.old)) }

@@ -1,6 +1,7 @@
 //! The commands of maintenance, which session 0 alone may give.
 //!
 //! Lucene's `IndexWriter.maybeMerge`, `forceMerge(1)` and `deleteUnusedFiles`, and what `getDocStats` tells.
+ghost use Rattle.cat_directory.specs.Devices.{CountsOne};
 ghost use Rattle.std.specs.Prelude.{◌≡◌, ◌≢◌, ◌⊎◌, IfOk, IfErr, Err, length};
 ghost use Rattle.cat_base.specs.declared.refusal.Refusal.TheVariants.{Device, Line as NoForm, Memory};
 ghost use Rattle.cat_model.specs.Lines.{Said};
@@ -40,6 +41,7 @@ fn merge<D: Directory + Shelf>(
     ledger: &mut Ledger<D>,
     filters: &mut Filters,
 ) -> Result<Answer, Refusal>
+    ensures counted { IfErr result (λ e. e ≡ Device → CountsOne (D.fault_count (device_in ledger.old)) (D.fault_count (device_in ledger.new))) }
     ensures answers { Answers D.bytes 0 (run.Command.chore run.Chore.merge) ledger.old (reply_of result) ledger.new }
     ensures refusal { IfErr result (MayRefuseMerge (policy_in ledger.old) (shape_in ledger.old)) }
     ensures device { IfErr result (λ e. e ≡ Device → HasRowsLeft (shape_in ledger.old).merging ⊎ D.can_fail (device_in ledger.old)) }
@@ -71,6 +73,7 @@ fn sweep<D: Directory + Shelf>(ledger: &mut Ledger<D>) -> Result<Answer, Refusal
     match ledger.sweep() {
         Ok(files) => Ok(Answer::News(News::Swept(files))),
         Err(refusal) => Err(refusal),
+    ensures counted { IfErr result (λ e. e ≡ Device → CountsOne (D.fault_count (device_in ledger.old)) (D.fault_count (device_in ledger.new))) }
     }
 }
 

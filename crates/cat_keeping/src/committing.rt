@@ -1,6 +1,7 @@
 //! The commands that keep commits, and let them go.
 //!
 //! Lucene's `IndexWriter.commit` with `setLiveCommitData`, and `SnapshotDeletionPolicy.snapshot` and `release`.
+ghost use Rattle.cat_directory.specs.Devices.{CountsOne};
 ghost use Rattle.std.specs.Prelude.{◌≡◌, ◌⊎◌, ℕ, ◌<◌, IfErr, OnErr, Ok, Err, Some};
 ghost use Rattle.cat_base.specs.declared.refusal.Refusal.TheVariants.{Device, Memory, Spent};
 ghost use Rattle.cat_model.specs.Heard.{commit_text_of};
@@ -35,6 +36,7 @@ pub fn commit<D: Directory + Shelf>(ledger: &mut Ledger<D>, text: &str) -> Resul
         → (last_number < (shape_in ledger.old).next_generation) ⊎ MayNotFlush (shape_in ledger.old)) }
     ensures device { commit_text_of text.now ≡ Ok text.now → IfErr result (λ e. e ≡ Device → D.can_fail (device_in ledger.old)) }
     ensures crash { Spares D.may_leave ledger.old ledger.new }
+    ensures counted { commit_text_of text.now ≡ Ok text.now → IfErr result (λ e. e ≡ Device → CountsOne (D.fault_count (device_in ledger.old)) (D.fault_count (device_in ledger.new))) }
     ensures can { D.can_fail (device_in ledger.new) → D.can_fail (device_in ledger.old) }
     ensures history { GoesBy D.may_leave (Some (Said.commit text.now)) (reply_of result) ledger.old ledger.new }
     ensures policy { policy_in ledger.new ≡ policy_in ledger.old }

@@ -1,6 +1,7 @@
 //! The commands that record views, and let them go.
 //!
 //! Lucene's `SearcherLifetimeManager.record` and `prune`.
+ghost use Rattle.cat_directory.specs.Devices.{CountsOne};
 ghost use Rattle.std.specs.Prelude.{◌≡◌, ℕ, ◌⊎◌, IfErr, OnErr, Err};
 ghost use Rattle.cat_base.specs.declared.refusal.Refusal.TheVariants.{Device, Full, Memory, Spent};
 ghost use Rattle.cat_model.specs.Lines.{Said};
@@ -30,6 +31,7 @@ pub fn refresh<D: Directory + Shelf>(ledger: &mut Ledger<D>) -> Result<Answer, R
     ensures due { IfErr result (λ e. (e ≡ Memory) ⊎ (e ≡ Device) → MayNotFlush (shape_in ledger.old) → ⊥) }
     ensures device { IfErr result (λ e. e ≡ Device → D.can_fail (device_in ledger.old)) }
     ensures crash { Spares D.may_leave ledger.old ledger.new }
+    ensures counted { IfErr result (λ e. e ≡ Device → CountsOne (D.fault_count (device_in ledger.old)) (D.fault_count (device_in ledger.new))) }
     ensures can { D.can_fail (device_in ledger.new) → D.can_fail (device_in ledger.old) }
     ensures history { Goes D.may_leave Event.Other ledger.old ledger.new }
     ensures policy { policy_in ledger.new ≡ policy_in ledger.old }

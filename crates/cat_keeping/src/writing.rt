@@ -1,6 +1,7 @@
 //! The commands that write: each accepted one takes the next number.
 //!
 //! Lucene's `IndexWriter.updateDocument` and `deleteDocuments`, of the texts that a line carries.
+ghost use Rattle.cat_directory.specs.Devices.{CountsOne};
 ghost use Rattle.std.specs.Prelude.{◌≡◌, ◌≢◌, ◌⊎◌, ℕ, ◌≤◌, length, IfOk, IfErr, IfSome, OnErr, Result, Err, Ok, true};
 ghost use Rattle.cat_base.specs.declared.refusal.Refusal.TheVariants.{Device, Memory, Query as NoQuery, Spent};
 ghost use Rattle.cat_model.specs.Faults.{Fault};
@@ -71,6 +72,7 @@ pub fn put<D: Directory + Shelf>(
         ⊎ ((buffer_limit ≤ length (shape_in ledger.old).buffered) × MayNotFlush (shape_in ledger.old))) }
     ensures device { IfErr result (λ e. e ≡ Device → D.can_fail (device_in ledger.old)) }
     ensures crash { Spares D.may_leave ledger.old ledger.new }
+    ensures counted { IfErr result (λ e. e ≡ Device → CountsOne (D.fault_count (device_in ledger.old)) (D.fault_count (device_in ledger.new))) }
     ensures can { D.can_fail (device_in ledger.new) → D.can_fail (device_in ledger.old) }
     ensures history { Goes D.may_leave Event.Other ledger.old ledger.new }
     ensures policy { policy_in ledger.new ≡ policy_in ledger.old }

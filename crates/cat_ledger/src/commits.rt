@@ -13,7 +13,7 @@ ghost use Rattle.cat_ledger_model.specs.Replies.{IsLeft};
 ghost use Rattle.cat_ledger_model.specs.Ledger.{IsNew};
 ghost use Rattle.cat_ledger_shape.specs.Ties.{Makes};
 ghost use Rattle.cat_ledger_core.specs.Cores.{MayNotFlush};
-ghost use Rattle.cat_directory.specs.Devices.{NoMore};
+ghost use Rattle.cat_directory.specs.Devices.{CountsOne, NoMore};
 ghost use Rattle.cat_ledger_model.specs.Calls.{Snaps, Unsnapped};
 ghost use Rattle.cat_model.specs.Heard.{commit_text_of};
 ghost use Rattle.cat_model.specs.Limits.{last_number, snapshot_limit};
@@ -49,6 +49,7 @@ fn flush_and_commit<D: Directory>(
         → IsLasting D.bytes D.may_leave device.new core.new) }
     ensures spent { IfErr result (λ e. e ≡ Spent → MayNotFlush core.old) }
     ensures device { IsCarried (D.bytes device.old) core.old → IfErr result (λ e. e ≡ Device → D.can_fail device.old) }
+    ensures counted { IfErr result (λ e. e ≡ Device → CountsOne (D.fault_count device.old) (D.fault_count device.new)) }
     ensures can { D.can_fail device.new → D.can_fail device.old }
     ensures refusal { IfErr result (λ e. (e ≡ Memory) ⊎ (e ≡ Device) ⊎ (e ≡ Spent)) }
 {
@@ -87,6 +88,7 @@ impl<D: Directory + Shelf> Ledger<D> {
         ensures crash { Spares D.may_leave self.old self.new }
         ensures refusal { commit_text_of text.now ≡ Ok text.now → IfErr result (λ e. (e ≡ Memory) ⊎ (e ≡ Device) ⊎ (e ≡ Spent)) }
         ensures device { commit_text_of text.now ≡ Ok text.now → IfErr result (λ e. e ≡ Device → D.can_fail (device_in self.old)) }
+        ensures counted { commit_text_of text.now ≡ Ok text.now → IfErr result (λ e. e ≡ Device → CountsOne (D.fault_count (device_in self.old)) (D.fault_count (device_in self.new))) }
         ensures can { D.can_fail (device_in self.new) → D.can_fail (device_in self.old) }
         ensures answered { IfOk result (λ g. Goes D.may_leave (Event.Answered g) self.old self.new) }
         ensures refused { OnErr result (Goes D.may_leave Event.Other self.old self.new

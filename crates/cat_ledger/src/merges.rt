@@ -1,6 +1,7 @@
 //! Merges, step by step: of the segments that the policy picks, or of all.
 //!
 //! Lucene's `IndexWriter.maybeMerge` with a `LogDocMergePolicy`, and `forceMerge(1)`; there a scheduler's threads run a merge whole.
+ghost use Rattle.cat_directory.specs.Devices.{CountsOne};
 ghost use Rattle.std.specs.Prelude.{◌≡◌, ◌≢◌, ◌⊎◌, ◌<◌, ◌≤◌, None, IfOk, IfErr, OnErr};
 ghost use Rattle.cat_base.specs.declared.refusal.Refusal.TheVariants.{Memory, Device, Damaged, Spent};
 ghost use Rattle.cat_model.specs.Limits.{last_number};
@@ -36,6 +37,7 @@ impl<D: Directory + Shelf> Ledger<D> {
             ⊎ (IsMergeDue (policy_in self.old) (shape_in self.old) × ((shape_in self.old).next_segment ≤ last_number))) }
         ensures damaged { IfErr result (λ e. e ≡ Damaged → HasRowsLeft (shape_in self.old).merging) }
         ensures device { IfErr result (λ e. e ≡ Device → HasRowsLeft (shape_in self.old).merging ⊎ D.can_fail (device_in self.old)) }
+        ensures counted { IfErr result (λ e. e ≡ Device → CountsOne (D.fault_count (device_in self.old)) (D.fault_count (device_in self.new))) }
         ensures can { D.can_fail (device_in self.new) → D.can_fail (device_in self.old) }
         ensures history { Goes D.may_leave Event.Other self.old self.new }
         ensures policy { policy_in self.new ≡ policy_in self.old }
@@ -60,6 +62,7 @@ impl<D: Directory + Shelf> Ledger<D> {
         ensures spent { IfErr result (λ e. e ≡ Spent → last_number < (shape_in self.old).next_segment) }
         ensures left { IfErr result (λ e. (e ≡ Memory) ⊎ (e ≡ Device) → (shape_in self.old).next_segment ≤ last_number) }
         ensures device { IfErr result (λ e. e ≡ Device → D.can_fail (device_in self.old)) }
+        ensures counted { IfErr result (λ e. e ≡ Device → CountsOne (D.fault_count (device_in self.old)) (D.fault_count (device_in self.new))) }
         ensures can { D.can_fail (device_in self.new) → D.can_fail (device_in self.old) }
         ensures history { Goes D.may_leave Event.Other self.old self.new }
         ensures policy { policy_in self.new ≡ policy_in self.old }

@@ -7,7 +7,7 @@ ghost use Rattle.cat_ledger_model.specs.Replies.{IsLeft, MakesRoom};
 ghost use Rattle.cat_ledger_model.specs.Ledger.{IsNew};
 ghost use Rattle.cat_ledger_shape.specs.Ties.{Makes};
 ghost use Rattle.cat_ledger_core.specs.Cores.{HasFlushed, MayNotFlush};
-ghost use Rattle.cat_directory.specs.Devices.{NoMore};
+ghost use Rattle.cat_directory.specs.Devices.{CountsOne, NoMore};
 ghost use Rattle.cat_model.specs.Limits.{buffer_limit};
 ghost use Rattle.cat_directory.specs.Names.{name_of};
 ghost use Rattle.cat_upkeep.specs.Spared.{SparesCommits};
@@ -33,6 +33,7 @@ pub(crate) fn flush<D: Directory>(core: &mut Core, device: &mut D) -> Result<(),
     ensures spent { IfErr result (λ e. e ≡ Spent → MayNotFlush core.old) }
     ensures due { IfErr result (λ e. (e ≡ Memory) ⊎ (e ≡ Device) → MayNotFlush core.old → ⊥) }
     ensures device { IfErr result (λ e. e ≡ Device → D.can_fail device.old) }
+    ensures counted { IfErr result (λ e. e ≡ Device → CountsOne (D.fault_count device.old) (D.fault_count device.new)) }
     ensures can { D.can_fail device.new → D.can_fail device.old }
     ensures refusal { IfErr result (λ e. (e ≡ Memory) ⊎ (e ≡ Device) ⊎ (e ≡ Spent)) }
 {
@@ -55,6 +56,7 @@ pub(crate) fn make_room<D: Directory>(core: &mut Core, device: &mut D) -> Result
     ensures spent { IfErr result (λ e. e ≡ Spent → (buffer_limit ≤ length core.old.buffered) × MayNotFlush core.old) }
     ensures due { IfErr result (λ e. (e ≡ Memory) ⊎ (e ≡ Device) → MayNotFlush core.old → ⊥) }
     ensures device { IfErr result (λ e. e ≡ Device → D.can_fail device.old) }
+    ensures counted { IfErr result (λ e. e ≡ Device → CountsOne (D.fault_count device.old) (D.fault_count device.new)) }
     ensures can { D.can_fail device.new → D.can_fail device.old }
     ensures refusal { IfErr result (λ e. (e ≡ Memory) ⊎ (e ≡ Device) ⊎ (e ≡ Spent)) }
 {

@@ -7,7 +7,7 @@ ghost use Rattle.cat_ledger.specs.Ledgers.{Does, device_in, policy_in, shape_in}
 ghost use Rattle.cat_directory.specs.declared.name.FileName.{FileName};
 ghost use Rattle.std.specs.Prelude.{IfErr, IfOk, OnOk, [], false, count_by, ◌<◌, ◌==◌, ◌≡◌, ◌⊎◌};
 ghost use Rattle.cat_ledger_model.specs.Calls.{MayLeave};
-ghost use Rattle.cat_directory.specs.Devices.{NoMore};
+ghost use Rattle.cat_directory.specs.Devices.{CountsOne, NoMore};
 ghost use Rattle.cat_directory.specs.Names.{name_of};
 ghost use Rattle.cat_ledger_model.specs.Users.{users_of};
 ghost use Rattle.cat_model.specs.Files.{Name};
@@ -41,6 +41,7 @@ impl<D: Directory + Shelf> Ledger<D> {
             → NoMore (D.may_leave (device_in self.old) q) (D.may_leave (device_in self.new) q) }
         ensures refusal { IfErr result (λ e. (e ≡ Memory) ⊎ (e ≡ Device)) }
         ensures device { IfErr result (λ e. e ≡ Device → D.can_fail (device_in self.old)) }
+        ensures counted { IfErr result (λ e. e ≡ Device → CountsOne (D.fault_count (device_in self.old)) (D.fault_count (device_in self.new))) }
         ensures can { D.can_fail (device_in self.new) → D.can_fail (device_in self.old) }
         ensures history { Goes D.may_leave Event.Other self.old self.new }
         ensures policy { policy_in self.new ≡ policy_in self.old }

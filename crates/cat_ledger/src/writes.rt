@@ -1,6 +1,7 @@
 //! The writes.
 //!
 //! Lucene's `IndexWriter.updateDocument` and `deleteDocuments`.
+ghost use Rattle.cat_directory.specs.Devices.{CountsOne};
 ghost use Rattle.cat_base.specs.declared.refusal.Refusal.TheVariants.{Device, Kind, Memory, Spent};
 ghost use Rattle.cat_ledger.specs.Histories.{Event, Goes};
 ghost use Rattle.cat_ledger.specs.Ledgers.{Does, Spares, device_in, policy_in, shape_in};
@@ -45,6 +46,7 @@ impl<D: Directory + Shelf> Ledger<D> {
         ensures crash { Spares D.may_leave self.old self.new }
         ensures refusal { IfErr result (λ e. (e ≡ Kind) ⊎ (e ≡ Memory) ⊎ (e ≡ Device) ⊎ (e ≡ Spent)) }
         ensures device { IfErr result (λ e. e ≡ Device → D.can_fail (device_in self.old)) }
+        ensures counted { IfErr result (λ e. e ≡ Device → CountsOne (D.fault_count (device_in self.old)) (D.fault_count (device_in self.new))) }
         ensures can { D.can_fail (device_in self.new) → D.can_fail (device_in self.old) }
         ensures history { Goes D.may_leave Event.Other self.old self.new }
         ensures policy { policy_in self.new ≡ policy_in self.old }

@@ -6,7 +6,7 @@ ghost use Rattle.cat_base.specs.declared.refusal.Refusal.TheVariants.{Memory, De
 ghost use Rattle.cat_model.specs.Files.{Name};
 ghost use Rattle.cat_model.specs.Forms.{IsCommitText};
 ghost use Rattle.cat_model.specs.Limits.{last_number};
-ghost use Rattle.cat_directory.specs.Devices.{NoMore};
+ghost use Rattle.cat_directory.specs.Devices.{CountsOne, NoMore};
 ghost use Rattle.cat_directory.specs.Names.{name_of};
 ghost use Rattle.cat_directory.specs.declared.name.FileName.{FileName};
 ghost use Rattle.cat_ledger_model.specs.Users.{has_name};
@@ -69,6 +69,7 @@ impl Core {
         ensures device { IfErr result (λ e. e ≡ Device → D.can_fail device.old
             ⊎ ((q : FileName) × (has_name (name_of q) (names_synced self.old) ≡ true) × (is_begun (names_begun self.old) q ≡ false)
             × (D.bytes device.old q ≡ Some None))) }
+        ensures counted { IfErr result (λ e. e ≡ Device → CountsOne (D.fault_count device.old) (D.fault_count device.new)) }
         ensures can { D.can_fail device.new → D.can_fail device.old }
         ensures refusal { IfErr result (λ e. (e ≡ Memory) ⊎ (e ≡ Device) ⊎ (e ≡ Spent)) }
     {

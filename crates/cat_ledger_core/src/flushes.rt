@@ -6,7 +6,7 @@ ghost use Rattle.std.specs.Prelude.{◌≡◌, ◌≢◌, ◌⊎◌, false, ◌<
 ghost use Rattle.cat_base.specs.declared.refusal.Refusal.TheVariants.{Memory, Device, Spent};
 ghost use Rattle.cat_model.specs.Files.{Name, IsFileNumber};
 ghost use Rattle.cat_model.specs.Layout.{SpellsSegment};
-ghost use Rattle.cat_directory.specs.Devices.{CountsWriting, NoMore};
+ghost use Rattle.cat_directory.specs.Devices.{CountsOne, CountsWriting, NoMore};
 ghost use Rattle.cat_directory.specs.declared.name.FileName.{FileName};
 ghost use Rattle.cat_ledger_model.specs.Leaves.{AreLeaves};
 ghost use Rattle.cat_ledger_model.specs.Portions.{all_live, leaf_of};
@@ -126,6 +126,7 @@ impl Core {
         ensures may { OnOk result (MayNotFlush self.old → ⊥) }
         ensures due { IfErr result (λ e. (e ≡ Memory) ⊎ (e ≡ Device) → MayNotFlush self.old → ⊥) }
         ensures device { IfErr result (λ e. e ≡ Device → D.can_fail device.old) }
+        ensures counted { IfErr result (λ e. e ≡ Device → CountsOne (D.fault_count device.old) (D.fault_count device.new)) }
         ensures can { D.can_fail device.new → D.can_fail device.old }
         ensures refusal { IfErr result (λ e. (e ≡ Memory) ⊎ (e ≡ Device) ⊎ (e ≡ Spent)) }
     {

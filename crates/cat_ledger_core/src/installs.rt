@@ -7,7 +7,7 @@ ghost use Rattle.std.specs.Option.{option_to_list};
 ghost use Rattle.cat_base.specs.declared.refusal.Refusal.TheVariants.{Memory, Device};
 ghost use Rattle.cat_model.specs.Files.{Name, IsFileNumber};
 ghost use Rattle.cat_model.specs.Layout.{SpellsSegment};
-ghost use Rattle.cat_directory.specs.Devices.{NoMore};
+ghost use Rattle.cat_directory.specs.Devices.{CountsOne, NoMore};
 ghost use Rattle.cat_directory.specs.Names.{name_of};
 ghost use Rattle.cat_directory.specs.declared.name.FileName.{FileName};
 ghost use Rattle.cat_ledger_model.specs.Users.{users_of, Changes};
@@ -73,6 +73,7 @@ fn write_new<D: Directory>(
         (λ leaf. TellsBytes (D.bytes device.new) (FileName.Segment number) (λ bytes. SpellsSegment bytes leaf.segment))
         (option_to_list merged.now)) }
     ensures device { IfErr result (λ e. e ≡ Device → D.can_fail device.old) }
+    ensures counted { IfErr result (λ e. e ≡ Device → CountsOne (D.fault_count device.old) (D.fault_count device.new)) }
     ensures can { D.can_fail device.new → D.can_fail device.old }
     ensures refusal { IfErr result (λ e. (e ≡ Memory) ⊎ (e ≡ Device)) }
 {
@@ -103,6 +104,7 @@ fn write_and_place<D: Directory>(
     ensures ok { OnOk result (current.new ≡ placed_in current.old place.0 place.1 (option_to_list merged)) }
     ensures err { OnErr result (current.new ≡ current.old) }
     ensures device { IfErr result (λ e. e ≡ Device → D.can_fail device.old) }
+    ensures counted { IfErr result (λ e. e ≡ Device → CountsOne (D.fault_count device.old) (D.fault_count device.new)) }
     ensures can { D.can_fail device.new → D.can_fail device.old }
     ensures refusal { IfErr result (λ e. (e ≡ Memory) ⊎ (e ≡ Device)) }
 {
@@ -133,6 +135,7 @@ fn install_merged<D: Directory>(
     ensures err { OnErr result (current.new ≡ current.old) }
     ensures same { OnErr result ((q : Name) → users_of refs.new q ≡ users_of refs.old q) }
     ensures device { IfErr result (λ e. e ≡ Device → D.can_fail device.old) }
+    ensures counted { IfErr result (λ e. e ≡ Device → CountsOne (D.fault_count device.old) (D.fault_count device.new)) }
     ensures can { D.can_fail device.new → D.can_fail device.old }
     ensures refusal { IfErr result (λ e. (e ≡ Memory) ⊎ (e ≡ Device)) }
 {
@@ -169,6 +172,7 @@ impl Core {
         ensures crash { (q : FileName) → (IsOfMerge self.old.merging q → ⊥)
             → NoMore (D.may_leave device.old q) (D.may_leave device.new q) }
         ensures device { IfErr result (λ e. e ≡ Device → D.can_fail device.old) }
+        ensures counted { IfErr result (λ e. e ≡ Device → CountsOne (D.fault_count device.old) (D.fault_count device.new)) }
         ensures can { D.can_fail device.new → D.can_fail device.old }
         ensures refusal { IfErr result (λ e. (e ≡ Memory) ⊎ (e ≡ Device)) }
     {

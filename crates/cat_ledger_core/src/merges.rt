@@ -6,7 +6,7 @@ ghost use Rattle.cat_base.specs.declared.refusal.Refusal.TheVariants.{Memory, De
 ghost use Rattle.cat_model.specs.Files.{Name};
 ghost use Rattle.cat_model.specs.Limits.{last_number, row_limit};
 ghost use Rattle.cat_model.specs.Merged.{rows_of_all};
-ghost use Rattle.cat_directory.specs.Devices.{CountsReading, NoMore};
+ghost use Rattle.cat_directory.specs.Devices.{CountsOne, CountsReading, NoMore};
 ghost use Rattle.cat_directory.specs.declared.name.FileName.{FileName};
 ghost use Rattle.cat_ledger_model.specs.Users.{users_of, times, Changes};
 ghost use Rattle.cat_ledger_shape.specs.Steps.{IsBegun};
@@ -63,6 +63,7 @@ impl Core {
         ensures spent { IfErr result (λ e. e ≡ Spent → last_number < self.old.next_segment) }
         ensures due { IfErr result (λ e. (e ≡ Memory) ⊎ (e ≡ Device) → self.old.next_segment ≤ last_number) }
         ensures device { IfErr result (λ e. e ≡ Device → D.can_fail device.old) }
+        ensures counted { IfErr result (λ e. e ≡ Device → CountsOne (D.fault_count device.old) (D.fault_count device.new)) }
         ensures can { D.can_fail device.new → D.can_fail device.old }
         ensures refusal { IfErr result (λ e. (e ≡ Memory) ⊎ (e ≡ Device) ⊎ (e ≡ Spent)) }
     {

@@ -4,7 +4,7 @@ use Rattle.std.specs.Prelude.{Option, None, Some, Result, Ok, Err, filter_map}
 use Rattle.std.specs.List.{AllByRecursion}
 use Rattle.std.proofs.lemmas.List.{append_cancel_right}
 use Rattle.cat_base.specs.declared.refusal.Refusal.{Refusal}
-use Rattle.cat_model.specs.Text.{Text}
+use Rattle.cat_model.specs.Text.{Text, IsOneLine}
 use Rattle.cat_model.specs.Item.{IsSchema, Schema}
 use Rattle.cat_model.specs.Table.{Opened, Start}
 use Rattle.cat_model.specs.Limits.{last_number}
@@ -12,7 +12,7 @@ use Rattle.cat_model.specs.Input.{ended_lines, lines_of}
 use Rattle.cat_model.specs.Run.{IsRun}
 use Rattle.cat_model.specs.Served.{Begins, Ending, IsServed, OpensEmpty, exchange}
 use Rattle.cat_model.specs.Served.{Answered as AnsweredBy}
-use Rattle.cat_model.specs.Talk.{Answering, AreAlike, IsOneLine, IsTalk, Pair}
+use Rattle.cat_model.specs.Talk.{Answering, AreAlike, IsTalk, Pair}
 use Rattle.cat_model.proofs.TalkInput.{ended_are_lines, lines_are_lines}
 use Rattle.cat_schema.specs.Laws.{HaveOneSchema}
 use Rattle.cat_schema.specs.Reading.{json}

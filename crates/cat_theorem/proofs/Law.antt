@@ -6,7 +6,7 @@ use Rattle.std.specs.Fmt.{decimal}
 use Rattle.std.proofs.lemmas.List.{length-append}
 use Rattle.cat_base.specs.declared.refusal.Refusal.{Refusal}
 use Rattle.cat_base.specs.declared.refusal.Refusal.TheVariants.{Memory, Device, Damaged}
-use Rattle.cat_model.specs.Text.{Text}
+use Rattle.cat_model.specs.Text.{Text, IsOneLine}
 use Rattle.cat_model.specs.Item.{Schema, Record}
 use Rattle.cat_model.specs.Write.{Write}
 use Rattle.cat_model.specs.Table.{Opened, count, table, writes_up_to}
@@ -17,7 +17,7 @@ use Rattle.cat_model.specs.Limits.{last_number}
 use Rattle.cat_model.specs.Heard.{Json, IsCommand, id_of}
 use Rattle.cat_model.specs.Served.{Outcome, outcome_text}
 use Rattle.cat_model.specs.Laws.{HeldRead}
-use Rattle.cat_model.specs.Talk.{AreAlike, Pair, IsOneLine, IsTalk, IsWrite, WritesAgree, IsRead, ReadsUnder, HeldAsk, ShowsHold, excepted_replies}
+use Rattle.cat_model.specs.Talk.{AreAlike, Pair, IsTalk, IsWrite, WritesAgree, IsRead, ReadsUnder, HeldAsk, ShowsHold, excepted_replies}
 use Rattle.cat_model.proofs.Runs.{held_read_is_of_its_table, held_reads_agree, held_low, held_writes}
 use Rattle.cat_model.proofs.Sayings.{one_command}
 use Rattle.cat_model.proofs.TalkCuts.{same_line}

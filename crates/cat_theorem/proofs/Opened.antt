@@ -5,13 +5,13 @@ use Rattle.std.specs.List.{list_all, AllByRecursion}
 use Rattle.std.specs.Char.{is_ascii_graphic}
 use Rattle.std.proofs.lemmas.Bool.{and_parts}
 use Rattle.std.proofs.lemmas.List.Elements.{recursion_from_All}
-use Rattle.cat_model.specs.Text.{Text}
+use Rattle.cat_model.specs.Text.{Text, IsOneLine}
 use Rattle.cat_model.specs.Item.{Content, FieldContent, Record, Schema, is_id}
 use Rattle.cat_model.specs.Files.{Name}
 use Rattle.cat_model.specs.Forms.{IsFormed, IsLabel, is_plain_byte}
 use Rattle.cat_model.specs.CommitFile.{ListedSegment}
 use Rattle.cat_model.specs.View.{IsFormedRow, Leaf, Row, row_of, selected}
-use Rattle.cat_model.specs.Talk.{IsOneLine, HasOneLines}
+use Rattle.cat_model.specs.Talk.{HasOneLines}
 use Rattle.cat_model.proofs.Lists.{All-both, All-weaken}
 use Rattle.cat_ledger_model.specs.Opening.{AreLeavesOf, IsRestored, Restored}
 use Rattle.cat_ledger_model.specs.Portions.{Portion, leaf_of, live_records, records_of}

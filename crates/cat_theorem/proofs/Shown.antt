@@ -9,7 +9,7 @@ use Rattle.cat_base.specs.declared.refusal.Refusal.TheVariants.{Count, SortField
 use Rattle.std.proofs.lemmas.List.Elements.{All-from_recursion, recursion_from_All}
 use Rattle.std.proofs.lemmas.Map.Views.{All-insert_key}
 use Rattle.cat_base.specs.Texts.{sorted_set}
-use Rattle.cat_model.specs.Text.{Text, same_text, text_cmp}
+use Rattle.cat_model.specs.Text.{Text, same_text, text_cmp, IsOneLine}
 use Rattle.cat_model.specs.Item.{Item, Schema, IsSchema, Content, FieldContent, Record, kind_of, content_of, labels_in}
 use Rattle.cat_model.specs.Write.{Write}
 use Rattle.cat_model.specs.Query.{Query}
@@ -21,7 +21,7 @@ use Rattle.cat_model.specs.Run.{Command, Answer, Reply, Exchange, Run, accepted,
 use Rattle.cat_model.specs.Lines.{Said, spaced, spelling}
 use Rattle.cat_model.specs.Heard.{Json, Hears}
 use Rattle.cat_model.specs.Served.{Outcome, heard, exchange}
-use Rattle.cat_model.specs.Talk.{IsOneLine, HasOneLines, IsShownInLines, ReadsLines}
+use Rattle.cat_model.specs.Talk.{HasOneLines, IsShownInLines, ReadsLines}
 use Rattle.cat_model.proofs.Lists.{All-both, All-kept}
 use Rattle.cat_model.proofs.TalkHeard.{Entry, run_of, Heeded, heard_line}
 use Rattle.cat_model.proofs.TalkHolds.{all_split}

@@ -2,7 +2,7 @@
 use Rattle.std.specs.Prelude.{◌≡◌, ℕ, ◌≤◌, ◌⊎◌, List, [], ◌∷◌, ◌++◌, codes, filter_map, length, map, Option, Some, None, Ok}
 use Rattle.std.specs.List.{flat_map, AllByRecursion}
 use Rattle.std.specs.Fmt.{decimal}
-use Rattle.cat_model.specs.Text.{Text}
+use Rattle.cat_model.specs.Text.{Text, IsOneLine}
 use Rattle.cat_world.specs.Serving.{AreLike}
 use Rattle.cat_theorem.specs.Calls.{Agree}
 use Rattle.cat_model.specs.Item.{IsSchema, Item, Record}
@@ -12,7 +12,7 @@ use Rattle.cat_model.specs.Lines.{Said, SpellsSaid, line_text}
 use Rattle.cat_model.specs.Run.{IsRun, writes}
 use Rattle.cat_model.specs.Heard.{Json}
 use Rattle.cat_model.specs.Served.{HeardAll, Outcome, exchange, outcome_text}
-use Rattle.cat_model.specs.Talk.{AreAlike, HasOneLines, HeldAsk, IsOneLine, IsRead, IsTalk, Pair, ReadsLines, WritesAgree}
+use Rattle.cat_model.specs.Talk.{AreAlike, HasOneLines, HeldAsk, IsRead, IsTalk, Pair, ReadsLines, WritesAgree}
 
 -- no text of the item that a page or counts show has a line feed; its source may have some
 pub record PartShown (i : Item) : Type 0 where

@@ -6,7 +6,7 @@ ghost use Rattle.cat_base.specs.declared.refusal.Refusal.TheVariants.{Memory, De
 ghost use Rattle.cat_model.specs.Limits.{last_number};
 ghost use Rattle.cat_model.specs.Run.{Chore, News};
 ghost use Rattle.cat_model.specs.Window.{IsWindow};
-ghost use Rattle.cat_directory.specs.Devices.{NoMore};
+ghost use Rattle.cat_directory.specs.Devices.{CountsOne, NoMore};
 ghost use Rattle.cat_directory.specs.Names.{name_of};
 ghost use Rattle.cat_directory.specs.declared.name.FileName.{FileName};
 ghost use Rattle.cat_ledger_model.specs.Ledger.{IsNew};
@@ -46,6 +46,7 @@ fn begin_at<D: Directory>(
     ensures spent { IfErr result (λ e. e ≡ Spent → last_number < core.old.next_segment) }
     ensures left { IfErr result (λ e. (e ≡ Memory) ⊎ (e ≡ Device) → core.old.next_segment ≤ last_number) }
     ensures device { IfErr result (λ e. e ≡ Device → D.can_fail device.old) }
+    ensures counted { IfErr result (λ e. e ≡ Device → CountsOne (D.fault_count device.old) (D.fault_count device.new)) }
     ensures can { D.can_fail device.new → D.can_fail device.old }
     ensures refusal { IfErr result (λ e. (e ≡ Memory) ⊎ (e ≡ Device) ⊎ (e ≡ Spent)) }
 {
@@ -74,6 +75,7 @@ fn begin_window<D: Directory>(
     ensures spent { IfErr result (λ e. e ≡ Spent → last_number < core.old.next_segment) }
     ensures left { IfErr result (λ e. e ≡ Device → core.old.next_segment ≤ last_number) }
     ensures device { IfErr result (λ e. e ≡ Device → D.can_fail device.old) }
+    ensures counted { IfErr result (λ e. e ≡ Device → CountsOne (D.fault_count device.old) (D.fault_count device.new)) }
     ensures can { D.can_fail device.new → D.can_fail device.old }
     ensures refusal { IfErr result (λ e. (e ≡ Memory) ⊎ (e ≡ Device) ⊎ (e ≡ Spent)) }
 {
@@ -92,6 +94,7 @@ fn copy<D: Directory + Shelf>(core: &mut Core, device: &mut D) -> Result<usize, 
     ensures err { OnErr result (Makes IsLeft (D.bytes device.old) core.old (D.bytes device.new) core.new) }
     ensures crash { (q : FileName) → (IsOfMerge core.old.merging q → ⊥) → NoMore (D.may_leave device.old q) (D.may_leave device.new q) }
     ensures commits { SparesCommits (D.may_leave device.old) (D.may_leave device.new) }
+    ensures counted { IfErr result (λ e. e ≡ Device → CountsOne (D.fault_count device.old) (D.fault_count device.new)) }
     ensures can { D.can_fail device.new → D.can_fail device.old }
     ensures refusal { IfErr result (λ e. (e ≡ Memory) ⊎ (e ≡ Device) ⊎ (e ≡ Damaged)) }
 {
@@ -114,6 +117,7 @@ fn finish<D: Directory>(core: &mut Core, device: &mut D) -> Result<(), Refusal>
     ensures crash { (q : FileName) → (IsOfMerge core.old.merging q → ⊥) → NoMore (D.may_leave device.old q) (D.may_leave device.new q) }
     ensures commits { SparesCommits (D.may_leave device.old) (D.may_leave device.new) }
     ensures device { IfErr result (λ e. e ≡ Device → D.can_fail device.old) }
+    ensures counted { IfErr result (λ e. e ≡ Device → CountsOne (D.fault_count device.old) (D.fault_count device.new)) }
     ensures can { D.can_fail device.new → D.can_fail device.old }
     ensures refusal { IfErr result (λ e. (e ≡ Memory) ⊎ (e ≡ Device)) }
 {
@@ -135,6 +139,7 @@ fn go_on<D: Directory + Shelf>(core: &mut Core, device: &mut D) -> Result<MergeN
     ensures commits { SparesCommits (D.may_leave device.old) (D.may_leave device.new) }
     ensures damaged { IfErr result (λ e. e ≡ Damaged → HasRowsLeft core.old.merging) }
     ensures device { IfErr result (λ e. e ≡ Device → HasRowsLeft core.old.merging ⊎ D.can_fail device.old) }
+    ensures counted { IfErr result (λ e. e ≡ Device → CountsOne (D.fault_count device.old) (D.fault_count device.new)) }
     ensures can { D.can_fail device.new → D.can_fail device.old }
     ensures refusal { IfErr result (λ e. (e ≡ Memory) ⊎ (e ≡ Device) ⊎ (e ≡ Damaged)) }
 {
@@ -175,6 +180,7 @@ pub fn merge_step<D: Directory + Shelf>(
         → (core.old.merging ≢ None) ⊎ (IsMergeDue policy core.old × (core.old.next_segment ≤ last_number))) }
     ensures damaged { IfErr result (λ e. e ≡ Damaged → HasRowsLeft core.old.merging) }
     ensures device { IfErr result (λ e. e ≡ Device → HasRowsLeft core.old.merging ⊎ D.can_fail device.old) }
+    ensures counted { IfErr result (λ e. e ≡ Device → CountsOne (D.fault_count device.old) (D.fault_count device.new)) }
     ensures can { D.can_fail device.new → D.can_fail device.old }
     ensures refusal { IfErr result (λ e. (e ≡ Memory) ⊎ (e ≡ Device) ⊎ (e ≡ Damaged) ⊎ (e ≡ Spent)) }
 {

@@ -14,7 +14,7 @@ use Rattle.cat_model.specs.Lines.{Said}
 use Rattle.cat_model.specs.Run.{Answer, Chore, Command, News, Reply}
 use Rattle.cat_model.specs.Text.{Text}
 use Rattle.cat_model.specs.View.{View}
-use Rattle.cat_directory.specs.Devices.{FileContent}
+use Rattle.cat_directory.specs.Devices.{CountsOne, FileContent}
 use Rattle.cat_directory.specs.declared.name.FileName.{FileName}
 use Rattle.cat_holding.specs.Holding.{said_open}
 use Rattle.cat_keeping.specs.Chores.{FailsFor, MayRefuse, MayRefuseForce, MayRefuseMerge, Tells, chore_of, stat_in}
@@ -58,27 +58,37 @@ given_so A x result e h same is = refused_so (λ y. y ≡ x → A) result e h is
 not_told : (result : Result code.Answer Refusal) (x : Refusal) (reply : Reply) → (Err x ≢ reply) → result ≡ Err x → reply_of result ≡ reply → ⊥
 not_told result x reply differs given is = differs (sym (ap reply_of given) ∙ is)
 
-module _ {D : Type 0} (bytes : D → ToldFiles) (can_fail : D → Type 0) (old : Ledger D) (rights : List Hold) (result : Result code.Answer Refusal) where
+module _ {D : Type 0} (bytes : D → ToldFiles) (can_fail : D → Type 0) (faults : D → ℕ) (old : Ledger D) (rights : List Hold) (result : Result code.Answer Refusal)
+    (left : Ledger D) (rights' : List Hold) where
   abbrev world : Service D
   world = record { ledger = old; rights = rights }
 
+  abbrev after : Service D
+  after = record { ledger = left; rights = rights' }
+
+  abbrev Counted : Type 0
+  Counted = CountsOne (faults (device_in old)) (faults (device_in left))
+
   abbrev Causes : Said → Type 0
-  Causes said = HasCause bytes can_fail world (Some said) (reply_of result)
+  Causes said = HasCause bytes can_fail faults world (Some said) (reply_of result) after
 
   pub put_caused : (text : Text)
       → IfErr result (λ e. e ≡ Spent → (last_number ≤ (shape_in old).count) ⊎ ((buffer_limit ≤ length (shape_in old).buffered) × MayNotFlush (shape_in old)))
-      → IfErr result (λ e. e ≡ Device → can_fail (device_in old)) → Causes (Said.put text)
-  put_caused text spent device = record {
+      → IfErr result (λ e. e ≡ Device → can_fail (device_in old)) → IfErr result (λ e. e ≡ Device → Counted) → Causes (Said.put text)
+  put_caused text spent device counted = record {
     spent = given_so (IsSpentTo (policy_in old) (shape_in old) (Some (Said.put text))) Spent result Spent spent refl;
     device = given_so (can_fail (device_in old)) Device result Device device refl;
+    counted = given_so Counted Device result Device counted refl;
     damaged = λ k. tt;
     told = tt;
   }
 
-  pub refresh_caused : IfErr result (λ e. e ≡ Spent → MayNotFlush (shape_in old)) → IfErr result (λ e. e ≡ Device → can_fail (device_in old)) → Causes Said.refresh
-  refresh_caused spent device = record {
+  pub refresh_caused : IfErr result (λ e. e ≡ Spent → MayNotFlush (shape_in old)) → IfErr result (λ e. e ≡ Device → can_fail (device_in old))
+      → IfErr result (λ e. e ≡ Device → Counted) → Causes Said.refresh
+  refresh_caused spent device counted = record {
     spent = given_so (MayNotFlush (shape_in old)) Spent result Spent spent refl;
     device = given_so (can_fail (device_in old)) Device result Device device refl;
+    counted = given_so Counted Device result Device counted refl;
     damaged = λ k. tt;
     told = tt;
   }
@@ -86,18 +96,19 @@ module _ {D : Type 0} (bytes : D → ToldFiles) (can_fail : D → Type 0) (old :
   pub get_caused : (t : ℕ) (id : Text)
       → IfErr result (λ e. e ≡ Damaged → (view : View) → IsRecordedAs (shape_in old).views t view → (files : ℕ → List ℕ)
       → TellsSource (bytes (device_in old)) files view id → HoldsSource files view id → ⊥)
-      → IfErr result (λ e. e ≡ Device → can_fail (device_in old)) → Causes (Said.get t id)
-  get_caused t id damaged device = record {
+      → IfErr result (λ e. e ≡ Device → can_fail (device_in old)) → IfErr result (λ e. e ≡ Device → Counted) → Causes (Said.get t id)
+  get_caused t id damaged device counted = record {
     spent = λ k. tt;
     device = given_so (can_fail (device_in old)) Device result Device device refl;
+    counted = given_so Counted Device result Device counted refl;
     damaged = given_so (IsDamagedTo (bytes (device_in old)) (shape_in old) (Some (Said.get t id))) Damaged result Damaged damaged refl;
     told = tt;
   }
 
   -- an OPEN, of which the run says what it is told
   pub open_caused : (token : Option ℕ) → Causes (said_open token)
-  open_caused None = record { spent = λ k. tt; device = λ k. tt; damaged = λ k. tt; told = tt }
-  open_caused (Some t) = record { spent = λ k. tt; device = λ k. tt; damaged = λ k. tt; told = tt }
+  open_caused None = record { spent = λ k. tt; device = λ k. tt; counted = λ k. tt; damaged = λ k. tt; told = tt }
+  open_caused (Some t) = record { spent = λ k. tt; device = λ k. tt; counted = λ k. tt; damaged = λ k. tt; told = tt }
 
   -- ---- COMMIT
 
@@ -118,27 +129,29 @@ module _ {D : Type 0} (bytes : D → ToldFiles) (can_fail : D → Type 0) (old :
           ∙ ap (λ plain. cond plain (Ok text) (Err WrongKind)) b
 
   -- what is told of a generation
-  commit_told : (left : D → FileName → FileContent → Type 0) (text : Text) (reply : Reply) (new : Ledger D) → GoesBy left (Some (Said.commit text)) reply old new
+  commit_told : (may : D → FileName → FileContent → Type 0) (text : Text) (reply : Reply) (new : Ledger D) → GoesBy may (Some (Said.commit text)) reply old new
       → TellsSo (policy_in old) (shape_in old) (Some (Said.commit text)) reply
-  commit_told left text (Ok (Answer.number g)) new goes = (goes.asked g refl).0
-  commit_told left text (Ok (Answer.found f)) new goes = tt
-  commit_told left text (Ok (Answer.names ns)) new goes = tt
-  commit_told left text (Ok (Answer.commit_text t)) new goes = tt
-  commit_told left text (Ok (Answer.news n)) new goes = tt
-  commit_told left text (Err e) new goes = tt
+  commit_told may text (Ok (Answer.number g)) new goes = (goes.asked g refl).0
+  commit_told may text (Ok (Answer.found f)) new goes = tt
+  commit_told may text (Ok (Answer.names ns)) new goes = tt
+  commit_told may text (Ok (Answer.commit_text t)) new goes = tt
+  commit_told may text (Ok (Answer.news n)) new goes = tt
+  commit_told may text (Err e) new goes = tt
 
-  pub commit_caused : (A : Type 0) (left : D → FileName → FileContent → Type 0) (text : Text) (new : Ledger D)
+  pub commit_caused : (A : Type 0) (may : D → FileName → FileContent → Type 0) (text : Text)
       → IfErr (commit_text_of text) (λ e. (result ≡ Err e) × A)
       → (commit_text_of text ≡ Ok text → IfErr result (λ e. e ≡ Spent → (last_number < (shape_in old).next_generation) ⊎ MayNotFlush (shape_in old)))
       → (commit_text_of text ≡ Ok text → IfErr result (λ e. e ≡ Device → can_fail (device_in old)))
-      → GoesBy left (Some (Said.commit text)) (reply_of result) old new → Causes (Said.commit text)
-  commit_caused A left text new wrong spent device goes = record {
+      → (commit_text_of text ≡ Ok text → IfErr result (λ e. e ≡ Device → Counted))
+      → GoesBy may (Some (Said.commit text)) (reply_of result) old left → Causes (Said.commit text)
+  commit_caused A may text wrong spent device counted goes = record {
     spent = λ k.
         given_so ((last_number < (shape_in old).next_generation) ⊎ MayNotFlush (shape_in old)) Spent result Spent
         (spent (right_text A text Spent (λ e. cc e) (λ e. cc e) wrong k)) refl k;
     device = λ k. given_so (can_fail (device_in old)) Device result Device (device (right_text A text Device (λ e. cc e) (λ e. cc e) wrong k)) refl k;
+    counted = λ k. given_so Counted Device result Device (counted (right_text A text Device (λ e. cc e) (λ e. cc e) wrong k)) refl k;
     damaged = λ k. tt;
-    told = commit_told left text (reply_of result) new goes;
+    told = commit_told may text (reply_of result) left goes;
   }
 
   -- ---- maintenance
@@ -150,28 +163,28 @@ module _ {D : Type 0} (bytes : D → ToldFiles) (can_fail : D → Type 0) (old :
     | inr k ↦ absurd (not_told result NoForm reply differs (foreign k.1).0 is)
   ]
 
-  module _ (session : ℕ) (new : Ledger D) (carried : IsCarried (bytes (device_in old)) (shape_in old)) where
+  module _ (session : ℕ) (carried : IsCarried (bytes (device_in old)) (shape_in old)) where
     -- what answers session 0 answers the command
-    of_zero : (what : Chore) (reply : Reply) → session ≡ 0 → AnswersSaid bytes session (Said.chore what) old reply new
-        → lines.Answers (policy_in old) (bytes (device_in old)) (shape_in old) (line_of 0 (Command.chore what)) reply (bytes (device_in new)) (shape_in new)
+    of_zero : (what : Chore) (reply : Reply) → session ≡ 0 → AnswersSaid bytes session (Said.chore what) old reply left
+        → lines.Answers (policy_in old) (bytes (device_in old)) (shape_in old) (line_of 0 (Command.chore what)) reply (bytes (device_in left)) (shape_in left)
     of_zero what reply is answers =
-        subst (λ c. lines.Answers (policy_in old) (bytes (device_in old)) (shape_in old) (line_of 0 c) reply (bytes (device_in new)) (shape_in new)) answers.1
-        (subst (λ n. lines.Answers (policy_in old) (bytes (device_in old)) (shape_in old) (line_of n answers.0) reply (bytes (device_in new)) (shape_in new)) is answers.2)
+        subst (λ c. lines.Answers (policy_in old) (bytes (device_in old)) (shape_in old) (line_of 0 c) reply (bytes (device_in left)) (shape_in left)) answers.1
+        (subst (λ n. lines.Answers (policy_in old) (bytes (device_in old)) (shape_in old) (line_of n answers.0) reply (bytes (device_in left)) (shape_in left)) is answers.2)
 
-    merge_told : (a : Answer) → session ≡ 0 → AnswersSaid bytes session (Said.chore Chore.merge) old (Ok a) new
+    merge_told : (a : Answer) → session ≡ 0 → AnswersSaid bytes session (Said.chore Chore.merge) old (Ok a) left
         → TellsSo (policy_in old) (shape_in old) (Some (Said.chore Chore.merge)) (Ok a)
     merge_told (Answer.news n) is answers =
-        (merges_tell (policy_in old) (bytes (device_in old)) (bytes (device_in new)) (shape_in old) (shape_in new) n carried.0 carried.1 carried.2).0
+        (merges_tell (policy_in old) (bytes (device_in old)) (bytes (device_in left)) (shape_in old) (shape_in left) n carried.0 carried.1 carried.2).0
         (of_zero Chore.merge (Ok (Answer.news n)) is answers)
     merge_told (Answer.number n) is answers = tt
     merge_told (Answer.found f) is answers = tt
     merge_told (Answer.names ns) is answers = tt
     merge_told (Answer.commit_text t) is answers = tt
 
-    force_told : (a : Answer) → session ≡ 0 → AnswersSaid bytes session (Said.chore Chore.force) old (Ok a) new
+    force_told : (a : Answer) → session ≡ 0 → AnswersSaid bytes session (Said.chore Chore.force) old (Ok a) left
         → TellsSo (policy_in old) (shape_in old) (Some (Said.chore Chore.force)) (Ok a)
     force_told (Answer.news n) is answers =
-        (merges_tell (policy_in old) (bytes (device_in old)) (bytes (device_in new)) (shape_in old) (shape_in new) n carried.0 carried.1 carried.2).1
+        (merges_tell (policy_in old) (bytes (device_in old)) (bytes (device_in left)) (shape_in old) (shape_in left) n carried.0 carried.1 carried.2).1
         (of_zero Chore.force (Ok (Answer.news n)) is answers)
     force_told (Answer.number n) is answers = tt
     force_told (Answer.found f) is answers = tt
@@ -180,7 +193,7 @@ module _ {D : Type 0} (bytes : D → ToldFiles) (can_fail : D → Type 0) (old :
 
     -- what is told, as it is answered
     maintain_told : (sets : ℕ) (chore : code_chore.Chore) (r : Result code.Answer Refusal) → (session ≢ 0 → r ≡ Err NoForm)
-        → AnswersSaid bytes session (Said.chore (chore_of chore)) old (reply_of r) new → IfOk r (λ a. Tells sets (shape_in old) chore (answer_of a))
+        → AnswersSaid bytes session (Said.chore (chore_of chore)) old (reply_of r) left → IfOk r (λ a. Tells sets (shape_in old) chore (answer_of a))
         → TellsSo (policy_in old) (shape_in old) (Some (Said.chore (chore_of chore))) (reply_of r)
     maintain_told sets Merge (Ok a) foreign answers told = merge_told (answer_of a) (zero_answered a foreign) answers
       where
@@ -220,28 +233,30 @@ module _ {D : Type 0} (bytes : D → ToldFiles) (can_fail : D → Type 0) (old :
       force_may may e differs k = refused_so (MayRefuseForce (shape_in old)) result e (may (zero session (Err e) (apart e differs) foreign k)) k
 
       refuses : (chore : code_chore.Chore) → (session ≡ 0 → IfErr result (MayRefuse (policy_in old) (shape_in old) chore))
-          → IfErr result (λ e. e ≡ Device → FailsFor chore (shape_in old).merging (can_fail (device_in old)))
+          → IfErr result (λ e. e ≡ Device → FailsFor chore (shape_in old).merging (can_fail (device_in old))) → IfErr result (λ e. e ≡ Device → Counted)
           → TellsSo (policy_in old) (shape_in old) (Some (Said.chore (chore_of chore))) (reply_of result) → Causes (Said.chore (chore_of chore))
-      refuses Merge may device told = record {
+      refuses Merge may device counted told = record {
         spent = λ k. (merge_may may Spent (λ e. cc e) k).spent refl;
         device = given_so (HasRowsLeft (shape_in old).merging ⊎ can_fail (device_in old)) Device result Device device refl;
+        counted = given_so Counted Device result Device counted refl;
         damaged = λ k. (merge_may may Damaged (λ e. cc e) k).damaged refl;
         told = told;
       }
-      refuses Force may device told = record {
+      refuses Force may device counted told = record {
         spent = λ k. let m = force_may may Spent (λ e. cc e) k in (m.due, m.spent refl);
         device = given_so (can_fail (device_in old)) Device result Device device refl;
+        counted = given_so Counted Device result Device counted refl;
         damaged = λ k. tt;
         told = told;
       }
-      refuses Sweep may device told =
-          record { spent = λ k. tt; device = given_so (can_fail (device_in old)) Device result Device device refl; damaged = λ k. tt; told = told }
-      refuses Stat may device told = record { spent = λ k. tt; device = λ k. tt; damaged = λ k. tt; told = told }
+      refuses Sweep may device counted told =
+          record { spent = λ k. tt; device = given_so (can_fail (device_in old)) Device result Device device refl; counted = given_so Counted Device result Device counted refl; damaged = λ k. tt; told = told }
+      refuses Stat may device counted told = record { spent = λ k. tt; device = λ k. tt; counted = λ k. tt; damaged = λ k. tt; told = told }
 
-      pub chore_caused : (sets : ℕ) (chore : code_chore.Chore) → AnswersSaid bytes session (Said.chore (chore_of chore)) old (reply_of result) new
+      pub chore_caused : (sets : ℕ) (chore : code_chore.Chore) → AnswersSaid bytes session (Said.chore (chore_of chore)) old (reply_of result) left
           → IfOk result (λ a. Tells sets (shape_in old) chore (answer_of a)) → (session ≡ 0 → IfErr result (MayRefuse (policy_in old) (shape_in old) chore))
-          → IfErr result (λ e. e ≡ Device → FailsFor chore (shape_in old).merging (can_fail (device_in old))) → Causes (Said.chore (chore_of chore))
-      chore_caused sets chore answers told may device = refuses chore may device (maintain_told sets chore result (λ k. (foreign k).0) answers told)
+          → IfErr result (λ e. e ≡ Device → FailsFor chore (shape_in old).merging (can_fail (device_in old))) → IfErr result (λ e. e ≡ Device → Counted) → Causes (Said.chore (chore_of chore))
+      chore_caused sets chore answers told may device counted = refuses chore may device counted (maintain_told sets chore result (λ k. (foreign k).0) answers told)
 
 -- ---- of commands
 

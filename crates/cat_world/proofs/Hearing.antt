@@ -32,7 +32,7 @@ pub open_says : (token : Option ℕ) → said_of (command.Open token) ≡ Some (
 open_says None = refl
 open_says (Some t) = refl
 
-module _ {D : Type 0} (bytes : D → ToldFiles) (may_leave : D → FileName → FileContent → Type 0) (can_fail : D → Type 0) (old : Service D) where
+module _ {D : Type 0} (bytes : D → ToldFiles) (may_leave : D → FileName → FileContent → Type 0) (can_fail : D → Type 0) (faults : D → ℕ) (old : Service D) where
   pub unheard : (line : Text) → (IsReadable line → (session : ℕ) → ShowsSession line session → ⊥)
       → StepsIfShort bytes may_leave can_fail old (Some line) Outcome.unreadable old
   unheard line none = (Hears.unreadable none, refl)
@@ -48,7 +48,7 @@ module _ {D : Type 0} (bytes : D → ToldFiles) (may_leave : D → FileName → 
   pub heard_as : (new : Service D) (line text : Text) (session : ℕ) (said : Option Said) (reply : Reply) → text ≡ line → IsReadable line
       → SpellsOrShows text session said → (steps : StepsLine bytes session said old reply new) → (shape_of new).schema ≡ (shape_of old).schema
       → NamesFiles reply → GoesBy may_leave said reply old.ledger new.ledger
-      → HasCause bytes can_fail old said reply → (can_fail (device_of new) → can_fail (device_of old))
+      → HasCause bytes can_fail faults old said reply new → (can_fail (device_of new) → can_fail (device_of old))
       → StepsIfShort bytes may_leave can_fail old (Some line) (told_to session steps.0 reply) new
   heard_as new line text session said reply same readable spells steps fields names goes cause can = (
     hears line session said steps.0 readable (subst (λ t. SpellsOrShows t session said) same spells) steps.1,

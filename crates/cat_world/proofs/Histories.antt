@@ -99,23 +99,23 @@ module _ {D : Type 0} (left : D → FileName → FileContent → Type 0) where
   spoken_on (k ∷ ls) [] (y ∷ xs) l r x all said reply = absurd all
   spoken_on (k ∷ ls) (q ∷ rs) [] l r x all said reply = absurd all
 
-  module _ (bytes : D → ToldFiles) (can_fail : D → Type 0) where
+  module _ (bytes : D → ToldFiles) (can_fail : D → Type 0) (faults : D → ℕ) where
     -- one cause more
-    causes_on : (first mid : Service D) (xs : List (Spoken D)) (x : Spoken D) → IsSpoken left first xs mid → HaveCauses bytes can_fail first xs
-        → HasCause bytes can_fail mid x.said x.reply → HaveCauses bytes can_fail first (xs ++ x ∷ [])
-    causes_on first mid [] x same all cause = (subst (λ (w : Service D). HasCause bytes can_fail w x.said x.reply) same cause, tt)
+    causes_on : (first mid : Service D) (xs : List (Spoken D)) (x : Spoken D) → IsSpoken left first xs mid → HaveCauses bytes can_fail faults first xs
+        → HasCause bytes can_fail faults mid x.said x.reply x.after → HaveCauses bytes can_fail faults first (xs ++ x ∷ [])
+    causes_on first mid [] x same all cause = (subst (λ (w : Service D). HasCause bytes can_fail faults w x.said x.reply x.after) same cause, tt)
     causes_on first mid (y ∷ ys) x leads all cause = (all.0, causes_on y.after mid ys x leads.1 all.1 cause)
 
     -- no line leads nowhere
-    pub none_spoken : (w : Service D) → RunsHistory bytes can_fail left w [] [] w
+    pub none_spoken : (w : Service D) → RunsHistory bytes can_fail faults left w [] [] w
     none_spoken w = record { spoken = []; are = tt; leads = refl; causes = tt }
 
     -- and one line more goes on
     pub one_spoken : (old mid new : Service D) (ls : List Line) (i : ℕ) (d : Line) (rs : List code.Reply) (r : code.Reply) → i < length ls
-        → RunsHistory bytes can_fail left old (take i ls) rs mid
+        → RunsHistory bytes can_fail faults left old (take i ls) rs mid
         → GoesBy left (said_of (get_or ls i d).command) (reply_of r.answer) mid.ledger new.ledger
-        → HasCause bytes can_fail mid (said_of (get_or ls i d).command) (reply_of r.answer)
-        → RunsHistory bytes can_fail left old (take (i + 1) ls) (rs ++ r ∷ []) new
+        → HasCause bytes can_fail faults mid (said_of (get_or ls i d).command) (reply_of r.answer) new
+        → RunsHistory bytes can_fail faults left old (take (i + 1) ls) (rs ++ r ∷ []) new
     one_spoken old mid new ls i d rs r lt before goes cause =
         let x : Spoken D = record { said = said_of (get_or ls i d).command; reply = reply_of r.answer; after = new } in record {
           spoken = before.spoken ++ x ∷ [];

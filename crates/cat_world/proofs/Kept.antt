@@ -105,12 +105,12 @@ module _ {D : Type 0} {f : Filters} {ks : List ReaderState} (bytes : D → ToldF
   }
 
 -- what an answer makes of a world that tells what is needed
-pub does_telling : {D : Type 0} {f : Filters} {ks : List ReaderState} (bytes : D → ToldFiles) (can_fail : D → Type 0) (session : ℕ) (said : Said) (old : Ledger D) (reply : Reply) (new : Ledger D) (rights after : List Hold)
-    → IsWorld bytes old rights f ks → HasCause bytes can_fail (record { ledger = old; rights = rights }) (Some said) reply
+pub does_telling : {D : Type 0} {f : Filters} {ks : List ReaderState} (bytes : D → ToldFiles) (can_fail : D → Type 0) (faults : D → ℕ) (session : ℕ) (said : Said) (old : Ledger D) (reply : Reply) (new : Ledger D) (rights after : List Hold)
+    → IsWorld bytes old rights f ks → HasCause bytes can_fail faults (record { ledger = old; rights = rights }) (Some said) reply (record { ledger = new; rights = after })
     → AnswersSaid bytes session said old reply new → (can_fail (device_in new) → can_fail (device_in old))
     → policy_in new ≡ policy_in old → TellsNeeded (shape_in old) (Some said) reply → (reply ≡ Err Memory → SaysMayWant (bytes (device_in old)) (shape_in old) session said)
-    → Does bytes can_fail session (Some said) (record { ledger = old; rights = rights }) reply (record { ledger = new; rights = after })
-does_telling bytes can_fail session said old reply new rights after w cause answered can policy told wanting = record {
+    → Does bytes can_fail faults session (Some said) (record { ledger = old; rights = rights }) reply (record { ledger = new; rights = after })
+does_telling bytes can_fail faults session said old reply new rights after w cause answered can policy told wanting = record {
   answers = answered;
   told = told;
   names = names_files (bytes (device_in old)) (shape_in old) w.carried.0 w.carried.1 w.carried.2 (Some said) reply told;
@@ -123,13 +123,13 @@ does_telling bytes can_fail session said old reply new rights after w cause answ
 }
 
 -- what one makes to a line that asks for no names and no source
-pub does : {D : Type 0} {f : Filters} {ks : List ReaderState} (bytes : D → ToldFiles) (can_fail : D → Type 0) (session : ℕ) (said : Said) (old : Ledger D) (reply : Reply) (new : Ledger D) (rights after : List Hold)
-    → IsWorld bytes old rights f ks → HasCause bytes can_fail (record { ledger = old; rights = rights }) (Some said) reply
+pub does : {D : Type 0} {f : Filters} {ks : List ReaderState} (bytes : D → ToldFiles) (can_fail : D → Type 0) (faults : D → ℕ) (session : ℕ) (said : Said) (old : Ledger D) (reply : Reply) (new : Ledger D) (rights after : List Hold)
+    → IsWorld bytes old rights f ks → HasCause bytes can_fail faults (record { ledger = old; rights = rights }) (Some said) reply (record { ledger = new; rights = after })
     → AnswersSaid bytes session said old reply new → (can_fail (device_in new) → can_fail (device_in old))
     → policy_in new ≡ policy_in old → says_texts said ≡ false → (reply ≡ Err Memory → SaysMayWant (bytes (device_in old)) (shape_in old) session said)
-    → Does bytes can_fail session (Some said) (record { ledger = old; rights = rights }) reply (record { ledger = new; rights = after })
-does bytes can_fail session said old reply new rights after w cause answered can policy none wanting =
-    does_telling bytes can_fail session said old reply new rights after w cause answered can policy (
+    → Does bytes can_fail faults session (Some said) (record { ledger = old; rights = rights }) reply (record { ledger = new; rights = after })
+does bytes can_fail faults session said old reply new rights after w cause answered can policy none wanting =
+    does_telling bytes can_fail faults session said old reply new rights after w cause answered can policy (
     told_none (policy_in old) (bytes (device_in old)) (bytes (device_in new)) (shape_in old) (shape_in new) session said answered.0 reply
     w.carried.0 w.carried.1 w.carried.2 answered.1 answered.2 none
     ) wanting

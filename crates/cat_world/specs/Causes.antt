@@ -8,6 +8,7 @@ use Rattle.cat_model.specs.Run.{Answer, Chore, Command, News, Reply}
 use Rattle.cat_model.specs.Served.{Outcome}
 use Rattle.cat_model.specs.Text.{Text}
 use Rattle.cat_model.specs.View.{View}
+use Rattle.cat_directory.specs.Devices.{CountsOne}
 use Rattle.cat_keeping.specs.Chores.{pending_in, stat_in}
 use Rattle.cat_ledger_core.specs.Cores.{HasRowsLeft, MayNotFlush}
 use Rattle.cat_ledger_lines.specs.PlanLaws.{TellsForce, TellsMerge}
@@ -45,6 +46,17 @@ MayFailTo can_fail device s (Some (Said.chore Chore.force)) = can_fail device
 MayFailTo can_fail device s (Some (Said.chore Chore.sweep)) = can_fail device
 MayFailTo can_fail device s said = Unit {0}
 
+-- one of the device's calls failed, and was counted, where the line is one that a run has with that refusal
+abbrev pub IsCountedTo : Type 0 → Option Said → Type 0
+IsCountedTo counted (Some (Said.put text)) = counted
+IsCountedTo counted (Some Said.refresh) = counted
+IsCountedTo counted (Some (Said.get t id)) = counted
+IsCountedTo counted (Some (Said.commit text)) = counted
+IsCountedTo counted (Some (Said.chore Chore.merge)) = counted
+IsCountedTo counted (Some (Said.chore Chore.force)) = counted
+IsCountedTo counted (Some (Said.chore Chore.sweep)) = counted
+IsCountedTo counted said = Unit {0}
+
 -- To a GET: the files that the device tells of don't hold the text that the view has of the item. To a MERGE: it is to copy rows. No run has
 -- another line with that refusal.
 abbrev pub IsDamagedTo : ToldFiles → Shape → Option Said → Type 0
@@ -67,11 +79,14 @@ TellsSo policy s said reply = Unit {0}
 
 -- ---- of a world
 
--- The reply has its cause in the world: 16 where a number or a limit is spent, 30 where the device can fail, 31 where a file is damaged, and
--- the news as they are. The first two arguments say what a device tells of its files, and whether it can fail.
-pub record HasCause {D : Type 0} (bytes : D → ToldFiles) (can_fail : D → Type 0) (old : Service D) (said : Option Said) (reply : Reply) : Type 0 where
+-- The reply has its cause in the world: 16 where a number or a limit is spent, 30 where the device can fail and its count of failures rose, 31
+-- where a file is damaged, and the news as they are. The first three arguments say what a device tells of its files, whether it can fail, and
+-- how many failures it has counted.
+pub record HasCause {D : Type 0} (bytes : D → ToldFiles) (can_fail : D → Type 0) (faults : D → ℕ) (old : Service D) (said : Option Said)
+    (reply : Reply) (new : Service D) : Type 0 where
   pub spent : reply ≡ Err Spent → IsSpentTo (policy_of old) (shape_of old) said
   pub device : reply ≡ Err Device → MayFailTo can_fail (device_of old) (shape_of old) said
+  pub counted : reply ≡ Err Device → IsCountedTo (CountsOne (faults (device_of old)) (faults (device_of new))) said
   pub damaged : reply ≡ Err Damaged → IsDamagedTo (bytes (device_of old)) (shape_of old) said
   pub told : TellsSo (policy_of old) (shape_of old) said reply
 

@@ -62,18 +62,18 @@ AreSpoken (line ∷ lines) (given ∷ replies) (x ∷ xs) =
 AreSpoken _ _ _ = ⊥
 
 -- each reply has its cause in the world before its line
-abbrev pub HaveCauses : {D : Type 0} → (D → ToldFiles) → (D → Type 0) → Service D → List (Spoken D) → Type 0
-HaveCauses bytes can_fail first [] = Unit {0}
-HaveCauses bytes can_fail first (x ∷ xs) = HasCause bytes can_fail first x.said x.reply × HaveCauses bytes can_fail x.after xs
+abbrev pub HaveCauses : {D : Type 0} → (D → ToldFiles) → (D → Type 0) → (D → ℕ) → Service D → List (Spoken D) → Type 0
+HaveCauses bytes can_fail faults first [] = Unit {0}
+HaveCauses bytes can_fail faults first (x ∷ xs) = HasCause bytes can_fail faults first x.said x.reply x.after × HaveCauses bytes can_fail faults x.after xs
 
--- The lines with their replies lead from the one to the other, and each reply has its cause. The first three arguments say what a device tells
--- of its files, whether it can fail, and what a crash may leave.
-pub record RunsHistory {D : Type 0} (bytes : D → ToldFiles) (can_fail : D → Type 0) (left : D → FileName → FileContent → Type 0)
+-- The lines with their replies lead from the one to the other, and each reply has its cause. The first four arguments say what a device tells
+-- of its files, whether it can fail, how many failures it has counted, and what a crash may leave.
+pub record RunsHistory {D : Type 0} (bytes : D → ToldFiles) (can_fail : D → Type 0) (faults : D → ℕ) (left : D → FileName → FileContent → Type 0)
     (old : Service D) (lines : List Line) (replies : List code.Reply) (new : Service D) : Type 0 where
   pub spoken : List (Spoken D)
   pub are : AreSpoken lines replies spoken
   pub leads : IsSpoken left old spoken new
-  pub causes : HaveCauses bytes can_fail old spoken
+  pub causes : HaveCauses bytes can_fail faults old spoken
 
 -- ---- lines that are served
 

@@ -37,13 +37,13 @@ StepsLine bytes session said old reply new =
 
 -- What an answered line makes of a world: the reply answers it, and tells the names that are needed, which are those
 -- of files, and a source that is one line; it says that memory was wanting only where that may be told, and has its cause in what memory has; a device that can't fail goes on so; and neither the fields change nor when it merges.
-pub record Does {D : Type 0} (bytes : D → ToldFiles) (can_fail : D → Type 0) (session : ℕ) (said : Option Said)
+pub record Does {D : Type 0} (bytes : D → ToldFiles) (can_fail : D → Type 0) (faults : D → ℕ) (session : ℕ) (said : Option Said)
     (old : Service D) (reply : Reply) (new : Service D) : Type 0 where
   pub answers : AnswersLine bytes session said old reply new
   pub told : TellsNeeded (shape_of old) said reply
   pub names : NamesFiles reply
   pub wanting : reply ≡ Err Memory → MayWant (bytes (device_of old)) (shape_of old) session said answers.0
-  pub cause : HasCause bytes can_fail old said reply
+  pub cause : HasCause bytes can_fail faults old said reply new
   pub numbers : TakesNumbers (shape_of old) (shape_of new)
   pub can : can_fail (device_of new) → can_fail (device_of old)
   pub schema : (shape_of new).schema ≡ (shape_of old).schema

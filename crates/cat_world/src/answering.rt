@@ -21,7 +21,7 @@ use cat_replies::{Answer, Reply};
 impl<D: Directory + Shelf> World<D> {
     /// Answers a line, whose session stands in the reply.
     fn answer(&mut self, line: &Line) -> Result<Answer, Refusal>
-        ensures does { Does D.bytes D.can_fail line.now.session (said_of line.now.command) self.old (reply_of result) self.new }
+        ensures does { Does D.bytes D.can_fail D.fault_count line.now.session (said_of line.now.command) self.old (reply_of result) self.new }
         ensures history { GoesBy D.may_leave (said_of line.now.command) (reply_of result) self.old.ledger self.new.ledger }
     {
         let session = line.session;
@@ -69,7 +69,7 @@ impl<D: Directory + Shelf> World<D> {
         ensures history { GoesBy D.may_leave (said_of line.now.command) (reply_of result.answer) self.old.ledger self.new.ledger }
         ensures told { TellsNeeded (shape_of self.old) (said_of line.now.command) (reply_of result.answer) }
         ensures names { NamesFiles (reply_of result.answer) }
-        ensures cause { HasCause D.bytes D.can_fail self.old (said_of line.now.command) (reply_of result.answer) }
+        ensures cause { HasCause D.bytes D.can_fail D.fault_count self.old (said_of line.now.command) (reply_of result.answer) self.new }
         ensures numbers { TakesNumbers (shape_of self.old) (shape_of self.new) }
         ensures schema { (shape_of self.new).schema ≡ (shape_of self.old).schema }
         ensures policy { policy_of self.new ≡ policy_of self.old }

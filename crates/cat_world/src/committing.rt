@@ -13,7 +13,7 @@ use cat_replies::Answer;
 impl<D: Directory + Shelf> World<D> {
     /// Answers a COMMIT.
     pub(crate) fn answer_commit(&mut self, text: &str) -> Result<Answer, Refusal>
-        ensures does { (session : ℕ) → Does D.bytes D.can_fail session (Some (Said.commit text.now)) self.old (reply_of result) self.new }
+        ensures does { (session : ℕ) → Does D.bytes D.can_fail D.fault_count session (Some (Said.commit text.now)) self.old (reply_of result) self.new }
         ensures history { GoesBy D.may_leave (Some (Said.commit text.now)) (reply_of result) self.old.ledger self.new.ledger }
     {
         cat_keeping::commit(&mut self.ledger, text)
@@ -21,7 +21,7 @@ impl<D: Directory + Shelf> World<D> {
 
     /// Answers a SNAP.
     pub(crate) fn answer_snapshot(&mut self) -> Result<Answer, Refusal>
-        ensures does { (session : ℕ) → Does D.bytes D.can_fail session (Some Said.snapshot) self.old (reply_of result) self.new }
+        ensures does { (session : ℕ) → Does D.bytes D.can_fail D.fault_count session (Some Said.snapshot) self.old (reply_of result) self.new }
         ensures history { GoesBy D.may_leave (Some Said.snapshot) (reply_of result) self.old.ledger self.new.ledger }
     {
         cat_keeping::snapshot(&mut self.ledger)
@@ -29,7 +29,7 @@ impl<D: Directory + Shelf> World<D> {
 
     /// Answers an UNSNAP.
     pub(crate) fn answer_unsnapshot(&mut self, generation: Generation) -> Result<Answer, Refusal>
-        ensures does { (session : ℕ) → Does D.bytes D.can_fail session (Some (Said.release_snapshot generation)) self.old (reply_of result) self.new }
+        ensures does { (session : ℕ) → Does D.bytes D.can_fail D.fault_count session (Some (Said.release_snapshot generation)) self.old (reply_of result) self.new }
         ensures history { GoesBy D.may_leave (Some (Said.release_snapshot generation)) (reply_of result) self.old.ledger self.new.ledger }
     {
         cat_keeping::release_snapshot(&mut self.ledger, generation)
@@ -37,14 +37,14 @@ impl<D: Directory + Shelf> World<D> {
 
     /// Answers a NOTE.
     pub(crate) fn answer_note(&self, generation: Generation) -> Result<Answer, Refusal>
-        ensures does { (session : ℕ) → Does D.bytes D.can_fail session (Some (Said.text_of_commit generation)) self.now (reply_of result) self.now }
+        ensures does { (session : ℕ) → Does D.bytes D.can_fail D.fault_count session (Some (Said.text_of_commit generation)) self.now (reply_of result) self.now }
     {
         cat_keeping::text_of_commit(self.alloc, &self.ledger, generation)
     }
 
     /// Answers a FILES of a commit.
     pub(crate) fn answer_commit_files(&self, generation: Generation) -> Result<Answer, Refusal>
-        ensures does { (session : ℕ) → Does D.bytes D.can_fail session (Some (Said.files_of_commit generation)) self.now (reply_of result) self.now }
+        ensures does { (session : ℕ) → Does D.bytes D.can_fail D.fault_count session (Some (Said.files_of_commit generation)) self.now (reply_of result) self.now }
     {
         cat_keeping::files_of_commit(&self.ledger, generation)
     }

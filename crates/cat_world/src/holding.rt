@@ -18,7 +18,7 @@ impl<D: Directory + Shelf> World<D> {
         session: SessionNo,
         token: Option<Token>,
     ) -> Result<Answer, Refusal>
-        ensures does { Does D.bytes D.can_fail session (Some (said_open token)) self.old (reply_of result) self.new }
+        ensures does { Does D.bytes D.can_fail D.fault_count session (Some (said_open token)) self.old (reply_of result) self.new }
         ensures history { GoesBy D.may_leave (Some (said_open token)) (reply_of result) self.old.ledger self.new.ledger }
     {
         cat_holding::open(&mut self.ledger, &mut self.rights, session, token)
@@ -30,7 +30,7 @@ impl<D: Directory + Shelf> World<D> {
         session: SessionNo,
         token: Token,
     ) -> Result<Answer, Refusal>
-        ensures does { Does D.bytes D.can_fail session (Some (Said.close token)) self.old (reply_of result) self.new }
+        ensures does { Does D.bytes D.can_fail D.fault_count session (Some (Said.close token)) self.old (reply_of result) self.new }
         ensures history { GoesBy D.may_leave (Some (Said.close token)) (reply_of result) self.old.ledger self.new.ledger }
     {
         cat_holding::close(&mut self.ledger, &mut self.rights, session, token)
@@ -42,7 +42,7 @@ impl<D: Directory + Shelf> World<D> {
         session: SessionNo,
         token: Token,
     ) -> Result<Answer, Refusal>
-        ensures does { Does D.bytes D.can_fail session (Some (Said.files_of_token token)) self.now (reply_of result) self.now }
+        ensures does { Does D.bytes D.can_fail D.fault_count session (Some (Said.files_of_token token)) self.now (reply_of result) self.now }
     {
         cat_holding::files_of_token(self.alloc, &self.ledger, &self.rights, session, token)
     }
@@ -54,7 +54,7 @@ impl<D: Directory + Shelf> World<D> {
         token: Token,
         id: &str,
     ) -> Result<Answer, Refusal>
-        ensures does { Does D.bytes D.can_fail session (Some (Said.get token id.now)) self.old (reply_of result) self.new }
+        ensures does { Does D.bytes D.can_fail D.fault_count session (Some (Said.get token id.now)) self.old (reply_of result) self.new }
         ensures history { GoesBy D.may_leave (Some (Said.get token id.now)) (reply_of result) self.old.ledger self.new.ledger }
     {
         cat_holding::get(&mut self.ledger, &self.rights, session, token, id)

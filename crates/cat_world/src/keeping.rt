@@ -17,7 +17,7 @@ use cat_replies::Answer;
 impl<D: Directory + Shelf> World<D> {
     /// Answers a REFRESH.
     pub(crate) fn answer_refresh(&mut self) -> Result<Answer, Refusal>
-        ensures does { (session : ℕ) → Does D.bytes D.can_fail session (Some Said.refresh) self.old (reply_of result) self.new }
+        ensures does { (session : ℕ) → Does D.bytes D.can_fail D.fault_count session (Some Said.refresh) self.old (reply_of result) self.new }
         ensures history { GoesBy D.may_leave (Some Said.refresh) (reply_of result) self.old.ledger self.new.ledger }
     {
         cat_keeping::refresh(&mut self.ledger)
@@ -25,7 +25,7 @@ impl<D: Directory + Shelf> World<D> {
 
     /// Answers a PRUNE.
     pub(crate) fn answer_prune(&mut self, count: u64) -> Result<Answer, Refusal>
-        ensures does { (session : ℕ) → Does D.bytes D.can_fail session (Some (Said.prune count)) self.old (reply_of result) self.new }
+        ensures does { (session : ℕ) → Does D.bytes D.can_fail D.fault_count session (Some (Said.prune count)) self.old (reply_of result) self.new }
         ensures history { GoesBy D.may_leave (Some (Said.prune count)) (reply_of result) self.old.ledger self.new.ledger }
     {
         cat_keeping::prune(&mut self.ledger, count)
@@ -37,7 +37,7 @@ impl<D: Directory + Shelf> World<D> {
         session: SessionNo,
         chore: Chore,
     ) -> Result<Answer, Refusal>
-        ensures does { Does D.bytes D.can_fail session (Some (Said.chore (chore_of chore))) self.old (reply_of result) self.new }
+        ensures does { Does D.bytes D.can_fail D.fault_count session (Some (Said.chore (chore_of chore))) self.old (reply_of result) self.new }
         ensures history { GoesBy D.may_leave (Some (Said.chore (chore_of chore))) (reply_of result) self.old.ledger self.new.ledger }
     {
         cat_keeping::maintain(
@@ -51,7 +51,7 @@ impl<D: Directory + Shelf> World<D> {
 
     /// Answers a WARM.
     pub(crate) fn answer_warm(&mut self, session: SessionNo) -> Result<Answer, Refusal>
-        ensures does { Does D.bytes D.can_fail session (Some (Said.chore run.Chore.warm)) self.old (reply_of result) self.new }
+        ensures does { Does D.bytes D.can_fail D.fault_count session (Some (Said.chore run.Chore.warm)) self.old (reply_of result) self.new }
         ensures history { GoesBy D.may_leave (Some (Said.chore run.Chore.warm)) (reply_of result) self.old.ledger self.new.ledger }
     {
         // The segments of now agree with those of the recorded views, whose sets are kept too.

@@ -33,7 +33,7 @@ impl<D: Directory + Shelf> World<D> {
         session: SessionNo,
         find: Find<'_>,
     ) -> Result<Answer, Refusal>
-        ensures does { Does D.bytes D.can_fail session
+        ensures does { Does D.bytes D.can_fail D.fault_count session
             (Some (Said.find find.entry.token find.entry.count (sort_said find.entry.sort) find.entry.mark find.entry.query.now))
             self.old (reply_of result) self.new }
         ensures history { GoesBy D.may_leave
@@ -62,7 +62,7 @@ impl<D: Directory + Shelf> World<D> {
         session: SessionNo,
         facets: Facets<'_>,
     ) -> Result<Answer, Refusal>
-        ensures does { Does D.bytes D.can_fail session
+        ensures does { Does D.bytes D.can_fail D.fault_count session
             (Some (Said.facets facets.entry.token facets.entry.dimension.now facets.entry.count facets.entry.query.now))
             self.old (reply_of result) self.new }
         ensures history { GoesBy D.may_leave

@@ -20,7 +20,7 @@ impl<D: Directory + Shelf> World<D> {
     pub fn run(&mut self, lines: &[Line]) -> Result<Vec<Reply>, AllocError>
         ensures sessions { IfOk result (λ replies. map (λ r. r.session) replies.items ≡ map (λ l. l.session) lines.now) }
         ensures run { IfOk result (λ replies. RunsLines D.bytes self.old lines.now replies.items self.new) }
-        ensures history { IfOk result (λ replies. RunsHistory D.bytes D.can_fail D.may_leave self.old lines.now replies.items self.new) }
+        ensures history { IfOk result (λ replies. RunsHistory D.bytes D.can_fail D.fault_count D.may_leave self.old lines.now replies.items self.new) }
         ensures promised { KeepsPromises D.bytes self.new }
         ensures schema { (shape_of self.new).schema ≡ (shape_of self.old).schema }
         ensures policy { policy_of self.new ≡ policy_of self.old }

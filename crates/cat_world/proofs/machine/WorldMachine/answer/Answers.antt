@@ -11,7 +11,7 @@ pub returns-in_default-text_of : goal.returns-in_default-text_of
 returns-in_default-text_of g c =
     rw c.in-Some.is (
       Outcome.unreadable,
-      unheard g.D.Holder.bytes g.D.Holder.may_leave g.D.Holder.can_fail c.args.self.now c.in-Some.bytes.now (λ readable session shows. absurd (c.in_default-text_of.ensures.none readable)),
+      unheard g.D.Holder.bytes g.D.Holder.may_leave g.D.Holder.can_fail g.D.Holder.fault_count c.args.self.now c.in-Some.bytes.now (λ readable session shows. absurd (c.in_default-text_of.ensures.none readable)),
       c.send_unreadable-in_default-text_of.ensures,
     )
 
@@ -25,7 +25,7 @@ returns-in-Ok g c =
     let run = c.step-reply.ensures.run in
     rw c.in-Some.is (
       told_to line.session run.0 (reply_of reply.answer),
-      heard_as g.D.Holder.bytes g.D.Holder.may_leave g.D.Holder.can_fail c.args.self.now c.step-reply.new.self c.in-Some.bytes.now c.in-Some-text_of.text.now line.session (said_of line.command)
+      heard_as g.D.Holder.bytes g.D.Holder.may_leave g.D.Holder.can_fail g.D.Holder.fault_count c.args.self.now c.step-reply.new.self c.in-Some.bytes.now c.in-Some-text_of.text.now line.session (said_of line.command)
           (reply_of reply.answer) c.in-Some-text_of.ensures.found c.in-Some-text_of.ensures.readable c.in-Ok.ensures.found run c.step-reply.ensures.schema c.step-reply.ensures.names c.step-reply.ensures.history c.step-reply.ensures.cause c.step-reply.ensures.can,
       sent,
     )
@@ -34,7 +34,7 @@ pub returns-in-Err : goal.returns-in-Err
 returns-in-Err g c =
     rw c.in-Some.is (
       Outcome.unreadable,
-      unheard g.D.Holder.bytes g.D.Holder.may_leave g.D.Holder.can_fail c.args.self.now c.in-Some.bytes.now
+      unheard g.D.Holder.bytes g.D.Holder.may_leave g.D.Holder.can_fail g.D.Holder.fault_count c.args.self.now c.in-Some.bytes.now
           (λ readable session shows. c.in-Err.ensures.none.1 session (subst (λ t. ShowsSession t session) (sym c.in-Some-text_of.ensures.found) shows)),
       c.send_unreadable-in-Err.ensures,
     )

@@ -10,8 +10,8 @@ use Rattle.cat_world.proofs.world.World.answer_view_files.Goals as goal
 pub returns : goal.returns
 returns g c = rw (← c.self.view_is) (record {
   does =
-      does_telling g.D.Holder.bytes g.D.Holder.can_fail c.args.session (Said.files_of_token c.args.token) c.self.inside.ledger (reply_of c.files_of_token.result) c.self.inside.ledger
-      c.self.inside.rights c.self.inside.rights c.self.invariant (record { spent = λ k. tt; device = λ k. tt; damaged = λ k. tt; told = tt }) c.files_of_token.ensures.answers (λ x. x) refl
+      does_telling g.D.Holder.bytes g.D.Holder.can_fail g.D.Holder.fault_count c.args.session (Said.files_of_token c.args.token) c.self.inside.ledger (reply_of c.files_of_token.result) c.self.inside.ledger
+      c.self.inside.rights c.self.inside.rights c.self.invariant (record { spent = λ k. tt; device = λ k. tt; counted = λ k. tt; damaged = λ k. tt; told = tt }) c.files_of_token.ensures.answers (λ x. x) refl
       (files_of_token_told (shape_in c.self.inside.ledger) c.args.token c.files_of_token.result c.files_of_token.ensures.names)
       (λ k. token_files_wants (g.D.Holder.bytes (device_in c.self.inside.ledger)) (shape_in c.self.inside.ledger) c.args.session c.files_of_token.result (stopped c.files_of_token.result k) c.args.token c.files_of_token.ensures.due);
 })

@@ -13,5 +13,5 @@ invariant-loop-line g l = record {
   policy : policy_of l.self ≡ policy_of l.fn.self;
   can : g.D.Holder.can_fail (device_of l.self) → g.D.Holder.can_fail (device_of l.fn.self);
   runs : RunsLines g.D.Holder.bytes l.fn.self (take l.line-index l.lines) l.replies.items l.self;
-  spoken : RunsHistory g.D.Holder.bytes g.D.Holder.can_fail g.D.Holder.may_leave l.fn.self (take l.line-index l.lines) l.replies.items l.self;
+  spoken : RunsHistory g.D.Holder.bytes g.D.Holder.can_fail g.D.Holder.fault_count g.D.Holder.may_leave l.fn.self (take l.line-index l.lines) l.replies.items l.self;
 }
