@@ -27,97 +27,97 @@ LAYOUT = {
     "cat_directory": (None, [("cat_directory", "")]),
     "cat_ledger_laws": (
         "The ledger as a model, the ledger as memory has it, and its replies to lines: the laws by which what a call makes of\n//! memory and files is a step of the service. No code but the empty functions that carry the laws.",
-        [("cat_ledger_model", "model"), ("cat_ledger_shape", "shape"), ("cat_ledger_lines", "lines")],
+        [("cat_ledger_laws::model", "model"), ("cat_ledger_laws::shape", "shape"), ("cat_ledger_laws::lines", "lines")],
     ),
     "cat_items": (
         "The schema and the items that texts of JSON are, and the parts of files: fields, and segments as they are laid out.",
-        [("cat_schema", ""), ("cat_codec", "file_parts")],
+        [("cat_items", ""), ("cat_items::file_parts", "file_parts")],
     ),
     "cat_columns": (
         "What a segment holds its rows by: sets of rows, dictionaries with dense ordinals, columns, and the terms of its words\n//! with their postings.",
-        [("cat_values", ""), ("cat_inverted", "inverted")],
+        [("cat_columns", ""), ("cat_columns::inverted", "inverted")],
     ),
     "cat_segment": (None, [("cat_segment", "")]),
     "cat_query": (None, [("cat_query", "")]),
     "cat_views": (None, [("cat_views", "")]),
     "cat_merge": (
         "Merges: which segments are merged next, the segment that is made of theirs, step by step; and the merge over files, which\n//! copies stored texts and writes the new segment.",
-        [("cat_merge", ""), ("cat_merging", "files")],
+        [("cat_merge", ""), ("cat_merge::files", "files")],
     ),
     "cat_search": (None, [("cat_search", "")]),
     "cat_cached_sets": (
         "Sets of rows that are kept for queries that return: the filter cache, and which queries were noted for it.",
-        [("cat_cache", "cache"), ("cat_filters", "filters")],
+        [("cat_cached_sets::cache", "cache"), ("cat_cached_sets::filters", "filters")],
     ),
     "cat_facets": (None, [("cat_facets", "")]),
     "cat_commits": (
         "Commits and their files, which commits are kept, and snapshots of them; how the files of a commit are written, and how\n//! they are read and judged.",
-        [("cat_commits", ""), ("cat_listing", "writing"), ("cat_opening", "reading")],
+        [("cat_commits", ""), ("cat_commits::writing", "writing"), ("cat_commits::reading", "reading")],
     ),
     "cat_check": (None, [("cat_check", "")]),
     "cat_lifetimes": (
         "How long files and views live: the users of each file, the recorded views with the sessions that hold them, and the\n//! sessions' rights to views.",
-        [("cat_refs", "refs"), ("cat_records", "records"), ("cat_rights", "rights")],
+        [("cat_lifetimes::refs", "refs"), ("cat_lifetimes::records", "records"), ("cat_lifetimes::rights", "rights")],
     ),
     "cat_live_table": (
         "The two halves of the live table: the write buffer, and the segments that stand, each with its live rows.",
-        [("cat_flush", "buffer"), ("cat_current", "current")],
+        [("cat_live_table::buffer", "buffer"), ("cat_live_table::current", "current")],
     ),
     "cat_ledger_state": (
         "What memory has of a ledger, and what each call makes of it and of the device; and the state that it starts with.",
-        [("cat_ledger_core", ""), ("cat_ledger_opening", "startup")],
+        [("cat_ledger_state", ""), ("cat_ledger_state::startup", "startup")],
     ),
     "cat_ledger": (
         "The ledger: opening, and each call of it over its own directory, with every refusal in its order; and when a merge is\n//! due, and its steps.",
-        [("cat_ledger", ""), ("cat_upkeep", "upkeep")],
+        [("cat_ledger", ""), ("cat_ledger::upkeep", "upkeep")],
     ),
     "cat_protocol": (
         "What is said and how: lines as they are read, replies and their texts, how these go out to a writer, and a machine of\n//! lines that is served over a reader and a writer.",
-        [("cat_lines", "lines"), ("cat_replies", "replies"), ("cat_sending", "sending"), ("cat_serving", "serving")],
+        [("cat_protocol::lines", "lines"), ("cat_protocol::replies", "replies"), ("cat_protocol::sending", "sending"), ("cat_protocol::serving", "serving")],
     ),
     "cat_commands": (
         "What is answered to each command: to those of the ledger, which need no right to a view, to those that give, need or end\n//! such a right, and to the searches over it.",
-        [("cat_keeping", "ledger"), ("cat_holding", "views"), ("cat_finding", "searches")],
+        [("cat_commands::ledger", "ledger"), ("cat_commands::views", "views"), ("cat_commands::searches", "searches")],
     ),
     "cat_service": (
         "The service: sessions over a ledger, in which each line is one step; and serving over a directory.",
-        [("cat_world", ""), ("cat_ledger_sets", "sets"), ("cat_theorem", "theorem")],
+        [("cat_service", ""), ("cat_service::sets", "sets"), ("cat_service::theorem", "theorem")],
     ),
     "catalogue": (
         "The catalogue's program: what its arguments ask for, its streams, and how it ends.",
-        [("catalogue", ""), ("cat_program", "")],
+        [("catalogue", ""), ("catalogue", "")],
     ),
     "catalogue_check": (None, [("catalogue_check", "")]),
     "cat_plain": (None, [("cat_plain", "")]),
     "cat_parts_tests": (
         "Tests of what stands alone: texts and numbers, items and schemas, columns and terms, files by name, and query texts.",
         [
-            ("cat_base_rows", "base"),
-            ("cat_schema_rows", "items"),
-            ("cat_column_rows", "columns"),
-            ("cat_directory_rows", "directory"),
-            ("cat_query_rows", "query"),
+            ("cat_parts_tests::base", "base"),
+            ("cat_parts_tests::items", "items"),
+            ("cat_parts_tests::columns", "columns"),
+            ("cat_parts_tests::directory", "directory"),
+            ("cat_parts_tests::query", "query"),
         ],
     ),
     "cat_search_tests": (
         "Tests of segments and their files, of views, pages, counts over labels and cached sets; and what makes views of texts,\n//! for the tests of the crates above.",
-        [("cat_segment_rows", "segment"), ("cat_view_rows", "views"), ("cat_facet_rows", "facets")],
+        [("cat_search_tests::segment", "segment"), ("cat_search_tests::views", "views"), ("cat_search_tests::facets", "facets")],
     ),
     "cat_commit_tests": (
         "Tests of users of files, commits, merges, and commits that are written, opened and checked.",
-        [("cat_foundation_rows", "foundation"), ("cat_opening_rows", "opening")],
+        [("cat_commit_tests::foundation", "foundation"), ("cat_commit_tests::opening", "opening")],
     ),
     "cat_ledger_tests": (
         "Tests of the ledger by its calls, and of what it is made of: the write buffer, the segments that stand, recorded views,\n//! rights to them, and merges over files.",
-        [("cat_ledger_rows", "ledger"), ("cat_ledger_parts_rows", "parts"), ("cat_rights_rows", "rights")],
+        [("cat_ledger_tests::ledger", "ledger"), ("cat_ledger_tests::parts", "parts"), ("cat_ledger_tests::rights", "rights")],
     ),
     "cat_service_tests": (
         "Tests of lines, of serving, and of whole inputs, served: of days of lines, and of inputs as they come, cut anywhere, by\n//! readers and writers that fail, and where memory is wanting.",
-        [("cat_rows", "days"), ("cat_input_rows", "inputs"), ("cat_line_rows", "lines"), ("cat_serving_rows", "serving")],
+        [("cat_service_tests::days", "days"), ("cat_service_tests::inputs", "inputs"), ("cat_service_tests::lines", "lines"), ("cat_service_tests::serving", "serving")],
     ),
 }
 # Crates that a tree may lack.
-MAY_LACK = ["cat_theorem"]
+MAY_LACK = ["cat_service::theorem"]
 # Programs that only the gate ran on other arguments; tests/program.sh runs the one program on them.
 GONE = ["catalogue_usage", "catalogue_refused"]
 
@@ -1069,7 +1069,7 @@ TOLD = {
 def main(tree):
     tree = os.path.abspath(tree)
     uses = listed(tree)
-    if "cat_world" not in uses:
+    if "cat_service" not in uses:
         stop(f"{tree}/crates.txt hasn't the old layout")
     for name in GONE:
         shutil.rmtree(f"{tree}/crates/{name}", ignore_errors=True)

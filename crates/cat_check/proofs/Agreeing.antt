@@ -4,11 +4,11 @@ use Rattle.cat_model.specs.Text.{Text}
 use Rattle.cat_model.specs.Item.{Schema}
 use Rattle.cat_model.specs.Files.{Name}
 use Rattle.cat_model.specs.CommitFile.{CommitFile}
-use Rattle.cat_ledger_model.specs.Opening.{Restored, HasCommit, IsRestored, IsForeign}
-use Rattle.cat_ledger_shape.specs.Ties.{ToldFiles}
-use Rattle.cat_ledger_shape.specs.OpeningLaws.{MayHold}
-use Rattle.cat_opening.specs.Told.{Tells}
-use Rattle.cat_opening.proofs.Parts.{CommitsLaw, commit_spells, commit_agrees}
+use Rattle.cat_ledger_laws.specs.model.Opening.{Restored, HasCommit, IsRestored, IsForeign}
+use Rattle.cat_ledger_laws.specs.shape.Ties.{ToldFiles}
+use Rattle.cat_ledger_laws.specs.shape.OpeningLaws.{MayHold}
+use Rattle.cat_commits.specs.reading.Told.{Tells}
+use Rattle.cat_commits.proofs.reading.Parts.{CommitsLaw, commit_spells, commit_agrees}
 use Rattle.cat_check.specs.Said.{SaysCommit, IsTorn}
 use Rattle.cat_check.specs.Judged.{IsLost}
 

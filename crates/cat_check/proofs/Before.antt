@@ -3,7 +3,7 @@ use Rattle.std.proofs.Common.{◌≡◌, ℕ, Bool, true, false, List, [], ◌�
 use Rattle.std.specs.Prelude.{All, MatchBool}
 use Rattle.std.proofs.lemmas.List.Elements.{All-push}
 use Rattle.cat_directory.specs.declared.name.FileName.{FileName}
-use Rattle.cat_ledger_shape.specs.Ties.{ToldFiles}
+use Rattle.cat_ledger_laws.specs.shape.Ties.{ToldFiles}
 use Rattle.cat_check.specs.declared.report.Report.{Report}
 use Rattle.cat_check.specs.declared.verdict.Verdict.{Verdict}
 use Rattle.cat_check.specs.declared.verdict.Verdict.TheVariants as verdict

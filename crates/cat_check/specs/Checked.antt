@@ -3,8 +3,8 @@ use Rattle.std.specs.Prelude.{ℕ, List, Option, Some, None, All, Contains}
 use Rattle.cat_directory.specs.declared.name.FileName.{FileName}
 use Rattle.cat_directory.specs.declared.name.FileName.TheVariants as file
 use Rattle.cat_directory.specs.Devices.{Lists}
-use Rattle.cat_ledger_shape.specs.Ties.{ToldFiles}
-use Rattle.cat_opening.specs.Numbers.{IsNewest}
+use Rattle.cat_ledger_laws.specs.shape.Ties.{ToldFiles}
+use Rattle.cat_commits.specs.reading.Numbers.{IsNewest}
 use Rattle.cat_check.specs.declared.report.Report.{Report}
 use Rattle.cat_check.specs.declared.checked.Checked.{Checked}
 use Rattle.cat_check.specs.Judged.{IsJudged}

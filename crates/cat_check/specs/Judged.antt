@@ -1,10 +1,10 @@
 -- What is judged of a commit: what opening answers at it, under the fields that its own file says.
 use Rattle.std.specs.Prelude.{ℕ}
 use Rattle.cat_model.specs.Item.{Schema}
-use Rattle.cat_ledger_model.specs.Opening.{Restored, IsRestored}
-use Rattle.cat_ledger_shape.specs.Ties.{ToldFiles}
-use Rattle.cat_ledger_shape.specs.OpeningLaws.{MayHold}
-use Rattle.cat_opening.specs.Told.{Tells}
+use Rattle.cat_ledger_laws.specs.model.Opening.{Restored, IsRestored}
+use Rattle.cat_ledger_laws.specs.shape.Ties.{ToldFiles}
+use Rattle.cat_ledger_laws.specs.shape.OpeningLaws.{MayHold}
+use Rattle.cat_commits.specs.reading.Told.{Tells}
 use Rattle.cat_check.specs.declared.verdict.Verdict.{Verdict}
 use Rattle.cat_check.specs.declared.verdict.Verdict.TheVariants as verdict
 

@@ -3,8 +3,8 @@ use Rattle.std.specs.Prelude.{ℕ}
 use Rattle.cat_model.specs.Text.{Text}
 use Rattle.cat_model.specs.Files.{Name}
 use Rattle.cat_model.specs.CommitFile.{CommitFile, SpellsCommit}
-use Rattle.cat_ledger_shape.specs.Ties.{ToldFiles}
-use Rattle.cat_opening.specs.Told.{Tells}
+use Rattle.cat_ledger_laws.specs.shape.Ties.{ToldFiles}
+use Rattle.cat_commits.specs.reading.Told.{Tells}
 
 -- the file of this generation's name says this commit, which may have another number than the name
 pub record SaysCommit (holds : Name → Text → Type 0) (generation : ℕ) (c : CommitFile) : Type 0 where

@@ -4,9 +4,9 @@ use Rattle.cat_model.specs.CommitFile.{CommitFile}
 use Rattle.cat_directory.specs.declared.name.FileName.{FileName}
 use Rattle.cat_directory.specs.declared.name.FileName.TheVariants as file
 use Rattle.cat_directory.specs.Devices.{FileContent, IsSettled, Lists, removed, told_after}
-use Rattle.cat_ledger_shape.specs.Ties.{ToldFiles}
-use Rattle.cat_ledger_shape.specs.OpeningLaws.{MayHold}
-use Rattle.cat_opening.specs.Numbers.{IsNewest}
+use Rattle.cat_ledger_laws.specs.shape.Ties.{ToldFiles}
+use Rattle.cat_ledger_laws.specs.shape.OpeningLaws.{MayHold}
+use Rattle.cat_commits.specs.reading.Numbers.{IsNewest}
 use Rattle.cat_check.specs.declared.dropping.Standing.{Standing}
 use Rattle.cat_check.specs.declared.dropping.Standing.TheVariants as standing
 use Rattle.cat_check.specs.Said.{SaysCommit, IsTorn}

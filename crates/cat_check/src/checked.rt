@@ -9,8 +9,8 @@ use crate::commits::commits_below;
 use crate::report::{Report, report_of};
 use crate::unnamed::{add_named, names_left};
 use cat_base::{Generation, Refusal};
+use cat_commits::reading::newest_commit;
 use cat_directory::{Directory, FileName, Shelf};
-use cat_opening::newest_commit;
 use std::alloc::{AllocError, Global};
 use std::collections::HashSet;
 

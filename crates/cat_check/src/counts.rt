@@ -2,8 +2,8 @@
 ghost use Rattle.std.specs.Prelude.{◌≡◌};
 ghost use Rattle.cat_directory.specs.Devices.{NoMore};
 
+use cat_commits::Leaf;
 use cat_directory::{FileName, Shelf};
-use cat_search::Leaf;
 
 /// How many rows a commit has, dead ones too, and how many of them are live.
 #[derive(Clone, Copy, Debug, PartialEq, Eq, Drop)]

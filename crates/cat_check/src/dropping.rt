@@ -3,7 +3,7 @@ ghost use Rattle.std.specs.Prelude.{◌≡◌, ◌≢◌, ◌⊎◌, IfOk, IfErr
 ghost use Rattle.cat_base.specs.declared.refusal.Refusal.TheVariants.{Device};
 ghost use Rattle.cat_model.specs.CommitFile.{CommitFile};
 ghost use Rattle.cat_directory.specs.Devices.{IsSettled, NoMore, removed, told_after};
-ghost use Rattle.cat_ledger_shape.specs.OpeningLaws.{MayHold};
+ghost use Rattle.cat_ledger_laws.specs.shape.OpeningLaws.{MayHold};
 ghost use Rattle.cat_check.specs.Said.{SaysCommit, IsTorn};
 ghost use Rattle.cat_check.specs.Judged.{IsLost, IsWhole};
 ghost use Rattle.cat_check.specs.Standing.{IsDroppable, IsDropped, IsStanding, StandsSo};
@@ -12,8 +12,8 @@ use crate::commits::commit_below;
 use crate::said::read_said;
 use crate::verdict::open_said;
 use cat_base::{Generation, Refusal};
+use cat_commits::reading::newest_commit;
 use cat_directory::{Directory, FileName, Shelf};
-use cat_opening::newest_commit;
 use std::alloc::Global;
 
 /// How the newest commit of a directory stands.

@@ -3,7 +3,7 @@ ghost use Rattle.std.specs.Prelude.{◌≡◌, ◌≢◌, ◌≤◌, ◌<◌, So
 ghost use Rattle.cat_base.specs.declared.refusal.Refusal.TheVariants.{Memory, Device, Damaged};
 ghost use Rattle.cat_directory.specs.Devices.{CountsReading, NoMore};
 ghost use Rattle.cat_model.specs.Text.{Text};
-ghost use Rattle.cat_ledger_shape.specs.Ties.{IsTold};
+ghost use Rattle.cat_ledger_laws.specs.shape.Ties.{IsTold};
 
 use cat_base::Refusal;
 use cat_directory::{FileName, Shelf};

@@ -16,6 +16,7 @@ mod telling;
 mod unnamed;
 mod verdict;
 
+pub use cat_commits;
 pub use checked::{Checked, check};
 pub use commits::commit_below;
 pub use counts::Counts;

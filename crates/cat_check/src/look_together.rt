@@ -1,8 +1,8 @@
 //! Whether the segments of a commit fit together: numbers of writes rise over all of them, and an id is live once.
 use crate::fault::{Fault, Rule};
 use cat_base::Token;
+use cat_commits::Leaf;
 use cat_directory::FileName;
-use cat_search::Leaf;
 use std::alloc::{AllocError, Global};
 use std::collections::HashSet;
 

@@ -2,8 +2,8 @@
 ghost use Rattle.std.specs.Prelude.{◌≡◌, IfOk, IfErr};
 ghost use Rattle.cat_base.specs.declared.refusal.Refusal.TheVariants.{Device, Damaged};
 ghost use Rattle.cat_directory.specs.Devices.{NoMore};
-ghost use Rattle.cat_ledger_model.specs.Opening.{IsRestored};
-ghost use Rattle.cat_ledger_shape.specs.OpeningLaws.{MayHold};
+ghost use Rattle.cat_ledger_laws.specs.model.Opening.{IsRestored};
+ghost use Rattle.cat_ledger_laws.specs.shape.OpeningLaws.{MayHold};
 ghost use Rattle.cat_check.specs.Said.{SaysCommit};
 ghost use Rattle.cat_check.specs.Judged.{IsLost, IsJudged};
 
@@ -12,10 +12,10 @@ use crate::fault::Fault;
 use crate::look::look;
 use cat_base::{Generation, Refusal};
 use cat_commits::Commit;
+use cat_commits::reading::{Restored, read_commit};
 use cat_directory::{FileName, Shelf};
 use cat_model::commits_are_told_by_their_bytes;
-use cat_opening::{Restored, read_commit};
-use cat_schema::Schema;
+use cat_segment::cat_items::Schema;
 use std::alloc::{AllocError, Global};
 
 /// What is judged of a commit: what an opening at it answers, under the fields that its own file says. (Lucene: `CheckIndex.Status`.)

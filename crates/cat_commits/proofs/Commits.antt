@@ -12,12 +12,12 @@ use Rattle.cat_model.specs.Layout.{spelled_fields}
 use Rattle.cat_model.specs.Limits.{last_number, segment_limit}
 use Rattle.cat_model.specs.CommitFile.{ListedSegment, CommitFile, HasText, IsListed, IsCommitFile, SpellsCommit, spelled_listed, spelled_commit}
 use Rattle.cat_model.proofs.Lists.{All-weaken}
-use Rattle.cat_codec.specs.Reading.{◌>>=◌, u32_at, where_at, many_at, rest_of}
-use Rattle.cat_codec.specs.Layouts.{fields_at}
-use Rattle.cat_codec.proofs.Numbers.{bind_some, kept, not_kept, some_is}
-use Rattle.cat_codec.proofs.Readers.{reads_many}
-use Rattle.cat_codec.proofs.Layouts.{reads_fields}
-use Rattle.cat_codec.proofs.Rests.{rest_is, rest_is_none}
+use Rattle.cat_items.specs.file_parts.Reading.{◌>>=◌, u32_at, where_at, many_at, rest_of}
+use Rattle.cat_items.specs.file_parts.Layouts.{fields_at}
+use Rattle.cat_items.proofs.file_parts.Numbers.{bind_some, kept, not_kept, some_is}
+use Rattle.cat_items.proofs.file_parts.Readers.{reads_many}
+use Rattle.cat_items.proofs.file_parts.Layouts.{reads_fields}
+use Rattle.cat_items.proofs.file_parts.Rests.{rest_is, rest_is_none}
 use Rattle.cat_commits.specs.Layouts.{CommitStart, is_count, start_at, listed_at, commit_at}
 use Rattle.cat_commits.specs.Judged.{start_of}
 use Rattle.cat_commits.proofs.Lists.{drop_behind}

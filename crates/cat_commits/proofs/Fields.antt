@@ -3,11 +3,11 @@ use Rattle.std.proofs.Common.{◌≡◌, ◌≢◌, ℕ, List, ◌++◌, Option,
 use Rattle.std.specs.Prelude.{Result, Ok, Err, IfOk, IfErr, OnOk}
 use Rattle.std.specs.Result.{result_ok}
 use Rattle.std.proofs.lemmas.Result.{IfOk-weaker}
-use Rattle.cat_codec.proofs.Numbers.{some_is}
+use Rattle.cat_items.proofs.file_parts.Numbers.{some_is}
 use Rattle.cat_model.specs.Item.{Schema, IsSchema}
 use Rattle.cat_model.specs.Layout.{spelled_fields}
-use Rattle.cat_codec.specs.Layouts.{fields_at}
-use Rattle.cat_codec.proofs.Layouts.{reads_fields}
+use Rattle.cat_items.specs.file_parts.Layouts.{fields_at}
+use Rattle.cat_items.proofs.file_parts.Layouts.{reads_fields}
 
 pub fields_told : (old new : List ℕ) (s : Schema) → IsSchema s × (old ≡ spelled_fields s ++ new) → fields_at old ≡ Some (s, new)
 fields_told old new s h = ap fields_at h.1 ∙ reads_fields.complete s new h.0

@@ -10,10 +10,10 @@ use Rattle.cat_model.specs.Files.{IsFileNumber}
 use Rattle.cat_model.specs.Forms.{is_plain_byte, IsCommitText}
 use Rattle.cat_model.specs.Limits.{last_number, segment_limit}
 use Rattle.cat_model.specs.CommitFile.{Version, ListedSegment, HasText, IsListed, version_byte, spelled_text, spelled_listed}
-use Rattle.cat_codec.specs.Reading.{◌>>=◌, byte_at, u32_at, u64_at, where_at, text_at}
-use Rattle.cat_codec.proofs.Numbers.{Reads, bind_some, bind_at, both_true, at_some, reads_u32, reads_u64, reads_byte}
-use Rattle.cat_codec.proofs.Readers.{reads_where, reads_as, reads_text, both_sound, both_complete}
-use Rattle.cat_codec.proofs.Forms.{both_hold}
+use Rattle.cat_items.specs.file_parts.Reading.{◌>>=◌, byte_at, u32_at, u64_at, where_at, text_at}
+use Rattle.cat_items.proofs.file_parts.Numbers.{Reads, bind_some, bind_at, both_true, at_some, reads_u32, reads_u64, reads_byte}
+use Rattle.cat_items.proofs.file_parts.Readers.{reads_where, reads_as, reads_text, both_sound, both_complete}
+use Rattle.cat_items.proofs.file_parts.Forms.{both_hold}
 use Rattle.cat_commits.specs.Layouts.{CommitStart, magic, is_number, is_token, is_next, is_note, is_count, is_below_next, version_at, text_for, start_at, listed_at}
 
 -- ---- the version

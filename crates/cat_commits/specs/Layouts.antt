@@ -6,8 +6,8 @@ use Rattle.cat_model.specs.Text.{Text}
 use Rattle.cat_model.specs.Forms.{is_plain_byte}
 use Rattle.cat_model.specs.Limits.{last_number, segment_limit, commit_text_limit}
 use Rattle.cat_model.specs.CommitFile.{Version, ListedSegment, CommitFile}
-use Rattle.cat_codec.specs.Reading.{Reader, ◌>>=◌, byte_at, u32_at, u64_at, where_at, both_at, many_at, text_at}
-use Rattle.cat_codec.specs.Layouts.{fields_at}
+use Rattle.cat_items.specs.file_parts.Reading.{Reader, ◌>>=◌, byte_at, u32_at, u64_at, where_at, both_at, many_at, text_at}
+use Rattle.cat_items.specs.file_parts.Layouts.{fields_at}
 use Rattle.cat_commits.specs.declared.start.Start.{Start}
 use Rattle.cat_commits.specs.Versions.{version_of}
 

@@ -2,7 +2,7 @@
 ghost use Rattle.std.specs.Prelude.{◌≡◌, ◌<◌, IfSome, unwrap_or};
 
 use cat_base::{Generation, SegNo, Text, Token};
-use cat_schema::Schema;
+use cat_items::Schema;
 use std::marker::Model;
 
 /// A version of the layout of a commit's file.

@@ -1,7 +1,7 @@
 //! The cursor's calls, each as what the reading of its bytes gives: a value, or nothing where the bytes don't begin with one.
 ghost use Rattle.std.specs.Prelude.{◌≡◌, option_map};
 ghost use Rattle.std.specs.Str.{is_utf8};
-ghost use Rattle.cat_codec.specs.Reading.{byte_at, u32_at, u64_at, string_at, where_at};
+ghost use Rattle.cat_items.specs.file_parts.Reading.{byte_at, u32_at, u64_at, string_at, where_at};
 
 use cat_base::Cursor;
 use std::str::from_utf8;
@@ -43,7 +43,7 @@ fn take_bytes<'a>(cursor: &mut Cursor<'a>) -> Option<&'a [u8]>
 }
 
 /// The next byte string, where it is the UTF-8 of a text.
-#[tactic(auto, unfolding(cat_codec::specs::Reading::where_at))]
+#[tactic(auto, unfolding(cat_items::specs::file_parts::Reading::where_at))]
 pub(crate) fn take_str<'a>(cursor: &mut Cursor<'a>) -> Option<&'a str>
     ensures { option_map (λ t. (t.now, cursor.new)) result ≡ where_at is_utf8 string_at cursor.old }
 {

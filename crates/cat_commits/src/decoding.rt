@@ -2,8 +2,8 @@
 ghost use Rattle.std.specs.Prelude.{◌≡◌, ◌⊎◌, Some, None, option_map, IfOk, IfErr, IfSome, IfNone};
 ghost use Rattle.cat_base.specs.declared.refusal.Refusal.TheVariants.{Damaged, Memory};
 ghost use Rattle.cat_model.specs.CommitFile as model;
-ghost use Rattle.cat_codec.specs.Layouts.{fields_at};
-ghost use Rattle.cat_codec.specs.Reading.{rest_of, u32_at, where_at};
+ghost use Rattle.cat_items.specs.file_parts.Layouts.{fields_at};
+ghost use Rattle.cat_items.specs.file_parts.Reading.{rest_of, u32_at, where_at};
 ghost use Rattle.cat_commits.specs.Layouts.{commit_at, is_count};
 ghost use Rattle.cat_commits.specs.Judged.{Tells};
 
@@ -12,8 +12,8 @@ use crate::cursor::take_u32;
 use crate::listing::{SEGMENT_BYTES, numbers_differ, pass_segments, segments};
 use crate::start::{Start, take_start};
 use cat_base::{Cursor, MAX_SEGMENTS, Refusal, Text};
-use cat_codec::read_fields;
-use cat_schema::Schema;
+use cat_items::Schema;
+use cat_items::file_parts::read_fields;
 use std::alloc::{AllocError, Global};
 
 /// What a file says that is a commit's but for the numbers of its segments, which may not differ: its start; its fields, where
@@ -40,7 +40,7 @@ fn take_fields(alloc: Global, cursor: &mut Cursor<'_>) -> Option<Result<Schema, 
 }
 
 /// How many segments there are.
-#[tactic(auto, unfolding(cat_codec::specs::Reading::where_at))]
+#[tactic(auto, unfolding(cat_items::specs::file_parts::Reading::where_at))]
 fn take_count(cursor: &mut Cursor<'_>) -> Option<u32>
     ensures { option_map (λ n. (n, cursor.new)) result ≡ where_at is_count u32_at cursor.old }
 {

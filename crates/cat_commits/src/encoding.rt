@@ -6,7 +6,7 @@ ghost use Rattle.cat_model.specs.CommitFile.{spelled_listed};
 use crate::commit::{Commit, ListedSegment};
 use crate::start::MAGIC;
 use cat_base::{put_bytes, put_u32, put_u64};
-use cat_codec::put_fields;
+use cat_items::file_parts::put_fields;
 use std::alloc::AllocError;
 
 /// Appends a segment: its number, and the commit that wrote its live rows, or 0.

@@ -1,6 +1,6 @@
 //! The segments of a commit as their bytes lie in its file, 16 for each: its number, and the commit that wrote its live rows.
 ghost use Rattle.std.specs.Prelude.{◌≡◌, ◌+◌, ◌*◌, ◌/◌, ◌<◌, ◌≤◌, ◌↔◌, length, IfOk, IsTrue, option_map};
-ghost use Rattle.cat_codec.specs.Reading.{many_at, rest_of};
+ghost use Rattle.cat_items.specs.file_parts.Reading.{many_at, rest_of};
 ghost use Rattle.cat_commits.specs.Layouts.{listed_at};
 ghost use Rattle.cat_commits.specs.Listings.{number_in, listed_in, all_listed_in, Differ, DiffersFrom};
 
@@ -14,7 +14,7 @@ use std::collections::HashSet;
 pub(crate) const SEGMENT_BYTES: usize = 16;
 
 /// The next segment of a commit of the generation, whose number is below the next one.
-#[tactic(auto, unfolding(crate::specs::Layouts::listed_at, cat_codec::specs::Reading::both_at, cat_codec::specs::Reading::where_at))]
+#[tactic(auto, unfolding(crate::specs::Layouts::listed_at, cat_items::specs::file_parts::Reading::both_at, cat_items::specs::file_parts::Reading::where_at))]
 fn take_segment(
     generation: Generation,
     next: SegNo,

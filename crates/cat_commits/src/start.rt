@@ -36,7 +36,7 @@ fn take_version(cursor: &mut Cursor<'_>) -> Option<Version>
 }
 
 /// The text, which the first version doesn't have.
-#[tactic(auto, unfolding(crate::specs::Layouts::text_for, cat_codec::specs::Reading::where_at))]
+#[tactic(auto, unfolding(crate::specs::Layouts::text_for, cat_items::specs::file_parts::Reading::where_at))]
 fn take_text<'a>(version: Version, cursor: &mut Cursor<'a>) -> Option<&'a str>
     ensures { option_map (λ t. (t.now, cursor.new)) result ≡ text_for (version_of version) cursor.old }
 {
@@ -47,7 +47,7 @@ fn take_text<'a>(version: Version, cursor: &mut Cursor<'a>) -> Option<&'a str>
 }
 
 /// All that stands before the fields.
-#[tactic(auto, unfolding(crate::specs::Layouts::start_at, cat_codec::specs::Reading::where_at))]
+#[tactic(auto, unfolding(crate::specs::Layouts::start_at, cat_items::specs::file_parts::Reading::where_at))]
 pub(crate) fn take_start<'a>(cursor: &mut Cursor<'a>) -> Option<Start<'a>>
     ensures { option_map (λ s. (start_in s, cursor.new)) result ≡ start_at cursor.old }
 {

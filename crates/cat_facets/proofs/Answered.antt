@@ -13,8 +13,8 @@ use Rattle.cat_model.specs.Limits.{page_limit}
 use Rattle.cat_model.specs.Page.{first_ranked, hits}
 use Rattle.cat_model.specs.Text.{Text}
 use Rattle.cat_model.specs.View.{View, Shows}
-use Rattle.cat_query.specs.declared.query.Query.{Query}
-use Rattle.cat_query.specs.View.{query_of}
+use Rattle.cat_search.specs.cat_query.declared.query.Query.{Query}
+use Rattle.cat_search.specs.cat_query.View.{query_of}
 use Rattle.cat_facets.specs.declared.first.Ranked.{Ranked}
 use Rattle.cat_facets.specs.Met.{comes_first, met_from, told}
 use Rattle.cat_model.specs.GlobalOrdinals.{view_dictionary}

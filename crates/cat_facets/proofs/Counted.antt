@@ -11,7 +11,7 @@ use Rattle.std.specs.List.{AllByRecursion, range_with_len}
 use Rattle.std.specs.Prelude.{count_by, replicate}
 use Rattle.cat_model.specs.RowSets.{first_only, has_row, indices, joined}
 use Rattle.cat_model.specs.View.{selected}
-use Rattle.cat_search.proofs.Selected.{All-right, indices-within}
+use Rattle.cat_search.proofs.views_laws.Selected.{All-right, indices-within}
 use Rattle.cat_facets.specs.Tallies.{globals_of, occurrences, one_if}
 
 -- ---- a count by recursion on the list, where `count_by` keeps a running sum

@@ -18,9 +18,9 @@ use Rattle.cat_model.specs.Ordinals.{dictionary_of, postings_of, rows_having, te
 use Rattle.cat_model.specs.RowSets.{indices}
 use Rattle.cat_model.specs.Text.{Text, same_text}
 use Rattle.cat_model.proofs.Lists.{list_any-append}
-use Rattle.cat_values.proofs.Searches.{one_place}
+use Rattle.cat_search.proofs.columns_laws.Searches.{one_place}
 use Rattle.cat_facets.specs.Tallies.{globals_of, has_label, label_count, occurrences, one_if, sum_at}
-use Rattle.cat_search.proofs.Selected.{at_indices, count-selected}
+use Rattle.cat_search.proofs.views_laws.Selected.{at_indices, count-selected}
 use Rattle.cat_facets.proofs.Counted.{count, count-is, count-map}
 
 -- ---- texts of ordinals

@@ -13,7 +13,7 @@ use Rattle.cat_model.specs.Text.{Text}
 use Rattle.cat_model.specs.View.{Leaf, Row, View, live_rows, row_matches, selected}
 use Rattle.cat_model.proofs.Lists.{list_any-append}
 use Rattle.cat_search.specs.Rows.{leaf_hits}
-use Rattle.cat_search.proofs.Selected.{selected-map}
+use Rattle.cat_search.proofs.views_laws.Selected.{selected-map}
 use Rattle.cat_model.specs.GlobalOrdinals.{leaf_dictionary, texts_in_leaf, view_dictionary}
 use Rattle.cat_facets.specs.States.{HasLabels}
 use Rattle.cat_facets.specs.Tallies.{has_label, hit_labels, label_count, labels_at, leaf_labels, AreCounts}

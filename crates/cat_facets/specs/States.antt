@@ -6,8 +6,8 @@ use Rattle.cat_model.specs.Item.{Record, kind_of}
 use Rattle.cat_model.specs.Ordinals.{dictionary_of}
 use Rattle.cat_model.specs.Text.{Text}
 use Rattle.cat_model.specs.View.{Leaf, Segment, View, Shows}
-use Rattle.cat_query.specs.declared.query.Query.{Query}
-use Rattle.cat_query.specs.View.{query_of}
+use Rattle.cat_search.specs.cat_query.declared.query.Query.{Query}
+use Rattle.cat_search.specs.cat_query.View.{query_of}
 use Rattle.cat_facets.specs.declared.segments.SegmentLabels.{SegmentLabels}
 use Rattle.cat_model.specs.GlobalOrdinals.{leaf_dictionary, texts_in_leaf, IsOrdinalMap}
 use Rattle.cat_facets.specs.Tallies.{leaf_labels, labelled_count}

@@ -5,7 +5,7 @@ ghost use Rattle.cat_facets.specs.Met.{comes_first, met_from, told};
 
 use crate::facets::FacetCount;
 use cat_search::Best;
-use cat_values::Dictionary;
+use cat_search::cat_columns::Dictionary;
 use std::alloc::{AllocError, Global};
 use std::cmp::Reverse;
 

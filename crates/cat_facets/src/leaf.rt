@@ -10,8 +10,8 @@ use crate::counting::{add_all, add_rows};
 use crate::segments::SegmentLabels;
 use crate::uncounting::take_rows;
 use cat_search::Leaf;
-use cat_segment::Labels;
-use cat_values::{Dictionary, RowSet, SetColumn};
+use cat_search::cat_columns::{Dictionary, RowSet, SetColumn};
+use cat_search::cat_segment::Labels;
 use std::alloc::{AllocError, Global};
 
 /// How many rows have a label.

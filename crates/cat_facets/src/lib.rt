@@ -13,6 +13,8 @@ mod states;
 mod totals;
 mod uncounting;
 
+pub use cat_search;
+pub use cat_search::cat_segment;
 pub use facets::{FacetCount, Facets};
 pub use limits::MAX_KEPT_STATES;
 pub use state::ReaderState;

@@ -12,7 +12,7 @@ use crate::facets::Facets;
 use crate::limits::MAX_KEPT_STATES;
 use crate::state::{ReaderState, is_facet};
 use cat_base::{MAX_PAGE, Refusal, SegNo};
-use cat_schema::kind_of;
+use cat_search::cat_items::kind_of;
 use cat_search::{Leaf, Prepared, View};
 use std::alloc::{AllocError, Global};
 use std::marker::Model;

@@ -1,14 +1,14 @@
 //! The hits in all leaves of a view, counted.
 ghost use Rattle.std.specs.Prelude.{◌≡◌, ◌+◌, IfOk};
 ghost use Rattle.std.specs.List.{flat_map};
-ghost use Rattle.cat_query.specs.View.{query_of};
+ghost use Rattle.cat_search.specs.cat_query.View.{query_of};
 ghost use Rattle.cat_facets.specs.States.{AreKnown};
 ghost use Rattle.cat_facets.specs.Tallies.{hit_labels, labelled_count, AreCounts};
 
 use crate::leaf::add_leaf;
 use crate::segments::SegmentLabels;
 use cat_search::Prepared;
-use cat_values::Dictionary;
+use cat_search::cat_columns::Dictionary;
 use std::alloc::{AllocError, Global};
 
 /// As many more. What a `usize` can't count doesn't fit in memory either.

@@ -14,20 +14,20 @@ use Rattle.cat_directory.specs.Devices.{FileContent, IsSettled, NoMore, OrGone, 
 use Rattle.cat_directory.specs.Names.{name_of}
 use Rattle.cat_directory.specs.declared.name.FileName.{FileName}
 use Rattle.cat_directory.specs.declared.name.FileName.TheVariants as file
-use Rattle.cat_ledger_model.specs.Ledger as model
-use Rattle.cat_ledger_model.specs.Ledger.{LedgerCommit, commit_file}
-use Rattle.cat_ledger_model.specs.Plans as plans
-use Rattle.cat_ledger_model.specs.Stored.{FileBytes, IsCommitStored}
-use Rattle.cat_ledger_model.specs.Users.{has_name, same_file_name}
-use Rattle.cat_ledger_model.proofs.Counted.{same_name_is}
-use Rattle.cat_ledger_shape.specs.CommitLaws.{names_begun}
-use Rattle.cat_ledger_shape.specs.Shapes.{ListedLive, Shape}
-use Rattle.cat_ledger_shape.specs.Steps.{IsCommitted, Leaves, commit_now, listed_now, newest_generation}
-use Rattle.cat_ledger_shape.specs.Ties.{IsTold, Makes, ToldFiles}
-use Rattle.cat_ledger_shape.proofs.Told.{same_again}
-use Rattle.cat_ledger_core.specs.Cores.{flush_begins, is_begun}
-use Rattle.cat_ledger_opening.specs.Opened.{HasOpened}
-use Rattle.cat_upkeep.specs.Spared.{SparesCommits}
+use Rattle.cat_ledger_laws.specs.model.Ledger as model
+use Rattle.cat_ledger_laws.specs.model.Ledger.{LedgerCommit, commit_file}
+use Rattle.cat_ledger_laws.specs.model.Plans as plans
+use Rattle.cat_ledger_laws.specs.model.Stored.{FileBytes, IsCommitStored}
+use Rattle.cat_ledger_laws.specs.model.Users.{has_name, same_file_name}
+use Rattle.cat_ledger_laws.proofs.model.Counted.{same_name_is}
+use Rattle.cat_ledger_laws.specs.shape.CommitLaws.{names_begun}
+use Rattle.cat_ledger_laws.specs.shape.Shapes.{ListedLive, Shape}
+use Rattle.cat_ledger_laws.specs.shape.Steps.{IsCommitted, Leaves, commit_now, listed_now, newest_generation}
+use Rattle.cat_ledger_laws.specs.shape.Ties.{IsTold, Makes, ToldFiles}
+use Rattle.cat_ledger_laws.proofs.shape.Told.{same_again}
+use Rattle.cat_ledger_state.specs.Cores.{flush_begins, is_begun}
+use Rattle.cat_ledger_state.specs.startup.Opened.{HasOpened}
+use Rattle.cat_ledger.specs.upkeep.Spared.{SparesCommits}
 use Rattle.cat_ledger.specs.Histories.{Call, Event, FoundIsTried, Goes, IsAnswered, IsCrashed, IsHistory, IsLastAnswered, IsPastNewest, IsTried, IsUnanswered, LeavesNoneAhead, NewestIsAnswered, NewestIsFound, NoneIsAhead, NoneIsLost, SparesOtherCommits, events_of, newest_after, newest_of, tells}
 use Rattle.cat_ledger.specs.Lasting.{AlwaysTells, IsCarried, NewestLasts, needs_of, newest_needs}
 use Rattle.cat_ledger.specs.Ledgers.{Ledger, device_in, shape_in}

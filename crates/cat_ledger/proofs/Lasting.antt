@@ -16,32 +16,32 @@ use Rattle.cat_model.proofs.Runs.{last_or-append}
 use Rattle.cat_directory.specs.Devices.{FileContent, IsSettled, NoMore, Told}
 use Rattle.cat_directory.specs.Names.{name_of}
 use Rattle.cat_directory.specs.declared.name.FileName.{FileName}
-use Rattle.cat_ledger_model.specs.Calls.{Flushed, Flushes, MayLeave, RecordsNow, has_recorded, listed_in, wrote}
-use Rattle.cat_ledger_model.specs.Ledger as model
-use Rattle.cat_ledger_model.specs.Ledger.{IsNew, IsOther, IsPast, LedgerCommit, NotOf, commit_file, listed_segment, names_of_commit, names_of_merging, names_of_portion, names_of_view, names_used}
-use Rattle.cat_ledger_model.specs.Plans.{MergePolicy}
-use Rattle.cat_ledger_model.specs.Portions.{Merging}
-use Rattle.cat_ledger_model.specs.Replies.{IsLeft, Maintains}
-use Rattle.cat_ledger_model.specs.Users.{has_name, same_file_name, times, users_of}
-use Rattle.cat_ledger_model.proofs.Counted.{same_name_is}
-use Rattle.cat_ledger_model.proofs.Stored.{each_used}
-use Rattle.cat_ledger_model.proofs.Users.{All-four, All-split}
-use Rattle.cat_ledger_shape.specs.Shapes.{IsShape, ListedLive, Shape, listed_live, merging_shape, names_of_commits, shape_of}
-use Rattle.cat_ledger_shape.specs.CommitLaws.{names_begun}
-use Rattle.cat_ledger_shape.specs.Steps.{IsCommitted, Leaves, commit_now, newest_generation}
-use Rattle.cat_ledger_shape.specs.Ties.{Makes, ToldFiles, file_of}
-use Rattle.cat_ledger_shape.proofs.Told.{file_of_name, name_of_file}
-use Rattle.cat_ledger_shape.proofs.Committed.{commits_named}
-use Rattle.cat_ledger_shape.proofs.Leaves.{map_twice}
-use Rattle.cat_ledger_shape.proofs.Listed.{names_are_begun}
-use Rattle.cat_ledger_shape.proofs.Writes.{sweeps_make}
-use Rattle.cat_ledger_lines.specs.HoldLaws.{holding, letting_go}
-use Rattle.cat_ledger_lines.specs.LineLaws.{Puts, Refreshes}
-use Rattle.cat_ledger_lines.proofs.HoldAnswers.{closes_answer, opens_answer}
-use Rattle.cat_listing.specs.Unsynced.{needed_by}
-use Rattle.cat_listing.specs.Laws.{NeededAreSynced}
-use Rattle.cat_ledger_core.specs.Commits.{names_synced}
-use Rattle.cat_ledger_core.specs.Installs.{IsOfMerge}
+use Rattle.cat_ledger_laws.specs.model.Calls.{Flushed, Flushes, MayLeave, RecordsNow, has_recorded, listed_in, wrote}
+use Rattle.cat_ledger_laws.specs.model.Ledger as model
+use Rattle.cat_ledger_laws.specs.model.Ledger.{IsNew, IsOther, IsPast, LedgerCommit, NotOf, commit_file, listed_segment, names_of_commit, names_of_merging, names_of_portion, names_of_view, names_used}
+use Rattle.cat_ledger_laws.specs.model.Plans.{MergePolicy}
+use Rattle.cat_ledger_laws.specs.model.Portions.{Merging}
+use Rattle.cat_ledger_laws.specs.model.Replies.{IsLeft, Maintains}
+use Rattle.cat_ledger_laws.specs.model.Users.{has_name, same_file_name, times, users_of}
+use Rattle.cat_ledger_laws.proofs.model.Counted.{same_name_is}
+use Rattle.cat_ledger_laws.proofs.model.Stored.{each_used}
+use Rattle.cat_ledger_laws.proofs.model.Users.{All-four, All-split}
+use Rattle.cat_ledger_laws.specs.shape.Shapes.{IsShape, ListedLive, Shape, listed_live, merging_shape, names_of_commits, shape_of}
+use Rattle.cat_ledger_laws.specs.shape.CommitLaws.{names_begun}
+use Rattle.cat_ledger_laws.specs.shape.Steps.{IsCommitted, Leaves, commit_now, newest_generation}
+use Rattle.cat_ledger_laws.specs.shape.Ties.{Makes, ToldFiles, file_of}
+use Rattle.cat_ledger_laws.proofs.shape.Told.{file_of_name, name_of_file}
+use Rattle.cat_ledger_laws.proofs.shape.Committed.{commits_named}
+use Rattle.cat_ledger_laws.proofs.shape.Leaves.{map_twice}
+use Rattle.cat_ledger_laws.proofs.shape.Listed.{names_are_begun}
+use Rattle.cat_ledger_laws.proofs.shape.Writes.{sweeps_make}
+use Rattle.cat_ledger_laws.specs.lines.HoldLaws.{holding, letting_go}
+use Rattle.cat_ledger_laws.specs.lines.LineLaws.{Puts, Refreshes}
+use Rattle.cat_ledger_laws.proofs.lines.HoldAnswers.{closes_answer, opens_answer}
+use Rattle.cat_ledger_state.specs.cat_commits.writing.Unsynced.{needed_by}
+use Rattle.cat_ledger_state.specs.cat_commits.writing.Laws.{NeededAreSynced}
+use Rattle.cat_ledger_state.specs.Commits.{names_synced}
+use Rattle.cat_ledger_state.specs.Installs.{IsOfMerge}
 use Rattle.cat_ledger.proofs.Made.{none_is}
 use Rattle.cat_ledger.specs.Lasting.{AlwaysTells, IsCarried, IsLasting, needs_of, newest_needs}
 

@@ -4,3 +4,4 @@ pub mod Results
 pub mod Swept
 pub mod Histories
 pub mod Synced
+pub use Rattle.cat_ledger_state.proofs.commits_laws as commits_laws

@@ -13,23 +13,23 @@ use Rattle.cat_model.specs.Write.{Write}
 use Rattle.cat_directory.specs.declared.name.FileName.{FileName}
 use Rattle.cat_directory.specs.declared.name.FileName.TheVariants as file
 use Rattle.cat_directory.specs.Names.{name_of}
-use Rattle.cat_ledger_model.specs.Calls.{Flushes, wrote}
-use Rattle.cat_ledger_model.specs.Laws.{PutsItem}
-use Rattle.cat_ledger_model.specs.Ledger.{IsNew}
-use Rattle.cat_ledger_model.specs.Replies.{IsLeft, MakesRoom}
-use Rattle.cat_ledger_model.specs.Users.{has_name, same_file_name}
-use Rattle.cat_ledger_model.proofs.Counted.{same_name_is}
-use Rattle.cat_ledger_shape.specs.CommitLaws.{names_begun}
-use Rattle.cat_ledger_shape.specs.Shapes.{IsShape, Shape}
-use Rattle.cat_ledger_shape.specs.Steps.{tokens_of, with_write}
-use Rattle.cat_ledger_shape.specs.Ties.{Makes, ToldFiles, TouchesNothing}
-use Rattle.cat_ledger_shape.proofs.Listed.{names_are_begun}
-use Rattle.cat_ledger_shape.proofs.Writes.{flushes_make, refusals_make, writes_make}
-use Rattle.cat_ledger_core.specs.Cores.{HasFlushed, HasGivenUp, flush_begins, is_begun}
-use Rattle.cat_ledger_lines.specs.LineLaws.{MayRefresh}
+use Rattle.cat_ledger_laws.specs.model.Calls.{Flushes, wrote}
+use Rattle.cat_ledger_laws.specs.model.Laws.{PutsItem}
+use Rattle.cat_ledger_laws.specs.model.Ledger.{IsNew}
+use Rattle.cat_ledger_laws.specs.model.Replies.{IsLeft, MakesRoom}
+use Rattle.cat_ledger_laws.specs.model.Users.{has_name, same_file_name}
+use Rattle.cat_ledger_laws.proofs.model.Counted.{same_name_is}
+use Rattle.cat_ledger_laws.specs.shape.CommitLaws.{names_begun}
+use Rattle.cat_ledger_laws.specs.shape.Shapes.{IsShape, Shape}
+use Rattle.cat_ledger_laws.specs.shape.Steps.{tokens_of, with_write}
+use Rattle.cat_ledger_laws.specs.shape.Ties.{Makes, ToldFiles, TouchesNothing}
+use Rattle.cat_ledger_laws.proofs.shape.Listed.{names_are_begun}
+use Rattle.cat_ledger_laws.proofs.shape.Writes.{flushes_make, refusals_make, writes_make}
+use Rattle.cat_ledger_state.specs.Cores.{HasFlushed, HasGivenUp, flush_begins, is_begun}
+use Rattle.cat_ledger_laws.specs.lines.LineLaws.{MayRefresh}
 use Rattle.cat_ledger.specs.Grants.{IsAsked}
-use Rattle.cat_ledger_lines.proofs.JoinedCalls.{flushes_flush, flushes_rest, room_is_made}
-use Rattle.cat_ledger_lines.proofs.StopAnswers.{begun_are_left, flushed_are_left, flushes_are_left, nothing_is_left, room_is_left}
+use Rattle.cat_ledger_laws.proofs.lines.JoinedCalls.{flushes_flush, flushes_rest, room_is_made}
+use Rattle.cat_ledger_laws.proofs.lines.StopAnswers.{begun_are_left, flushed_are_left, flushes_are_left, nothing_is_left, room_is_left}
 
 -- ---- what is left
 

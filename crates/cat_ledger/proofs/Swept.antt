@@ -8,16 +8,16 @@ use Rattle.cat_model.specs.Table.{Opened}
 use Rattle.cat_model.proofs.Opening.{fresh_begins}
 use Rattle.cat_directory.specs.declared.name.FileName.{FileName}
 use Rattle.cat_directory.specs.Names.{name_of}
-use Rattle.cat_ledger_model.specs.Ledger.{Ledger, state_of}
-use Rattle.cat_ledger_model.specs.Stored.{FileBytes}
-use Rattle.cat_ledger_model.specs.Users.{users_of}
-use Rattle.cat_ledger_shape.specs.Shapes.{IsShape, Shape}
-use Rattle.cat_ledger_shape.specs.Steps.{Leaves}
-use Rattle.cat_ledger_shape.specs.Ties.{Carries, ToldFiles}
-use Rattle.cat_ledger_shape.proofs.Writes.{sweeps_make}
-use Rattle.cat_ledger_lines.specs.RunLaws.{Stands}
-use Rattle.cat_opening.specs.Refused.{OpeningCount}
-use Rattle.cat_ledger_opening.specs.Opened.{HasOpened}
+use Rattle.cat_ledger_laws.specs.model.Ledger.{Ledger, state_of}
+use Rattle.cat_ledger_laws.specs.model.Stored.{FileBytes}
+use Rattle.cat_ledger_laws.specs.model.Users.{users_of}
+use Rattle.cat_ledger_laws.specs.shape.Shapes.{IsShape, Shape}
+use Rattle.cat_ledger_laws.specs.shape.Steps.{Leaves}
+use Rattle.cat_ledger_laws.specs.shape.Ties.{Carries, ToldFiles}
+use Rattle.cat_ledger_laws.proofs.shape.Writes.{sweeps_make}
+use Rattle.cat_ledger_laws.specs.lines.RunLaws.{Stands}
+use Rattle.cat_ledger_state.specs.cat_commits.reading.Refused.{OpeningCount}
+use Rattle.cat_ledger_state.specs.startup.Opened.{HasOpened}
 
 -- the start of a run under the schema, for which memory stands
 abbrev pub Begins : ToldFiles → Shape → Schema → Type 0

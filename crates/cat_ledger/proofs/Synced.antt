@@ -9,17 +9,17 @@ use Rattle.cat_model.proofs.Lists.{list_any-append}
 use Rattle.cat_directory.specs.Devices.{Told}
 use Rattle.cat_directory.specs.Names.{name_of}
 use Rattle.cat_directory.specs.declared.name.FileName.{FileName}
-use Rattle.cat_ledger_model.specs.Portions.{Portion, leaf_of}
-use Rattle.cat_ledger_model.specs.Stored.{FileBytes, IsStored}
-use Rattle.cat_ledger_model.specs.Users.{has_name, same_file_name}
-use Rattle.cat_ledger_model.proofs.Counted.{same_name_is}
-use Rattle.cat_ledger_shape.specs.CommitLaws.{names_begun}
-use Rattle.cat_ledger_shape.specs.Shapes.{ListedLive, Shape, shape_of}
-use Rattle.cat_ledger_shape.specs.Steps.{file_for}
-use Rattle.cat_ledger_shape.specs.Ties.{Carries, IsTold, ToldFiles}
-use Rattle.cat_ledger_shape.proofs.Told.{file_of_name}
-use Rattle.cat_listing.specs.Unsynced.{is_listed, new_live, new_live_of, unsynced_in, unsynced_of, unsynced_segment}
-use Rattle.cat_ledger_core.specs.Commits.{names_synced}
+use Rattle.cat_ledger_laws.specs.model.Portions.{Portion, leaf_of}
+use Rattle.cat_ledger_laws.specs.model.Stored.{FileBytes, IsStored}
+use Rattle.cat_ledger_laws.specs.model.Users.{has_name, same_file_name}
+use Rattle.cat_ledger_laws.proofs.model.Counted.{same_name_is}
+use Rattle.cat_ledger_laws.specs.shape.CommitLaws.{names_begun}
+use Rattle.cat_ledger_laws.specs.shape.Shapes.{ListedLive, Shape, shape_of}
+use Rattle.cat_ledger_laws.specs.shape.Steps.{file_for}
+use Rattle.cat_ledger_laws.specs.shape.Ties.{Carries, IsTold, ToldFiles}
+use Rattle.cat_ledger_laws.proofs.shape.Told.{file_of_name}
+use Rattle.cat_ledger_state.specs.cat_commits.writing.Unsynced.{is_listed, new_live, new_live_of, unsynced_in, unsynced_of, unsynced_segment}
+use Rattle.cat_ledger_state.specs.Commits.{names_synced}
 use Rattle.cat_ledger.specs.Lasting.{IsCarried}
 
 either : (a b : Bool) → (a || b) ≡ true → (a ≡ true) ⊎ (b ≡ true)

@@ -5,12 +5,12 @@ use Rattle.cat_model.specs.Files.{Name}
 use Rattle.cat_model.specs.Heard.{IsCommand}
 use Rattle.cat_model.specs.Lines.{Said}
 use Rattle.cat_model.specs.Run.{Answer, Command, Reply}
-use Rattle.cat_schema.specs.Reading.{json}
+use Rattle.cat_items.specs.Reading.{json}
 use Rattle.cat_directory.specs.Names.{file_text, name_cmp, name_of}
 use Rattle.cat_directory.specs.declared.name.FileName.{FileName}
-use Rattle.cat_ledger_shape.specs.Ties.{ToldFiles}
-use Rattle.cat_ledger_lines.specs.LineLaws.{line_of}
-use Rattle.cat_ledger_lines.specs.RunLaws as lines
+use Rattle.cat_ledger_laws.specs.shape.Ties.{ToldFiles}
+use Rattle.cat_ledger_laws.specs.lines.LineLaws.{line_of}
+use Rattle.cat_ledger_laws.specs.lines.RunLaws as lines
 use Rattle.cat_ledger.specs.Ledgers.{Ledger, device_in, policy_in, shape_in}
 
 -- The reply answers the command of the session, for every ledger of the model that is carried. The first argument says what a device

@@ -1,12 +1,12 @@
 -- The rights to views that a ledger grants, and that are given back.
 use Rattle.std.specs.Prelude.{None, Option, Some, false, find, true, ℕ, ◌==◌, ◌≡◌}
-use Rattle.cat_ledger_shape.specs.Shapes.{Shape}
+use Rattle.cat_ledger_laws.specs.shape.Shapes.{Shape}
 use Rattle.cat_model.specs.Run.{greatest}
 use Rattle.cat_model.specs.State.{has_hold}
 use Rattle.std.specs.List.{list_any}
 use Rattle.cat_ledger.specs.declared.views.Grant.{Grant}
 use Rattle.cat_ledger.specs.declared.views.Released.{Released}
-use Rattle.cat_ledger_shape.specs.Steps.{tokens_of}
+use Rattle.cat_ledger_laws.specs.shape.Steps.{tokens_of}
 
 -- the token that is asked for: one that a view has, or the newest one's
 abbrev pub IsAsked : Shape → Option ℕ → ℕ → Type 0

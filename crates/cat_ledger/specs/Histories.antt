@@ -6,11 +6,11 @@ use Rattle.cat_directory.specs.Devices.{FileContent, NoMore, OrGone}
 use Rattle.cat_directory.specs.Names.{name_of}
 use Rattle.cat_directory.specs.declared.name.FileName.{FileName}
 use Rattle.cat_directory.specs.declared.name.FileName.TheVariants as file
-use Rattle.cat_ledger_model.specs.Users.{has_name}
-use Rattle.cat_ledger_shape.specs.Shapes.{Shape}
-use Rattle.cat_ledger_shape.specs.Steps.{newest_generation}
-use Rattle.cat_ledger_shape.specs.Ties.{ToldFiles}
-use Rattle.cat_ledger_opening.specs.Newest.{HasNoCommit, IsNewestCommit}
+use Rattle.cat_ledger_laws.specs.model.Users.{has_name}
+use Rattle.cat_ledger_laws.specs.shape.Shapes.{Shape}
+use Rattle.cat_ledger_laws.specs.shape.Steps.{newest_generation}
+use Rattle.cat_ledger_laws.specs.shape.Ties.{ToldFiles}
+use Rattle.cat_ledger_state.specs.startup.Newest.{HasNoCommit, IsNewestCommit}
 use Rattle.cat_ledger.specs.Lasting.{AlwaysTells, newest_needs}
 use Rattle.cat_ledger.specs.Ledgers.{Ledger, device_in, shape_in}
 

@@ -1,12 +1,12 @@
 -- What is seen of a ledger, and what a call makes of it: the words of its contracts.
 use Rattle.cat_directory.specs.Devices.{FileContent, NoMore}
 use Rattle.cat_directory.specs.declared.name.FileName.{FileName}
-use Rattle.cat_ledger_model.specs.Ledger.{IsNew}
-use Rattle.cat_ledger_model.specs.Ledger as model
-use Rattle.cat_ledger_model.specs.Plans as plans
-use Rattle.cat_ledger_shape.specs.Ties.{Makes, ToldFiles}
-use Rattle.cat_ledger_shape.specs.Shapes.{Shape}
-use Rattle.cat_ledger_core.specs.Installs.{IsOfMerge}
+use Rattle.cat_ledger_laws.specs.model.Ledger.{IsNew}
+use Rattle.cat_ledger_laws.specs.model.Ledger as model
+use Rattle.cat_ledger_laws.specs.model.Plans as plans
+use Rattle.cat_ledger_laws.specs.shape.Ties.{Makes, ToldFiles}
+use Rattle.cat_ledger_laws.specs.shape.Shapes.{Shape}
+use Rattle.cat_ledger_state.specs.Installs.{IsOfMerge}
 use Rattle.cat_directory.specs.Names.{name_of}
 
 -- the directory, what memory has of the ledger, and when it merges

@@ -3,11 +3,11 @@ use Rattle.std.specs.Prelude.{◌≡◌, ◌<◌, []}
 use Rattle.cat_model.specs.Item.{Schema}
 use Rattle.cat_directory.specs.declared.name.FileName.{FileName}
 use Rattle.cat_directory.specs.Names.{name_of}
-use Rattle.cat_ledger_model.specs.Users.{users_of}
-use Rattle.cat_ledger_shape.specs.Shapes.{Shape}
-use Rattle.cat_ledger_shape.specs.Steps.{Leaves}
-use Rattle.cat_ledger_shape.specs.Ties.{ToldFiles}
-use Rattle.cat_ledger_opening.specs.Opened.{HasOpened}
+use Rattle.cat_ledger_laws.specs.model.Users.{users_of}
+use Rattle.cat_ledger_laws.specs.shape.Shapes.{Shape}
+use Rattle.cat_ledger_laws.specs.shape.Steps.{Leaves}
+use Rattle.cat_ledger_laws.specs.shape.Ties.{ToldFiles}
+use Rattle.cat_ledger_state.specs.startup.Opened.{HasOpened}
 
 -- It was opened, and then what nobody needs was swept: what memory had at first, of the files as they were told, and what the sweep left.
 pub record IsOpenedLedger (told : ToldFiles) (schema : Schema) (told' : ToldFiles) (s : Shape) : Type 0 where

@@ -2,7 +2,7 @@
 use Rattle.cat_model.specs.View.{Leaf}
 use Rattle.cat_ledger.specs.declared.telling.SegmentStat.{SegmentStat}
 use Rattle.cat_ledger.specs.declared.telling.Stat.{Stat}
-use Rattle.cat_ledger_shape.specs.Shapes.{Shape}
+use Rattle.cat_ledger_laws.specs.shape.Shapes.{Shape}
 use Rattle.std.specs.Prelude.{count_by, length, map, ◌==◌, ◌≡◌}
 
 -- its number, its rows, and how many of them are live

@@ -1,7 +1,7 @@
 //! Commits and snapshots.
 //!
 //! Lucene's `IndexWriter.commit` with `setLiveCommitData`, under a `SnapshotDeletionPolicy` over a `KeepOnlyLastCommitDeletionPolicy`.
-ghost use Rattle.cat_ledger_lines.specs.LineLaws.{Commits};
+ghost use Rattle.cat_ledger_laws.specs.lines.LineLaws.{Commits};
 ghost use Rattle.cat_base.specs.declared.refusal.Refusal.TheVariants.{Device, Memory, NoCommit, NoSnapshot, Spent};
 ghost use Rattle.cat_ledger.specs.Histories.{Event, Goes, SparesOtherCommits};
 ghost use Rattle.cat_ledger.specs.Lasting.{IsCarried, IsLasting};
@@ -9,25 +9,25 @@ ghost use Rattle.cat_ledger.specs.Ledgers.{Does, Spares, device_in, policy_in, s
 ghost use Rattle.std.specs.Prelude.{Err, IfErr, IfOk, None, Ok, OnErr, OnOk, Some, ℕ, ◌-◌, ◌<◌, ◌≡◌, ◌≤◌, ◌⊎◌};
 ghost use Rattle.cat_directory.specs.declared.name.FileName.{FileName};
 ghost use Rattle.cat_model.specs.Forms.{IsCommitText};
-ghost use Rattle.cat_ledger_model.specs.Replies.{IsLeft};
-ghost use Rattle.cat_ledger_model.specs.Ledger.{IsNew};
-ghost use Rattle.cat_ledger_shape.specs.Ties.{Makes};
-ghost use Rattle.cat_ledger_core.specs.Cores.{MayNotFlush};
+ghost use Rattle.cat_ledger_laws.specs.model.Replies.{IsLeft};
+ghost use Rattle.cat_ledger_laws.specs.model.Ledger.{IsNew};
+ghost use Rattle.cat_ledger_laws.specs.shape.Ties.{Makes};
+ghost use Rattle.cat_ledger_state.specs.Cores.{MayNotFlush};
 ghost use Rattle.cat_directory.specs.Devices.{CountsOne, NoMore};
-ghost use Rattle.cat_ledger_model.specs.Calls.{Snaps, Unsnapped};
+ghost use Rattle.cat_ledger_laws.specs.model.Calls.{Snaps, Unsnapped};
 ghost use Rattle.cat_model.specs.Heard.{commit_text_of};
 ghost use Rattle.cat_model.specs.Limits.{last_number, snapshot_limit};
 ghost use Rattle.cat_directory.specs.Names.{name_of};
-ghost use Rattle.cat_ledger_shape.specs.Steps.{newest_generation};
+ghost use Rattle.cat_ledger_laws.specs.shape.Steps.{newest_generation};
 ghost use Rattle.cat_model.specs.State.{snapshots_in};
 
 use crate::ledger::Ledger;
 use crate::room::flush;
 use cat_base::{Generation, LAST_NUMBER, Refusal};
-use cat_commits::judge_commit_text;
 use cat_directory::{Directory, Shelf};
-use cat_ledger_core::Core;
-use cat_listing::needed_are_synced;
+use cat_ledger_state::Core;
+use cat_ledger_state::cat_commits::judge_commit_text;
+use cat_ledger_state::cat_commits::writing::needed_are_synced;
 
 /// Flushes what waits, and then keeps a commit of now. A generation is left for it.
 fn flush_and_commit<D: Directory>(

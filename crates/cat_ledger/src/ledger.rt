@@ -4,12 +4,11 @@ ghost use Rattle.cat_ledger.specs.Lasting.{AlwaysTells, IsCarried, NewestLasts};
 ghost use Rattle.cat_ledger.specs.Ledgers.{device_in, policy_in, shape_in};
 ghost use Rattle.std.specs.Prelude.{◌≡◌};
 
+use crate::upkeep::MergePolicy;
 use cat_base::WriteNo;
 use cat_directory::{Directory, Shelf};
-use cat_ledger_core::Core;
-use cat_schema::Schema;
-use cat_search::Leaf;
-use cat_upkeep::MergePolicy;
+use cat_items::Schema;
+use cat_ledger_state::{Core, Leaf};
 use std::alloc::Global;
 use std::marker::Model;
 

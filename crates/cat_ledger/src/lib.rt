@@ -1,4 +1,5 @@
-//! The ledger: one state over a directory of its own, behind the calls that a service makes, with every refusal in its order.
+//! The ledger: opening, and each call of it over its own directory, with every refusal in its order; and when a merge is
+//! due, and its steps.
 #![tactic(auto)]
 
 mod commits;
@@ -8,9 +9,12 @@ mod opening;
 mod room;
 mod sweeps;
 mod telling;
+pub mod upkeep;
 mod views;
 mod writes;
 
+pub use cat_ledger_state;
+pub use cat_ledger_state::cat_lifetimes;
 pub use ledger::Ledger;
 pub use opening::NotOpened;
 pub use telling::{SegmentStat, Stat};

@@ -6,17 +6,17 @@ ghost use Rattle.std.specs.Prelude.{◌≡◌, ◌≢◌, ◌⊎◌, ◌<◌, �
 ghost use Rattle.cat_base.specs.declared.refusal.Refusal.TheVariants.{Memory, Device, Damaged, Spent};
 ghost use Rattle.cat_model.specs.Limits.{last_number};
 ghost use Rattle.cat_model.specs.Run.{Chore};
-ghost use Rattle.cat_ledger_model.specs.Replies.{Maintains, IsLeft};
-ghost use Rattle.cat_ledger_core.specs.Cores.{HasRowsLeft};
-ghost use Rattle.cat_upkeep.specs.Due.{IsForceDue, IsMergeDue};
-ghost use Rattle.cat_upkeep.specs.News.{news_of};
+ghost use Rattle.cat_ledger_laws.specs.model.Replies.{Maintains, IsLeft};
+ghost use Rattle.cat_ledger_state.specs.Cores.{HasRowsLeft};
+ghost use Rattle.cat_ledger.specs.upkeep.Due.{IsForceDue, IsMergeDue};
+ghost use Rattle.cat_ledger.specs.upkeep.News.{news_of};
 ghost use Rattle.cat_ledger.specs.Histories.{Event, Goes};
 ghost use Rattle.cat_ledger.specs.Ledgers.{Does, Spares, device_in, policy_in, shape_in};
 
 use crate::ledger::Ledger;
+use crate::upkeep::MergeNews;
 use cat_base::Refusal;
 use cat_directory::{Directory, Shelf};
-use cat_upkeep::MergeNews;
 
 impl<D: Directory + Shelf> Ledger<D> {
     /// Takes a step of maintenance: begins the merge that the policy picks, if it picks one; or passes 256 rows more of the one in
@@ -43,7 +43,7 @@ impl<D: Directory + Shelf> Ledger<D> {
         ensures policy { policy_in self.new ≡ policy_in self.old }
         ensures refusal { IfErr result (λ e. (e ≡ Memory) ⊎ (e ≡ Device) ⊎ (e ≡ Damaged) ⊎ (e ≡ Spent)) }
     {
-        cat_upkeep::merge_step(&mut self.core, &mut self.device, self.alloc, self.policy)
+        crate::upkeep::merge_step(&mut self.core, &mut self.device, self.alloc, self.policy)
     }
 
     /// Begins a merge of all segments into one, where none is in the making, that is of some use, and one segment can hold
@@ -68,6 +68,6 @@ impl<D: Directory + Shelf> Ledger<D> {
         ensures policy { policy_in self.new ≡ policy_in self.old }
         ensures refusal { IfErr result (λ e. (e ≡ Memory) ⊎ (e ≡ Device) ⊎ (e ≡ Spent)) }
     {
-        cat_upkeep::force(&mut self.core, &mut self.device)
+        crate::upkeep::force(&mut self.core, &mut self.device)
     }
 }

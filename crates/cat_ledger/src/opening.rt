@@ -7,20 +7,20 @@ ghost use Rattle.cat_model.specs.Table.{Opened};
 ghost use Rattle.cat_directory.specs.Devices.{NoMore};
 ghost use Rattle.cat_directory.specs.Names.{name_of};
 ghost use Rattle.cat_directory.specs.declared.name.FileName.{FileName};
-ghost use Rattle.cat_ledger_model.specs.Users.{users_of};
-ghost use Rattle.cat_ledger_lines.specs.RunLaws.{Stands};
-ghost use Rattle.cat_ledger_opening.specs.Refused.{IsNewestDamaged, IsNewestForeign};
+ghost use Rattle.cat_ledger_laws.specs.model.Users.{users_of};
+ghost use Rattle.cat_ledger_laws.specs.lines.RunLaws.{Stands};
+ghost use Rattle.cat_ledger_state.specs.startup.Refused.{IsNewestDamaged, IsNewestForeign};
 ghost use Rattle.cat_ledger.specs.Histories.{LeavesNoneAhead, NoneIsAhead};
 ghost use Rattle.cat_ledger.specs.Lasting.{AlwaysTells, IsLasting};
 ghost use Rattle.cat_ledger.specs.Ledgers.{device_in, policy_in, shape_in};
 ghost use Rattle.cat_ledger.specs.Openings.{IsOpenedLedger};
 
 use crate::ledger::Ledger;
+use crate::upkeep::MergePolicy;
 use cat_base::Refusal;
 use cat_directory::{Directory, Shelf};
-use cat_ledger_core::Core;
-use cat_schema::Schema;
-use cat_upkeep::MergePolicy;
+use cat_items::Schema;
+use cat_ledger_state::Core;
 use std::alloc::Global;
 
 /// Why no ledger was opened, and the directory, from which nothing was deleted.
@@ -53,7 +53,7 @@ fn open_swept<D: Directory + Shelf>(
     ensures spared { OnErr result ((q : FileName) → NoMore (D.may_leave device.old q) (D.may_leave device.new q)) }
     ensures can { D.can_fail device.new → D.can_fail device.old }
 {
-    let mut core = cat_ledger_opening::open(alloc, device, schema)?;
+    let mut core = cat_ledger_state::startup::open(alloc, device, schema)?;
     // Where a file can't be deleted, or memory is wanting, names stay pending for a later sweep.
     let _swept = core.sweep(device);
     Ok(core)

@@ -1,20 +1,20 @@
 //! Room in the buffer: a flush where it is full, or where nothing may wait.
 ghost use Rattle.cat_base.specs.declared.refusal.Refusal.TheVariants.{Device, Memory, Spent};
 ghost use Rattle.cat_directory.specs.declared.name.FileName.{FileName};
-ghost use Rattle.cat_ledger_model.specs.Calls.{Flushes};
+ghost use Rattle.cat_ledger_laws.specs.model.Calls.{Flushes};
 ghost use Rattle.std.specs.Prelude.{IfErr, OnErr, OnOk, [], length, ◌<◌, ◌≡◌, ◌≤◌, ◌⊎◌};
-ghost use Rattle.cat_ledger_model.specs.Replies.{IsLeft, MakesRoom};
-ghost use Rattle.cat_ledger_model.specs.Ledger.{IsNew};
-ghost use Rattle.cat_ledger_shape.specs.Ties.{Makes};
-ghost use Rattle.cat_ledger_core.specs.Cores.{HasFlushed, MayNotFlush};
+ghost use Rattle.cat_ledger_laws.specs.model.Replies.{IsLeft, MakesRoom};
+ghost use Rattle.cat_ledger_laws.specs.model.Ledger.{IsNew};
+ghost use Rattle.cat_ledger_laws.specs.shape.Ties.{Makes};
+ghost use Rattle.cat_ledger_state.specs.Cores.{HasFlushed, MayNotFlush};
 ghost use Rattle.cat_directory.specs.Devices.{CountsOne, NoMore};
 ghost use Rattle.cat_model.specs.Limits.{buffer_limit};
 ghost use Rattle.cat_directory.specs.Names.{name_of};
-ghost use Rattle.cat_upkeep.specs.Spared.{SparesCommits};
+ghost use Rattle.cat_ledger.specs.upkeep.Spared.{SparesCommits};
 
 use cat_base::Refusal;
 use cat_directory::Directory;
-use cat_ledger_core::Core;
+use cat_ledger_state::Core;
 
 /// Flushes what waits.
 pub(crate) fn flush<D: Directory>(core: &mut Core, device: &mut D) -> Result<(), Refusal>

@@ -6,13 +6,13 @@ ghost use Rattle.cat_ledger.specs.Histories.{Event, Goes};
 ghost use Rattle.cat_ledger.specs.Ledgers.{Does, device_in, policy_in, shape_in};
 ghost use Rattle.cat_directory.specs.declared.name.FileName.{FileName};
 ghost use Rattle.std.specs.Prelude.{IfErr, IfOk, OnOk, [], false, count_by, ◌<◌, ◌==◌, ◌≡◌, ◌⊎◌};
-ghost use Rattle.cat_ledger_model.specs.Calls.{MayLeave};
+ghost use Rattle.cat_ledger_laws.specs.model.Calls.{MayLeave};
 ghost use Rattle.cat_directory.specs.Devices.{CountsOne, NoMore};
 ghost use Rattle.cat_directory.specs.Names.{name_of};
-ghost use Rattle.cat_ledger_model.specs.Users.{users_of};
+ghost use Rattle.cat_ledger_laws.specs.model.Users.{users_of};
 ghost use Rattle.cat_model.specs.Files.{Name};
-ghost use Rattle.cat_refs.specs.Counts.{IsPending, is_pending};
-ghost use Rattle.cat_refs.specs.Swept.{Swept};
+ghost use Rattle.cat_ledger_state.specs.cat_lifetimes.refs.Counts.{IsPending, is_pending};
+ghost use Rattle.cat_ledger_state.specs.cat_lifetimes.refs.Swept.{Swept};
 
 use crate::ledger::Ledger;
 use cat_base::Refusal;

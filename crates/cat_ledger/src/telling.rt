@@ -6,14 +6,14 @@ ghost use Rattle.cat_model.specs.CommitFile.{CommitFile, commit_needs};
 ghost use Rattle.std.specs.Prelude.{IfErr, IfOk, None, Some, map, ◌≡◌, ◌⊎◌};
 ghost use Rattle.cat_ledger.specs.Stats.{IsStatOf, segment_stat};
 ghost use Rattle.cat_base.specs.declared.refusal.Refusal.TheVariants.{Memory, NoCommit};
-ghost use Rattle.cat_ledger_lines.specs.ReadLaws.{kept_under};
+ghost use Rattle.cat_ledger_laws.specs.lines.ReadLaws.{kept_under};
 ghost use Rattle.cat_directory.specs.Names.{name_of};
 ghost use Rattle.cat_ledger.specs.Ledgers.{shape_in};
 
 use crate::ledger::Ledger;
 use cat_base::{Generation, Refusal, SegNo, WriteNo};
 use cat_directory::{Directory, FileName, Shelf};
-use cat_search::Leaf;
+use cat_ledger_state::Leaf;
 use std::alloc::{AllocError, Global};
 
 /// A segment that stands, as [`Ledger::stat`] tells of it.

@@ -7,20 +7,20 @@ ghost use Rattle.cat_ledger.specs.Histories.{Event, Goes};
 ghost use Rattle.cat_ledger.specs.Ledgers.{Does, Spares, device_in, policy_in, shape_in};
 ghost use Rattle.std.specs.Prelude.{Err, IfErr, IfOk, OnErr, OnOk, length, ◌+◌, ◌<◌, ◌≡◌, ◌≤◌, ◌⊎◌};
 ghost use Rattle.cat_model.specs.Item.{IsItem};
-ghost use Rattle.cat_ledger_model.specs.Replies.{IsLeft};
-ghost use Rattle.cat_ledger_core.specs.Cores.{MayNotFlush};
-ghost use Rattle.cat_ledger_lines.specs.LineLaws.{Puts};
+ghost use Rattle.cat_ledger_laws.specs.model.Replies.{IsLeft};
+ghost use Rattle.cat_ledger_state.specs.Cores.{MayNotFlush};
+ghost use Rattle.cat_ledger_laws.specs.lines.LineLaws.{Puts};
 ghost use Rattle.cat_model.specs.Write.{Write};
 ghost use Rattle.cat_model.specs.Limits.{buffer_limit, last_number};
-ghost use Rattle.cat_query.specs.View.{query_of};
-ghost use Rattle.cat_ledger_model.specs.Calls.{wrote};
+ghost use Rattle.cat_ledger_state.specs.cat_query.View.{query_of};
+ghost use Rattle.cat_ledger_laws.specs.model.Calls.{wrote};
 
 use crate::ledger::Ledger;
 use crate::room::make_room;
 use cat_base::{LAST_NUMBER, Refusal, WriteNo};
 use cat_directory::{Directory, Shelf};
-use cat_query::Query;
-use cat_schema::Item;
+use cat_items::Item;
+use cat_ledger_state::Query;
 use std::alloc::AllocError;
 
 impl<D: Directory + Shelf> Ledger<D> {

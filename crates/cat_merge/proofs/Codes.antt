@@ -7,7 +7,7 @@ use Rattle.std.proofs.lemmas.List.Sums.{sum_by-cons, count_by_more_yes, count_by
 use Rattle.std.proofs.lemmas.List.Elements.{All-take}
 use Rattle.cat_model.specs.RowSets.{has_row}
 use Rattle.cat_model.specs.View.{Leaf, live_rows, selected}
-use Rattle.cat_values.specs.Merged.{kept_of, AreNumbered}
+use Rattle.cat_columns.specs.Merged.{kept_of, AreNumbered}
 use Rattle.cat_merge.specs.Maps.{codes_from, codes_of}
 use Rattle.cat_merge.specs.Places.{no_leaf}
 use Rattle.cat_merge.specs.Walk.{AreInputs}

@@ -12,7 +12,7 @@ use Rattle.cat_model.specs.Merged.{rows_of_all, live_of_all, rows_kept, records_
 use Rattle.cat_model.specs.RowSets.{has_row}
 use Rattle.cat_model.specs.View.{Row, Leaf, Segment, IsSegment, live_rows, selected, sourced}
 use Rattle.cat_model.proofs.Merged.{marked-append}
-use Rattle.cat_segment.specs.Sources.{source_offset}
+use Rattle.cat_views.specs.cat_segment.Sources.{source_offset}
 use Rattle.cat_merge.specs.Copied.{no_row, row_at, source_in, joined_sources}
 use Rattle.cat_merge.specs.Places.{no_leaf, input_at, passed_at, IsRowPlace, IsPlace}
 use Rattle.cat_merge.specs.Walk.{AreInputs, heads_at, source_at}

@@ -5,7 +5,7 @@ use Rattle.std.specs.List.{AllByRecursion}
 use Rattle.std.proofs.lemmas.List.Elements.{All-push, All-from_recursion, recursion_from_All}
 use Rattle.std.proofs.lemmas.List.Sums.{sum-map, sum_by_more, sum_by-take-le}
 use Rattle.cat_model.specs.View.{Row, Leaf, Segment}
-use Rattle.cat_segment.specs.Sources.{source_offset}
+use Rattle.cat_views.specs.cat_segment.Sources.{source_offset}
 use Rattle.cat_merge.specs.Ranges.{CanBeOne, AreApart, IsWithin, AreWithin}
 use Rattle.cat_merge.specs.declared.sources.SourceRange.{SourceRange}
 

@@ -11,14 +11,14 @@ use Rattle.cat_model.specs.RowSets.{has_row}
 use Rattle.cat_model.specs.Text.{Text}
 use Rattle.cat_model.specs.View.{Row, Leaf, Segment, IsSegment, selected}
 use Rattle.cat_model.proofs.Sources.{selected-map}
-use Rattle.cat_segment.proofs.Placed.{contents_named}
-use Rattle.cat_segment.specs.Contents.{contents_of, contents_told, contents_under_name}
-use Rattle.cat_segment.specs.Laid.{content_under, contents_under}
-use Rattle.cat_segment.specs.declared.column.Column.{Column}
+use Rattle.cat_views.proofs.segment_laws.Placed.{contents_named}
+use Rattle.cat_views.specs.cat_segment.Contents.{contents_of, contents_told, contents_under_name}
+use Rattle.cat_views.specs.cat_segment.Laid.{content_under, contents_under}
+use Rattle.cat_views.specs.cat_segment.declared.column.Column.{Column}
 use Rattle.cat_merge.proofs.Passed.{selected_more, flat_more}
 use Rattle.std.specs.Prelude.{Result, Ok, Err, IfOk}
-use Rattle.cat_codec.specs.Parts.{column_in, IsColumnParts}
-use Rattle.cat_codec.specs.declared.parts.ColumnParts.{ColumnParts}
+use Rattle.cat_items.specs.file_parts.Parts.{column_in, IsColumnParts}
+use Rattle.cat_items.specs.declared.file_parts.parts.ColumnParts.{ColumnParts}
 use Rattle.cat_merge.specs.Fields.{IsMergedColumn, texts_read, texts_under, keywords_under, texts_at, kept_rows, HasField}
 
 no_field : Field

@@ -7,8 +7,8 @@ use Rattle.cat_base.specs.Texts.{IsTextSet}
 use Rattle.cat_model.specs.Layout.{code_in, ordinal_in, keywords_of}
 use Rattle.cat_model.specs.Ordinals.{text_at, IsOrdinal}
 use Rattle.cat_model.specs.Text.{Text}
-use Rattle.cat_values.specs.Columns.{HasText}
-use Rattle.cat_values.proofs.Ordinals.{ordinal_back, ordinal_within, text_back}
+use Rattle.cat_columns.specs.Columns.{HasText}
+use Rattle.cat_columns.proofs.Ordinals.{ordinal_back, ordinal_within, text_back}
 use Rattle.cat_merge.specs.Coded.{moved_code, AreOrdinalsAmong}
 
 -- ---- the ordinals of texts

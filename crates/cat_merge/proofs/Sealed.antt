@@ -5,9 +5,9 @@ use Rattle.std.specs.List.{AllPairs}
 use Rattle.std.proofs.lemmas.List.{length_push, length-map, get_or-map, same_lists, get_or_append_left, get_or_at, get_or_default, take_all}
 use Rattle.std.proofs.lemmas.List.Elements.{All-append, All-cons, All-map}
 use Rattle.std.proofs.lemmas.List.Kept.{AllPairs-cons}
-use Rattle.cat_codec.specs.Parts.{column_in, heads_in, IsColumnParts}
-use Rattle.cat_codec.specs.declared.parts.ColumnParts.{ColumnParts}
-use Rattle.cat_inverted.proofs.Told as terms
+use Rattle.cat_items.specs.file_parts.Parts.{column_in, heads_in, IsColumnParts}
+use Rattle.cat_items.specs.declared.file_parts.parts.ColumnParts.{ColumnParts}
+use Rattle.cat_columns.proofs.inverted.Told as terms
 use Rattle.cat_model.specs.Item.{Content, Field, Kind, Schema, IsContent, AreFields, IsSchema, words_in}
 use Rattle.cat_model.specs.Layout.{Head, column_of, head_of, layout_of, IsLayout}
 use Rattle.cat_model.specs.Ordinals.{dictionary_of}
@@ -15,12 +15,12 @@ use Rattle.cat_model.specs.Text.{Text}
 use Rattle.std.proofs.lemmas.Bool.{cases_lt}
 use Rattle.cat_model.specs.View.{Row, Leaf, Segment, AreRows, IsFormedRow, IsSegment, selected, live_rows}
 use Rattle.cat_model.specs.Merged.{rows_of_all, live_of_all, rows_kept}
-use Rattle.cat_segment.proofs.Formed.{seen, length-dictionary}
-use Rattle.cat_segment.proofs.Layouts.{AreTold, column_placed, segment_told, IsLayout-of}
-use Rattle.cat_segment.proofs.Placed.{AreContents-of}
-use Rattle.cat_segment.proofs.Worded.{words_few, words_under}
-use Rattle.cat_segment.specs.Laid.{contents_under}
-use Rattle.cat_values.proofs.Told as columns
+use Rattle.cat_views.proofs.segment_laws.Formed.{seen, length-dictionary}
+use Rattle.cat_views.proofs.segment_laws.Layouts.{AreTold, column_placed, segment_told, IsLayout-of}
+use Rattle.cat_views.proofs.segment_laws.Placed.{AreContents-of}
+use Rattle.cat_views.proofs.segment_laws.Worded.{words_few, words_under}
+use Rattle.cat_views.specs.cat_segment.Laid.{contents_under}
+use Rattle.cat_columns.proofs.Told as columns
 use Rattle.cat_merge.proofs.Passed.{rows-live, live_few, length-live_of_all}
 use Rattle.cat_merge.proofs.Read.{read_seen}
 use Rattle.cat_merge.specs.Fields.{kept_rows, IsMergedColumn, AreFirstColumns, AreMergedColumns}

@@ -3,7 +3,7 @@ use Rattle.std.specs.Prelude.{ℕ, List, [], take, drop, slice_index_or}
 use Rattle.std.specs.List.{flat_map}
 use Rattle.cat_model.specs.Item.{Record}
 use Rattle.cat_model.specs.View.{Row, Segment}
-use Rattle.cat_segment.specs.Sources.{source_offset}
+use Rattle.cat_views.specs.cat_segment.Sources.{source_offset}
 use Rattle.cat_merge.specs.declared.sources.SourceRange.{SourceRange}
 
 -- the bytes of the range

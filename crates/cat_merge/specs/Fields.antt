@@ -1,13 +1,13 @@
 -- What rows have in a field that merged segments have columns of.
 use Rattle.std.specs.Prelude.{◌≡◌, ◌≤◌, ◌<◌, ◌^◌, ℕ, ℤ, List, [], length, map, Option, Some, slice_index_or}
 use Rattle.std.specs.List.{flat_map}
-use Rattle.cat_codec.specs.Parts.{column_in, IsColumnParts}
-use Rattle.cat_codec.specs.declared.parts.ColumnParts.{ColumnParts}
+use Rattle.cat_items.specs.file_parts.Parts.{column_in, IsColumnParts}
+use Rattle.cat_items.specs.declared.file_parts.parts.ColumnParts.{ColumnParts}
 use Rattle.cat_model.specs.Item.{Content, Field, Kind, Schema, words_in, keyword_in, number_in, labels_in}
 use Rattle.cat_model.specs.Ordinals.{dictionary_of, texts_of}
 use Rattle.cat_model.specs.Text.{Text}
 use Rattle.cat_model.specs.View.{Row, Leaf, live_rows}
-use Rattle.cat_segment.specs.Laid.{content_under, contents_under, laid_out}
+use Rattle.cat_views.specs.cat_segment.Laid.{content_under, contents_under, laid_out}
 
 -- the texts by which the field is searched
 abbrev pub texts_read : Kind → Content → List Text

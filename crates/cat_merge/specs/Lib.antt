@@ -10,3 +10,4 @@ pub mod Policy
 pub mod Ranges
 pub mod Runs
 pub mod Walk
+pub mod files

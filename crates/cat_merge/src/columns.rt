@@ -1,6 +1,6 @@
 //! The columns of a merged segment.
 ghost use Rattle.std.specs.Prelude.{◌≡◌, ◌<◌, ◌^◌, ◌+◌, map, length, All, IfOk, OnOk};
-ghost use Rattle.cat_schema.specs.Kinds.{field_kind_of};
+ghost use Rattle.cat_items.specs.Kinds.{field_kind_of};
 ghost use Rattle.cat_merge.specs.Fields.{kept_rows, HasField, IsMergedColumn, AreFirstColumns, AreMergedColumns};
 ghost use Rattle.cat_merge.specs.Maps.{codes_of};
 ghost use Rattle.cat_merge.specs.Walk.{AreInputs};
@@ -11,8 +11,8 @@ use crate::label_column::label_column;
 use crate::merged_terms::merged_terms;
 use crate::number_column::number_column;
 use crate::word_column::word_column;
-use cat_codec::ColumnParts;
-use cat_schema::{Field, Kind};
+use cat_items::file_parts::ColumnParts;
+use cat_items::{Field, Kind};
 use std::alloc::{AllocError, Global};
 
 /// The column of the field of this index, which is of this kind.

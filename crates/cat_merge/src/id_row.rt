@@ -2,7 +2,7 @@
 ghost use Rattle.std.specs.Prelude.{◌≡◌, ◌<◌, length};
 
 use crate::input::Input;
-use cat_segment::Segment;
+use cat_views::cat_segment::Segment;
 
 /// So many bytes of an id are kept beside a row, which tell most ids apart.
 const KEY_BYTES: usize = 16;

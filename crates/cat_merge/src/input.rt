@@ -1,11 +1,11 @@
 //! The segments that a merge takes.
 ghost use Rattle.std.specs.Prelude.{◌≡◌, ◌<◌, length};
 ghost use Rattle.std.specs.Arc.{arc_value};
-ghost use Rattle.cat_segment.specs.Contents.{contents_of};
-ghost use Rattle.cat_segment.specs.Laid.{contents_under, kind_of};
+ghost use Rattle.cat_views.specs.cat_segment.Contents.{contents_of};
+ghost use Rattle.cat_views.specs.cat_segment.Laid.{contents_under, kind_of};
 ghost use Rattle.cat_merge.specs.Fields.{kind_at};
 
-use cat_segment::{Column, Live, Segment};
+use cat_views::cat_segment::{Column, Live, Segment};
 use std::marker::Model;
 use std::sync::Arc;
 

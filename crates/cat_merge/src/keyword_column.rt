@@ -4,7 +4,7 @@ ghost use Rattle.cat_base.specs.Texts.{IsTextSet};
 ghost use Rattle.cat_model.specs.Item.{Kind};
 ghost use Rattle.cat_model.specs.Layout.{code_in, keywords_of};
 ghost use Rattle.cat_model.specs.View.{selected};
-ghost use Rattle.cat_values.specs.Columns.{HasText};
+ghost use Rattle.cat_columns.specs.Columns.{HasText};
 ghost use Rattle.cat_merge.specs.Coded.{moved_code, AreOrdinalsAmong};
 ghost use Rattle.cat_merge.specs.Fields.{texts_under, keywords_under, kept_rows, HasField, IsMergedColumn};
 
@@ -12,10 +12,10 @@ use crate::input::Input;
 use crate::ordinals::ordinals_among;
 use crate::word_column::copied;
 use cat_base::Text;
-use cat_codec::ColumnParts;
-use cat_inverted::Terms;
-use cat_segment::{Column, Live};
-use cat_values::KeywordColumn;
+use cat_columns::KeywordColumn;
+use cat_columns::inverted::Terms;
+use cat_items::file_parts::ColumnParts;
+use cat_views::cat_segment::{Column, Live};
 use std::alloc::{AllocError, Global};
 
 /// The code of a row's text in the merged dictionary, by its code in the input's, where the texts of that have these ordinals.

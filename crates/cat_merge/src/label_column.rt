@@ -13,10 +13,10 @@ use crate::lists::Lists;
 use crate::ordinals::ordinals_among;
 use crate::word_column::copied;
 use cat_base::Text;
-use cat_codec::ColumnParts;
-use cat_inverted::Terms;
-use cat_segment::{Column, Live};
-use cat_values::SetColumn;
+use cat_columns::SetColumn;
+use cat_columns::inverted::Terms;
+use cat_items::file_parts::ColumnParts;
+use cat_views::cat_segment::{Column, Live};
 use std::alloc::{AllocError, Global};
 
 /// Adds the labels of the rows that are live, by their ordinals among the words, where those of the column have these.

@@ -1,8 +1,10 @@
-//! Which segments are merged, and the merge in steps.
+//! Merges: which segments are merged next, the segment that is made of theirs, step by step; and the merge over files, which
+//! copies stored texts and writes the new segment.
 #![tactic(auto)]
 
 mod columns;
 mod counting;
+pub mod files;
 mod id_row;
 mod id_runs;
 mod input;
@@ -23,6 +25,7 @@ mod settling;
 mod sources;
 mod word_column;
 
+pub use cat_views::{Leaf, cat_segment};
 pub use input::Input;
 pub use merge::Merge;
 pub use policy::{level_of, window};

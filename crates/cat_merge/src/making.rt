@@ -4,7 +4,7 @@ ghost use Rattle.std.specs.List.{flat_map};
 ghost use Rattle.cat_model.specs.Item.{Schema};
 ghost use Rattle.cat_model.specs.Limits.{row_limit};
 ghost use Rattle.cat_model.specs.View.{live_rows};
-ghost use Rattle.cat_segment.specs.Index.{AreAllRows};
+ghost use Rattle.cat_views.specs.cat_segment.Index.{AreAllRows};
 ghost use Rattle.cat_merge.specs.Fields.{kept_rows, AreMergedColumns};
 ghost use Rattle.cat_merge.specs.Making.{AreParts};
 ghost use Rattle.cat_merge.specs.Walk.{AreInputs};
@@ -14,8 +14,8 @@ use crate::counting::live_rows_in;
 use crate::id_runs::IdRuns;
 use crate::input::Input;
 use crate::row_maps::row_maps;
-use cat_codec::ColumnParts;
-use cat_schema::Field;
+use cat_items::Field;
+use cat_items::file_parts::ColumnParts;
 use std::alloc::{AllocError, Global};
 
 /// What is made so far of the columns of the merged segment and of the index of its ids. All of it follows from the inputs as they

@@ -20,8 +20,8 @@ use crate::sealing::sealed;
 use crate::settling::settled;
 use crate::sources::{SourceRange, add_source};
 use cat_base::{MAX_STEP_ROWS, SegNo};
-use cat_schema::Schema;
-use cat_segment::{Live, Segment};
+use cat_items::Schema;
+use cat_views::cat_segment::{Live, Segment};
 use std::alloc::{AllocError, Global};
 use std::marker::Model;
 

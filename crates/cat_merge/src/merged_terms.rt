@@ -1,15 +1,15 @@
 //! The terms of a field of a merged segment, of those of its inputs.
 ghost use Rattle.std.specs.Prelude.{◌≡◌, ◌≢◌, ◌<◌, ◌^◌, map, length, IfOk, MatchOption, All};
 ghost use Rattle.cat_model.specs.Item.{Kind};
-ghost use Rattle.cat_segment.specs.Contents.{contents_of};
-ghost use Rattle.cat_segment.specs.Laid.{kind_of};
+ghost use Rattle.cat_views.specs.cat_segment.Contents.{contents_of};
+ghost use Rattle.cat_views.specs.cat_segment.Laid.{kind_of};
 ghost use Rattle.cat_merge.specs.Fields.{texts_read, texts_under, texts_at, kind_at, kept_rows, HasField};
 ghost use Rattle.cat_merge.specs.Maps.{codes_of};
 ghost use Rattle.cat_merge.specs.Walk.{AreInputs};
 
 use crate::input::Input;
-use cat_inverted::{MergeInput, Terms};
-use cat_segment::Column;
+use cat_columns::inverted::{MergeInput, Terms};
+use cat_views::cat_segment::Column;
 use std::alloc::{AllocError, Global};
 
 /// The terms of the column; a number field has none.

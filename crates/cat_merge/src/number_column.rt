@@ -5,9 +5,9 @@ ghost use Rattle.cat_model.specs.View.{selected};
 ghost use Rattle.cat_merge.specs.Fields.{numbers_under, kept_rows, HasField, IsMergedColumn};
 
 use crate::input::Input;
-use cat_codec::ColumnParts;
-use cat_segment::{Column, Live};
-use cat_values::NumberColumn;
+use cat_columns::NumberColumn;
+use cat_items::file_parts::ColumnParts;
+use cat_views::cat_segment::{Column, Live};
 use std::alloc::{AllocError, Global};
 
 /// Adds the numbers of the rows that are live.

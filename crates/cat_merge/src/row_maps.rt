@@ -7,7 +7,7 @@ ghost use Rattle.cat_merge.specs.Maps.{codes_from, codes_of};
 ghost use Rattle.cat_merge.specs.Walk.{AreInputs};
 
 use crate::input::Input;
-use cat_segment::Live;
+use cat_views::cat_segment::Live;
 use std::alloc::{AllocError, Global};
 
 /// For each row 0, where it isn't live, or else its row in the merged segment plus 1; so many rows stand before them there.

@@ -4,7 +4,7 @@ ghost use Rattle.std.specs.List.{HoldsAt};
 ghost use Rattle.cat_model.specs.Layout.{head_of};
 
 use cat_base::{Text, WriteNo};
-use cat_segment::Segment;
+use cat_views::cat_segment::Segment;
 use std::alloc::AllocError;
 use std::marker::Model;
 

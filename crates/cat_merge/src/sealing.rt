@@ -1,7 +1,7 @@
 //! The segment that a merge makes of the rows that it kept.
 ghost use Rattle.std.specs.Prelude.{◌≡◌, ◌≢◌, ◌<◌, [], map, length, IfOk};
 ghost use Rattle.cat_base.specs.declared.refusal.Refusal.TheVariants.{Memory};
-ghost use Rattle.cat_codec.specs.Parts.{heads_in};
+ghost use Rattle.cat_items.specs.file_parts.Parts.{heads_in};
 ghost use Rattle.cat_model.specs.Layout.{head_of};
 ghost use Rattle.cat_merge.specs.Fields.{kept_rows};
 ghost use Rattle.cat_merge.specs.Making.{AreParts};
@@ -12,9 +12,9 @@ use crate::input::Input;
 use crate::making::Parts;
 use crate::rows::KeptRow;
 use cat_base::{Refusal, SegNo, Text, WriteNo};
-use cat_codec::SegmentParts;
-use cat_schema::Schema;
-use cat_segment::{Segment, assemble_runs};
+use cat_items::Schema;
+use cat_items::file_parts::SegmentParts;
+use cat_views::cat_segment::{Segment, assemble_runs};
 use std::alloc::{AllocError, Global};
 
 /// The numbers of the writes that put the rows, the rows' ids, and the lengths of their sources.

@@ -9,7 +9,7 @@ ghost use Rattle.cat_merge.specs.Walk.{AreInputs};
 
 use crate::counting::live_rows_in;
 use crate::input::Input;
-use cat_segment::Live;
+use cat_views::cat_segment::Live;
 use std::alloc::{AllocError, Global};
 
 /// Kills the row, unless it is to stay live.

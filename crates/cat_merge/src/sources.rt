@@ -6,7 +6,7 @@ ghost use Rattle.cat_merge.specs.Copied.{bytes_in, source_in};
 ghost use Rattle.cat_merge.specs.Ranges.{AreApart, AreWithin, CanBeOne, IsWithin};
 
 use cat_base::SegNo;
-use cat_segment::Segment;
+use cat_views::cat_segment::Segment;
 use std::alloc::AllocError;
 
 /// Bytes of the file with the sources of a segment's rows, which a merge has to copy.

@@ -1,13 +1,13 @@
 //! The column of a text field of a merged segment.
 ghost use Rattle.std.specs.Prelude.{◌≡◌, ◌<◌, ◌^◌, map, length, IfOk};
-ghost use Rattle.cat_codec.specs.Parts.{column_in, IsColumnParts};
+ghost use Rattle.cat_items.specs.file_parts.Parts.{column_in, IsColumnParts};
 ghost use Rattle.cat_model.specs.Layout.{Laid, word_postings_of};
 ghost use Rattle.cat_model.specs.Ordinals.{dictionary_of, postings_of};
 
 use crate::lists::Lists;
 use cat_base::Text;
-use cat_codec::ColumnParts;
-use cat_inverted::Terms;
+use cat_columns::inverted::Terms;
+use cat_items::file_parts::ColumnParts;
 use std::alloc::{AllocError, Global};
 
 /// Copies of the texts.

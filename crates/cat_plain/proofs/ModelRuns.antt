@@ -11,7 +11,7 @@ use Rattle.cat_model.proofs.Runs.{runs_go_on}
 use Rattle.cat_model.proofs.States.{steps_keep_runs}
 use Rattle.cat_plain.specs.Plain.{Does, MayWant}
 use Rattle.cat_plain.specs.Exchange.{IsExchangeOf, AreExchanges}
-use Rattle.cat_lines.specs.declared.line.Line as said
+use Rattle.cat_protocol.specs.declared.lines.line.Line as said
 use Rattle.cat_plain.specs.declared.reply.Reply as answered
 
 -- a service as it is opened stands for the empty run

@@ -8,7 +8,7 @@ use Rattle.cat_model.specs.Item.{Schema}
 use Rattle.cat_model.specs.State.{IsFresh, newest_told}
 use Rattle.cat_model.specs.Lines.{IsReadable}
 use Rattle.cat_model.specs.Served.{SpellsSchema, Begins}
-use Rattle.cat_schema.specs.Reading.{schema_of}
+use Rattle.cat_items.specs.Reading.{schema_of}
 use Rattle.cat_plain.specs.Plain.{Service, beginning_of, OpensPlain}
 
 -- a refusal is want of memory or another

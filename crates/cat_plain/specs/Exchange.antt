@@ -15,7 +15,7 @@ use Rattle.cat_query.specs.View.{query_of}
 use Rattle.cat_query.specs.declared.query.Query as code
 use Rattle.cat_search.specs.declared.ask.Ask.{Ask}
 use Rattle.cat_search.specs.Sorts.{sort_of}
-use Rattle.cat_lines.specs.declared.line.Line.{Line}
+use Rattle.cat_protocol.specs.declared.lines.line.Line.{Line}
 use Rattle.cat_plain.specs.declared.reply.Reply.{Reply}
 use Rattle.cat_plain.specs.Line.{plain_of}
 use Rattle.cat_plain.specs.Reply.{reply_of}

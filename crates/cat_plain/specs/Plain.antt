@@ -11,7 +11,7 @@ use Rattle.cat_model.specs.State.{State, Moves, IsFresh, opened_as, has_hold, ha
 use Rattle.cat_model.specs.Lines.{Said, IsReadable}
 use Rattle.cat_model.specs.Heard.{IsCommand}
 use Rattle.cat_model.specs.Served.{Begins, OpensEmpty, SpellsSchema}
-use Rattle.cat_schema.specs.Reading.{json, source_fault}
+use Rattle.cat_items.specs.Reading.{json, source_fault}
 
 -- a service, and the schema that it was opened under
 pub record Service : Type 0 where

@@ -8,8 +8,8 @@ ghost use Rattle.cat_plain.specs.Tables.{AreItems, NumbersRise};
 
 use crate::record::Record;
 use cat_base::Refusal;
+use cat_items::{Item, Schema};
 use cat_query::Query;
-use cat_schema::{Item, Schema};
 use cat_search::{Accepts, Ask, Page, page_of};
 use std::alloc::Global;
 

@@ -21,8 +21,8 @@ use crate::record::Record;
 use crate::recorded::RecordedTable;
 use crate::reply::{Answer, Reply};
 use cat_base::{MAX_LINE_BYTES, Refusal, WriteNo};
-use cat_lines::{Command, Line, SchemaLine};
-use cat_schema::Schema;
+use cat_items::Schema;
+use cat_protocol::lines::{Command, Line, SchemaLine};
 use std::alloc::{AllocError, Global};
 use std::marker::Model;
 

@@ -11,3 +11,4 @@ pub mod Sets
 pub mod SameLists
 pub mod RowTests
 pub mod Everything
+pub use Rattle.cat_segment.proofs.columns_laws as columns_laws

@@ -4,14 +4,14 @@ ghost use Rattle.std.specs.List.{list_any};
 ghost use Rattle.cat_model.specs.Text.{same_text, has_prefix};
 ghost use Rattle.cat_model.specs.Item as model;
 ghost use Rattle.cat_model.specs.Query.{matches, primary_matches, open_or, int_le};
-ghost use Rattle.cat_schema.specs.Contents.{field_content_of};
+ghost use Rattle.cat_segment.specs.cat_items.Contents.{field_content_of};
 ghost use Rattle.cat_query.specs.View.{tested, primary_of, clauses_of, query_of};
 ghost use Rattle.cat_query.specs.Tests.{passes};
 
 use crate::query::{Clause, Primary, Query, Sign, Test};
 use cat_base::{Text, TextSet};
-use cat_inverted::{is_from, is_up_to};
-use cat_schema::{FieldValue, Item};
+use cat_segment::cat_columns::inverted::{is_from, is_up_to};
+use cat_segment::cat_items::{FieldValue, Item};
 
 impl Query {
     /// Whether the item matches each `+` clause and no `-` clause and, where there is no `+` clause, some clause without

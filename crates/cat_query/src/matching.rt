@@ -11,9 +11,9 @@ ghost use Rattle.cat_query.specs.Tests.{passes};
 use crate::doc_set::DocSet;
 use crate::query::{Clause, Primary, Query, Sign, Test};
 use cat_base::Text;
-use cat_inverted::Terms;
+use cat_segment::cat_columns::inverted::Terms;
+use cat_segment::cat_columns::{NumberColumn, RowSet};
 use cat_segment::{Column, Keywords, Labels, Segment};
-use cat_values::{NumberColumn, RowSet};
 use std::alloc::{AllocError, Global};
 
 impl Query {

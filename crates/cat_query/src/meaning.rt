@@ -4,7 +4,7 @@ ghost use Rattle.cat_model.specs.Words.{lowered};
 ghost use Rattle.cat_model.specs.Item as item;
 ghost use Rattle.cat_model.specs.Query as model;
 ghost use Rattle.cat_model.specs.Reader.{integer_of, bound_of, meaning};
-ghost use Rattle.cat_schema.specs.Kinds.{field_kind_of};
+ghost use Rattle.cat_segment.specs.cat_items.Kinds.{field_kind_of};
 ghost use Rattle.cat_query.specs.Escapes.{unescaped, is_escaped};
 ghost use Rattle.cat_query.specs.View.{tested, primary_of};
 ghost use Rattle.cat_query.specs.Reading.{JudgesAs, IsEscaped, IsEscapedEnd, asks_of, end_of};
@@ -15,7 +15,7 @@ use crate::runs::{all_word_bytes, only_run};
 use crate::scanning::behind;
 use crate::values::Value;
 use cat_base::Text;
-use cat_schema::{Kind, lowered};
+use cat_segment::cat_items::{Kind, lowered};
 use std::alloc::{AllocError, Global};
 
 /// What was built, unless memory was refused.

@@ -10,9 +10,9 @@ use Rattle.cat_model.specs.Page.{Key, key_in}
 use Rattle.cat_model.specs.Query.{open_or, int_le}
 use Rattle.cat_model.specs.Text.{Text}
 use Rattle.cat_model.specs.View.{Row}
-use Rattle.cat_segment.specs.Contents.{contents_of}
-use Rattle.cat_segment.specs.declared.column.Column.{Column}
-use Rattle.cat_segment.specs.declared.column.Column.TheVariants as columns
+use Rattle.cat_views.specs.cat_segment.Contents.{contents_of}
+use Rattle.cat_views.specs.cat_segment.declared.column.Column.{Column}
+use Rattle.cat_views.specs.cat_segment.declared.column.Column.TheVariants as columns
 use Rattle.cat_search.specs.Bars.{HaveRanks, HaveRanksOf, AreEndsOf, IsBarOf, IsLeftOut, key_le, number_of}
 use Rattle.cat_search.specs.declared.ends.Ends.{Ends}
 use Rattle.cat_search.specs.declared.sort.Order.{Order}

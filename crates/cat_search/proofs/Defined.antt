@@ -24,7 +24,7 @@ use Rattle.cat_search.specs.Sorts.{IsOrderOf, HasIndex, index_named, sort_in}
 use Rattle.cat_search.specs.declared.sort.Order.{Order}
 use Rattle.cat_search.specs.declared.sort.Order.TheVariants as order
 use Rattle.cat_search.proofs.Candidates.{map-first}
-use Rattle.cat_search.proofs.Marks.{any-is_some}
+use Rattle.cat_views.proofs.Found.{any-is_some}
 
 -- ---- the standing of a record, by the name of the sort's field
 

@@ -10,8 +10,8 @@ use Rattle.cat_model.specs.Text.{Text, same_text}
 use Rattle.cat_model.specs.Item.{Field, Schema, FieldContent}
 use Rattle.cat_model.specs.Page.{Key, key_in}
 use Rattle.cat_model.specs.Answer.{is_sort_kind}
-use Rattle.cat_schema.specs.declared.item.FieldValue.{FieldValue}
-use Rattle.cat_schema.specs.Contents.{field_content_of}
+use Rattle.cat_query.specs.cat_items.declared.item.FieldValue.{FieldValue}
+use Rattle.cat_query.specs.cat_items.Contents.{field_content_of}
 use Rattle.cat_search.specs.Sorts.{index_named, can_sort_by}
 
 -- ---- the index of a field

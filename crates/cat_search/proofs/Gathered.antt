@@ -20,7 +20,7 @@ use Rattle.cat_search.specs.Pages.{beyond}
 use Rattle.cat_search.specs.Rows.{row_standing}
 use Rattle.cat_search.proofs.Defined.{each_pair-filter, each_pair-map}
 use Rattle.cat_search.proofs.InOrder.{insert_last}
-use Rattle.cat_search.proofs.Selected.{All-right, at_indices, indices-within, count-selected, selected-map}
+use Rattle.cat_views.proofs.Selected.{All-right, at_indices, indices-within, count-selected, selected-map}
 
 abbrev pub none : Standing
 none = record { rank = Rank.missing; number = 0; id = [] }

@@ -9,18 +9,15 @@ pub mod OrdinalBars
 pub mod Passed
 pub mod Passes
 pub mod Marks
-pub mod Selected
-pub mod RowSearch
 pub mod Defined
 pub mod Finds
 pub mod Shown
 pub mod Ranks
 pub mod Gathered
 pub mod ViewPages
-pub mod Stored
-pub mod Killed
 pub mod Pushed
-pub mod LineFeeds
 pub mod Arranged
 pub mod Walked
 pub mod Ordered
+pub use Rattle.cat_query.proofs.columns_laws as columns_laws
+pub use Rattle.cat_views.proofs as views_laws

@@ -1,6 +1,6 @@
 -- The record that a mark names.
-use Rattle.std.proofs.Common.{◌≡◌, ℕ, zero, suc, ◌<◌, ◌≤◌, ◌⊎◌, nat_lt, length, get_or, subst, slice_get, AllPairs, inl, inr, arith, List, [], ◌∷◌, map, Bool, true, false, cond, Option, Some, None, option_map, is_some, find, ◌==◌, ◌||◌, refl, sym, ap, ◌∙◌}
-use Rattle.std.specs.List.{list_any, AllByRecursion, AllWithin}
+use Rattle.std.proofs.Common.{◌≡◌, ℕ, zero, suc, ◌<◌, nat_lt, length, get_or, subst, slice_get, AllPairs, inl, inr, arith, List, [], ◌∷◌, map, Bool, true, false, cond, Option, Some, None, option_map, is_some, find, ◌==◌, refl, sym, ap, ◌∙◌}
+use Rattle.std.specs.List.{AllByRecursion, AllWithin}
 use Rattle.std.specs.List.Sorted.{IsPartitionedBy, IsPartitionPoint}
 use Rattle.std.proofs.lemmas.Bool.Decides.{nat_tests}
 use Rattle.std.proofs.lemmas.Option.{slice_get_past, slice_get-get_or}
@@ -10,6 +10,7 @@ use Rattle.cat_model.proofs.Insert.{which}
 use Rattle.cat_model.proofs.Places.{EachPair, each_pair}
 use Rattle.cat_search.specs.declared.sort.Order.{Order}
 use Rattle.cat_search.specs.Pages.{record_standing, mark_in_records}
+use Rattle.cat_views.proofs.Found.{any-is_some, before_or_at}
 
 pub find-map : {X Y : Type 0} (q : Y → Bool) (f : X → Y) (xs : List X) → find q (map f xs) ≡ option_map f (find (λ x. q (f x)) xs)
 find-map q f [] = refl
@@ -17,14 +18,6 @@ find-map q f (x ∷ xs) =
     elim (q (f x)) as (λ b. cond b (Some (f x)) (find q (map f xs)) ≡ option_map f (cond b (Some x) (find (λ y. q (f y)) xs))) [
       | true ↦ refl
       | false ↦ find-map q f xs
-    ]
-
-pub any-is_some : {X : Type 0} (p : X → Bool) (xs : List X) → list_any p xs ≡ is_some (find p xs)
-any-is_some p [] = refl
-any-is_some p (x ∷ xs) =
-    elim (p x) as (λ b. (b || list_any p xs) ≡ is_some (cond b (Some x) (find p xs))) [
-      | true ↦ refl
-      | false ↦ any-is_some p xs
     ]
 
 module _ {X : Type 0} (record_of : X → Record) (xs : List X) (mark : Option ℕ) (number : ℕ) (is : mark ≡ Some number) where
@@ -45,12 +38,6 @@ module _ {X : Type 0} (record_of : X → Record) (xs : List X) (mark : Option �
 
 below : (m n k : ℕ) → m < n → nat_lt n k ≡ true → nat_lt m k ≡ true
 below m n k h e = grind (arith, nat_tests)
-
-pub before_or_at : (i j : ℕ) → i ≤ j → (i < j) ⊎ (i ≡ j)
-before_or_at i j h = elim (which (nat_lt i j)) [
-  | inl e ↦ inl (grind (arith, nat_tests))
-  | inr e ↦ inr (grind (arith, nat_tests))
-]
 
 split : {X : Type 0} (record_of : X → Record) (xs : List X) (number : ℕ) → AllPairs (λ a b. (record_of a).number < (record_of b).number) xs → IsPartitionedBy (λ x. nat_lt (record_of x).number number) xs
 split record_of xs number rises i j d p q e = elim (before_or_at i j p) [

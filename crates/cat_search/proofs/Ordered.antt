@@ -13,7 +13,7 @@ use Rattle.cat_model.specs.Page.{Key, key_cmp}
 use Rattle.cat_search.specs.Bars.{HaveRanks}
 use Rattle.cat_search.specs.Pages.{rank_with}
 use Rattle.cat_search.specs.Standings.{Rank, Standing, rank_cmp, standing_before}
-use Rattle.cat_segment.specs.Orders.{IsOrderBy, missing_last, row_before, turned}
+use Rattle.cat_views.specs.cat_segment.Orders.{IsOrderBy, missing_last, row_before, turned}
 use Rattle.cat_search.specs.Walks.{IsWalk, standing_at}
 use Rattle.cat_search.specs.declared.sort.Order.{Order}
 use Rattle.cat_search.specs.declared.sort.OrderField.{OrderField}

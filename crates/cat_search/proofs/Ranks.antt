@@ -9,8 +9,8 @@ use Rattle.cat_model.specs.Item.{Content, content_of}
 use Rattle.cat_model.specs.Page.{Sort, Key, key, key_in}
 use Rattle.cat_model.specs.Text.{Text}
 use Rattle.cat_model.specs.View.{Row, item_in}
-use Rattle.cat_segment.specs.Contents.{contents_of}
-use Rattle.cat_segment.specs.declared.column.Column.{Column}
+use Rattle.cat_views.specs.cat_segment.Contents.{contents_of}
+use Rattle.cat_views.specs.cat_segment.declared.column.Column.{Column}
 use Rattle.cat_search.specs.declared.sort.Order.{Order}
 use Rattle.cat_search.specs.Standings.{Standing}
 use Rattle.cat_search.specs.Pages.{rank_with}

@@ -23,7 +23,7 @@ use Rattle.cat_search.specs.Sorts.{IsOrderOf, sort_in, sort_of}
 use Rattle.cat_search.specs.Views.{IsAnswerTo, Prepared, answer_over}
 use Rattle.cat_search.specs.Rows.{bare_record, hits_in, mark_in_rows, row_standing}
 use Rattle.cat_search.proofs.Defined.{answered_by, named_standing, named_mark, filter-map, map_map, each_pair-map}
-use Rattle.cat_search.proofs.Selected.{Pairs-pieces}
+use Rattle.cat_views.proofs.Selected.{Pairs-pieces}
 use Rattle.cat_search.proofs.Marks.{find-map}
 use Rattle.cat_search.proofs.Shown.{answers_shown, due_shown}
 

@@ -35,7 +35,7 @@ use Rattle.cat_search.proofs.Candidates.{comes_first-is}
 use Rattle.cat_search.proofs.Defined.{each_pair-filter, each_pair-map}
 use Rattle.cat_model.proofs.Lists.{All-weaken, All-kept}
 use Rattle.cat_search.proofs.Gathered.{none, standings_at, standings_at-all, standings_at-append, standings_at-more}
-use Rattle.cat_search.proofs.Selected.{Pairs-right}
+use Rattle.cat_views.proofs.Selected.{Pairs-right}
 
 -- ---- elements with given images, in another order
 

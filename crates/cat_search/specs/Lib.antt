@@ -8,10 +8,11 @@ pub mod Pages
 pub mod Asks
 pub mod Views
 pub mod Rows
-pub mod Sources
 pub mod Bars
 pub mod OrdinalBars
-pub mod Sets
 pub mod Hits
-pub mod Holds
 pub mod Walks
+pub use Rattle.cat_query.specs.cat_items as cat_items
+pub use Rattle.cat_query.specs as cat_query
+pub use Rattle.cat_views.specs.cat_segment as cat_segment
+pub use Rattle.cat_views.specs as cat_views

@@ -7,8 +7,8 @@ use Rattle.cat_model.specs.Page as model
 use Rattle.cat_model.specs.Page.{key, key_in}
 use Rattle.cat_model.specs.Query.{Query}
 use Rattle.cat_model.specs.View.{Row, Leaf, item_in, live_rows, row_matches}
-use Rattle.cat_segment.specs.Contents.{contents_of}
-use Rattle.cat_segment.specs.declared.column.Column.{Column}
+use Rattle.cat_views.specs.cat_segment.Contents.{contents_of}
+use Rattle.cat_views.specs.cat_segment.declared.column.Column.{Column}
 use Rattle.cat_search.specs.declared.sort.Order.{Order}
 use Rattle.cat_search.specs.Pages.{rank_with}
 use Rattle.cat_search.specs.Sorts.{sort_in}
@@ -17,15 +17,6 @@ use Rattle.cat_search.specs.Standings.{Standing}
 -- the row as a record, without its source
 abbrev pub bare_record : Row → Record
 bare_record row = record { number = row.number; item = item_in row }
-
--- the number of the first row
-abbrev pub first_in : List Row → ℕ
-first_in [] = 0
-first_in (row ∷ rows) = row.number
-
--- the rows of the leaves, live or dead
-abbrev pub all_rows : List Leaf → List Row
-all_rows leaves = flat_map (λ leaf. leaf.segment.rows) leaves
 
 -- the live rows of a leaf that the query matches
 abbrev pub leaf_hits : Leaf → Query → List Row

@@ -1,13 +1,12 @@
 -- Queries that are put to views.
-use Rattle.std.specs.Prelude.{◌≡◌, List, [], ◌∷◌, map, Result}
+use Rattle.std.specs.Prelude.{◌≡◌, List, map, Result}
 use Rattle.cat_base.specs.declared.refusal.Refusal.{Refusal}
 use Rattle.cat_model.specs.Answer.{Found, answer}
-use Rattle.cat_model.specs.Files.{Name}
 use Rattle.cat_model.specs.Item.{Record}
 use Rattle.cat_model.specs.Page.{Page}
 use Rattle.cat_model.specs.Query as model
 use Rattle.cat_model.specs.Query.{matches}
-use Rattle.cat_model.specs.View.{Leaf, View, Shows, rows_in}
+use Rattle.cat_model.specs.View.{View, Shows, rows_in}
 use Rattle.cat_query.specs.declared.query.Query.{Query}
 use Rattle.cat_query.specs.View.{query_of}
 use Rattle.cat_search.specs.declared.ask.Ask.{Ask}
@@ -18,10 +17,6 @@ use Rattle.cat_search.specs.Rows.{bare_record}
 pub record Prepared : Type 0 where
   pub view : View
   pub query : Query
-
--- the names of the files of a leaf's segment
-abbrev pub leaf_names : Leaf → List Name
-leaf_names leaf = Name.segment leaf.segment.number ∷ Name.source leaf.segment.number ∷ []
 
 -- the answer to the ask over records
 abbrev pub answer_over : Prepared → Ask → List Record → Result Found Refusal

@@ -9,7 +9,7 @@ ghost use Rattle.cat_search.specs.Sorts.{IsOrderOf, sort_of};
 use crate::sort::{Order, Sort};
 use crate::standings::Candidate;
 use cat_base::{MAX_PAGE, Refusal, WriteNo};
-use cat_schema::Schema;
+use cat_query::cat_items::Schema;
 
 /// What is asked of a page, beside its query (Lucene: the other arguments of `IndexSearcher.searchAfter`).
 #[derive(Clone, Copy, Debug, PartialEq, Eq)]

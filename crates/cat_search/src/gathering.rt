@@ -10,7 +10,7 @@ ghost use Rattle.cat_search.specs.Candidates.{mark_standing, standing_of};
 ghost use Rattle.cat_search.specs.Hits.{rows_of};
 ghost use Rattle.cat_search.specs.Pages.{behind};
 ghost use Rattle.cat_search.specs.Rows.{hits_in, leaf_hits, row_standing};
-ghost use Rattle.cat_search.specs.Sets.{AreSets, set_at};
+ghost use Rattle.cat_views.specs.Sets.{AreSets, set_at};
 ghost use Rattle.cat_search.specs.Standings.{Standing, entry_shown};
 
 use crate::ask::Wanted;
@@ -21,11 +21,11 @@ use crate::leaf_ranks::LeafRanks;
 use crate::offers::{is_beyond, offer_rows};
 use crate::sort::Order;
 use crate::standings::{Candidate, Rank};
-use crate::view::Leaf;
 use crate::walk::Reach;
+use cat_query::cat_columns::RowSet;
 use cat_query::{DocSet, Query};
-use cat_segment::{Live, Segment};
-use cat_values::RowSet;
+use cat_views::Leaf;
+use cat_views::cat_segment::{Live, Segment};
 use std::alloc::{AllocError, Global};
 use std::sync::Arc;
 

@@ -2,8 +2,8 @@
 ghost use Rattle.std.specs.Prelude.{◌≡◌, IfOk, count_by, length};
 ghost use Rattle.cat_search.specs.Hits.{rows_of};
 
-use crate::view::Leaf;
-use cat_values::RowSet;
+use cat_query::cat_columns::RowSet;
+use cat_views::Leaf;
 use std::alloc::AllocError;
 
 /// Which rows of a leaf are hits.

@@ -1,11 +1,11 @@
 //! The sort keys of items, borrowed and owned.
 ghost use Rattle.std.specs.Prelude.{◌≡◌, Some, option_map, IfOk};
 ghost use Rattle.cat_model.specs.Page.{key_in};
-ghost use Rattle.cat_schema.specs.Contents.{field_content_of};
+ghost use Rattle.cat_query.specs.cat_items.Contents.{field_content_of};
 ghost use Rattle.cat_search.specs.Keys.{key_of, key_ref_of, key_at};
 
 use cat_base::Text;
-use cat_schema::{FieldValue, Item};
+use cat_query::cat_items::{FieldValue, Item};
 use std::alloc::{AllocError, Global};
 
 /// What a hit is sorted by, borrowed from its item: numbers as numbers, keywords by their bytes.

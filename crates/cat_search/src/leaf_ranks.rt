@@ -2,7 +2,7 @@
 ghost use Rattle.std.specs.Prelude.{◌≡◌, ◌<◌, length, map, option_map, slice_get, IfSome};
 ghost use Rattle.std.specs.List.{HoldsAt};
 ghost use Rattle.cat_model.specs.Page.{Key, key, key_in};
-ghost use Rattle.cat_segment.specs.Contents.{contents_of};
+ghost use Rattle.cat_views.specs.cat_segment.Contents.{contents_of};
 ghost use Rattle.cat_search.specs.Bars.{HaveRanks};
 ghost use Rattle.cat_search.specs.Candidates.{standing_of};
 ghost use Rattle.cat_search.specs.Keys.{key_ref_of};
@@ -13,8 +13,8 @@ ghost use Rattle.cat_search.specs.Walks.{IsWalk};
 use crate::keys::KeyRef;
 use crate::sort::{Order, rank_with};
 use crate::standings::Candidate;
-use cat_segment::{Column, Segment};
-use cat_values::{KeywordColumn, NumberColumn};
+use cat_query::cat_columns::{KeywordColumn, NumberColumn};
+use cat_views::cat_segment::{Column, Segment};
 use std::marker::Model;
 
 /// The rows of a segment as hits of one sort, whose column is looked up once (Lucene: a `LeafFieldComparator` over the

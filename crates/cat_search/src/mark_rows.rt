@@ -5,14 +5,15 @@ ghost use Rattle.cat_base.specs.declared.refusal.Refusal.TheVariants.{Mark};
 ghost use Rattle.cat_model.specs.Answer.{has_mark};
 ghost use Rattle.cat_model.specs.View.{live_rows};
 ghost use Rattle.cat_search.specs.Candidates.{mark_standing};
-ghost use Rattle.cat_search.specs.Rows.{all_rows, bare_record, live_numbered, mark_in_rows};
+ghost use Rattle.cat_views.specs.Rows.{all_rows};
+ghost use Rattle.cat_search.specs.Rows.{bare_record, live_numbered, mark_in_rows};
 
 use crate::leaf_ranks::LeafRanks;
 use crate::sort::Order;
 use crate::standings::Candidate;
-use crate::view::Leaf;
 use cat_base::{Refusal, WriteNo};
-use cat_segment::Segment;
+use cat_views::Leaf;
+use cat_views::cat_segment::Segment;
 
 /// The row of the segment that the write of this number put, live or dead.
 fn row_of(segment: &Segment, number: WriteNo) -> Option<usize>

@@ -12,7 +12,7 @@ use crate::number_bar::NumberRows;
 use crate::ordinal_bar::KeywordRows;
 use crate::standings::Candidate;
 use crate::walk::{Reach, offer_walk, rows_passed};
-use cat_values::RowSet;
+use cat_query::cat_columns::RowSet;
 use std::alloc::AllocError;
 
 /// Whether the mark comes before the hit; so it is where there is no mark.

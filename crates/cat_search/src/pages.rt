@@ -17,7 +17,7 @@ use crate::sort::{Order, rank_with};
 use crate::standings::{Candidate, Rank};
 use cat_base::{Refusal, WriteNo};
 use cat_query::Query;
-use cat_schema::{Item, Schema};
+use cat_query::cat_items::{Item, Schema};
 use std::alloc::{AllocError, Global};
 
 /// An item under the number of the write that put it.

@@ -8,17 +8,17 @@ ghost use Rattle.cat_model.specs.Query as model;
 ghost use Rattle.cat_model.specs.View.{Leaf, Shows, selected};
 ghost use Rattle.cat_query.specs.View.{query_of};
 ghost use Rattle.cat_search.specs.Rows.{leaf_hits};
-ghost use Rattle.cat_search.specs.Sets.{AreSets};
+ghost use Rattle.cat_views.specs.Sets.{AreSets};
 ghost use Rattle.cat_search.specs.Views.{IsAnswerTo, ViewsShowRecords, answer_over, page_in};
 
 use crate::ask::{Ask, Wanted};
 use crate::entries::Page;
 use crate::gathering::{first_entries, hits_of, set_at};
 use crate::mark_rows::mark_in_leaves;
-use crate::view::View;
 use cat_base::Refusal;
+use cat_query::cat_columns::RowSet;
 use cat_query::{DocSet, Query};
-use cat_values::RowSet;
+use cat_views::View;
 use std::alloc::{AllocError, Global};
 use std::marker::Model;
 use std::sync::Arc;
@@ -42,7 +42,7 @@ impl Model for Prepared {
     ghost use Rattle.std.specs.Coded.{codes};
     ghost use Rattle.cat_query.specs.View.{query_of};
     ghost use Rattle.cat_query.specs.contracts.query.Primary as primary;
-    ghost use Rattle.cat_search.specs.Sets.{AreSets};
+    ghost use Rattle.cat_views.specs.Sets.{AreSets};
     ghost use Rattle.cat_search.specs.Views as views;
 
     ghost Value = { views.Prepared };

@@ -10,7 +10,7 @@ use crate::best::{Best, LEAST_SPARE};
 use crate::leaf_ranks::LeafRanks;
 use crate::offers::{is_beyond, offer_hit};
 use crate::standings::Candidate;
-use cat_values::RowSet;
+use cat_query::cat_columns::RowSet;
 use std::alloc::AllocError;
 
 /// By how many times more steps than are expected a walk may take.

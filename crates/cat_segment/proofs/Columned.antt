@@ -10,9 +10,9 @@ use Rattle.cat_model.specs.Item.{Content, Kind, IsContent, words_in, keyword_in,
 use Rattle.cat_model.specs.Forms.{IsFormed, IsWord, IsKeyword, IsLabel}
 use Rattle.cat_model.specs.Layout.{Laid, WordPostings, pieces, ordinal_in, code_in, word_postings_of, keywords_of, IsWordPostings, IsLaid}
 use Rattle.cat_model.specs.Ordinals.{dictionary_of, postings_of, texts_of}
-use Rattle.cat_codec.specs.Parts.{column_in}
-use Rattle.cat_codec.specs.declared.parts.ColumnParts.{ColumnParts}
-use Rattle.cat_codec.specs.declared.parts.ColumnParts.TheVariants as parts
+use Rattle.cat_items.specs.file_parts.Parts.{column_in}
+use Rattle.cat_items.specs.declared.file_parts.parts.ColumnParts.{ColumnParts}
+use Rattle.cat_items.specs.declared.file_parts.parts.ColumnParts.TheVariants as parts
 use Rattle.cat_segment.proofs.Formed.{seen, joined, label_counts}
 use Rattle.cat_segment.proofs.Layouts.{word_sets, label_sets, length-seen}
 use Rattle.cat_segment.proofs.Few.{few_mapped, few_unmapped}

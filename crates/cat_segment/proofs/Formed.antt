@@ -10,7 +10,7 @@ use Rattle.std.proofs.lemmas.List.Elements.{All-map, All-append, All-contains, C
 use Rattle.std.proofs.lemmas.List.FromFn.{length-range_with_len, get_or-range_with_len}
 use Rattle.std.proofs.lemmas.List.Sums.{prefix_len-le-length, length-filter, count_by-le-length, sum_by-le}
 use Rattle.cat_base.proofs.TextSets.{sorted_set_members}
-use Rattle.cat_values.proofs.Members.{length-sorted_set}
+use Rattle.cat_columns.proofs.Members.{length-sorted_set}
 use Rattle.cat_model.specs.Text.{Text, same_text}
 use Rattle.cat_model.specs.Item.{Content, Kind, IsContent, words_in, keyword_in, number_in, labels_in}
 use Rattle.cat_model.specs.Forms.{IsFormed, IsWord, IsKeyword, IsLabel}

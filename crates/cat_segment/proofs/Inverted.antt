@@ -6,13 +6,13 @@ use Rattle.std.proofs.lemmas.List.{length-append, length-map, map_more}
 use Rattle.std.proofs.lemmas.List.Elements.{All-weaker, All-map}
 use Rattle.std.proofs.lemmas.Map.Keys.{sorted_from_strictly_increasing}
 use Rattle.cat_base.specs.Texts.{IsTextSet}
-use Rattle.cat_codec.proofs.Pieces.{ends_push, pieces_push, length-pieces}
+use Rattle.cat_items.proofs.file_parts.Pieces.{ends_push, pieces_push, length-pieces}
 use Rattle.cat_model.specs.Text.{Text}
 use Rattle.cat_model.specs.Layout.{ordinal_in, code_in, keywords_of, pieces, AreEnds}
 use Rattle.cat_model.specs.Ordinals.{dictionary_of, text_at, texts_of}
-use Rattle.cat_values.specs.Columns.{AreOrdinals}
-use Rattle.cat_values.proofs.Laid.{rows_there, all_pieces, AreOrdinals-of}
-use Rattle.cat_values.proofs.Ordinals.{text_back}
+use Rattle.cat_columns.specs.Columns.{AreOrdinals}
+use Rattle.cat_columns.proofs.Laid.{rows_there, all_pieces, AreOrdinals-of}
+use Rattle.cat_columns.proofs.Ordinals.{text_back}
 use Rattle.cat_segment.specs.Parts.{ordinals_of}
 
 -- ---- from ordinals back to texts

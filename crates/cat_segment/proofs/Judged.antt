@@ -7,10 +7,10 @@ use Rattle.std.proofs.lemmas.List.{length-map, get_or-map, get_or_default, lengt
 use Rattle.std.proofs.lemmas.List.Elements.{All-append, All-cons, All-nil}
 use Rattle.cat_base.specs.declared.refusal.Refusal.{Refusal}
 use Rattle.cat_base.specs.declared.refusal.Refusal.TheVariants.{Damaged, Memory}
-use Rattle.cat_codec.specs.Parts.{heads_in, column_in, layout_in, IsParts}
-use Rattle.cat_codec.specs.declared.parts.ColumnParts.{ColumnParts}
-use Rattle.cat_codec.specs.declared.parts.ColumnParts.TheVariants as parts
-use Rattle.cat_codec.specs.declared.parts.SegmentParts.{SegmentParts}
+use Rattle.cat_items.specs.file_parts.Parts.{heads_in, column_in, layout_in, IsParts}
+use Rattle.cat_items.specs.declared.file_parts.parts.ColumnParts.{ColumnParts}
+use Rattle.cat_items.specs.declared.file_parts.parts.ColumnParts.TheVariants as parts
+use Rattle.cat_items.specs.declared.file_parts.parts.SegmentParts.{SegmentParts}
 use Rattle.cat_model.specs.Text.{Text}
 use Rattle.cat_model.specs.Item.{Content, Field, Kind, Schema, words_in, keyword_in, number_in, labels_in}
 use Rattle.cat_model.specs.Layout.{Laid, Head, column_of, head_of, layout_of, IsLaid, AreLaid, IsLayout}

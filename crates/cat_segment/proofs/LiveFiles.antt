@@ -7,7 +7,7 @@ use Rattle.std.proofs.lemmas.List.Sums.{sum_by-cons, count_by-le-length}
 use Rattle.std.proofs.lemmas.List.Folds.{sum_by-replicate}
 use Rattle.cat_base.specs.Bytes.{spelled_u32, spelled_u64}
 use Rattle.cat_base.proofs.Spellings.{u32_exact, u64_exact}
-use Rattle.cat_values.proofs.Told.{same_sets}
+use Rattle.cat_columns.proofs.Told.{same_sets}
 use Rattle.cat_model.specs.RowSets.{IsPacked}
 use Rattle.cat_model.specs.LiveFile.{LiveRows, AreLiveRows, SpellsLive}
 use Rattle.cat_segment.specs.LiveStart.{MayStand}

@@ -7,3 +7,4 @@ pub mod LiveStart
 pub mod Parts
 pub mod Sources
 pub mod Orders
+pub use Rattle.cat_items.specs as cat_items

@@ -1,10 +1,10 @@
 -- The columns that the parts of a file make, and what of the parts is judged first.
 use Rattle.std.specs.Prelude.{◌≡◌, ◌≢◌, ◌<◌, ◌≤◌, ℕ, zero, suc, List, [], ◌∷◌, length, All}
 use Rattle.std.specs.List.{AllPairs}
-use Rattle.cat_codec.specs.Parts.{column_in, layout_in}
-use Rattle.cat_codec.specs.declared.parts.SegmentParts.{SegmentParts}
-use Rattle.cat_codec.specs.declared.parts.ColumnParts.{ColumnParts}
-use Rattle.cat_codec.specs.declared.parts.ColumnParts.TheVariants as parts
+use Rattle.cat_items.specs.file_parts.Parts.{column_in, layout_in}
+use Rattle.cat_items.specs.declared.file_parts.parts.SegmentParts.{SegmentParts}
+use Rattle.cat_items.specs.declared.file_parts.parts.ColumnParts.{ColumnParts}
+use Rattle.cat_items.specs.declared.file_parts.parts.ColumnParts.TheVariants as parts
 use Rattle.cat_model.specs.Item.{Content, Kind}
 use Rattle.cat_model.specs.Layout.{layout_of, pieces}
 use Rattle.cat_model.specs.Limits.{label_limit}

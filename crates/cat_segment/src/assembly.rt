@@ -2,7 +2,7 @@
 ghost use Rattle.std.specs.Prelude.{◌≡◌, ◌≢◌, ◌↔◌, ◌⊎◌, ◌≤◌, ◌<◌, length, All, IfOk, IfErr, IfSome, IsTrue};
 ghost use Rattle.std.specs.List.{AllPairs};
 ghost use Rattle.cat_base.specs.declared.refusal.Refusal.TheVariants.{Damaged, Memory};
-ghost use Rattle.cat_codec.specs.Parts.{layout_in, IsParts};
+ghost use Rattle.cat_items.specs.file_parts.Parts.{layout_in, IsParts};
 ghost use Rattle.cat_model.specs.Layout.{layout_of, IsLayout};
 ghost use Rattle.cat_model.specs.Limits.{row_limit, source_limit};
 ghost use Rattle.cat_model.specs.View.{IsSegment};
@@ -15,7 +15,7 @@ use crate::ids::Ids;
 use crate::segment::Segment;
 use crate::sources::Sources;
 use cat_base::{Refusal, WriteNo};
-use cat_codec::SegmentParts;
+use cat_items::file_parts::SegmentParts;
 use std::alloc::{AllocError, Global};
 
 /// Whether each number lies below the next.

@@ -5,7 +5,7 @@ ghost use Rattle.cat_model.specs.Forms.{IsSourceLength};
 ghost use Rattle.cat_model.specs.Item.{AreFields, is_id};
 ghost use Rattle.cat_model.specs.Limits.{row_limit};
 ghost use Rattle.cat_model.specs.Ordinals.{dictionary_of};
-ghost use Rattle.cat_schema.specs.Kinds.{field_kind_of};
+ghost use Rattle.cat_items.specs.Kinds.{field_kind_of};
 ghost use Rattle.cat_segment.specs.Contents.{contents_told};
 ghost use Rattle.cat_segment.specs.Fields.{content_in, contents_in, contents_by_field, AreFitting, IsFilled};
 
@@ -16,9 +16,9 @@ use crate::numbers::Numbers;
 use crate::segment::Row;
 use crate::sources::Sources;
 use cat_base::{Text, WriteNo};
-use cat_inverted::Terms;
-use cat_schema::{Field, Kind};
-use cat_values::{KeywordColumn, NumberColumn, SetColumn};
+use cat_columns::inverted::Terms;
+use cat_columns::{KeywordColumn, NumberColumn, SetColumn};
+use cat_items::{Field, Kind};
 use std::alloc::{AllocError, Global};
 
 /// The terms of the rows' words, of which there are fewer than 2^32.

@@ -4,8 +4,8 @@ ghost use Rattle.cat_model.specs.Ordinals.{texts_of};
 
 use crate::inverting::{terms_of_keywords, terms_of_labels};
 use crate::numbers::Numbers;
-use cat_inverted::Terms;
-use cat_values::{KeywordColumn, SetColumn};
+use cat_columns::inverted::Terms;
+use cat_columns::{KeywordColumn, SetColumn};
 use std::alloc::{AllocError, Global};
 use std::marker::Model;
 

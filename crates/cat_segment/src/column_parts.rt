@@ -1,8 +1,8 @@
 //! Columns of the parts of a file, and whether rows have as few labels as they may.
 ghost use Rattle.std.specs.Prelude.{◌≡◌, ◌↔◌, ◌⊎◌, ◌≤◌, ◌<◌, ◌++◌, ◌∷◌, [], All, Any, IfOk, IfErr, OnOk, IsTrue};
 ghost use Rattle.cat_base.specs.declared.refusal.Refusal.TheVariants.{Damaged, Memory};
-ghost use Rattle.cat_codec.specs.Parts.{column_in, IsColumnParts};
-ghost use Rattle.cat_codec.specs.declared.parts.ColumnParts.TheVariants as parts;
+ghost use Rattle.cat_items.specs.file_parts.Parts.{column_in, IsColumnParts};
+ghost use Rattle.cat_items.specs.declared.file_parts.parts.ColumnParts.TheVariants as parts;
 ghost use Rattle.cat_model.specs.Item.{Kind};
 ghost use Rattle.cat_model.specs.Layout.{IsLaid};
 ghost use Rattle.cat_model.specs.Limits.{row_limit, label_limit};
@@ -13,9 +13,9 @@ ghost use Rattle.cat_segment.specs.declared.column.Column as declared;
 use crate::column::{Column, Keywords, Labels};
 use crate::numbers::Numbers;
 use cat_base::{MAX_LABELS, Refusal, Text};
-use cat_codec::ColumnParts;
-use cat_inverted::Terms;
-use cat_values::{KeywordColumn, NumberColumn, SetColumn};
+use cat_columns::inverted::Terms;
+use cat_columns::{KeywordColumn, NumberColumn, SetColumn};
+use cat_items::file_parts::ColumnParts;
 use std::alloc::{AllocError, Global};
 
 /// The column of a text field. [`Refusal::Damaged`] where no column has these words and postings.

@@ -7,7 +7,7 @@ ghost use Rattle.cat_model.specs.View as model;
 use crate::assembly::assemble;
 use crate::segment::Segment;
 use cat_base::Refusal;
-use cat_codec::{layouts_are_told_by_their_bytes, read_segment};
+use cat_items::file_parts::{layouts_are_told_by_their_bytes, read_segment};
 use std::alloc::Global;
 
 /// The segment whose file has these bytes (Lucene: a `SegmentReader` opens a segment so, by the formats of its `Codec`).

@@ -8,11 +8,11 @@ ghost use Rattle.cat_segment.specs.Laid.{laid_in, laid_keywords, laid_labels};
 use crate::column::Column;
 use crate::segment::Segment;
 use cat_base::put_u32;
-use cat_codec::{
+use cat_columns::inverted::Terms;
+use cat_columns::{KeywordColumn, NumberColumn, SetColumn};
+use cat_items::file_parts::{
     put_fields, put_head, put_list, put_number, put_numbers, put_posted, put_start, put_texts,
 };
-use cat_inverted::Terms;
-use cat_values::{KeywordColumn, NumberColumn, SetColumn};
 use std::alloc::{AllocError, Global};
 
 /// Appends the words of a text field, each with its postings.

@@ -3,12 +3,12 @@ ghost use Rattle.std.specs.Prelude.{◌≡◌, map, option_map, IfOk, IfSome, Al
 ghost use Rattle.cat_base.specs.Texts.{IsTextSet};
 ghost use Rattle.cat_model.specs.Forms.{IsFormed};
 ghost use Rattle.cat_model.specs.Item.{keyword_in, number_in};
-ghost use Rattle.cat_schema.specs.Contents.{field_content_of};
+ghost use Rattle.cat_items.specs.Contents.{field_content_of};
 ghost use Rattle.cat_segment.specs.Fields.{content_in, texts_in, IsFormedIn};
 
 use crate::segment::Row;
 use cat_base::Text;
-use cat_schema::{FieldValue, Item};
+use cat_items::{FieldValue, Item};
 use std::alloc::{AllocError, Global};
 
 /// What the item has in the field of the index, if there is such a field.

@@ -6,8 +6,8 @@ ghost use Rattle.cat_model.specs.Layout.{pieces, AreEnds};
 ghost use Rattle.cat_model.specs.Ordinals.{dictionary_of, text_at, texts_of};
 ghost use Rattle.cat_segment.specs.Parts.{ordinals_of};
 
-use cat_inverted::Terms;
-use cat_values::{Dictionary, KeywordColumn, SetColumn};
+use cat_columns::inverted::Terms;
+use cat_columns::{Dictionary, KeywordColumn, SetColumn};
 use std::alloc::{AllocError, Global};
 
 /// The terms of rows whose texts have these ordinals of the dictionary.

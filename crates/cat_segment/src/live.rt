@@ -2,7 +2,7 @@
 ghost use Rattle.std.specs.Prelude.{◌≡◌, ◌<◌, ◌^◌, true, false, length, count_by, replicate, slice_set, IfOk};
 ghost use Rattle.cat_model.specs.RowSets.{has_row};
 
-use cat_values::RowSet;
+use cat_columns::RowSet;
 use std::alloc::{AllocError, Global};
 use std::marker::Model;
 
@@ -92,7 +92,7 @@ impl Live {
 impl PartialEq for Live {
     ghost use Rattle.std.specs.Prelude.{◌≡◌, ◌↔◌, IsTrue};
     ghost use Rattle.std.specs.Cmp.{partial_equiv_from_equiv};
-    ghost use Rattle.cat_values.specs.Bits.{same_rows, same_rows_equiv};
+    ghost use Rattle.cat_columns.specs.Bits.{same_rows, same_rows_equiv};
 
     ghost eq = { same_rows };
 

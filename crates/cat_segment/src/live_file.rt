@@ -7,7 +7,7 @@ ghost use Rattle.cat_segment.specs.LiveStart.{MayStand};
 
 use crate::live::Live;
 use cat_base::{Cursor, Generation, MAX_ROWS, Refusal, SegNo, is_file_number, put_u32, put_u64};
-use cat_values::{RowSet, sets_are_told_by_their_bytes};
+use cat_columns::{RowSet, sets_are_told_by_their_bytes};
 use std::alloc::{AllocError, Global};
 use std::marker::Model;
 

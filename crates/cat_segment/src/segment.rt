@@ -18,7 +18,7 @@ use crate::column::Column;
 use crate::ids::Ids;
 use crate::sources::Sources;
 use cat_base::{SegNo, Text, WriteNo};
-use cat_schema::{Item, Schema, index_of};
+use cat_items::{Item, Schema, index_of};
 use std::alloc::{AllocError, Global};
 use std::marker::Model;
 

@@ -1,8 +1,12 @@
-//! The catalogue's program.
+//! The catalogue's program: what its arguments ask for, its streams, and how it ends.
 #![tactic(auto)]
+
+mod arguments;
+mod endings;
+mod running;
 
 use std::process::ExitCode;
 
 fn main(rt: HostRuntime) -> ExitCode {
-    cat_program::run(&rt)
+    running::run(&rt)
 }

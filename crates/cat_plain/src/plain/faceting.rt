@@ -6,13 +6,13 @@ ghost use Rattle.cat_model.specs.Limits.{page_limit};
 ghost use Rattle.cat_model.specs.Query as model;
 ghost use Rattle.cat_plain.specs.Exchange.{DoesFacets};
 ghost use Rattle.cat_plain.specs.Reply.{reply_of};
-ghost use Rattle.cat_schema.specs.Kinds.{field_kind_of};
+ghost use Rattle.cat_items.specs.Kinds.{field_kind_of};
 
 use crate::counting::counts_in;
 use crate::plain::Plain;
 use crate::reply::Answer;
 use cat_base::{MAX_PAGE, Refusal, SessionNo, Token};
-use cat_schema::{Kind, Schema, kind_of};
+use cat_items::{Kind, Schema, kind_of};
 use std::alloc::AllocError;
 
 /// Whether one counts over fields of the kind.

@@ -9,7 +9,7 @@ use crate::plain::Plain;
 use crate::reply::Answer;
 use crate::tables::source_of;
 use cat_base::{Refusal, SessionNo, Token};
-use cat_schema::id_ok;
+use cat_items::id_ok;
 use std::alloc::AllocError;
 
 impl Plain {

@@ -11,15 +11,15 @@ ghost use Rattle.cat_plain.specs.Exchange.{DoesDeleteWhere};
 ghost use Rattle.cat_plain.specs.Plain.{Does};
 ghost use Rattle.cat_plain.specs.Reply.{reply_of};
 ghost use Rattle.cat_query.specs.View.{query_of};
-ghost use Rattle.cat_schema.specs.Reading.{item_of, source_fault};
+ghost use Rattle.cat_items.specs.Reading.{item_of, source_fault};
 
 use crate::plain::Plain;
 use crate::record::Record;
 use crate::reply::Answer;
 use crate::tables::{remove_hits, remove_id};
 use cat_base::{LAST_NUMBER, Refusal, WriteNo};
+use cat_items::{Item, id_ok};
 use cat_query::Query;
-use cat_schema::{Item, id_ok};
 use std::sync::Arc;
 
 impl Plain {

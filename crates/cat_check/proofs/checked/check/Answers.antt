@@ -1,7 +1,7 @@
 use Rattle.std.proofs.Common.{◌∙◌, List, sym, subst}
 use Rattle.cat_directory.specs.declared.name.FileName.{FileName}
 use Rattle.cat_directory.specs.Devices.{Lists}
-use Rattle.cat_opening.proofs.Parts.{as_one}
+use Rattle.cat_commits.proofs.reading.Parts.{as_one}
 use Rattle.cat_check.proofs.Before.{all_before, newest_before}
 use Rattle.cat_check.proofs.checked.check.Goals as goal
 

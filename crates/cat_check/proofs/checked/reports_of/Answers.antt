@@ -1,5 +1,5 @@
 use Rattle.std.proofs.Common.{◌∙◌}
-use Rattle.cat_opening.proofs.Parts.{as_one}
+use Rattle.cat_commits.proofs.reading.Parts.{as_one}
 use Rattle.cat_check.proofs.Before.{one_more}
 use Rattle.cat_check.proofs.checked.reports_of.Goals as goal
 

@@ -1,8 +1,8 @@
 use Rattle.std.proofs.Common.{List, sym, subst}
 use Rattle.cat_directory.specs.declared.name.FileName.{FileName}
 use Rattle.cat_directory.specs.Devices.{Lists}
-use Rattle.cat_ledger_shape.specs.Ties.{ToldFiles}
-use Rattle.cat_opening.proofs.Parts.{as_one}
+use Rattle.cat_ledger_laws.specs.shape.Ties.{ToldFiles}
+use Rattle.cat_commits.proofs.reading.Parts.{as_one}
 use Rattle.cat_check.specs.Standing.{StandsSo}
 use Rattle.cat_check.proofs.dropping.find_standing.Goals as goal
 

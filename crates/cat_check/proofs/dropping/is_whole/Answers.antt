@@ -1,6 +1,6 @@
 use Rattle.std.proofs.Common.{subst}
-use Rattle.cat_ledger_shape.specs.Ties.{ToldFiles}
-use Rattle.cat_opening.proofs.Parts.{as_one}
+use Rattle.cat_ledger_laws.specs.shape.Ties.{ToldFiles}
+use Rattle.cat_commits.proofs.reading.Parts.{as_one}
 use Rattle.cat_check.specs.Judged.{IsLost}
 use Rattle.cat_check.proofs.Agreeing.{lost_if_torn}
 use Rattle.cat_check.proofs.dropping.is_whole.Goals as goal

@@ -3,7 +3,7 @@ use Rattle.std.proofs.lemmas.List.{length-append}
 use Rattle.cat_base.specs.declared.refusal.Refusal.{Refusal}
 use Rattle.cat_base.specs.declared.refusal.Refusal.TheVariants.{Damaged}
 use Rattle.cat_model.specs.Text.{Text}
-use Rattle.cat_opening.proofs.Reading.{passed, told_so, more_read, all_read}
+use Rattle.cat_commits.proofs.reading.Reading.{passed, told_so, more_read, all_read}
 use Rattle.cat_check.proofs.file.read_file.Goals as goal
 
 pub returns-in_err-bytes-clause-damaged : goal.returns-in_err-bytes-clause-damaged

@@ -1,6 +1,6 @@
 use Rattle.std.proofs.Common.{sym, subst}
-use Rattle.cat_ledger_shape.specs.Ties.{ToldFiles}
-use Rattle.cat_opening.proofs.Parts.{as_one}
+use Rattle.cat_ledger_laws.specs.shape.Ties.{ToldFiles}
+use Rattle.cat_commits.proofs.reading.Parts.{as_one}
 use Rattle.cat_check.specs.Said.{IsTorn}
 use Rattle.cat_check.proofs.Before.{reported_before}
 use Rattle.cat_check.proofs.report.report_of.Goals as goal

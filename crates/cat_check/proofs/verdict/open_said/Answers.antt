@@ -1,7 +1,7 @@
 use Rattle.std.proofs.Common.{subst}
 use Rattle.cat_model.specs.Item.{Schema}
-use Rattle.cat_ledger_model.specs.Opening.{IsForeign}
-use Rattle.cat_ledger_shape.specs.OpeningLaws.{MayHold}
+use Rattle.cat_ledger_laws.specs.model.Opening.{IsForeign}
+use Rattle.cat_ledger_laws.specs.shape.OpeningLaws.{MayHold}
 use Rattle.cat_check.proofs.Agreeing.{lost_to_another}
 use Rattle.cat_check.proofs.verdict.open_said.Goals as goal
 

@@ -1,5 +1,5 @@
 use Rattle.std.proofs.Common.{sym}
-use Rattle.cat_codec.proofs.Numbers.{string_here, string_not}
+use Rattle.cat_items.proofs.file_parts.Numbers.{string_here, string_not}
 use Rattle.cat_commits.proofs.cursor.take_bytes.Goals as goal
 
 pub returns-in-Err : goal.returns-in-Err

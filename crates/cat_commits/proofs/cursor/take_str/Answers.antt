@@ -1,5 +1,5 @@
 use Rattle.std.proofs.Common.{sym}
-use Rattle.cat_codec.proofs.Numbers.{text_here, text_not}
+use Rattle.cat_items.proofs.file_parts.Numbers.{text_here, text_not}
 use Rattle.cat_commits.proofs.cursor.take_str.Goals as goal
 
 pub returns-in-Ok : goal.returns-in-Ok

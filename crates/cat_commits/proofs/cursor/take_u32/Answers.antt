@@ -1,5 +1,5 @@
 use Rattle.std.proofs.Common.{arith, sym}
-use Rattle.cat_codec.proofs.Numbers.{u32_here, u32_not}
+use Rattle.cat_items.proofs.file_parts.Numbers.{u32_here, u32_not}
 use Rattle.cat_commits.proofs.cursor.take_u32.Goals as goal
 
 pub returns-in-Err : goal.returns-in-Err

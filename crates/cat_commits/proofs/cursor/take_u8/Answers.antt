@@ -1,5 +1,5 @@
 use Rattle.std.proofs.Common.{sym}
-use Rattle.cat_codec.proofs.Numbers.{byte_here, byte_not}
+use Rattle.cat_items.proofs.file_parts.Numbers.{byte_here, byte_not}
 use Rattle.cat_commits.proofs.cursor.take_u8.Goals as goal
 
 pub returns-in-Err : goal.returns-in-Err

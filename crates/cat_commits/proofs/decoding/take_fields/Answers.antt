@@ -1,5 +1,5 @@
 use Rattle.std.proofs.Common.{sym, ap, inl, inr}
-use Rattle.cat_codec.specs.Reading.{rest_of}
+use Rattle.cat_items.specs.file_parts.Reading.{rest_of}
 use Rattle.cat_commits.proofs.Fields.{fields_told, no_fields}
 use Rattle.cat_commits.proofs.decoding.take_fields.Goals as goal
 

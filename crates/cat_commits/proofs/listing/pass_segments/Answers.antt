@@ -1,6 +1,6 @@
 use Rattle.std.proofs.Common.{sym, ap}
-use Rattle.cat_codec.specs.Reading.{many_at, rest_of}
-use Rattle.cat_codec.proofs.Rests.{passes_on, stops_here, passed_all}
+use Rattle.cat_items.specs.file_parts.Reading.{many_at, rest_of}
+use Rattle.cat_items.proofs.file_parts.Rests.{passes_on, stops_here, passed_all}
 use Rattle.cat_commits.specs.Layouts.{listed_at}
 use Rattle.cat_commits.proofs.listing.pass_segments.Goals as goal
 

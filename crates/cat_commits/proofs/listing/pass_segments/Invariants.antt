@@ -1,5 +1,5 @@
 use Rattle.std.proofs.Common.{◌≡◌, ◌-◌}
-use Rattle.cat_codec.specs.Reading.{many_at, rest_of}
+use Rattle.cat_items.specs.file_parts.Reading.{many_at, rest_of}
 use Rattle.cat_commits.specs.Layouts.{listed_at}
 use Rattle.cat_commits.proofs.listing.pass_segments.Given as goal
 

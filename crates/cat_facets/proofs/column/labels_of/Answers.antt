@@ -1,6 +1,6 @@
 use Rattle.std.proofs.Common.{◌∙◌, ap, sym, map, Some, refl}
 use Rattle.cat_model.specs.Item.{Content}
-use Rattle.cat_segment.specs.Contents.{contents_of}
+use Rattle.cat_search.specs.cat_segment.Contents.{contents_of}
 use Rattle.cat_facets.proofs.Columns.{facet_column, no_column, other_column}
 use Rattle.cat_facets.proofs.column.labels_of.Goals as goal
 

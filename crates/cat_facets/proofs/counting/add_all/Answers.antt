@@ -4,7 +4,7 @@ use Rattle.std.proofs.lemmas.List.{get_or-map, length-map, take_all}
 use Rattle.std.proofs.lemmas.List.Elements.{All-get_or}
 use Rattle.cat_model.specs.Ordinals.{dictionary_of, text_at}
 use Rattle.cat_model.specs.Text.{Text}
-use Rattle.cat_values.proofs.Ordinals.{dictionary_rises}
+use Rattle.cat_search.proofs.columns_laws.Ordinals.{dictionary_rises}
 use Rattle.cat_facets.specs.Tallies.{label_count, sum_at}
 use Rattle.cat_facets.proofs.Counted.{set_more}
 use Rattle.cat_facets.proofs.Globals.{all_counted, length-postings, sum_more}

@@ -4,9 +4,9 @@ use Rattle.cat_model.specs.Facets.{is_empty}
 use Rattle.cat_model.specs.Ordinals.{text_at}
 use Rattle.cat_model.specs.Text.{Text}
 use Rattle.cat_model.specs.View.{Leaf, selected}
-use Rattle.cat_query.specs.View.{query_of}
+use Rattle.cat_search.specs.cat_query.View.{query_of}
 use Rattle.cat_search.specs.Rows.{leaf_hits}
-use Rattle.cat_values.proofs.Bits.{written_back}
+use Rattle.cat_search.proofs.columns_laws.Bits.{written_back}
 use Rattle.cat_facets.specs.declared.segments.SegmentLabels.{SegmentLabels}
 use Rattle.cat_facets.specs.States.{AreKnown, IsKnown}
 use Rattle.cat_facets.specs.Tallies.{hit_labels, label_count, labelled_count, leaf_labels, AreCounts}

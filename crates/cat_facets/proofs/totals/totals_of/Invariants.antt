@@ -1,6 +1,6 @@
 use Rattle.std.proofs.Common.{◌≡◌, take}
 use Rattle.std.specs.List.{flat_map}
-use Rattle.cat_query.specs.View.{query_of}
+use Rattle.cat_search.specs.cat_query.View.{query_of}
 use Rattle.cat_facets.specs.States.{AreKnown}
 use Rattle.cat_facets.specs.Tallies.{hit_labels, labelled_count, AreCounts}
 use Rattle.cat_facets.proofs.totals.totals_of.Given as goal

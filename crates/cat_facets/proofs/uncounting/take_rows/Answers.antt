@@ -6,7 +6,7 @@ use Rattle.cat_base.specs.Texts.{IsTextSet}
 use Rattle.cat_model.specs.Facets.{is_empty}
 use Rattle.cat_model.specs.Ordinals.{dictionary_of, text_at}
 use Rattle.cat_model.specs.RowSets.{indices}
-use Rattle.cat_search.proofs.Selected.{at_indices}
+use Rattle.cat_search.proofs.views_laws.Selected.{at_indices}
 use Rattle.cat_facets.specs.Tallies.{has_label, label_count, labelled_count}
 use Rattle.cat_facets.proofs.Counted.{count_front, count_push, fewer, row_within}
 use Rattle.cat_facets.proofs.Globals.{byte_is, is_row, one_le, row_occurs}

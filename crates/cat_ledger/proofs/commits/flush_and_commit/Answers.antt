@@ -1,11 +1,11 @@
 use Rattle.std.proofs.Common.{inl, inr}
-use Rattle.cat_ledger_model.specs.Calls.{Committed, Flushes}
+use Rattle.cat_ledger_laws.specs.model.Calls.{Committed, Flushes}
 use Rattle.cat_ledger.proofs.Lasting.{call_keeps, carried_on, commit_lasts, lets_flush}
 use Rattle.cat_ledger.proofs.Made.{commit_spares, flushed_segment, left_behind}
-use Rattle.cat_ledger_lines.proofs.JoinedCalls.{flushed_commits_make}
-use Rattle.cat_ledger_shape.proofs.Committed.{commits_make}
-use Rattle.cat_ledger_shape.proofs.Listed.{names_are_begun, no_source_begun}
-use Rattle.cat_ledger_shape.specs.CommitLaws.{names_begun}
+use Rattle.cat_ledger_laws.proofs.lines.JoinedCalls.{flushed_commits_make}
+use Rattle.cat_ledger_laws.proofs.shape.Committed.{commits_make}
+use Rattle.cat_ledger_laws.proofs.shape.Listed.{names_are_begun, no_source_begun}
+use Rattle.cat_ledger_laws.specs.shape.CommitLaws.{names_begun}
 use Rattle.cat_ledger.proofs.Histories.{commit_spares_others, newest_committed, next_committed}
 use Rattle.cat_ledger.proofs.Synced.{synced_stands}
 use Rattle.cat_ledger.proofs.commits.flush_and_commit.Goals as goal

@@ -1,5 +1,5 @@
 use Rattle.cat_ledger.proofs.Made.{flush_begun, flush_made, left_begun}
-use Rattle.cat_ledger_core.specs.Cores.{flush_begins}
+use Rattle.cat_ledger_state.specs.Cores.{flush_begins}
 use Rattle.cat_ledger.proofs.Histories.{flush_spares}
 use Rattle.cat_ledger.proofs.room.flush.Goals as goal
 

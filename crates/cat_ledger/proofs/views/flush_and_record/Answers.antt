@@ -1,5 +1,5 @@
 use Rattle.cat_ledger.proofs.Made.{flush_left, may_still}
-use Rattle.cat_ledger_lines.proofs.JoinedCalls.{refreshes_make}
+use Rattle.cat_ledger_laws.proofs.lines.JoinedCalls.{refreshes_make}
 use Rattle.cat_ledger.proofs.views.flush_and_record.Goals as goal
 
 pub returns-in-Ok-clause-ok : goal.returns-in-Ok-clause-ok

@@ -1,7 +1,7 @@
 use Rattle.std.proofs.Common.{false, refl, true}
 use Rattle.cat_ledger.proofs.Made.{recorded_at}
-use Rattle.cat_ledger_lines.proofs.JoinedCalls.{views_stand}
-use Rattle.cat_ledger_shape.proofs.Views.{records_make}
+use Rattle.cat_ledger_laws.proofs.lines.JoinedCalls.{views_stand}
+use Rattle.cat_ledger_laws.proofs.shape.Views.{records_make}
 use Rattle.cat_ledger.proofs.views.record_where_none.Goals as goal
 
 pub returns-then-is_recorded-clause-ok : goal.returns-then-is_recorded-clause-ok

@@ -1,6 +1,6 @@
 use Rattle.std.proofs.Common.{◌≡◌, ℕ, length, get_or, sym, ap, ◌∙◌, subst}
 use Rattle.cat_model.specs.Item.{Field}
-use Rattle.cat_schema.specs.Kinds.{field_kind_of}
+use Rattle.cat_items.specs.Kinds.{field_kind_of}
 use Rattle.cat_merge.specs.Fields.{kept_rows, IsMergedColumn, AreFirstColumns}
 use Rattle.cat_merge.proofs.Sealed.{column_more}
 use Rattle.cat_merge.proofs.columns.add_column.Goals as goal

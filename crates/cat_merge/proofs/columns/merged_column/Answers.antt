@@ -1,7 +1,7 @@
 use Rattle.std.proofs.Common.{ap, subst}
 use Rattle.std.specs.Prelude.{All}
 use Rattle.cat_model.specs.Item.{Kind}
-use Rattle.cat_schema.specs.Kinds.{field_kind_of}
+use Rattle.cat_items.specs.Kinds.{field_kind_of}
 use Rattle.cat_merge.specs.Fields.{kept_rows, HasField}
 use Rattle.cat_merge.proofs.Read.{words_column}
 use Rattle.cat_merge.proofs.columns.merged_column.Goals as goal

@@ -1,8 +1,8 @@
 use Rattle.std.proofs.Common.{◌++◌, ◌∷◌, [], ℕ, get_or, None, sym, ap, ◌∙◌, arith}
 use Rattle.cat_model.specs.Layout.{code_in}
 use Rattle.cat_merge.specs.Coded.{moved_code}
-use Rattle.cat_values.specs.Columns.{HasText}
-use Rattle.cat_values.proofs.Laid.{keywords_there}
+use Rattle.cat_columns.specs.Columns.{HasText}
+use Rattle.cat_columns.proofs.Laid.{keywords_there}
 use Rattle.cat_merge.proofs.Read.{row_kept, row_left, selected_at}
 use Rattle.cat_merge.proofs.Recoded.{code_within, code_moved, code_there}
 use Rattle.cat_merge.proofs.keyword_column.add_codes.Goals as goal

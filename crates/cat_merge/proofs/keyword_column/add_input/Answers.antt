@@ -1,10 +1,10 @@
 use Rattle.std.proofs.Common.{◌≡◌, ◌++◌, map, refl, sym, ap, ap₂, ◌∙◌, subst}
 use Rattle.std.specs.Prelude.{All}
 use Rattle.cat_model.specs.Layout.{code_in}
-use Rattle.cat_values.specs.Columns.{HasText}
+use Rattle.cat_columns.specs.Columns.{HasText}
 use Rattle.cat_model.specs.Item.{Content, keyword_in}
 use Rattle.cat_model.specs.View.{selected}
-use Rattle.cat_segment.specs.Contents.{contents_of}
+use Rattle.cat_views.specs.cat_segment.Contents.{contents_of}
 use Rattle.cat_merge.proofs.Cuts.{on_ok}
 use Rattle.cat_merge.proofs.Read.{values_told}
 use Rattle.cat_merge.specs.Fields.{keywords_under}

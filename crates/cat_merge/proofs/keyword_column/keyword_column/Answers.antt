@@ -7,9 +7,9 @@ use Rattle.cat_model.specs.Layout.{Laid, code_in, keywords_of}
 use Rattle.cat_model.specs.Ordinals.{dictionary_of}
 use Rattle.cat_model.specs.Text.{Text}
 use Rattle.cat_model.specs.View.{Leaf, selected}
-use Rattle.cat_segment.specs.Laid.{content_under}
-use Rattle.cat_values.specs.Columns.{HasText}
-use Rattle.cat_values.proofs.Laid.{keywords_there}
+use Rattle.cat_views.specs.cat_segment.Laid.{content_under}
+use Rattle.cat_columns.specs.Columns.{HasText}
+use Rattle.cat_columns.proofs.Laid.{keywords_there}
 use Rattle.cat_merge.specs.Fields.{keywords_under, kept_rows}
 use Rattle.cat_merge.proofs.Read.{all_of_flat, keyword_texts, input_more, kept_values, read_seen}
 use Rattle.cat_merge.proofs.keyword_column.keyword_column.Goals as goal

@@ -4,7 +4,7 @@ use Rattle.std.specs.Prelude.{Contains}
 use Rattle.cat_model.specs.Layout.{ordinal_in}
 use Rattle.cat_model.specs.Item.{Content, labels_in}
 use Rattle.cat_model.specs.View.{selected}
-use Rattle.cat_segment.specs.Contents.{contents_of}
+use Rattle.cat_views.specs.cat_segment.Contents.{contents_of}
 use Rattle.cat_merge.proofs.Cuts.{on_ok}
 use Rattle.cat_merge.proofs.Read.{values_told}
 use Rattle.cat_merge.specs.Fields.{labels_under}

@@ -2,7 +2,7 @@ use Rattle.std.proofs.Common.{◌<◌, ◌++◌, ◌∷◌, [], List, ℕ, lengt
 use Rattle.std.specs.Prelude.{All, Contains, slice_index}
 use Rattle.cat_model.specs.Layout.{ordinal_in}
 use Rattle.cat_model.specs.Ordinals.{dictionary_of}
-use Rattle.cat_values.proofs.Laid.{rows_there}
+use Rattle.cat_columns.proofs.Laid.{rows_there}
 use Rattle.cat_merge.proofs.Read.{row_kept, row_left, selected_at}
 use Rattle.cat_merge.proofs.Recoded.{labels_moved}
 use Rattle.cat_merge.proofs.label_column.add_rows.Goals as goal

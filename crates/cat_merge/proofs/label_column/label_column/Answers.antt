@@ -7,8 +7,8 @@ use Rattle.cat_model.specs.Layout.{Laid, ordinal_in, pieces}
 use Rattle.cat_model.specs.Ordinals.{dictionary_of}
 use Rattle.cat_model.specs.Text.{Text}
 use Rattle.cat_model.specs.View.{Leaf, selected}
-use Rattle.cat_segment.specs.Laid.{content_under}
-use Rattle.cat_values.proofs.Laid.{rows_there}
+use Rattle.cat_views.specs.cat_segment.Laid.{content_under}
+use Rattle.cat_columns.proofs.Laid.{rows_there}
 use Rattle.cat_merge.specs.Fields.{labels_under, kept_rows}
 use Rattle.cat_merge.proofs.Read.{all_of_flat, input_more, kept_values, read_seen}
 use Rattle.cat_merge.proofs.label_column.label_column.Goals as goal

@@ -3,9 +3,9 @@ use Rattle.std.proofs.lemmas.List.{length-map}
 use Rattle.std.specs.List.{flat_map}
 use Rattle.std.specs.Prelude.{All}
 use Rattle.cat_model.specs.Item.{Kind}
-use Rattle.cat_values.specs.Merged.{kept_of}
-use Rattle.cat_values.proofs.Merged.{if_ok}
-use Rattle.cat_segment.specs.Laid.{content_under}
+use Rattle.cat_columns.specs.Merged.{kept_of}
+use Rattle.cat_columns.proofs.Merged.{if_ok}
+use Rattle.cat_views.specs.cat_segment.Laid.{content_under}
 use Rattle.cat_merge.specs.Fields.{texts_read, texts_under, texts_at, kind_at, kept_rows, HasField}
 use Rattle.cat_merge.proofs.Codes.{parts_keep, parts_numbered, parts_fit}
 use Rattle.cat_merge.proofs.Read.{kept_long, kept_texts}

@@ -1,5 +1,5 @@
-use Rattle.cat_segment.specs.Contents.{contents_of}
-use Rattle.cat_segment.specs.Laid.{kind_of}
+use Rattle.cat_views.specs.cat_segment.Contents.{contents_of}
+use Rattle.cat_views.specs.cat_segment.Laid.{kind_of}
 use Rattle.cat_merge.specs.Fields.{kind_at}
 use Rattle.cat_merge.proofs.Read.{texts_told}
 use Rattle.cat_merge.proofs.merged_terms.terms_at.Goals as goal

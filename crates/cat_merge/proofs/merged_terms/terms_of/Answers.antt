@@ -1,6 +1,6 @@
 use Rattle.std.proofs.Common.{map, sym, ap, ◌∙◌}
-use Rattle.cat_segment.specs.Contents.{contents_of}
-use Rattle.cat_segment.specs.Laid.{kind_of}
+use Rattle.cat_views.specs.cat_segment.Contents.{contents_of}
+use Rattle.cat_views.specs.cat_segment.Laid.{kind_of}
 use Rattle.cat_merge.specs.Fields.{texts_read}
 use Rattle.cat_merge.proofs.Read.{words_told, keyword_texts_told, label_texts_told}
 use Rattle.cat_merge.proofs.merged_terms.terms_of.Goals as goal

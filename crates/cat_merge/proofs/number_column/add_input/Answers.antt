@@ -1,8 +1,8 @@
 use Rattle.std.proofs.Common.{◌≡◌, ◌++◌, refl, sym, ap, ap₂, ◌∙◌}
 use Rattle.cat_model.specs.Item.{Content, number_in}
 use Rattle.cat_model.specs.View.{selected}
-use Rattle.cat_segment.specs.Contents.{contents_of}
-use Rattle.cat_segment.specs.declared.column.Column.TheVariants as columns
+use Rattle.cat_views.specs.cat_segment.Contents.{contents_of}
+use Rattle.cat_views.specs.cat_segment.declared.column.Column.TheVariants as columns
 use Rattle.cat_merge.proofs.Cuts.{on_ok}
 use Rattle.cat_merge.proofs.Read.{values_told}
 use Rattle.cat_merge.specs.Fields.{numbers_under}

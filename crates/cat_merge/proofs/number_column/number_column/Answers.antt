@@ -4,7 +4,7 @@ use Rattle.std.proofs.lemmas.List.{map-id, take_all}
 use Rattle.cat_model.specs.Item.{number_in}
 use Rattle.cat_model.specs.Layout.{Laid}
 use Rattle.cat_model.specs.View.{Leaf, selected}
-use Rattle.cat_segment.specs.Laid.{content_under}
+use Rattle.cat_views.specs.cat_segment.Laid.{content_under}
 use Rattle.cat_merge.specs.Fields.{numbers_under, kept_rows}
 use Rattle.cat_merge.proofs.Read.{input_more, kept_values, read_seen}
 use Rattle.cat_merge.proofs.number_column.number_column.Goals as goal

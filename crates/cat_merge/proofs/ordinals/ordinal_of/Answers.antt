@@ -2,7 +2,7 @@ use Rattle.std.proofs.Common.{rules}
 use Rattle.std.specs.Ordering.{nat_cmp}
 use Rattle.std.specs.Cmp.Lexicographic.{slice_cmp}
 use Rattle.std.proofs.lemmas.Fn.{always_returns_same}
-use Rattle.cat_values.proofs.Searches.{found}
+use Rattle.cat_columns.proofs.Searches.{found}
 use Rattle.cat_merge.proofs.ordinals.ordinal_of.Goals as goal
 
 pub returns : goal.returns

@@ -1,10 +1,10 @@
 use Rattle.std.proofs.Common.{◌≡◌, length, sym, ap, ◌∙◌, subst, inl, inr}
 use Rattle.std.proofs.lemmas.List.{length-map}
-use Rattle.cat_codec.specs.declared.parts.ColumnParts.TheVariants as column
-use Rattle.cat_codec.specs.Parts.{heads_in}
+use Rattle.cat_items.specs.declared.file_parts.parts.ColumnParts.TheVariants as column
+use Rattle.cat_items.specs.file_parts.Parts.{heads_in}
 use Rattle.cat_model.specs.Item.{Schema}
 use Rattle.cat_model.specs.Layout.{head_of}
-use Rattle.cat_segment.specs.Index.{AreAllRows}
+use Rattle.cat_views.specs.cat_segment.Index.{AreAllRows}
 use Rattle.cat_merge.specs.Fields.{kept_rows, AreMergedColumns}
 use Rattle.cat_merge.proofs.Sealed.{each_cut, fits, has_segment, heads_long, is_merged}
 use Rattle.cat_merge.proofs.sealing.sealed.Goals as goal

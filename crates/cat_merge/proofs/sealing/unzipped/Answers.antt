@@ -1,6 +1,6 @@
 use Rattle.std.proofs.Common.{◌+◌, ◌++◌, ◌∷◌, [], List, ℕ, length, append_assoc, sym, ap, ap₂, ◌∙◌}
 use Rattle.std.proofs.lemmas.List.{length_push}
-use Rattle.cat_codec.specs.Parts.{heads_in}
+use Rattle.cat_items.specs.file_parts.Parts.{heads_in}
 use Rattle.cat_model.specs.Layout.{Head}
 use Rattle.cat_model.specs.Text.{Text}
 use Rattle.cat_merge.proofs.Sealed.{heads_push}

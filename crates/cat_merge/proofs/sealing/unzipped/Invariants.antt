@@ -1,5 +1,5 @@
 use Rattle.std.proofs.Common.{◌≡◌, ◌++◌, length}
-use Rattle.cat_codec.specs.Parts.{heads_in}
+use Rattle.cat_items.specs.file_parts.Parts.{heads_in}
 use Rattle.cat_merge.proofs.sealing.unzipped.Given as goal
 
 abbrev pub invariant-loop-row : goal.invariant-loop-row

@@ -1,6 +1,6 @@
 use Rattle.std.proofs.Common.{length, ap, ap₂, sym, ◌∙◌}
 use Rattle.std.proofs.lemmas.List.{length-map}
-use Rattle.cat_inverted.proofs.Told.{posted_is}
+use Rattle.cat_columns.proofs.inverted.Told.{posted_is}
 use Rattle.cat_model.specs.Layout.{Laid, paired_postings}
 use Rattle.cat_model.specs.Ordinals.{dictionary_of, postings_of}
 use Rattle.cat_merge.proofs.Cuts.{length-pieces}

@@ -1,6 +1,6 @@
 use Rattle.std.proofs.Common.{length}
 use Rattle.cat_model.specs.Reader.{meaning}
-use Rattle.cat_schema.specs.Kinds.{field_kind_of}
+use Rattle.cat_segment.specs.cat_items.Kinds.{field_kind_of}
 use Rattle.cat_query.specs.Reading.{asks_of}
 use Rattle.cat_query.proofs.ValueSteps.{no_colon}
 use Rattle.cat_query.proofs.Meanings.{judged_is, no_kind, no_colon_behind, no_value, no_meaning, term_read}

@@ -2,7 +2,7 @@ use Rattle.std.proofs.Common.{◌<◌, [], ◌∷◌, ◌∙◌, map, drop, sym,
 use Rattle.std.specs.Prelude.{option_map}
 use Rattle.std.proofs.lemmas.Str.{IsUtf8-drop}
 use Rattle.cat_model.specs.Words.{lowered, runs}
-use Rattle.cat_schema.proofs.RunSteps.{front_of, boundary_after_run, boundary_after_skip, words_more}
+use Rattle.cat_segment.proofs.items_laws.RunSteps.{front_of, boundary_after_run, boundary_after_skip, words_more}
 use Rattle.cat_query.proofs.OneWord.{agreed_only, first_run, same_run, other_run, nothing_left}
 use Rattle.cat_query.proofs.runs.only_run.Goals as goal
 

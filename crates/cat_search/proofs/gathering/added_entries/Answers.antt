@@ -6,7 +6,7 @@ use Rattle.cat_search.specs.Candidates.{mark_standing}
 use Rattle.cat_search.specs.Hits.{rows_of}
 use Rattle.cat_search.specs.Pages.{behind}
 use Rattle.cat_search.specs.Rows.{hits_in, row_standing}
-use Rattle.cat_search.specs.Sets.{set_at}
+use Rattle.cat_views.specs.Sets.{set_at}
 use Rattle.cat_search.specs.Standings.{Standing, entry_shown}
 use Rattle.cat_search.proofs.Gathered.{looked_at, total_more, standings_more}
 use Rattle.cat_search.proofs.gathering.added_entries.Goals as goal

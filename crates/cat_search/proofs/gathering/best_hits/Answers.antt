@@ -6,7 +6,7 @@ use Rattle.cat_query.specs.View.{query_of}
 use Rattle.cat_search.specs.Candidates.{IsBestAt, mark_standing}
 use Rattle.cat_search.specs.Pages.{behind}
 use Rattle.cat_search.specs.Rows.{hits_in, row_standing}
-use Rattle.cat_search.specs.Sets.{set_at}
+use Rattle.cat_views.specs.Sets.{set_at}
 use Rattle.cat_search.specs.Standings.{standing_before}
 use Rattle.cat_search.proofs.Candidates.{best_standings}
 use Rattle.cat_search.proofs.Gathered.{looked_at, total_more, standings_more}

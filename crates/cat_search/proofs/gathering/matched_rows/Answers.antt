@@ -3,7 +3,7 @@ use Rattle.std.proofs.lemmas.List.{length-map}
 use Rattle.cat_model.specs.RowSets.{joined, both}
 use Rattle.cat_model.specs.View.{selected, row_matches}
 use Rattle.cat_query.specs.View.{query_of}
-use Rattle.cat_search.proofs.Selected.{selected-joined, length-joined}
+use Rattle.cat_views.proofs.Selected.{selected-joined, length-joined}
 use Rattle.cat_search.proofs.gathering.matched_rows.Goals as goal
 
 pub returns-clause-ok : goal.returns-clause-ok

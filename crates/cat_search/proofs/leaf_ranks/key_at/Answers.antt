@@ -1,6 +1,6 @@
 use Rattle.std.proofs.Common.{◌∙◌, sym, ap, inl, inr, slice_get}
 use Rattle.cat_model.specs.Page.{key_in}
-use Rattle.cat_segment.specs.Contents.{contents_of}
+use Rattle.cat_views.specs.cat_segment.Contents.{contents_of}
 use Rattle.cat_search.proofs.Ranks.{no_key_in_words, no_key_in_labels}
 use Rattle.cat_search.proofs.leaf_ranks.key_at.Goals as goal
 

@@ -1,8 +1,8 @@
 use Rattle.std.proofs.Common.{◌≡◌, ◌+◌, ◌-◌, ◌/◌, ◌<◌, suc, drop, arith, subst}
 use Rattle.std.specs.List.{AllByRecursion}
 use Rattle.cat_model.proofs.Places.{each_pair}
-use Rattle.cat_search.proofs.RowSearch.{segments_below, segments_above, found_in}
-use Rattle.cat_search.specs.Rows.{all_rows}
+use Rattle.cat_views.proofs.RowSearch.{segments_below, segments_above, found_in}
+use Rattle.cat_views.specs.Rows.{all_rows}
 use Rattle.cat_search.proofs.mark_rows.leaf_of.Goals as goal
 
 pub loop-high-preserved-then-first_number-number : goal.loop-high-preserved-then-first_number-number

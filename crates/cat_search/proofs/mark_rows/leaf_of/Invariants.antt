@@ -1,6 +1,6 @@
 use Rattle.std.proofs.Common.{◌-◌, ◌<◌, ◌≤◌, length, take, drop}
 use Rattle.std.specs.List.{AllByRecursion}
-use Rattle.cat_search.specs.Rows.{all_rows}
+use Rattle.cat_views.specs.Rows.{all_rows}
 use Rattle.cat_search.proofs.mark_rows.leaf_of.Given as goal
 
 abbrev pub invariant-loop-high : goal.invariant-loop-high

@@ -1,7 +1,7 @@
 use Rattle.std.proofs.Common.{◌∙◌, sym}
 use Rattle.std.specs.List.{flat_map}
 use Rattle.cat_model.specs.View.{live_rows}
-use Rattle.cat_search.proofs.RowSearch.{not_there, is_live, is_dead}
+use Rattle.cat_views.proofs.RowSearch.{not_there, is_live, is_dead}
 use Rattle.cat_search.proofs.mark_rows.live_row.Goals as goal
 
 pub returns-in_err-row : goal.returns-in_err-row

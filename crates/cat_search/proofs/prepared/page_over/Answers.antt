@@ -6,7 +6,7 @@ use Rattle.cat_query.specs.View.{query_of}
 use Rattle.cat_search.specs.Candidates.{mark_standing}
 use Rattle.cat_search.specs.Pages.{answer_where}
 use Rattle.cat_search.specs.Rows.{bare_record}
-use Rattle.cat_search.specs.Sets.{AreSets}
+use Rattle.cat_views.specs.Sets.{AreSets}
 use Rattle.cat_search.specs.Sorts.{IsOrderOf, sort_of}
 use Rattle.cat_search.proofs.ViewPages.{live_rise, page_answered}
 use Rattle.cat_search.proofs.prepared.page_over.Goals as goal

@@ -1,6 +1,6 @@
 use Rattle.std.proofs.Common.{◌≡◌, ◌∙◌, ap, sym, refl, inl, inr, Some, true, false}
 use Rattle.cat_model.specs.Answer.{is_sort_kind}
-use Rattle.cat_schema.specs.Kinds.{field_kind_of}
+use Rattle.cat_query.specs.cat_items.Kinds.{field_kind_of}
 use Rattle.cat_search.proofs.Fields.{named_field, no_field}
 use Rattle.cat_search.proofs.sort.order_field.Goals as goal
 

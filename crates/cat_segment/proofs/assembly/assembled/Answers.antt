@@ -5,7 +5,7 @@ use Rattle.std.proofs.lemmas.Bool.{true≢false}
 use Rattle.std.proofs.lemmas.Result.{err_from_is_err_and, IfErr-at_err, IfOk-at_ok}
 use Rattle.cat_base.specs.declared.refusal.Refusal.{Refusal}
 use Rattle.cat_base.specs.declared.refusal.Refusal.TheVariants.{Damaged, Memory}
-use Rattle.cat_codec.specs.Parts.{heads_in, column_in}
+use Rattle.cat_items.specs.file_parts.Parts.{heads_in, column_in}
 use Rattle.cat_model.specs.Layout.{layout_of}
 use Rattle.cat_model.specs.View.{IsSegment}
 use Rattle.cat_segment.proofs.Assembled.{IsBody-read, IsSegment-read, layout_read}

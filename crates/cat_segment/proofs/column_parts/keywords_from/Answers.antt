@@ -1,6 +1,6 @@
 use Rattle.std.proofs.Common.{List, Option, map, sym, subst}
 use Rattle.std.proofs.lemmas.Result.{err_from_is_err_and}
-use Rattle.cat_codec.specs.declared.parts.ColumnParts.TheVariants as parts
+use Rattle.cat_items.specs.declared.file_parts.parts.ColumnParts.TheVariants as parts
 use Rattle.cat_model.specs.Item.{Content}
 use Rattle.cat_model.specs.Text.{Text}
 use Rattle.cat_segment.proofs.Columned.{keywords_read}

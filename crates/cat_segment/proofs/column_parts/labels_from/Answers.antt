@@ -1,7 +1,7 @@
 use Rattle.std.proofs.Common.{List, map, sym, subst, arith}
 use Rattle.std.proofs.lemmas.Result.{err_from_is_err_and}
-use Rattle.cat_codec.proofs.Pieces.{length-pieces}
-use Rattle.cat_codec.specs.declared.parts.ColumnParts.TheVariants as parts
+use Rattle.cat_items.proofs.file_parts.Pieces.{length-pieces}
+use Rattle.cat_items.specs.declared.file_parts.parts.ColumnParts.TheVariants as parts
 use Rattle.cat_model.specs.Item.{Content}
 use Rattle.cat_model.specs.Text.{Text}
 use Rattle.cat_model.specs.Layout.{pieces}

@@ -3,7 +3,7 @@ use Rattle.cat_model.specs.Item.{Content}
 use Rattle.cat_segment.proofs.Columned.{numbers_read}
 use Rattle.cat_segment.specs.Parts.{IsColumnOf}
 use Rattle.cat_segment.specs.declared.column.Column.TheVariants.{Number}
-use Rattle.cat_codec.specs.declared.parts.ColumnParts.TheVariants as parts
+use Rattle.cat_items.specs.declared.file_parts.parts.ColumnParts.TheVariants as parts
 use Rattle.cat_segment.proofs.column_parts.numbers_from.Goals as goal
 
 pub returns-clause-ok : goal.returns-clause-ok

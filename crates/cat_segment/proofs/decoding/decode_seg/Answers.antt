@@ -1,7 +1,7 @@
 use Rattle.std.proofs.Common.{◌≡◌, sym, ap, ◌∙◌, subst}
 use Rattle.std.proofs.lemmas.Result.{err_from_is_err_and, IfOk-weaker, MatchResult-weaker}
-use Rattle.cat_codec.proofs.Segments.{told_by_bytes}
-use Rattle.cat_codec.specs.Parts.{layout_in}
+use Rattle.cat_items.proofs.file_parts.Segments.{told_by_bytes}
+use Rattle.cat_items.specs.file_parts.Parts.{layout_in}
 use Rattle.cat_model.specs.Files.{IsFileNumber}
 use Rattle.cat_model.specs.Layout.{layout_of, spelled_layout, SpellsSegment}
 use Rattle.cat_model.specs.View.{IsSegment}

@@ -1,7 +1,7 @@
 use Rattle.std.proofs.Common.{sym, ◌∙◌}
 use Rattle.cat_model.specs.Layout.{layout_of}
-use Rattle.cat_inverted.proofs.Told.{told as told_terms}
-use Rattle.cat_values.proofs.Told.{same_keywords, same_labels}
+use Rattle.cat_columns.proofs.inverted.Told.{told as told_terms}
+use Rattle.cat_columns.proofs.Told.{same_keywords, same_labels}
 use Rattle.cat_segment.proofs.Layouts.{AreTold, IsLayout-of, segment_told}
 use Rattle.cat_segment.proofs.decoding.segments_are_told_by_their_bytes.Goals as goal
 

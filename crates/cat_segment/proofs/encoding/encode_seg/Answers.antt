@@ -1,7 +1,7 @@
 use Rattle.std.proofs.Common.{◌≡◌, ◌++◌, length, map, ap, sym, ◌∙◌}
 use Rattle.std.specs.List.{flat_map}
 use Rattle.std.proofs.lemmas.List.{length-map}
-use Rattle.cat_codec.specs.Parts.{spelled_start}
+use Rattle.cat_items.specs.file_parts.Parts.{spelled_start}
 use Rattle.cat_model.specs.Layout.{column_of, head_of, spelled_fields, spelled_head, spelled_column, spelled_segment}
 use Rattle.cat_segment.proofs.Spelled.{put_whole}
 use Rattle.cat_segment.proofs.encoding.encode_seg.Goals as goal

@@ -1,8 +1,8 @@
 use Rattle.std.proofs.Common.{sym, ap, ◌∙◌}
 use Rattle.std.specs.Prelude.{slice_get}
 use Rattle.std.proofs.lemmas.Option.{slice_get-map}
-use Rattle.cat_schema.specs.Contents.{field_content_of}
-use Rattle.cat_schema.proofs.Contents.{content-got}
+use Rattle.cat_items.specs.Contents.{field_content_of}
+use Rattle.cat_items.proofs.Contents.{content-got}
 use Rattle.cat_segment.proofs.Filled.{formed_in}
 use Rattle.cat_segment.proofs.field_values.value_at.Goals as goal
 

@@ -2,7 +2,7 @@ use Rattle.std.proofs.Common.{◌≡◌, sym, ◌∙◌, subst, refl, true, fals
 use Rattle.std.specs.Prelude.{Some, None}
 use Rattle.std.proofs.lemmas.Result.{err_from_is_err_and}
 use Rattle.cat_model.specs.CommitFile.{CommitFile, SpellsCommit}
-use Rattle.cat_codec.proofs.Numbers.{some_is}
+use Rattle.cat_items.proofs.file_parts.Numbers.{some_is}
 use Rattle.cat_commits.specs.Listings.{Differ}
 use Rattle.cat_commits.specs.Judged.{Tells}
 use Rattle.cat_commits.proofs.Listings.{differ_from}

@@ -6,8 +6,8 @@ use Rattle.cat_base.specs.Texts.{IsTextSet}
 use Rattle.cat_base.specs.declared.refusal.Refusal.TheVariants.{Count}
 use Rattle.cat_model.specs.Text.{Text}
 use Rattle.cat_model.specs.View.{Leaf, segments_of}
-use Rattle.cat_query.specs.View.{query_of}
-use Rattle.cat_values.proofs.Ordinals.{dictionary_rises}
+use Rattle.cat_search.specs.cat_query.View.{query_of}
+use Rattle.cat_search.proofs.columns_laws.Ordinals.{dictionary_rises}
 use Rattle.cat_model.specs.GlobalOrdinals.{leaf_dictionary}
 use Rattle.cat_facets.specs.declared.segments.SegmentLabels.{SegmentLabels}
 use Rattle.cat_facets.specs.States.{ReaderState, answer_over, as_leaves, union_in, AreKnown, IsKept, IsState}

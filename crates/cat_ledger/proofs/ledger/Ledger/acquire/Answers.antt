@@ -3,8 +3,8 @@ use Rattle.cat_ledger.proofs.Lasting.{held_carried, kept_still, same_needs}
 use Rattle.cat_ledger.proofs.Made.{asked_is, asked_nowhere}
 use Rattle.cat_ledger.specs.Grants.{IsAsked}
 use Rattle.cat_ledger.proofs.Histories.{memory_goes, nothing_goes}
-use Rattle.cat_ledger_shape.specs.Shapes.{Shape}
-use Rattle.cat_ledger_shape.specs.Steps.{newest_generation}
+use Rattle.cat_ledger_laws.specs.shape.Shapes.{Shape}
+use Rattle.cat_ledger_laws.specs.shape.Steps.{newest_generation}
 use Rattle.cat_ledger.proofs.ledger.Ledger.acquire.Goals as goal
 
 pub invariant_of-self-2 : goal.invariant_of-self-2

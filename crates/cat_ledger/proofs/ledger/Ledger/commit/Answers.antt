@@ -3,11 +3,11 @@ use Rattle.cat_ledger.proofs.Lasting.{call_keeps, lets_left}
 use Rattle.cat_ledger.proofs.Made.{untouched}
 use Rattle.cat_ledger.proofs.Results.{on_ok, one_way}
 use Rattle.cat_ledger.specs.Lasting.{IsLasting}
-use Rattle.cat_ledger_model.specs.Replies.{IsLeft}
-use Rattle.cat_ledger_shape.specs.Ties.{Makes}
+use Rattle.cat_ledger_laws.specs.model.Replies.{IsLeft}
+use Rattle.cat_ledger_laws.specs.shape.Ties.{Makes}
 use Rattle.cat_ledger.proofs.Histories.{answered_goes, if_answered, nothing_goes, on_err, refused_goes}
 use Rattle.cat_ledger.specs.Histories.{Event, Goes}
-use Rattle.cat_ledger_shape.specs.Steps.{newest_generation}
+use Rattle.cat_ledger_laws.specs.shape.Steps.{newest_generation}
 use Rattle.cat_ledger.proofs.ledger.Ledger.commit.Goals as goal
 
 pub returns-in-Err-clause-err : goal.returns-in-Err-clause-err

@@ -1,12 +1,12 @@
 use Rattle.std.proofs.Common.{◌≡◌, arith, ap}
 use Rattle.cat_ledger.proofs.Lasting.{memory_keeps, same_needs}
 use Rattle.cat_ledger.proofs.Made.{written}
-use Rattle.cat_ledger_model.specs.Calls.{wrote}
+use Rattle.cat_ledger_laws.specs.model.Calls.{wrote}
 use Rattle.cat_model.specs.Write.{Write}
-use Rattle.cat_query.specs.View.{query_of}
+use Rattle.cat_ledger_state.specs.cat_query.View.{query_of}
 use Rattle.cat_ledger.proofs.Histories.{memory_goes, nothing_goes}
-use Rattle.cat_ledger_shape.specs.Shapes.{Shape}
-use Rattle.cat_ledger_shape.specs.Steps.{newest_generation}
+use Rattle.cat_ledger_laws.specs.shape.Shapes.{Shape}
+use Rattle.cat_ledger_laws.specs.shape.Steps.{newest_generation}
 use Rattle.cat_ledger.proofs.ledger.Ledger.delete_where.Goals as goal
 
 pub invariant_of-self-2 : goal.invariant_of-self-2

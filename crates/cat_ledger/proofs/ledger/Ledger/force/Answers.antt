@@ -1,7 +1,7 @@
 use Rattle.cat_model.specs.Run.{Chore}
-use Rattle.cat_ledger_model.specs.Replies.{IsLeft, Maintains}
-use Rattle.cat_ledger_shape.specs.Ties.{Makes}
-use Rattle.cat_upkeep.specs.News.{news_of}
+use Rattle.cat_ledger_laws.specs.model.Replies.{IsLeft, Maintains}
+use Rattle.cat_ledger_laws.specs.shape.Ties.{Makes}
+use Rattle.cat_ledger.specs.upkeep.News.{news_of}
 use Rattle.cat_ledger.proofs.Lasting.{call_keeps, lets_left, lets_maintain}
 use Rattle.cat_ledger.proofs.Results.{either_way, if_ok}
 use Rattle.cat_ledger.specs.Lasting.{IsLasting}

@@ -1,10 +1,10 @@
 use Rattle.std.proofs.Common.{refl, ap}
 use Rattle.cat_ledger.proofs.Lasting.{memory_keeps, same_needs}
-use Rattle.cat_ledger_model.specs.Calls.{Pruned}
-use Rattle.cat_ledger_shape.proofs.Views.{prunes_make}
+use Rattle.cat_ledger_laws.specs.model.Calls.{Pruned}
+use Rattle.cat_ledger_laws.proofs.shape.Views.{prunes_make}
 use Rattle.cat_ledger.proofs.Histories.{memory_goes}
-use Rattle.cat_ledger_shape.specs.Shapes.{Shape}
-use Rattle.cat_ledger_shape.specs.Steps.{newest_generation}
+use Rattle.cat_ledger_laws.specs.shape.Shapes.{Shape}
+use Rattle.cat_ledger_laws.specs.shape.Steps.{newest_generation}
 use Rattle.cat_ledger.proofs.ledger.Ledger.prune.Goals as goal
 
 pub invariant_of-self-2 : goal.invariant_of-self-2

@@ -1,9 +1,9 @@
 use Rattle.std.proofs.Common.{arith, subst, sym}
 use Rattle.cat_ledger.proofs.Lasting.{call_keeps, lets_left, lets_put}
 use Rattle.cat_ledger.proofs.Made.{room_left, untouched, written}
-use Rattle.cat_ledger_lines.proofs.JoinedCalls.{puts_make}
-use Rattle.cat_ledger_lines.specs.LineLaws.{Puts}
-use Rattle.cat_ledger_model.specs.Replies.{IsLeft}
+use Rattle.cat_ledger_laws.proofs.lines.JoinedCalls.{puts_make}
+use Rattle.cat_ledger_laws.specs.lines.LineLaws.{Puts}
+use Rattle.cat_ledger_laws.specs.model.Replies.{IsLeft}
 use Rattle.cat_model.specs.Item.{IsItem}
 use Rattle.cat_model.specs.Write.{Write}
 use Rattle.cat_ledger.proofs.Histories.{call_goes, nothing_goes, or_gone}

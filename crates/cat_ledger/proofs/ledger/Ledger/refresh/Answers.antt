@@ -1,6 +1,6 @@
 use Rattle.std.proofs.Common.{sym}
-use Rattle.cat_ledger_lines.specs.LineLaws.{Refreshes}
-use Rattle.cat_ledger_model.specs.Replies.{IsLeft}
+use Rattle.cat_ledger_laws.specs.lines.LineLaws.{Refreshes}
+use Rattle.cat_ledger_laws.specs.model.Replies.{IsLeft}
 use Rattle.cat_ledger.proofs.Lasting.{call_keeps, lets_left, lets_refresh}
 use Rattle.cat_ledger.proofs.Made.{untouched}
 use Rattle.cat_ledger.proofs.Histories.{call_goes, nothing_goes, or_gone}

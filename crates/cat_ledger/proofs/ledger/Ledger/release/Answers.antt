@@ -1,8 +1,8 @@
 use Rattle.std.proofs.Common.{sym, ap}
 use Rattle.cat_ledger.proofs.Lasting.{kept_still, let_go_carried, same_needs}
 use Rattle.cat_ledger.proofs.Histories.{memory_goes}
-use Rattle.cat_ledger_shape.specs.Shapes.{Shape}
-use Rattle.cat_ledger_shape.specs.Steps.{newest_generation}
+use Rattle.cat_ledger_laws.specs.shape.Shapes.{Shape}
+use Rattle.cat_ledger_laws.specs.shape.Steps.{newest_generation}
 use Rattle.cat_ledger.proofs.ledger.Ledger.release.Goals as goal
 
 pub invariant_of-self : goal.invariant_of-self

@@ -1,10 +1,10 @@
 use Rattle.std.proofs.Common.{[]}
 use Rattle.cat_ledger.proofs.Lasting.{sweep_keeps}
-use Rattle.cat_ledger_shape.proofs.Writes.{sweeps_make}
+use Rattle.cat_ledger_laws.proofs.shape.Writes.{sweeps_make}
 use Rattle.cat_ledger.proofs.Histories.{call_goes}
 use Rattle.cat_ledger.proofs.Lasting.{lets_sweep}
 use Rattle.cat_directory.specs.declared.name.FileName.TheVariants as file
-use Rattle.cat_ledger_model.specs.Calls.{MayLeave}
+use Rattle.cat_ledger_laws.specs.model.Calls.{MayLeave}
 use Rattle.cat_ledger.proofs.ledger.Ledger.sweep.Goals as goal
 
 pub invariant_of-self : goal.invariant_of-self

@@ -1,11 +1,11 @@
 use Rattle.std.proofs.Common.{◌∙◌, refl, ap}
 use Rattle.cat_ledger.proofs.Lasting.{memory_keeps, newest_stays, same_needs}
-use Rattle.cat_ledger_model.specs.Calls.{Unsnapped}
-use Rattle.cat_ledger_shape.proofs.Committed.{unsnaps_make}
+use Rattle.cat_ledger_laws.specs.model.Calls.{Unsnapped}
+use Rattle.cat_ledger_laws.proofs.shape.Committed.{unsnaps_make}
 use Rattle.cat_ledger.proofs.Histories.{memory_goes}
 use Rattle.cat_ledger.proofs.Lasting.{newest_same}
-use Rattle.cat_ledger_shape.specs.Shapes.{Shape}
-use Rattle.cat_ledger_shape.specs.Steps.{newest_generation}
+use Rattle.cat_ledger_laws.specs.shape.Shapes.{Shape}
+use Rattle.cat_ledger_laws.specs.shape.Steps.{newest_generation}
 use Rattle.cat_ledger.proofs.ledger.Ledger.unsnapshot.Goals as goal
 
 pub invariant_of-self-2 : goal.invariant_of-self-2

@@ -1,7 +1,7 @@
 use Rattle.std.proofs.Common.{◌≡◌, subst, ap, ◌∙◌}
 use Rattle.std.specs.List.{HoldsAt}
 use Rattle.cat_model.specs.View.{IsSegment}
-use Rattle.cat_segment.specs.Contents.{contents_told, contents_under_name}
+use Rattle.cat_views.specs.cat_segment.Contents.{contents_told, contents_under_name}
 use Rattle.cat_merge.proofs.Read.{told_contents}
 use Rattle.cat_merge.proofs.input.Input.column.Goals as goal
 

@@ -3,8 +3,8 @@ use Rattle.std.specs.Prelude.{None}
 use Rattle.cat_model.specs.Answer.{Read}
 use Rattle.cat_model.specs.Heard.{id_of}
 use Rattle.cat_model.specs.Run.{Command}
-use Rattle.cat_schema.specs.Reading.{item_of}
-use Rattle.cat_lines.specs.Line.{sort_said}
+use Rattle.cat_items.specs.Reading.{item_of}
+use Rattle.cat_protocol.specs.lines.Line.{sort_said}
 use Rattle.cat_plain.specs.Exchange.{find_of}
 use Rattle.cat_plain.specs.Line.{plain_of}
 use Rattle.cat_plain.proofs.Finds.{asks_so}

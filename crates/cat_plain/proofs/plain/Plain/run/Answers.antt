@@ -1,8 +1,8 @@
 use Rattle.std.proofs.Common.{◌++◌, [], ◌∷◌, map, get_or, ap, sym, ◌∙◌, refl, subst, arith}
 use Rattle.std.proofs.lemmas.List.{take_all}
 use Rattle.cat_model.specs.Run.{Exchange}
-use Rattle.cat_lines.specs.declared.line.Line.{Line}
-use Rattle.cat_lines.specs.declared.command.Command.TheVariants.{NoForm}
+use Rattle.cat_protocol.specs.declared.lines.line.Line.{Line}
+use Rattle.cat_protocol.specs.declared.lines.command.Command.TheVariants.{NoForm}
 use Rattle.cat_plain.specs.Exchange.{AreExchanges}
 use Rattle.cat_plain.specs.Reply.{reply_of}
 use Rattle.cat_plain.specs.Plain.{beginning_of}

@@ -1,5 +1,5 @@
 use Rattle.std.proofs.Common.{◌∙◌, sym, ap}
-use Rattle.cat_segment.specs.declared.column.Column.TheVariants as columns
+use Rattle.cat_views.specs.cat_segment.declared.column.Column.TheVariants as columns
 use Rattle.cat_search.proofs.Bars.{numbers_ranked}
 use Rattle.cat_search.proofs.leaf_ranks.LeafRanks.numbers.Goals as goal
 

@@ -1,7 +1,7 @@
 use Rattle.std.proofs.Common.{◌≡◌, ◌<◌, ◌∙◌, IfSome, get_or, length, map, subst, sym, ap}
 use Rattle.cat_model.specs.View.{row_matches}
 use Rattle.cat_query.specs.View.{query_of}
-use Rattle.cat_search.specs.Sets.{AreSets, set_at}
+use Rattle.cat_views.specs.Sets.{AreSets, set_at}
 use Rattle.cat_search.proofs.Gathered.{looked_at}
 use Rattle.cat_search.proofs.prepared.Prepared.hits.Goals as goal
 

@@ -1,9 +1,0 @@
-//! Tests of what every crate shares: texts and sets of texts, numbers as bytes, and refusals.
-#![tactic(auto)]
-
-#[cfg(test)]
-mod bytes;
-#[cfg(test)]
-mod refusals;
-#[cfg(test)]
-mod texts;

@@ -1,0 +1,1 @@
+pub use Rattle.cat_views.proofs as views_laws

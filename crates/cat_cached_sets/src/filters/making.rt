@@ -1,0 +1,67 @@
+//! Sets in the making: which is begun next, and one step of it.
+ghost use Rattle.std.specs.Prelude.{◌≡◌, find, map, option_map, IfOk, OnErr};
+ghost use Rattle.cat_query.specs.View.{query_of};
+ghost use Rattle.cat_cached_sets.specs.filters.Filters.{begun, is_missing, pairs};
+ghost use Rattle.cat_cached_sets.specs.filters.Steps.{IsMade, IsMadeInPart};
+ghost use Rattle.cat_model.specs.View.{segments_of};
+
+use crate::cache::{FilterCache, Key, Warm, Warming};
+use cat_query::Query;
+use cat_views::Leaf;
+use std::alloc::{AllocError, Global};
+use std::sync::Arc;
+
+/// The first of the leaves for whose segment no set of the key's query stands. The key may name any segment afterwards.
+fn first_without<'a>(cache: &FilterCache, key: &mut Key, leaves: &'a [Leaf]) -> Option<&'a Leaf>
+    ensures query { query_of key.new.query ≡ query_of key.old.query }
+    ensures first { option_map (λ l. l.now.segment) result
+        ≡ find (λ s. is_missing cache.now (query_of key.old.query, s)) (segments_of leaves.now) }
+{
+    for leaf in leaves {
+        key.segment = leaf.segment().number();
+        if !cache.has(key) {
+            return Some(leaf);
+        }
+    }
+    None
+}
+
+/// The set that is begun next, if one is missing.
+pub(crate) fn next_begun(
+    cache: &FilterCache,
+    noted: &[Query],
+    leaves: &[Leaf],
+) -> Result<Option<Warm>, AllocError>
+    ensures { IfOk result (λ w. w ≡ option_map begun (find (is_missing cache.now) (pairs (map query_of noted.now) (segments_of leaves.now)))) }
+{
+    for query in noted {
+        let mut key = Key {
+            segment: 0,
+            query: query.copy()?,
+        };
+        if let Some(leaf) = first_without(cache, &mut key, leaves) {
+            let segment = leaf.share_segment()?;
+            return Ok(Some(Warm::begin(segment, key.query)));
+        }
+    }
+    Ok(None)
+}
+
+/// One step of the set in the making: how many of its rows are passed in all, or none once it is stored. An error leaves it as
+/// it was, or with all of its rows passed.
+pub(crate) fn pass_on(
+    alloc: Global,
+    cache: &mut FilterCache,
+    warm: &mut Warm,
+) -> Result<Option<usize>, AllocError>
+    ensures ok { IfOk result (IsMade cache.old warm.old cache.new warm.new) }
+    ensures err { OnErr result (IsMadeInPart cache.old warm.old cache.new warm.new) }
+{
+    let set = match warm.step(alloc)? {
+        Warming::Passed(rows) => return Ok(Some(rows)),
+        Warming::Made(set) => set,
+    };
+    let key = warm.key().copy()?;
+    cache.store(key, Arc::new(alloc, set)?)?;
+    Ok(None)
+}

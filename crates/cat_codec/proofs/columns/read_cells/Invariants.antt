@@ -1,7 +1,0 @@
-use Rattle.std.proofs.Common.{◌≡◌, ◌-◌}
-use Rattle.cat_codec.specs.Layouts.{cell_at}
-use Rattle.cat_codec.specs.Reading.{many_at, with_front}
-use Rattle.cat_codec.proofs.columns.read_cells.Given as goal
-
-abbrev pub invariant-loop : goal.invariant-loop
-invariant-loop l = with_front l.out.items (many_at cell_at (l.count - l.counter) l.cursor) ≡ many_at cell_at l.count l.fn.cursor

@@ -1,6 +1,0 @@
-use Rattle.std.proofs.Common.{◌≡◌, ◌-◌}
-use Rattle.cat_codec.specs.Reading.{u32_at, many_at, with_front}
-use Rattle.cat_codec.proofs.lists.read_onto.Given as goal
-
-abbrev pub invariant-loop : goal.invariant-loop
-invariant-loop l = with_front l.out.items (many_at u32_at (l.count - l.counter) l.cursor) ≡ with_front l.fn.out.items (many_at u32_at l.count l.fn.cursor)

@@ -1,7 +1,0 @@
-use Rattle.std.proofs.Common.{◌≡◌, ◌-◌}
-use Rattle.cat_codec.specs.Reading.{many_at, rest_of}
-use Rattle.cat_codec.specs.Layouts.{list_at}
-use Rattle.cat_codec.proofs.passing.pass_lists.Given as goal
-
-abbrev pub invariant-loop : goal.invariant-loop
-invariant-loop l = rest_of (many_at list_at (l.count - l.counter) l.cursor) ≡ rest_of (many_at list_at l.count l.fn.cursor)

@@ -1,5 +1,0 @@
-use Rattle.cat_codec.proofs.Segments.{told_by_bytes}
-use Rattle.cat_codec.proofs.reading.layouts_are_told_by_their_bytes.Goals as goal
-
-pub returns : goal.returns
-returns c = told_by_bytes

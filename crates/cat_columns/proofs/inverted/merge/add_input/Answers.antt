@@ -1,0 +1,41 @@
+use Rattle.std.proofs.Common.{ℕ, ◌<◌, List, length, get_or, map, ap, sym, ◌∙◌, ◌++◌, subst, arith, if◌then◌else◌, []}
+use Rattle.smallvec.specs.SmallVec.{SmallVec}
+use Rattle.std.proofs.lemmas.List.{length-set, length-map, take_all}
+use Rattle.std.specs.List.{list_any}
+use Rattle.cat_base.specs.Texts.{IsTextSet}
+use Rattle.cat_model.specs.Text.{Text, same_text}
+use Rattle.cat_model.specs.Ordinals.{dictionary_of, text_at, postings_of}
+use Rattle.cat_columns.specs.Merged.{moved}
+use Rattle.cat_columns.specs.inverted.Gathered.{list_at}
+use Rattle.cat_columns.proofs.inverted.Merging.{part_more, part_whole}
+use Rattle.cat_columns.proofs.inverted.merge.add_input.Goals as goal
+
+pub loop-word-preserved : goal.loop-word-preserved
+loop-word-preserved c =
+    let words = c.args.words.now in
+    let texts = c.args.input.now.terms.now in
+    let codes = c.args.input.now.row_map.now in
+    let ordinals = c.deref-ordinal-items.result.now in
+    let j = c.loop-word.word in
+    let o = get_or ordinals j 0 in
+    let lists = c.loop-word.lists.items in
+    let rising = subst IsTextSet c.words.ensures.value c.words.ensures.sorted in
+    let same = ap (map (text_at words)) c.deref-ordinal-items.ensures.value ∙ c.in_ok-ordinals.ensures.texts ∙ c.words.ensures.value in
+    let within : o < length words = subst (λ (os : List ℕ). get_or os j 0 < length words) (sym c.deref-ordinal-items.ensures.value) (c.in_ok-ordinals.ensures.bound j 0 (omega (arith, c.loop-word-test.true, ap length c.deref-ordinal-items.ensures.value))) in
+    let added = c.in_ok-add_moved.ensures.ok ∙ ap (λ (rows : List ℕ). c.index_mut-list.result.now.items ++ moved codes rows) c.postings_at.ensures.value in
+    record {
+      count = length-set lists o c.add_moved.new.list ∙ c.loop-word.invariant.count;
+      lists = λ q lt. part_more words texts codes ordinals c.requires.sorted rising same (λ (v : SmallVec ℕ). v.items) lists (list_at c.args.lists.now) j c.add_moved.new.list c.index_mut-list.result.now c.loop-word-test.true within (c.loop-word.invariant.count ∙ c.requires.count) c.index_mut-list.ensures.value added q lt (c.loop-word.invariant.lists q lt);
+    }
+
+pub returns-clause-lists : goal.returns-clause-lists
+returns-clause-lists c = λ q lt.
+    let words = c.args.words.now in
+    let texts = c.args.input.now.terms.now in
+    let ordinals = c.deref-ordinal-items.result.now in
+    let rising = subst IsTextSet c.words.ensures.value c.words.ensures.sorted in
+    let same = ap (map (text_at words)) c.deref-ordinal-items.ensures.value ∙ c.in_ok-ordinals.ensures.texts ∙ c.words.ensures.value in
+    let long = sym (length-map ordinals (text_at words)) ∙ ap length same in
+    c.loop-word.invariant.lists q lt
+    ∙ ap (λ (ws : List Text). list_at c.args.lists.now q ++ (if list_any (same_text (text_at words q)) ws then moved c.args.input.now.row_map.now (postings_of (text_at words q) texts) else [])) (take_all c.loop-word.word (dictionary_of texts) (omega (arith, c.loop-word-test.false, long)))
+    ∙ ap (λ (l : List ℕ). list_at c.args.lists.now q ++ l) (part_whole words texts c.args.input.now.row_map.now ordinals c.requires.sorted rising same (text_at words q))

@@ -1,0 +1,37 @@
+use Rattle.std.proofs.Common.{ap, sym, ◌∙◌, ◌++◌, subst, arith}
+use Rattle.std.proofs.lemmas.List.{take_all}
+use Rattle.std.specs.Prelude.{All, Contains}
+use Rattle.cat_base.specs.Texts.{IsTextSet}
+use Rattle.cat_model.specs.Ordinals.{dictionary_of, text_at, postings_of}
+use Rattle.cat_columns.specs.Merged.{moved}
+use Rattle.cat_columns.specs.inverted.Gathered.{list_at}
+use Rattle.cat_columns.specs.declared.inverted.merge.MergeInput as declared
+use Rattle.cat_columns.proofs.inverted.ByOrdinal.{none_listed}
+use Rattle.cat_columns.proofs.inverted.Merging.{gathered_more, all_more}
+use Rattle.cat_columns.proofs.inverted.merge.gathered.Goals as goal
+
+pub loop-input-init : goal.loop-input-init
+loop-input-init c = record {
+  count = c.in_ok-lists.ensures.count ∙ c.len.ensures;
+  lists = λ o lt. none_listed (λ list. list.items) c.in_ok-lists.lists.items c.in_ok-lists.ensures.empty o;
+  sets = λ k d lt. absurd (omega arith);
+}
+
+pub add_input-requires-clause-there : goal.add_input-requires-clause-there
+add_input-requires-clause-there c =
+    subst (λ (p : declared.MergeInput). All (Contains c.args.words.now) (dictionary_of p.terms.now)) (sym c.input-item.is) (c.requires.there c.loop-input.input-index c.input-item.result c.loop-input-test.true)
+
+pub loop-input-preserved : goal.loop-input-preserved
+loop-input-preserved c =
+    let inputs = c.args.inputs.now in
+    let i = c.loop-input.input-index in
+    let p = c.input-item.result in
+    record {
+      count = c.add_input.ensures.count ∙ c.loop-input.invariant.count;
+      lists = λ o lt. gathered_more (λ p. p.row_map.now) (λ p. p.terms.now) inputs i p c.loop-input-test.true c.requires.fits c.requires.numbered (text_at c.args.words.now o) _ _ (c.loop-input.invariant.lists o lt)
+          (c.in_ok-add_input.ensures.lists o lt ∙ ap (λ (q : declared.MergeInput). list_at c.loop-input.lists o ++ moved q.row_map.now (postings_of (text_at c.args.words.now o) q.terms.now)) c.input-item.is);
+      sets = all_more (λ p. All IsTextSet p.terms.now) inputs i p c.loop-input-test.true c.input-item.is c.loop-input.invariant.sets c.in_ok-add_input.ensures.sets;
+    }
+
+pub returns-clause-sets : goal.returns-clause-sets
+returns-clause-sets c = subst (All (λ (p : declared.MergeInput). All IsTextSet p.terms.now)) (take_all c.loop-input.input-index c.args.inputs.now c.loop-input-test.false) c.loop-input.invariant.sets

@@ -1,0 +1,66 @@
+use Rattle.std.proofs.Common.{ap, refl, sym}
+use Rattle.cat_model.specs.Run.{Chore, Command}
+use Rattle.cat_ledger.specs.Ledgers.{device_in, policy_in, shape_in}
+use Rattle.cat_ledger_laws.proofs.lines.RefusalAnswers.{foreign_chores_answer}
+use Rattle.cat_protocol.specs.replies.Reply.{reply_of}
+use Rattle.cat_commands.specs.ledger.Chores.{chore_of}
+use Rattle.cat_commands.proofs.ledger.Answered.{at_zero}
+use Rattle.cat_commands.proofs.ledger.Kept.{goes_same}
+use Rattle.cat_commands.proofs.ledger.chores.maintain.Goals as goal
+
+pub returns-then-session-ne0-clause-answers : goal.returns-then-session-ne0-clause-answers
+returns-then-session-ne0-clause-answers g c =
+    let ledger = c.args.ledger.now in
+    let told = g.D.Holder.bytes (device_in ledger) in
+    let s = shape_in ledger in (
+      Command.chore (chore_of c.args.chore),
+      refl,
+      foreign_chores_answer (policy_in ledger) told told s s c.args.session (chore_of c.args.chore) c.if-session-ne0.true (refl, λ q. refl),
+    )
+
+pub returns-in-Merge-clause-answers : goal.returns-in-Merge-clause-answers
+returns-in-Merge-clause-answers g c =
+    let old = c.args.ledger.now in
+    let new = c.merge.new.ledger in (
+      Command.chore Chore.merge,
+      ap (λ x. Command.chore (chore_of x)) (sym c.in-Merge.is),
+      at_zero (policy_in old) (g.D.Holder.bytes (device_in old)) (g.D.Holder.bytes (device_in new)) (shape_in old) (shape_in new) c.args.session
+          (Command.chore Chore.merge) (reply_of c.merge.result) c.if-session-ne0.false c.merge.ensures.answers,
+    )
+
+pub returns-in-Force-clause-answers : goal.returns-in-Force-clause-answers
+returns-in-Force-clause-answers g c =
+    let old = c.args.ledger.now in
+    let new = c.force.new.ledger in (
+      Command.chore Chore.force,
+      ap (λ x. Command.chore (chore_of x)) (sym c.in-Force.is),
+      at_zero (policy_in old) (g.D.Holder.bytes (device_in old)) (g.D.Holder.bytes (device_in new)) (shape_in old) (shape_in new) c.args.session
+          (Command.chore Chore.force) (reply_of c.force.result) c.if-session-ne0.false c.force.ensures.answers,
+    )
+
+pub returns-in-Sweep-clause-answers : goal.returns-in-Sweep-clause-answers
+returns-in-Sweep-clause-answers g c =
+    let old = c.args.ledger.now in
+    let new = c.sweep.new.ledger in (
+      Command.chore Chore.sweep,
+      ap (λ x. Command.chore (chore_of x)) (sym c.in-Sweep.is),
+      at_zero (policy_in old) (g.D.Holder.bytes (device_in old)) (g.D.Holder.bytes (device_in new)) (shape_in old) (shape_in new) c.args.session
+          (Command.chore Chore.sweep) (reply_of c.sweep.result) c.if-session-ne0.false c.sweep.ensures.answers,
+    )
+
+pub returns-in-Stat-clause-answers : goal.returns-in-Stat-clause-answers
+returns-in-Stat-clause-answers g c =
+    let ledger = c.args.ledger.now in
+    let told = g.D.Holder.bytes (device_in ledger) in
+    let s = shape_in ledger in (
+      Command.chore Chore.stat,
+      ap (λ x. Command.chore (chore_of x)) (sym c.in-Stat.is),
+      at_zero (policy_in ledger) told told s s c.args.session (Command.chore Chore.stat) (reply_of c.tell_stat.result) c.if-session-ne0.false
+          c.tell_stat.ensures.answers,
+    )
+
+pub returns-then-session-ne0-clause-history : goal.returns-then-session-ne0-clause-history
+returns-then-session-ne0-clause-history g c = goes_same g.D.Holder.may_leave c.args.ledger.now
+
+pub returns-in-Stat-clause-history : goal.returns-in-Stat-clause-history
+returns-in-Stat-clause-history g c = goes_same g.D.Holder.may_leave c.args.ledger.now

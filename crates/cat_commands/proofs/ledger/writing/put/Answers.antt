@@ -1,0 +1,58 @@
+use Rattle.std.proofs.Common.{◌+◌, ap, refl, sym}
+use Rattle.std.specs.Prelude.{Ok}
+use Rattle.cat_base.specs.declared.refusal.Refusal.TheVariants.{Device, Spent}
+use Rattle.cat_model.specs.Run.{Command}
+use Rattle.cat_items.specs.Reading.{item_of}
+use Rattle.cat_ledger.specs.Ledgers.{device_in, policy_in, shape_in}
+use Rattle.cat_ledger_laws.proofs.lines.LineAnswers.{puts_answer}
+use Rattle.cat_commands.proofs.ledger.Answered.{err_is, failure_differs, limit_differs, not_memory, put_refused, put_unread, tells_same}
+use Rattle.cat_commands.proofs.ledger.ItemFaults.{is_of_text}
+use Rattle.cat_commands.proofs.ledger.Kept.{goes_same, unchanged}
+use Rattle.cat_commands.proofs.ledger.writing.put.Goals as goal
+
+pub returns-in-Err-clause-answers : goal.returns-in-Err-clause-answers
+returns-in-Err-clause-answers g c = λ session.
+    let old = c.args.ledger.now in
+    let told = g.D.Holder.bytes (device_in old) in
+    let s = shape_in old in
+    let read = item_of s.schema c.args.text.now in
+    (Command.put read, refl, put_unread (policy_in old) told told s s session read c.in-Err.refusal c.in-Err.ensures.err (refl, λ q. refl))
+
+pub returns-in-Ok-put-clause-answers : goal.returns-in-Ok-put-clause-answers
+returns-in-Ok-put-clause-answers g c = λ session.
+    let old = c.args.ledger.now in
+    let new = c.put.new.self in
+    let told = g.D.Holder.bytes (device_in old) in
+    let told' = g.D.Holder.bytes (device_in new) in
+    let s = shape_in old in
+    let item = c.in-Ok.item in (
+      Command.put (Ok item),
+      ap Command.put (sym c.in-Ok.ensures.ok),
+      tells_same (policy_in old) told told' s (shape_in new) session (Command.put (Ok item)) c.in-Ok-put.number (s.count + 1)
+          c.in-Ok-put.ensures.number
+          (puts_answer (policy_in old) told told' s (shape_in new) session item c.in-Ok-put.ensures.left c.in-Ok.ensures.typed c.in-Ok-put.ensures.ok),
+    )
+
+pub returns-in-Err-put-clause-answers : goal.returns-in-Err-put-clause-answers
+returns-in-Err-put-clause-answers g c = λ session.
+    let old = c.args.ledger.now in
+    let new = c.put.new.self in
+    let item = c.in-Ok.item in (
+      Command.put (Ok item),
+      ap Command.put (sym c.in-Ok.ensures.ok),
+      put_refused (policy_in old) (g.D.Holder.bytes (device_in old)) (g.D.Holder.bytes (device_in new)) (shape_in old) (shape_in new) session
+          item c.in-Err-put.refusal (λ wrong. (c.in-Err-put.ensures.kind wrong).0 c.in-Ok.ensures.typed)
+          (λ full. let at = c.in-Err-put.ensures.full c.in-Ok.ensures.typed full in (err_is at.0, unchanged g.D.Holder.bytes old new at.1))
+          c.in-Err-put.ensures.err c.in-Err-put.ensures.refusal,
+    )
+
+pub returns-in-Err-clause-device : goal.returns-in-Err-clause-device
+returns-in-Err-clause-device g c = λ is.
+    absurd ((is_of_text (shape_in c.args.ledger.now).schema c.args.text.now c.in-Err.refusal (c.in-Err.ensures.err (not_memory Device failure_differs is))).0 is)
+
+pub returns-in-Err-clause-spent : goal.returns-in-Err-clause-spent
+returns-in-Err-clause-spent g c = λ is.
+    absurd ((is_of_text (shape_in c.args.ledger.now).schema c.args.text.now c.in-Err.refusal (c.in-Err.ensures.err (not_memory Spent limit_differs is))).1 is)
+
+pub returns-in-Err-clause-history : goal.returns-in-Err-clause-history
+returns-in-Err-clause-history g c = goes_same g.D.Holder.may_leave c.args.ledger.now

@@ -1,0 +1,45 @@
+-- What is said of the right that there is, and what a read makes of the sets and the notes.
+use Rattle.std.proofs.Common.{◌≡◌, ◌∙◌, Option, Some, None, refl, sym, ap, subst, inr}
+use Rattle.std.specs.Prelude.{IfOk, IfSome, MatchOption, Ok, Result}
+use Rattle.cat_model.specs.Item.{Schema}
+use Rattle.cat_model.specs.Query.{Query}
+use Rattle.cat_model.specs.Text.{Text}
+use Rattle.cat_model.specs.View.{View, segments_of}
+use Rattle.cat_cached_sets.specs.cat_query.declared.query.Query as code
+use Rattle.cat_protocol.specs.cat_search.Views.{Prepared}
+use Rattle.cat_cached_sets.specs.filters.Filters.{Filters, noted_with, used_in}
+use Rattle.cat_commands.specs.searches.Uses.{Uses, UsesAndNotes, UsesSpelled}
+
+-- what is said of whatever right there is is said of this one
+pub of_right : {A : Type 0} (P : A → Type 0) (right : Option A) (hold : A) → right ≡ Some hold → IfSome right P → P hold
+of_right P right hold is h = subst (λ o. IfSome o P) is h
+
+-- and the other way round
+pub to_right : {A : Type 0} (P : A → Type 0) (right : Option A) (hold : A) → right ≡ Some hold → P hold → IfSome right P
+to_right P right hold is h = subst (λ o. IfSome o P) (sym is) h
+
+-- what holds of the right that there is
+pub by_right : {A : Type 0} (N : Type 0) (P : A → Type 0) (right : Option A) (hold : A) → right ≡ Some hold → P hold → MatchOption right N P
+by_right N P right hold is h = subst (λ o. MatchOption o N P) (sym is) h
+
+-- what holds with any right and with none
+pub by_any : {A : Type 0} (N : Type 0) (P : A → Type 0) (right : Option A) → N → ((hold : A) → P hold) → MatchOption right N P
+by_any N P None none some = none
+by_any N P (Some hold) none some = some hold
+
+-- a note behind the uses
+pub noted_after : (q p : Query) (view : View) (old used new : Filters) → Uses q view old used → p ≡ q → new ≡ record used { noted = noted_with p used.noted }
+    → UsesAndNotes q view old new
+noted_after q p view old used new uses same noted =
+    noted ∙ ap (λ (f : Filters). record f { noted = noted_with p f.noted }) uses
+    ∙ ap (λ (p : Query). record { cached = used_in q (segments_of view.leaves) old.cached; noted = noted_with p old.noted; warming = old.warming }) same
+
+-- whatever right there is, nothing changed
+pub unchanged : {A : Type 0} (view : A → View) (schema : Schema) (text : Text) (f : Filters) (right : Option A)
+    → MatchOption right (f ≡ f) (λ h. UsesSpelled schema text (view h) f f)
+unchanged view schema text f right = by_any (f ≡ f) (λ h. UsesSpelled schema text (view h) f f) right refl (λ h. inr refl)
+
+-- what was made ready, where memory was found for it
+pub prepared_is : {E : Type 0} (r : Result Prepared E) (p : Prepared) → r ≡ Ok p → (view : View) (query : code.Query)
+    → IfOk r (λ p. p ≡ record { view = view; query = query }) → p ≡ record { view = view; query = query }
+prepared_is r p is view query made = subst (λ r. IfOk r (λ p. p ≡ record { view = view; query = query })) is made

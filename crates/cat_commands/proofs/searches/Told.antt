@@ -1,0 +1,80 @@
+-- What a read for items is told, from what its calls say.
+use Rattle.std.proofs.Common.{◌≡◌, ℕ, List, ap, inl, inr, refl, subst, sym}
+use Rattle.std.specs.Prelude.{◌≢◌, ◌⊎◌, Option, None, Some, Result, Ok, Err, IsErr, IsErrAnd}
+use Rattle.cat_base.specs.declared.refusal.Refusal.{Refusal}
+use Rattle.cat_base.specs.declared.refusal.Refusal.TheVariants.{Memory, NotHeld, Query as NoQuery}
+use Rattle.cat_model.specs.Answer.{Found, Read, answer, query_refusal}
+use Rattle.cat_model.specs.Faults.{Fault}
+use Rattle.cat_model.specs.Grammar.{Spells}
+use Rattle.cat_model.specs.Heard.{IsQueryOf}
+use Rattle.cat_model.specs.Item.{Record, Schema}
+use Rattle.cat_model.specs.Page.{Sort}
+use Rattle.cat_model.specs.Query.{Query}
+use Rattle.cat_model.specs.Run.{Reply, found_reply, or_not_held}
+use Rattle.cat_model.specs.Text.{Text}
+use Rattle.cat_model.specs.View.{View}
+use Rattle.cat_ledger_laws.specs.lines.ReadLaws.{Finds}
+use Rattle.cat_commands.specs.searches.Reads.{MayTell}
+
+-- whether it is want of memory
+is_memory : (e : Refusal) → (e ≡ Memory) ⊎ (e ≢ Memory)
+is_memory Memory = inl refl
+is_memory _ = inr (λ h. cc h)
+
+-- a read by a query, which is refused with the fault of its text, and only then before the view is looked at
+pub record IsByQuery (asked : Result Query Refusal → Read) : Type 0 where
+  pub sound : (q : Query) → query_refusal (asked (Ok q)) ≡ None
+  pub faulty : (e : Refusal) → query_refusal (asked (Err e)) ≡ Some e
+  pub answered : (schema : Schema) (rs : List Record) (e : Refusal) → answer schema rs (asked (Err e)) ≡ Err e
+
+pub find_is : (count : ℕ) (sort : Sort) (after : Option ℕ) → IsByQuery (Read.find count sort after)
+find_is count sort after = record { sound = λ q. refl; faulty = λ e. refl; answered = λ schema rs e. refl }
+
+pub facets_is : (dimension : Text) (count : ℕ) → IsByQuery (Read.facets dimension count)
+facets_is dimension count = record { sound = λ q. refl; faulty = λ e. refl; answered = λ schema rs e. refl }
+
+module _ (schema : Schema) (text : Text) (asked : Result Query Refusal → Read) (is : IsByQuery asked) where
+  -- the reply may be told to the read of the query that the text spells, or of its fault
+  abbrev pub Told : Option View → Reply → Type 0
+  Told right r = (q : Result Query Refusal) × IsQueryOf schema text q × MayTell right (asked q) r
+
+  -- of a text that has a fault
+  pub fault_told : (right : Option View) (e : Refusal) → ((place : ℕ) × (e ≡ NoQuery place) × Fault schema text place) → Told right (Err e)
+  fault_told right e fault =
+      (Err (NoQuery fault.0), IsQueryOf.faulty fault.0 fault.2, subst (λ f. MayTell right (asked (Err (NoQuery fault.0))) (Err f)) (sym fault.1) (by right))
+    where
+      by : (o : Option View) → MayTell o (asked (Err (NoQuery fault.0))) (Err (NoQuery fault.0))
+      by None = inl (ap or_not_held (sym (is.faulty (NoQuery fault.0))))
+      by (Some view) = inl (Err (NoQuery fault.0), λ rs shown. is.answered view.schema rs (NoQuery fault.0), refl)
+
+  module _ (q : Query) (spelled : Spells schema text q) where
+    -- where there is no right
+    pub unheld_told : (right : Option View) → right ≡ None → Told right (Err NotHeld)
+    unheld_told right none =
+        (Ok q, IsQueryOf.spelled q spelled, subst (λ o. MayTell o (asked (Ok q)) (Err NotHeld)) (sym none) (inl (ap or_not_held (sym (is.sound q)))))
+
+    -- where memory is wanted
+    pub memory_told : (right : Option View) → Told right (Err Memory)
+    memory_told right = (Ok q, IsQueryOf.spelled q spelled, by right)
+      where
+        by : (o : Option View) → MayTell o (asked (Ok q)) (Err Memory)
+        by None = inr refl
+        by (Some view) = inr refl
+
+    module _ (right : Option View) (view : View) (held : right ≡ Some view) where
+      -- what is found
+      pub found_told : (found : Result Found Refusal) → Finds view (asked (Ok q)) found → Told right (found_reply found)
+      found_told found finds =
+          (Ok q, IsQueryOf.spelled q spelled, subst (λ o. MayTell o (asked (Ok q)) (found_reply found)) (sym held) (inl (found, finds, refl)))
+
+      -- a refusal, which is found but where it is want of memory
+      pub refusal_told : (e : Refusal) → (e ≢ Memory → Finds view (asked (Ok q)) (Err e)) → Told right (Err e)
+      refusal_told e finds = elim (is_memory e) [
+        | inl memory ↦ subst (λ f. Told right (Err f)) (sym memory) (memory_told right)
+        | inr other ↦ found_told (Err e) (finds other)
+      ]
+
+-- the refusal that a call passes on
+pub passed_on : {T E : Type 0} (r : Result T E) (e : E) → IsErr r × IsErrAnd r (λ x. x ≡ e) → r ≡ Err e
+passed_on (Err x) e is = ap Err is.1
+passed_on (Ok x) e is = absurd is.1

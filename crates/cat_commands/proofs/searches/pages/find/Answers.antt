@@ -1,0 +1,94 @@
+use Rattle.std.proofs.Common.{◌≡◌, ◌∙◌, All, ap, inl, option_map, subst, sym}
+use Rattle.std.specs.Prelude.{Err, Ok, Some}
+use Rattle.cat_model.specs.Answer.{Found, Read}
+use Rattle.cat_model.specs.Grammar.{Spells}
+use Rattle.cat_cached_sets.specs.cat_query.View.{query_of}
+use Rattle.cat_protocol.specs.cat_search.Sorts.{sort_of}
+use Rattle.cat_model.specs.View.{View, segments_of}
+use Rattle.cat_cached_sets.specs.filters.Known.{Knows}
+use Rattle.cat_commands.specs.searches.Uses.{NotesSpelled, Uses, UsesAndNotes, UsesSpelled}
+use Rattle.cat_commands.proofs.searches.Cached.{by_right, of_right, to_right, unchanged}
+use Rattle.cat_commands.proofs.searches.Told.{fault_told, find_is, found_told, memory_told, passed_on, refusal_told, unheld_told}
+use Rattle.cat_commands.proofs.searches.pages.find.Goals as goal
+
+pub returns-in_err-query-clause-told : goal.returns-in_err-query-clause-told
+returns-in_err-query-clause-told c =
+    let ask = c.args.ask in
+    rw (passed_on c.from_residual.result c.in_err-query.field-0.0 c.from_residual.ensures)
+    (fault_told c.args.schema.now c.args.text.now (Read.find ask.count (sort_of ask.sort) ask.after) (find_is ask.count (sort_of ask.sort) ask.after)
+    (option_map (λ h. h.now.view) c.args.right) c.in_err-query.field-0.0 c.in_err-query.ensures.err)
+
+pub returns-in_default-clause-told : goal.returns-in_default-clause-told
+returns-in_default-clause-told c =
+    let ask = c.args.ask in
+    let q = c.in_ok-query.ensures.spelled in
+    unheld_told c.args.schema.now c.args.text.now (Read.find ask.count (sort_of ask.sort) ask.after) (find_is ask.count (sort_of ask.sort) ask.after)
+    q.0 q.1 (option_map (λ h. h.now.view) c.args.right) (ap (option_map (λ h. h.now.view)) c.in_default.is)
+
+pub returns-in_err-judge-clause-told : goal.returns-in_err-judge-clause-told
+returns-in_err-judge-clause-told c =
+    let ask = c.args.ask in
+    let q = c.in_ok-query.ensures.spelled in
+    rw (passed_on c.from_residual-in_err-judge.result c.in_err-judge.field-0.0 c.from_residual-in_err-judge.ensures)
+    (found_told c.args.schema.now c.args.text.now (Read.find ask.count (sort_of ask.sort) ask.after) (find_is ask.count (sort_of ask.sort) ask.after)
+    q.0 q.1 (option_map (λ h. h.now.view) c.args.right) c.view-view.result.now
+    (ap (option_map (λ h. h.now.view)) c.in-Some.is ∙ ap Some (sym c.view-view.ensures)) (Err c.in_err-judge.field-0.0) (c.in_err-judge.ensures.err q.0))
+
+pub returns-in_default-query-clause-told : goal.returns-in_default-query-clause-told
+returns-in_default-query-clause-told c =
+    let ask = c.args.ask in
+    let q = c.in_ok-query.ensures.spelled in
+    memory_told c.args.schema.now c.args.text.now (Read.find ask.count (sort_of ask.sort) ask.after) (find_is ask.count (sort_of ask.sort) ask.after)
+    q.0 q.1 (option_map (λ h. h.now.view) c.args.right)
+
+pub returns-in_err-page-clause-told : goal.returns-in_err-page-clause-told
+returns-in_err-page-clause-told c =
+    let ask = c.args.ask in
+    let spelled : Spells c.args.schema.now c.args.text.now (query_of c.in-Some-query.query) = rw c.in-Some-query.is at c.in_ok-query.ensures.ok in
+    rw (passed_on c.from_residual-in_err-page.result c.in_err-page.field-0.0 c.from_residual-in_err-page.ensures)
+    (refusal_told c.args.schema.now c.args.text.now (Read.find ask.count (sort_of ask.sort) ask.after) (find_is ask.count (sort_of ask.sort) ask.after)
+    (query_of c.in-Some-query.query) spelled (option_map (λ h. h.now.view) c.args.right) c.view-view.result.now
+    (ap (option_map (λ h. h.now.view)) c.in-Some.is ∙ ap Some (sym c.view-view.ensures)) c.in_err-page.field-0.0 c.in_err-page.ensures.err)
+
+pub returns-clause-told : goal.returns-clause-told
+returns-clause-told c =
+    let ask = c.args.ask in
+    let spelled : Spells c.args.schema.now c.args.text.now (query_of c.in-Some-query.query) = rw c.in-Some-query.is at c.in_ok-query.ensures.ok in
+    found_told c.args.schema.now c.args.text.now (Read.find ask.count (sort_of ask.sort) ask.after) (find_is ask.count (sort_of ask.sort) ask.after)
+    (query_of c.in-Some-query.query) spelled (option_map (λ h. h.now.view) c.args.right) c.view-view.result.now
+    (ap (option_map (λ h. h.now.view)) c.in-Some.is ∙ ap Some (sym c.view-view.ensures)) (Ok (Found.page c.in_ok-page.page)) c.in_ok-page.ensures.ok
+
+pub returns-in_err-query-clause-used : goal.returns-in_err-query-clause-used
+returns-in_err-query-clause-used c = unchanged (λ h. h.now.view) c.args.schema.now c.args.text.now c.args.filters.now c.args.right
+
+pub returns-in_default-clause-used : goal.returns-in_default-clause-used
+returns-in_default-clause-used c = unchanged (λ h. h.now.view) c.args.schema.now c.args.text.now c.args.filters.now c.args.right
+
+pub returns-in_err-judge-clause-used : goal.returns-in_err-judge-clause-used
+returns-in_err-judge-clause-used c = unchanged (λ h. h.now.view) c.args.schema.now c.args.text.now c.args.filters.now c.args.right
+
+pub returns-in_default-query-clause-used : goal.returns-in_default-query-clause-used
+returns-in_default-query-clause-used c = unchanged (λ h. h.now.view) c.args.schema.now c.args.text.now c.args.filters.now c.args.right
+
+pub returns-in_err-page-clause-used : goal.returns-in_err-page-clause-used
+returns-in_err-page-clause-used c =
+    let q = query_of c.in-Some-query.query in
+    let old = c.args.filters.now in
+    let new = c.page_of.new.filters in
+    let spelled : Spells c.args.schema.now c.args.text.now q = rw c.in-Some-query.is at c.in_ok-query.ensures.ok in
+    by_right (new ≡ old) (λ h. UsesSpelled c.args.schema.now c.args.text.now h.now.view old new) c.args.right c.in-Some.hold c.in-Some.is
+    (inl (q, spelled, subst (λ (v : View). Uses q v old new) c.view-view.ensures c.in_err-page.ensures.used))
+
+pub returns-clause-noted : goal.returns-clause-noted
+returns-clause-noted c =
+    let q = query_of c.in-Some-query.query in
+    let old = c.args.filters.now in
+    let new = c.page_of.new.filters in
+    let spelled : Spells c.args.schema.now c.args.text.now q = rw c.in-Some-query.is at c.in_ok-query.ensures.ok in
+    to_right (λ h. NotesSpelled c.args.schema.now c.args.text.now h.now.view old new) c.args.right c.in-Some.hold c.in-Some.is
+    (q, spelled, subst (λ (v : View). UsesAndNotes q v old new) c.view-view.ensures c.in_ok-page.ensures.noted)
+
+pub page_of-requires : goal.page_of-requires
+page_of-requires c =
+    subst (λ (v : View). All (Knows c.args.filters.now) (segments_of v.leaves)) (sym c.view-view.ensures)
+    (of_right (λ h. All (Knows c.args.filters.now) (segments_of h.now.view.leaves)) c.args.right c.in-Some.hold c.in-Some.is c.requires)

@@ -1,0 +1,118 @@
+//! The commands of maintenance, which session 0 alone may give.
+//!
+//! Lucene's `IndexWriter.maybeMerge`, `forceMerge(1)` and `deleteUnusedFiles`, and what `getDocStats` tells.
+ghost use Rattle.cat_directory.specs.Devices.{CountsOne};
+ghost use Rattle.std.specs.Prelude.{◌≡◌, ◌≢◌, ◌⊎◌, IfOk, IfErr, Err, length};
+ghost use Rattle.cat_base.specs.declared.refusal.Refusal.TheVariants.{Device, Line as NoForm, Memory};
+ghost use Rattle.cat_model.specs.Lines.{Said};
+ghost use Rattle.cat_model.specs.Run as run;
+ghost use Rattle.cat_cached_sets.specs.filters.Known.{Remembers, RemembersBelow};
+ghost use Rattle.cat_ledger.specs.cat_ledger_state.Cores.{HasRowsLeft};
+ghost use Rattle.cat_ledger.specs.Answering.{Answers, AnswersSaid};
+ghost use Rattle.cat_ledger.specs.Histories.{Event, Goes};
+ghost use Rattle.cat_ledger.specs.Ledgers.{Spares, device_in, policy_in, shape_in};
+ghost use Rattle.cat_protocol.specs.replies.Reply.{answer_of, reply_of};
+ghost use Rattle.cat_commands.specs.ledger.Chores.{FailsFor, MayRefuse, MayRefuseMerge, SparesUsed, Tells, chore_of, pending_in, sets_left};
+
+use crate::ledger::merging::{force, merge_step};
+use crate::ledger::stats::tell_stat;
+use cat_base::{Refusal, SessionNo};
+use cat_directory::{Directory, Shelf};
+use cat_cached_sets::filters::Filters;
+use cat_ledger::Ledger;
+use cat_protocol::replies::{Answer, News};
+use std::alloc::Global;
+
+/// A command of maintenance that makes no cached set; [`warm`](crate::ledger::warm) is the one that does.
+#[derive(Clone, Copy, Debug, PartialEq, Eq)]
+pub enum Chore {
+    /// A step of the merge that the policy picks (Lucene: `IndexWriter.maybeMerge`).
+    Merge,
+    /// A merge of all segments is begun (Lucene: `IndexWriter.forceMerge(1)`).
+    Force,
+    /// The files go that nobody needs (Lucene: `IndexWriter.deleteUnusedFiles`).
+    Sweep,
+    /// How the service stands (Lucene: `IndexWriter.getDocStats`).
+    Stat,
+}
+
+/// Answers a MERGE of session 0. Once a merge is done, the set in the making over a segment that it took is given up.
+fn merge<D: Directory + Shelf>(
+    ledger: &mut Ledger<D>,
+    filters: &mut Filters,
+) -> Result<Answer, Refusal>
+    ensures counted { IfErr result (λ e. e ≡ Device → CountsOne (D.fault_count (device_in ledger.old)) (D.fault_count (device_in ledger.new))) }
+    ensures answers { Answers D.bytes 0 (run.Command.chore run.Chore.merge) ledger.old (reply_of result) ledger.new }
+    ensures refusal { IfErr result (MayRefuseMerge (policy_in ledger.old) (shape_in ledger.old)) }
+    ensures device { IfErr result (λ e. e ≡ Device → HasRowsLeft (shape_in ledger.old).merging ⊎ D.can_fail (device_in ledger.old)) }
+    ensures crash { Spares D.may_leave ledger.old ledger.new }
+    ensures can { D.can_fail (device_in ledger.new) → D.can_fail (device_in ledger.old) }
+    ensures history { Goes D.may_leave Event.Other ledger.old ledger.new }
+    ensures policy { policy_in ledger.new ≡ policy_in ledger.old }
+    ensures sets { filters.new ≡ sets_left Chore.Merge (shape_in ledger.new) filters.old }
+    ensures known { Remembers filters.old filters.new }
+    ensures below { RemembersBelow filters.old filters.new }
+{
+    let answer = merge_step(ledger);
+    // Only a merge that is done takes segments out of the list.
+    filters.keep_among(ledger.leaves());
+    answer
+}
+
+/// Answers a SWEEP of session 0.
+fn sweep<D: Directory + Shelf>(ledger: &mut Ledger<D>) -> Result<Answer, Refusal>
+    ensures answers { Answers D.bytes 0 (run.Command.chore run.Chore.sweep) ledger.old (reply_of result) ledger.new }
+    ensures told { IfOk result (λ a. answer_of a ≡ run.Answer.news (run.News.swept (pending_in (shape_in ledger.old)))) }
+    ensures refusal { IfErr result (λ e. (e ≡ Memory) ⊎ (e ≡ Device)) }
+    ensures device { IfErr result (λ e. e ≡ Device → D.can_fail (device_in ledger.old)) }
+    ensures crash { SparesUsed D.may_leave ledger.old ledger.new }
+    ensures can { D.can_fail (device_in ledger.new) → D.can_fail (device_in ledger.old) }
+    ensures history { Goes D.may_leave Event.Other ledger.old ledger.new }
+    ensures policy { policy_in ledger.new ≡ policy_in ledger.old }
+{
+    match ledger.sweep() {
+        Ok(files) => Ok(Answer::News(News::Swept(files))),
+        Err(refusal) => Err(refusal),
+    ensures counted { IfErr result (λ e. e ≡ Device → CountsOne (D.fault_count (device_in ledger.old)) (D.fault_count (device_in ledger.new))) }
+    }
+}
+
+/// Answers a MERGE, FORCE, SWEEP or STAT.
+///
+/// [`Refusal::Line`] for any session but 0, which comes first and changes nothing. Of session 0:
+///
+/// - A MERGE is refused as [`Ledger::merge_step`] is, and a FORCE as [`Ledger::force`] is. Once a merge is done, the set in
+///   the making over a segment that it took is given up: its segment is in the list no more. Nothing else changes these sets.
+/// - A SWEEP is refused with [`Refusal::Device`] where the directory fails: the file that it failed at and those behind it
+///   still wait; or with [`Refusal::Memory`], with nothing done.
+/// - A STAT, which tells of these cached sets, is refused with [`Refusal::Memory`] alone.
+pub fn maintain<D: Directory + Shelf>(
+    alloc: Global,
+    ledger: &mut Ledger<D>,
+    filters: &mut Filters,
+    session: SessionNo,
+    chore: Chore,
+) -> Result<Answer, Refusal>
+    ensures answers { AnswersSaid D.bytes session (Said.chore (chore_of chore)) ledger.old (reply_of result) ledger.new }
+    ensures foreign { session ≢ 0 → (result ≡ Err NoForm) × (ledger.new ≡ ledger.old) × (filters.new ≡ filters.old) }
+    ensures told { IfOk result (λ a. Tells (length filters.old.cached) (shape_in ledger.old) chore (answer_of a)) }
+    ensures refusal { session ≡ 0 → IfErr result (MayRefuse (policy_in ledger.old) (shape_in ledger.old) chore) }
+    ensures device { IfErr result (λ e. e ≡ Device → FailsFor chore (shape_in ledger.old).merging (D.can_fail (device_in ledger.old))) }
+    ensures crash { SparesUsed D.may_leave ledger.old ledger.new }
+    ensures can { D.can_fail (device_in ledger.new) → D.can_fail (device_in ledger.old) }
+    ensures history { Goes D.may_leave Event.Other ledger.old ledger.new }
+    ensures policy { policy_in ledger.new ≡ policy_in ledger.old }
+    ensures sets { session ≡ 0 → filters.new ≡ sets_left chore (shape_in ledger.new) filters.old }
+    ensures known { Remembers filters.old filters.new }
+    ensures below { RemembersBelow filters.old filters.new }
+{
+    if session != 0 {
+        return Err(Refusal::Line);
+    }
+    match chore {
+        Chore::Merge => merge(ledger, filters),
+        Chore::Force => force(ledger),
+        Chore::Sweep => sweep(ledger),
+        Chore::Stat => tell_stat(alloc, ledger, filters),
+    }
+}

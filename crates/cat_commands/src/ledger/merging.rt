@@ -1,0 +1,67 @@
+//! Merges, step by step, as session 0 asks for them.
+//!
+//! Lucene's `IndexWriter.maybeMerge` and `forceMerge(1)`.
+ghost use Rattle.cat_directory.specs.Devices.{CountsOne};
+ghost use Rattle.std.specs.Prelude.{◌≡◌, ◌⊎◌, IfErr};
+ghost use Rattle.cat_base.specs.declared.refusal.Refusal.TheVariants.{Device};
+ghost use Rattle.cat_model.specs.Run as run;
+ghost use Rattle.cat_ledger.specs.cat_ledger_state.Cores.{HasRowsLeft};
+ghost use Rattle.cat_ledger.specs.upkeep.News as merges;
+ghost use Rattle.cat_ledger.specs.Answering.{Answers};
+ghost use Rattle.cat_ledger.specs.Histories.{Event, Goes};
+ghost use Rattle.cat_ledger.specs.Ledgers.{Spares, device_in, policy_in, shape_in};
+ghost use Rattle.cat_protocol.specs.replies.Reply.{news_of, reply_of};
+ghost use Rattle.cat_commands.specs.ledger.Chores.{MayRefuseForce, MayRefuseMerge};
+
+use cat_base::Refusal;
+use cat_directory::{Directory, Shelf};
+use cat_ledger::Ledger;
+use cat_ledger::upkeep::MergeNews;
+use cat_protocol::replies::{Answer, News};
+
+/// What a step of a merge tells, as it is answered.
+fn news_told(news: MergeNews) -> News
+    ensures { news_of result ≡ merges.news_of news }
+{
+    match news {
+        MergeNews::Idle => News::Idle,
+        MergeNews::Busy => News::Busy,
+        MergeNews::Begun(segments) => News::BegunMerge(segments),
+        MergeNews::Copied(rows) => News::Copied(rows),
+        MergeNews::Done => News::Done,
+    }
+}
+
+/// Answers a MERGE of session 0.
+pub(crate) fn merge_step<D: Directory + Shelf>(ledger: &mut Ledger<D>) -> Result<Answer, Refusal>
+    ensures answers { Answers D.bytes 0 (run.Command.chore run.Chore.merge) ledger.old (reply_of result) ledger.new }
+    ensures refusal { IfErr result (MayRefuseMerge (policy_in ledger.old) (shape_in ledger.old)) }
+    ensures device { IfErr result (λ e. e ≡ Device → HasRowsLeft (shape_in ledger.old).merging ⊎ D.can_fail (device_in ledger.old)) }
+    ensures crash { Spares D.may_leave ledger.old ledger.new }
+    ensures counted { IfErr result (λ e. e ≡ Device → CountsOne (D.fault_count (device_in ledger.old)) (D.fault_count (device_in ledger.new))) }
+    ensures can { D.can_fail (device_in ledger.new) → D.can_fail (device_in ledger.old) }
+    ensures history { Goes D.may_leave Event.Other ledger.old ledger.new }
+    ensures policy { policy_in ledger.new ≡ policy_in ledger.old }
+{
+    match ledger.merge_step() {
+        Ok(news) => Ok(Answer::News(news_told(news))),
+        Err(refusal) => Err(refusal),
+    }
+}
+
+/// Answers a FORCE of session 0.
+pub(crate) fn force<D: Directory + Shelf>(ledger: &mut Ledger<D>) -> Result<Answer, Refusal>
+    ensures answers { Answers D.bytes 0 (run.Command.chore run.Chore.force) ledger.old (reply_of result) ledger.new }
+    ensures refusal { IfErr result (MayRefuseForce (shape_in ledger.old)) }
+    ensures device { IfErr result (λ e. e ≡ Device → D.can_fail (device_in ledger.old)) }
+    ensures crash { Spares D.may_leave ledger.old ledger.new }
+    ensures counted { IfErr result (λ e. e ≡ Device → CountsOne (D.fault_count (device_in ledger.old)) (D.fault_count (device_in ledger.new))) }
+    ensures can { D.can_fail (device_in ledger.new) → D.can_fail (device_in ledger.old) }
+    ensures history { Goes D.may_leave Event.Other ledger.old ledger.new }
+    ensures policy { policy_in ledger.new ≡ policy_in ledger.old }
+{
+    match ledger.force() {
+        Ok(news) => Ok(Answer::News(news_told(news))),
+        Err(refusal) => Err(refusal),
+    }
+}

@@ -1,0 +1,30 @@
+use Rattle.std.proofs.Common.{◌≡◌, List, sym, subst, ◌∙◌, rules}
+use Rattle.cat_base.specs.declared.refusal.Refusal.{Refusal}
+use Rattle.cat_base.specs.declared.refusal.Refusal.TheVariants.{Damaged}
+use Rattle.cat_model.specs.CommitFile.{ListedSegment}
+use Rattle.cat_model.specs.View as model
+use Rattle.cat_ledger_laws.specs.model.Opening.{IsLeafOf, AreLeavesOf}
+use Rattle.cat_ledger_laws.specs.shape.OpeningLaws.{MayHold}
+use Rattle.cat_commits.specs.reading.Told.{Tells}
+use Rattle.cat_commits.proofs.reading.Reading.{passed}
+use Rattle.cat_commits.proofs.reading.Parts.{as_one, leaf_refuted, leaves_next}
+use Rattle.cat_commits.proofs.reading.leaves.read_leaves.Goals as goal
+
+pub returns-in_err-leaf-clause-damaged : goal.returns-in_err-leaf-clause-damaged
+returns-in_err-leaf-clause-damaged g c =
+    passed (λ (e : Refusal). e ≡ Damaged → (leaves : List model.Leaf) → AreLeavesOf (Tells (g.S.Holder.bytes c.args.shelf.now)) c.args.schema.now c.args.listed.now leaves → ⊥) _ _ c.from_residual-in_err-leaf.ensures
+    (λ is leaves k.
+    leaf_refuted (g.S.Holder.bytes c.args.shelf.now) (g.S.Holder.bytes c.loop-segment.shelf) c.args.schema.now c.args.listed.now leaves c.loop-segment.segment-index c.segment-item.result c.loop-segment-test.true
+    (as_one (g.S.Holder.bytes c.args.shelf.now) (g.S.Holder.bytes c.loop-segment.shelf) c.loop-segment.invariant.same)
+    (λ l h. c.in_err-leaf.ensures.damaged is l (subst (λ (x : ListedSegment). IsLeafOf (Tells (g.S.Holder.bytes c.loop-segment.shelf)) c.args.schema.now x l) (sym c.segment-item.is) h)) k)
+
+pub loop-segment-preserved : goal.loop-segment-preserved
+loop-segment-preserved g c = record {
+  read = leaves_next (g.S.Holder.bytes c.args.shelf.now) (g.S.Holder.bytes c.loop-segment.shelf) c.args.schema.now c.args.listed.now c.loop-segment.leaves.items c.push.new.self.items c.in_ok-leaf.leaf c.loop-segment.segment-index c.segment-item.result
+      c.loop-segment-test.true (as_one (g.S.Holder.bytes c.args.shelf.now) (g.S.Holder.bytes c.loop-segment.shelf) c.loop-segment.invariant.same)
+      (subst (λ (x : ListedSegment). IsLeafOf (MayHold (g.S.Holder.bytes c.loop-segment.shelf)) c.args.schema.now x c.in_ok-leaf.leaf) c.segment-item.is c.in_ok-leaf.ensures.ok) c.loop-segment.invariant.read c.in_ok-push.ensures.items;
+  same = λ q. c.in_ok-leaf.ensures.same q ∙ c.loop-segment.invariant.same q;
+  crash = λ q e left. c.loop-segment.invariant.crash q e (c.in_ok-leaf.ensures.crash q e left);
+  can = λ fails. c.loop-segment.invariant.can (c.in_ok-leaf.ensures.can fails);
+  count = search rules;
+}

@@ -1,0 +1,7 @@
+use Rattle.cat_commits.proofs.writing.Drafting.{spelled_more}
+use Rattle.cat_commits.proofs.writing.draft.live_files_of.Goals as goal
+
+pub loop-entry-preserved : goal.loop-entry-preserved
+loop-entry-preserved c =
+    spelled_more c.args.generation c.args.entries.now c.loop-entry.entry-index c.entry-item.result c.loop-entry.files.items c.push_live_file.new.files.items c.loop-entry-test.true c.entry-item.is
+    c.loop-entry.invariant c.in_ok-push_live_file.ensures

@@ -1,0 +1,23 @@
+use Rattle.std.proofs.Common.{◌∙◌}
+use Rattle.cat_commits.proofs.writing.Writing.{progress_more, others_more, crash_more}
+use Rattle.cat_commits.proofs.writing.files.write_files.Goals as goal
+
+pub loop-file-preserved : goal.loop-file-preserved
+loop-file-preserved g c = record {
+  progress = progress_more c.args.files.now c.loop-file.file-index c.file-item.result (g.D.Holder.bytes c.args.device.now) (g.D.Holder.bytes c.loop-file.device) (g.D.Holder.bytes c.write_one.new.device)
+      c.requires.apart c.loop-file-test.true c.file-item.is c.loop-file.invariant.progress c.in_ok-write_one.ensures.ok c.in_ok-write_one.ensures.others;
+  crash = crash_more c.args.files.now c.loop-file.file-index c.file-item.result (g.D.Holder.may_leave c.args.device.now) (g.D.Holder.may_leave c.loop-file.device) (g.D.Holder.may_leave c.write_one.new.device)
+      c.loop-file-test.true c.file-item.is c.loop-file.invariant.crash c.in_ok-write_one.ensures.crash;
+  can = λ fails. c.loop-file.invariant.can (c.in_ok-write_one.ensures.can fails);
+  count = c.in_ok-write_one.ensures.counted ∙ c.loop-file.invariant.count;
+}
+
+pub returns-in_err-write_one-clause-others : goal.returns-in_err-write_one-clause-others
+returns-in_err-write_one-clause-others g c =
+    others_more c.args.files.now c.loop-file.file-index c.file-item.result (g.D.Holder.bytes c.args.device.now) (g.D.Holder.bytes c.loop-file.device) (g.D.Holder.bytes c.write_one.new.device)
+    c.loop-file-test.true c.file-item.is c.loop-file.invariant.progress.others c.in_err-write_one.ensures.others
+
+pub returns-in_err-write_one-clause-crash : goal.returns-in_err-write_one-clause-crash
+returns-in_err-write_one-clause-crash g c =
+    crash_more c.args.files.now c.loop-file.file-index c.file-item.result (g.D.Holder.may_leave c.args.device.now) (g.D.Holder.may_leave c.loop-file.device) (g.D.Holder.may_leave c.write_one.new.device)
+    c.loop-file-test.true c.file-item.is c.loop-file.invariant.crash c.in_err-write_one.ensures.crash

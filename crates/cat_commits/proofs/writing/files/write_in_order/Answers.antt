@@ -1,0 +1,28 @@
+use Rattle.std.proofs.Common.{inr, map}
+use Rattle.cat_directory.specs.Names.{name_of}
+use Rattle.cat_commits.proofs.writing.Writing.{still_written, still_settled, last_settled}
+use Rattle.cat_commits.proofs.writing.files.write_in_order.Goals as goal
+
+pub returns-in_err-write_last-clause-order : goal.returns-in_err-write_last-clause-order
+returns-in_err-write_last-clause-order g c =
+    inr (still_settled (map name_of c.args.unsynced.now) c.args.last.now.name (g.D.Holder.bytes c.write_synced.new.device) (g.D.Holder.bytes c.write_last.new.device)
+    (g.D.Holder.may_leave c.write_synced.new.device) (g.D.Holder.may_leave c.write_last.new.device) c.requires.last_unsynced c.in_err-write_last.ensures.others c.in_err-write_last.ensures.crash
+    c.in_ok-write_synced.ensures.lasts)
+
+pub returns-clause-ok : goal.returns-clause-ok
+returns-clause-ok g c =
+    still_written c.args.files.now c.args.last.now.name (g.D.Holder.bytes c.args.device.now) (g.D.Holder.bytes c.write_synced.new.device) (g.D.Holder.bytes c.write_last.new.device)
+    c.requires.last_apart c.in_ok-write_last.ensures.others c.in_ok-write_synced.ensures.ok
+
+pub returns-clause-lasts : goal.returns-clause-lasts
+returns-clause-lasts g c =
+    last_settled (map name_of c.args.unsynced.now) c.args.last.now.name (g.D.Holder.bytes c.write_last.new.device) (g.D.Holder.may_leave c.write_last.new.device)
+    (still_settled (map name_of c.args.unsynced.now) c.args.last.now.name (g.D.Holder.bytes c.write_synced.new.device) (g.D.Holder.bytes c.write_last.new.device)
+    (g.D.Holder.may_leave c.write_synced.new.device) (g.D.Holder.may_leave c.write_last.new.device) c.requires.last_unsynced c.in_ok-write_last.ensures.others c.in_ok-write_last.ensures.crash
+    c.in_ok-write_synced.ensures.lasts) c.in_ok-write_last.ensures.lasts
+
+pub returns-clause-order : goal.returns-clause-order
+returns-clause-order g c =
+    inr (still_settled (map name_of c.args.unsynced.now) c.args.last.now.name (g.D.Holder.bytes c.write_synced.new.device) (g.D.Holder.bytes c.write_last.new.device)
+    (g.D.Holder.may_leave c.write_synced.new.device) (g.D.Holder.may_leave c.write_last.new.device) c.requires.last_unsynced c.in_ok-write_last.ensures.others c.in_ok-write_last.ensures.crash
+    c.in_ok-write_synced.ensures.lasts)

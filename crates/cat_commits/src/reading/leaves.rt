@@ -1,0 +1,41 @@
+//! All listed segments, read from their files.
+ghost use Rattle.std.specs.Prelude.{◌≡◌, List, IfOk, IfErr};
+ghost use Rattle.cat_base.specs.declared.refusal.Refusal.TheVariants.{Device, Damaged};
+ghost use Rattle.cat_directory.specs.Devices.{CountsReading, NoMore};
+ghost use Rattle.cat_model.specs.View as model;
+ghost use Rattle.cat_ledger_laws.specs.model.Opening.{AreLeavesOf};
+ghost use Rattle.cat_ledger_laws.specs.shape.OpeningLaws.{MayHold};
+ghost use Rattle.cat_commits.specs.reading.Told.{Tells};
+
+use crate::ListedSegment;
+use crate::reading::leaf::read_leaf;
+use cat_base::Refusal;
+use cat_directory::{FileName, Shelf};
+use cat_items::Schema;
+use cat_views::Leaf;
+use std::alloc::Global;
+
+/// The leaves of the listed segments, in order; [`Refusal::Damaged`] where the files of one hold none. A file's bytes are
+/// let go before the next is read.
+pub(crate) fn read_leaves<S: Shelf>(
+    alloc: Global,
+    shelf: &mut S,
+    schema: &Schema,
+    listed: &[ListedSegment],
+) -> Result<Vec<Leaf>, Refusal>
+    ensures ok { IfOk result (λ v. AreLeavesOf (MayHold (S.bytes shelf.old)) schema.now listed.now v.items) }
+    ensures damaged { IfErr result (λ e. e ≡ Damaged → (leaves : List model.Leaf)
+        → AreLeavesOf (Tells (S.bytes shelf.old)) schema.now listed.now leaves → ⊥) }
+    ensures device { IfErr result (λ e. e ≡ Device → S.can_fail shelf.old) }
+    ensures same { (q : FileName) → S.bytes shelf.new q ≡ S.bytes shelf.old q }
+    ensures crash { (q : FileName) → NoMore (S.may_leave shelf.old q) (S.may_leave shelf.new q) }
+    ensures can { S.can_fail shelf.new → S.can_fail shelf.old }
+    ensures counted { CountsReading (S.fault_count shelf.old) (S.fault_count shelf.new) result }
+{
+    let mut leaves = Vec::with_capacity(alloc, listed.len())?;
+    for segment in listed {
+        let leaf = read_leaf(alloc, shelf, schema, *segment)?;
+        leaves.push(leaf)?;
+    }
+    Ok(leaves)
+}

@@ -1,7 +1,0 @@
-use Rattle.std.proofs.Common.{All}
-use Rattle.cat_facets.specs.Kept.{KnowsIn}
-use Rattle.cat_model.specs.View.{segments_of}
-use Rattle.cat_facet_rows.proofs.facets.kept.expect_all_dimensions.Given as goal
-
-abbrev pub invariant-loop-index : goal.invariant-loop-index
-invariant-loop-index g l = All (KnowsIn l.states) (segments_of l.view.leaves)

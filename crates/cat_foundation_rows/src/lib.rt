@@ -1,9 +1,0 @@
-//! Tests of what the ledger stands on: users of files, commits, windows and merges.
-#![tactic(auto)]
-
-#[cfg(test)]
-mod commits;
-#[cfg(test)]
-mod merge;
-#[cfg(test)]
-mod refs;

@@ -1,0 +1,131 @@
+-- An item that is read from a line has no line feed in what is shown of it; and the law over bytes.
+use Rattle.std.proofs.Common.{◌≡◌, ℕ, List, [], ◌∷◌, length, Bool, true, false, true≢false, cond, ◌&&◌, eqb, ltb, leb, Option, Some, None, Result, Ok, Err, refl, sym, ap, ◌∙◌, subst, arith}
+use Rattle.std.specs.Prelude.{option_and_then}
+use Rattle.std.specs.List.{list_all, AllByRecursion}
+use Rattle.std.specs.Char.{is_ascii_graphic}
+use Rattle.std.proofs.lemmas.Bool.{and_parts}
+use Rattle.std.proofs.lemmas.List.Elements.{recursion_from_All}
+use Rattle.serde_json.specs.Data.{Data, null, boolean, number, string, array, object, Items, Members}
+use Rattle.serde_json.specs.Events.{items_len}
+use Rattle.serde_json.specs.Find.{get_member, as_object, as_str}
+use Rattle.cat_base.specs.declared.refusal.Refusal.{Refusal}
+use Rattle.cat_base.specs.declared.refusal.Refusal.TheVariants as refusal
+use Rattle.cat_base.specs.Texts.{sorted_set}
+use Rattle.cat_model.specs.Text.{Text, IsOneLine}
+use Rattle.cat_model.specs.Item.{Field, Kind, Schema, IsSchema, Item, is_id}
+use Rattle.cat_model.specs.Forms.{is_plain_byte}
+use Rattle.cat_model.specs.Served.{OpensEmpty, Begins}
+use Rattle.cat_model.specs.Talk.{HasOneLines, IsShownInLines, ReadsLines, IsShownOpened}
+use Rattle.cat_model.proofs.TalkOpenings.{OpensShown, OpenAlike}
+use Rattle.cat_model.proofs.Lists.{All-weaken}
+use Rattle.cat_model.proofs.TalkWhole.{answers_are_talks}
+use Rattle.cat_model.proofs.TalkLaw.{talks_agree}
+use Rattle.cat_items.specs.Reading.{id_name, json_of, json, keyword_fault, label_fault, labels_fault, list_fault, first_fault, label_texts, value_of, contents_in, checked, with_id, of_members, of_value}
+use Rattle.cat_items.specs.Laws.{HaveOneSchema, EveryAnswerIsOneTalk, HeldReadsAgreeInBytes}
+use Rattle.cat_items.proofs.LoweredRuns.{All-sorted_set}
+use Rattle.cat_items.proofs.Formed.{IsRight, each_right, kinds, fields_right}
+use Rattle.cat_items.proofs.SchemaTexts.{rules_kept}
+
+-- bytes that pass a test which a line feed doesn't
+tested_line : (p : ℕ → Bool) (t : Text) → p 10 ≡ false → list_all p t ≡ true → IsOneLine t
+tested_line p [] none h = tt
+tested_line p (b ∷ t) none h =
+    let parts = and_parts (p b) (list_all p t) h in
+    (λ e. true≢false (sym parts.0 ∙ ap p e ∙ none), tested_line p t none parts.1)
+
+id_line : (t : Text) → is_id t ≡ true → IsOneLine t
+id_line t h = tested_line is_ascii_graphic t refl (and_parts (ltb 0 (length t) && leb (length t) 64) (list_all is_ascii_graphic t) h).1
+
+keyword_line : (t : Text) → keyword_fault t ≡ None → IsOneLine t
+keyword_line t right = by (ltb 128 (length t)) (list_all is_plain_byte t) refl right
+  where
+    by : (long plain : Bool) → list_all is_plain_byte t ≡ plain → cond long (Some refusal.Large) (cond plain None (Some refusal.Kind)) ≡ None → IsOneLine t
+    by true plain is_plain right = absurd (cc)
+    by false true is_plain right = tested_line is_plain_byte t refl is_plain
+    by false false is_plain right = absurd (cc)
+
+label_line : (t : Text) → label_fault t ≡ None → IsOneLine t
+label_line t right = by (eqb (length t) 0) right
+  where
+    by : (empty : Bool) → cond empty (Some refusal.Kind) (keyword_fault t) ≡ None → IsOneLine t
+    by true right = absurd (cc)
+    by false right = keyword_line t right
+
+labels_line : (ds : Items) → list_fault ds ≡ None → AllByRecursion IsOneLine (sorted_set (label_texts ds))
+labels_line ds right = by (ltb 64 (items_len ds)) right
+  where
+    by : (many : Bool) → cond many (Some refusal.Large) (labels_fault ds) ≡ None → AllByRecursion IsOneLine (sorted_set (label_texts ds))
+    by true right = absurd (cc)
+    by false right = All-weaken (λ s. label_fault s ≡ None) IsOneLine label_line (sorted_set (label_texts ds)) (recursion_from_All (λ s. label_fault s ≡ None) (sorted_set (label_texts ds)) (All-sorted_set (λ s. label_fault s ≡ None) (label_texts ds) (each_right ds right)))
+
+value_line : (k : Kind) (o : Option Data) → IsRight k o → HasOneLines (value_of k o)
+value_line Kind.text o right = tt
+value_line Kind.keyword None right = tt
+value_line Kind.keyword (Some null) right = tt
+value_line Kind.keyword (Some (boolean b)) right = tt
+value_line Kind.keyword (Some (number n)) right = tt
+value_line Kind.keyword (Some (string s)) right = keyword_line s right
+value_line Kind.keyword (Some (array ds)) right = tt
+value_line Kind.keyword (Some (object ms)) right = tt
+value_line Kind.number o right = tt
+value_line Kind.facet None right = tt
+value_line Kind.facet (Some null) right = tt
+value_line Kind.facet (Some (boolean b)) right = tt
+value_line Kind.facet (Some (number n)) right = tt
+value_line Kind.facet (Some (string s)) right = tt
+value_line Kind.facet (Some (array ds)) right = labels_line ds right
+value_line Kind.facet (Some (object ms)) right = tt
+
+parts_line : (gs : List Field) (ms : Members) → AllByRecursion (λ g. IsRight g.kind (get_member g.name ms)) gs → AllByRecursion (λ p. HasOneLines p.content) (contents_in gs ms)
+parts_line [] ms right = tt
+parts_line (g ∷ gs) ms right = (value_line g.kind (get_member g.name ms) right.0, parts_line gs ms right.1)
+
+module _ (fs : Schema) (bytes : Text) (ok : IsSchema fs) (one : IsOneLine bytes) where
+  from_checked : (ms : Members) (id : Text) (o : Option Refusal) (i : Item) → is_id id ≡ true → first_fault fs ms ≡ o → checked fs bytes ms id o ≡ Ok i → IsShownInLines i
+  from_checked ms id (Some e) i form right is = absurd (cc)
+  from_checked ms id None i form right is =
+      let same : record { id = id; fields = contents_in fs ms; source = bytes } ≡ i = (cc) in
+      subst IsShownInLines same (record { id = id_line id form; source = one; fields = parts_line fs ms (fields_right fs fs ms right ok.named (kinds fs ok.rising)) })
+
+  from_form : (ms : Members) (id : Text) (b : Bool) (i : Item) → is_id id ≡ b → cond b (checked fs bytes ms id (first_fault fs ms)) (Err refusal.Id) ≡ Ok i → IsShownInLines i
+  from_form ms id true i form is = from_checked ms id (first_fault fs ms) i form refl is
+  from_form ms id false i form is = absurd (cc)
+
+  from_id : (ms : Members) (o : Option Text) (i : Item) → with_id fs bytes ms o ≡ Ok i → IsShownInLines i
+  from_id ms None i is = absurd (cc)
+  from_id ms (Some id) i is = from_form ms id (is_id id) i refl is
+
+  from_members : (o : Option Members) (i : Item) → of_members fs bytes o ≡ Ok i → IsShownInLines i
+  from_members None i is = absurd (cc)
+  from_members (Some ms) i is = from_id ms (option_and_then as_str (get_member id_name ms)) i is
+
+  from_value : (o : Option Data) (i : Item) → of_value fs bytes o ≡ Ok i → IsShownInLines i
+  from_value None i is = absurd (cc)
+  from_value (Some d) i is = from_members (as_object d) i is
+
+  from_small : (b : Bool) (i : Item) → cond b (Err refusal.Large) (of_value fs bytes (json_of bytes)) ≡ Ok i → IsShownInLines i
+  from_small true i is = absurd (cc)
+  from_small false i is = from_value (json_of bytes) i is
+
+pub reads_lines : ReadsLines json
+reads_lines fs bytes i ok one is = from_small fs bytes ok one _ i is
+
+pub opens_shown : OpensShown json OpensEmpty
+opens_shown first from (Begins.opened f l text schema r readable a is opens) =
+    subst IsShownOpened (sym opens) (record { start = record { schema = rules_kept text schema is; token = omega arith; records = tt }; commit = tt })
+
+pub answers_one_talk : EveryAnswerIsOneTalk
+answers_one_talk = answers_are_talks json OpensEmpty reads_lines opens_shown
+
+-- two services that begin with nothing, under one schema
+open_alike : (first₁ first₂ : Text) → HaveOneSchema first₁ first₂ → OpenAlike json OpensEmpty OpensEmpty first₁ first₂
+open_alike first₁ first₂ same one two (Begins.opened f l text schema r readable a is opens) (Begins.opened g k text' schema' r' readable' b is' opens') =
+    let schemas : schema ≡ schema' = ok_value (sym is ∙ same f l g k text text' a b ∙ is') in
+    ap (λ o. o.start) opens ∙ ap (λ s. record { schema = s; records = []; token = 0 }) schemas ∙ ap (λ o. o.start) (sym opens')
+  where
+    ok_value : ◌≡◌ {A = Result Schema Refusal} (Ok schema) (Ok schema') → schema ≡ schema'
+    ok_value e = cc e
+
+pub bytes_agree : HeldReadsAgreeInBytes
+bytes_agree talk₁ talk₂ t s₁ s₂ text reply₁ reply₂ one two same =
+    talks_agree json OpensEmpty OpensEmpty reads_lines opens_shown opens_shown talk₁ talk₂ t s₁ s₂ text reply₁ reply₂ one two (open_alike one.is_talk.first two.is_talk.first same)

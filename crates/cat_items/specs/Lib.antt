@@ -1,0 +1,5 @@
+pub mod Kinds
+pub mod Contents
+pub mod Reading
+pub mod Laws
+pub mod file_parts

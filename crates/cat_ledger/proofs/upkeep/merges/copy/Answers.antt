@@ -1,0 +1,21 @@
+use Rattle.std.proofs.Common.{sym, ◌∙◌}
+use Rattle.cat_ledger.proofs.upkeep.Made.{left_ended, copied_made}
+use Rattle.cat_ledger.proofs.upkeep.Spared.{copied_spares}
+use Rattle.cat_ledger.proofs.upkeep.merges.copy.Goals as goal
+
+pub returns-in-Err-clause-err : goal.returns-in-Err-clause-err
+returns-in-Err-clause-err g c =
+    left_ended (g.D.Holder.bytes c.args.device.now) (g.D.Holder.bytes c.copy_rows.new.device) c.args.core.now c.copy_rows.new.self c.in-Err.ensures.err
+
+pub returns-clause-ok : goal.returns-clause-ok
+returns-clause-ok g c = λ policy.
+    copied_made policy c.in-Some.passed (g.D.Holder.bytes c.args.device.now) (g.D.Holder.bytes c.copy_rows.new.device) c.args.core.now
+    c.copy_rows.new.self c.in_default.ensures.ok (sym c.rows_passed.ensures ∙ c.in-Some.is)
+
+pub returns-in-Err-clause-commits : goal.returns-in-Err-clause-commits
+returns-in-Err-clause-commits g c =
+    copied_spares (g.D.Holder.may_leave c.args.device.now) (g.D.Holder.may_leave c.copy_rows.new.device) c.args.core.now.merging c.copy_rows.ensures.crash
+
+pub returns-clause-commits : goal.returns-clause-commits
+returns-clause-commits g c =
+    copied_spares (g.D.Holder.may_leave c.args.device.now) (g.D.Holder.may_leave c.copy_rows.new.device) c.args.core.now.merging c.copy_rows.ensures.crash

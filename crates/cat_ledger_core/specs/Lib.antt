@@ -1,3 +1,0 @@
-pub mod Commits
-pub mod Cores
-pub mod Installs

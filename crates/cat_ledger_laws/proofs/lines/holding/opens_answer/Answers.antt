@@ -1,0 +1,5 @@
+use Rattle.cat_ledger_laws.proofs.lines.HoldAnswers.{opens_answer}
+use Rattle.cat_ledger_laws.proofs.lines.holding.opens_answer.Goals as goal
+
+pub returns : goal.returns
+returns c = opens_answer

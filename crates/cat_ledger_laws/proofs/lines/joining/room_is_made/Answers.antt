@@ -1,0 +1,5 @@
+use Rattle.cat_ledger_laws.proofs.lines.JoinedCalls.{room_is_made}
+use Rattle.cat_ledger_laws.proofs.lines.joining.room_is_made.Goals as goal
+
+pub returns : goal.returns
+returns c = room_is_made

@@ -1,5 +1,0 @@
-use Rattle.cat_ledger_lines.proofs.LineAnswers.{query_deletes_answer}
-use Rattle.cat_ledger_lines.proofs.answering.query_deletes_answer.Goals as goal
-
-pub returns : goal.returns
-returns c = query_deletes_answer

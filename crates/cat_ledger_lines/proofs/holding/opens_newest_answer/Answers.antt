@@ -1,5 +1,0 @@
-use Rattle.cat_ledger_lines.proofs.HoldAnswers.{opens_newest_answer}
-use Rattle.cat_ledger_lines.proofs.holding.opens_newest_answer.Goals as goal
-
-pub returns : goal.returns
-returns c = opens_newest_answer

@@ -1,5 +1,0 @@
-use Rattle.cat_ledger_lines.proofs.JoinedCalls.{flushed_commits_make}
-use Rattle.cat_ledger_lines.proofs.joining.flushed_commits_make.Goals as goal
-
-pub returns : goal.returns
-returns c = flushed_commits_make

@@ -1,5 +1,0 @@
-use Rattle.cat_ledger_lines.proofs.NeededFiles.{needed_files_stand}
-use Rattle.cat_ledger_lines.proofs.needing.needed_files_stand.Goals as goal
-
-pub returns : goal.returns
-returns c = needed_files_stand

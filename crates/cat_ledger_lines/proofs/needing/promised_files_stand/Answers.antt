@@ -1,5 +1,0 @@
-use Rattle.cat_ledger_lines.proofs.NeededFiles.{promised_files_stand}
-use Rattle.cat_ledger_lines.proofs.needing.promised_files_stand.Goals as goal
-
-pub returns : goal.returns
-returns c = promised_files_stand

@@ -1,5 +1,0 @@
-use Rattle.cat_ledger_lines.proofs.ReadAnswers.{unheld_files_answer}
-use Rattle.cat_ledger_lines.proofs.reading.unheld_files_answer.Goals as goal
-
-pub returns : goal.returns
-returns c = unheld_files_answer

@@ -1,5 +1,0 @@
-use Rattle.cat_ledger_lines.proofs.RefusalAnswers.{spent_commits_answer}
-use Rattle.cat_ledger_lines.proofs.refusing.spent_commits_answer.Goals as goal
-
-pub returns : goal.returns
-returns c = spent_commits_answer

@@ -1,5 +1,0 @@
-use Rattle.cat_ledger_lines.proofs.RefusalAnswers.{spent_snaps_answer}
-use Rattle.cat_ledger_lines.proofs.refusing.spent_snaps_answer.Goals as goal
-
-pub returns : goal.returns
-returns c = spent_snaps_answer

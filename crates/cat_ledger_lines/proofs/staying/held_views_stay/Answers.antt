@@ -1,5 +1,0 @@
-use Rattle.cat_ledger_lines.proofs.KeptCalls.{held_views_stay}
-use Rattle.cat_ledger_lines.proofs.staying.held_views_stay.Goals as goal
-
-pub returns : goal.returns
-returns c = held_views_stay

@@ -1,5 +1,0 @@
-use Rattle.cat_ledger_lines.proofs.StopAnswers.{stopped_commits_answer}
-use Rattle.cat_ledger_lines.proofs.stopping.stopped_commits_answer.Goals as goal
-
-pub returns : goal.returns
-returns c = stopped_commits_answer

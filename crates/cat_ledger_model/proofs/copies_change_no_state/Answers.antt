@@ -1,5 +1,0 @@
-use Rattle.cat_ledger_model.proofs.Begins.{copies_change_no_state}
-use Rattle.cat_ledger_model.proofs.copies_change_no_state.Goals as goal
-
-pub returns : goal.returns
-returns c = copies_change_no_state

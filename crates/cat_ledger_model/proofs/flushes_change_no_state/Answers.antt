@@ -1,5 +1,0 @@
-use Rattle.cat_ledger_model.proofs.Flushes.{flushes_change_no_state}
-use Rattle.cat_ledger_model.proofs.flushes_change_no_state.Goals as goal
-
-pub returns : goal.returns
-returns c = flushes_change_no_state

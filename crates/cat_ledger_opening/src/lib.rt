@@ -1,6 +1,0 @@
-//! Opening: the state in memory at the newest commit of a directory, or of an empty catalogue.
-#![tactic(auto)]
-
-mod opening;
-
-pub use opening::open;

@@ -1,5 +1,0 @@
-use Rattle.cat_ledger_parts_rows.specs.Windows.{MayReplace}
-use Rattle.cat_ledger_parts_rows.proofs.current.merging.install_behind.Given as goal
-
-abbrev pub invariant-loop-step : goal.invariant-loop-step
-invariant-loop-step g l = MayReplace l.current l.merged

@@ -1,5 +1,0 @@
-use Rattle.cat_ledger_shape.proofs.Committed.{commits_are_counted}
-use Rattle.cat_ledger_shape.proofs.committing.commits_are_counted.Goals as goal
-
-pub returns : goal.returns
-returns c = commits_are_counted

@@ -1,5 +1,0 @@
-use Rattle.cat_ledger_shape.proofs.Listed.{live_may_be_written}
-use Rattle.cat_ledger_shape.proofs.committing.live_may_be_written.Goals as goal
-
-pub returns : goal.returns
-returns c = live_may_be_written

@@ -1,5 +1,0 @@
-use Rattle.cat_ledger_shape.proofs.Listed.{names_are_begun}
-use Rattle.cat_ledger_shape.proofs.committing.names_are_begun.Goals as goal
-
-pub returns : goal.returns
-returns c = names_are_begun

@@ -1,5 +1,0 @@
-use Rattle.cat_ledger_shape.proofs.Views.{shapes_are_views}
-use Rattle.cat_ledger_shape.proofs.viewing.shapes_are_views.Goals as goal
-
-pub returns : goal.returns
-returns c = shapes_are_views

@@ -1,0 +1,82 @@
+use Rattle.std.proofs.Common.{◌≤◌, ◌∙◌, [], ◌∷◌, length, Some, sym, ap, subst}
+use Rattle.std.specs.Prelude.{option_map}
+use Rattle.cat_model.specs.Files.{Name}
+use Rattle.cat_model.specs.Limits.{segment_limit}
+use Rattle.cat_ledger_laws.specs.model.Users.{Changes}
+use Rattle.cat_ledger_laws.proofs.shape.MergeInstalls.{installs_keep}
+use Rattle.cat_ledger_state.specs.Cores.{shape_in}
+use Rattle.cat_ledger_state.specs.Installs.{HasAllPassed, HasFailed, HasInstalled}
+use Rattle.cat_ledger_state.proofs.Merging.{still_under, none_under}
+use Rattle.cat_ledger_state.proofs.Installing.{may_install, fails, fails_keep, installs, no_longer, installed_has, failed_has}
+use Rattle.cat_ledger_state.proofs.state.Core.install.Goals as goal
+
+pub install_merged-done-requires : goal.install_merged-done-requires
+install_merged-done-requires g c =
+    let some = sym c.take.ensures.value ∙ c.in-Some.is in
+    let given = subst (λ n. Changes [] (Name.source n ∷ []) c.self.inside.refs c.give_source.new.refs) c.number.ensures c.give_source.ensures in
+    may_install (shape_in c.self.inside) c.in-Some.merge c.len.result c.give_source.new.refs c.self.invariant.shape (ap (option_map (λ m. m.shape)) some)
+    (still_under c.self.inside.schema c.self.inside.merging c.in-Some.merge some c.self.invariant.merges)
+    (subst (λ s. HasAllPassed s.merging) (sym c.self.view_is) c.requires) c.len.ensures.len c.len.ensures.few given
+
+pub invariant_of-self : goal.invariant_of-self
+invariant_of-self g c =
+    let some = sym c.take.ensures.value ∙ c.in-Some.is in
+    let given = subst (λ n. Changes [] (Name.source n ∷ []) c.self.inside.refs c.give_source.new.refs) c.number.ensures c.give_source.ensures in
+    let f = fails (shape_in c.self.inside) c.in-Some.merge c.give_source.new.refs c.install_merged-done.new.refs c.install_merged-done.new.current c.take.new.self
+    c.self.invariant.shape (ap (option_map (λ m. m.shape)) some) given c.in-Err.ensures.err c.take.ensures.after c.in-Err.ensures.same in
+    record {
+      shape = fails_keep (shape_in c.self.inside) c.in-Some.merge.shape _ f c.self.invariant.shape;
+      waits = c.self.invariant.waits;
+      few = subst (λ ls. length ls ≤ segment_limit) (sym c.in-Err.ensures.err) c.self.invariant.few;
+      merges = none_under c.self.inside.schema c.take.new.self c.take.ensures.after;
+    }
+
+pub returns-in-Err-clause-err : goal.returns-in-Err-clause-err
+returns-in-Err-clause-err g c =
+    let some = sym c.take.ensures.value ∙ c.in-Some.is in
+    let given = subst (λ n. Changes [] (Name.source n ∷ []) c.self.inside.refs c.give_source.new.refs) c.number.ensures c.give_source.ensures in
+    let f = fails (shape_in c.self.inside) c.in-Some.merge c.give_source.new.refs c.install_merged-done.new.refs c.install_merged-done.new.current c.take.new.self
+    c.self.invariant.shape (ap (option_map (λ m. m.shape)) some) given c.in-Err.ensures.err c.take.ensures.after c.in-Err.ensures.same in
+    let new = record (shape_in c.self.inside) {
+      leaves = c.install_merged-done.new.current;
+      merging = option_map (λ m. m.shape) c.take.new.self;
+      users = c.install_merged-done.new.refs;
+    } in
+    let told = g.D.Holder.bytes c.args.device.now in
+    let told' = g.D.Holder.bytes c.install_merged-done.new.device in
+    subst (λ s. HasFailed told s told' new) c.self.view_is
+    (failed_has (shape_in c.self.inside) new c.in-Some.merge told told' f c.in-Err.ensures.others)
+
+pub invariant_of-self-2 : goal.invariant_of-self-2
+invariant_of-self-2 g c =
+    let some = sym c.take.ensures.value ∙ c.in-Some.is in
+    let making = ap (option_map (λ m. m.shape)) some in
+    let given = subst (λ n. Changes [] (Name.source n ∷ []) c.self.inside.refs c.give_source.new.refs) c.number.ensures c.give_source.ensures in
+    let is = installs (shape_in c.self.inside) c.in-Some.merge c.give_source.new.refs c.install_merged-done.new.refs c.install_merged-done.new.current c.take.new.self
+    making (still_under c.self.inside.schema c.self.inside.merging c.in-Some.merge some c.self.invariant.merges)
+    (subst (λ s. HasAllPassed s.merging) (sym c.self.view_is) c.requires) given c.in_default-done.ensures.users c.in_default-done.ensures.ok c.take.ensures.after in
+    record {
+      shape = installs_keep c.in-Some.merge.shape (shape_in c.self.inside) _ is c.self.invariant.shape;
+      waits = c.self.invariant.waits;
+      few = no_longer (shape_in c.self.inside) c.in-Some.merge c.install_merged-done.new.current segment_limit c.self.invariant.shape making c.self.invariant.few
+          c.in_default-done.ensures.ok;
+      merges = none_under c.self.inside.schema c.take.new.self c.take.ensures.after;
+    }
+
+pub returns-clause-ok : goal.returns-clause-ok
+returns-clause-ok g c =
+    let some = sym c.take.ensures.value ∙ c.in-Some.is in
+    let under = still_under c.self.inside.schema c.self.inside.merging c.in-Some.merge some c.self.invariant.merges in
+    let given = subst (λ n. Changes [] (Name.source n ∷ []) c.self.inside.refs c.give_source.new.refs) c.number.ensures c.give_source.ensures in
+    let is = installs (shape_in c.self.inside) c.in-Some.merge c.give_source.new.refs c.install_merged-done.new.refs c.install_merged-done.new.current c.take.new.self
+    (ap (option_map (λ m. m.shape)) some) under
+    (subst (λ s. HasAllPassed s.merging) (sym c.self.view_is) c.requires) given c.in_default-done.ensures.users c.in_default-done.ensures.ok c.take.ensures.after in
+    let new = record (shape_in c.self.inside) {
+      leaves = c.install_merged-done.new.current;
+      merging = option_map (λ m. m.shape) c.take.new.self;
+      users = c.install_merged-done.new.refs;
+    } in
+    let told = g.D.Holder.bytes c.args.device.now in
+    let told' = g.D.Holder.bytes c.install_merged-done.new.device in
+    subst (λ s. HasInstalled told s told' new) c.self.view_is
+    (installed_has (shape_in c.self.inside) new c.in-Some.merge told told' is under c.in_default-done.ensures.others c.in_default-done.ensures.written)

@@ -1,0 +1,97 @@
+-- What memory has of a ledger, as a shape; what always holds of it; and what a flush or a refusal makes of it and of the device.
+use Rattle.std.specs.Prelude.{◌≡◌, ◌≢◌, ◌⊎◌, ◌<◌, ◌≤◌, Bool, List, [], ◌∷◌, length, Option, Some, None, option_map}
+use Rattle.cat_model.specs.Files.{Name}
+use Rattle.cat_model.specs.Item.{Schema}
+use Rattle.cat_model.specs.Limits.{last_number, segment_limit}
+use Rattle.cat_model.specs.Merged.{rows_of_all}
+use Rattle.cat_directory.specs.Names.{name_of}
+use Rattle.cat_directory.specs.declared.name.FileName.{FileName}
+use Rattle.cat_ledger_laws.specs.model.Users.{has_name}
+use Rattle.cat_ledger_laws.specs.shape.Shapes.{MergingShape, Shape, IsShape, flushed_leaf, names_of_leaves}
+use Rattle.cat_ledger_laws.specs.shape.Steps.{IsFlushed, IsCopied, IsEnded, Leaves}
+use Rattle.cat_ledger_laws.specs.shape.MergeLaws.{CopiesOn}
+use Rattle.cat_ledger_laws.specs.shape.Ties.{ToldFiles, TouchesOnly, TouchesNothing}
+use Rattle.cat_ledger_laws.specs.shape.WriteLaws.{WritesFlush}
+use Rattle.cat_merge.specs.files.Making.{InMaking}
+use Rattle.cat_lifetimes.specs.records.Records.{Records}
+use Rattle.cat_ledger_state.specs.declared.state.Core.TheInside.{Inside}
+
+abbrev pub shape_in : Inside → Shape
+shape_in c = record {
+  schema = c.schema;
+  leaves = c.current;
+  buffered = c.buffer.records;
+  count = c.count;
+  views = c.records.views;
+  holds = c.records.holds;
+  commits = c.commits.items;
+  listed = c.listing;
+  taken = c.snapshots;
+  merging = option_map (λ m. m.shape) c.merging;
+  users = c.refs;
+  next_segment = c.next_segment;
+  next_generation = c.next_generation;
+}
+
+-- a merge has the schema
+abbrev pub MergesUnder : Schema → Option InMaking → Type 0
+MergesUnder schema None = Unit {0}
+MergesUnder schema (Some m) = m.schema ≡ schema
+
+-- It is the shape of some ledger; what waits, and a merge, have its schema; and a commit can list its segments.
+pub record IsCore (c : Inside) : Type 0 where
+  pub shape : IsShape (shape_in c)
+  pub waits : c.buffer.schema ≡ c.schema
+  pub few : length c.current ≤ segment_limit
+  pub merges : MergesUnder c.schema c.merging
+
+-- the names of the files that a flush begins
+abbrev pub flush_begins : Shape → List Name
+flush_begins s = names_of_leaves (flushed_leaf s ∷ [])
+
+-- what a flush makes: nothing where nothing waits
+abbrev pub HasFlushed : ToldFiles → Shape → ToldFiles → Shape → Type 0
+HasFlushed told s told' new =
+    ((s.buffered ≡ []) × (new ≡ s) × TouchesNothing told told') ⊎ (IsFlushed s new × WritesFlush s told told')
+
+-- What a refused call leaves: all as it was, or names that it began.
+abbrev pub HasGivenUp : List Name → ToldFiles → Shape → ToldFiles → Shape → Type 0
+HasGivenUp begun told s told' new = ((new ≡ s) × TouchesNothing told told') ⊎ (Leaves begun s new × TouchesOnly begun told told')
+
+-- its views and holds
+abbrev pub records_in : Shape → Records
+records_in s = record { views = s.views; holds = s.holds }
+
+-- ---- the flush
+
+-- the file is one of those that are begun
+abbrev pub is_begun : List Name → FileName → Bool
+is_begun begun q = has_name (name_of q) begun
+
+-- something waits, and no number is left for a segment, or as many stand as may
+abbrev pub MayNotFlush : Shape → Type 0
+MayNotFlush s = (s.buffered ≢ []) × ((last_number < s.next_segment) ⊎ (segment_limit ≤ length s.leaves))
+
+-- ---- merges
+
+-- the step of a merge is made, and its sources stand behind those that were copied
+pub record HasCopied (told : ToldFiles) (s : Shape) (told' : ToldFiles) (new : Shape) : Type 0 where
+  pub merge : MergingShape
+  pub copied : IsCopied merge s new
+  pub written : CopiesOn merge told told'
+
+-- the merge in the making is over, with nothing made
+pub record HasEnded (told : ToldFiles) (s : Shape) (told' : ToldFiles) (new : Shape) : Type 0 where
+  pub merge : MergingShape
+  pub ended : IsEnded merge s new
+  pub others : TouchesOnly (Name.source merge.number ∷ Name.segment merge.number ∷ []) told told'
+
+-- a merge is in the making, which has rows left to pass
+abbrev pub HasRowsLeft : Option MergingShape → Type 0
+HasRowsLeft None = ⊥
+HasRowsLeft (Some m) = m.passed < length (rows_of_all m.inputs)
+
+-- the file is that of the sources of the merge in the making
+abbrev pub IsSourceOf : Option MergingShape → FileName → Type 0
+IsSourceOf None q = ⊥
+IsSourceOf (Some m) q = q ≡ FileName.Source m.number

@@ -1,0 +1,102 @@
+//! The commit: what stands is to outlast the program.
+//!
+//! Lucene's `IndexWriter.commit`, with `IndexFileDeleter.checkpoint`. That what waits is flushed before is left to who commits.
+ghost use Rattle.std.specs.Prelude.{◌≡◌, ◌⊎◌, ◌<◌, ◌≤◌, false, true, [], ◌∷◌, Some, None, IfOk, IfErr, OnOk, OnErr};
+ghost use Rattle.cat_base.specs.declared.refusal.Refusal.TheVariants.{Memory, Device, Spent};
+ghost use Rattle.cat_model.specs.Files.{Name};
+ghost use Rattle.cat_model.specs.Forms.{IsCommitText};
+ghost use Rattle.cat_model.specs.Limits.{last_number};
+ghost use Rattle.cat_directory.specs.Devices.{CountsOne, NoMore};
+ghost use Rattle.cat_directory.specs.Names.{name_of};
+ghost use Rattle.cat_directory.specs.declared.name.FileName.{FileName};
+ghost use Rattle.cat_ledger_laws.specs.model.Users.{has_name};
+ghost use Rattle.cat_ledger_laws.specs.shape.CommitLaws.{names_begun};
+ghost use Rattle.cat_commits.specs.writing.NewFiles.{AreSettled, ComesLast};
+ghost use Rattle.cat_ledger_state.specs.Commits.{HasCommitted, draft_now, names_synced};
+ghost use Rattle.cat_ledger_state.specs.Cores.{HasGivenUp, is_begun};
+
+use crate::kept::{files_leaving, keep};
+use crate::state::Core;
+use cat_base::{Generation, LAST_NUMBER, MAX_RECORDS, Refusal, Text};
+use cat_commits::writing::{Draft, Heading, drafts_write_commits};
+use cat_directory::Directory;
+use std::alloc::AllocError;
+
+impl Core {
+    /// The commit of now with this text, ready to be written.
+    fn draft(&self, text: &str) -> Result<Draft, AllocError>
+        requires text { IsCommitText text.now }
+        requires left { self.now.next_generation ≤ last_number }
+        ensures { IfOk result (λ d. d ≡ draft_now text.now self.now) }
+    {
+        // Its contract says that they are those of a schema.
+        let _fields = self.schema.fields();
+        let heading = Heading {
+            generation: self.next_generation,
+            token: self.count,
+            next_segment: self.next_segment,
+            text: Text::from_str(self.alloc, text)?,
+            schema: self.schema.copy()?,
+        };
+        Draft::of(&self.listing, self.current.leaves(), heading)
+    }
+
+    /// Keeps a commit of now with this text, where nothing waits, and answers its number. All that it needs lasts then. The
+    /// commits go that were kept for being the newest alone, and their files are pending where nobody else needs them. (Lucene:
+    /// `IndexWriter.commit` with its user data.)
+    ///
+    /// [`Refusal::Spent`] where no number is left for a commit; else [`Refusal::Device`] where the directory fails, or doesn't
+    /// have a file of a segment that is to be synced, or [`Refusal::Memory`]. Then no commit comes and none goes; the files that
+    /// were begun are pending.
+    pub fn commit<D: Directory>(
+        &mut self,
+        device: &mut D,
+        text: &str,
+    ) -> Result<Generation, Refusal>
+        requires flushed { self.old.buffered ≡ [] }
+        requires text { IsCommitText text.now }
+        ensures number { IfOk result (λ g. g ≡ self.old.next_generation) }
+        ensures ok { OnOk result (HasCommitted text.now (D.bytes device.old) self.old (D.bytes device.new) self.new) }
+        ensures err { OnErr result (HasGivenUp (names_begun self.old) (D.bytes device.old) self.old (D.bytes device.new) self.new) }
+        ensures crash { (q : FileName) → is_begun (names_begun self.old) q ≡ false
+            → NoMore (D.may_leave device.old q) (D.may_leave device.new q) }
+        ensures lasts { OnOk result (AreSettled (Name.commit self.old.next_generation ∷ names_synced self.old)
+            (D.bytes device.new) (D.may_leave device.new)) }
+        ensures order { ComesLast (FileName.Commit self.old.next_generation) (names_synced self.old) (D.bytes device.old) (D.bytes device.new)
+            (D.may_leave device.old) (D.may_leave device.new) }
+        ensures spent { IfErr result (λ e. e ≡ Spent → last_number < self.old.next_generation) }
+        ensures due { IfErr result (λ e. (e ≡ Memory) ⊎ (e ≡ Device) → self.old.next_generation ≤ last_number) }
+        ensures device { IfErr result (λ e. e ≡ Device → D.can_fail device.old
+            ⊎ ((q : FileName) × (has_name (name_of q) (names_synced self.old) ≡ true) × (is_begun (names_begun self.old) q ≡ false)
+            × (D.bytes device.old q ≡ Some None))) }
+        ensures counted { IfErr result (λ e. e ≡ Device → CountsOne (D.fault_count device.old) (D.fault_count device.new)) }
+        ensures can { D.can_fail device.new → D.can_fail device.old }
+        ensures refusal { IfErr result (λ e. (e ≡ Memory) ⊎ (e ≡ Device) ⊎ (e ≡ Spent)) }
+    {
+        drafts_write_commits();
+        let generation = self.next_generation;
+        if generation > LAST_NUMBER {
+            return Err(Refusal::Spent);
+        }
+        prove!(self.records.len() <= MAX_RECORDS);
+        let draft = self.draft(text)?;
+        let newest = Some(generation);
+        let given = files_leaving(self.alloc, &self.commits, newest, &self.snapshots, None)?;
+        self.commits.reserve(1)?;
+        self.refs.take(draft.names())?;
+        self.next_generation = generation + 1;
+        match draft.write(device) {
+            Ok(()) => {
+                self.refs.give(&given);
+                let (commit, listing) = draft.into_parts();
+                keep(&mut self.commits, &self.snapshots, commit);
+                self.listing = listing;
+                Ok(generation)
+            }
+            Err(refusal) => {
+                self.refs.give(draft.names());
+                Err(refusal)
+            }
+        }
+    }
+}

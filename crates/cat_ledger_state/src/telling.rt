@@ -1,0 +1,36 @@
+//! What is asked of the kept commits, which changes nothing and takes no memory.
+//!
+//! Lucene's `DirectoryReader.listCommits`, and what `SnapshotDeletionPolicy` tells of its snapshots.
+ghost use Rattle.std.specs.Prelude.{◌≡◌, ◌==◌, find, option_map};
+ghost use Rattle.cat_model.specs.State.{snapshots_in};
+ghost use Rattle.cat_ledger_laws.specs.shape.Steps.{newest_generation};
+
+use crate::kept::{commit_under, newest_of};
+use crate::state::Core;
+use cat_base::Generation;
+use cat_commits::Commit;
+
+impl Core {
+    /// The newest commit, if one is kept (Lucene: `SegmentInfos.getLastCommitGeneration`).
+    pub fn newest(&self) -> Option<Generation>
+        ensures { result ≡ newest_generation self.now.commits }
+    {
+        newest_of(&self.commits)
+    }
+
+    /// The commit of the generation, if it is kept: its text, and the names of the files that it needs (Lucene: an `IndexCommit`
+    /// with its `getUserData` and `getFileNames`).
+    pub fn commit_at(&self, generation: Generation) -> Option<&Commit>
+        ensures { option_map (λ c. c.now) result ≡ find (λ c. c.generation == generation) self.now.commits }
+    {
+        commit_under(&self.commits, generation)
+    }
+
+    /// How many snapshots of the commit are not given back: 0 also where it isn't kept (Lucene: `getSnapshotCount`, of one
+    /// commit).
+    pub fn snapshots_of(&self, generation: Generation) -> u32
+        ensures { result ≡ snapshots_in self.now.taken generation }
+    {
+        self.snapshots.count(generation)
+    }
+}

@@ -1,0 +1,59 @@
+//! The writes: an item that is put, items that are deleted by their id or by a query.
+//!
+//! Lucene's `IndexWriter.updateDocument` and `deleteDocuments`. That the buffer is flushed in time is left to who writes.
+ghost use Rattle.std.specs.Prelude.{◌≡◌, ◌<◌, length, OnOk, OnErr};
+ghost use Rattle.cat_model.specs.Item.{IsItem};
+ghost use Rattle.cat_model.specs.Limits.{buffer_limit, last_number};
+ghost use Rattle.cat_model.specs.Write.{Write};
+ghost use Rattle.cat_live_table.specs.cat_query.View.{query_of};
+ghost use Rattle.cat_ledger_laws.specs.shape.Steps.{with_write};
+
+use crate::state::Core;
+use cat_live_table::{Item, Query};
+use std::alloc::AllocError;
+
+impl Core {
+    /// Puts the item under the next number, in the place of the one of its id. There is room for it, and a number is left. An
+    /// error changes nothing.
+    pub fn put(&mut self, item: Item) -> Result<(), AllocError>
+        requires item { IsItem self.old.schema item }
+        requires space { length self.old.buffered < buffer_limit }
+        requires left { self.old.count < last_number }
+        ensures ok { OnOk result (self.new ≡ with_write self.old (Write.put item)) }
+        ensures err { OnErr result (self.new ≡ self.old) }
+    {
+        let id = String::from_str(self.alloc, item.id())?;
+        self.buffer.put(self.count + 1, item)?;
+        if let Err(refused) = self.current.delete(&id) {
+            // The id is a live row's, so the item took no other's place in the buffer.
+            self.buffer.pop();
+            return Err(refused);
+        }
+        self.count += 1;
+        Ok(())
+    }
+
+    /// Deletes the item of the id, if there is one. A number is left. An error changes nothing.
+    pub fn delete(&mut self, id: &str) -> Result<(), AllocError>
+        requires left { self.old.count < last_number }
+        ensures ok { OnOk result (self.new ≡ with_write self.old (Write.delete id.now)) }
+        ensures err { OnErr result (self.new ≡ self.old) }
+    {
+        self.current.delete(id)?;
+        let _waited = self.buffer.delete(id);
+        self.count += 1;
+        Ok(())
+    }
+
+    /// Deletes the items that the query matches. A number is left. An error changes nothing.
+    pub fn delete_where(&mut self, query: &Query) -> Result<(), AllocError>
+        requires left { self.old.count < last_number }
+        ensures ok { OnOk result (self.new ≡ with_write self.old (Write.delete_where (query_of query.now))) }
+        ensures err { OnErr result (self.new ≡ self.old) }
+    {
+        self.current.delete_where(query)?;
+        self.buffer.delete_where(query);
+        self.count += 1;
+        Ok(())
+    }
+}

@@ -1,0 +1,181 @@
+//! Calls of a ledger, and what each has to be answered.
+use crate::ledger::ledger::maintaining::{
+    files_of, force, merge, note, snapshot, stat, step, sweep, unsnapshot,
+};
+use crate::ledger::ledger::viewing::{acquire, page, prune, refresh, release, source};
+use crate::ledger::ledger::writing::{commit, delete, delete_where, put, put_under};
+use cat_base::{Generation, Refusal, SessionNo, Token};
+use cat_directory::{Directory, Shelf};
+use cat_items::Schema;
+use cat_ledger::upkeep::MergePolicy;
+use cat_ledger::{Ledger, NotOpened};
+use cat_lifetimes::rights::Rights;
+use std::alloc::Global;
+use std::process::Abort;
+use std::test::Fail;
+
+/// The fields of the items.
+pub(crate) const FIELDS: &[u8] = br#"{"name":"text","price":"number"}"#;
+
+/// A call, and what it is answered.
+pub(crate) type Row<'a> = (Call<'a>, &'a str);
+
+/// A call of a ledger.
+#[derive(Clone, Copy)]
+pub(crate) enum Call<'a> {
+    Put(&'a str),
+    /// `put` of an item that was read under these fields.
+    PutUnder(&'a str, &'a str),
+    Delete(&'a str),
+    DeleteWhere(&'a str),
+    Refresh,
+    Acquire(SessionNo, Option<Token>),
+    /// `release` by the first session of a right that the second was granted.
+    Release(SessionNo, SessionNo, Token),
+    Prune(u64),
+    /// `source` of the id in the view that the session holds.
+    Source(SessionNo, Token, &'a str),
+    /// The page by price of what the query matches in the view that the session holds.
+    Page(SessionNo, Token, &'a str),
+    Commit(&'a str),
+    Note(Generation),
+    Files(Generation),
+    Snapshot,
+    Unsnapshot(Generation),
+    Step,
+    /// Steps until one finds nothing to do.
+    Merge,
+    Force,
+    Sweep,
+    Stat,
+}
+
+/// What a call that writes or asks for a view is answered, as text.
+fn answer_writes<D: Directory + Shelf>(
+    alloc: Global,
+    ledger: &mut Ledger<D>,
+    rights: &mut Rights,
+    call: Call<'_>,
+) -> Result<String, Refusal> {
+    match call {
+        Call::Put(item) => put(alloc, ledger, item),
+        Call::PutUnder(fields, item) => put_under(alloc, ledger, fields, item),
+        Call::Delete(id) => delete(alloc, ledger, id),
+        Call::DeleteWhere(query) => delete_where(alloc, ledger, query),
+        Call::Refresh => refresh(alloc, ledger),
+        Call::Acquire(session, token) => acquire(alloc, ledger, rights, session, token),
+        Call::Release(session, owner, token) => {
+            release(alloc, ledger, rights, (session, owner), token)
+        }
+        Call::Prune(count) => prune(alloc, ledger, count),
+        Call::Source(session, token, id) => source(alloc, ledger, rights, (session, token), id),
+        Call::Page(session, token, query) => page(alloc, ledger, rights, (session, token), query),
+        _ => Err(Refusal::Line),
+    }
+}
+
+/// What a call is answered, as text.
+pub(crate) fn answer<D: Directory + Shelf>(
+    alloc: Global,
+    ledger: &mut Ledger<D>,
+    rights: &mut Rights,
+    call: Call<'_>,
+) -> Result<String, Refusal> {
+    match call {
+        Call::Commit(text) => commit(alloc, ledger, text),
+        Call::Note(generation) => note(alloc, ledger, generation),
+        Call::Files(generation) => files_of(alloc, ledger, generation),
+        Call::Snapshot => snapshot(alloc, ledger),
+        Call::Unsnapshot(generation) => unsnapshot(alloc, ledger, generation),
+        Call::Step => step(alloc, ledger),
+        Call::Merge => merge(alloc, ledger),
+        Call::Force => force(alloc, ledger),
+        Call::Sweep => sweep(alloc, ledger),
+        Call::Stat => stat(alloc, ledger),
+        _ => answer_writes(alloc, ledger, rights, call),
+    }
+}
+
+/// Makes the calls in turn. Each has to be answered so.
+pub(crate) fn expect<D: Directory + Shelf>(
+    rt: &impl Abort,
+    alloc: Global,
+    ledger: &mut Ledger<D>,
+    rights: &mut Rights,
+    rows: &[Row<'_>],
+) -> Result<(), Fail> {
+    for (index, (call, want)) in rows.iter().enumerate() {
+        let got = answer(alloc, ledger, rights, *call)?;
+        assert_eq!(rt; got.as_str(), *want, "row {index}");
+    }
+    Ok(())
+}
+
+/// Makes the calls of each table in turn.
+fn expect_all<D: Directory + Shelf>(
+    rt: &impl Abort,
+    alloc: Global,
+    ledger: &mut Ledger<D>,
+    rights: &mut Rights,
+    tables: &[&[Row<'_>]],
+) -> Result<(), Fail> {
+    for rows in tables {
+        expect(rt, alloc, ledger, rights, rows)?;
+    }
+    Ok(())
+}
+
+/// The ledger of the directory under these fields, which merges two segments at once, of up to ten rows on the lowest level; or why
+/// there is none.
+pub(crate) fn try_open<D: Directory + Shelf + Drop>(
+    alloc: Global,
+    device: D,
+    fields: &[u8],
+) -> Result<Result<Ledger<D>, NotOpened<D>>, Refusal> {
+    let schema = Schema::read(alloc, fields)?;
+    match MergePolicy::of(2, 10) {
+        Some(policy) => Ok(Ledger::open(alloc, device, schema, policy)),
+        None => Err(Refusal::Count),
+    }
+}
+
+/// The ledger of the directory.
+pub(crate) fn open<D: Directory + Shelf + Drop>(
+    alloc: Global,
+    device: D,
+) -> Result<Ledger<D>, Refusal> {
+    match try_open(alloc, device, FIELDS)? {
+        Ok(ledger) => Ok(ledger),
+        Err(refused) => Err(refused.refusal),
+    }
+}
+
+/// Ends all rights without giving them back.
+pub(crate) fn end(rights: Rights) {
+    let mut rights = rights;
+    while let Some(hold) = rights.pop() {
+        hold.give_up();
+    }
+    rights.destroy_empty();
+}
+
+/// Ends the ledger with its directory. A ledger that only leaves a scope would be proved to end once more, part by part.
+pub(crate) fn close<D: Directory + Shelf + Drop>(ledger: Ledger<D>) {
+    let _device = ledger.into_directory();
+}
+
+/// Opens the ledger of the directory, makes the calls, and answers the directory as they left it.
+pub(crate) fn run<D: Directory + Shelf + Drop>(
+    rt: &impl Abort,
+    alloc: Global,
+    device: D,
+    tables: &[&[Row<'_>]],
+) -> Result<D, Fail> {
+    let mut ledger = open(alloc, device)?;
+    let mut rights = Rights::new(alloc);
+    let outcome = expect_all(rt, alloc, &mut ledger, &mut rights, tables);
+    end(rights);
+    let device = ledger.into_directory();
+    outcome?;
+    Ok(device)
+}

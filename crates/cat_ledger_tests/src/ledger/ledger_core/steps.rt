@@ -1,0 +1,265 @@
+//! Steps of a ledger and its device, and what each has to be answered.
+use crate::ledger::ledger_core::calling::{
+    Device, commit, delete, delete_where, empty_at, flush, hold, put, put_all_viewed, put_many,
+};
+use crate::ledger::ledger_core::telling::{
+    tell_commit, tell_counts, tell_done, tell_files, tell_newest, tell_number, tell_standing,
+    tell_whether,
+};
+use cat_base::{Generation, Refusal, SegNo, SessionNo, Token};
+use cat_directory::{Faults, Faulty, FileName, MemoryDirectory};
+use cat_ledger::cat_ledger_state::Core;
+use std::alloc::Global;
+use std::process::Abort;
+use std::test::Fail;
+
+/// A step, and what it is answered.
+pub(crate) type Row<'a> = (Step<'a>, &'a str);
+
+/// The numbers that are next in a ledger where nothing is, and the steps in it.
+pub(crate) type Case<'a> = ((SegNo, Generation), &'a [&'a [Row<'a>]]);
+
+/// A step of a ledger and its device.
+#[derive(Clone, Copy)]
+pub(crate) enum Step<'a> {
+    Put(&'a str),
+    /// Puts so many items.
+    PutMany(u32),
+    Delete(&'a str),
+    DeleteWhere(&'a str),
+    Flush,
+    /// Puts so many items, each in a segment of its own, and records a view behind each.
+    PutViewed(u64),
+    Hold(SessionNo, Token),
+    LetGo(SessionNo, Token),
+    Prune(u64),
+    /// Flushes, and keeps a commit with this text.
+    Commit(&'a str),
+    Snapshot,
+    Unsnapshot(Generation),
+    Sweep,
+    /// From now on these calls of the device fail.
+    Fail(Faults),
+    /// How many calls the device had.
+    Calls,
+    /// The names of the device's files.
+    Names,
+    Standing,
+    /// Counts, and the users of these names.
+    Told(&'a [FileName]),
+    IsDue,
+    IsRecorded(Token),
+    IsMerging,
+    Newest,
+    CommitText(Generation),
+    SnapshotsOf(Generation),
+}
+
+/// Tells what a step is answered that asks.
+fn tell_asked(text: &mut String, core: &Core, step: Step<'_>) -> Result<(), Refusal> {
+    match step {
+        Step::Standing => tell_standing(text, core),
+        Step::Told(names) => tell_counts(text, core, names),
+        Step::IsDue => tell_whether(text, core.is_due()),
+        Step::IsRecorded(token) => tell_whether(text, core.is_recorded(token)),
+        Step::IsMerging => tell_whether(text, core.is_merging()),
+        Step::Newest => tell_newest(text, core),
+        Step::CommitText(generation) => tell_commit(text, core, generation),
+        Step::SnapshotsOf(generation) => tell_number(
+            text,
+            Ok(u64::from(core.snapshots_of(generation))),
+        ),
+        _ => Err(Refusal::Line),
+    }
+}
+
+/// Lets the oldest views go.
+fn prune(core: &mut Core, count: u64) -> Result<u64, Refusal> {
+    Ok(core.prune(count)?)
+}
+
+/// Takes a snapshot.
+fn snapshot(core: &mut Core) -> Result<u64, Refusal> {
+    core.snapshot()
+}
+
+/// Gives a snapshot back, and says how many are left.
+fn unsnapshot(core: &mut Core, generation: Generation) -> Result<u64, Refusal> {
+    Ok(u64::from(core.unsnapshot(generation)?))
+}
+
+/// Tells what a step is answered that changes the ledger and calls no device.
+fn tell_changed(
+    text: &mut String,
+    alloc: Global,
+    core: &mut Core,
+    step: Step<'_>,
+) -> Result<(), Refusal> {
+    match step {
+        Step::Put(item) => tell_done(text, put(core, alloc, item)),
+        Step::PutMany(count) => tell_done(text, put_many(core, alloc, count)),
+        Step::Delete(id) => tell_done(text, delete(core, id)),
+        Step::DeleteWhere(query) => tell_done(text, delete_where(core, alloc, query)),
+        Step::Hold(session, token) => tell_done(text, hold(core, session, token)),
+        Step::LetGo(session, token) => tell_whether(text, core.let_go(session, token)),
+        Step::Prune(count) => tell_number(text, prune(core, count)),
+        Step::Snapshot => tell_number(text, snapshot(core)),
+        Step::Unsnapshot(generation) => tell_number(text, unsnapshot(core, generation)),
+        _ => tell_asked(text, core, step),
+    }
+}
+
+/// Deletes the files that nobody needs.
+fn sweep(core: &mut Core, device: &mut Device) -> Result<u64, Refusal> {
+    core.sweep(device)
+}
+
+/// Lets other calls of the device fail.
+fn set_faults(device: &mut Device, faults: Faults) {
+    device.set_faults(faults);
+}
+
+/// Tells what a step is answered.
+fn tell(
+    text: &mut String,
+    alloc: Global,
+    core: &mut Core,
+    device: &mut Device,
+    step: Step<'_>,
+) -> Result<(), Refusal> {
+    match step {
+        Step::Flush => tell_done(text, flush(core, device)),
+        Step::PutViewed(count) => tell_done(text, put_all_viewed(core, alloc, device, count)),
+        Step::Commit(said) => tell_number(text, commit(core, device, said)),
+        Step::Sweep => tell_number(text, sweep(core, device)),
+        Step::Fail(faults) => {
+            set_faults(device, faults);
+            tell_done(text, Ok(()))
+        }
+        Step::Calls => tell_number(text, Ok(device.calls())),
+        Step::Names => tell_files(text, alloc, device),
+        _ => tell_changed(text, alloc, core, step),
+    }
+}
+
+/// Takes the steps in turn. Each has to be answered so.
+fn expect(
+    rt: &impl Abort,
+    alloc: Global,
+    core: &mut Core,
+    device: &mut Device,
+    rows: &[Row<'_>],
+) -> Result<(), Fail> {
+    let mut got = String::new(alloc);
+    for (index, (step, want)) in rows.iter().enumerate() {
+        got.clear();
+        tell(&mut got, alloc, core, device, *step)?;
+        assert_eq!(rt; got.as_str(), *want, "row {index}");
+    }
+    Ok(())
+}
+
+/// Takes the steps of each table in turn.
+fn expect_all(
+    rt: &impl Abort,
+    alloc: Global,
+    core: &mut Core,
+    device: &mut Device,
+    tables: &[&[Row<'_>]],
+) -> Result<(), Fail> {
+    for rows in tables {
+        expect(rt, alloc, core, device, rows)?;
+    }
+    Ok(())
+}
+
+/// Takes the steps in a state that is gone then.
+pub(crate) fn expect_of(
+    rt: &impl Abort,
+    alloc: Global,
+    core: Core,
+    device: &mut Device,
+    tables: &[&[Row<'_>]],
+) -> Result<(), Fail> {
+    let mut core = core;
+    expect_all(rt, alloc, &mut core, device, tables)
+}
+
+/// A device without a file, none of whose calls fails.
+pub(crate) fn new_device(alloc: Global) -> Device {
+    Faulty::new(MemoryDirectory::new(alloc), Faults::Never)
+}
+
+/// Takes the steps in a ledger where nothing is and these numbers are next, and leaves its files on the device.
+pub(crate) fn run_on(
+    rt: &impl Abort,
+    alloc: Global,
+    device: &mut Device,
+    next: (SegNo, Generation),
+    tables: &[&[Row<'_>]],
+) -> Result<(), Fail> {
+    let core = empty_at(alloc, next.0, next.1)?;
+    expect_of(rt, alloc, core, device, tables)
+}
+
+/// Takes the steps in a ledger where nothing is and these numbers are next.
+fn run_at(
+    rt: &impl Abort,
+    alloc: Global,
+    next: (SegNo, Generation),
+    tables: &[&[Row<'_>]],
+) -> Result<(), Fail> {
+    let mut device = new_device(alloc);
+    run_on(rt, alloc, &mut device, next, tables)
+}
+
+/// Takes the steps of each case, in a ledger of its own.
+pub(crate) fn run_each(rt: &impl Abort, alloc: Global, cases: &[Case<'_>]) -> Result<(), Fail> {
+    for (next, tables) in cases {
+        run_at(rt, alloc, *next, tables)?;
+    }
+    Ok(())
+}
+
+/// Takes the steps, with the failure of the device's call behind so many between them.
+fn expect_failing(
+    rt: &impl Abort,
+    alloc: Global,
+    core: &mut Core,
+    device: &mut Device,
+    before: &[Row<'_>],
+    passing: u64,
+    behind: &[Row<'_>],
+) -> Result<(), Fail> {
+    expect(rt, alloc, core, device, before)?;
+    let fail = &[(Step::Fail(Faults::One(passing)), "ok")];
+    expect(rt, alloc, core, device, fail)?;
+    expect(rt, alloc, core, device, behind)
+}
+
+/// The same in a ledger where nothing is.
+fn run_failing_at(
+    rt: &impl Abort,
+    alloc: Global,
+    before: &[Row<'_>],
+    passing: u64,
+    behind: &[Row<'_>],
+) -> Result<(), Fail> {
+    let mut core = empty_at(alloc, 1, 1)?;
+    let mut device = new_device(alloc);
+    expect_failing(rt, alloc, &mut core, &mut device, before, passing, behind)
+}
+
+/// The same for each of so many calls.
+pub(crate) fn run_failing(
+    rt: &impl Abort,
+    alloc: Global,
+    before: &[Row<'_>],
+    calls: u64,
+    behind: &[Row<'_>],
+) -> Result<(), Fail> {
+    for passing in 0..calls {
+        run_failing_at(rt, alloc, before, passing, behind)?;
+    }
+    Ok(())
+}

@@ -1,0 +1,111 @@
+//! Answers as texts: the refusal's number, or what came; and what is told of a ledger.
+use crate::ledger::ledger_core::calling::Device;
+use cat_base::Refusal;
+use cat_directory::{Directory, FileName};
+use cat_ledger::cat_ledger_state::Core;
+use cat_views::Leaf;
+use std::alloc::{AllocError, Global};
+use std::fmt::Write;
+
+/// The number of the refusal.
+fn number_of(refusal: Refusal) -> u64 {
+    u64::from(refusal.number())
+}
+
+/// Tells the number of the refusal. Want of memory is no answer, and is passed on.
+pub(crate) fn tell_refused(text: &mut String, refusal: Refusal) -> Result<(), Refusal> {
+    match refusal {
+        Refusal::Memory => Err(Refusal::Memory),
+        other => Ok(write!(text, "NO {}", number_of(other))?),
+    }
+}
+
+/// Tells `ok` where it was done.
+pub(crate) fn tell_done(text: &mut String, answer: Result<(), Refusal>) -> Result<(), Refusal> {
+    match answer {
+        Ok(()) => Ok(text.push_str("ok")?),
+        Err(refusal) => tell_refused(text, refusal),
+    }
+}
+
+/// Tells a number.
+pub(crate) fn tell_number(text: &mut String, answer: Result<u64, Refusal>) -> Result<(), Refusal> {
+    match answer {
+        Ok(number) => Ok(write!(text, "{number}")?),
+        Err(refusal) => tell_refused(text, refusal),
+    }
+}
+
+/// Tells `yes` or `no`.
+pub(crate) fn tell_whether(text: &mut String, answer: bool) -> Result<(), Refusal> {
+    Ok(text.push_str(if answer { "yes" } else { "no" })?)
+}
+
+/// Tells the number of the newest commit; `none` where there is none.
+pub(crate) fn tell_newest(text: &mut String, core: &Core) -> Result<(), Refusal> {
+    match core.newest() {
+        Some(generation) => Ok(write!(text, "{generation}")?),
+        None => Ok(text.push_str("none")?),
+    }
+}
+
+/// Tells the number of the segment and the ids of its rows, dead ones behind a minus.
+fn tell_leaf(text: &mut String, leaf: &Leaf) -> Result<(), AllocError> {
+    let segment = leaf.segment();
+    write!(text, "{}:", segment.number())?;
+    for row in 0..segment.len() {
+        let sign = if leaf.live().is_live(row) { "" } else { "-" };
+        write!(text, " {sign}{}", segment.id(row))?;
+    }
+    text.push(';')
+}
+
+/// Tells the segments in order.
+pub(crate) fn tell_standing(text: &mut String, core: &Core) -> Result<(), Refusal> {
+    for leaf in core.leaves() {
+        tell_leaf(text, leaf)?;
+    }
+    Ok(())
+}
+
+/// Tells how many writes there were, items wait and segments stand; the users of these names; and how many are pending.
+pub(crate) fn tell_counts(
+    text: &mut String,
+    core: &Core,
+    names: &[FileName],
+) -> Result<(), Refusal> {
+    let standing = core.leaves().len();
+    write!(text, "{} {} {standing}:", core.count(), core.waiting())?;
+    for name in names {
+        write!(text, " {}", core.users(*name))?;
+    }
+    Ok(write!(text, "; {}", core.pending())?)
+}
+
+/// Tells each of the names.
+fn tell_names(text: &mut String, names: &[FileName]) -> Result<(), Refusal> {
+    for name in names {
+        write!(text, " {name}")?;
+    }
+    Ok(())
+}
+
+/// Tells the names of the files that there are.
+pub(crate) fn tell_files(
+    text: &mut String,
+    alloc: Global,
+    device: &mut Device,
+) -> Result<(), Refusal> {
+    let names = device.names(alloc)?;
+    tell_names(text, &names)
+}
+
+/// Tells the text of the commit, and the names of the files that it needs; `none` where there is no such commit.
+pub(crate) fn tell_commit(text: &mut String, core: &Core, generation: u64) -> Result<(), Refusal> {
+    let Some(commit) = core.commit_at(generation) else {
+        return Ok(text.push_str("none")?);
+    };
+    write!(text, "{}:", commit.text)?;
+    let names = commit.names()?;
+    tell_names(text, &names)
+}

@@ -1,0 +1,42 @@
+//! Merges of a window, step by step.
+use crate::ledger::upkeep::calling::{Row, empty_at, expect};
+use cat_ledger::upkeep::{MergeNews, MergePolicy};
+use std::test::Fail;
+
+/// Pairs of numbers, and whether they are those of a policy.
+const POLICIES: &[(u64, u64, bool)] = &[
+    (2, 1, true),
+    (100, 100_000, true),
+    (1, 1, false),
+    (101, 1, false),
+    (2, 0, false),
+    (2, 100_001, false),
+];
+
+#[test]
+fn policies_have_bounds(rt: HostRuntime) -> Result<(), Fail> {
+    for (factor, least, want) in POLICIES {
+        let is_some = MergePolicy::of(*factor, *least).is_some();
+        assert_eq!(rt; is_some, *want, "{factor} {least}");
+    }
+    Ok(())
+}
+
+/// Three segments, of which the first two are merged; one of their rows dies while the merge is in the making.
+const WINDOW_OF_THREE: &[Row<'static>] = &[
+    Row::Step(Ok(MergeNews::Idle)),
+    Row::PutApart(&["a", "b", "c"]),
+    Row::Step(Ok(MergeNews::Begun(2))),
+    Row::Force(Ok(MergeNews::Busy)),
+    Row::Stands("1: a;2: b;3: c; 0"),
+    Row::Step(Ok(MergeNews::Copied(2))),
+    Row::Delete("a"),
+    Row::Step(Ok(MergeNews::Done)),
+    Row::Stands("4: -a b;3: c; 4"),
+];
+
+#[test]
+fn a_window_is_merged(rt: HostRuntime) -> Result<(), Fail> {
+    let alloc = rt.alloc();
+    expect(&rt, alloc, empty_at(alloc, 1)?, WINDOW_OF_THREE)
+}

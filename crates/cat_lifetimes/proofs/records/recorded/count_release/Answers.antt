@@ -1,0 +1,13 @@
+use Rattle.std.proofs.Common.{sym}
+use Rattle.cat_lifetimes.proofs.records.Searched.{less_there, none_more}
+use Rattle.cat_lifetimes.proofs.records.recorded.count_release.Goals as goal
+
+pub returns-in-Some : goal.returns-in-Some
+returns-in-Some c =
+    let within = c.in-Some.ensures.some.0 in
+    let at = c.in-Some.ensures.some.1 c.index-recorded-index.result in
+    less_there c.args.recorded.now c.args.token c.in-Some.index c.index-recorded-index-in-Some.result c.index-recorded-index.result c.requires.rising
+    within at (c.requires.some c.in-Some.index c.index-recorded-index.result within at)
+
+pub returns-in_default : goal.returns-in_default
+returns-in_default c = sym (none_more c.args.recorded.now c.args.token (sym c.in_default.ensures.none))

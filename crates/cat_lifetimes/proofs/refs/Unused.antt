@@ -1,0 +1,69 @@
+-- The entries of a map whose names nobody has, in order.
+use Rattle.std.proofs.Common.{◌≡◌, ◌≢◌, ℕ, ◌+◌, List, [], ◌∷◌, map, get_or, Bool, true, false, cond, ◌&&◌, Option, Some, None, refl, sym, ◌∙◌, ap, arith}
+use Rattle.std.specs.Prelude.{◌==◌, is_some, unwrap_or, filter, AllPairs}
+use Rattle.std.specs.List.{AllByRecursion, IsDistinct}
+use Rattle.std.specs.List.Sorted.{IsSorted, IsPermutation, IsStrictlySortedBy}
+use Rattle.std.specs.Map.{lookup, keys_of}
+use Rattle.std.specs.Ordering.{is_eq, is_lt, ordering_reverse}
+use Rattle.std.specs.declared.cmp.Ordering.{Ordering}
+use Rattle.std.specs.declared.cmp.Ordering.TheVariants.{Less, Equal, Greater}
+use Rattle.std.proofs.lemmas.Bool.{both_ways}
+use Rattle.std.proofs.lemmas.List.Sorted.{list_any-IsPermutation}
+use Rattle.std.proofs.lemmas.Map.Keys.{IsDistinct-IsPermutation, IsDistinct-head, IsDistinct-tail, apart_from_distinct, sorted_from_all_adjacent}
+use Rattle.std.proofs.lemmas.Map.Entries.{option_filter, lookup-filter-values}
+use Rattle.std.proofs.lemmas.Map.Made.{is_some-lookup, IsDistinct-keys_filter}
+use Rattle.cat_ledger_laws.specs.model.Portions.{Apart}
+use Rattle.cat_ledger_laws.specs.model.Users.{same_file_name}
+use Rattle.cat_ledger_laws.proofs.model.Commits.{AllPairs-from_Apart}
+use Rattle.cat_directory.specs.declared.name.FileName.{FileName}
+use Rattle.cat_directory.specs.declared.name.FileName.TheVariants.{Segment}
+use Rattle.cat_directory.specs.Names.{name_of, name_cmp, same_name}
+use Rattle.cat_directory.specs.NameOrder.{same_name_equivalence, names_tie, name_cmp_total}
+use Rattle.cat_lifetimes.specs.refs.Counts.{used_in}
+use Rattle.cat_lifetimes.specs.refs.Swept.{ArePending}
+use Rattle.cat_lifetimes.proofs.refs.Named.{same_names, users_in, known_in}
+
+-- names that are sorted, with none of them twice, rise
+pub rises : (given names : List FileName) → IsPermutation given names → IsDistinct same_name given → IsSorted name_cmp names → IsStrictlySortedBy name_cmp names
+rises given names moved distinct sorted =
+    let apart : IsDistinct same_name names = IsDistinct-IsPermutation same_name same_name_equivalence.symm given names moved distinct in
+    sorted_from_all_adjacent name_cmp_total names (Segment 0) (λ k within.
+    by (get_or names k (Segment 0)) (get_or names (k + 1) (Segment 0)) (name_cmp (get_or names k (Segment 0)) (get_or names (k + 1) (Segment 0))) refl
+    (apart_from_distinct same_name names k (k + 1) (Segment 0) apart (omega arith) within) (sorted k (Segment 0) (omega arith) within))
+  where
+    by : (x y : FileName) (o : Ordering) → name_cmp x y ≡ o → same_name x y ≡ false → is_lt (name_cmp y x) ≡ false → o ≡ Less
+    by x y Less is apart above = refl
+    by x y Equal is apart above = absurd (let no : false ≡ true = sym apart ∙ names_tie x y ∙ ap is_eq is in cc)
+    by x y Greater is apart above = absurd (let no : false ≡ true = sym above ∙ ap is_lt (name_cmp_total.antisymm y x ∙ ap ordering_reverse is) in cc)
+
+zero_is : (o : Option ℕ) → is_some (option_filter (λ n. n == 0) o) ≡ (is_some o && (unwrap_or o 0 == 0))
+zero_is None = refl
+zero_is (Some n) = by (n == 0)
+  where
+    by : (b : Bool) → is_some (cond b (Some n) None) ≡ b
+    by true = refl
+    by false = refl
+
+-- the names without users are the pending ones
+pub unused_are : (es : List (FileName × ℕ)) (names : List FileName) → IsDistinct same_name (keys_of es) → IsPermutation (keys_of (filter (λ e. e.1 == 0) es)) names
+    → IsSorted name_cmp names → ArePending (map used_in es) names
+unused_are es names distinct moved sorted = record {
+  rising = rises (keys_of (filter (λ e. e.1 == 0) es)) names moved (IsDistinct-keys_filter same_name (λ e. e.1 == 0) es distinct) sorted;
+  all = λ q. sym (list_any-IsPermutation (same_name q) (keys_of (filter (λ e. e.1 == 0) es)) names moved)
+      ∙ sym (is_some-lookup (same_name q) (filter (λ e. e.1 == 0) es))
+      ∙ ap is_some (lookup-filter-values same_name_equivalence (λ n. n == 0) q es distinct)
+      ∙ zero_is (lookup (same_name q) es)
+      ∙ (rw (known_in q es, users_in q es) refl);
+}
+
+-- no name stands twice among the users
+once_in : (es : List (FileName × ℕ)) → IsDistinct same_name (keys_of es) → Apart (λ u v. u.name ≢ v.name) (map used_in es)
+once_in [] d = tt
+once_in (e ∷ es) d = (each e es (IsDistinct-head same_name e.0 (keys_of es) d), once_in es (IsDistinct-tail same_name e.0 (keys_of es) d))
+  where
+    each : (e : FileName × ℕ) (es : List (FileName × ℕ)) → AllByRecursion (λ y. same_name e.0 y ≡ false) (keys_of es) → AllByRecursion (λ v. name_of e.0 ≢ v.name) (map used_in es)
+    each e [] a = tt
+    each e (f ∷ fs) a = ((λ same. let alike : same_name e.0 f.0 ≡ true = sym (same_names e.0 f.0) ∙ ap (same_file_name (name_of e.0)) (sym same) ∙ same_names e.0 e.0 ∙ same_name_equivalence.refl e.0 in both_ways _ a.0 alike), each e fs a.1)
+
+pub once : (es : List (FileName × ℕ)) → IsDistinct same_name (keys_of es) → AllPairs (λ u v. u.name ≢ v.name) (map used_in es)
+once es d = AllPairs-from_Apart (λ u v. u.name ≢ v.name) (map used_in es) (once_in es d)

@@ -1,0 +1,3 @@
+pub mod refs
+pub mod records
+pub mod rights

@@ -1,0 +1,7 @@
+//! How long files and views live: the users of each file, the recorded views with the sessions that hold them, and the
+//! sessions' rights to views.
+#![tactic(auto)]
+
+pub mod records;
+pub mod refs;
+pub mod rights;

@@ -1,8 +1,0 @@
-use Rattle.cat_lines.proofs.WordsSplit.{split_first, split_none}
-use Rattle.cat_lines.proofs.words.split_word.Goals as goal
-
-pub returns-clause-first : goal.returns-clause-first
-returns-clause-first c = split_first c.args.text.now _ c.split_once.ensures.cases
-
-pub returns-clause-none : goal.returns-clause-none
-returns-clause-none c = split_none c.args.text.now _ c.split_once.ensures.cases

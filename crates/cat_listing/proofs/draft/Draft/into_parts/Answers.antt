@@ -1,5 +1,0 @@
-use Rattle.cat_listing.proofs.Drafting.{listing_apart}
-use Rattle.cat_listing.proofs.draft.Draft.into_parts.Goals as goal
-
-pub returns-clause-apart : goal.returns-clause-apart
-returns-clause-apart c = listing_apart _ _ _ _ c.self.invariant

@@ -1,6 +1,0 @@
-use Rattle.std.proofs.Common.{take}
-use Rattle.cat_listing.specs.Drafts.{AreSpelled, new_entries}
-use Rattle.cat_listing.proofs.draft.live_files_of.Given as goal
-
-abbrev pub invariant-loop-entry : goal.invariant-loop-entry
-invariant-loop-entry l = AreSpelled l.generation (new_entries l.generation (take l.entry-index l.entries)) l.files.items

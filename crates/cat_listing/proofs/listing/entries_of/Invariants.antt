@@ -1,6 +1,0 @@
-use Rattle.std.proofs.Common.{◌≡◌, take}
-use Rattle.cat_ledger_shape.specs.OpeningLaws.{listed_with}
-use Rattle.cat_listing.proofs.listing.entries_of.Given as goal
-
-abbrev pub invariant-loop-index : goal.invariant-loop-index
-invariant-loop-index l = l.entries.items ≡ listed_with (take l.index l.segments) (take l.index l.leaves)

@@ -1,0 +1,3 @@
+pub mod buffer
+pub mod current
+pub use Rattle.cat_query.specs as cat_query

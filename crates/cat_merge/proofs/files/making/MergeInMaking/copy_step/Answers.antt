@@ -1,0 +1,50 @@
+use Rattle.std.proofs.Common.{◌≡◌, ℕ, [], ◌∷◌, sym, ap, subst}
+use Rattle.std.specs.Prelude.{Any}
+use Rattle.cat_base.specs.declared.refusal.Refusal.{Refusal}
+use Rattle.cat_base.specs.declared.refusal.Refusal.TheVariants.{Damaged}
+use Rattle.cat_directory.specs.declared.name.FileName.TheVariants as file
+use Rattle.cat_ledger_laws.specs.shape.MergeLaws.{CopiesOn}
+use Rattle.cat_ledger_laws.specs.shape.Shapes.{MergingShape}
+use Rattle.cat_ledger_laws.specs.shape.Ties.{ToldFiles, TouchesOnly}
+use Rattle.cat_merge.specs.Merging.{Merging}
+use Rattle.cat_merge.specs.Ranges.{AreWithin}
+use Rattle.cat_model.specs.Files.{Name}
+use Rattle.cat_merge.specs.files.Making.{InMaking}
+use Rattle.cat_merge.specs.files.Sources.{AreAppended, LacksBytes, LacksSources}
+use Rattle.cat_merge.proofs.files.Ranges.{passed, copies_on, names_on, some_short, touches_one}
+use Rattle.cat_merge.proofs.files.making.MergeInMaking.copy_step.Goals as goal
+
+pub returns-clause-copied : goal.returns-clause-copied
+returns-clause-copied g c =
+    let told : ToldFiles = g.D.Holder.bytes c.args.device.now in
+    let told' : ToldFiles = g.D.Holder.bytes c.append_ranges.new.device in
+    let merge : Merging = c.self.inside.merge in
+    let m : MergingShape = record { number = merge.number; index = c.self.inside.index; inputs = merge.inputs; passed = merge.passed } in
+    let appended : AreAppended c.deref.result.now (file.Source merge.number) told told' =
+    subst (λ (n : ℕ). AreAppended c.deref.result.now (file.Source n) told told') c.self.invariant.same c.in_ok-append_ranges.ensures.ok in
+    let others = subst (λ (n : ℕ). TouchesOnly (Name.source n ∷ []) told told') c.self.invariant.same (touches_one told told' (file.Source c.self.inside.number) c.in_ok-append_ranges.ensures.others) in
+    subst (λ (x : MergingShape). CopiesOn x told told') (ap (λ (x : InMaking). x.shape) c.self.view_is)
+    (copies_on m told told' c.deref.result.now (g.met.D.Holder.tells_alike c.args.device.now) others appended
+    (names_on merge c.copy_step.new.self c.in_ok-ranges.ranges.items c.deref.result.now c.deref.ensures.value c.in_ok-ranges.ensures.ok c.in_ok-ranges.ensures.sources))
+
+pub returns-in_err-append_ranges-clause-damaged : goal.returns-in_err-append_ranges-clause-damaged
+returns-in_err-append_ranges-clause-damaged g c =
+    let told : ToldFiles = g.D.Holder.bytes c.args.device.now in
+    let merge : Merging = c.self.inside.merge in
+    let m : MergingShape = record { number = merge.number; index = c.self.inside.index; inputs = merge.inputs; passed = merge.passed } in
+    passed (λ (e : Refusal). e ≡ Damaged → LacksSources c.args.self.now.shape told) _ _ c.from_residual-in_err-append_ranges.ensures
+    (λ is. subst (λ (x : MergingShape). LacksSources x told) (ap (λ (x : InMaking). x.shape) c.self.view_is)
+    (let lacks : LacksSources m told = record {
+      ranges = c.deref.result.now;
+      named = names_on merge c.copy_step.new.self c.in_ok-ranges.ranges.items c.deref.result.now c.deref.ensures.value c.in_ok-ranges.ensures.ok c.in_ok-ranges.ensures.sources;
+      cut = c.in_err-append_ranges.ensures.damaged is;
+    } in lacks))
+
+pub returns-in_err-append_ranges-clause-short : goal.returns-in_err-append_ranges-clause-short
+returns-in_err-append_ranges-clause-short g c =
+    let told : ToldFiles = g.D.Holder.bytes c.args.device.now in
+    let merge : Merging = c.self.inside.merge in
+    let within : AreWithin merge.inputs c.deref.result.now = subst (AreWithin merge.inputs) (sym c.deref.ensures.value) c.in_ok-ranges.ensures.within in
+    passed (λ (e : Refusal). e ≡ Damaged → Any (LacksBytes told) c.args.self.now.shape.inputs) _ _ c.from_residual-in_err-append_ranges.ensures
+    (λ is. subst (λ (x : MergingShape). Any (LacksBytes told) x.inputs) (ap (λ (x : InMaking). x.shape) c.self.view_is)
+    (some_short told merge.inputs c.deref.result.now within (c.in_err-append_ranges.ensures.damaged is)))

@@ -1,0 +1,52 @@
+-- Ranges of files with sources, and what a device tells of them.
+use Rattle.std.specs.Prelude.{◌≡◌, ◌≢◌, ◌+◌, ◌++◌, ◌<◌, ℕ, List, [], length, map, sum, Some, None, Any}
+use Rattle.std.specs.List.{flat_map}
+use Rattle.cat_model.specs.Text.{Text}
+use Rattle.cat_directory.specs.declared.name.FileName.{FileName}
+use Rattle.cat_directory.specs.declared.name.FileName.TheVariants as file
+use Rattle.cat_directory.specs.Devices.{Told, told_after, extended}
+use Rattle.cat_ledger_laws.specs.shape.Ties.{ToldFiles}
+use Rattle.cat_ledger_laws.specs.shape.Shapes.{MergingShape}
+use Rattle.cat_ledger_laws.specs.shape.Steps.{passed_on}
+use Rattle.cat_merge.specs.Copied.{bytes_in, joined_sources}
+use Rattle.cat_merge.specs.declared.sources.SourceRange.{SourceRange}
+use Rattle.cat_model.specs.Merged.{records_kept}
+use Rattle.cat_model.specs.View.{Leaf}
+
+-- the bytes that are told of a file; none where it is absent, or nothing is told
+abbrev pub bytes_told : Told → Text
+bytes_told None = []
+bytes_told (Some None) = []
+bytes_told (Some (Some bytes)) = bytes
+
+-- the sources of each segment, by its number, as the device tells them
+abbrev pub sources_told : ToldFiles → ℕ → Text
+sources_told told n = bytes_told (told (file.Source n))
+
+-- the device tells of every file
+abbrev pub TellsAll : ToldFiles → Type 0
+TellsAll told = (q : FileName) → told q ≢ None
+
+-- no file that is told has all bytes of the range
+abbrev pub IsCutOff : ToldFiles → SourceRange → Type 0
+IsCutOff told range = (bytes : Text) → told (file.Source range.segment) ≡ Some (Some bytes) → length bytes < range.offset + range.len
+
+-- the file with the sources of the leaf's segment, if it is told, hasn't as many bytes as all of its rows' items came as
+abbrev pub LacksBytes : ToldFiles → Leaf → Type 0
+LacksBytes told leaf = (bytes : Text) → told (file.Source leaf.segment.number) ≡ Some (Some bytes)
+    → length bytes < sum (map (λ row. row.length) leaf.segment.rows)
+
+-- Behind the bytes of the file stand those of the ranges, as many as they say: where the device tells its files, those that stand
+-- there.
+pub record AreAppended (ranges : List SourceRange) (to : FileName) (told told' : ToldFiles) : Type 0 where
+  pub bytes : Text
+  pub long : length bytes ≡ sum (map (λ r. r.len) ranges)
+  pub read : TellsAll told → bytes ≡ flat_map (bytes_in (sources_told told)) ranges
+  pub extends : told' to ≡ told_after (extended bytes) (told to)
+
+-- One of the ranges is cut off that make, in whatever files, the sources of the rows that the merge's next step keeps.
+pub record LacksSources (m : MergingShape) (told : ToldFiles) : Type 0 where
+  pub ranges : List SourceRange
+  pub named : (files : ℕ → Text) → joined_sources (records_kept files m.inputs m.passed) ++ flat_map (bytes_in files) ranges
+      ≡ joined_sources (records_kept files m.inputs (passed_on m).passed)
+  pub cut : Any (IsCutOff told) ranges

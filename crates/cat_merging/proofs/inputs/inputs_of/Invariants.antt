@@ -1,5 +1,0 @@
-use Rattle.std.proofs.Common.{◌≡◌, take}
-use Rattle.cat_merging.proofs.inputs.inputs_of.Given as goal
-
-abbrev pub invariant-loop-leaf : goal.invariant-loop-leaf
-invariant-loop-leaf l = l.inputs.items ≡ take l.leaf-index l.leaves

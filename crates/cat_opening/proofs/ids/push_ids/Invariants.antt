@@ -1,7 +1,0 @@
-use Rattle.std.proofs.Common.{◌≡◌, ◌++◌, map, take}
-use Rattle.cat_model.specs.View.{selected}
-use Rattle.cat_opening.proofs.ids.push_ids.Given as goal
-
-abbrev pub invariant-loop-row : goal.invariant-loop-row
-invariant-loop-row l =
-    map (λ t. t.now) l.ids.items ≡ map (λ t. t.now) l.fn.ids.items ++ map (λ r. r.id) (selected (take l.row l.leaf.live) (take l.row l.leaf.segment.rows))

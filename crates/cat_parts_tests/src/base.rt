@@ -1,0 +1,8 @@
+//! Tests of what every crate shares: texts and sets of texts, numbers as bytes, and refusals.
+
+#[cfg(test)]
+mod bytes;
+#[cfg(test)]
+mod refusals;
+#[cfg(test)]
+mod texts;

@@ -1,0 +1,303 @@
+//! Memory and a folder, and what lies in a folder beside files.
+use crate::directory::calls::{
+    Call, FIRST, ROWS, Row, expect, expect_all, expect_read, make_folder, remove_folder,
+};
+use cat_directory::{FileName, Folder, FolderShelf, MemoryDirectory, Shelf};
+use std::fs;
+use std::fs::{Files, OpenOptions};
+use std::os::unix::fs::symlink;
+use std::process::Abort;
+use std::test::Fail;
+
+/// Makes the calls of the tables in the folder at the path.
+fn expect_in<R: Abort + Files + AllocGlobal + Clone + Drop>(
+    rt: &R,
+    path: &str,
+    tables: &[&[Row<'_>]],
+) -> Result<(), Fail> {
+    let mut folder = Folder::at(rt.clone()?, rt.alloc(), path)?;
+    expect_all(rt, rt.alloc(), &mut folder, tables)
+}
+
+const FOUR_FAILURES: &[Row<'static>] = &[(Call::Failures, "4")];
+
+/// The calls, and how many have failed.
+const TABLES: &[&[Row<'static>]] = &[ROWS, FOUR_FAILURES];
+
+#[test]
+fn memory_answers_as_a_folder_does(rt: HostRuntime) -> Result<(), Fail> {
+    let mut memory = MemoryDirectory::new(rt.alloc());
+    expect_all(&rt, rt.alloc(), &mut memory, TABLES)
+}
+
+#[test]
+fn a_folder_answers_as_memory_does(rt: HostRuntime) -> Result<(), Fail> {
+    make_folder(&rt, "files_test")?;
+    expect_in(&rt, "files_test", TABLES)?;
+    remove_folder(&rt, "files_test")
+}
+
+/// A file that is there is made and written anew.
+const ANEW: &[&[Row<'static>]] = &[&[
+    (Call::Create(FIRST), ""),
+    (Call::Append(FIRST, "before"), ""),
+    (Call::Create(FIRST), ""),
+    (Call::Size(FIRST), "0"),
+    (Call::Write(FIRST, "one"), ""),
+    (Call::WriteLasting(FIRST, "whole"), ""),
+    (Call::Read(FIRST, 0, 5), "whole"),
+    (Call::Size(FIRST), "5"),
+    (Call::Failures, "0"),
+]];
+
+#[test]
+fn memory_makes_a_file_anew(rt: HostRuntime) -> Result<(), Fail> {
+    let mut memory = MemoryDirectory::new(rt.alloc());
+    expect_all(&rt, rt.alloc(), &mut memory, ANEW)
+}
+
+/// A file that is there stays as it is, until it is deleted.
+const NOT_ANEW: &[&[Row<'static>]] = &[&[
+    (Call::Create(FIRST), ""),
+    (Call::Append(FIRST, "before"), ""),
+    (Call::Create(FIRST), "NO 30"),
+    (Call::Write(FIRST, "one"), "NO 30"),
+    (Call::WriteLasting(FIRST, "whole"), "NO 30"),
+    (Call::Read(FIRST, 0, 6), "before"),
+    (Call::Size(FIRST), "6"),
+    (Call::Failures, "3"),
+    (Call::Delete(FIRST), ""),
+    (Call::WriteLasting(FIRST, "whole"), ""),
+    (Call::Read(FIRST, 0, 5), "whole"),
+    (Call::Failures, "3"),
+]];
+
+#[test]
+fn a_folder_makes_no_file_anew(rt: HostRuntime) -> Result<(), Fail> {
+    make_folder(&rt, "anew_test")?;
+    expect_in(&rt, "anew_test", NOT_ANEW)?;
+    remove_folder(&rt, "anew_test")
+}
+
+/// What is read of a file is what it has then, whatever was read of it before.
+const READ_AGAIN: &[&[Row<'static>]] = &[&[
+    (Call::Create(FIRST), ""),
+    (Call::Append(FIRST, "one"), ""),
+    (Call::Read(FIRST, 0, 3), "one"),
+    (Call::Append(FIRST, " two"), ""),
+    (Call::Read(FIRST, 0, 7), "one two"),
+    (Call::Size(FIRST), "7"),
+    (Call::Delete(FIRST), ""),
+    (Call::Create(FIRST), ""),
+    (Call::Size(FIRST), "0"),
+    (Call::Read(FIRST, 0, 1), "NO 31"),
+    (Call::Append(FIRST, "six"), ""),
+    (Call::Read(FIRST, 0, 3), "six"),
+    (Call::Delete(FIRST), ""),
+    (Call::Read(FIRST, 0, 3), "NO 31"),
+    (Call::Size(FIRST), "NO 31"),
+]];
+
+#[test]
+fn a_file_that_is_open_is_read_as_it_is(rt: HostRuntime) -> Result<(), Fail> {
+    make_folder(&rt, "again_test")?;
+    expect_in(&rt, "again_test", READ_AGAIN)?;
+    remove_folder(&rt, "again_test")
+}
+
+/// Writes and reads more files than stay open, and then reads each once more.
+fn read_in_turn<R: Abort + Files + AllocGlobal + Clone + Drop>(
+    rt: &R,
+    path: &str,
+) -> Result<(), Fail> {
+    let mut folder = Folder::at(rt.clone()?, rt.alloc(), path)?;
+    for number in 1..=70 {
+        let name = FileName::Segment(number);
+        let rows = [
+            (Call::Create(name), ""),
+            (Call::Append(name, "x"), ""),
+            (Call::Read(name, 0, 1), "x"),
+        ];
+        expect(rt, rt.alloc(), &mut folder, &rows)?;
+    }
+    for number in 1..=70 {
+        let rows = [(Call::Read(FileName::Segment(number), 0, 1), "x")];
+        expect(rt, rt.alloc(), &mut folder, &rows)?;
+    }
+    Ok(())
+}
+
+#[test]
+fn more_files_are_read_than_stay_open(rt: HostRuntime) -> Result<(), Fail> {
+    make_folder(&rt, "many_test")?;
+    read_in_turn(&rt, "many_test")?;
+    remove_folder(&rt, "many_test")
+}
+
+const ONE: &[Row<'static>] = &[(Call::Create(FIRST), ""), (Call::Append(FIRST, "one"), "")];
+
+const ONE_MORE: &[Row<'static>] = &[
+    (Call::Append(FIRST, " two"), ""),
+    (Call::Read(FIRST, 0, 7), "one two"),
+];
+
+const STILL_ONE: &[Row<'static>] = &[(Call::Size(FIRST), "3")];
+
+#[test]
+fn a_copy_has_files_of_its_own(rt: HostRuntime) -> Result<(), Fail> {
+    let mut memory = MemoryDirectory::new(rt.alloc());
+    expect(&rt, rt.alloc(), &mut memory, ONE)?;
+    let mut copy = memory.copy()?;
+    expect(&rt, rt.alloc(), &mut copy, ONE_MORE)?;
+    expect(&rt, rt.alloc(), &mut memory, STILL_ONE)
+}
+
+/// Files that have no name of ours.
+const OTHERS: &[&str] = &[
+    "others_test/notes.txt",
+    "others_test/_01.seg",
+    "others_test/_1.seg.tmp",
+    "others_test/segments_9223372036854775808",
+];
+
+/// A folder that has a file's name.
+const TAKEN: FileName = FileName::Segment(9);
+
+/// No file has this name.
+const NO_NUMBER: FileName = FileName::Segment(0);
+
+const BESIDE_OTHERS: &[&[Row<'static>]] = &[&[
+    (Call::Names, ""),
+    (Call::Create(TAKEN), "NO 30"),
+    (Call::Append(TAKEN, "x"), "NO 30"),
+    (Call::Size(TAKEN), "NO 31"),
+    (Call::Read(TAKEN, 0, 0), "NO 31"),
+    (Call::Delete(TAKEN), "NO 30"),
+    (Call::Create(NO_NUMBER), "no form"),
+    (Call::Append(NO_NUMBER, "x"), "NO 30"),
+    (Call::Size(NO_NUMBER), "NO 31"),
+    (Call::Create(FIRST), ""),
+    (Call::Append(FIRST, "whole"), ""),
+    (Call::Names, "_1.seg "),
+    (Call::Failures, "4"),
+]];
+
+fn make_others(rt: &(impl Files + Alloc)) -> Result<(), Fail> {
+    make_folder(rt, "others_test")?;
+    fs::create_dir(rt, "others_test/_9.seg")?;
+    for &path in OTHERS {
+        fs::write(rt, path, "kept")?;
+    }
+    Ok(())
+}
+
+fn expect_others(rt: &(impl Abort + Files + Alloc)) -> Result<(), Fail> {
+    for &path in OTHERS {
+        let text = fs::read_to_string(rt, path)?;
+        assert!(rt; text.as_str() == "kept", "{path}");
+    }
+    Ok(())
+}
+
+#[test]
+fn other_files_of_a_folder_stay(rt: HostRuntime) -> Result<(), Fail> {
+    make_others(&rt)?;
+    expect_in(&rt, "others_test/", BESIDE_OTHERS)?;
+    expect_others(&rt)?;
+    remove_folder(&rt, "others_test")
+}
+
+const WHOLE: &[&[Row<'static>]] = &[&[
+    (Call::Create(FIRST), ""),
+    (Call::Append(FIRST, "whole"), ""),
+]];
+
+/// The file is read, and is cut behind that.
+fn expect_cut<R: Abort + Files + AllocGlobal + Clone + Drop, S: Shelf>(
+    rt: &R,
+    shelf: &mut S,
+) -> Result<(), Fail> {
+    expect_read(rt, rt.alloc(), shelf, (FIRST, 1, 3), "hol")?;
+    fs::write(rt, "shelf_test/_1.seg", "cut")?;
+    expect_read(rt, rt.alloc(), shelf, (FIRST, 0, 5), "NO 31")?;
+    assert!(rt; shelf.size(FIRST)? == 3);
+    Ok(())
+}
+
+#[test]
+fn a_shelf_reads_the_files_of_its_folder(rt: HostRuntime) -> Result<(), Fail> {
+    make_folder(&rt, "shelf_test")?;
+    expect_in(&rt, "shelf_test", WHOLE)?;
+    let mut shelf = FolderShelf::at(rt, rt.alloc(), "shelf_test")?;
+    expect_cut(&rt, &mut shelf)?;
+    remove_folder(&rt, "shelf_test")
+}
+
+const UNOPENED: &[&str] = &["no_folder_test", "absent_folder_test", "", "nul\0"];
+
+const IN_NO_FOLDER: &[&[Row<'static>]] = &[&[
+    (Call::Names, "NO 30"),
+    (Call::Create(FIRST), "NO 30"),
+    (Call::Append(FIRST, "x"), "NO 30"),
+    (Call::Sync(&[]), "NO 30"),
+    (Call::Failures, "4"),
+]];
+
+#[test]
+fn a_folder_that_cannot_be_opened_fails(rt: HostRuntime) -> Result<(), Fail> {
+    fs::write(&rt, "no_folder_test", "a file")?;
+    for &path in UNOPENED {
+        expect_in(&rt, path, IN_NO_FOLDER)?;
+    }
+    Ok(fs::remove_file(&rt, "no_folder_test")?)
+}
+
+const READ_ONLY: &str = "read_only_test/_1.seg";
+
+fn make_read_only(rt: &(impl Files + Alloc)) -> Result<(), Fail> {
+    make_folder(rt, "read_only_test")?;
+    fs::write(rt, READ_ONLY, "kept")?;
+    let mut permissions = fs::metadata(rt, READ_ONLY)?.permissions();
+    permissions.set_readonly(true);
+    Ok(fs::set_permissions(rt, READ_ONLY, permissions)?)
+}
+
+const HELD_BACK: &[&[Row<'static>]] = &[&[
+    (Call::Create(FIRST), "NO 30"),
+    (Call::Append(FIRST, "x"), "NO 30"),
+    (Call::Size(FIRST), "4"),
+    (Call::Sync(&[FIRST]), ""),
+    (Call::Delete(FIRST), ""),
+    (Call::Names, ""),
+    (Call::Failures, "2"),
+]];
+
+/// No permission holds root back, as whom `rt ci` runs no test.
+const AS_ROOT: &[&[Row<'static>]] = &[&[
+    (Call::Create(FIRST), "NO 30"),
+    (Call::Append(FIRST, "x"), ""),
+    (Call::Size(FIRST), "5"),
+    (Call::Sync(&[FIRST]), ""),
+    (Call::Delete(FIRST), ""),
+    (Call::Names, ""),
+    (Call::Failures, "1"),
+]];
+
+#[test]
+fn a_read_only_file_stays_as_it_is(rt: HostRuntime) -> Result<(), Fail> {
+    make_read_only(&rt)?;
+    let is_root = OpenOptions::new().append(true).open(&rt, READ_ONLY).is_ok();
+    let rows = if is_root { AS_ROOT } else { HELD_BACK };
+    expect_in(&rt, "read_only_test", rows)?;
+    remove_folder(&rt, "read_only_test")
+}
+
+const FULL: &[&[Row<'static>]] = &[&[(Call::Append(FIRST, "x"), "NO 30"), (Call::Failures, "1")]];
+
+#[test]
+fn a_full_disk_is_a_failure(rt: HostRuntime) -> Result<(), Fail> {
+    make_folder(&rt, "full_test")?;
+    symlink(&rt, "/dev/full", "full_test/_1.seg")?;
+    expect_in(&rt, "full_test", FULL)?;
+    remove_folder(&rt, "full_test")
+}

@@ -1,0 +1,290 @@
+//! What a folder asks of the system, and what it tells where the system fails.
+use crate::directory::calls::{Call, FIRST, Row, SOURCE, expect, make_folder, remove_folder};
+use crate::directory::faulty_system::{Doing, FaultySystem, Notes};
+use cat_directory::{Directory, FileName, Folder, Shelf};
+use std::alloc::Global;
+use std::fs::Files;
+use std::io::ErrorKind;
+use std::process::Abort;
+use std::rc::Rc;
+use std::test::Fail;
+
+/// What fails from then on, the calls that are made, and what has been synced then: 1 for a segment's file, 2 for one of sources,
+/// 4 for the folder.
+type Scene<'a> = (Option<(Doing, ErrorKind)>, &'a [Row<'a>], u8);
+
+/// Makes the calls of the scenes on the device, over a system that fails as they say.
+fn expect_each<D: Directory + Shelf>(
+    rt: &impl Abort,
+    alloc: Global,
+    device: &mut D,
+    notes: &Notes,
+    scenes: &[Scene<'_>],
+) -> Result<(), Fail> {
+    for (fault, rows, synced) in scenes {
+        notes.fault.set(*fault);
+        expect(rt, alloc, device, rows)?;
+        assert!(rt; notes.synced.get() == *synced);
+    }
+    Ok(())
+}
+
+/// The system that has these notes.
+pub(crate) fn system_of<R: Clone>(rt: &R, notes: &Rc<Notes>) -> Result<FaultySystem<R>, Fail> {
+    Ok(FaultySystem {
+        rt: rt.clone()?,
+        notes: notes.clone()?,
+    })
+}
+
+/// What is done in a folder over a system for tests.
+#[derive(Clone, Copy)]
+enum Job<'a> {
+    /// These calls are made.
+    Scenes(&'a [Scene<'a>]),
+    /// More files are read than stay open.
+    Many,
+}
+
+/// Does the job on the device.
+fn do_job<D: Directory + Shelf>(
+    rt: &impl Abort,
+    alloc: Global,
+    device: &mut D,
+    notes: &Notes,
+    job: Job<'_>,
+) -> Result<(), Fail> {
+    match job {
+        Job::Scenes(scenes) => expect_each(rt, alloc, device, notes, scenes),
+        Job::Many => expect_few(rt, alloc, device, notes),
+    }
+}
+
+/// Does the job in a new folder at the path, in a system that fails as it says.
+fn expect_job<R: Abort + Files + AllocGlobal + Clone + Drop>(
+    rt: &R,
+    path: &str,
+    job: Job<'_>,
+) -> Result<(), Fail> {
+    make_folder(rt, path)?;
+    let notes = Rc::new(rt.alloc(), Notes::new())?;
+    let mut folder = Folder::at(system_of(rt, &notes)?, rt.alloc(), path)?;
+    do_job(rt, rt.alloc(), &mut folder, &notes, job)?;
+    remove_folder(rt, path)
+}
+
+/// Short writes are carried on, and a name that isn't UTF-8 is passed over.
+const WHOLE: &[Row<'static>] = &[
+    (Call::Create(FIRST), ""),
+    (Call::Create(SOURCE), ""),
+    (Call::Append(FIRST, "hello you"), ""),
+    (Call::Read(FIRST, 0, 9), "hello you"),
+    (Call::Names, "_1.seg _2.sto "),
+];
+
+const SYNC_NONE: &[Row<'static>] = &[(Call::Sync(&[]), "")];
+
+const SYNC_BOTH: &[Row<'static>] = &[(Call::Sync(&[FIRST, SOURCE]), ""), (Call::Failures, "0")];
+
+/// The folder is synced, and each file.
+const SYNCED: &[Scene<'static>] = &[(None, WHOLE, 0), (None, SYNC_NONE, 4), (None, SYNC_BOTH, 7)];
+
+#[test]
+fn a_folder_asks_the_system_for_all_it_needs(rt: HostRuntime) -> Result<(), Fail> {
+    expect_job(&rt, "system_test", Job::Scenes(SYNCED))
+}
+
+const MAKE: &[Row<'static>] = &[
+    (Call::Create(FIRST), ""),
+    (Call::Append(FIRST, "whole"), ""),
+];
+
+/// What a folder tells where the file is gone, where memory is wanting, and where the system failed: to a call that reads, to
+/// one that asks for a size, to one that lists, and to one that writes.
+const GONE: &[Row<'static>] = &[
+    (Call::Read(FIRST, 0, 1), "NO 31"),
+    (Call::Size(FIRST), "NO 31"),
+    (Call::Names, "NO 30"),
+    (Call::Append(FIRST, "x"), "NO 30"),
+];
+
+const WANTING: &[Row<'static>] = &[
+    (Call::Read(FIRST, 0, 1), "NO 40"),
+    (Call::Size(FIRST), "NO 30"),
+    (Call::Names, "NO 40"),
+    (Call::Append(FIRST, "x"), "NO 30"),
+];
+
+const FAILED: &[Row<'static>] = &[
+    (Call::Read(FIRST, 0, 1), "NO 30"),
+    (Call::Size(FIRST), "NO 30"),
+    (Call::Names, "NO 30"),
+    (Call::Append(FIRST, "x"), "NO 30"),
+];
+
+/// A file that opens, and can't be read: the device failed.
+const UNREAD: &[Row<'static>] = &[(Call::Read(FIRST, 0, 5), "NO 30")];
+
+const READ: &[Row<'static>] = &[(Call::Read(FIRST, 0, 5), "whole"), (Call::Failures, "15")];
+
+const KINDS: &[Scene<'static>] = &[
+    (None, MAKE, 0),
+    (Some((Doing::Opening, ErrorKind::NotFound)), GONE, 0),
+    (Some((Doing::Opening, ErrorKind::UnexpectedEof)), GONE, 0),
+    (Some((Doing::Opening, ErrorKind::OutOfMemory)), WANTING, 0),
+    (
+        Some((Doing::Opening, ErrorKind::PermissionDenied)),
+        FAILED,
+        0,
+    ),
+    (Some((Doing::Opening, ErrorKind::Other)), FAILED, 0),
+    (Some((Doing::Reading, ErrorKind::Other)), UNREAD, 0),
+    (None, READ, 0),
+];
+
+#[test]
+fn each_error_of_the_system_is_told_as_it_is(rt: HostRuntime) -> Result<(), Fail> {
+    expect_job(&rt, "kinds_test", Job::Scenes(KINDS))
+}
+
+/// An absent file is a failure of this call alone.
+const SYNC_ABSENT: &[Row<'static>] = &[
+    (Call::Sync(&[FIRST]), "NO 30"),
+    (Call::Create(FIRST), ""),
+    (Call::Sync(&[FIRST]), ""),
+];
+
+const NOT_SYNCED: &[Row<'static>] = &[(Call::Sync(&[FIRST]), "NO 30")];
+
+const NEVER_SYNCED: &[Row<'static>] = &[
+    (Call::Sync(&[FIRST]), "NO 30"),
+    (Call::Sync(&[]), "NO 30"),
+    (Call::Append(FIRST, "x"), ""),
+    (Call::Failures, "4"),
+];
+
+const FAILED_SYNC: &[Scene<'static>] = &[
+    (None, SYNC_ABSENT, 5),
+    (Some((Doing::Syncing, ErrorKind::Other)), NOT_SYNCED, 5),
+    (None, NEVER_SYNCED, 5),
+];
+
+#[test]
+fn after_a_failed_sync_none_succeeds(rt: HostRuntime) -> Result<(), Fail> {
+    expect_job(&rt, "sync_test", Job::Scenes(FAILED_SYNC))
+}
+
+const FOLDER_NOT_SYNCED: &[Row<'static>] = &[(Call::Sync(&[]), "NO 30")];
+
+const FAILED_FOLDER_SYNC: &[Scene<'static>] = &[
+    (None, SYNC_ABSENT, 5),
+    (
+        Some((Doing::Syncing, ErrorKind::Other)),
+        FOLDER_NOT_SYNCED,
+        5,
+    ),
+    (None, NEVER_SYNCED, 5),
+];
+
+#[test]
+fn after_a_failed_sync_of_the_folder_none_succeeds(rt: HostRuntime) -> Result<(), Fail> {
+    expect_job(&rt, "folder_sync_test", Job::Scenes(FAILED_FOLDER_SYNC))
+}
+
+const LISTED: &[Row<'static>] = &[
+    (Call::Create(FIRST), ""),
+    (Call::Create(SOURCE), ""),
+    (Call::Names, "_1.seg _2.sto "),
+];
+
+const NOT_LISTED: &[Row<'static>] = &[(Call::Names, "NO 30")];
+
+const LISTED_AGAIN: &[Row<'static>] = &[(Call::Names, "_1.seg _2.sto "), (Call::Failures, "5")];
+
+/// The listing fails behind all names, and then what an entry is can't be asked: nothing is told to be all that is there. That
+/// the system calls a name too long isn't that a name is no text.
+const FAILED_LISTING: &[Scene<'static>] = &[
+    (None, LISTED, 0),
+    (Some((Doing::Listing, ErrorKind::Other)), NOT_LISTED, 0),
+    (
+        Some((Doing::Listing, ErrorKind::InvalidFilename)),
+        NOT_LISTED,
+        0,
+    ),
+    (
+        Some((Doing::Asking, ErrorKind::PermissionDenied)),
+        NOT_LISTED,
+        0,
+    ),
+    (Some((Doing::Asking, ErrorKind::NotFound)), NOT_LISTED, 0),
+    (
+        Some((Doing::Asking, ErrorKind::InvalidFilename)),
+        NOT_LISTED,
+        0,
+    ),
+    (None, LISTED_AGAIN, 0),
+];
+
+#[test]
+fn a_listing_that_fails_is_no_list(rt: HostRuntime) -> Result<(), Fail> {
+    expect_job(&rt, "listing_test", Job::Scenes(FAILED_LISTING))
+}
+
+const NOT_DELETED: &[Row<'static>] = &[
+    (Call::Delete(FIRST), "NO 30"),
+    (Call::Read(FIRST, 0, 5), "whole"),
+];
+
+const DELETED: &[Row<'static>] = &[
+    (Call::Read(FIRST, 0, 5), "whole"),
+    (Call::Delete(FIRST), ""),
+    (Call::Size(FIRST), "NO 31"),
+    (Call::Failures, "2"),
+];
+
+const DENIED_DELETE: &[Scene<'static>] = &[
+    (None, MAKE, 0),
+    (
+        Some((Doing::Removing, ErrorKind::PermissionDenied)),
+        NOT_DELETED,
+        0,
+    ),
+    (Some((Doing::Removing, ErrorKind::Other)), NOT_DELETED, 0),
+    (None, DELETED, 0),
+];
+
+#[test]
+fn a_denied_delete_is_a_failure(rt: HostRuntime) -> Result<(), Fail> {
+    expect_job(&rt, "delete_test", Job::Scenes(DENIED_DELETE))
+}
+
+/// Writes a file of each of these numbers, and reads it.
+fn write_and_read<D: Directory + Shelf>(
+    rt: &impl Abort,
+    alloc: Global,
+    device: &mut D,
+) -> Result<(), Fail> {
+    for number in 1..=70 {
+        let name = FileName::Segment(number);
+        let rows = [(Call::Write(name, "x"), ""), (Call::Read(name, 0, 1), "x")];
+        expect(rt, alloc, device, &rows)?;
+    }
+    Ok(())
+}
+
+/// As many files stay open as may, and one beside them is in hand.
+fn expect_few<D: Directory + Shelf>(
+    rt: &impl Abort,
+    alloc: Global,
+    device: &mut D,
+    notes: &Notes,
+) -> Result<(), Fail> {
+    write_and_read(rt, alloc, device)?;
+    assert!(rt; notes.most_open.get() == 65);
+    Ok(())
+}
+
+#[test]
+fn few_files_are_open_at_once(rt: HostRuntime) -> Result<(), Fail> {
+    expect_job(&rt, "open_test", Job::Many)
+}

@@ -1,0 +1,56 @@
+-- Replies of several lines, as their first line and those behind it.
+use Rattle.std.proofs.Common.{◌≡◌, ℕ, List, [], ◌∷◌, ◌++◌, codes, length, ap, ◌∙◌}
+use Rattle.std.proofs.lemmas.List.{length-map}
+use Rattle.std.specs.Prelude.{map, Ok}
+use Rattle.std.specs.List.{flat_map}
+use Rattle.std.specs.Fmt.{decimal}
+use Rattle.cat_model.specs.Text.{Text}
+use Rattle.cat_model.specs.Lines.{line_text, reply_text, entry_words, counted_words, segment_words}
+use Rattle.cat_model.specs.Page.{Entry, Page}
+use Rattle.cat_model.specs.Facets.{Counted, Facets}
+use Rattle.cat_model.specs.Answer.{Found}
+use Rattle.cat_model.specs.Run as run
+use Rattle.cat_directory.specs.Names.{file_text}
+use Rattle.cat_directory.specs.declared.name.FileName.{FileName}
+use Rattle.cat_protocol.proofs.sending.Written.{flat_map-map}
+use Rattle.cat_protocol.specs.replies.Reply.{segment_of, stat_of}
+use Rattle.cat_protocol.specs.declared.replies.news.Stat.{Stat}
+use Rattle.cat_protocol.specs.declared.replies.news.SegmentStat.{SegmentStat}
+use Rattle.cat_protocol.proofs.replies.Pieces.{entry_line, counted_line, name_line, segment_line}
+
+-- the first line, by its words behind OK
+abbrev pub ok_line : ℕ → List Text → Text
+ok_line session words = line_text (decimal session ∷ codes "OK" ∷ words)
+
+abbrev session_line : ℕ → List Text → Text
+session_line session words = line_text (decimal session ∷ words)
+
+pub page_listed : (session total : ℕ) (page : Page) (entries : List Entry) → total ≡ page.total → entries ≡ page.entries
+    → reply_text session (Ok (run.Answer.found (Found.page page)))
+    ≡ ok_line session (decimal (length entries) ∷ decimal total ∷ []) ++ flat_map (entry_line (decimal session)) entries
+page_listed session total page entries t e = rw (t, e) (ap (λ l. ok_line session (decimal (length page.entries) ∷ decimal page.total ∷ []) ++ l) (flat_map-map (session_line session) entry_words page.entries))
+
+pub counts_listed : (session matching met : ℕ) (facets : Facets) (counts : List Counted) → matching ≡ facets.matching → met ≡ facets.met → counts ≡ facets.counts
+    → reply_text session (Ok (run.Answer.found (Found.facets facets)))
+    ≡ ok_line session (decimal matching ∷ decimal met ∷ []) ++ flat_map (counted_line (decimal session)) counts
+counts_listed session matching met facets counts m k e =
+    rw (m, k, e) (ap (λ l. ok_line session (decimal facets.matching ∷ decimal facets.met ∷ []) ++ l) (flat_map-map (session_line session) counted_words facets.counts))
+
+pub names_listed : (session : ℕ) (names : List FileName)
+    → reply_text session (Ok (run.Answer.names (map file_text names))) ≡ ok_line session (decimal (length names) ∷ []) ++ flat_map (name_line session) names
+names_listed session names =
+    ap (λ n. ok_line session (decimal n ∷ []) ++ flat_map (session_line session) (map (λ name. name ∷ []) (map file_text names))) (length-map names file_text)
+    ∙ ap (λ l. ok_line session (decimal (length names) ∷ []) ++ l)
+    (flat_map-map (session_line session) (λ name. name ∷ []) (map file_text names) ∙ flat_map-map (λ name. session_line session (name ∷ [])) file_text names)
+
+abbrev stat_line : ℕ → Stat → ℕ → Text
+stat_line session s many =
+    ok_line session (decimal s.writes ∷ decimal s.buffered ∷ decimal many ∷ decimal s.views ∷ decimal s.cached ∷ decimal s.pending ∷ [])
+
+pub stat_listed : (session : ℕ) (s : Stat) (segments : List SegmentStat) → segments ≡ s.segments.items
+    → reply_text session (Ok (run.Answer.news (run.News.state (stat_of s)))) ≡ stat_line session s (length segments) ++ flat_map (segment_line session) segments
+stat_listed session s segments e =
+    rw e
+    (ap (λ n. stat_line session s n ++ flat_map (session_line session) (map segment_words (map segment_of s.segments.items))) (length-map s.segments.items segment_of)
+    ∙ ap (λ l. stat_line session s (length s.segments.items) ++ l)
+    (flat_map-map (session_line session) segment_words (map segment_of s.segments.items) ∙ flat_map-map (λ p. session_line session (segment_words p)) segment_of s.segments.items))

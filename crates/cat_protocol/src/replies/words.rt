@@ -1,0 +1,140 @@
+//! Lines of a reply, word by word.
+ghost use Rattle.std.specs.Prelude.{◌∷◌, ◌++◌, map};
+ghost use Rattle.std.specs.Fmt.{decimal};
+ghost use Rattle.std.specs.List.{flat_map};
+ghost use Rattle.cat_model.specs.Lines.{line_text};
+ghost use Rattle.cat_directory.specs.Names.{file_text};
+ghost use Rattle.cat_protocol.specs.sending.Out.{Gathers, Sent};
+ghost use Rattle.cat_protocol.specs.replies.Words.{word_text, behind_space};
+
+use crate::sending::{Gathered, WriteFault};
+use cat_base::SessionNo;
+use cat_directory::FileName;
+use itoa::Buffer;
+use std::io::Write;
+
+/// A word of a line.
+#[derive(Clone, Copy)]
+pub(crate) enum Word<'a> {
+    /// A number in decimal.
+    Number(u64),
+    /// A number in decimal, with a `-` where it is below 0.
+    Signed(i64),
+    /// Bytes as they are.
+    Plain(&'a [u8]),
+    /// Bytes behind `=`.
+    Marked(&'a [u8]),
+    /// The text of a name.
+    Name(FileName),
+}
+
+/// Adds a number between bytes.
+fn put_between<W: Write>(
+    line: &mut Gathered,
+    before: &[u8],
+    number: u64,
+    behind: &[u8],
+    to: &mut W,
+) -> Result<(), WriteFault>
+    ensures { Gathers (W.contents to.old) (W.contents to.new) line.old line.new result (before.now ++ (decimal number ++ behind.now)) }
+{
+    line.put(before, to)?;
+    line.put_number(number, to)?;
+    line.put(behind, to)
+}
+
+/// Adds the text of the name, which the name itself gives only in memory of its own.
+fn put_name<W: Write>(line: &mut Gathered, name: FileName, to: &mut W) -> Result<(), WriteFault>
+    ensures { Gathers (W.contents to.old) (W.contents to.new) line.old line.new result (file_text name) }
+{
+    match name {
+        FileName::Segment(segment) => put_between(line, b"_", segment, b".seg", to),
+        FileName::Source(segment) => put_between(line, b"_", segment, b".sto", to),
+        FileName::Live(segment, generation) => {
+            put_between(line, b"_", segment, b"_", to)?;
+            put_between(line, b"", generation, b".liv", to)
+        }
+        FileName::Commit(generation) => put_between(line, b"segments_", generation, b"", to),
+    }
+}
+
+#[inline(always)]
+fn put_word<W: Write>(line: &mut Gathered, word: Word, to: &mut W) -> Result<(), WriteFault>
+    ensures { Gathers (W.contents to.old) (W.contents to.new) line.old line.new result (word_text word.entry) }
+{
+    match word {
+        Word::Number(number) => line.put_number(number, to),
+        Word::Signed(number) => line.put_signed(number, to),
+        Word::Plain(bytes) => line.put(bytes, to),
+        Word::Marked(bytes) => {
+            line.put(b"=", to)?;
+            line.put(bytes, to)
+        }
+        Word::Name(name) => put_name(line, name, to),
+    }
+}
+
+/// Adds the word behind a space.
+#[inline(always)]
+pub(crate) fn put_behind_space<W: Write>(
+    line: &mut Gathered,
+    word: Word,
+    to: &mut W,
+) -> Result<(), WriteFault>
+    ensures { Gathers (W.contents to.old) (W.contents to.new) line.old line.new result (behind_space word.entry) }
+{
+    line.put(b" ", to)?;
+    put_word(line, word, to)
+}
+
+/// Adds the number behind a space. The buffer that it is spelled in is lent, so that one serves all lines of a reply.
+#[inline(always)]
+pub(crate) fn put_number_behind_space<W: Write>(
+    line: &mut Gathered,
+    number: u64,
+    digits: &mut Buffer,
+    to: &mut W,
+) -> Result<(), WriteFault>
+    ensures { Gathers (W.contents to.old) (W.contents to.new) line.old line.new result (32 ∷ decimal number) }
+{
+    line.put(b" ", to)?;
+    line.put(digits.format(number).as_bytes(), to)
+}
+
+/// Adds the words, each behind a space.
+fn put_words<W: Write>(line: &mut Gathered, words: &[Word], to: &mut W) -> Result<(), WriteFault>
+    ensures { Gathers (W.contents to.old) (W.contents to.new) line.old line.new result (flat_map behind_space words.now) }
+{
+    for word in words {
+        put_behind_space(line, *word, to)?;
+    }
+    Ok(())
+}
+
+/// Adds a line of the session.
+pub(crate) fn put_line<W: Write>(
+    line: &mut Gathered,
+    session: SessionNo,
+    words: &[Word],
+    to: &mut W,
+) -> Result<(), WriteFault>
+    ensures { Gathers (W.contents to.old) (W.contents to.new) line.old line.new result
+        (line_text (decimal session ∷ map word_text words.now)) }
+{
+    line.put_number(session as u64, to)?;
+    put_words(line, words, to)?;
+    line.put(b"\n", to)
+}
+
+/// Writes a line of the session.
+pub(crate) fn send_line<W: Write>(
+    session: SessionNo,
+    words: &[Word],
+    to: &mut W,
+) -> Result<(), WriteFault>
+    ensures { Sent (W.contents to.old) (W.contents to.new) result (line_text (decimal session ∷ map word_text words.now)) }
+{
+    let mut line = Gathered::new();
+    put_line(&mut line, session, words, to)?;
+    line.finish(to)
+}

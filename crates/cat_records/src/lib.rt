@@ -1,9 +1,0 @@
-//! The recorded views in rising order of token, and which session holds which.
-#![tactic(auto)]
-
-mod held;
-mod recorded;
-mod records;
-
-pub use recorded::Recorded;
-pub use records::Records;

@@ -1,8 +1,0 @@
-use Rattle.cat_sending.proofs.Written.{sent_at_fault}
-use Rattle.cat_replies.proofs.Pieces.{front_within, name_line}
-use Rattle.cat_replies.proofs.lists.send_each_name.Goals as goal
-
-pub returns-in_err-send_line : goal.returns-in_err-send_line
-returns-in_err-send_line g c =
-    sent_at_fault _ c.from_residual.ensures.0
-    (front_within (name_line c.args.session) c.args.names.now c.loop-name.name-index _ _ _ _ c.loop-name-test.true c.loop-name.invariant c.in_err-send_line.ensures)

@@ -1,8 +1,0 @@
-use Rattle.std.proofs.Common.{subst, List}
-use Rattle.cat_search.specs.Holds.{Hold}
-use Rattle.cat_rights.specs.Rights.{AreApart}
-use Rattle.cat_rights.proofs.Entries.{apart}
-use Rattle.cat_rights.proofs.rights.Rights.len.Goals as goal
-
-pub returns-clause-apart : goal.returns-clause-apart
-returns-clause-apart c = subst (λ (rs : List Hold). AreApart rs) c.self.view_is (apart c.self.inside.holds.entries c.self.invariant c.len.ensures.unique)

@@ -1,5 +1,0 @@
-use Rattle.cat_rights_rows.proofs.Empty.{is_view-empty}
-use Rattle.cat_rights_rows.proofs.making.view_at.Goals as goal
-
-pub of-requires : goal.of-requires
-of-requires c = is_view-empty _ _ _ c.new.ensures.items

@@ -1,9 +1,0 @@
-//! Tests of the sessions' rights to views.
-#![tactic(auto)]
-
-#[cfg(test)]
-mod finding;
-#[cfg(test)]
-mod making;
-#[cfg(test)]
-mod taking;

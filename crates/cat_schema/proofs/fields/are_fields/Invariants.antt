@@ -1,7 +1,0 @@
-use Rattle.std.proofs.Common.{◌≡◌, is_some}
-use Rattle.serde_json.specs.View.{members_view}
-use Rattle.cat_schema.specs.Reading.{fields_of}
-use Rattle.cat_schema.proofs.fields.are_fields.Given as goal
-
-abbrev pub invariant-loop-name : goal.invariant-loop-name
-invariant-loop-name l = is_some (fields_of (members_view l.name-iterator)) ≡ is_some (fields_of (members_view l.members.entries))

@@ -1,5 +1,0 @@
-use Rattle.cat_schema.proofs.SchemaTexts.{inputs_one_way}
-use Rattle.cat_schema.proofs.laws.every_input_is_heard_one_way.Goals as goal
-
-pub returns : goal.returns
-returns c = inputs_one_way

@@ -1,5 +1,0 @@
-use Rattle.cat_schema.proofs.TalkTexts.{bytes_agree}
-use Rattle.cat_schema.proofs.laws.held_reads_agree_in_bytes.Goals as goal
-
-pub returns : goal.returns
-returns c = bytes_agree

@@ -1,5 +1,0 @@
-use Rattle.cat_schema.proofs.SchemaTexts.{rules_kept}
-use Rattle.cat_schema.proofs.laws.texts_of_schemas_keep_the_rules.Goals as goal
-
-pub returns : goal.returns
-returns c = rules_kept

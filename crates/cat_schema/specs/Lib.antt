@@ -1,4 +1,0 @@
-pub mod Kinds
-pub mod Contents
-pub mod Reading
-pub mod Laws

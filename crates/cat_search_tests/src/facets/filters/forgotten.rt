@@ -1,0 +1,39 @@
+//! A set in the making over a segment that is gone is given up.
+use crate::facets::filters::making::{Call, Row, expect};
+use std::test::Fail;
+
+#[test]
+fn a_set_over_the_segment_is_given_up(rt: HostRuntime) -> Result<(), Fail> {
+    const ROWS: &[Row<'static>] = &[
+        (Call::Forget(1), ""),
+        (Call::KeepFrom(0), ""),
+        (Call::Note("price:299"), ""),
+        (Call::Steps(2), "begun 256 "),
+        // It is over another segment than this one, and over one of these.
+        (Call::Forget(2), ""),
+        (Call::KeepFrom(0), ""),
+        (Call::Steps(2), "stored begun "),
+        (Call::KeepFrom(1), ""),
+        // It is over none of these.
+        (Call::KeepFrom(2), ""),
+        (Call::Steps(1), "begun "),
+        // Its segment is gone.
+        (Call::Forget(2), ""),
+        (Call::StepsOverFirst(1), "idle "),
+        // What is cached stays.
+        (Call::Sets("price:299"), "1 - "),
+    ];
+    expect(&rt, rt.alloc(), 302, &[300, 302], ROWS)
+}
+
+#[test]
+fn a_set_that_is_given_up_is_begun_anew(rt: HostRuntime) -> Result<(), Fail> {
+    const ROWS: &[Row<'static>] = &[
+        (Call::Note("price:[512 TO *]"), ""),
+        (Call::Steps(3), "begun 256 512 "),
+        (Call::Forget(1), ""),
+        (Call::Steps(5), "begun 256 512 stored idle "),
+        (Call::Sets("price:[512 TO *]"), "88 "),
+    ];
+    expect(&rt, rt.alloc(), 600, &[600], ROWS)
+}

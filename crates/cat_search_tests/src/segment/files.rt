@@ -1,0 +1,104 @@
+//! The bytes of a segment's file, worked out by hand: they are written so and read so, and what is near them is damaged or
+//! spells another segment.
+ghost use Rattle.std.specs.Prelude.{◌≡◌};
+
+use crate::segment::bytes::{Parts, expect_damaged, expect_exact, file_of, rewritten};
+use crate::segment::made::made_of_texts;
+use cat_base::Refusal;
+use cat_segment::{Segment, decode_seg, encode_seg};
+use std::alloc::{AllocError, Global};
+use std::process::Abort;
+use std::test::Fail;
+
+/// The file of segment 1, of the item that the first write put: `{"id":"a","price":5,"color":["red"]}`.
+const SEGMENT: Parts<'static> = &[
+    // The magic word, the version, the number, the number of rows.
+    b"CSEG\x01\0\0\0\0\0\0\0\x01\0\0\0\x01",
+    // Two fields: the facet `color` and the number `price`.
+    b"\0\0\0\x02\0\0\0\x05color\x04\0\0\0\x05price\x03",
+    // The row: its number, its id, the length of its text.
+    b"\0\0\0\0\0\0\0\x01\0\0\0\x01a\0\0\0\x24",
+    // The colors: one label, and the row's one ordinal.
+    b"\0\0\0\x01\0\0\0\x03red\0\0\0\x01\0\0\0\0",
+    // The price.
+    b"\x01\0\0\0\0\0\0\0\x05",
+];
+
+/// The bytes, with all bits of the one at the place turned.
+fn turned(alloc: Global, bytes: &[u8], place: usize) -> Result<Vec<u8>, AllocError> {
+    let mut bytes = Vec::from_slice(alloc, bytes)?;
+    if let Some(byte) = bytes.get_mut(place) {
+        *byte = !*byte;
+    }
+    Ok(bytes)
+}
+
+/// Whether the bytes are damaged, or those of the segment that is read of them.
+fn are_damaged_or_exact(alloc: Global, bytes: &[u8]) -> Result<bool, Refusal> {
+    match rewritten(alloc, bytes) {
+        Ok(written) => Ok(written.as_slice() == bytes),
+        Err(Refusal::Damaged) => Ok(true),
+        Err(refusal) => Err(refusal),
+    }
+}
+
+/// Fails unless the segment has these bytes.
+fn expect_written(
+    rt: &impl Abort,
+    alloc: Global,
+    segment: &Segment,
+    bytes: &[u8],
+) -> Result<(), Fail>
+    requires { segment.now.number ≡ 1 }
+{
+    let written = encode_seg(alloc, segment)?;
+    assert_eq!(rt; written.as_slice(), bytes);
+    Ok(())
+}
+
+#[test]
+fn a_segment_has_these_bytes(rt: HostRuntime) -> Result<(), Fail> {
+    const FIELDS: &[u8] = br#"{"price":"number","color":"facet"}"#;
+    const TEXT: &str = r#"{"id":"a","price":5,"color":["red"]}"#;
+    let alloc = rt.alloc();
+    let segment = made_of_texts(&rt, alloc, FIELDS, &[TEXT])?;
+    expect_written(&rt, alloc, &segment, &file_of(alloc, SEGMENT)?)
+}
+
+#[test]
+fn these_bytes_have_a_segment(rt: HostRuntime) -> Result<(), Fail> {
+    let alloc = rt.alloc();
+    let bytes = file_of(alloc, SEGMENT)?;
+    expect_exact(&rt, alloc, &bytes)?;
+    expect_one_row(&rt, &decode_seg(alloc, &bytes)?);
+    Ok(())
+}
+
+/// Fails unless it is segment 1, of one row with the id `a`.
+fn expect_one_row(rt: &impl Abort, segment: &Segment) {
+    assert!(rt; segment.number() == 1 && segment.len() == 1);
+    assert!(rt; segment.row_with("a") == Some(0) && segment.row_with("b").is_none());
+}
+
+#[test]
+fn a_front_of_a_segment_is_damaged_and_so_is_a_byte_more(rt: HostRuntime) -> Result<(), Fail> {
+    let alloc = rt.alloc();
+    let mut bytes = file_of(alloc, SEGMENT)?;
+    for end in 0..bytes.len() {
+        expect_damaged(&rt, alloc, bytes.get(..end).unwrap_or(&[]));
+    }
+    bytes.push(0)?;
+    expect_damaged(&rt, alloc, &bytes);
+    Ok(())
+}
+
+#[test]
+fn a_turned_byte_is_damaged_or_spells_another_segment(rt: HostRuntime) -> Result<(), Fail> {
+    let alloc = rt.alloc();
+    let bytes = file_of(alloc, SEGMENT)?;
+    for place in 0..bytes.len() {
+        let other = turned(alloc, &bytes, place)?;
+        assert!(rt; are_damaged_or_exact(alloc, &other)?, "byte {place}");
+    }
+    Ok(())
+}

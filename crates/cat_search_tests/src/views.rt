@@ -1,0 +1,12 @@
+//! Tests of views: pages over segments beside pages over records, and the stored texts of items; and what makes views of
+//! texts, for the tests of the crates above.
+
+mod making;
+mod put;
+#[cfg(test)]
+mod views;
+#[cfg(test)]
+mod walks;
+
+pub use making::{PutText, are_in_order, read_put, read_puts, segment_of, sets_of, view_of};
+pub use put::Put;

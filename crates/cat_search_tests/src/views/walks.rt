@@ -1,0 +1,218 @@
+//! Pages by a number field over segments are the pages over the records that their live rows show, where many rows tie, stand
+//! at an end of the integers, have no number, or are dead, and behind each mark.
+ghost use Rattle.std.specs.Prelude.{◌≡◌, ◌≢◌, ◌<◌, true, IfOk, All, AllPairs};
+ghost use Rattle.cat_model.specs.Item.{IsItem};
+
+use crate::views::making::{are_in_order, read_put, view_of};
+use crate::views::put::Put;
+use crate::views::views::{FIELDS, shown_by_records, shown_by_view};
+use cat_base::{Refusal, WriteNo};
+use cat_cached_sets::View;
+use cat_facets::cat_search::{Ask, Sort};
+use cat_items::Schema;
+use std::alloc::{AllocError, Global};
+use std::process::Abort;
+use std::test::Fail;
+
+/// How many rows there are, in three segments.
+const ROWS: WriteNo = 150;
+
+const ENDS: &[usize] = &[70, 140, 150];
+
+/// None, rows of each segment, of which every third is dead where rows are, and one that isn't there.
+const MARKS: &[Option<WriteNo>] = &[
+    None,
+    Some(1),
+    Some(2),
+    Some(3),
+    Some(35),
+    Some(70),
+    Some(71),
+    Some(72),
+    Some(148),
+    Some(151),
+];
+
+/// What prices the rows have, and which of them are dead.
+#[derive(Clone, Copy)]
+enum Rows {
+    /// One price.
+    Tied,
+    /// The least and the greatest integer in turn, and none.
+    AtTheEnds,
+    /// None.
+    Missing,
+    /// Five prices and none, and every third row is dead.
+    Thinned,
+    /// Five prices and none, and all are dead.
+    Dead,
+}
+
+/// The text of the price of the row, and nothing for none.
+fn price_of(rows: Rows, number: WriteNo) -> &'static str {
+    match (rows, number % 6) {
+        (Rows::Missing, _) => "",
+        (Rows::Tied, _) => r#","price":7"#,
+        (Rows::AtTheEnds, 0 | 3) => r#","price":-9223372036854775808"#,
+        (Rows::AtTheEnds, 1 | 4) => r#","price":9223372036854775807"#,
+        (Rows::AtTheEnds, _) => "",
+        (_, 0) => "",
+        (_, 1) => r#","price":5"#,
+        (_, 2) => r#","price":-1"#,
+        (_, 3) => r#","price":0"#,
+        (_, 4) => r#","price":44"#,
+        (_, _) => r#","price":43"#,
+    }
+}
+
+/// Whether the row is live.
+fn is_live(rows: Rows, number: WriteNo) -> bool {
+    match rows {
+        Rows::Tied | Rows::AtTheEnds | Rows::Missing => true,
+        Rows::Thinned => number % 3 != 0,
+        Rows::Dead => false,
+    }
+}
+
+/// The item of the row, put by the write of the number.
+fn put_of(alloc: Global, schema: &Schema, rows: Rows, number: WriteNo) -> Result<Put, Refusal>
+    ensures { IfOk result (λ p. IsItem schema.now p.item) }
+{
+    let price = price_of(rows, number);
+    let text = format!(in alloc; r#"{{"id":"i{number}"{price}}}"#)?;
+    read_put(
+        alloc,
+        schema,
+        (number, is_live(rows, number), text.as_str()),
+    )
+}
+
+/// The rows, or the live ones.
+fn all_puts(
+    alloc: Global,
+    schema: &Schema,
+    rows: Rows,
+    live_only: bool,
+) -> Result<Vec<Put>, Refusal>
+    ensures { IfOk result (λ v. All (λ p. IsItem schema.now p.item) v.items) }
+{
+    let mut puts = Vec::new(alloc);
+    for number in 1..ROWS + 1 {
+        if live_only && !is_live(rows, number) {
+            continue;
+        }
+        puts.push(put_of(alloc, schema, rows, number)?)?;
+    }
+    Ok(puts)
+}
+
+/// The same, where they can be rows of a view.
+fn puts_in_order(
+    alloc: Global,
+    schema: &Schema,
+    rows: Rows,
+    live_only: bool,
+) -> Result<Vec<Put>, Refusal>
+    ensures items { IfOk result (λ v. All (λ p. IsItem schema.now p.item) v.items) }
+    ensures order { IfOk result (λ v. AllPairs (λ a b. (a.number < b.number)
+        × (a.live ≡ true → b.live ≡ true → a.item.id ≢ b.item.id)) v.items) }
+{
+    let puts = all_puts(alloc, schema, rows, live_only)?;
+    if !are_in_order(&puts) {
+        return Err(Refusal::Damaged);
+    }
+    Ok(puts)
+}
+
+/// Whether the page over the view is the page over the records.
+fn page_agrees(
+    alloc: Global,
+    view: &View,
+    records: &[Put],
+    query: &str,
+    ask: Ask<'_>,
+) -> Result<bool, Refusal>
+    requires rising { AllPairs (λ a b. a.number < b.number) records.now }
+    requires items { All (λ p. IsItem view.now.schema p.item) records.now }
+{
+    let of_view = shown_by_view(alloc, view, query, ask)?;
+    let of_records = shown_by_records(alloc, view.schema(), records, query, ask)?;
+    Ok(of_view.as_str() == of_records.as_str())
+}
+
+/// Whether the pages behind the marks are those over the records.
+fn pages_agree(
+    alloc: Global,
+    view: &View,
+    records: &[Put],
+    query: &str,
+    sort: Sort<'_>,
+    count: u64,
+) -> Result<bool, Refusal>
+    requires rising { AllPairs (λ a b. a.number < b.number) records.now }
+    requires items { All (λ p. IsItem view.now.schema p.item) records.now }
+{
+    for mark in MARKS {
+        let after = *mark;
+        let ask = Ask { sort, after, count };
+        if !page_agrees(alloc, view, records, query, ask)? {
+            return Ok(false);
+        }
+    }
+    Ok(true)
+}
+
+/// How many hits are shown at most, and of which query.
+const FINDS: &[(u64, &str)] = &[
+    (1, "*:*"),
+    (3, "*:*"),
+    (0, "*:*"),
+    (1, "price:[0 TO *]"),
+    (1, "price:[* TO 7]"),
+];
+
+/// Whether all pages by rising and by falling price are those over the records.
+fn walks_agree(alloc: Global, rows: Rows) -> Result<bool, Refusal> {
+    let schema = Schema::read(alloc, FIELDS)?;
+    let puts = puts_in_order(alloc, &schema, rows, false)?;
+    let view = view_of(alloc, &schema, &puts, ENDS)?;
+    let records = puts_in_order(alloc, &schema, rows, true)?;
+    for &(count, query) in FINDS {
+        let rising = pages_agree(alloc, &view, &records, query, Sort::Rising("price"), count)?;
+        let falling = pages_agree(alloc, &view, &records, query, Sort::Falling("price"), count)?;
+        if !(rising && falling) {
+            return Ok(false);
+        }
+    }
+    Ok(true)
+}
+
+#[test]
+fn many_rows_of_one_number_go_by_their_numbers(rt: HostRuntime) -> Result<(), Fail> {
+    assert!(rt; walks_agree(rt.alloc(), Rows::Tied)?);
+    Ok(())
+}
+
+#[test]
+fn numbers_stand_at_the_ends_of_the_integers(rt: HostRuntime) -> Result<(), Fail> {
+    assert!(rt; walks_agree(rt.alloc(), Rows::AtTheEnds)?);
+    Ok(())
+}
+
+#[test]
+fn rows_without_numbers_go_by_their_numbers(rt: HostRuntime) -> Result<(), Fail> {
+    assert!(rt; walks_agree(rt.alloc(), Rows::Missing)?);
+    Ok(())
+}
+
+#[test]
+fn dead_rows_are_passed_and_are_no_marks(rt: HostRuntime) -> Result<(), Fail> {
+    assert!(rt; walks_agree(rt.alloc(), Rows::Thinned)?);
+    Ok(())
+}
+
+#[test]
+fn of_dead_rows_alone_none_is_shown(rt: HostRuntime) -> Result<(), Fail> {
+    assert!(rt; walks_agree(rt.alloc(), Rows::Dead)?);
+    Ok(())
+}

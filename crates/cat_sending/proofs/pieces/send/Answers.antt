@@ -1,5 +1,0 @@
-use Rattle.cat_sending.proofs.Written.{sent_in_two}
-use Rattle.cat_sending.proofs.pieces.send.Goals as goal
-
-pub returns : goal.returns
-returns g c = sent_in_two _ _ _ _ c.args.bytes.now c.in_ok-sent.sent c.in_ok-sent.ensures.ok c.send_rest.ensures

@@ -1,0 +1,151 @@
+-- What an opened world begins with.
+use Rattle.std.proofs.Common.{◌≡◌, ℕ, List, [], ◌∷◌, ap, ap₂, append-nil, map, refl, sym, ◌∙◌, subst, inl, inr}
+use Rattle.std.specs.List.{AllByRecursion}
+use Rattle.std.specs.Prelude.{◌≢◌, ◌⊎◌, Some, None, Result, Ok, Err, ◌++◌}
+use Rattle.cat_base.specs.declared.refusal.Refusal.{Refusal}
+use Rattle.cat_base.specs.declared.refusal.Refusal.TheVariants.{Damaged, Device, Kind, Memory}
+use Rattle.cat_model.specs.CommitFile.{CommitFile}
+use Rattle.cat_model.specs.Item.{Record, Schema}
+use Rattle.cat_model.specs.Lines.{IsReadable}
+use Rattle.cat_model.specs.Served.{Begins, SpellsSchema}
+use Rattle.cat_model.specs.State.{IsFresh, StandsFor, has_hold, newest_told, opened_as}
+use Rattle.cat_model.specs.Table.{Opened}
+use Rattle.cat_model.specs.Text.{Text}
+use Rattle.cat_model.proofs.Opening.{fresh_begins}
+use Rattle.cat_items.specs.Reading.{schema_of}
+use Rattle.cat_ledger_laws.specs.model.Ledger.{Ledger, IsWholeCommit, commit_shown, portions_in, state_of, table_of}
+use Rattle.cat_ledger_laws.specs.model.Portions.{Portion, leaf_of, records_of}
+use Rattle.cat_ledger_laws.specs.model.Stored.{FileBytes, IsCommitStored}
+use Rattle.cat_ledger_laws.specs.shape.Shapes.{Shape}
+use Rattle.cat_ledger_laws.specs.shape.Steps.{Leaves}
+use Rattle.cat_ledger_laws.specs.shape.Ties.{Carries, ToldFiles}
+use Rattle.cat_ledger_laws.proofs.shape.Writes.{sweeps_make}
+use Rattle.cat_ledger_laws.specs.lines.RunLaws.{Stands}
+use Rattle.cat_commands.specs.cat_ledger_state.startup.Opened.{HasOpened, IsOpenedAtCommit, IsOpenedEmpty}
+use Rattle.cat_commands.specs.cat_ledger_state.startup.Refused.{IsNewestDamaged, IsNewestForeign}
+use Rattle.cat_commands.specs.cat_ledger.Openings.{IsOpenedLedger}
+use Rattle.cat_commands.proofs.ledger_laws.Swept.{KeepsUsed}
+use Rattle.cat_commands.specs.views.Holding.{AreRights}
+use Rattle.cat_service.specs.Opening.{BeginsIn, HasSchemaText, HoldsTable, OpensIn}
+use Rattle.cat_service.specs.Worlds.{IsCarried}
+
+-- what is opened, and the run that begins there
+abbrev Begun : ToldFiles → ToldFiles → Shape → Schema → Type 0
+Begun told told' s schema = (from : Opened) × OpensIn told schema (Ok from) × (from.start.schema ≡ schema) × Stands told' s from []
+
+-- a fresh ledger that is swept stands for the run that begins as it is
+swept_stands : (told told' : ToldFiles) (schema : Schema) (mid s : Shape) (l : Ledger) (files : FileBytes) → Carries told mid l files
+    → IsFresh (state_of l) → Leaves [] mid s → KeepsUsed mid told told' → Stands told' s (opened_as schema (state_of l)) []
+swept_stands told told' schema mid s l files carries fresh swept kept =
+    let k = sweeps_make mid s told told' swept kept l files carries in record {
+      ledger = k.0;
+      files = k.1;
+      carries = k.3;
+      stands =
+          subst (λ x. StandsFor (opened_as schema (state_of l)) [] x) (sym (ap state_of k.2.rest)) (fresh_begins schema (state_of l) fresh);
+    }
+
+-- the commit's files hold the table that was opened
+table_held : (told : ToldFiles) (schema : Schema) (mid : Shape) (o : IsOpenedAtCommit told schema told mid)
+    → HoldsTable told schema o.restored (opened_as schema (state_of o.ledger)).start.records
+table_held told schema mid o =
+    let fields : o.ledger.schema ≡ schema = ap (λ (x : Shape). x.schema) o.carries.shape ∙ ap (λ (x : Shape). x.schema) o.memory in
+    let one : AllByRecursion (IsCommitStored o.files o.ledger.schema) (o.commit ∷ []) =
+    subst (λ cs. AllByRecursion (IsCommitStored o.files o.ledger.schema) cs) o.opened.commits o.carries.stored.commits in
+    let whole : AllByRecursion (IsWholeCommit o.ledger.schema o.ledger.count) (o.commit ∷ []) =
+    subst (λ cs. AllByRecursion (IsWholeCommit o.ledger.schema o.ledger.count) cs) o.opened.commits o.carries.sound.commits in record {
+      files = o.files;
+      agrees = o.carries.agrees;
+      commit = o.commit;
+      same = o.same;
+      stored = subst (λ schema. IsCommitStored o.files schema o.commit) fields one.0;
+      formed = whole.0.1.portions;
+      leaves =
+          ap₂ (λ (schema : Schema) (ps : List Portion). map (leaf_of schema) ps) (sym fields) (sym o.opened.portions)
+          ∙ ap (λ (x : Shape). x.leaves) o.carries.shape
+          ∙ ap (λ (x : Shape). x.leaves) o.memory;
+      table = ap₂ (λ (ps : List Portion) (rs : List Record). records_of ps ++ rs) o.opened.portions o.opened.buffered ∙ append-nil (records_of (portions_in o.commit));
+    }
+
+at_commit : (told told' : ToldFiles) (schema : Schema) (mid s : Shape) → IsOpenedAtCommit told schema told mid → Leaves [] mid s
+    → KeepsUsed mid told told' → Begun told told' s schema
+at_commit told told' schema mid s o swept kept =
+    let own : newest_told (state_of o.ledger).commits ≡ Some (record { generation = o.commit.generation; text = o.commit.text }) =
+    ap (λ cs. newest_told (map commit_shown cs)) o.opened.commits in (
+      opened_as schema (state_of o.ledger),
+      inl (record {
+        generation = o.generation;
+        newest = o.newest;
+        restored = o.restored;
+        held = o.held;
+        fields = refl;
+        table = table_held told schema mid o;
+        token = o.opened.count ∙ ap (λ (f : CommitFile). f.token) o.same;
+        commit = own ∙ ap (λ (f : CommitFile). Some (record { generation = f.generation; text = f.text })) o.same;
+      }),
+      refl,
+      swept_stands told told' schema mid s o.ledger o.files o.carries o.fresh swept kept,
+    )
+
+empty : (told told' : ToldFiles) (schema : Schema) (mid s : Shape) → IsOpenedEmpty told schema told mid → Leaves [] mid s
+    → KeepsUsed mid told told' → Begun told told' s schema
+empty told told' schema mid s o swept kept =
+    let table : table_of o.ledger ≡ [] = ap₂ (λ (ps : List Portion) (rs : List Record). records_of ps ++ rs) o.opened.portions o.opened.buffered in
+    let own : newest_told (state_of o.ledger).commits ≡ None = ap (λ cs. newest_told (map commit_shown cs)) o.opened.commits in
+    let same : opened_as schema (state_of o.ledger) ≡ record { start = record { schema = schema; records = []; token = 0 }; commit = None } =
+    λ i. record { start = record { schema = schema; records = table i; token = o.opened.count i }; commit = own i } in (
+      opened_as schema (state_of o.ledger),
+      inr (o.none, same),
+      refl,
+      swept_stands told told' schema mid s o.ledger o.files o.carries o.fresh swept kept,
+    )
+
+pub begun : (told told' : ToldFiles) (schema : Schema) (s : Shape) → IsOpenedLedger told schema told' s → Begun told told' s schema
+begun told told' schema s o = elim o.opened [
+  | inl c ↦ at_commit told told' schema o.state s c o.swept o.kept
+  | inr c ↦ empty told told' schema o.state s c o.swept o.kept
+]
+
+-- no token is held
+unheld : (told : ToldFiles) (schema : Schema) (told' : ToldFiles) (mid s : Shape) → HasOpened told schema told' mid → Leaves [] mid s → s.holds ≡ []
+unheld told schema told' mid s (inl o) swept = ap (λ (x : Shape). x.holds) swept.rest ∙ ap (λ (x : Shape). x.holds) o.memory
+unheld told schema told' mid s (inr o) swept = ap (λ (x : Shape). x.holds) swept.rest ∙ ap (λ (x : Shape). x.holds) o.memory
+
+rights_none : (s : Shape) → s.holds ≡ [] → AreRights s []
+rights_none s none = record {
+  held = λ session t. ap (λ hs. has_hold hs session t) none;
+  views = λ session t right is. absurd (let no : None ≡ Some right = is in cc);
+}
+
+-- so no session has a right
+pub none_counted : (told told' : ToldFiles) (schema : Schema) (s : Shape) → IsOpenedLedger told schema told' s → AreRights s []
+none_counted told told' schema s o = rights_none s (unheld told schema told o.state s o.opened o.swept)
+
+-- a ledger is carried where one stands for a run
+pub carried_there : (told : ToldFiles) (s : Shape) (from : Opened) → Stands told s from [] → IsCarried told s
+carried_there told s from stands = (stands.ledger, stands.files, stands.carries)
+
+-- why none was opened, by the ledger's own words
+pub unopened : (told : ToldFiles) (schema : Schema) (e : Refusal) → (e ≡ Kind) ⊎ (e ≡ Damaged) ⊎ (e ≡ Device) ⊎ (e ≡ Memory) → (e ≡ Damaged → IsNewestDamaged told schema)
+    → (e ≡ Kind → IsNewestForeign told schema) → OpensIn told schema (Err e)
+unopened told schema e (inl kind) damaged foreign = inr (inr (inr (kind, foreign kind)))
+unopened told schema e (inr (inl lost)) damaged foreign = inr (inr (inl (lost, damaged lost)))
+unopened told schema e (inr (inr (inl device))) damaged foreign = inr (inl device)
+unopened told schema e (inr (inr (inr memory))) damaged foreign = inl memory
+
+is_memory : (e : Refusal) → (e ≡ Memory) ⊎ (e ≢ Memory)
+is_memory Memory = inl refl
+is_memory _ = inr (λ h. cc h)
+
+-- the schema is refused, and its refusal is handed on
+pub refused_schema : (told : ToldFiles) (line : Text) (factor least : ℕ) (text : Text) (e : Refusal) → SpellsSchema line factor least text
+    → (e ≢ Memory → schema_of text ≡ Err e) → IsReadable line → ((e ≡ Memory) × HasSchemaText line) ⊎ BeginsIn told line (Err e)
+refused_schema told line factor least text e spelled refused readable = elim (is_memory e) [
+  | inl memory ↦ inl (memory, (readable, factor, least, text, spelled))
+  | inr other ↦ inr (Begins.no_schema factor least text e readable spelled (refused other))
+]
+
+-- the line opens what its schema opens
+pub begins_so : (told : ToldFiles) (line : Text) (factor least : ℕ) (text : Text) (schema : Schema) (r : Result Opened Refusal) → IsReadable line
+    → SpellsSchema line factor least text → schema_of text ≡ Ok schema → OpensIn told schema r → BeginsIn told line r
+begins_so told line factor least text schema r readable spelled read opens = Begins.opened factor least text schema r readable spelled read opens

@@ -1,0 +1,314 @@
+-- The causes of replies, as those who answer tell them.
+use Rattle.std.proofs.Common.{◌≡◌, ◌≢◌, ℕ, ◌<◌, ◌≤◌, List, Bool, true, false, cond, ltb, length, refl, sym, ◌∙◌, ap, subst, inl, inr}
+use Rattle.std.specs.Prelude.{◌⊎◌, ◌==◌, Option, None, Some, Result, Ok, Err, IfErr, IfOk}
+use Rattle.std.specs.List.{list_all}
+use Rattle.std.proofs.lemmas.Bool.Decides.{eqb_tells}
+use Rattle.cat_base.specs.declared.refusal.Refusal.{Refusal}
+use Rattle.cat_base.specs.declared.refusal.Refusal.TheVariants.{Damaged, Device, Kind as WrongKind, Large, Line as NoForm, Spent}
+use Rattle.cat_model.specs.Forms.{is_plain_byte}
+use Rattle.cat_model.specs.Answer.{Read}
+use Rattle.cat_model.specs.Heard.{commit_text_of}
+use Rattle.cat_model.specs.Item.{Schema}
+use Rattle.cat_model.specs.Limits.{buffer_limit, commit_text_limit, last_number}
+use Rattle.cat_model.specs.Lines.{Said}
+use Rattle.cat_model.specs.Run.{Answer, Chore, Command, News, Reply}
+use Rattle.cat_model.specs.Text.{Text}
+use Rattle.cat_model.specs.View.{View}
+use Rattle.cat_directory.specs.Devices.{CountsOne, FileContent}
+use Rattle.cat_directory.specs.declared.name.FileName.{FileName}
+use Rattle.cat_commands.specs.views.Holding.{said_open}
+use Rattle.cat_commands.specs.ledger.Chores.{FailsFor, MayRefuse, MayRefuseForce, MayRefuseMerge, Tells, chore_of, stat_in}
+use Rattle.cat_commands.specs.declared.ledger.chores.Chore as code_chore
+use Rattle.cat_commands.specs.declared.ledger.chores.Chore.TheVariants.{Force, Merge, Stat, Sweep}
+use Rattle.cat_commands.specs.cat_ledger.Answering.{AnswersSaid}
+use Rattle.cat_commands.specs.cat_ledger.Histories.{GoesBy}
+use Rattle.cat_commands.specs.cat_ledger.Ledgers.{Ledger, device_in, policy_in, shape_in}
+use Rattle.cat_commands.specs.cat_ledger_state.Cores.{HasRowsLeft, MayNotFlush}
+use Rattle.cat_ledger_laws.specs.lines.LineLaws.{line_of}
+use Rattle.cat_ledger_laws.specs.lines.ReadLaws.{IsRecordedAs}
+use Rattle.cat_ledger_laws.specs.lines.RunLaws as lines
+use Rattle.cat_ledger_laws.proofs.lines.Numbered.{numbers_rise}
+use Rattle.cat_ledger_laws.proofs.lines.Planned.{merges_tell}
+use Rattle.cat_ledger_laws.specs.model.Plans.{MergePolicy}
+use Rattle.cat_ledger_laws.specs.shape.Shapes.{Shape}
+use Rattle.cat_ledger_laws.specs.shape.Ties.{ToldFiles}
+use Rattle.cat_protocol.specs.replies.Reply.{answer_of, reply_of}
+use Rattle.cat_protocol.specs.declared.replies.answer.Answer as code
+use Rattle.cat_protocol.specs.cat_views.Holds.{Hold}
+use Rattle.cat_protocol.specs.cat_views.Sources.{HoldsSource, TellsSource}
+use Rattle.cat_service.specs.Causes.{FailsBy, HasCause, IsDamagedTo, IsSpentTo, MayFailTo, TakesNumbers, TellsSo}
+use Rattle.cat_service.specs.Lines.{IsCommandOf}
+use Rattle.cat_service.specs.Worlds.{IsCarried, Service}
+
+-- ---- replies
+
+-- what is said of the refusal that is given
+refused_so : (P : Refusal → Type 0) (result : Result code.Answer Refusal) (e : Refusal) → IfErr result P → reply_of result ≡ Err e → P e
+refused_so P (Ok a) e h is = absurd (let no : ◌≡◌ {A = Reply} (Ok (answer_of a)) (Err e) = is in cc)
+refused_so P (Err x) e h is = subst P (one x e is) h
+  where
+    one : (x e : Refusal) → ◌≡◌ {A = Reply} (Err x) (Err e) → x ≡ e
+    one x e is = cc
+
+-- and of that it is given
+given_so : (A : Type 0) (x : Refusal) (result : Result code.Answer Refusal) (e : Refusal) → IfErr result (λ y. y ≡ x → A) → x ≡ e → reply_of result ≡ Err e → A
+given_so A x result e h same is = refused_so (λ y. y ≡ x → A) result e h is (sym same)
+
+-- another reply isn't given
+not_told : (result : Result code.Answer Refusal) (x : Refusal) (reply : Reply) → (Err x ≢ reply) → result ≡ Err x → reply_of result ≡ reply → ⊥
+not_told result x reply differs given is = differs (sym (ap reply_of given) ∙ is)
+
+module _ {D : Type 0} (bytes : D → ToldFiles) (can_fail : D → Type 0) (faults : D → ℕ) (old : Ledger D) (rights : List Hold) (result : Result code.Answer Refusal)
+    (left : Ledger D) (rights' : List Hold) where
+  abbrev world : Service D
+  world = record { ledger = old; rights = rights }
+
+  abbrev after : Service D
+  after = record { ledger = left; rights = rights' }
+
+  abbrev Counted : Type 0
+  Counted = CountsOne (faults (device_in old)) (faults (device_in left))
+
+  abbrev Causes : Said → Type 0
+  Causes said = HasCause bytes can_fail faults world (Some said) (reply_of result) after
+
+  pub put_caused : (text : Text)
+      → IfErr result (λ e. e ≡ Spent → (last_number ≤ (shape_in old).count) ⊎ ((buffer_limit ≤ length (shape_in old).buffered) × MayNotFlush (shape_in old)))
+      → IfErr result (λ e. e ≡ Device → can_fail (device_in old)) → IfErr result (λ e. e ≡ Device → Counted) → Causes (Said.put text)
+  put_caused text spent device counted = record {
+    spent = given_so (IsSpentTo (policy_in old) (shape_in old) (Some (Said.put text))) Spent result Spent spent refl;
+    device = given_so (can_fail (device_in old)) Device result Device device refl;
+    counted = given_so Counted Device result Device counted refl;
+    damaged = λ k. tt;
+    told = tt;
+  }
+
+  pub refresh_caused : IfErr result (λ e. e ≡ Spent → MayNotFlush (shape_in old)) → IfErr result (λ e. e ≡ Device → can_fail (device_in old))
+      → IfErr result (λ e. e ≡ Device → Counted) → Causes Said.refresh
+  refresh_caused spent device counted = record {
+    spent = given_so (MayNotFlush (shape_in old)) Spent result Spent spent refl;
+    device = given_so (can_fail (device_in old)) Device result Device device refl;
+    counted = given_so Counted Device result Device counted refl;
+    damaged = λ k. tt;
+    told = tt;
+  }
+
+  pub get_caused : (t : ℕ) (id : Text)
+      → IfErr result (λ e. e ≡ Damaged → (view : View) → IsRecordedAs (shape_in old).views t view → (files : ℕ → List ℕ)
+      → TellsSource (bytes (device_in old)) files view id → HoldsSource files view id → ⊥)
+      → IfErr result (λ e. e ≡ Device → can_fail (device_in old)) → IfErr result (λ e. e ≡ Device → Counted) → Causes (Said.get t id)
+  get_caused t id damaged device counted = record {
+    spent = λ k. tt;
+    device = given_so (can_fail (device_in old)) Device result Device device refl;
+    counted = given_so Counted Device result Device counted refl;
+    damaged = given_so (IsDamagedTo (bytes (device_in old)) (shape_in old) (Some (Said.get t id))) Damaged result Damaged damaged refl;
+    told = tt;
+  }
+
+  -- an OPEN, of which the run says what it is told
+  pub open_caused : (token : Option ℕ) → Causes (said_open token)
+  open_caused None = record { spent = λ k. tt; device = λ k. tt; counted = λ k. tt; damaged = λ k. tt; told = tt }
+  open_caused (Some t) = record { spent = λ k. tt; device = λ k. tt; counted = λ k. tt; damaged = λ k. tt; told = tt }
+
+  -- ---- COMMIT
+
+  -- the text has the form of one where another refusal is given
+  right_text : (A : Type 0) (text : Text) (e : Refusal) → Large ≢ e → WrongKind ≢ e → IfErr (commit_text_of text) (λ e. (result ≡ Err e) × A)
+      → reply_of result ≡ Err e → commit_text_of text ≡ Ok text
+  right_text A text e large kind wrong is = by (ltb commit_text_limit (length text)) (list_all is_plain_byte text) refl refl wrong
+    where
+      another : (x : Refusal) → x ≢ e → ◌≡◌ {A = Reply} (Err x) (Err e) → ⊥
+      another x differs k = differs cc
+
+      by : (long plain : Bool) → ltb commit_text_limit (length text) ≡ long → list_all is_plain_byte text ≡ plain
+          → IfErr (cond long (Err Large) (cond plain (Ok text) (Err WrongKind))) (λ e. (result ≡ Err e) × A) → commit_text_of text ≡ Ok text
+      by true plain a b due = absurd (not_told result Large (Err e) (another Large large) due.0 is)
+      by false false a b due = absurd (not_told result WrongKind (Err e) (another WrongKind kind) due.0 is)
+      by false true a b due =
+          ap (λ long. cond long (Err Large) (cond (list_all is_plain_byte text) (Ok text) (Err WrongKind))) a
+          ∙ ap (λ plain. cond plain (Ok text) (Err WrongKind)) b
+
+  -- what is told of a generation
+  commit_told : (may : D → FileName → FileContent → Type 0) (text : Text) (reply : Reply) (new : Ledger D) → GoesBy may (Some (Said.commit text)) reply old new
+      → TellsSo (policy_in old) (shape_in old) (Some (Said.commit text)) reply
+  commit_told may text (Ok (Answer.number g)) new goes = (goes.asked g refl).0
+  commit_told may text (Ok (Answer.found f)) new goes = tt
+  commit_told may text (Ok (Answer.names ns)) new goes = tt
+  commit_told may text (Ok (Answer.commit_text t)) new goes = tt
+  commit_told may text (Ok (Answer.news n)) new goes = tt
+  commit_told may text (Err e) new goes = tt
+
+  pub commit_caused : (A : Type 0) (may : D → FileName → FileContent → Type 0) (text : Text)
+      → IfErr (commit_text_of text) (λ e. (result ≡ Err e) × A)
+      → (commit_text_of text ≡ Ok text → IfErr result (λ e. e ≡ Spent → (last_number < (shape_in old).next_generation) ⊎ MayNotFlush (shape_in old)))
+      → (commit_text_of text ≡ Ok text → IfErr result (λ e. e ≡ Device → can_fail (device_in old)))
+      → (commit_text_of text ≡ Ok text → IfErr result (λ e. e ≡ Device → Counted))
+      → GoesBy may (Some (Said.commit text)) (reply_of result) old left → Causes (Said.commit text)
+  commit_caused A may text wrong spent device counted goes = record {
+    spent = λ k.
+        given_so ((last_number < (shape_in old).next_generation) ⊎ MayNotFlush (shape_in old)) Spent result Spent
+        (spent (right_text A text Spent (λ e. cc e) (λ e. cc e) wrong k)) refl k;
+    device = λ k. given_so (can_fail (device_in old)) Device result Device (device (right_text A text Device (λ e. cc e) (λ e. cc e) wrong k)) refl k;
+    counted = λ k. given_so Counted Device result Device (counted (right_text A text Device (λ e. cc e) (λ e. cc e) wrong k)) refl k;
+    damaged = λ k. tt;
+    told = commit_told may text (reply_of result) left goes;
+  }
+
+  -- ---- maintenance
+
+  -- session 0 alone is told anything but that the line has no form
+  zero : {A : Type 0} (session : ℕ) (reply : Reply) → (Err NoForm ≢ reply) → (session ≢ 0 → (result ≡ Err NoForm) × A) → reply_of result ≡ reply → session ≡ 0
+  zero session reply differs foreign is = elim (eqb_tells session 0) [
+    | inl k ↦ k.1
+    | inr k ↦ absurd (not_told result NoForm reply differs (foreign k.1).0 is)
+  ]
+
+  module _ (session : ℕ) (carried : IsCarried (bytes (device_in old)) (shape_in old)) where
+    -- what answers session 0 answers the command
+    of_zero : (what : Chore) (reply : Reply) → session ≡ 0 → AnswersSaid bytes session (Said.chore what) old reply left
+        → lines.Answers (policy_in old) (bytes (device_in old)) (shape_in old) (line_of 0 (Command.chore what)) reply (bytes (device_in left)) (shape_in left)
+    of_zero what reply is answers =
+        subst (λ c. lines.Answers (policy_in old) (bytes (device_in old)) (shape_in old) (line_of 0 c) reply (bytes (device_in left)) (shape_in left)) answers.1
+        (subst (λ n. lines.Answers (policy_in old) (bytes (device_in old)) (shape_in old) (line_of n answers.0) reply (bytes (device_in left)) (shape_in left)) is answers.2)
+
+    merge_told : (a : Answer) → session ≡ 0 → AnswersSaid bytes session (Said.chore Chore.merge) old (Ok a) left
+        → TellsSo (policy_in old) (shape_in old) (Some (Said.chore Chore.merge)) (Ok a)
+    merge_told (Answer.news n) is answers =
+        (merges_tell (policy_in old) (bytes (device_in old)) (bytes (device_in left)) (shape_in old) (shape_in left) n carried.0 carried.1 carried.2).0
+        (of_zero Chore.merge (Ok (Answer.news n)) is answers)
+    merge_told (Answer.number n) is answers = tt
+    merge_told (Answer.found f) is answers = tt
+    merge_told (Answer.names ns) is answers = tt
+    merge_told (Answer.commit_text t) is answers = tt
+
+    force_told : (a : Answer) → session ≡ 0 → AnswersSaid bytes session (Said.chore Chore.force) old (Ok a) left
+        → TellsSo (policy_in old) (shape_in old) (Some (Said.chore Chore.force)) (Ok a)
+    force_told (Answer.news n) is answers =
+        (merges_tell (policy_in old) (bytes (device_in old)) (bytes (device_in left)) (shape_in old) (shape_in left) n carried.0 carried.1 carried.2).1
+        (of_zero Chore.force (Ok (Answer.news n)) is answers)
+    force_told (Answer.number n) is answers = tt
+    force_told (Answer.found f) is answers = tt
+    force_told (Answer.names ns) is answers = tt
+    force_told (Answer.commit_text t) is answers = tt
+
+    -- what is told, as it is answered
+    maintain_told : (sets : ℕ) (chore : code_chore.Chore) (r : Result code.Answer Refusal) → (session ≢ 0 → r ≡ Err NoForm)
+        → AnswersSaid bytes session (Said.chore (chore_of chore)) old (reply_of r) left → IfOk r (λ a. Tells sets (shape_in old) chore (answer_of a))
+        → TellsSo (policy_in old) (shape_in old) (Some (Said.chore (chore_of chore))) (reply_of r)
+    maintain_told sets Merge (Ok a) foreign answers told = merge_told (answer_of a) (zero_answered a foreign) answers
+      where
+        zero_answered : (a : code.Answer) → (session ≢ 0 → ◌≡◌ {A = Result code.Answer Refusal} (Ok a) (Err NoForm)) → session ≡ 0
+        zero_answered a foreign = elim (eqb_tells session 0) [
+          | inl k ↦ k.1
+          | inr k ↦ absurd (let no : ◌≡◌ {A = Result code.Answer Refusal} (Ok a) (Err NoForm) = foreign k.1 in cc)
+        ]
+    maintain_told sets Force (Ok a) foreign answers told = force_told (answer_of a) (zero_answered a foreign) answers
+      where
+        zero_answered : (a : code.Answer) → (session ≢ 0 → ◌≡◌ {A = Result code.Answer Refusal} (Ok a) (Err NoForm)) → session ≡ 0
+        zero_answered a foreign = elim (eqb_tells session 0) [
+          | inl k ↦ k.1
+          | inr k ↦ absurd (let no : ◌≡◌ {A = Result code.Answer Refusal} (Ok a) (Err NoForm) = foreign k.1 in cc)
+        ]
+    maintain_told sets Sweep (Ok a) foreign answers told =
+        subst (λ x. TellsSo (policy_in old) (shape_in old) (Some (Said.chore Chore.sweep)) (Ok x)) (sym told) refl
+    maintain_told sets Stat (Ok a) foreign answers told =
+        subst (λ x. TellsSo (policy_in old) (shape_in old) (Some (Said.chore Chore.stat)) (Ok x)) (sym told) (sets, refl)
+    maintain_told sets Merge (Err e) foreign answers told = tt
+    maintain_told sets Force (Err e) foreign answers told = tt
+    maintain_told sets Sweep (Err e) foreign answers told = tt
+    maintain_told sets Stat (Err e) foreign answers told = tt
+
+    -- when it is refused
+    module _ {A : Type 0} (foreign : session ≢ 0 → (result ≡ Err NoForm) × A) where
+      apart : (e : Refusal) → NoForm ≢ e → ◌≡◌ {A = Reply} (Err NoForm) (Err e) → ⊥
+      apart e differs h = differs cc
+
+      merge_may : (session ≡ 0 → IfErr result (MayRefuseMerge (policy_in old) (shape_in old))) → (e : Refusal) → NoForm ≢ e → reply_of result ≡ Err e
+          → MayRefuseMerge (policy_in old) (shape_in old) e
+      merge_may may e differs k =
+          refused_so (MayRefuseMerge (policy_in old) (shape_in old)) result e (may (zero session (Err e) (apart e differs) foreign k)) k
+
+      force_may : (session ≡ 0 → IfErr result (MayRefuseForce (shape_in old))) → (e : Refusal) → NoForm ≢ e → reply_of result ≡ Err e
+          → MayRefuseForce (shape_in old) e
+      force_may may e differs k = refused_so (MayRefuseForce (shape_in old)) result e (may (zero session (Err e) (apart e differs) foreign k)) k
+
+      refuses : (chore : code_chore.Chore) → (session ≡ 0 → IfErr result (MayRefuse (policy_in old) (shape_in old) chore))
+          → IfErr result (λ e. e ≡ Device → FailsFor chore (shape_in old).merging (can_fail (device_in old))) → IfErr result (λ e. e ≡ Device → Counted)
+          → TellsSo (policy_in old) (shape_in old) (Some (Said.chore (chore_of chore))) (reply_of result) → Causes (Said.chore (chore_of chore))
+      refuses Merge may device counted told = record {
+        spent = λ k. (merge_may may Spent (λ e. cc e) k).spent refl;
+        device = given_so (HasRowsLeft (shape_in old).merging ⊎ can_fail (device_in old)) Device result Device device refl;
+        counted = given_so Counted Device result Device counted refl;
+        damaged = λ k. (merge_may may Damaged (λ e. cc e) k).damaged refl;
+        told = told;
+      }
+      refuses Force may device counted told = record {
+        spent = λ k. let m = force_may may Spent (λ e. cc e) k in (m.due, m.spent refl);
+        device = given_so (can_fail (device_in old)) Device result Device device refl;
+        counted = given_so Counted Device result Device counted refl;
+        damaged = λ k. tt;
+        told = told;
+      }
+      refuses Sweep may device counted told =
+          record { spent = λ k. tt; device = given_so (can_fail (device_in old)) Device result Device device refl; counted = given_so Counted Device result Device counted refl; damaged = λ k. tt; told = told }
+      refuses Stat may device counted told = record { spent = λ k. tt; device = λ k. tt; counted = λ k. tt; damaged = λ k. tt; told = told }
+
+      pub chore_caused : (sets : ℕ) (chore : code_chore.Chore) → AnswersSaid bytes session (Said.chore (chore_of chore)) old (reply_of result) left
+          → IfOk result (λ a. Tells sets (shape_in old) chore (answer_of a)) → (session ≡ 0 → IfErr result (MayRefuse (policy_in old) (shape_in old) chore))
+          → IfErr result (λ e. e ≡ Device → FailsFor chore (shape_in old).merging (can_fail (device_in old))) → IfErr result (λ e. e ≡ Device → Counted) → Causes (Said.chore (chore_of chore))
+      chore_caused sets chore answers told may device counted = refuses chore may device counted (maintain_told sets chore result (λ k. (foreign k).0) answers told)
+
+-- ---- of commands
+
+-- the command that is said may be told of a failure where what is said may be
+pub failing_by : {D : Type 0} (can_fail : D → Type 0) (device : D) (s : Shape) (schema : Schema) (said : Option Said) (c : Command)
+    → IsCommandOf schema said c → MayFailTo can_fail device s said → FailsBy (can_fail device) c
+failing_by can_fail device s schema None c is m = subst (FailsBy (can_fail device)) (sym is) tt
+failing_by can_fail device s schema (Some (Said.put text)) c is m = subst (FailsBy (can_fail device)) (sym is) m
+failing_by can_fail device s schema (Some (Said.delete text)) c is m = subst (FailsBy (can_fail device)) (sym is) tt
+failing_by can_fail device s schema (Some (Said.delete_where text)) c is m = subst (FailsBy (can_fail device)) (sym is.2) tt
+failing_by can_fail device s schema (Some Said.refresh) c is m = subst (FailsBy (can_fail device)) (sym is) m
+failing_by can_fail device s schema (Some Said.open_newest) c is m = subst (FailsBy (can_fail device)) (sym is) tt
+failing_by can_fail device s schema (Some (Said.open_at t)) c is m = subst (FailsBy (can_fail device)) (sym is) tt
+failing_by can_fail device s schema (Some (Said.close t)) c is m = subst (FailsBy (can_fail device)) (sym is) tt
+failing_by can_fail device s schema (Some (Said.find t n sort mark text)) c is m = subst (FailsBy (can_fail device)) (sym is.2) tt
+failing_by can_fail device s schema (Some (Said.facets t dim n text)) c is m = subst (FailsBy (can_fail device)) (sym is.2) tt
+failing_by can_fail device s schema (Some (Said.get t text)) c is m = subst (FailsBy (can_fail device)) (sym is) m
+failing_by can_fail device s schema (Some (Said.files_of_token t)) c is m = subst (FailsBy (can_fail device)) (sym is) tt
+failing_by can_fail device s schema (Some (Said.files_of_commit g)) c is m = subst (FailsBy (can_fail device)) (sym is) tt
+failing_by can_fail device s schema (Some (Said.commit text)) c is m = subst (FailsBy (can_fail device)) (sym is) m
+failing_by can_fail device s schema (Some (Said.text_of_commit g)) c is m = subst (FailsBy (can_fail device)) (sym is) tt
+failing_by can_fail device s schema (Some Said.snapshot) c is m = subst (FailsBy (can_fail device)) (sym is) tt
+failing_by can_fail device s schema (Some (Said.release_snapshot g)) c is m = subst (FailsBy (can_fail device)) (sym is) tt
+failing_by can_fail device s schema (Some (Said.prune n)) c is m = subst (FailsBy (can_fail device)) (sym is) tt
+failing_by can_fail device s schema (Some (Said.chore Chore.merge)) c is m = subst (FailsBy (can_fail device)) (sym is) tt
+failing_by can_fail device s schema (Some (Said.chore Chore.force)) c is m = subst (FailsBy (can_fail device)) (sym is) m
+failing_by can_fail device s schema (Some (Said.chore Chore.sweep)) c is m = subst (FailsBy (can_fail device)) (sym is) m
+failing_by can_fail device s schema (Some (Said.chore Chore.warm)) c is m = subst (FailsBy (can_fail device)) (sym is) tt
+failing_by can_fail device s schema (Some (Said.chore Chore.stat)) c is m = subst (FailsBy (can_fail device)) (sym is) tt
+
+-- what may fail where the one does may fail where the other does
+pub failing_on : (A B : Type 0) → (A → B) → (c : Command) → FailsBy A c → FailsBy B c
+failing_on A B f Command.formless m = tt
+failing_on A B f (Command.put item) m = f m
+failing_on A B f (Command.delete id) m = tt
+failing_on A B f (Command.delete_where q) m = tt
+failing_on A B f Command.refresh m = f m
+failing_on A B f Command.open_newest m = tt
+failing_on A B f (Command.open_at t) m = tt
+failing_on A B f (Command.close t) m = tt
+failing_on A B f (Command.read t (Read.find n sort mark q)) m = tt
+failing_on A B f (Command.read t (Read.facets dim n q)) m = tt
+failing_on A B f (Command.read t (Read.get id)) m = f m
+failing_on A B f (Command.prune n) m = tt
+failing_on A B f (Command.commit text) m = f m
+failing_on A B f Command.snapshot m = tt
+failing_on A B f (Command.release_snapshot g) m = tt
+failing_on A B f (Command.files_of_token t) m = tt
+failing_on A B f (Command.files_of_commit g) m = tt
+failing_on A B f (Command.text_of_commit g) m = tt
+failing_on A B f (Command.chore Chore.merge) m = tt
+failing_on A B f (Command.chore Chore.force) m = f m
+failing_on A B f (Command.chore Chore.warm) m = tt
+failing_on A B f (Command.chore Chore.sweep) m = f m
+failing_on A B f (Command.chore Chore.stat) m = tt

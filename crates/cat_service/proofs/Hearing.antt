@@ -1,0 +1,64 @@
+-- What a line that was heard is answered.
+use Rattle.std.proofs.Common.{◌≡◌, ℕ, refl, sym, subst}
+use Rattle.std.specs.Prelude.{Option, Some, None}
+use Rattle.cat_model.specs.Heard.{Heard, Hears}
+use Rattle.cat_model.specs.Lines.{IsReadable, Said, ShowsSession}
+use Rattle.cat_model.specs.Run.{Command, Reply}
+use Rattle.cat_model.specs.Served.{NamesFiles, Outcome}
+use Rattle.cat_model.specs.Text.{Text}
+use Rattle.cat_items.specs.Reading.{json}
+use Rattle.cat_protocol.specs.lines.Line.{SpellsOrShows, said_of}
+use Rattle.cat_protocol.specs.declared.lines.command.Command.TheVariants as command
+use Rattle.cat_commands.specs.views.Holding.{said_open}
+use Rattle.cat_directory.specs.Devices.{FileContent}
+use Rattle.cat_directory.specs.declared.name.FileName.{FileName}
+use Rattle.cat_commands.specs.cat_ledger.Histories.{GoesBy}
+use Rattle.cat_ledger_laws.specs.shape.Ties.{ToldFiles}
+use Rattle.cat_ledger_laws.specs.lines.LineLaws.{line_of}
+use Rattle.cat_service.proofs.Caused.{failing_by}
+use Rattle.cat_service.specs.Causes.{HasCause}
+use Rattle.cat_service.specs.Lines.{IsCommandOf, StepsLine}
+use Rattle.cat_service.specs.Serving.{StepsIfShort}
+use Rattle.cat_service.specs.Worlds.{Service, device_of, shape_of}
+use Rattle.cat_service.proofs.Histories.{goes_told}
+use Rattle.cat_service.proofs.Wanted.{wants_rightly}
+
+-- the exchange of a line with its reply
+abbrev pub told_to : ℕ → Command → Reply → Outcome
+told_to session c reply = Outcome.replied (record { line = line_of session c; reply = reply })
+
+-- what an OPEN says, with a token or without one
+pub open_says : (token : Option ℕ) → said_of (command.Open token) ≡ Some (said_open token)
+open_says None = refl
+open_says (Some t) = refl
+
+module _ {D : Type 0} (bytes : D → ToldFiles) (may_leave : D → FileName → FileContent → Type 0) (can_fail : D → Type 0) (faults : D → ℕ) (old : Service D) where
+  pub unheard : (line : Text) → (IsReadable line → (session : ℕ) → ShowsSession line session → ⊥)
+      → StepsIfShort bytes may_leave can_fail old (Some line) Outcome.unreadable old
+  unheard line none = (Hears.unreadable none, refl)
+
+  hears : (line : Text) (session : ℕ) (said : Option Said) (c : Command) → IsReadable line → SpellsOrShows line session said
+      → IsCommandOf (shape_of old).schema said c → Hears json (shape_of old).schema line (Heard.a_line (line_of session c))
+  hears line session (Some said) c readable spells is = Hears.spelled session said c readable spells is
+  hears line session None c readable shows is =
+      subst (λ c. Hears json (shape_of old).schema line (Heard.a_line (line_of session c))) (sym is)
+      (Hears.formless session readable shows.0 shows.1)
+
+  -- a line that says something, or has no form
+  pub heard_as : (new : Service D) (line text : Text) (session : ℕ) (said : Option Said) (reply : Reply) → text ≡ line → IsReadable line
+      → SpellsOrShows text session said → (steps : StepsLine bytes session said old reply new) → (shape_of new).schema ≡ (shape_of old).schema
+      → NamesFiles reply → GoesBy may_leave said reply old.ledger new.ledger
+      → HasCause bytes can_fail faults old said reply new → (can_fail (device_of new) → can_fail (device_of old))
+      → StepsIfShort bytes may_leave can_fail old (Some line) (told_to session steps.0 reply) new
+  heard_as new line text session said reply same readable spells steps fields names goes cause can = (
+    hears line session said steps.0 readable (subst (λ t. SpellsOrShows t session said) same spells) steps.1,
+    (
+      fields,
+      names,
+      steps.2,
+      (λ k. wants_rightly (bytes (device_of old)) (shape_of old) session said steps.0 steps.1 (steps.3 k)),
+      goes_told may_leave old new (shape_of old).schema said steps.0 reply steps.1 goes,
+      (λ k. failing_by can_fail (device_of old) (shape_of old) (shape_of old).schema said steps.0 steps.1 (cause.device k)),
+      can,
+    ),
+  )

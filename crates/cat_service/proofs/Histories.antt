@@ -1,0 +1,202 @@
+-- What lines in a row have to do with commits.
+use Rattle.std.proofs.Common.{◌≡◌, ℕ, ◌+◌, ◌<◌, List, [], ◌∷◌, ◌++◌, length, take, get_or, refl, sym, ap, subst, inl, inr, arith}
+use Rattle.std.specs.Prelude.{Option, None, Some, Result, Ok, Err}
+use Rattle.std.proofs.lemmas.List.{take_more}
+use Rattle.cat_base.specs.declared.refusal.Refusal.{Refusal}
+use Rattle.cat_model.specs.Heard.{commit_text_of}
+use Rattle.cat_model.specs.Item.{Schema}
+use Rattle.cat_model.specs.Lines.{Said}
+use Rattle.cat_model.specs.Run.{Answer, Command, Reply}
+use Rattle.cat_model.specs.Served.{Outcome}
+use Rattle.cat_model.specs.Text.{Text}
+use Rattle.cat_directory.specs.Devices.{FileContent}
+use Rattle.cat_directory.specs.declared.name.FileName.{FileName}
+use Rattle.cat_commands.specs.views.Holding.{said_open}
+use Rattle.cat_commands.specs.cat_ledger.Histories.{Call, Event, Goes, GoesBy, IsHistory, events_of}
+use Rattle.cat_commands.specs.cat_ledger.Ledgers.{Ledger}
+use Rattle.cat_ledger_laws.specs.shape.Ties.{ToldFiles}
+use Rattle.cat_protocol.specs.lines.Line.{said_of}
+use Rattle.cat_protocol.specs.declared.lines.line.Line.{Line}
+use Rattle.cat_protocol.specs.replies.Reply.{reply_of}
+use Rattle.cat_protocol.specs.declared.replies.reply.Reply as code
+use Rattle.cat_protocol.specs.serving.Machine.{Steps}
+use Rattle.cat_service.specs.Histories.{AreSpoken, GoesTold, HaveCauses, IsEventOf, IsSpoken, LinesAreCalls, MakeTold, Makes, MakesTold, RunsHistory, Spoken}
+use Rattle.cat_service.specs.Causes.{HasCause}
+use Rattle.cat_service.specs.Lines.{IsCommandOf}
+use Rattle.cat_service.specs.Serving.{StepsIfShort}
+use Rattle.cat_service.specs.Worlds.{Service}
+
+module _ {D : Type 0} (left : D → FileName → FileContent → Type 0) where
+  -- an OPEN is another line than a COMMIT
+  pub opens_go : (token : Option ℕ) (reply : Reply) (old new : Ledger D) → Goes left Event.Other old new
+      → GoesBy left (Some (said_open token)) reply old new
+  opens_go None reply old new goes = goes
+  opens_go (Some t) reply old new goes = goes
+
+  -- ---- lines are calls
+
+  other_call : (old new : Ledger D) → Goes left Event.Other old new → (event : Event) × (event ≡ Event.Other) × Goes left event old new
+  other_call old new goes = (Event.Other, refl, goes)
+
+  -- the event of a line
+  abbrev HasEvent : Option Said → Reply → Ledger D → Ledger D → Type 0
+  HasEvent said reply old new = (event : Event) × IsEventOf said reply event × Goes left event old new
+
+  commit_call : (text : List ℕ) (reply : Reply) (old new : Ledger D) → GoesBy left (Some (Said.commit text)) reply old new
+      → HasEvent (Some (Said.commit text)) reply old new
+  commit_call text (Ok (Answer.number g)) old new goes = (Event.Answered g, refl, goes)
+  commit_call text (Ok (Answer.found f)) old new goes = absurd goes
+  commit_call text (Ok (Answer.names ns)) old new goes = absurd goes
+  commit_call text (Ok (Answer.commit_text t)) old new goes = absurd goes
+  commit_call text (Ok (Answer.news n)) old new goes = absurd goes
+  commit_call text (Err e) old new (inl goes) = (Event.Other, inl refl, goes)
+  commit_call text (Err e) old new (inr goes) = (Event.Refused _, inr (_, refl), goes)
+
+  line_call : (said : Option Said) (reply : Reply) (old new : Ledger D) → GoesBy left said reply old new → HasEvent said reply old new
+  line_call None reply old new goes = other_call old new goes
+  line_call (Some (Said.commit text)) reply old new goes = commit_call text reply old new goes
+  line_call (Some (Said.put text)) reply old new goes = other_call old new goes
+  line_call (Some (Said.delete text)) reply old new goes = other_call old new goes
+  line_call (Some (Said.delete_where text)) reply old new goes = other_call old new goes
+  line_call (Some Said.refresh) reply old new goes = other_call old new goes
+  line_call (Some Said.open_newest) reply old new goes = other_call old new goes
+  line_call (Some (Said.open_at t)) reply old new goes = other_call old new goes
+  line_call (Some (Said.close t)) reply old new goes = other_call old new goes
+  line_call (Some (Said.find t n sort mark text)) reply old new goes = other_call old new goes
+  line_call (Some (Said.facets t dim n text)) reply old new goes = other_call old new goes
+  line_call (Some (Said.get t text)) reply old new goes = other_call old new goes
+  line_call (Some (Said.files_of_token t)) reply old new goes = other_call old new goes
+  line_call (Some (Said.files_of_commit g)) reply old new goes = other_call old new goes
+  line_call (Some (Said.text_of_commit g)) reply old new goes = other_call old new goes
+  line_call (Some Said.snapshot) reply old new goes = other_call old new goes
+  line_call (Some (Said.release_snapshot g)) reply old new goes = other_call old new goes
+  line_call (Some (Said.prune n)) reply old new goes = other_call old new goes
+  line_call (Some (Said.chore what)) reply old new goes = other_call old new goes
+
+  pub lines_are_calls : (last : Service D) → LinesAreCalls left last
+  lines_are_calls last first [] same = ([], tt, ap (λ (w : Service D). w.ledger) same)
+  lines_are_calls last first (x ∷ xs) leads =
+      let one = line_call x.said x.reply first.ledger x.after.ledger leads.0 in
+      let rest = lines_are_calls last x.after xs leads.1 in
+      let call : Call D = record { event = one.0; after = x.after.ledger } in
+      (call ∷ rest.0, (one.1, rest.1), (one.2, rest.2))
+
+  -- ---- one line more
+
+  goes_on : (old mid : Service D) (xs : List (Spoken D)) (x : Spoken D) → IsSpoken left old xs mid
+      → GoesBy left x.said x.reply mid.ledger x.after.ledger → IsSpoken left old (xs ++ x ∷ []) x.after
+  goes_on old mid [] x same goes = (subst (λ (w : Service D). GoesBy left x.said x.reply w.ledger x.after.ledger) same goes, refl)
+  goes_on old mid (y ∷ xs) x leads goes = (leads.0, goes_on y.after mid xs x leads.1 goes)
+
+  spoken_on : (ls : List Line) (rs : List code.Reply) (xs : List (Spoken D)) (l : Line) (r : code.Reply) (x : Spoken D) → AreSpoken ls rs xs
+      → x.said ≡ said_of l.command → x.reply ≡ reply_of r.answer → AreSpoken (ls ++ l ∷ []) (rs ++ r ∷ []) (xs ++ x ∷ [])
+  spoken_on [] [] [] l r x all said reply = (said, reply, tt)
+  spoken_on (k ∷ ls) (q ∷ rs) (y ∷ xs) l r x all said reply = (all.0, all.1, spoken_on ls rs xs l r x all.2 said reply)
+  spoken_on [] [] (y ∷ xs) l r x all said reply = absurd all
+  spoken_on [] (q ∷ rs) [] l r x all said reply = absurd all
+  spoken_on [] (q ∷ rs) (y ∷ xs) l r x all said reply = absurd all
+  spoken_on (k ∷ ls) [] [] l r x all said reply = absurd all
+  spoken_on (k ∷ ls) [] (y ∷ xs) l r x all said reply = absurd all
+  spoken_on (k ∷ ls) (q ∷ rs) [] l r x all said reply = absurd all
+
+  module _ (bytes : D → ToldFiles) (can_fail : D → Type 0) (faults : D → ℕ) where
+    -- one cause more
+    causes_on : (first mid : Service D) (xs : List (Spoken D)) (x : Spoken D) → IsSpoken left first xs mid → HaveCauses bytes can_fail faults first xs
+        → HasCause bytes can_fail faults mid x.said x.reply x.after → HaveCauses bytes can_fail faults first (xs ++ x ∷ [])
+    causes_on first mid [] x same all cause = (subst (λ (w : Service D). HasCause bytes can_fail faults w x.said x.reply x.after) same cause, tt)
+    causes_on first mid (y ∷ ys) x leads all cause = (all.0, causes_on y.after mid ys x leads.1 all.1 cause)
+
+    -- no line leads nowhere
+    pub none_spoken : (w : Service D) → RunsHistory bytes can_fail faults left w [] [] w
+    none_spoken w = record { spoken = []; are = tt; leads = refl; causes = tt }
+
+    -- and one line more goes on
+    pub one_spoken : (old mid new : Service D) (ls : List Line) (i : ℕ) (d : Line) (rs : List code.Reply) (r : code.Reply) → i < length ls
+        → RunsHistory bytes can_fail faults left old (take i ls) rs mid
+        → GoesBy left (said_of (get_or ls i d).command) (reply_of r.answer) mid.ledger new.ledger
+        → HasCause bytes can_fail faults mid (said_of (get_or ls i d).command) (reply_of r.answer) new
+        → RunsHistory bytes can_fail faults left old (take (i + 1) ls) (rs ++ r ∷ []) new
+    one_spoken old mid new ls i d rs r lt before goes cause =
+        let x : Spoken D = record { said = said_of (get_or ls i d).command; reply = reply_of r.answer; after = new } in record {
+          spoken = before.spoken ++ x ∷ [];
+          are =
+              subst (λ ks. AreSpoken ks (rs ++ r ∷ []) (before.spoken ++ x ∷ [])) (sym (take_more ls i d lt))
+              (spoken_on (take i ls) rs before.spoken (get_or ls i d) r x before.are refl refl);
+          leads = goes_on old mid before.spoken x before.leads goes;
+          causes = causes_on old mid before.spoken x before.leads before.causes cause;
+        }
+
+  -- ---- commands
+
+  commit_makes : (text : Result Text Refusal) (said : Text) (reply : Reply) (event : Event) → IsEventOf (Some (Said.commit said)) reply event
+      → Makes (Command.commit text) reply event
+  commit_makes text said (Ok (Answer.number g)) event is = is
+  commit_makes text said (Ok (Answer.found f)) event is = is
+  commit_makes text said (Ok (Answer.names ns)) event is = is
+  commit_makes text said (Ok (Answer.commit_text t)) event is = is
+  commit_makes text said (Ok (Answer.news n)) event is = is
+  commit_makes text said (Err e) event is = is
+
+  -- a line makes of commits what its command makes of them
+  line_makes : (schema : Schema) (said : Option Said) (c : Command) (reply : Reply) (event : Event) → IsCommandOf schema said c
+      → IsEventOf said reply event → Makes c reply event
+  line_makes schema None c reply event is e = subst (λ k. Makes k reply event) (sym is) e
+  line_makes schema (Some (Said.commit text)) c reply event is e =
+      subst (λ k. Makes k reply event) (sym is) (commit_makes (commit_text_of text) text reply event e)
+  line_makes schema (Some (Said.put text)) c reply event is e = subst (λ k. Makes k reply event) (sym is) e
+  line_makes schema (Some (Said.delete text)) c reply event is e = subst (λ k. Makes k reply event) (sym is) e
+  line_makes schema (Some (Said.delete_where text)) c reply event is e = subst (λ k. Makes k reply event) (sym is.2) e
+  line_makes schema (Some Said.refresh) c reply event is e = subst (λ k. Makes k reply event) (sym is) e
+  line_makes schema (Some Said.open_newest) c reply event is e = subst (λ k. Makes k reply event) (sym is) e
+  line_makes schema (Some (Said.open_at t)) c reply event is e = subst (λ k. Makes k reply event) (sym is) e
+  line_makes schema (Some (Said.close t)) c reply event is e = subst (λ k. Makes k reply event) (sym is) e
+  line_makes schema (Some (Said.find t n sort mark text)) c reply event is e = subst (λ k. Makes k reply event) (sym is.2) e
+  line_makes schema (Some (Said.facets t dim n text)) c reply event is e = subst (λ k. Makes k reply event) (sym is.2) e
+  line_makes schema (Some (Said.get t text)) c reply event is e = subst (λ k. Makes k reply event) (sym is) e
+  line_makes schema (Some (Said.files_of_token t)) c reply event is e = subst (λ k. Makes k reply event) (sym is) e
+  line_makes schema (Some (Said.files_of_commit g)) c reply event is e = subst (λ k. Makes k reply event) (sym is) e
+  line_makes schema (Some (Said.text_of_commit g)) c reply event is e = subst (λ k. Makes k reply event) (sym is) e
+  line_makes schema (Some Said.snapshot) c reply event is e = subst (λ k. Makes k reply event) (sym is) e
+  line_makes schema (Some (Said.release_snapshot g)) c reply event is e = subst (λ k. Makes k reply event) (sym is) e
+  line_makes schema (Some (Said.prune n)) c reply event is e = subst (λ k. Makes k reply event) (sym is) e
+  line_makes schema (Some (Said.chore what)) c reply event is e = subst (λ k. Makes k reply event) (sym is) e
+
+  pub goes_told : (old new : Service D) (schema : Schema) (said : Option Said) (c : Command) (reply : Reply) → IsCommandOf schema said c
+      → GoesBy left said reply old.ledger new.ledger → GoesTold left c reply old new
+  goes_told old new schema said c reply is goes =
+      let one = line_call said reply old.ledger new.ledger goes in
+      (one.0, line_makes schema said c reply one.0 is one.1, one.2)
+
+  -- a line that can't be read has nothing to do with commits
+  stays : (l : Ledger D) → Goes left Event.Other l l
+  stays l = record {
+    newest = refl;
+    next = omega arith;
+    asked = λ g no. absurd no;
+    files = λ g none e after. inl after;
+  }
+
+  -- ---- lines that were served
+
+  -- what was told of lines one after another are calls of the ledger
+  pub tolds_are_calls : (bytes : D → ToldFiles) (can_fail : D → Type 0) (old new : Service D) (lines : List (Option Text)) (tolds : List Outcome)
+      → Steps (StepsIfShort bytes left can_fail) old lines tolds new
+      → (calls : List (Call D)) × MakeTold tolds (events_of calls) × IsHistory left old.ledger calls new.ledger
+  tolds_are_calls bytes can_fail old new [] [] same = ([], tt, ap (λ (w : Service D). w.ledger) same)
+  tolds_are_calls bytes can_fail old new [] (told ∷ tolds) steps = absurd steps
+  tolds_are_calls bytes can_fail old new (line ∷ lines) [] steps = absurd steps
+  tolds_are_calls bytes can_fail old new (line ∷ lines) (told ∷ tolds) (mid, step, steps) =
+      let one = by line told step in
+      let rest = tolds_are_calls bytes can_fail mid new lines tolds steps in
+      let call : Call D = record { event = one.0; after = mid.ledger } in
+      (call ∷ rest.0, (one.1, rest.1), (one.2, rest.2))
+    where
+      unread : mid ≡ old → (event : Event) × (event ≡ Event.Other) × Goes left event old.ledger mid.ledger
+      unread same = (Event.Other, refl, subst (λ (w : Service D). Goes left Event.Other old.ledger w.ledger) (sym same) (stays old.ledger))
+
+      by : (line : Option Text) (told : Outcome) → StepsIfShort bytes left can_fail old line told mid
+          → (event : Event) × MakesTold told event × Goes left event old.ledger mid.ledger
+      by None Outcome.unreadable step = unread step.1
+      by None (Outcome.replied e) step = absurd (let no : Outcome.replied e ≡ Outcome.unreadable = step.0 in cc)
+      by (Some line) Outcome.unreadable step = unread step.1
+      by (Some line) (Outcome.replied e) step = step.1.4

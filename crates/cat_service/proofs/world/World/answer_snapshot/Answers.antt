@@ -1,0 +1,21 @@
+use Rattle.std.proofs.Common.{refl}
+use Rattle.cat_model.specs.Lines.{Said}
+use Rattle.cat_protocol.specs.replies.Reply.{reply_of}
+use Rattle.cat_service.proofs.Kept.{does, world_stays}
+use Rattle.cat_commands.specs.cat_ledger.Ledgers.{device_in, shape_in}
+use Rattle.cat_service.proofs.Wanted.{stopped, snap_wants}
+use Rattle.cat_service.proofs.world.World.answer_snapshot.Goals as goal
+
+pub invariant_of-self : goal.invariant_of-self
+invariant_of-self g c =
+    world_stays g.D.Holder.bytes 0 Said.snapshot c.self.inside.ledger (reply_of c.snapshot.result) c.snapshot.new.ledger c.self.inside.rights refl
+    c.self.invariant (c.snapshot.ensures.answers 0)
+
+pub returns-clause-does : goal.returns-clause-does
+returns-clause-does g c = rw (← c.self.view_is) (λ session.
+    does g.D.Holder.bytes g.D.Holder.can_fail g.D.Holder.fault_count session Said.snapshot c.self.inside.ledger (reply_of c.snapshot.result) c.snapshot.new.ledger
+    c.self.inside.rights c.self.inside.rights c.self.invariant (record { spent = λ k. tt; device = λ k. tt; counted = λ k. tt; damaged = λ k. tt; told = tt }) (c.snapshot.ensures.answers session) c.snapshot.ensures.can c.snapshot.ensures.policy refl
+    (λ k. snap_wants (g.D.Holder.bytes (device_in c.self.inside.ledger)) (shape_in c.self.inside.ledger) session c.snapshot.result (stopped c.snapshot.result k) c.snapshot.ensures.due))
+
+pub returns-clause-history : goal.returns-clause-history
+returns-clause-history g c = rw (← c.self.view_is) c.snapshot.ensures.history

@@ -1,0 +1,34 @@
+use Rattle.std.proofs.Common.{refl}
+use Rattle.cat_model.specs.Lines.{Said}
+use Rattle.cat_model.specs.Run.{Chore}
+use Rattle.cat_model.specs.View.{segments_of}
+use Rattle.cat_protocol.specs.replies.Reply.{reply_of}
+use Rattle.cat_commands.proofs.ledger_laws.Histories.{nothing_goes}
+use Rattle.cat_commands.specs.cat_ledger.Ledgers.{device_in, shape_in}
+use Rattle.cat_service.proofs.sets.Right.{current_are_among, warmed_are_right}
+use Rattle.cat_service.proofs.Kept.{does}
+use Rattle.cat_service.proofs.Wanted.{stopped, warm_wants}
+use Rattle.cat_service.proofs.world.World.answer_warm.Goals as goal
+
+pub invariant_of-self : goal.invariant_of-self
+invariant_of-self g c =
+    let ledger = c.self.inside.ledger in
+    let s = shape_in ledger in
+    let w = c.self.invariant in
+    let agree = c.segments_are_one.ensures (g.D.Holder.bytes (device_in ledger)) s w.carried.0 w.carried.1 w.carried.2 in record {
+      carried = w.carried;
+      counted = w.counted;
+      sets =
+          warmed_are_right s (segments_of s.leaves) c.self.inside.filters c.warm.new.filters agree (current_are_among s) c.warm.ensures.known
+          c.warm.ensures.below w.sets;
+      kept = w.kept;
+    }
+
+pub returns-clause-does : goal.returns-clause-does
+returns-clause-does g c = rw (← c.self.view_is) (
+    does g.D.Holder.bytes g.D.Holder.can_fail g.D.Holder.fault_count c.args.session (Said.chore Chore.warm) c.self.inside.ledger (reply_of c.warm.result) c.self.inside.ledger
+    c.self.inside.rights c.self.inside.rights c.self.invariant (record { spent = λ k. tt; device = λ k. tt; counted = λ k. tt; damaged = λ k. tt; told = tt }) c.warm.ensures.answers (λ x. x) refl refl
+    (λ k. warm_wants (g.D.Holder.bytes (device_in c.self.inside.ledger)) (shape_in c.self.inside.ledger) c.args.session c.warm.result (stopped c.warm.result k) c.warm.ensures.foreign))
+
+pub returns-clause-history : goal.returns-clause-history
+returns-clause-history g c = rw (← c.self.view_is) (nothing_goes g.D.Holder.may_leave c.self.inside.ledger)

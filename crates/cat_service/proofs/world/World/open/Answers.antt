@@ -1,0 +1,73 @@
+use Rattle.std.proofs.Common.{◌∙◌, arith, inr, refl, subst, sym}
+use Rattle.std.specs.Prelude.{Ok, Err}
+use Rattle.cat_model.specs.Lines.{IsReadable}
+use Rattle.cat_model.specs.Served.{Begins}
+use Rattle.cat_commands.specs.cat_ledger.Ledgers.{device_in, shape_in}
+use Rattle.cat_commands.specs.views.Holding.{AreRights}
+use Rattle.cat_service.proofs.Begun.{begins_so, begun, carried_there, none_counted, refused_schema, unopened}
+use Rattle.cat_service.proofs.Beside.{no_sets, no_states}
+use Rattle.cat_service.proofs.world.World.open.Goals as goal
+
+pub returns-then-line-gt-MAX_LINE_BYTES-clause-opens : goal.returns-then-line-gt-MAX_LINE_BYTES-clause-opens
+returns-then-line-gt-MAX_LINE_BYTES-clause-opens g c =
+    (inr (Begins.formless (λ readable factor least text spelled. absurd (omega (arith, readable.short, c.if-line-gt-MAX_LINE_BYTES.true)))), (λ q. refl), λ q e h. h)
+
+pub returns-in_default-clause-opens : goal.returns-in_default-clause-opens
+returns-in_default-clause-opens g c = (inr (Begins.formless (λ _ factor least text spelled. c.in_default.ensures.none factor least text spelled)), (λ q. refl), λ q e h. h)
+
+pub returns-in-Err-clause-opens : goal.returns-in-Err-clause-opens
+returns-in-Err-clause-opens g c =
+    let readable : IsReadable c.args.line.now = record { short = omega arith; utf8 = c.utf8.line } in
+    let found = c.in-Some.found in (
+      refused_schema (g.D.Holder.bytes c.args.device) c.args.line.now found.factor found.least found.json.now c.in-Err.refusal
+          c.in-Some.ensures.found (rw c.as_bytes.ensures.value at c.in-Err.ensures.err) readable,
+      λ q. refl,
+      λ q e h. h,
+    )
+
+pub returns-in-Ok-open-clause-opens : goal.returns-in-Ok-open-clause-opens
+returns-in-Ok-open-clause-opens g c =
+    let readable : IsReadable c.args.line.now = record { short = omega arith; utf8 = c.utf8.line } in
+    let read = rw c.as_bytes.ensures.value at c.in-Ok.ensures.ok in
+    let found = c.in-Some.found in
+    let ledger = c.in-Ok-open.ledger in
+    let told = g.D.Holder.bytes c.args.device in
+    let begins = begun told (g.D.Holder.bytes (device_in ledger)) c.in-Ok.schema (shape_in ledger) c.in-Ok-open.ensures.ok in (
+      begins.0,
+      begins_so told c.args.line.now found.factor found.least found.json.now c.in-Ok.schema (Ok begins.0) readable c.in-Some.ensures.found read begins.1,
+      c.in-Ok-open.ensures.fields ∙ sym begins.2,
+      begins.3,
+    )
+
+pub returns-in-Ok-open-clause-ahead : goal.returns-in-Ok-open-clause-ahead
+returns-in-Ok-open-clause-ahead g c = c.in-Ok-open.ensures.ahead
+
+pub returns-in-Ok-open-clause-can : goal.returns-in-Ok-open-clause-can
+returns-in-Ok-open-clause-can g c = c.in-Ok-open.ensures.can
+
+pub returns-in-Err-open-clause-opens : goal.returns-in-Err-open-clause-opens
+returns-in-Err-open-clause-opens g c =
+    let readable : IsReadable c.args.line.now = record { short = omega arith; utf8 = c.utf8.line } in
+    let read = rw c.as_bytes.ensures.value at c.in-Ok.ensures.ok in
+    let found = c.in-Some.found in
+    let told = g.D.Holder.bytes c.args.device in
+    let e = c.in-Err-open.field-0.refusal in
+    let ensures = c.in-Err-open.ensures in (
+      inr (begins_so told c.args.line.now found.factor found.least found.json.now c.in-Ok.schema (Err e) readable c.in-Some.ensures.found read
+          (unopened told c.in-Ok.schema e ensures.refusal ensures.damaged ensures.foreign)),
+      ensures.same,
+      ensures.spared,
+    )
+
+pub invariant_of-result : goal.invariant_of-result
+invariant_of-result g c =
+    let ledger = c.in-Ok-open.ledger in
+    let opened = c.in-Ok-open.ensures.ok in
+    let stands = c.in-Ok-open.ensures.stands in record {
+      carried = carried_there (g.D.Holder.bytes (device_in ledger)) (shape_in ledger) stands.0 stands.2;
+      counted =
+          subst (AreRights (shape_in ledger)) (sym c.new.ensures)
+          (none_counted (g.D.Holder.bytes c.args.device) (g.D.Holder.bytes (device_in ledger)) c.in-Ok.schema (shape_in ledger) opened);
+      sets = no_sets (shape_in ledger) c.in-Ok-nothing_kept.filters c.in-Ok-nothing_kept.ensures.0;
+      kept = no_states (shape_in ledger) c.in-Ok-nothing_kept.states c.in-Ok-nothing_kept.ensures.1;
+    }

@@ -1,0 +1,111 @@
+-- Why a line is refused where an OK would fit, and what COMMIT and maintenance tell, by what memory has.
+use Rattle.std.specs.Prelude.{◌≡◌, ◌⊎◌, ℕ, ◌<◌, ◌≤◌, Option, Some, Ok, Err, length}
+use Rattle.cat_base.specs.declared.refusal.Refusal.TheVariants.{Damaged, Device, Spent}
+use Rattle.cat_model.specs.Limits.{buffer_limit, last_number}
+use Rattle.cat_model.specs.Lines.{Said}
+use Rattle.cat_model.specs.Answer.{Read}
+use Rattle.cat_model.specs.Run.{Answer, Chore, Command, News, Reply}
+use Rattle.cat_model.specs.Served.{Outcome}
+use Rattle.cat_model.specs.Text.{Text}
+use Rattle.cat_model.specs.View.{View}
+use Rattle.cat_directory.specs.Devices.{CountsOne}
+use Rattle.cat_commands.specs.ledger.Chores.{pending_in, stat_in}
+use Rattle.cat_commands.specs.cat_ledger_state.Cores.{HasRowsLeft, MayNotFlush}
+use Rattle.cat_ledger_laws.specs.lines.PlanLaws.{TellsForce, TellsMerge}
+use Rattle.cat_ledger_laws.specs.lines.ReadLaws.{IsRecordedAs}
+use Rattle.cat_ledger_laws.specs.lines.StayLaws.{IsOneMoreAtMost}
+use Rattle.cat_ledger_laws.specs.model.Plans.{MergePolicy}
+use Rattle.cat_ledger_laws.specs.shape.Shapes.{Shape}
+use Rattle.cat_ledger_laws.specs.shape.Ties.{ToldFiles}
+use Rattle.cat_protocol.specs.cat_views.Sources.{HoldsSource, TellsSource}
+use Rattle.cat_commands.specs.cat_ledger.upkeep.Due.{IsForceDue, IsMergeDue}
+use Rattle.cat_service.specs.Worlds.{Service, device_of, policy_of, shape_of}
+
+-- ---- refusals
+
+-- A number or a limit is spent that the line asks for. A PUT asks for the number of the write, and where as many items wait as may for
+-- what a flush asks for: the number of a segment, and a place among those that stand. So does a REFRESH where some wait, and a COMMIT, which
+-- asks for a generation too; a MERGE and a FORCE that are to begin a merge ask for the number of its segment. When another line is told
+-- that a number is spent, the run says.
+abbrev pub IsSpentTo : MergePolicy → Shape → Option Said → Type 0
+IsSpentTo policy s (Some (Said.put text)) = (last_number ≤ s.count) ⊎ ((buffer_limit ≤ length s.buffered) × MayNotFlush s)
+IsSpentTo policy s (Some Said.refresh) = MayNotFlush s
+IsSpentTo policy s (Some (Said.commit text)) = (last_number < s.next_generation) ⊎ MayNotFlush s
+IsSpentTo policy s (Some (Said.chore Chore.merge)) = IsMergeDue policy s × (last_number < s.next_segment)
+IsSpentTo policy s (Some (Said.chore Chore.force)) = IsForceDue s × (last_number < s.next_segment)
+IsSpentTo policy s said = Unit {0}
+
+-- The device can fail; or a MERGE is to copy rows, and their file may be gone. No run has another line with that refusal.
+abbrev pub MayFailTo : {D : Type 0} → (D → Type 0) → D → Shape → Option Said → Type 0
+MayFailTo can_fail device s (Some (Said.put text)) = can_fail device
+MayFailTo can_fail device s (Some Said.refresh) = can_fail device
+MayFailTo can_fail device s (Some (Said.get t id)) = can_fail device
+MayFailTo can_fail device s (Some (Said.commit text)) = can_fail device
+MayFailTo can_fail device s (Some (Said.chore Chore.merge)) = HasRowsLeft s.merging ⊎ can_fail device
+MayFailTo can_fail device s (Some (Said.chore Chore.force)) = can_fail device
+MayFailTo can_fail device s (Some (Said.chore Chore.sweep)) = can_fail device
+MayFailTo can_fail device s said = Unit {0}
+
+-- one of the device's calls failed, and was counted, where the line is one that a run has with that refusal
+abbrev pub IsCountedTo : Type 0 → Option Said → Type 0
+IsCountedTo counted (Some (Said.put text)) = counted
+IsCountedTo counted (Some Said.refresh) = counted
+IsCountedTo counted (Some (Said.get t id)) = counted
+IsCountedTo counted (Some (Said.commit text)) = counted
+IsCountedTo counted (Some (Said.chore Chore.merge)) = counted
+IsCountedTo counted (Some (Said.chore Chore.force)) = counted
+IsCountedTo counted (Some (Said.chore Chore.sweep)) = counted
+IsCountedTo counted said = Unit {0}
+
+-- To a GET: the files that the device tells of don't hold the text that the view has of the item. To a MERGE: it is to copy rows. No run has
+-- another line with that refusal.
+abbrev pub IsDamagedTo : ToldFiles → Shape → Option Said → Type 0
+IsDamagedTo told s (Some (Said.get t id)) =
+    (view : View) → IsRecordedAs s.views t view → (files : ℕ → Text) → TellsSource told files view id → HoldsSource files view id → ⊥
+IsDamagedTo told s (Some (Said.chore Chore.merge)) = HasRowsLeft s.merging
+IsDamagedTo told s said = Unit {0}
+
+-- ---- answers
+
+-- A COMMIT tells the generation that comes next; a SWEEP how many files nobody needs; a STAT how the ledger stands, with some number of
+-- cached sets; and a MERGE and a FORCE what is so of the segments that stand and of the merge in the making.
+abbrev pub TellsSo : MergePolicy → Shape → Option Said → Reply → Type 0
+TellsSo policy s (Some (Said.commit text)) (Ok (Answer.number g)) = g ≡ s.next_generation
+TellsSo policy s (Some (Said.chore Chore.merge)) (Ok (Answer.news n)) = TellsMerge policy s n
+TellsSo policy s (Some (Said.chore Chore.force)) (Ok (Answer.news n)) = TellsForce s n
+TellsSo policy s (Some (Said.chore Chore.sweep)) (Ok (Answer.news n)) = n ≡ News.swept (pending_in s)
+TellsSo policy s (Some (Said.chore Chore.stat)) (Ok (Answer.news n)) = (sets : ℕ) × (n ≡ News.state (stat_in sets s))
+TellsSo policy s said reply = Unit {0}
+
+-- ---- of a world
+
+-- The reply has its cause in the world: 16 where a number or a limit is spent, 30 where the device can fail and its count of failures rose, 31
+-- where a file is damaged, and the news as they are. The first three arguments say what a device tells of its files, whether it can fail, and
+-- how many failures it has counted.
+pub record HasCause {D : Type 0} (bytes : D → ToldFiles) (can_fail : D → Type 0) (faults : D → ℕ) (old : Service D) (said : Option Said)
+    (reply : Reply) (new : Service D) : Type 0 where
+  pub spent : reply ≡ Err Spent → IsSpentTo (policy_of old) (shape_of old) said
+  pub device : reply ≡ Err Device → MayFailTo can_fail (device_of old) (shape_of old) said
+  pub counted : reply ≡ Err Device → IsCountedTo (CountsOne (faults (device_of old)) (faults (device_of new))) said
+  pub damaged : reply ≡ Err Damaged → IsDamagedTo (bytes (device_of old)) (shape_of old) said
+  pub told : TellsSo (policy_of old) (shape_of old) said reply
+
+-- So of a command that is told that the device failed: but to a MERGE it can fail.
+abbrev pub FailsBy : Type 0 → Command → Type 0
+FailsBy fails (Command.put item) = fails
+FailsBy fails Command.refresh = fails
+FailsBy fails (Command.read t (Read.get id)) = fails
+FailsBy fails (Command.commit text) = fails
+FailsBy fails (Command.chore Chore.force) = fails
+FailsBy fails (Command.chore Chore.sweep) = fails
+FailsBy fails c = Unit {0}
+
+-- so of what a line was told, which may have been unreadable
+abbrev pub FailsRightly : Type 0 → Outcome → Type 0
+FailsRightly fails Outcome.unreadable = Unit {0}
+FailsRightly fails (Outcome.replied e) = e.reply ≡ Err Device → FailsBy fails e.line.command
+
+-- a line takes the number of one segment at most, and one generation
+pub record TakesNumbers (old new : Shape) : Type 0 where
+  pub segment : IsOneMoreAtMost old.next_segment new.next_segment
+  pub generation : IsOneMoreAtMost old.next_generation new.next_generation

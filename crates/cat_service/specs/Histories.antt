@@ -1,0 +1,113 @@
+-- Lines in a row with their replies, and which commits a crash after them may leave.
+use Rattle.std.specs.Prelude.{◌≡◌, ◌⊎◌, ℕ, ◌<◌, List, [], ◌∷◌, Option, Some, None, Ok, Err}
+use Rattle.cat_model.specs.Lines.{Said}
+use Rattle.cat_model.specs.Run.{Answer, Command, Reply}
+use Rattle.cat_model.specs.Served.{Outcome}
+use Rattle.cat_directory.specs.Devices.{FileContent}
+use Rattle.cat_directory.specs.declared.name.FileName.{FileName}
+use Rattle.cat_directory.specs.declared.name.FileName.TheVariants as file
+use Rattle.cat_protocol.specs.lines.Line.{said_of}
+use Rattle.cat_protocol.specs.declared.lines.line.Line.{Line}
+use Rattle.cat_commands.specs.cat_ledger.Histories.{Call, Event, Goes, GoesBy, IsCrashed, IsHistory, IsTried, events_of, tells}
+use Rattle.cat_commands.specs.cat_ledger_state.startup.Newest.{HasNoCommit, IsNewestCommit}
+use Rattle.cat_ledger_laws.specs.shape.Ties.{ToldFiles}
+use Rattle.cat_protocol.specs.replies.Reply.{reply_of}
+use Rattle.cat_protocol.specs.declared.replies.reply.Reply as code
+use Rattle.cat_service.specs.Causes.{HasCause}
+use Rattle.cat_service.specs.Worlds.{Service}
+
+-- ---- lines in a row
+
+-- what a line says, or that it has no form; its reply; and the world after it
+pub record Spoken (D : Type 0) : Type 0 where
+  pub said : Option Said
+  pub reply : Reply
+  pub after : Service D
+
+-- The lines lead from the one to the other, each of which makes of commits what it may by its reply. The first argument says what a
+-- crash may leave of a device's files.
+abbrev pub IsSpoken : {D : Type 0} → (D → FileName → FileContent → Type 0) → Service D → List (Spoken D) → Service D → Type 0
+IsSpoken {D} left first [] last = ◌≡◌ {A = Service D} last first
+IsSpoken {D} left first (x ∷ xs) last = GoesBy left x.said x.reply first.ledger x.after.ledger × IsSpoken left x.after xs last
+
+-- ---- what they have to do with commits
+
+-- A COMMIT that was answered OK is an answered commit of the generation that it was told; one that was refused is a refused commit, or
+-- did nothing; and any other line has nothing to do with commits.
+abbrev pub IsEventOf : Option Said → Reply → Event → Type 0
+IsEventOf (Some (Said.commit text)) (Ok (Answer.number g)) event = event ≡ Event.Answered g
+IsEventOf (Some (Said.commit text)) (Ok a) event = ⊥
+IsEventOf (Some (Said.commit text)) (Err e) event = (event ≡ Event.Other) ⊎ ((g : ℕ) × (event ≡ Event.Refused g))
+IsEventOf said reply event = event ≡ Event.Other
+
+-- so with each of the lines, in turn
+abbrev pub AreEvents : {D : Type 0} → List (Spoken D) → List Event → Type 0
+AreEvents [] [] = Unit {0}
+AreEvents (x ∷ xs) (event ∷ events) = IsEventOf x.said x.reply event × AreEvents xs events
+AreEvents _ _ = ⊥
+
+-- Lines are calls of the ledger, so that its laws speak of them: of the last COMMIT that was answered, and of those refused after it.
+abbrev pub LinesAreCalls : {D : Type 0} → (D → FileName → FileContent → Type 0) → Service D → Type 0
+LinesAreCalls {D} left last =
+    (first : Service D) (spoken : List (Spoken D)) → IsSpoken left first spoken last
+    → (calls : List (Call D)) × AreEvents spoken (events_of calls) × IsHistory left first.ledger calls last.ledger
+
+-- ---- lines that are answered one after another
+
+-- they are these lines with these replies
+abbrev pub AreSpoken : {D : Type 0} → List Line → List code.Reply → List (Spoken D) → Type 0
+AreSpoken [] [] [] = Unit {0}
+AreSpoken (line ∷ lines) (given ∷ replies) (x ∷ xs) =
+    (x.said ≡ said_of line.command) × (x.reply ≡ reply_of given.answer) × AreSpoken lines replies xs
+AreSpoken _ _ _ = ⊥
+
+-- each reply has its cause in the world before its line
+abbrev pub HaveCauses : {D : Type 0} → (D → ToldFiles) → (D → Type 0) → (D → ℕ) → Service D → List (Spoken D) → Type 0
+HaveCauses bytes can_fail faults first [] = Unit {0}
+HaveCauses bytes can_fail faults first (x ∷ xs) = HasCause bytes can_fail faults first x.said x.reply x.after × HaveCauses bytes can_fail faults x.after xs
+
+-- The lines with their replies lead from the one to the other, and each reply has its cause. The first four arguments say what a device tells
+-- of its files, whether it can fail, how many failures it has counted, and what a crash may leave.
+pub record RunsHistory {D : Type 0} (bytes : D → ToldFiles) (can_fail : D → Type 0) (faults : D → ℕ) (left : D → FileName → FileContent → Type 0)
+    (old : Service D) (lines : List Line) (replies : List code.Reply) (new : Service D) : Type 0 where
+  pub spoken : List (Spoken D)
+  pub are : AreSpoken lines replies spoken
+  pub leads : IsSpoken left old spoken new
+  pub causes : HaveCauses bytes can_fail faults old spoken
+
+-- ---- lines that are served
+
+-- The same of a command with its reply: a COMMIT that was answered OK is an answered commit, one that was refused is a refused commit or
+-- did nothing, and any other command has nothing to do with commits.
+abbrev pub Makes : Command → Reply → Event → Type 0
+Makes (Command.commit text) (Ok (Answer.number g)) event = event ≡ Event.Answered g
+Makes (Command.commit text) (Ok a) event = ⊥
+Makes (Command.commit text) (Err e) event = (event ≡ Event.Other) ⊎ ((g : ℕ) × (event ≡ Event.Refused g))
+Makes c reply event = event ≡ Event.Other
+
+-- so of what a line was told, which may have been unreadable
+abbrev pub MakesTold : Outcome → Event → Type 0
+MakesTold Outcome.unreadable event = event ≡ Event.Other
+MakesTold (Outcome.replied e) event = Makes e.line.command e.reply event
+
+-- so with each of the lines, in turn
+abbrev pub MakeTold : List Outcome → List Event → Type 0
+MakeTold [] [] = Unit {0}
+MakeTold (told ∷ tolds) (event ∷ events) = MakesTold told event × MakeTold tolds events
+MakeTold _ _ = ⊥
+
+-- what a command with its reply makes of commits, from one world to the next
+abbrev pub GoesTold : {D : Type 0} → (D → FileName → FileContent → Type 0) → Command → Reply → Service D → Service D → Type 0
+GoesTold left c reply old new = (event : Event) × Makes c reply event × Goes left event old.ledger new.ledger
+
+-- What a crash may leave after lines that were told this, of which the newest commit is the one that was answered last, or else was opened.
+-- The newest commit that is found is that one, or one that a COMMIT began which was refused after it was answered; one is found where there
+-- is one; and once the files of the refused ones are taken away, it is that one.
+pub record OutlivesCrash (left : FileName → FileContent → Type 0) (newest : Option ℕ) (tolds : List Outcome) : Type 0 where
+  pub events : List Event
+  pub make : MakeTold tolds events
+  pub found : (image : FileName → FileContent) (g : ℕ) → IsCrashed left image → IsNewestCommit (tells image) g
+      → (newest ≡ Some g) ⊎ IsTried events g
+  pub lost : (image : FileName → FileContent) → IsCrashed left image → HasNoCommit (tells image) → newest ≡ None
+  pub mended : (g : ℕ) → newest ≡ Some g → (image mended : FileName → FileContent) → IsCrashed left image
+      → mended (file.Commit g) ≡ image (file.Commit g) → ((h : ℕ) → g < h → mended (file.Commit h) ≡ None) → IsNewestCommit (tells mended) g

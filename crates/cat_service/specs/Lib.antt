@@ -1,0 +1,14 @@
+pub mod Worlds
+pub mod Named
+pub mod Outlasting
+pub mod Promises
+pub mod Wanting
+pub mod Causes
+pub mod Lines
+pub mod Histories
+pub mod Opening
+pub mod Serving
+pub mod Copies
+pub mod Running
+pub mod sets
+pub mod theorem

@@ -1,0 +1,85 @@
+//! Lines, answered one after another.
+ghost use Rattle.std.specs.Prelude.{◌≡◌};
+ghost use Rattle.cat_model.specs.Served.{NamesFiles};
+ghost use Rattle.cat_commands.specs.cat_ledger.Histories.{GoesBy};
+ghost use Rattle.cat_protocol.specs.lines.Line.{said_of};
+ghost use Rattle.cat_protocol.specs.replies.Reply.{reply_of};
+ghost use Rattle.cat_service.specs.Causes.{HasCause, TakesNumbers};
+ghost use Rattle.cat_service.specs.Lines.{Does, StepsLine};
+ghost use Rattle.cat_service.specs.Named.{TellsNeeded};
+ghost use Rattle.cat_service.specs.Outlasting.{OutlastsCrash};
+ghost use Rattle.cat_service.specs.Promises.{KeepsPromises};
+ghost use Rattle.cat_service.specs.Worlds.{device_of, policy_of, shape_of};
+
+use crate::world::World;
+use cat_base::Refusal;
+use cat_commands::ledger::Chore;
+use cat_directory::{Directory, Shelf};
+use cat_protocol::lines::{Command, Line};
+use cat_protocol::replies::{Answer, Reply};
+
+impl<D: Directory + Shelf> World<D> {
+    /// Answers a line, whose session stands in the reply.
+    fn answer(&mut self, line: &Line) -> Result<Answer, Refusal>
+        ensures does { Does D.bytes D.can_fail D.fault_count line.now.session (said_of line.now.command) self.old (reply_of result) self.new }
+        ensures history { GoesBy D.may_leave (said_of line.now.command) (reply_of result) self.old.ledger self.new.ledger }
+    {
+        let session = line.session;
+        match line.command {
+            Command::NoForm => Err(Refusal::Line),
+            Command::Put(text) => self.answer_put(text),
+            Command::Delete(id) => self.answer_delete(id),
+            Command::DeleteWhere(text) => self.answer_delete_where(text),
+            Command::Refresh => self.answer_refresh(),
+            Command::Open(token) => self.answer_open(session, token),
+            Command::Close(token) => self.answer_close(session, token),
+            Command::Find(find) => self.answer_find(session, find),
+            Command::Facets(facets) => self.answer_facets(session, facets),
+            Command::Get { token, id } => self.answer_get(session, token, id),
+            Command::FilesOfToken(token) => self.answer_view_files(session, token),
+            Command::FilesOfCommit(generation) => self.answer_commit_files(generation),
+            Command::Commit(text) => self.answer_commit(text),
+            Command::Note(generation) => self.answer_note(generation),
+            Command::Snapshot => self.answer_snapshot(),
+            Command::Unsnapshot(generation) => self.answer_unsnapshot(generation),
+            Command::Prune(count) => self.answer_prune(count),
+            Command::Merge => self.answer_chore(session, Chore::Merge),
+            Command::Force => self.answer_chore(session, Chore::Force),
+            Command::Warm => self.answer_warm(session),
+            Command::Sweep => self.answer_chore(session, Chore::Sweep),
+            Command::Stat => self.answer_chore(session, Chore::Stat),
+        }
+    }
+
+    /// Answers a line. Whatever run led here, the reply fits it, and what is left stands for the longer run; where the
+    /// directory doesn't tell of its files, the text of a stored item alone may be another of that length. The files stand of
+    /// each token that is recorded or held and of each commit that is kept, and a crash leaves those of the newest commit.
+    /// [`Refusal::Memory`] is told only where an OK fits, so that it hides no other refusal; and never of a CLOSE or of a line
+    /// without a form, nor of an OPEN of a token that the session holds. Of a PUT that is known as far as its length and its UTF-8,
+    /// and of a DELW as far as its query. A refusal that stands in place of an OK has its cause: [`Refusal::Spent`] that a number or
+    /// a limit is spent, [`Refusal::Device`] that the directory can fail, [`Refusal::Damaged`] that a file is damaged; but a MERGE that
+    /// copies rows may be told these two also where a file is gone. COMMIT tells the generation that comes next, and maintenance
+    /// what is so. A line takes one number of a segment and one generation at most. What the line makes of commits is known by its reply, from which
+    /// [`histories_last`](World::histories_last) tells what a crash leaves.
+    pub fn step(&mut self, line: &Line) -> Reply
+        ensures session { result.session ≡ line.now.session }
+        ensures run { StepsLine D.bytes line.now.session (said_of line.now.command) self.old (reply_of result.answer) self.new }
+        ensures promised { KeepsPromises D.bytes self.new }
+        ensures outlasts { OutlastsCrash D.bytes D.may_leave self.new }
+        ensures history { GoesBy D.may_leave (said_of line.now.command) (reply_of result.answer) self.old.ledger self.new.ledger }
+        ensures told { TellsNeeded (shape_of self.old) (said_of line.now.command) (reply_of result.answer) }
+        ensures names { NamesFiles (reply_of result.answer) }
+        ensures cause { HasCause D.bytes D.can_fail D.fault_count self.old (said_of line.now.command) (reply_of result.answer) self.new }
+        ensures numbers { TakesNumbers (shape_of self.old) (shape_of self.new) }
+        ensures schema { (shape_of self.new).schema ≡ (shape_of self.old).schema }
+        ensures policy { policy_of self.new ≡ policy_of self.old }
+        ensures can { D.can_fail (device_of self.new) → D.can_fail (device_of self.old) }
+    {
+        let answer = self.answer(line);
+        self.newest_lasts();
+        Reply {
+            session: line.session,
+            answer,
+        }
+    }
+}

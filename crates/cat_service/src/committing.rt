@@ -1,0 +1,51 @@
+//! Lines that keep commits, let them go, and tell of them.
+ghost use Rattle.std.specs.Prelude.{ℕ, Some};
+ghost use Rattle.cat_model.specs.Lines.{Said};
+ghost use Rattle.cat_protocol.specs.replies.Reply.{reply_of};
+ghost use Rattle.cat_commands.specs.cat_ledger.Histories.{GoesBy};
+ghost use Rattle.cat_service.specs.Lines.{Does};
+
+use crate::world::World;
+use cat_base::{Generation, Refusal};
+use cat_directory::{Directory, Shelf};
+use cat_protocol::replies::Answer;
+
+impl<D: Directory + Shelf> World<D> {
+    /// Answers a COMMIT.
+    pub(crate) fn answer_commit(&mut self, text: &str) -> Result<Answer, Refusal>
+        ensures does { (session : ℕ) → Does D.bytes D.can_fail D.fault_count session (Some (Said.commit text.now)) self.old (reply_of result) self.new }
+        ensures history { GoesBy D.may_leave (Some (Said.commit text.now)) (reply_of result) self.old.ledger self.new.ledger }
+    {
+        cat_commands::ledger::commit(&mut self.ledger, text)
+    }
+
+    /// Answers a SNAP.
+    pub(crate) fn answer_snapshot(&mut self) -> Result<Answer, Refusal>
+        ensures does { (session : ℕ) → Does D.bytes D.can_fail D.fault_count session (Some Said.snapshot) self.old (reply_of result) self.new }
+        ensures history { GoesBy D.may_leave (Some Said.snapshot) (reply_of result) self.old.ledger self.new.ledger }
+    {
+        cat_commands::ledger::snapshot(&mut self.ledger)
+    }
+
+    /// Answers an UNSNAP.
+    pub(crate) fn answer_unsnapshot(&mut self, generation: Generation) -> Result<Answer, Refusal>
+        ensures does { (session : ℕ) → Does D.bytes D.can_fail D.fault_count session (Some (Said.release_snapshot generation)) self.old (reply_of result) self.new }
+        ensures history { GoesBy D.may_leave (Some (Said.release_snapshot generation)) (reply_of result) self.old.ledger self.new.ledger }
+    {
+        cat_commands::ledger::release_snapshot(&mut self.ledger, generation)
+    }
+
+    /// Answers a NOTE.
+    pub(crate) fn answer_note(&self, generation: Generation) -> Result<Answer, Refusal>
+        ensures does { (session : ℕ) → Does D.bytes D.can_fail D.fault_count session (Some (Said.text_of_commit generation)) self.now (reply_of result) self.now }
+    {
+        cat_commands::ledger::text_of_commit(self.alloc, &self.ledger, generation)
+    }
+
+    /// Answers a FILES of a commit.
+    pub(crate) fn answer_commit_files(&self, generation: Generation) -> Result<Answer, Refusal>
+        ensures does { (session : ℕ) → Does D.bytes D.can_fail D.fault_count session (Some (Said.files_of_commit generation)) self.now (reply_of result) self.now }
+    {
+        cat_commands::ledger::files_of_commit(&self.ledger, generation)
+    }
+}

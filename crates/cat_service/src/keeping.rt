@@ -1,0 +1,61 @@
+//! Lines that record views and let them go, and those of maintenance.
+ghost use Rattle.std.specs.Prelude.{ℕ, Some};
+ghost use Rattle.cat_model.specs.Lines.{Said};
+ghost use Rattle.cat_model.specs.Run as run;
+ghost use Rattle.cat_commands.specs.ledger.Chores.{chore_of};
+ghost use Rattle.cat_protocol.specs.replies.Reply.{reply_of};
+ghost use Rattle.cat_commands.specs.cat_ledger.Histories.{GoesBy};
+ghost use Rattle.cat_service.specs.Lines.{Does};
+
+use crate::sets::segments_are_one;
+use crate::world::World;
+use cat_base::{Refusal, SessionNo};
+use cat_commands::ledger::Chore;
+use cat_directory::{Directory, Shelf};
+use cat_protocol::replies::Answer;
+
+impl<D: Directory + Shelf> World<D> {
+    /// Answers a REFRESH.
+    pub(crate) fn answer_refresh(&mut self) -> Result<Answer, Refusal>
+        ensures does { (session : ℕ) → Does D.bytes D.can_fail D.fault_count session (Some Said.refresh) self.old (reply_of result) self.new }
+        ensures history { GoesBy D.may_leave (Some Said.refresh) (reply_of result) self.old.ledger self.new.ledger }
+    {
+        cat_commands::ledger::refresh(&mut self.ledger)
+    }
+
+    /// Answers a PRUNE.
+    pub(crate) fn answer_prune(&mut self, count: u64) -> Result<Answer, Refusal>
+        ensures does { (session : ℕ) → Does D.bytes D.can_fail D.fault_count session (Some (Said.prune count)) self.old (reply_of result) self.new }
+        ensures history { GoesBy D.may_leave (Some (Said.prune count)) (reply_of result) self.old.ledger self.new.ledger }
+    {
+        cat_commands::ledger::prune(&mut self.ledger, count)
+    }
+
+    /// Answers a MERGE, FORCE, SWEEP or STAT.
+    pub(crate) fn answer_chore(
+        &mut self,
+        session: SessionNo,
+        chore: Chore,
+    ) -> Result<Answer, Refusal>
+        ensures does { Does D.bytes D.can_fail D.fault_count session (Some (Said.chore (chore_of chore))) self.old (reply_of result) self.new }
+        ensures history { GoesBy D.may_leave (Some (Said.chore (chore_of chore))) (reply_of result) self.old.ledger self.new.ledger }
+    {
+        cat_commands::ledger::maintain(
+            self.alloc,
+            &mut self.ledger,
+            &mut self.filters,
+            session,
+            chore,
+        )
+    }
+
+    /// Answers a WARM.
+    pub(crate) fn answer_warm(&mut self, session: SessionNo) -> Result<Answer, Refusal>
+        ensures does { Does D.bytes D.can_fail D.fault_count session (Some (Said.chore run.Chore.warm)) self.old (reply_of result) self.new }
+        ensures history { GoesBy D.may_leave (Some (Said.chore run.Chore.warm)) (reply_of result) self.old.ledger self.new.ledger }
+    {
+        // The segments of now agree with those of the recorded views, whose sets are kept too.
+        segments_are_one();
+        cat_commands::ledger::warm(&self.ledger, &mut self.filters, session)
+    }
+}

@@ -1,0 +1,59 @@
+//! The world of sessions as a machine: its first line opens it, and each line behind it is one step.
+use crate::world::World;
+use cat_base::Refusal;
+use cat_directory::{Directory, Shelf};
+use cat_protocol::lines::Line;
+use cat_protocol::replies::send_reply;
+use cat_protocol::sending::{WriteFault, send_unreadable};
+use cat_protocol::serving::{Machine, Unopened, text_of};
+use std::alloc::Global;
+use std::io::Write;
+
+impl<D: Directory + Shelf> Machine for World<D> {
+    type Seed = D;
+
+    ghost use Rattle.cat_service.specs.Serving.{OpensIfShort, StepsIfShort};
+    ghost use Rattle.cat_service.specs.Worlds.{shape_of};
+
+    ghost opens = { OpensIfShort D.bytes D.may_leave D.can_fail };
+
+    ghost step = { StepsIfShort D.bytes D.may_leave D.can_fail };
+
+    ghost token = { λ w. (shape_of w).count };
+
+    fn open(alloc: Global, seed: D, line: Option<&[u8]>) -> Result<World<D>, Unopened<D>> {
+        let Some(bytes) = line else {
+            return Err(Unopened {
+                refusal: Refusal::Line,
+                seed,
+            });
+        };
+        match text_of(bytes) {
+            Some(text) => World::open(alloc, seed, text),
+            None => Err(Unopened {
+                refusal: Refusal::Line,
+                seed,
+            }),
+        }
+    }
+
+    fn start_token(&self) -> u64 {
+        self.count()
+    }
+
+    fn answer<W: Write>(&mut self, line: Option<&[u8]>, to: &mut W) -> Result<(), WriteFault> {
+        let Some(bytes) = line else {
+            return send_unreadable(to);
+        };
+        let Some(text) = text_of(bytes) else {
+            return send_unreadable(to);
+        };
+        match Line::read(text) {
+            Ok(line) => {
+                let reply = self.step(&line);
+                send_reply(&reply, to)
+            }
+            Err(_) => send_unreadable(to),
+        }
+    }
+}

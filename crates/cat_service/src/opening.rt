@@ -1,0 +1,103 @@
+//! Worlds that a schema line opens in a directory.
+//!
+//! Lucene's constructor of `IndexWriter` under an `IndexWriterConfig`.
+ghost use Rattle.std.specs.Prelude.{◌≡◌, [], IfOk, None};
+ghost use Rattle.cat_model.specs.Served.{SpellsSchema};
+ghost use Rattle.cat_model.specs.Text.{Text};
+ghost use Rattle.cat_commands.specs.cat_ledger.Histories.{LeavesNoneAhead};
+ghost use Rattle.cat_commands.specs.cat_ledger.Lasting.{AlwaysTells};
+ghost use Rattle.cat_service.specs.Opening.{OpensWorld};
+ghost use Rattle.cat_service.specs.Worlds.{device_of};
+
+use crate::world::World;
+use cat_base::{MAX_LINE_BYTES, Refusal};
+use cat_commands::cat_cached_sets::filters::Filters;
+use cat_commands::cat_ledger::upkeep::MergePolicy;
+use cat_commands::cat_ledger::{Ledger, NotOpened};
+use cat_commands::cat_lifetimes::rights::Rights;
+use cat_directory::{Directory, Shelf};
+use cat_items::Schema;
+use cat_protocol::ReaderStates;
+use cat_protocol::lines::SchemaLine;
+use cat_protocol::serving::Unopened;
+use std::alloc::{AllocError, Global};
+
+/// The policy of the numbers that a schema line gives.
+fn policy_of(found: &SchemaLine) -> MergePolicy
+    requires { (line text : Text) × SpellsSchema line found.now.factor found.now.least text }
+    ensures { result ≡ record { factor = found.now.factor; least = found.now.least } }
+{
+    match MergePolicy::of(found.factor as u64, found.least as u64) {
+        Some(policy) => policy,
+        None => unreachable!(),
+    }
+}
+
+/// What is kept beside a ledger that opens: no set of rows, and no state of facets. Their memory is taken here.
+fn nothing_kept(alloc: Global) -> Result<(Filters, ReaderStates), AllocError>
+    ensures { IfOk result (λ kept. (kept.0 ≡ record { cached = []; noted = []; warming = None }) × (kept.1 ≡ [])) }
+{
+    let filters = Filters::new(alloc)?;
+    let states = ReaderStates::new(alloc)?;
+    Ok((filters, states))
+}
+
+impl<D: Directory + Shelf> World<D> {
+    /// Opens the newest commit of the directory, or an empty catalogue where there is none, under the schema that the line
+    /// gives, as `SCHEMA 10 1000 {"price":"number"}`: a factor of merges (2 to 100), their minimum (1 to 100,000), and the
+    /// schema. No session has a right to a view. (Lucene: `OpenMode.CREATE_OR_APPEND`, and the `LogDocMergePolicy`.)
+    ///
+    /// The first of these that is so is the refusal, with which the directory comes back, and nothing was deleted from it, nor may a
+    /// crash leave more of a file than it could have left before:
+    /// [`Refusal::Line`] of what isn't of that form, or is longer than a line may be; [`Refusal::Json`] or [`Refusal::Kind`]
+    /// of what is no schema; then [`Refusal::Kind`] where the commit has another schema, [`Refusal::Damaged`] where its
+    /// files don't hold it, [`Refusal::Device`] where the directory fails. [`Refusal::Memory`] is told only of a line of the
+    /// form.
+    ///
+    /// A crash leaves no commit that is newer than the one that was opened, where such directories always tell of their files:
+    /// so [`histories_last`](World::histories_last) speaks of what a crash leaves after the lines that come.
+    pub fn open(alloc: Global, device: D, line: &str) -> Result<World<D>, Unopened<D>>
+        ensures opens { OpensWorld D.bytes D.may_leave device line.now result }
+        ensures ahead { IfOk result (λ w. AlwaysTells D.bytes → LeavesNoneAhead D.may_leave w.ledger) }
+        ensures can { IfOk result (λ w. D.can_fail (device_of w) → D.can_fail device) }
+    {
+        if MAX_LINE_BYTES < line.len() {
+            return Err(Unopened {
+                refusal: Refusal::Line,
+                seed: device,
+            });
+        }
+        let Some(found) = SchemaLine::read(line) else {
+            return Err(Unopened {
+                refusal: Refusal::Line,
+                seed: device,
+            });
+        };
+        let schema = match Schema::read(alloc, found.json.as_bytes()) {
+            Ok(schema) => schema,
+            Err(refusal) => return Err(Unopened {
+                refusal,
+                seed: device,
+            }),
+        };
+        let Ok((filters, states)) = nothing_kept(alloc) else {
+            return Err(Unopened {
+                refusal: Refusal::Memory,
+                seed: device,
+            });
+        };
+        match Ledger::open(alloc, device, schema, policy_of(&found)) {
+            Ok(ledger) => Ok(World {
+                alloc,
+                ledger,
+                rights: Rights::new(alloc),
+                filters,
+                states,
+            }),
+            Err(NotOpened { refusal, device }) => Err(Unopened {
+                refusal,
+                seed: device,
+            }),
+        }
+    }
+}

@@ -1,0 +1,86 @@
+//! Lines that look for items, over a session's right to a view.
+ghost use Rattle.std.specs.Prelude.{◌≡◌, Some};
+ghost use Rattle.cat_model.specs.Lines.{Said};
+ghost use Rattle.cat_protocol.specs.lines.Line.{sort_said};
+ghost use Rattle.cat_commands.specs.cat_search.Sorts.{sort_of};
+ghost use Rattle.cat_protocol.specs.replies.Reply.{reply_of};
+ghost use Rattle.cat_commands.specs.cat_ledger.Histories.{GoesBy};
+ghost use Rattle.cat_service.specs.Lines.{Does};
+
+use crate::sets::segments_are_one;
+use crate::world::World;
+use cat_base::{Refusal, SessionNo};
+use cat_commands::{Ask, Sort};
+use cat_directory::{Directory, Shelf};
+use cat_protocol::lines::{Facets, Find};
+use cat_protocol::replies::Answer;
+
+/// The sort that a line says.
+fn sort_asked(sort: cat_protocol::lines::Sort<'_>) -> Sort<'_>
+    ensures { sort_of result ≡ sort_said sort.entry }
+{
+    match sort {
+        cat_protocol::lines::Sort::Added => Sort::Added,
+        cat_protocol::lines::Sort::Rising(name) => Sort::Rising(name),
+        cat_protocol::lines::Sort::Falling(name) => Sort::Falling(name),
+    }
+}
+
+impl<D: Directory + Shelf> World<D> {
+    /// Answers a FIND.
+    pub(crate) fn answer_find(
+        &mut self,
+        session: SessionNo,
+        find: Find<'_>,
+    ) -> Result<Answer, Refusal>
+        ensures does { Does D.bytes D.can_fail D.fault_count session
+            (Some (Said.find find.entry.token find.entry.count (sort_said find.entry.sort) find.entry.mark find.entry.query.now))
+            self.old (reply_of result) self.new }
+        ensures history { GoesBy D.may_leave
+            (Some (Said.find find.entry.token find.entry.count (sort_said find.entry.sort) find.entry.mark find.entry.query.now))
+            (reply_of result) self.old.ledger self.new.ledger }
+    {
+        let right = self.rights.get(session, find.token);
+        let ask = Ask {
+            sort: sort_asked(find.sort),
+            after: find.mark,
+            count: find.count,
+        };
+        cat_commands::searches::find(
+            self.alloc,
+            self.ledger.schema(),
+            right,
+            &mut self.filters,
+            ask,
+            find.query,
+        )
+    }
+
+    /// Answers a FACETS.
+    pub(crate) fn answer_facets(
+        &mut self,
+        session: SessionNo,
+        facets: Facets<'_>,
+    ) -> Result<Answer, Refusal>
+        ensures does { Does D.bytes D.can_fail D.fault_count session
+            (Some (Said.facets facets.entry.token facets.entry.dimension.now facets.entry.count facets.entry.query.now))
+            self.old (reply_of result) self.new }
+        ensures history { GoesBy D.may_leave
+            (Some (Said.facets facets.entry.token facets.entry.dimension.now facets.entry.count facets.entry.query.now))
+            (reply_of result) self.old.ledger self.new.ledger }
+    {
+        let right = self.rights.get(session, facets.token);
+        // The segments of what is recorded agree on their numbers, which the kept states are found by.
+        segments_are_one();
+        cat_commands::searches::count_facets(
+            self.alloc,
+            self.ledger.schema(),
+            right,
+            &mut self.filters,
+            &mut self.states,
+            facets.dimension,
+            facets.count,
+            facets.query,
+        )
+    }
+}

@@ -1,0 +1,68 @@
+//! Lines that are served over a directory.
+ghost use Rattle.std.specs.Prelude.{◌≡◌};
+ghost use Rattle.cat_protocol.specs.serving.Serving.{ended_as};
+ghost use Rattle.cat_service.specs.Serving.{ServesIn, SparesUnserved, StageLasts, StageOutlives, device_at};
+
+use crate::world::World;
+use cat_directory::{Directory, Shelf};
+use cat_protocol::serving::{ServeFault, Stage, serve_machine};
+use std::alloc::Global;
+use std::io::{Read, Write};
+
+/// What serving leaves.
+#[derive(Drop)]
+pub struct Left<D> {
+    /// The directory, with its files as they stand: what waited, and what no commit has, isn't in them.
+    pub device: D,
+    /// Why serving ended before the end of the input, if it did.
+    pub ended: Result<(), ServeFault>,
+}
+
+/// The directory of the stage. A world that stands open ends.
+fn device_left<D: Directory + Shelf>(stage: Stage<World<D>, D>) -> D
+    ensures device { result ≡ device_at stage }
+    ensures lasts { StageLasts D.bytes D.may_leave stage }
+    ensures outlives { StageOutlives D.bytes D.may_leave stage }
+{
+    match stage {
+        Stage::Waiting(device) => device,
+        Stage::Refused(device) => device,
+        Stage::Open(world) => {
+            world.newest_lasts();
+            world.histories_last();
+            world.end()
+        }
+    }
+}
+
+/// Answers each line of the reader: the first opens the newest commit of the directory, or an empty catalogue where there is
+/// none, and the others are its sessions'.
+///
+/// What it writes is the text of a run that fits the lines, and nothing else, and of a directory that can't fail it says to no line but
+/// a MERGE that it did; where a directory doesn't tell of its files, the
+/// text of a stored item alone may be another of that length, and has no line feed either. In the directory that is left stand the files of every token that
+/// the run has recorded, held ones too, and of every commit that it keeps, with the table of each. Where the directory always
+/// tells of its files, a crash leaves those of the newest commit byte for byte: the commit that was opened, or that the last
+/// COMMIT was answered. What is found after the crash is that commit, or one of a COMMIT that was refused after it; and once the
+/// files of these are taken away, it is that commit. Where the schema line is refused, the files are as they were, also in whatever a
+/// crash may leave; and where a read failed before any line had ended, the directory is untouched.
+///
+/// It flushes before each read, so that a client which waits for a reply has it. Its two buffers are taken before the first line
+/// is read, and replies are written without taking memory. The reader is called at most 4,294,967,295 times.
+pub fn serve<D: Directory + Shelf, R: Read, W: Write>(
+    alloc: Global,
+    device: D,
+    reader: &mut R,
+    writer: &mut W,
+) -> Left<D>
+    ensures served { ServesIn D.bytes D.may_leave D.can_fail device result.device (R.remaining reader.old) (R.remaining reader.new)
+        (W.contents writer.old) (W.contents writer.new) (ended_as result.ended) }
+    ensures spared { SparesUnserved D.bytes D.may_leave device result.device (R.remaining reader.old) (R.remaining reader.new)
+        (ended_as result.ended) }
+{
+    let served = serve_machine::<World<D>, R, W>(alloc, device, reader, writer);
+    Left {
+        device: device_left(served.stage),
+        ended: served.ended,
+    }
+}

@@ -1,0 +1,42 @@
+//! The theorem: what holds of every two calls of `serve`, by the bytes that they read and wrote.
+
+ghost use Rattle.cat_service.specs.theorem.Calls.{CallsAreOpened, HeldReadsAgree};
+ghost use Rattle.cat_service.specs.theorem.Found.{CallsAreFound, DirectoriesOpenOneWay, ReadsAgreeAfterwards};
+
+use cat_directory::{Directory, Shelf};
+use cat_protocol::cat_segment::{
+    live_rows_are_told_by_their_bytes, segments_are_told_by_their_bytes,
+};
+
+/// The catalogue holds. Take what any two calls of `serve` of `cat_world` read and wrote, each over a directory of any kind.
+///
+/// - *opened*: each call that answered a first line began somewhere, by what its directory tells of its files: at the newest
+///   commit, or empty.
+/// - *agree*: where two began with one table, a read under a token that a session holds is answered alike in both, if the writes
+///   up to that token have the same texts; whatever else either was told.
+/// - *found*: what a call leaves, also in a crash, opens at its last COMMIT that was answered OK, with its text, with the number
+///   of writes before it as token, and with the table at that token; or a COMMIT was refused since; or there was none.
+/// - *afterwards*: under that token the next call answers as this one did.
+///
+/// *Found* asks for a kind of directory that always tells of its files, as the one in memory does. Of a folder, which doesn't,
+/// the others hold, but for the text of a stored item: GET may answer another one of its length, if somebody changed the file.
+///
+/// (Lucene: `SearcherLifetimeManager`, whose searchers stay as they were recorded; `DirectoryReader.open` of an `IndexCommit`.)
+pub fn the_catalogue_holds<D: Directory + Shelf, E: Directory + Shelf>()
+    ensures opened { CallsAreOpened D.bytes D.may_leave D.can_fail }
+    ensures agree { HeldReadsAgree D.bytes D.may_leave D.can_fail E.bytes E.may_leave E.can_fail }
+    ensures found { CallsAreFound D.bytes D.may_leave D.can_fail E.bytes }
+    ensures afterwards { ReadsAgreeAfterwards D.bytes D.may_leave D.can_fail E.bytes E.may_leave E.can_fail }
+{
+    segments_are_told_by_their_bytes();
+    live_rows_are_told_by_their_bytes();
+}
+
+/// Directories that tell of each of their files, and tell the same, begin with one table by schema lines of one schema: what
+/// *agree* asks of how two calls began.
+pub fn directories_open_one_way()
+    ensures { DirectoriesOpenOneWay }
+{
+    segments_are_told_by_their_bytes();
+    live_rows_are_told_by_their_bytes();
+}

@@ -1,0 +1,101 @@
+//! The world: a ledger, the rights that its sessions have, and what is kept beside it so that it needn't be made anew.
+ghost use Rattle.std.specs.Prelude.{◌≡◌};
+ghost use Rattle.cat_service.specs.Promises.{WorldLasts};
+ghost use Rattle.cat_service.specs.Worlds.{device_of, shape_of};
+
+use cat_base::WriteNo;
+use cat_commands::cat_cached_sets::filters::Filters;
+use cat_commands::cat_ledger::Ledger;
+use cat_commands::cat_lifetimes::rights::Rights;
+use cat_directory::{Directory, Shelf};
+use cat_items::Schema;
+use cat_protocol::ReaderStates;
+use std::alloc::Global;
+use std::marker::Model;
+
+/// A catalogue in a directory with the sessions that speak to it. Each session has its own rights to views, which last until
+/// it gives them back itself. (Lucene: an `IndexWriter` with a `SearcherLifetimeManager`, and what its clients have acquired.)
+///
+/// It isn't dropped by leaving a scope: [`end`](World::end) gives its directory back.
+///
+/// Contracts see it as its ledger, and the list of the rights. Beside these it keeps sets of rows and states of facets, which
+/// make answers cheaper and change none. (Lucene: the `LRUQueryCache` of an `IndexSearcher`, and the
+/// `SortedSetDocValuesReaderState`s of a program.)
+///
+/// ```text
+/// let mut world = World::open(alloc, directory, r#"SCHEMA 10 1000 {"price":"number"}"#)?;
+/// let line = Line::read(r#"1 PUT {"id":"a","price":7}"#)?;
+/// let text = world.step(&line).text(alloc)?; // 1 OK 1
+/// let directory = world.end();
+/// ```
+pub struct World<D: Directory + Shelf> {
+    pub(crate) alloc: Global,
+    pub(crate) ledger: Ledger<D>,
+    pub(crate) rights: Rights,
+    // The sets that queries find at hand, and the queries that are noted for more.
+    pub(crate) filters: Filters,
+    // The states that counts find at hand.
+    pub(crate) states: ReaderStates,
+}
+
+impl<D: Directory + Shelf> Model for World<D> {
+    ghost use Rattle.cat_service.specs.Worlds.{IsWorld, Service};
+
+    ghost Value = { Service D };
+
+    ghost view = { λ w. record { ledger = w.ledger; rights = w.rights } };
+
+    ghost invariant = { λ w. IsWorld D.bytes w.ledger w.rights w.filters w.states };
+}
+
+impl<D: Directory + Shelf> World<D> {
+    /// How many writes were accepted, which is the token of a view of now.
+    pub fn count(&self) -> WriteNo
+        ensures { result ≡ (shape_of self.now).count }
+    {
+        self.ledger.count()
+    }
+
+    /// The fields of the items.
+    pub fn schema(&self) -> &Schema
+        ensures { result.now ≡ (shape_of self.now).schema }
+    {
+        self.ledger.schema()
+    }
+
+    /// What always holds of it, for a caller's proof; it does nothing. A crash at this moment leaves each file of the newest
+    /// commit byte for byte as the directory tells of it, where such directories always tell of their files.
+    ///
+    /// Lucene's `IndexWriter.commit`, whose changes survive a crash of the system.
+    pub fn newest_lasts(&self)
+        ensures { WorldLasts D.bytes D.may_leave self.now }
+    {
+        self.ledger.newest_lasts();
+    }
+
+    /// Ends it: each right goes back to the ledger, and the directory is given out with its files as they stand. What waits,
+    /// and what no commit has, isn't in them. It takes no memory. (Lucene: `SearcherLifetimeManager.close`, and then
+    /// `IndexWriter.rollback`.)
+    pub fn end(self) -> D
+        ensures { result ≡ device_of self }
+    {
+        let World {
+            alloc: _,
+            ledger,
+            rights,
+            filters: _,
+            states: _,
+        } = self;
+        end_rights(rights);
+        ledger.into_directory()
+    }
+}
+
+/// Ends each of the rights. The ledger that counts them ends with them.
+fn end_rights(rights: Rights) {
+    let mut rights = rights;
+    'rights: while let Some(hold) = rights.pop() {
+        hold.give_up();
+    }
+    rights.destroy_empty();
+}

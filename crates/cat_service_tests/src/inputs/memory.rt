@@ -1,0 +1,113 @@
+//! What is answered where memory is wanting.
+//!
+//! `rt try --test --fail-alloc N` makes the Nth allocation of each test fail. A script's own texts take memory too, so most
+//! tests fail then. The one below has to pass at every N from 3 on, and shows this: one line at most is refused for want of
+//! memory, and that line changes nothing. Its first two allocations are its own.
+use crate::inputs::traffic::serve_in_memory;
+use cat_service::cat_protocol::serving::ServeFault;
+use std::alloc::{AllocError, Global};
+use std::process::Abort;
+use std::str::from_utf8;
+use std::test::Fail;
+
+/// The schema line.
+const SHOP: &str =
+    "SCHEMA 2 1 {\"brand\":\"keyword\",\"color\":\"facet\",\"price\":\"number\",\"title\":\"text\"}";
+
+const LINES: &[&str] = &[
+    "1 PUT {\"id\":\"a\",\"title\":\"red shoe\",\"color\":[\"red\",\"blue\"]}",
+    "1 PUT {\"id\":\"b\",\"brand\":\"x\",\"price\":5}",
+    "1 REFRESH",
+    "1 OPEN",
+    "1 FIND 2 9 . . *:*",
+    "1 PUT {\"id\":\"a\",\"title\":\"red boot\"}",
+    "1 REFRESH",
+    "1 OPEN",
+    "1 FIND 3 9 . . *:*",
+    "1 DEL b",
+    "1 REFRESH",
+    "1 OPEN",
+    "1 FIND 4 9 . . *:*",
+    "1 CLOSE 2",
+    "1 FIND 2 9 . . *:*",
+];
+
+const AT_AMPLE_MEMORY: &str =
+    "OK 0\n1 OK 1\n1 OK 2\n1 OK 2\n1 OK 2\n1 OK 2 2\n1 1 a .\n1 2 b .\n1 OK 3\n1 OK 3\n1 OK 3\n1 OK 2 2\n1 2 b .\n1 3 a .\n1 OK 4\n1 OK 4\n1 OK 4\n1 OK 1 1\n1 3 a .\n1 OK 2\n1 NO 20\n";
+
+/// More bytes than are said or written, so that neither text takes memory again.
+const ROOM: usize = 4_096;
+
+fn push_lines(input: &mut String, lines: &[&str]) -> Result<(), AllocError> {
+    for line in lines {
+        input.push('\n')?;
+        input.push_str(line)?;
+    }
+    Ok(())
+}
+
+/// What is written to the shop's schema line and these lines, and how serving ends.
+fn written(
+    alloc: Global,
+    first: &[&str],
+    others: &[&str],
+) -> Result<(Vec<u8>, Result<(), ServeFault>), AllocError> {
+    let mut input = String::with_capacity(alloc, ROOM)?;
+    let mut output = Vec::with_capacity(alloc, ROOM)?;
+    input.push_str(SHOP)?;
+    push_lines(&mut input, first)?;
+    push_lines(&mut input, others)?;
+    let end = serve_in_memory(alloc, &mut input.as_bytes(), &mut output);
+    Ok((output, end))
+}
+
+/// Whether the output is that of the first and the other lines, with one refusal for want of memory between.
+fn refuses_between(
+    alloc: Global,
+    output: &[u8],
+    first: &[&str],
+    others: &[&str],
+) -> Result<bool, AllocError> {
+    let (before, _) = written(alloc, first, &[])?;
+    let (ample, _) = written(alloc, first, others)?;
+    let Some(rest) = output.strip_prefix(before.as_slice()) else {
+        return Ok(false);
+    };
+    let Some(rest) = rest.strip_prefix(b"1 NO 40\n") else {
+        return Ok(false);
+    };
+    Ok(ample.as_slice().strip_prefix(before.as_slice()) == Some(rest))
+}
+
+/// Whether one of the lines is refused for want of memory, and the others are answered as though it had not been said.
+fn refuses_one(alloc: Global, output: &[u8]) -> Result<bool, AllocError> {
+    for at in 0..LINES.len() {
+        let (first, rest) = LINES.split_at(at);
+        let [_, others @ ..] = rest else {
+            continue;
+        };
+        if refuses_between(alloc, output, first, others)? {
+            return Ok(true);
+        }
+    }
+    Ok(false)
+}
+
+fn expect_one_refusal_at_most(rt: &impl Abort, alloc: Global) -> Result<(), Fail> {
+    let (output, end) = written(alloc, LINES, &[])?;
+    let text = from_utf8(output.as_slice())?;
+    if end == Err(ServeFault::Schema) {
+        assert_eq!(rt; text, "NO 40\n");
+        return Ok(());
+    }
+    assert_eq!(rt; end, Ok(()));
+    if text != AT_AMPLE_MEMORY {
+        assert!(rt; refuses_one(alloc, output.as_slice())?, "{text}");
+    }
+    Ok(())
+}
+
+#[test]
+fn a_line_that_finds_no_memory_changes_nothing(rt: HostRuntime) -> Result<(), Fail> {
+    expect_one_refusal_at_most(&rt, rt.alloc())
+}

@@ -1,0 +1,61 @@
+//! An input of five lines, what is answered to it, and its serving over a directory in memory.
+use cat_directory::MemoryDirectory;
+use cat_service::cat_protocol::serving::ServeFault;
+use cat_service::serve;
+use std::alloc::Global;
+use std::io::{Read, Write};
+use std::process::Abort;
+use std::str::from_utf8;
+use std::test::Fail;
+
+/// An input of a schema line and four others.
+pub(crate) const TRAFFIC: &[u8] = b"SCHEMA 2 1 {}\n1 CLOSE 7\n22 CLOSE 7\r\n\n333 CLOSE 7";
+
+/// What is said to its lines, each.
+pub(crate) const REPLIES: &[&str] = &[
+    "OK 0\n",
+    "1 NO 20\n",
+    "22 NO 20\n",
+    "? NO 10\n",
+    "333 NO 20\n",
+];
+
+/// The same in one.
+pub(crate) const WHOLE: &str = "OK 0\n1 NO 20\n22 NO 20\n? NO 10\n333 NO 20\n";
+
+/// Serves over a directory in memory, and says how serving ends.
+pub(crate) fn serve_in_memory<R: Read, W: Write>(
+    alloc: Global,
+    reader: &mut R,
+    writer: &mut W,
+) -> Result<(), ServeFault> {
+    serve(alloc, MemoryDirectory::new(alloc), reader, writer).ended
+}
+
+/// Serves what the reader gives. The output has to be this text, and serving has to end so.
+pub(crate) fn expect_replies<R: Read>(
+    rt: &impl Abort,
+    alloc: Global,
+    reader: &mut R,
+    wanted: &str,
+    end: Result<(), ServeFault>,
+) -> Result<(), Fail> {
+    let mut written = Vec::new(alloc);
+    let served = serve_in_memory(alloc, reader, &mut written);
+    assert_eq!(rt; from_utf8(written.as_slice())?, wanted);
+    assert_eq!(rt; served, end);
+    Ok(())
+}
+
+/// Serves an input to the writer. Serving has to end so.
+pub(crate) fn expect_end<W: Write>(
+    rt: &impl Abort,
+    alloc: Global,
+    input: &[u8],
+    writer: &mut W,
+    end: Result<(), ServeFault>,
+) {
+    let mut left = input;
+    let served = serve_in_memory(alloc, &mut left, writer);
+    assert_eq!(rt; served, end);
+}

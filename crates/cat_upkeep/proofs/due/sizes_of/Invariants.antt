@@ -1,6 +1,0 @@
-use Rattle.std.proofs.Common.{◌≡◌, take}
-use Rattle.cat_ledger_lines.specs.PlanLaws.{sizes_in}
-use Rattle.cat_upkeep.proofs.due.sizes_of.Given as goal
-
-abbrev pub invariant-loop-leaf : goal.invariant-loop-leaf
-invariant-loop-leaf l = l.sizes.items ≡ sizes_in (take l.leaf-index l.leaves)

@@ -1,6 +1,0 @@
-use Rattle.std.proofs.Common.{◌≡◌, ℕ, ◌<◌, true}
-use Rattle.cat_values.specs.Bits.{is_set}
-use Rattle.cat_values.proofs.covering.are_set.Given as goal
-
-abbrev pub invariant-loop-k : goal.invariant-loop-k
-invariant-loop-k l = (k : ℕ) → k < l.k → is_set l.blocks k ≡ true

@@ -1,6 +1,0 @@
-use Rattle.std.proofs.Common.{◌∙◌}
-use Rattle.cat_values.proofs.Scans.{rows_from-start}
-use Rattle.cat_values.proofs.row_set.RowSet.iter.Goals as goal
-
-pub returns : goal.returns
-returns c = c.of.ensures ∙ rows_from-start _ _ _ _ c.self.invariant c.self.view_is c.deref.ensures.value

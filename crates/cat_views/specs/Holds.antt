@@ -1,0 +1,8 @@
+-- Sessions' rights to views.
+use Rattle.std.specs.Prelude.{ℕ}
+use Rattle.cat_model.specs.View.{View}
+
+-- a session, and the view that it holds
+pub record Hold : Type 0 where
+  pub session : ℕ
+  pub view : View

@@ -1,0 +1,42 @@
+-- How the program ends, with which exit status, and what it says of a fault.
+use Rattle.std.specs.Prelude.{ℕ, List, codes, Result, Ok, Err}
+use Rattle.cat_protocol.specs.declared.serving.serving.ServeFault.{ServeFault}
+use Rattle.cat_protocol.specs.declared.serving.serving.ServeFault.TheVariants as fault
+use Rattle.catalogue.specs.declared.endings.RunFault.{RunFault}
+use Rattle.catalogue.specs.declared.endings.RunFault.TheVariants.{InUse, Serving}
+use Rattle.catalogue.specs.declared.endings.Ending.{Ending}
+use Rattle.catalogue.specs.declared.endings.Ending.TheVariants.{EndOfInput, WrongArguments, SchemaRefused, Fault}
+
+-- what ended serving where the folder is in use, by how it ended: a read or a write that failed, and else that
+abbrev pub in_use_fault : Result (Unit {0}) ServeFault → RunFault
+in_use_fault (Ok u) = InUse
+in_use_fault (Err fault.Schema) = InUse
+in_use_fault (Err fault.Read) = Serving fault.Read
+in_use_fault (Err fault.Write) = Serving fault.Write
+
+-- what ended serving where the folder isn't in use
+abbrev pub serving_told : Result (Unit {0}) ServeFault → Result (Unit {0}) RunFault
+serving_told (Ok u) = Ok u
+serving_told (Err fault) = Err (Serving fault)
+
+-- how the program ends, by how serving did
+abbrev pub ending_of : Result (Unit {0}) RunFault → Ending
+ending_of (Ok u) = EndOfInput
+ending_of (Err InUse) = SchemaRefused
+ending_of (Err (Serving fault.Schema)) = SchemaRefused
+ending_of (Err (Serving fault.Read)) = Fault
+ending_of (Err (Serving fault.Write)) = Fault
+
+-- the exit status
+abbrev pub status_of : Ending → ℕ
+status_of EndOfInput = 0
+status_of WrongArguments = 1
+status_of SchemaRefused = 2
+status_of Fault = 3
+
+-- what is said on standard error
+abbrev pub message_of : RunFault → List ℕ
+message_of InUse = codes "folder in use"
+message_of (Serving fault.Schema) = codes "schema refused"
+message_of (Serving fault.Read) = codes "read fault"
+message_of (Serving fault.Write) = codes "write fault"
