@@ -14,7 +14,7 @@ trap 'rm -rf "$room"' EXIT
 passed=0
 failed=0
 
-usage='usage: catalogue [run [FOLDER]]'
+usage='usage: catalogue [run [FOLDER] | --version]'
 schema='SCHEMA 2 1 {"title":"text"}'
 
 # expect WHAT STATUS REPLIES SAID: how the last run ended, wrote and complained
@@ -45,7 +45,7 @@ start run <<<"$schema"
 expect 'run' 0 'OK 0' ''
 
 # what is asked for wrongly is refused before anything is read
-for words in serve 'run here there' 'threads here' 'here run' ''; do
+for words in serve version '--version now' 'run here there' 'threads here' 'here run' ''; do
   # shellcheck disable=SC2086
   if [ -n "$words" ]; then set -- $words; else set -- ''; fi
   start "$@" <<<"$schema"
@@ -54,6 +54,17 @@ done
 
 start $'\xff' <<<"$schema"
 expect 'an argument that is no text' 1 '' "$usage"
+
+# the version is that of the repository, and no line is read
+version="jasminedome $(cat "$(dirname "${BASH_SOURCE[0]}")/../VERSION")"
+start --version <<<"$schema"
+expect 'the version' 0 "$version" ''
+
+status=0
+"$program" --version >/dev/full 2>"$room/err" || status=$?
+echo "$status" >"$room/status"
+: >"$room/out"
+expect 'the version on a full device' 3 '' '[ERROR catalogue] write fault'
 
 # what was committed to a folder is there for the next run, and what came behind it isn't
 mkdir "$room/shop"

@@ -3,7 +3,7 @@ ghost use Rattle.std.specs.Prelude.{◌≡◌};
 ghost use Rattle.std.specs.Process.{exit_status};
 ghost use Rattle.catalogue.specs.Ended.{ending_of, serving_told, status_of};
 
-use crate::arguments::{Task, USAGE};
+use crate::arguments::{Task, USAGE, VERSION};
 use crate::endings::{Ending, RunFault, message};
 use cat_base::Refusal;
 use cat_directory::{Directory, Folder, FolderLock, LockRefusal, MemoryDirectory, Shelf};
@@ -134,6 +134,10 @@ fn do_task<R: AllocGlobal + Input + Print + Eprint + Files<File = File> + Clone 
             ending_after(rt, told(served))
         }
         Task::InFolder(path) => ending_after(rt, serve_folder(rt, path)),
+        Task::Version => match rt.println(VERSION) {
+            Ok(()) => Ending::EndOfInput,
+            Err(_) => ending_after(rt, Err(RunFault::Serving(ServeFault::Write))),
+        },
         Task::Usage => {
             let _ = rt.eprintln(USAGE);
             Ending::WrongArguments
