@@ -56,9 +56,37 @@ class Module:
                 self.texts[name].append(line.split(" -- ")[0])
 
 
+PASSED = re.compile(r"pub use (Rattle\.\S+\.specs(?:\.cat_\w+)*) as (cat_\w+)$", re.M)
+
+
+class Modules(dict):
+    """Files of definitions by name, also by the names under which crates pass them on."""
+
+    def __init__(self, top):
+        self.passed = {}
+        for lib in sorted(top.glob("crates/*/specs/Lib.antt")):
+            for target, name in PASSED.findall(lib.read_text(encoding="utf-8")):
+                self.passed[f"Rattle.{lib.parts[-3]}.specs.{name}"] = target
+
+    def own(self, name):
+        """The name of a module where it stands."""
+        parts = name.split(".")
+        for end in range(4, len(parts) + 1):
+            front = ".".join(parts[:end])
+            if front in self.passed:
+                return self.own(".".join([self.passed[front], *parts[end:]]))
+        return name
+
+    def __contains__(self, name):
+        return super().__contains__(self.own(name))
+
+    def __getitem__(self, name):
+        return super().__getitem__(self.own(name))
+
+
 def modules(top):
     """Each file of definitions of the repository, by the name that proofs know it under."""
-    found = {}
+    found = Modules(top)
     for path in sorted(top.glob("crates/*/specs/**/*.antt")):
         crate, _, *rest = path.relative_to(top / "crates").with_suffix("").parts
         found[".".join(["Rattle", crate, "specs", *rest])] = Module(path)
@@ -90,7 +118,7 @@ def named(known, at, name):
     """The definition of that name, in the module or where the module has it from."""
     module = known[at]
     if name in module.texts:
-        yield at, name
+        yield known.own(at), name
     elif name in module.brought and module.brought[name][0] in known:
         yield from named(known, *module.brought[name])
 

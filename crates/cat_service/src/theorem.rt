@@ -8,7 +8,7 @@ use cat_protocol::cat_segment::{
     live_rows_are_told_by_their_bytes, segments_are_told_by_their_bytes,
 };
 
-/// The catalogue holds. Take what any two calls of `serve` of `cat_world` read and wrote, each over a directory of any kind.
+/// The catalogue holds. Take what any two calls of `serve` read and wrote, each over a directory of any kind.
 ///
 /// - *opened*: each call that answered a first line began somewhere, by what its directory tells of its files: at the newest
 ///   commit, or empty.

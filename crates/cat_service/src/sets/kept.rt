@@ -24,7 +24,7 @@ pub fn kept_stay()
 
 /// That any segment of a number is known says that no list has one of it.
 ///
-/// Lucene has no such statement; a cache key that nobody has yet can't be asked for.
+/// In Lucene a cache key that nobody has yet can't be asked for.
 pub fn unkept_are_known()
     ensures { UnkeptAreKnown }
 {}

@@ -24,7 +24,7 @@ pub fn sets_stay()
 
 /// That any segment of a number is known says that no set stands under it, and that none in the making is over a segment of it.
 ///
-/// Lucene has no such statement; a cache key that nobody has yet can't be asked for.
+/// In Lucene a cache key that nobody has yet can't be asked for.
 pub fn unset_are_known()
     ensures { UnsetAreKnown }
 {}
