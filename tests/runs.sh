@@ -21,6 +21,7 @@ if ! command -v python3 >/dev/null || ! python3 -c 'import sys; sys.exit(sys.ver
 else
   named=$(printf %q "$program")
   begin 'tests/days.py' tests/days.py "$program" "$check"
+  begin 'tests/chores.py' tests/chores.py "$program"
   if [ -x tests/limits.py ]; then begin 'tests/limits.py' tests/limits.py "$program"; fi
   if [ -x tests/folder.py ]; then begin 'tests/folder.py' tests/folder.py "$program" "$check"; fi
   begin 'clients/python' env JASMINEDOME_PROGRAM="$named" python3 clients/python/tests

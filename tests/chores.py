@@ -1,0 +1,75 @@
+#!/usr/bin/env python3
+"""Puts a line of upkeep behind every line of the tests' days, one at a time: no read, no write and no right to a view may be
+answered otherwise for it.
+
+usage: tests/chores.py PROGRAM        (the catalogue)
+
+Merges, sets in the making, sweeps and commits change which files and segments there are, and nothing that a session is told of
+the table. So for each day of lines, each place in it, and each of five lines of upkeep, the day is served with that line there,
+and the replies to its other lines are compared with those of the day as it stands, which tests/days.py holds against what is
+wanted. The last line is `N passed, M failed`: a day with one line of upkeep, at every place, counts as one.
+"""
+
+import re
+import subprocess
+import sys
+from concurrent.futures import ThreadPoolExecutor
+from pathlib import Path
+
+from days import SECONDS, days
+
+UPKEEP = ("MERGE", "FORCE", "WARM", "SWEEP", "COMMIT")
+# What is told of the table, of a write, or of a right: the words of lines whose replies may not change.
+COMPARED = re.compile(r"\d+ (FIND|FACETS|GET|PUT|DEL|DELW|REFRESH|OPEN|CLOSE)\b")
+# A line with a session and no command is answered so and changes nothing: it stands between replies, whose lines it counts off.
+BETWEEN, TOLD = "9876 NOTHING", b"9876 NO 10\n"
+# Longer days are of limits: hundreds of lines that are alike.
+MOST_LINES = 60
+
+
+def replies(program, lines):
+    """What each of the lines is answered, the first of which is a schema line."""
+    text = "".join(f"{line}\n{BETWEEN}\n" for line in lines).encode()
+    ran = subprocess.run([program], input=text, stdout=subprocess.PIPE, stderr=subprocess.PIPE, timeout=SECONDS)
+    return ran.stdout.split(TOLD)[:-1]
+
+
+def changed(program, lines, wanted, at, upkeep):
+    """The first line that is answered otherwise where the line of upkeep stands behind the one at this place, or None."""
+    told = replies(program, [*lines[: at + 1], f"0 {upkeep}", *lines[at + 1 :]])
+    del told[at + 1 : at + 2]
+    if len(told) != len(wanted):
+        return "some line, whose reply is missing"
+    return next((line for line, one, other in zip(lines, told, wanted) if COMPARED.match(line) and one != other), None)
+
+
+def is_kept(program, what, lines, upkeep):
+    """Whether the day is answered alike with the line of upkeep behind any of its lines."""
+    wanted = replies(program, lines)
+    if len(wanted) != len(lines):
+        print(f"chores: {what} FAILED: {len(lines)} lines were answered by {len(wanted)} replies")
+        return False
+    for at in range(len(lines)):
+        line = changed(program, lines, wanted, at, upkeep)
+        if line is not None:
+            print(f"chores: {what} FAILED: behind {lines[at]!r} 0 {upkeep} changes what is answered to {line!r}")
+            return False
+    return True
+
+
+def main():
+    if len(sys.argv) != 2:
+        print(__doc__, file=sys.stderr)
+        return 2
+    program = str(Path(sys.argv[1]).resolve())
+    tried = [(what, lines, upkeep) for what, lines, _ in days() if 1 < len(lines) <= MOST_LINES for upkeep in UPKEEP]
+    with ThreadPoolExecutor(2) as lanes:
+        kept = list(lanes.map(lambda it: is_kept(program, *it), tried))
+    if not tried:
+        print("chores: no day of the tests was found")
+    print(f"{sum(kept)} passed, {len(kept) - sum(kept) + (not tried)} failed")
+    return 0 if tried and all(kept) else 1
+
+
+if __name__ == "__main__":
+    sys.exit(main())
