@@ -23,6 +23,7 @@ else
   begin 'tests/days.py' tests/days.py "$program" "$check"
   begin 'tests/chores.py' tests/chores.py "$program"
   if [ -x tests/limits.py ]; then begin 'tests/limits.py' tests/limits.py "$program"; fi
+  begin 'tests/large.py' tests/large.py "$program"
   if [ -x tests/folder.py ]; then begin 'tests/folder.py' tests/folder.py "$program" "$check"; fi
   begin 'clients/python' env JASMINEDOME_PROGRAM="$named" python3 clients/python/tests
   if command -v chromium >/dev/null && command -v chromedriver >/dev/null; then
