@@ -127,6 +127,7 @@ impl Core {
         ensures due { IfErr result (λ e. (e ≡ Memory) ⊎ (e ≡ Device) → MayNotFlush self.old → ⊥) }
         ensures device { IfErr result (λ e. e ≡ Device → D.can_fail device.old) }
         ensures counted { IfErr result (λ e. e ≡ Device → CountsOne (D.fault_count device.old) (D.fault_count device.new)) }
+        ensures quiet { OnOk result (D.fault_count device.new ≡ D.fault_count device.old) }
         ensures can { D.can_fail device.new → D.can_fail device.old }
         ensures refusal { IfErr result (λ e. (e ≡ Memory) ⊎ (e ≡ Device) ⊎ (e ≡ Spent)) }
     {

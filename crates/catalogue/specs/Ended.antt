@@ -1,7 +1,9 @@
 -- How the program ends, with which exit status, and what it says of a fault.
-use Rattle.std.specs.Prelude.{ℕ, List, codes, Result, Ok, Err}
+use Rattle.std.specs.Prelude.{◌≡◌, ◌≢◌, ◌⊎◌, ℕ, List, codes, Result, Ok, Err}
 use Rattle.cat_protocol.specs.declared.serving.serving.ServeFault.{ServeFault}
 use Rattle.cat_protocol.specs.declared.serving.serving.ServeFault.TheVariants as fault
+use Rattle.catalogue.specs.declared.arguments.Task.{Task}
+use Rattle.catalogue.specs.declared.arguments.Task.TheVariants as task
 use Rattle.catalogue.specs.declared.endings.RunFault.{RunFault}
 use Rattle.catalogue.specs.declared.endings.RunFault.TheVariants.{InUse, Serving}
 use Rattle.catalogue.specs.declared.endings.Ending.{Ending}
@@ -26,6 +28,14 @@ ending_of (Err InUse) = SchemaRefused
 ending_of (Err (Serving fault.Schema)) = SchemaRefused
 ending_of (Err (Serving fault.Read)) = Fault
 ending_of (Err (Serving fault.Write)) = Fault
+
+-- How a task may end. What asks for nothing that the program does ends so, and nothing else does; a version is said, unless it can't
+-- be written.
+abbrev pub EndsBy : Task → Ending → Type 0
+EndsBy task.InMemory ending = ending ≢ WrongArguments
+EndsBy (task.InFolder path) ending = ending ≢ WrongArguments
+EndsBy task.Version ending = (ending ≡ EndOfInput) ⊎ (ending ≡ Fault)
+EndsBy task.Usage ending = ending ≡ WrongArguments
 
 -- the exit status
 abbrev pub status_of : Ending → ℕ

@@ -1,5 +1,6 @@
 //! How the program ends.
-ghost use Rattle.std.specs.Prelude.{◌≡◌};
+ghost use Rattle.std.specs.Prelude.{◌≡◌, ◌≢◌};
+ghost use Rattle.catalogue.specs.declared.endings.Ending.TheVariants.{WrongArguments};
 ghost use Rattle.catalogue.specs.Ended.{ending_of, in_use_fault, message_of, status_of};
 
 use cat_protocol::serving::ServeFault;
@@ -38,7 +39,8 @@ pub(crate) enum Ending {
 
 impl Ending {
     pub(crate) fn of(served: Result<(), RunFault>) -> Ending
-        ensures { result ≡ ending_of served }
+        ensures of { result ≡ ending_of served }
+        ensures served { result ≢ WrongArguments }
     {
         match served {
             Ok(()) => Ending::EndOfInput,

@@ -1,7 +1,8 @@
 //! Serves the catalogue's line protocol over the program's standard streams.
-ghost use Rattle.std.specs.Prelude.{◌≡◌};
+ghost use Rattle.std.specs.Prelude.{◌≡◌, ◌≢◌};
 ghost use Rattle.std.specs.Process.{exit_status};
-ghost use Rattle.catalogue.specs.Ended.{ending_of, serving_told, status_of};
+ghost use Rattle.catalogue.specs.declared.endings.Ending.TheVariants.{WrongArguments};
+ghost use Rattle.catalogue.specs.Ended.{EndsBy, ending_of, serving_told, status_of};
 
 use crate::arguments::{Task, USAGE, VERSION};
 use crate::endings::{Ending, RunFault, message};
@@ -115,7 +116,8 @@ fn report<R: Eprint>(rt: &R, fault: RunFault) {
 
 /// How the program ends that served so. A fault is told on standard error.
 fn ending_after<R: Eprint>(rt: &R, served: Result<(), RunFault>) -> Ending
-    ensures { result ≡ ending_of served }
+    ensures of { result ≡ ending_of served }
+    ensures served { result ≢ WrongArguments }
 {
     if let Err(fault) = served {
         report(rt, fault);
@@ -127,7 +129,9 @@ fn ending_after<R: Eprint>(rt: &R, served: Result<(), RunFault>) -> Ending
 fn do_task<R: AllocGlobal + Input + Print + Eprint + Files<File = File> + Clone + Drop>(
     rt: &R,
     task: Task<'_>,
-) -> Ending {
+) -> Ending
+    ensures { EndsBy task.entry result }
+{
     match task {
         Task::InMemory => {
             let served = serve_streams(rt, MemoryDirectory::new(rt.alloc()));

@@ -1,9 +1,12 @@
 -- How the program ends, and with which exit status.
-use Rattle.std.specs.Prelude.{ℕ, Option, Some, None}
+use Rattle.std.specs.Prelude.{◌≡◌, ℕ, Option, Some, None, Result, Ok, Err}
+use Rattle.cat_base.specs.declared.refusal.Refusal.{Refusal}
 use Rattle.cat_check.specs.declared.checked.Checked.{Checked}
 use Rattle.cat_check.specs.declared.report.Report.{Report}
 use Rattle.cat_check.specs.declared.verdict.Verdict.{Verdict}
 use Rattle.cat_check.specs.declared.verdict.Verdict.TheVariants as verdict
+use Rattle.catalogue_check.specs.declared.arguments.Task.{Task}
+use Rattle.catalogue_check.specs.declared.arguments.Task.TheVariants as task
 use Rattle.catalogue_check.specs.declared.endings.Ending.{Ending}
 use Rattle.catalogue_check.specs.declared.endings.Ending.TheVariants.{Whole, NotWhole, Unjudged}
 
@@ -26,3 +29,14 @@ abbrev pub status_of : Ending → ℕ
 status_of Whole = 0
 status_of NotWhole = 1
 status_of Unjudged = 2
+
+-- by what came of judging: what can't be read isn't judged
+abbrev pub ending_told : Result Ending Refusal → Ending
+ending_told (Ok ending) = ending
+ending_told (Err refusal) = Unjudged
+
+-- how a task may end: nothing that is asked for judges nothing
+abbrev pub EndsBy : Task → Ending → Type 0
+EndsBy task.Usage ending = ending ≡ Unjudged
+EndsBy (task.Judge path) ending = Unit {0}
+EndsBy (task.DropTorn path) ending = Unit {0}

@@ -1,7 +1,7 @@
 //! Judges the folder that the arguments name, and tells what is found on standard output.
 ghost use Rattle.std.specs.Prelude.{◌≡◌};
 ghost use Rattle.std.specs.Process.{exit_status};
-ghost use Rattle.catalogue_check.specs.Ended.{status_of};
+ghost use Rattle.catalogue_check.specs.Ended.{EndsBy, ending_of, ending_told, status_of};
 
 use crate::arguments::{Task, USAGE};
 use crate::endings::Ending;
@@ -113,7 +113,9 @@ fn drop_at<R: AllocGlobal + Print + Eprint + Files<File = File> + Clone + Drop>(
 }
 
 /// How the program ends that judged so. A refusal is told on standard error.
-fn ending_after<R: Eprint>(rt: &R, judged: Result<Ending, Refusal>) -> Ending {
+fn ending_after<R: Eprint>(rt: &R, judged: Result<Ending, Refusal>) -> Ending
+    ensures { result ≡ ending_told judged }
+{
     match judged {
         Ok(ending) => ending,
         Err(refusal) => {
@@ -127,7 +129,9 @@ fn ending_after<R: Eprint>(rt: &R, judged: Result<Ending, Refusal>) -> Ending {
 fn do_task<R: AllocGlobal + Print + Eprint + Files<File = File> + Clone + Drop>(
     rt: &R,
     task: Task<'_>,
-) -> Ending {
+) -> Ending
+    ensures { EndsBy task.entry result }
+{
     match task {
         Task::Judge(path) => ending_after(rt, judge_asked(rt, path)),
         Task::DropTorn(path) => ending_after(rt, drop_at(rt, path)),

@@ -1,4 +1,5 @@
-use Rattle.std.proofs.Common.{inl, inr}
+use Rattle.std.proofs.Common.{inl, inr, subst}
+use Rattle.cat_directory.specs.Devices.{CountsOne}
 use Rattle.cat_ledger_laws.specs.model.Calls.{Committed, Flushes}
 use Rattle.cat_ledger.proofs.Lasting.{call_keeps, carried_on, commit_lasts, lets_flush}
 use Rattle.cat_ledger.proofs.Made.{commit_spares, flushed_segment, left_behind}
@@ -94,3 +95,8 @@ returns-in-Err-commit-clause-device g c = λ before is.
       | inl fails ↦ c.flush.ensures.can fails
       | inr w ↦ absurd (synced_stands (bytes c.flush.new.device) c.flush.new.core carried w.0 w.1 w.2 w.3)
     ]
+
+-- the flush counted nothing
+pub returns-in-Err-commit-clause-counted : goal.returns-in-Err-commit-clause-counted
+returns-in-Err-commit-clause-counted g c = λ is.
+    subst (λ n. CountsOne n (g.D.Holder.fault_count c.commit.new.device)) c.in_default.ensures.quiet (c.in-Err-commit.ensures.counted is)
