@@ -17,8 +17,8 @@ ghost use Rattle.cat_commands.specs.ledger.Chores.{FailsFor, MayRefuse, MayRefus
 use crate::ledger::merging::{force, merge_step};
 use crate::ledger::stats::tell_stat;
 use cat_base::{Refusal, SessionNo};
-use cat_directory::{Directory, Shelf};
 use cat_cached_sets::filters::Filters;
+use cat_directory::{Directory, Shelf};
 use cat_ledger::Ledger;
 use cat_protocol::replies::{Answer, News};
 use std::alloc::Global;
