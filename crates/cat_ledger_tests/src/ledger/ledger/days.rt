@@ -1,6 +1,8 @@
 //! A shop's day, in memory and in a folder, and openings again.
 use crate::ledger::ledger::calling::{Call, Row, run};
-use cat_directory::{Folder, MemoryDirectory};
+use cat_base::Refusal;
+use cat_directory::{Directory, Folder, MemoryDirectory, Shelf};
+use std::alloc::Global;
 use std::fs;
 use std::fs::Files;
 use std::test::Fail;
@@ -154,12 +156,17 @@ const THIRD_DAY: &[Row<'static>] = &[
     (Call::Unsnapshot(3), "NO 27"),
 ];
 
+/// Whether three days are answered so, each over the directory that the one before left.
+fn pass_over<D: Directory + Shelf + Drop>(alloc: Global, device: D) -> Result<bool, Refusal> {
+    let (is_first, device) = run(alloc, device, DAY)?;
+    let (is_next, device) = run(alloc, device, &[NEXT_DAY])?;
+    let (is_third, _device) = run(alloc, device, &[THIRD_DAY])?;
+    Ok(is_first && is_next && is_third)
+}
+
 #[test]
 fn days_in_memory(rt: HostRuntime) -> Result<(), Fail> {
-    let alloc = rt.alloc();
-    let device = run(&rt, alloc, MemoryDirectory::new(alloc), DAY)?;
-    let device = run(&rt, alloc, device, &[NEXT_DAY])?;
-    run(&rt, alloc, device, &[THIRD_DAY])?;
+    assert!(&rt; pass_over(rt.alloc(), MemoryDirectory::new(rt.alloc()))?);
     Ok(())
 }
 
@@ -174,8 +181,6 @@ fn days_in_a_folder(rt: HostRuntime) -> Result<(), Fail> {
     let alloc = rt.alloc();
     make_folder(&rt, "days_test")?;
     let device = Folder::at(rt, alloc, "days_test")?;
-    let device = run(&rt, alloc, device, DAY)?;
-    let device = run(&rt, alloc, device, &[NEXT_DAY])?;
-    run(&rt, alloc, device, &[THIRD_DAY])?;
+    assert!(&rt; pass_over(alloc, device)?);
     Ok(fs::remove_dir_all(&rt, "days_test")?)
 }

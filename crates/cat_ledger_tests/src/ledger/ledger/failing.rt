@@ -1,6 +1,6 @@
 //! Each call of a device failing in turn: once, after which the ledger goes on, and from some one on, as a crash leaves it.
 use crate::ledger::ledger::calling::{
-    Call, FIELDS, Row, answer, close, end, expect, open, run, try_open,
+    Call, FIELDS, Row, answer, are_answered, close, end, open, run, try_open,
 };
 use crate::ledger::ledger::maintaining::standing_of;
 use cat_base::{Refusal, WriteNo};
@@ -8,7 +8,6 @@ use cat_directory::{Directory, Faults, Faulty, FileName, Holder, MemoryDirectory
 use cat_ledger::Ledger;
 use cat_lifetimes::rights::Rights;
 use std::alloc::Global;
-use std::process::Abort;
 use std::test::Fail;
 
 /// Two views, two commits, a merge and a sweep. An empty answer is any number, since numbers that a failing call has taken aren't
@@ -41,65 +40,85 @@ const SHIFT: &[Row<'static>] = &[
 /// commits and for the merge, one for a stored text, and one for each of two files that a sweep deletes.
 const CALLS: u64 = 31;
 
-/// The first answer of the directory that isn't its failure. Where it fails what stands is as before.
-fn retried<D: Directory + Shelf>(
-    rt: &impl Abort,
+/// Whether the answer is this one, or any number where this one is empty.
+fn is_so(got: &str, want: &str) -> bool {
+    got == want || want.is_empty() && !got.starts_with("NO")
+}
+
+/// Makes the call of the row. Answers whether it is answered so.
+fn is_made<D: Directory + Shelf>(
     alloc: Global,
     ledger: &mut Ledger<D>,
     rights: &mut Rights,
-    call: Call<'_>,
-) -> Result<String, Fail> {
+    row: &Row<'_>,
+) -> Result<bool, Refusal> {
+    let (call, want) = *row;
+    let got = answer(alloc, ledger, rights, call)?;
+    Ok(is_so(got.as_str(), want))
+}
+
+/// Whether this stands.
+fn stands<D: Directory + Shelf>(
+    alloc: Global,
+    ledger: &Ledger<D>,
+    wanted: &str,
+) -> Result<bool, Refusal> {
+    let text = standing_of(alloc, ledger)?;
+    Ok(text.as_str() == wanted)
+}
+
+/// Makes the call of the row, and once more where the directory fails, which has to leave what stands as before. Answers whether
+/// it is answered so.
+fn is_retried<D: Directory + Shelf>(
+    alloc: Global,
+    ledger: &mut Ledger<D>,
+    rights: &mut Rights,
+    row: &Row<'_>,
+) -> Result<bool, Refusal> {
+    let (call, want) = *row;
     let before = standing_of(alloc, ledger)?;
     let got = answer(alloc, ledger, rights, call)?;
     if got.as_str() != "NO 30" {
-        return Ok(got);
+        return Ok(is_so(got.as_str(), want));
     }
-    let after = standing_of(alloc, ledger)?;
-    assert_eq!(rt; after.as_str(), before.as_str());
-    Ok(answer(alloc, ledger, rights, call)?)
+    Ok(stands(alloc, ledger, before.as_str())? && is_made(alloc, ledger, rights, row)?)
 }
 
 /// Makes the calls in turn, and once more where the directory fails.
-fn expect_retried<D: Directory + Shelf>(
-    rt: &impl Abort,
+fn are_retried<D: Directory + Shelf>(
     alloc: Global,
     ledger: &mut Ledger<D>,
     rights: &mut Rights,
-    passes: u64,
-) -> Result<(), Fail> {
-    for (index, (call, want)) in SHIFT.iter().enumerate() {
-        let got = retried(rt, alloc, ledger, rights, *call)?;
-        let is_number = want.is_empty() && !got.as_str().starts_with("NO");
-        assert!(rt; is_number || got.as_str() == *want, "{passes}, row {index}");
+) -> Result<bool, Refusal> {
+    for row in SHIFT {
+        if !is_retried(alloc, ledger, rights, row)? {
+            return Ok(false);
+        }
     }
-    Ok(())
+    Ok(true)
 }
 
 /// The ledger of a directory without a file, of whose calls the one behind so many fails, at the first try or the second.
-fn open_retried(
-    rt: &impl Abort,
-    alloc: Global,
-    passes: u64,
-) -> Result<Ledger<Faulty<MemoryDirectory>>, Fail> {
+fn open_retried(alloc: Global, passes: u64) -> Result<Ledger<Faulty<MemoryDirectory>>, Refusal> {
     let device = Faulty::new(MemoryDirectory::new(alloc), Faults::One(passes));
     match try_open(alloc, device, FIELDS)? {
         Ok(ledger) => Ok(ledger),
-        Err(refused) => {
-            assert_eq!(rt; refused.refusal, Refusal::Device, "{passes}");
-            Ok(open(alloc, refused.device)?)
-        }
+        Err(refused) => match refused.refusal {
+            Refusal::Device => open(alloc, refused.device),
+            other => Err(other),
+        },
     }
 }
 
-/// Makes the calls in a directory of whose calls the one behind so many fails.
-fn work(rt: &impl Abort, alloc: Global, passes: u64) -> Result<Faulty<MemoryDirectory>, Fail> {
-    let mut ledger = open_retried(rt, alloc, passes)?;
+/// Makes the calls in a directory of whose calls the one behind so many fails. Answers whether they are answered so, and the
+/// directory as they left it.
+fn work(alloc: Global, passes: u64) -> Result<(bool, Faulty<MemoryDirectory>), Refusal> {
+    let mut ledger = open_retried(alloc, passes)?;
     let mut rights = Rights::new(alloc);
-    let outcome = expect_retried(rt, alloc, &mut ledger, &mut rights, passes);
+    let are_answered = are_retried(alloc, &mut ledger, &mut rights);
     end(rights);
     let device = ledger.into_directory();
-    outcome?;
-    Ok(device)
+    Ok((are_answered?, device))
 }
 
 /// The table at the end, behind an opening.
@@ -112,32 +131,54 @@ const LEFT: &[Row<'static>] = &[
     ),
 ];
 
-/// The files at the end are those of the last commit, four, and of the two segments of the last view.
-fn expect_left(rt: &impl Abort, alloc: Global, device: MemoryDirectory) -> Result<(), Fail> {
+/// Whether the files at the end are those of the last commit, four, and of the two segments of the last view.
+fn has_8_files(alloc: Global, device: &mut MemoryDirectory) -> Result<bool, Refusal> {
+    let names = device.names(alloc)?;
+    Ok(names.len() == 8)
+}
+
+/// Whether they are, with the table at the end.
+fn is_left(alloc: Global, device: MemoryDirectory) -> Result<bool, Refusal> {
     let mut device = device;
-    assert_eq!(rt; device.names(alloc)?.len(), 8);
-    run(rt, alloc, device, &[LEFT])?;
+    let has_files = has_8_files(alloc, &mut device)?;
+    let (is_answered, _device) = run(alloc, device, &[LEFT])?;
+    Ok(has_files && is_answered)
+}
+
+/// Whether the call behind so many fails once, and is made again.
+fn succeeds_later(alloc: Global, passes: u64) -> Result<bool, Refusal> {
+    let (are_answered, device) = work(alloc, passes)?;
+    let has_failed = device.failures() == 1;
+    Ok(is_left(alloc, device.into_device())? && are_answered && has_failed)
+}
+
+/// Whether that is so of each of so many calls.
+fn each_succeeds_later(alloc: Global, calls: u64) -> Result<bool, Refusal> {
+    for passes in 0..calls {
+        if !succeeds_later(alloc, passes)? {
+            return Ok(false);
+        }
+    }
+    Ok(true)
+}
+
+#[test]
+fn each_call_that_fails_succeeds_later(rt: HostRuntime) -> Result<(), Fail> {
+    assert!(&rt; each_succeeds_later(rt.alloc(), CALLS)?);
     Ok(())
 }
 
-/// Each call fails once, and is made again.
-#[test]
-fn each_call_that_fails_succeeds_later(rt: HostRuntime) -> Result<(), Fail> {
-    let alloc = rt.alloc();
-    for passes in 0..CALLS {
-        let device = work(&rt, alloc, passes)?;
-        assert_eq!(&rt; device.failures(), 1, "{passes}");
-        expect_left(&rt, alloc, device.into_device())?;
-    }
-    Ok(())
+/// Whether just so many calls are made where none fails.
+fn makes_calls(alloc: Global, calls: u64) -> Result<bool, Refusal> {
+    let (are_answered, device) = work(alloc, calls)?;
+    let are_made = device.calls() == calls && device.failures() == 0;
+    Ok(is_left(alloc, device.into_device())? && are_answered && are_made)
 }
 
 #[test]
 fn no_other_call_is_made(rt: HostRuntime) -> Result<(), Fail> {
-    let alloc = rt.alloc();
-    let device = work(&rt, alloc, CALLS)?;
-    assert_eq!(&rt; (device.calls(), device.failures()), (CALLS, 0));
-    expect_left(&rt, alloc, device.into_device())
+    assert!(&rt; makes_calls(rt.alloc(), CALLS)?);
+    Ok(())
 }
 
 /// Makes the calls in turn up to the first that the directory fails at. Answers how many writes the last commit has that came.
@@ -197,23 +238,28 @@ const TABLES: &[(WriteNo, &[Row<'static>])] = &[
     ),
 ];
 
-/// What is opened is the last commit that came, or one that was cut off behind it.
-fn expect_opened(
-    rt: &impl Abort,
+/// The table of so many writes.
+fn table_of(count: WriteNo) -> Option<&'static [Row<'static>]> {
+    for (writes, rows) in TABLES {
+        if *writes == count {
+            return Some(*rows);
+        }
+    }
+    None
+}
+
+/// Whether what is opened is the last commit that came, or one that was cut off behind it.
+fn is_kept_by(
     alloc: Global,
     ledger: &mut Ledger<MemoryDirectory>,
     rights: &mut Rights,
     kept: WriteNo,
-) -> Result<(), Fail> {
+) -> Result<bool, Refusal> {
     let count = ledger.count();
-    assert!(rt; kept <= count, "{kept} {count}");
-    for (writes, rows) in TABLES {
-        if *writes == count {
-            return expect(rt, alloc, ledger, rights, rows);
-        }
+    match table_of(count) {
+        Some(rows) => Ok(kept <= count && are_answered(alloc, ledger, rights, rows)?),
+        None => Ok(false),
     }
-    assert!(rt; false, "{count}");
-    Ok(())
 }
 
 /// Deletes the own file of the newest of less than ten commits.
@@ -232,55 +278,72 @@ fn delete_newest(alloc: Global, device: &mut MemoryDirectory) -> Result<(), Refu
 
 /// The ledger of what a crash left. Where the newest commit was cut off in the middle of its own file it is damaged, and the one
 /// before opens once that file is gone.
-fn reopen(
-    rt: &impl Abort,
-    alloc: Global,
-    device: MemoryDirectory,
-) -> Result<Ledger<MemoryDirectory>, Fail> {
+fn reopen(alloc: Global, device: MemoryDirectory) -> Result<Ledger<MemoryDirectory>, Refusal> {
     match try_open(alloc, device, FIELDS)? {
         Ok(ledger) => Ok(ledger),
-        Err(refused) => {
-            assert_eq!(rt; refused.refusal, Refusal::Damaged);
-            let mut device = refused.device;
-            delete_newest(alloc, &mut device)?;
-            Ok(open(alloc, device)?)
-        }
+        Err(refused) => match refused.refusal {
+            Refusal::Damaged => open_before_newest(alloc, refused.device),
+            other => Err(other),
+        },
     }
 }
 
-/// Opens what a crash left.
-fn expect_kept(
-    rt: &impl Abort,
+/// The ledger of the directory without its newest commit.
+fn open_before_newest(
     alloc: Global,
     device: MemoryDirectory,
-    kept: WriteNo,
-) -> Result<(), Fail> {
-    let mut ledger = reopen(rt, alloc, device)?;
-    let mut rights = Rights::new(alloc);
-    let outcome = expect_opened(rt, alloc, &mut ledger, &mut rights, kept);
-    end(rights);
-    close(ledger);
-    outcome
+) -> Result<Ledger<MemoryDirectory>, Refusal> {
+    let mut device = device;
+    delete_newest(alloc, &mut device)?;
+    open(alloc, device)
 }
 
-/// All calls behind so many fail, and then the directory is opened again.
-fn crash(rt: &impl Abort, alloc: Global, passes: u64) -> Result<WriteNo, Fail> {
+/// Whether what a crash left has the last commit that came.
+fn is_kept(alloc: Global, device: MemoryDirectory, kept: WriteNo) -> Result<bool, Refusal> {
+    let mut ledger = reopen(alloc, device)?;
+    let mut rights = Rights::new(alloc);
+    let is_kept = is_kept_by(alloc, &mut ledger, &mut rights, kept);
+    end(rights);
+    close(ledger);
+    is_kept
+}
+
+/// Makes the calls in a directory where all behind so many fail. Answers how many writes the last commit has that came, and what
+/// is left.
+fn crash(alloc: Global, passes: u64) -> Result<(WriteNo, MemoryDirectory), Refusal> {
     let device = Faulty::new(MemoryDirectory::new(alloc), Faults::All(passes));
     let (kept, device) = match try_open(alloc, device, FIELDS)? {
         Ok(ledger) => left_of(alloc, ledger)?,
         Err(refused) => (0, refused.device),
     };
-    expect_kept(rt, alloc, device.into_device(), kept)?;
-    Ok(kept)
+    Ok((kept, device.into_device()))
+}
+
+/// Whether the last commit that came outlives a crash behind so many calls.
+fn survives(alloc: Global, passes: u64) -> Result<bool, Refusal> {
+    let (kept, device) = crash(alloc, passes)?;
+    is_kept(alloc, device, kept)
+}
+
+/// Whether the second commit does where none of so many calls fails.
+fn survives_whole(alloc: Global, calls: u64) -> Result<bool, Refusal> {
+    let (kept, device) = crash(alloc, calls)?;
+    Ok(is_kept(alloc, device, kept)? && kept == 4)
+}
+
+/// Whether the last commit does wherever the crash comes.
+fn survives_each(alloc: Global, calls: u64) -> Result<bool, Refusal> {
+    for passes in 0..calls {
+        if !survives(alloc, passes)? {
+            return Ok(false);
+        }
+    }
+    survives_whole(alloc, calls)
 }
 
 /// No commit that came is lost by a crash, wherever it comes.
 #[test]
 fn a_crash_leaves_the_newest_commit(rt: HostRuntime) -> Result<(), Fail> {
-    let alloc = rt.alloc();
-    for passes in 0..CALLS {
-        crash(&rt, alloc, passes)?;
-    }
-    assert_eq!(&rt; crash(&rt, alloc, CALLS)?, 4);
+    assert!(&rt; survives_each(rt.alloc(), CALLS)?);
     Ok(())
 }

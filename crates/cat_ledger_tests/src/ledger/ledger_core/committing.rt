@@ -58,7 +58,8 @@ const ONE_DELETED: &[Row<'static>] = &[
 /// The live file is made and written, it is synced, and then the commit's own file is made, written and synced.
 #[test]
 fn a_refused_commit_is_none(rt: HostRuntime) -> Result<(), Fail> {
-    run_failing(&rt, rt.alloc(), ONE_DELETED, 6, SECOND_FAILS)
+    assert!(&rt; run_failing(rt.alloc(), ONE_DELETED, 6, SECOND_FAILS)?);
+    Ok(())
 }
 
 /// There is nothing to take a snapshot of.
@@ -113,5 +114,6 @@ const CASES: &[Case<'static>] = &[
 
 #[test]
 fn commits_and_snapshots_keep_their_files(rt: HostRuntime) -> Result<(), Fail> {
-    run_each(&rt, rt.alloc(), CASES)
+    assert!(&rt; run_each(rt.alloc(), CASES)?);
+    Ok(())
 }

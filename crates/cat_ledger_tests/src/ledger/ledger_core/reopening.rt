@@ -5,7 +5,7 @@ ghost use Rattle.cat_ledger_laws.specs.model.Ledger.{IsPast};
 ghost use Rattle.cat_model.specs.CommitFile.{commit_needs};
 
 use crate::ledger::ledger_core::calling::Device;
-use crate::ledger::ledger_core::steps::{Row, Step, expect_of, new_device, run_on};
+use crate::ledger::ledger_core::steps::{Row, Step, new_device, run_in, run_on};
 use cat_base::{Generation, Refusal, SegNo};
 use cat_commits::Commit;
 use cat_commits::reading::read_commit;
@@ -13,7 +13,6 @@ use cat_directory::FileName;
 use cat_items::Schema;
 use cat_ledger::cat_ledger_state::{Core, known_names};
 use std::alloc::{AllocError, Global};
-use std::process::Abort;
 use std::test::Fail;
 
 /// The rows of two segments, the live file of the first, and the own files of two commits.
@@ -81,21 +80,16 @@ const TWO_COMMITS: &[Row<'static>] = &[
 ];
 
 /// Takes the steps in the state at the second commit of the device.
-fn reopen(
-    rt: &impl Abort,
-    alloc: Global,
-    device: &mut Device,
-    tables: &[&[Row<'_>]],
-) -> Result<(), Fail> {
+fn reopen(alloc: Global, device: &mut Device, tables: &[&[Row<'_>]]) -> Result<bool, Refusal> {
     let core = open_second(alloc, device)?;
-    expect_of(rt, alloc, core, device, tables)
+    run_in(alloc, core, device, tables)
 }
 
 /// Takes the steps in a state that was left behind two commits, and is opened again.
-fn run_opened(rt: &impl Abort, alloc: Global, tables: &[&[Row<'_>]]) -> Result<(), Fail> {
+fn run_opened(alloc: Global, tables: &[&[Row<'_>]]) -> Result<bool, Refusal> {
     let mut device = new_device(alloc);
-    run_on(rt, alloc, &mut device, (1, 1), &[TWO_COMMITS])?;
-    reopen(rt, alloc, &mut device, tables)
+    let is_left = run_on(alloc, &mut device, (1, 1), &[TWO_COMMITS])?;
+    Ok(is_left && reopen(alloc, &mut device, tables)?)
 }
 
 /// What the second commit has stands, under its token; it alone is kept, and the first one's file is swept.
@@ -132,8 +126,13 @@ const GOES_ON: &[Row<'static>] = &[
     (Step::Told(NAMES), "5 0 3: 3 1 3 0 0; 2"),
 ];
 
+/// Whether it has what was committed, and goes on.
+fn is_opened_again(alloc: Global) -> Result<bool, Refusal> {
+    Ok(run_opened(alloc, &[HAS_SECOND])? && run_opened(alloc, &[GOES_ON])?)
+}
+
 #[test]
 fn a_committed_state_is_opened_again_and_goes_on(rt: HostRuntime) -> Result<(), Fail> {
-    run_opened(&rt, rt.alloc(), &[HAS_SECOND])?;
-    run_opened(&rt, rt.alloc(), &[GOES_ON])
+    assert!(&rt; is_opened_again(rt.alloc())?);
+    Ok(())
 }

@@ -10,8 +10,6 @@ use cat_base::{Generation, Refusal, SegNo, SessionNo, Token};
 use cat_directory::{Faults, Faulty, FileName, MemoryDirectory};
 use cat_ledger::cat_ledger_state::Core;
 use std::alloc::Global;
-use std::process::Abort;
-use std::test::Fail;
 
 /// A step, and what it is answered.
 pub(crate) type Row<'a> = (Step<'a>, &'a str);
@@ -142,47 +140,58 @@ fn tell(
     }
 }
 
-/// Takes the steps in turn. Each has to be answered so.
-fn expect(
-    rt: &impl Abort,
+/// Takes the step of the row. Answers whether it is answered so.
+fn is_answered(
+    alloc: Global,
+    core: &mut Core,
+    device: &mut Device,
+    row: &Row<'_>,
+) -> Result<bool, Refusal> {
+    let (step, want) = *row;
+    let mut got = String::new(alloc);
+    tell(&mut got, alloc, core, device, step)?;
+    Ok(got.as_str() == want)
+}
+
+/// Takes the steps in turn. Answers whether each is answered so.
+fn are_answered(
     alloc: Global,
     core: &mut Core,
     device: &mut Device,
     rows: &[Row<'_>],
-) -> Result<(), Fail> {
-    let mut got = String::new(alloc);
-    for (index, (step, want)) in rows.iter().enumerate() {
-        got.clear();
-        tell(&mut got, alloc, core, device, *step)?;
-        assert_eq!(rt; got.as_str(), *want, "row {index}");
+) -> Result<bool, Refusal> {
+    for row in rows {
+        if !is_answered(alloc, core, device, row)? {
+            return Ok(false);
+        }
     }
-    Ok(())
+    Ok(true)
 }
 
 /// Takes the steps of each table in turn.
-fn expect_all(
-    rt: &impl Abort,
+fn are_all_answered(
     alloc: Global,
     core: &mut Core,
     device: &mut Device,
     tables: &[&[Row<'_>]],
-) -> Result<(), Fail> {
+) -> Result<bool, Refusal> {
     for rows in tables {
-        expect(rt, alloc, core, device, rows)?;
+        if !are_answered(alloc, core, device, rows)? {
+            return Ok(false);
+        }
     }
-    Ok(())
+    Ok(true)
 }
 
 /// Takes the steps in a state that is gone then.
-pub(crate) fn expect_of(
-    rt: &impl Abort,
+pub(crate) fn run_in(
     alloc: Global,
     core: Core,
     device: &mut Device,
     tables: &[&[Row<'_>]],
-) -> Result<(), Fail> {
+) -> Result<bool, Refusal> {
     let mut core = core;
-    expect_all(rt, alloc, &mut core, device, tables)
+    are_all_answered(alloc, &mut core, device, tables)
 }
 
 /// A device without a file, none of whose calls fails.
@@ -192,74 +201,75 @@ pub(crate) fn new_device(alloc: Global) -> Device {
 
 /// Takes the steps in a ledger where nothing is and these numbers are next, and leaves its files on the device.
 pub(crate) fn run_on(
-    rt: &impl Abort,
     alloc: Global,
     device: &mut Device,
     next: (SegNo, Generation),
     tables: &[&[Row<'_>]],
-) -> Result<(), Fail> {
+) -> Result<bool, Refusal> {
     let core = empty_at(alloc, next.0, next.1)?;
-    expect_of(rt, alloc, core, device, tables)
+    run_in(alloc, core, device, tables)
 }
 
 /// Takes the steps in a ledger where nothing is and these numbers are next.
 fn run_at(
-    rt: &impl Abort,
     alloc: Global,
     next: (SegNo, Generation),
     tables: &[&[Row<'_>]],
-) -> Result<(), Fail> {
+) -> Result<bool, Refusal> {
     let mut device = new_device(alloc);
-    run_on(rt, alloc, &mut device, next, tables)
+    run_on(alloc, &mut device, next, tables)
 }
 
 /// Takes the steps of each case, in a ledger of its own.
-pub(crate) fn run_each(rt: &impl Abort, alloc: Global, cases: &[Case<'_>]) -> Result<(), Fail> {
+pub(crate) fn run_each(alloc: Global, cases: &[Case<'_>]) -> Result<bool, Refusal> {
     for (next, tables) in cases {
-        run_at(rt, alloc, *next, tables)?;
+        if !run_at(alloc, *next, tables)? {
+            return Ok(false);
+        }
     }
-    Ok(())
+    Ok(true)
 }
 
 /// Takes the steps, with the failure of the device's call behind so many between them.
-fn expect_failing(
-    rt: &impl Abort,
+fn are_answered_failing(
     alloc: Global,
     core: &mut Core,
     device: &mut Device,
     before: &[Row<'_>],
     passing: u64,
     behind: &[Row<'_>],
-) -> Result<(), Fail> {
-    expect(rt, alloc, core, device, before)?;
-    let fail = &[(Step::Fail(Faults::One(passing)), "ok")];
-    expect(rt, alloc, core, device, fail)?;
-    expect(rt, alloc, core, device, behind)
+) -> Result<bool, Refusal> {
+    let fail = (Step::Fail(Faults::One(passing)), "ok");
+    Ok(
+        are_answered(alloc, core, device, before)?
+            && is_answered(alloc, core, device, &fail)?
+            && are_answered(alloc, core, device, behind)?,
+    )
 }
 
 /// The same in a ledger where nothing is.
 fn run_failing_at(
-    rt: &impl Abort,
     alloc: Global,
     before: &[Row<'_>],
     passing: u64,
     behind: &[Row<'_>],
-) -> Result<(), Fail> {
+) -> Result<bool, Refusal> {
     let mut core = empty_at(alloc, 1, 1)?;
     let mut device = new_device(alloc);
-    expect_failing(rt, alloc, &mut core, &mut device, before, passing, behind)
+    are_answered_failing(alloc, &mut core, &mut device, before, passing, behind)
 }
 
 /// The same for each of so many calls.
 pub(crate) fn run_failing(
-    rt: &impl Abort,
     alloc: Global,
     before: &[Row<'_>],
     calls: u64,
     behind: &[Row<'_>],
-) -> Result<(), Fail> {
+) -> Result<bool, Refusal> {
     for passing in 0..calls {
-        run_failing_at(rt, alloc, before, passing, behind)?;
+        if !run_failing_at(alloc, before, passing, behind)? {
+            return Ok(false);
+        }
     }
-    Ok(())
+    Ok(true)
 }

@@ -40,5 +40,6 @@ const CASES: &[Case<'static>] = &[((1, 1), &[PRUNED]), ((1, 1), &[LEAST_GOES])];
 
 #[test]
 fn held_views_stay_and_others_go(rt: HostRuntime) -> Result<(), Fail> {
-    run_each(&rt, rt.alloc(), CASES)
+    assert!(&rt; run_each(rt.alloc(), CASES)?);
+    Ok(())
 }

@@ -47,5 +47,6 @@ const CASES: &[Case<'static>] = &[
 
 #[test]
 fn items_are_put_again_and_deleted(rt: HostRuntime) -> Result<(), Fail> {
-    run_each(&rt, rt.alloc(), CASES)
+    assert!(&rt; run_each(rt.alloc(), CASES)?);
+    Ok(())
 }

@@ -11,8 +11,6 @@ use cat_ledger::upkeep::{MergeNews, MergePolicy, force, merge_step};
 use cat_views::Leaf;
 use std::alloc::{AllocError, Global};
 use std::fmt::Write;
-use std::process::Abort;
-use std::test::Fail;
 
 /// No item, and this number is the next of a segment.
 pub(crate) fn empty_at(alloc: Global, next_segment: SegNo) -> Result<Core, Refusal>
@@ -112,39 +110,56 @@ pub(crate) enum Row<'a> {
     Merging(bool),
 }
 
-/// Makes the call of the row, which has to be answered so.
-fn expect_row(
-    rt: &impl Abort,
+/// Whether this stands.
+fn stands(core: &Core, alloc: Global, wanted: &str) -> Result<bool, AllocError> {
+    let text = standing(core, alloc)?;
+    Ok(text.as_str() == wanted)
+}
+
+/// Makes the call of the row. Answers whether it is answered so.
+fn is_answered(
     alloc: Global,
     core: &mut Core,
     device: &mut MemoryDirectory,
-    indexed: (usize, &Row<'_>),
-) -> Result<(), Fail> {
-    let (index, row) = indexed;
+    row: &Row<'_>,
+) -> Result<bool, Refusal> {
     match row {
-        Row::PutApart(ids) => put_apart(core, device, alloc, ids)?,
-        Row::Delete(id) => delete(core, id)?,
-        Row::Step(want) => assert_eq!(rt; step(core, device, alloc), *want, "row {index}"),
-        Row::Force(want) => assert_eq!(rt; force_all(core, device), *want, "row {index}"),
-        Row::Stands(want) => {
-            assert_eq!(rt; standing(core, alloc)?.as_str(), *want, "row {index}");
+        Row::PutApart(ids) => {
+            put_apart(core, device, alloc, ids)?;
+            Ok(true)
         }
-        Row::Merging(want) => assert_eq!(rt; core.is_merging(), *want, "row {index}"),
+        Row::Delete(id) => {
+            delete(core, id)?;
+            Ok(true)
+        }
+        Row::Step(want) => Ok(step(core, device, alloc) == *want),
+        Row::Force(want) => Ok(force_all(core, device) == *want),
+        Row::Stands(want) => Ok(stands(core, alloc, want)?),
+        Row::Merging(want) => Ok(core.is_merging() == *want),
     }
-    Ok(())
 }
 
-/// Makes the calls in turn over a directory without a file. Each has to be answered so.
-pub(crate) fn expect(
-    rt: &impl Abort,
+/// Makes the calls in turn. Answers whether each is answered so.
+fn are_answered(
     alloc: Global,
-    core: Core,
+    core: &mut Core,
+    device: &mut MemoryDirectory,
     rows: &[Row<'_>],
-) -> Result<(), Fail> {
-    let mut core = core;
-    let mut device = MemoryDirectory::new(alloc);
-    for indexed in rows.iter().enumerate() {
-        expect_row(rt, alloc, &mut core, &mut device, indexed)?;
+) -> Result<bool, Refusal> {
+    for row in rows {
+        if !is_answered(alloc, core, device, row)? {
+            return Ok(false);
+        }
     }
-    Ok(())
+    Ok(true)
+}
+
+/// The same over a directory without a file, of a ledger where nothing is and this number is the next of a segment.
+pub(crate) fn run(alloc: Global, next_segment: SegNo, rows: &[Row<'_>]) -> Result<bool, Refusal>
+    requires some { 0 < next_segment }
+    requires left { next_segment ≤ last_number + 1 }
+{
+    let mut core = empty_at(alloc, next_segment)?;
+    let mut device = MemoryDirectory::new(alloc);
+    are_answered(alloc, &mut core, &mut device, rows)
 }

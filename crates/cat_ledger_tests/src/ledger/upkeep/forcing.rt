@@ -1,5 +1,5 @@
 //! Merges of all segments.
-use crate::ledger::upkeep::calling::{Row, empty_at, expect};
+use crate::ledger::upkeep::calling::{Row, run};
 use cat_ledger::upkeep::MergeNews;
 use std::test::Fail;
 
@@ -26,6 +26,6 @@ const ALONE: &[Row<'static>] = &[
 
 #[test]
 fn all_are_merged(rt: HostRuntime) -> Result<(), Fail> {
-    let alloc = rt.alloc();
-    expect(&rt, alloc, empty_at(alloc, 1)?, ALONE)
+    assert!(&rt; run(rt.alloc(), 1, ALONE)?);
+    Ok(())
 }

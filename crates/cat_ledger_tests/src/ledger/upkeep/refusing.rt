@@ -1,11 +1,10 @@
 //! Merges that are refused.
-use crate::ledger::upkeep::calling::{Row, empty_at, expect, put_apart, standing, step};
+use crate::ledger::upkeep::calling::{Row, empty_at, put_apart, run, standing, step};
 use cat_base::{LAST_NUMBER, Refusal};
 use cat_directory::{Faults, Faulty, MemoryDirectory};
 use cat_ledger::cat_ledger_state::Core;
 use cat_ledger::upkeep::MergeNews;
-use std::alloc::Global;
-use std::process::Abort;
+use std::alloc::{AllocError, Global};
 use std::test::Fail;
 
 /// The two last numbers are those of segments, and behind them there is none.
@@ -20,41 +19,70 @@ const LAST_NUMBERS: &[Row<'static>] = &[
 
 #[test]
 fn no_number_is_left(rt: HostRuntime) -> Result<(), Fail> {
-    let alloc = rt.alloc();
-    expect(&rt, alloc, empty_at(alloc, LAST_NUMBER - 1)?, LAST_NUMBERS)
+    assert!(&rt; run(rt.alloc(), LAST_NUMBER - 1, LAST_NUMBERS)?);
+    Ok(())
 }
 
-/// Each call of a merge's steps fails in turn, the file of its sources begun first; it is over then, and what it took stands.
-fn step_fails(rt: &impl Abort, alloc: Global, core: &mut Core, passing: u64) -> Result<bool, Fail> {
-    let mut faulty = Faulty::new(MemoryDirectory::new(alloc), Faults::Never);
-    put_apart(core, &mut faulty, alloc, &["a", "b"])?;
-    faulty.set_faults(Faults::One(passing));
+/// A device where two segments were put, and of whose calls from then on the one behind so many fails.
+fn device_failing(
+    alloc: Global,
+    core: &mut Core,
+    passing: u64,
+) -> Result<Faulty<MemoryDirectory>, Refusal> {
+    let mut device = Faulty::new(MemoryDirectory::new(alloc), Faults::Never);
+    put_apart(core, &mut device, alloc, &["a", "b"])?;
+    device.set_faults(Faults::One(passing));
+    Ok(device)
+}
+
+/// Takes steps, three at most, and answers whether the device failed in one.
+fn has_failed(alloc: Global, core: &mut Core, device: &mut Faulty<MemoryDirectory>) -> bool {
     for _ in 0..3 {
-        if step(core, &mut faulty, alloc) == Err(Refusal::Device) {
-            assert!(rt; !core.is_merging(), "{passing}");
-            assert!(rt;
-                standing(core, alloc)?.as_str().starts_with("1: a;2: b; "),
-                "{passing}"
-            );
-            return Ok(true);
+        if matches!(step(core, device, alloc), Err(Refusal::Device)) {
+            return true;
         }
     }
-    Ok(false)
+    false
 }
 
-/// Whether a step fails where the call behind so many does.
-fn fails(rt: &impl Abort, alloc: Global, passing: u64) -> Result<bool, Fail> {
+/// Whether the merge is over, and what it took stands.
+fn is_over(core: &Core, alloc: Global) -> Result<bool, AllocError> {
+    let text = standing(core, alloc)?;
+    Ok(!core.is_merging() && text.as_str().starts_with("1: a;2: b; "))
+}
+
+/// Whether a step fails where the call behind so many does, and the merge is over then.
+fn is_over_where_it_fails(alloc: Global, core: &mut Core, passing: u64) -> Result<bool, Refusal> {
+    let mut device = device_failing(alloc, core, passing)?;
+    Ok(has_failed(alloc, core, &mut device) && is_over(core, alloc)?)
+}
+
+/// The same of a ledger where nothing is.
+fn fails_at(alloc: Global, passing: u64) -> Result<bool, Refusal> {
     let mut core = empty_at(alloc, 1)?;
-    step_fails(rt, alloc, &mut core, passing)
+    is_over_where_it_fails(alloc, &mut core, passing)
+}
+
+/// Whether no step fails where the call behind so many would.
+fn passes(alloc: Global, passing: u64) -> Result<bool, Refusal> {
+    let mut core = empty_at(alloc, 1)?;
+    let mut device = device_failing(alloc, &mut core, passing)?;
+    Ok(!has_failed(alloc, &mut core, &mut device))
+}
+
+/// Whether that is so of each of so many calls, and no other is made.
+fn fails_at_each(alloc: Global, calls: u64) -> Result<bool, Refusal> {
+    for passing in 0..calls {
+        if !fails_at(alloc, passing)? {
+            return Ok(false);
+        }
+    }
+    passes(alloc, calls)
 }
 
 /// One call begins the file, three copy the sources of two segments, and two write the new one.
 #[test]
 fn each_call_of_a_merge_fails(rt: HostRuntime) -> Result<(), Fail> {
-    let alloc = rt.alloc();
-    for passing in 0..6 {
-        assert!(rt; fails(&rt, alloc, passing)?, "{passing}");
-    }
-    assert!(rt; !fails(&rt, alloc, 6)?);
+    assert!(&rt; fails_at_each(rt.alloc(), 6)?);
     Ok(())
 }

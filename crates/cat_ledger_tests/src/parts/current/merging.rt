@@ -5,13 +5,12 @@ ghost use Rattle.cat_ledger_tests.specs.parts.Windows.{rows_put, HasBehind, MayR
 
 use crate::parts::current::making::{asked, fields, is_unused, leaf_at, leaf_of, push};
 use crate::parts::current::steps::{Step, run};
-use crate::parts::current::told::expect;
+use crate::parts::current::told::stands;
 use cat_base::{Refusal, SegNo};
 use cat_items::Schema;
 use cat_live_table::current::Current;
 use cat_search_tests::views::{Put, PutText, read_puts};
 use std::alloc::Global;
-use std::process::Abort;
 use std::test::Fail;
 
 const FIRST: &[PutText] = &[(1, true, r#"{"id":"a","price":1}"#)];
@@ -121,52 +120,57 @@ fn install(current: &mut Current, merged: &Current) -> Result<(), Refusal>
     Ok(())
 }
 
-/// Takes a step in both, or looks at what stands.
+/// Takes a step in both, and answers whether what has to stand does.
 fn step_both(
-    rt: &impl Abort,
     alloc: Global,
     current: &mut Current,
     merged: &mut Current,
     step: Step<'_>,
-) -> Result<(), Fail>
+) -> Result<bool, Refusal>
     requires { MayReplace current.old merged.old }
     ensures { OnOk result (MayReplace current.new merged.new) }
 {
     match step {
-        Step::Delete(id) => Ok(delete(current, merged, id)?),
-        Step::DeleteWhere(text) => Ok(delete_where(alloc, current, merged, text)?),
-        Step::Stands(leaves, ids) => expect(rt, alloc, current, leaves, ids),
-        Step::Push(_, _) | Step::Pop => Err(Refusal::Line.into()),
+        Step::Delete(id) => {
+            delete(current, merged, id)?;
+            Ok(true)
+        }
+        Step::DeleteWhere(text) => {
+            delete_where(alloc, current, merged, text)?;
+            Ok(true)
+        }
+        Step::Stands(leaves, ids) => Ok(stands(alloc, current, leaves, ids)?),
+        Step::Push(_, _) | Step::Pop => Err(Refusal::Line),
     }
 }
 
 /// Takes the steps in both, installs the merged segment, and takes the steps behind that.
 fn install_behind(
-    rt: &impl Abort,
     alloc: Global,
     current: &mut Current,
     merged: &mut Current,
     meanwhile: &[Step<'_>],
     behind: &[Step<'_>],
-) -> Result<(), Fail>
+) -> Result<bool, Refusal>
     requires { MayReplace current.old merged.old }
 {
     for step in meanwhile {
-        step_both(rt, alloc, current, merged, *step)?;
+        if !step_both(alloc, current, merged, *step)? {
+            return Ok(false);
+        }
     }
     install(current, merged)?;
-    run(rt, alloc, current, behind)
+    run(alloc, current, behind)
 }
 
 /// The same over the segments above.
 fn run_over_window(
-    rt: &impl Abort,
     alloc: Global,
     meanwhile: &[Step<'_>],
     behind: &[Step<'_>],
-) -> Result<(), Fail> {
+) -> Result<bool, Refusal> {
     let (mut current, mut merged) = window(alloc)?;
-    install_behind(rt, alloc, &mut current, &mut merged, meanwhile, behind)
+    install_behind(alloc, &mut current, &mut merged, meanwhile, behind)
 }
 
 const AS_IT_STOOD: &[Step] = &[Step::Stands("1: a; 2: b c; 3: d e; 4: f g", "abcdefg")];
@@ -181,7 +185,8 @@ const MOVED: &[Step] = &[
 
 #[test]
 fn ids_move(rt: HostRuntime) -> Result<(), Fail> {
-    run_over_window(&rt, rt.alloc(), AS_IT_STOOD, MOVED)
+    assert!(&rt; run_over_window(rt.alloc(), AS_IT_STOOD, MOVED)?);
+    Ok(())
 }
 
 const ROWS_DIE: &[Step] = &[
@@ -195,7 +200,8 @@ const DEAD: &[Step] = &[Step::Stands("1: a; 9: -b -c -d e; 4: -f g", "aeg")];
 
 #[test]
 fn rows_die_meanwhile(rt: HostRuntime) -> Result<(), Fail> {
-    run_over_window(&rt, rt.alloc(), ROWS_DIE, DEAD)
+    assert!(&rt; run_over_window(rt.alloc(), ROWS_DIE, DEAD)?);
+    Ok(())
 }
 
 const ALL_DIE: &[Step] = &[
@@ -211,5 +217,6 @@ const NONE_LEFT: &[Step] = &[
 
 #[test]
 fn nothing_comes_where_no_row_is_left(rt: HostRuntime) -> Result<(), Fail> {
-    run_over_window(&rt, rt.alloc(), ALL_DIE, NONE_LEFT)
+    assert!(&rt; run_over_window(rt.alloc(), ALL_DIE, NONE_LEFT)?);
+    Ok(())
 }

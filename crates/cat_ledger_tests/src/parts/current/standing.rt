@@ -1,11 +1,11 @@
 //! Segments that come and go, and rows that die.
 use crate::parts::current::steps::{Step, run};
-use crate::parts::current::told::leaves_text;
+use crate::parts::current::told::are_leaves;
+use cat_base::Refusal;
 use cat_live_table::current::Current;
 use cat_search_tests::views::PutText;
 use cat_views::Leaf;
 use std::alloc::Global;
-use std::process::Abort;
 use std::test::Fail;
 
 const FIRST: &[PutText] = &[
@@ -34,19 +34,17 @@ const THREE: &[Step] = &[
 
 /// Puts the three segments where nothing stands, and takes the steps.
 fn run_behind_three(
-    rt: &impl Abort,
     alloc: Global,
     current: &mut Current,
     steps: &[Step<'_>],
-) -> Result<(), Fail> {
-    run(rt, alloc, current, THREE)?;
-    run(rt, alloc, current, steps)
+) -> Result<bool, Refusal> {
+    Ok(run(alloc, current, THREE)? && run(alloc, current, steps)?)
 }
 
 /// The same over segments that are gone then.
-fn run_over_three(rt: &impl Abort, alloc: Global, steps: &[Step<'_>]) -> Result<(), Fail> {
+fn run_over_three(alloc: Global, steps: &[Step<'_>]) -> Result<bool, Refusal> {
     let mut current = Current::new(alloc);
-    run_behind_three(rt, alloc, &mut current, steps)
+    run_behind_three(alloc, &mut current, steps)
 }
 
 const BY_ID: &[Step] = &[
@@ -60,7 +58,8 @@ const BY_ID: &[Step] = &[
 
 #[test]
 fn deletes_by_id(rt: HostRuntime) -> Result<(), Fail> {
-    run_over_three(&rt, rt.alloc(), BY_ID)
+    assert!(&rt; run_over_three(rt.alloc(), BY_ID)?);
+    Ok(())
 }
 
 const BY_QUERY: &[Step] = &[
@@ -74,7 +73,8 @@ const BY_QUERY: &[Step] = &[
 
 #[test]
 fn deletes_by_query(rt: HostRuntime) -> Result<(), Fail> {
-    run_over_three(&rt, rt.alloc(), BY_QUERY)
+    assert!(&rt; run_over_three(rt.alloc(), BY_QUERY)?);
+    Ok(())
 }
 
 const TAKEN_BACK: &[Step] = &[
@@ -92,7 +92,8 @@ const TAKEN_BACK: &[Step] = &[
 
 #[test]
 fn a_push_is_taken_back(rt: HostRuntime) -> Result<(), Fail> {
-    run_over_three(&rt, rt.alloc(), TAKEN_BACK)
+    assert!(&rt; run_over_three(rt.alloc(), TAKEN_BACK)?);
+    Ok(())
 }
 
 const BEHIND_A_COPY: &[Step] = &[
@@ -102,28 +103,26 @@ const BEHIND_A_COPY: &[Step] = &[
 ];
 
 /// The leaves that were copied before stay as they were.
-fn expect_apart(
-    rt: &impl Abort,
-    alloc: Global,
-    current: &mut Current,
-    before: &[Leaf],
-) -> Result<(), Fail> {
-    run(rt, alloc, current, BEHIND_A_COPY)?;
-    let text = leaves_text(alloc, before)?;
-    assert_eq!(rt; text.as_str(), "1: a b c; 2: d e; 3: f g");
-    Ok(())
+fn stay_apart(alloc: Global, current: &mut Current, before: &[Leaf]) -> Result<bool, Refusal> {
+    let is_run = run(alloc, current, BEHIND_A_COPY)?;
+    Ok(is_run && are_leaves(alloc, before, "1: a b c; 2: d e; 3: f g")?)
 }
 
 /// The same of the three segments, whose copy is gone then.
-fn expect_copied(rt: &impl Abort, alloc: Global, current: &mut Current) -> Result<(), Fail> {
-    run(rt, alloc, current, THREE)?;
+fn stay_copied(alloc: Global, current: &mut Current) -> Result<bool, Refusal> {
+    let is_run = run(alloc, current, THREE)?;
     let before = current.copy()?;
-    expect_apart(rt, alloc, current, &before)
+    Ok(is_run && stay_apart(alloc, current, &before)?)
+}
+
+/// The same of segments that are gone then.
+fn copies_stay(alloc: Global) -> Result<bool, Refusal> {
+    let mut current = Current::new(alloc);
+    stay_copied(alloc, &mut current)
 }
 
 #[test]
 fn copies_stay_as_they_were(rt: HostRuntime) -> Result<(), Fail> {
-    let alloc = rt.alloc();
-    let mut current = Current::new(alloc);
-    expect_copied(&rt, alloc, &mut current)
+    assert!(&rt; copies_stay(rt.alloc())?);
+    Ok(())
 }

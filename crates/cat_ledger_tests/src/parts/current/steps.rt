@@ -1,12 +1,10 @@
 //! Steps over the segments that stand, and what has to stand behind them.
 use crate::parts::current::making::{asked, leaf_at, push};
-use crate::parts::current::told::expect;
+use crate::parts::current::told::stands;
 use cat_base::{Refusal, SegNo};
 use cat_live_table::current::Current;
 use cat_search_tests::views::PutText;
 use std::alloc::Global;
-use std::process::Abort;
-use std::test::Fail;
 
 /// A step, or what has to stand.
 #[derive(Clone, Copy)]
@@ -43,18 +41,27 @@ fn change(alloc: Global, current: &mut Current, step: Step<'_>) -> Result<(), Re
     }
 }
 
-/// Takes the steps in turn.
+/// Takes a step, and answers whether what has to stand does.
+fn take(alloc: Global, current: &mut Current, step: Step<'_>) -> Result<bool, Refusal> {
+    match step {
+        Step::Stands(leaves, ids) => Ok(stands(alloc, current, leaves, ids)?),
+        _ => {
+            change(alloc, current, step)?;
+            Ok(true)
+        }
+    }
+}
+
+/// Takes the steps in turn, and answers whether what has to stand behind each does.
 pub(crate) fn run(
-    rt: &impl Abort,
     alloc: Global,
     current: &mut Current,
     steps: &[Step<'_>],
-) -> Result<(), Fail> {
+) -> Result<bool, Refusal> {
     for step in steps {
-        match *step {
-            Step::Stands(leaves, ids) => expect(rt, alloc, current, leaves, ids)?,
-            step => change(alloc, current, step)?,
+        if !take(alloc, current, *step)? {
+            return Ok(false);
         }
     }
-    Ok(())
+    Ok(true)
 }

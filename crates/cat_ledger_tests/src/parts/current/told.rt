@@ -3,8 +3,6 @@ use cat_live_table::current::Current;
 use cat_views::Leaf;
 use std::alloc::{AllocError, Global};
 use std::fmt::Write;
-use std::process::Abort;
-use std::test::Fail;
 
 /// The number and the ids of a leaf, the dead ones behind a minus, as `2: c -d`.
 fn write_leaf(text: &mut String, leaf: &Leaf) -> Result<(), AllocError> {
@@ -18,7 +16,7 @@ fn write_leaf(text: &mut String, leaf: &Leaf) -> Result<(), AllocError> {
 }
 
 /// All of them in order, as `1: a -b; 2: c`.
-pub(crate) fn leaves_text(alloc: Global, leaves: &[Leaf]) -> Result<String, AllocError> {
+fn leaves_text(alloc: Global, leaves: &[Leaf]) -> Result<String, AllocError> {
     let mut text = String::new(alloc);
     for leaf in leaves {
         if !text.is_empty() {
@@ -29,29 +27,41 @@ pub(crate) fn leaves_text(alloc: Global, leaves: &[Leaf]) -> Result<String, Allo
     Ok(text)
 }
 
+/// Whether these are the leaves.
+pub(crate) fn are_leaves(alloc: Global, leaves: &[Leaf], wanted: &str) -> Result<bool, AllocError> {
+    let text = leaves_text(alloc, leaves)?;
+    Ok(text.as_str() == wanted)
+}
+
+/// Whether a live row has the letter as its id.
+fn has_id(alloc: Global, current: &Current, letter: char) -> Result<bool, AllocError> {
+    let id = format!(in alloc; "{letter}")?;
+    Ok(current.contains(id.as_str()))
+}
+
 /// The ids out of `a` to `z` that live rows have, by one look each.
 fn ids_text(alloc: Global, current: &Current) -> Result<String, AllocError> {
     let mut text = String::new(alloc);
-    for id in 'a'..='z' {
-        let name = format!(in alloc; "{id}")?;
-        if current.contains(name.as_str()) {
-            text.push(id)?;
+    for letter in 'a'..='z' {
+        if has_id(alloc, current, letter)? {
+            text.push(letter)?;
         }
     }
     Ok(text)
 }
 
-/// Fails unless these are the leaves, and these the ids of live rows.
-pub(crate) fn expect(
-    rt: &impl Abort,
+/// Whether these are the ids of live rows.
+fn are_ids(alloc: Global, current: &Current, wanted: &str) -> Result<bool, AllocError> {
+    let text = ids_text(alloc, current)?;
+    Ok(text.as_str() == wanted)
+}
+
+/// Whether these are the leaves that stand, and these the ids of live rows.
+pub(crate) fn stands(
     alloc: Global,
     current: &Current,
     leaves: &str,
     ids: &str,
-) -> Result<(), Fail> {
-    let text = leaves_text(alloc, current.leaves())?;
-    assert_eq!(rt; text.as_str(), leaves);
-    let found = ids_text(alloc, current)?;
-    assert_eq!(rt; found.as_str(), ids);
-    Ok(())
+) -> Result<bool, AllocError> {
+    Ok(are_leaves(alloc, current.leaves(), leaves)? && are_ids(alloc, current, ids)?)
 }

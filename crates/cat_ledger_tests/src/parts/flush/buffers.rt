@@ -7,7 +7,7 @@ use cat_live_table::buffer::{Buffer, Sealed};
 use cat_query::Query;
 use cat_segment::Segment;
 use std::alloc::{AllocError, Global};
-use std::process::Abort;
+use std::fmt::Write;
 use std::test::Fail;
 
 const FIELDS: &[u8] = br#"{"price":"number"}"#;
@@ -54,28 +54,33 @@ fn put_lines(
     Ok(())
 }
 
-fn seal(rt: &impl Abort, buffer: &Buffer, number: SegNo) -> Result<Sealed, AllocError> {
+/// A buffer of the items of the first lines.
+fn buffer_of(alloc: Global, count: u32, text: &str) -> Result<Buffer, Refusal> {
+    let schema = Schema::read(alloc, FIELDS)?;
+    let mut buffer = Buffer::new(alloc, &schema)?;
+    put_lines(alloc, &schema, &mut buffer, count, text)?;
+    Ok(buffer)
+}
+
+/// What waits, as a segment and its sources; [`Refusal::Count`] where nothing does.
+fn seal(buffer: &Buffer, number: SegNo) -> Result<Sealed, Refusal> {
     if buffer.is_empty() {
-        panic!(rt; "nothing to seal");
+        return Err(Refusal::Count);
     }
-    buffer.seal(number)
+    Ok(buffer.seal(number)?)
 }
 
-/// Fails unless the segment has just these rows: their ids, and the numbers of their writes.
-fn expect_rows(rt: &impl Abort, segment: &Segment, rows: &[(&str, WriteNo)]) {
-    assert!(rt; segment.len() == rows.len());
+/// Whether the segment has just these rows: their ids, and the numbers of their writes.
+fn has_rows(segment: &Segment, rows: &[(&str, WriteNo)]) -> bool {
+    if segment.len() != rows.len() {
+        return false;
+    }
     for (row, &(id, number)) in rows.iter().enumerate() {
-        assert!(rt; segment.id(row) == id, "{row}");
-        assert!(rt; segment.write_number(row) == number, "{row}");
+        if segment.id(row) != id || segment.write_number(row) != number {
+            return false;
+        }
     }
-}
-
-/// Deletes the item of the id, and clears the buffer.
-fn expect_cleared(rt: &impl Abort, buffer: &mut Buffer, id: &str) {
-    assert!(rt; buffer.delete(id));
-    assert!(rt; !buffer.delete(id));
-    buffer.clear();
-    assert!(rt; buffer.is_empty());
+    true
 }
 
 /// Two items, and a second text of the first.
@@ -83,19 +88,45 @@ const UPDATED: &str = r#"{"id":"a","price":1}
 {"id":"b"}
 {"id":"a","price":30}"#;
 
+/// Their rows, and the texts of these.
+const UPDATED_ROWS: &[(&str, WriteNo)] = &[("b", 2), ("a", 3)];
+
+const UPDATED_TEXTS: &[u8] = br#"{"id":"b"}{"id":"a","price":30}"#;
+
+/// Whether two items wait, of which the one of the id came under the number.
+fn are_two(buffer: &Buffer, id: &str, number: WriteNo) -> bool {
+    let found = buffer.get(id).map(|record| record.number());
+    found == Some(number) && buffer.len() == 2
+}
+
+/// Whether what waits becomes the rows with the second text.
+fn seals_the_update(buffer: &Buffer) -> Result<bool, Refusal> {
+    let sealed = seal(buffer, 7)?;
+    let has_texts = sealed.sources.as_slice() == UPDATED_TEXTS;
+    Ok(has_texts && has_rows(&sealed.segment, UPDATED_ROWS))
+}
+
+/// Deletes the item of the id, which is there once, and clears the buffer.
+fn is_cleared(buffer: &mut Buffer, id: &str) -> bool {
+    let is_deleted = buffer.delete(id) && !buffer.delete(id);
+    buffer.clear();
+    is_deleted && buffer.is_empty()
+}
+
+/// Whether the second text stands last in the buffer, which is cleared then.
+fn has_update_last(buffer: &mut Buffer) -> Result<bool, Refusal> {
+    Ok(are_two(buffer, "a", 3) && seals_the_update(buffer)? && is_cleared(buffer, "b"))
+}
+
+/// The same of a buffer that is gone then.
+fn puts_update_last(alloc: Global) -> Result<bool, Refusal> {
+    let mut buffer = buffer_of(alloc, 3, UPDATED)?;
+    has_update_last(&mut buffer)
+}
+
 #[test]
 fn an_update_goes_last(rt: HostRuntime) -> Result<(), Fail> {
-    let schema = Schema::read(rt.alloc(), FIELDS)?;
-    let mut buffer = Buffer::new(rt.alloc(), &schema)?;
-    put_lines(rt.alloc(), &schema, &mut buffer, 3, UPDATED)?;
-    let number = buffer.get("a").map(|record| record.number());
-    assert!(rt; number == Some(3));
-    assert!(rt; buffer.len() == 2);
-    let sealed = seal(&rt, &buffer, 7)?;
-    expect_rows(&rt, &sealed.segment, &[("b", 2), ("a", 3)]);
-    let texts = br#"{"id":"b"}{"id":"a","price":30}"#;
-    assert!(rt; sealed.sources.as_slice() == texts.as_slice());
-    expect_cleared(&rt, &mut buffer, "b");
+    assert!(&rt; puts_update_last(rt.alloc())?);
     Ok(())
 }
 
@@ -103,30 +134,46 @@ fn an_update_goes_last(rt: HostRuntime) -> Result<(), Fail> {
 fn lines(alloc: Global, count: u32) -> Result<String, AllocError> {
     let mut text = String::new(alloc);
     for number in 0..count {
-        let line = format!(in alloc; "{{\"id\":\"i{number}\",\"price\":{number}}}\n")?;
-        text.push_str(line.as_str())?;
+        write!(text, "{{\"id\":\"i{number}\",\"price\":{number}}}\n")?;
     }
     Ok(text)
 }
 
-#[test]
-fn as_many_wait_as_may(rt: HostRuntime) -> Result<(), Fail> {
-    let text = lines(rt.alloc(), 1_024)?;
-    let schema = Schema::read(rt.alloc(), FIELDS)?;
-    let mut buffer = Buffer::new(rt.alloc(), &schema)?;
-    put_lines(rt.alloc(), &schema, &mut buffer, 1_024, text.as_str())?;
-    assert!(rt; buffer.is_full());
-    let sealed = seal(&rt, &buffer, 1)?;
-    expect_many(&rt, &sealed.segment, buffer.schema());
-    assert!(rt; buffer.delete("i512"));
-    assert!(rt; !buffer.is_full());
-    Ok(())
+/// The buffer of as many items as there may be.
+fn full_buffer(alloc: Global) -> Result<Buffer, Refusal> {
+    let text = lines(alloc, 1_024)?;
+    buffer_of(alloc, 1_024, text.as_str())
 }
 
-fn expect_many(rt: &impl Abort, segment: &Segment, schema: &Schema) {
-    assert!(rt; segment.len() == 1_024);
-    assert!(rt; segment.row_with("i512") == Some(512));
-    assert!(rt; segment.schema().fields().len() == schema.fields().len());
+/// Whether the segment has as many rows, under the fields of the schema.
+fn has_many(segment: &Segment, schema: &Schema) -> bool {
+    segment.len() == 1_024
+        && segment.row_with("i512") == Some(512)
+        && segment.schema().fields().len() == schema.fields().len()
+}
+
+/// Whether what waits becomes that segment.
+fn seals_many(buffer: &Buffer) -> Result<bool, Refusal> {
+    let sealed = seal(buffer, 1)?;
+    Ok(has_many(&sealed.segment, buffer.schema()))
+}
+
+/// Whether the buffer is full of them, up to a delete.
+fn is_full_of_many(buffer: &mut Buffer) -> Result<bool, Refusal> {
+    let are_sealed = buffer.is_full() && seals_many(buffer)?;
+    Ok(are_sealed && buffer.delete("i512") && !buffer.is_full())
+}
+
+/// The same of a buffer that is gone then.
+fn fills(alloc: Global) -> Result<bool, Refusal> {
+    let mut buffer = full_buffer(alloc)?;
+    is_full_of_many(&mut buffer)
+}
+
+#[test]
+fn as_many_wait_as_may(rt: HostRuntime) -> Result<(), Fail> {
+    assert!(&rt; fills(rt.alloc())?);
+    Ok(())
 }
 
 /// Four items, of which two have a price of 5 or more.
@@ -135,27 +182,51 @@ const PRICED: &str = r#"{"id":"a","price":1}
 {"id":"c","price":5}
 {"id":"d","price":2}"#;
 
-#[test]
-fn what_a_query_matches_goes(rt: HostRuntime) -> Result<(), Fail> {
-    let schema = Schema::read(rt.alloc(), FIELDS)?;
-    let mut buffer = Buffer::new(rt.alloc(), &schema)?;
-    put_lines(rt.alloc(), &schema, &mut buffer, 4, PRICED)?;
-    let query = Query::parse(&schema, rt.alloc(), "price:[5 TO *]")?;
+/// The rows of the other two.
+const CHEAP_ROWS: &[(&str, WriteNo)] = &[("a", 1), ("d", 4)];
+
+/// Deletes the two.
+fn delete_priced(alloc: Global, buffer: &mut Buffer) -> Result<(), Refusal> {
+    let query = Query::parse(buffer.schema(), alloc, "price:[5 TO *]")?;
     buffer.delete_where(&query);
-    let sealed = seal(&rt, &buffer, 1)?;
-    expect_rows(&rt, &sealed.segment, &[("a", 1), ("d", 4)]);
-    expect_popped(&rt, &mut buffer, "d");
-    assert!(rt; buffer.len() == 1);
-    expect_popped(&rt, &mut buffer, "a");
-    assert!(rt; buffer.is_empty());
     Ok(())
 }
 
+/// Whether what waits becomes the rows of the others.
+fn seals_the_cheap(buffer: &Buffer) -> Result<bool, Refusal> {
+    let sealed = seal(buffer, 1)?;
+    Ok(has_rows(&sealed.segment, CHEAP_ROWS))
+}
+
 /// Takes the last item out, which is the one of the id.
-fn expect_popped(rt: &impl Abort, buffer: &mut Buffer, id: &str) {
-    assert!(rt; buffer.get(id).is_some());
+fn is_popped(buffer: &mut Buffer, id: &str) -> bool {
+    let was_there = buffer.get(id).is_some();
     if buffer.len() > 0 {
         buffer.pop();
     }
-    assert!(rt; buffer.get(id).is_none());
+    was_there && buffer.get(id).is_none()
+}
+
+/// Takes the two that are left out again.
+fn are_popped(buffer: &mut Buffer) -> bool {
+    let is_first_popped = is_popped(buffer, "d") && buffer.len() == 1;
+    is_first_popped && is_popped(buffer, "a") && buffer.is_empty()
+}
+
+/// Whether the others alone wait behind the delete.
+fn leaves_the_cheap(alloc: Global, buffer: &mut Buffer) -> Result<bool, Refusal> {
+    delete_priced(alloc, buffer)?;
+    Ok(seals_the_cheap(buffer)? && are_popped(buffer))
+}
+
+/// The same of a buffer that is gone then.
+fn deletes_what_matches(alloc: Global) -> Result<bool, Refusal> {
+    let mut buffer = buffer_of(alloc, 4, PRICED)?;
+    leaves_the_cheap(alloc, &mut buffer)
+}
+
+#[test]
+fn what_a_query_matches_goes(rt: HostRuntime) -> Result<(), Fail> {
+    assert!(&rt; deletes_what_matches(rt.alloc())?);
+    Ok(())
 }

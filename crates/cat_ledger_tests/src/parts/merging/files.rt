@@ -75,6 +75,17 @@ pub(crate) fn read_all<S: Shelf>(
     }
 }
 
+/// Whether the file holds these bytes.
+pub(crate) fn holds<S: Shelf>(
+    alloc: Global,
+    shelf: &mut S,
+    name: FileName,
+    wanted: &[u8],
+) -> Result<bool, Refusal> {
+    let bytes = read_all(alloc, shelf, name)?;
+    Ok(bytes.as_slice() == wanted)
+}
+
 /// The bytes of the file, and `None` where it is absent.
 pub(crate) fn read_if_there<S: Shelf>(
     alloc: Global,
