@@ -3,8 +3,8 @@
 #[cfg(test)]
 mod columns;
 #[cfg(test)]
-mod parts;
+pub(crate) mod parts;
 #[cfg(test)]
 mod terms;
 #[cfg(test)]
-mod texts;
+pub(crate) mod texts;

@@ -1,13 +1,42 @@
 //! Texts and sets of texts.
+use crate::columns::texts::set;
 use cat_base::{SHORT_BYTES, Text, TextSet};
+use std::alloc::{AllocError, Global};
 use std::cmp::Ordering;
 use std::test::Fail;
 
+/// Two texts, and how the first compares to the second.
+type Comparison<'a> = (&'a str, &'a str, Ordering);
+
+/// Whether the texts compare so, in each way.
+fn compare_so(one: &Text, other: &Text, want: Ordering) -> bool {
+    one.cmp(other) == want
+        && one.partial_cmp(other) == Some(want)
+        && (one == other) == (want == Ordering::Equal)
+}
+
+/// Whether texts that are spelled so compare so.
+fn spelled_compare_so(alloc: Global, row: &Comparison<'_>) -> Result<bool, AllocError> {
+    let (left, right, want) = *row;
+    let one = Text::from_str(alloc, left)?;
+    let other = Text::from_str(alloc, right)?;
+    Ok(compare_so(&one, &other, want))
+}
+
+/// The same of each row.
+fn all_compare_so(alloc: Global, rows: &[Comparison<'_>]) -> Result<bool, AllocError> {
+    for row in rows {
+        if !spelled_compare_so(alloc, row)? {
+            return Ok(false);
+        }
+    }
+    Ok(true)
+}
+
 #[test]
 fn texts_compare_by_bytes(rt: HostRuntime) -> Result<(), Fail> {
-    let alloc = rt.alloc();
     // "Z" is 5a, "a" is 61, and "é" begins with c3.
-    const ROWS: &[(&str, &str, Ordering)] = &[
+    const ROWS: &[Comparison<'static>] = &[
         ("", "a", Ordering::Less),
         ("a", "a", Ordering::Equal),
         ("a", "Z", Ordering::Greater),
@@ -20,29 +49,49 @@ fn texts_compare_by_bytes(rt: HostRuntime) -> Result<(), Fail> {
         ("seventeen letters", "seventeen", Ordering::Greater),
         ("seventeen letters", "z", Ordering::Less),
     ];
-    for &(left, right, want) in ROWS {
-        let (one, other) = (Text::from_str(alloc, left)?, Text::from_str(alloc, right)?);
-        assert_eq!(rt; one.cmp(&other), want, "{left} {right}");
-        assert_eq!(rt; one.partial_cmp(&other), Some(want), "{left} {right}");
-        assert_eq!(rt; one == other, want == Ordering::Equal, "{left} {right}");
-    }
+    assert!(rt; all_compare_so(rt.alloc(), ROWS)?);
     Ok(())
+}
+
+/// Whether the text has these letters, and so has its copy.
+fn is_copied(text: &Text, letters: &str) -> Result<bool, AllocError> {
+    Ok(text.as_str() == letters && text.copy()? == *text)
+}
+
+/// Whether the text is shown so: bare, and then quoted.
+fn is_shown(alloc: Global, text: &Text, want: &str) -> Result<bool, AllocError> {
+    let shown = format!(in alloc; "{text}, {text:?}")?;
+    Ok(shown.as_str() == want)
 }
 
 #[test]
 fn texts_are_shown(rt: HostRuntime) -> Result<(), Fail> {
-    let alloc = rt.alloc();
-    let text = Text::new(String::from_str(alloc, "red \"shoe\"")?);
-    assert_eq!(rt; text.as_str(), "red \"shoe\"");
-    assert_eq!(rt; text.copy()?, text);
-    let shown = format!(in alloc; "{text}, {text:?}")?;
-    assert_eq!(rt; shown.as_str(), "red \"shoe\", \"red \\\"shoe\\\"\"");
+    const SHOE: &str = "red \"shoe\"";
+    const SHOWN: &str = "red \"shoe\", \"red \\\"shoe\\\"\"";
+    let text = Text::new(String::from_str(rt.alloc(), SHOE)?);
+    assert!(rt; is_copied(&text, SHOE)? && is_shown(rt.alloc(), &text, SHOWN)?);
     Ok(())
+}
+
+/// Whether a text of these letters is kept as it is, be it read of them or made of a string.
+fn is_kept(alloc: Global, letters: &str) -> Result<bool, AllocError> {
+    let one = Text::from_str(alloc, letters)?;
+    let other = Text::new(String::from_str(alloc, letters)?);
+    Ok(one.as_str() == letters && other.as_str() == letters && one.copy()? == other)
+}
+
+/// The same of each text.
+fn are_kept(alloc: Global, texts: &[&str]) -> Result<bool, AllocError> {
+    for text in texts {
+        if !is_kept(alloc, text)? {
+            return Ok(false);
+        }
+    }
+    Ok(true)
 }
 
 #[test]
 fn texts_of_each_length_are_kept(rt: HostRuntime) -> Result<(), Fail> {
-    let alloc = rt.alloc();
     const TEXTS: &[&str] = &[
         "",
         "a",
@@ -52,27 +101,31 @@ fn texts_of_each_length_are_kept(rt: HostRuntime) -> Result<(), Fail> {
         "seventeen letters",
         "fifteen bytes: é",
     ];
-    for &text in TEXTS {
-        let (one, other) = (
-            Text::from_str(alloc, text)?,
-            Text::new(String::from_str(alloc, text)?),
-        );
-        assert_eq!(rt; one.as_str(), text);
-        assert_eq!(rt; other.as_str(), text);
-        assert_eq!(rt; one.copy()?, other, "{text}");
-    }
+    assert!(rt; are_kept(rt.alloc(), TEXTS)?);
     Ok(())
+}
+
+/// Whether the letters are few, and those of a copy of their text.
+fn is_short(alloc: Global, letters: &str) -> Result<bool, AllocError> {
+    let copy = Text::from_str(alloc, letters)?.copy()?;
+    Ok(letters.len() <= SHORT_BYTES && copy.as_str() == letters)
+}
+
+/// The same of each text.
+fn are_short(alloc: Global, texts: &[&str]) -> Result<bool, AllocError> {
+    for text in texts {
+        if !is_short(alloc, text)? {
+            return Ok(false);
+        }
+    }
+    Ok(true)
 }
 
 // `rt try --test --fail-alloc N` makes the Nth allocation of each test fail. This test has to pass at every N: it makes none.
 #[test]
 fn short_texts_take_no_memory(rt: HostRuntime) -> Result<(), Fail> {
     const TEXTS: &[&str] = &["", "a", "ten bytes ééé", "sixteen letters:"];
-    for &text in TEXTS {
-        assert!(rt; text.len() <= SHORT_BYTES, "{text}");
-        let copy = Text::from_str(rt.alloc(), text)?.copy()?;
-        assert_eq!(rt; copy.as_str(), text);
-    }
+    assert!(rt; are_short(rt.alloc(), TEXTS)?);
     Ok(())
 }
 
@@ -85,26 +138,37 @@ const MEMBERS: &[(&str, bool)] = &[
     ("c", false),
 ];
 
-#[test]
-fn a_set_has_each_text_once(rt: HostRuntime) -> Result<(), Fail> {
-    let alloc = rt.alloc();
-    let mut words = Vec::new(alloc);
-    for word in ["b", "a", "b"] {
-        words.push(Text::from_str(alloc, word)?)?;
-    }
-    let set = TextSet::of(words);
-    let copied = set.copy()?;
-    for same in [&set, &copied] {
-        let shown = format!(in alloc; "{:?}", same.as_slice())?;
-        assert_eq!(rt; shown.as_str(), "[\"a\", \"b\"]");
-        assert_eq!(rt; same.len(), 2);
-        assert!(rt; !same.is_empty());
-        for &(word, want) in MEMBERS {
-            assert_eq!(rt; same.contains(word), want, "{word}");
+/// Whether just "a" and "b" are in the set, of the texts above.
+fn has_members(set: &TextSet) -> bool {
+    for (text, is_member) in MEMBERS {
+        if set.contains(text) != *is_member {
+            return false;
         }
     }
-    let none = TextSet::new(alloc);
-    assert!(rt; none.is_empty() && none.as_slice().is_empty() && !none.contains("a"));
-    assert_eq!(rt; none.len(), 0);
+    true
+}
+
+/// Whether it is the set of "a" and "b".
+fn is_a_and_b(alloc: Global, set: &TextSet) -> Result<bool, AllocError> {
+    let shown = format!(in alloc; "{:?}", set.as_slice())?;
+    let is_shown = shown.as_str() == "[\"a\", \"b\"]";
+    Ok(is_shown && set.len() == 2 && !set.is_empty() && has_members(set))
+}
+
+/// Whether the set and a copy of it are so.
+fn are_a_and_b(alloc: Global, set: &TextSet) -> Result<bool, AllocError> {
+    Ok(is_a_and_b(alloc, set)? && is_a_and_b(alloc, &set.copy()?)?)
+}
+
+/// Whether nothing is in the set.
+fn has_nothing(set: &TextSet) -> bool {
+    set.is_empty() && set.as_slice().is_empty() && !set.contains("a") && set.len() == 0
+}
+
+#[test]
+fn a_set_has_each_text_once(rt: HostRuntime) -> Result<(), Fail> {
+    let words = set(rt.alloc(), &["b", "a", "b"])?;
+    let none = TextSet::new(rt.alloc());
+    assert!(rt; are_a_and_b(rt.alloc(), &words)? && has_nothing(&none));
     Ok(())
 }
