@@ -1,6 +1,6 @@
 -- What a read for items is told, from what its calls say.
-use Rattle.std.proofs.Common.{◌≡◌, ℕ, List, ap, inl, inr, refl, subst, sym}
-use Rattle.std.specs.Prelude.{◌≢◌, ◌⊎◌, Option, None, Some, Result, Ok, Err, IsErr, IsErrAnd}
+use Rattle.std.proofs.Common.{◌≡◌, ◌∙◌, ℕ, List, ap, inl, inr, refl, subst, sym}
+use Rattle.std.specs.Prelude.{◌≢◌, ◌⊎◌, Option, None, Some, Result, Ok, Err, IfErr, IsErr, IsErrAnd}
 use Rattle.cat_base.specs.declared.refusal.Refusal.{Refusal}
 use Rattle.cat_base.specs.declared.refusal.Refusal.TheVariants.{Memory, NotHeld, Query as NoQuery}
 use Rattle.cat_model.specs.Answer.{Found, Read, answer, query_refusal}
@@ -14,7 +14,8 @@ use Rattle.cat_model.specs.Run.{Reply, found_reply, or_not_held}
 use Rattle.cat_model.specs.Text.{Text}
 use Rattle.cat_model.specs.View.{View}
 use Rattle.cat_ledger_laws.specs.lines.ReadLaws.{Finds}
-use Rattle.cat_commands.specs.searches.Reads.{MayTell}
+use Rattle.cat_commands.specs.searches.Reads.{GivesDue, MayTell}
+use Rattle.cat_commands.proofs.ledger.Answered.{err_is}
 
 -- whether it is want of memory
 is_memory : (e : Refusal) → (e ≡ Memory) ⊎ (e ≢ Memory)
@@ -78,3 +79,12 @@ module _ (schema : Schema) (text : Text) (asked : Result Query Refusal → Read)
 pub passed_on : {T E : Type 0} (r : Result T E) (e : E) → IsErr r × IsErrAnd r (λ x. x ≡ e) → r ≡ Err e
 passed_on (Err x) e is = ap Err is.1
 passed_on (Ok x) e is = absurd is.1
+
+-- and if it was due, it is so of whoever passes it on
+pub due_passed : {X Y : Type 0} (view : View) (asked : Read) (e : Refusal) (one : Result X Refusal) (other : Result Y Refusal) → one ≡ Err e → other ≡ Err e
+    → GivesDue view asked one → GivesDue view asked other
+due_passed view asked e one other is is' due rs shows = passed (answer view.schema rs asked) (due rs shows)
+  where
+    passed : (r : Result Found Refusal) → IfErr r (λ d. one ≡ Err d) → IfErr r (λ d. other ≡ Err d)
+    passed (Ok found) u = tt
+    passed (Err d) given = is' ∙ ap Err (err_is (sym is ∙ given))

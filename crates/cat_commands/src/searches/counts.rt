@@ -63,7 +63,7 @@ fn counts_of(
     requires kept { All (KnowsIn states.old) (segments_of view.now.leaves) }
     ensures ok { IfOk result (λ f. Finds view.now (Read.facets dimension.now count (Ok (query_of query))) (Ok (Found.facets f))) }
     ensures err { IfErr result (λ e. e ≢ Memory → Finds view.now (Read.facets dimension.now count (Ok (query_of query))) (Err e)) }
-    ensures due { GivesDue view.now (Read.facets dimension.now count (Ok (query_of query))) result }
+    ensures due { (q : model.Query) → GivesDue view.now (Read.facets dimension.now count (Ok q)) result }
     ensures noted { OnOk result (UsesAndNotes (query_of query) view.now filters.old filters.new) }
     ensures used { OnErr result (Uses (query_of query) view.now filters.old filters.new) }
     ensures known { Remembers filters.old filters.new }

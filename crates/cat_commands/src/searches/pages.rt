@@ -76,7 +76,7 @@ fn page_of(
     requires { All (Knows filters.old) (segments_of view.now.leaves) }
     ensures ok { IfOk result (λ p. Finds view.now (read_of ask.entry (query_of query)) (Ok (Found.page p))) }
     ensures err { IfErr result (λ e. e ≢ Memory → Finds view.now (read_of ask.entry (query_of query)) (Err e)) }
-    ensures due { GivesDue view.now (read_of ask.entry (query_of query)) result }
+    ensures due { (q : model.Query) → GivesDue view.now (read_of ask.entry q) result }
     ensures noted { OnOk result (UsesAndNotes (query_of query) view.now filters.old filters.new) }
     ensures used { OnErr result (Uses (query_of query) view.now filters.old filters.new) }
     ensures known { Remembers filters.old filters.new }

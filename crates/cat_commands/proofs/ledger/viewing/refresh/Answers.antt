@@ -1,4 +1,5 @@
-use Rattle.std.proofs.Common.{refl}
+use Rattle.std.proofs.Common.{ap, refl}
+use Rattle.std.specs.Prelude.{Err}
 use Rattle.cat_model.specs.Run.{Command}
 use Rattle.cat_ledger.specs.Ledgers.{device_in, policy_in, shape_in}
 use Rattle.cat_ledger_laws.specs.lines.LineLaws.{MayRefresh}
@@ -31,3 +32,7 @@ returns-in-Err-clause-answers g c = λ session.
           (λ (full : MayRefresh (shape_in old) → ⊥). let at = c.in-Err.ensures.full full in (err_is at.0, unchanged g.D.Holder.bytes old new at.1))
           c.in-Err.ensures.room c.in-Err.ensures.err c.in-Err.ensures.refusal,
     )
+
+pub returns-in-Err-clause-full : goal.returns-in-Err-clause-full
+returns-in-Err-clause-full g c = λ full.
+    let at = c.in-Err.ensures.full full in (ap Err (err_is at.0), at.1)

@@ -56,3 +56,7 @@ returns-in-Err-clause-spent g c = λ is.
 
 pub returns-in-Err-clause-history : goal.returns-in-Err-clause-history
 returns-in-Err-clause-history g c = goes_same g.D.Holder.may_leave c.args.ledger.now
+
+pub returns-in-Err-clause-counted : goal.returns-in-Err-clause-counted
+returns-in-Err-clause-counted g c = λ is.
+    absurd ((is_of_text (shape_in c.args.ledger.now).schema c.args.text.now c.in-Err.refusal (c.in-Err.ensures.err (not_memory Device failure_differs is))).0 is)

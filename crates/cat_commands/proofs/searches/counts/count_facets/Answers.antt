@@ -8,7 +8,9 @@ use Rattle.cat_cached_sets.specs.filters.Known.{Knows}
 use Rattle.cat_protocol.specs.cat_facets.Kept.{KnowsIn, RemembersOf, RemembersOfBelow}
 use Rattle.cat_commands.specs.searches.Uses.{NotesSpelled, Uses, UsesAndNotes, UsesSpelled}
 use Rattle.cat_commands.proofs.searches.Cached.{by_any, by_right, of_right, to_right, unchanged}
-use Rattle.cat_commands.proofs.searches.Told.{facets_is, fault_told, found_told, memory_told, passed_on, refusal_told, unheld_told}
+use Rattle.cat_commands.specs.searches.Reads.{GivesDue}
+use Rattle.cat_model.specs.Query as model
+use Rattle.cat_commands.proofs.searches.Told.{due_passed, facets_is, fault_told, found_told, memory_told, passed_on, refusal_told, unheld_told}
 use Rattle.cat_commands.proofs.searches.counts.count_facets.Goals as goal
 
 pub returns-in_err-query-clause-told : goal.returns-in_err-query-clause-told
@@ -115,13 +117,17 @@ returns-clause-kept_below c =
     (subst (λ (v : View). RemembersOfBelow (segments_of v.leaves) c.args.states.now c.counts_of.new.states) c.view-view.ensures c.counts_of.ensures.kept_below)
 
 pub returns-in_err-query-clause-used : goal.returns-in_err-query-clause-used
-returns-in_err-query-clause-used c = unchanged (λ h. h.now.view) c.args.schema.now c.args.text.now c.args.filters.now c.args.right
+returns-in_err-query-clause-used c =
+    rw (passed_on c.from_residual.result c.in_err-query.field-0.0 c.from_residual.ensures)
+    (unchanged (λ h. h.now.view) c.args.schema.now c.args.text.now c.args.filters.now c.args.right)
 
 pub returns-in_default-clause-used : goal.returns-in_default-clause-used
 returns-in_default-clause-used c = unchanged (λ h. h.now.view) c.args.schema.now c.args.text.now c.args.filters.now c.args.right
 
 pub returns-in_err-judge-clause-used : goal.returns-in_err-judge-clause-used
-returns-in_err-judge-clause-used c = unchanged (λ h. h.now.view) c.args.schema.now c.args.text.now c.args.filters.now c.args.right
+returns-in_err-judge-clause-used c =
+    rw (passed_on c.from_residual-in_err-judge.result c.in_err-judge.field-0.0 c.from_residual-in_err-judge.ensures)
+    (unchanged (λ h. h.now.view) c.args.schema.now c.args.text.now c.args.filters.now c.args.right)
 
 pub returns-in_default-query-clause-used : goal.returns-in_default-query-clause-used
 returns-in_default-query-clause-used c = unchanged (λ h. h.now.view) c.args.schema.now c.args.text.now c.args.filters.now c.args.right
@@ -132,8 +138,9 @@ returns-in_err-facets-clause-used c =
     let old = c.args.filters.now in
     let new = c.counts_of.new.filters in
     let spelled : Spells c.args.schema.now c.args.text.now q = rw c.in-Some-query.is at c.in_ok-query.ensures.ok in
-    by_right (new ≡ old) (λ h. UsesSpelled c.args.schema.now c.args.text.now h.now.view old new) c.args.right c.in-Some.hold c.in-Some.is
-    (inl (q, spelled, subst (λ (v : View). Uses q v old new) c.view-view.ensures c.in_err-facets.ensures.used))
+    rw (passed_on c.from_residual-in_err-facets.result c.in_err-facets.field-0.0 c.from_residual-in_err-facets.ensures)
+    (by_right (new ≡ old) (λ h. UsesSpelled c.args.schema.now c.args.text.now h.now.view old new) c.args.right c.in-Some.hold c.in-Some.is
+    (inl (q, spelled, subst (λ (v : View). Uses q v old new) c.view-view.ensures c.in_err-facets.ensures.used)))
 
 pub returns-clause-noted : goal.returns-clause-noted
 returns-clause-noted c =
@@ -143,3 +150,11 @@ returns-clause-noted c =
     let spelled : Spells c.args.schema.now c.args.text.now q = rw c.in-Some-query.is at c.in_ok-query.ensures.ok in
     to_right (λ h. NotesSpelled c.args.schema.now c.args.text.now h.now.view old new) c.args.right c.in-Some.hold c.in-Some.is
     (q, spelled, subst (λ (v : View). UsesAndNotes q v old new) c.view-view.ensures c.in_ok-facets.ensures.noted)
+
+pub returns-in_err-facets-clause-due : goal.returns-in_err-facets-clause-due
+returns-in_err-facets-clause-due c =
+    let given = c.from_residual-in_err-facets.result in
+    let e = c.in_err-facets.field-0.0 in
+    to_right (λ h. (q : model.Query) → Spells c.args.schema.now c.args.text.now q → GivesDue h.now.view (Read.facets c.args.dimension.now c.args.count (Ok q)) given) c.args.right c.in-Some.hold c.in-Some.is
+    (λ q spelled. subst (λ (v : View). GivesDue v (Read.facets c.args.dimension.now c.args.count (Ok q)) given) c.view-view.ensures
+    (due_passed c.view-view.result.now (Read.facets c.args.dimension.now c.args.count (Ok q)) e (Err e) given refl (passed_on given e c.from_residual-in_err-facets.ensures) (c.in_err-facets.ensures.due q)))

@@ -1,5 +1,6 @@
 use Rattle.std.proofs.Common.{◌∙◌, ap, subst}
 use Rattle.std.specs.Prelude.{Ok}
+use Rattle.std.specs.Result.{result_from_control_flow}
 use Rattle.cat_model.specs.Answer.{Found}
 use Rattle.cat_model.specs.View.{segments_of}
 use Rattle.cat_cached_sets.specs.cat_query.View.{query_of}
@@ -11,32 +12,32 @@ use Rattle.cat_commands.proofs.searches.counts.counts_of.Goals as goal
 
 pub returns-clause-ok : goal.returns-clause-ok
 returns-clause-ok c =
-    let is = prepared_is c.prepare.result c.in_ok-prepared.prepared c.in_ok-prepared.is c.args.view.now c.args.query c.prepare.ensures.ok in
+    let is = prepared_is c.prepare-prepared.result c.in_ok-prepared.prepared (c.branch-prepared.ensures ∙ ap result_from_control_flow c.in_ok-prepared.is) c.args.view.now c.args.query c.prepare-prepared.ensures.ok in
     subst (λ (p : Prepared). IsAnswerTo p.view c.args.dimension.now p.query c.args.count (Ok (Found.facets c.in_ok-facets.facets))) is
     c.in_ok-facets.ensures.ok
 
 pub returns-clause-noted : goal.returns-clause-noted
 returns-clause-noted c =
-    let is = prepared_is c.prepare.result c.in_ok-prepared.prepared c.in_ok-prepared.is c.args.view.now c.args.query c.prepare.ensures.ok in
-    noted_after (query_of c.args.query) (query_of c.into_query.result) c.args.view.now c.args.filters.now c.prepare.new.filters c.note.new.self c.prepare.ensures.used
+    let is = prepared_is c.prepare-prepared.result c.in_ok-prepared.prepared (c.branch-prepared.ensures ∙ ap result_from_control_flow c.in_ok-prepared.is) c.args.view.now c.args.query c.prepare-prepared.ensures.ok in
+    noted_after (query_of c.args.query) (query_of c.into_query.result) c.args.view.now c.args.filters.now c.prepare-prepared.new.filters c.note.new.self c.prepare-prepared.ensures.used
     (c.into_query.ensures ∙ ap (λ (p : Prepared). query_of p.query) is) c.note.ensures.noted
 
 pub returns-clause-kept : goal.returns-clause-kept
 returns-clause-kept c =
-    let is = prepared_is c.prepare.result c.in_ok-prepared.prepared c.in_ok-prepared.is c.args.view.now c.args.query c.prepare.ensures.ok in
+    let is = prepared_is c.prepare-prepared.result c.in_ok-prepared.prepared (c.branch-prepared.ensures ∙ ap result_from_control_flow c.in_ok-prepared.is) c.args.view.now c.args.query c.prepare-prepared.ensures.ok in
     subst (λ (p : Prepared). RemembersOf (segments_of p.view.leaves) c.args.states.now c.counts.new.self) is c.counts.ensures.known
 
 pub returns-clause-kept_below : goal.returns-clause-kept_below
 returns-clause-kept_below c =
-    let is = prepared_is c.prepare.result c.in_ok-prepared.prepared c.in_ok-prepared.is c.args.view.now c.args.query c.prepare.ensures.ok in
+    let is = prepared_is c.prepare-prepared.result c.in_ok-prepared.prepared (c.branch-prepared.ensures ∙ ap result_from_control_flow c.in_ok-prepared.is) c.args.view.now c.args.query c.prepare-prepared.ensures.ok in
     subst (λ (p : Prepared). RemembersOfBelow (segments_of p.view.leaves) c.args.states.now c.counts.new.self) is c.counts.ensures.below
 
 pub returns-in_err-facets-clause-kept : goal.returns-in_err-facets-clause-kept
 returns-in_err-facets-clause-kept c =
-    let is = prepared_is c.prepare.result c.in_ok-prepared.prepared c.in_ok-prepared.is c.args.view.now c.args.query c.prepare.ensures.ok in
+    let is = prepared_is c.prepare-prepared.result c.in_ok-prepared.prepared (c.branch-prepared.ensures ∙ ap result_from_control_flow c.in_ok-prepared.is) c.args.view.now c.args.query c.prepare-prepared.ensures.ok in
     subst (λ (p : Prepared). RemembersOf (segments_of p.view.leaves) c.args.states.now c.counts.new.self) is c.counts.ensures.known
 
 pub returns-in_err-facets-clause-kept_below : goal.returns-in_err-facets-clause-kept_below
 returns-in_err-facets-clause-kept_below c =
-    let is = prepared_is c.prepare.result c.in_ok-prepared.prepared c.in_ok-prepared.is c.args.view.now c.args.query c.prepare.ensures.ok in
+    let is = prepared_is c.prepare-prepared.result c.in_ok-prepared.prepared (c.branch-prepared.ensures ∙ ap result_from_control_flow c.in_ok-prepared.is) c.args.view.now c.args.query c.prepare-prepared.ensures.ok in
     subst (λ (p : Prepared). RemembersOfBelow (segments_of p.view.leaves) c.args.states.now c.counts.new.self) is c.counts.ensures.below

@@ -1,4 +1,4 @@
-use Rattle.std.proofs.Common.{◌≡◌, ◌∙◌, All, ap, inl, option_map, subst, sym}
+use Rattle.std.proofs.Common.{◌≡◌, ◌∙◌, All, ap, inl, option_map, refl, subst, sym}
 use Rattle.std.specs.Prelude.{Err, Ok, Some}
 use Rattle.cat_model.specs.Answer.{Found, Read}
 use Rattle.cat_model.specs.Grammar.{Spells}
@@ -8,7 +8,10 @@ use Rattle.cat_model.specs.View.{View, segments_of}
 use Rattle.cat_cached_sets.specs.filters.Known.{Knows}
 use Rattle.cat_commands.specs.searches.Uses.{NotesSpelled, Uses, UsesAndNotes, UsesSpelled}
 use Rattle.cat_commands.proofs.searches.Cached.{by_right, of_right, to_right, unchanged}
-use Rattle.cat_commands.proofs.searches.Told.{fault_told, find_is, found_told, memory_told, passed_on, refusal_told, unheld_told}
+use Rattle.cat_commands.specs.searches.Reads.{GivesDue}
+use Rattle.cat_protocol.specs.cat_search.Asks.{read_of}
+use Rattle.cat_model.specs.Query as model
+use Rattle.cat_commands.proofs.searches.Told.{due_passed, fault_told, find_is, found_told, memory_told, passed_on, refusal_told, unheld_told}
 use Rattle.cat_commands.proofs.searches.pages.find.Goals as goal
 
 pub returns-in_err-query-clause-told : goal.returns-in_err-query-clause-told
@@ -59,13 +62,17 @@ returns-clause-told c =
     (ap (option_map (λ h. h.now.view)) c.in-Some.is ∙ ap Some (sym c.view-view.ensures)) (Ok (Found.page c.in_ok-page.page)) c.in_ok-page.ensures.ok
 
 pub returns-in_err-query-clause-used : goal.returns-in_err-query-clause-used
-returns-in_err-query-clause-used c = unchanged (λ h. h.now.view) c.args.schema.now c.args.text.now c.args.filters.now c.args.right
+returns-in_err-query-clause-used c =
+    rw (passed_on c.from_residual.result c.in_err-query.field-0.0 c.from_residual.ensures)
+    (unchanged (λ h. h.now.view) c.args.schema.now c.args.text.now c.args.filters.now c.args.right)
 
 pub returns-in_default-clause-used : goal.returns-in_default-clause-used
 returns-in_default-clause-used c = unchanged (λ h. h.now.view) c.args.schema.now c.args.text.now c.args.filters.now c.args.right
 
 pub returns-in_err-judge-clause-used : goal.returns-in_err-judge-clause-used
-returns-in_err-judge-clause-used c = unchanged (λ h. h.now.view) c.args.schema.now c.args.text.now c.args.filters.now c.args.right
+returns-in_err-judge-clause-used c =
+    rw (passed_on c.from_residual-in_err-judge.result c.in_err-judge.field-0.0 c.from_residual-in_err-judge.ensures)
+    (unchanged (λ h. h.now.view) c.args.schema.now c.args.text.now c.args.filters.now c.args.right)
 
 pub returns-in_default-query-clause-used : goal.returns-in_default-query-clause-used
 returns-in_default-query-clause-used c = unchanged (λ h. h.now.view) c.args.schema.now c.args.text.now c.args.filters.now c.args.right
@@ -76,8 +83,9 @@ returns-in_err-page-clause-used c =
     let old = c.args.filters.now in
     let new = c.page_of.new.filters in
     let spelled : Spells c.args.schema.now c.args.text.now q = rw c.in-Some-query.is at c.in_ok-query.ensures.ok in
-    by_right (new ≡ old) (λ h. UsesSpelled c.args.schema.now c.args.text.now h.now.view old new) c.args.right c.in-Some.hold c.in-Some.is
-    (inl (q, spelled, subst (λ (v : View). Uses q v old new) c.view-view.ensures c.in_err-page.ensures.used))
+    rw (passed_on c.from_residual-in_err-page.result c.in_err-page.field-0.0 c.from_residual-in_err-page.ensures)
+    (by_right (new ≡ old) (λ h. UsesSpelled c.args.schema.now c.args.text.now h.now.view old new) c.args.right c.in-Some.hold c.in-Some.is
+    (inl (q, spelled, subst (λ (v : View). Uses q v old new) c.view-view.ensures c.in_err-page.ensures.used)))
 
 pub returns-clause-noted : goal.returns-clause-noted
 returns-clause-noted c =
@@ -92,3 +100,12 @@ pub page_of-requires : goal.page_of-requires
 page_of-requires c =
     subst (λ (v : View). All (Knows c.args.filters.now) (segments_of v.leaves)) (sym c.view-view.ensures)
     (of_right (λ h. All (Knows c.args.filters.now) (segments_of h.now.view.leaves)) c.args.right c.in-Some.hold c.in-Some.is c.requires)
+
+pub returns-in_err-page-clause-due : goal.returns-in_err-page-clause-due
+returns-in_err-page-clause-due c =
+    let ask = c.args.ask in
+    let given = c.from_residual-in_err-page.result in
+    let e = c.in_err-page.field-0.0 in
+    to_right (λ h. (q : model.Query) → Spells c.args.schema.now c.args.text.now q → GivesDue h.now.view (read_of ask q) given) c.args.right c.in-Some.hold c.in-Some.is
+    (λ q spelled. subst (λ (v : View). GivesDue v (read_of ask q) given) c.view-view.ensures
+    (due_passed c.view-view.result.now (read_of ask q) e (Err e) given refl (passed_on given e c.from_residual-in_err-page.ensures) (c.in_err-page.ensures.due q)))
