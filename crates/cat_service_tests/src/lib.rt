@@ -6,3 +6,5 @@ pub mod days;
 pub mod inputs;
 pub mod lines;
 pub mod serving;
+#[cfg(test)]
+mod verdict;

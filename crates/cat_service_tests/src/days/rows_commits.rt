@@ -1,5 +1,6 @@
 //! Commits with their texts, snapshots, and the files that they and tokens need.
-use crate::days::script::{Rows, Script, expect_days, expect_rows};
+use crate::days::script::{Rows, Script, expect_days, expect_rows, expect_script};
+use std::alloc::{AllocError, Global};
 use std::test::Fail;
 
 /// Days of commits and snapshots, line by line.
@@ -133,16 +134,35 @@ fn a_commit_carries_its_text(rt: HostRuntime) -> Result<(), Fail> {
     expect_rows(&rt, rt.alloc(), ROWS)
 }
 
+/// Adds a COMMIT with the text and what stands behind it.
+fn push_commit(
+    script: &mut Script,
+    alloc: Global,
+    text: &str,
+    behind: &str,
+    reply: &str,
+) -> Result<(), AllocError> {
+    let line = format!(in alloc; "1 COMMIT {text}{behind}")?;
+    script.row(line.as_str(), reply)
+}
+
+/// Adds a COMMIT that is refused for one byte more than the text, one with the text alone, and a NOTE of it.
+fn push_texts(script: &mut Script, alloc: Global, text: &str) -> Result<(), AllocError> {
+    push_commit(script, alloc, text, "x", "1 NO 15")?;
+    push_commit(script, alloc, text, "", "1 OK 1")?;
+    let reply = format!(in alloc; "1 OK ={text}")?;
+    script.row("1 NOTE 1", reply.as_str())
+}
+
+/// The shop's script of those, where the text has 256 bytes.
+fn with_texts(alloc: Global) -> Result<Script, AllocError> {
+    let text = "x".repeat(alloc, 256)?;
+    let mut script = Script::shop(alloc)?;
+    push_texts(&mut script, alloc, text.as_str())?;
+    Ok(script)
+}
+
 #[test]
 fn a_text_of_a_commit_has_256_bytes_at_most(rt: HostRuntime) -> Result<(), Fail> {
-    let alloc = rt.alloc();
-    let long = "x".repeat(alloc, 256)?;
-    let mut script = Script::shop(alloc)?;
-    let line = format!(in alloc; "1 COMMIT {long}x")?;
-    script.row(line.as_str(), "1 NO 15")?;
-    let line = format!(in alloc; "1 COMMIT {long}")?;
-    script.row(line.as_str(), "1 OK 1")?;
-    let reply = format!(in alloc; "1 OK ={long}")?;
-    script.row("1 NOTE 1", reply.as_str())?;
-    script.expect(&rt, alloc, Ok(()))
+    expect_script(&rt, rt.alloc(), with_texts(rt.alloc()))
 }

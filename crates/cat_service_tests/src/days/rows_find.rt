@@ -1,5 +1,7 @@
 //! Pages of every query, in every sort and behind every mark.
-use crate::days::script::{Rows, Script, expect_days, expect_rows};
+use crate::days::script::{
+    Rows, SHOP, Script, expect_days, expect_rows, expect_script, expect_tables,
+};
 use std::alloc::{AllocError, Global};
 use std::test::Fail;
 
@@ -86,8 +88,6 @@ const PRICED: Rows<'static> = &[
 
 #[test]
 fn ties_go_by_number_and_a_missing_value_is_last(rt: HostRuntime) -> Result<(), Fail> {
-    let mut script = Script::shop(rt.alloc())?;
-    script.rows(PRICED)?;
     const ROWS: Rows<'static> = &[
         (
             "1 FIND 4 9 +price . *:*",
@@ -104,14 +104,11 @@ fn ties_go_by_number_and_a_missing_value_is_last(rt: HostRuntime) -> Result<(), 
         ("1 FIND 4 9 +id . *:*", "1 NO 28"),
         ("1 FIND 4 9 +size . *:*", "1 NO 28"),
     ];
-    script.rows(ROWS)?;
-    script.expect(&rt, rt.alloc(), Ok(()))
+    expect_tables(&rt, rt.alloc(), &[PRICED, ROWS])
 }
 
 #[test]
 fn a_mark_is_any_record_and_the_total_counts_all(rt: HostRuntime) -> Result<(), Fail> {
-    let mut script = Script::shop(rt.alloc())?;
-    script.rows(PRICED)?;
     const ROWS: Rows<'static> = &[
         ("1 FIND 4 2 +price . *:*", "1 OK 2 4\n1 4 d 2\n1 1 a 7"),
         ("1 FIND 4 2 +price 1 *:*", "1 OK 2 4\n1 3 c 7\n1 2 b ."),
@@ -120,8 +117,7 @@ fn a_mark_is_any_record_and_the_total_counts_all(rt: HostRuntime) -> Result<(), 
         ("1 FIND 4 9 +price 4 price:7", "1 OK 2 2\n1 1 a 7\n1 3 c 7"),
         ("1 FIND 4 9 . 2 *:*", "1 OK 2 4\n1 3 c .\n1 4 d ."),
     ];
-    script.rows(ROWS)?;
-    script.expect(&rt, rt.alloc(), Ok(()))
+    expect_tables(&rt, rt.alloc(), &[PRICED, ROWS])
 }
 
 /// One item, shown to session 1.
@@ -144,25 +140,26 @@ fn push_clauses(
     script.row(line.as_str(), reply)
 }
 
+/// The shop's script of FINDs of 64 clauses and of one more.
+fn with_clauses(alloc: Global) -> Result<Script, AllocError> {
+    let mut script = Script::of(alloc, SHOP, &[ONE])?;
+    push_clauses(&mut script, alloc, "*:*", "1 OK 1 1\n1 1 a .")?;
+    push_clauses(&mut script, alloc, "*:* *:*", "1 NO 24 256")?;
+    Ok(script)
+}
+
 #[test]
 fn a_query_has_at_most_64_clauses(rt: HostRuntime) -> Result<(), Fail> {
-    let mut script = Script::shop(rt.alloc())?;
-    script.rows(ONE)?;
-    push_clauses(&mut script, rt.alloc(), "*:*", "1 OK 1 1\n1 1 a .")?;
-    push_clauses(&mut script, rt.alloc(), "*:* *:*", "1 NO 24 256")?;
-    script.expect(&rt, rt.alloc(), Ok(()))
+    expect_script(&rt, rt.alloc(), with_clauses(rt.alloc()))
 }
 
 #[test]
 fn a_query_has_at_most_8_groups_in_one_another(rt: HostRuntime) -> Result<(), Fail> {
-    let mut script = Script::shop(rt.alloc())?;
-    script.rows(ONE)?;
     const ROWS: Rows<'static> = &[
         ("1 FIND 1 9 . . ((((((((*:*))))))))", "1 OK 1 1\n1 1 a ."),
         ("1 FIND 1 9 . . (((((((((*:*)))))))))", "1 NO 24 8"),
     ];
-    script.rows(ROWS)?;
-    script.expect(&rt, rt.alloc(), Ok(()))
+    expect_tables(&rt, rt.alloc(), &[ONE, ROWS])
 }
 
 #[test]

@@ -23,9 +23,7 @@ fn expect_in_folder<R: Abort + Files + AllocGlobal + Clone + Drop>(
     rows: Rows<'_>,
     end: Result<(), ServeFault>,
 ) -> Result<(), Fail> {
-    let mut script = Script::new(rt.alloc());
-    script.row(schema.0, schema.1)?;
-    script.rows(rows)?;
+    let script = Script::of(rt.alloc(), schema, &[rows])?;
     let folder = Folder::at(rt.clone()?, rt.alloc(), path)?;
     script.expect_over(rt, rt.alloc(), folder, end)
 }

@@ -1,6 +1,6 @@
 //! What a session sees under a token that it holds.
-use crate::days::script::{Rows, Script, expect_days, expect_rows};
-use std::alloc::Global;
+use crate::days::script::{Rows, Script, expect_days, expect_rows, expect_script};
+use std::alloc::{AllocError, Global};
 use std::test::Fail;
 
 /// Days of sessions that hold views, line by line.
@@ -198,25 +198,47 @@ fn two_shops_that_agree_up_to_a_token_answer_alike(rt: HostRuntime) -> Result<()
     expect_rows(&rt, rt.alloc(), BUSY)
 }
 
-/// The shop's script, where session 1 puts an item and refreshes 63 times, and opens each token if it holds them.
-/// Then 64 records stand, of the tokens 0 to 63.
-fn with_64_records(alloc: Global, holds: bool) -> Result<Script, Fail> {
+/// Adds a write, the token of which is recorded, and which the session opens if it holds it.
+fn push_record(
+    script: &mut Script,
+    alloc: Global,
+    token: u64,
+    holds: bool,
+) -> Result<(), AllocError> {
+    let reply = format!(in alloc; "1 OK {token}")?;
+    script.row("1 PUT {\"id\":\"a\"}", reply.as_str())?;
+    script.row("1 REFRESH", reply.as_str())?;
+    if holds {
+        script.row("1 OPEN", reply.as_str())?;
+    }
+    Ok(())
+}
+
+/// Adds so many of them, the first under the token 1.
+fn push_records(
+    script: &mut Script,
+    alloc: Global,
+    count: u64,
+    holds: bool,
+) -> Result<(), AllocError> {
+    for token in 1..=count {
+        push_record(script, alloc, token, holds)?;
+    }
+    Ok(())
+}
+
+/// The shop's script, where session 1 puts an item and refreshes 63 times, and opens each token if it holds them, and these rows
+/// behind that. Before them 64 records stand, of the tokens 0 to 63.
+fn behind_64_records(alloc: Global, holds: bool, rows: Rows<'_>) -> Result<Script, AllocError> {
     let mut script = Script::shop(alloc)?;
     script.row("1 OPEN", "1 OK 0")?;
-    for token in 1..64u64 {
-        let reply = format!(in alloc; "1 OK {token}")?;
-        script.row("1 PUT {\"id\":\"a\"}", reply.as_str())?;
-        script.row("1 REFRESH", reply.as_str())?;
-        if holds {
-            script.row("1 OPEN", reply.as_str())?;
-        }
-    }
+    push_records(&mut script, alloc, 63, holds)?;
+    script.rows(rows)?;
     Ok(script)
 }
 
 #[test]
 fn no_record_stands_past_64_held_ones(rt: HostRuntime) -> Result<(), Fail> {
-    let mut script = with_64_records(rt.alloc(), true)?;
     const ROWS: Rows<'static> = &[
         ("1 REFRESH", "1 OK 63"),
         ("1 PUT {\"id\":\"a\"}", "1 OK 64"),
@@ -227,13 +249,11 @@ fn no_record_stands_past_64_held_ones(rt: HostRuntime) -> Result<(), Fail> {
         ("1 OPEN 5", "1 NO 21"),
         ("1 FIND 6 9 . . *:*", "1 OK 1 1\n1 6 a ."),
     ];
-    script.rows(ROWS)?;
-    script.expect(&rt, rt.alloc(), Ok(()))
+    expect_script(&rt, rt.alloc(), behind_64_records(rt.alloc(), true, ROWS))
 }
 
 #[test]
 fn the_oldest_record_that_nobody_holds_goes_first(rt: HostRuntime) -> Result<(), Fail> {
-    let mut script = with_64_records(rt.alloc(), false)?;
     const ROWS: Rows<'static> = &[
         ("2 OPEN 1", "2 OK 1"),
         ("1 PUT {\"id\":\"a\"}", "1 OK 64"),
@@ -244,6 +264,5 @@ fn the_oldest_record_that_nobody_holds_goes_first(rt: HostRuntime) -> Result<(),
         ("3 OPEN 3", "3 OK 3"),
         ("2 FIND 1 9 . . *:*", "2 OK 1 1\n2 1 a ."),
     ];
-    script.rows(ROWS)?;
-    script.expect(&rt, rt.alloc(), Ok(()))
+    expect_script(&rt, rt.alloc(), behind_64_records(rt.alloc(), false, ROWS))
 }

@@ -2,6 +2,7 @@
 //! does between.
 use crate::days::rows_run::open_shop;
 use crate::days::script::SHOP;
+use cat_base::Refusal;
 use cat_directory::MemoryDirectory;
 use cat_plain::{Answer, Plain};
 use cat_service::World;
@@ -135,7 +136,53 @@ impl Dice {
     }
 }
 
+/// Fails unless both say the same to the line.
+fn expect_same(rt: &impl Abort, told: &[u8], wanted: &[u8], line: &str) -> Result<(), Fail> {
+    let (told, wanted) = (from_utf8(told)?, from_utf8(wanted)?);
+    assert_eq!(rt; told, wanted, "to {line}");
+    Ok(())
+}
+
+/// What the plain catalogue says to a line. The dice take a token that was recorded.
+fn plain_reply(
+    alloc: Global,
+    plain: &mut Plain,
+    dice: &mut Dice,
+    text: &str,
+) -> Result<Vec<u8>, Refusal> {
+    let reply = plain.step(&Line::read(text)?);
+    let said = reply.text(alloc)?;
+    if let (true, Ok(Answer::Number(token))) = (text.ends_with("REFRESH"), reply.answer) {
+        dice.tokens.push(token)?;
+    }
+    Ok(said)
+}
+
+/// What the service says to a line.
+fn service_reply(
+    alloc: Global,
+    world: &mut World<MemoryDirectory>,
+    text: &str,
+) -> Result<Vec<u8>, Refusal> {
+    let reply = world.step(&Line::read(text)?);
+    Ok(reply.text(alloc)?)
+}
+
 /// Says a line to both. They have to say the same.
+fn expect_said_alike(
+    rt: &impl Abort,
+    alloc: Global,
+    world: &mut World<MemoryDirectory>,
+    plain: &mut Plain,
+    dice: &mut Dice,
+    text: &str,
+) -> Result<(), Fail> {
+    let told = service_reply(alloc, world, text)?;
+    let wanted = plain_reply(alloc, plain, dice, text)?;
+    expect_same(rt, &told, &wanted, text)
+}
+
+/// Says a line that the dice throw to both.
 fn expect_alike(
     rt: &impl Abort,
     alloc: Global,
@@ -144,33 +191,42 @@ fn expect_alike(
     dice: &mut Dice,
 ) -> Result<(), Fail> {
     let text = dice.line(alloc)?;
-    let line = Line::read(text.as_str())?;
-    let told = world.step(&line).text(alloc)?;
-    let reply = plain.step(&line);
-    let wanted = reply.text(alloc)?;
-    assert_eq!(rt;
-        from_utf8(told.as_slice())?,
-        from_utf8(wanted.as_slice())?,
-        "to {text}"
-    );
-    if let (true, Ok(Answer::Number(token))) = (text.as_str().ends_with("REFRESH"), reply.answer) {
-        dice.tokens.push(token)?;
-    }
-    Ok(())
+    expect_said_alike(rt, alloc, world, plain, dice, text.as_str())
 }
 
-/// Has the service alone do what is due after so many lines.
-fn maintain(rt: &impl Abort, world: &mut World<MemoryDirectory>, number: u64) -> Result<(), Fail> {
-    let line = match number % 12 {
-        0 => "0 SWEEP",
-        5 if number % 5 == 0 => "0 FORCE",
-        7 => "0 COMMIT",
-        3 | 4 | 8 | 9 => "0 MERGE",
-        1 | 2 | 6 | 10 | 11 => "0 WARM",
-        _ => return Ok(()),
-    };
-    let reply = world.step(&Line::read(line)?);
-    assert!(rt; reply.answer.is_ok(), "{line} is answered");
+/// The line of what is due after so many lines, if anything is.
+fn chore_after(number: u64) -> Option<&'static str> {
+    match number % 12 {
+        0 => Some("0 SWEEP"),
+        5 if number % 5 == 0 => Some("0 FORCE"),
+        7 => Some("0 COMMIT"),
+        3 | 4 | 8 | 9 => Some("0 MERGE"),
+        1 | 2 | 6 | 10 | 11 => Some("0 WARM"),
+        _ => None,
+    }
+}
+
+/// Has the service alone do what is due after so many lines. Answers whether it does that.
+fn is_maintained(world: &mut World<MemoryDirectory>, number: u64) -> Result<bool, Refusal> {
+    match chore_after(number) {
+        Some(line) => Ok(world.step(&Line::read(line)?).answer.is_ok()),
+        None => Ok(true),
+    }
+}
+
+/// Says the lines that the dice throw to both, and has the service do what is due behind each.
+fn expect_run_alike(
+    rt: &impl Abort,
+    alloc: Global,
+    world: &mut World<MemoryDirectory>,
+    plain: &mut Plain,
+    dice: &mut Dice,
+) -> Result<(), Fail> {
+    for number in 0..COUNT {
+        expect_alike(rt, alloc, world, plain, dice)?;
+        assert!(rt; is_maintained(world, number)?);
+    }
+    assert!(rt; has_sets(world)?);
     Ok(())
 }
 
@@ -185,29 +241,29 @@ fn expect_all_alike(
         state: seed,
         tokens: Vec::new(alloc),
     };
-    for number in 0..COUNT {
-        expect_alike(rt, alloc, world, &mut plain, &mut dice)?;
-        maintain(rt, world, number)?;
-    }
-    expect_sets(rt, world)
+    expect_run_alike(rt, alloc, world, &mut plain, &mut dice)
 }
 
-/// Sets of rows have to stand in the cache, so that replies were compared that came from them.
-fn expect_sets(rt: &impl Abort, world: &mut World<MemoryDirectory>) -> Result<(), Fail> {
-    let Ok(Told::News(News::State(stat))) = world.step(&Line::read("0 STAT")?).answer else {
-        panic!(rt; "STAT is answered");
-    };
-    assert!(rt; stat.cached > 0, "no set is cached");
-    Ok(())
+/// Whether sets of rows stand in the cache, so that replies were compared that came from them.
+fn has_sets(world: &mut World<MemoryDirectory>) -> Result<bool, Refusal> {
+    match world.step(&Line::read("0 STAT")?).answer {
+        Ok(Told::News(News::State(stat))) => Ok(stat.cached > 0),
+        _ => Ok(false),
+    }
+}
+
+/// Compares both in a world of its own.
+fn expect_seed_alike(rt: &impl Abort, alloc: Global, seed: u64) -> Result<(), Fail> {
+    let mut world = open_shop(alloc)?;
+    let told = expect_all_alike(rt, alloc, &mut world, seed);
+    let _directory = world.end();
+    told
 }
 
 #[test]
 fn the_service_answers_as_plain_lists_do(rt: HostRuntime) -> Result<(), Fail> {
     for seed in 1..=3 {
-        let mut world = open_shop(rt.alloc())?;
-        let told = expect_all_alike(&rt, rt.alloc(), &mut world, seed);
-        let _directory = world.end();
-        told?;
+        expect_seed_alike(&rt, rt.alloc(), seed)?;
     }
     Ok(())
 }

@@ -1,5 +1,5 @@
 //! Lines that are refused, and what they leave as it was.
-use crate::days::script::{Rows, Script, expect_days, expect_rows};
+use crate::days::script::{Rows, Script, expect_days, expect_rows, expect_script};
 use std::alloc::{AllocError, Global};
 use std::test::Fail;
 
@@ -78,21 +78,20 @@ fn push_long(
     script.row(text.as_str(), reply)
 }
 
-/// One byte past the limit.
-#[test]
-fn long_ids_and_keywords_are_refused_and_take_no_number(rt: HostRuntime) -> Result<(), Fail> {
-    let alloc = rt.alloc();
-    let mut script = Script::shop(alloc)?;
-    push_long(
-        &mut script,
-        alloc,
-        ("1 PUT {\"id\":\"", 65, "\"}"),
-        "1 NO 14",
-    )?;
+/// The shop's script of an id and a keyword that are one byte past the limit.
+fn with_long(alloc: Global) -> Result<Script, AllocError> {
+    let id = ("1 PUT {\"id\":\"", 65, "\"}");
     let brand = ("1 PUT {\"id\":\"a\",\"brand\":\"", 129, "\"}");
+    let mut script = Script::shop(alloc)?;
+    push_long(&mut script, alloc, id, "1 NO 14")?;
     push_long(&mut script, alloc, brand, "1 NO 15")?;
     script.row("1 DEL zz", "1 OK 1")?;
-    script.expect(&rt, alloc, Ok(()))
+    Ok(script)
+}
+
+#[test]
+fn long_ids_and_keywords_are_refused_and_take_no_number(rt: HostRuntime) -> Result<(), Fail> {
+    expect_script(&rt, rt.alloc(), with_long(rt.alloc()))
 }
 
 #[test]

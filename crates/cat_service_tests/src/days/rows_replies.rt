@@ -2,7 +2,7 @@
 use cat_base::{Refusal, SessionNo, Text};
 use cat_directory::FileName;
 use cat_service::cat_protocol::replies::{Answer, News, Reply, SegmentStat, Stat};
-use std::alloc::Global;
+use std::alloc::{AllocError, Global};
 use std::process::Abort;
 use std::test::Fail;
 
@@ -99,14 +99,14 @@ fn maintenance_is_told_in_a_word_and_a_number(rt: HostRuntime) -> Result<(), Fai
     Ok(())
 }
 
-#[test]
-fn a_state_has_six_numbers_and_a_line_for_each_segment(rt: HostRuntime) -> Result<(), Fail> {
-    let mut segments = Vec::new(rt.alloc());
-    segments.push(SegmentStat {
+/// A state of one segment.
+fn state(alloc: Global) -> Result<Answer, AllocError> {
+    let segment = SegmentStat {
         number: 7,
         rows: 9,
         live: 8,
-    })?;
+    };
+    let segments = vec![in alloc; segment]?;
     let stat = Stat {
         writes: 1,
         buffered: 2,
@@ -115,45 +115,55 @@ fn a_state_has_six_numbers_and_a_line_for_each_segment(rt: HostRuntime) -> Resul
         pending: 6,
         segments,
     };
-    let answer = Ok(Answer::News(News::State(stat)));
+    Ok(Answer::News(News::State(stat)))
+}
+
+#[test]
+fn a_state_has_six_numbers_and_a_line_for_each_segment(rt: HostRuntime) -> Result<(), Fail> {
+    let answer = Ok(state(rt.alloc())?);
     expect_text(&rt, rt.alloc(), 0, answer, "0 OK 1 2 1 4 5 6\n0 7 9 8\n")
+}
+
+/// Two names of files.
+fn names(alloc: Global) -> Result<Answer, AllocError> {
+    let names = vec![in alloc; FileName::Live(10, 3), FileName::Commit(3)]?;
+    Ok(Answer::Names(names))
 }
 
 #[test]
 fn names_come_one_to_a_line(rt: HostRuntime) -> Result<(), Fail> {
-    let mut names = Vec::new(rt.alloc());
-    names.push(FileName::Live(10, 3))?;
-    names.push(FileName::Commit(3))?;
-    let answer = Ok(Answer::Names(names));
-    expect_text(
-        &rt,
-        rt.alloc(),
-        5,
-        answer,
-        "5 OK 2\n5 _10_3.liv\n5 segments_3\n",
-    )
+    let answer = Ok(names(rt.alloc())?);
+    let wanted = "5 OK 2\n5 _10_3.liv\n5 segments_3\n";
+    expect_text(&rt, rt.alloc(), 5, answer, wanted)
+}
+
+/// Fails unless a commit's text is told so.
+fn expect_commit_text(
+    rt: &impl Abort,
+    alloc: Global,
+    text: &str,
+    wanted: &str,
+) -> Result<(), Fail> {
+    let answer = Ok(Answer::CommitText(Text::from_str(alloc, text)?));
+    expect_text(rt, alloc, 5, answer, wanted)
 }
 
 #[test]
 fn the_text_of_a_commit_stands_behind_an_equals_sign(rt: HostRuntime) -> Result<(), Fail> {
-    let alloc = rt.alloc();
-    let told = Ok(Answer::CommitText(Text::from_str(alloc, "first of May")?));
-    expect_text(&rt, alloc, 5, told, "5 OK =first of May\n")?;
-    let told = Ok(Answer::CommitText(Text::from_str(alloc, "")?));
-    expect_text(&rt, alloc, 5, told, "5 OK =\n")
+    expect_commit_text(&rt, rt.alloc(), "first of May", "5 OK =first of May\n")?;
+    expect_commit_text(&rt, rt.alloc(), "", "5 OK =\n")
+}
+
+/// The text of an item.
+fn source(alloc: Global) -> Result<Answer, AllocError> {
+    let mut source = Vec::new(alloc);
+    source.extend_from_slice(b"{\"id\": \"a\"}")?;
+    Ok(Answer::Source(Some(source)))
 }
 
 #[test]
 fn an_item_is_told_as_it_was_put_or_as_a_dot(rt: HostRuntime) -> Result<(), Fail> {
-    let alloc = rt.alloc();
-    let mut source = Vec::new(alloc);
-    source.extend_from_slice(b"{\"id\": \"a\"}")?;
-    expect_text(
-        &rt,
-        alloc,
-        5,
-        Ok(Answer::Source(Some(source))),
-        "5 OK {\"id\": \"a\"}\n",
-    )?;
-    expect_text(&rt, alloc, 5, Ok(Answer::Source(None)), "5 OK .\n")
+    let answer = Ok(source(rt.alloc())?);
+    expect_text(&rt, rt.alloc(), 5, answer, "5 OK {\"id\": \"a\"}\n")?;
+    expect_text(&rt, rt.alloc(), 5, Ok(Answer::Source(None)), "5 OK .\n")
 }

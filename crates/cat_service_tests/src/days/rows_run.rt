@@ -26,6 +26,17 @@ fn expect_text(rt: &impl Abort, alloc: Global, reply: &Reply, wanted: &str) -> R
     Ok(())
 }
 
+/// Says a line to the world, which has to get this text as its reply.
+fn expect_step(
+    rt: &impl Abort,
+    alloc: Global,
+    world: &mut World<MemoryDirectory>,
+    row: (&str, &str),
+) -> Result<(), Fail> {
+    let reply = world.step(&Line::read(row.0)?);
+    expect_text(rt, alloc, &reply, row.1)
+}
+
 /// Says the lines to the world. Each has to get the text of its reply.
 fn expect_steps(
     rt: &impl Abort,
@@ -33,9 +44,8 @@ fn expect_steps(
     world: &mut World<MemoryDirectory>,
     rows: Rows<'_>,
 ) -> Result<(), Fail> {
-    for &(line, wanted) in rows {
-        let reply = world.step(&Line::read(line)?);
-        expect_text(rt, alloc, &reply, wanted)?;
+    for row in rows {
+        expect_step(rt, alloc, world, *row)?;
     }
     Ok(())
 }

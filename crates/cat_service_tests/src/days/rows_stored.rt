@@ -3,6 +3,7 @@ use crate::days::script::{Rows, SHOP, Script, expect_days, expect_rows};
 use cat_base::Refusal;
 use cat_directory::{Directory, FileName, MemoryDirectory};
 use std::alloc::Global;
+use std::process::Abort;
 use std::test::Fail;
 
 /// Days of stored items, line by line.
@@ -119,16 +120,18 @@ fn forge(alloc: Global, files: &mut MemoryDirectory, bytes: &[u8]) -> Result<(),
     files.append(name, bytes)
 }
 
+/// What the two items leave, with the forged sources.
+fn forged(rt: &impl Abort, alloc: Global) -> Result<MemoryDirectory, Fail> {
+    let script = Script::of(alloc, SHOP, &[COMMITTED])?;
+    let mut files = script.expect_left(rt, alloc)?;
+    forge(alloc, &mut files, FORGED)?;
+    Ok(files)
+}
+
 /// A source that somebody broke into lines is refused, so that none of its lines can be taken for a reply.
 #[test]
 fn a_source_with_a_line_feed_is_damaged(rt: HostRuntime) -> Result<(), Fail> {
-    let alloc = rt.alloc();
-    let mut script = Script::shop(alloc)?;
-    script.rows(COMMITTED)?;
-    let mut files = script.expect_left(&rt, alloc)?;
-    forge(alloc, &mut files, FORGED)?;
-    let mut over = Script::new(alloc);
-    over.row(SHOP.0, "OK 2")?;
-    over.rows(OVER_FORGED)?;
-    over.expect_over(&rt, alloc, files, Ok(()))
+    let script = Script::of(rt.alloc(), (SHOP.0, "OK 2"), &[OVER_FORGED])?;
+    let files = forged(&rt, rt.alloc())?;
+    script.expect_over(&rt, rt.alloc(), files, Ok(()))
 }

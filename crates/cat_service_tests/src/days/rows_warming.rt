@@ -1,7 +1,10 @@
 //! Sets of rows that are made for the queries that were asked: what WARM and STAT tell of them, and that no other reply
 //! depends on them.
-use crate::days::script::{Rows, Script, expect_days, expect_rows};
+use crate::days::script::{
+    Rows, SHOP, Script, expect_days, expect_rows, expect_script, expect_tables,
+};
 use std::alloc::{AllocError, Global};
+use std::process::Abort;
 use std::test::Fail;
 
 /// Days of filters that are warmed, line by line.
@@ -171,16 +174,32 @@ fn warmings_are_answered_as_written(rt: HostRuntime) -> Result<(), Fail> {
     expect_days(&rt, rt.alloc(), WARMINGS)
 }
 
+/// Adds a PUT of an item whose id and price are the number of the write.
+fn push_priced(script: &mut Script, alloc: Global, number: u64) -> Result<(), AllocError> {
+    let line = format!(in alloc; "1 PUT {{\"id\":\"{number}\",\"price\":{number}}}")?;
+    let reply = format!(in alloc; "1 OK {number}")?;
+    script.row(line.as_str(), reply.as_str())
+}
+
+/// Adds so many of them.
+fn push_all_priced(script: &mut Script, alloc: Global, count: u64) -> Result<(), AllocError> {
+    for number in 1..=count {
+        push_priced(script, alloc, number)?;
+    }
+    Ok(())
+}
+
+/// The shop's script of so many of them, and of these rows behind them.
+fn behind_priced(alloc: Global, count: u64, rows: Rows<'_>) -> Result<Script, AllocError> {
+    let mut script = Script::shop(alloc)?;
+    push_all_priced(&mut script, alloc, count)?;
+    script.rows(rows)?;
+    Ok(script)
+}
+
 /// Steps pass 256 rows each, and a segment that comes meanwhile waits for its turn.
 #[test]
 fn a_set_is_made_in_steps(rt: HostRuntime) -> Result<(), Fail> {
-    let alloc = rt.alloc();
-    let mut script = Script::shop(alloc)?;
-    for number in 1..=300u64 {
-        let line = format!(in alloc; "1 PUT {{\"id\":\"{number}\",\"price\":{number}}}")?;
-        let reply = format!(in alloc; "1 OK {number}")?;
-        script.row(line.as_str(), reply.as_str())?;
-    }
     const ROWS: Rows<'static> = &[
         ("1 REFRESH", "1 OK 300"),
         ("1 OPEN", "1 OK 300"),
@@ -204,8 +223,7 @@ fn a_set_is_made_in_steps(rt: HostRuntime) -> Result<(), Fail> {
             "1 OK 2 300\n1 301 0 0\n1 1 1 1",
         ),
     ];
-    script.rows(ROWS)?;
-    script.expect(&rt, alloc, Ok(()))
+    expect_script(&rt, rt.alloc(), behind_priced(rt.alloc(), 300, ROWS))
 }
 
 /// Four items, of which two match, in one segment, with its set cached.
@@ -283,10 +301,7 @@ fn a_set_serves_older_and_newer_views(rt: HostRuntime) -> Result<(), Fail> {
         ),
         PAGE_OF_FOUR,
     ];
-    let mut script = Script::shop(rt.alloc())?;
-    script.rows(WARMED)?;
-    script.rows(ROWS)?;
-    script.expect(&rt, rt.alloc(), Ok(()))
+    expect_tables(&rt, rt.alloc(), &[WARMED, ROWS])
 }
 
 /// A merge takes segments out of the list. Their sets serve who holds them still, and the merged one wants a set of its own.
@@ -323,10 +338,7 @@ fn a_merge_leaves_the_sets_of_what_is_held(rt: HostRuntime) -> Result<(), Fail> 
         PAGE_OF_FOUR,
         COUNTS_OF_FOUR,
     ];
-    let mut script = Script::shop(rt.alloc())?;
-    script.rows(WARMED)?;
-    script.rows(ROWS)?;
-    script.expect(&rt, rt.alloc(), Ok(()))
+    expect_tables(&rt, rt.alloc(), &[WARMED, ROWS])
 }
 
 /// A set that is in the making over a segment that a merge takes is given up once the merge is done, and not before. The merged
@@ -382,26 +394,53 @@ fn a_set_goes_on_beside_a_merge(rt: HostRuntime) -> Result<(), Fail> {
     expect_rows(&rt, rt.alloc(), ROWS)
 }
 
+/// An item, and a view of it.
+const PRICED_1: Rows<'static> = &[
+    ("1 PUT {\"id\":\"a\",\"price\":1}", "1 OK 1"),
+    ("1 REFRESH", "1 OK 1"),
+    ("1 OPEN", "1 OK 1"),
+];
+
+/// A set is begun, and stored by the next step.
+const MADE: Rows<'static> = &[("0 WARM", "0 OK begun"), ("0 WARM", "0 OK stored")];
+
+/// Adds the making of so many sets.
+fn push_made(script: &mut Script, count: u32) -> Result<(), AllocError> {
+    for _made in 0..count {
+        script.rows(MADE)?;
+    }
+    Ok(())
+}
+
+/// Adds a FIND of this price that shows no record, and the making of its set.
+fn push_warmed(script: &mut Script, alloc: Global, price: u64) -> Result<(), AllocError> {
+    let line = format!(in alloc; "1 FIND 1 0 . . price:{price}")?;
+    let reply = if price == 1 { "1 OK 0 1" } else { "1 OK 0 0" };
+    script.row(line.as_str(), reply)?;
+    script.rows(MADE)
+}
+
+/// Adds so many of them.
+fn push_all_warmed(script: &mut Script, alloc: Global, count: u64) -> Result<(), AllocError> {
+    for price in 1..=count {
+        push_warmed(script, alloc, price)?;
+    }
+    Ok(())
+}
+
+/// The shop's script of the item, of so many such FINDs, and of these rows behind them.
+fn behind_warmed(alloc: Global, count: u64, rows: Rows<'_>) -> Result<Script, AllocError> {
+    let mut script = Script::of(alloc, SHOP, &[PRICED_1])?;
+    push_all_warmed(&mut script, alloc, count)?;
+    script.rows(rows)?;
+    Ok(script)
+}
+
 /// Sixty-five queries are asked one after the other, and each gets its set; sixty-four sets stay. The set of the first is then
 /// begun anew, and given up as its segment goes without leaving a row.
 #[test]
 fn the_set_of_a_segment_that_leaves_no_row_is_given_up(rt: HostRuntime) -> Result<(), Fail> {
-    let alloc = rt.alloc();
-    let mut script = Script::shop(alloc)?;
-    const FIRST: Rows<'static> = &[
-        ("1 PUT {\"id\":\"a\",\"price\":1}", "1 OK 1"),
-        ("1 REFRESH", "1 OK 1"),
-        ("1 OPEN", "1 OK 1"),
-    ];
-    script.rows(FIRST)?;
-    for price in 1..=65u64 {
-        let line = format!(in alloc; "1 FIND 1 0 . . price:{price}")?;
-        let reply = if price == 1 { "1 OK 0 1" } else { "1 OK 0 0" };
-        script.row(line.as_str(), reply)?;
-        script.row("0 WARM", "0 OK begun")?;
-        script.row("0 WARM", "0 OK stored")?;
-    }
-    const LAST: Rows<'static> = &[
+    const ROWS: Rows<'static> = &[
         ("0 STAT", "0 OK 1 0 1 2 64 0\n0 1 1 1"),
         ("1 FIND 1 9 . . price:1", "1 OK 1 1\n1 1 a ."),
         ("0 WARM", "0 OK begun"),
@@ -412,32 +451,48 @@ fn the_set_of_a_segment_that_leaves_no_row_is_given_up(rt: HostRuntime) -> Resul
         ("0 WARM", "0 OK idle"),
         ("1 FIND 1 9 . . price:1", "1 OK 1 1\n1 1 a ."),
     ];
-    script.rows(LAST)?;
-    script.expect(&rt, alloc, Ok(()))
+    expect_script(&rt, rt.alloc(), behind_warmed(rt.alloc(), 65, ROWS))
+}
+
+/// An item is found by two spellings of one query, which share a set.
+const TWO_SPELLINGS: Rows<'static> = &[
+    ("1 PUT {\"id\":\"a\",\"price\":5}", "1 OK 1"),
+    ("1 REFRESH", "1 OK 1"),
+    ("1 OPEN", "1 OK 1"),
+    ("1 FIND 1 9 . . price:5", "1 OK 1 1\n1 1 a ."),
+    ("1 FIND 1 9 . . price:\"005\"", "1 OK 1 1\n1 1 a ."),
+    ("0 WARM", "0 OK begun"),
+    ("0 WARM", "0 OK stored"),
+    ("0 WARM", "0 OK idle"),
+];
+
+/// Adds a PUT of an item whose id is the number of the write.
+fn push_item(script: &mut Script, alloc: Global, number: u64) -> Result<(), AllocError> {
+    let line = format!(in alloc; "1 PUT {{\"id\":\"{number}\"}}")?;
+    let reply = format!(in alloc; "1 OK {number}")?;
+    script.row(line.as_str(), reply.as_str())
+}
+
+/// Adds them from the second write to this one.
+fn push_items(script: &mut Script, alloc: Global, last: u64) -> Result<(), AllocError> {
+    for number in 2..=last {
+        push_item(script, alloc, number)?;
+    }
+    Ok(())
+}
+
+/// The shop's script of the two spellings, of items up to this number, and of these rows behind them.
+fn behind_two_spellings(alloc: Global, last: u64, rows: Rows<'_>) -> Result<Script, AllocError> {
+    let mut script = Script::of(alloc, SHOP, &[TWO_SPELLINGS])?;
+    push_items(&mut script, alloc, last)?;
+    script.rows(rows)?;
+    Ok(script)
 }
 
 /// A query of everything has a set as any other; and two spellings of one query share theirs.
 #[test]
 fn each_query_has_one_set(rt: HostRuntime) -> Result<(), Fail> {
-    let alloc = rt.alloc();
-    let mut script = Script::shop(alloc)?;
-    const FIRST: Rows<'static> = &[
-        ("1 PUT {\"id\":\"a\",\"price\":5}", "1 OK 1"),
-        ("1 REFRESH", "1 OK 1"),
-        ("1 OPEN", "1 OK 1"),
-        ("1 FIND 1 9 . . price:5", "1 OK 1 1\n1 1 a ."),
-        ("1 FIND 1 9 . . price:\"005\"", "1 OK 1 1\n1 1 a ."),
-        ("0 WARM", "0 OK begun"),
-        ("0 WARM", "0 OK stored"),
-        ("0 WARM", "0 OK idle"),
-    ];
-    script.rows(FIRST)?;
-    for number in 2..=301u64 {
-        let line = format!(in alloc; "1 PUT {{\"id\":\"{number}\"}}")?;
-        let reply = format!(in alloc; "1 OK {number}")?;
-        script.row(line.as_str(), reply.as_str())?;
-    }
-    const LAST: Rows<'static> = &[
+    const ROWS: Rows<'static> = &[
         ("1 REFRESH", "1 OK 301"),
         ("1 OPEN", "1 OK 301"),
         ("1 FIND 301 0 . . *:*", "1 OK 0 301"),
@@ -452,8 +507,7 @@ fn each_query_has_one_set(rt: HostRuntime) -> Result<(), Fail> {
         ("0 WARM", "0 OK stored"),
         ("0 WARM", "0 OK idle"),
     ];
-    script.rows(LAST)?;
-    script.expect(&rt, alloc, Ok(()))
+    expect_script(&rt, rt.alloc(), behind_two_spellings(rt.alloc(), 301, ROWS))
 }
 
 /// Lines that are refused after the query was read and the view was found to be held, each with its reply.
@@ -473,76 +527,103 @@ const REFUSED_EARLY: Rows<'static> = &[
     ("1 FIND 4 9 . . price:1 price:", "1 NO 24 14"),
 ];
 
-/// A script in which the sets of sixteen queries stand for four segments, as many as there is room for, those of `price:1` the
-/// least recently used; then this line is said, and a seventeenth query gets its sets. The next WARM answers as it is told.
+/// Adds items, each in a segment of its own, and a view of them all.
+fn push_segments(script: &mut Script, alloc: Global, count: u64) -> Result<(), AllocError> {
+    for number in 1..=count {
+        push_item(script, alloc, number)?;
+        push_refresh(script, alloc, number)?;
+    }
+    Ok(())
+}
+
+/// Adds a REFRESH behind the write of this number.
+fn push_refresh(script: &mut Script, alloc: Global, number: u64) -> Result<(), AllocError> {
+    let reply = format!(in alloc; "1 OK {number}")?;
+    script.row("1 REFRESH", reply.as_str())
+}
+
+/// Adds a FIND of this many records at the token, which finds none of this price.
+fn push_price(
+    script: &mut Script,
+    alloc: Global,
+    token: u64,
+    count: u64,
+    price: u64,
+) -> Result<(), AllocError> {
+    let line = format!(in alloc; "1 FIND {token} {count} . . price:{price}")?;
+    script.row(line.as_str(), "1 OK 0 0")
+}
+
+/// Adds such FINDs of the prices from the first to the last.
+fn push_prices(
+    script: &mut Script,
+    alloc: Global,
+    token: u64,
+    count: u64,
+    prices: (u64, u64),
+) -> Result<(), AllocError> {
+    for price in prices.0..=prices.1 {
+        push_price(script, alloc, token, count, price)?;
+    }
+    Ok(())
+}
+
+/// Adds what fills the cache: the sets of sixteen queries for four segments, as many as there is room for, those of `price:1` the
+/// least recently used.
+fn push_full_cache(script: &mut Script, alloc: Global) -> Result<(), AllocError> {
+    push_segments(script, alloc, 4)?;
+    script.row("1 OPEN", "1 OK 4")?;
+    push_prices(script, alloc, 4, 0, (1, 16))?;
+    push_made(script, 64)?;
+    script.row("0 WARM", "0 OK idle")
+}
+
+/// A script in which the cache is full; then this line is said, and a seventeenth query gets its sets. The next WARM answers as it
+/// is told.
 fn used_by(alloc: Global, said: (&str, &str), next: &str) -> Result<Script, AllocError> {
     let mut script = Script::shop(alloc)?;
-    for number in 1..=4u64 {
-        let line = format!(in alloc; "1 PUT {{\"id\":\"{number}\"}}")?;
-        let reply = format!(in alloc; "1 OK {number}")?;
-        script.row(line.as_str(), reply.as_str())?;
-        script.row("1 REFRESH", reply.as_str())?;
-    }
-    script.row("1 OPEN", "1 OK 4")?;
-    for price in 1..=16u64 {
-        let line = format!(in alloc; "1 FIND 4 0 . . price:{price}")?;
-        script.row(line.as_str(), "1 OK 0 0")?;
-    }
-    for _made in 0..64 {
-        script.row("0 WARM", "0 OK begun")?;
-        script.row("0 WARM", "0 OK stored")?;
-    }
-    script.row("0 WARM", "0 OK idle")?;
+    push_full_cache(&mut script, alloc)?;
     script.row(said.0, said.1)?;
     script.row("1 FIND 4 0 . . price:17", "1 OK 0 0")?;
-    for _made in 0..4 {
-        script.row("0 WARM", "0 OK begun")?;
-        script.row("0 WARM", "0 OK stored")?;
-    }
+    push_made(&mut script, 4)?;
     script.row("0 WARM", next)?;
     Ok(script)
+}
+
+/// The same of each of the lines.
+fn expect_used_by(rt: &impl Abort, alloc: Global, lines: Rows<'_>, next: &str) -> Result<(), Fail> {
+    for said in lines {
+        expect_script(rt, alloc, used_by(alloc, *said, next))?;
+    }
+    Ok(())
 }
 
 /// The sets that a refused page or counts were looked up for count as used: those of the second query went in their place, and
 /// one of these is begun next.
 #[test]
 fn refused_reads_use_the_sets_of_their_query(rt: HostRuntime) -> Result<(), Fail> {
-    for said in REFUSED_LATE {
-        used_by(rt.alloc(), *said, "0 OK begun")?.expect(&rt, rt.alloc(), Ok(()))?;
-    }
-    Ok(())
+    expect_used_by(&rt, rt.alloc(), REFUSED_LATE, "0 OK begun")
 }
 
 /// Where the text spells no query, or the view isn't held, none is looked up: the sets of the first query went, which isn't one
 /// of the newest sixteen any more.
 #[test]
 fn reads_that_are_refused_early_use_no_sets(rt: HostRuntime) -> Result<(), Fail> {
-    for said in REFUSED_EARLY {
-        used_by(rt.alloc(), *said, "0 OK idle")?.expect(&rt, rt.alloc(), Ok(()))?;
-    }
-    Ok(())
+    expect_used_by(&rt, rt.alloc(), REFUSED_EARLY, "0 OK idle")
+}
+
+/// The shop's script of twenty queries, of which sixteen get a set.
+fn with_16_noted(alloc: Global) -> Result<Script, AllocError> {
+    let mut script = Script::of(alloc, SHOP, &[PRICED_1])?;
+    push_prices(&mut script, alloc, 1, 9, (2, 20))?;
+    push_made(&mut script, 16)?;
+    script.row("0 WARM", "0 OK idle")?;
+    script.row("0 STAT", "0 OK 1 0 1 2 16 0\n0 1 1 1")?;
+    Ok(script)
 }
 
 /// Of the queries that were asked the newest sixteen are noted: the first has no set once sixteen others were asked.
 #[test]
 fn the_newest_sixteen_queries_are_warmed(rt: HostRuntime) -> Result<(), Fail> {
-    let alloc = rt.alloc();
-    let mut script = Script::shop(alloc)?;
-    const ROWS: Rows<'static> = &[
-        ("1 PUT {\"id\":\"a\",\"price\":1}", "1 OK 1"),
-        ("1 REFRESH", "1 OK 1"),
-        ("1 OPEN", "1 OK 1"),
-    ];
-    script.rows(ROWS)?;
-    for price in 2..=20u64 {
-        let line = format!(in alloc; "1 FIND 1 9 . . price:{price}")?;
-        script.row(line.as_str(), "1 OK 0 0")?;
-    }
-    for _made in 0..16 {
-        script.row("0 WARM", "0 OK begun")?;
-        script.row("0 WARM", "0 OK stored")?;
-    }
-    script.row("0 WARM", "0 OK idle")?;
-    script.row("0 STAT", "0 OK 1 0 1 2 16 0\n0 1 1 1")?;
-    script.expect(&rt, alloc, Ok(()))
+    expect_script(&rt, rt.alloc(), with_16_noted(rt.alloc()))
 }

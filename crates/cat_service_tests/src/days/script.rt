@@ -25,17 +25,33 @@ pub(crate) struct Script {
 
 impl Script {
     /// A script of no lines, not even a schema's.
-    pub(crate) fn new(alloc: Global) -> Script {
+    fn new(alloc: Global) -> Script {
         Script {
             input: String::new(alloc),
             wanted: String::new(alloc),
         }
     }
 
+    /// A script of a schema line, which has to get this reply.
+    pub(crate) fn under(alloc: Global, schema: (&str, &str)) -> Result<Script, AllocError> {
+        let mut script = Script::new(alloc);
+        script.row(schema.0, schema.1)?;
+        Ok(script)
+    }
+
     /// A script of the shop's schema line.
     pub(crate) fn shop(alloc: Global) -> Result<Script, AllocError> {
-        let mut script = Script::new(alloc);
-        script.row(SHOP.0, SHOP.1)?;
+        Script::under(alloc, SHOP)
+    }
+
+    /// A script of a schema line and the rows of each table.
+    pub(crate) fn of(
+        alloc: Global,
+        schema: (&str, &str),
+        tables: &[Rows<'_>],
+    ) -> Result<Script, AllocError> {
+        let mut script = Script::under(alloc, schema)?;
+        script.tables(tables)?;
         Ok(script)
     }
 
@@ -71,6 +87,21 @@ impl Script {
         Ok(())
     }
 
+    fn tables(&mut self, tables: &[Rows<'_>]) -> Result<(), AllocError> {
+        for rows in tables {
+            self.rows(rows)?;
+        }
+        Ok(())
+    }
+
+    /// Adds the lines of a day.
+    fn day(&mut self, day: &str) -> Result<(), AllocError> {
+        for line in day.lines() {
+            self.day_line(line)?;
+        }
+        Ok(())
+    }
+
     /// Serves the lines over the directory. They have to get these replies and no others, and serving has to end so.
     pub(crate) fn expect_over<D: Directory + Shelf + Drop>(
         &self,
@@ -81,10 +112,8 @@ impl Script {
     ) -> Result<(), Fail> {
         let mut left = self.input.as_bytes();
         let mut written = Vec::new(alloc);
-        let served = serve(alloc, device, &mut left, &mut written).ended;
-        assert_eq!(rt; from_utf8(written.as_slice())?, self.wanted.as_str());
-        assert_eq!(rt; served, end);
-        Ok(())
+        let ended = serve(alloc, device, &mut left, &mut written).ended;
+        expect_end(rt, &written, self.wanted.as_str(), ended, end)
     }
 
     /// Serves the lines to the end over a directory in memory, and gives back the directory that is left. They have to get
@@ -97,8 +126,7 @@ impl Script {
         let mut input = self.input.as_bytes();
         let mut written = Vec::new(alloc);
         let left = serve(alloc, MemoryDirectory::new(alloc), &mut input, &mut written);
-        assert_eq!(rt; from_utf8(written.as_slice())?, self.wanted.as_str());
-        assert_eq!(rt; left.ended, Ok(()));
+        expect_end(rt, &written, self.wanted.as_str(), left.ended, Ok(()))?;
         Ok(left.device)
     }
 
@@ -113,6 +141,19 @@ impl Script {
     }
 }
 
+/// Fails unless the output is this text, and serving has ended so.
+fn expect_end(
+    rt: &impl Abort,
+    written: &[u8],
+    wanted: &str,
+    ended: Result<(), ServeFault>,
+    end: Result<(), ServeFault>,
+) -> Result<(), Fail> {
+    let said = from_utf8(written)?;
+    assert_eq!(rt; (said, ended), (wanted, end));
+    Ok(())
+}
+
 /// Serves an input. The output has to be this text, and serving has to end so.
 pub(crate) fn expect_served(
     rt: &impl Abort,
@@ -123,24 +164,38 @@ pub(crate) fn expect_served(
 ) -> Result<(), Fail> {
     let mut left = input;
     let mut written = Vec::new(alloc);
-    let served = serve(alloc, MemoryDirectory::new(alloc), &mut left, &mut written).ended;
-    assert_eq!(rt; from_utf8(written.as_slice())?, wanted);
-    assert_eq!(rt; served, end);
-    Ok(())
+    let ended = serve(alloc, MemoryDirectory::new(alloc), &mut left, &mut written).ended;
+    expect_end(rt, &written, wanted, ended, end)
+}
+
+/// Serves the script to the end.
+pub(crate) fn expect_script(
+    rt: &impl Abort,
+    alloc: Global,
+    script: Result<Script, AllocError>,
+) -> Result<(), Fail> {
+    script?.expect(rt, alloc, Ok(()))
+}
+
+/// Serves the shop's schema line and the rows of each table behind it, to the end.
+pub(crate) fn expect_tables(
+    rt: &impl Abort,
+    alloc: Global,
+    tables: &[Rows<'_>],
+) -> Result<(), Fail> {
+    expect_script(rt, alloc, Script::of(alloc, SHOP, tables))
 }
 
 /// Serves the shop's schema line and the rows behind it, to the end.
 pub(crate) fn expect_rows(rt: &impl Abort, alloc: Global, rows: Rows<'_>) -> Result<(), Fail> {
-    let mut script = Script::shop(alloc)?;
-    script.rows(rows)?;
-    script.expect(rt, alloc, Ok(()))
+    expect_tables(rt, alloc, &[rows])
 }
 
 /// Serves the shop's schema line and the lines of each day, which have to get the replies that are written below them, and no
 /// others. A day is a text: what it shows, behind `== `; each line that is served, behind `> `; and below that its reply lines.
 pub(crate) fn expect_days(rt: &impl Abort, alloc: Global, days: &[&str]) -> Result<(), Fail> {
     for day in days {
-        script_of(alloc, day)?.expect(rt, alloc, Ok(()))?;
+        expect_script(rt, alloc, script_of(alloc, day))?;
     }
     Ok(())
 }
@@ -148,8 +203,6 @@ pub(crate) fn expect_days(rt: &impl Abort, alloc: Global, days: &[&str]) -> Resu
 /// The script that the day is written as.
 fn script_of(alloc: Global, day: &str) -> Result<Script, AllocError> {
     let mut script = Script::shop(alloc)?;
-    for line in day.lines() {
-        script.day_line(line)?;
-    }
+    script.day(day)?;
     Ok(script)
 }

@@ -1,9 +1,9 @@
 //! How lines are cut, in whatever pieces they come.
 use crate::inputs::readers::{Dripping, Long};
-use crate::inputs::traffic::{TRAFFIC, WHOLE, expect_replies};
+use crate::inputs::traffic::{TRAFFIC, WHOLE, is_answered};
+use crate::verdict::assert_yes;
 use cat_service::cat_protocol::serving::ServeFault;
 use std::alloc::{AllocError, Global};
-use std::process::Abort;
 use std::test::Fail;
 
 /// Inputs, each with what is said to it. A last line without a line feed counts if it isn't empty.
@@ -40,41 +40,56 @@ const NO_TEXTS: &[(&[u8], &str)] = &[
     ),
 ];
 
-/// Serves each input to its end.
-fn expect_cuts(rt: &impl Abort, alloc: Global, rows: &[(&[u8], &str)]) -> Result<(), Fail> {
+/// Serves an input. Answers whether it is read to its end, and this is said.
+fn is_cut(alloc: Global, input: &[u8], wanted: &str) -> bool {
+    let mut left = input;
+    is_answered(alloc, &mut left, wanted, Ok(())) && left.is_empty()
+}
+
+/// The same of each input.
+fn are_cut(alloc: Global, rows: &[(&[u8], &str)]) -> bool {
     for &(input, wanted) in rows {
-        let mut left = input;
-        expect_replies(rt, alloc, &mut left, wanted, Ok(()))?;
-        assert!(rt; left.is_empty(), "{input:?}");
+        if !is_cut(alloc, input, wanted) {
+            return false;
+        }
     }
-    Ok(())
+    true
 }
 
 #[test]
-fn lines_are_cut_at_line_feeds(rt: HostRuntime) -> Result<(), Fail> {
-    expect_cuts(&rt, rt.alloc(), CUTS)
+fn lines_are_cut_at_line_feeds(rt: HostRuntime) {
+    assert!(&rt; are_cut(rt.alloc(), CUTS));
 }
 
 #[test]
-fn one_carriage_return_is_dropped(rt: HostRuntime) -> Result<(), Fail> {
-    expect_cuts(&rt, rt.alloc(), RETURNS)
+fn one_carriage_return_is_dropped(rt: HostRuntime) {
+    assert!(&rt; are_cut(rt.alloc(), RETURNS));
 }
 
 #[test]
-fn bytes_of_no_text_are_no_line(rt: HostRuntime) -> Result<(), Fail> {
-    expect_cuts(&rt, rt.alloc(), NO_TEXTS)
+fn bytes_of_no_text_are_no_line(rt: HostRuntime) {
+    assert!(&rt; are_cut(rt.alloc(), NO_TEXTS));
 }
 
-#[test]
-fn pieces_make_no_difference(rt: HostRuntime) -> Result<(), Fail> {
+/// Serves an input that comes in pieces of so many bytes. Answers whether this is said.
+fn is_answered_in_pieces(alloc: Global, input: &[u8], step: usize, wanted: &str) -> bool {
+    let mut reader = Dripping { left: input, step };
+    is_answered(alloc, &mut reader, wanted, Ok(()))
+}
+
+/// Whether the traffic is answered alike in whatever pieces it comes.
+fn is_answered_alike(alloc: Global) -> bool {
     for step in 1..=TRAFFIC.len() {
-        let mut reader = Dripping {
-            left: TRAFFIC,
-            step,
-        };
-        expect_replies(&rt, rt.alloc(), &mut reader, WHOLE, Ok(()))?;
+        if !is_answered_in_pieces(alloc, TRAFFIC, step, WHOLE) {
+            return false;
+        }
     }
-    Ok(())
+    true
+}
+
+#[test]
+fn pieces_make_no_difference(rt: HostRuntime) {
+    assert!(&rt; is_answered_alike(rt.alloc()));
 }
 
 /// The text so many times over.
@@ -86,16 +101,17 @@ fn repeated(alloc: Global, first: &str, text: &str, count: usize) -> Result<Stri
     Ok(whole)
 }
 
+/// Whether a schema line and so many others are answered that come one byte at a time.
+fn is_answered_by_bytes(alloc: Global, count: usize) -> Result<bool, AllocError> {
+    let input = repeated(alloc, "SCHEMA 2 1 {}\n", "1 CLOSE 7\n", count)?;
+    let wanted = repeated(alloc, "OK 0\n", "1 NO 20\n", count)?;
+    Ok(is_answered_in_pieces(alloc, input.as_bytes(), 1, wanted.as_str()))
+}
+
 /// 10,000 lines of ten bytes, which come one byte at a time: serving calls the reader more than 100,000 times.
 #[test]
 fn the_reader_is_called_as_often_as_it_takes(rt: HostRuntime) -> Result<(), Fail> {
-    let input = repeated(rt.alloc(), "SCHEMA 2 1 {}\n", "1 CLOSE 7\n", 10_000)?;
-    let wanted = repeated(rt.alloc(), "OK 0\n", "1 NO 20\n", 10_000)?;
-    let mut reader = Dripping {
-        left: input.as_bytes(),
-        step: 1,
-    };
-    expect_replies(&rt, rt.alloc(), &mut reader, wanted.as_str(), Ok(()))
+    assert_yes(&rt, is_answered_by_bytes(rt.alloc(), 10_000))
 }
 
 /// Inputs of which the first line is refused, each with what is said to it, and what is left. An input of no bytes has an empty
@@ -109,18 +125,29 @@ const REFUSED: &[(&[u8], &str, &[u8])] = &[
     (b"SCHEMA 2 1 {}\xff\n", "NO 10\n", b""),
 ];
 
-#[test]
-fn a_refused_first_line_ends_it(rt: HostRuntime) -> Result<(), Fail> {
-    for &(input, wanted, left) in REFUSED {
-        let mut reader = Dripping {
-            left: input,
-            step: 1,
-        };
-        let end = Err(ServeFault::Schema);
-        expect_replies(&rt, rt.alloc(), &mut reader, wanted, end)?;
-        assert!(rt; reader.left == left, "nothing is read behind {input:?}");
+/// Whether the first line of the input is refused, and this is left.
+fn is_refused(alloc: Global, input: &[u8], wanted: &str, left: &[u8]) -> bool {
+    let mut reader = Dripping {
+        left: input,
+        step: 1,
+    };
+    is_answered(alloc, &mut reader, wanted, Err(ServeFault::Schema)) && reader.left == left
+}
+
+/// The same of each input.
+fn are_refused(alloc: Global, rows: &[(&[u8], &str, &[u8])]) -> bool {
+    for &(input, wanted, left) in rows {
+        if !is_refused(alloc, input, wanted, left) {
+            return false;
+        }
     }
-    Ok(())
+    true
+}
+
+/// Nothing is read behind the line.
+#[test]
+fn a_refused_first_line_ends_it(rt: HostRuntime) {
+    assert!(&rt; are_refused(rt.alloc(), REFUSED));
 }
 
 /// How often a byte stands behind `1 ` in a line, what stands behind the bytes, and what is said.
@@ -138,22 +165,34 @@ const LONG: &[(usize, &[u8], &str)] = &[
     (9_999, b"", "OK 0\n? NO 10\n"),
 ];
 
-#[test]
-fn long_lines_are_unreadable(rt: HostRuntime) -> Result<(), Fail> {
-    for &(count, behind, wanted) in LONG {
-        let mut reader = Long {
-            front: b"SCHEMA 2 1 {}\n1 ",
-            byte: b'x',
-            count,
-            behind,
-        };
-        expect_replies(&rt, rt.alloc(), &mut reader, wanted, Ok(()))?;
+/// Whether such a line is answered so, behind a schema line.
+fn is_long_answered(alloc: Global, count: usize, behind: &[u8], wanted: &str) -> bool {
+    let mut reader = Long {
+        front: b"SCHEMA 2 1 {}\n1 ",
+        byte: b'x',
+        count,
+        behind,
+    };
+    is_answered(alloc, &mut reader, wanted, Ok(()))
+}
+
+/// The same of each line.
+fn are_long_answered(alloc: Global, rows: &[(usize, &[u8], &str)]) -> bool {
+    for &(count, behind, wanted) in rows {
+        if !is_long_answered(alloc, count, behind, wanted) {
+            return false;
+        }
     }
-    Ok(())
+    true
 }
 
 #[test]
-fn a_long_first_line_opens_nothing(rt: HostRuntime) -> Result<(), Fail> {
+fn long_lines_are_unreadable(rt: HostRuntime) {
+    assert!(&rt; are_long_answered(rt.alloc(), LONG));
+}
+
+#[test]
+fn a_long_first_line_opens_nothing(rt: HostRuntime) {
     let mut reader = Long {
         front: b"SCHEMA 2 1 {}",
         byte: b' ',
@@ -161,5 +200,5 @@ fn a_long_first_line_opens_nothing(rt: HostRuntime) -> Result<(), Fail> {
         behind: b"\n1 CLOSE 7\n",
     };
     let end = Err(ServeFault::Schema);
-    expect_replies(&rt, rt.alloc(), &mut reader, "NO 10\n", end)
+    assert!(&rt; is_answered(rt.alloc(), &mut reader, "NO 10\n", end));
 }

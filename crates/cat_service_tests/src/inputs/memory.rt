@@ -4,10 +4,9 @@
 //! tests fail then. The one below has to pass at every N from 3 on, and shows this: one line at most is refused for want of
 //! memory, and that line changes nothing. Its first two allocations are its own.
 use crate::inputs::traffic::serve_in_memory;
+use crate::verdict::assert_yes;
 use cat_service::cat_protocol::serving::ServeFault;
 use std::alloc::{AllocError, Global};
-use std::process::Abort;
-use std::str::from_utf8;
 use std::test::Fail;
 
 /// The schema line.
@@ -93,21 +92,26 @@ fn refuses_one(alloc: Global, output: &[u8]) -> Result<bool, AllocError> {
     Ok(false)
 }
 
-fn expect_one_refusal_at_most(rt: &impl Abort, alloc: Global) -> Result<(), Fail> {
+/// Whether an output and an end are those at ample memory, or of one refusal for want of it: of the schema line, or of another.
+fn refuses_one_at_most(
+    alloc: Global,
+    output: &[u8],
+    end: Result<(), ServeFault>,
+) -> Result<bool, AllocError> {
+    match end {
+        Ok(()) => Ok(output == AT_AMPLE_MEMORY.as_bytes() || refuses_one(alloc, output)?),
+        Err(ServeFault::Schema) => Ok(output == b"NO 40\n".as_slice()),
+        Err(_) => Ok(false),
+    }
+}
+
+/// Whether that is so of the lines.
+fn are_lines_spared(alloc: Global) -> Result<bool, AllocError> {
     let (output, end) = written(alloc, LINES, &[])?;
-    let text = from_utf8(output.as_slice())?;
-    if end == Err(ServeFault::Schema) {
-        assert_eq!(rt; text, "NO 40\n");
-        return Ok(());
-    }
-    assert_eq!(rt; end, Ok(()));
-    if text != AT_AMPLE_MEMORY {
-        assert!(rt; refuses_one(alloc, output.as_slice())?, "{text}");
-    }
-    Ok(())
+    refuses_one_at_most(alloc, &output, end)
 }
 
 #[test]
 fn a_line_that_finds_no_memory_changes_nothing(rt: HostRuntime) -> Result<(), Fail> {
-    expect_one_refusal_at_most(&rt, rt.alloc())
+    assert_yes(&rt, are_lines_spared(rt.alloc()))
 }

@@ -1,5 +1,5 @@
 //! FINDs, their sorts and their marks.
-use crate::lines::read::{LARGEST, assert_no_forms, assert_reads};
+use crate::lines::read::{LARGEST, have_no_form, reads};
 use cat_base::Token;
 use cat_service::cat_protocol::lines::{Command, Find, Sort};
 
@@ -23,9 +23,9 @@ const FINDS: &[(&str, Token, u64, &str)] = &[
     ),
 ];
 
-#[test]
-fn finds(rt: HostRuntime) {
-    for &(text, token, count, query) in FINDS {
+/// Whether the lines spell these.
+fn spell_finds(rows: &[(&str, Token, u64, &str)]) -> bool {
+    for &(text, token, count, query) in rows {
         let find = Find {
             token,
             count,
@@ -33,8 +33,16 @@ fn finds(rt: HostRuntime) {
             mark: None,
             query,
         };
-        assert_reads(&rt, text, 1, Command::Find(find));
+        if !reads(text, 1, Command::Find(find)) {
+            return false;
+        }
     }
+    true
+}
+
+#[test]
+fn finds(rt: HostRuntime) {
+    assert!(&rt; spell_finds(FINDS));
 }
 
 /// FINDs of 10 records at token 0.
@@ -60,9 +68,9 @@ const SORTS_AND_MARKS: &[(&str, Sort<'static>, Option<u64>)] = &[
     ),
 ];
 
-#[test]
-fn sorts_and_marks(rt: HostRuntime) {
-    for &(text, sort, mark) in SORTS_AND_MARKS {
+/// Whether the lines spell these.
+fn spell_sorts_and_marks(rows: &[(&str, Sort<'_>, Option<u64>)]) -> bool {
+    for &(text, sort, mark) in rows {
         let find = Find {
             token: 0,
             count: 10,
@@ -70,8 +78,16 @@ fn sorts_and_marks(rt: HostRuntime) {
             mark,
             query: "*:*",
         };
-        assert_reads(&rt, text, 1, Command::Find(find));
+        if !reads(text, 1, Command::Find(find)) {
+            return false;
+        }
     }
+    true
+}
+
+#[test]
+fn sorts_and_marks(rt: HostRuntime) {
+    assert!(&rt; spell_sorts_and_marks(SORTS_AND_MARKS));
 }
 
 #[test]
@@ -94,7 +110,7 @@ fn finds_without_a_form(rt: HostRuntime) {
         "1 FIND 0 9223372036854775808 . . *:*",
         "1 FIND 9223372036854775808 10 . . *:*",
     ];
-    assert_no_forms(&rt, TEXTS);
+    assert!(&rt; have_no_form(TEXTS));
 }
 
 #[test]
@@ -119,7 +135,7 @@ fn finds_by_no_sort(rt: HostRuntime) {
         "1 FIND 0 10 + price . *:*",
         "1 FIND 0 10  . *:*",
     ];
-    assert_no_forms(&rt, TEXTS);
+    assert!(&rt; have_no_form(TEXTS));
 }
 
 #[test]
@@ -135,5 +151,5 @@ fn finds_behind_no_mark(rt: HostRuntime) {
         "1 FIND 0 10 . 3x *:*",
         "1 FIND 0 10 . 9223372036854775808 *:*",
     ];
-    assert_no_forms(&rt, TEXTS);
+    assert!(&rt; have_no_form(TEXTS));
 }

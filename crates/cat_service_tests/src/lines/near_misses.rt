@@ -1,5 +1,5 @@
 //! Texts that are nearly commands.
-use crate::lines::read::assert_no_forms;
+use crate::lines::read::have_no_form;
 
 #[test]
 fn no_form(rt: HostRuntime) {
@@ -33,7 +33,7 @@ fn no_form(rt: HostRuntime) {
         "1 CLOSE 0 0",
         "1 CLOSE 9223372036854775808",
     ];
-    assert_no_forms(&rt, TEXTS);
+    assert!(&rt; have_no_form(TEXTS));
 }
 
 #[test]
@@ -53,7 +53,7 @@ fn commands_that_go_on(rt: HostRuntime) {
         "1 DELWHERE a",
         "1 COMMITS",
     ];
-    assert_no_forms(&rt, TEXTS);
+    assert!(&rt; have_no_form(TEXTS));
 }
 
 #[test]
@@ -77,7 +77,7 @@ fn lower_words(rt: HostRuntime) {
         "1 sweep",
         "1 sTAT",
     ];
-    assert_no_forms(&rt, TEXTS);
+    assert!(&rt; have_no_form(TEXTS));
 }
 
 #[test]
@@ -106,7 +106,7 @@ fn arguments_that_are_missing(rt: HostRuntime) {
         "1 PRUNE",
         "1 PRUNE ",
     ];
-    assert_no_forms(&rt, TEXTS);
+    assert!(&rt; have_no_form(TEXTS));
 }
 
 #[test]
@@ -125,7 +125,7 @@ fn doubled_spaces(rt: HostRuntime) {
         "1 UNSNAP  0",
         "1 PRUNE  0",
     ];
-    assert_no_forms(&rt, TEXTS);
+    assert!(&rt; have_no_form(TEXTS));
 }
 
 #[test]
@@ -138,7 +138,7 @@ fn trailing_spaces(rt: HostRuntime) {
         "1 PRUNE 0 ",
         "1 REFRESH ",
     ];
-    assert_no_forms(&rt, TEXTS);
+    assert!(&rt; have_no_form(TEXTS));
 }
 
 #[test]
@@ -166,7 +166,7 @@ fn numbers_without_a_form(rt: HostRuntime) {
         "1 PRUNE -0",
         "1 PRUNE 9223372036854775808",
     ];
-    assert_no_forms(&rt, TEXTS);
+    assert!(&rt; have_no_form(TEXTS));
 }
 
 #[test]
@@ -181,7 +181,7 @@ fn dimensions_without_a_form(rt: HostRuntime) {
         "1 FACETS 0 \u{e9} 1 x",
         "1 FACETS 0 abcdefghijklmnopqrstuvwxyz0123456 1 x",
     ];
-    assert_no_forms(&rt, TEXTS);
+    assert!(&rt; have_no_form(TEXTS));
 }
 
 #[test]
@@ -194,5 +194,5 @@ fn kinds_of_files(rt: HostRuntime) {
         "1 FILES 0 t",
         "1 FILES t 0 0",
     ];
-    assert_no_forms(&rt, TEXTS);
+    assert!(&rt; have_no_form(TEXTS));
 }

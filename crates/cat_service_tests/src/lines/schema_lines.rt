@@ -8,17 +8,34 @@ const READ: &[(&str, u32, u32, &str)] = &[
     ("SCHEMA 10 1000  {}", 10, 1_000, " {}"),
 ];
 
-#[test]
-fn schema_lines(rt: HostRuntime) {
-    for &(text, factor, least, json) in READ {
-        let read = SchemaLine::read(text);
+/// Whether the lines are schema lines of these.
+fn are_read(rows: &[(&str, u32, u32, &str)]) -> bool {
+    for &(text, factor, least, json) in rows {
         let wanted = SchemaLine {
             factor,
             least,
             json,
         };
-        assert!(rt; read == Some(wanted), "{text:?}: {read:?}");
+        if SchemaLine::read(text) != Some(wanted) {
+            return false;
+        }
     }
+    true
+}
+
+#[test]
+fn schema_lines(rt: HostRuntime) {
+    assert!(&rt; are_read(READ));
+}
+
+/// Whether none of the lines is one.
+fn are_none(texts: &[&str]) -> bool {
+    for &text in texts {
+        if SchemaLine::read(text) != None {
+            return false;
+        }
+    }
+    true
 }
 
 #[test]
@@ -40,8 +57,5 @@ fn no_schema_lines(rt: HostRuntime) {
         " SCHEMA 2 1 {}",
         "0 SCHEMA 2 1 {}",
     ];
-    for &text in TEXTS {
-        let read = SchemaLine::read(text);
-        assert!(rt; read == None, "{text:?}: {read:?}");
-    }
+    assert!(&rt; are_none(TEXTS));
 }

@@ -1,5 +1,5 @@
 //! The sessions that lines show.
-use crate::lines::read::assert_reads;
+use crate::lines::read::reads;
 use cat_base::{Refusal, SessionNo};
 use cat_service::cat_protocol::lines::{Command, Line};
 
@@ -33,12 +33,19 @@ const NO_SESSION: &[&str] = &[
     "18446744073709551617 OPEN",
 ];
 
+/// Whether the lines are refused.
+fn are_refused(texts: &[&str]) -> bool {
+    for &text in texts {
+        if Line::read(text) != Err(Refusal::Line) {
+            return false;
+        }
+    }
+    true
+}
+
 #[test]
 fn no_session(rt: HostRuntime) {
-    for &text in NO_SESSION {
-        let read = Line::read(text);
-        assert!(rt; read == Err(Refusal::Line), "{text:?}: {read:?}");
-    }
+    assert!(&rt; are_refused(NO_SESSION));
 }
 
 const OPENED: &[(&str, SessionNo)] = &[
@@ -48,11 +55,19 @@ const OPENED: &[(&str, SessionNo)] = &[
     ("9999 OPEN", 9_999),
 ];
 
+/// Whether the lines show these sessions and spell the command.
+fn show_sessions(rows: &[(&str, SessionNo)], command: Command<'_>) -> bool {
+    for &(text, session) in rows {
+        if !reads(text, session, command) {
+            return false;
+        }
+    }
+    true
+}
+
 #[test]
 fn sessions(rt: HostRuntime) {
-    for &(text, session) in OPENED {
-        assert_reads(&rt, text, session, Command::Open(None));
-    }
+    assert!(&rt; show_sessions(OPENED, Command::Open(None)));
 }
 
 const SAID_ALONE: &[(&str, SessionNo)] = &[
@@ -65,7 +80,5 @@ const SAID_ALONE: &[(&str, SessionNo)] = &[
 
 #[test]
 fn sessions_alone(rt: HostRuntime) {
-    for &(text, session) in SAID_ALONE {
-        assert_reads(&rt, text, session, Command::NoForm);
-    }
+    assert!(&rt; show_sessions(SAID_ALONE, Command::NoForm));
 }

@@ -1,5 +1,6 @@
 //! Pieces that are gathered before they go to a writer.
 use crate::serving::ends::Filling;
+use crate::verdict::assert_yes;
 use cat_service::cat_protocol::sending::{Gathered, WriteFault};
 use std::alloc::{AllocError, Global};
 use std::io::Write;
@@ -49,45 +50,105 @@ fn whole(alloc: Global, pieces: &[&[u8]]) -> Result<Vec<u8>, AllocError> {
     Ok(text)
 }
 
+/// Whether the pieces go out one behind another.
+fn go_out(alloc: Global, pieces: &[&[u8]]) -> Result<bool, AllocError> {
+    let text = whole(alloc, pieces)?;
+    let mut said = Vec::new(alloc);
+    Ok(put_all(pieces, &mut said).is_ok() && said == text)
+}
+
+/// Whether the pieces of each text do.
+fn all_go_out(alloc: Global, texts: &[&[&[u8]]]) -> Result<bool, AllocError> {
+    for pieces in texts {
+        if !go_out(alloc, pieces)? {
+            return Ok(false);
+        }
+    }
+    Ok(true)
+}
+
 #[test]
 fn pieces_go_out_in_order(rt: HostRuntime) -> Result<(), Fail> {
-    for pieces in TEXTS {
-        let mut said = Vec::new(rt.alloc());
-        assert!(rt; put_all(pieces, &mut said).is_ok());
-        assert!(rt; said == whole(rt.alloc(), pieces)?);
+    assert_yes(&rt, all_go_out(rt.alloc(), TEXTS))
+}
+
+/// How many bytes writers take before they fail.
+const ROOMS: &[usize] = &[0, 1, 3, 64, 127, 128, 129, 300, 1_000];
+
+/// Whether a writer that takes so many bytes gets this many of the text, which the pieces are, and fails just where that isn't all.
+fn has_front(alloc: Global, pieces: &[&[u8]], text: &[u8], room: usize) -> bool {
+    let mut filling = Filling {
+        held: Vec::new(alloc),
+        room,
+    };
+    let is_sent = put_all(pieces, &mut filling).is_ok();
+    let front = &text[..room.min(text.len())];
+    is_sent == (text.len() <= room) && filling.held.as_slice() == front
+}
+
+/// Whether writers of each of the rooms do.
+fn has_each_front(alloc: Global, pieces: &[&[u8]], text: &[u8]) -> bool {
+    for &room in ROOMS {
+        if !has_front(alloc, pieces, text, room) {
+            return false;
+        }
     }
-    Ok(())
+    true
+}
+
+/// Whether they do of the pieces of each text.
+fn have_each_front(alloc: Global, texts: &[&[&[u8]]]) -> Result<bool, AllocError> {
+    for pieces in texts {
+        let text = whole(alloc, pieces)?;
+        if !has_each_front(alloc, pieces, &text) {
+            return Ok(false);
+        }
+    }
+    Ok(true)
 }
 
 #[test]
 fn a_front_goes_out_to_a_writer_that_fails(rt: HostRuntime) -> Result<(), Fail> {
-    for pieces in TEXTS {
-        let text = whole(rt.alloc(), pieces)?;
-        for room in [0, 1, 3, 64, 127, 128, 129, 300, 1_000] {
-            let held = Vec::new(rt.alloc());
-            let mut filling = Filling { held, room };
-            let sent = put_all(pieces, &mut filling);
-            assert_eq!(rt; sent.is_ok(), text.len() <= room);
-            assert!(rt; filling.held.as_slice() == &text.as_slice()[..room.min(text.len())]);
-        }
+    assert_yes(&rt, have_each_front(rt.alloc(), TEXTS))
+}
+
+/// Puts numbers without a sign, with a space behind each.
+fn put_numbers<W: Write>(gathered: &mut Gathered, to: &mut W) -> Result<(), WriteFault> {
+    for number in [0, 9, 10, u64::MAX] {
+        gathered.put_number(number, to)?;
+        gathered.put(b" ", to)?;
     }
     Ok(())
 }
 
+/// Puts numbers with a sign, with a space behind each.
+fn put_signed<W: Write>(gathered: &mut Gathered, to: &mut W) -> Result<(), WriteFault> {
+    for number in [0, -1, i64::MIN, i64::MAX] {
+        gathered.put_signed(number, to)?;
+        gathered.put(b" ", to)?;
+    }
+    Ok(())
+}
+
+/// Puts them all.
+fn put_all_numbers<W: Write>(to: &mut W) -> Result<(), WriteFault> {
+    let mut gathered = Gathered::new();
+    put_numbers(&mut gathered, to)?;
+    put_signed(&mut gathered, to)?;
+    gathered.finish(to)
+}
+
+/// What is said then.
+const NUMBERS: &[u8] =
+    b"0 9 10 18446744073709551615 0 -1 -9223372036854775808 9223372036854775807 ";
+
+/// Whether that is so.
+fn says_numbers(alloc: Global) -> bool {
+    let mut said = Vec::new(alloc);
+    put_all_numbers(&mut said).is_ok() && said.as_slice() == NUMBERS
+}
+
 #[test]
 fn numbers_are_decimal(rt: HostRuntime) {
-    let mut said = Vec::new(rt.alloc());
-    let mut gathered = Gathered::new();
-    for number in [0, 9, 10, u64::MAX] {
-        assert!(rt; gathered.put_number(number, &mut said).is_ok());
-        assert!(rt; gathered.put(b" ", &mut said).is_ok());
-    }
-    for number in [0, -1, i64::MIN, i64::MAX] {
-        assert!(rt; gathered.put_signed(number, &mut said).is_ok());
-        assert!(rt; gathered.put(b" ", &mut said).is_ok());
-    }
-    assert!(rt; gathered.finish(&mut said).is_ok());
-    let numbers: &[u8] =
-        b"0 9 10 18446744073709551615 0 -1 -9223372036854775808 9223372036854775807 ";
-    assert!(rt; said.as_slice() == numbers);
+    assert!(&rt; says_numbers(rt.alloc()));
 }

@@ -2,6 +2,7 @@
 use crate::parts::records::making::{
     acquire_at, fill, finds_view, has_tokens, record_at, records_at,
 };
+use crate::verdict::assert_yes;
 use cat_base::{Refusal, Token};
 use cat_lifetimes::records::Records;
 use std::alloc::{AllocError, Global};
@@ -40,8 +41,7 @@ fn drops_the_least(alloc: Global) -> Result<bool, Refusal> {
 
 #[test]
 fn the_least_free_view_goes(rt: HostRuntime) -> Result<(), Fail> {
-    assert!(&rt; drops_the_least(rt.alloc())?);
-    Ok(())
+    assert_yes(&rt, drops_the_least(rt.alloc()))
 }
 
 /// Records a second view, before which none is to go, nor behind it.
@@ -59,8 +59,7 @@ fn drops_none(alloc: Global) -> Result<bool, Refusal> {
 
 #[test]
 fn no_view_goes_while_there_is_room(rt: HostRuntime) -> Result<(), Fail> {
-    assert!(&rt; drops_none(rt.alloc())?);
-    Ok(())
+    assert_yes(&rt, drops_none(rt.alloc()))
 }
 
 /// Lets all views that there may be be held, of which that at 63 is the last.
@@ -93,8 +92,7 @@ fn drops_no_held(alloc: Global) -> Result<bool, Refusal> {
 
 #[test]
 fn where_all_64_are_held_none_is_recorded(rt: HostRuntime) -> Result<(), Fail> {
-    assert!(&rt; drops_no_held(rt.alloc())?);
-    Ok(())
+    assert_yes(&rt, drops_no_held(rt.alloc()))
 }
 
 /// Records nine views more beside that at the token 10, at 20, 30 and so on.
@@ -147,24 +145,22 @@ fn prunes_the_others(alloc: Global) -> Result<bool, Refusal> {
 
 #[test]
 fn a_prune_keeps_the_newest_and_the_held(rt: HostRuntime) -> Result<(), Fail> {
-    assert!(&rt; prunes_the_others(rt.alloc())?);
-    Ok(())
+    assert_yes(&rt, prunes_the_others(rt.alloc()))
 }
 
-/// How many files a prune of ten views to one would drop.
-fn count_dropped(alloc: Global, records: &mut Records) -> Result<usize, Refusal> {
+/// Whether a prune of ten views to one would drop no file.
+fn drop_no_file(alloc: Global, records: &mut Records) -> Result<bool, Refusal> {
     fill_tens(alloc, records)?;
-    Ok(records.files_dropped(alloc, 1)?.len())
+    Ok(records.files_dropped(alloc, 1)?.len() == 0)
 }
 
 /// The same of records that are gone then.
-fn files_of_ten(alloc: Global) -> Result<usize, Refusal> {
+fn need_no_files(alloc: Global) -> Result<bool, Refusal> {
     let mut records = records_at(alloc, 10)?;
-    count_dropped(alloc, &mut records)
+    drop_no_file(alloc, &mut records)
 }
 
 #[test]
 fn views_without_segments_need_no_files(rt: HostRuntime) -> Result<(), Fail> {
-    assert!(&rt; files_of_ten(rt.alloc())? == 0);
-    Ok(())
+    assert_yes(&rt, need_no_files(rt.alloc()))
 }
