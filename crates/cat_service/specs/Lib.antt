@@ -12,3 +12,4 @@ pub mod Copies
 pub mod Running
 pub mod sets
 pub mod theorem
+pub mod replicas

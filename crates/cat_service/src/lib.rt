@@ -10,6 +10,7 @@ mod lasting;
 mod machine;
 mod opening;
 mod reading;
+pub mod replicas;
 mod running;
 mod serving;
 pub mod sets;

@@ -1,0 +1,4 @@
+pub mod Logs
+pub mod Openings
+pub mod Beginnings
+pub mod Samples
