@@ -7,7 +7,6 @@ use cat_base::Refusal;
 use cat_directory::{Directory, Faults, Faulty, FileName, MemoryDirectory};
 use cat_lifetimes::refs::FileRefs;
 use std::alloc::{AllocError, Global};
-use std::process::Abort;
 use std::test::Fail;
 
 /// The files of the tests, in the byte order of their names: digits come before the underscore, and the underscore before
@@ -22,17 +21,8 @@ const FILES: &[FileName] = &[
     FileName::Commit(9),
 ];
 
-/// The texts of the names, in order.
-fn told(alloc: Global, names: &[FileName]) -> Result<String, Fail> {
-    let mut text = String::new(alloc);
-    for name in names {
-        write!(text, " {name}")?;
-    }
-    Ok(text)
-}
-
 /// A directory with all of the files, each of one byte.
-fn directory(alloc: Global) -> Result<MemoryDirectory, Fail> {
+fn directory(alloc: Global) -> Result<MemoryDirectory, Refusal> {
     let mut directory = MemoryDirectory::new(alloc);
     for &name in FILES {
         directory.create(alloc, name)?;
@@ -67,7 +57,7 @@ fn give(refs: &mut FileRefs, name: FileName)
 }
 
 /// All of the files known, and all but the one of this index pending.
-fn all_but(alloc: Global, used: usize) -> Result<FileRefs, Fail> {
+fn all_but(alloc: Global, used: usize) -> Result<FileRefs, AllocError> {
     let mut refs = taken(alloc, FILES)?;
     for (index, &name) in FILES.iter().enumerate() {
         if index != used {
@@ -77,71 +67,108 @@ fn all_but(alloc: Global, used: usize) -> Result<FileRefs, Fail> {
     Ok(refs)
 }
 
+const SEGMENT: FileName = FileName::Segment(1);
+
+const SOURCE: FileName = FileName::Source(1);
+
+/// Whether the segment was taken twice, its source once, and its live rows never.
+fn are_counted(refs: &FileRefs) -> bool {
+    refs.count(SEGMENT) == 2 && refs.count(SOURCE) == 1 && refs.count(FileName::Live(1, 1)) == 0
+}
+
+/// Gives both once, and tells whether the segment is still used, and its source pending.
+fn are_given_once(refs: &mut FileRefs) -> bool
+    ensures { (q : Name) → users_of refs.new q ≤ users_of refs.old q }
+{
+    give(refs, SEGMENT);
+    give(refs, SOURCE);
+    refs.count(SEGMENT) == 1 && refs.count(SOURCE) == 0 && refs.pending() == 1
+}
+
+/// Takes the source again, and tells whether it is used, and nothing pending.
+fn is_taken_again(refs: &mut FileRefs) -> Result<bool, AllocError>
+    requires { (q : Name) → users_of refs.old q < 1000 }
+{
+    take(refs, SOURCE)?;
+    Ok(refs.count(SOURCE) == 1 && refs.pending() == 0)
+}
+
+/// Gives both once more, and tells whether both are pending.
+fn are_pending(refs: &mut FileRefs) -> bool {
+    give(refs, SOURCE);
+    give(refs, SEGMENT);
+    refs.pending() == 2
+}
+
 #[test]
 fn users_are_counted_by_name(rt: HostRuntime) -> Result<(), Fail> {
-    let segment = FileName::Segment(1);
-    let source = FileName::Source(1);
-    let mut refs = taken(rt.alloc(), &[segment, source, segment])?;
-    assert_eq!(rt; refs.count(segment), 2);
-    assert_eq!(rt; refs.count(source), 1);
-    assert_eq!(rt; refs.count(FileName::Live(1, 1)), 0);
-    give(&mut refs, segment);
-    give(&mut refs, source);
-    assert_eq!(rt; refs.count(segment), 1);
-    assert_eq!(rt; refs.count(source), 0);
-    assert_eq!(rt; refs.pending(), 1);
-    take(&mut refs, source)?;
-    assert_eq!(rt; refs.count(source), 1);
-    assert_eq!(rt; refs.pending(), 0);
-    give(&mut refs, source);
-    give(&mut refs, segment);
-    assert_eq!(rt; refs.pending(), 2);
+    let mut refs = taken(rt.alloc(), &[SEGMENT, SOURCE, SEGMENT])?;
+    let are_counted = are_counted(&refs);
+    let are_given = are_given_once(&mut refs);
+    let is_taken = is_taken_again(&mut refs)?;
+    assert!(rt; are_counted && are_given && is_taken && are_pending(&mut refs));
     Ok(())
 }
 
-/// Where the call behind so many fails, so many files are gone, and the others stay: the first of them is tried again.
-fn sweep_up_to(rt: &impl Abort, alloc: Global, passes: usize) -> Result<(), Fail> {
+/// Whether just these files are there, and all of them pending.
+fn are_left(
+    alloc: Global,
+    device: &mut Faulty<MemoryDirectory>,
+    refs: &FileRefs,
+    left: &[FileName],
+) -> Result<bool, Refusal> {
+    let names = device.names(alloc)?;
+    Ok(refs.pending() == left.len() as u64 && names.as_slice() == left)
+}
+
+/// Whether so many files are gone where the call behind so many fails, and the others stay: the first of them is tried again.
+fn is_swept_up_to(alloc: Global, passes: usize) -> Result<bool, Refusal> {
     let mut device = Faulty::new(directory(alloc)?, Faults::One(passes as u64));
     let mut refs = all_but(alloc, FILES.len())?;
-    assert_eq!(rt;
-        refs.sweep(alloc, &mut device),
-        Err(Refusal::Device),
-        "behind {passes}"
-    );
     let (_, left) = FILES.split_at(passes.min(FILES.len()));
-    assert_eq!(rt; refs.pending(), left.len() as u64, "behind {passes}");
-    let names = device.names(alloc)?;
-    assert_eq!(rt; told(alloc, &names)?, told(alloc, left)?, "behind {passes}");
-    assert_eq!(rt;
-        refs.sweep(alloc, &mut device),
-        Ok(left.len() as u64),
-        "behind {passes}"
-    );
-    Ok(())
+    let fails = refs.sweep(alloc, &mut device) == Err(Refusal::Device);
+    let are_left = are_left(alloc, &mut device, &refs, left)?;
+    Ok(fails && are_left && refs.sweep(alloc, &mut device) == Ok(left.len() as u64))
+}
+
+/// The same of each call.
+fn is_swept_up_to_each(alloc: Global) -> Result<bool, Refusal> {
+    for passes in 0..FILES.len() {
+        if !is_swept_up_to(alloc, passes)? {
+            return Ok(false);
+        }
+    }
+    Ok(true)
 }
 
 #[test]
 fn sweeps_go_by_bytes_up_to_the_first_fault(rt: HostRuntime) -> Result<(), Fail> {
-    for passes in 0..FILES.len() {
-        sweep_up_to(&rt, rt.alloc(), passes)?;
-    }
+    assert!(rt; is_swept_up_to_each(rt.alloc())?);
     Ok(())
+}
+
+/// Whether the file of this index stays where it is used, and no other.
+fn stays(alloc: Global, index: usize, used: FileName) -> Result<bool, Refusal> {
+    let mut directory = directory(alloc)?;
+    let mut refs = all_but(alloc, index)?;
+    let are_swept = refs.sweep(alloc, &mut directory) == Ok(6);
+    let is_alone = directory.names(alloc)?.as_slice() == [used].as_slice();
+    Ok(are_swept && is_alone && refs.count(used) == 1 && refs.pending() == 0)
+}
+
+/// The same of each file.
+fn each_stays(alloc: Global) -> Result<bool, Refusal> {
+    for (index, &used) in FILES.iter().enumerate() {
+        if !stays(alloc, index, used)? {
+            return Ok(false);
+        }
+    }
+    Ok(true)
 }
 
 #[test]
 fn used_files_stay(rt: HostRuntime) -> Result<(), Fail> {
-    let alloc = rt.alloc();
-    for (index, &used) in FILES.iter().enumerate() {
-        let mut directory = directory(alloc)?;
-        let mut refs = all_but(alloc, index)?;
-        assert_eq!(rt; refs.sweep(alloc, &mut directory), Ok(6));
-        assert_eq!(rt;
-            told(alloc, &directory.names(alloc)?)?,
-            told(alloc, &[used])?
-        );
-        assert_eq!(rt; refs.count(used), 1);
-        assert_eq!(rt; refs.pending(), 0);
-    }
+    assert!(rt; each_stays(rt.alloc())?);
     Ok(())
 }
 
@@ -149,11 +176,9 @@ fn used_files_stay(rt: HostRuntime) -> Result<(), Fail> {
 fn a_sweep_of_nothing_asks_for_nothing(rt: HostRuntime) -> Result<(), Fail> {
     let alloc = rt.alloc();
     let mut device = Faulty::new(directory(alloc)?, Faults::All(0));
-    let mut refs = FileRefs::new(alloc);
-    assert_eq!(rt; refs.sweep(alloc, &mut device), Ok(0));
-    let mut refs = taken(alloc, FILES)?;
-    assert_eq!(rt; refs.sweep(alloc, &mut device), Ok(0));
-    assert_eq!(rt; device.calls(), 0);
+    let none_known = FileRefs::new(alloc).sweep(alloc, &mut device) == Ok(0);
+    let none_pending = taken(alloc, FILES)?.sweep(alloc, &mut device) == Ok(0);
+    assert!(rt; none_known && none_pending && device.calls() == 0);
     Ok(())
 }
 
@@ -161,7 +186,7 @@ fn a_sweep_of_nothing_asks_for_nothing(rt: HostRuntime) -> Result<(), Fail> {
 fn an_absent_file_is_no_fault(rt: HostRuntime) -> Result<(), Fail> {
     let alloc = rt.alloc();
     let mut refs = all_but(alloc, 0)?;
-    assert_eq!(rt; refs.sweep(alloc, &mut MemoryDirectory::new(alloc)), Ok(6));
-    assert_eq!(rt; refs.pending(), 0);
+    let are_swept = refs.sweep(alloc, &mut MemoryDirectory::new(alloc)) == Ok(6);
+    assert!(rt; are_swept && refs.pending() == 0);
     Ok(())
 }

@@ -1,6 +1,6 @@
 //! What files say, right or wrong, and directories with such files.
 use cat_base::{Generation, Refusal, SegNo, Token, WriteNo, put_u32, put_u64};
-use cat_directory::{Directory, FileName, MemoryDirectory, write_file};
+use cat_directory::{Directory, FileName, MemoryDirectory, Shelf, write_file};
 use std::alloc::{AllocError, Global};
 
 /// What a commit's file says.
@@ -225,4 +225,45 @@ pub(crate) fn whole_but(alloc: Global, others: Files<'_>) -> Result<MemoryDirect
     write_files(&mut directory, alloc, WHOLE)?;
     write_files(&mut directory, alloc, others)?;
     Ok(directory)
+}
+
+/// Whether the file has these bytes.
+fn has_bytes<S: Shelf>(
+    alloc: Global,
+    shelf: &mut S,
+    name: FileName,
+    bytes: &[u8],
+) -> Result<bool, Refusal> {
+    let size = shelf.size(name)?;
+    let held = shelf.read(alloc, name, 0, size.min(1_000) as u32)?;
+    Ok(held.as_slice() == bytes)
+}
+
+/// Whether the file says so; where it says nothing, there is nothing to compare.
+fn says<S: Shelf>(
+    alloc: Global,
+    shelf: &mut S,
+    name: FileName,
+    content: &Content<'_>,
+) -> Result<bool, Refusal> {
+    match bytes_of(alloc, content)? {
+        Some(bytes) => has_bytes(alloc, shelf, name, &bytes),
+        None => Ok(true),
+    }
+}
+
+/// Whether just the files of the commit are there, with their bytes.
+pub(crate) fn is_whole<D: Directory + Shelf>(
+    alloc: Global,
+    device: &mut D,
+) -> Result<bool, Refusal> {
+    if device.names(alloc)?.len() != WHOLE.len() {
+        return Ok(false);
+    }
+    for (name, content) in WHOLE {
+        if !says(alloc, device, *name, content)? {
+            return Ok(false);
+        }
+    }
+    Ok(true)
 }

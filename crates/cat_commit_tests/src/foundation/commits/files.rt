@@ -121,26 +121,42 @@ const FILES: &[File<'static>] = &[
     ),
 ];
 
+/// Whether the file is so.
+fn is_file(alloc: Global, file: &File<'_>) -> Result<bool, Refusal> {
+    let (bytes, length, says, needs, is_second) = *file;
+    Ok(
+        bytes.len() == length
+            && told(alloc, bytes)?.as_str() == says
+            && names(alloc, bytes)?.as_str() == needs
+            && is_written_so(alloc, bytes)? == is_second,
+    )
+}
+
+/// The same of each file.
+fn are_files(alloc: Global, files: &[File<'_>]) -> Result<bool, Refusal> {
+    for file in files {
+        if !is_file(alloc, file)? {
+            return Ok(false);
+        }
+    }
+    Ok(true)
+}
+
 #[test]
 fn files_say_what_their_bytes_say(rt: HostRuntime) -> Result<(), Fail> {
-    for &(bytes, length, says, needs, is_second) in FILES {
-        assert_eq!(rt; bytes.len(), length);
-        assert_eq!(rt; told(rt.alloc(), bytes)?.as_str(), says);
-        assert_eq!(rt; names(rt.alloc(), bytes)?.as_str(), needs);
-        assert_eq!(rt; is_written_so(rt.alloc(), bytes)?, is_second, "{says}");
-    }
+    assert!(rt; are_files(rt.alloc(), FILES)?);
     Ok(())
 }
 
-/// The length of the first beginning of the bytes that is not refused, if there is one.
-fn read_beginning(alloc: Global, bytes: &[u8]) -> Option<usize> {
+/// Whether all beginnings of the bytes are refused as damaged.
+fn are_beginnings_damaged(alloc: Global, bytes: &[u8]) -> bool {
     for end in 0..bytes.len() {
         let (front, _) = bytes.split_at(end.min(bytes.len()));
         if !matches!(decoded(alloc, front), Err(Refusal::Damaged)) {
-            return Some(end);
+            return false;
         }
     }
-    None
+    true
 }
 
 /// With the byte of this offset turned to its complement, the bytes are a commit or none.
@@ -152,24 +168,26 @@ fn turned(alloc: Global, bytes: &[u8], offset: usize) -> Result<bool, Refusal> {
     is_commit(alloc, &changed)
 }
 
-/// Of the bytes turned each to its complement, those of the generation, the token and the next number but for the high byte of
-/// each leave another commit. All else leaves none. This is the first offset where it is not so, if there is one.
-fn turned_otherwise(alloc: Global, bytes: &[u8]) -> Result<Option<usize>, Refusal> {
+/// Whether, of the bytes turned each to its complement, just those of the generation, the token and the next number but for the
+/// high byte of each leave a commit.
+fn are_turned_so(alloc: Global, bytes: &[u8]) -> Result<bool, Refusal> {
     for offset in 0..bytes.len() {
         let want = matches!(offset, 6..=12 | 14..=20 | 22..=28);
         if turned(alloc, bytes, offset)? != want {
-            return Ok(Some(offset));
+            return Ok(false);
         }
     }
-    Ok(None)
+    Ok(true)
+}
+
+/// Whether no byte may be missing at the end, and each that is turned counts.
+fn counts_every_byte(alloc: Global, bytes: &[u8]) -> Result<bool, Refusal> {
+    Ok(are_beginnings_damaged(alloc, bytes) && are_turned_so(alloc, bytes)?)
 }
 
 #[test]
 fn every_byte_counts(rt: HostRuntime) -> Result<(), Fail> {
-    for &bytes in &[FIRST, SECOND] {
-        assert_eq!(rt; read_beginning(rt.alloc(), bytes), None);
-        assert_eq!(rt; turned_otherwise(rt.alloc(), bytes)?, None);
-    }
+    assert!(rt; counts_every_byte(rt.alloc(), FIRST)? && counts_every_byte(rt.alloc(), SECOND)?);
     Ok(())
 }
 
@@ -182,11 +200,17 @@ const TEXTS: &[(&str, Result<(), Refusal>)] = &[
     ("a\u{7f}", Err(Refusal::Kind)),
 ];
 
-#[test]
-fn texts_have_no_control_characters(rt: HostRuntime) -> Result<(), Fail> {
-    for (text, want) in TEXTS {
-        assert_eq!(rt; judge_commit_text(text), *want, "{text}");
-        assert_eq!(rt; commit_text_ok(text), want.is_ok(), "{text}");
+/// Whether each text is judged so.
+fn are_judged(texts: &[(&str, Result<(), Refusal>)]) -> bool {
+    for (text, want) in texts {
+        if judge_commit_text(text) != *want || commit_text_ok(text) != want.is_ok() {
+            return false;
+        }
     }
-    Ok(())
+    true
+}
+
+#[test]
+fn texts_have_no_control_characters(rt: HostRuntime) {
+    assert!(rt; are_judged(TEXTS));
 }

@@ -153,13 +153,19 @@ const MISFIT: &[Said<'static>] = &[
     },
 ];
 
-#[test]
-fn numbers_fit(rt: HostRuntime) -> Result<(), Fail> {
-    for &(table, want) in &[(FIT, true), (MISFIT, false)] {
-        for (index, said) in table.iter().enumerate() {
-            assert_eq!(rt; fits(rt.alloc(), said)?, want, "{index}");
+/// Whether each of them fits, or none does.
+fn all_fit(alloc: Global, table: &[Said<'_>], want: bool) -> Result<bool, Refusal> {
+    for said in table {
+        if fits(alloc, said)? != want {
+            return Ok(false);
         }
     }
+    Ok(true)
+}
+
+#[test]
+fn numbers_fit(rt: HostRuntime) -> Result<(), Fail> {
+    assert!(rt; all_fit(rt.alloc(), FIT, true)? && all_fit(rt.alloc(), MISFIT, false)?);
     Ok(())
 }
 
@@ -199,20 +205,22 @@ fn many_fit(alloc: Global, count: usize) -> Result<bool, Refusal> {
     )
 }
 
+/// Whether a text of so many letters is judged so, by itself and in a file.
+fn is_judged(alloc: Global, count: usize, want: Result<(), Refusal>) -> Result<bool, Refusal> {
+    let text = letters(alloc, count)?;
+    let may_be = want.is_ok();
+    Ok(
+        judge_commit_text(text.as_str()) == want
+            && commit_text_ok(text.as_str()) == may_be
+            && text_fits(alloc, text.as_str())? == may_be,
+    )
+}
+
 #[test]
 fn a_text_has_256_bytes_and_a_commit_65536_segments_at_most(rt: HostRuntime) -> Result<(), Fail> {
-    for &(count, want) in &[(256, Ok(())), (257, Err(Refusal::Large))] {
-        let text = letters(rt.alloc(), count)?;
-        assert_eq!(rt; judge_commit_text(text.as_str()), want);
-        assert_eq!(rt; commit_text_ok(text.as_str()), want.is_ok(), "{count}");
-        assert_eq!(rt;
-            text_fits(rt.alloc(), text.as_str())?,
-            want.is_ok(),
-            "{count}"
-        );
-    }
-    for &(count, want) in &[(MAX_SEGMENTS, true), (MAX_SEGMENTS + 1, false)] {
-        assert_eq!(rt; many_fit(rt.alloc(), count)?, want, "{count}");
-    }
+    let alloc = rt.alloc();
+    let texts = is_judged(alloc, 256, Ok(()))? && is_judged(alloc, 257, Err(Refusal::Large))?;
+    let segments = many_fit(alloc, MAX_SEGMENTS)? && !many_fit(alloc, MAX_SEGMENTS + 1)?;
+    assert!(rt; texts && segments);
     Ok(())
 }

@@ -87,15 +87,30 @@ const FILLED: &[Call<'static>] = &[
     Call::Release(7, Ok(MAX_SNAPSHOTS - 1)),
 ];
 
-/// Each table's calls are made one behind another, where no commit has a snapshot before.
-#[test]
-fn snapshots_are_counted_and_their_commits_kept(rt: HostRuntime) -> Result<(), Fail> {
-    for (table, calls) in [KEPT, COUNTED, FILLED].iter().enumerate() {
-        let mut snapshots = Snapshots::new(rt.alloc());
-        for (index, call) in calls.iter().enumerate() {
-            let is_so = is_answered(rt.alloc(), &mut snapshots, *call)?;
-            assert!(rt; is_so, "call {index} of table {table}");
+/// Whether each call is answered so, one behind another.
+fn are_answered(
+    alloc: Global,
+    snapshots: &mut Snapshots,
+    calls: &[Call<'_>],
+) -> Result<bool, AllocError> {
+    for call in calls {
+        if !is_answered(alloc, snapshots, *call)? {
+            return Ok(false);
         }
     }
+    Ok(true)
+}
+
+/// The same where no commit has a snapshot before.
+fn are_answered_anew(alloc: Global, calls: &[Call<'_>]) -> Result<bool, AllocError> {
+    let mut snapshots = Snapshots::new(alloc);
+    are_answered(alloc, &mut snapshots, calls)
+}
+
+#[test]
+fn snapshots_are_counted_and_their_commits_kept(rt: HostRuntime) -> Result<(), Fail> {
+    let alloc = rt.alloc();
+    let are_kept = are_answered_anew(alloc, KEPT)? && are_answered_anew(alloc, COUNTED)?;
+    assert!(rt; are_kept && are_answered_anew(alloc, FILLED)?);
     Ok(())
 }

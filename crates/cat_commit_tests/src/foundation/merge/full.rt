@@ -1,28 +1,28 @@
 //! A merge of as many rows as a segment may have.
-ghost use Rattle.std.specs.Prelude.{◌≡◌, ◌≢◌, ◌<◌, true, AllPairs};
+ghost use Rattle.std.specs.Prelude.{◌≡◌, ◌≢◌, ◌<◌, true, IfOk, All, AllPairs};
+ghost use Rattle.cat_model.specs.Item.{IsItem};
 
 use crate::foundation::merge::rising::are_rising;
 use crate::foundation::merge::running::walked;
 use crate::foundation::merge::thrown::{FIELDS, Which, rising_puts};
-use cat_base::MAX_ROWS;
+use cat_base::{MAX_ROWS, Refusal};
 use cat_items::Schema;
 use cat_merge::Merge;
 use cat_search_tests::views::Put;
 use cat_segment::Segment;
 use std::alloc::{AllocError, Global};
-use std::process::Abort;
 use std::test::Fail;
 
-/// The rows, which can be those of a view.
-fn in_order(rt: &impl Abort, puts: Vec<Put>) -> Vec<Put>
-    ensures same { result.items ≡ puts.items }
-    ensures order { AllPairs (λ a b. (a.number < b.number)
-        × (a.live ≡ true → b.live ≡ true → a.item.id ≢ b.item.id)) result.items }
+/// The rows; [`Refusal::Damaged`] where they don't rise as those of a view can.
+fn in_order(puts: Vec<Put>) -> Result<Vec<Put>, Refusal>
+    ensures same { IfOk result (λ v. v.items ≡ puts.items) }
+    ensures order { IfOk result (λ v. AllPairs (λ a b. (a.number < b.number)
+        × (a.live ≡ true → b.live ≡ true → a.item.id ≢ b.item.id)) v.items) }
 {
     if !are_rising(&puts) {
-        panic!(rt; "no rows of a view");
+        return Err(Refusal::Damaged);
     }
-    puts
+    Ok(puts)
 }
 
 /// Where each of so many segments ends that have so many rows.
@@ -36,46 +36,57 @@ fn ends_of(alloc: Global, count: usize, rows: usize) -> Result<Vec<usize>, Alloc
     Ok(ends)
 }
 
-/// Fails unless the segment has these rows, and finds each by its id.
-fn expect_rows(rt: &impl Abort, segment: &Segment, puts: &[Put]) {
-    assert!(rt; segment.len() == puts.len());
+/// Whether this is the row of the segment, which finds it by its id.
+fn is_row(segment: &Segment, row: usize, put: &Put) -> bool {
+    segment.row_with(put.item.id()) == Some(row)
+        && row < segment.len()
+        && segment.write_number(row) == put.number
+        && segment.source_length(row) as usize == put.item.source().len()
+}
+
+/// Whether the segment has these rows, and finds each by its id.
+fn are_rows(segment: &Segment, puts: &[Put]) -> bool {
     for (row, put) in puts.iter().enumerate() {
-        assert!(rt; segment.row_with(put.item.id()) == Some(row), "{row}");
-        assert!(rt;
-            row < segment.len() && segment.write_number(row) == put.number,
-            "{row}"
-        );
-        let length = put.item.source().len();
-        assert!(rt;
-            row < segment.len() && segment.source_length(row) as usize == length,
-            "{row}"
-        );
+        if !is_row(segment, row, put) {
+            return false;
+        }
+    }
+    segment.len() == puts.len()
+}
+
+/// Ends the merge, and tells whether all its rows were passed, and its segment has these.
+fn is_full(alloc: Global, merge: Merge, puts: &[Put]) -> Result<bool, AllocError> {
+    if merge.rows_left() > 0 {
+        return Ok(false);
+    }
+    match merge.seal(alloc)? {
+        Some(segment) => Ok(are_rows(&segment, puts)),
+        None => Ok(false),
     }
 }
 
-/// Ends the merge, and fails unless its segment has these rows.
-fn expect_full(
-    rt: &impl Abort,
+/// Whether the rows of segments that end at these places are merged into one that has them all.
+fn is_merged_full(
     alloc: Global,
-    merge: Merge,
+    schema: &Schema,
     puts: &[Put],
-) -> Result<(), AllocError> {
-    if merge.rows_left() > 0 {
-        panic!(rt; "rows are left");
+    ends: &[usize],
+) -> Result<bool, Refusal>
+    requires items { All (λ p. IsItem schema.now p.item) puts.now }
+    requires order { AllPairs (λ a b. (a.number < b.number)
+        × (a.live ≡ true → b.live ≡ true → a.item.id ≢ b.item.id)) puts.now }
+{
+    match walked(alloc, schema, puts, ends, Which::Every(3))? {
+        Some(merge) => Ok(is_full(alloc, merge, puts)?),
+        None => Ok(false),
     }
-    match merge.seal(alloc)? {
-        Some(segment) => expect_rows(rt, &segment, puts),
-        None => panic!(rt; "no segment"),
-    }
-    Ok(())
 }
 
 #[test]
 fn a_full_segment_is_merged_of_64(rt: HostRuntime) -> Result<(), Fail> {
-    let alloc = rt.alloc();
-    let schema = Schema::read(alloc, FIELDS)?;
-    let puts = in_order(&rt, rising_puts(alloc, &schema, MAX_ROWS as u64)?);
-    let ends = ends_of(alloc, 64, MAX_ROWS / 64)?;
-    let merge = walked(&rt, alloc, &schema, &puts, &ends, Which::Every(3))?;
-    Ok(expect_full(&rt, alloc, merge, &puts)?)
+    let schema = Schema::read(rt.alloc(), FIELDS)?;
+    let ends = ends_of(rt.alloc(), 64, MAX_ROWS / 64)?;
+    let puts = in_order(rising_puts(rt.alloc(), &schema, MAX_ROWS as u64)?)?;
+    assert!(rt; is_merged_full(rt.alloc(), &schema, &puts, &ends)?);
+    Ok(())
 }

@@ -1,46 +1,50 @@
 //! Merges of segments with fields of each kind, with rows that are dead when they begin and rows that are killed meanwhile.
-ghost use Rattle.std.specs.Prelude.{◌≡◌, ◌≢◌, ◌<◌, true, AllPairs};
+ghost use Rattle.std.specs.Prelude.{◌≡◌, ◌≢◌, ◌<◌, true, IfOk, AllPairs};
 
-use crate::foundation::merge::running::expect_merge;
+use crate::foundation::merge::running::is_merged;
 use crate::foundation::merge::thrown::{FIELDS, Which, thrown_puts};
+use cat_base::Refusal;
 use cat_items::Schema;
 use cat_search_tests::views::{Put, PutText, are_in_order, read_puts};
-use std::alloc::Global;
-use std::process::Abort;
+use std::alloc::{AllocError, Global};
 use std::test::Fail;
 
 /// A merge: how many rows the segments have, where each ends, which rows are dead when the merge begins, and which die meanwhile.
 type Plan<'a> = (u64, &'a [usize], Which, Which);
 
-/// The rows, which can be those of a view.
-fn in_order(rt: &impl Abort, puts: Vec<Put>) -> Vec<Put>
-    ensures same { result.items ≡ puts.items }
-    ensures order { AllPairs (λ a b. (a.number < b.number)
-        × (a.live ≡ true → b.live ≡ true → a.item.id ≢ b.item.id)) result.items }
+/// The rows; [`Refusal::Damaged`] where they can't be those of a view.
+fn in_order(puts: Vec<Put>) -> Result<Vec<Put>, Refusal>
+    ensures same { IfOk result (λ v. v.items ≡ puts.items) }
+    ensures order { IfOk result (λ v. AllPairs (λ a b. (a.number < b.number)
+        × (a.live ≡ true → b.live ≡ true → a.item.id ≢ b.item.id)) v.items) }
 {
     if !are_in_order(&puts) {
-        panic!(rt; "no rows of a view");
+        return Err(Refusal::Damaged);
     }
-    puts
+    Ok(puts)
 }
 
-fn expect_plan(
-    rt: &impl Abort,
-    alloc: Global,
-    schema: &Schema,
-    plan: &Plan<'_>,
-) -> Result<(), Fail> {
+/// Whether the merge gives what it has to.
+fn is_planned(alloc: Global, schema: &Schema, plan: &Plan<'_>) -> Result<bool, Refusal> {
     let (count, ends, dead, killed) = *plan;
-    let puts = in_order(rt, thrown_puts(alloc, schema, count, dead)?);
-    expect_merge(rt, alloc, schema, &puts, ends, killed)
+    let puts = in_order(thrown_puts(alloc, schema, count, dead)?)?;
+    is_merged(alloc, schema, &puts, ends, killed)
 }
 
-fn expect_plans(rt: &impl Abort, alloc: Global, plans: &[Plan<'_>]) -> Result<(), Fail> {
-    let schema = Schema::read(alloc, FIELDS)?;
+/// The same of each merge.
+fn are_planned(alloc: Global, schema: &Schema, plans: &[Plan<'_>]) -> Result<bool, Refusal> {
     for plan in plans {
-        expect_plan(rt, alloc, &schema, plan)?;
+        if !is_planned(alloc, schema, plan)? {
+            return Ok(false);
+        }
     }
-    Ok(())
+    Ok(true)
+}
+
+/// The same, with fields of each kind.
+fn are_merged(alloc: Global, plans: &[Plan<'_>]) -> Result<bool, Refusal> {
+    let schema = Schema::read(alloc, FIELDS)?;
+    are_planned(alloc, &schema, plans)
 }
 
 #[test]
@@ -54,7 +58,8 @@ fn live_rows_of_all_inputs_are_kept(rt: HostRuntime) -> Result<(), Fail> {
         // All rows with brands, labels and words of their own are dead.
         (60, &[30, 60], Which::Every(10), Which::None),
     ];
-    expect_plans(&rt, rt.alloc(), PLANS)
+    assert!(rt; are_merged(rt.alloc(), PLANS)?);
+    Ok(())
 }
 
 #[test]
@@ -63,7 +68,8 @@ fn one_input_loses_its_dead_rows(rt: HostRuntime) -> Result<(), Fail> {
         (1, &[1], Which::None, Which::None),
         (20, &[20], Which::Every(3), Which::Every(5)),
     ];
-    expect_plans(&rt, rt.alloc(), PLANS)
+    assert!(rt; are_merged(rt.alloc(), PLANS)?);
+    Ok(())
 }
 
 #[test]
@@ -76,7 +82,8 @@ fn inputs_without_a_live_row_leave_nothing(rt: HostRuntime) -> Result<(), Fail> 
         (30, &[10, 20, 30], Which::Through(20), Which::None),
         (30, &[10, 20, 30], Which::Through(29), Which::None),
     ];
-    expect_plans(&rt, rt.alloc(), PLANS)
+    assert!(rt; are_merged(rt.alloc(), PLANS)?);
+    Ok(())
 }
 
 #[test]
@@ -85,7 +92,8 @@ fn rows_that_all_die_meanwhile_are_kept_dead(rt: HostRuntime) -> Result<(), Fail
         (30, &[10, 20, 30], Which::None, Which::Every(1)),
         (30, &[10, 20, 30], Which::Every(2), Which::Through(29)),
     ];
-    expect_plans(&rt, rt.alloc(), PLANS)
+    assert!(rt; are_merged(rt.alloc(), PLANS)?);
+    Ok(())
 }
 
 #[test]
@@ -96,31 +104,37 @@ fn a_step_passes_256_rows_dead_or_live(rt: HostRuntime) -> Result<(), Fail> {
         (257, &[256, 257], Which::Every(256), Which::None),
         (600, &[256, 511, 600], Which::Through(300), Which::Every(7)),
     ];
-    expect_plans(&rt, rt.alloc(), PLANS)
+    assert!(rt; are_merged(rt.alloc(), PLANS)?);
+    Ok(())
 }
 
-#[test]
-fn a_hundred_segments_are_merged(rt: HostRuntime) -> Result<(), Fail> {
-    let alloc = rt.alloc();
+/// Where each of a hundred segments of nine rows ends.
+fn hundred_ends(alloc: Global) -> Result<Vec<usize>, AllocError> {
     let mut ends = Vec::new(alloc);
     for index in 0..100usize {
         ends.push(index * 9 + 9)?;
     }
-    let plan = (900, ends.as_slice(), Which::Every(9), Which::Every(11));
-    expect_plans(&rt, alloc, &[plan])
+    Ok(ends)
 }
 
-/// Merges rows that are written out, in segments that end at these places.
-fn expect_texts(
-    rt: &impl Abort,
+#[test]
+fn a_hundred_segments_are_merged(rt: HostRuntime) -> Result<(), Fail> {
+    let ends = hundred_ends(rt.alloc())?;
+    let plan = (900, ends.as_slice(), Which::Every(9), Which::Every(11));
+    assert!(rt; are_merged(rt.alloc(), &[plan])?);
+    Ok(())
+}
+
+/// Whether rows that are written out are merged, in segments that end at these places.
+fn are_texts_merged(
     alloc: Global,
     fields: &[u8],
     rows: &[PutText<'_>],
     ends: &[usize],
-) -> Result<(), Fail> {
+) -> Result<bool, Refusal> {
     let schema = Schema::read(alloc, fields)?;
-    let puts = in_order(rt, read_puts(alloc, &schema, rows, false)?);
-    expect_merge(rt, alloc, &schema, &puts, ends, Which::Every(6))
+    let puts = in_order(read_puts(alloc, &schema, rows, false)?)?;
+    is_merged(alloc, &schema, &puts, ends, Which::Every(6))
 }
 
 #[test]
@@ -137,8 +151,10 @@ fn an_id_that_was_put_again_is_kept_once(rt: HostRuntime) -> Result<(), Fail> {
         ),
         (9_000_000_000, true, r#"{"id":"c","price":-7}"#),
     ];
-    expect_texts(&rt, rt.alloc(), FIELDS, ROWS, &[2, 3, 5, 6])?;
-    expect_texts(&rt, rt.alloc(), FIELDS, ROWS, &[1, 3, 6])
+    let in_four = are_texts_merged(rt.alloc(), FIELDS, ROWS, &[2, 3, 5, 6])?;
+    let in_three = are_texts_merged(rt.alloc(), FIELDS, ROWS, &[1, 3, 6])?;
+    assert!(rt; in_four && in_three);
+    Ok(())
 }
 
 #[test]
@@ -160,7 +176,10 @@ fn fields_may_be_many_of_a_kind_or_none(rt: HostRuntime) -> Result<(), Fail> {
         (3, false, r#"{"id":"d","b":["dead"],"d":"dead","f":"dead"}"#),
         (4, true, r#"{"id":"c","a":["y"],"c":"l","e":"three"}"#),
     ];
-    expect_texts(&rt, rt.alloc(), b"{}", ROWS, &[2, 3])?;
-    expect_texts(&rt, rt.alloc(), MANY, ROWS, &[1, 3])?;
-    expect_texts(&rt, rt.alloc(), MANY, FILLED, &[1, 2, 4])
+    let alloc = rt.alloc();
+    let are_merged = are_texts_merged(alloc, b"{}", ROWS, &[2, 3])?
+        && are_texts_merged(alloc, MANY, ROWS, &[1, 3])?
+        && are_texts_merged(alloc, MANY, FILLED, &[1, 2, 4])?;
+    assert!(rt; are_merged);
+    Ok(())
 }

@@ -6,14 +6,12 @@ ghost use Rattle.cat_model.specs.Merged.{AreDeletedFrom};
 
 use crate::foundation::merge::making::{MERGED, Taken, kept_live, kept_segment, taken_of};
 use crate::foundation::merge::thrown::Which;
-use cat_base::MAX_STEP_ROWS;
+use cat_base::{MAX_STEP_ROWS, Refusal};
 use cat_items::Schema;
 use cat_merge::{Merge, SourceRange};
 use cat_search_tests::views::Put;
 use cat_segment::{Live, Segment, encode_seg};
 use std::alloc::{AllocError, Global};
-use std::process::Abort;
-use std::test::Fail;
 
 /// The texts that the items of the rows came as, or of those of them that are kept, one behind another.
 fn sources_of(alloc: Global, puts: &[Put], kept_only: bool) -> Result<Vec<u8>, AllocError> {
@@ -96,21 +94,20 @@ fn take_steps(
     Ok(steps)
 }
 
-/// Fails unless the step passed the rows from one index up to another and named the sources of those that are kept.
-fn expect_step(
-    rt: &impl Abort,
+/// Whether the step passed the rows from one index up to another and named the sources of those that are kept.
+fn is_step(
     alloc: Global,
     step: &Step,
     puts: &[Put],
     from: usize,
     to: usize,
-) -> Result<(), AllocError> {
-    assert!(rt; step.passed == to, "{to}");
-    assert!(rt; step.left == puts.len().saturating_sub(to), "{to}");
-    let between = puts_between(puts, from, to);
-    let wanted = sources_of(alloc, between, true)?;
-    assert!(rt; step.sources.as_slice() == wanted.as_slice());
-    Ok(())
+) -> Result<bool, AllocError> {
+    let wanted = sources_of(alloc, puts_between(puts, from, to), true)?;
+    Ok(
+        step.passed == to
+            && step.left == puts.len().saturating_sub(to)
+            && step.sources.as_slice() == wanted.as_slice(),
+    )
 }
 
 /// In how many ranges the sources stand of those of the rows from one index up to another that are kept, where segments end at
@@ -128,33 +125,34 @@ fn ranges_between(puts: &[Put], ends: &[usize], from: usize, to: usize) -> usize
     ranges
 }
 
-/// Fails unless each step passed 256 rows more of these, or all that were left, and named as few ranges as there can be.
-fn expect_steps(
-    rt: &impl Abort,
+/// Whether each step passed 256 rows more of these, or all that were left, and named as few ranges as there can be.
+fn are_steps(
     alloc: Global,
     steps: &[Step],
     puts: &[Put],
     ends: &[usize],
-) -> Result<(), AllocError> {
+) -> Result<bool, AllocError> {
     let mut passed = 0usize;
     for step in steps {
         let next = passed.saturating_add(MAX_STEP_ROWS).min(puts.len());
-        expect_step(rt, alloc, step, puts, passed, next)?;
-        assert!(rt;
-            step.ranges == ranges_between(puts, ends, passed, next),
-            "{next}"
-        );
+        if !is_step(alloc, step, puts, passed, next)?
+            || step.ranges != ranges_between(puts, ends, passed, next)
+        {
+            return Ok(false);
+        }
         passed = next;
     }
-    Ok(())
+    Ok(true)
 }
 
-/// Fails unless these rows are live.
-fn expect_live(rt: &impl Abort, live: &Live, wanted: &[bool]) {
-    assert!(rt; live.len() == wanted.len());
+/// Whether these rows are live.
+fn are_live(live: &Live, wanted: &[bool]) -> bool {
     for row in 0..live.len() {
-        assert!(rt; Some(&live.is_live(row)) == wanted.get(row), "{row}");
+        if Some(&live.is_live(row)) != wanted.get(row) {
+            return false;
+        }
     }
+    live.len() == wanted.len()
 }
 
 /// References to the live sets.
@@ -176,94 +174,106 @@ fn file_of(alloc: Global, segment: &Option<Segment>) -> Result<Vec<u8>, AllocErr
     }
 }
 
-/// Ends the merge, and fails unless its segment has the bytes of the other, with rows in one order by id.
-fn expect_sealed(
-    rt: &impl Abort,
-    alloc: Global,
-    merge: Merge,
-    wanted: &Option<Segment>,
-) -> Result<(), AllocError> {
-    if merge.rows_left() > 0 {
-        panic!(rt; "rows are left");
+/// Whether both have their rows in one order by id, or one is none.
+fn are_in_one_order(one: &Option<Segment>, other: &Option<Segment>) -> bool {
+    match (one, other) {
+        (Some(one), Some(other)) => one.rows_by_id() == other.rows_by_id(),
+        _ => true,
     }
-    let sealed = merge.seal(alloc)?;
-    assert!(rt; sealed.is_some() == wanted.is_some());
-    let bytes = file_of(alloc, &sealed)?;
-    assert!(rt; bytes.is_empty() == wanted.is_none());
-    assert!(rt; bytes.as_slice() == file_of(alloc, wanted)?.as_slice());
-    if let (Some(sealed), Some(wanted)) = (&sealed, wanted) {
-        assert!(rt; sealed.rows_by_id() == wanted.rows_by_id());
-    }
-    Ok(())
 }
 
-/// Takes all steps of the merge of the rows, in segments that end at these places, and one more, which passes nothing.
-fn expect_copied(
-    rt: &impl Abort,
+/// Whether the segment has the bytes of the other, with rows in one order by id.
+fn is_same(
+    alloc: Global,
+    sealed: &Option<Segment>,
+    wanted: &Option<Segment>,
+) -> Result<bool, AllocError> {
+    let bytes = file_of(alloc, sealed)?;
+    Ok(
+        sealed.is_some() == wanted.is_some()
+            && bytes.is_empty() == wanted.is_none()
+            && bytes.as_slice() == file_of(alloc, wanted)?.as_slice()
+            && are_in_one_order(sealed, wanted),
+    )
+}
+
+/// Ends the merge, and tells whether all its rows were passed, and its segment is this one.
+fn is_sealed(alloc: Global, merge: Merge, wanted: &Option<Segment>) -> Result<bool, AllocError> {
+    if merge.rows_left() > 0 {
+        return Ok(false);
+    }
+    is_same(alloc, &merge.seal(alloc)?, wanted)
+}
+
+/// Takes all steps of the merge of the rows, in segments that end at these places, and one more, which passes nothing, and tells
+/// whether they were right.
+fn is_copied(
     alloc: Global,
     merge: &mut Merge,
     puts: &[Put],
     ends: &[usize],
-) -> Result<(), AllocError>
+) -> Result<bool, AllocError>
     ensures number { OnOk result (merge.new.number ≡ merge.old.number) }
     ensures schema { OnOk result (merge.new.schema ≡ merge.old.schema) }
     ensures inputs { OnOk result (merge.new.inputs ≡ merge.old.inputs) }
 {
     let files = files_of(alloc, puts, ends)?;
     let steps = take_steps(alloc, merge, &files, puts.len() / MAX_STEP_ROWS + 2)?;
-    expect_steps(rt, alloc, &steps, puts, ends)
+    are_steps(alloc, &steps, puts, ends)
 }
 
-/// Fails unless those of the kept rows are live now that aren't killed meanwhile.
-fn expect_settled(
-    rt: &impl Abort,
+/// Whether those of the kept rows are live now that aren't killed meanwhile.
+fn is_settled(
     alloc: Global,
     merge: &Merge,
     now: &[Live],
     wanted: &[bool],
-) -> Result<(), AllocError>
+) -> Result<bool, AllocError>
     requires { AreDeletedFrom merge.now.inputs (with_live merge.now.inputs now.now) }
 {
     let live = merge.settle(alloc, &shared(alloc, now)?)?;
-    expect_live(rt, &live, wanted);
-    Ok(())
+    Ok(are_live(&live, wanted))
 }
 
-/// The merge of the rows in segments that end at these places, once all its steps are taken and its live rows were right, where
-/// some are killed meanwhile.
+/// The merge of the rows in segments that end at these places, once all its steps are taken, where some are killed meanwhile; `None`
+/// where a step or its live rows were wrong.
 pub(crate) fn walked(
-    rt: &impl Abort,
     alloc: Global,
     schema: &Schema,
     puts: &[Put],
     ends: &[usize],
     killed: Which,
-) -> Result<Merge, Fail>
+) -> Result<Option<Merge>, Refusal>
     requires items { All (λ p. IsItem schema.now p.item) puts.now }
     requires order { AllPairs (λ a b. (a.number < b.number)
         × (a.live ≡ true → b.live ≡ true → a.item.id ≢ b.item.id)) puts.now }
 {
     let Taken { inputs, now } = taken_of(alloc, schema, puts, ends, killed)?;
     let mut merge = Merge::begin(alloc, MERGED, schema, inputs)?;
-    expect_copied(rt, alloc, &mut merge, puts, ends)?;
-    expect_settled(rt, alloc, &merge, &now, &kept_live(alloc, puts, killed)?)?;
-    Ok(merge)
+    let is_copied = is_copied(alloc, &mut merge, puts, ends)?;
+    let is_settled = is_settled(alloc, &merge, &now, &kept_live(alloc, puts, killed)?)?;
+    if !(is_copied && is_settled) {
+        return Ok(None);
+    }
+    Ok(Some(merge))
 }
 
-/// Merges the rows in segments that end at these places, where some are killed meanwhile, and fails unless this gives a segment with
-/// the bytes of one that is made of the rows themselves.
-pub(crate) fn expect_merge(
-    rt: &impl Abort,
+/// Whether a merge of the rows in segments that end at these places, where some are killed meanwhile, gives a segment with the bytes
+/// of one that is made of the rows themselves.
+pub(crate) fn is_merged(
     alloc: Global,
     schema: &Schema,
     puts: &[Put],
     ends: &[usize],
     killed: Which,
-) -> Result<(), Fail>
+) -> Result<bool, Refusal>
     requires items { All (λ p. IsItem schema.now p.item) puts.now }
     requires order { AllPairs (λ a b. (a.number < b.number)
         × (a.live ≡ true → b.live ≡ true → a.item.id ≢ b.item.id)) puts.now }
 {
-    let merge = walked(rt, alloc, schema, puts, ends, killed)?;
-    Ok(expect_sealed(rt, alloc, merge, &kept_segment(alloc, schema, puts)?)?)
+    let wanted = kept_segment(alloc, schema, puts)?;
+    match walked(alloc, schema, puts, ends, killed)? {
+        Some(merge) => Ok(is_sealed(alloc, merge, &wanted)?),
+        None => Ok(false),
+    }
 }

@@ -1,4 +1,6 @@
 //! Levels and windows of segments, as a person worked them out.
+ghost use Rattle.cat_merge.specs.Policy.{IsMergePolicy};
+
 use cat_base::MAX_ROWS;
 use cat_merge::{level_of, window};
 
@@ -7,6 +9,30 @@ type Levels<'a> = &'a [(u32, u32)];
 
 /// Rows of segments in order, and the index of the window, if there is one.
 type Windows<'a> = &'a [(&'a [u32], Option<usize>)];
+
+/// Whether segments of so many rows are of these levels.
+fn are_levels(rows: Levels<'_>, factor: u64, minimum: u64) -> bool
+    requires { IsMergePolicy factor minimum }
+{
+    for &(rows, level) in rows {
+        if level_of(rows, factor, minimum) != level {
+            return false;
+        }
+    }
+    true
+}
+
+/// Whether the windows are these.
+fn are_windows(rows: Windows<'_>, factor: u64, minimum: u64) -> bool
+    requires { IsMergePolicy factor minimum }
+{
+    for &(sizes, index) in rows {
+        if window(sizes, factor, minimum) != index {
+            return false;
+        }
+    }
+    true
+}
 
 #[test]
 fn levels_by_two(rt: HostRuntime) {
@@ -21,9 +47,7 @@ fn levels_by_two(rt: HostRuntime) {
         (262_145, 19),
         (u32::MAX, 32),
     ];
-    for &(rows, level) in ROWS {
-        assert_eq!(rt; level_of(rows, 2, 1), level, "{rows}");
-    }
+    assert!(rt; are_levels(ROWS, 2, 1));
 }
 
 #[test]
@@ -36,11 +60,8 @@ fn levels_by_ten(rt: HostRuntime) {
         (10_001, 2),
         (262_144, 3),
     ];
-    for &(rows, level) in ROWS {
-        assert_eq!(rt; level_of(rows, 10, 1_000), level, "{rows}");
-    }
-    assert_eq!(rt; level_of(100_000, 100, 100_000), 0);
-    assert_eq!(rt; level_of(100_001, 100, 100_000), 1);
+    const HUNDRED: Levels<'static> = &[(100_000, 0), (100_001, 1)];
+    assert!(rt; are_levels(ROWS, 10, 1_000) && are_levels(HUNDRED, 100, 100_000));
 }
 
 #[test]
@@ -58,9 +79,7 @@ fn windows_of_two(rt: HostRuntime) {
         (&[3, 4, 8, 7, 3, 3], Some(0)),
         (&[8, 7, 3, 3, 8, 8], Some(2)),
     ];
-    for &(sizes, index) in ROWS {
-        assert_eq!(rt; window(sizes, 2, 1), index);
-    }
+    assert!(rt; are_windows(ROWS, 2, 1));
 }
 
 #[test]
@@ -74,24 +93,35 @@ fn windows_of_three(rt: HostRuntime) {
         (&[31, 30, 11, 29, 30, 10, 10], Some(1)),
         (&[30, 11, 29, 10, 10, 10, 10], Some(3)),
     ];
-    for &(sizes, index) in ROWS {
-        assert_eq!(rt; window(sizes, 3, 10), index);
-    }
+    assert!(rt; are_windows(ROWS, 3, 10));
+}
+
+const HALF: u32 = MAX_ROWS as u32 / 2;
+
+/// Whether two segments are merged that have as many rows together as one may have, and none with more.
+fn halves_fit() -> bool {
+    window(&[HALF, HALF], 2, 100_000) == Some(0)
+        && window(&[HALF, HALF + 1], 2, 100_000).is_none()
+        && window(&[HALF + 1, HALF, HALF, HALF], 2, 100_000) == Some(1)
+}
+
+/// The same of as many as are merged by `a_full_segment_is_merged_of_64`, and of one row more.
+fn sixty_fourths_fit() -> bool {
+    let mut sizes = [MAX_ROWS as u32 / 64; 64];
+    let fit = window(&sizes, 64, 100_000) == Some(0);
+    sizes[63] += 1;
+    fit && window(&sizes, 64, 100_000).is_none()
+}
+
+/// Whether a hundred segments are merged of one row, but not of as many as there can be, and no fewer.
+fn hundreds_fit() -> bool {
+    window(&[u32::MAX; 100], 100, 100_000).is_none()
+        && window(&[1; 101], 100, 1) == Some(0)
+        && window(&[1; 99], 100, 1).is_none()
 }
 
 /// Segments that are merged have as many rows as one segment may have, and no more.
 #[test]
 fn windows_at_the_limit(rt: HostRuntime) {
-    const HALF: u32 = MAX_ROWS as u32 / 2;
-    assert_eq!(rt; window(&[HALF, HALF], 2, 100_000), Some(0));
-    assert_eq!(rt; window(&[HALF, HALF + 1], 2, 100_000), None);
-    assert_eq!(rt; window(&[HALF + 1, HALF, HALF, HALF], 2, 100_000), Some(1));
-    // As many as are merged by `a_full_segment_is_merged_of_64`, and one more.
-    let mut sizes = [MAX_ROWS as u32 / 64; 64];
-    assert_eq!(rt; window(&sizes, 64, 100_000), Some(0));
-    sizes[63] += 1;
-    assert_eq!(rt; window(&sizes, 64, 100_000), None);
-    assert_eq!(rt; window(&[u32::MAX; 100], 100, 100_000), None);
-    assert_eq!(rt; window(&[1; 101], 100, 1), Some(0));
-    assert_eq!(rt; window(&[1; 99], 100, 1), None);
+    assert!(rt; halves_fit() && sixty_fourths_fit() && hundreds_fit());
 }

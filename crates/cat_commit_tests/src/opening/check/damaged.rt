@@ -1,26 +1,32 @@
 //! Damaged directories: which file breaks which rule, and that an opening is refused by 31 exactly there.
-use crate::opening::check::found::{agrees, found};
+use crate::opening::check::found::{agrees, is_found};
 use crate::opening::files::{
     COMMIT, CommitText, Content, Files, LIVE_OF_ONE, LiveText, ONE, SegmentText, THREE, TWO, WHOLE,
     bytes_of, whole_but, write_bytes,
 };
+use cat_base::Refusal;
 use cat_check::check;
 use cat_directory::{FileName, MemoryDirectory};
-use std::alloc::Global;
-use std::process::Abort;
+use std::alloc::{AllocError, Global};
 use std::test::Fail;
 
 /// A table: what stands in place of files of the commit, and what is found.
 type Rows<'a> = &'a [(Files<'a>, &'a str)];
 
-/// Fails unless just this is found of each.
-fn expect_found(rt: &impl Abort, alloc: Global, rows: Rows<'_>) -> Result<(), Fail> {
+/// Whether just this is found where others stand in place of files of the commit.
+fn is_found_with(alloc: Global, others: Files<'_>, wanted: &str) -> Result<bool, Refusal> {
+    let mut directory = whole_but(alloc, others)?;
+    is_found(alloc, &mut directory, wanted)
+}
+
+/// The same of each row.
+fn are_found_with(alloc: Global, rows: Rows<'_>) -> Result<bool, Refusal> {
     for &(others, wanted) in rows {
-        let mut directory = whole_but(alloc, others)?;
-        let found = found(rt, alloc, &mut directory)?;
-        assert_eq!(rt; found.as_str(), wanted);
+        if !is_found_with(alloc, others, wanted)? {
+            return Ok(false);
+        }
     }
-    Ok(())
+    Ok(true)
 }
 
 /// Each file of the commit, with what is found where it has no bytes.
@@ -36,22 +42,39 @@ const EMPTY: &[(FileName, &str)] = &[
     (FileName::Source(3), "it has 0 bytes in place of 20"),
 ];
 
+/// Whether the file is found with this rule where it is empty.
+fn is_found_empty(alloc: Global, name: FileName, rule: &str) -> Result<bool, Refusal> {
+    let wanted = format!(in alloc; "{name}: {rule}")?;
+    is_found_with(alloc, &[(name, Content::Source(""))], wanted.as_str())
+}
+
+/// What is found where the file is gone.
+fn gone_text(alloc: Global, name: FileName) -> Result<String, AllocError> {
+    match name {
+        FileName::Commit(_) => String::from_str(alloc, "none"),
+        _ => format!(in alloc; "{name}: it is absent"),
+    }
+}
+
+/// Whether this is found then.
+fn is_found_gone(alloc: Global, name: FileName) -> Result<bool, Refusal> {
+    let wanted = gone_text(alloc, name)?;
+    is_found_with(alloc, &[(name, Content::Gone)], wanted.as_str())
+}
+
+/// Whether each file is found where it is empty, and where it is gone.
+fn are_missed(alloc: Global, files: &[(FileName, &str)]) -> Result<bool, Refusal> {
+    for &(name, rule) in files {
+        if !is_found_empty(alloc, name, rule)? || !is_found_gone(alloc, name)? {
+            return Ok(false);
+        }
+    }
+    Ok(true)
+}
+
 #[test]
 fn each_file_is_missed(rt: HostRuntime) -> Result<(), Fail> {
-    let alloc = rt.alloc();
-    for &(name, rule) in EMPTY {
-        let empty = format!(in alloc; "{name}: {rule}")?;
-        expect_found(
-            &rt,
-            alloc,
-            &[(&[(name, Content::Source(""))], empty.as_str())],
-        )?;
-        let gone = match name {
-            FileName::Commit(_) => String::from_str(alloc, "none")?,
-            _ => format!(in alloc; "{name}: it is absent")?,
-        };
-        expect_found(&rt, alloc, &[(&[(name, Content::Gone)], gone.as_str())])?;
-    }
+    assert!(rt; are_missed(rt.alloc(), EMPTY)?);
     Ok(())
 }
 
@@ -92,7 +115,8 @@ fn each_segment_has_its_faults(rt: HostRuntime) -> Result<(), Fail> {
             "_2.sto: it has 22 bytes in place of 21",
         ),
     ];
-    expect_found(&rt, rt.alloc(), ROWS)
+    assert!(rt; are_found_with(rt.alloc(), ROWS)?);
+    Ok(())
 }
 
 #[test]
@@ -120,7 +144,8 @@ fn a_commit_has_the_number_of_its_file(rt: HostRuntime) -> Result<(), Fail> {
             "segments_3: it says that it is commit 2",
         ),
     ];
-    expect_found(&rt, rt.alloc(), ROWS)
+    assert!(rt; are_found_with(rt.alloc(), ROWS)?);
+    Ok(())
 }
 
 /// What the file of live rows of segment 1 says, and what is found.
@@ -148,12 +173,23 @@ const LIVE: &[(LiveText, &str)] = &[
     ),
 ];
 
+/// Whether this is found of each text of the live rows of segment 1.
+fn are_found_live(alloc: Global, rows: &[(LiveText, &str)]) -> Result<bool, Refusal> {
+    for &(live, wanted) in rows {
+        if !is_found_with(
+            alloc,
+            &[(FileName::Live(1, 2), Content::Live(live))],
+            wanted,
+        )? {
+            return Ok(false);
+        }
+    }
+    Ok(true)
+}
+
 #[test]
 fn live_rows_are_those_of_the_segment_and_the_commit(rt: HostRuntime) -> Result<(), Fail> {
-    for &(live, wanted) in LIVE {
-        let files: Files<'_> = &[(FileName::Live(1, 2), Content::Live(live))];
-        expect_found(&rt, rt.alloc(), &[(files, wanted)])?;
-    }
+    assert!(rt; are_found_live(rt.alloc(), LIVE)?);
     Ok(())
 }
 
@@ -209,43 +245,81 @@ fn segments_fit_together(rt: HostRuntime) -> Result<(), Fail> {
             "_3.seg: its first write isn't behind those before it; _3.seg: it has a live row with the id of one before it",
         ),
     ];
-    expect_found(&rt, rt.alloc(), ROWS)
+    assert!(rt; are_found_with(rt.alloc(), ROWS)?);
+    Ok(())
 }
 
-/// Fails unless what is found agrees with an opening, where all bits of one byte of the file are turned.
-fn spoil(
-    rt: &impl Abort,
+/// The directory, where all bits of one byte of the file are turned.
+fn spoilt(
     alloc: Global,
     directory: &MemoryDirectory,
     name: FileName,
     bytes: &[u8],
     place: usize,
-) -> Result<(), Fail> {
+) -> Result<MemoryDirectory, Refusal> {
     let mut directory = directory.copy()?;
     let mut bytes = Vec::from_slice(alloc, bytes)?;
     if let Some(byte) = bytes.get_mut(place) {
         *byte = !*byte;
     }
     write_bytes(&mut directory, alloc, name, &bytes)?;
-    let checked = check(alloc, &mut directory)?;
-    let Some(report) = &checked.newest else {
-        return Ok(());
-    };
-    let agrees = agrees(alloc, &mut directory, report)?;
-    assert!(rt; agrees, "{name} {place}");
-    Ok(())
+    Ok(directory)
+}
+
+/// Whether what is found of the newest commit, if there is one, agrees with an opening.
+fn agrees_with_opening(alloc: Global, directory: &mut MemoryDirectory) -> Result<bool, Refusal> {
+    let checked = check(alloc, directory)?;
+    match &checked.newest {
+        Some(report) => agrees(alloc, directory, report),
+        None => Ok(true),
+    }
+}
+
+/// The same where any one byte of the file is spoilt.
+fn are_agreed(
+    alloc: Global,
+    directory: &MemoryDirectory,
+    name: FileName,
+    bytes: &[u8],
+) -> Result<bool, Refusal> {
+    for place in 0..bytes.len() {
+        if !agrees_with_opening(alloc, &mut spoilt(alloc, directory, name, bytes, place)?)? {
+            return Ok(false);
+        }
+    }
+    Ok(true)
+}
+
+/// The same of what the file says, if it says something.
+fn is_content_agreed(
+    alloc: Global,
+    directory: &MemoryDirectory,
+    name: FileName,
+    content: &Content<'_>,
+) -> Result<bool, Refusal> {
+    match bytes_of(alloc, content)? {
+        Some(bytes) => are_agreed(alloc, directory, name, &bytes),
+        None => Ok(true),
+    }
+}
+
+/// The same of each of the files.
+fn are_all_agreed(
+    alloc: Global,
+    directory: &MemoryDirectory,
+    files: Files<'_>,
+) -> Result<bool, Refusal> {
+    for (name, content) in files {
+        if !is_content_agreed(alloc, directory, *name, content)? {
+            return Ok(false);
+        }
+    }
+    Ok(true)
 }
 
 #[test]
 fn a_spoilt_byte_is_found_where_an_opening_finds_it(rt: HostRuntime) -> Result<(), Fail> {
-    let alloc = rt.alloc();
-    let directory = whole_but(alloc, &[])?;
-    for (name, content) in WHOLE {
-        if let Some(bytes) = bytes_of(alloc, content)? {
-            for place in 0..bytes.len() {
-                spoil(&rt, alloc, &directory, *name, &bytes, place)?;
-            }
-        }
-    }
+    let directory = whole_but(rt.alloc(), &[])?;
+    assert!(rt; are_all_agreed(rt.alloc(), &directory, WHOLE)?);
     Ok(())
 }

@@ -1,9 +1,10 @@
 //! The way back after a crash in the middle of a commit.
-use crate::opening::check::found::found;
+use crate::opening::check::found::is_found;
 use crate::opening::files::{COMMIT, Content, Files, whole_but};
+use cat_base::Refusal;
 use cat_check::{Standing, drop_torn, tell_standing};
-use cat_directory::{Directory, FileName};
-use std::process::Abort;
+use cat_directory::{Directory, FileName, MemoryDirectory};
+use std::alloc::Global;
 use std::test::Fail;
 
 /// Commit 4, of which a front was written.
@@ -48,38 +49,65 @@ const ROWS: &[(Files<'static>, Standing, &str)] = &[
     ),
 ];
 
-/// Fails unless just the files with these names are there, but for this one.
-fn expect_names(
-    rt: &impl Abort,
-    before: &[FileName],
-    after: &[FileName],
-    dropped: Option<FileName>,
-) {
+/// Whether just the files with these names are there, but for this one.
+fn are_but(before: &[FileName], after: &[FileName], dropped: Option<FileName>) -> bool {
     for name in before {
-        assert!(rt; after.contains(name) != (dropped == Some(*name)), "{name}");
+        if after.contains(name) == (dropped == Some(*name)) {
+            return false;
+        }
     }
     for name in after {
-        assert!(rt; before.contains(name), "{name}");
+        if !before.contains(name) {
+            return false;
+        }
     }
+    true
+}
+
+/// The file that is dropped where the newest commit stands so.
+fn dropped_at(standing: Standing) -> Option<FileName> {
+    match standing {
+        Standing::OverWhole(torn, _) => Some(FileName::Commit(torn)),
+        _ => None,
+    }
+}
+
+/// Whether a drop tells how the newest commit stands, and deletes just what is torn.
+fn is_dropped(
+    alloc: Global,
+    directory: &mut MemoryDirectory,
+    wanted: Standing,
+) -> Result<bool, Refusal> {
+    let before = directory.names(alloc)?;
+    let standing = drop_torn(alloc, directory)?;
+    let after = directory.names(alloc)?;
+    Ok(standing == wanted && are_but(&before, &after, dropped_at(standing)))
+}
+
+/// Whether it does so where others stand beside the whole commit or in place of its files, and this is found then.
+fn is_dropped_with(
+    alloc: Global,
+    others: Files<'_>,
+    wanted: Standing,
+    then: &str,
+) -> Result<bool, Refusal> {
+    let mut directory = whole_but(alloc, others)?;
+    Ok(is_dropped(alloc, &mut directory, wanted)? && is_found(alloc, &mut directory, then)?)
+}
+
+/// The same of each row.
+fn are_dropped_with(alloc: Global, rows: &[(Files<'_>, Standing, &str)]) -> Result<bool, Refusal> {
+    for &(others, wanted, then) in rows {
+        if !is_dropped_with(alloc, others, wanted, then)? {
+            return Ok(false);
+        }
+    }
+    Ok(true)
 }
 
 #[test]
 fn a_torn_commit_over_a_whole_one_is_dropped_and_nothing_else(rt: HostRuntime) -> Result<(), Fail> {
-    let alloc = rt.alloc();
-    for &(others, wanted, then) in ROWS {
-        let mut directory = whole_but(alloc, others)?;
-        let before = directory.names(alloc)?;
-        let standing = drop_torn(alloc, &mut directory)?;
-        assert_eq!(rt; standing, wanted);
-        let dropped = match standing {
-            Standing::OverWhole(torn, _) => Some(FileName::Commit(torn)),
-            _ => None,
-        };
-        let after = directory.names(alloc)?;
-        expect_names(&rt, &before, &after, dropped);
-        let found = found(&rt, alloc, &mut directory)?;
-        assert_eq!(rt; found.as_str(), then);
-    }
+    assert!(rt; are_dropped_with(rt.alloc(), ROWS)?);
     Ok(())
 }
 
@@ -104,12 +132,25 @@ const TOLD: &[(Standing, &str)] = &[
     (Standing::Empty, "dropped nothing: there is no commit\n"),
 ];
 
+/// Whether this is told where the newest commit stands so.
+fn is_told(alloc: Global, standing: Standing, wanted: &str) -> Result<bool, Fail> {
+    let mut out = Vec::new(alloc);
+    tell_standing(&mut out, standing)?;
+    Ok(out.as_slice() == wanted.as_bytes())
+}
+
+/// The same of each row.
+fn are_told(alloc: Global, rows: &[(Standing, &str)]) -> Result<bool, Fail> {
+    for &(standing, wanted) in rows {
+        if !is_told(alloc, standing, wanted)? {
+            return Ok(false);
+        }
+    }
+    Ok(true)
+}
+
 #[test]
 fn what_was_dropped_is_told(rt: HostRuntime) -> Result<(), Fail> {
-    for &(standing, wanted) in TOLD {
-        let mut out = Vec::new(rt.alloc());
-        tell_standing(&mut out, standing)?;
-        assert!(rt; out.as_slice() == wanted.as_bytes(), "{wanted}");
-    }
+    assert!(rt; are_told(rt.alloc(), TOLD)?);
     Ok(())
 }

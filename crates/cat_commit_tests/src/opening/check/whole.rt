@@ -1,8 +1,8 @@
 //! All that is told of directories: commits with their numbers, and files that no commit names.
-use crate::opening::check::found::text_of;
+use crate::opening::check::found::is_all_told;
 use crate::opening::files::{COMMIT, CommitText, Content, Files, whole_but};
-use cat_check::check;
 use cat_directory::{Directory, FileName, MemoryDirectory};
+use std::alloc::Global;
 use std::test::Fail;
 
 /// What stands beside the whole commit or in place of its files, and all that is told.
@@ -43,28 +43,34 @@ const ROWS: &[(Files<'static>, &str)] = &[
     ),
 ];
 
+/// Whether all is told so where others stand beside the whole commit or in place of its files.
+fn is_told_with(alloc: Global, others: Files<'_>, wanted: &str) -> Result<bool, Fail> {
+    let mut directory = whole_but(alloc, others)?;
+    is_all_told(alloc, &mut directory, wanted)
+}
+
+/// The same of each row.
+fn are_told_with(alloc: Global, rows: &[(Files<'_>, &str)]) -> Result<bool, Fail> {
+    for &(others, wanted) in rows {
+        if !is_told_with(alloc, others, wanted)? {
+            return Ok(false);
+        }
+    }
+    Ok(true)
+}
+
 #[test]
 fn all_is_told(rt: HostRuntime) -> Result<(), Fail> {
-    let alloc = rt.alloc();
-    for &(others, wanted) in ROWS {
-        let mut directory = whole_but(alloc, others)?;
-        let checked = check(alloc, &mut directory)?;
-        let told = text_of(alloc, &checked)?;
-        assert_eq!(rt; told.as_str(), wanted);
-    }
+    assert!(rt; are_told_with(rt.alloc(), ROWS)?);
     Ok(())
 }
 
 #[test]
 fn a_directory_may_have_no_commit(rt: HostRuntime) -> Result<(), Fail> {
+    const TOLD: &str = "there is no commit\n_7.sto: no commit names it\n";
     let alloc = rt.alloc();
     let mut directory = MemoryDirectory::new(alloc);
     directory.create(alloc, FileName::Source(7))?;
-    let checked = check(alloc, &mut directory)?;
-    let told = text_of(alloc, &checked)?;
-    assert_eq!(rt;
-        told.as_str(),
-        "there is no commit\n_7.sto: no commit names it\n"
-    );
+    assert!(rt; is_all_told(alloc, &mut directory, TOLD)?);
     Ok(())
 }

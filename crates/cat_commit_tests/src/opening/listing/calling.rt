@@ -6,7 +6,7 @@ use cat_base::Refusal;
 use cat_check::cat_commits::writing::Draft;
 use cat_directory::{Directory, FileName, MemoryDirectory};
 use cat_merge::Leaf;
-use std::alloc::{AllocError, Global};
+use std::alloc::Global;
 use std::fmt::Write;
 
 /// What the calls go to.
@@ -172,40 +172,34 @@ fn write_answer(
     Ok(())
 }
 
-/// Writes at which place what was answered and what was to be, where these differ.
-fn write_fault(
-    faults: &mut String,
-    place: usize,
-    answer: &str,
-    wanted: &str,
-) -> Result<(), AllocError> {
-    if answer != wanted {
-        write!(faults, "call {place}: {answer:?} for {wanted:?}; ")?;
-    }
-    Ok(())
+/// Whether the call is answered so.
+fn is_answered(alloc: Global, desk: &mut Desk, row: &Row<'_>) -> Result<bool, Refusal> {
+    let (call, wanted) = *row;
+    let mut answer = String::new(alloc);
+    write_answer(alloc, &mut answer, desk, call)?;
+    Ok(answer.as_str() == wanted)
 }
 
-/// Makes the calls in order, and tells which are answered otherwise than their rows say.
-pub(crate) fn faults_by(
+/// Whether the calls are answered so, in order.
+pub(crate) fn are_answered(
     alloc: Global,
     desk: &mut Desk,
     rows: &[Row<'_>],
-) -> Result<String, Refusal> {
-    let mut faults = String::new(alloc);
-    for (place, &(call, wanted)) in rows.iter().enumerate() {
-        let mut answer = String::new(alloc);
-        write_answer(alloc, &mut answer, desk, call)?;
-        write_fault(&mut faults, place, answer.as_str(), wanted)?;
+) -> Result<bool, Refusal> {
+    for row in rows {
+        if !is_answered(alloc, desk, row)? {
+            return Ok(false);
+        }
     }
-    Ok(faults)
+    Ok(true)
 }
 
 /// The same over the files of so many segments, and the leaves of segments 1 and 2.
-pub(crate) fn faults_over(
+pub(crate) fn are_answered_over(
     alloc: Global,
     segments: u64,
     rows: &[Row<'_>],
-) -> Result<String, Refusal> {
+) -> Result<bool, Refusal> {
     let mut desk = desk_over(alloc, segments)?;
-    faults_by(alloc, &mut desk, rows)
+    are_answered(alloc, &mut desk, rows)
 }

@@ -1,5 +1,7 @@
 //! Each call of a device fails in turn.
-use crate::opening::listing::calling::{Call, Desk, Row, desk_over, faults_by, newest, own_text};
+use crate::opening::listing::calling::{
+    Call, Desk, Row, are_answered, desk_over, newest, own_text,
+};
 use crate::opening::listing::commits::{FIRST, SECOND};
 use crate::opening::listing::making::{bytes_of, number_of, write_live, write_to};
 use cat_base::Refusal;
@@ -52,13 +54,24 @@ fn write_left(
     Ok(())
 }
 
-/// What is refused where each call fails behind so many that pass, how many calls there were, and then whether the first commit
-/// stands, the live file and the length of the commit's own file.
-fn failing(alloc: Global, passing: u64) -> Result<String, Refusal> {
+/// Whether it is told so what is refused where each call fails behind so many that pass, how many calls there were, and then whether
+/// the first commit stands, the live file and the length of the commit's own file.
+fn is_told(alloc: Global, passing: u64, wanted: &str) -> Result<bool, Refusal> {
     let mut desk = desk_over(alloc, 2)?;
-    let mut text = faults_by(alloc, &mut desk, BEFORE)?;
+    let is_before = are_answered(alloc, &mut desk, BEFORE)?;
+    let mut text = String::new(alloc);
     write_failing(alloc, &mut text, desk, passing)?;
-    Ok(text)
+    Ok(is_before && text.as_str() == wanted)
+}
+
+/// The same of each number of calls.
+fn are_told(alloc: Global, rows: &[(u64, &str)]) -> Result<bool, Refusal> {
+    for &(passing, wanted) in rows {
+        if !is_told(alloc, passing, wanted)? {
+            return Ok(false);
+        }
+    }
+    Ok(true)
 }
 
 /// The live file is made and written, all is synced, and then the commit's own file is made, written and synced.
@@ -74,9 +87,6 @@ const FAILING: &[(u64, &str)] = &[
 
 #[test]
 fn the_own_file_comes_last(rt: HostRuntime) -> Result<(), Fail> {
-    for &(passing, wanted) in FAILING {
-        let told = failing(rt.alloc(), passing)?;
-        assert_eq!(rt; told.as_str(), wanted, "{passing}");
-    }
+    assert!(rt; are_told(rt.alloc(), FAILING)?);
     Ok(())
 }

@@ -3,27 +3,49 @@ use crate::opening::files::{
     COMMIT, CommitText, Content, Files, LIVE_OF_ONE, LiveText, ONE, SegmentText, THREE, TWO, WHOLE,
     bytes_of, whole_but, write_bytes,
 };
-use crate::opening::opening::told::told;
+use crate::opening::opening::told::{is_told, told};
+use cat_base::Refusal;
 use cat_directory::{FileName, MemoryDirectory};
 use std::alloc::Global;
-use std::process::Abort;
 use std::test::Fail;
 
-/// Fails unless each of these, in place of files of the commit, leaves no commit.
-fn expect_damaged(rt: &impl Abort, alloc: Global, all: &[Files<'_>]) -> Result<(), Fail> {
-    for (place, others) in all.iter().enumerate() {
-        let mut directory = whole_but(alloc, others)?;
-        assert!(rt; told(alloc, &mut directory)?.as_str() == "NO 31", "{place}");
+/// Whether these, in place of files of the commit, leave no commit.
+fn is_damaged(alloc: Global, others: Files<'_>) -> Result<bool, Refusal> {
+    let mut directory = whole_but(alloc, others)?;
+    is_told(alloc, &mut directory, "NO 31")
+}
+
+/// The same of each of them.
+fn are_damaged(alloc: Global, all: &[Files<'_>]) -> Result<bool, Refusal> {
+    for others in all {
+        if !is_damaged(alloc, others)? {
+            return Ok(false);
+        }
     }
-    Ok(())
+    Ok(true)
+}
+
+/// Whether no commit is left where the file is gone, or empty.
+fn is_needed(alloc: Global, name: FileName) -> Result<bool, Refusal> {
+    Ok(
+        is_damaged(alloc, &[(name, Content::Gone)])?
+            && is_damaged(alloc, &[(name, Content::Source(""))])?,
+    )
+}
+
+/// The same of each of the files.
+fn are_needed(alloc: Global, files: Files<'_>) -> Result<bool, Refusal> {
+    for (name, _) in files {
+        if !is_needed(alloc, *name)? {
+            return Ok(false);
+        }
+    }
+    Ok(true)
 }
 
 #[test]
 fn each_file_is_needed(rt: HostRuntime) -> Result<(), Fail> {
-    for (name, _) in WHOLE {
-        expect_damaged(&rt, rt.alloc(), &[&[(*name, Content::Gone)]])?;
-        expect_damaged(&rt, rt.alloc(), &[&[(*name, Content::Source(""))]])?;
-    }
+    assert!(rt; are_needed(rt.alloc(), WHOLE)?);
     Ok(())
 }
 
@@ -46,7 +68,8 @@ fn a_commit_has_the_number_of_its_file(rt: HostRuntime) -> Result<(), Fail> {
             }),
         )],
     ];
-    expect_damaged(&rt, rt.alloc(), OTHERS)
+    assert!(rt; are_damaged(rt.alloc(), OTHERS)?);
+    Ok(())
 }
 
 #[test]
@@ -73,7 +96,18 @@ fn a_segment_has_the_number_and_the_schema_of_the_commit(rt: HostRuntime) -> Res
             (FileName::Segment(2), Content::Segment(ONE)),
         ],
     ];
-    expect_damaged(&rt, rt.alloc(), OTHERS)
+    assert!(rt; are_damaged(rt.alloc(), OTHERS)?);
+    Ok(())
+}
+
+/// Whether each of these, in place of the live rows of segment 1, leaves no commit.
+fn are_no_live_rows(alloc: Global, others: &[LiveText]) -> Result<bool, Refusal> {
+    for &other in others {
+        if !is_damaged(alloc, &[(FileName::Live(1, 2), Content::Live(other))])? {
+            return Ok(false);
+        }
+    }
+    Ok(true)
 }
 
 #[test]
@@ -101,10 +135,7 @@ fn live_rows_are_those_of_the_segment_and_the_commit(rt: HostRuntime) -> Result<
             ..LIVE_OF_ONE
         },
     ];
-    for &other in OTHERS {
-        let files: Files<'_> = &[(FileName::Live(1, 2), Content::Live(other))];
-        expect_damaged(&rt, rt.alloc(), &[files])?;
-    }
+    assert!(rt; are_no_live_rows(rt.alloc(), OTHERS)?);
     Ok(())
 }
 
@@ -134,7 +165,8 @@ fn an_id_is_live_once(rt: HostRuntime) -> Result<(), Fail> {
             }),
         )],
     ];
-    expect_damaged(&rt, rt.alloc(), OTHERS)
+    assert!(rt; are_damaged(rt.alloc(), OTHERS)?);
+    Ok(())
 }
 
 #[test]
@@ -181,7 +213,8 @@ fn numbers_of_writes_rise_up_to_the_token(rt: HostRuntime) -> Result<(), Fail> {
             }),
         )],
     ];
-    expect_damaged(&rt, rt.alloc(), OTHERS)
+    assert!(rt; are_damaged(rt.alloc(), OTHERS)?);
+    Ok(())
 }
 
 #[test]
@@ -196,7 +229,8 @@ fn stored_texts_are_as_long_as_the_rows_say(rt: HostRuntime) -> Result<(), Fail>
         &[(FileName::Source(2), Content::Source(r#" {"id":"c"}"#))],
         &[(FileName::Source(2), Content::Source(r#"{"id":"a"}"#))],
     ];
-    expect_damaged(&rt, rt.alloc(), OTHERS)
+    assert!(rt; are_damaged(rt.alloc(), OTHERS)?);
+    Ok(())
 }
 
 /// What is read where all bits of one byte of the file are turned.
@@ -206,7 +240,7 @@ fn told_with(
     name: FileName,
     bytes: &[u8],
     place: usize,
-) -> Result<String, Fail> {
+) -> Result<String, Refusal> {
     let mut directory = directory.copy()?;
     let mut bytes = Vec::from_slice(alloc, bytes)?;
     if let Some(byte) = bytes.get_mut(place) {
@@ -226,23 +260,63 @@ fn may_differ(name: FileName, place: usize) -> bool {
     }
 }
 
-fn spoil_each(rt: &impl Abort, alloc: Global, name: FileName, bytes: &[u8]) -> Result<(), Fail> {
-    let directory = whole_but(alloc, &[])?;
+/// Whether a commit is left where it may be, where this byte is spoilt.
+fn is_spoilt_so(
+    alloc: Global,
+    directory: &MemoryDirectory,
+    name: FileName,
+    bytes: &[u8],
+    place: usize,
+) -> Result<bool, Refusal> {
+    let told = told_with(alloc, directory, name, bytes, place)?;
+    Ok((told.as_str() != "NO 31") == may_differ(name, place))
+}
+
+/// The same of each byte of the file.
+fn are_spoilt_so(
+    alloc: Global,
+    directory: &MemoryDirectory,
+    name: FileName,
+    bytes: &[u8],
+) -> Result<bool, Refusal> {
     for place in 0..bytes.len() {
-        let told = told_with(alloc, &directory, name, bytes, place)?;
-        let is_read = told.as_str() != "NO 31";
-        assert!(rt; is_read == may_differ(name, place), "{name} {place} {told}");
+        if !is_spoilt_so(alloc, directory, name, bytes, place)? {
+            return Ok(false);
+        }
     }
-    Ok(())
+    Ok(true)
+}
+
+/// The same of what the file says, if it says something.
+fn is_content_spoilt_so(
+    alloc: Global,
+    directory: &MemoryDirectory,
+    name: FileName,
+    content: &Content<'_>,
+) -> Result<bool, Refusal> {
+    match bytes_of(alloc, content)? {
+        Some(bytes) => are_spoilt_so(alloc, directory, name, &bytes),
+        None => Ok(true),
+    }
+}
+
+/// The same of each of the files.
+fn are_all_spoilt_so(
+    alloc: Global,
+    directory: &MemoryDirectory,
+    files: Files<'_>,
+) -> Result<bool, Refusal> {
+    for (name, content) in files {
+        if !is_content_spoilt_so(alloc, directory, *name, content)? {
+            return Ok(false);
+        }
+    }
+    Ok(true)
 }
 
 #[test]
 fn a_spoilt_byte_is_found(rt: HostRuntime) -> Result<(), Fail> {
-    let alloc = rt.alloc();
-    for (name, content) in WHOLE {
-        if let Some(bytes) = bytes_of(alloc, content)? {
-            spoil_each(&rt, alloc, *name, &bytes)?;
-        }
-    }
+    let directory = whole_but(rt.alloc(), &[])?;
+    assert!(rt; are_all_spoilt_so(rt.alloc(), &directory, WHOLE)?);
     Ok(())
 }

@@ -6,7 +6,6 @@ use cat_items::Schema;
 use cat_merge::Leaf;
 use std::alloc::{AllocError, Global};
 use std::fmt::Write;
-use std::test::Fail;
 
 /// The fields of the commit.
 pub(crate) const FIELDS: &[u8] = br#"{"color":"facet"}"#;
@@ -42,16 +41,21 @@ pub(crate) fn told_under<S: Shelf>(
     shelf: &mut S,
     fields: &[u8],
     generation: Generation,
-) -> Result<String, Fail> {
+) -> Result<String, Refusal> {
     let schema = Schema::read(alloc, fields)?;
     match read_commit(alloc, shelf, &schema, generation) {
         Ok(restored) => Ok(tell(alloc, &restored)?),
-        Err(Refusal::Memory) => Err(Fail::from(Refusal::Memory)),
+        Err(Refusal::Memory) => Err(Refusal::Memory),
         Err(refusal) => Ok(format!(in alloc; "NO {}", refusal.number())?),
     }
 }
 
 /// What is read of the newest commit under its own fields.
-pub(crate) fn told<S: Shelf>(alloc: Global, shelf: &mut S) -> Result<String, Fail> {
+pub(crate) fn told<S: Shelf>(alloc: Global, shelf: &mut S) -> Result<String, Refusal> {
     told_under(alloc, shelf, FIELDS, 3)
+}
+
+/// Whether this is read of the newest commit under its own fields.
+pub(crate) fn is_told<S: Shelf>(alloc: Global, shelf: &mut S, want: &str) -> Result<bool, Refusal> {
+    Ok(told(alloc, shelf)?.as_str() == want)
 }

@@ -3,31 +3,41 @@ use crate::opening::files::{
     COMMIT, CommitText, Content, Files, LIVE_OF_ONE, LiveText, SegmentText, THREE, WHOLE,
     WHOLE_TOLD, whole_but, write_files,
 };
-use crate::opening::opening::told::{told, told_under};
-use cat_directory::{FileName, Folder, FolderShelf};
+use crate::opening::opening::told::{FIELDS, is_told, told_under};
+use cat_base::{Generation, Refusal};
+use cat_directory::{FileName, Folder, FolderShelf, MemoryDirectory};
 use std::alloc::Global;
 use std::fs;
-use std::process::Abort;
+use std::fs::Files as FileSystem;
 use std::test::Fail;
 
 #[test]
 fn memory_holds_the_commit(rt: HostRuntime) -> Result<(), Fail> {
-    let alloc = rt.alloc();
-    let mut directory = whole_but(alloc, &[])?;
-    assert_eq!(rt; told(alloc, &mut directory)?.as_str(), WHOLE_TOLD);
+    let mut directory = whole_but(rt.alloc(), &[])?;
+    assert!(rt; is_told(rt.alloc(), &mut directory, WHOLE_TOLD)?);
     Ok(())
+}
+
+/// Whether the commit is read of the folder into which its files are written.
+fn is_written_and_read<R: FileSystem + AllocGlobal + Clone + Drop>(
+    rt: &R,
+) -> Result<bool, Refusal> {
+    let mut folder = Folder::at(rt.clone()?, rt.alloc(), "opening_test")?;
+    write_files(&mut folder, rt.alloc(), WHOLE)?;
+    is_told(rt.alloc(), &mut folder, WHOLE_TOLD)
+}
+
+/// Whether it is read of the folder's shelf.
+fn is_on_shelf<R: FileSystem + AllocGlobal + Clone + Drop>(rt: &R) -> Result<bool, Refusal> {
+    let mut shelf = FolderShelf::at(rt.clone()?, rt.alloc(), "opening_test")?;
+    is_told(rt.alloc(), &mut shelf, WHOLE_TOLD)
 }
 
 #[test]
 fn a_folder_holds_the_commit(rt: HostRuntime) -> Result<(), Fail> {
-    let alloc = rt.alloc();
     let _ = fs::remove_dir_all(&rt, "opening_test");
     fs::create_dir(&rt, "opening_test")?;
-    let mut folder = Folder::at(rt, alloc, "opening_test")?;
-    write_files(&mut folder, alloc, WHOLE)?;
-    assert_eq!(rt; told(alloc, &mut folder)?.as_str(), WHOLE_TOLD);
-    let mut shelf = FolderShelf::at(rt, alloc, "opening_test")?;
-    assert_eq!(rt; told(alloc, &mut shelf)?.as_str(), WHOLE_TOLD);
+    assert!(rt; is_written_and_read(&rt)? && is_on_shelf(&rt)?);
     Ok(fs::remove_dir_all(&rt, "opening_test")?)
 }
 
@@ -97,13 +107,25 @@ const FITTING: &[(Files<'static>, &str)] = &[
     ),
 ];
 
+/// Whether this is read where others stand in place of files of the commit.
+fn is_read_with(alloc: Global, others: Files<'_>, want: &str) -> Result<bool, Refusal> {
+    let mut directory = whole_but(alloc, others)?;
+    is_told(alloc, &mut directory, want)
+}
+
+/// The same of each row.
+fn are_read_with(alloc: Global, rows: &[(Files<'_>, &str)]) -> Result<bool, Refusal> {
+    for &(others, want) in rows {
+        if !is_read_with(alloc, others, want)? {
+            return Ok(false);
+        }
+    }
+    Ok(true)
+}
+
 #[test]
 fn what_fits_is_read(rt: HostRuntime) -> Result<(), Fail> {
-    let alloc = rt.alloc();
-    for &(others, want) in FITTING {
-        let mut directory = whole_but(alloc, others)?;
-        assert_eq!(rt; told(alloc, &mut directory)?.as_str(), want);
-    }
+    assert!(rt; are_read_with(rt.alloc(), FITTING)?);
     Ok(())
 }
 
@@ -116,20 +138,39 @@ const SCHEMAS: &[(&[u8], &str)] = &[
     (b"{}", "NO 13"),
 ];
 
-fn expect_schemas(
-    rt: &impl Abort,
+/// Whether this is read of the commit under the fields.
+fn is_told_under(
+    alloc: Global,
+    directory: &mut MemoryDirectory,
+    fields: &[u8],
+    generation: Generation,
+    want: &str,
+) -> Result<bool, Refusal> {
+    Ok(told_under(alloc, directory, fields, generation)?.as_str() == want)
+}
+
+/// The same under each schema.
+fn are_told_under(
+    alloc: Global,
+    directory: &mut MemoryDirectory,
+    schemas: &[(&[u8], &str)],
+) -> Result<bool, Refusal> {
+    for &(fields, want) in schemas {
+        if !is_told_under(alloc, directory, fields, 3, want)? {
+            return Ok(false);
+        }
+    }
+    Ok(true)
+}
+
+/// The same where others stand in place of files of the commit.
+fn are_told_with(
     alloc: Global,
     others: Files<'_>,
     schemas: &[(&[u8], &str)],
-) -> Result<(), Fail> {
+) -> Result<bool, Refusal> {
     let mut directory = whole_but(alloc, others)?;
-    for &(fields, want) in schemas {
-        assert_eq!(rt;
-            told_under(alloc, &mut directory, fields, 3)?.as_str(),
-            want
-        );
-    }
-    Ok(())
+    are_told_under(alloc, &mut directory, schemas)
 }
 
 #[test]
@@ -139,8 +180,9 @@ fn another_schema_is_told_before_a_segment_is_read(rt: HostRuntime) -> Result<()
         (br#"{"color":"facet"}"#, "NO 31"),
         (br#"{"color":"text"}"#, "NO 13"),
     ];
-    expect_schemas(&rt, rt.alloc(), &[], SCHEMAS)?;
-    expect_schemas(&rt, rt.alloc(), ABSENT, UNREAD)
+    let alloc = rt.alloc();
+    assert!(rt; are_told_with(alloc, &[], SCHEMAS)? && are_told_with(alloc, ABSENT, UNREAD)?);
+    Ok(())
 }
 
 /// Each commit is read by its own number.
@@ -157,17 +199,12 @@ const OLDER: Files<'static> = &[(
 
 #[test]
 fn an_older_commit_is_read_too(rt: HostRuntime) -> Result<(), Fail> {
-    const FIELDS: &[u8] = crate::opening::opening::told::FIELDS;
+    const TOLD: &str = "2 5 3 [] _1 -1a+10 2b+21 _2 4a+10 5c+11";
     let alloc = rt.alloc();
     let mut directory = whole_but(alloc, OLDER)?;
-    assert_eq!(rt;
-        told_under(alloc, &mut directory, FIELDS, 2)?.as_str(),
-        "2 5 3 [] _1 -1a+10 2b+21 _2 4a+10 5c+11"
-    );
-    assert_eq!(rt; told(alloc, &mut directory)?.as_str(), WHOLE_TOLD);
-    assert_eq!(rt;
-        told_under(alloc, &mut directory, FIELDS, 1)?.as_str(),
-        "NO 31"
-    );
+    let are_read = is_told_under(alloc, &mut directory, FIELDS, 2, TOLD)?
+        && is_told(alloc, &mut directory, WHOLE_TOLD)?
+        && is_told_under(alloc, &mut directory, FIELDS, 1, "NO 31")?;
+    assert!(rt; are_read);
     Ok(())
 }
