@@ -10,3 +10,5 @@ mod walks;
 
 pub use making::{PutText, are_in_order, read_put, read_puts, segment_of, sets_of, view_of};
 pub use put::Put;
+#[cfg(test)]
+pub(crate) use views::view_of_texts;

@@ -2,8 +2,6 @@
 use cat_base::Refusal;
 use cat_segment::{decode_seg, encode_seg};
 use std::alloc::{AllocError, Global};
-use std::process::Abort;
-use std::test::Fail;
 
 /// The parts of a file, one behind another.
 pub(crate) type Parts<'a> = &'a [&'a [u8]];
@@ -27,10 +25,19 @@ pub(crate) fn file_of(alloc: Global, parts: Parts<'_>) -> Result<Vec<u8>, AllocE
     file_with(alloc, parts, parts.len(), &[])
 }
 
-/// Fails unless no segment is spelled so.
-pub(crate) fn expect_damaged(rt: &impl Abort, alloc: Global, bytes: &[u8]) {
-    let is_damaged = matches!(decode_seg(alloc, bytes), Err(Refusal::Damaged));
-    assert!(rt; is_damaged, "{bytes:?}");
+/// Whether no segment is spelled so.
+pub(crate) fn is_damaged(alloc: Global, bytes: &[u8]) -> bool {
+    matches!(decode_seg(alloc, bytes), Err(Refusal::Damaged))
+}
+
+/// Whether none is spelled by any front of the bytes.
+pub(crate) fn are_fronts_damaged(alloc: Global, bytes: &[u8]) -> bool {
+    for end in 0..bytes.len() {
+        if !is_damaged(alloc, bytes.get(..end).unwrap_or(&[])) {
+            return false;
+        }
+    }
+    true
 }
 
 /// The bytes of the segment that is spelled so.
@@ -39,9 +46,7 @@ pub(crate) fn rewritten(alloc: Global, bytes: &[u8]) -> Result<Vec<u8>, Refusal>
     Ok(encode_seg(alloc, &segment)?)
 }
 
-/// Fails unless a segment is spelled so, and by these bytes.
-pub(crate) fn expect_exact(rt: &impl Abort, alloc: Global, bytes: &[u8]) -> Result<(), Fail> {
-    let written = rewritten(alloc, bytes)?;
-    assert!(rt; written.as_slice() == bytes, "{bytes:?}");
-    Ok(())
+/// Whether a segment is spelled so, and by these bytes.
+pub(crate) fn is_exact(alloc: Global, bytes: &[u8]) -> Result<bool, Refusal> {
+    Ok(rewritten(alloc, bytes)?.as_slice() == bytes)
 }

@@ -1,7 +1,7 @@
 //! Files of segments that keep each rule of the format but one, and files that reach the limits of the rules.
-use crate::segment::bytes::{Parts, expect_damaged, expect_exact, file_of, file_with};
+use crate::segment::bytes::{Parts, file_of, file_with, is_damaged, is_exact};
+use cat_base::Refusal;
 use std::alloc::Global;
-use std::process::Abort;
 use std::test::Fail;
 
 /// Segment 1, of two items: `a` has a brand, two colors, a price and a word; `b` has a brand, a color and two words.
@@ -39,43 +39,40 @@ const PRICES: usize = 8;
 
 const TITLES: usize = 9;
 
-/// Fails unless each of these, in place of the part of the index, leaves the file of no segment.
-fn expect_wrong(
-    rt: &impl Abort,
-    alloc: Global,
-    index: usize,
-    parts: Parts<'_>,
-) -> Result<(), Fail> {
+/// Whether each of these, in place of the part of the index, leaves the file of no segment.
+fn are_wrong(alloc: Global, index: usize, parts: Parts<'_>) -> Result<bool, Refusal> {
     for part in parts {
-        expect_damaged(rt, alloc, &file_with(alloc, FILE, index, part)?);
+        if !is_damaged(alloc, &file_with(alloc, FILE, index, part)?) {
+            return Ok(false);
+        }
     }
-    Ok(())
+    Ok(true)
 }
 
-/// Fails unless each of these, in place of the part of the index, makes the file of another segment.
-fn expect_right(
-    rt: &impl Abort,
-    alloc: Global,
-    index: usize,
-    parts: Parts<'_>,
-) -> Result<(), Fail> {
+/// Whether each of these, in place of the part of the index, makes the file of another segment.
+fn are_right(alloc: Global, index: usize, parts: Parts<'_>) -> Result<bool, Refusal> {
     for part in parts {
-        expect_exact(rt, alloc, &file_with(alloc, FILE, index, part)?)?;
+        if !is_exact(alloc, &file_with(alloc, FILE, index, part)?)? {
+            return Ok(false);
+        }
     }
-    Ok(())
+    Ok(true)
 }
 
 #[test]
 fn the_file_itself_is_a_segment(rt: HostRuntime) -> Result<(), Fail> {
-    let alloc = rt.alloc();
-    expect_exact(&rt, alloc, &file_of(alloc, FILE)?)
+    let bytes = file_of(rt.alloc(), FILE)?;
+    assert!(rt; is_exact(rt.alloc(), &bytes)?);
+    Ok(())
 }
 
 #[test]
 fn other_magic_words_and_versions_are_damaged(rt: HostRuntime) -> Result<(), Fail> {
+    const WORDS: Parts<'static> = &[b"CSEH", b"cseg", b"CSGM", b"CLIV"];
+    const VERSIONS: Parts<'static> = &[b"\0", b"\x02", b"\xff"];
     let alloc = rt.alloc();
-    expect_wrong(&rt, alloc, MAGIC, &[b"CSEH", b"cseg", b"CSGM", b"CLIV"])?;
-    expect_wrong(&rt, alloc, VERSION, &[b"\0", b"\x02", b"\xff"])
+    assert!(rt; are_wrong(alloc, MAGIC, WORDS)? && are_wrong(alloc, VERSION, VERSIONS)?);
+    Ok(())
 }
 
 #[test]
@@ -83,15 +80,16 @@ fn numbers_of_segments_are_those_of_names(rt: HostRuntime) -> Result<(), Fail> {
     const WRONG: Parts<'static> = &[b"\0\0\0\0\0\0\0\0", b"\x80\0\0\0\0\0\0\0"];
     const RIGHT: Parts<'static> = &[b"\x7f\xff\xff\xff\xff\xff\xff\xff"];
     let alloc = rt.alloc();
-    expect_wrong(&rt, alloc, NUMBER, WRONG)?;
-    expect_right(&rt, alloc, NUMBER, RIGHT)
+    assert!(rt; are_wrong(alloc, NUMBER, WRONG)? && are_right(alloc, NUMBER, RIGHT)?);
+    Ok(())
 }
 
 #[test]
 fn as_many_rows_stand_there_as_are_told(rt: HostRuntime) -> Result<(), Fail> {
     // None, one less, one more, and one more than a segment may have.
     const WRONG: Parts<'static> = &[b"\0\0\0\0", b"\0\0\0\x01", b"\0\0\0\x03", b"\0\x04\0\x01"];
-    expect_wrong(&rt, rt.alloc(), COUNT, WRONG)
+    assert!(rt; are_wrong(rt.alloc(), COUNT, WRONG)?);
+    Ok(())
 }
 
 #[test]
@@ -112,7 +110,8 @@ fn fields_rise_and_have_names_and_kinds(rt: HostRuntime) -> Result<(), Fail> {
         b"\0\0\0\x03\0\0\0\x05brand\x02\0\0\0\x05color\x04\0\0\0\x05price\x03",
         b"\0\0\0\x05\0\0\0\x05brand\x02\0\0\0\x05color\x04\0\0\0\x05price\x03\0\0\0\x05title\x01\0\0\0\x01w\x01",
     ];
-    expect_wrong(&rt, rt.alloc(), FIELDS, WRONG)
+    assert!(rt; are_wrong(rt.alloc(), FIELDS, WRONG)?);
+    Ok(())
 }
 
 #[test]
@@ -127,8 +126,8 @@ fn numbers_of_rows_rise_from_one(rt: HostRuntime) -> Result<(), Fail> {
         b"\0\0\0\0\0\0\0\x01\0\0\0\x01a\0\0\0\x24\x7f\xff\xff\xff\xff\xff\xff\xff\0\0\0\x01b\0\0\0\x28",
     ];
     let alloc = rt.alloc();
-    expect_wrong(&rt, alloc, ROWS, WRONG)?;
-    expect_right(&rt, alloc, ROWS, RIGHT)
+    assert!(rt; are_wrong(alloc, ROWS, WRONG)? && are_right(alloc, ROWS, RIGHT)?);
+    Ok(())
 }
 
 #[test]
@@ -147,8 +146,8 @@ fn ids_of_rows_differ_and_are_ids(rt: HostRuntime) -> Result<(), Fail> {
         b"\0\0\0\0\0\0\0\x01\0\0\0\x01~\0\0\0\x24\0\0\0\0\0\0\0\x02\0\0\0\x01!\0\0\0\x28",
     ];
     let alloc = rt.alloc();
-    expect_wrong(&rt, alloc, ROWS, WRONG)?;
-    expect_right(&rt, alloc, ROWS, RIGHT)
+    assert!(rt; are_wrong(alloc, ROWS, WRONG)? && are_right(alloc, ROWS, RIGHT)?);
+    Ok(())
 }
 
 #[test]
@@ -161,8 +160,8 @@ fn texts_of_rows_have_one_to_8192_bytes(rt: HostRuntime) -> Result<(), Fail> {
         b"\0\0\0\0\0\0\0\x01\0\0\0\x01a\0\0\0\x01\0\0\0\0\0\0\0\x02\0\0\0\x01b\0\0\x20\0",
     ];
     let alloc = rt.alloc();
-    expect_wrong(&rt, alloc, ROWS, WRONG)?;
-    expect_right(&rt, alloc, ROWS, RIGHT)
+    assert!(rt; are_wrong(alloc, ROWS, WRONG)? && are_right(alloc, ROWS, RIGHT)?);
+    Ok(())
 }
 
 #[test]
@@ -184,7 +183,8 @@ fn keywords_rise_and_are_used(rt: HostRuntime) -> Result<(), Fail> {
         b"\0\0\0\x02\0\0\0\x04acme\0\0\0\x03ze\x7f\0\0\0\x02\0\0\0\x01",
         b"\0\0\0\x02\0\0\0\x04acme\0\0\0\x03ze\xff\0\0\0\x02\0\0\0\x01",
     ];
-    expect_wrong(&rt, rt.alloc(), BRANDS, WRONG)
+    assert!(rt; are_wrong(rt.alloc(), BRANDS, WRONG)?);
+    Ok(())
 }
 
 #[test]
@@ -194,7 +194,8 @@ fn keywords_may_be_empty_or_missing(rt: HostRuntime) -> Result<(), Fail> {
         b"\0\0\0\x01\0\0\0\x03zed\0\0\0\0\0\0\0\x01",
         b"\0\0\0\0\0\0\0\0\0\0\0\0",
     ];
-    expect_right(&rt, rt.alloc(), BRANDS, RIGHT)
+    assert!(rt; are_right(rt.alloc(), BRANDS, RIGHT)?);
+    Ok(())
 }
 
 #[test]
@@ -223,8 +224,8 @@ fn labels_rise_and_are_used(rt: HostRuntime) -> Result<(), Fail> {
         b"\0\0\0\0\0\0\0\0\0\0\0\0",
     ];
     let alloc = rt.alloc();
-    expect_wrong(&rt, alloc, COLORS, WRONG)?;
-    expect_right(&rt, alloc, COLORS, RIGHT)
+    assert!(rt; are_wrong(alloc, COLORS, WRONG)? && are_right(alloc, COLORS, RIGHT)?);
+    Ok(())
 }
 
 #[test]
@@ -241,8 +242,8 @@ fn numbers_are_there_or_not(rt: HostRuntime) -> Result<(), Fail> {
         b"\x01\x80\0\0\0\0\0\0\0\x01\x7f\xff\xff\xff\xff\xff\xff\xff",
     ];
     let alloc = rt.alloc();
-    expect_wrong(&rt, alloc, PRICES, WRONG)?;
-    expect_right(&rt, alloc, PRICES, RIGHT)
+    assert!(rt; are_wrong(alloc, PRICES, WRONG)? && are_right(alloc, PRICES, RIGHT)?);
+    Ok(())
 }
 
 #[test]
@@ -265,8 +266,8 @@ fn words_rise_and_are_words(rt: HostRuntime) -> Result<(), Fail> {
         b"\0\0\0\x01\0\0\0\x03\xc3\x891\0\0\0\x01\0\0\0\0",
     ];
     let alloc = rt.alloc();
-    expect_wrong(&rt, alloc, TITLES, WRONG)?;
-    expect_right(&rt, alloc, TITLES, RIGHT)
+    assert!(rt; are_wrong(alloc, TITLES, WRONG)? && are_right(alloc, TITLES, RIGHT)?);
+    Ok(())
 }
 
 #[test]
@@ -280,5 +281,6 @@ fn rows_of_words_rise_and_are_there(rt: HostRuntime) -> Result<(), Fail> {
         // There is no third row.
         b"\0\0\0\x02\0\0\0\x04boot\0\0\0\x01\0\0\0\x02\0\0\0\x04shoe\0\0\0\x02\0\0\0\0\0\0\0\x01",
     ];
-    expect_wrong(&rt, rt.alloc(), TITLES, WRONG)
+    assert!(rt; are_wrong(rt.alloc(), TITLES, WRONG)?);
+    Ok(())
 }

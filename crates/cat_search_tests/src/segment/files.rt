@@ -2,12 +2,11 @@
 //! spells another segment.
 ghost use Rattle.std.specs.Prelude.{◌≡◌};
 
-use crate::segment::bytes::{Parts, expect_damaged, expect_exact, file_of, rewritten};
+use crate::segment::bytes::{Parts, are_fronts_damaged, file_of, is_damaged, is_exact, rewritten};
 use crate::segment::made::made_of_texts;
 use cat_base::Refusal;
 use cat_segment::{Segment, decode_seg, encode_seg};
 use std::alloc::{AllocError, Global};
-use std::process::Abort;
 use std::test::Fail;
 
 /// The file of segment 1, of the item that the first write put: `{"id":"a","price":5,"color":["red"]}`.
@@ -42,63 +41,61 @@ fn are_damaged_or_exact(alloc: Global, bytes: &[u8]) -> Result<bool, Refusal> {
     }
 }
 
-/// Fails unless the segment has these bytes.
-fn expect_written(
-    rt: &impl Abort,
-    alloc: Global,
-    segment: &Segment,
-    bytes: &[u8],
-) -> Result<(), Fail>
+/// Whether the segment has these bytes.
+fn has_bytes(alloc: Global, segment: &Segment, bytes: &[u8]) -> Result<bool, AllocError>
     requires { segment.now.number ≡ 1 }
 {
-    let written = encode_seg(alloc, segment)?;
-    assert_eq!(rt; written.as_slice(), bytes);
-    Ok(())
+    Ok(encode_seg(alloc, segment)?.as_slice() == bytes)
 }
 
 #[test]
 fn a_segment_has_these_bytes(rt: HostRuntime) -> Result<(), Fail> {
     const FIELDS: &[u8] = br#"{"price":"number","color":"facet"}"#;
     const TEXT: &str = r#"{"id":"a","price":5,"color":["red"]}"#;
-    let alloc = rt.alloc();
-    let segment = made_of_texts(&rt, alloc, FIELDS, &[TEXT])?;
-    expect_written(&rt, alloc, &segment, &file_of(alloc, SEGMENT)?)
+    let segment = made_of_texts(rt.alloc(), FIELDS, &[TEXT])?;
+    let bytes = file_of(rt.alloc(), SEGMENT)?;
+    assert!(rt; has_bytes(rt.alloc(), &segment, &bytes)?);
+    Ok(())
+}
+
+/// Whether it is segment 1, of one row with the id `a`.
+fn is_of_one_row(segment: &Segment) -> bool {
+    segment.number() == 1
+        && segment.len() == 1
+        && segment.row_with("a") == Some(0)
+        && segment.row_with("b").is_none()
 }
 
 #[test]
 fn these_bytes_have_a_segment(rt: HostRuntime) -> Result<(), Fail> {
-    let alloc = rt.alloc();
-    let bytes = file_of(alloc, SEGMENT)?;
-    expect_exact(&rt, alloc, &bytes)?;
-    expect_one_row(&rt, &decode_seg(alloc, &bytes)?);
+    let bytes = file_of(rt.alloc(), SEGMENT)?;
+    let segment = decode_seg(rt.alloc(), &bytes)?;
+    assert!(rt; is_exact(rt.alloc(), &bytes)? && is_of_one_row(&segment));
     Ok(())
-}
-
-/// Fails unless it is segment 1, of one row with the id `a`.
-fn expect_one_row(rt: &impl Abort, segment: &Segment) {
-    assert!(rt; segment.number() == 1 && segment.len() == 1);
-    assert!(rt; segment.row_with("a") == Some(0) && segment.row_with("b").is_none());
 }
 
 #[test]
 fn a_front_of_a_segment_is_damaged_and_so_is_a_byte_more(rt: HostRuntime) -> Result<(), Fail> {
-    let alloc = rt.alloc();
-    let mut bytes = file_of(alloc, SEGMENT)?;
-    for end in 0..bytes.len() {
-        expect_damaged(&rt, alloc, bytes.get(..end).unwrap_or(&[]));
-    }
+    let mut bytes = file_of(rt.alloc(), SEGMENT)?;
+    let are_damaged = are_fronts_damaged(rt.alloc(), &bytes);
     bytes.push(0)?;
-    expect_damaged(&rt, alloc, &bytes);
+    assert!(rt; are_damaged && is_damaged(rt.alloc(), &bytes));
     Ok(())
+}
+
+/// Whether the bytes with any one turned are damaged, or those of another segment.
+fn are_turned_so(alloc: Global, bytes: &[u8]) -> Result<bool, Refusal> {
+    for place in 0..bytes.len() {
+        if !are_damaged_or_exact(alloc, &turned(alloc, bytes, place)?)? {
+            return Ok(false);
+        }
+    }
+    Ok(true)
 }
 
 #[test]
 fn a_turned_byte_is_damaged_or_spells_another_segment(rt: HostRuntime) -> Result<(), Fail> {
-    let alloc = rt.alloc();
-    let bytes = file_of(alloc, SEGMENT)?;
-    for place in 0..bytes.len() {
-        let other = turned(alloc, &bytes, place)?;
-        assert!(rt; are_damaged_or_exact(alloc, &other)?, "byte {place}");
-    }
+    let bytes = file_of(rt.alloc(), SEGMENT)?;
+    assert!(rt; are_turned_so(rt.alloc(), &bytes)?);
     Ok(())
 }

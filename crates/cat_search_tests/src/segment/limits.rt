@@ -1,10 +1,9 @@
 //! Files of segments with texts, labels and fields of as many as there may be, and of one more.
 ghost use Rattle.std.specs.Prelude.{◌<◌};
 
-use crate::segment::bytes::{expect_damaged, expect_exact};
-use cat_base::{MAX_FIELDS, MAX_LABELS, put_bytes, put_u32};
+use crate::segment::bytes::{is_damaged, is_exact};
+use cat_base::{MAX_FIELDS, MAX_LABELS, Refusal, put_bytes, put_u32};
 use std::alloc::{AllocError, Global};
-use std::process::Abort;
 use std::test::Fail;
 
 /// A file with a text: what stands before its length, a byte that it is made of, how many bytes it may have at most, and
@@ -20,16 +19,11 @@ fn file_with_text(alloc: Global, limit: &Limit<'_>, count: u8) -> Result<Vec<u8>
     Ok(bytes)
 }
 
-/// Fails unless the text may have as many bytes as the limit says, and not one more.
-fn expect_limit(rt: &impl Abort, alloc: Global, limit: &Limit<'_>) -> Result<(), Fail> {
-    let most = limit.2;
-    expect_exact(rt, alloc, &file_with_text(alloc, limit, most)?)?;
-    expect_damaged(
-        rt,
-        alloc,
-        &file_with_text(alloc, limit, most.saturating_add(1))?,
-    );
-    Ok(())
+/// Whether the text may have as many bytes as the limit says, and not one more.
+fn is_limit(alloc: Global, limit: &Limit<'_>) -> Result<bool, Refusal> {
+    let most = file_with_text(alloc, limit, limit.2)?;
+    let more = file_with_text(alloc, limit, limit.2.saturating_add(1))?;
+    Ok(is_exact(alloc, &most)? && is_damaged(alloc, &more))
 }
 
 #[test]
@@ -40,7 +34,8 @@ fn ids_have_at_most_64_bytes(rt: HostRuntime) -> Result<(), Fail> {
         64,
         b"\0\0\0\x24",
     );
-    expect_limit(&rt, rt.alloc(), &ID)
+    assert!(rt; is_limit(rt.alloc(), &ID)?);
+    Ok(())
 }
 
 #[test]
@@ -51,7 +46,8 @@ fn names_of_fields_have_at_most_32_bytes(rt: HostRuntime) -> Result<(), Fail> {
         32,
         b"\x03\0\0\0\0\0\0\0\x01\0\0\0\x01a\0\0\0\x24\0",
     );
-    expect_limit(&rt, rt.alloc(), &NAME)
+    assert!(rt; is_limit(rt.alloc(), &NAME)?);
+    Ok(())
 }
 
 #[test]
@@ -62,7 +58,8 @@ fn keywords_have_at_most_128_bytes(rt: HostRuntime) -> Result<(), Fail> {
         128,
         b"\0\0\0\x01",
     );
-    expect_limit(&rt, rt.alloc(), &KEYWORD)
+    assert!(rt; is_limit(rt.alloc(), &KEYWORD)?);
+    Ok(())
 }
 
 #[test]
@@ -73,7 +70,8 @@ fn labels_have_at_most_128_bytes(rt: HostRuntime) -> Result<(), Fail> {
         128,
         b"\0\0\0\x01\0\0\0\0",
     );
-    expect_limit(&rt, rt.alloc(), &LABEL)
+    assert!(rt; is_limit(rt.alloc(), &LABEL)?);
+    Ok(())
 }
 
 /// Appends a text of two letters: those of greater numbers come later in byte order.
@@ -105,10 +103,10 @@ fn put_ordinals(bytes: &mut Vec<u8>, count: u8) -> Result<(), AllocError> {
 
 #[test]
 fn rows_have_at_most_64_labels(rt: HostRuntime) -> Result<(), Fail> {
-    let alloc = rt.alloc();
-    assert_eq!(rt; MAX_LABELS, 64);
-    expect_exact(&rt, alloc, &file_with_labels(alloc, 64)?)?;
-    expect_damaged(&rt, alloc, &file_with_labels(alloc, 65)?);
+    let most = file_with_labels(rt.alloc(), 64)?;
+    let more = file_with_labels(rt.alloc(), 65)?;
+    let is_most = MAX_LABELS == 64 && is_exact(rt.alloc(), &most)?;
+    assert!(rt; is_most && is_damaged(rt.alloc(), &more));
     Ok(())
 }
 
@@ -133,12 +131,15 @@ fn file_with_fields(alloc: Global, count: u8) -> Result<Vec<u8>, AllocError> {
     Ok(bytes)
 }
 
+/// Whether so many number fields make the file of a segment.
+fn are_fields(alloc: Global, count: u8) -> Result<bool, Refusal> {
+    is_exact(alloc, &file_with_fields(alloc, count)?)
+}
+
 #[test]
 fn segments_have_at_most_32_fields(rt: HostRuntime) -> Result<(), Fail> {
-    let alloc = rt.alloc();
-    assert_eq!(rt; MAX_FIELDS, 32);
-    expect_exact(&rt, alloc, &file_with_fields(alloc, 0)?)?;
-    expect_exact(&rt, alloc, &file_with_fields(alloc, 32)?)?;
-    expect_damaged(&rt, alloc, &file_with_fields(alloc, 33)?);
+    let more = file_with_fields(rt.alloc(), 33)?;
+    let are_few = MAX_FIELDS == 32 && are_fields(rt.alloc(), 0)? && are_fields(rt.alloc(), 32)?;
+    assert!(rt; are_few && is_damaged(rt.alloc(), &more));
     Ok(())
 }

@@ -3,7 +3,6 @@ use crate::segment::bytes::{Parts, file_of, file_with};
 use cat_base::{MAX_ROWS, Refusal, put_u32};
 use cat_segment::{Live, decode_liv, encode_liv};
 use std::alloc::{AllocError, Global};
-use std::process::Abort;
 use std::test::Fail;
 
 /// The live rows of segment 1 in commit 2: of nine rows the first and the last.
@@ -43,43 +42,34 @@ fn rewritten(alloc: Global, bytes: &[u8]) -> Result<Vec<u8>, Refusal> {
     Ok(encode_liv(read.number, read.generation, &read.live)?)
 }
 
-/// Fails unless no live rows are spelled so.
-fn expect_damaged(rt: &impl Abort, alloc: Global, bytes: &[u8]) {
-    let is_damaged = matches!(decode_liv(alloc, bytes), Err(Refusal::Damaged));
-    assert!(rt; is_damaged, "{bytes:?}");
+/// Whether no live rows are spelled so.
+fn is_damaged(alloc: Global, bytes: &[u8]) -> bool {
+    matches!(decode_liv(alloc, bytes), Err(Refusal::Damaged))
 }
 
-/// Fails unless live rows are spelled so, and by these bytes.
-fn expect_exact(rt: &impl Abort, alloc: Global, bytes: &[u8]) -> Result<(), Fail> {
-    let written = rewritten(alloc, bytes)?;
-    assert!(rt; written.as_slice() == bytes, "{bytes:?}");
-    Ok(())
+/// Whether live rows are spelled so, and by these bytes.
+fn is_exact(alloc: Global, bytes: &[u8]) -> Result<bool, Refusal> {
+    Ok(rewritten(alloc, bytes)?.as_slice() == bytes)
 }
 
-/// Fails unless each of these, in place of the part of the index, leaves the file of no live rows.
-fn expect_wrong(
-    rt: &impl Abort,
-    alloc: Global,
-    index: usize,
-    parts: Parts<'_>,
-) -> Result<(), Fail> {
+/// Whether each of these, in place of the part of the index, leaves the file of no live rows.
+fn are_wrong(alloc: Global, index: usize, parts: Parts<'_>) -> Result<bool, Refusal> {
     for part in parts {
-        expect_damaged(rt, alloc, &file_with(alloc, LIVE, index, part)?);
+        if !is_damaged(alloc, &file_with(alloc, LIVE, index, part)?) {
+            return Ok(false);
+        }
     }
-    Ok(())
+    Ok(true)
 }
 
-/// Fails unless each of these, in place of the part of the index, makes the file of other live rows.
-fn expect_right(
-    rt: &impl Abort,
-    alloc: Global,
-    index: usize,
-    parts: Parts<'_>,
-) -> Result<(), Fail> {
+/// Whether each of these, in place of the part of the index, makes the file of other live rows.
+fn are_right(alloc: Global, index: usize, parts: Parts<'_>) -> Result<bool, Refusal> {
     for part in parts {
-        expect_exact(rt, alloc, &file_with(alloc, LIVE, index, part)?)?;
+        if !is_exact(alloc, &file_with(alloc, LIVE, index, part)?)? {
+            return Ok(false);
+        }
     }
-    Ok(())
+    Ok(true)
 }
 
 /// Nine rows, of which all are dead but the first and the last.
@@ -93,47 +83,57 @@ fn ends_of_nine(alloc: Global) -> Result<Live, AllocError> {
     Ok(live)
 }
 
-#[test]
-fn live_rows_have_these_bytes(rt: HostRuntime) -> Result<(), Fail> {
-    let alloc = rt.alloc();
-    let bytes = file_of(alloc, LIVE)?;
-    let written = written(&ends_of_nine(alloc)?)?;
-    assert!(rt; written.as_deref() == Some(bytes.as_slice()));
-    expect_exact(&rt, alloc, &bytes)
+/// Whether the live rows are written by these bytes.
+fn is_written_so(live: &Live, bytes: &[u8]) -> Result<bool, AllocError> {
+    Ok(written(live)?.as_deref() == Some(bytes))
 }
 
-/// Fails unless of nine rows just the first and the last are live.
-fn expect_ends(rt: &impl Abort, live: &Live) {
-    assert!(rt; live.len() == 9 && live.count() == 2);
-    assert!(rt; live.len() > 8 && live.is_live(0) && live.is_live(8));
+#[test]
+fn live_rows_have_these_bytes(rt: HostRuntime) -> Result<(), Fail> {
+    let bytes = file_of(rt.alloc(), LIVE)?;
+    let live = ends_of_nine(rt.alloc())?;
+    assert!(rt; is_written_so(&live, &bytes)? && is_exact(rt.alloc(), &bytes)?);
+    Ok(())
+}
+
+/// Whether of nine rows just the first and the last are live.
+fn are_ends(live: &Live) -> bool {
+    live.len() == 9 && live.count() == 2 && live.is_live(0) && live.is_live(8)
 }
 
 #[test]
 fn these_bytes_have_live_rows(rt: HostRuntime) -> Result<(), Fail> {
-    let alloc = rt.alloc();
-    let read = decode_liv(alloc, &file_of(alloc, LIVE)?)?;
-    assert!(rt; read.number == 1 && read.generation == 2);
-    expect_ends(&rt, &read.live);
+    let read = decode_liv(rt.alloc(), &file_of(rt.alloc(), LIVE)?)?;
+    assert!(rt; read.number == 1 && read.generation == 2 && are_ends(&read.live));
     Ok(())
+}
+
+/// Whether no live rows are spelled by any front of the bytes.
+fn are_fronts_damaged(alloc: Global, bytes: &[u8]) -> bool {
+    for end in 0..bytes.len() {
+        if !is_damaged(alloc, bytes.get(..end).unwrap_or(&[])) {
+            return false;
+        }
+    }
+    true
 }
 
 #[test]
 fn a_front_of_live_rows_is_damaged_and_so_is_a_byte_more(rt: HostRuntime) -> Result<(), Fail> {
-    let alloc = rt.alloc();
-    let mut bytes = file_of(alloc, LIVE)?;
-    for end in 0..bytes.len() {
-        expect_damaged(&rt, alloc, bytes.get(..end).unwrap_or(&[]));
-    }
+    let mut bytes = file_of(rt.alloc(), LIVE)?;
+    let are_damaged = are_fronts_damaged(rt.alloc(), &bytes);
     bytes.push(0)?;
-    expect_damaged(&rt, alloc, &bytes);
+    assert!(rt; are_damaged && is_damaged(rt.alloc(), &bytes));
     Ok(())
 }
 
 #[test]
 fn other_magic_words_and_versions_are_no_live_rows(rt: HostRuntime) -> Result<(), Fail> {
+    const WORDS: Parts<'static> = &[b"CLIW", b"cliv", b"CSEG"];
+    const VERSIONS: Parts<'static> = &[b"\0", b"\x02"];
     let alloc = rt.alloc();
-    expect_wrong(&rt, alloc, MAGIC, &[b"CLIW", b"cliv", b"CSEG"])?;
-    expect_wrong(&rt, alloc, VERSION, &[b"\0", b"\x02"])
+    assert!(rt; are_wrong(alloc, MAGIC, WORDS)? && are_wrong(alloc, VERSION, VERSIONS)?);
+    Ok(())
 }
 
 #[test]
@@ -141,10 +141,10 @@ fn live_rows_are_of_a_segment_and_a_commit(rt: HostRuntime) -> Result<(), Fail> 
     const WRONG: Parts<'static> = &[b"\0\0\0\0\0\0\0\0", b"\x80\0\0\0\0\0\0\0"];
     const RIGHT: Parts<'static> = &[b"\x7f\xff\xff\xff\xff\xff\xff\xff"];
     let alloc = rt.alloc();
-    expect_wrong(&rt, alloc, NUMBER, WRONG)?;
-    expect_wrong(&rt, alloc, GENERATION, WRONG)?;
-    expect_right(&rt, alloc, NUMBER, RIGHT)?;
-    expect_right(&rt, alloc, GENERATION, RIGHT)
+    let is_segment = are_wrong(alloc, NUMBER, WRONG)? && are_right(alloc, NUMBER, RIGHT)?;
+    let is_commit = are_wrong(alloc, GENERATION, WRONG)? && are_right(alloc, GENERATION, RIGHT)?;
+    assert!(rt; is_segment && is_commit);
+    Ok(())
 }
 
 #[test]
@@ -153,8 +153,8 @@ fn live_rows_have_a_bit_for_each_row(rt: HostRuntime) -> Result<(), Fail> {
     const WRONG: Parts<'static> = &[b"\0\0\0\x08", b"\0\0\0\x11"];
     const RIGHT: Parts<'static> = &[b"\0\0\0\x0a", b"\0\0\0\x10"];
     let alloc = rt.alloc();
-    expect_wrong(&rt, alloc, COUNT, WRONG)?;
-    expect_right(&rt, alloc, COUNT, RIGHT)
+    assert!(rt; are_wrong(alloc, COUNT, WRONG)? && are_right(alloc, COUNT, RIGHT)?);
+    Ok(())
 }
 
 #[test]
@@ -164,8 +164,8 @@ fn some_row_is_dead_and_none_lies_past_the_last(rt: HostRuntime) -> Result<(), F
     // All dead; all but the first, and all but the last live.
     const RIGHT: Parts<'static> = &[b"\0\0", b"\xfe\x01", b"\xff\0"];
     let alloc = rt.alloc();
-    expect_wrong(&rt, alloc, ROWS, WRONG)?;
-    expect_right(&rt, alloc, ROWS, RIGHT)
+    assert!(rt; are_wrong(alloc, ROWS, WRONG)? && are_right(alloc, ROWS, RIGHT)?);
+    Ok(())
 }
 
 /// The bytes as of a file where all of nine rows are live. No test of them takes memory, so they are damaged where none is left.
@@ -173,7 +173,7 @@ const ALL_LIVE: &[u8] = b"CLIV\x01\0\0\0\0\0\0\0\x01\0\0\0\0\0\0\0\x02\0\0\0\x09
 
 #[test]
 fn a_set_of_all_rows_is_damaged_without_memory(rt: HostRuntime) {
-    expect_damaged(&rt, rt.alloc(), ALL_LIVE);
+    assert!(rt; is_damaged(rt.alloc(), ALL_LIVE));
 }
 
 /// The file of so many rows, none of them live.
@@ -185,13 +185,21 @@ fn file_of_dead(alloc: Global, count: u32) -> Result<Vec<u8>, AllocError> {
     Ok(bytes)
 }
 
+/// Whether there is no file of so many rows.
+fn is_no_count(alloc: Global, count: u32) -> Result<bool, AllocError> {
+    Ok(is_damaged(alloc, &file_of_dead(alloc, count)?))
+}
+
+/// Whether there is a file of so many rows.
+fn is_count(alloc: Global, count: u32) -> Result<bool, Refusal> {
+    is_exact(alloc, &file_of_dead(alloc, count)?)
+}
+
 #[test]
 fn live_rows_are_as_many_as_those_of_a_segment(rt: HostRuntime) -> Result<(), Fail> {
     let alloc = rt.alloc();
-    expect_damaged(&rt, alloc, &file_of_dead(alloc, 0)?);
-    expect_exact(&rt, alloc, &file_of_dead(alloc, 1)?)?;
-    expect_exact(&rt, alloc, &file_of_dead(alloc, 262_144)?)?;
-    expect_damaged(&rt, alloc, &file_of_dead(alloc, 262_145)?);
+    let are_some = is_no_count(alloc, 0)? && is_count(alloc, 1)?;
+    assert!(rt; are_some && is_count(alloc, 262_144)? && is_no_count(alloc, 262_145)?);
     Ok(())
 }
 
@@ -205,11 +213,17 @@ fn all_but_the_last(alloc: Global) -> Result<Option<Live>, Refusal> {
     }
 }
 
+/// Whether all rows of a full segment are live but one.
+fn are_all_but_one(live: Option<&Live>) -> bool {
+    match live {
+        Some(live) => live.len() == MAX_ROWS && live.count() == MAX_ROWS - 1,
+        None => false,
+    }
+}
+
 #[test]
 fn a_full_segment_has_live_rows(rt: HostRuntime) -> Result<(), Fail> {
-    let Some(live) = all_but_the_last(rt.alloc())? else {
-        panic!(rt; "no file");
-    };
-    assert!(rt; live.len() == MAX_ROWS && live.count() == MAX_ROWS - 1);
+    let live = all_but_the_last(rt.alloc())?;
+    assert!(rt; are_all_but_one(live.as_ref()));
     Ok(())
 }

@@ -7,7 +7,6 @@ use cat_base::{MAX_ROWS, Refusal};
 use cat_items::{Item, Schema};
 use cat_segment::{Row, Segment};
 use std::alloc::{AllocError, Global};
-use std::process::Abort;
 
 /// A field of each kind.
 pub(crate) const FIELDS: &[u8] =
@@ -61,25 +60,19 @@ fn segment_of(alloc: Global, schema: &Schema, items: &[Item]) -> Result<Option<S
     Ok(Some(Segment::of(alloc, 1, schema, &rows)?))
 }
 
-/// Segment 1, of the items, which can be the rows of one.
-pub(crate) fn made(
-    rt: &impl Abort,
-    alloc: Global,
-    schema: &Schema,
-    items: &[Item],
-) -> Result<Segment, AllocError>
+/// Segment 1, of the items; [`Refusal::Damaged`] where they can't be the rows of one.
+pub(crate) fn made(alloc: Global, schema: &Schema, items: &[Item]) -> Result<Segment, Refusal>
     requires { All (IsItem schema.now) items.now }
     ensures { IfOk result (λ s. s.number ≡ 1) }
 {
     match segment_of(alloc, schema, items)? {
         Some(segment) => Ok(segment),
-        None => panic!(rt; "no segment of {}", items.len()),
+        None => Err(Refusal::Damaged),
     }
 }
 
 /// Segment 1, of the items that the texts give under the fields.
 pub(crate) fn made_of_texts(
-    rt: &impl Abort,
     alloc: Global,
     fields: &[u8],
     texts: &[&str],
@@ -88,5 +81,5 @@ pub(crate) fn made_of_texts(
 {
     let schema = Schema::read(alloc, fields)?;
     let items = read_items(alloc, &schema, texts)?;
-    Ok(made(rt, alloc, &schema, &items)?)
+    made(alloc, &schema, &items)
 }

@@ -4,7 +4,6 @@ use cat_cached_sets::{DocSet, Query};
 use cat_items::Item;
 use cat_segment::Segment;
 use std::alloc::{AllocError, Global};
-use std::process::Abort;
 
 fn has_row(set: &DocSet, row: usize) -> bool {
     row < set.len() && set.contains(row)
@@ -25,23 +24,26 @@ fn agrees(query: &Query, set: &DocSet, items: &[Item]) -> bool {
     set.len() == items.len()
 }
 
-/// The rows of the set, as many as it counts.
-fn rows_in(rt: &impl Abort, alloc: Global, set: &DocSet) -> Result<Vec<usize>, AllocError> {
+/// The rows of the set, and `None` where it counts others.
+fn rows_in(alloc: Global, set: &DocSet) -> Result<Option<Vec<usize>>, AllocError> {
     let rows: Vec<usize> = set.iter().collect(alloc)?;
-    assert!(rt; rows.len() == set.count(), "{} rows", rows.len());
-    Ok(rows)
+    if rows.len() != set.count() {
+        return Ok(None);
+    }
+    Ok(Some(rows))
 }
 
-/// The rows that match the query of the text. Fails unless they are those of the items that it accepts.
+/// The rows that match the query of the text, and `None` unless they are those of the items that it accepts.
 pub(crate) fn rows_matched(
-    rt: &impl Abort,
     alloc: Global,
     segment: &Segment,
     items: &[Item],
     text: &str,
-) -> Result<Vec<usize>, Refusal> {
+) -> Result<Option<Vec<usize>>, Refusal> {
     let query = Query::parse(segment.schema(), alloc, text)?;
     let set = query.matches(alloc, segment)?.copy()?;
-    assert!(rt; agrees(&query, &set, items), "{text} of {}", items.len());
-    Ok(rows_in(rt, alloc, &set)?)
+    if !agrees(&query, &set, items) {
+        return Ok(None);
+    }
+    Ok(rows_in(alloc, &set)?)
 }

@@ -12,7 +12,6 @@ use cat_items::file_parts::{SegmentParts, read_segment};
 use cat_items::{Item, Schema};
 use cat_segment::{Segment, assemble, assemble_runs, encode_seg};
 use std::alloc::{AllocError, Global};
-use std::process::Abort;
 use std::test::Fail;
 
 /// Six rows, whose ids rise over the even rows and then over the odd ones.
@@ -65,56 +64,58 @@ fn has_bytes(alloc: Global, segment: &Segment, bytes: &[u8]) -> Result<bool, All
     Ok(encode_seg(alloc, segment)?.as_slice() == bytes)
 }
 
-/// Fails unless the segment is assembled again of its parts, where the rows in the order of the other's ids are the runs.
-fn expect_merged(
-    rt: &impl Abort,
-    alloc: Global,
-    segment: &Segment,
-    order: &Segment,
-) -> Result<(), Fail>
+/// Whether the segment is assembled again of its parts, where the rows in the order of the other's ids are the runs.
+fn is_merged(alloc: Global, segment: &Segment, order: &Segment) -> Result<bool, Refusal>
     requires { segment.now.number ≡ 1 }
 {
     let bytes = encode_seg(alloc, segment)?;
     let merged = merged(alloc, parts_of(alloc, segment)?, order)?;
-    assert!(rt; has_bytes(alloc, &merged, &bytes)?);
-    assert!(rt; merged.rows_by_id() == segment.rows_by_id());
-    Ok(())
+    Ok(has_bytes(alloc, &merged, &bytes)? && merged.rows_by_id() == segment.rows_by_id())
 }
 
-fn even_and_odd(rt: &impl Abort, alloc: Global) -> Result<Segment, Refusal>
+fn even_and_odd(alloc: Global) -> Result<Segment, Refusal>
     ensures { IfOk result (λ s. s.number ≡ 1) }
 {
-    made_of_texts(rt, alloc, FIELDS, EVEN_AND_ODD)
+    made_of_texts(alloc, FIELDS, EVEN_AND_ODD)
 }
 
-fn rising(rt: &impl Abort, alloc: Global) -> Result<Segment, Refusal>
+fn rising(alloc: Global) -> Result<Segment, Refusal>
     ensures { IfOk result (λ s. s.number ≡ 1) }
 {
-    made_of_texts(rt, alloc, FIELDS, RISING)
+    made_of_texts(alloc, FIELDS, RISING)
 }
 
-/// Fails unless these are all rows in byte order of their ids.
-fn expect_order(rt: &impl Abort, segment: &Segment, rows: &[u32]) {
-    assert!(rt; segment.rows_by_id() == rows, "{rows:?}");
+/// Whether these are all rows in byte order of their ids.
+fn is_order(segment: &Segment, rows: &[u32]) -> bool {
+    segment.rows_by_id() == rows
 }
 
 #[test]
 fn rows_stand_in_byte_order_of_their_ids(rt: HostRuntime) -> Result<(), Fail> {
-    let alloc = rt.alloc();
-    expect_order(&rt, &even_and_odd(&rt, alloc)?, &[0, 2, 4, 1, 3, 5]);
-    expect_order(&rt, &rising(&rt, alloc)?, &[0, 1, 2, 3, 4, 5]);
+    let odd = even_and_odd(rt.alloc())?;
+    let rising = rising(rt.alloc())?;
+    assert!(rt; is_order(&odd, &[0, 2, 4, 1, 3, 5]) && is_order(&rising, &[0, 1, 2, 3, 4, 5]));
     Ok(())
+}
+
+/// Whether the rising rows are merged of one run of six and of two of three, and the others of three of two.
+fn are_merged(alloc: Global, rising: &Segment, odd: &Segment) -> Result<bool, Refusal>
+    requires rising { rising.now.number ≡ 1 }
+    requires odd { odd.now.number ≡ 1 }
+{
+    Ok(
+        is_merged(alloc, rising, rising)?
+            && is_merged(alloc, rising, odd)?
+            && is_merged(alloc, odd, rising)?,
+    )
 }
 
 #[test]
 fn an_index_is_merged_of_runs(rt: HostRuntime) -> Result<(), Fail> {
-    let alloc = rt.alloc();
-    let rising = rising(&rt, alloc)?;
-    let odd = even_and_odd(&rt, alloc)?;
-    // One run of six rows, two of three, three of two.
-    expect_merged(&rt, alloc, &rising, &rising)?;
-    expect_merged(&rt, alloc, &rising, &odd)?;
-    expect_merged(&rt, alloc, &odd, &rising)
+    let rising = rising(rt.alloc())?;
+    let odd = even_and_odd(rt.alloc())?;
+    assert!(rt; are_merged(rt.alloc(), &rising, &odd)?);
+    Ok(())
 }
 
 /// What the id of the row begins with: those of even rows come before those of odd ones.
@@ -139,18 +140,26 @@ fn even_and_odd_items(alloc: Global, schema: &Schema, count: usize) -> Result<Ve
     Ok(items)
 }
 
+/// The segment of 1,001 items, whose ids rise over the even rows and then over the odd ones.
+fn thousand_in_two_runs(alloc: Global, schema: &Schema) -> Result<Segment, Refusal> {
+    made(alloc, schema, &even_and_odd_items(alloc, schema, 1_001)?)
+}
+
+/// The segment of 1,001 items, whose ids rise.
+fn thousand_in_one_run(alloc: Global, schema: &Schema) -> Result<Segment, Refusal>
+    ensures { IfOk result (λ s. s.number ≡ 1) }
+{
+    let items = items(alloc, schema, &mut Dice::new(6), 1_001)?;
+    made(alloc, schema, &items)
+}
+
 #[test]
 fn an_index_of_a_thousand_ids_is_merged_of_two_runs(rt: HostRuntime) -> Result<(), Fail> {
-    let alloc = rt.alloc();
-    let schema = Schema::read(alloc, FIELDS)?;
-    let odd = made(
-        &rt,
-        alloc,
-        &schema,
-        &even_and_odd_items(alloc, &schema, 1_001)?,
-    )?;
-    let items = items(alloc, &schema, &mut Dice::new(6), 1_001)?;
-    expect_merged(&rt, alloc, &made(&rt, alloc, &schema, &items)?, &odd)
+    let schema = Schema::read(rt.alloc(), FIELDS)?;
+    let odd = thousand_in_two_runs(rt.alloc(), &schema)?;
+    let rising = thousand_in_one_run(rt.alloc(), &schema)?;
+    assert!(rt; is_merged(rt.alloc(), &rising, &odd)?);
+    Ok(())
 }
 
 /// Segment 1, without fields, of four rows with the ids `a`, `b`, `b` and `c`.
@@ -187,10 +196,9 @@ fn an_id_in_two_runs_is_damaged(rt: HostRuntime) -> Result<(), Fail> {
         r#"{"id":"a2"}"#,
         r#"{"id":"b3"}"#,
     ];
-    let alloc = rt.alloc();
-    let bytes = file_of(alloc, TWICE)?;
-    assert!(rt; is_damaged_sorted(alloc, &bytes)?);
-    let order = made_of_texts(&rt, alloc, FIELDS, ORDER)?;
-    assert!(rt; is_damaged_merged(alloc, &bytes, &order)?);
+    let bytes = file_of(rt.alloc(), TWICE)?;
+    let order = made_of_texts(rt.alloc(), FIELDS, ORDER)?;
+    let is_sorted_damaged = is_damaged_sorted(rt.alloc(), &bytes)?;
+    assert!(rt; is_sorted_damaged && is_damaged_merged(rt.alloc(), &bytes, &order)?);
     Ok(())
 }

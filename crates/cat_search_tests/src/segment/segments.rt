@@ -1,7 +1,8 @@
 //! Queries of segments, the ordinals of labels, and segments that are read as they were written.
-ghost use Rattle.std.specs.Prelude.{◌≡◌};
+ghost use Rattle.std.specs.Prelude.{All};
+ghost use Rattle.cat_model.specs.Item.{IsItem};
 
-use crate::segment::bytes::rewritten;
+use crate::segment::bytes::is_exact;
 use crate::segment::made::{FIELDS, made, made_of_texts, read_items};
 use crate::segment::matched::rows_matched;
 use crate::segment::thrown::{Dice, items, query_text};
@@ -10,38 +11,32 @@ use cat_items::{Item, Schema};
 use cat_segment::cat_columns::SetColumn;
 use cat_segment::{Column, Segment, decode_seg, encode_seg};
 use std::alloc::Global;
-use std::process::Abort;
 use std::test::Fail;
 
 /// Queries with the rows that each matches.
 type Rows<'a> = &'a [(&'a str, &'a [usize])];
 
-/// Fails unless each query matches these rows, and accepts no item of another row.
-fn expect_rows(
-    rt: &impl Abort,
+/// Whether each query matches these rows, and accepts no item of another row.
+fn are_matched(
     alloc: Global,
     segment: &Segment,
     items: &[Item],
     rows: Rows<'_>,
-) -> Result<(), Fail> {
+) -> Result<bool, Refusal> {
     for (text, places) in rows {
-        let found = rows_matched(rt, alloc, segment, items, text)?;
-        assert!(rt; found.as_slice() == *places, "{text}");
+        if rows_matched(alloc, segment, items, text)?.as_deref() != Some(*places) {
+            return Ok(false);
+        }
     }
-    Ok(())
+    Ok(true)
 }
 
 /// The same of a segment of the items of these texts.
-fn expect_rows_of(
-    rt: &impl Abort,
-    alloc: Global,
-    texts: &[&str],
-    rows: Rows<'_>,
-) -> Result<(), Fail> {
+fn are_rows_of(alloc: Global, texts: &[&str], rows: Rows<'_>) -> Result<bool, Refusal> {
     let schema = Schema::read(alloc, FIELDS)?;
     let items = read_items(alloc, &schema, texts)?;
-    let segment = made(rt, alloc, &schema, &items)?;
-    expect_rows(rt, alloc, &segment, &items, rows)
+    let segment = made(alloc, &schema, &items)?;
+    are_matched(alloc, &segment, &items, rows)
 }
 
 /// Items with one color, two, and none.
@@ -65,7 +60,8 @@ fn queries_match_rows_by_labels(rt: HostRuntime) -> Result<(), Fail> {
         ("color:green", &[]),
         ("price:[* TO *]", &[]),
     ];
-    expect_rows_of(&rt, rt.alloc(), COLORED, ROWS)
+    assert!(rt; are_rows_of(rt.alloc(), COLORED, ROWS)?);
+    Ok(())
 }
 
 #[test]
@@ -85,7 +81,8 @@ fn queries_match_rows_by_numbers(rt: HostRuntime) -> Result<(), Fail> {
         ("(-brand:y)", &[]),
         ("*:* -price:[* TO *]", &[1]),
     ];
-    expect_rows_of(&rt, rt.alloc(), TEXTS, ROWS)
+    assert!(rt; are_rows_of(rt.alloc(), TEXTS, ROWS)?);
+    Ok(())
 }
 
 #[test]
@@ -104,7 +101,8 @@ fn queries_match_rows_by_words_and_keywords(rt: HostRuntime) -> Result<(), Fail>
         ("brand:Z*", &[1]),
         ("brand:zed", &[]),
     ];
-    expect_rows_of(&rt, rt.alloc(), TEXTS, ROWS)
+    assert!(rt; are_rows_of(rt.alloc(), TEXTS, ROWS)?);
+    Ok(())
 }
 
 /// The ordinals of the row's labels; none where there is no such row.
@@ -116,119 +114,151 @@ fn ordinals_at(labels: &SetColumn, row: usize) -> &[u32] {
     }
 }
 
-/// Fails unless the rows have labels of these ordinals.
-fn expect_ordinals(rt: &impl Abort, labels: &SetColumn, rows: &[&[u32]]) {
-    assert!(rt; labels.len() == rows.len());
+/// Whether the rows have labels of these ordinals.
+fn are_ordinals(labels: &SetColumn, rows: &[&[u32]]) -> bool {
     for (row, ordinals) in rows.iter().enumerate() {
-        assert!(rt; ordinals_at(labels, row) == *ordinals, "row {row}");
+        if ordinals_at(labels, row) != *ordinals {
+            return false;
+        }
     }
+    labels.len() == rows.len()
 }
 
-/// Fails unless the labels are these, in order of their ordinals.
-fn expect_labels(rt: &impl Abort, labels: &SetColumn, texts: &[&str]) {
-    assert!(rt; labels.dictionary().len() == texts.len());
+/// Whether the labels are these, in order of their ordinals.
+fn are_labels(labels: &SetColumn, texts: &[&str]) -> bool {
     for (ordinal, text) in texts.iter().enumerate() {
-        assert!(rt;
-            labels.dictionary().ordinal(text) == Some(ordinal),
-            "{text}"
-        );
+        if labels.dictionary().ordinal(text) != Some(ordinal) {
+            return false;
+        }
+    }
+    labels.dictionary().len() == texts.len()
+}
+
+/// Whether the column has these labels, and the rows have those of these ordinals.
+fn is_facet(column: Option<&Column>, texts: &[&str], rows: &[&[u32]]) -> bool {
+    match column {
+        Some(Column::Facet(facet)) => {
+            are_labels(facet.labels(), texts) && are_ordinals(facet.labels(), rows)
+        }
+        _ => false,
     }
 }
 
 #[test]
 fn labels_have_ordinals_in_byte_order(rt: HostRuntime) -> Result<(), Fail> {
     const ROWS: &[&[u32]] = &[&[0, 1], &[1], &[0], &[]];
-    let segment = made_of_texts(&rt, rt.alloc(), FIELDS, COLORED)?;
-    let Some(Column::Facet(colors)) = segment.column("color") else {
-        panic!(rt; "no colors");
-    };
-    expect_labels(&rt, colors.labels(), &["blue", "red"]);
-    expect_ordinals(&rt, colors.labels(), ROWS);
-    assert!(rt; segment.column("size").is_none());
+    let segment = made_of_texts(rt.alloc(), FIELDS, COLORED)?;
+    let has_colors = is_facet(segment.column("color"), &["blue", "red"], ROWS);
+    assert!(rt; has_colors && segment.column("size").is_none());
     Ok(())
 }
 
-/// How many rows match so many thrown queries together.
+/// How many rows match a thrown query, and `None` unless they are those of the items that it accepts.
+fn count_once(
+    alloc: Global,
+    segment: &Segment,
+    items: &[Item],
+    dice: &mut Dice,
+) -> Result<Option<usize>, Refusal> {
+    let text = query_text(alloc, dice)?;
+    match rows_matched(alloc, segment, items, &text)? {
+        Some(rows) => Ok(Some(rows.len())),
+        None => Ok(None),
+    }
+}
+
+/// The same of so many queries together.
 fn count_matched(
-    rt: &impl Abort,
     alloc: Global,
     segment: &Segment,
     items: &[Item],
     dice: &mut Dice,
     queries: u32,
-) -> Result<usize, Refusal> {
+) -> Result<Option<usize>, Refusal> {
     let mut matched = 0usize;
     for _ in 0..queries {
-        let text = query_text(alloc, dice)?;
-        let rows = rows_matched(rt, alloc, segment, items, &text)?;
-        matched = matched.saturating_add(rows.len());
+        let Some(rows) = count_once(alloc, segment, items, dice)? else {
+            return Ok(None);
+        };
+        matched = matched.saturating_add(rows);
     }
-    Ok(matched)
+    Ok(Some(matched))
 }
 
-/// Fails unless a hundred queries match some of so many rows, and not all.
-fn expect_some(rt: &impl Abort, matched: usize, size: usize) {
-    assert!(rt;
-        size < matched && matched / 99 < size,
-        "{matched} of {size}"
-    );
+/// Whether a hundred queries match some of so many rows, and not all.
+fn are_some(matched: Option<usize>, size: usize) -> bool {
+    match matched {
+        Some(matched) => size < matched && matched / 99 < size,
+        None => false,
+    }
 }
 
-/// Matches a hundred queries with the rows of a segment of so many items.
-fn expect_agreement(rt: &impl Abort, alloc: Global, seed: u64, size: usize) -> Result<(), Fail> {
+/// Whether a hundred queries agree with so many items and with their segment.
+fn agree_at(alloc: Global, seed: u64, size: usize) -> Result<bool, Refusal> {
     let schema = Schema::read(alloc, FIELDS)?;
     let mut dice = Dice::new(seed);
     let items = items(alloc, &schema, &mut dice, size)?;
-    let segment = made(rt, alloc, &schema, &items)?;
-    let matched = count_matched(rt, alloc, &segment, &items, &mut dice, 100)?;
-    expect_some(rt, matched, size);
-    Ok(())
+    let segment = made(alloc, &schema, &items)?;
+    let matched = count_matched(alloc, &segment, &items, &mut dice, 100)?;
+    Ok(are_some(matched, size))
+}
+
+/// The same of each size.
+fn agree_at_each(alloc: Global, sizes: &[usize]) -> Result<bool, Refusal> {
+    for size in sizes {
+        if !agree_at(alloc, *size as u64, *size)? {
+            return Ok(false);
+        }
+    }
+    Ok(true)
 }
 
 #[test]
 fn sets_agree_with_items(rt: HostRuntime) -> Result<(), Fail> {
     const SIZES: &[usize] = &[1, 63, 64, 65, 128, 1_000, 5_000];
-    let alloc = rt.alloc();
-    for size in SIZES {
-        expect_agreement(&rt, alloc, *size as u64, *size)?;
-    }
+    assert!(rt; agree_at_each(rt.alloc(), SIZES)?);
     Ok(())
 }
 
-/// The segment that is read of the bytes of this one. Fails unless it is written so again.
-fn read_again(rt: &impl Abort, alloc: Global, segment: &Segment) -> Result<Segment, Refusal>
-    requires { segment.now.number ≡ 1 }
+/// The bytes of the segment of the items.
+fn bytes_of(alloc: Global, schema: &Schema, items: &[Item]) -> Result<Vec<u8>, Refusal>
+    requires { All (IsItem schema.now) items.now }
 {
-    let bytes = encode_seg(alloc, segment)?;
-    let again = rewritten(alloc, &bytes)?;
-    assert!(rt;
-        again.as_slice() == bytes.as_slice(),
-        "{} rows",
-        segment.len()
-    );
-    decode_seg(alloc, &bytes)
+    let segment = made(alloc, schema, items)?;
+    Ok(encode_seg(alloc, &segment)?)
 }
 
-/// Writes and reads a segment of so many items, and matches twenty queries with its rows.
-fn expect_rereading(rt: &impl Abort, alloc: Global, seed: u64, size: usize) -> Result<(), Fail> {
+/// Whether a segment is read of the bytes and written so again, and twenty queries agree with it and with the items.
+fn is_read_so(
+    alloc: Global,
+    bytes: &[u8],
+    items: &[Item],
+    dice: &mut Dice,
+) -> Result<bool, Refusal> {
+    let read = decode_seg(alloc, bytes)?;
+    Ok(is_exact(alloc, bytes)? && count_matched(alloc, &read, items, dice, 20)?.is_some())
+}
+
+/// Whether this holds of the bytes of the segment of so many items.
+fn is_read_again(alloc: Global, seed: u64, size: usize) -> Result<bool, Refusal> {
     let schema = Schema::read(alloc, FIELDS)?;
     let mut dice = Dice::new(seed);
     let items = items(alloc, &schema, &mut dice, size)?;
-    let read = read_again(rt, alloc, &made(rt, alloc, &schema, &items)?)?;
-    count_matched(rt, alloc, &read, &items, &mut dice, 20)?;
-    Ok(())
+    let bytes = bytes_of(alloc, &schema, &items)?;
+    is_read_so(alloc, &bytes, &items, &mut dice)
 }
 
 #[test]
 fn a_segment_is_read_as_it_was_written(rt: HostRuntime) -> Result<(), Fail> {
     let alloc = rt.alloc();
-    expect_rereading(&rt, alloc, 1, 1)?;
-    expect_rereading(&rt, alloc, 2, 65)?;
-    expect_rereading(&rt, alloc, 3, 1_000)?;
-    expect_rereading(&rt, alloc, 4, 5_000)
+    let are_few_read = is_read_again(alloc, 1, 1)? && is_read_again(alloc, 2, 65)?;
+    let are_many_read = is_read_again(alloc, 3, 1_000)? && is_read_again(alloc, 4, 5_000)?;
+    assert!(rt; are_few_read && are_many_read);
+    Ok(())
 }
 
 #[test]
 fn a_full_segment_is_read_as_it_was_written(rt: HostRuntime) -> Result<(), Fail> {
-    expect_rereading(&rt, rt.alloc(), 5, MAX_ROWS)
+    assert!(rt; is_read_again(rt.alloc(), 5, MAX_ROWS)?);
+    Ok(())
 }

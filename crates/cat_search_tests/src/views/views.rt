@@ -12,7 +12,6 @@ use cat_facets::cat_search::{Ask, Entry, Key, Page, Prepared, Sort, page_of};
 use cat_items::Schema;
 use std::alloc::{AllocError, Global};
 use std::fmt::Write;
-use std::process::Abort;
 use std::test::Fail;
 
 pub(crate) const FIELDS: &[u8] =
@@ -87,14 +86,13 @@ pub(crate) fn shown_by_records(
     Ok(answer_text(alloc, &page)?)
 }
 
-/// Fails unless the FIND shows the same over the view and over the records.
-fn expect_find(
-    rt: &impl Abort,
+/// Whether the FIND shows the same over the view and over the records.
+fn is_shown(
     alloc: Global,
     view: &View,
     records: &[Put],
     find: &FindText<'_>,
-) -> Result<(), Fail>
+) -> Result<bool, Refusal>
     requires rising { AllPairs (λ a b. a.number < b.number) records.now }
     requires items { All (λ p. IsItem view.now.schema p.item) records.now }
 {
@@ -102,61 +100,71 @@ fn expect_find(
     let sort = sort_named(sort);
     let ask = Ask { sort, after, count };
     let of_view = shown_by_view(alloc, view, query, ask)?;
-    assert_eq!(rt; of_view.as_str(), shown);
     let of_records = shown_by_records(alloc, view.schema(), records, query, ask)?;
-    assert_eq!(rt; of_records.as_str(), shown);
-    Ok(())
+    Ok(of_view.as_str() == shown && of_records.as_str() == shown)
 }
 
-/// The rows of the texts, or those of them that are live.
+/// The same of each FIND.
+fn are_shown(
+    alloc: Global,
+    view: &View,
+    records: &[Put],
+    finds: &[FindText<'_>],
+) -> Result<bool, Refusal>
+    requires rising { AllPairs (λ a b. a.number < b.number) records.now }
+    requires items { All (λ p. IsItem view.now.schema p.item) records.now }
+{
+    for find in finds {
+        if !is_shown(alloc, view, records, find)? {
+            return Ok(false);
+        }
+    }
+    Ok(true)
+}
+
+/// The rows of the texts, or those of them that are live; [`Refusal::Damaged`] where they are no rows of a view.
 fn puts_of(
-    rt: &impl Abort,
     alloc: Global,
     schema: &Schema,
     rows: &[PutText<'_>],
     live_only: bool,
-) -> Result<Vec<Put>, Fail>
+) -> Result<Vec<Put>, Refusal>
     ensures items { IfOk result (λ v. All (λ p. IsItem schema.now p.item) v.items) }
     ensures order { IfOk result (λ v. AllPairs (λ a b. (a.number < b.number)
         × (a.live ≡ true → b.live ≡ true → a.item.id ≢ b.item.id)) v.items) }
 {
     let puts = read_puts(alloc, schema, rows, live_only)?;
     if !are_in_order(&puts) {
-        panic!(rt; "no rows of a view");
+        return Err(Refusal::Damaged);
     }
     Ok(puts)
 }
 
 /// A view of the rows, in segments that end at these places.
-fn view_of_texts(
-    rt: &impl Abort,
+pub(crate) fn view_of_texts(
     alloc: Global,
     schema: &Schema,
     rows: &[PutText<'_>],
     ends: &[usize],
-) -> Result<View, Fail>
+) -> Result<View, Refusal>
     ensures { IfOk result (λ v. v.schema ≡ schema.now) }
 {
-    let puts = puts_of(rt, alloc, schema, rows, false)?;
-    Ok(view_of(alloc, schema, &puts, ends)?)
+    let puts = puts_of(alloc, schema, rows, false)?;
+    view_of(alloc, schema, &puts, ends)
 }
 
-/// Fails unless each FIND shows this over a view of the rows, in segments that end at these places, and over the records
-/// of the live rows.
-fn expect_finds(
-    rt: &impl Abort,
+/// Whether each FIND shows this over a view of the rows, in segments that end at these places, and over the records of the live
+/// rows.
+fn are_found(
     alloc: Global,
     rows: &[PutText<'_>],
     ends: &[usize],
     finds: &[FindText<'_>],
-) -> Result<(), Fail> {
+) -> Result<bool, Refusal> {
     let schema = Schema::read(alloc, FIELDS)?;
-    let view = view_of_texts(rt, alloc, &schema, rows, ends)?;
-    let records = puts_of(rt, alloc, &schema, rows, true)?;
-    for find in finds {
-        expect_find(rt, alloc, &view, &records, find)?;
-    }
-    Ok(())
+    let view = view_of_texts(alloc, &schema, rows, ends)?;
+    let records = puts_of(alloc, &schema, rows, true)?;
+    are_shown(alloc, &view, &records, finds)
 }
 
 /// Four items, of which two have one price and one has none, and two that were killed.
@@ -173,7 +181,8 @@ const PRICED: &[PutText<'static>] = &[
 fn a_page_shows_the_key_that_it_is_sorted_by(rt: HostRuntime) -> Result<(), Fail> {
     const ROWS: &[PutText<'static>] = &[(1, true, r#"{"id":"a","price":5,"color":["red"]}"#)];
     const FINDS: &[FindText<'static>] = &[(10, "+price", None, "*:*", "1 of 1: 1 a 5")];
-    expect_finds(&rt, rt.alloc(), ROWS, &[1], FINDS)
+    assert!(rt; are_found(rt.alloc(), ROWS, &[1], FINDS)?);
+    Ok(())
 }
 
 #[test]
@@ -200,7 +209,8 @@ fn ties_go_by_number_and_a_missing_value_is_last(rt: HostRuntime) -> Result<(), 
         (9, "+id", None, "*:*", "NO 28"),
         (9, "+size", None, "*:*", "NO 28"),
     ];
-    expect_finds(&rt, rt.alloc(), PRICED, &[1, 3, 6], FINDS)
+    assert!(rt; are_found(rt.alloc(), PRICED, &[1, 3, 6], FINDS)?);
+    Ok(())
 }
 
 #[test]
@@ -215,7 +225,8 @@ fn a_mark_is_any_record_and_the_total_counts_all(rt: HostRuntime) -> Result<(), 
         (9, ".", Some(5), "*:*", "NO 23"),
         (9, "+price", Some(6), "*:*", "NO 23"),
     ];
-    expect_finds(&rt, rt.alloc(), PRICED, &[3, 4, 6], FINDS)
+    assert!(rt; are_found(rt.alloc(), PRICED, &[3, 4, 6], FINDS)?);
+    Ok(())
 }
 
 /// The four items under ten times their numbers, each but one behind an older row of its id.
@@ -259,7 +270,8 @@ fn an_older_row_of_an_id_is_not_shown(rt: HostRuntime) -> Result<(), Fail> {
         (1_001, "+title", Some(3), "*:*", "NO 25"),
         (9, "+title", Some(3), "*:*", "NO 28"),
     ];
-    expect_finds(&rt, rt.alloc(), REPLACED, &[1, 3, 6, 7], FINDS)
+    assert!(rt; are_found(rt.alloc(), REPLACED, &[1, 3, 6, 7], FINDS)?);
+    Ok(())
 }
 
 /// Ids of 39, 40, 41 and 64 bytes: a page holds the first two in its entries, and the others in memory of their own.
@@ -304,7 +316,8 @@ fn long_ids_are_shown_as_short_ones_are(rt: HostRuntime) -> Result<(), Fail> {
             "4 of 4: 4 dddddddddddddddddddddddddddddddddddddddddddddddddddddddddddddddd 6, 3 ccccccccccccccccccccccccccccccccccccccccc 7, 2 bbbbbbbbbbbbbbbbbbbbbbbbbbbbbbbbbbbbbbbb 8, 1 aaaaaaaaaaaaaaaaaaaaaaaaaaaaaaaaaaaaaaa 9",
         ),
     ];
-    expect_finds(&rt, rt.alloc(), LONG_IDS, &[3, 4], FINDS)
+    assert!(rt; are_found(rt.alloc(), LONG_IDS, &[3, 4], FINDS)?);
+    Ok(())
 }
 
 #[test]
@@ -329,7 +342,8 @@ fn words_are_lowered_and_kept_whole(rt: HostRuntime) -> Result<(), Fail> {
         (9, ".", None, "+brand:[B TO *] title:red", "1 of 1: 2 b ."),
         (9, "-brand", None, "*:*", "2 of 2: 2 b =Zed, 1 a =Acme"),
     ];
-    expect_finds(&rt, rt.alloc(), ROWS, &[1, 3], FINDS)
+    assert!(rt; are_found(rt.alloc(), ROWS, &[1, 3], FINDS)?);
+    Ok(())
 }
 
 #[test]
@@ -346,7 +360,8 @@ fn clauses_are_musts_must_nots_and_shoulds(rt: HostRuntime) -> Result<(), Fail> 
         (9, ".", None, "price:[3 TO -3]", "0 of 0"),
         (9, "+price", None, "*:*", "2 of 2: 1 a -3, 2 b ."),
     ];
-    expect_finds(&rt, rt.alloc(), ROWS, &[1, 2, 3], FINDS)
+    assert!(rt; are_found(rt.alloc(), ROWS, &[1, 2, 3], FINDS)?);
+    Ok(())
 }
 
 #[test]
@@ -358,7 +373,8 @@ fn a_query_may_have_64_clauses_and_8_groups(rt: HostRuntime) -> Result<(), Fail>
         (9, ".", None, most.as_str(), "1 of 1: 1 a ."),
         (9, ".", None, "((((((((*:*))))))))", "1 of 1: 1 a ."),
     ];
-    expect_finds(&rt, alloc, ROWS, &[2], finds)
+    assert!(rt; are_found(alloc, ROWS, &[2], finds)?);
+    Ok(())
 }
 
 #[test]
@@ -370,8 +386,9 @@ fn a_view_without_rows_shows_nothing(rt: HostRuntime) -> Result<(), Fail> {
         (9, "+title", Some(5), "*:*", "NO 28"),
         (9, "+price", Some(5), "*:*", "NO 23"),
     ];
-    expect_finds(&rt, rt.alloc(), &[], &[], FINDS)?;
-    expect_finds(&rt, rt.alloc(), KILLED, &[1], FINDS)
+    let alloc = rt.alloc();
+    assert!(rt; are_found(alloc, &[], &[], FINDS)? && are_found(alloc, KILLED, &[1], FINDS)?);
+    Ok(())
 }
 
 #[test]
@@ -387,9 +404,12 @@ fn each_view_shows_the_rows_that_it_has_live(rt: HostRuntime) -> Result<(), Fail
         (5, true, r#"{"id":"c"}"#),
     ];
     const IN_FIFTH: &[FindText<'static>] = &[(9, ".", None, "*:*", "2 of 2: 4 b ., 5 c .")];
-    expect_finds(&rt, rt.alloc(), SECOND, &[2], IN_SECOND)?;
-    expect_finds(&rt, rt.alloc(), THIRD, &[2], IN_THIRD)?;
-    expect_finds(&rt, rt.alloc(), FIFTH, &[2, 4], IN_FIFTH)
+    let alloc = rt.alloc();
+    let in_each = are_found(alloc, SECOND, &[2], IN_SECOND)?
+        && are_found(alloc, THIRD, &[2], IN_THIRD)?
+        && are_found(alloc, FIFTH, &[2, 4], IN_FIFTH)?;
+    assert!(rt; in_each);
+    Ok(())
 }
 
 #[test]
@@ -406,7 +426,8 @@ fn a_page_shows_the_first_hits_and_counts_all(rt: HostRuntime) -> Result<(), Fai
         (1_000, ".", None, "*:*", "3 of 3: 1 a ., 2 b ., 3 c ."),
         (1_001, ".", None, "*:*", "NO 25"),
     ];
-    expect_finds(&rt, rt.alloc(), ROWS, &[1, 3], FINDS)
+    assert!(rt; are_found(rt.alloc(), ROWS, &[1, 3], FINDS)?);
+    Ok(())
 }
 
 /// How many rows the long pages are of, which have the prices from 0 on, each once.
@@ -432,30 +453,49 @@ fn mixed_puts(alloc: Global, schema: &Schema) -> Result<Vec<Put>, Refusal>
     Ok(puts)
 }
 
-/// Fails unless the entries are the 1,000 hits of the least prices in order, or of the greatest, each under its price.
-fn expect_prices(rt: &impl Abort, entries: &[Entry], falling: bool) {
-    assert!(rt; entries.len() == 1_000);
-    for (place, entry) in entries.iter().enumerate() {
-        let wanted = if falling {
-            1_199usize.saturating_sub(place)
-        } else {
-            place
-        };
-        assert!(rt; mixed_price(entry.number()) == wanted as u64, "{place}");
-        let Some(Key::Number(key)) = entry.key() else {
-            panic!(rt; "no key at {place}");
-        };
-        assert!(rt; *key == wanted as i64, "{place}");
+/// The price of the hit that stands there.
+fn price_at(place: usize, falling: bool) -> usize {
+    if falling {
+        1_199usize.saturating_sub(place)
+    } else {
+        place
     }
 }
 
-/// Fails unless the page has the 1,000 hits of the least prices in order, or of the greatest.
-fn expect_thousand(rt: &impl Abort, answer: &Result<Page, Refusal>, falling: bool) {
-    let Ok(page) = answer else {
-        panic!(rt; "no page");
-    };
-    assert!(rt; page.total() as u64 == MANY);
-    expect_prices(rt, page.entries(), falling);
+/// Whether the entry is of the row that has the price, under this price.
+fn has_price(entry: &Entry, price: usize) -> bool {
+    match entry.key() {
+        Some(Key::Number(key)) => {
+            mixed_price(entry.number()) == price as u64 && *key == price as i64
+        }
+        _ => false,
+    }
+}
+
+/// Whether the entries are the 1,000 hits of the least prices in order, or of the greatest, each under its price.
+fn are_thousand(entries: &[Entry], falling: bool) -> bool {
+    for (place, entry) in entries.iter().enumerate() {
+        if !has_price(entry, price_at(place, falling)) {
+            return false;
+        }
+    }
+    entries.len() == 1_000
+}
+
+/// Whether the page has the 1,000 hits of the least prices in order, or of the greatest.
+fn has_thousand(answer: &Result<Page, Refusal>, falling: bool) -> bool {
+    match answer {
+        Ok(page) => page.total() as u64 == MANY && are_thousand(page.entries(), falling),
+        Err(_) => false,
+    }
+}
+
+/// Whether more hits were asked for than a page has.
+fn are_too_many(answer: &Result<Page, Refusal>) -> bool {
+    match answer {
+        Ok(_) => false,
+        Err(refusal) => refusal.number() == 25,
+    }
 }
 
 fn by_price(falling: bool, count: u64) -> Ask<'static> {
@@ -471,69 +511,70 @@ fn by_price(falling: bool, count: u64) -> Ask<'static> {
     }
 }
 
-/// Fails unless a page of the view by price has up to 1,000 hits.
-fn expect_thousand_of_view(
-    rt: &impl Abort,
-    alloc: Global,
-    view: &View,
-    falling: bool,
-) -> Result<(), Fail> {
+/// Whether a page of the view by price has up to 1,000 hits.
+fn has_thousand_of_view(alloc: Global, view: &View, falling: bool) -> Result<bool, Refusal> {
     let prepared = Prepared::of(view, Query::parse(view.schema(), alloc, "*:*")?)?;
-    expect_thousand(rt, &prepared.page(alloc, by_price(falling, 1_000)), falling);
-    let refused = answer_text(alloc, &prepared.page(alloc, by_price(falling, 1_001)))?;
-    assert!(rt; refused.as_str() == "NO 25");
-    Ok(())
+    let is_full = has_thousand(&prepared.page(alloc, by_price(falling, 1_000)), falling);
+    Ok(is_full && are_too_many(&prepared.page(alloc, by_price(falling, 1_001))))
 }
 
-/// Fails unless a page of the records by price has up to 1,000 hits.
-fn expect_thousand_of_records(
-    rt: &impl Abort,
+/// Whether a page of the records by price has up to 1,000 hits.
+fn has_thousand_of_records(
     alloc: Global,
     schema: &Schema,
     records: &[Put],
     falling: bool,
-) -> Result<(), Fail>
+) -> Result<bool, Refusal>
     requires rising { AllPairs (λ a b. a.number < b.number) records.now }
     requires items { All (λ p. IsItem schema.now p.item) records.now }
 {
     let query = Query::parse(schema, alloc, "*:*")?;
-    let page = page_of(alloc, schema, records, &query, by_price(falling, 1_000));
-    expect_thousand(rt, &page, falling);
-    let page = page_of(alloc, schema, records, &query, by_price(falling, 1_001));
-    let refused = answer_text(alloc, &page)?;
-    assert!(rt; refused.as_str() == "NO 25");
-    Ok(())
+    let most = page_of(alloc, schema, records, &query, by_price(falling, 1_000));
+    let is_full = has_thousand(&most, falling);
+    let more = page_of(alloc, schema, records, &query, by_price(falling, 1_001));
+    Ok(is_full && are_too_many(&more))
 }
 
 /// The rows of the numbers from 1 on, in order.
-fn mixed_records(rt: &impl Abort, alloc: Global, schema: &Schema) -> Result<Vec<Put>, Fail>
+fn mixed_records(alloc: Global, schema: &Schema) -> Result<Vec<Put>, Refusal>
     ensures items { IfOk result (λ v. All (λ p. IsItem schema.now p.item) v.items) }
     ensures order { IfOk result (λ v. AllPairs (λ a b. (a.number < b.number)
         × (a.live ≡ true → b.live ≡ true → a.item.id ≢ b.item.id)) v.items) }
 {
     let puts = mixed_puts(alloc, schema)?;
     if !are_in_order(&puts) {
-        panic!(rt; "no rows of a view");
+        return Err(Refusal::Damaged);
     }
     Ok(puts)
 }
 
-fn expect_thousands(rt: &impl Abort, alloc: Global, falling: bool) -> Result<(), Fail> {
+/// Whether pages by price have up to 1,000 hits, over a view and over records.
+fn have_thousand(alloc: Global, falling: bool) -> Result<bool, Refusal> {
     let schema = Schema::read(alloc, FIELDS)?;
-    let puts = mixed_records(rt, alloc, &schema)?;
+    let puts = mixed_records(alloc, &schema)?;
     let view = view_of(alloc, &schema, &puts, &[700, 1_200])?;
-    expect_thousand_of_view(rt, alloc, &view, falling)?;
-    expect_thousand_of_records(rt, alloc, &schema, &puts, falling)
+    Ok(
+        has_thousand_of_view(alloc, &view, falling)?
+            && has_thousand_of_records(alloc, &schema, &puts, falling)?,
+    )
 }
 
 #[test]
 fn a_page_by_rising_price_has_a_thousand_hits_and_no_more(rt: HostRuntime) -> Result<(), Fail> {
-    expect_thousands(&rt, rt.alloc(), false)
+    assert!(rt; have_thousand(rt.alloc(), false)?);
+    Ok(())
 }
 
 #[test]
 fn a_page_by_falling_price_has_a_thousand_hits_and_no_more(rt: HostRuntime) -> Result<(), Fail> {
-    expect_thousands(&rt, rt.alloc(), true)
+    assert!(rt; have_thousand(rt.alloc(), true)?);
+    Ok(())
+}
+
+/// The view of the four items and of two that were killed, in three segments.
+fn priced_view(alloc: Global) -> Result<View, Refusal> {
+    let schema = Schema::read(alloc, FIELDS)?;
+    view_of_texts(alloc, &schema, PRICED, &[1, 3, 6])
 }
 
 /// The texts of the names, with a space behind each.
@@ -548,8 +589,7 @@ fn names_text(alloc: Global, names: &[FileName]) -> Result<String, Refusal> {
 
 #[test]
 fn a_view_needs_two_files_of_each_segment(rt: HostRuntime) -> Result<(), Fail> {
-    let schema = Schema::read(rt.alloc(), FIELDS)?;
-    let view = view_of_texts(&rt, rt.alloc(), &schema, PRICED, &[1, 3, 6])?;
+    let view = priced_view(rt.alloc())?;
     let names = names_text(rt.alloc(), &view.files(rt.alloc())?)?;
     assert!(rt; names.as_str() == "_1.seg _1.sto _2.seg _2.sto _3.seg _3.sto ");
     Ok(())
@@ -573,31 +613,24 @@ fn store(
     Ok(())
 }
 
-/// Fails unless the view gives these texts for the ids, or none.
-fn expect_texts(
-    rt: &impl Abort,
+/// Whether the view gives these texts for the ids, or none.
+fn gives(
     alloc: Global,
     view: &View,
     files: &mut MemoryDirectory,
     rows: &[(&str, Option<&[u8]>)],
-) -> Result<(), Fail> {
+) -> Result<bool, Refusal> {
     for &(id, want) in rows {
-        let found = view.get(alloc, files, id)?;
-        assert!(rt; found.as_deref() == want, "{id}");
+        if view.get(alloc, files, id)?.as_deref() != want {
+            return Ok(false);
+        }
     }
-    Ok(())
+    Ok(true)
 }
 
-/// Fails unless the file with the text of the id is told as damaged.
-fn expect_damaged(
-    rt: &impl Abort,
-    alloc: Global,
-    view: &View,
-    files: &mut MemoryDirectory,
-    id: &str,
-) {
-    let found = view.get(alloc, files, id);
-    assert!(rt; matches!(found, Err(Refusal::Damaged)), "{id}");
+/// Whether the file with the text of the id is told as damaged.
+fn is_damaged(alloc: Global, view: &View, files: &mut MemoryDirectory, id: &str) -> bool {
+    matches!(view.get(alloc, files, id), Err(Refusal::Damaged))
 }
 
 const B: &[u8] = br#"{"id":"b"}"#;
@@ -624,32 +657,62 @@ const F: &[u8] = br#"{"id":"f","price":7}"#;
 /// The row of `e` is dead, and no row has `g`.
 const TEXTS: &[(&str, Option<&[u8]>)] = &[("c", Some(C)), ("d", Some(D)), ("e", None), ("g", None)];
 
+/// Whether the texts of live ids are given. The file of `a` was never made.
+fn gives_texts(alloc: Global, view: &View, files: &mut MemoryDirectory) -> Result<bool, Refusal> {
+    store(alloc, files, 2, &[B, C])?;
+    store(alloc, files, 3, &[D, E, F])?;
+    Ok(gives(alloc, view, files, TEXTS)? && is_damaged(alloc, view, files, "a"))
+}
+
+/// Whether the text of `c` is damaged where the file has this one in its place.
+fn is_damaged_by(
+    alloc: Global,
+    view: &View,
+    files: &mut MemoryDirectory,
+    text: &[u8],
+) -> Result<bool, Refusal> {
+    store(alloc, files, 2, &[B, text])?;
+    Ok(is_damaged(alloc, view, files, "c"))
+}
+
 #[test]
 fn a_view_gives_the_texts_of_live_ids(rt: HostRuntime) -> Result<(), Fail> {
-    let schema = Schema::read(rt.alloc(), FIELDS)?;
-    let view = view_of_texts(&rt, rt.alloc(), &schema, PRICED, &[1, 3, 6])?;
-    let mut files = MemoryDirectory::new(rt.alloc());
-    store(rt.alloc(), &mut files, 2, &[B, C])?;
-    store(rt.alloc(), &mut files, 3, &[D, E, F])?;
-    expect_texts(&rt, rt.alloc(), &view, &mut files, TEXTS)?;
-    // The file of `a` was never made, and that of `c` is a byte short.
-    expect_damaged(&rt, rt.alloc(), &view, &mut files, "a");
-    store(rt.alloc(), &mut files, 2, &[B, C_CUT])?;
-    expect_damaged(&rt, rt.alloc(), &view, &mut files, "c");
+    let alloc = rt.alloc();
+    let view = priced_view(alloc)?;
+    let mut files = MemoryDirectory::new(alloc);
+    let are_given = gives_texts(alloc, &view, &mut files)?;
+    assert!(rt; are_given && is_damaged_by(alloc, &view, &mut files, C_CUT)?);
     Ok(())
 }
 
-/// A text that somebody broke into lines isn't given, so no reader of replies takes its lines for replies.
+/// Whether each text that somebody broke into lines is damaged.
+fn are_broken(alloc: Global, view: &View, files: &mut MemoryDirectory) -> Result<bool, Refusal> {
+    for text in C_BROKEN {
+        if !is_damaged_by(alloc, view, files, text)? {
+            return Ok(false);
+        }
+    }
+    Ok(true)
+}
+
+/// Whether a text is given behind one that somebody broke.
+fn is_given_behind(
+    alloc: Global,
+    view: &View,
+    files: &mut MemoryDirectory,
+) -> Result<bool, Refusal> {
+    store(alloc, files, 2, &[B_BROKEN, C])?;
+    gives(alloc, view, files, &[("c", Some(C))])
+}
+
+/// A text that somebody broke into lines isn't given, so no reader of replies takes its lines for replies. A line feed in another
+/// text is nobody's trouble but of who reads that one.
 #[test]
 fn a_text_with_a_line_feed_is_damaged(rt: HostRuntime) -> Result<(), Fail> {
-    let schema = Schema::read(rt.alloc(), FIELDS)?;
-    let view = view_of_texts(&rt, rt.alloc(), &schema, PRICED, &[1, 3, 6])?;
-    let mut files = MemoryDirectory::new(rt.alloc());
-    for &text in C_BROKEN {
-        store(rt.alloc(), &mut files, 2, &[B, text])?;
-        expect_damaged(&rt, rt.alloc(), &view, &mut files, "c");
-    }
-    // A line feed in another text is nobody's trouble but of who reads that one.
-    store(rt.alloc(), &mut files, 2, &[B_BROKEN, C])?;
-    expect_texts(&rt, rt.alloc(), &view, &mut files, &[("c", Some(C))])
+    let alloc = rt.alloc();
+    let view = priced_view(alloc)?;
+    let mut files = MemoryDirectory::new(alloc);
+    let are_broken = are_broken(alloc, &view, &mut files)?;
+    assert!(rt; are_broken && is_given_behind(alloc, &view, &mut files)?);
+    Ok(())
 }

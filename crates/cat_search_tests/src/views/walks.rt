@@ -10,8 +10,7 @@ use cat_base::{Refusal, WriteNo};
 use cat_cached_sets::View;
 use cat_facets::cat_search::{Ask, Sort};
 use cat_items::Schema;
-use std::alloc::{AllocError, Global};
-use std::process::Abort;
+use std::alloc::Global;
 use std::test::Fail;
 
 /// How many rows there are, in three segments.

@@ -84,11 +84,18 @@ fn made_text(alloc: Global, rows: u64, query: &str, steps: u32) -> Result<String
     Ok(text)
 }
 
+/// Whether the steps of each set answer so.
+fn are_made_so(alloc: Global, sets: &[StepText<'_>]) -> Result<bool, Refusal> {
+    for &(rows, query, steps, answered) in sets {
+        if made_text(alloc, rows, query, steps)?.as_str() != answered {
+            return Ok(false);
+        }
+    }
+    Ok(true)
+}
+
 #[test]
 fn a_step_passes_256_rows(rt: HostRuntime) -> Result<(), Fail> {
-    for &(rows, query, steps, answered) in STEPS {
-        let text = made_text(rt.alloc(), rows, query, steps)?;
-        assert_eq!(rt; text.as_str(), answered, "{query} in {rows} rows");
-    }
+    assert!(rt; are_made_so(rt.alloc(), STEPS)?);
     Ok(())
 }

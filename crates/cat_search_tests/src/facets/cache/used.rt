@@ -1,6 +1,6 @@
 //! With sets at hand a query has the hits that it has without them.
 use crate::facets::cache::made::parsed;
-use crate::views::{PutText, are_in_order, read_puts, sets_of, view_of};
+use crate::views::{PutText, sets_of, view_of_texts};
 use cat_base::Refusal;
 use cat_cached_sets::View;
 use cat_facets::cat_search::{Ask, Page, Prepared, Sort};
@@ -66,28 +66,27 @@ const HITS: &[(&str, &str)] = &[
     ("price:[7 TO *]", ""),
 ];
 
-/// Their view; [`Refusal::Damaged`] where they are no rows of one.
-fn view_of_rows(alloc: Global) -> Result<View, Refusal> {
-    let schema = Schema::read(alloc, br#"{"color":"facet","price":"number"}"#)?;
-    let puts = read_puts(alloc, &schema, ROWS, false)?;
-    if !are_in_order(&puts) {
-        return Err(Refusal::Damaged);
+/// Whether the query has these hits, with sets at hand and without.
+fn has_hits(alloc: Global, view: &View, text: &str, ids: &str) -> Result<bool, Refusal> {
+    let without = hits(alloc, view, text, false)?;
+    let with = hits(alloc, view, text, true)?;
+    Ok(without.as_str() == ids && with.as_str() == ids)
+}
+
+/// The same of each query.
+fn have_hits(alloc: Global, view: &View, rows: &[(&str, &str)]) -> Result<bool, Refusal> {
+    for (text, ids) in rows {
+        if !has_hits(alloc, view, text, ids)? {
+            return Ok(false);
+        }
     }
-    view_of(alloc, &schema, &puts, &[2, 3, 5, 7])
+    Ok(true)
 }
 
 #[test]
 fn dead_rows_of_a_set_are_no_hits(rt: HostRuntime) -> Result<(), Fail> {
-    let view = view_of_rows(rt.alloc())?;
-    for &(text, ids) in HITS {
-        for &with_sets in &[false, true] {
-            let found = hits(rt.alloc(), &view, text, with_sets)?;
-            assert_eq!(rt;
-                found.as_str(),
-                ids,
-                "{text} with sets at hand: {with_sets}"
-            );
-        }
-    }
+    let schema = Schema::read(rt.alloc(), br#"{"color":"facet","price":"number"}"#)?;
+    let view = view_of_texts(rt.alloc(), &schema, ROWS, &[2, 3, 5, 7])?;
+    assert!(rt; have_hits(rt.alloc(), &view, HITS)?);
     Ok(())
 }

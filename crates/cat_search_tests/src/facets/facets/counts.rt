@@ -4,15 +4,14 @@ ghost use Rattle.cat_model.specs.Item.{IsItem};
 ghost use Rattle.cat_facets.specs.Kept.{KnowsIn};
 ghost use Rattle.cat_model.specs.View.{segments_of};
 
-use crate::views::{Put, PutText, are_in_order, read_put, read_puts, sets_of, view_of};
+use crate::views::{Put, PutText, are_in_order, read_put, sets_of, view_of, view_of_texts};
 use cat_base::Refusal;
 use cat_cached_sets::{Query, View};
 use cat_facets::cat_search::Prepared;
-use cat_facets::{Facets, ReaderState, ReaderStates};
+use cat_facets::{FacetCount, Facets, ReaderState, ReaderStates};
 use cat_items::Schema;
 use std::alloc::{AllocError, Global};
 use std::fmt::Write;
-use std::process::Abort;
 use std::test::Fail;
 
 const FIELDS: &[u8] = br#"{"brand":"keyword","color":"facet","price":"number","title":"text"}"#;
@@ -73,48 +72,80 @@ pub(crate) fn counts_kept(
     states.counts(alloc, &Prepared::of(view, query)?, dimension, n)
 }
 
-/// Fails unless each FACETS is answered so over the view, of segments that end at these places, by a state that is made for
-/// it and by one that is kept.
-fn expect_counts_over(
-    rt: &impl Abort,
-    alloc: Global,
-    view: &View,
-    ends: &[usize],
-    counts: &[CountText<'_>],
-) -> Result<(), Fail> {
-    let mut states = ReaderStates::new(alloc)?;
-    for count in counts {
-        let found = answer_text(alloc, &counts_of(alloc, view, count))?;
-        assert_eq!(rt;
-            found.as_str(),
-            count.3,
-            "{count:?} in segments to {ends:?}"
-        );
-        let kept = answer_text(alloc, &counts_kept(alloc, &mut states, view, count))?;
-        assert_eq!(rt;
-            kept.as_str(),
-            count.3,
-            "{count:?} by a kept state in segments to {ends:?}"
-        );
-    }
-    Ok(())
+/// Whether the FACETS is answered so over the view by a state that is made for it, with sets of rows at hand or without.
+fn is_answered(alloc: Global, view: &View, count: &CountText<'_>) -> Result<bool, AllocError> {
+    let found = answer_text(alloc, &counts_of(alloc, view, count))?;
+    let by_sets = answer_text(alloc, &counts_by_sets(alloc, view, count))?;
+    Ok(found.as_str() == count.3 && by_sets.as_str() == count.3)
 }
 
-/// Fails unless each FACETS is answered so over a view of the rows, in segments that end at these places.
-fn expect_counts(
-    rt: &impl Abort,
+/// Whether it is answered so, and by a state that is kept too.
+fn is_counted(
+    alloc: Global,
+    states: &mut ReaderStates,
+    view: &View,
+    count: &CountText<'_>,
+) -> Result<bool, AllocError>
+    requires { All (KnowsIn states.old) (segments_of view.now.leaves) }
+    ensures { All (KnowsIn states.new) (segments_of view.now.leaves) }
+{
+    let is_so = is_answered(alloc, view, count)?;
+    let kept = answer_text(alloc, &counts_kept(alloc, states, view, count))?;
+    Ok(is_so && kept.as_str() == count.3)
+}
+
+/// The same of each FACETS.
+fn are_counted(
+    alloc: Global,
+    states: &mut ReaderStates,
+    view: &View,
+    counts: &[CountText<'_>],
+) -> Result<bool, AllocError>
+    requires { All (KnowsIn states.old) (segments_of view.now.leaves) }
+{
+    for count in counts {
+        if !is_counted(alloc, states, view, count)? {
+            return Ok(false);
+        }
+    }
+    Ok(true)
+}
+
+/// The same, where no state is kept before.
+fn are_counted_anew(
+    alloc: Global,
+    view: &View,
+    counts: &[CountText<'_>],
+) -> Result<bool, AllocError> {
+    let mut states = ReaderStates::new(alloc)?;
+    are_counted(alloc, &mut states, view, counts)
+}
+
+/// Whether each FACETS is answered so over a view of the rows, in segments that end at these places.
+fn are_counts(
     alloc: Global,
     rows: &[PutText<'_>],
     ends: &[usize],
     counts: &[CountText<'_>],
-) -> Result<(), Fail> {
+) -> Result<bool, Refusal> {
     let schema = Schema::read(alloc, FIELDS)?;
-    let puts = read_puts(alloc, &schema, rows, false)?;
-    if !are_in_order(&puts) {
-        panic!(rt; "no rows of a view");
+    let view = view_of_texts(alloc, &schema, rows, ends)?;
+    Ok(are_counted_anew(alloc, &view, counts)?)
+}
+
+/// The same over a view for each way to cut the rows into segments.
+fn are_counts_by(
+    alloc: Global,
+    rows: &[PutText<'_>],
+    cuts: &[&[usize]],
+    counts: &[CountText<'_>],
+) -> Result<bool, Refusal> {
+    for ends in cuts {
+        if !are_counts(alloc, rows, ends, counts)? {
+            return Ok(false);
+        }
     }
-    let view = view_of(alloc, &schema, &puts, ends)?;
-    expect_counts_over(rt, alloc, &view, ends, counts)
+    Ok(true)
 }
 
 /// Four items, of which one has two labels, two have one, told twice in one of them, and one has none.
@@ -138,9 +169,7 @@ fn an_item_counts_once_for_each_of_its_labels(rt: HostRuntime) -> Result<(), Fai
         (1, "color", "color:red", "2 2: 2 red"),
         (9, "color", "price:1", "0 0"),
     ];
-    for &ends in CUTS {
-        expect_counts(&rt, rt.alloc(), COLORED, ends, COUNTS)?;
-    }
+    assert!(rt; are_counts_by(rt.alloc(), COLORED, CUTS, COUNTS)?);
     Ok(())
 }
 
@@ -161,7 +190,8 @@ fn the_dimension_is_judged_before_the_count(rt: HostRuntime) -> Result<(), Fail>
         (u64::MAX, "color", "price:1", "NO 25"),
         (1_000, "color", "*:*", "3 2: 2 blue, 2 red"),
     ];
-    expect_counts(&rt, rt.alloc(), COLORED, &[2, 4], COUNTS)
+    assert!(rt; are_counts(rt.alloc(), COLORED, &[2, 4], COUNTS)?);
+    Ok(())
 }
 
 /// The four items after one more that took the place of `a`, and a delete of `b`.
@@ -182,8 +212,8 @@ fn a_dead_row_is_not_counted(rt: HostRuntime) -> Result<(), Fail> {
         (9, "color", "color:red", "1 1: 1 red"),
         (9, "color", "color:red color:blue", "2 2: 1 blue, 1 red"),
     ];
-    expect_counts(&rt, rt.alloc(), REPLACED, &[4, 5], COUNTS)?;
-    expect_counts(&rt, rt.alloc(), REPLACED, &[2, 5], COUNTS)
+    assert!(rt; are_counts_by(rt.alloc(), REPLACED, &[&[4, 5], &[2, 5]], COUNTS)?);
+    Ok(())
 }
 
 #[test]
@@ -196,8 +226,8 @@ fn a_label_of_dead_rows_alone_is_not_met(rt: HostRuntime) -> Result<(), Fail> {
         (9, "color", "*:*", "1 1: 1 red"),
         (9, "color", "color:blue", "0 0"),
     ];
-    expect_counts(&rt, rt.alloc(), ROWS, &[2], COUNTS)?;
-    expect_counts(&rt, rt.alloc(), ROWS, &[1, 2], COUNTS)
+    assert!(rt; are_counts_by(rt.alloc(), ROWS, &[&[2], &[1, 2]], COUNTS)?);
+    Ok(())
 }
 
 #[test]
@@ -215,9 +245,7 @@ fn ties_go_by_the_bytes_of_labels(rt: HostRuntime) -> Result<(), Fail> {
         (9, "color", "price:3", "1 2: 1 B, 1 ab"),
         (1, "color", "price:[3 TO *]", "2 4: 2 ab"),
     ];
-    for &ends in CUTS {
-        expect_counts(&rt, rt.alloc(), ROWS, ends, COUNTS)?;
-    }
+    assert!(rt; are_counts_by(rt.alloc(), ROWS, CUTS, COUNTS)?);
     Ok(())
 }
 
@@ -229,9 +257,10 @@ fn a_view_without_rows_has_no_labels(rt: HostRuntime) -> Result<(), Fail> {
         (1_001, "color", "*:*", "NO 25"),
         (1_001, "brand", "*:*", "NO 29"),
     ];
-    expect_counts(&rt, rt.alloc(), &[], &[], COUNTS)?;
     const KILLED: &[PutText<'static>] = &[(5, false, r#"{"id":"a","color":["red"]}"#)];
-    expect_counts(&rt, rt.alloc(), KILLED, &[1], COUNTS)
+    let alloc = rt.alloc();
+    assert!(rt; are_counts(alloc, &[], &[], COUNTS)? && are_counts(alloc, KILLED, &[1], COUNTS)?);
+    Ok(())
 }
 
 /// Nine items with one color, one with another, and two that were killed: all hits are most rows of a segment, and one color's
@@ -261,9 +290,7 @@ fn most_rows_and_few_rows_are_counted_alike(rt: HostRuntime) -> Result<(), Fail>
         (9, "color", "*:* -color:red", "0 0"),
     ];
     const ENDS: &[&[usize]] = &[&[12], &[4, 12], &[11, 12]];
-    for &ends in ENDS {
-        expect_counts(&rt, rt.alloc(), MOSTLY_RED, ends, COUNTS)?;
-    }
+    assert!(rt; are_counts_by(rt.alloc(), MOSTLY_RED, ENDS, COUNTS)?);
     Ok(())
 }
 
@@ -314,29 +341,53 @@ fn color_at(place: usize) -> usize {
     }
 }
 
-/// Fails unless these are the first 1,000 counts of the 21 items.
-fn expect_thousand(rt: &impl Abort, alloc: Global, facets: &Facets) -> Result<(), Fail> {
-    assert_eq!(rt; (facets.matching(), facets.met()), (21, 1_200));
-    assert_eq!(rt; facets.counts().len(), 1_000);
-    for (place, each) in facets.counts().iter().enumerate() {
-        let color = format!(in alloc; "{}", color_at(place))?;
-        assert_eq!(rt; each.label(), color.as_str());
-        assert_eq!(rt; each.count(), if place < 60 { 2 } else { 1 });
+/// Whether the count is that of the color that stands there.
+fn is_color(alloc: Global, place: usize, each: &FacetCount) -> Result<bool, AllocError> {
+    let color = format!(in alloc; "{}", color_at(place))?;
+    let count = if place < 60 { 2 } else { 1 };
+    Ok(each.label() == color.as_str() && each.count() == count)
+}
+
+/// Whether these are the counts of the colors, as far as they go.
+fn are_colors(alloc: Global, counts: &[FacetCount]) -> Result<bool, AllocError> {
+    for (place, each) in counts.iter().enumerate() {
+        if !is_color(alloc, place, each)? {
+            return Ok(false);
+        }
     }
-    Ok(())
+    Ok(true)
+}
+
+/// Whether these are the first 1,000 counts of the 21 items.
+fn are_thousand(alloc: Global, facets: &Facets) -> Result<bool, AllocError> {
+    Ok(
+        facets.matching() == 21
+            && facets.met() == 1_200
+            && facets.counts().len() == 1_000
+            && are_colors(alloc, facets.counts())?,
+    )
+}
+
+/// The view of the 21 items; [`Refusal::Damaged`] where they are no rows of one.
+fn colored_view(alloc: Global) -> Result<View, Refusal> {
+    let schema = Schema::read(alloc, FIELDS)?;
+    let puts = colored_puts(alloc, &schema)?;
+    if !are_in_order(&puts) {
+        return Err(Refusal::Damaged);
+    }
+    view_of(alloc, &schema, &puts, &[8, puts.len()])
+}
+
+/// What is answered where so many counts are asked for at most.
+fn colors_of(alloc: Global, view: &View, n: u64) -> Result<Facets, Refusal> {
+    counts_of(alloc, view, &(n, "color", "*:*", ""))
 }
 
 #[test]
 fn a_thousand_counts_are_told_and_no_more(rt: HostRuntime) -> Result<(), Fail> {
-    let alloc = rt.alloc();
-    let schema = Schema::read(alloc, FIELDS)?;
-    let puts = colored_puts(alloc, &schema)?;
-    if !are_in_order(&puts) {
-        panic!(&rt; "no rows of a view");
-    }
-    let view = view_of(alloc, &schema, &puts, &[8, puts.len()])?;
-    let answer = counts_of(alloc, &view, &(1_001, "color", "*:*", ""));
-    assert_eq!(&rt; answer_text(alloc, &answer)?.as_str(), "NO 25");
-    let facets = counts_of(alloc, &view, &(1_000, "color", "*:*", ""))?;
-    expect_thousand(&rt, alloc, &facets)
+    let view = colored_view(rt.alloc())?;
+    let facets = colors_of(rt.alloc(), &view, 1_000)?;
+    let more = answer_text(rt.alloc(), &colors_of(rt.alloc(), &view, 1_001))?;
+    assert!(rt; more.as_str() == "NO 25" && are_thousand(rt.alloc(), &facets)?);
+    Ok(())
 }

@@ -4,34 +4,27 @@ ghost use Rattle.cat_facets.specs.Kept.{KnowsIn};
 ghost use Rattle.cat_model.specs.View.{segments_of};
 
 use crate::facets::facets::counts::{CountText, answer_text, counts_kept};
-use crate::views::{PutText, are_in_order, read_puts, view_of};
+use crate::views::{PutText, view_of_texts};
 use cat_base::Token;
 use cat_cached_sets::{Leaf, View};
 use cat_facets::{MAX_KEPT_STATES, ReaderStates};
 use cat_items::Schema;
 use std::alloc::{AllocError, Global};
-use std::process::Abort;
 use std::test::Fail;
 
-/// Fails unless the FACETS is answered so by the kept states, of which there are so many then.
-fn expect_kept(
-    rt: &impl Abort,
+/// Whether the FACETS is answered so by the kept states, of which there are so many then.
+fn is_kept(
     alloc: Global,
     states: &mut ReaderStates,
     view: &View,
     count: &CountText<'_>,
     kept: usize,
-) -> Result<(), Fail>
+) -> Result<bool, AllocError>
     requires { All (KnowsIn states.old) (segments_of view.now.leaves) }
     ensures { All (KnowsIn states.new) (segments_of view.now.leaves) }
 {
     let found = answer_text(alloc, &counts_kept(alloc, states, view, count))?;
-    assert_eq!(rt;
-        (found.as_str(), states.len()),
-        (count.3, kept),
-        "{count:?}"
-    );
-    Ok(())
+    Ok(found.as_str() == count.3 && states.len() == kept)
 }
 
 /// Seventeen dimensions.
@@ -61,37 +54,35 @@ fn in_dimension(dimension: &str) -> &'static str {
     }
 }
 
-/// Fails unless each dimension is counted right, with as many states kept as were asked for, and no more than 16.
-fn expect_all_dimensions(
-    rt: &impl Abort,
+/// Whether each dimension is counted right, with as many states kept as were asked for, and no more than 16.
+fn are_all_kept(
     alloc: Global,
     states: &mut ReaderStates,
     view: &View,
     before: usize,
-) -> Result<(), Fail>
+) -> Result<bool, AllocError>
     requires { All (KnowsIn states.old) (segments_of view.now.leaves) }
     ensures { All (KnowsIn states.new) (segments_of view.now.leaves) }
 {
     for (index, dimension) in DIMENSIONS.iter().enumerate() {
         let kept = before.max(index + 1).min(MAX_KEPT_STATES);
         let count = (9, *dimension, "*:*", in_dimension(dimension));
-        expect_kept(rt, alloc, states, view, &count, kept)?;
+        if !is_kept(alloc, states, view, &count, kept)? {
+            return Ok(false);
+        }
     }
-    Ok(())
+    Ok(true)
 }
 
 #[test]
 fn sixteen_states_are_kept_and_a_seventeenth_is_made(rt: HostRuntime) -> Result<(), Fail> {
     let alloc = rt.alloc();
     let schema = Schema::read(alloc, SEVENTEEN)?;
-    let puts = read_puts(alloc, &schema, LABELED, false)?;
-    if !are_in_order(&puts) {
-        panic!(&rt; "no rows of a view");
-    }
-    let view = view_of(alloc, &schema, &puts, &[1, 2])?;
+    let view = view_of_texts(alloc, &schema, LABELED, &[1, 2])?;
     let mut states = ReaderStates::new(alloc)?;
-    expect_all_dimensions(&rt, alloc, &mut states, &view, 0)?;
-    expect_all_dimensions(&rt, alloc, &mut states, &view, 16)
+    let are_sixteen = are_all_kept(alloc, &mut states, &view, 0)?;
+    assert!(rt; are_sixteen && are_all_kept(alloc, &mut states, &view, 16)?);
+    Ok(())
 }
 
 /// The leaf with its first row dead.
@@ -116,13 +107,8 @@ fn view_with(alloc: Global, schema: &Schema, leaf: Leaf, token: Token) -> Result
     View::of(alloc, schema.copy()?, leaves, token)
 }
 
-/// Fails unless a state that was made before the first row died counts right after it, and before it again.
-fn expect_over_deletes(
-    rt: &impl Abort,
-    alloc: Global,
-    schema: &Schema,
-    leaf: &Leaf,
-) -> Result<(), Fail>
+/// Whether a state that was made before the first row died counts right after it, and before it again.
+fn serves_over_deletes(alloc: Global, schema: &Schema, leaf: &Leaf) -> Result<bool, AllocError>
     requires { leaf.now.segment.schema ≡ schema.now }
 {
     let before = view_with(alloc, schema, leaf.copy()?, 4)?;
@@ -130,9 +116,9 @@ fn expect_over_deletes(
     let mut states = ReaderStates::new(alloc)?;
     let all = (9, "color", "*:*", "3 2: 2 blue, 2 red");
     let rest = (9, "color", "*:*", "2 2: 1 blue, 1 red");
-    expect_kept(rt, alloc, &mut states, &before, &all, 1)?;
-    expect_kept(rt, alloc, &mut states, &after, &rest, 1)?;
-    expect_kept(rt, alloc, &mut states, &before, &all, 1)
+    let is_made = is_kept(alloc, &mut states, &before, &all, 1)?;
+    let serves = is_kept(alloc, &mut states, &after, &rest, 1)?;
+    Ok(is_made && serves && is_kept(alloc, &mut states, &before, &all, 1)?)
 }
 
 #[test]
@@ -145,13 +131,10 @@ fn a_kept_state_serves_a_later_view_of_the_same_segments(rt: HostRuntime) -> Res
     ];
     let alloc = rt.alloc();
     let schema = Schema::read(alloc, br#"{"color":"facet"}"#)?;
-    let puts = read_puts(alloc, &schema, ROWS, false)?;
-    if !are_in_order(&puts) {
-        panic!(&rt; "no rows of a view");
-    }
-    let view = view_of(alloc, &schema, &puts, &[4])?;
+    let view = view_of_texts(alloc, &schema, ROWS, &[4])?;
     let Some(leaf) = view.leaves().first() else {
         panic!(&rt; "a view without leaves");
     };
-    expect_over_deletes(&rt, alloc, &schema, leaf)
+    assert!(rt; serves_over_deletes(alloc, &schema, leaf)?);
+    Ok(())
 }

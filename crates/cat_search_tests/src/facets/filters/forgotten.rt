@@ -1,5 +1,5 @@
 //! A set in the making over a segment that is gone is given up.
-use crate::facets::filters::making::{Call, Row, expect};
+use crate::facets::filters::making::{Call, Row, are_answered};
 use std::test::Fail;
 
 #[test]
@@ -23,7 +23,8 @@ fn a_set_over_the_segment_is_given_up(rt: HostRuntime) -> Result<(), Fail> {
         // What is cached stays.
         (Call::Sets("price:299"), "1 - "),
     ];
-    expect(&rt, rt.alloc(), 302, &[300, 302], ROWS)
+    assert!(rt; are_answered(rt.alloc(), 302, &[300, 302], ROWS)?);
+    Ok(())
 }
 
 #[test]
@@ -35,5 +36,6 @@ fn a_set_that_is_given_up_is_begun_anew(rt: HostRuntime) -> Result<(), Fail> {
         (Call::Steps(5), "begun 256 512 stored idle "),
         (Call::Sets("price:[512 TO *]"), "88 "),
     ];
-    expect(&rt, rt.alloc(), 600, &[600], ROWS)
+    assert!(rt; are_answered(rt.alloc(), 600, &[600], ROWS)?);
+    Ok(())
 }

@@ -1,5 +1,7 @@
 //! The newest 16 noted queries are kept, and the 64 sets that were used last.
-use crate::facets::filters::making::{Call, Row, expect};
+use crate::facets::filters::making::{Call, Row, are_answered};
+use cat_base::Refusal;
+use std::alloc::Global;
 use std::test::Fail;
 
 /// The prices from 0 to 15.
@@ -8,6 +10,28 @@ const SIXTEEN: &[u64] = &[0, 1, 2, 3, 4, 5, 6, 7, 8, 9, 10, 11, 12, 13, 14, 15];
 /// Prices that are noted after those from 0 to 15, how many steps are made then, two for each set, and which of 18 prices have
 /// their sets.
 type NotedText<'a> = (&'a [u64], u32, &'a str);
+
+/// Whether the sets of these prices are found so.
+fn is_noted(alloc: Global, noted: &NotedText<'_>) -> Result<bool, Refusal> {
+    let (prices, steps, found) = *noted;
+    let rows = [
+        (Call::NotePrices(SIXTEEN), ""),
+        (Call::NotePrices(prices), ""),
+        (Call::Warm(steps), ""),
+        (Call::Prices(18), found),
+    ];
+    are_answered(alloc, 18, &[18], &rows)
+}
+
+/// The same of each.
+fn are_noted(alloc: Global, all: &[NotedText<'_>]) -> Result<bool, Refusal> {
+    for noted in all {
+        if !is_noted(alloc, noted)? {
+            return Ok(false);
+        }
+    }
+    Ok(true)
+}
 
 #[test]
 fn the_newest_16_queries_are_kept(rt: HostRuntime) -> Result<(), Fail> {
@@ -22,15 +46,7 @@ fn the_newest_16_queries_are_kept(rt: HostRuntime) -> Result<(), Fail> {
         (&[16, 17], 40, "--++++++++++++++++"),
         (&[16, 0], 40, "+-+++++++++++++++-"),
     ];
-    for &(prices, steps, found) in NOTED {
-        let rows = [
-            (Call::NotePrices(SIXTEEN), ""),
-            (Call::NotePrices(prices), ""),
-            (Call::Warm(steps), ""),
-            (Call::Prices(18), found),
-        ];
-        expect(&rt, rt.alloc(), 18, &[18], &rows)?;
-    }
+    assert!(rt; are_noted(rt.alloc(), NOTED)?);
     Ok(())
 }
 
@@ -51,5 +67,6 @@ fn the_64_sets_that_were_used_last_are_kept(rt: HostRuntime) -> Result<(), Fail>
         (Call::Sets("price:1"), "- 0 0 0 "),
         (Call::Sets("price:0"), "1 0 0 0 "),
     ];
-    expect(&rt, rt.alloc(), 20, &[5, 10, 15, 20], ROWS)
+    assert!(rt; are_answered(rt.alloc(), 20, &[5, 10, 15, 20], ROWS)?);
+    Ok(())
 }

@@ -11,9 +11,7 @@ use cat_cached_sets::{DocSet, Leaf, Query, View};
 use cat_items::Schema;
 use std::alloc::{AllocError, Global};
 use std::fmt::Write;
-use std::process::Abort;
 use std::sync::Arc;
-use std::test::Fail;
 
 /// A call, or several, over the leaves of a view.
 #[derive(Clone, Copy)]
@@ -226,61 +224,42 @@ fn write_answer(
     Ok(())
 }
 
-/// Writes at which place what was answered and what was to be, where these differ.
-fn write_fault(
-    faults: &mut String,
-    place: usize,
-    answer: &str,
-    wanted: &str,
-) -> Result<(), AllocError> {
-    if answer != wanted {
-        write!(faults, "call {place}: {answer:?} for {wanted:?}; ")?;
-    }
-    Ok(())
+/// Whether the call is answered so, by the filters from where they are.
+fn is_answered(
+    alloc: Global,
+    filters: &mut Filters,
+    view: &View,
+    row: &Row<'_>,
+) -> Result<bool, Refusal> {
+    let (call, wanted) = *row;
+    let mut answer = String::new(alloc);
+    write_answer(alloc, &mut answer, filters, view, call)?;
+    Ok(answer.as_str() == wanted)
 }
 
-/// Which of the calls are answered otherwise than their rows say, by the filters from where they are.
-fn faults_by(
+/// The same of each call, in order.
+fn are_answered_by(
     alloc: Global,
     filters: &mut Filters,
     view: &View,
     rows: &[Row<'_>],
-) -> Result<String, Refusal> {
-    let mut faults = String::new(alloc);
-    for (place, (call, wanted)) in rows.iter().enumerate() {
-        let mut answer = String::new(alloc);
-        write_answer(alloc, &mut answer, filters, view, *call)?;
-        write_fault(&mut faults, place, answer.as_str(), wanted)?;
+) -> Result<bool, Refusal> {
+    for row in rows {
+        if !is_answered(alloc, filters, view, row)? {
+            return Ok(false);
+        }
     }
-    Ok(faults)
+    Ok(true)
 }
 
-/// The same by filters that are new.
-fn faults_over(alloc: Global, view: &View, rows: &[Row<'_>]) -> Result<String, Refusal> {
-    let mut filters = Filters::new(alloc)?;
-    faults_by(alloc, &mut filters, view, rows)
-}
-
-/// The same over the view of so many rows, in segments that end there.
-fn faults_of(
+/// The same by filters that are new, over the view of so many priced rows, in segments that end there.
+pub(crate) fn are_answered(
     alloc: Global,
     count: u64,
     ends: &[usize],
     rows: &[Row<'_>],
-) -> Result<String, Refusal> {
+) -> Result<bool, Refusal> {
     let view = priced_view(alloc, count, ends)?;
-    faults_over(alloc, &view, rows)
-}
-
-/// Fails unless new filters answer each call so, in order, over the view of so many priced rows, in segments that end there.
-pub(crate) fn expect(
-    rt: &impl Abort,
-    alloc: Global,
-    count: u64,
-    ends: &[usize],
-    rows: &[Row<'_>],
-) -> Result<(), Fail> {
-    let faults = faults_of(alloc, count, ends, rows)?;
-    assert_eq!(rt; faults.as_str(), "", "over {count} rows to {ends:?}");
-    Ok(())
+    let mut filters = Filters::new(alloc)?;
+    are_answered_by(alloc, &mut filters, &view, rows)
 }
