@@ -2,11 +2,10 @@
 ghost use Rattle.std.specs.Prelude.{◌≤◌, ◌^◌, ◌<◌, length};
 ghost use Rattle.cat_model.specs.Layout.{AreEnds};
 
-use crate::columns::texts::{are_words, equal_rows, number, rows_in, set, texts};
+use crate::columns::texts::{are_words, equal_rows, has_rows, number, rows_in, set, texts};
 use cat_base::{MAX_ROWS, Refusal};
 use cat_columns::{Dictionary, KeywordColumn, RowSet, SetColumn};
 use std::alloc::{AllocError, Global};
-use std::process::Abort;
 use std::test::Fail;
 
 fn keywords(alloc: Global, words: &[&str], codes: &[u32]) -> Result<KeywordColumn, Refusal>
@@ -27,37 +26,40 @@ fn keyword_at(column: &KeywordColumn, row: usize) -> &str {
     }
 }
 
-/// Fails unless the rows have these texts.
-fn expect_keywords(rt: &impl Abort, column: &KeywordColumn, texts: &[&str]) {
-    assert!(rt; column.len() == texts.len());
+/// Whether the rows have these texts.
+fn are_keywords(column: &KeywordColumn, texts: &[&str]) -> bool {
     for (row, text) in texts.iter().enumerate() {
-        assert!(rt; keyword_at(column, row) == *text, "row {row}");
+        if keyword_at(column, row) != *text {
+            return false;
+        }
     }
+    column.len() == texts.len()
 }
 
 #[test]
 fn keywords_are_made_of_codes(rt: HostRuntime) -> Result<(), Fail> {
     const CODES: &[u32] = &[2, 0, 1, 2];
+    const TEXTS: &[&str] = &["red", "missing", "blue", "red"];
     let column = keywords(rt.alloc(), &["blue", "red"], CODES)?;
-    expect_keywords(&rt, &column, &["red", "missing", "blue", "red"]);
-    assert!(rt; column.codes() == CODES);
+    assert!(rt; are_keywords(&column, TEXTS) && column.codes() == CODES);
     Ok(())
 }
 
-fn expect_no_keywords(rt: &impl Abort, alloc: Global, words: &[&str], codes: &[u32])
+/// Whether the codes are damaged.
+fn are_no_keywords(alloc: Global, words: &[&str], codes: &[u32]) -> bool
     requires { length codes.now < 2 ^ 32 }
 {
-    let got = number(&keywords(alloc, words, codes));
-    assert_eq!(rt; got, 31, "{words:?} {codes:?}");
+    number(&keywords(alloc, words, codes)) == 31
 }
 
 #[test]
 fn codes_of_no_keywords_are_damaged(rt: HostRuntime) {
     let alloc = rt.alloc();
     // No row is red; there is no second text; the texts fall.
-    expect_no_keywords(&rt, alloc, &["blue", "red"], &[1, 0, 1]);
-    expect_no_keywords(&rt, alloc, &["blue"], &[1, 2]);
-    expect_no_keywords(&rt, alloc, &["red", "blue"], &[1, 2]);
+    let are_damaged = are_no_keywords(alloc, &["blue", "red"], &[1, 0, 1])
+        && are_no_keywords(alloc, &["blue"], &[1, 2])
+        && are_no_keywords(alloc, &["red", "blue"], &[1, 2]);
+    assert!(rt; are_damaged);
 }
 
 fn labels(
@@ -83,52 +85,90 @@ fn ordinals_at(column: &SetColumn, row: usize) -> &[u32] {
     }
 }
 
-/// Fails unless the rows have labels of these ordinals.
-fn expect_ordinals(rt: &impl Abort, column: &SetColumn, rows: &[&[u32]]) {
-    assert!(rt; column.len() == rows.len());
+/// Whether the rows have labels of these ordinals.
+fn are_ordinals(column: &SetColumn, rows: &[&[u32]]) -> bool {
     for (row, ordinals) in rows.iter().enumerate() {
-        assert!(rt; ordinals_at(column, row) == *ordinals, "row {row}");
+        if ordinals_at(column, row) != *ordinals {
+            return false;
+        }
     }
+    column.len() == rows.len()
+}
+
+/// Whether the labels are these, and the rows have those of these ordinals.
+fn are_labels(column: &SetColumn, words: &[&str], rows: &[&[u32]]) -> bool {
+    are_words(column.dictionary().as_slice(), words) && are_ordinals(column, rows)
 }
 
 #[test]
 fn labels_are_made_of_ordinals(rt: HostRuntime) -> Result<(), Fail> {
+    const ROWS: &[&[u32]] = &[&[1], &[], &[0, 1]];
     let column = labels(rt.alloc(), &["blue", "red"], &[1, 1, 3], &[1, 0, 1])?;
-    assert!(rt; are_words(column.dictionary().as_slice(), &["blue", "red"]));
-    expect_ordinals(&rt, &column, &[&[1], &[], &[0, 1]]);
+    assert!(rt; are_labels(&column, &["blue", "red"], ROWS));
     Ok(())
+}
+
+/// Whether the ordinals are damaged.
+fn are_no_labels(alloc: Global, words: &[&str], ends: &[u32], ordinals: &[u32]) -> bool
+    requires few { length ends.now < 2 ^ 32 }
+    requires parts { AreEnds 0 ends.now (length ordinals.now) }
+{
+    number(&labels(alloc, words, ends, ordinals)) == 31
 }
 
 #[test]
 fn ordinals_of_no_labels_are_damaged(rt: HostRuntime) {
     let alloc = rt.alloc();
     // No row is blue; a row has a label twice.
-    let unused = labels(alloc, &["blue", "red"], &[1, 2], &[1, 1]);
-    assert_eq!(rt; number(&unused), 31);
-    let twice = labels(alloc, &["blue"], &[2], &[0, 0]);
-    assert_eq!(rt; number(&twice), 31);
+    let are_damaged = are_no_labels(alloc, &["blue", "red"], &[1, 2], &[1, 1])
+        && are_no_labels(alloc, &["blue"], &[2], &[0, 0]);
+    assert!(rt; are_damaged);
 }
 
 /// The rows 0, 9, 63, 64 and 66, of 67.
 const PACKED: &[u8] = b"\x01\x02\0\0\0\0\0\x80\x05";
 
+/// Whether the set has these rows, and is packed into these bytes.
+fn is_packed(
+    alloc: Global,
+    set: &RowSet,
+    rows: &[usize],
+    bytes: &[u8],
+) -> Result<bool, AllocError> {
+    Ok(has_rows(alloc, set, rows)? && set.to_bytes()?.as_slice() == bytes)
+}
+
 #[test]
 fn sets_are_made_of_bytes(rt: HostRuntime) -> Result<(), Fail> {
     const ROWS: &[usize] = &[0, 9, 63, 64, 66];
-    let alloc = rt.alloc();
-    let set = RowSet::from_bytes(alloc, 67, PACKED)?;
-    assert!(rt; rows_in(alloc, &set)?.as_slice() == ROWS);
-    assert!(rt; set.to_bytes()?.as_slice() == PACKED);
+    let set = RowSet::from_bytes(rt.alloc(), 67, PACKED)?;
+    assert!(rt; is_packed(rt.alloc(), &set, ROWS, PACKED)?);
     Ok(())
+}
+
+/// Whether the bytes are of no set of so many rows.
+fn is_no_set(alloc: Global, len: u8, bytes: &[u8]) -> bool {
+    number(&RowSet::from_bytes(alloc, usize::from(len), bytes)) == 31
 }
 
 #[test]
 fn bytes_of_other_counts_of_rows_are_damaged(rt: HostRuntime) {
     let alloc = rt.alloc();
     // A byte too many; a row past the last; a byte too few.
-    assert_eq!(rt; number(&RowSet::from_bytes(alloc, 64, PACKED)), 31);
-    assert_eq!(rt; number(&RowSet::from_bytes(alloc, 66, PACKED)), 31);
-    assert_eq!(rt; number(&RowSet::from_bytes(alloc, 73, PACKED)), 31);
+    let are_damaged = is_no_set(alloc, 64, PACKED)
+        && is_no_set(alloc, 66, PACKED)
+        && is_no_set(alloc, 73, PACKED);
+    assert!(rt; are_damaged);
+}
+
+/// Whether each is told to have all of so many rows, or none is.
+fn are_told(all: &[(u8, &[u8])], want: bool) -> bool {
+    for (len, bytes) in all {
+        if RowSet::are_all(usize::from(*len), bytes) != want {
+            return false;
+        }
+    }
+    true
 }
 
 #[test]
@@ -142,15 +182,7 @@ fn bytes_of_all_rows_are_told(rt: HostRuntime) {
         (9, b"\xff"),
         (8, b"\xff\0"),
     ];
-    for (len, bytes) in ALL {
-        assert!(rt; RowSet::are_all(usize::from(*len), bytes), "{len}");
-    }
-    for (len, bytes) in OTHERS {
-        assert!(rt;
-            !RowSet::are_all(usize::from(*len), bytes),
-            "{len} {bytes:?}"
-        );
-    }
+    assert!(rt; are_told(ALL, true) && are_told(OTHERS, false));
 }
 
 /// What is left of a set of all rows once those below the row are removed.
@@ -163,52 +195,61 @@ fn left_from(alloc: Global, len: usize, row: usize) -> Result<Vec<usize>, AllocE
     rows_in(alloc, &set)
 }
 
-fn expect_left(rt: &impl Abort, alloc: Global, len: usize, row: usize) -> Result<(), Fail>
+/// Whether the rows from this one on are left.
+fn are_left_from(alloc: Global, len: usize, row: usize) -> Result<bool, AllocError>
     requires few { len < 2 ^ 32 }
     requires within { row ≤ len }
 {
     let rows: Vec<usize> = (row..len).collect(alloc)?;
-    let left = left_from(alloc, len, row)?;
-    assert_eq!(rt; left.as_slice(), rows.as_slice(), "{row} of {len}");
-    Ok(())
+    Ok(left_from(alloc, len, row)?.as_slice() == rows.as_slice())
 }
 
-/// The rows, those that are there, of a set of so many.
-fn expect_left_from(rt: &impl Abort, alloc: Global, len: u8, rows: &[u8]) -> Result<(), Fail> {
+/// The same of a set of so many rows, from each of these on that is there.
+fn are_left(alloc: Global, len: u8, rows: &[u8]) -> Result<bool, AllocError> {
     for row in rows {
-        if *row <= len {
-            expect_left(rt, alloc, usize::from(len), usize::from(*row))?;
+        if *row <= len && !are_left_from(alloc, usize::from(len), usize::from(*row))? {
+            return Ok(false);
         }
     }
-    Ok(())
+    Ok(true)
 }
 
 #[test]
 fn rows_below_one_are_removed(rt: HostRuntime) -> Result<(), Fail> {
     let alloc = rt.alloc();
-    expect_left_from(&rt, alloc, 1, &[0, 1])?;
-    expect_left_from(&rt, alloc, 64, &[0, 1, 63, 64])?;
-    expect_left_from(&rt, alloc, 65, &[0, 1, 63, 64, 65])?;
-    expect_left_from(&rt, alloc, 200, &[0, 1, 63, 64, 65, 130, 200])
+    let are_removed = are_left(alloc, 1, &[0, 1])?
+        && are_left(alloc, 64, &[0, 1, 63, 64])?
+        && are_left(alloc, 65, &[0, 1, 63, 64, 65])?
+        && are_left(alloc, 200, &[0, 1, 63, 64, 65, 130, 200])?;
+    assert!(rt; are_removed);
+    Ok(())
 }
 
-/// Fails unless the first and the last of so many rows are those of a set into which just they are put.
-fn expect_ends(rt: &impl Abort, alloc: Global, len: usize) -> Result<(), Fail>
+/// The set of the first and the last of so many rows.
+fn ends_of(alloc: Global, len: usize) -> Result<RowSet, AllocError>
     requires some { 0 < len }
     requires few { len < 2 ^ 32 }
 {
     let mut set = RowSet::none(alloc, len)?;
     set.insert(len - 1);
     set.insert(0);
-    assert!(rt; set.len() == len && set.count() == 2);
-    assert!(rt; rows_in(alloc, &set)?.as_slice() == [0, len - 1].as_slice());
-    Ok(())
+    Ok(set)
+}
+
+/// Whether the set of the first and the last of so many rows has just these.
+fn has_ends(alloc: Global, len: usize) -> Result<bool, AllocError>
+    requires some { 0 < len }
+    requires few { len < 2 ^ 32 }
+{
+    let set = ends_of(alloc, len)?;
+    Ok(set.len() == len && set.count() == 2 && has_rows(alloc, &set, &[0, len - 1])?)
 }
 
 #[test]
 fn a_set_has_the_rows_of_a_full_segment(rt: HostRuntime) -> Result<(), Fail> {
-    expect_ends(&rt, rt.alloc(), 65_537)?;
-    expect_ends(&rt, rt.alloc(), MAX_ROWS)
+    let alloc = rt.alloc();
+    assert!(rt; has_ends(alloc, 65_537)? && has_ends(alloc, MAX_ROWS)?);
+    Ok(())
 }
 
 /// A column of so many rows, each with two labels.
@@ -220,12 +261,16 @@ fn column_of_pairs(alloc: Global, count: usize) -> Result<SetColumn, AllocError>
     SetColumn::of(alloc, &rows)
 }
 
+/// Whether it is of 40,000 rows, each with two labels.
+fn has_all_pairs(column: &SetColumn) -> bool {
+    let (ends, ordinals) = column.layout();
+    ends.len() == 40_000 && ordinals.len() == 80_000 && ends.last() == Some(&80_000)
+}
+
 #[test]
 fn a_column_has_more_labels_than_two_bytes_count(rt: HostRuntime) -> Result<(), Fail> {
     let column = column_of_pairs(rt.alloc(), 40_000)?;
-    let (ends, ordinals) = column.layout();
-    assert!(rt; ends.len() == 40_000 && ordinals.len() == 80_000);
-    assert!(rt; ends.last() == Some(&80_000));
+    assert!(rt; has_all_pairs(&column));
     Ok(())
 }
 
@@ -234,27 +279,36 @@ fn shared(alloc: Global) -> Result<Dictionary, AllocError> {
     Dictionary::of(alloc, texts(alloc, &["red", "blue", "red"])?)?.share()
 }
 
+/// Whether it is of `blue` and `red`.
+fn is_blue_and_red(dictionary: &Dictionary) -> bool {
+    are_words(dictionary.as_slice(), &["blue", "red"])
+        && dictionary.ordinal("red") == Some(1)
+        && dictionary.ordinal("green").is_none()
+}
+
 #[test]
 fn a_dictionary_is_shared(rt: HostRuntime) -> Result<(), Fail> {
     let shared = shared(rt.alloc())?;
-    assert!(rt; are_words(shared.as_slice(), &["blue", "red"]));
-    assert!(rt; shared.ordinal("red") == Some(1) && shared.ordinal("green").is_none());
+    assert!(rt; is_blue_and_red(&shared));
     Ok(())
+}
+
+/// The union of two sets and an empty one.
+fn union_of_few(alloc: Global) -> Result<Dictionary, AllocError> {
+    let one = set(alloc, &["ash", "elm"])?;
+    let other = set(alloc, &["birch", "elm", "oak"])?;
+    Dictionary::union(alloc, &[one.as_slice(), &[], other.as_slice()])
 }
 
 #[test]
 fn a_union_has_the_texts_of_all_sets(rt: HostRuntime) -> Result<(), Fail> {
-    let alloc = rt.alloc();
-    let one = set(alloc, &["ash", "elm"])?;
-    let other = set(alloc, &["birch", "elm", "oak"])?;
-    let union = Dictionary::union(alloc, &[one.as_slice(), &[], other.as_slice()])?;
+    let union = union_of_few(rt.alloc())?;
     assert!(rt; are_words(union.as_slice(), &["ash", "birch", "elm", "oak"]));
     Ok(())
 }
 
-#[test]
-fn a_union_of_many_sets_has_each_text_once(rt: HostRuntime) -> Result<(), Fail> {
-    let alloc = rt.alloc();
+/// The union of three sets, one of them twice, and an empty one.
+fn union_of_many(alloc: Global) -> Result<Dictionary, AllocError> {
     let low = set(alloc, &["ash", "elm"])?;
     let high = set(alloc, &["oak", "yew"])?;
     let all = set(alloc, &["ash", "birch", "oak", "yew"])?;
@@ -265,9 +319,14 @@ fn a_union_of_many_sets_has_each_text_once(rt: HostRuntime) -> Result<(), Fail> 
         all.as_slice(),
         high.as_slice(),
     ];
-    let union = Dictionary::union(alloc, sets)?;
-    assert!(rt; are_words(union.as_slice(), &["ash", "birch", "elm", "oak", "yew"]));
-    let none = Dictionary::union(alloc, &[])?;
-    assert!(rt; none.len() == 0);
+    Dictionary::union(alloc, sets)
+}
+
+#[test]
+fn a_union_of_many_sets_has_each_text_once(rt: HostRuntime) -> Result<(), Fail> {
+    const WORDS: &[&str] = &["ash", "birch", "elm", "oak", "yew"];
+    let union = union_of_many(rt.alloc())?;
+    let none = Dictionary::union(rt.alloc(), &[])?;
+    assert!(rt; are_words(union.as_slice(), WORDS) && none.len() == 0);
     Ok(())
 }

@@ -1,13 +1,12 @@
 //! A segment of one row, byte by byte as it is laid out.
 use crate::columns::texts::{are_words, number, texts};
-use cat_base::{Cursor, put_bytes, put_u32};
+use cat_base::{Cursor, Refusal, put_bytes, put_u32};
 use cat_items::file_parts::{
     ColumnParts, SegmentParts, put_fields, put_head, put_list, put_number, put_start, put_texts,
     read_fields, read_segment,
 };
 use cat_items::{Field, Kind, Schema};
 use std::alloc::{AllocError, Global};
-use std::process::Abort;
 use std::test::Fail;
 
 /// Number 1, one row; the fields color (facet) and price (number); write 1, id `a`, a source of 36 bytes; color is
@@ -18,26 +17,29 @@ const FILE: &[u8] = b"CSEG\x01\0\0\0\0\0\0\0\x01\0\0\0\x01\
     \0\0\0\x01\0\0\0\x03red\0\0\0\x01\0\0\0\0\
     \x01\0\0\0\0\0\0\0\x05";
 
-fn expect_names(rt: &impl Abort, fields: &[Field], want: &[(&str, Kind)]) {
-    assert_eq!(rt; fields.len(), want.len());
+/// Whether the fields have these names and kinds.
+pub(crate) fn are_fields(fields: &[Field], want: &[(&str, Kind)]) -> bool {
     for (field, (name, kind)) in fields.iter().zip(want) {
-        assert!(rt; field.name() == *name && field.kind() == *kind, "{name}");
+        if field.name() != *name || field.kind() != *kind {
+            return false;
+        }
     }
+    fields.len() == want.len()
 }
 
-/// Fails unless it is said of one row that write 1 put the item `a` of 36 bytes.
-fn expect_heads(rt: &impl Abort, parts: &SegmentParts) {
-    assert!(rt; parts.number == 1 && are_words(&parts.ids, &["a"]));
-    assert!(rt; parts.numbers.as_slice() == [1].as_slice());
-    assert!(rt; parts.lengths.as_slice() == [36].as_slice());
+/// Whether it is said of one row that write 1 put the item `a` of 36 bytes.
+fn has_head(parts: &SegmentParts) -> bool {
+    parts.number == 1
+        && are_words(&parts.ids, &["a"])
+        && parts.numbers.as_slice() == [1].as_slice()
+        && parts.lengths.as_slice() == [36].as_slice()
 }
 
 #[test]
 fn reads_the_fields_and_the_heads_of_rows(rt: HostRuntime) -> Result<(), Fail> {
     const FIELDS: &[(&str, Kind)] = &[("color", Kind::Facet), ("price", Kind::Number)];
     let parts = read_segment(rt.alloc(), FILE)?;
-    expect_heads(&rt, &parts);
-    expect_names(&rt, parts.schema.fields(), FIELDS);
+    assert!(rt; has_head(&parts) && are_fields(parts.schema.fields(), FIELDS));
     Ok(())
 }
 
@@ -63,31 +65,48 @@ fn is_five(column: &ColumnParts) -> bool {
     }
 }
 
+/// Whether there are two columns, of `red` and of 5.
+fn are_red_and_five(columns: &[ColumnParts]) -> bool {
+    match columns {
+        [color, price] => is_red(color) && is_five(price),
+        _ => false,
+    }
+}
+
 #[test]
 fn reads_each_column(rt: HostRuntime) -> Result<(), Fail> {
     let parts = read_segment(rt.alloc(), FILE)?;
-    match parts.columns.as_slice() {
-        [color, price] => assert!(rt; is_red(color) && is_five(price)),
-        _ => panic!(rt; "other columns"),
-    }
+    assert!(rt; are_red_and_five(&parts.columns));
     Ok(())
 }
 
-/// Fails unless the bytes lay out no segment.
-fn expect_damaged(rt: &impl Abort, alloc: Global, bytes: &[u8]) {
-    let got = number(&read_segment(alloc, bytes));
-    assert!(rt; got == 31, "{} bytes", bytes.len());
+/// Whether the bytes lay out no segment.
+fn is_damaged(alloc: Global, bytes: &[u8]) -> bool {
+    number(&read_segment(alloc, bytes)) == 31
+}
+
+/// The same of each front of them.
+fn are_fronts_damaged(alloc: Global, bytes: &[u8]) -> bool {
+    for len in 0..bytes.len() {
+        if !is_damaged(alloc, bytes.get(..len).unwrap_or(&[])) {
+            return false;
+        }
+    }
+    true
+}
+
+/// The bytes, and one more.
+fn with_one_more(alloc: Global, bytes: &[u8]) -> Result<Vec<u8>, AllocError> {
+    let mut longer = Vec::from_slice(alloc, bytes)?;
+    longer.push(0)?;
+    Ok(longer)
 }
 
 #[test]
 fn reads_nothing_less_or_more(rt: HostRuntime) -> Result<(), Fail> {
     let alloc = rt.alloc();
-    for len in 0..FILE.len() {
-        expect_damaged(&rt, alloc, FILE.get(..len).unwrap_or(&[]));
-    }
-    let mut longer = Vec::from_slice(alloc, FILE)?;
-    longer.push(0)?;
-    expect_damaged(&rt, alloc, &longer);
+    let longer = with_one_more(alloc, FILE)?;
+    assert!(rt; are_fronts_damaged(alloc, FILE) && is_damaged(alloc, &longer));
     Ok(())
 }
 
@@ -98,14 +117,25 @@ fn put_front(out: &mut Vec<u8>, schema: &Schema) -> Result<(), AllocError> {
     put_head(out, 1, "a", 36)
 }
 
+/// The columns.
+fn put_columns(alloc: Global, out: &mut Vec<u8>) -> Result<(), AllocError> {
+    put_texts(out, &texts(alloc, &["red"])?)?;
+    put_list(out, &[0])?;
+    put_number(out, Some(5))
+}
+
+/// The bytes of all parts.
+fn written(alloc: Global, schema: &Schema) -> Result<Vec<u8>, AllocError> {
+    let mut out = Vec::new(alloc);
+    put_front(&mut out, schema)?;
+    put_columns(alloc, &mut out)?;
+    Ok(out)
+}
+
 #[test]
 fn writes_each_part(rt: HostRuntime) -> Result<(), Fail> {
-    let alloc = rt.alloc();
-    let mut out = Vec::new(alloc);
-    put_front(&mut out, &read_segment(alloc, FILE)?.schema)?;
-    put_texts(&mut out, &texts(alloc, &["red"])?)?;
-    put_list(&mut out, &[0])?;
-    put_number(&mut out, Some(5))?;
+    let parts = read_segment(rt.alloc(), FILE)?;
+    let out = written(rt.alloc(), &parts.schema)?;
     assert!(rt; out.as_slice() == FILE);
     Ok(())
 }
@@ -121,19 +151,16 @@ fn fields_file(alloc: Global, count: u8) -> Result<Vec<u8>, AllocError> {
     Ok(out)
 }
 
-fn expect_fields(rt: &impl Abort, alloc: Global, count: u8, want: u8) -> Result<(), Fail> {
+/// The schema of so many fields, as it is read.
+fn fields_read(alloc: Global, count: u8) -> Result<Schema, Refusal> {
     let file = fields_file(alloc, count)?;
-    let got = number(&read_fields(alloc, &mut Cursor::new(&file)));
-    assert!(rt; got == want, "{count} fields");
-    Ok(())
+    read_fields(alloc, &mut Cursor::new(&file))
 }
 
 #[test]
 fn reads_as_many_fields_as_a_schema_may_have(rt: HostRuntime) -> Result<(), Fail> {
-    let alloc = rt.alloc();
-    expect_fields(&rt, alloc, 33, 31)?;
-    let most = fields_file(alloc, 32)?;
-    let schema = read_fields(alloc, &mut Cursor::new(&most))?;
-    assert_eq!(rt; schema.fields().len(), 32);
+    let most = fields_read(rt.alloc(), 32)?;
+    let more = number(&fields_read(rt.alloc(), 33));
+    assert!(rt; most.fields().len() == 32 && more == 31);
     Ok(())
 }

@@ -2,12 +2,11 @@
 ghost use Rattle.std.specs.Prelude.{◌≡◌, ◌^◌, ◌<◌, length, IfOk};
 ghost use Rattle.cat_model.specs.Layout.{AreEnds};
 
-use crate::columns::texts::{are_words, equal_rows, number, rows_in, set, texts};
+use crate::columns::texts::{are_words, equal_rows, has_rows, number, set, texts};
 use cat_base::{Refusal, Text, TextSet};
+use cat_columns::Dictionary;
 use cat_columns::inverted::{MergeInput, Terms};
-use cat_columns::{Dictionary, RowSet};
 use std::alloc::{AllocError, Global};
-use std::process::Abort;
 use std::test::Fail;
 
 fn sets(alloc: Global, rows: &[&[&str]]) -> Result<Vec<TextSet>, AllocError>
@@ -66,42 +65,29 @@ fn postings(alloc: Global, terms: &Terms, word: &str) -> Result<Vec<usize>, Allo
     Ok(rows)
 }
 
-fn expect_postings(
-    rt: &impl Abort,
-    alloc: Global,
-    terms: &Terms,
-    want: Rows<'_>,
-) -> Result<(), Fail> {
+/// Whether each word has these rows.
+fn are_postings(alloc: Global, terms: &Terms, want: Rows<'_>) -> Result<bool, AllocError> {
     for (word, rows) in want {
-        let found = postings(alloc, terms, word)?;
-        assert!(rt; found.as_slice() == *rows, "{word}");
+        if postings(alloc, terms, word)?.as_slice() != *rows {
+            return Ok(false);
+        }
     }
-    Ok(())
+    Ok(true)
 }
 
-/// Fails unless the set is of these rows.
-fn expect_set(
-    rt: &impl Abort,
-    alloc: Global,
-    set: &RowSet,
-    rows: &[usize],
-    of: &str,
-) -> Result<(), Fail> {
-    let found = rows_in(alloc, set)?;
-    assert!(rt; found.as_slice() == rows, "{of}");
-    Ok(())
+/// Whether the set of each word's rows has these rows.
+fn are_rows_with(alloc: Global, terms: &Terms, want: Rows<'_>) -> Result<bool, AllocError> {
+    for (word, rows) in want {
+        if !has_rows(alloc, &terms.rows_with(word)?, rows)? {
+            return Ok(false);
+        }
+    }
+    Ok(true)
 }
 
-fn expect_rows_with(
-    rt: &impl Abort,
-    alloc: Global,
-    terms: &Terms,
-    want: Rows<'_>,
-) -> Result<(), Fail> {
-    for (word, rows) in want {
-        expect_set(rt, alloc, &terms.rows_with(word)?, rows, word)?;
-    }
-    Ok(())
+/// Whether there are so many rows with these words.
+fn is_of(terms: &Terms, len: usize, words: &[&str]) -> bool {
+    terms.len() == len && are_words(terms.words(), words)
 }
 
 #[test]
@@ -110,21 +96,19 @@ fn words_lead_to_their_rows(rt: HostRuntime) -> Result<(), Fail> {
     const ROWS: Rows<'static> = &[("blue", &[2]), ("shoe", &[0, 2]), ("re", &[])];
     let alloc = rt.alloc();
     let terms = terms(alloc)?;
-    assert!(rt; terms.len() == 4 && are_words(terms.words(), WORDS));
-    expect_postings(&rt, alloc, &terms, ROWS)?;
-    expect_rows_with(&rt, alloc, &terms, ROWS)
+    let lead = are_postings(alloc, &terms, ROWS)? && are_rows_with(alloc, &terms, ROWS)?;
+    assert!(rt; lead && is_of(&terms, 4, WORDS));
+    Ok(())
 }
 
-fn expect_prefixes(
-    rt: &impl Abort,
-    alloc: Global,
-    terms: &Terms,
-    want: Rows<'_>,
-) -> Result<(), Fail> {
+/// Whether the set of the rows of each prefix has these rows.
+fn are_rows_of(alloc: Global, terms: &Terms, want: Rows<'_>) -> Result<bool, AllocError> {
     for (prefix, rows) in want {
-        expect_set(rt, alloc, &terms.prefix(prefix)?, rows, prefix)?;
+        if !has_rows(alloc, &terms.prefix(prefix)?, rows)? {
+            return Ok(false);
+        }
     }
-    Ok(())
+    Ok(true)
 }
 
 #[test]
@@ -136,8 +120,9 @@ fn prefixes_lead_to_rows(rt: HostRuntime) -> Result<(), Fail> {
         ("t", &[]),
         ("a", &[]),
     ];
-    let alloc = rt.alloc();
-    expect_prefixes(&rt, alloc, &terms(alloc)?, ROWS)
+    let terms = terms(rt.alloc())?;
+    assert!(rt; are_rows_of(rt.alloc(), &terms, ROWS)?);
+    Ok(())
 }
 
 /// The text, where there is one.
@@ -148,43 +133,48 @@ fn end(alloc: Global, text: Option<&str>) -> Result<Option<Text>, AllocError> {
     }
 }
 
-/// Ranges of words, each with the rows that have a word in it. An end that is absent bounds nothing.
-type Ranges<'a> = &'a [(Option<&'a str>, Option<&'a str>, &'a [usize])];
+/// A range of words, and the rows that have a word in it. An end that is absent bounds nothing.
+type Range<'a> = (Option<&'a str>, Option<&'a str>, &'a [usize]);
 
-fn expect_ranges(
-    rt: &impl Abort,
-    alloc: Global,
-    terms: &Terms,
-    want: Ranges<'_>,
-) -> Result<(), Fail> {
-    for (low, high, rows) in want {
-        let (from, to) = (end(alloc, *low)?, end(alloc, *high)?);
-        let set = terms.between(from.as_ref(), to.as_ref())?;
-        expect_set(rt, alloc, &set, rows, low.unwrap_or("*"))?;
+/// Whether the set of the range's rows has these rows.
+fn is_range(alloc: Global, terms: &Terms, want: &Range<'_>) -> Result<bool, AllocError> {
+    let (low, high, rows) = *want;
+    let (from, to) = (end(alloc, low)?, end(alloc, high)?);
+    has_rows(alloc, &terms.between(from.as_ref(), to.as_ref())?, rows)
+}
+
+/// The same of each range.
+fn are_ranges(alloc: Global, terms: &Terms, all: &[Range<'_>]) -> Result<bool, AllocError> {
+    for want in all {
+        if !is_range(alloc, terms, want)? {
+            return Ok(false);
+        }
     }
-    Ok(())
+    Ok(true)
 }
 
 #[test]
 fn ranges_lead_to_rows(rt: HostRuntime) -> Result<(), Fail> {
-    const ROWS: Ranges<'static> = &[
+    const ROWS: &[Range<'static>] = &[
         (Some("blue"), Some("blue"), &[2]),
         (Some("bluf"), Some("redder"), &[0, 2]),
         (Some("redder"), Some("red"), &[]),
         (Some("redder"), Some("z"), &[0, 2, 3]),
     ];
-    let alloc = rt.alloc();
-    expect_ranges(&rt, alloc, &terms(alloc)?, ROWS)
+    let terms = terms(rt.alloc())?;
+    assert!(rt; are_ranges(rt.alloc(), &terms, ROWS)?);
+    Ok(())
 }
 
 #[test]
 fn open_ends_bound_nothing(rt: HostRuntime) -> Result<(), Fail> {
-    const ROWS: Ranges<'static> = &[
+    const ROWS: &[Range<'static>] = &[
         (None, Some("red"), &[0, 2]),
         (Some("red"), None, &[0, 2, 3]),
     ];
-    let alloc = rt.alloc();
-    expect_ranges(&rt, alloc, &terms(alloc)?, ROWS)
+    let terms = terms(rt.alloc())?;
+    assert!(rt; are_ranges(rt.alloc(), &terms, ROWS)?);
+    Ok(())
 }
 
 /// The terms of `len` rows with these words, whose postings end where `ends` says.
@@ -218,36 +208,38 @@ fn postings_make_terms(rt: HostRuntime) -> Result<(), Fail> {
     const ROWS: Rows<'static> = &[("blue", &[2]), ("red", &[0, 2])];
     let alloc = rt.alloc();
     let terms = read(alloc, 3, &["blue", "red"], &[1, 3], &[2, 0, 2])?;
-    assert!(rt; terms.len() == 3 && are_words(terms.words(), &["blue", "red"]));
-    assert!(rt; second_postings(&terms) == [0, 2].as_slice());
-    expect_postings(&rt, alloc, &terms, ROWS)
+    let is_made = is_of(&terms, 3, &["blue", "red"])
+        && second_postings(&terms) == [0, 2].as_slice();
+    assert!(rt; is_made && are_postings(alloc, &terms, ROWS)?);
+    Ok(())
 }
 
-/// Fails unless no terms of three rows have these words and postings.
-fn expect_no_terms(rt: &impl Abort, alloc: Global, words: &[&str], ends: &[u32], rows: &[u32])
+/// Whether no terms of three rows have these words and postings.
+fn are_no_terms(alloc: Global, words: &[&str], ends: &[u32], rows: &[u32]) -> bool
     requires paired { length ends.now ≡ length words.now }
     requires parts { AreEnds 0 ends.now (length rows.now) }
 {
-    let got = number(&read(alloc, 3, words, ends, rows));
-    assert_eq!(rt; got, 31, "{words:?} {ends:?} {rows:?}");
+    number(&read(alloc, 3, words, ends, rows)) == 31
 }
 
 #[test]
 fn postings_of_no_words_are_damaged(rt: HostRuntime) {
     let alloc = rt.alloc();
     // Words that fall, one that comes twice, and one without rows.
-    expect_no_terms(&rt, alloc, &["red", "blue"], &[1, 2], &[0, 1]);
-    expect_no_terms(&rt, alloc, &["red", "red"], &[1, 2], &[0, 1]);
-    expect_no_terms(&rt, alloc, &["blue", "red"], &[1, 1], &[0]);
+    let are_damaged = are_no_terms(alloc, &["red", "blue"], &[1, 2], &[0, 1])
+        && are_no_terms(alloc, &["red", "red"], &[1, 2], &[0, 1])
+        && are_no_terms(alloc, &["blue", "red"], &[1, 1], &[0]);
+    assert!(rt; are_damaged);
 }
 
 #[test]
 fn postings_of_no_rows_are_damaged(rt: HostRuntime) {
     let alloc = rt.alloc();
     // Rows that fall, one that comes twice, and one past the last.
-    expect_no_terms(&rt, alloc, &["red"], &[2], &[1, 0]);
-    expect_no_terms(&rt, alloc, &["red"], &[2], &[1, 1]);
-    expect_no_terms(&rt, alloc, &["red"], &[2], &[1, 3]);
+    let are_damaged = are_no_terms(alloc, &["red"], &[2], &[1, 0])
+        && are_no_terms(alloc, &["red"], &[2], &[1, 1])
+        && are_no_terms(alloc, &["red"], &[2], &[1, 3]);
+    assert!(rt; are_damaged);
 }
 
 /// The terms of three rows of which the second alone has the word.
@@ -261,8 +253,8 @@ fn of_one_word(alloc: Global, word: &str) -> Result<Terms, AllocError> {
 fn ordinals_make_terms(rt: HostRuntime) -> Result<(), Fail> {
     let alloc = rt.alloc();
     let terms = of_one_word(alloc, "red")?;
-    assert!(rt; terms.len() == 3 && are_words(terms.words(), &["red"]));
-    expect_postings(&rt, alloc, &terms, &[("red", &[1])])
+    assert!(rt; is_of(&terms, 3, &["red"]) && are_postings(alloc, &terms, &[("red", &[1])])?);
+    Ok(())
 }
 
 /// The terms of so many rows, each with the same word.
@@ -274,18 +266,19 @@ fn terms_of_equal_rows(alloc: Global, word: &str, count: usize) -> Result<Terms,
     Terms::build(alloc, &rows)
 }
 
-/// Fails unless all of 66,000 rows have the word `red`.
-fn expect_all_red(rt: &impl Abort, terms: &Terms) {
+/// Whether all of 66,000 rows have the word `red`.
+fn are_all_red(terms: &Terms) -> bool {
     let red = terms.postings("red");
-    assert!(rt; terms.len() == 66_000 && red.len() == 66_000);
-    assert!(rt; red.first() == Some(&0) && red.last() == Some(&65_999));
+    terms.len() == 66_000
+        && red.len() == 66_000
+        && red.first() == Some(&0)
+        && red.last() == Some(&65_999)
 }
 
 #[test]
 fn a_word_has_more_rows_than_two_bytes_count(rt: HostRuntime) -> Result<(), Fail> {
     let terms = terms_of_equal_rows(rt.alloc(), "red", 66_000)?;
-    expect_all_red(&rt, &terms);
-    assert!(rt; terms.rows_with("red")?.count() == 66_000);
+    assert!(rt; are_all_red(&terms) && terms.rows_with("red")?.count() == 66_000);
     Ok(())
 }
 
@@ -313,14 +306,21 @@ fn last_word(terms: &Terms) -> &str {
     }
 }
 
+/// Whether there are 66,000 words, of which `9999` is the last, and one begins with `6`.
+fn are_many_words(terms: &Terms) -> Result<bool, AllocError> {
+    Ok(
+        terms.words().len() == 66_000
+            && last_word(terms) == "9999"
+            && terms.prefix("6")?.count() == 1,
+    )
+}
+
 #[test]
 fn a_row_has_more_words_than_two_bytes_count(rt: HostRuntime) -> Result<(), Fail> {
     const ROWS: Rows<'static> = &[("0", &[0, 1]), ("65999", &[1])];
     let alloc = rt.alloc();
     let terms = terms_of_many_words(alloc, 66_000)?;
-    assert!(rt; terms.words().len() == 66_000 && last_word(&terms) == "9999");
-    expect_postings(&rt, alloc, &terms, ROWS)?;
-    assert!(rt; terms.prefix("6")?.count() == 1);
+    assert!(rt; are_many_words(&terms)? && are_postings(alloc, &terms, ROWS)?);
     Ok(())
 }
 
@@ -344,7 +344,7 @@ fn read_equal_rows(alloc: Global, word: &str, count: u32) -> Result<Terms, Refus
 #[test]
 fn a_file_has_more_postings_than_two_bytes_count(rt: HostRuntime) -> Result<(), Fail> {
     let terms = read_equal_rows(rt.alloc(), "red", 66_000)?;
-    expect_all_red(&rt, &terms);
+    assert!(rt; are_all_red(&terms));
     Ok(())
 }
 
@@ -380,8 +380,8 @@ fn a_merge_keeps_the_words_of_the_rows_that_stay(rt: HostRuntime) -> Result<(), 
     ];
     let alloc = rt.alloc();
     let terms = merged_without_some(alloc)?;
-    assert!(rt; terms.len() == 3 && are_words(terms.words(), WORDS));
-    expect_postings(&rt, alloc, &terms, ROWS)
+    assert!(rt; is_of(&terms, 3, WORDS) && are_postings(alloc, &terms, ROWS)?);
+    Ok(())
 }
 
 /// The terms of a row of so many words.
@@ -420,8 +420,8 @@ fn a_merge_finds_words_that_lie_far_apart(rt: HostRuntime) -> Result<(), Fail> {
     ];
     let alloc = rt.alloc();
     let terms = merged_with_few(alloc)?;
-    assert!(rt; terms.words().len() == 100);
-    expect_postings(&rt, alloc, &terms, ROWS)
+    assert!(rt; terms.words().len() == 100 && are_postings(alloc, &terms, ROWS)?);
+    Ok(())
 }
 
 #[test]

@@ -57,3 +57,8 @@ pub(crate) fn equal_rows<'a>(
 pub(crate) fn rows_in(alloc: Global, set: &RowSet) -> Result<Vec<usize>, AllocError> {
     set.iter().collect(alloc)
 }
+
+/// Whether these are the rows of the set.
+pub(crate) fn has_rows(alloc: Global, set: &RowSet, rows: &[usize]) -> Result<bool, AllocError> {
+    Ok(rows_in(alloc, set)?.as_slice() == rows)
+}

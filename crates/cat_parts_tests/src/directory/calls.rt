@@ -4,7 +4,6 @@ use cat_directory::{Directory, FileName, Shelf, write_file, write_lasting};
 use std::alloc::{AllocError, Global};
 use std::fs;
 use std::fs::Files;
-use std::process::Abort;
 use std::test::Fail;
 
 pub(crate) const FIRST: FileName = FileName::Segment(1);
@@ -37,7 +36,7 @@ pub(crate) fn answer<D: Directory + Shelf>(
     device: &mut D,
     alloc: Global,
     call: Call<'_>,
-) -> Result<String, Fail> {
+) -> Result<String, Refusal> {
     match call {
         // No device is asked to make a file that no name leads to.
         Call::Create(name) | Call::Write(name, _) | Call::WriteLasting(name, _)
@@ -59,34 +58,35 @@ pub(crate) fn answer<D: Directory + Shelf>(
     }
 }
 
-fn refused(alloc: Global, refusal: Refusal) -> Result<String, Fail> {
+fn refused(alloc: Global, refusal: Refusal) -> Result<String, Refusal> {
     let number = refusal.number();
     Ok(format!(in alloc; "NO {number}")?)
 }
 
-fn done(alloc: Global, answer: Result<(), Refusal>) -> Result<String, Fail> {
+fn done(alloc: Global, answer: Result<(), Refusal>) -> Result<String, Refusal> {
     match answer {
         Ok(()) => Ok(String::new(alloc)),
         Err(refusal) => refused(alloc, refusal),
     }
 }
 
-fn sized(alloc: Global, answer: Result<u64, Refusal>) -> Result<String, Fail> {
+fn sized(alloc: Global, answer: Result<u64, Refusal>) -> Result<String, Refusal> {
     match answer {
         Ok(size) => Ok(format!(in alloc; "{size}")?),
         Err(refusal) => refused(alloc, refusal),
     }
 }
 
-fn read(alloc: Global, answer: Result<Vec<u8>, Refusal>) -> Result<String, Fail> {
+/// The tests write texts alone, so bytes of none are damaged.
+fn read(alloc: Global, answer: Result<Vec<u8>, Refusal>) -> Result<String, Refusal> {
     match answer {
-        Ok(bytes) => Ok(String::from_utf8(bytes)?),
+        Ok(bytes) => String::from_utf8(bytes).ok().ok_or(Refusal::Damaged),
         Err(refusal) => refused(alloc, refusal),
     }
 }
 
 /// Each name with a space behind it.
-fn listed(alloc: Global, answer: Result<Vec<FileName>, Refusal>) -> Result<String, Fail> {
+fn listed(alloc: Global, answer: Result<Vec<FileName>, Refusal>) -> Result<String, Refusal> {
     match answer {
         Ok(names) => Ok(texts(alloc, &names)?),
         Err(refusal) => refused(alloc, refusal),
@@ -102,45 +102,52 @@ fn texts(alloc: Global, names: &[FileName]) -> Result<String, AllocError> {
     Ok(texts)
 }
 
-/// Makes the calls in turn. Each has to be answered so.
-pub(crate) fn expect<D: Directory + Shelf>(
-    rt: &impl Abort,
+/// Whether the call is answered so.
+fn is_answered<D: Directory + Shelf>(
+    alloc: Global,
+    device: &mut D,
+    row: &Row<'_>,
+) -> Result<bool, Refusal> {
+    Ok(answer(device, alloc, row.0)?.as_str() == row.1)
+}
+
+/// Makes the calls in turn, up to the first that is answered otherwise, and tells whether there is none.
+pub(crate) fn are_answered<D: Directory + Shelf>(
     alloc: Global,
     device: &mut D,
     rows: &[Row<'_>],
-) -> Result<(), Fail> {
-    for (i, (call, want)) in rows.iter().enumerate() {
-        let got = answer(device, alloc, *call)?;
-        assert_eq!(rt; got.as_str(), *want, "row {i}");
+) -> Result<bool, Refusal> {
+    for row in rows {
+        if !is_answered(alloc, device, row)? {
+            return Ok(false);
+        }
     }
-    Ok(())
+    Ok(true)
 }
 
-/// Makes the calls of each table in turn.
-pub(crate) fn expect_all<D: Directory + Shelf>(
-    rt: &impl Abort,
+/// The same of the calls of each table in turn.
+pub(crate) fn all_answered<D: Directory + Shelf>(
     alloc: Global,
     device: &mut D,
     tables: &[&[Row<'_>]],
-) -> Result<(), Fail> {
+) -> Result<bool, Refusal> {
     for rows in tables {
-        expect(rt, alloc, device, rows)?;
+        if !are_answered(alloc, device, rows)? {
+            return Ok(false);
+        }
     }
-    Ok(())
+    Ok(true)
 }
 
-/// Reads so many bytes of the file from an offset on. This has to be answered.
-pub(crate) fn expect_read<S: Shelf>(
-    rt: &impl Abort,
+/// Whether a read of so many bytes of the file from an offset on is answered so.
+pub(crate) fn is_read_so<S: Shelf>(
     alloc: Global,
     shelf: &mut S,
     bytes: (FileName, u64, u32),
     want: &str,
-) -> Result<(), Fail> {
+) -> Result<bool, Refusal> {
     let (name, from, len) = bytes;
-    let got = read(alloc, shelf.read(alloc, name, from, len))?;
-    assert_eq!(rt; got.as_str(), want);
-    Ok(())
+    Ok(read(alloc, shelf.read(alloc, name, from, len))?.as_str() == want)
 }
 
 /// Makes a folder at the path, without a file.

@@ -1,11 +1,11 @@
 //! Devices that fail where they are told to, and files that are written whole.
 use crate::directory::calls::{
-    Call, FIRST, ROWS, Row, SOURCE, answer, expect, make_folder, remove_folder,
+    Call, FIRST, ROWS, Row, SOURCE, answer, are_answered, make_folder, remove_folder,
 };
+use cat_base::Refusal;
 use cat_directory::{Directory, Faults, Faulty, Folder, MemoryDirectory, Shelf};
 use std::alloc::Global;
 use std::fs::Files;
-use std::process::Abort;
 use std::test::Fail;
 
 /// What is tried on a device without a file.
@@ -31,46 +31,56 @@ fn faults_of(trial: Trial<'_>) -> Faults {
 /// Four of the rows fail by themselves.
 const FIVE_FAILURES: &[Row<'static>] = &[(Call::Failures, "5")];
 
-/// The call behind so many fails, and does nothing: made again, it and the others answer as if it had not been made.
-fn fail_one<D: Directory + Shelf>(
-    rt: &impl Abort,
+/// Whether the first of these calls fails, and then they are answered as if it had not been made.
+fn fails_once<D: Directory + Shelf>(
+    alloc: Global,
+    device: &mut Faulty<D>,
+    rows: &[Row<'_>],
+) -> Result<bool, Refusal> {
+    Ok(
+        all_fail(alloc, device, &rows[..rows.len().min(1)])?
+            && device.faults() == Faults::Never
+            && are_answered(alloc, device, rows)?,
+    )
+}
+
+/// Whether the call behind so many fails, and does nothing.
+fn one_fails<D: Directory + Shelf>(
     alloc: Global,
     device: &mut Faulty<D>,
     passes: usize,
-) -> Result<(), Fail> {
+) -> Result<bool, Refusal> {
     let (before, after) = ROWS.split_at(passes.min(ROWS.len()));
-    expect(rt, alloc, device, before)?;
-    expect_failures(rt, alloc, device, &after[..after.len().min(1)])?;
-    assert!(rt; device.faults() == Faults::Never);
-    expect(rt, alloc, device, after)?;
-    assert!(rt; device.calls() == ROWS.len() as u64 + 1, "call {passes}");
-    expect(rt, alloc, device, FIVE_FAILURES)
+    Ok(
+        are_answered(alloc, device, before)?
+            && fails_once(alloc, device, after)?
+            && device.calls() == ROWS.len() as u64 + 1
+            && are_answered(alloc, device, FIVE_FAILURES)?,
+    )
 }
 
-/// All these calls fail.
-fn expect_failures<D: Directory + Shelf>(
-    rt: &impl Abort,
+/// Whether all these calls fail.
+fn all_fail<D: Directory + Shelf>(
     alloc: Global,
     device: &mut D,
     rows: &[Row<'_>],
-) -> Result<(), Fail> {
+) -> Result<bool, Refusal> {
     for (call, _) in rows {
-        let got = answer(device, alloc, *call)?;
-        assert!(rt; got.as_str() == "NO 30");
+        if answer(device, alloc, *call)?.as_str() != "NO 30" {
+            return Ok(false);
+        }
     }
-    Ok(())
+    Ok(true)
 }
 
-/// Each call behind so many fails.
-fn fail_all<D: Directory + Shelf>(
-    rt: &impl Abort,
+/// Whether each call behind so many fails.
+fn all_fail_behind<D: Directory + Shelf>(
     alloc: Global,
     device: &mut D,
     passes: usize,
-) -> Result<(), Fail> {
+) -> Result<bool, Refusal> {
     let (before, after) = ROWS.split_at(passes.min(ROWS.len()));
-    expect(rt, alloc, device, before)?;
-    expect_failures(rt, alloc, device, after)
+    Ok(are_answered(alloc, device, before)? && all_fail(alloc, device, after)?)
 }
 
 /// Another file.
@@ -111,90 +121,102 @@ const WRITINGS: &[(u64, &[Row<'static>])] = &[
 
 const BEHIND: &[Row<'static>] = &[(Call::Read(SOURCE, 0, 5), "other"), (Call::Failures, "1")];
 
-/// The call behind so many fails, as these rows write a file and read it.
-fn expect_written<D: Directory + Shelf>(
-    rt: &impl Abort,
+/// Whether these rows write a file and read it so, where the call behind so many fails.
+fn is_written<D: Directory + Shelf>(
     alloc: Global,
     device: &mut Faulty<D>,
     passes: u64,
     rows: &[Row<'_>],
-) -> Result<(), Fail> {
-    expect(rt, alloc, device, BEFORE)?;
+) -> Result<bool, Refusal> {
+    let is_before = are_answered(alloc, device, BEFORE)?;
     device.set_faults(Faults::One(passes));
-    expect(rt, alloc, device, rows)?;
-    expect(rt, alloc, device, BEHIND)
+    Ok(is_before && are_answered(alloc, device, rows)? && are_answered(alloc, device, BEHIND)?)
 }
 
+/// Tries it on the device, and tells whether all was answered so.
 fn try_on<D: Directory + Shelf>(
-    rt: &impl Abort,
     alloc: Global,
     device: &mut Faulty<D>,
     trial: Trial<'_>,
-) -> Result<(), Fail> {
+) -> Result<bool, Refusal> {
     match trial {
-        Trial::One(passes) => fail_one(rt, alloc, device, passes),
-        Trial::All(passes, _) => fail_all(rt, alloc, device, passes),
-        Trial::Written(passes, rows) => expect_written(rt, alloc, device, passes, rows),
+        Trial::One(passes) => one_fails(alloc, device, passes),
+        Trial::All(passes, _) => all_fail_behind(alloc, device, passes),
+        Trial::Written(passes, rows) => is_written(alloc, device, passes, rows),
     }
 }
 
-/// What is there stays as the calls left it that passed.
-fn expect_left<D: Directory + Shelf>(
-    rt: &impl Abort,
+/// Whether what is there stayed as the calls left it that passed.
+fn is_left<D: Directory + Shelf>(
     alloc: Global,
     device: &mut D,
     trial: Trial<'_>,
-) -> Result<(), Fail> {
+) -> Result<bool, Refusal> {
     match trial {
-        Trial::All(_, names) => expect(rt, alloc, device, &[(Call::Names, names)]),
-        Trial::One(_) | Trial::Written(_, _) => Ok(()),
+        Trial::All(_, names) => are_answered(alloc, device, &[(Call::Names, names)]),
+        Trial::One(_) | Trial::Written(_, _) => Ok(true),
     }
 }
 
-/// Tries it on the device, and lets that go.
-fn fail<D: Directory + Shelf + Drop>(
-    rt: &impl Abort,
+/// Whether the trial holds on the device, which is let go then.
+fn holds<D: Directory + Shelf + Drop>(
     alloc: Global,
     device: D,
     trial: Trial<'_>,
-) -> Result<(), Fail> {
+) -> Result<bool, Refusal> {
     let mut device = Faulty::new(device, faults_of(trial));
-    let outcome = try_on(rt, alloc, &mut device, trial);
+    let outcome = try_on(alloc, &mut device, trial);
     let mut device = device.into_device();
-    outcome?;
-    expect_left(rt, alloc, &mut device, trial)
+    Ok(outcome? && is_left(alloc, &mut device, trial)?)
 }
 
-/// Tries it on a device of memory.
-fn fail_memory(rt: &impl Abort, alloc: Global, trial: Trial<'_>) -> Result<(), Fail> {
-    fail(rt, alloc, MemoryDirectory::new(alloc), trial)
+/// Whether it holds on a device of memory.
+fn holds_in_memory(alloc: Global, trial: Trial<'_>) -> Result<bool, Refusal> {
+    holds(alloc, MemoryDirectory::new(alloc), trial)
 }
 
-/// Tries it on a folder at the path.
-fn fail_folder<R: Abort + Files + AllocGlobal + Clone + Drop>(
+/// Whether it holds on a folder at the path.
+fn holds_in_folder<R: Files + AllocGlobal + Clone + Drop>(
     rt: &R,
     path: &str,
     trial: Trial<'_>,
-) -> Result<(), Fail> {
+) -> Result<bool, Fail> {
     make_folder(rt, path)?;
     let folder = Folder::at(rt.clone()?, rt.alloc(), path)?;
-    fail(rt, rt.alloc(), folder, trial)?;
-    remove_folder(rt, path)
+    let holds = holds(rt.alloc(), folder, trial)?;
+    remove_folder(rt, path)?;
+    Ok(holds)
+}
+
+/// Whether each call that fails in memory does nothing.
+fn each_fails_in_memory(alloc: Global) -> Result<bool, Refusal> {
+    for passes in 0..ROWS.len() {
+        if !holds_in_memory(alloc, Trial::One(passes))? {
+            return Ok(false);
+        }
+    }
+    Ok(true)
 }
 
 #[test]
 fn a_call_that_fails_does_nothing(rt: HostRuntime) -> Result<(), Fail> {
-    for passes in 0..ROWS.len() {
-        fail_memory(&rt, rt.alloc(), Trial::One(passes))?;
-    }
+    assert!(rt; each_fails_in_memory(rt.alloc())?);
     Ok(())
+}
+
+/// Whether each call that fails in a folder does nothing.
+fn each_fails_in_folder<R: Files + AllocGlobal + Clone + Drop>(rt: &R) -> Result<bool, Fail> {
+    for passes in 0..ROWS.len() {
+        if !holds_in_folder(rt, "faulty_test", Trial::One(passes))? {
+            return Ok(false);
+        }
+    }
+    Ok(true)
 }
 
 #[test]
 fn a_folder_that_fails_does_nothing(rt: HostRuntime) -> Result<(), Fail> {
-    for passes in 0..ROWS.len() {
-        fail_folder(&rt, "faulty_test", Trial::One(passes))?;
-    }
+    assert!(rt; each_fails_in_folder(&rt)?);
     Ok(())
 }
 
@@ -211,39 +233,60 @@ const NAMES: &[(usize, usize, &str)] = &[
     (29, ROWS.len(), "_10.sto _2.sto _2_1.liv segments_3 "),
 ];
 
-fn fail_between(
-    rt: &impl Abort,
-    alloc: Global,
-    from: usize,
-    to: usize,
-    names: &str,
-) -> Result<(), Fail> {
+/// Whether these names are there behind each number of rows between the two.
+fn are_names_between(alloc: Global, from: usize, to: usize, names: &str) -> Result<bool, Refusal> {
     for passes in from..to {
-        fail_memory(rt, alloc, Trial::All(passes, names))?;
+        if !holds_in_memory(alloc, Trial::All(passes, names))? {
+            return Ok(false);
+        }
     }
-    Ok(())
+    Ok(true)
+}
+
+/// The same of each of the numbers.
+fn are_names_left(alloc: Global) -> Result<bool, Refusal> {
+    for &(from, to, names) in NAMES {
+        if !are_names_between(alloc, from, to, names)? {
+            return Ok(false);
+        }
+    }
+    Ok(true)
 }
 
 #[test]
 fn calls_behind_a_fault_do_nothing(rt: HostRuntime) -> Result<(), Fail> {
-    for &(from, to, names) in NAMES {
-        fail_between(&rt, rt.alloc(), from, to, names)?;
-    }
+    assert!(rt; are_names_left(rt.alloc())?);
     Ok(())
+}
+
+/// Whether a file of memory is written as far as no call fails.
+fn are_written_in_memory(alloc: Global) -> Result<bool, Refusal> {
+    for &(passes, rows) in WRITINGS {
+        if !holds_in_memory(alloc, Trial::Written(passes, rows))? {
+            return Ok(false);
+        }
+    }
+    Ok(true)
 }
 
 #[test]
 fn a_file_of_memory_is_written_as_far_as_no_call_fails(rt: HostRuntime) -> Result<(), Fail> {
-    for &(passes, rows) in WRITINGS {
-        fail_memory(&rt, rt.alloc(), Trial::Written(passes, rows))?;
-    }
+    assert!(rt; are_written_in_memory(rt.alloc())?);
     Ok(())
+}
+
+/// The same of a file of a folder.
+fn are_written_in_folder<R: Files + AllocGlobal + Clone + Drop>(rt: &R) -> Result<bool, Fail> {
+    for &(passes, rows) in WRITINGS {
+        if !holds_in_folder(rt, "writing_test", Trial::Written(passes, rows))? {
+            return Ok(false);
+        }
+    }
+    Ok(true)
 }
 
 #[test]
 fn a_file_of_a_folder_is_written_as_far_as_no_call_fails(rt: HostRuntime) -> Result<(), Fail> {
-    for &(passes, rows) in WRITINGS {
-        fail_folder(&rt, "writing_test", Trial::Written(passes, rows))?;
-    }
+    assert!(rt; are_written_in_folder(&rt)?);
     Ok(())
 }

@@ -1,22 +1,23 @@
 //! Memory and a folder, and what lies in a folder beside files.
 use crate::directory::calls::{
-    Call, FIRST, ROWS, Row, expect, expect_all, expect_read, make_folder, remove_folder,
+    Call, FIRST, ROWS, Row, all_answered, are_answered, is_read_so, make_folder, remove_folder,
 };
-use cat_directory::{FileName, Folder, FolderShelf, MemoryDirectory, Shelf};
+use cat_base::Refusal;
+use cat_directory::{Directory, FileName, Folder, FolderShelf, MemoryDirectory, Shelf};
+use std::alloc::Global;
 use std::fs;
 use std::fs::{Files, OpenOptions};
 use std::os::unix::fs::symlink;
-use std::process::Abort;
 use std::test::Fail;
 
-/// Makes the calls of the tables in the folder at the path.
-fn expect_in<R: Abort + Files + AllocGlobal + Clone + Drop>(
+/// Whether the calls of the tables are answered so in the folder at the path.
+fn answers_in<R: Files + AllocGlobal + Clone + Drop>(
     rt: &R,
     path: &str,
     tables: &[&[Row<'_>]],
-) -> Result<(), Fail> {
+) -> Result<bool, Refusal> {
     let mut folder = Folder::at(rt.clone()?, rt.alloc(), path)?;
-    expect_all(rt, rt.alloc(), &mut folder, tables)
+    all_answered(rt.alloc(), &mut folder, tables)
 }
 
 const FOUR_FAILURES: &[Row<'static>] = &[(Call::Failures, "4")];
@@ -27,13 +28,14 @@ const TABLES: &[&[Row<'static>]] = &[ROWS, FOUR_FAILURES];
 #[test]
 fn memory_answers_as_a_folder_does(rt: HostRuntime) -> Result<(), Fail> {
     let mut memory = MemoryDirectory::new(rt.alloc());
-    expect_all(&rt, rt.alloc(), &mut memory, TABLES)
+    assert!(rt; all_answered(rt.alloc(), &mut memory, TABLES)?);
+    Ok(())
 }
 
 #[test]
 fn a_folder_answers_as_memory_does(rt: HostRuntime) -> Result<(), Fail> {
     make_folder(&rt, "files_test")?;
-    expect_in(&rt, "files_test", TABLES)?;
+    assert!(rt; answers_in(&rt, "files_test", TABLES)?);
     remove_folder(&rt, "files_test")
 }
 
@@ -53,7 +55,8 @@ const ANEW: &[&[Row<'static>]] = &[&[
 #[test]
 fn memory_makes_a_file_anew(rt: HostRuntime) -> Result<(), Fail> {
     let mut memory = MemoryDirectory::new(rt.alloc());
-    expect_all(&rt, rt.alloc(), &mut memory, ANEW)
+    assert!(rt; all_answered(rt.alloc(), &mut memory, ANEW)?);
+    Ok(())
 }
 
 /// A file that is there stays as it is, until it is deleted.
@@ -75,7 +78,7 @@ const NOT_ANEW: &[&[Row<'static>]] = &[&[
 #[test]
 fn a_folder_makes_no_file_anew(rt: HostRuntime) -> Result<(), Fail> {
     make_folder(&rt, "anew_test")?;
-    expect_in(&rt, "anew_test", NOT_ANEW)?;
+    assert!(rt; answers_in(&rt, "anew_test", NOT_ANEW)?);
     remove_folder(&rt, "anew_test")
 }
 
@@ -101,16 +104,12 @@ const READ_AGAIN: &[&[Row<'static>]] = &[&[
 #[test]
 fn a_file_that_is_open_is_read_as_it_is(rt: HostRuntime) -> Result<(), Fail> {
     make_folder(&rt, "again_test")?;
-    expect_in(&rt, "again_test", READ_AGAIN)?;
+    assert!(rt; answers_in(&rt, "again_test", READ_AGAIN)?);
     remove_folder(&rt, "again_test")
 }
 
-/// Writes and reads more files than stay open, and then reads each once more.
-fn read_in_turn<R: Abort + Files + AllocGlobal + Clone + Drop>(
-    rt: &R,
-    path: &str,
-) -> Result<(), Fail> {
-    let mut folder = Folder::at(rt.clone()?, rt.alloc(), path)?;
+/// Whether 70 files are written and read, one behind the other.
+fn are_written<D: Directory + Shelf>(alloc: Global, device: &mut D) -> Result<bool, Refusal> {
     for number in 1..=70 {
         let name = FileName::Segment(number);
         let rows = [
@@ -118,19 +117,36 @@ fn read_in_turn<R: Abort + Files + AllocGlobal + Clone + Drop>(
             (Call::Append(name, "x"), ""),
             (Call::Read(name, 0, 1), "x"),
         ];
-        expect(rt, rt.alloc(), &mut folder, &rows)?;
+        if !are_answered(alloc, device, &rows)? {
+            return Ok(false);
+        }
     }
+    Ok(true)
+}
+
+/// Whether each of them is read once more.
+fn are_read<D: Directory + Shelf>(alloc: Global, device: &mut D) -> Result<bool, Refusal> {
     for number in 1..=70 {
-        let rows = [(Call::Read(FileName::Segment(number), 0, 1), "x")];
-        expect(rt, rt.alloc(), &mut folder, &rows)?;
+        if !is_read_so(alloc, device, (FileName::Segment(number), 0, 1), "x")? {
+            return Ok(false);
+        }
     }
-    Ok(())
+    Ok(true)
+}
+
+/// Whether more files are written and read in the folder at the path than stay open, and then each is read once more.
+fn are_read_in_turn<R: Files + AllocGlobal + Clone + Drop>(
+    rt: &R,
+    path: &str,
+) -> Result<bool, Refusal> {
+    let mut folder = Folder::at(rt.clone()?, rt.alloc(), path)?;
+    Ok(are_written(rt.alloc(), &mut folder)? && are_read(rt.alloc(), &mut folder)?)
 }
 
 #[test]
 fn more_files_are_read_than_stay_open(rt: HostRuntime) -> Result<(), Fail> {
     make_folder(&rt, "many_test")?;
-    read_in_turn(&rt, "many_test")?;
+    assert!(rt; are_read_in_turn(&rt, "many_test")?);
     remove_folder(&rt, "many_test")
 }
 
@@ -143,13 +159,18 @@ const ONE_MORE: &[Row<'static>] = &[
 
 const STILL_ONE: &[Row<'static>] = &[(Call::Size(FIRST), "3")];
 
+/// Whether a copy of the directory gets more, and the directory doesn't.
+fn is_copied(alloc: Global, memory: &mut MemoryDirectory) -> Result<bool, Refusal> {
+    let mut copy = memory.copy()?;
+    Ok(are_answered(alloc, &mut copy, ONE_MORE)? && are_answered(alloc, memory, STILL_ONE)?)
+}
+
 #[test]
 fn a_copy_has_files_of_its_own(rt: HostRuntime) -> Result<(), Fail> {
-    let mut memory = MemoryDirectory::new(rt.alloc());
-    expect(&rt, rt.alloc(), &mut memory, ONE)?;
-    let mut copy = memory.copy()?;
-    expect(&rt, rt.alloc(), &mut copy, ONE_MORE)?;
-    expect(&rt, rt.alloc(), &mut memory, STILL_ONE)
+    let alloc = rt.alloc();
+    let mut memory = MemoryDirectory::new(alloc);
+    assert!(rt; are_answered(alloc, &mut memory, ONE)? && is_copied(alloc, &mut memory)?);
+    Ok(())
 }
 
 /// Files that have no name of ours.
@@ -191,19 +212,20 @@ fn make_others(rt: &(impl Files + Alloc)) -> Result<(), Fail> {
     Ok(())
 }
 
-fn expect_others(rt: &(impl Abort + Files + Alloc)) -> Result<(), Fail> {
+/// Whether each of them has what was written to it.
+fn are_kept(rt: &(impl Files + Alloc)) -> Result<bool, Fail> {
     for &path in OTHERS {
-        let text = fs::read_to_string(rt, path)?;
-        assert!(rt; text.as_str() == "kept", "{path}");
+        if fs::read_to_string(rt, path)?.as_str() != "kept" {
+            return Ok(false);
+        }
     }
-    Ok(())
+    Ok(true)
 }
 
 #[test]
 fn other_files_of_a_folder_stay(rt: HostRuntime) -> Result<(), Fail> {
     make_others(&rt)?;
-    expect_in(&rt, "others_test/", BESIDE_OTHERS)?;
-    expect_others(&rt)?;
+    assert!(rt; answers_in(&rt, "others_test/", BESIDE_OTHERS)? && are_kept(&rt)?);
     remove_folder(&rt, "others_test")
 }
 
@@ -212,24 +234,24 @@ const WHOLE: &[&[Row<'static>]] = &[&[
     (Call::Append(FIRST, "whole"), ""),
 ]];
 
-/// The file is read, and is cut behind that.
-fn expect_cut<R: Abort + Files + AllocGlobal + Clone + Drop, S: Shelf>(
-    rt: &R,
-    shelf: &mut S,
-) -> Result<(), Fail> {
-    expect_read(rt, rt.alloc(), shelf, (FIRST, 1, 3), "hol")?;
+/// Whether three bytes are left of the file, and no more are read.
+fn is_cut<S: Shelf>(alloc: Global, shelf: &mut S) -> Result<bool, Refusal> {
+    Ok(is_read_so(alloc, shelf, (FIRST, 0, 5), "NO 31")? && shelf.size(FIRST)? == 3)
+}
+
+/// Whether the shelf of the folder reads its file, and then what is left of it.
+fn is_read_and_cut<R: Files + AllocGlobal + Clone + Drop>(rt: &R) -> Result<bool, Fail> {
+    let mut shelf = FolderShelf::at(rt.clone()?, rt.alloc(), "shelf_test")?;
+    let is_read = is_read_so(rt.alloc(), &mut shelf, (FIRST, 1, 3), "hol")?;
     fs::write(rt, "shelf_test/_1.seg", "cut")?;
-    expect_read(rt, rt.alloc(), shelf, (FIRST, 0, 5), "NO 31")?;
-    assert!(rt; shelf.size(FIRST)? == 3);
-    Ok(())
+    Ok(is_read && is_cut(rt.alloc(), &mut shelf)?)
 }
 
 #[test]
 fn a_shelf_reads_the_files_of_its_folder(rt: HostRuntime) -> Result<(), Fail> {
     make_folder(&rt, "shelf_test")?;
-    expect_in(&rt, "shelf_test", WHOLE)?;
-    let mut shelf = FolderShelf::at(rt, rt.alloc(), "shelf_test")?;
-    expect_cut(&rt, &mut shelf)?;
+    let is_made = answers_in(&rt, "shelf_test", WHOLE)?;
+    assert!(rt; is_made && is_read_and_cut(&rt)?);
     remove_folder(&rt, "shelf_test")
 }
 
@@ -243,12 +265,20 @@ const IN_NO_FOLDER: &[&[Row<'static>]] = &[&[
     (Call::Failures, "4"),
 ]];
 
+/// Whether each call fails at each of these paths.
+fn all_fail<R: Files + AllocGlobal + Clone + Drop>(rt: &R) -> Result<bool, Refusal> {
+    for &path in UNOPENED {
+        if !answers_in(rt, path, IN_NO_FOLDER)? {
+            return Ok(false);
+        }
+    }
+    Ok(true)
+}
+
 #[test]
 fn a_folder_that_cannot_be_opened_fails(rt: HostRuntime) -> Result<(), Fail> {
     fs::write(&rt, "no_folder_test", "a file")?;
-    for &path in UNOPENED {
-        expect_in(&rt, path, IN_NO_FOLDER)?;
-    }
+    assert!(rt; all_fail(&rt)?);
     Ok(fs::remove_file(&rt, "no_folder_test")?)
 }
 
@@ -288,7 +318,7 @@ fn a_read_only_file_stays_as_it_is(rt: HostRuntime) -> Result<(), Fail> {
     make_read_only(&rt)?;
     let is_root = OpenOptions::new().append(true).open(&rt, READ_ONLY).is_ok();
     let rows = if is_root { AS_ROOT } else { HELD_BACK };
-    expect_in(&rt, "read_only_test", rows)?;
+    assert!(rt; answers_in(&rt, "read_only_test", rows)?);
     remove_folder(&rt, "read_only_test")
 }
 
@@ -298,6 +328,6 @@ const FULL: &[&[Row<'static>]] = &[&[(Call::Append(FIRST, "x"), "NO 30"), (Call:
 fn a_full_disk_is_a_failure(rt: HostRuntime) -> Result<(), Fail> {
     make_folder(&rt, "full_test")?;
     symlink(&rt, "/dev/full", "full_test/_1.seg")?;
-    expect_in(&rt, "full_test", FULL)?;
+    assert!(rt; answers_in(&rt, "full_test", FULL)?);
     remove_folder(&rt, "full_test")
 }

@@ -1,7 +1,6 @@
 //! The texts of names.
 use cat_directory::FileName;
-use std::alloc::Global;
-use std::process::Abort;
+use std::alloc::{AllocError, Global};
 use std::test::Fail;
 
 const NAMES: &[(&str, FileName)] = &[
@@ -38,25 +37,43 @@ const OTHERS: &[&str] = &[
     "_18446744073709551617.seg",
 ];
 
-fn expect_name(rt: &impl Abort, alloc: Global, text: &str, name: FileName) -> Result<(), Fail> {
-    assert!(rt; FileName::read(text) == Some(name), "{text}");
-    assert!(rt; name.text(alloc)?.as_str() == text, "{text}");
+/// Whether the name is read of the text, has it, and is shown by it.
+fn has_text(alloc: Global, name: FileName, text: &str) -> Result<bool, AllocError> {
     let shown = format!(in alloc; "{name}")?;
-    assert!(rt; shown.as_str() == text, "{text}");
-    Ok(())
+    Ok(
+        FileName::read(text) == Some(name)
+            && name.text(alloc)?.as_str() == text
+            && shown.as_str() == text,
+    )
+}
+
+/// The same of each name.
+fn have_texts(alloc: Global, names: &[(&str, FileName)]) -> Result<bool, AllocError> {
+    for (text, name) in names {
+        if !has_text(alloc, *name, text)? {
+            return Ok(false);
+        }
+    }
+    Ok(true)
 }
 
 #[test]
 fn names_have_one_text(rt: HostRuntime) -> Result<(), Fail> {
-    for &(text, name) in NAMES {
-        expect_name(&rt, rt.alloc(), text, name)?;
-    }
+    assert!(rt; have_texts(rt.alloc(), NAMES)?);
     Ok(())
+}
+
+/// Whether no name is read of any of the texts.
+fn are_no_names(texts: &[&str]) -> bool {
+    for text in texts {
+        if FileName::read(text).is_some() {
+            return false;
+        }
+    }
+    true
 }
 
 #[test]
 fn other_texts_are_no_names(rt: HostRuntime) {
-    for &text in OTHERS {
-        assert!(rt; FileName::read(text).is_none(), "{text}");
-    }
+    assert!(rt; are_no_names(OTHERS));
 }

@@ -1,11 +1,11 @@
 //! What a folder asks of the system, and what it tells where the system fails.
-use crate::directory::calls::{Call, FIRST, Row, SOURCE, expect, make_folder, remove_folder};
+use crate::directory::calls::{Call, FIRST, Row, SOURCE, are_answered, make_folder, remove_folder};
 use crate::directory::faulty_system::{Doing, FaultySystem, Notes};
+use cat_base::Refusal;
 use cat_directory::{Directory, FileName, Folder, Shelf};
-use std::alloc::Global;
+use std::alloc::{AllocError, Global};
 use std::fs::Files;
 use std::io::ErrorKind;
-use std::process::Abort;
 use std::rc::Rc;
 use std::test::Fail;
 
@@ -13,24 +13,38 @@ use std::test::Fail;
 /// 4 for the folder.
 type Scene<'a> = (Option<(Doing, ErrorKind)>, &'a [Row<'a>], u8);
 
-/// Makes the calls of the scenes on the device, over a system that fails as they say.
-fn expect_each<D: Directory + Shelf>(
-    rt: &impl Abort,
+/// Whether the calls of the scene are answered so on the device, over a system that fails as it says.
+fn is_played<D: Directory + Shelf>(
+    alloc: Global,
+    device: &mut D,
+    notes: &Notes,
+    scene: &Scene<'_>,
+) -> Result<bool, Refusal> {
+    let (fault, rows, synced) = *scene;
+    notes.fault.set(fault);
+    Ok(are_answered(alloc, device, rows)? && notes.synced.get() == synced)
+}
+
+/// The same of the scenes in turn.
+fn are_played<D: Directory + Shelf>(
     alloc: Global,
     device: &mut D,
     notes: &Notes,
     scenes: &[Scene<'_>],
-) -> Result<(), Fail> {
-    for (fault, rows, synced) in scenes {
-        notes.fault.set(*fault);
-        expect(rt, alloc, device, rows)?;
-        assert!(rt; notes.synced.get() == *synced);
+) -> Result<bool, Refusal> {
+    for scene in scenes {
+        if !is_played(alloc, device, notes, scene)? {
+            return Ok(false);
+        }
     }
-    Ok(())
+    Ok(true)
 }
 
 /// The system that has these notes.
-pub(crate) fn system_of<R: Clone>(rt: &R, notes: &Rc<Notes>) -> Result<FaultySystem<R>, Fail> {
+pub(crate) fn system_of<R: Clone>(
+    rt: &R,
+    notes: &Rc<Notes>,
+) -> Result<FaultySystem<R>, AllocError> {
     Ok(FaultySystem {
         rt: rt.clone()?,
         notes: notes.clone()?,
@@ -46,31 +60,40 @@ enum Job<'a> {
     Many,
 }
 
-/// Does the job on the device.
+/// Does the job on the device, and tells whether all was answered so.
 fn do_job<D: Directory + Shelf>(
-    rt: &impl Abort,
     alloc: Global,
     device: &mut D,
     notes: &Notes,
     job: Job<'_>,
-) -> Result<(), Fail> {
+) -> Result<bool, Refusal> {
     match job {
-        Job::Scenes(scenes) => expect_each(rt, alloc, device, notes, scenes),
-        Job::Many => expect_few(rt, alloc, device, notes),
+        Job::Scenes(scenes) => are_played(alloc, device, notes, scenes),
+        Job::Many => are_few(alloc, device, notes),
     }
 }
 
-/// Does the job in a new folder at the path, in a system that fails as it says.
-fn expect_job<R: Abort + Files + AllocGlobal + Clone + Drop>(
+/// The same in the folder at the path, in a system that fails as the job says.
+fn do_job_in<R: Files + AllocGlobal + Clone + Drop>(
     rt: &R,
     path: &str,
     job: Job<'_>,
-) -> Result<(), Fail> {
-    make_folder(rt, path)?;
+) -> Result<bool, Refusal> {
     let notes = Rc::new(rt.alloc(), Notes::new())?;
     let mut folder = Folder::at(system_of(rt, &notes)?, rt.alloc(), path)?;
-    do_job(rt, rt.alloc(), &mut folder, &notes, job)?;
-    remove_folder(rt, path)
+    do_job(rt.alloc(), &mut folder, &notes, job)
+}
+
+/// The same in a new folder, which is taken away then.
+fn is_done<R: Files + AllocGlobal + Clone + Drop>(
+    rt: &R,
+    path: &str,
+    job: Job<'_>,
+) -> Result<bool, Fail> {
+    make_folder(rt, path)?;
+    let is_done = do_job_in(rt, path, job)?;
+    remove_folder(rt, path)?;
+    Ok(is_done)
 }
 
 /// Short writes are carried on, and a name that isn't UTF-8 is passed over.
@@ -91,7 +114,8 @@ const SYNCED: &[Scene<'static>] = &[(None, WHOLE, 0), (None, SYNC_NONE, 4), (Non
 
 #[test]
 fn a_folder_asks_the_system_for_all_it_needs(rt: HostRuntime) -> Result<(), Fail> {
-    expect_job(&rt, "system_test", Job::Scenes(SYNCED))
+    assert!(rt; is_done(&rt, "system_test", Job::Scenes(SYNCED))?);
+    Ok(())
 }
 
 const MAKE: &[Row<'static>] = &[
@@ -144,7 +168,8 @@ const KINDS: &[Scene<'static>] = &[
 
 #[test]
 fn each_error_of_the_system_is_told_as_it_is(rt: HostRuntime) -> Result<(), Fail> {
-    expect_job(&rt, "kinds_test", Job::Scenes(KINDS))
+    assert!(rt; is_done(&rt, "kinds_test", Job::Scenes(KINDS))?);
+    Ok(())
 }
 
 /// An absent file is a failure of this call alone.
@@ -171,7 +196,8 @@ const FAILED_SYNC: &[Scene<'static>] = &[
 
 #[test]
 fn after_a_failed_sync_none_succeeds(rt: HostRuntime) -> Result<(), Fail> {
-    expect_job(&rt, "sync_test", Job::Scenes(FAILED_SYNC))
+    assert!(rt; is_done(&rt, "sync_test", Job::Scenes(FAILED_SYNC))?);
+    Ok(())
 }
 
 const FOLDER_NOT_SYNCED: &[Row<'static>] = &[(Call::Sync(&[]), "NO 30")];
@@ -188,7 +214,8 @@ const FAILED_FOLDER_SYNC: &[Scene<'static>] = &[
 
 #[test]
 fn after_a_failed_sync_of_the_folder_none_succeeds(rt: HostRuntime) -> Result<(), Fail> {
-    expect_job(&rt, "folder_sync_test", Job::Scenes(FAILED_FOLDER_SYNC))
+    assert!(rt; is_done(&rt, "folder_sync_test", Job::Scenes(FAILED_FOLDER_SYNC))?);
+    Ok(())
 }
 
 const LISTED: &[Row<'static>] = &[
@@ -227,7 +254,8 @@ const FAILED_LISTING: &[Scene<'static>] = &[
 
 #[test]
 fn a_listing_that_fails_is_no_list(rt: HostRuntime) -> Result<(), Fail> {
-    expect_job(&rt, "listing_test", Job::Scenes(FAILED_LISTING))
+    assert!(rt; is_done(&rt, "listing_test", Job::Scenes(FAILED_LISTING))?);
+    Ok(())
 }
 
 const NOT_DELETED: &[Row<'static>] = &[
@@ -255,36 +283,33 @@ const DENIED_DELETE: &[Scene<'static>] = &[
 
 #[test]
 fn a_denied_delete_is_a_failure(rt: HostRuntime) -> Result<(), Fail> {
-    expect_job(&rt, "delete_test", Job::Scenes(DENIED_DELETE))
+    assert!(rt; is_done(&rt, "delete_test", Job::Scenes(DENIED_DELETE))?);
+    Ok(())
 }
 
-/// Writes a file of each of these numbers, and reads it.
-fn write_and_read<D: Directory + Shelf>(
-    rt: &impl Abort,
-    alloc: Global,
-    device: &mut D,
-) -> Result<(), Fail> {
+/// Whether 70 files are written and read, one behind the other.
+fn are_written<D: Directory + Shelf>(alloc: Global, device: &mut D) -> Result<bool, Refusal> {
     for number in 1..=70 {
         let name = FileName::Segment(number);
         let rows = [(Call::Write(name, "x"), ""), (Call::Read(name, 0, 1), "x")];
-        expect(rt, alloc, device, &rows)?;
+        if !are_answered(alloc, device, &rows)? {
+            return Ok(false);
+        }
     }
-    Ok(())
+    Ok(true)
 }
 
-/// As many files stay open as may, and one beside them is in hand.
-fn expect_few<D: Directory + Shelf>(
-    rt: &impl Abort,
+/// Whether as many files stay open then as may, and one beside them is in hand.
+fn are_few<D: Directory + Shelf>(
     alloc: Global,
     device: &mut D,
     notes: &Notes,
-) -> Result<(), Fail> {
-    write_and_read(rt, alloc, device)?;
-    assert!(rt; notes.most_open.get() == 65);
-    Ok(())
+) -> Result<bool, Refusal> {
+    Ok(are_written(alloc, device)? && notes.most_open.get() == 65)
 }
 
 #[test]
 fn few_files_are_open_at_once(rt: HostRuntime) -> Result<(), Fail> {
-    expect_job(&rt, "open_test", Job::Many)
+    assert!(rt; is_done(&rt, "open_test", Job::Many)?);
+    Ok(())
 }

@@ -1,21 +1,32 @@
 //! Items: the refusals of texts, and the values of an item.
-use crate::items::texts::{Parts, SHOP, are_texts, expect_number, number, whole};
-use cat_items::{FieldValue, Schema};
-use std::alloc::Global;
-use std::process::Abort;
+use crate::items::texts::{Parts, SHOP, are_texts, number, whole};
+use cat_base::Refusal;
+use cat_items::{FieldValue, Item, Schema};
+use std::alloc::{AllocError, Global};
 use std::test::Fail;
 
 /// Texts, each with the number of its refusal as an item, or 0 where it is one.
 type Rows<'a> = &'a [(&'a str, u8)];
 
-/// Reads each text as an item under the fields.
-fn expect_items(rt: &impl Abort, alloc: Global, fields: &str, rows: Rows<'_>) -> Result<(), Fail> {
-    let schema = Schema::read(alloc, fields.as_bytes())?;
+/// Whether the text is refused so as an item, or is one.
+fn is_answered(alloc: Global, schema: &Schema, text: &str, want: u8) -> bool {
+    number(&schema.item(alloc, text.as_bytes())) == want
+}
+
+/// The same of each text.
+fn are_answered(alloc: Global, schema: &Schema, rows: Rows<'_>) -> bool {
     for (text, want) in rows {
-        let got = number(&schema.item(alloc, text.as_bytes()));
-        expect_number(rt, got, *want, text);
+        if !is_answered(alloc, schema, text, *want) {
+            return false;
+        }
     }
-    Ok(())
+    true
+}
+
+/// The same of each text under the fields.
+fn are_answered_under(alloc: Global, fields: &str, rows: Rows<'_>) -> Result<bool, Refusal> {
+    let schema = Schema::read(alloc, fields.as_bytes())?;
+    Ok(are_answered(alloc, &schema, rows))
 }
 
 #[test]
@@ -33,7 +44,8 @@ fn item_texts(rt: HostRuntime) -> Result<(), Fail> {
         (r#""id""#, 13),
         ("null", 13),
     ];
-    expect_items(&rt, rt.alloc(), "{}", ROWS)
+    assert!(rt; are_answered_under(rt.alloc(), "{}", ROWS)?);
+    Ok(())
 }
 
 #[test]
@@ -53,7 +65,8 @@ fn item_ids(rt: HostRuntime) -> Result<(), Fail> {
         (r#"{"id":"","id":"a"}"#, 0),
         (r#"{"\u0069d":"\u0061"}"#, 0),
     ];
-    expect_items(&rt, rt.alloc(), "{}", ROWS)
+    assert!(rt; are_answered_under(rt.alloc(), "{}", ROWS)?);
+    Ok(())
 }
 
 /// The id is looked at before the other members, and those in byte order of their names. Null is as absent, and the
@@ -72,7 +85,8 @@ fn item_members(rt: HostRuntime) -> Result<(), Fail> {
         (r#"{"id":"a","price":"x","price":1}"#, 0),
         (r#"{"id":"a","price":1,"price":"x"}"#, 13),
     ];
-    expect_items(&rt, rt.alloc(), SHOP, ROWS)
+    assert!(rt; are_answered_under(rt.alloc(), SHOP, ROWS)?);
+    Ok(())
 }
 
 /// Texts may have control characters, and keywords not.
@@ -91,7 +105,8 @@ fn item_strings(rt: HostRuntime) -> Result<(), Fail> {
         (r#"{"id":"a","brand":"a\u007f"}"#, 13),
         (r#"{"id":"a","brand":true}"#, 13),
     ];
-    expect_items(&rt, rt.alloc(), SHOP, ROWS)
+    assert!(rt; are_answered_under(rt.alloc(), SHOP, ROWS)?);
+    Ok(())
 }
 
 #[test]
@@ -112,7 +127,8 @@ fn item_numbers(rt: HostRuntime) -> Result<(), Fail> {
         (r#"{"id":"a","price":01}"#, 11),
         (r#"{"id":"a","price":+1}"#, 11),
     ];
-    expect_items(&rt, rt.alloc(), SHOP, ROWS)
+    assert!(rt; are_answered_under(rt.alloc(), SHOP, ROWS)?);
+    Ok(())
 }
 
 #[test]
@@ -127,26 +143,40 @@ fn item_labels(rt: HostRuntime) -> Result<(), Fail> {
         (r#"{"id":"a","color":["red","a\u0000"]}"#, 13),
         (r#"{"id":"a","color":"red"}"#, 13),
     ];
-    expect_items(&rt, rt.alloc(), SHOP, ROWS)
+    assert!(rt; are_answered_under(rt.alloc(), SHOP, ROWS)?);
+    Ok(())
 }
 
 #[test]
 fn items_are_utf8(rt: HostRuntime) -> Result<(), Fail> {
-    let alloc = rt.alloc();
-    let schema = Schema::read(alloc, "{}".as_bytes())?;
-    assert_eq!(rt; number(&schema.item(alloc, b"{\"id\":\"\xff\"}")), 11);
+    let schema = Schema::read(rt.alloc(), "{}".as_bytes())?;
+    assert!(rt; number(&schema.item(rt.alloc(), b"{\"id\":\"\xff\"}")) == 11);
     Ok(())
 }
 
-/// The same of texts in parts, under the fields of the shop.
-fn expect_long_items(rt: &impl Abort, alloc: Global, rows: &[(Parts<'_>, u8)]) -> Result<(), Fail> {
-    let schema = Schema::read(alloc, SHOP.as_bytes())?;
+/// Whether a text in parts is refused so as an item, or is one.
+fn is_long_answered(
+    alloc: Global,
+    schema: &Schema,
+    parts: &Parts<'_>,
+    want: u8,
+) -> Result<bool, AllocError> {
+    let text = whole(alloc, parts)?;
+    Ok(is_answered(alloc, schema, text.as_str(), want))
+}
+
+/// The same of each text.
+fn are_long_answered(
+    alloc: Global,
+    schema: &Schema,
+    rows: &[(Parts<'_>, u8)],
+) -> Result<bool, AllocError> {
     for (parts, want) in rows {
-        let text = whole(alloc, parts)?;
-        let got = number(&schema.item(alloc, text.as_bytes()));
-        expect_number(rt, got, *want, &text);
+        if !is_long_answered(alloc, schema, parts, *want)? {
+            return Ok(false);
+        }
     }
-    Ok(())
+    Ok(true)
 }
 
 #[test]
@@ -177,7 +207,9 @@ fn item_limits(rt: HostRuntime) -> Result<(), Fail> {
         ((r#"{"id":"a","color":[""#, ("x", 129), "\",1]}"), 15),
         ((r#"{"id":"a","color":[1,""#, ("x", 129), "\"]}"), 13),
     ];
-    expect_long_items(&rt, rt.alloc(), ROWS)
+    let schema = Schema::read(rt.alloc(), SHOP.as_bytes())?;
+    assert!(rt; are_long_answered(rt.alloc(), &schema, ROWS)?);
+    Ok(())
 }
 
 /// What an item has in the fields of the shop: its brand, its colors, its price and the words of its title.
@@ -224,22 +256,16 @@ fn are_values(values: &[FieldValue], want: &Values<'_>) -> bool {
     }
 }
 
-/// Fails unless the text gives an item of the id and the values, which is the text itself too.
-fn expect_item(
-    rt: &impl Abort,
-    alloc: Global,
-    text: &str,
-    id: &str,
-    want: &Values<'_>,
-) -> Result<(), Fail> {
+/// Whether the item has the text, the id and the values.
+fn is_item(item: &Item, text: &str, id: &str, want: &Values<'_>) -> bool {
+    item.id() == id && item.source() == text.as_bytes() && are_values(item.values(), want)
+}
+
+/// Whether a copy of the item that the text gives has the text itself, the id and the values.
+fn is_read_so(alloc: Global, text: &str, id: &str, want: &Values<'_>) -> Result<bool, Refusal> {
     let schema = Schema::read(alloc, SHOP.as_bytes())?;
     let item = schema.item(alloc, text.as_bytes())?.copy()?;
-    assert!(rt;
-        item.id() == id && item.source() == text.as_bytes(),
-        "{text}"
-    );
-    assert!(rt; are_values(item.values(), want), "{text}");
-    Ok(())
+    Ok(is_item(&item, text, id, want))
 }
 
 #[test]
@@ -253,7 +279,9 @@ fn item_values(rt: HostRuntime) -> Result<(), Fail> {
         &["42é", "red", "shoe"],
     );
     const NONE: Values<'static> = (None, &[], None, &[]);
-    let alloc = rt.alloc();
-    expect_item(&rt, alloc, FULL, "sku-1", &VALUES)?;
-    expect_item(&rt, alloc, r#"{"id":"b"}"#, "b", &NONE)
+    const BARE: &str = r#"{"id":"b"}"#;
+    let full = is_read_so(rt.alloc(), FULL, "sku-1", &VALUES)?;
+    let bare = is_read_so(rt.alloc(), BARE, "b", &NONE)?;
+    assert!(rt; full && bare);
+    Ok(())
 }

@@ -1,21 +1,28 @@
 //! Schemas: the refusals of texts, and the fields of a schema.
-use crate::items::texts::{Parts, SHOP, expect_number, number, whole};
-use cat_items::{Field, Item, Kind, Schema};
+use crate::columns::parts::are_fields;
+use crate::items::texts::{Parts, SHOP, number, whole};
+use cat_base::Refusal;
+use cat_items::{Item, Kind, Schema};
 use std::alloc::{AllocError, Global};
-use std::process::Abort;
 use std::test::Fail;
 
-/// Reads each text as a schema: its refusal has the number beside it, or 0 where it is a schema.
-fn expect_schemas(rt: &impl Abort, alloc: Global, rows: &[(&str, u8)]) -> Result<(), Fail> {
+/// Whether the text is refused so as a schema, or is one where the number is 0.
+fn is_answered(alloc: Global, text: &str, want: u8) -> bool {
+    number(&Schema::read(alloc, text.as_bytes())) == want
+}
+
+/// The same of each text.
+fn are_answered(alloc: Global, rows: &[(&str, u8)]) -> bool {
     for (text, want) in rows {
-        let got = number(&Schema::read(alloc, text.as_bytes()));
-        expect_number(rt, got, *want, text);
+        if !is_answered(alloc, text, *want) {
+            return false;
+        }
     }
-    Ok(())
+    true
 }
 
 #[test]
-fn schema_texts(rt: HostRuntime) -> Result<(), Fail> {
+fn schema_texts(rt: HostRuntime) {
     const ROWS: &[(&str, u8)] = &[
         ("{}", 0),
         (SHOP, 0),
@@ -43,34 +50,26 @@ fn schema_texts(rt: HostRuntime) -> Result<(), Fail> {
         (r#"{"a":"foo","a":"text"}"#, 0),
         (r#"{"a":"text","a":"foo"}"#, 13),
     ];
-    expect_schemas(&rt, rt.alloc(), ROWS)
+    assert!(rt; are_answered(rt.alloc(), ROWS));
 }
 
-/// The same of texts in parts.
-fn expect_long_schemas(
-    rt: &impl Abort,
-    alloc: Global,
-    rows: &[(Parts<'_>, u8)],
-) -> Result<(), Fail> {
-    for (parts, want) in rows {
-        let text = whole(alloc, parts)?;
-        let got = number(&Schema::read(alloc, text.as_bytes()));
-        expect_number(rt, got, *want, &text);
-    }
-    Ok(())
+/// Whether a text in parts is refused so as a schema, or is one.
+fn is_long_answered(alloc: Global, parts: &Parts<'_>, want: u8) -> Result<bool, AllocError> {
+    let text = whole(alloc, parts)?;
+    Ok(is_answered(alloc, text.as_str(), want))
 }
 
 #[test]
 fn names_of_32_bytes(rt: HostRuntime) -> Result<(), Fail> {
-    const ROWS: &[(Parts<'static>, u8)] = &[
-        (("{\"", ("n", 32), "\":\"text\"}"), 0),
-        (("{\"", ("n", 33), "\":\"text\"}"), 13),
-    ];
-    expect_long_schemas(&rt, rt.alloc(), ROWS)
+    const MOST: Parts<'static> = ("{\"", ("n", 32), "\":\"text\"}");
+    const MORE: Parts<'static> = ("{\"", ("n", 33), "\":\"text\"}");
+    let alloc = rt.alloc();
+    assert!(rt; is_long_answered(alloc, &MOST, 0)? && is_long_answered(alloc, &MORE, 13)?);
+    Ok(())
 }
 
 /// The text of a schema of so many fields.
-fn fields_text(alloc: Global, count: u32) -> Result<String, Fail> {
+fn fields_text(alloc: Global, count: u32) -> Result<String, AllocError> {
     let mut text = String::from_str(alloc, "{\"n\":\"text\"")?;
     for n in 1..count {
         text.push_str(format!(in alloc; ",\"n{n}\":\"number\"")?.as_str())?;
@@ -79,30 +78,18 @@ fn fields_text(alloc: Global, count: u32) -> Result<String, Fail> {
     Ok(text)
 }
 
-/// Reads the text of a schema of so many fields: its refusal has the number, or 0 where it is a schema.
-fn expect_count(rt: &impl Abort, alloc: Global, count: u32, want: u8) -> Result<(), Fail> {
+/// The schema of so many fields, as it is read.
+fn fields_read(alloc: Global, count: u32) -> Result<Schema, Refusal> {
     let text = fields_text(alloc, count)?;
-    let got = number(&Schema::read(alloc, text.as_bytes()));
-    expect_number(rt, got, want, &text);
-    Ok(())
+    Schema::read(alloc, text.as_bytes())
 }
 
 #[test]
 fn schemas_of_32_fields(rt: HostRuntime) -> Result<(), Fail> {
-    let alloc = rt.alloc();
-    expect_count(&rt, alloc, 32, 0)?;
-    expect_count(&rt, alloc, 33, 13)?;
-    let most = Schema::read(alloc, fields_text(alloc, 32)?.as_bytes())?;
-    assert!(rt; most.fields().len() == 32);
+    let most = fields_read(rt.alloc(), 32)?;
+    let more = number(&fields_read(rt.alloc(), 33));
+    assert!(rt; most.fields().len() == 32 && more == 13);
     Ok(())
-}
-
-/// Fails unless the fields have these names and kinds.
-fn expect_fields(rt: &impl Abort, fields: &[Field], want: &[(&str, Kind)]) {
-    assert!(rt; fields.len() == want.len());
-    for (field, (name, kind)) in fields.iter().zip(want) {
-        assert!(rt; field.name() == *name && field.kind() == *kind, "{name}");
-    }
 }
 
 #[test]
@@ -116,24 +103,34 @@ fn schema_fields(rt: HostRuntime) -> Result<(), Fail> {
         ("title", Kind::Text),
     ];
     let schema = Schema::read(rt.alloc(), TEXT)?.copy()?;
-    expect_fields(&rt, schema.fields(), WANT);
+    assert!(rt; are_fields(schema.fields(), WANT));
     Ok(())
 }
 
-/// Fails unless the schemas of the texts are equal, or differ, both ways.
-fn expect_equal(rt: &impl Abort, alloc: Global, rows: &[(&str, &str, bool)]) -> Result<(), Fail> {
-    for (one, other, want) in rows {
-        let first = Schema::read(alloc, one.as_bytes())?;
-        let second = Schema::read(alloc, other.as_bytes())?;
-        let agree = (first == second) == *want && (second == first) == *want;
-        assert!(rt; agree, "{one} {other}");
+/// The texts of two schemas, and whether these are equal.
+type Pair<'a> = (&'a str, &'a str, bool);
+
+/// Whether the schemas are equal, or differ, both ways.
+fn is_pair(alloc: Global, pair: &Pair<'_>) -> Result<bool, Refusal> {
+    let (one, other, want) = *pair;
+    let first = Schema::read(alloc, one.as_bytes())?;
+    let second = Schema::read(alloc, other.as_bytes())?;
+    Ok((first == second) == want && (second == first) == want)
+}
+
+/// The same of each pair.
+fn are_pairs(alloc: Global, pairs: &[Pair<'_>]) -> Result<bool, Refusal> {
+    for pair in pairs {
+        if !is_pair(alloc, pair)? {
+            return Ok(false);
+        }
     }
-    Ok(())
+    Ok(true)
 }
 
 #[test]
 fn schemas_are_equal_by_names_and_kinds(rt: HostRuntime) -> Result<(), Fail> {
-    const ROWS: &[(&str, &str, bool)] = &[
+    const ROWS: &[Pair<'static>] = &[
         ("{}", "{}", true),
         (
             r#"{"a":"text","b":"facet"}"#,
@@ -151,21 +148,26 @@ fn schemas_are_equal_by_names_and_kinds(rt: HostRuntime) -> Result<(), Fail> {
             false,
         ),
     ];
-    expect_equal(&rt, rt.alloc(), ROWS)
+    assert!(rt; are_pairs(rt.alloc(), ROWS)?);
+    Ok(())
 }
 
-/// Fails unless the schemas of the texts accept the item, or don't.
-fn expect_accepted(
-    rt: &impl Abort,
-    alloc: Global,
-    item: &Item,
-    rows: &[(&str, bool)],
-) -> Result<(), Fail> {
+/// Whether each schema accepts the item, or doesn't, as stands beside its text.
+fn accept_so(alloc: Global, item: &Item, rows: &[(&str, bool)]) -> Result<bool, Refusal> {
     for (text, want) in rows {
-        let schema = Schema::read(alloc, text.as_bytes())?;
-        assert!(rt; schema.accepts(item) == *want, "{text}");
+        if Schema::read(alloc, text.as_bytes())?.accepts(item) != *want {
+            return Ok(false);
+        }
     }
-    Ok(())
+    Ok(true)
+}
+
+/// The same of an item that has all of two fields, and of one that has none.
+fn accept_each_so(alloc: Global, rows: &[(&str, bool)]) -> Result<bool, Refusal> {
+    let under = Schema::read(alloc, br#"{"a":"text","b":"facet"}"#)?;
+    let full = under.item(alloc, br#"{"id":"1","a":"red","b":["x"]}"#)?;
+    let bare = under.item(alloc, br#"{"id":"2"}"#)?;
+    Ok(accept_so(alloc, &full, rows)? && accept_so(alloc, &bare, rows)?)
 }
 
 #[test]
@@ -178,12 +180,8 @@ fn schemas_accept_the_items_of_their_fields(rt: HostRuntime) -> Result<(), Fail>
         (r#"{"a":"text","b":"keyword"}"#, false),
         (r#"{"a":"text","c":"facet"}"#, false),
     ];
-    let alloc = rt.alloc();
-    let under = Schema::read(alloc, br#"{"a":"text","b":"facet"}"#)?;
-    let full = under.item(alloc, br#"{"id":"1","a":"red","b":["x"]}"#)?;
-    expect_accepted(&rt, alloc, &full, ROWS)?;
-    let bare = under.item(alloc, br#"{"id":"2"}"#)?;
-    expect_accepted(&rt, alloc, &bare, ROWS)
+    assert!(rt; accept_each_so(rt.alloc(), ROWS)?);
+    Ok(())
 }
 
 /// So many opening brackets, and as many closing ones.
@@ -192,20 +190,18 @@ fn nested(alloc: Global, count: u32) -> Result<String, AllocError> {
     whole(alloc, &("", ("[", count), closing.as_str()))
 }
 
-/// Reads arrays that nest so deep as an item and as a schema, which both are refused so.
-fn expect_nesting(rt: &impl Abort, alloc: Global, count: u32, want: u8) -> Result<(), Fail> {
+/// Whether arrays that nest so deep are refused so, as an item and as a schema.
+fn is_refused(alloc: Global, schema: &Schema, count: u32, want: u8) -> Result<bool, AllocError> {
     let text = nested(alloc, count)?;
-    let schema = Schema::read(alloc, SHOP.as_bytes())?;
     let item = number(&schema.item(alloc, text.as_bytes()));
-    expect_number(rt, item, want, &text);
-    let fields = number(&Schema::read(alloc, text.as_bytes()));
-    expect_number(rt, fields, want, &text);
-    Ok(())
+    Ok(item == want && is_answered(alloc, text.as_str(), want))
 }
 
 /// Arrays nest at most 127 deep.
 #[test]
 fn nesting(rt: HostRuntime) -> Result<(), Fail> {
-    expect_nesting(&rt, rt.alloc(), 127, 13)?;
-    expect_nesting(&rt, rt.alloc(), 128, 11)
+    let alloc = rt.alloc();
+    let schema = Schema::read(alloc, SHOP.as_bytes())?;
+    assert!(rt; is_refused(alloc, &schema, 127, 13)? && is_refused(alloc, &schema, 128, 11)?);
+    Ok(())
 }

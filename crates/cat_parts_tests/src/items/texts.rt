@@ -1,7 +1,6 @@
 //! Texts that are written in parts, and the numbers of refusals.
 use cat_base::{Refusal, TextSet};
 use std::alloc::{AllocError, Global};
-use std::process::Abort;
 
 /// One field of each kind.
 pub(crate) const SHOP: &str =
@@ -26,11 +25,6 @@ pub(crate) fn whole(alloc: Global, parts: &Parts<'_>) -> Result<String, AllocErr
     }
     text.push_str(after)?;
     Ok(text)
-}
-
-/// Fails unless it is the number that is wanted for the text.
-pub(crate) fn expect_number(rt: &impl Abort, got: u8, want: u8, text: &str) {
-    assert_eq!(rt; got, want, "{text}");
 }
 
 /// Whether the set has these texts, in byte order.

@@ -1,17 +1,17 @@
 //! The words of a text, and the form of ids.
 use crate::items::texts::{are_texts, whole};
 use cat_items::{id_ok, words};
-use std::alloc::Global;
-use std::process::Abort;
+use std::alloc::{AllocError, Global};
 use std::test::Fail;
 
-/// Fails unless each text has the words beside it, in byte order.
-fn expect_words(rt: &impl Abort, alloc: Global, rows: &[(&str, &[&str])]) -> Result<(), Fail> {
+/// Whether each text has the words beside it, in byte order.
+fn have_words(alloc: Global, rows: &[(&str, &[&str])]) -> Result<bool, AllocError> {
     for (text, want) in rows {
-        let found = words(alloc, text)?;
-        assert!(rt; are_texts(&found, want), "{text}");
+        if !are_texts(&words(alloc, text)?, want) {
+            return Ok(false);
+        }
     }
-    Ok(())
+    Ok(true)
 }
 
 #[test]
@@ -27,13 +27,18 @@ fn texts_have_words(rt: HostRuntime) -> Result<(), Fail> {
         ("naïve naive", &["naive", "naïve"]),
         ("日本 日本語", &["日本", "日本語"]),
     ];
-    expect_words(&rt, rt.alloc(), ROWS)
+    assert!(rt; have_words(rt.alloc(), ROWS)?);
+    Ok(())
 }
 
-fn expect_ids(rt: &impl Abort, rows: &[(&str, bool)]) {
-    for (id, want) in rows {
-        assert!(rt; id_ok(id) == *want, "{id}");
+/// Whether each text may be an id, or may not, as stands beside it.
+fn are_judged_so(rows: &[(&str, bool)]) -> bool {
+    for (text, want) in rows {
+        if id_ok(text) != *want {
+            return false;
+        }
     }
+    true
 }
 
 #[test]
@@ -46,17 +51,16 @@ fn ids(rt: HostRuntime) {
         ("é", false),
         ("\u{7f}", false),
     ];
-    expect_ids(&rt, ROWS);
+    assert!(rt; are_judged_so(ROWS));
 }
 
-fn expect_long_id(rt: &impl Abort, alloc: Global, count: u32, want: bool) -> Result<(), Fail> {
-    let id = whole(alloc, &("", ("x", count), ""))?;
-    assert!(rt; id_ok(&id) == want, "{count} bytes");
-    Ok(())
+/// Whether a text of so many bytes may be an id.
+fn is_id(alloc: Global, count: u32) -> Result<bool, AllocError> {
+    Ok(id_ok(&whole(alloc, &("", ("x", count), ""))?))
 }
 
 #[test]
 fn ids_of_64_bytes(rt: HostRuntime) -> Result<(), Fail> {
-    expect_long_id(&rt, rt.alloc(), 64, true)?;
-    expect_long_id(&rt, rt.alloc(), 65, false)
+    assert!(rt; is_id(rt.alloc(), 64)? && !is_id(rt.alloc(), 65)?);
+    Ok(())
 }

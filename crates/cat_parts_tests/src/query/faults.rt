@@ -6,7 +6,6 @@ use cat_base::Refusal;
 use cat_items::Schema;
 use cat_query::Query;
 use std::alloc::{AllocError, Global};
-use std::process::Abort;
 use std::test::Fail;
 
 /// A field of each kind with a name of five bytes, and two with other names.
@@ -27,66 +26,91 @@ fn whole(alloc: Global, parts: &Parts<'_>) -> Result<String, AllocError> {
     Ok(text)
 }
 
-/// Fails unless the text is refused at the place.
-fn expect_fault(
-    rt: &impl Abort,
+/// What is refused of the text as a query.
+fn fault_of(alloc: Global, schema: &Schema, text: &str) -> Option<Refusal> {
+    Query::parse(schema, alloc, text).err()
+}
+
+/// Whether each text is refused at the place beside it.
+fn are_refused(alloc: Global, schema: &Schema, rows: &[(&str, usize)]) -> bool {
+    for (text, place) in rows {
+        if fault_of(alloc, schema, text) != Some(Refusal::Query(*place)) {
+            return false;
+        }
+    }
+    true
+}
+
+/// The same under the fields.
+fn are_faults(alloc: Global, rows: &[(&str, usize)]) -> Result<bool, Refusal> {
+    let schema = Schema::read(alloc, FIELDS)?;
+    Ok(are_refused(alloc, &schema, rows))
+}
+
+/// What is refused of a text in parts.
+fn long_fault_of(
     alloc: Global,
     schema: &Schema,
-    text: &str,
-    place: usize,
-) -> Result<(), Fail> {
-    let found = Query::parse(schema, alloc, text).err();
-    assert_eq!(rt; found, Some(Refusal::Query(place)), "{text}");
-    Ok(())
+    parts: &Parts<'_>,
+) -> Result<Option<Refusal>, AllocError> {
+    let text = whole(alloc, parts)?;
+    Ok(fault_of(alloc, schema, text.as_str()))
 }
 
-/// Fails unless each text is refused at the place beside it.
-fn expect_faults(rt: &impl Abort, alloc: Global, rows: &[(&str, usize)]) -> Result<(), Fail> {
-    let schema = Schema::read(alloc, FIELDS)?;
-    for (text, place) in rows {
-        expect_fault(rt, alloc, &schema, text, *place)?;
-    }
-    Ok(())
-}
-
-/// The same of texts that are written in parts.
-fn expect_long_faults(
-    rt: &impl Abort,
+/// Whether each text in parts is refused at the place beside it.
+fn are_long_refused(
     alloc: Global,
+    schema: &Schema,
     rows: &[(Parts<'_>, usize)],
-) -> Result<(), Fail> {
-    let schema = Schema::read(alloc, FIELDS)?;
+) -> Result<bool, AllocError> {
     for (parts, place) in rows {
-        let text = whole(alloc, parts)?;
-        expect_fault(rt, alloc, &schema, text.as_str(), *place)?;
+        if long_fault_of(alloc, schema, parts)? != Some(Refusal::Query(*place)) {
+            return Ok(false);
+        }
     }
-    Ok(())
+    Ok(true)
 }
 
-/// Fails unless the text is a query.
-fn expect_query(rt: &impl Abort, alloc: Global, schema: &Schema, text: &str) -> Result<(), Fail> {
-    let fault = Query::parse(schema, alloc, text).err();
-    assert_eq!(rt; fault, None, "{text}");
-    Ok(())
-}
-
-/// Fails unless each text is a query.
-fn expect_queries(rt: &impl Abort, alloc: Global, rows: &[&str]) -> Result<(), Fail> {
+/// The same under the fields.
+fn are_long_faults(alloc: Global, rows: &[(Parts<'_>, usize)]) -> Result<bool, Refusal> {
     let schema = Schema::read(alloc, FIELDS)?;
-    for text in rows {
-        expect_query(rt, alloc, &schema, text)?;
-    }
-    Ok(())
+    Ok(are_long_refused(alloc, &schema, rows)?)
 }
 
-/// The same of texts that are written in parts.
-fn expect_long_queries(rt: &impl Abort, alloc: Global, rows: &[Parts<'_>]) -> Result<(), Fail> {
-    let schema = Schema::read(alloc, FIELDS)?;
-    for parts in rows {
-        let text = whole(alloc, parts)?;
-        expect_query(rt, alloc, &schema, text.as_str())?;
+/// Whether each text is a query.
+fn are_accepted(alloc: Global, schema: &Schema, texts: &[&str]) -> bool {
+    for text in texts {
+        if fault_of(alloc, schema, text).is_some() {
+            return false;
+        }
     }
-    Ok(())
+    true
+}
+
+/// The same under the fields.
+fn are_queries(alloc: Global, texts: &[&str]) -> Result<bool, Refusal> {
+    let schema = Schema::read(alloc, FIELDS)?;
+    Ok(are_accepted(alloc, &schema, texts))
+}
+
+/// Whether each text in parts is a query.
+fn are_long_accepted(
+    alloc: Global,
+    schema: &Schema,
+    texts: &[Parts<'_>],
+) -> Result<bool, AllocError> {
+    for parts in texts {
+        if long_fault_of(alloc, schema, parts)?.is_some() {
+            return Ok(false);
+        }
+    }
+    Ok(true)
+}
+
+/// The same under the fields.
+fn are_long_queries(alloc: Global, texts: &[Parts<'_>]) -> Result<bool, Refusal> {
+    let schema = Schema::read(alloc, FIELDS)?;
+    Ok(are_long_accepted(alloc, &schema, texts)?)
 }
 
 // The 65th clause: its first byte, the sign where it has one.
@@ -105,7 +129,8 @@ fn a_sixty_fifth_clause_behind_sixty_four(rt: HostRuntime) -> Result<(), Fail> {
         (("", ("brand:é", 64), "brand:é"), 576),
         (("", ("brand:é", 64), " -(*:*)"), 577),
     ];
-    expect_long_faults(&rt, rt.alloc(), ROWS)
+    assert!(rt; are_long_faults(rt.alloc(), ROWS)?);
+    Ok(())
 }
 
 #[test]
@@ -118,7 +143,8 @@ fn a_sixty_fifth_clause_where_groups_count_too(rt: HostRuntime) -> Result<(), Fa
         (("", ("*:*", 63), "-(+"), 254),
         (("", ("*:*", 63), "(  ("), 255),
     ];
-    expect_long_faults(&rt, rt.alloc(), ROWS)
+    assert!(rt; are_long_faults(rt.alloc(), ROWS)?);
+    Ok(())
 }
 
 #[test]
@@ -132,7 +158,8 @@ fn a_sixty_fifth_clause_in_groups(rt: HostRuntime) -> Result<(), Fail> {
         (("((((((((", ("*:*", 56), "("), 232),
         (("((((((((", ("*:*", 56), "-("), 232),
     ];
-    expect_long_faults(&rt, rt.alloc(), ROWS)
+    assert!(rt; are_long_faults(rt.alloc(), ROWS)?);
+    Ok(())
 }
 
 // Where a clause has to begin, a byte that can't begin one: that byte.
@@ -161,7 +188,8 @@ fn bytes_that_begin_no_clause(rt: HostRuntime) -> Result<(), Fail> {
         ("( ( {", 4),
         ("(*:*) ~", 6),
     ];
-    expect_faults(&rt, rt.alloc(), ROWS)
+    assert!(rt; are_faults(rt.alloc(), ROWS)?);
+    Ok(())
 }
 
 // `)` in a group without a clause, or where no group is open: that `)`.
@@ -180,7 +208,8 @@ fn closings_of_empty_groups(rt: HostRuntime) -> Result<(), Fail> {
         ("brand:é +()", 11),
         (r#"title:"\"a" ()"#, 13),
     ];
-    expect_faults(&rt, rt.alloc(), ROWS)
+    assert!(rt; are_faults(rt.alloc(), ROWS)?);
+    Ok(())
 }
 
 #[test]
@@ -199,7 +228,8 @@ fn closings_of_no_group(rt: HostRuntime) -> Result<(), Fail> {
         ("(title:a))(", 9),
         ("-((((*:*)))))", 12),
     ];
-    expect_faults(&rt, rt.alloc(), ROWS)
+    assert!(rt; are_faults(rt.alloc(), ROWS)?);
+    Ok(())
 }
 
 // Behind a sign, a byte that begins no clause: that byte.
@@ -224,7 +254,8 @@ fn signs_before_no_primary(rt: HostRuntime) -> Result<(), Fail> {
         ("(*:* +:)", 6),
         ("-price:-1 +1", 11),
     ];
-    expect_faults(&rt, rt.alloc(), ROWS)
+    assert!(rt; are_faults(rt.alloc(), ROWS)?);
+    Ok(())
 }
 
 // `(` that would be the ninth group inside one another: that `(`.
@@ -246,7 +277,8 @@ fn ninth_groups(rt: HostRuntime) -> Result<(), Fail> {
         ("(*:* (*:* (*:* (*:* (*:* (*:* (*:* (*:* (", 40),
         ("(*:*) (*:*) (*:*) (*:*) (((((((((", 32),
     ];
-    expect_faults(&rt, rt.alloc(), ROWS)
+    assert!(rt; are_faults(rt.alloc(), ROWS)?);
+    Ok(())
 }
 
 // `*` that doesn't begin `*:*`: that `*`.
@@ -272,7 +304,8 @@ fn stars_that_begin_no_clause(rt: HostRuntime) -> Result<(), Fail> {
         ("*:* *:* *:* *:", 12),
         ("((((((((-*(", 9),
     ];
-    expect_faults(&rt, rt.alloc(), ROWS)
+    assert!(rt; are_faults(rt.alloc(), ROWS)?);
+    Ok(())
 }
 
 // A name that is no field, or isn't followed by `:`: its first byte.
@@ -293,7 +326,8 @@ fn names_that_are_no_field(rt: HostRuntime) -> Result<(), Fail> {
         ("abcdefghijklmnopqrstuvwxyz0123456789_:a", 0),
         ("*:*  -(price:5 +prices:5)", 16),
     ];
-    expect_faults(&rt, rt.alloc(), ROWS)
+    assert!(rt; are_faults(rt.alloc(), ROWS)?);
+    Ok(())
 }
 
 #[test]
@@ -315,7 +349,8 @@ fn names_without_a_colon(rt: HostRuntime) -> Result<(), Fail> {
         ("-(+(*:* -n 5))", 9),
         ("title:red shoe", 10),
     ];
-    expect_faults(&rt, rt.alloc(), ROWS)
+    assert!(rt; are_faults(rt.alloc(), ROWS)?);
+    Ok(())
 }
 
 // A value that is missing, isn't closed, or is wrong for the field's kind: the byte behind the colon.
@@ -341,7 +376,8 @@ fn values_without_a_byte(rt: HostRuntime) -> Result<(), Fail> {
         (r"title:\a", 6),
         ("title:a title: title:b", 14),
     ];
-    expect_faults(&rt, rt.alloc(), ROWS)
+    assert!(rt; are_faults(rt.alloc(), ROWS)?);
+    Ok(())
 }
 
 #[test]
@@ -367,7 +403,8 @@ fn values_that_stay_open(rt: HostRuntime) -> Result<(), Fail> {
         ("((*:* -(n:[", 10),
         (r#"brand:"a\\" color:"a\\\""#, 18),
     ];
-    expect_faults(&rt, rt.alloc(), ROWS)
+    assert!(rt; are_faults(rt.alloc(), ROWS)?);
+    Ok(())
 }
 
 #[test]
@@ -386,7 +423,8 @@ fn wrong_escapes(rt: HostRuntime) -> Result<(), Fail> {
         (r#"brand:"\"\\" title:"\/""#, 19),
         (r#"*:* -(*:* -(size_2:"a\)""#, 19),
     ];
-    expect_faults(&rt, rt.alloc(), ROWS)
+    assert!(rt; are_faults(rt.alloc(), ROWS)?);
+    Ok(())
 }
 
 #[test]
@@ -406,7 +444,8 @@ fn ranges_of_another_form(rt: HostRuntime) -> Result<(), Fail> {
         ("brand:é size_2:[é-ü]", 16),
         ("((n:[1..2]", 4),
     ];
-    expect_faults(&rt, rt.alloc(), ROWS)
+    assert!(rt; are_faults(rt.alloc(), ROWS)?);
+    Ok(())
 }
 
 #[test]
@@ -426,7 +465,8 @@ fn ranges_with_a_byte_too_many(rt: HostRuntime) -> Result<(), Fail> {
         ("(size_2:[(a) TO b])", 8),
         ("+(price:[[1] TO 2])", 8),
     ];
-    expect_faults(&rt, rt.alloc(), ROWS)
+    assert!(rt; are_faults(rt.alloc(), ROWS)?);
+    Ok(())
 }
 
 #[test]
@@ -446,7 +486,8 @@ fn values_wrong_for_a_text(rt: HostRuntime) -> Result<(), Fail> {
         (r#"+(*:* -(title:"a\"b"))"#, 14),
         ("title:a title:b/c title:d", 14),
     ];
-    expect_faults(&rt, rt.alloc(), ROWS)
+    assert!(rt; are_faults(rt.alloc(), ROWS)?);
+    Ok(())
 }
 
 #[test]
@@ -463,7 +504,8 @@ fn prefixes_and_ranges_wrong_for_a_text(rt: HostRuntime) -> Result<(), Fail> {
         ("(-title:[a TO *])", 8),
         ("brand:a  title:[* TO é]", 15),
     ];
-    expect_faults(&rt, rt.alloc(), ROWS)
+    assert!(rt; are_faults(rt.alloc(), ROWS)?);
+    Ok(())
 }
 
 #[test]
@@ -488,7 +530,8 @@ fn values_wrong_for_a_number(rt: HostRuntime) -> Result<(), Fail> {
         ("-(n:5-)", 4),
         ("+price:5-3", 7),
     ];
-    expect_faults(&rt, rt.alloc(), ROWS)
+    assert!(rt; are_faults(rt.alloc(), ROWS)?);
+    Ok(())
 }
 
 #[test]
@@ -503,7 +546,8 @@ fn numbers_past_64_bits(rt: HostRuntime) -> Result<(), Fail> {
         ("price:[-9223372036854775809 TO 1]", 6),
         ("brand:é -n:[* TO 18446744073709551621]", 12),
     ];
-    expect_faults(&rt, rt.alloc(), ROWS)
+    assert!(rt; are_faults(rt.alloc(), ROWS)?);
+    Ok(())
 }
 
 #[test]
@@ -521,7 +565,8 @@ fn ranges_wrong_for_a_number(rt: HostRuntime) -> Result<(), Fail> {
         ("(*:* n:[a TO b])", 7),
         (r#"brand:"é\"" -n:[1 TO "2 "]"#, 16),
     ];
-    expect_faults(&rt, rt.alloc(), ROWS)
+    assert!(rt; are_faults(rt.alloc(), ROWS)?);
+    Ok(())
 }
 
 #[test]
@@ -535,7 +580,8 @@ fn ranges_wrong_for_a_facet(rt: HostRuntime) -> Result<(), Fail> {
         ("(color:[* TO b])", 7),
         ("*:* +(color:red -color:[é TO ü])", 23),
     ];
-    expect_faults(&rt, rt.alloc(), ROWS)
+    assert!(rt; are_faults(rt.alloc(), ROWS)?);
+    Ok(())
 }
 
 // Behind a clause, a byte that is no space and no `)`: that byte.
@@ -556,7 +602,8 @@ fn bytes_behind_everything_or_a_group(rt: HostRuntime) -> Result<(), Fail> {
         ("((((((((*:*))))))))(", 19),
         ("-(*:* *:*é)", 9),
     ];
-    expect_faults(&rt, rt.alloc(), ROWS)
+    assert!(rt; are_faults(rt.alloc(), ROWS)?);
+    Ok(())
 }
 
 #[test]
@@ -580,7 +627,8 @@ fn bytes_behind_a_value(rt: HostRuntime) -> Result<(), Fail> {
         ("*:* price:-5(", 12),
         ("((n:5[", 5),
     ];
-    expect_faults(&rt, rt.alloc(), ROWS)
+    assert!(rt; are_faults(rt.alloc(), ROWS)?);
+    Ok(())
 }
 
 // The end of the text with a group open, just behind a sign, or without any clause: the text's length.
@@ -597,7 +645,8 @@ fn texts_that_end_too_early(rt: HostRuntime) -> Result<(), Fail> {
         (r#"brand:"é\\" +"#, 14),
         ("*:* (brand:a -(title:b) +", 25),
     ];
-    expect_faults(&rt, rt.alloc(), ROWS)
+    assert!(rt; are_faults(rt.alloc(), ROWS)?);
+    Ok(())
 }
 
 #[test]
@@ -617,7 +666,8 @@ fn groups_that_stay_open(rt: HostRuntime) -> Result<(), Fail> {
         ("((((((((", 8),
         ("((((((((*:*)))))))", 18),
     ];
-    expect_faults(&rt, rt.alloc(), ROWS)
+    assert!(rt; are_faults(rt.alloc(), ROWS)?);
+    Ok(())
 }
 
 // Texts that are queries.
@@ -644,7 +694,8 @@ fn values_that_look_faulty(rt: HostRuntime) -> Result<(), Fail> {
         "title:+5",
         "title:É*",
     ];
-    expect_queries(&rt, rt.alloc(), ROWS)
+    assert!(rt; are_queries(rt.alloc(), ROWS)?);
+    Ok(())
 }
 
 #[test]
@@ -667,7 +718,8 @@ fn numbers_and_ranges_that_look_faulty(rt: HostRuntime) -> Result<(), Fail> {
         r#"brand:["]" TO " TO "]"#,
         "brand:[- TO +]",
     ];
-    expect_queries(&rt, rt.alloc(), ROWS)
+    assert!(rt; are_queries(rt.alloc(), ROWS)?);
+    Ok(())
 }
 
 #[test]
@@ -683,7 +735,8 @@ fn clauses_that_look_faulty(rt: HostRuntime) -> Result<(), Fail> {
         "( ( ( ( ( ( ( ( *:* ) ) ) ) ) ) ) )",
         "(((((((+(*:*) -(*:*) (*:*))))))))",
     ];
-    expect_queries(&rt, rt.alloc(), ROWS)
+    assert!(rt; are_queries(rt.alloc(), ROWS)?);
+    Ok(())
 }
 
 #[test]
@@ -696,7 +749,8 @@ fn sixty_four_clauses(rt: HostRuntime) -> Result<(), Fail> {
         ("", ("(brand:é)", 31), "*:* *:*"),
         ("", ("(brand:é)", 31), "-(  -*:*)  "),
     ];
-    expect_long_queries(&rt, rt.alloc(), ROWS)
+    assert!(rt; are_long_queries(rt.alloc(), ROWS)?);
+    Ok(())
 }
 
 // Each rule once more.
@@ -715,5 +769,6 @@ fn each_rule_once(rt: HostRuntime) -> Result<(), Fail> {
         ("(brand:a", 8),
         ("+", 1),
     ];
-    expect_faults(&rt, rt.alloc(), ROWS)
+    assert!(rt; are_faults(rt.alloc(), ROWS)?);
+    Ok(())
 }

@@ -3,7 +3,6 @@ use cat_base::{MAX_CLAUSES, MAX_DEPTH, Refusal};
 use cat_items::Schema;
 use cat_query::Query;
 use std::alloc::{AllocError, Global};
-use std::process::Abort;
 use std::test::Fail;
 
 const FIELDS: &[u8] = br#"{"brand":"keyword","color":"facet","price":"number","title":"text"}"#;
@@ -29,29 +28,26 @@ fn accepts(alloc: Global, text: &str) -> Result<bool, Refusal> {
     Ok(Query::parse(&schema, alloc, text)?.accepts(&item))
 }
 
-/// Fails unless the query of 63 times a clause with another behind accepts the item, or doesn't.
-fn expect_many(
-    rt: &impl Abort,
-    alloc: Global,
-    clause: &str,
-    last: &str,
-    want: bool,
-) -> Result<(), Fail> {
+/// Whether the query of 63 times a clause with another behind accepts the item.
+fn accepts_many(alloc: Global, clause: &str, last: &str) -> Result<bool, Refusal> {
     let text = repeated(alloc, clause, MAX_CLAUSES - 1, last)?;
-    assert_eq!(rt; accepts(alloc, &text)?, want, "{text}");
-    Ok(())
+    accepts(alloc, &text)
+}
+
+/// Whether no query has a clause more, the 65th at this place.
+fn has_one_too_many(alloc: Global, place: usize) -> Result<bool, AllocError> {
+    let text = repeated(alloc, "price:8 ", MAX_CLAUSES, "price:7")?;
+    Ok(accepts(alloc, &text) == Err(Refusal::Query(place)))
 }
 
 #[test]
 fn as_many_clauses_as_may_are_all_asked(rt: HostRuntime) -> Result<(), Fail> {
     let alloc = rt.alloc();
-    expect_many(&rt, alloc, "price:8 ", "price:7", true)?;
-    expect_many(&rt, alloc, "price:8 ", "price:9", false)?;
-    expect_many(&rt, alloc, "+price:7 ", "+title:garden", true)?;
-    expect_many(&rt, alloc, "+price:7 ", "-title:garden", false)?;
-    let text = repeated(alloc, "price:8 ", MAX_CLAUSES, "price:7")?;
-    let fault = accepts(alloc, &text).err();
-    assert_eq!(rt; fault, Some(Refusal::Query(512)));
+    let are_asked = accepts_many(alloc, "price:8 ", "price:7")?
+        && !accepts_many(alloc, "price:8 ", "price:9")?
+        && accepts_many(alloc, "+price:7 ", "+title:garden")?
+        && !accepts_many(alloc, "+price:7 ", "-title:garden")?;
+    assert!(rt; are_asked && has_one_too_many(alloc, 512)?);
     Ok(())
 }
 
@@ -62,17 +58,29 @@ fn nested(alloc: Global, clause: &str, groups: usize) -> Result<String, AllocErr
     repeated(alloc, "(", groups, &inner)
 }
 
+/// What the query of a clause within so many groups says of the item.
+fn accepts_nested(alloc: Global, clause: &str, groups: usize) -> Result<bool, Refusal> {
+    let text = nested(alloc, clause, groups)?;
+    accepts(alloc, &text)
+}
+
 #[test]
-fn as_many_groups_as_may_are_all_asked(rt: HostRuntime) -> Result<(), Fail> {
+fn as_many_groups_as_may_are_all_asked(rt: HostRuntime) {
     let alloc = rt.alloc();
-    let within = nested(alloc, "price:7", MAX_DEPTH)?;
-    assert!(rt; accepts(alloc, &within)?);
-    let without = nested(alloc, "price:8", MAX_DEPTH)?;
-    assert!(rt; !accepts(alloc, &without)?);
-    let deeper = nested(alloc, "price:7", MAX_DEPTH + 1)?;
-    let fault = accepts(alloc, &deeper).err();
-    assert_eq!(rt; fault, Some(Refusal::Query(8)));
-    Ok(())
+    let are_asked = accepts_nested(alloc, "price:7", MAX_DEPTH) == Ok(true)
+        && accepts_nested(alloc, "price:8", MAX_DEPTH) == Ok(false)
+        && accepts_nested(alloc, "price:7", MAX_DEPTH + 1) == Err(Refusal::Query(8));
+    assert!(rt; are_asked);
+}
+
+/// Whether each query accepts the item, or doesn't, as stands beside it.
+fn accept_so(alloc: Global, rows: &[(&str, bool)]) -> Result<bool, Refusal> {
+    for (text, want) in rows {
+        if accepts(alloc, text)? != *want {
+            return Ok(false);
+        }
+    }
+    Ok(true)
 }
 
 #[test]
@@ -86,9 +94,6 @@ fn escaped_values_are_what_they_stand_for(rt: HostRuntime) -> Result<(), Fail> {
         (r#"color:"\\\\""#, false),
         (r#"price:"007""#, true),
     ];
-    let alloc = rt.alloc();
-    for (text, want) in ROWS {
-        assert_eq!(rt; accepts(alloc, text)?, *want, "{text}");
-    }
+    assert!(rt; accept_so(rt.alloc(), ROWS)?);
     Ok(())
 }
