@@ -1,0 +1,252 @@
+"""A catalogue that is served: its views, its writes, and the thread that shows, commits and merges what was written."""
+
+from __future__ import annotations
+
+import json
+import logging
+import threading
+import time
+from typing import Any, Dict, List, Mapping, Optional, Sequence, Union
+
+from ..errors import JasminedomeError, ProgramEnded, Refusal, UsageError
+from ..putting import Told, explained, item_text
+from ..query import Query
+from ..stats import Stat
+from .calls import CatalogueCalls, ViewCalls
+from .problems import wrong
+from .searching import Search, narrows, search_of
+from .settings import Settings
+from .views import Clock, Views
+
+_LOOK = 5.0  # seconds between two looks at whether the program is there, where nothing is written
+_MOST_LINE = 9_990  # bytes of a line, so that a session's number has room before it
+
+log = logging.getLogger("jasminedome.http")
+
+
+class Service:
+    """A catalogue with the views that visitors hold. Any thread may call; a context manager, which closes it.
+
+    A thread of its own makes views of what is written, commits it and keeps the folder in order. No visitor waits for
+    these but for the one line that the program is at. The catalogue is the caller's to close, behind this.
+    """
+
+    def __init__(self, catalogue: CatalogueCalls, settings: Settings = Settings(), clock: Clock = time.monotonic) -> None:
+        """Raises UsageError where the settings name fields that aren't there, and what `refresh` and `open` raise."""
+        self.catalogue = catalogue
+        self.settings = settings
+        self.searched = settings.searched(catalogue.fields)
+        self.views = Views(catalogue, settings.show_every, settings.most_views, settings.oldest, clock)
+        self.failures = 0
+        """How many turns of the upkeep met an error."""
+        self.committed: Optional[float] = None
+        """When the last commit was made, in seconds since 1970; None before the first."""
+        self._clock = clock
+        self._committing = threading.Lock()
+        self._unshown = False
+        self._uncommitted: Optional[float] = None  # when the first of it was written
+        self._is_written = threading.Event()
+        self._is_closed = threading.Event()
+        self._ended = threading.Event()
+        self._keeper = threading.Thread(target=self._keep, name="jasminedome upkeep", daemon=True)
+        self._keeper.start()
+
+    def __enter__(self) -> "Service":
+        return self
+
+    def __exit__(self, *_: object) -> None:
+        self.close()
+
+    def close(self) -> None:
+        """Ends the upkeep and commits what wasn't committed. A second call does nothing. Raises what `commit` raises."""
+        if self._is_closed.is_set():
+            return
+        self._is_closed.set()
+        self._is_written.set()
+        self._keeper.join()
+        if self._uncommitted is not None:
+            self.commit("served to its end")
+
+    @property
+    def is_open(self) -> bool:
+        """Whether it isn't closed, and its program hasn't ended as far as is known."""
+        return not self._is_closed.is_set() and not self._ended.is_set()
+
+    def wait_for_end(self, seconds: Optional[float] = None) -> bool:
+        """Waits until the program has ended by itself, for so many seconds at most; answers whether it has."""
+        return self._ended.wait(seconds)
+
+    def noticed(self, error: Exception) -> None:
+        """Takes note of an exception that a call raised, where it tells that the program has ended."""
+        if isinstance(error, ProgramEnded):
+            self._ended.set()
+
+    # Reading
+
+    def search(self, asked: object, stamp: Optional[str] = None) -> Dict[str, object]:
+        """What a search of JSON is answered, under the view of a stamp or the newest one; `token` tells which it was.
+
+        Raises Gone, Problem, and what `View.find`, `facets` and `get` raise.
+        """
+        search = asked if isinstance(asked, Search) else self.search_of(asked)
+        view = self.views.get(stamp)
+        return {"token": self.views.stamp(view.token), "newest": self.views.newest, **search.answer(view)}
+
+    def search_of(self, asked: object) -> Search:
+        """The search that is asked for in JSON. Raises Problem and UsageError."""
+        return search_of(asked, self.searched, self.settings.folding is not None)
+
+    def view(self, stamp: Optional[str] = None) -> ViewCalls:
+        """The view of a stamp, or the newest one. Raises Gone."""
+        return self.views.get(stamp)
+
+    def source(self, id: str, stamp: Optional[str] = None) -> Optional[str]:
+        """The text of an item in that view; None where it has none. Raises Gone, and what `View.source` raises."""
+        return self.views.get(stamp).source(id)
+
+    def stat(self) -> Stat:
+        """How the catalogue stands. Raises what `Catalogue.stat` raises."""
+        return self.catalogue.stat()
+
+    # Writing
+
+    def put(self, item: Mapping[str, Any]) -> int:
+        """Puts an item; answers the write's number. Raises what `Catalogue.put` raises."""
+        return self._wrote(self.catalogue.put(self._folded(item)))
+
+    def delete(self, id: str) -> int:
+        """Takes an item out; answers the write's number. Raises what `Catalogue.delete` raises."""
+        return self._wrote(self.catalogue.delete(id))
+
+    def delete_where(self, asked: Union[Query, object]) -> int:
+        """Takes out what a query matches, or what a search's words, query and filters match together.
+
+        Raises Problem where it says nothing of what goes, and what `Catalogue.delete_where` raises.
+        """
+        if not isinstance(asked, Query):
+            if not narrows(asked):
+                raise wrong("a delete says by words, query or filters what goes, and nothing else; \"*:*\" is everything")
+            asked = self.search_of(asked).narrowed()
+        return self._wrote(self.catalogue.delete_where(asked))
+
+    def write_many(self, items: Sequence[Mapping[str, Any]]) -> "List[Union[int, JasminedomeError]]":
+        """Puts items in order, or takes out what `{"delete": id}` names; answers for each its number or why it isn't done.
+
+        Raises ProgramEnded and Timeout: then it isn't known which of them were done.
+        """
+        told: "List[Union[int, JasminedomeError]]" = []
+        lines: List[str] = []
+        places: List[int] = []
+        for place, item in enumerate(items):
+            try:
+                lines.append(self._line(item))
+                places.append(place)
+                told.append(0)
+            except UsageError as error:
+                told.append(error)
+        try:
+            answers: List[Told] = self.catalogue.say_many(lines)
+        finally:
+            self._note()
+        for place, answer in zip(places, answers):
+            told[place] = explained(answer, items[place], self.catalogue.fields) if isinstance(answer, Refusal) else answer
+        return told
+
+    def commit(self, text: str = "") -> int:
+        """Keeps what was written; answers the commit's number. Raises what `Catalogue.commit` raises."""
+        with self._committing:
+            before, self._uncommitted = self._uncommitted, None  # what is written from here on isn't in it
+            try:
+                number = self.catalogue.commit(text)
+            except BaseException:
+                self._uncommitted = before if before is not None else self._clock()
+                raise
+            self.committed = time.time()
+            return number
+
+    def show(self) -> str:
+        """Makes a view of what was written, as soon as one may be made; answers its stamp. Raises what `refresh` does."""
+        while not self.views.make():
+            if self._is_closed.wait(self.views.wait()):
+                raise UsageError("the service is closed")
+        return self.views.newest
+
+    def _line(self, item: Mapping[str, Any]) -> str:
+        if set(item) == {"delete"}:
+            id = item["delete"]
+            if not isinstance(id, str) or "\n" in id or id.endswith("\r"):
+                raise UsageError(f"{id!r:.100} is no id")
+            return f"DEL {id}"
+        line = f"PUT {item_text(self._folded(item))}"
+        if len(line.encode(errors="replace")) > _MOST_LINE:
+            raise UsageError("the item is too large for a line of the protocol")
+        return line
+
+    def _folded(self, item: Mapping[str, Any]) -> Mapping[str, Any]:
+        return item if self.settings.folding is None else self.settings.folding.apply(item)
+
+    def _wrote(self, number: int) -> int:
+        self._note()
+        return number
+
+    def _note(self) -> None:
+        self._unshown = True
+        if self._uncommitted is None:
+            self._uncommitted = self._clock()
+        self._is_written.set()
+
+    # Upkeep
+
+    def _keep(self) -> None:
+        while True:
+            is_written = self._is_written.wait(_LOOK)
+            self._is_written.clear()
+            if self._is_closed.wait(self._due()):
+                return
+            try:
+                if is_written:
+                    self._turn()
+                else:
+                    self.catalogue.stat()  # whether the program is there
+            except (ProgramEnded, UsageError) as error:
+                self.failures += 1
+                log.error("the program has ended: %s", error)
+                self._ended.set()
+                return
+            except JasminedomeError as error:
+                self.failures += 1
+                log.error("upkeep: %s", error)
+                if self._is_closed.wait(max(0.1, self.settings.show_every)):  # not at once again
+                    return
+            if self._unshown or self._uncommitted is not None:
+                self._is_written.set()
+
+    def _due(self) -> float:
+        """The seconds until something is to be done of what was written."""
+        waits = [self.views.wait()] if self._unshown else []
+        since = self._uncommitted
+        if since is not None:
+            waits.append(max(0.0, since + self.settings.commit_every - self._clock()))
+        return min(waits, default=0.0)
+
+    def _turn(self) -> None:
+        if self._unshown and self.views.wait() == 0:
+            self._unshown = False
+            try:
+                self.views.make()
+            except JasminedomeError:
+                self._unshown = True
+                raise
+            self.catalogue.upkeep()
+        since = self._uncommitted
+        if since is not None and since + self.settings.commit_every <= self._clock():
+            self.commit("served")
+
+
+def parsed(text: "Union[str, bytes]") -> Any:
+    """The value of a JSON text, as strict as JSON is. Raises ValueError."""
+    return json.loads(text, parse_constant=_no_number)
+
+
+def _no_number(name: str) -> float:
+    raise ValueError(f"{name} is no number of JSON")
