@@ -108,7 +108,11 @@ def search_of(asked: object, searched: Sequence[str], is_folded: bool) -> Search
     own = _names(asked, "fields")
     filters = _mapping(asked, "filters")
     parts = [typed(words, own or searched, is_folded and not own)] if words.strip() else []
-    parts += [query_of(asked["query"])] if asked.get("query") is not None else []
+    own_query = asked.get("query")
+    if isinstance(own_query, str) and not parts and not filters:
+        parts = [Query(own_query)]  # alone it goes as it is, so that the place of a fault is that in it
+    elif own_query is not None:
+        parts.append(query_of(own_query))
     return Search(
         words=words,
         query=all_of(*parts),

@@ -2,18 +2,19 @@
 
 from __future__ import annotations
 
+import contextlib
 import json
 import logging
 import threading
 import time
-from typing import Any, Dict, List, Mapping, Optional, Sequence, Union
+from typing import Any, Dict, Iterator, List, Mapping, Optional, Sequence, Union
 
-from ..errors import JasminedomeError, ProgramEnded, Refusal, UsageError
+from ..errors import BadQuery, JasminedomeError, ProgramEnded, Refusal, UsageError
 from ..putting import Told, explained, item_text
 from ..query import Query
 from ..stats import Stat
 from .calls import CatalogueCalls, ViewCalls
-from .problems import wrong
+from .problems import problem_of, wrong
 from .searching import Search, narrows, search_of
 from .settings import Settings
 from .views import Clock, Views
@@ -90,7 +91,12 @@ class Service:
         """
         search = asked if isinstance(asked, Search) else self.search_of(asked)
         view = self.views.get(stamp)
-        return {"token": self.views.stamp(view.token), "newest": self.views.newest, **search.answer(view)}
+        try:
+            return {"token": self.views.stamp(view.token), "newest": self.views.newest, **search.answer(view)}
+        except BadQuery as error:  # its place is in what was made of all parts, so this is told beside it
+            problem = problem_of(error)
+            problem.more["query"] = search.narrowed().text
+            raise problem from None
 
     def search_of(self, asked: object) -> Search:
         """The search that is asked for in JSON. Raises Problem and UsageError."""
@@ -112,11 +118,13 @@ class Service:
 
     def put(self, item: Mapping[str, Any]) -> int:
         """Puts an item; answers the write's number. Raises what `Catalogue.put` raises."""
-        return self._wrote(self.catalogue.put(self._folded(item)))
+        with self._writing():
+            return self.catalogue.put(self._folded(item))
 
     def delete(self, id: str) -> int:
         """Takes an item out; answers the write's number. Raises what `Catalogue.delete` raises."""
-        return self._wrote(self.catalogue.delete(id))
+        with self._writing():
+            return self.catalogue.delete(id)
 
     def delete_where(self, asked: Union[Query, object]) -> int:
         """Takes out what a query matches, or what a search's words, query and filters match together.
@@ -127,7 +135,8 @@ class Service:
             if not narrows(asked):
                 raise wrong("a delete says by words, query or filters what goes, and nothing else; \"*:*\" is everything")
             asked = self.search_of(asked).narrowed()
-        return self._wrote(self.catalogue.delete_where(asked))
+        with self._writing():
+            return self.catalogue.delete_where(asked)
 
     def write_many(self, items: Sequence[Mapping[str, Any]]) -> "List[Union[int, JasminedomeError]]":
         """Puts items in order, or takes out what `{"delete": id}` names; answers for each its number or why it isn't done.
@@ -144,10 +153,8 @@ class Service:
                 told.append(0)
             except UsageError as error:
                 told.append(error)
-        try:
+        with self._writing():
             answers: List[Told] = self.catalogue.say_many(lines)
-        finally:
-            self._note()
         for place, answer in zip(places, answers):
             told[place] = explained(answer, items[place], self.catalogue.fields) if isinstance(answer, Refusal) else answer
         return told
@@ -185,9 +192,17 @@ class Service:
     def _folded(self, item: Mapping[str, Any]) -> Mapping[str, Any]:
         return item if self.settings.folding is None else self.settings.folding.apply(item)
 
-    def _wrote(self, number: int) -> int:
+    @contextlib.contextmanager
+    def _writing(self) -> Iterator[None]:
+        """Around a write: has it shown and committed, also where it isn't known whether it was done."""
+        try:
+            yield
+        except (Refusal, UsageError):  # nothing was changed
+            raise
+        except BaseException:
+            self._note()
+            raise
         self._note()
-        return number
 
     def _note(self) -> None:
         self._unshown = True
