@@ -40,7 +40,7 @@ def ids(found):
 class ServedTest(unittest.TestCase):
     """A service of its own for all tests of a class, and for each of them the same items."""
 
-    arguments = ("--show-every", "0")
+    arguments = ()
 
     @classmethod
     def setUpClass(cls):
@@ -252,7 +252,7 @@ class KeysOfReadersAndWriters(unittest.TestCase):
         self.addCleanup(room.cleanup)
         file = Path(room.name, "key")
         file.write_text("write-key-1\n")
-        server = Server("--write-key-file", file, "--show-every", "0", JASMINEDOME_READ_KEY="read-key-1")
+        server = Server("--write-key-file", file, JASMINEDOME_READ_KEY="read-key-1")
         self.addCleanup(server.stop)
         for key, reads, writes in ((None, 401, 401), ("no-key-at-all", 401, 401), ("read-key-1", 200, 403), ("write-key-1", 200, 200)):
             self.assertEqual(server.ask("POST", "/search", {}, key)[0], reads, key)
@@ -357,7 +357,7 @@ class Ends(support.FileTest):
         self.assertEqual(self.items(), [{"id": "a", "title": "Shoe"}])
 
     def test_words_are_folded_where_that_is_said(self):
-        server = self.serve("--field", "words:text", "--fold", "words=title,brand", "--show-every", "0")
+        server = self.serve("--field", "words:text", "--fold", "words=title,brand")
         server.put({"id": "a", "title": "Étui d'Été", "brand": "Søndre"})
         for typed, count in (("ETUI", 1), ("été", 1), ("sondr", 1), ("SØN", 1), ("e", 1), ("etuis", 0), ("sondr ", 0)):
             self.assertEqual(server.search(words=typed)["total"], count, typed)
