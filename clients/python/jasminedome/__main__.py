@@ -8,7 +8,7 @@ import sys
 from collections import Counter
 from typing import Callable, Dict, List, Optional, Tuple
 
-from . import shell
+from . import copying, shell
 from .errors import JasminedomeError, Refusal, UsageError
 from .http import command
 from .loading import EVERY, Loaded, load
@@ -48,7 +48,7 @@ def main(arguments: Optional[List[str]] = None) -> int:
 
 
 def _parser() -> argparse.ArgumentParser:
-    parser = argparse.ArgumentParser("jasminedome", description="Load a catalogue from a file, and look into it.")
+    parser = argparse.ArgumentParser("jasminedome", description="Load a catalogue from a file, look into it, serve it, and copy it.")
     parser.add_argument("--version", action="version", version=f"%(prog)s {__version__}")
     commands = parser.add_subparsers(dest="command", required=True)
     loading = commands.add_parser(
@@ -64,7 +64,7 @@ def _parser() -> argparse.ArgumentParser:
     serving = commands.add_parser("serve", help="answer over HTTP", description="Serves a catalogue over HTTP, as JSON.")
     command.add_arguments(serving)
     serving.set_defaults(run=command.serve)
-    for each in (loading, shelled, serving):
+    for each in (loading, shelled, serving, *copying.add_commands(commands)):
         each.add_argument("--program", metavar="PATH", help="the program; else JASMINEDOME_PROGRAM, else catalogue on the PATH")
     return parser
 

@@ -41,7 +41,8 @@ class Server:
             stdout=subprocess.PIPE, stderr=subprocess.PIPE, text=True,
         )  # fmt: skip
         self.said = self.process.stdout.readline()
-        found = re.search(r"open on http://[^:]+:([0-9]+)$", self.said)
+        self.opened = self.process.stdout.readline() if "said again" in self.said else self.said
+        found = re.search(r"open on http://[^:]+:([0-9]+)$", self.opened)
         if found is None:
             self.stop()
             raise RuntimeError(f"it isn't open: {self.said!r} {self.errors!r}")

@@ -12,6 +12,7 @@ from typing import Dict, List, Optional, Tuple
 from ..catalogue import Catalogue
 from ..errors import UsageError
 from ..folders import fields_of
+from ..journal import Journal
 from ..plans import KINDS
 from . import MISSING, Folding, Keys, Service, Settings, make_app
 from .calls import CatalogueCalls
@@ -64,7 +65,7 @@ def serve(asked: argparse.Namespace) -> int:
         listening = stack.enter_context(contextlib.closing(serving.bound(*serving.address(asked.listen))))
         if keys.write is None and not asked.without_keys and not serving.is_local(listening):
             raise UsageError(f"other machines reach {asked.listen}: name a key for writing, or say --without-keys")
-        catalogue = stack.enter_context(_opened(asked))
+        catalogue = _opened(asked, stack)
         service = stack.enter_context(Service(catalogue, settings))
 
         def tell() -> None:
@@ -74,8 +75,8 @@ def serve(asked: argparse.Namespace) -> int:
     return 0 if is_told else ENDED
 
 
-def _opened(asked: argparse.Namespace) -> "contextlib.AbstractContextManager[CatalogueCalls]":
-    """The catalogue of the folder, or of memory. Raises UsageError where nothing says its fields."""
+def _opened(asked: argparse.Namespace, stack: contextlib.ExitStack) -> CatalogueCalls:
+    """The catalogue of the folder, or of memory, with its journal. Raises UsageError where nothing says its fields."""
     told = {name: kind for each in asked.field for name, kind in each}
     if asked.folder is not None:
         Path(asked.folder).mkdir(parents=True, exist_ok=True)
@@ -84,10 +85,13 @@ def _opened(asked: argparse.Namespace) -> "contextlib.AbstractContextManager[Cat
         raise UsageError("a new catalogue needs fields: --field title:text,brand:facet, say")
     if told and told != fields:
         raise UsageError(f"the folder has the fields {fields}: leave --field out, or name just these")
-    opened = Catalogue(fields, asked.folder, program=asked.program, timeout=asked.timeout)
+    catalogue = stack.enter_context(Catalogue(fields, asked.folder, program=asked.program, timeout=asked.timeout))
     if asked.journal is None:
-        return opened
-    raise UsageError("no journal yet")
+        return catalogue
+    journal = stack.enter_context(Journal(catalogue, asked.journal))
+    if journal.replayed:
+        print(f"{journal.replayed:,} writes said again from {asked.journal}", flush=True)
+    return journal
 
 
 def _count(service: Service) -> int:
