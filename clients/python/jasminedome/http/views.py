@@ -129,13 +129,16 @@ class Views:
             self._catalogue.prune(1)  # what was recorded before and nobody holds
 
     def _refreshed(self) -> Token:
-        try:
-            found: Token = self._catalogue.refresh()
-        except AllHeld:  # views that went are still read from, so more of them go
-            with self._lock:
-                self._thin(max(1, len(self._kept) - _MAKE_ROOM))
-            found = self._catalogue.refresh()
-        return found
+        """Records the catalogue as it is now. Views that went and are still read from count too, so more may have to go."""
+        while True:
+            try:
+                found: Token = self._catalogue.refresh()
+                return found
+            except AllHeld:
+                with self._lock:
+                    if len(self._kept) <= 1:
+                        raise
+                    self._thin(max(1, len(self._kept) - _MAKE_ROOM))
 
     def _thin(self, most: Optional[int] = None) -> None:
         # Whoever still reads from a view that goes has it; then it is forgotten, and so closed.
