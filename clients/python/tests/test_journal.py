@@ -232,12 +232,13 @@ class Served(JournalTest):
             server.put({"id": f"item-{n}", "price": n}, show=False)
         status, told = server.ask("POST", "/items", '{"id":"bulk","price":77}\n{"delete":"item-3"}\n', content_type="application/x-ndjson")
         self.assertEqual((status, [each["write"] for each in told]), (200, [31, 32]))
-        os.kill(server.child(), signal.SIGKILL), server.stop(signal.SIGKILL)
+        server.stop(signal.SIGKILL)  # its program sees the end of its input, and has the folder until then
         server = Server(*said, fields=True)
         self.addCleanup(server.stop)
         self.assertEqual(server.said, f"32 writes said again from {self.kept}\n")
         found = server.search(sort="-price", count=100)
         self.assertEqual((found["total"], found["hits"][0]["id"]), (30, "bulk"))
+        self.assertRegex(" ".join(path.name for path in self.kept.iterdir()), r"^0{18}32\.journal$")  # they are committed now
         self.assertEqual(server.stop(), 0)
         self.assertEqual(len(list(Path(self.kept).iterdir())), 1)
 

@@ -6,11 +6,12 @@ import argparse
 import contextlib
 import logging
 import os
+import time
 from pathlib import Path
 from typing import Dict, List, Optional, Tuple
 
 from ..catalogue import Catalogue
-from ..errors import UsageError
+from ..errors import FolderInUse, UsageError
 from ..folders import fields_of
 from ..journal import Journal
 from ..plans import KINDS
@@ -20,6 +21,7 @@ from .calls import CatalogueCalls
 ENDED = 3
 """The exit status where the program ended by itself."""
 
+_PATIENCE = 3.0  # seconds in which a folder has to be free
 _READ_KEY, _WRITE_KEY = "JASMINEDOME_READ_KEY", "JASMINEDOME_WRITE_KEY"
 
 
@@ -85,13 +87,27 @@ def _opened(asked: argparse.Namespace, stack: contextlib.ExitStack) -> Catalogue
         raise UsageError("a new catalogue needs fields: --field title:text,brand:facet, say")
     if told and told != fields:
         raise UsageError(f"the folder has the fields {fields}: leave --field out, or name just these")
-    catalogue = stack.enter_context(Catalogue(fields, asked.folder, program=asked.program, timeout=asked.timeout))
+    catalogue = stack.enter_context(_started(fields, asked))
     if asked.journal is None:
         return catalogue
     journal = stack.enter_context(Journal(catalogue, asked.journal))
     if journal.replayed:
-        print(f"{journal.replayed:,} writes said again from {asked.journal}", flush=True)
+        writes = "write" if journal.replayed == 1 else "writes"
+        print(f"{journal.replayed:,} {writes} said again from {asked.journal}", flush=True)
+        journal.commit("said again")
     return journal
+
+
+def _started(fields: Dict[str, str], asked: argparse.Namespace) -> Catalogue:
+    """The catalogue, as soon as nobody has its folder: a program whose parent was killed has it a moment longer."""
+    end = time.monotonic() + _PATIENCE
+    while True:
+        try:
+            return Catalogue(fields, asked.folder, program=asked.program, timeout=asked.timeout)
+        except FolderInUse:
+            if time.monotonic() > end:
+                raise
+            time.sleep(0.1)
 
 
 def _count(service: Service) -> int:
