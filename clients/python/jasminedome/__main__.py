@@ -48,7 +48,8 @@ def main(arguments: Optional[List[str]] = None) -> int:
 
 
 def _parser() -> argparse.ArgumentParser:
-    parser = argparse.ArgumentParser("jasminedome", description="Load a catalogue from a file, look into it, serve it, and copy it.")
+    about = "Load a catalogue from a file, look into it, serve it, and copy it."
+    parser = argparse.ArgumentParser("jasminedome", description=about)
     parser.add_argument("--version", action="version", version=f"%(prog)s {__version__}")
     commands = parser.add_subparsers(dest="command", required=True)
     loading = commands.add_parser(

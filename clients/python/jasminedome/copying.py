@@ -21,15 +21,16 @@ _SHOWN = 20  # refused items that are told one by one
 
 def add_commands(commands: "argparse._SubParsersAction[argparse.ArgumentParser]") -> "list[argparse.ArgumentParser]":
     """Adds the commands; answers their parsers."""
-    backing = commands.add_parser("backup", help="copy the newest commit", description="Copies F's newest commit into the new folder TO.")
-    dumping = commands.add_parser("dump", help="write all items as lines of JSON", description="Writes F's items to standard output.")
+    about = {"backup": "Copies F's newest commit into the new folder TO.", "dump": "Writes F's items to standard output."}
+    backing = commands.add_parser("backup", help="copy the newest commit", description=about["backup"])
+    dumping = commands.add_parser("dump", help="write all items as lines of JSON", description=about["dump"])
     dumping.add_argument("--query", default="*:*", metavar="QUERY", help="which items; else all")
     moving = commands.add_parser(
         "reindex", help="put all items into a new folder with other fields",
         description="Puts the items of F into the new folder TO, under fields that are F's own but for what --field says.",
     )  # fmt: skip
     for parser, run in ((backing, _backup), (dumping, _dump), (moving, _reindex)):
-        parser.add_argument("folder", metavar="F", help="where the catalogue is kept; no other program may work over it meanwhile")
+        parser.add_argument("folder", metavar="F", help="where the catalogue is kept; no other program may have it meanwhile")
         parser.set_defaults(run=run)
     for parser in (backing, moving):
         parser.add_argument("to", metavar="TO", help="a folder that isn't there yet")

@@ -42,7 +42,8 @@ def searchable(item: Mapping[str, object], fields: Iterable[str]) -> str:
     texts: List[str] = []
     for name in fields:
         value = item.get(name)
-        texts += [value] if isinstance(value, str) else [each for each in value if isinstance(each, str)] if isinstance(value, list) else []
+        values = value if isinstance(value, list) else [value]
+        texts += [each for each in values if isinstance(each, str)]
     return " ".join(folded_words(" ".join(texts)))
 
 

@@ -35,7 +35,8 @@ class Server:
 
     def __init__(self, *arguments, code=None, fields=True, **environment):
         told = {"PYTHONPATH": str(support.HERE.parent), "JASMINEDOME_PROGRAM": shlex.join(support.PROGRAM), "LC_ALL": "C.UTF-8"}
-        said = ["-m", "jasminedome", "serve", "--listen", "127.0.0.1:0", "--show-every", "0", *(["--field", KINDS] if fields else []), *arguments]
+        fields = ["--field", KINDS] if fields else []
+        said = ["-m", "jasminedome", "serve", "--listen", "127.0.0.1:0", "--show-every", "0", *fields, *arguments]
         self.process = subprocess.Popen(
             [PYTHON, "-c", code] if code else [PYTHON, *map(str, said)], env={**os.environ, **told, **environment},
             stdout=subprocess.PIPE, stderr=subprocess.PIPE, text=True,

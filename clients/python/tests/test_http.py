@@ -72,7 +72,8 @@ class Searches(ServedTest):
         self.assertEqual(found["facets"]["color"], {"matching": 1, "labels": 1, "counts": [{"label": "red", "count": 1}]})
 
     def test_counts_and_bars_are_told_without_their_own_filter(self):
-        found = self.server.search(filters={"color": ["red"], "price": {"to": 100}}, facets=["color"], histograms={"price": [60, 100]})
+        filters = {"color": ["red"], "price": {"to": 100}}
+        found = self.server.search(filters=filters, facets=["color"], histograms={"price": [60, 100]})
         self.assertEqual(ids(found), ["shoe-1"])
         counts = {each["label"]: each["count"] for each in found["facets"]["color"]["counts"]}
         self.assertEqual(counts, {"red": 1, "blue": 1, "grey": 1})
@@ -87,7 +88,8 @@ class Searches(ServedTest):
         acme, dear = {"field": "brand", "is": "Acme"}, {"field": "price", "from": 100}
         for query, wanted in (
             ({"all": [acme, dear]}, ["boot-1"]), ({"any": [dear, {"field": "title", "begins": "woo"}]}, ["boot-1", "sock/1"]),
-            ({"none": [acme]}, ["shoe-2", "sock/1"]), ({"field": "color", "in": ["grey", "blue"]}, ["shoe-2", "boot-1", "sock/1"]),
+            ({"none": [acme]}, ["shoe-2", "sock/1"]),
+            ({"field": "color", "in": ["grey", "blue"]}, ["shoe-2", "boot-1", "sock/1"]),
             ({"field": "title", "words": "shoe red"}, ["shoe-1"]), ("+brand:Acme -title:boot", ["shoe-1"]), ({"any": []}, []),
         ):  # fmt: skip
             self.assertEqual(ids(self.server.search(query=query)), wanted, query)
@@ -125,7 +127,8 @@ class Searches(ServedTest):
 
     def test_the_programs_refusals_have_their_numbers(self):
         for asked, number in (
-            ({"query": "nofield:x"}, 24), ({"count": 1001}, 25), ({"sort": "+color"}, 28), ({"facets": ["brand"]}, 29), ({"after": 77_777}, 23),
+            ({"query": "nofield:x"}, 24), ({"count": 1001}, 25), ({"sort": "+color"}, 28), ({"facets": ["brand"]}, 29),
+            ({"after": 77_777}, 23),
         ):  # fmt: skip
             self.assertEqual(self.refused("POST", "/search", asked)["number"], number)
         self.assertEqual(self.refused("POST", "/search", {"query": "brand:a("})["place"], 7)
@@ -146,7 +149,8 @@ class Writes(ServedTest):
 
     def test_items_that_are_refused(self):
         for item, number in (
-            ({"price": "5"}, 13), ({"none": 5}, 12), ({"brand": "x" * 129}, 15), ({"color": ["x"] * 65}, 15), ({"title": "x" * 9_000}, 15),
+            ({"price": "5"}, 13), ({"none": 5}, 12), ({"brand": "x" * 129}, 15), ({"color": ["x"] * 65}, 15),
+            ({"title": "x" * 9_000}, 15),
         ):  # fmt: skip
             self.assertEqual(self.refused("PUT", "/items/a", item)["number"], number)
         self.assertIn('price is "5"', self.refused("PUT", "/items/a", {"price": "5"})["detail"])
@@ -157,15 +161,18 @@ class Writes(ServedTest):
         self.refused("PUT", "/items/a?show=maybe", {})
 
     def test_a_bulk_has_one_answer_a_line(self):
-        told = self.bulk({"id": "a", "price": 1}, "", "nonsense", {"id": "b", "price": "x"}, {"delete": "a"}, {"delete": 5}, [1], {"id": "ü"})
+        deletes = ({"delete": "a"}, {"delete": 5})
+        told = self.bulk({"id": "a", "price": 1}, "", "nonsense", {"id": "b", "price": "x"}, *deletes, [1], {"id": "ü"})
         self.assertEqual([each["line"] for each in told], [1, 3, 4, 5, 6, 7, 8])
-        self.assertEqual([each.get("number", each.get("error")) for each in told], [None, "UsageError", 13, None, "UsageError", "UsageError", 14])
+        why = [each.get("number", each.get("error")) for each in told]
+        self.assertEqual(why, [None, "UsageError", 13, None, "UsageError", "UsageError", 14])
         self.assertEqual(told[3]["write"], told[0]["write"] + 1)
         self.assertEqual(self.server.ask("GET", "/items/a")[0], 404)
         many = self.bulk(*({"id": f"many-{n}", "price": n} for n in range(2_000)))
         self.assertEqual([each["line"] for each in many], list(range(1, 2_001)))
         self.assertEqual([each["write"] - many[0]["write"] for each in many], list(range(2_000)))
-        self.server.ask("POST", "/delete?show=true", {"query": {"field": "price", "from": 0, "to": 2_000}}, content_type="application/json")
+        asked = {"query": {"field": "price", "from": 0, "to": 2_000}}
+        self.server.ask("POST", "/delete?show=true", asked, content_type="application/json")
 
     def test_deletes_by_query(self):
         for asked, status in (({}, 422), ({"words": ""}, 422), ({"query": "*:*", "count": 5}, 422), ([], 422), ("", 400)):
@@ -337,6 +344,12 @@ class Ends(support.FileTest):
         with self.assertRaisesRegex(RuntimeError, "leave --field out"):
             self.serve("--field", "other:text", fields=False)
 
+    def test_who_asks_for_a_view_that_comes_much_later_is_told(self):
+        server = self.serve("--show-every", "900")
+        status, told = server.ask("PUT", "/items/a?show=true", {})
+        self.assertEqual((status, told["error"]), (503, "NotShown"))
+        self.assertEqual(server.ask("GET", "/health")[1]["writes"], 1)
+
     def test_a_new_folder_needs_fields(self):
         with self.assertRaisesRegex(RuntimeError, "a new catalogue needs fields"):
             self.serve(fields=False)
@@ -449,7 +462,8 @@ class Mounted(unittest.TestCase):
 
     def test_who_comes_when_too_many_wait_is_told_at_once(self):
         told = []
-        waiting = [threading.Thread(target=lambda: told.append(self.server.ask("DELETE", "/shop/items/a")[0])) for _ in range(2)]
+        ask = lambda: told.append(self.server.ask("DELETE", "/shop/items/a")[0])  # noqa: E731
+        waiting = [threading.Thread(target=ask) for _ in range(2)]
         for thread in waiting:
             thread.start()
         status, headers, _ = eventually(lambda: self.busy(), 15)

@@ -81,7 +81,12 @@ class Replayed(JournalTest):
 
     def test_every_write_of_many_threads_comes_back_in_order(self):
         journal = self.journal()
-        threads = [threading.Thread(target=lambda n=n: [journal.put({"id": f"item-{k}", "price": n}) for k in range(20)]) for n in range(6)]
+
+        def write(price):
+            for n in range(20):
+                journal.put({"id": f"item-{n}", "price": price})
+
+        threads = [threading.Thread(target=write, args=(price,)) for price in range(6)]
         for thread in threads:
             thread.start()
         for thread in threads:
@@ -230,7 +235,8 @@ class Served(JournalTest):
         self.addCleanup(server.stop)
         for n in range(30):
             server.put({"id": f"item-{n}", "price": n}, show=False)
-        status, told = server.ask("POST", "/items", '{"id":"bulk","price":77}\n{"delete":"item-3"}\n', content_type="application/x-ndjson")
+        bulk = '{"id":"bulk","price":77}\n{"delete":"item-3"}\n'
+        status, told = server.ask("POST", "/items", bulk, content_type="application/x-ndjson")
         self.assertEqual((status, [each["write"] for each in told]), (200, [31, 32]))
         server.stop(signal.SIGKILL)  # its program sees the end of its input, and has the folder until then
         server = Server(*said, fields=True)

@@ -126,14 +126,17 @@ class Page(unittest.TestCase):
 
     def test_the_service_is_there_to_be_read_and_no_more(self):
         self.assertEqual(self.ask("/api/health")[0].status, 200)
-        for method, path in (("PUT", "/api/items/a"), ("DELETE", "/api/items/boot-1"), ("POST", "/api/commit"), ("GET", "/api/backup")):
+        writes = {"/api/items/a": "PUT", "/api/items/boot-1": "DELETE", "/api/commit": "POST", "/api/backup": "GET"}
+        for path, method in writes.items():
             self.assertEqual(self.ask(path, method, {} if method != "GET" else None)[0].status, 401)
         self.assertEqual(len(self.found("")), len(ITEMS))
 
     def test_a_form_from_elsewhere_or_too_long_is_refused(self):
         self.assertEqual(self.ask("/staff", "POST", {"title": "x" * 10_000})[0].status, 413)
-        for headers in ({"Origin": "http://elsewhere.example"}, {"Host": f"elsewhere.example:{self.server.server_port}"}, {"Host": "127.0.0.1"}):
-            with contextlib.closing(http.client.HTTPConnection("127.0.0.1", self.server.server_port, timeout=20)) as connection:
+        port = self.server.server_port
+        for name, value in (("Origin", "http://elsewhere.example"), ("Host", f"elsewhere.example:{port}"), ("Host", "127.0.0.1")):
+            headers = {name: value}
+            with contextlib.closing(http.client.HTTPConnection("127.0.0.1", port, timeout=20)) as connection:
                 connection.request("POST", "/staff", "do=delete&id=boot-1", headers)
                 self.assertEqual(connection.getresponse().status, 403)
         self.assertEqual(self.found("boot"), {"boot-1"})
@@ -191,7 +194,8 @@ class Page(unittest.TestCase):
         self.assertEqual(jasminedome.fields_of(self.folder), sample.FIELDS)
 
     def test_what_is_saved_is_saved_though_no_view_can_be_made(self):
-        with mock.patch.object(self.service.views, "make", side_effect=jasminedome.AllHeld), self.assertLogs("shop") as caught:
+        fails = mock.patch.object(self.service.views, "make", side_effect=jasminedome.AllHeld)
+        with fails, self.assertLogs("shop") as caught:
             self.save("12.34")
         self.assertIn("64 tokens are recorded", caught.output[0])
         self.assertEqual(self.shop.stat().writes, len(ITEMS) + 1)

@@ -210,6 +210,26 @@ class Upkeep(support.ShopTest):
             service.put(ITEM)
             eventually(lambda: service.view().find(count=0).total == 1)
 
+    def test_many_who_wait_wait_together(self):
+        service = self.serve(show_every=0.4, commit_every=900)
+        begun, told = time.monotonic(), []
+
+        def write(n):
+            number = service.put({"id": f"item-{n}"})
+            service.keep()
+            told.append(service.view(service.show()).token >= number)
+
+        with mock.patch.object(self.shop, "commit", wraps=self.shop.commit) as commit:
+            commit.side_effect = lambda text="": time.sleep(0.05) or mock.DEFAULT  # a disk that is slow
+            threads = [threading.Thread(target=write, args=(n,)) for n in range(12)]
+            for thread in threads:
+                thread.start()
+            for thread in threads:
+                thread.join(20)
+        self.assertEqual(told, [True] * 12)
+        self.assertLess(time.monotonic() - begun, 12 * 0.4)
+        self.assertLess(commit.call_count, 12)
+
     def test_show_waits_until_a_view_may_be_made(self):
         service = self.serve(show_every=0.3)
         service.put(ITEM)

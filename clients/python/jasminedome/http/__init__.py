@@ -35,7 +35,8 @@ __all__ = [
     "make_app",
 ]
 
-MISSING = "the HTTP service needs Starlette and uvicorn: pip install 'jasminedome[http]', or apt-get install python3-starlette python3-uvicorn"
+MISSING = "the HTTP service needs Starlette and uvicorn: pip install 'jasminedome[http]'"
+MISSING += ", or apt-get install python3-starlette python3-uvicorn"
 
 
 def make_app(service: Service, keys: Keys = Keys()) -> "Starlette":

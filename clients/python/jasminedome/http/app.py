@@ -31,6 +31,7 @@ from .settings import READ, WRITE, Keys
 
 NDJSON = "application/x-ndjson"
 
+_FRESH = {"cache-control": "no-store", "x-content-type-options": "nosniff"}
 _SPOOLED = 1 << 20  # bytes of answers that are kept in memory
 _BLOCK = 1 << 16
 _Answer = Callable[[Request], Awaitable[Response]]
@@ -58,6 +59,7 @@ class App:
         self._metrics = Metrics()
         self._readers = ThreadPoolExecutor(self._settings.readers, "jasminedome read")
         self._writers = ThreadPoolExecutor(self._settings.writers, "jasminedome write")
+        self._watchers = ThreadPoolExecutor(1, "jasminedome watch")  # who asks how it goes waits for nobody
         self._waiting = 0
         self.endpoints = [
             Endpoint("/search", "POST", "search", READ, self._search),
@@ -136,10 +138,13 @@ class App:
             raise Problem(503, "Busy", f"{self._settings.most_waiting:,} requests wait already")
 
     async def _read(self, call: Callable[..., _T], *arguments: Any) -> _T:
-        return await asyncio.get_running_loop().run_in_executor(self._readers, functools.partial(call, *arguments))
+        return await _in_thread(self._readers, call, *arguments)
 
     async def _write(self, call: Callable[..., _T], *arguments: Any) -> _T:
-        return await asyncio.get_running_loop().run_in_executor(self._writers, functools.partial(call, *arguments))
+        return await _in_thread(self._writers, call, *arguments)
+
+    async def _watch(self, call: Callable[..., _T], *arguments: Any) -> _T:
+        return await _in_thread(self._watchers, call, *arguments)
 
     async def _json(self, request: Request, otherwise: Any = None) -> Any:
         return await json_body(request, self._settings.most_body, self._settings.body_seconds, otherwise)
@@ -148,7 +153,8 @@ class App:
 
     async def _search(self, request: Request) -> Response:
         asked = await self._json(request, {})
-        return _json(await self._read(self._service.search, asked, request.query_params.get("token")))
+        token = request.query_params.get("token")
+        return await self._read(lambda: _json(self._service.search(asked, token)))  # to spell 1,000 items takes time too
 
     async def _get(self, request: Request) -> Response:
         id = request.path_params["id"]
@@ -198,10 +204,20 @@ class App:
     async def _wrote(self, request: Request, number: int) -> Response:
         told: Dict[str, object] = {"write": number}
         if _flag(request, "commit"):
-            told["commit"] = await self._write(self._service.commit)
+            told["commit"] = await self._write(self._service.keep)
         if _flag(request, "show"):
-            told["token"] = await self._write(self._service.show)
+            told["token"] = await self._shown()
         return _json(told)
+
+    async def _shown(self) -> str:
+        """Waits for a view of what was written, in no thread; answers the newest token."""
+        views, end = self._service.views, time.monotonic() + self._settings.show_seconds
+        wanted = views.next
+        while not await self._write(self._service.shows, wanted):
+            if time.monotonic() + views.wait() > end or not self._service.is_open:
+                raise Problem(503, "NotShown", f"what was written is shown later: a view is made in {views.wait():.0f} s")
+            await asyncio.sleep(views.wait())
+        return views.newest
 
     async def _bulk(self, request: Request) -> Response:
         _check_type(request, NDJSON, "application/jsonl", "application/json-lines", "application/json")
@@ -214,9 +230,9 @@ class App:
                 told.write("".join(answered).encode())
                 number += len(lines)
             if _flag(request, "commit"):
-                await self._write(self._service.commit)
+                await self._write(self._service.keep)
             if _flag(request, "show"):
-                await self._write(self._service.show)
+                await self._shown()
             told.seek(0)
             kept = stack.pop_all()
         return StreamingResponse(self._blocks(cast(BinaryIO, told), kept), media_type=NDJSON, headers=_FRESH)
@@ -237,18 +253,18 @@ class App:
         return _json({"commit": await self._write(self._service.commit, text)})
 
     async def _show(self, _: Request) -> Response:
-        return _json({"token": await self._write(self._service.show)})
+        return _json({"token": await self._shown()})
 
     # Telling
 
     async def _health(self, _: Request) -> Response:
         if not self._service.is_open:
             raise Problem(503, "Closed", "the service is ending, or its program has ended")
-        stat = await self._read(self._service.stat)
+        stat = await self._watch(self._service.stat)
         return _json({"status": "ok", "writes": stat.writes, "token": self._service.views.newest})
 
     async def _tell_metrics(self, _: Request) -> Response:
-        text = await self._read(self._metrics.text, self._service, self._waiting)
+        text = await self._watch(self._metrics.text, self._service, self._waiting)
         return Response(text, headers={**_FRESH, "content-type": CONTENT})
 
     async def _openapi(self, request: Request) -> Response:
@@ -256,7 +272,8 @@ class App:
         return _json(document([(each.path, each.method, each.name, each.right) for each in self.endpoints], root))
 
 
-_FRESH = {"cache-control": "no-store", "x-content-type-options": "nosniff"}
+async def _in_thread(threads: ThreadPoolExecutor, call: Callable[..., _T], *arguments: Any) -> _T:
+    return await asyncio.get_running_loop().run_in_executor(threads, functools.partial(call, *arguments))
 
 
 def _json(value: object, status: int = 200, headers: Optional[Dict[str, str]] = None) -> Response:

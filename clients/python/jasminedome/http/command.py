@@ -21,6 +21,7 @@ from .calls import CatalogueCalls
 ENDED = 3
 """The exit status where the program ended by itself."""
 
+_TIMEOUT = 30.0  # seconds
 _PATIENCE = 3.0  # seconds in which a folder has to be free
 _READ_KEY, _WRITE_KEY = "JASMINEDOME_READ_KEY", "JASMINEDOME_WRITE_KEY"
 
@@ -34,17 +35,21 @@ def add_arguments(parser: argparse.ArgumentParser) -> None:
         "--field", "--fields", action="append", default=[], type=_fields, metavar="NAME:KIND,..",
         help=f"the fields of a catalogue that is new, with {', '.join(KINDS)}; a folder with a commit says its own",
     )  # fmt: skip
-    parser.add_argument("--words", type=_names, metavar="FIELD,..", help="the fields in which words are looked for; else text fields")
+    parser.add_argument("--words", type=_names, metavar="FIELD,..", help="where words are looked for; else in all text fields")
     parser.add_argument(
         "--fold", type=_folding, metavar="FIELD=FIELD,..",
         help="a text field that the service fills with the words of others, in small letters and without accents",
     )  # fmt: skip
     parser.add_argument("--journal", metavar="F", help="a folder for a journal: what was answered outlives a kill, commit or not")
-    parser.add_argument("--show-every", type=float, default=plain.show_every, metavar="S", help="least seconds between two views (%(default)s)")
-    parser.add_argument("--commit-every", type=float, default=plain.commit_every, metavar="S", help="seconds in which a write is committed (%(default)s)")
-    parser.add_argument("--timeout", type=float, default=30.0, metavar="S", help="seconds for one answer of the program (%(default)s)")
-    parser.add_argument("--most-body", type=int, default=plain.most_body, metavar="BYTES", help="of a request (%(default)s)")
-    parser.add_argument("--most-bulk", type=int, default=plain.most_bulk, metavar="BYTES", help="of lines of items (%(default)s)")
+    numbers = {
+        "--show-every": (plain.show_every, "S", "least seconds between two views"),
+        "--commit-every": (plain.commit_every, "S", "seconds in which a write is committed"),
+        "--timeout": (_TIMEOUT, "S", "seconds for one answer of the program"),
+        "--most-body": (plain.most_body, "BYTES", "of a request"),
+        "--most-bulk": (plain.most_bulk, "BYTES", "of lines of items"),
+    }
+    for option, (value, metavar, about) in numbers.items():
+        parser.add_argument(option, type=type(value), default=value, metavar=metavar, help=f"{about} (%(default)s)")
     for right, name in (("reading", _READ_KEY), ("writing", _WRITE_KEY)):
         option = f"--{'read' if right == 'reading' else 'write'}-key-file"
         parser.add_argument(option, metavar="PATH", help=f"a file with the key for {right}; else {name} of the environment")

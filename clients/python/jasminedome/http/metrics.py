@@ -48,7 +48,7 @@ class Metrics:
             "files_pending": ("Files that a sweep would delete.", stat.pending),
             "requests_waiting": ("Requests that aren't answered yet.", waiting),
             "start_time_seconds": ("When the service began, since 1970.", round(self._begun, 3)),
-            "commit_time_seconds": ("When the last commit was made, since 1970; 0 before the first.", round(service.committed or 0, 3)),
+            "commit_time_seconds": ("When the last commit was made, since 1970, or 0.", round(service.committed or 0, 3)),
         }
         lines: List[str] = []
         for name, (help, value) in gauges.items():

@@ -8,6 +8,8 @@ from typing import Any, Dict, Iterable, Tuple
 from ..version import __version__
 from .settings import WRITE
 
+_ABOUT_ALL = "Search over a catalogue whose views hold still."
+
 _ABOUT = {
     "search": "A page of one view: hits, counts of labels, histograms. Without a token, of the newest view.",
     "bulk": "Puts the items of lines of JSON, or takes out what a line {\"delete\": id} names; one answer a line.",
@@ -107,7 +109,7 @@ def document(endpoints: Iterable[Tuple[str, str, str, str]], root: str = "") -> 
         paths.setdefault(plain, {})[method.lower()] = _operation(plain, name, right)
     return {
         "openapi": "3.0.3",
-        "info": {"title": "Jasminedome", "version": __version__, "description": "Search over a catalogue whose views hold still."},
+        "info": {"title": "Jasminedome", "version": __version__, "description": _ABOUT_ALL},
         "servers": [{"url": root or "/"}],
         "paths": paths,
         "components": {"schemas": _SCHEMAS, "securitySchemes": {"key": {"type": "http", "scheme": "bearer"}}},
@@ -121,7 +123,8 @@ def _operation(path: str, name: str, right: str) -> Dict[str, Any]:
     told.update({status: {"description": text, "content": problem} for status, text in _STATUSES.items()})
     operation: Dict[str, Any] = {"operationId": name, "summary": _ABOUT[name], "responses": told}
     parameters = [_parameter("path", "id", "The item's id.", True)] if "{id}" in path else []
-    parameters += [_parameter("query", "token", "The view, as an earlier answer named it.")] if name in ("search", "get") else []
+    if name in ("search", "get"):
+        parameters.append(_parameter("query", "token", "The view, as an earlier answer named it."))
     if right == WRITE and name in ("put", "delete", "delete_where", "bulk"):
         parameters.append(_parameter("query", "commit", "true: commit before the answer."))
         parameters.append(_parameter("query", "show", "true: make a view of it before the answer."))

@@ -19,7 +19,8 @@ MOST_TYPED = 1_000
 
 _MOST_FIELDS = 32  # as a catalogue has at most
 _MOST_LABELS = 16  # chosen labels of a filter that are counted one by one
-_MEMBERS = ("words", "fields", "query", "filters", "sort", "after", "count", "facets", "labels", "items", "highlight", "histograms")
+_SAID = ("words", "fields", "query", "filters")  # what is looked for
+_MEMBERS = (*_SAID, "sort", "after", "count", "facets", "labels", "items", "highlight", "histograms")
 
 
 @dataclass(frozen=True)
@@ -131,8 +132,8 @@ def search_of(asked: object, searched: Sequence[str], is_folded: bool) -> Search
 
 def narrows(asked: object) -> bool:
     """Whether a JSON text says anything of what is looked for."""
-    named = ("words", "query", "filters")
-    return isinstance(asked, dict) and any(asked.get(name) for name in named) and set(asked) <= {*named, "fields"}
+    named = [name for name in _SAID if name != "fields"]
+    return isinstance(asked, dict) and any(asked.get(name) for name in named) and set(asked) <= set(_SAID)
 
 
 def _chosen(asked: object) -> Tuple[str, ...]:

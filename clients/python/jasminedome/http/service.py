@@ -43,7 +43,9 @@ class Service:
         self.committed: Optional[float] = None
         """When the last commit was made, in seconds since 1970; None before the first."""
         self._clock = clock
-        self._committing = threading.Lock()
+        self._committing = threading.RLock()
+        self._begun = self._done = 0  # how many commits were begun, and the number of the last that was made
+        self._generation = 0
         self._unshown = False
         self._uncommitted: Optional[float] = None  # when the first of it was written
         self._is_written = threading.Event()
@@ -159,24 +161,45 @@ class Service:
             told[place] = explained(answer, items[place], self.catalogue.fields) if isinstance(answer, Refusal) else answer
         return told
 
-    def commit(self, text: str = "") -> int:
-        """Keeps what was written; answers the commit's number. Raises what `Catalogue.commit` raises."""
+    def keep(self) -> int:
+        """Commits what was written until now, in one commit with all who ask meanwhile; answers its number.
+
+        Raises what `Catalogue.commit` raises.
+        """
+        wanted = self._begun + 1
         with self._committing:
+            if self._done >= wanted:  # somebody's commit began after this call
+                return self._generation
+            return self.commit("kept")
+
+    def commit(self, text: str = "") -> int:
+        """Commits what was written; answers the commit's number. Raises what `Catalogue.commit` raises."""
+        with self._committing:
+            self._begun += 1
             before, self._uncommitted = self._uncommitted, None  # what is written from here on isn't in it
             try:
-                number = self.catalogue.commit(text)
+                self._generation = self.catalogue.commit(text)
             except BaseException:
                 self._uncommitted = before if before is not None else self._clock()
                 raise
             self.committed = time.time()
-            return number
+            self._done = self._begun
+            return self._generation
 
     def show(self) -> str:
-        """Makes a view of what was written, as soon as one may be made; answers its stamp. Raises what `refresh` does."""
-        while not self.views.make():
+        """Waits until a view has what was written, which is made as soon as it may; answers the newest one's stamp.
+
+        Raises what `Catalogue.refresh` raises.
+        """
+        wanted = self.views.next
+        while not self.shows(wanted):
             if self._is_closed.wait(self.views.wait()):
                 raise UsageError("the service is closed")
         return self.views.newest
+
+    def shows(self, number: int) -> bool:
+        """Whether the view of this number (`Views.next`) is there; makes it where it may be made now."""
+        return self.views.has(number) or (self.views.make() and self.views.has(number))
 
     def _line(self, item: Mapping[str, Any]) -> str:
         if set(item) == {"delete"}:

@@ -72,7 +72,8 @@ class _Server(uvicorn.Server):
     """A server that doesn't wait for ever for those who don't read their answers."""
 
     def __init__(self, app: Any, on_open: Optional[Callable[[], object]]) -> None:
-        super().__init__(uvicorn.Config(app, log_level="warning", access_log=False, lifespan="off", ws="none", server_header=False))
+        bare = {"lifespan": "off", "ws": "none", "access_log": False, "server_header": False}
+        super().__init__(uvicorn.Config(app, log_level="warning", **bare))
         self._on_open = on_open
 
     async def startup(self, sockets: Any = None) -> None:

@@ -38,7 +38,7 @@ class Settings:
     """Times are in seconds and sizes in bytes.
 
     A view is made of what was written at most once in `show_every`, and what was written is committed `commit_every`
-    after the first write at the latest. `most_views` are kept (of the 64 that a program records), and one that nobody
+    after the first write at the latest. Whoever waits for a view of what they wrote waits `show_seconds` at most. `most_views` are kept (of the 64 that a program records), and one that nobody
     used goes after `oldest`. `words` are the fields in which words are looked for, all text fields where it is None.
     """
 
@@ -51,12 +51,13 @@ class Settings:
     most_body: int = 65_536
     most_bulk: int = 1 << 30
     body_seconds: float = 30.0
+    show_seconds: float = 30.0
     readers: int = 16
     writers: int = 8
     most_waiting: int = 512
 
     def __post_init__(self) -> None:
-        least = {"show_every": 0, "commit_every": 0, "oldest": 0, "most_body": 1, "most_bulk": 1, "body_seconds": 0.01}
+        least = {"show_every": 0, "commit_every": 0, "oldest": 0, "most_body": 1, "most_bulk": 1, "body_seconds": 0.01, "show_seconds": 0}
         least.update(most_views=1, readers=1, writers=1, most_waiting=1)
         for name, smallest in least.items():
             value = getattr(self, name)

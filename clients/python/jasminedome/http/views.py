@@ -52,6 +52,7 @@ class Views:
         self._kept: Dict[Token, _Kept] = {}
         self._made = clock()
         self._newest: Token = 0
+        self._begun = self._done = 0  # how many views were begun, and the number of the last that is there
         self.gone = 0
         """How many times a view was asked for that isn't kept."""
         self._make()
@@ -68,6 +69,15 @@ class Views:
     def wait(self) -> float:
         """The seconds until a new view may be made; 0 where it may be now."""
         return max(0.0, self._made + self._every - self._clock())
+
+    @property
+    def next(self) -> int:
+        """The number of the next view that will be made, which has all that was written until now."""
+        return self._begun + 1
+
+    def has(self, number: int) -> bool:
+        """Whether the view of that number, or a later one, was made."""
+        return self._done >= number
 
     def make(self) -> bool:
         """Makes a view of what was written, where one may be made now; False where it is too soon."""
@@ -119,12 +129,14 @@ class Views:
 
     def _make(self) -> None:
         self._made = self._clock()
+        self._begun += 1
         token: Token = self._refreshed()
         view = self._catalogue.open(token)  # where it is kept already, this one is forgotten
         with self._lock:
             self._kept.setdefault(token, _Kept(view, self._made))
             self._newest = token
             self._thin()
+        self._done = self._begun
         with contextlib.suppress(JasminedomeError):
             self._catalogue.prune(1)  # what was recorded before and nobody holds
 
