@@ -11,6 +11,7 @@ from serving import eventually
 import jasminedome
 from jasminedome import TokenGone, UsageError
 from jasminedome.http import Gone, Problem, Service, Settings, Views
+from jasminedome.http.problems import problem_of
 
 ITEM = {"id": "boot-1", "price": 8_900}
 OLDEST = 3_600.0
@@ -115,9 +116,9 @@ class Kept(support.ShopTest):
         self.assertEqual(second.gone, 7)
 
     def test_a_token_that_is_a_text_is_opened_wherever_it_was_given(self):
-        shelves = Shelves(self.shop)
-        views = self.views(every=0.0, catalogue=shelves)
-        self.save(views, 1)
+        views = self.views(every=0.0, catalogue=Shelves(self.shop))
+        self.assertEqual(views.newest, "at-0")
+        self.shop.put(ITEM), self.shop.refresh(), views.make()
         self.shop.put({"id": "b"}), self.shop.refresh()  # by another process, say
         self.assertEqual((views.newest, views.get("at-2").find(count=0).total), ("at-1", 2))
         self.assertIs(views.get("at-2"), views.get("at-2"))
@@ -126,25 +127,69 @@ class Kept(support.ShopTest):
 
 
 class Shelves:
-    """A catalogue whose tokens are texts, as one over replicas has them."""
+    """A catalogue that is read alone, and whose tokens are texts, as one over replicas has them."""
 
     def __init__(self, shop):
         self._shop = shop
-        self.prune = shop.prune
-
-    def refresh(self):
-        return f"at-{self._shop.refresh()}"
+        self.fields = shop.fields
 
     def open(self, token=None):
-        view = self._shop.open(int(token[3:]) if token is not None else None)
-        view.token = f"at-{view.token}"
-        self._shop._sessions  # its hold goes on under the program's own token
-        view._ask = self._asked(view)
-        return view
+        return Shelved(self._shop.open(None if token is None else int(token[3:])))
 
-    def _asked(self, view):
-        own = type(view)._ask
-        return lambda asked, more=lambda _: 0: own(view, asked.replace(view.token, view.token[3:]), more)
+
+class Shelved:
+    """A view of it."""
+
+    def __init__(self, view):
+        self.token = f"at-{view.token}"
+        for name in ("find", "facets_many", "get_many", "source", "close"):
+            setattr(self, name, getattr(view, name))
+
+
+class ReadAlone(support.ShopTest):
+    """A service over a catalogue that others write, show and commit."""
+
+    def serve(self, **options):
+        service = Service(Shelves(self.shop), Settings(show_every=0.05), **options)
+        self.addCleanup(service.close)
+        return service
+
+    def test_it_follows_what_others_show(self):
+        service = self.serve()
+        self.shop.put({"id": "a", "title": "Shoe"}), self.shop.refresh()
+        eventually(lambda: service.views.newest == "at-1")
+        found = service.search({"words": "sho", "facets": ["color"]}, "at-1")
+        self.assertEqual((found["token"], found["total"], found["hits"][0]["item"]), ("at-1", 1, {"id": "a", "title": "Shoe"}))
+        self.assertIsNone(service.stat())
+
+    def test_it_is_neither_written_nor_committed(self):
+        service = self.serve()
+        calls = [
+            lambda: service.put(ITEM), lambda: service.delete("a"), lambda: service.delete_where({"query": "*:*"}),
+            lambda: service.write_many([ITEM]), service.commit, service.keep, service.show,
+        ]  # fmt: skip
+        for call in calls:
+            with self.assertRaises(Problem) as caught:
+                call()
+            self.assertEqual(caught.exception.status, 409)
+        self.assertEqual(self.shop.stat().writes, 0)
+
+    def test_a_writer_may_stand_beside_it(self):
+        service = self.serve(writer=self.shop)
+        self.assertEqual(service.put(ITEM), 1)
+        self.assertEqual(service.write_many([{"delete": "boot-1"}, {"id": "a", "price": "x"}])[0], 2)
+        self.shop.refresh()
+        eventually(lambda: service.views.newest == "at-2")
+
+    def test_an_end_of_those_who_answer_is_told_and_lived_through(self):
+        service = self.serve()
+        with mock.patch.object(Shelves, "open", side_effect=jasminedome.JasminedomeError("no replica")):
+            with self.assertLogs("jasminedome.http"):
+                eventually(lambda: service.failures)
+            self.assertRaises(jasminedome.JasminedomeError, service.view, "at-7")
+        self.shop.put(ITEM), self.shop.refresh()
+        eventually(lambda: service.views.newest == "at-1")
+        self.assertEqual(problem_of(jasminedome.JasminedomeError("no replica")).status, 503)
 
 
 class Upkeep(support.ShopTest):

@@ -9,7 +9,7 @@ from __future__ import annotations
 from typing import TYPE_CHECKING
 
 from ..errors import UsageError
-from .calls import BackupCalls, CatalogueCalls, Token, ViewCalls
+from .calls import BackupCalls, CatalogueCalls, KeeperCalls, ReaderCalls, Token, ViewCalls, WriterCalls
 from .problems import Gone, Problem
 from .searching import Search
 from .service import Service
@@ -24,14 +24,17 @@ __all__ = [
     "CatalogueCalls",
     "Folding",
     "Gone",
+    "KeeperCalls",
     "Keys",
     "Problem",
+    "ReaderCalls",
     "Search",
     "Service",
     "Settings",
     "Token",
     "ViewCalls",
     "Views",
+    "WriterCalls",
     "make_app",
 ]
 

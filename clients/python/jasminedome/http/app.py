@@ -261,7 +261,10 @@ class App:
         if not self._service.is_open:
             raise Problem(503, "Closed", "the service is ending, or its program has ended")
         stat = await self._watch(self._service.stat)
-        return _json({"status": "ok", "writes": stat.writes, "token": self._service.views.newest})
+        told: Dict[str, object] = {"status": "ok", "token": self._service.views.newest}
+        if stat is not None:
+            told["writes"] = stat.writes
+        return _json(told)
 
     async def _tell_metrics(self, _: Request) -> Response:
         text = await self._watch(self._metrics.text, self._service, self._waiting)

@@ -1,4 +1,7 @@
-"""Which calls the HTTP service makes of a catalogue and its views. `Catalogue` and `Journal` have them; so may others."""
+"""Which calls the HTTP service makes of a catalogue and its views. `Catalogue` and `Journal` have them all.
+
+One that is read alone, or that shows and commits by itself, has fewer: `ReaderCalls` are enough.
+"""
 
 from __future__ import annotations
 
@@ -40,16 +43,26 @@ class ViewCalls(Protocol):
         """Ends the hold. A view that is forgotten has to end its hold by itself."""
 
 
-class CatalogueCalls(Protocol):
-    """A catalogue, as `jasminedome.Catalogue` describes these calls. Any thread may call.
+class ReaderCalls(Protocol):
+    """What the service needs of a catalogue to be read. Any thread may call; so it is with all calls here.
 
-    A call raises the exceptions of `jasminedome.errors` and no others. `open` of a token that isn't there any more raises
-    TokenGone, and may open a token that it never gave to this process, where tokens are texts.
+    A call raises the exceptions of `jasminedome.errors`, and others of JasminedomeError, and nothing else.
     """
 
     @property
     def fields(self) -> Mapping[str, str]:
         """Its fields and their kinds."""
+
+    def open(self, token: Any = None) -> ViewCalls:
+        """A view of the newest token, or of this one. Raises TokenGone where that isn't there, or not any more.
+
+        Where tokens are texts, it may be one that this process was never given.
+        """
+
+
+@runtime_checkable
+class WriterCalls(Protocol):
+    """What the service needs to write, as `jasminedome.Catalogue` describes these calls."""
 
     def put(self, item: Item) -> int:
         """Puts an item; answers the write's number."""
@@ -63,11 +76,13 @@ class CatalogueCalls(Protocol):
     def say_many(self, lines: Iterable[str]) -> List[Told]:
         """Writes as lines of the protocol; answers what became of each."""
 
+
+@runtime_checkable
+class KeeperCalls(Protocol):
+    """What a catalogue has that shows, commits and merges when it is told to, as `jasminedome.Catalogue` describes it."""
+
     def refresh(self) -> Any:
         """Records the catalogue as it is now; answers its token."""
-
-    def open(self, token: Any = None) -> ViewCalls:
-        """A view of the newest recorded token, or of this one."""
 
     def prune(self, keep: int) -> int:
         """Drops recorded tokens that nobody holds but the newest ones."""
@@ -80,6 +95,10 @@ class CatalogueCalls(Protocol):
 
     def stat(self) -> Stat:
         """How it stands."""
+
+
+class CatalogueCalls(ReaderCalls, WriterCalls, KeeperCalls, Protocol):
+    """All of it: `Catalogue` and `Journal` have these."""
 
 
 @runtime_checkable

@@ -5,8 +5,9 @@ from __future__ import annotations
 import threading
 import time
 from collections import Counter, defaultdict
-from typing import Dict, Iterator, List, Tuple
+from typing import Dict, Iterator, List, Optional, Tuple
 
+from ..stats import Stat
 from .service import Service
 
 CONTENT = "text/plain; version=0.0.4; charset=utf-8"
@@ -35,17 +36,9 @@ class Metrics:
 
     def text(self, service: Service, waiting: int) -> str:
         """All of it, with `waiting` requests that aren't answered yet. Raises what `Service.stat` raises."""
-        stat = service.stat()
-        gauges = {
-            "writes": ("Number of the last write.", stat.writes),
-            "items_buffered": ("Items that wait for a segment.", stat.buffered),
-            "segments": ("Segments that stand.", len(stat.segments)),
-            "rows": ("Rows of all segments.", stat.rows),
-            "live_rows": ("Rows that aren't deleted.", stat.live),
-            "views_recorded": ("Views that the program records, of 64.", stat.recorded),
+        gauges: Dict[str, Tuple[str, float]] = {
+            **_of(service.stat()),
             "views_kept": ("Views that visitors may come back to.", len(service.views)),
-            "sets_cached": ("Sets of rows that are cached.", stat.cached),
-            "files_pending": ("Files that a sweep would delete.", stat.pending),
             "requests_waiting": ("Requests that aren't answered yet.", waiting),
             "start_time_seconds": ("When the service began, since 1970.", round(self._begun, 3)),
             "commit_time_seconds": ("When the last commit was made, since 1970, or 0.", round(service.committed or 0, 3)),
@@ -75,6 +68,21 @@ class Metrics:
             yield f'jasminedome_request_seconds_bucket{{endpoint="{endpoint}",le="+Inf"}} {count}'
             yield f'jasminedome_request_seconds_sum{{endpoint="{endpoint}"}} {seconds:.6f}'
             yield f'jasminedome_request_seconds_count{{endpoint="{endpoint}"}} {count}'
+
+
+def _of(stat: Optional[Stat]) -> Dict[str, Tuple[str, float]]:
+    if stat is None:
+        return {}
+    return {
+        "writes": ("Number of the last write.", stat.writes),
+        "items_buffered": ("Items that wait for a segment.", stat.buffered),
+        "segments": ("Segments that stand.", len(stat.segments)),
+        "rows": ("Rows of all segments.", stat.rows),
+        "live_rows": ("Rows that aren't deleted.", stat.live),
+        "views_recorded": ("Views that the program records, of 64.", stat.recorded),
+        "sets_cached": ("Sets of rows that are cached.", stat.cached),
+        "files_pending": ("Files that a sweep would delete.", stat.pending),
+    }
 
 
 def _head(name: str, kind: str, help: str) -> List[str]:

@@ -33,6 +33,7 @@ _STATUS: Dict[Type[JasminedomeError], int] = {
     OutOfMemory: 507,
     Refusal: 422,
     UsageError: 422,
+    JasminedomeError: 503,
 }
 """The status of each exception, or of the nearest class above it."""
 

@@ -13,8 +13,8 @@ from ..errors import BadQuery, JasminedomeError, ProgramEnded, Refusal, UsageErr
 from ..putting import Told, explained, item_text
 from ..query import Query
 from ..stats import Stat
-from .calls import CatalogueCalls, ViewCalls
-from .problems import problem_of, wrong
+from .calls import KeeperCalls, ReaderCalls, ViewCalls, WriterCalls
+from .problems import Problem, problem_of, wrong
 from .searching import Search, narrows, search_of
 from .settings import Settings
 from .views import Clock, Views
@@ -30,13 +30,25 @@ class Service:
 
     A thread of its own makes views of what is written, commits it and keeps the folder in order. No visitor waits for
     these but for the one line that the program is at. The catalogue is the caller's to close, behind this.
+
+    A catalogue that has no calls to write is read alone, unless there is a `writer` beside it; and one that doesn't
+    record and commit when it is told to is looked at anew every `show_every` seconds.
     """
 
-    def __init__(self, catalogue: CatalogueCalls, settings: Settings = Settings(), clock: Clock = time.monotonic) -> None:
+    def __init__(
+        self,
+        catalogue: ReaderCalls,
+        settings: Settings = Settings(),
+        clock: Clock = time.monotonic,
+        writer: Optional[WriterCalls] = None,
+    ) -> None:
         """Raises UsageError where the settings name fields that aren't there, and what `refresh` and `open` raise."""
         self.catalogue = catalogue
+        self._writer = writer or (catalogue if isinstance(catalogue, WriterCalls) else None)
+        self._keeper = catalogue if isinstance(catalogue, KeeperCalls) else None
         self.settings = settings
-        self.searched = settings.searched(catalogue.fields)
+        self._fields = catalogue.fields
+        self.searched = settings.searched(self._fields)
         self.views = Views(catalogue, settings.show_every, settings.most_views, settings.oldest, clock)
         self.failures = 0
         """How many turns of the upkeep met an error."""
@@ -51,8 +63,9 @@ class Service:
         self._is_written = threading.Event()
         self._is_closed = threading.Event()
         self._ended = threading.Event()
-        self._keeper = threading.Thread(target=self._keep, name="jasminedome upkeep", daemon=True)
-        self._keeper.start()
+        turns = self._keep if self._keeper is not None else self._look
+        self._upkeep = threading.Thread(target=turns, name="jasminedome upkeep", daemon=True)
+        self._upkeep.start()
 
     def __enter__(self) -> "Service":
         return self
@@ -66,8 +79,8 @@ class Service:
             return
         self._is_closed.set()
         self._is_written.set()
-        self._keeper.join()
-        if self._uncommitted is not None:
+        self._upkeep.join()
+        if self._uncommitted is not None and self._keeper is not None:
             self.commit("served to its end")
 
     @property
@@ -112,21 +125,24 @@ class Service:
         """The text of an item in that view; None where it has none. Raises Gone, and what `View.source` raises."""
         return self.views.get(stamp).source(id)
 
-    def stat(self) -> Stat:
-        """How the catalogue stands. Raises what `Catalogue.stat` raises."""
-        return self.catalogue.stat()
+    def stat(self) -> Optional[Stat]:
+        """How the catalogue stands; None where it doesn't tell, but answers. Raises what `Catalogue.stat` raises."""
+        if self._keeper is None:
+            self.catalogue.open().close()
+            return None
+        return self._keeper.stat()
 
     # Writing
 
     def put(self, item: Mapping[str, Any]) -> int:
         """Puts an item; answers the write's number. Raises what `Catalogue.put` raises."""
         with self._writing():
-            return self.catalogue.put(self._folded(item))
+            return self._written_by().put(self._folded(item))
 
     def delete(self, id: str) -> int:
         """Takes an item out; answers the write's number. Raises what `Catalogue.delete` raises."""
         with self._writing():
-            return self.catalogue.delete(id)
+            return self._written_by().delete(id)
 
     def delete_where(self, asked: Union[Query, object]) -> int:
         """Takes out what a query matches, or what a search's words, query and filters match together.
@@ -138,7 +154,7 @@ class Service:
                 raise wrong("a delete says by words, query or filters what goes, and nothing else; \"*:*\" is everything")
             asked = self.search_of(asked).narrowed()
         with self._writing():
-            return self.catalogue.delete_where(asked)
+            return self._written_by().delete_where(asked)
 
     def write_many(self, items: Sequence[Mapping[str, Any]]) -> "List[Union[int, JasminedomeError]]":
         """Puts items in order, or takes out what `{"delete": id}` names; answers for each its number or why it isn't done.
@@ -156,9 +172,9 @@ class Service:
             except UsageError as error:
                 told.append(error)
         with self._writing():
-            answers: List[Told] = self.catalogue.say_many(lines)
+            answers: List[Told] = self._written_by().say_many(lines)
         for place, answer in zip(places, answers):
-            told[place] = explained(answer, items[place], self.catalogue.fields) if isinstance(answer, Refusal) else answer
+            told[place] = explained(answer, items[place], self._fields) if isinstance(answer, Refusal) else answer
         return told
 
     def keep(self) -> int:
@@ -174,11 +190,12 @@ class Service:
 
     def commit(self, text: str = "") -> int:
         """Commits what was written; answers the commit's number. Raises what `Catalogue.commit` raises."""
+        keeper = self._kept_by()
         with self._committing:
             self._begun += 1
             before, self._uncommitted = self._uncommitted, None  # what is written from here on isn't in it
             try:
-                self._generation = self.catalogue.commit(text)
+                self._generation = keeper.commit(text)
             except BaseException:
                 self._uncommitted = before if before is not None else self._clock()
                 raise
@@ -191,6 +208,7 @@ class Service:
 
         Raises what `Catalogue.refresh` raises.
         """
+        self._kept_by()
         wanted = self.views.next
         while not self.shows(wanted):
             if self._is_closed.wait(self.views.wait()):
@@ -199,6 +217,7 @@ class Service:
 
     def shows(self, number: int) -> bool:
         """Whether the view of this number (`Views.next`) is there; makes it where it may be made now."""
+        self._kept_by()
         return self.views.has(number) or (self.views.make() and self.views.has(number))
 
     def _line(self, item: Mapping[str, Any]) -> str:
@@ -220,7 +239,7 @@ class Service:
         """Around a write: has it shown and committed, also where it isn't known whether it was done."""
         try:
             yield
-        except (Refusal, UsageError):  # nothing was changed
+        except (Refusal, UsageError, Problem):  # nothing was changed
             raise
         except BaseException:
             self._note()
@@ -233,7 +252,26 @@ class Service:
             self._uncommitted = self._clock()
         self._is_written.set()
 
+    def _written_by(self) -> WriterCalls:
+        if self._writer is None:
+            raise Problem(409, "ReadAlone", "this catalogue is written elsewhere")
+        return self._writer
+
+    def _kept_by(self) -> KeeperCalls:
+        if self._keeper is None:
+            raise Problem(409, "KeptElsewhere", "this catalogue is shown and committed elsewhere")
+        return self._keeper
+
     # Upkeep
+
+    def _look(self) -> None:
+        """Has the newest view of a catalogue that is shown by others."""
+        while not self._is_closed.wait(max(0.05, self.views.wait())):
+            try:
+                self.views.make()
+            except JasminedomeError as error:
+                self.failures += 1
+                log.error("no newer view: %s", error)
 
     def _keep(self) -> None:
         while True:
@@ -245,7 +283,7 @@ class Service:
                 if is_written:
                     self._turn()
                 else:
-                    self.catalogue.stat()  # whether the program is there
+                    self.stat()  # whether the program is there
             except (ProgramEnded, UsageError) as error:
                 self.failures += 1
                 log.error("the program has ended: %s", error)
@@ -275,7 +313,7 @@ class Service:
             except JasminedomeError:
                 self._unshown = True
                 raise
-            self.catalogue.upkeep()
+            self._kept_by().upkeep()
         since = self._uncommitted
         if since is not None and since + self.settings.commit_every <= self._clock():
             self.commit("served")

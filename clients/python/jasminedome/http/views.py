@@ -11,7 +11,7 @@ from dataclasses import dataclass
 from typing import Callable, Dict, Optional
 
 from ..errors import AllHeld, JasminedomeError, TokenGone
-from .calls import CatalogueCalls, Token, ViewCalls
+from .calls import KeeperCalls, ReaderCalls, Token, ViewCalls
 from .problems import Gone
 
 Clock = Callable[[], float]
@@ -39,9 +39,10 @@ class Views:
     """
 
     def __init__(
-        self, catalogue: CatalogueCalls, every: float, most: int = 56, oldest: float = 3_600.0, clock: Clock = time.monotonic
+        self, catalogue: ReaderCalls, every: float, most: int = 56, oldest: float = 3_600.0, clock: Clock = time.monotonic
     ) -> None:
         self._catalogue = catalogue
+        self._recorder = catalogue if isinstance(catalogue, KeeperCalls) else None
         self._every = every
         self._most = most
         self._oldest = oldest
@@ -130,21 +131,23 @@ class Views:
     def _make(self) -> None:
         self._made = self._clock()
         self._begun += 1
-        token: Token = self._refreshed()
-        view = self._catalogue.open(token)  # where it is kept already, this one is forgotten
+        # Where it is kept already, the one that is opened here is forgotten.
+        view = self._catalogue.open(None if self._recorder is None else self._recorded(self._recorder))
+        token: Token = view.token
         with self._lock:
             self._kept.setdefault(token, _Kept(view, self._made))
             self._newest = token
             self._thin()
         self._done = self._begun
-        with contextlib.suppress(JasminedomeError):
-            self._catalogue.prune(1)  # what was recorded before and nobody holds
+        if self._recorder is not None:
+            with contextlib.suppress(JasminedomeError):
+                self._recorder.prune(1)  # what was recorded before and nobody holds
 
-    def _refreshed(self) -> Token:
+    def _recorded(self, recorder: KeeperCalls) -> Token:
         """Records the catalogue as it is now. Views that went and are still read from count too, so more may have to go."""
         while True:
             try:
-                found: Token = self._catalogue.refresh()
+                found: Token = recorder.refresh()
                 return found
             except AllHeld:
                 with self._lock:
