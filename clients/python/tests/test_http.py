@@ -277,8 +277,6 @@ class KeysOfReadersAndWriters(unittest.TestCase):
         server = Server("--listen", "0.0.0.0:0", "--without-keys")
         self.addCleanup(server.stop)
         self.assertEqual(server.ask("PUT", "/items/a", {})[0], 200)
-        with self.assertRaisesRegex(RuntimeError, "8 characters"):
-            Server(JASMINEDOME_WRITE_KEY="short")
 
 
 @NEEDS_STARLETTE
@@ -336,23 +334,11 @@ class Ends(support.FileTest):
         self.assertEqual(server.stop(), 0, server.errors)
         self.assertEqual(self.kept(), ["a"])
 
-    def test_a_second_service_is_kept_from_the_folder(self):
-        self.serve().put({"id": "a"}, commit=True)
-        if support.REAL:
-            with self.assertRaisesRegex(RuntimeError, "another program works over the folder"):
-                self.serve(fields=False)
-        with self.assertRaisesRegex(RuntimeError, "leave --field out"):
-            self.serve("--field", "other:text", fields=False)
-
     def test_who_asks_for_a_view_that_comes_much_later_is_told(self):
         server = self.serve("--show-every", "900")
         status, told = server.ask("PUT", "/items/a?show=true", {})
         self.assertEqual((status, told["error"]), (503, "NotShown"))
         self.assertEqual(server.ask("GET", "/health")[1]["writes"], 1)
-
-    def test_a_new_folder_needs_fields(self):
-        with self.assertRaisesRegex(RuntimeError, "a new catalogue needs fields"):
-            self.serve(fields=False)
 
     def test_a_backup_opens(self):
         server = self.serve()
@@ -374,8 +360,6 @@ class Ends(support.FileTest):
         server.put({"id": "a", "title": "Étui d'Été", "brand": "Søndre"})
         for typed, count in (("ETUI", 1), ("été", 1), ("sondr", 1), ("SØN", 1), ("e", 1), ("etuis", 0), ("sondr ", 0)):
             self.assertEqual(server.search(words=typed)["total"], count, typed)
-        with self.assertRaisesRegex(RuntimeError, "has to be a text field"):
-            Server("--fold", "brand=title")
 
 
 @NEEDS_STARLETTE

@@ -102,8 +102,8 @@ class Wheels(unittest.TestCase):
 
 
 def sources_of(folder):
-    """The files of a folder, but what Python keeps of them."""
-    return sorted(path for path in folder.rglob("*") if "__pycache__" not in path.parts)
+    """The files of a folder, but what Python and mypy keep of them."""
+    return sorted(path for path in folder.rglob("*") if not {"__pycache__", "out"} & set(path.parts))
 
 
 if __name__ == "__main__":

@@ -38,8 +38,11 @@ class Settings:
     """Times are in seconds and sizes in bytes.
 
     A view is made of what was written at most once in `show_every`, and what was written is committed `commit_every`
-    after the first write at the latest. Whoever waits for a view of what they wrote waits `show_seconds` at most. `most_views` are kept (of the 64 that a program records), and one that nobody
-    used goes after `oldest`. `words` are the fields in which words are looked for, all text fields where it is None.
+    after the first write at the latest. Whoever waits for a view waits `show_seconds` at most. `most_views` are kept, of
+    the 64 that a program records, and one that nobody used goes after `oldest`. `words` are the fields in which words are
+    looked for, all text fields where it is None; or `folding` says how a field is filled and looked into. A request's body
+    may have `most_body`, a bulk `most_bulk`, and has `body_seconds` to come. So many threads are `readers` and `writers`,
+    and so many requests may wait before more are refused.
     """
 
     show_every: float = 1.0
@@ -57,8 +60,8 @@ class Settings:
     most_waiting: int = 512
 
     def __post_init__(self) -> None:
-        least = {"show_every": 0, "commit_every": 0, "oldest": 0, "most_body": 1, "most_bulk": 1, "body_seconds": 0.01, "show_seconds": 0}
-        least.update(most_views=1, readers=1, writers=1, most_waiting=1)
+        least = {"show_every": 0, "commit_every": 0, "oldest": 0, "body_seconds": 0.01, "show_seconds": 0}
+        least.update(most_body=1, most_bulk=1, most_views=1, readers=1, writers=1, most_waiting=1)
         for name, smallest in least.items():
             value = getattr(self, name)
             if isinstance(value, bool) or not isinstance(value, (int, float)) or not smallest <= value < 2**40:
