@@ -6,7 +6,7 @@ import os
 import shutil
 import tarfile
 from pathlib import Path
-from typing import TYPE_CHECKING, Generator, List
+from typing import TYPE_CHECKING, Generator, List, Union
 
 from .errors import UsageError
 from .starting import Folder, folder_path
@@ -36,8 +36,8 @@ def backup(catalogue: "BackupCalls", to: Folder) -> int:
                 shutil.copyfileobj(file, copy, _BLOCK)
                 copy.flush()
                 os.fsync(copy.fileno())
-        _sync(path)
-        _sync(os.path.dirname(os.path.abspath(path)))
+        sync_folder(path)
+        sync_folder(os.path.dirname(os.path.abspath(path)))
         return kept.generation
 
 
@@ -76,7 +76,8 @@ def _in_order(kept: Snapshot) -> List[str]:
     return sorted(kept.files, key=lambda name: name.startswith("segments_"))
 
 
-def _sync(folder: str) -> None:
+def sync_folder(folder: Union[str, Path]) -> None:
+    """Waits until the names of a folder's files last. Raises OSError."""
     descriptor = os.open(folder, os.O_RDONLY)
     try:
         os.fsync(descriptor)

@@ -4,12 +4,14 @@ from __future__ import annotations
 
 import re
 import threading
+from collections import deque
+from dataclasses import dataclass, field
 from pathlib import Path
 from types import TracebackType
-from typing import ContextManager, Iterable, List, Mapping, Optional, Tuple, Type, Union
+from typing import ContextManager, Deque, Iterable, List, Mapping, Optional, Tuple, Type, Union
 
 from .catalogue import Catalogue
-from .errors import NoCommit, Refusal, Timeout, UsageError
+from .errors import BadReply, JasminedomeError, NoCommit, Refusal, Timeout, UsageError, fresh
 from .journal_files import JournalFiles
 from .lines import line, text
 from .putting import BATCH, Item, Told, explained, item_text, write_line
@@ -24,12 +26,22 @@ _SKIP = "SKIP "
 _LONGEST_SESSION = "9999"
 
 
+@dataclass(eq=False)
+class _Said:
+    """Lines of one call, and what became of them."""
+
+    lines: List[str]
+    told: List[Told] = field(default_factory=list)
+    error: Optional[JasminedomeError] = None
+    is_done: bool = False
+
+
 class Journal:
     """A catalogue of a folder whose every write is in a journal first; a context manager, which closes the journal.
 
     It has the calls of `Catalogue` that its readers and writers need, and all writes have to go through it. Any thread
     may call; writes go one after another, since the journal has them in the order in which the program has them, and
-    each waits for the disk once. A commit is marked with the place of the journal up to which it goes, and what comes
+    those of threads that wait go together, with one wait for the disk. A commit is marked with the place of the journal up to which it goes, and what comes
     before goes from the journal then. The catalogue is the caller's to close, behind this.
     """
 
@@ -47,6 +59,7 @@ class Journal:
             raise UsageError("a journal can't be in the folder of its catalogue, where a sweep would delete it")
         self._catalogue = catalogue
         self._lock = threading.RLock()
+        self._waiting: Deque[_Said] = deque()
         self._files = JournalFiles(Path(path))
         try:
             self.replayed = self._replay()
@@ -150,18 +163,52 @@ class Journal:
         return told
 
     def _say(self, lines: List[str]) -> List[Told]:
-        with self._lock:
-            before = self._files.place
-            self._files.add(lines)
-            try:
-                told = self._catalogue.say_many(lines)
-            except Timeout as late:
-                if not late.was_sent:
-                    self._skip(range(before + 1, before + len(lines) + 1))
-                raise
-            by_chance = (isinstance(each, Refusal) and each.number in _BY_CHANCE for each in told)
-            self._skip([place for place, is_so in enumerate(by_chance, before + 1) if is_so])
-            return told
+        said = _Said(lines)
+        self._waiting.append(said)
+        with self._lock:  # whoever gets it says for those too who came meanwhile
+            while not said.is_done:
+                self._say_for(self._taken())
+        if said.error is not None:
+            raise fresh(said.error)
+        return said.told
+
+    def _taken(self) -> List[_Said]:
+        """The next of those that wait, with as many lines as go at once."""
+        taken = [self._waiting.popleft()]
+        count = len(taken[0].lines)
+        while self._waiting and count + len(self._waiting[0].lines) <= BATCH:
+            taken.append(self._waiting.popleft())
+            count += len(taken[-1].lines)
+        return taken
+
+    def _say_for(self, taken: List[_Said]) -> None:
+        try:
+            told = iter(self._say_all([line for each in taken for line in each.lines]))
+            for each in taken:
+                each.told = [next(told) for _ in each.lines]
+        except JasminedomeError as error:
+            for each in taken:
+                each.error = error
+        except BaseException as interrupt:
+            for each in taken:
+                each.error = BadReply(f"it isn't known whether it was done: {interrupt!r}")
+            raise
+        finally:
+            for each in taken:
+                each.is_done = True
+
+    def _say_all(self, lines: List[str]) -> List[Told]:
+        before = self._files.place
+        self._files.add(lines)
+        try:
+            told = self._catalogue.say_many(lines)
+        except Timeout as late:
+            if not late.was_sent:
+                self._skip(range(before + 1, before + len(lines) + 1))
+            raise
+        by_chance = (isinstance(each, Refusal) and each.number in _BY_CHANCE for each in told)
+        self._skip([place for place, is_so in enumerate(by_chance, before + 1) if is_so])
+        return told
 
     def _skip(self, places: Iterable[int]) -> None:
         """Notes that what stands at these places was not done, and isn't to be said again."""

@@ -12,6 +12,7 @@ import zlib
 from pathlib import Path
 from typing import BinaryIO, List, Optional, Sequence, Tuple
 
+from .backups import sync_folder
 from .errors import Damaged, DeviceFailed, FolderInUse, UsageError
 
 _NAME = re.compile(r"([0-9]{20})\.journal\Z", re.ASCII)
@@ -30,7 +31,9 @@ class JournalFiles:
         What a crash cut short at the end of the last file is dropped: it was never answered. Raises FolderInUse, Damaged
         where anything else isn't as it was written, and OSError.
         """
-        folder.mkdir(parents=True, exist_ok=True)
+        if not folder.is_dir():
+            folder.mkdir(parents=True)
+            sync_folder(folder.parent)
         self._folder = folder
         self._lock = _locked(folder)
         self.id = secrets.token_hex(8)
@@ -117,11 +120,7 @@ class JournalFiles:
             file.flush()
             os.fsync(file.fileno())
         new.rename(path)
-        descriptor = os.open(self._folder, os.O_RDONLY)
-        try:
-            os.fsync(descriptor)
-        finally:
-            os.close(descriptor)
+        sync_folder(self._folder)
         return path.open("ab")
 
     def _read(self) -> Optional[Tuple[Path, int]]:

@@ -188,6 +188,12 @@ class Writes(ServedTest):
         self.assertEqual(self.refused("GET", "/none", None, 404)["error"], "NoEndpoint")
         self.refused("POST", "/items/a", {}, 405), self.refused("PUT", "/search", {}, 405)
 
+    def test_another_name_of_this_machine_may_not_write(self):
+        for method, path in (("PUT", "/items/a"), ("DELETE", "/items/shoe-1"), ("POST", "/commit"), ("GET", "/backup")):
+            told = self.refused(method, path, {} if method == "PUT" else None, 403, host="elsewhere.example")
+            self.assertEqual(told["error"], "WrongName")
+        self.assertEqual(self.server.ask("POST", "/search", {}, host="elsewhere.example")[1]["total"], len(ITEMS))
+
     def test_bodies_have_limits(self):
         self.assertEqual(self.refused("POST", "/search", "x" * 70_000, 413)["error"], "TooLargeBody")
         self.refused("PUT", "/items/a", "x" * 70_000, 413)

@@ -3,6 +3,7 @@
 import os
 import signal
 import threading
+import time
 import unittest
 from pathlib import Path
 from unittest import mock
@@ -95,6 +96,53 @@ class Replayed(JournalTest):
         self.kill(journal)
         journal = self.journal()
         self.assertEqual((journal.replayed, self.shown(journal)), (120, before))
+
+    def test_those_who_wait_for_the_disk_wait_together(self):
+        journal = self.journal()
+        journal.put({"id": "first"})  # so that there is a file
+        syncs = []
+
+        def sync(_):
+            syncs.append(time.sleep(0.02))
+
+        with mock.patch("os.fdatasync", sync):
+            threads = [threading.Thread(target=lambda n=n: journal.put({"id": f"item-{n}", "price": n})) for n in range(30)]
+            for thread in threads:
+                thread.start()
+            for thread in threads:
+                thread.join()
+        self.assertLess(len(syncs), 25)
+        before = self.shown(journal)
+        self.kill(journal)
+        journal = self.journal()
+        self.assertEqual((journal.replayed, self.shown(journal)), (31, before))
+
+    def test_one_that_is_refused_refuses_no_other(self):
+        journal = self.journal()
+        told = []
+        items = [{"id": f"item-{n}", "price": n if n % 3 else "x"} for n in range(30)]
+
+        def write(item):
+            try:
+                told.append(journal.put(item))
+            except jasminedome.WrongKind as error:
+                told.append(error.detail)
+
+        threads = [threading.Thread(target=write, args=(item,)) for item in items]
+        for thread in threads:
+            thread.start()
+        for thread in threads:
+            thread.join()
+        self.assertEqual(sorted(each for each in told if isinstance(each, int)), list(range(1, 21)))
+        self.assertEqual([each for each in told if not isinstance(each, int)], ['price is "x"'] * 10)
+
+    def test_an_interrupt_leaves_nobody_waiting(self):
+        journal = self.journal()
+        with mock.patch.object(journal._catalogue, "say_many", side_effect=KeyboardInterrupt):
+            self.assertRaises(KeyboardInterrupt, journal.put, {"id": "a"})
+        self.assertEqual(journal.put({"id": "b"}), 1)
+        self.kill(journal)
+        self.assertEqual(sorted(id for id, _ in self.shown(self.journal())), ["a", "b"])  # of a nobody knows
 
     def test_a_loaded_folder_gets_a_journal(self):
         with self.open() as shop:

@@ -133,6 +133,14 @@ class Set(unittest.TestCase):
             self.assertRaises(UsageError, Keys, None, key)
         self.assertNotIn("read-key", repr(keys))
 
+    def test_names_under_which_may_be_written(self):
+        for host in ("127.0.0.1:8080", "localhost", "localhost:80", "[::1]:8080", "10.0.0.5"):
+            self.assertTrue(Keys().allows_name(WRITE, host), host)
+        for host in ("shop.example", "127.0.0.1.shop.example:80", "", "localhost.shop.example", "[x]:1", "x127.0.0.1"):
+            self.assertFalse(Keys().allows_name(WRITE, host), host)
+            for keys, right in ((Keys(), READ), (Keys(write="write-key"), WRITE), (Keys(by_any_name=True), WRITE)):
+                self.assertTrue(keys.allows_name(right, host), host)
+
 
 if __name__ == "__main__":
     unittest.main()

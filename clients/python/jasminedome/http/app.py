@@ -130,6 +130,8 @@ class App:
             raise Problem(401, "NoKey", "the header Authorization: Bearer KEY is missing, or shows no key of this service")
         if status == 403:
             raise Problem(403, "WrongKey", "this key is for reading alone")
+        if not self._keys.allows_name(endpoint.right, request.headers.get("host", "")):
+            raise Problem(403, "WrongName", "without a key, what writes has to name this service by its number or as localhost")
         if not endpoint.right:
             return
         if not self._service.is_open:

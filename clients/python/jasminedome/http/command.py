@@ -63,7 +63,7 @@ def serve(asked: argparse.Namespace) -> int:
     except ImportError as error:
         raise UsageError(f"{MISSING} ({error})") from None
     logging.basicConfig(format="%(asctime)s %(levelname)s %(name)s: %(message)s", level=logging.WARNING)
-    keys = Keys(_key(asked.read_key_file, _READ_KEY), _key(asked.write_key_file, _WRITE_KEY))
+    keys = Keys(_key(asked.read_key_file, _READ_KEY), _key(asked.write_key_file, _WRITE_KEY), asked.without_keys)
     settings = Settings(
         show_every=asked.show_every, commit_every=asked.commit_every, words=asked.words, folding=asked.fold,
         most_body=asked.most_body, most_bulk=asked.most_bulk,

@@ -3,6 +3,7 @@
 from __future__ import annotations
 
 import hmac
+import ipaddress
 from dataclasses import dataclass, field
 from typing import Mapping, Optional, Tuple
 
@@ -89,16 +90,29 @@ class Settings:
 class Keys:
     """Who may do what: a request shows one as `Authorization: Bearer KEY`. What has no key is open to everybody.
 
-    The key for writing is one for reading too.
+    The key for writing is one for reading too. Where there is none, a request that writes has to name the service by a
+    number or as localhost, unless `by_any_name`: a page of somebody else's may give this machine a name of its own, and
+    would then write with its visitor's browser.
     """
 
     read: Optional[str] = field(default=None, repr=False)
     write: Optional[str] = field(default=None, repr=False)
+    by_any_name: bool = False
 
     def __post_init__(self) -> None:
         for key in (self.read, self.write):
             if key is not None and not (key.isascii() and key.isprintable() and key.strip() == key and len(key) >= 8):
                 raise UsageError("a key is 8 characters or more, printable ones of ASCII without spaces around them")
+
+    def allows_name(self, right: str, host: str) -> bool:
+        """Whether a request may ask for the right under the name in its header `Host`."""
+        if right != WRITE or self.write is not None or self.by_any_name:
+            return True
+        name = host.partition("]")[0].lstrip("[") if host.startswith("[") else host.partition(":")[0]
+        try:
+            return name == "localhost" or bool(ipaddress.ip_address(name))
+        except ValueError:
+            return False
 
     def status(self, right: str, shown: str) -> int:
         """200 where the header `Authorization`, or its absence as an empty text, gives the right; else 401 or 403."""
