@@ -10,6 +10,7 @@ import time
 from typing import Any, Dict, Iterator, List, Mapping, Optional, Sequence, Union
 
 from ..errors import BadQuery, JasminedomeError, ProgramEnded, Refusal, UsageError
+from ..lines import line, text
 from ..putting import Told, explained, item_text
 from ..query import Query
 from ..stats import Stat
@@ -20,7 +21,8 @@ from .settings import Settings
 from .views import Clock, Views
 
 _LOOK = 5.0  # seconds between two looks at whether the program is there, where nothing is written
-_MOST_LINE = 9_990  # bytes of a line, so that a session's number has room before it
+_LONGEST_SESSION = "9999"
+_FIRST_PAUSE, _LONGEST_PAUSE = 0.1, 5.0  # seconds until what failed is tried again
 
 log = logging.getLogger("jasminedome.http")
 
@@ -223,13 +225,11 @@ class Service:
     def _line(self, item: Mapping[str, Any]) -> str:
         if set(item) == {"delete"}:
             id = item["delete"]
-            if not isinstance(id, str) or "\n" in id or id.endswith("\r"):
-                raise UsageError(f"{id!r:.100} is no id")
-            return f"DEL {id}"
-        line = f"PUT {item_text(self._folded(item))}"
-        if len(line.encode(errors="replace")) > _MOST_LINE:
-            raise UsageError("the item is too large for a line of the protocol")
-        return line
+            said = f"DEL {text(id, 'the id')}"
+        else:
+            said = f"PUT {item_text(self._folded(item))}"
+        line(f"{_LONGEST_SESSION} {said}")  # what can't be said is told by itself, and the others are said
+        return said
 
     def _folded(self, item: Mapping[str, Any]) -> Mapping[str, Any]:
         return item if self.settings.folding is None else self.settings.folding.apply(item)
@@ -274,6 +274,7 @@ class Service:
                 log.error("no newer view: %s", error)
 
     def _keep(self) -> None:
+        pause = _FIRST_PAUSE
         while True:
             is_written = self._is_written.wait(_LOOK)
             self._is_written.clear()
@@ -292,8 +293,11 @@ class Service:
             except JasminedomeError as error:
                 self.failures += 1
                 log.error("upkeep: %s", error)
-                if self._is_closed.wait(max(0.1, self.settings.show_every)):  # not at once again
+                if self._is_closed.wait(pause):
                     return
+                pause = min(2 * pause, _LONGEST_PAUSE)
+            else:
+                pause = _FIRST_PAUSE
             if self._unshown or self._uncommitted is not None:
                 self._is_written.set()
 
