@@ -1,8 +1,6 @@
 """Backups, dumps, and a catalogue under other fields, by calls and by commands."""
 
-import io
 import json
-import tarfile
 import unittest
 
 import support  # first: it finds the package
@@ -41,9 +39,8 @@ class Backups(CopyTest):
             data = b"".join(tar_of(shop))
             for generation in (1, 2):  # no snapshot was left
                 self.assertRaises((jasminedome.NoSnapshot, jasminedome.NoCommit), shop.ask, f"UNSNAP {generation}")
-        with tarfile.open(fileobj=io.BytesIO(data)) as tar:
-            self.assertEqual(tar.getnames()[-1], "segments_2")  # the commit's own file comes last
-            tar.extractall(self.room / "second")
+        names = support.untar(data, self.room / "second")
+        self.assertEqual(names[-1], "segments_2")  # the commit's own file comes last
         for folder, ids in ((to, ["a", "b", "c"]), (self.room / "second", ["a", "b", "c", "late"])):
             with self.open(folder) as shop, shop.open() as view:
                 self.assertEqual([item["id"] for item in dump(view)], ids)

@@ -1,13 +1,12 @@
 """The HTTP service over its wire: searches under tokens, writes, limits and refusals, keys, ends, and many visitors at once."""
 
-import io
+import contextlib
 import json
 import os
 import re
 import shutil
 import signal
 import socket
-import tarfile
 import tempfile
 import threading
 import time
@@ -201,35 +200,19 @@ class Writes(ServedTest):
         self.assertEqual(self.refused("POST", "/search", "x" * 70_000, 413)["error"], "TooLargeBody")
         self.refused("PUT", "/items/a", "x" * 70_000, 413)
         self.bulk({"id": "a", "title": "x" * 20_000}, status=413)
-        with self.chunked("/search", [b"x" * 1_000] * 100) as told:
-            self.assertIn(b" 413 ", told)
+        self.assertIn(b" 413 ", self.chunked("/search", [b"x" * 1_000] * 100))
 
     def chunked(self, path, pieces):
         """The first line of the answer to a body that doesn't tell its size."""
-        connection = socket.create_connection(("127.0.0.1", self.server.port), 20)
-        connection.sendall(f"POST {path} HTTP/1.1\r\nHost: x\r\nTransfer-Encoding: chunked\r\n\r\n".encode())
-        try:
-            for piece in pieces:
-                connection.sendall(b"%x\r\n%s\r\n" % (len(piece), piece))
-        except (BrokenPipeError, ConnectionResetError):
-            pass
-        told = io.BytesIO(connection.recv(1_000))
-        connection.close()
-        return _Line(told.readline())
+        with socket.create_connection(("127.0.0.1", self.server.port), 20) as connection:
+            connection.sendall(f"POST {path} HTTP/1.1\r\nHost: localhost\r\nTransfer-Encoding: chunked\r\n\r\n".encode())
+            with contextlib.suppress(BrokenPipeError, ConnectionResetError):
+                for piece in pieces:
+                    connection.sendall(b"%x\r\n%s\r\n" % (len(piece), piece))
+            return connection.recv(1_000).split(b"\n")[0]
 
     def test_without_a_folder_there_is_no_backup(self):
         self.assertEqual(self.refused("GET", "/backup", None, 409)["error"], "NoFolder")
-
-
-class _Line:
-    def __init__(self, line):
-        self._line = line
-
-    def __enter__(self):
-        return self._line
-
-    def __exit__(self, *_):
-        pass
 
 
 @NEEDS_STARLETTE
@@ -357,9 +340,8 @@ class Ends(support.FileTest):
         status, data = server.ask("GET", "/backup")
         self.assertEqual(status, 200)
         copy = self.room / "copy"
-        with tarfile.open(fileobj=io.BytesIO(data)) as tar:
-            self.assertTrue(all(each.isreg() and "/" not in each.name for each in tar.getmembers()))
-            tar.extractall(copy)
+        names = support.untar(data, copy)
+        self.assertFalse([name for name in names if "/" in name])
         shutil.move(str(copy), str(self.folder.with_name("whole")))
         self.folder = self.folder.with_name("whole")
         self.assertEqual(self.items(), [{"id": "a", "title": "Shoe"}])
@@ -473,7 +455,7 @@ class Mounted(unittest.TestCase):
     def test_a_body_that_comes_too_slowly_is_given_up(self):
         for path, kind in (("/shop/search", "application/json"), ("/shop/items", NDJSON)):
             with socket.create_connection(("127.0.0.1", self.server.port), 20) as connection:
-                head = f"POST {path} HTTP/1.1\r\nHost: x\r\nContent-Type: {kind}\r\nContent-Length: 50\r\n\r\n{{"
+                head = f"POST {path} HTTP/1.1\r\nHost: localhost\r\nContent-Type: {kind}\r\nContent-Length: 50\r\n\r\n{{"
                 connection.sendall(head.encode())
                 begun = time.monotonic()
                 self.assertIn(b" 408 ", connection.recv(1_000).split(b"\n")[0])

@@ -270,8 +270,8 @@ class Service:
             try:
                 self.views.make()
             except JasminedomeError as error:
-                self.failures += 1
                 log.error("no newer view: %s", error)
+                self.failures += 1
 
     def _keep(self) -> None:
         pause = _FIRST_PAUSE
@@ -286,13 +286,13 @@ class Service:
                 else:
                     self.stat()  # whether the program is there
             except (ProgramEnded, UsageError) as error:
-                self.failures += 1
                 log.error("the program has ended: %s", error)
+                self.failures += 1
                 self._ended.set()
                 return
             except JasminedomeError as error:
-                self.failures += 1
                 log.error("upkeep: %s", error)
+                self.failures += 1
                 if self._is_closed.wait(pause):
                     return
                 pause = min(2 * pause, _LONGEST_PAUSE)
