@@ -26,7 +26,11 @@ else
   begin 'tests/large.py' tests/large.py "$program"
   if [ -x tests/folder.py ]; then begin 'tests/folder.py' tests/folder.py "$program" "$check"; fi
   begin 'clients/python' env JASMINEDOME_PROGRAM="$named" python3 clients/python/tests
-  if command -v chromium >/dev/null && command -v chromedriver >/dev/null; then
+  # The sample shop serves by the first Python that can.
+  serves() { python3 -c 'import starlette, uvicorn' 2>/dev/null || /usr/bin/python3 -c 'import starlette, uvicorn' 2>/dev/null; }
+  if ! serves; then
+    echo "left out for want of Starlette and uvicorn: examples/shop/test, and the tests of clients/python that serve over HTTP" >&2
+  elif command -v chromium >/dev/null && command -v chromedriver >/dev/null; then
     begin 'examples/shop/test' env JASMINEDOME_PROGRAM="$named" examples/shop/test
   else
     echo "left out for want of Chromium and its driver: examples/shop/test, which drives the sample shop's page" >&2

@@ -7,10 +7,10 @@ const newer = line.querySelector(".newer");
 async function look() {
   if (document.hidden) return;
   try {
-    const reply = await fetch("/newest");
-    const newest = Number(await reply.text());
-    if (newest > Number(line.dataset.token)) {
-      newer.querySelector(".newest").textContent = newest.toLocaleString("en");
+    const reply = await fetch("/api/token");
+    const newest = (await reply.json()).token;
+    if (newest && newest !== line.dataset.token) {
+      newer.querySelector(".newest").textContent = Number(newest.split("-")[0]).toLocaleString("en");
       newer.hidden = false;
     }
   } catch {

@@ -25,9 +25,9 @@ class Form:
     is_refused: bool = False
 
 
-def address(token: Optional[int], wish: Wish, **more: str) -> str:
+def address(token: Optional[str], wish: Wish, **more: str) -> str:
     """The address of a page; without a token it leads to the newest view."""
-    parts = [("t", str(token))] if token is not None else []
+    parts = [("t", token)] if token is not None else []
     parts += [("q", wish.typed)] if wish.typed else []
     parts += [(group, label) for group, labels in wish.chosen for label in labels]
     parts += [("price", wish.price)] if wish.price else []
@@ -36,7 +36,12 @@ def address(token: Optional[int], wish: Wish, **more: str) -> str:
     return "/?" + urlencode([*parts, *more.items()])
 
 
-def page(shelf: Shelf, wish: Wish, newest: int, form: Form, said: str = "") -> str:
+def writes(token: str) -> int:
+    """How many writes the catalogue of a token has."""
+    return int(token.partition("-")[0])
+
+
+def page(shelf: Shelf, wish: Wish, newest: str, form: Form, said: str = "") -> str:
     """The whole page."""
     wish = replace(wish, page=shelf.page)
     title = f"{wish.typed} – " if wish.typed else ""
@@ -68,7 +73,7 @@ def page(shelf: Shelf, wish: Wish, newest: int, form: Form, said: str = "") -> s
 
 
 def _head(shelf: Shelf, wish: Wish) -> str:
-    kept = [("t", str(shelf.token)), *((group, label) for group, labels in wish.chosen for label in labels)]
+    kept = [("t", shelf.token), *((group, label) for group, labels in wish.chosen for label in labels)]
     kept += [(name, value) for name, value in (("price", wish.price), ("sort", wish.sort)) if value]
     hidden = "".join(f'<input type="hidden" name="{_e(name)}" value="{_e(value)}">' for name, value in kept)
     return f"""<header>
@@ -79,11 +84,11 @@ def _head(shelf: Shelf, wish: Wish) -> str:
 </header>"""
 
 
-def _notice(shelf: Shelf, wish: Wish, newest: int, said: str) -> str:
-    hidden = "" if newest > shelf.token else " hidden"
-    return f"""<p class="view" data-token="{shelf.token}" role="status">{f'<b>{_e(said)}</b> ' if said else ''}
-<span>You look at the catalogue after <b>{shelf.token:,}</b> writes, and it holds still.</span>
-<span class="newer"{hidden}>A newer one is there, after <b class="newest">{newest:,}</b>:
+def _notice(shelf: Shelf, wish: Wish, newest: str, said: str) -> str:
+    hidden = " hidden" if newest == shelf.token else ""
+    return f"""<p class="view" data-token="{_e(shelf.token)}" role="status">{f'<b>{_e(said)}</b> ' if said else ''}
+<span>You look at the catalogue after <b>{writes(shelf.token):,}</b> writes, and it holds still.</span>
+<span class="newer"{hidden}>A newer one is there, after <b class="newest">{writes(newest):,}</b>:
 <a href="{_e(address(None, wish))}">show it</a></span></p>"""
 
 

@@ -2,7 +2,9 @@
 
 import logging
 
+from .backups import backup, tar_of
 from .catalogue import Catalogue
+from .dumps import dump
 from .errors import (
     REFUSALS,
     AllHeld,
@@ -34,9 +36,14 @@ from .errors import (
     WrongKind,
 )
 from .folders import fields_of
+from .highlights import highlighted, marks
+from .histograms import Bar, even_edges, histogram
+from .journal import Journal
 from .putting import PutMany, RefusedItem
 from .query import EVERYTHING, NOTHING, Query, all_of, any_of, between, none_of, prefix, quote, term, words
+from .reindexing import fitted, reindex
 from .stats import SegmentStat, Snapshot, Stat
+from .typed import folded, searchable, typed
 from .version import __version__
 from .view import FacetCount, Facets, Hit, Page, View
 
@@ -48,6 +55,7 @@ __all__ = [
     "BadMark",
     "BadQuery",
     "BadReply",
+    "Bar",
     "Catalogue",
     "Damaged",
     "DeviceFailed",
@@ -57,6 +65,7 @@ __all__ = [
     "FolderInUse",
     "Hit",
     "JasminedomeError",
+    "Journal",
     "NOTHING",
     "NoCommit",
     "NoSnapshot",
@@ -86,12 +95,24 @@ __all__ = [
     "__version__",
     "all_of",
     "any_of",
+    "backup",
     "between",
+    "dump",
+    "even_edges",
     "fields_of",
+    "fitted",
+    "folded",
+    "highlighted",
+    "histogram",
+    "marks",
     "none_of",
     "prefix",
     "quote",
+    "reindex",
+    "searchable",
+    "tar_of",
     "term",
+    "typed",
     "words",
 ]
 

@@ -1,4 +1,4 @@
-"""The command line: `python -m jasminedome load FILE --folder F` and `python -m jasminedome shell F`."""
+"""The command line: `python -m jasminedome` and load, shell, serve, backup, dump or reindex."""
 
 from __future__ import annotations
 
@@ -6,10 +6,11 @@ import argparse
 import os
 import sys
 from collections import Counter
-from typing import Dict, List, Optional, Tuple
+from typing import Callable, Dict, List, Optional, Tuple
 
-from . import shell
+from . import copying, shell
 from .errors import JasminedomeError, Refusal, UsageError
+from .http import command
 from .loading import EVERY, Loaded, load
 from .plans import ASKED, CENTS, SKIP
 from .sources import FORMS, STANDARD_INPUT
@@ -29,7 +30,8 @@ def main(arguments: Optional[List[str]] = None) -> int:
     asked = _parser().parse_args(arguments)
     is_shell = asked.command == "shell"
     try:
-        return shell.run(asked.folder, asked.program) if is_shell else _load(asked)
+        run: Callable[[argparse.Namespace], int] = asked.run
+        return run(asked)
     except BrokenPipeError:
         # Whoever read the output has seen enough of it.
         os.dup2(os.open(os.devnull, os.O_WRONLY), sys.stdout.fileno())
@@ -46,7 +48,8 @@ def main(arguments: Optional[List[str]] = None) -> int:
 
 
 def _parser() -> argparse.ArgumentParser:
-    parser = argparse.ArgumentParser("jasminedome", description="Load a catalogue from a file, and look into it.")
+    about = "Load a catalogue from a file, look into it, serve it, and copy it."
+    parser = argparse.ArgumentParser("jasminedome", description=about)
     parser.add_argument("--version", action="version", version=f"%(prog)s {__version__}")
     commands = parser.add_subparsers(dest="command", required=True)
     loading = commands.add_parser(
@@ -55,9 +58,14 @@ def _parser() -> argparse.ArgumentParser:
         description="Puts the items of FILE into a folder, which is made where there is none, and commits them.",
     )
     _add_load(loading)
+    loading.set_defaults(run=_load)
     shelled = commands.add_parser("shell", help="ask a folder's catalogue", description="Asks the catalogue of a folder.")
     shelled.add_argument("folder", metavar="F", help="where the catalogue is kept")
-    for each in (loading, shelled):
+    shelled.set_defaults(run=lambda asked: shell.run(asked.folder, asked.program))
+    serving = commands.add_parser("serve", help="answer over HTTP", description="Serves a catalogue over HTTP, as JSON.")
+    command.add_arguments(serving)
+    serving.set_defaults(run=command.serve)
+    for each in (loading, shelled, serving, *copying.add_commands(commands)):
         each.add_argument("--program", metavar="PATH", help="the program; else JASMINEDOME_PROGRAM, else catalogue on the PATH")
     return parser
 

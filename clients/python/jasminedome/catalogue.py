@@ -14,7 +14,7 @@ from .errors import JasminedomeError, Refusal, Timeout, UsageError
 from .lines import line, number, reading, seconds
 from .lines import text as _text
 from .program import Program
-from .putting import AHEAD, BATCH, Item, Load, Numbered, PutMany, explained, item_text
+from .putting import AHEAD, BATCH, Item, Load, Numbered, PutMany, Told, explained, item_text, write_line, written
 from .query import Query, query_text
 from .replies import NEVER, Limit, Replies, Reply, Together
 from .sessions import UPKEEP, Sessions
@@ -170,6 +170,28 @@ class Catalogue:
         for replies, sent in waiting:
             load.note(replies, sent, self._limit())
         return load.told()
+
+    def say_many(self, lines: Iterable[str]) -> List[Told]:
+        """Says writes in order without waiting for each reply: `PUT {..}`, `DEL id` and `DELW query`, as the protocol has
+        them behind the session's number. Answers for each the write's number, or the Refusal, which changed nothing.
+
+        Raises UsageError, before anything is sent, where one is no such line; ProgramEnded, and Timeout.
+        """
+        session = self._session()
+        said = [line(f"{session} {write_line(each)}") for each in lines]
+        waiting: Deque[Replies] = deque()
+        told: List[Told] = []
+        self.close_left()
+        for start in range(0, len(said), BATCH):
+            batch = said[start : start + BATCH]
+            replies = Replies(len(batch))
+            self._program.send(b"".join(batch), replies, self._limit())
+            waiting.append(replies)
+            if len(waiting) >= AHEAD:
+                told += written(waiting.popleft().wait(self._limit()), session)
+        for replies in waiting:
+            told += written(replies.wait(self._limit()), session)
+        return told
 
     def delete(self, id: str) -> int:
         """Takes out the item with the id, if there is one; answers the write's number.

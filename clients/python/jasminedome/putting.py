@@ -13,6 +13,8 @@ from .replies import Limit, Replies, read_refusal
 
 Item = Union[str, Mapping[str, object]]
 Numbered = Tuple[int, Item]
+Told = Union[int, Refusal]
+"""What became of a write: its number, or why it was refused."""
 
 BATCH = 512
 """How many items go out in one write."""
@@ -20,6 +22,7 @@ BATCH = 512
 AHEAD = 8
 """How many batches wait for replies at the same time."""
 
+_WRITES = ("PUT ", "DEL ", "DELW ")
 _MAX_CHARACTER = 4  # bytes of one in UTF-8
 _to_json = json.JSONEncoder(ensure_ascii=False, allow_nan=False, separators=(",", ":")).encode
 
@@ -105,6 +108,20 @@ class Load:
         """All that was noted."""
         refused = tuple(sorted(self._refused, key=lambda each: each.index))
         return PutMany(self._accepted, self._last, refused)
+
+
+def write_line(said: object) -> str:
+    """A line that writes, behind the session's number. Raises UsageError for any other."""
+    if not isinstance(said, str) or not said.startswith(_WRITES):
+        raise UsageError(f"{said!r:.200} isn't PUT, DEL or DELW and its argument")
+    return said
+
+
+def written(replies: Sequence[bytes], session: int) -> List[Told]:
+    """What the replies to lines that write tell of each. Raises BadReply."""
+    ok = b"%d OK " % session
+    with reading():
+        return [int(each[len(ok) :]) if each.startswith(ok) else read_refusal(each) for each in replies]
 
 
 def explained(refusal: Refusal, item: Item, fields: Mapping[str, str]) -> Refusal:

@@ -4,6 +4,7 @@ from __future__ import annotations
 
 import os
 import shlex
+from pathlib import Path
 from typing import List, Mapping, Optional, Sequence, Union
 
 from .errors import DeviceFailed, FolderInUse, Refusal, UsageError
@@ -15,6 +16,9 @@ Folder = Union[str, "os.PathLike[str]"]
 
 PROGRAM = "JASMINEDOME_PROGRAM"
 """The environment variable that names the program, with arguments as a shell would split them."""
+
+BUNDLED = Path(__file__).with_name("bin") / "catalogue"
+"""Where a wheel for Linux on x86-64 puts the program."""
 
 _IN_USE = "folder in use"  # what the program says of a folder that another one has
 
@@ -62,9 +66,10 @@ def explained(refusal: Refusal, folder: Optional[str], fields: Mapping[str, str]
 def _command(program: object) -> List[str]:
     if program is None:
         try:
-            return shlex.split(os.environ.get(PROGRAM, "")) or ["catalogue"]
+            named = shlex.split(os.environ.get(PROGRAM, ""))
         except ValueError as error:
             raise UsageError(f"{PROGRAM} is no command: {error}") from None
+        return named or [str(BUNDLED) if BUNDLED.exists() else "catalogue"]
     if isinstance(program, os.PathLike):
         program = os.fspath(program)
     words = [program] if isinstance(program, str) else list(program) if isinstance(program, Sequence) else []

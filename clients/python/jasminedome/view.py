@@ -177,8 +177,12 @@ class View:
 
         `view.get_many(page)` are the items of a page, in its order. Raises what `source` does.
         """
+        return [_item(each) for each in self.sources(ids)]
+
+    def sources(self, ids: Iterable[Union[str, Hit]]) -> List[Optional[str]]:
+        """The texts of these items as they were put, as `get_many` has the items. Raises what `source` does."""
         asked = [self._get_line(each.id if isinstance(each, Hit) else each) for each in _names(ids)]
-        return [_item(_source(each)) for each in self._ask_many((line, _none) for line in asked)]
+        return [_source(each) for each in self._ask_many((line, _none) for line in asked)]
 
     def _get_line(self, id: str) -> str:
         return f"GET {self.token} {text(id, 'the id')}"

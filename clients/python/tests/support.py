@@ -6,6 +6,7 @@ import os
 import shlex
 import shutil
 import sys
+import tarfile
 import tempfile
 import unittest
 from pathlib import Path
@@ -36,6 +37,15 @@ def scripted(*replies, **options):
     code = "import sys\nsys.stdin.readline()\nprint('OK 0', flush=True)\n"
     code += f"for reply in {replies!r}:\n    sys.stdin.readline()\n    print(reply, flush=True)\n"
     return jasminedome.Catalogue(FIELDS, program=[sys.executable, "-c", code], **options)
+
+
+def untar(data, folder):
+    """Makes a folder of the files of a tar; answers their names, in order."""
+    folder.mkdir()
+    with tarfile.open(fileobj=io.BytesIO(data)) as tar:
+        for member in tar.getmembers():
+            (folder / member.name).write_bytes(tar.extractfile(member).read())
+        return tar.getnames()
 
 
 class ShopTest(unittest.TestCase):

@@ -2,8 +2,10 @@
 
 import contextlib
 import http.client
+import importlib.util
 import re
 import shutil
+import subprocess
 import sys
 import tempfile
 import threading
@@ -14,16 +16,23 @@ from unittest import mock
 from urllib.parse import urlencode
 
 import support  # first: it finds the package
+from serving import PYTHON, WANTING
 
 import jasminedome
+from jasminedome.http import Service, Settings
 
+CAN_SERVE = all(importlib.util.find_spec(name) for name in ("starlette", "uvicorn"))
 SHOP = support.HERE.parents[2] / "examples" / "shop"
 sys.path.insert(0, str(SHOP))
 
 import sample  # noqa: E402
-from server import Server  # noqa: E402
 from store import Store, Wish  # noqa: E402
-from views import OLDEST, Views  # noqa: E402
+
+if CAN_SERVE:
+    import uvicorn
+    from addresses import shop as shop_of
+
+    from jasminedome.http.serving import bound
 
 ITEMS = [
     sample.item("boot-1", "Hiking boot", "boot", "Acme", ["red"], 8_900),
@@ -34,78 +43,32 @@ ITEMS = [
 ]
 
 
-class Clock:
-    """A clock that stands still until it is put forward."""
-
-    def __init__(self):
-        self.now = 1_000.0
-
-    def __call__(self):
-        return self.now
+class Elsewhere(unittest.TestCase):
+    @unittest.skipIf(CAN_SERVE, "this Python can serve")
+    @unittest.skipUnless(PYTHON, WANTING)
+    def test_in_a_python_that_can_serve(self):
+        told = subprocess.run([PYTHON, __file__], stderr=subprocess.PIPE, text=True)
+        self.assertEqual(told.returncode, 0, told.stderr)
 
 
-class Kept(unittest.TestCase):
-    """The views alone, under a clock of the test's own."""
+class Quiet(uvicorn.Server if CAN_SERVE else object):
+    """A server in a thread of the test's."""
 
-    def setUp(self):
-        self.shop = jasminedome.Catalogue(sample.FIELDS, program=support.PROGRAM)
-        self.addCleanup(self.shop.close)
-        self.clock = Clock()
+    def __init__(self, app):
+        super().__init__(uvicorn.Config(app, lifespan="off", log_level="warning", ws="none"))
+        self.socket = bound("127.0.0.1", 0)
+        self.socket.listen()  # so that whoever asks before it runs waits
+        self.server_port = self.socket.getsockname()[1]
+        self.thread = threading.Thread(target=self.run, kwargs={"sockets": [self.socket]})
+        self.thread.start()
 
-    def views(self, every=5.0, most=4):
-        return Views(self.shop, every, most, self.clock)
+    def install_signal_handlers(self):
+        """They are the main thread's."""
 
-    def save(self, views, seconds):
-        self.shop.put(ITEMS[0])
-        self.clock.now += seconds
-        return views.make()
-
-    def test_views_are_made_at_most_once_in_so_many_seconds(self):
-        views = self.views()
-        made = [self.save(views, 1) for _ in range(20)]
-        self.assertEqual([index for index, is_made in enumerate(made, 1) if is_made], [5, 10, 15, 20])
-        self.assertEqual(views.newest, 20)
-        self.assertEqual(views.wait(), 5)
-
-    def test_a_visitors_view_outlives_those_that_nobody_has(self):
-        views = self.views()
-        given = views.get(0)
-        for _ in range(200):
-            self.assertTrue(self.save(views, 5))
-        self.assertIs(views.get(0), given)
-        self.assertEqual(given.find(count=0).total, 0)
-        self.assertEqual(len(views), 4)
-        self.assertEqual(self.shop.prune(1), 0)
-
-    def test_the_view_that_was_used_least_recently_goes_first(self):
-        views = self.views()
-        for _ in range(3):
-            self.clock.now += 1
-            views.get(views.newest)
-            self.save(views, 5)
-        self.clock.now += 1
-        views.get(0)  # its visitor comes back
-        views.get(3)
-        self.save(views, 5)
-        self.assertEqual([token for token in range(5) if views.get(token) is not None], [0, 2, 3, 4])
-
-    def test_a_view_that_nobody_uses_goes_by_its_age(self):
-        views = self.views(most=50)
-        views.get(0)
-        self.save(views, OLDEST / 2)
-        views.get(1)
-        self.save(views, OLDEST / 2 + 1)
-        self.assertEqual([token for token in range(3) if views.get(token) is not None], [1, 2])
-        self.clock.now += 2 * OLDEST
-        self.assertIsNotNone(views.get(2))  # the newest stays
-
-    def test_no_visitor_waits_while_a_view_is_made(self):
-        views = self.views(every=0.0)
-        with views._making:
-            thread = threading.Thread(target=views.get, args=(0,))
-            thread.start()
-            thread.join(5)
-            self.assertFalse(thread.is_alive())
+    def close(self):
+        self.should_exit = True
+        self.thread.join()
+        self.socket.close()
 
 
 class Page(unittest.TestCase):
@@ -120,13 +83,11 @@ class Page(unittest.TestCase):
         self.serve(0.0)
 
     def serve(self, every):
-        self.store = Store(self.shop, every)
-        self.addCleanup(self.store.close)
-        self.server = Server(self.store, 0)
-        thread = threading.Thread(target=self.server.serve_forever)
-        thread.start()
-        for call in (thread.join, self.server.server_close, self.server.shutdown):
-            self.addCleanup(call)
+        self.service = Service(self.shop, Settings(show_every=every))
+        self.addCleanup(self.service.close)
+        self.store = Store(self.service)
+        self.server = Quiet(shop_of(self.store))
+        self.addCleanup(self.server.close)
 
     def ask(self, path, method="GET", form=None):
         connection = http.client.HTTPConnection("127.0.0.1", self.server.server_port, timeout=20)
@@ -163,6 +124,23 @@ class Page(unittest.TestCase):
         wish = Wish(" ".join(f"words{n}s" for n in range(40)), chosen, "0-25", "cheap", 1)
         self.assertEqual(self.store.shelf(self.store.view(self.store.newest), wish).total, 0)
 
+    def test_the_service_is_there_to_be_read_and_no_more(self):
+        self.assertEqual(self.ask("/api/health")[0].status, 200)
+        writes = {"/api/items/a": "PUT", "/api/items/boot-1": "DELETE", "/api/commit": "POST", "/api/backup": "GET"}
+        for path, method in writes.items():
+            self.assertEqual(self.ask(path, method, {} if method != "GET" else None)[0].status, 401)
+        self.assertEqual(len(self.found("")), len(ITEMS))
+
+    def test_a_form_from_elsewhere_or_too_long_is_refused(self):
+        self.assertEqual(self.ask("/staff", "POST", {"title": "x" * 10_000})[0].status, 413)
+        port = self.server.server_port
+        for name, value in (("Origin", "http://elsewhere.example"), ("Host", f"elsewhere.example:{port}"), ("Host", "127.0.0.1")):
+            headers = {name: value}
+            with contextlib.closing(http.client.HTTPConnection("127.0.0.1", port, timeout=20)) as connection:
+                connection.request("POST", "/staff", "do=delete&id=boot-1", headers)
+                self.assertEqual(connection.getresponse().status, 403)
+        self.assertEqual(self.found("boot"), {"boot-1"})
+
     def test_no_choice_leads_to_nothing(self):
         for asked in ({}, {"q": "boot"}, {"color": "red"}, {"q": "none of these"}, {"price": "0-25"}):
             text = self.page(**asked)
@@ -188,7 +166,7 @@ class Page(unittest.TestCase):
 
     def test_head_is_get_without_a_body(self):
         token = self.store.newest
-        for path in (f"/?t={token}", "/newest", "/style.css", "/icons.svg"):
+        for path in (f"/?t={token}", "/api/token", "/style.css", "/icons.svg"):
             got, body = self.ask(path)
             head, nothing = self.ask(path, "HEAD")
             self.assertEqual((head.status, nothing), (200, ""))
@@ -210,24 +188,25 @@ class Page(unittest.TestCase):
         self.save("12.34")
         text = self.page(t=token, edit="boot-1")
         self.assertIn('name="price" inputmode="decimal" required maxlength="12" value="12.34"', text)
-        self.assertEqual((self.store.newest, self.ask("/newest")[1]), (token, str(token)))
+        self.assertEqual((self.store.newest, self.ask("/api/token")[1]), (token, f'{{"token":"{token}"}}'))
         self.ask("/staff", "POST", {"do": "delete", "id": "boot-1", "back": f"/?t={token}"})
         self.assertIn("There is no boot-1 any more.", self.ask(f"/?t={token}&edit=boot-1")[1])
         self.assertEqual(jasminedome.fields_of(self.folder), sample.FIELDS)
 
     def test_what_is_saved_is_saved_though_no_view_can_be_made(self):
-        with mock.patch.object(self.store._views, "make", side_effect=jasminedome.AllHeld), self.assertLogs("shop") as caught:
+        fails = mock.patch.object(self.service.views, "make", side_effect=jasminedome.AllHeld)
+        with fails, self.assertLogs("shop") as caught:
             self.save("12.34")
         self.assertIn("64 tokens are recorded", caught.output[0])
         self.assertEqual(self.shop.stat().writes, len(ITEMS) + 1)
 
     def test_the_last_save_comes_into_a_view_by_itself(self):
         self.serve(1.0)
-        token = self.store.newest
+        token = self.service.view().token
         for _ in range(3):
             self.save()
         end = time.monotonic() + 10
-        while self.store.newest < token + 3:
+        while self.service.view().token < token + 3:
             self.assertLess(time.monotonic(), end)
             time.sleep(0.05)
 
@@ -241,6 +220,10 @@ class Page(unittest.TestCase):
             self.assertLess(time.monotonic() - begun, 5)
             self.assertTrue(saver.is_alive())
         saver.join()
+
+
+if not CAN_SERVE:
+    del Page  # Elsewhere runs it
 
 
 if __name__ == "__main__":
