@@ -5,5 +5,3 @@
 pub mod ledger;
 pub mod parts;
 pub mod rights;
-#[cfg(test)]
-mod verdict;

@@ -1,6 +1,5 @@
 //! Whose rights are found.
 use crate::rights::making::{add, end, has};
-use crate::verdict::assert_yes;
 use cat_base::Refusal;
 use cat_lifetimes::rights::Rights;
 use std::alloc::Global;
@@ -31,7 +30,8 @@ fn are_their_own(alloc: Global) -> Result<bool, Refusal> {
 
 #[test]
 fn sessions_find_their_own(rt: HostRuntime) -> Result<(), Fail> {
-    assert_yes(&rt, are_their_own(rt.alloc()))
+    assert!(&rt; are_their_own(rt.alloc())?);
+    Ok(())
 }
 
 /// A session has a view once.
@@ -50,5 +50,6 @@ fn is_one(alloc: Global) -> Result<bool, Refusal> {
 
 #[test]
 fn a_session_has_a_view_once(rt: HostRuntime) -> Result<(), Fail> {
-    assert_yes(&rt, is_one(rt.alloc()))
+    assert!(&rt; is_one(rt.alloc())?);
+    Ok(())
 }

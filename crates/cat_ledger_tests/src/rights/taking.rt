@@ -1,6 +1,5 @@
 //! Which rights are taken out, and which stay.
 use crate::rights::making::{add, end, has, take};
-use crate::verdict::assert_yes;
 use cat_base::{Refusal, SessionNo, Token};
 use cat_lifetimes::rights::Rights;
 use std::alloc::Global;
@@ -60,7 +59,8 @@ fn takes_its_own(alloc: Global) -> Result<bool, Refusal> {
 
 #[test]
 fn what_is_taken_out_is_the_sessions(rt: HostRuntime) -> Result<(), Fail> {
-    assert_yes(&rt, takes_its_own(rt.alloc()))
+    assert!(&rt; takes_its_own(rt.alloc())?);
+    Ok(())
 }
 
 /// Takes one out, and gives it to its session once more.
@@ -79,7 +79,8 @@ fn end_all(alloc: Global) -> Result<bool, Refusal> {
 
 #[test]
 fn each_right_is_taken_out_at_the_end(rt: HostRuntime) -> Result<(), Fail> {
-    assert_yes(&rt, end_all(rt.alloc()))
+    assert!(&rt; end_all(rt.alloc())?);
+    Ok(())
 }
 
 #[test]

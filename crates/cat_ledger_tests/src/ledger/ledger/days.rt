@@ -1,6 +1,5 @@
 //! A shop's day, in memory and in a folder, and openings again.
 use crate::ledger::ledger::calling::{Call, Row, run};
-use crate::verdict::assert_yes;
 use cat_base::Refusal;
 use cat_directory::{Directory, Folder, MemoryDirectory, Shelf};
 use std::alloc::Global;
@@ -167,7 +166,8 @@ fn pass_over<D: Directory + Shelf + Drop>(alloc: Global, device: D) -> Result<bo
 
 #[test]
 fn days_in_memory(rt: HostRuntime) -> Result<(), Fail> {
-    assert_yes(&rt, pass_over(rt.alloc(), MemoryDirectory::new(rt.alloc())))
+    assert!(&rt; pass_over(rt.alloc(), MemoryDirectory::new(rt.alloc()))?);
+    Ok(())
 }
 
 /// Makes a folder at the path, without a file.
@@ -181,6 +181,6 @@ fn days_in_a_folder(rt: HostRuntime) -> Result<(), Fail> {
     let alloc = rt.alloc();
     make_folder(&rt, "days_test")?;
     let device = Folder::at(rt, alloc, "days_test")?;
-    assert_yes(&rt, pass_over(alloc, device))?;
+    assert!(&rt; pass_over(alloc, device)?);
     Ok(fs::remove_dir_all(&rt, "days_test")?)
 }

@@ -3,7 +3,6 @@ use crate::ledger::ledger::calling::{
     Call, FIELDS, Row, answer, are_answered, close, end, open, run, try_open,
 };
 use crate::ledger::ledger::maintaining::standing_of;
-use crate::verdict::assert_yes;
 use cat_base::{Refusal, WriteNo};
 use cat_directory::{Directory, Faults, Faulty, FileName, Holder, MemoryDirectory, Shelf};
 use cat_ledger::Ledger;
@@ -165,7 +164,8 @@ fn each_succeeds_later(alloc: Global, calls: u64) -> Result<bool, Refusal> {
 
 #[test]
 fn each_call_that_fails_succeeds_later(rt: HostRuntime) -> Result<(), Fail> {
-    assert_yes(&rt, each_succeeds_later(rt.alloc(), CALLS))
+    assert!(&rt; each_succeeds_later(rt.alloc(), CALLS)?);
+    Ok(())
 }
 
 /// Whether just so many calls are made where none fails.
@@ -177,7 +177,8 @@ fn makes_calls(alloc: Global, calls: u64) -> Result<bool, Refusal> {
 
 #[test]
 fn no_other_call_is_made(rt: HostRuntime) -> Result<(), Fail> {
-    assert_yes(&rt, makes_calls(rt.alloc(), CALLS))
+    assert!(&rt; makes_calls(rt.alloc(), CALLS)?);
+    Ok(())
 }
 
 /// Makes the calls in turn up to the first that the directory fails at. Answers how many writes the last commit has that came.
@@ -343,5 +344,6 @@ fn survives_each(alloc: Global, calls: u64) -> Result<bool, Refusal> {
 /// No commit that came is lost by a crash, wherever it comes.
 #[test]
 fn a_crash_leaves_the_newest_commit(rt: HostRuntime) -> Result<(), Fail> {
-    assert_yes(&rt, survives_each(rt.alloc(), CALLS))
+    assert!(&rt; survives_each(rt.alloc(), CALLS)?);
+    Ok(())
 }

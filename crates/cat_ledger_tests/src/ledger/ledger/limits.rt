@@ -4,7 +4,6 @@ use crate::ledger::ledger::calling::{
 };
 use crate::ledger::ledger::maintaining::{note, snapshot};
 use crate::ledger::ledger::writing::commit;
-use crate::verdict::assert_yes;
 use cat_base::{MAX_SNAPSHOTS, Refusal};
 use cat_directory::{Directory, FileName, MemoryDirectory, Shelf};
 use cat_ledger::Ledger;
@@ -52,7 +51,8 @@ fn refuses_without_change(alloc: Global) -> Result<bool, Refusal> {
 
 #[test]
 fn a_refusal_changes_nothing(rt: HostRuntime) -> Result<(), Fail> {
-    assert_yes(&rt, refuses_without_change(rt.alloc()))
+    assert!(&rt; refuses_without_change(rt.alloc())?);
+    Ok(())
 }
 
 /// A text of so many bytes.
@@ -260,17 +260,20 @@ fn has_limit(alloc: Global, limit: Limit) -> Result<bool, Refusal> {
 
 #[test]
 fn texts_of_commits_have_a_limit(rt: HostRuntime) -> Result<(), Fail> {
-    assert_yes(&rt, has_limit(rt.alloc(), Limit::Texts))
+    assert!(&rt; has_limit(rt.alloc(), Limit::Texts)?);
+    Ok(())
 }
 
 #[test]
 fn sixty_four_views_are_held(rt: HostRuntime) -> Result<(), Fail> {
-    assert_yes(&rt, has_limit(rt.alloc(), Limit::Views))
+    assert!(&rt; has_limit(rt.alloc(), Limit::Views)?);
+    Ok(())
 }
 
 #[test]
 fn snapshots_have_a_limit(rt: HostRuntime) -> Result<(), Fail> {
-    assert_yes(&rt, has_limit(rt.alloc(), Limit::Snapshots))
+    assert!(&rt; has_limit(rt.alloc(), Limit::Snapshots)?);
+    Ok(())
 }
 
 /// An item of a commit, and one behind it.
@@ -331,5 +334,6 @@ fn refuses_twice(alloc: Global) -> Result<bool, Refusal> {
 /// A refused opening gives the directory back with all files, those behind the commit too.
 #[test]
 fn an_opening_that_is_refused_deletes_nothing(rt: HostRuntime) -> Result<(), Fail> {
-    assert_yes(&rt, refuses_twice(rt.alloc()))
+    assert!(&rt; refuses_twice(rt.alloc())?);
+    Ok(())
 }

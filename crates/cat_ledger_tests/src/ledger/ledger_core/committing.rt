@@ -1,6 +1,5 @@
 //! Commits, snapshots and sweeps.
 use crate::ledger::ledger_core::steps::{Case, Row, Step, run_each, run_failing};
-use crate::verdict::assert_yes;
 use cat_base::LAST_NUMBER;
 use cat_directory::FileName;
 use std::test::Fail;
@@ -59,7 +58,8 @@ const ONE_DELETED: &[Row<'static>] = &[
 /// The live file is made and written, it is synced, and then the commit's own file is made, written and synced.
 #[test]
 fn a_refused_commit_is_none(rt: HostRuntime) -> Result<(), Fail> {
-    assert_yes(&rt, run_failing(rt.alloc(), ONE_DELETED, 6, SECOND_FAILS))
+    assert!(&rt; run_failing(rt.alloc(), ONE_DELETED, 6, SECOND_FAILS)?);
+    Ok(())
 }
 
 /// There is nothing to take a snapshot of.
@@ -114,5 +114,6 @@ const CASES: &[Case<'static>] = &[
 
 #[test]
 fn commits_and_snapshots_keep_their_files(rt: HostRuntime) -> Result<(), Fail> {
-    assert_yes(&rt, run_each(rt.alloc(), CASES))
+    assert!(&rt; run_each(rt.alloc(), CASES)?);
+    Ok(())
 }

@@ -1,6 +1,5 @@
 //! Flushes, at their limits and on devices that fail.
 use crate::ledger::ledger_core::steps::{Case, Row, Step, run_each, run_failing};
-use crate::verdict::assert_yes;
 use cat_base::LAST_NUMBER;
 use cat_directory::{Faults, FileName};
 use std::test::Fail;
@@ -27,7 +26,8 @@ const FLUSH_FAILS: &[Row<'static>] = &[
 /// Two files are made and written.
 #[test]
 fn each_call_of_a_flush_fails(rt: HostRuntime) -> Result<(), Fail> {
-    assert_yes(&rt, run_failing(rt.alloc(), &[], 4, FLUSH_FAILS))
+    assert!(&rt; run_failing(rt.alloc(), &[], 4, FLUSH_FAILS)?);
+    Ok(())
 }
 
 /// Nothing waits, and the device isn't called.
@@ -70,5 +70,6 @@ const CASES: &[Case<'static>] = &[
 
 #[test]
 fn nothing_the_last_number_and_a_full_buffer_are_flushed(rt: HostRuntime) -> Result<(), Fail> {
-    assert_yes(&rt, run_each(rt.alloc(), CASES))
+    assert!(&rt; run_each(rt.alloc(), CASES)?);
+    Ok(())
 }

@@ -6,7 +6,6 @@ ghost use Rattle.cat_model.specs.CommitFile.{commit_needs};
 
 use crate::ledger::ledger_core::calling::Device;
 use crate::ledger::ledger_core::steps::{Row, Step, new_device, run_in, run_on};
-use crate::verdict::assert_yes;
 use cat_base::{Generation, Refusal, SegNo};
 use cat_commits::Commit;
 use cat_commits::reading::read_commit;
@@ -134,5 +133,6 @@ fn is_opened_again(alloc: Global) -> Result<bool, Refusal> {
 
 #[test]
 fn a_committed_state_is_opened_again_and_goes_on(rt: HostRuntime) -> Result<(), Fail> {
-    assert_yes(&rt, is_opened_again(rt.alloc()))
+    assert!(&rt; is_opened_again(rt.alloc())?);
+    Ok(())
 }

@@ -1,6 +1,5 @@
 //! Recorded views, who holds them, and the users of their files.
 use crate::ledger::ledger_core::steps::{Case, Row, Step, run_each};
-use crate::verdict::assert_yes;
 use cat_directory::FileName;
 use std::test::Fail;
 
@@ -41,5 +40,6 @@ const CASES: &[Case<'static>] = &[((1, 1), &[PRUNED]), ((1, 1), &[LEAST_GOES])];
 
 #[test]
 fn held_views_stay_and_others_go(rt: HostRuntime) -> Result<(), Fail> {
-    assert_yes(&rt, run_each(rt.alloc(), CASES))
+    assert!(&rt; run_each(rt.alloc(), CASES)?);
+    Ok(())
 }

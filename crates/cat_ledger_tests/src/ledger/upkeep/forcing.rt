@@ -1,6 +1,5 @@
 //! Merges of all segments.
 use crate::ledger::upkeep::calling::{Row, run};
-use crate::verdict::assert_yes;
 use cat_ledger::upkeep::MergeNews;
 use std::test::Fail;
 
@@ -27,5 +26,6 @@ const ALONE: &[Row<'static>] = &[
 
 #[test]
 fn all_are_merged(rt: HostRuntime) -> Result<(), Fail> {
-    assert_yes(&rt, run(rt.alloc(), 1, ALONE))
+    assert!(&rt; run(rt.alloc(), 1, ALONE)?);
+    Ok(())
 }

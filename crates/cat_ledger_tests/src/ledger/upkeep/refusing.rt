@@ -1,6 +1,5 @@
 //! Merges that are refused.
 use crate::ledger::upkeep::calling::{Row, empty_at, put_apart, run, standing, step};
-use crate::verdict::assert_yes;
 use cat_base::{LAST_NUMBER, Refusal};
 use cat_directory::{Faults, Faulty, MemoryDirectory};
 use cat_ledger::cat_ledger_state::Core;
@@ -20,7 +19,8 @@ const LAST_NUMBERS: &[Row<'static>] = &[
 
 #[test]
 fn no_number_is_left(rt: HostRuntime) -> Result<(), Fail> {
-    assert_yes(&rt, run(rt.alloc(), LAST_NUMBER - 1, LAST_NUMBERS))
+    assert!(&rt; run(rt.alloc(), LAST_NUMBER - 1, LAST_NUMBERS)?);
+    Ok(())
 }
 
 /// A device where two segments were put, and of whose calls from then on the one behind so many fails.
@@ -83,5 +83,6 @@ fn fails_at_each(alloc: Global, calls: u64) -> Result<bool, Refusal> {
 /// One call begins the file, three copy the sources of two segments, and two write the new one.
 #[test]
 fn each_call_of_a_merge_fails(rt: HostRuntime) -> Result<(), Fail> {
-    assert_yes(&rt, fails_at_each(rt.alloc(), 6))
+    assert!(&rt; fails_at_each(rt.alloc(), 6)?);
+    Ok(())
 }

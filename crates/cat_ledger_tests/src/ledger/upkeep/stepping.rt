@@ -1,6 +1,5 @@
 //! Merges of a window, step by step.
 use crate::ledger::upkeep::calling::{Row, run};
-use crate::verdict::assert_yes;
 use cat_ledger::upkeep::{MergeNews, MergePolicy};
 use std::test::Fail;
 
@@ -44,5 +43,6 @@ const WINDOW_OF_THREE: &[Row<'static>] = &[
 
 #[test]
 fn a_window_is_merged(rt: HostRuntime) -> Result<(), Fail> {
-    assert_yes(&rt, run(rt.alloc(), 1, WINDOW_OF_THREE))
+    assert!(&rt; run(rt.alloc(), 1, WINDOW_OF_THREE)?);
+    Ok(())
 }

@@ -6,7 +6,6 @@ ghost use Rattle.cat_ledger_tests.specs.parts.Windows.{rows_put, HasBehind, MayR
 use crate::parts::current::making::{asked, fields, is_unused, leaf_at, leaf_of, push};
 use crate::parts::current::steps::{Step, run};
 use crate::parts::current::told::stands;
-use crate::verdict::assert_yes;
 use cat_base::{Refusal, SegNo};
 use cat_items::Schema;
 use cat_live_table::current::Current;
@@ -186,7 +185,8 @@ const MOVED: &[Step] = &[
 
 #[test]
 fn ids_move(rt: HostRuntime) -> Result<(), Fail> {
-    assert_yes(&rt, run_over_window(rt.alloc(), AS_IT_STOOD, MOVED))
+    assert!(&rt; run_over_window(rt.alloc(), AS_IT_STOOD, MOVED)?);
+    Ok(())
 }
 
 const ROWS_DIE: &[Step] = &[
@@ -200,7 +200,8 @@ const DEAD: &[Step] = &[Step::Stands("1: a; 9: -b -c -d e; 4: -f g", "aeg")];
 
 #[test]
 fn rows_die_meanwhile(rt: HostRuntime) -> Result<(), Fail> {
-    assert_yes(&rt, run_over_window(rt.alloc(), ROWS_DIE, DEAD))
+    assert!(&rt; run_over_window(rt.alloc(), ROWS_DIE, DEAD)?);
+    Ok(())
 }
 
 const ALL_DIE: &[Step] = &[
@@ -216,5 +217,6 @@ const NONE_LEFT: &[Step] = &[
 
 #[test]
 fn nothing_comes_where_no_row_is_left(rt: HostRuntime) -> Result<(), Fail> {
-    assert_yes(&rt, run_over_window(rt.alloc(), ALL_DIE, NONE_LEFT))
+    assert!(&rt; run_over_window(rt.alloc(), ALL_DIE, NONE_LEFT)?);
+    Ok(())
 }

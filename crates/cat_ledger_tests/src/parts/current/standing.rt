@@ -1,7 +1,6 @@
 //! Segments that come and go, and rows that die.
 use crate::parts::current::steps::{Step, run};
 use crate::parts::current::told::are_leaves;
-use crate::verdict::assert_yes;
 use cat_base::Refusal;
 use cat_live_table::current::Current;
 use cat_search_tests::views::PutText;
@@ -59,7 +58,8 @@ const BY_ID: &[Step] = &[
 
 #[test]
 fn deletes_by_id(rt: HostRuntime) -> Result<(), Fail> {
-    assert_yes(&rt, run_over_three(rt.alloc(), BY_ID))
+    assert!(&rt; run_over_three(rt.alloc(), BY_ID)?);
+    Ok(())
 }
 
 const BY_QUERY: &[Step] = &[
@@ -73,7 +73,8 @@ const BY_QUERY: &[Step] = &[
 
 #[test]
 fn deletes_by_query(rt: HostRuntime) -> Result<(), Fail> {
-    assert_yes(&rt, run_over_three(rt.alloc(), BY_QUERY))
+    assert!(&rt; run_over_three(rt.alloc(), BY_QUERY)?);
+    Ok(())
 }
 
 const TAKEN_BACK: &[Step] = &[
@@ -91,7 +92,8 @@ const TAKEN_BACK: &[Step] = &[
 
 #[test]
 fn a_push_is_taken_back(rt: HostRuntime) -> Result<(), Fail> {
-    assert_yes(&rt, run_over_three(rt.alloc(), TAKEN_BACK))
+    assert!(&rt; run_over_three(rt.alloc(), TAKEN_BACK)?);
+    Ok(())
 }
 
 const BEHIND_A_COPY: &[Step] = &[
@@ -121,5 +123,6 @@ fn copies_stay(alloc: Global) -> Result<bool, Refusal> {
 
 #[test]
 fn copies_stay_as_they_were(rt: HostRuntime) -> Result<(), Fail> {
-    assert_yes(&rt, copies_stay(rt.alloc()))
+    assert!(&rt; copies_stay(rt.alloc())?);
+    Ok(())
 }

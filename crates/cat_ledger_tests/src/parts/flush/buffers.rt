@@ -1,7 +1,6 @@
 //! Buffers from their first item to their flush.
 ghost use Rattle.std.specs.Prelude.{◌≡◌, ◌<◌, ◌≤◌, ◌+◌, ◌^◌, [], All, OnOk};
 
-use crate::verdict::assert_yes;
 use cat_base::{Refusal, SegNo, WriteNo};
 use cat_items::Schema;
 use cat_live_table::buffer::{Buffer, Sealed};
@@ -127,7 +126,8 @@ fn puts_update_last(alloc: Global) -> Result<bool, Refusal> {
 
 #[test]
 fn an_update_goes_last(rt: HostRuntime) -> Result<(), Fail> {
-    assert_yes(&rt, puts_update_last(rt.alloc()))
+    assert!(&rt; puts_update_last(rt.alloc())?);
+    Ok(())
 }
 
 /// This many lines, each an item's.
@@ -172,7 +172,8 @@ fn fills(alloc: Global) -> Result<bool, Refusal> {
 
 #[test]
 fn as_many_wait_as_may(rt: HostRuntime) -> Result<(), Fail> {
-    assert_yes(&rt, fills(rt.alloc()))
+    assert!(&rt; fills(rt.alloc())?);
+    Ok(())
 }
 
 /// Four items, of which two have a price of 5 or more.
@@ -226,5 +227,6 @@ fn deletes_what_matches(alloc: Global) -> Result<bool, Refusal> {
 
 #[test]
 fn what_a_query_matches_goes(rt: HostRuntime) -> Result<(), Fail> {
-    assert_yes(&rt, deletes_what_matches(rt.alloc()))
+    assert!(&rt; deletes_what_matches(rt.alloc())?);
+    Ok(())
 }

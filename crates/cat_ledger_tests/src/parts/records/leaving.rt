@@ -2,7 +2,6 @@
 use crate::parts::records::making::{
     acquire_at, fill, finds_view, has_tokens, record_at, records_at,
 };
-use crate::verdict::assert_yes;
 use cat_base::{Refusal, Token};
 use cat_lifetimes::records::Records;
 use std::alloc::{AllocError, Global};
@@ -41,7 +40,8 @@ fn drops_the_least(alloc: Global) -> Result<bool, Refusal> {
 
 #[test]
 fn the_least_free_view_goes(rt: HostRuntime) -> Result<(), Fail> {
-    assert_yes(&rt, drops_the_least(rt.alloc()))
+    assert!(&rt; drops_the_least(rt.alloc())?);
+    Ok(())
 }
 
 /// Records a second view, before which none is to go, nor behind it.
@@ -59,7 +59,8 @@ fn drops_none(alloc: Global) -> Result<bool, Refusal> {
 
 #[test]
 fn no_view_goes_while_there_is_room(rt: HostRuntime) -> Result<(), Fail> {
-    assert_yes(&rt, drops_none(rt.alloc()))
+    assert!(&rt; drops_none(rt.alloc())?);
+    Ok(())
 }
 
 /// Lets all views that there may be be held, of which that at 63 is the last.
@@ -92,7 +93,8 @@ fn drops_no_held(alloc: Global) -> Result<bool, Refusal> {
 
 #[test]
 fn where_all_64_are_held_none_is_recorded(rt: HostRuntime) -> Result<(), Fail> {
-    assert_yes(&rt, drops_no_held(rt.alloc()))
+    assert!(&rt; drops_no_held(rt.alloc())?);
+    Ok(())
 }
 
 /// Records nine views more beside that at the token 10, at 20, 30 and so on.
@@ -145,22 +147,24 @@ fn prunes_the_others(alloc: Global) -> Result<bool, Refusal> {
 
 #[test]
 fn a_prune_keeps_the_newest_and_the_held(rt: HostRuntime) -> Result<(), Fail> {
-    assert_yes(&rt, prunes_the_others(rt.alloc()))
+    assert!(&rt; prunes_the_others(rt.alloc())?);
+    Ok(())
 }
 
-/// Whether a prune of ten views to one would drop no file.
-fn drop_no_file(alloc: Global, records: &mut Records) -> Result<bool, Refusal> {
+/// How many files a prune of ten views to one would drop.
+fn count_dropped(alloc: Global, records: &mut Records) -> Result<usize, Refusal> {
     fill_tens(alloc, records)?;
-    Ok(records.files_dropped(alloc, 1)?.len() == 0)
+    Ok(records.files_dropped(alloc, 1)?.len())
 }
 
 /// The same of records that are gone then.
-fn need_no_files(alloc: Global) -> Result<bool, Refusal> {
+fn files_of_ten(alloc: Global) -> Result<usize, Refusal> {
     let mut records = records_at(alloc, 10)?;
-    drop_no_file(alloc, &mut records)
+    count_dropped(alloc, &mut records)
 }
 
 #[test]
 fn views_without_segments_need_no_files(rt: HostRuntime) -> Result<(), Fail> {
-    assert_yes(&rt, need_no_files(rt.alloc()))
+    assert!(&rt; files_of_ten(rt.alloc())? == 0);
+    Ok(())
 }
