@@ -115,11 +115,15 @@ fn hold_one<D: Directory + Shelf>(
     number: &str,
 ) -> Result<bool, Refusal> {
     let held = format!(in alloc; "new {number}")?;
-    let rows = &[
-        (Call::Refresh, number),
-        (Call::Acquire(1, None), held.as_str()),
-    ];
-    are_answered(alloc, ledger, rights, rows)
+    Ok(
+        is_answered(alloc, ledger, rights, &(Call::Refresh, number))?
+            && is_answered(
+                alloc,
+                ledger,
+                rights,
+                &(Call::Acquire(1, None), held.as_str()),
+            )?,
+    )
 }
 
 /// Puts an item of its own, and lets the session hold a view behind it.
