@@ -17,6 +17,7 @@ Done = Callable[[Optional[bytes]], object]
 
 _SAID = 2_000  # bytes of standard error that an exception tells
 _PATIENCE = 10.0  # seconds in which a program whose input has ended has to end
+_ENDING = 1.0  # seconds in which one that has closed a pipe by itself has to
 
 
 def no_more(_: bytes) -> int:
@@ -59,7 +60,6 @@ class Engine(asyncio.SubprocessProtocol):
         self._said = b""
         self._end: Optional[JasminedomeError] = None
         self._loop = asyncio.get_running_loop()
-        self._exited: "asyncio.Future[None]" = self._loop.create_future()
         self._ended: "asyncio.Future[None]" = self._loop.create_future()
         self.pid = 0
 
@@ -171,14 +171,9 @@ class Engine(asyncio.SubprocessProtocol):
         self._rest = data[start:] if start else data
 
     def pipe_connection_lost(self, fd: int, exc: Optional[Exception]) -> None:
-        """It reads or says no more; without both it is of no use."""
-        if fd == 0 and not self._exited.done() and self._end is None:
-            self.kill()
-
-    def process_exited(self) -> None:
-        """It has ended; what it said may still come."""
-        if not self._exited.done():
-            self._exited.set_result(None)
+        """It reads or says no more: without both it is of no use, and mostly about to end by itself."""
+        if fd in (0, 1) and self._end is None:
+            self._loop.call_later(_ENDING, self.kill)
 
     def connection_lost(self, exc: Optional[Exception]) -> None:
         """It has ended, and all of its output has come."""

@@ -93,8 +93,9 @@ BEGIN
     RETURN positions;
 END $$;
 
--- Deletes the batches that are older than `age`, up to the oldest base of every replica that was ever told of. Their keys
--- go with them, so that a retry which comes later than that would be appended again.
+-- Deletes the batches that are older than `age` and before the oldest base of every replica that was ever told of; that of
+-- the base stays, since its mark may be held. Their keys go with them, so that a retry which comes later than that would be
+-- appended again.
 CREATE FUNCTION cut(age interval) RETURNS bigint LANGUAGE plpgsql AS $$
 DECLARE
     now record;
@@ -104,7 +105,7 @@ DECLARE
 BEGIN
     SELECT * INTO now FROM head FOR UPDATE;
     SELECT min(b.position) INTO young FROM batch b WHERE b.at >= clock_timestamp() - age;
-    SELECT least(coalesce(young - 1, now.position), min(r.base)) INTO upto FROM replica r HAVING count(*) > 0;
+    SELECT least(coalesce(young - 1, now.position), min(r.base) - 1) INTO upto FROM replica r HAVING count(*) > 0;
     IF upto IS NULL OR upto <= now.cut THEN RETURN now.cut; END IF;
     SELECT b.seal INTO at_upto FROM batch b WHERE b.position = upto;
     DELETE FROM batch b WHERE b.position <= upto;

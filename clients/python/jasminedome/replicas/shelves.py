@@ -8,7 +8,7 @@ import json
 import logging
 import time
 from collections import deque
-from typing import Any, Callable, Deque, Dict, Iterable, Iterator, List, NamedTuple, Optional, Sequence, Tuple, TypeVar, Union
+from typing import Any, Callable, Deque, Dict, Iterable, List, NamedTuple, Optional, Sequence, Tuple, TypeVar, Union
 
 from ..errors import BadReply, Refusal, UsageError
 from ..lines import line, number, reading, text
@@ -105,8 +105,6 @@ class _Shelf:
 
     def ask(self, lines: Sequence[bytes], silence: float) -> Optional[List[bytes]]:
         """The replies to lines; None where it can't be asked."""
-        if self.rests:
-            return None
         try:
             wire = self._take()
             try:
@@ -319,11 +317,11 @@ class Shelves:
     def _view(self, shown: Shown) -> ShelfView:
         return ShelfView(self, shown.stamp, shown.position)
 
-    def _round(self) -> Iterator[_Shelf]:
-        """The replicas, another first each time."""
-        known = self._known()
-        turn = next(self._turn)
-        return (known[(turn + at) % len(known)] for at in range(len(known)))
+    def _round(self) -> List[_Shelf]:
+        """The replicas that don't rest, another first each time."""
+        awake = [shelf for shelf in self._known() if not shelf.rests]
+        turn = next(self._turn) % max(1, len(awake))
+        return awake[turn:] + awake[:turn]
 
     def _known(self) -> List[_Shelf]:
         if self._log is not None and time.monotonic() - self._looked_at > _LOOKED:

@@ -1,5 +1,7 @@
 """A PostgreSQL of the tests' own, in a temporary folder, and why there may be none."""
 
+import atexit
+import functools
 import glob
 import os
 import pwd
@@ -10,6 +12,7 @@ import tempfile
 from pathlib import Path
 
 USER = "postgres"
+MEMORY = "/dev/shm"
 
 
 def initdb():
@@ -43,9 +46,9 @@ def free_port():
 class Cluster:
     """A running server; `dsn` leads to it."""
 
-    def __init__(self, *settings):
-        """`settings` are lines of postgresql.conf."""
-        self.top = Path(tempfile.mkdtemp(prefix="jasminedome-postgres-"))
+    def __init__(self, *settings, room=None):
+        """`settings` are lines of postgresql.conf, `room` is the folder that its own is made in."""
+        self.top = Path(tempfile.mkdtemp(prefix="jasminedome-postgres-", dir=room))
         self._as = ["runuser", "-u", USER, "--"] if os.getuid() == 0 else []
         if self._as:
             shutil.chown(self.top, USER)
@@ -74,3 +77,12 @@ class Cluster:
     def _run(self, what, *words):
         command = [*self._as, str(Path(initdb()).parent / what), *words]
         subprocess.run(command, check=True, cwd=self.top, stdin=subprocess.DEVNULL, stdout=subprocess.DEVNULL, stderr=subprocess.DEVNULL)
+
+
+@functools.lru_cache(maxsize=None)
+def shared():
+    """The one server of all tests, which is deleted in the end; in memory where there is such a folder, to be quick."""
+    made = Cluster("max_wal_size = 64MB", room=MEMORY if os.access(MEMORY, os.W_OK) else None)
+    me = os.getpid()
+    atexit.register(lambda: os.getpid() == me and made.end())
+    return made

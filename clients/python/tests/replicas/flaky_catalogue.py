@@ -1,6 +1,7 @@
 """The stand-in as one that now and then refuses what others accept, for want of memory or by its device; and that can end.
 
-FLAKY is the chance of a refusal. A line that holds the word `deadly` ends it, as a fault of a program would.
+FLAKY is the chance of a refusal; while there is no file FLAKY_ONCE names, the 40th item is refused for certain. A line that
+holds the word `deadly` ends it, as a fault of a program would.
 """
 
 import os
@@ -13,6 +14,7 @@ sys.path.insert(0, str(Path(__file__).resolve().parent.parent))
 import fake_catalogue  # noqa: E402
 
 CHANCE = float(os.environ.get("FLAKY", "0"))
+ONCE = Path(os.environ["FLAKY_ONCE"]) if "FLAKY_ONCE" in os.environ else None
 TROUBLES = {
     "do_put": ((40, 1), (30, 1)),
     "do_del": ((16, 1),),
@@ -34,6 +36,9 @@ def trouble(name, refusals):
                 raise fake_catalogue.No(number)
         if any("deadly" in str(each) for each in arguments):
             os._exit(3)
+        if ONCE is not None and name == "do_put" and self.writes == 40 and not ONCE.exists():
+            ONCE.touch()
+            raise fake_catalogue.No(40)
         return sound(self, *arguments)
 
     setattr(fake_catalogue.Fake, name, method)

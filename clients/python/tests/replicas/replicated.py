@@ -5,19 +5,24 @@ import json
 import os
 import random
 import shlex
+import shutil
 import signal
 import subprocess
 import sys
+import tempfile
 import time
+import unittest
 from pathlib import Path
 
 HERE = Path(__file__).resolve().parent
 PACKAGE = HERE.parent.parent
 sys.path[:0] = [str(PACKAGE), str(HERE.parent)]
 
+import cluster  # noqa: E402
 from cluster import free_port  # noqa: E402
 
-from jasminedome.replicas import Log  # noqa: E402
+from jasminedome.replicas import Log, Shelves  # noqa: E402
+from jasminedome.replicas.database import Database  # noqa: E402
 from jasminedome.replicas.wire import GONE, Wire  # noqa: E402
 
 FAKE = [sys.executable, str(HERE.parent / "fake_catalogue.py")]
@@ -98,13 +103,17 @@ class Node:
 
     def until(self, key, patience=PATIENCE):
         """What its status has under a key, once that is something."""
+        return self.until_it(f"has {key}", lambda told: told[key], patience)[key]
+
+    def until_it(self, what, is_so, patience=PATIENCE):
+        """Its status, once that is so."""
         until = time.monotonic() + patience
         while True:
-            told = self.status()[key]
-            if told:
+            told = self.status()
+            if is_so(told):
                 return told
             if time.monotonic() > until:
-                raise TimeoutError(f"{self.name} has no {key}: {self.status()}")
+                raise TimeoutError(f"{self.name} never {what}: {told}")
             time.sleep(0.02)
 
     def kill(self):
@@ -163,10 +172,50 @@ def dump(address, token, ids=(), queries=("*:*",)):
 
 def log_of(dsn, name):
     """A new log under that name, in place of an old one."""
-    import psycopg2
-
-    connection = psycopg2.connect(dsn)
-    connection.autocommit = True
-    connection.cursor().execute(f"DROP SCHEMA IF EXISTS {name} CASCADE")
-    connection.close()
+    database = Database(dsn, "public", 30)
+    database.ask(f"DROP SCHEMA IF EXISTS {name} CASCADE")
+    database.close()
     return Log.create(dsn, FIELDS, name)
+
+
+class LogTest(unittest.TestCase):
+    """A test with a log of its own, and a room for replicas of it."""
+
+    def setUp(self):
+        self.cluster = cluster.shared()
+        self.dsn = self.cluster.dsn
+        self.name = f"t{os.urandom(4).hex()}"
+        self.log = log_of(self.dsn, self.name)
+        self.room = Path(tempfile.mkdtemp(prefix="jasminedome-replicas-"))
+        self.nodes = []
+        self.addCleanup(self._end)
+
+    def _end(self):
+        for node in self.nodes:
+            node.stop()
+        self.log.close()
+        shutil.rmtree(self.room)
+
+    def node(self, name, **options):
+        """A replica that runs, of this log."""
+        node = Node(self.dsn, self.name, self.room, name, **options).start()
+        self.nodes.append(node)
+        return node
+
+    def shelves(self, *nodes, **options):
+        shelves = Shelves([node.address for node in nodes], **options)
+        self.addCleanup(shelves.close)
+        return shelves
+
+    def ask(self, sql, *arguments):
+        """The rows of a statement, said behind the log's back."""
+        database = Database(self.dsn, self.name, 10)
+        try:
+            return database.ask(sql, arguments)
+        finally:
+            database.close()
+
+    def assert_alike(self, nodes, tokens, ids=()):
+        """Every one of the replicas shows the same under each of the tokens."""
+        for token in tokens:
+            self.assertEqual(len({dump(node.address, token, ids) for node in nodes}), 1, token)
