@@ -7,7 +7,7 @@ import os
 import re
 import select
 import time
-from typing import Any, List, Optional, Sequence, Tuple
+from typing import Any, Iterator, List, Optional, Sequence, Tuple
 
 try:
     import psycopg2
@@ -127,15 +127,39 @@ class Database:
         return self._connection
 
 
-def refused(error: Exception) -> Exception:
-    """What a statement's error means, where it is one that the log's own functions raise; else the error itself."""
-    known = _REFUSED_BY.get(getattr(error, "pgcode", None) or "")
-    return known(_first_line(error)) if known else error
+def say_together(dsn: str, statements: Sequence[Statement]) -> None:
+    """Says statements in one transaction of a connection of its own. Raises LogUnreachable, and LogRefused, where none holds."""
+    try:
+        connection = psycopg2.connect(dsn, connect_timeout=_CONNECTING)
+    except psycopg2.Error as error:
+        raise LogUnreachable(f"PostgreSQL is away: {str(error).strip()}") from None
+    try:
+        with connection, connection.cursor() as cursor:
+            for sql, arguments in statements:
+                cursor.execute(sql, arguments or None)
+    except psycopg2.Error as error:
+        raise LogRefused(_first_line(error)) from None
+    finally:
+        connection.close()
+
+
+@contextlib.contextmanager
+def refusing() -> Iterator[None]:
+    """Around a statement of somebody else's connection: what the log's own functions raise is what it means."""
+    try:
+        yield
+    except psycopg2.Error as error:
+        found = _known(error)
+        raise error if found is None else found from None
 
 
 def _refused(error: Exception) -> Exception:
-    found = refused(error)
-    return LogRefused(_first_line(error)) if found is error else found
+    return _known(error) or LogRefused(_first_line(error))
+
+
+def _known(error: Exception) -> Optional[Exception]:
+    known = _REFUSED_BY.get(getattr(error, "pgcode", None) or "")
+    return known(_first_line(error)) if known else None
 
 
 def _first_line(error: Exception) -> str:

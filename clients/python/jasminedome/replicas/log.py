@@ -13,15 +13,13 @@ from itertools import islice
 from pathlib import Path
 from typing import Any, Dict, Iterable, Iterator, List, Mapping, Optional, Sequence, Tuple, Union
 
-import psycopg2
-
 from ..errors import JasminedomeError, UsageError, refusal
 from ..lines import number, text
 from ..putting import Item, json_text
 from ..query import Query
 from .batches import Batch, Delete, DeleteWhere, Mark, Put, Write, first_seal, joined
-from .database import Database, refused, schema_name
-from .errors import LogBehind, LogRefused, LogUnreachable, NotTold, Skipped, WrongBatch
+from .database import Database, refusing, say_together, schema_name
+from .errors import LogBehind, NotTold, Skipped, WrongBatch
 from .gathering import Gathering
 from .rules import own_rules
 
@@ -117,21 +115,14 @@ class Log:
         spelled = json_text({text(field, "the field"): text(fields[field], "the kind") for field in sorted(fields)})
         said, id = rules or own_rules(), os.urandom(8).hex()
         seal = first_seal(id, said, spelled)
-        try:
-            connection = psycopg2.connect(dsn, connect_timeout=5)
-        except psycopg2.Error as error:
-            raise LogUnreachable(f"PostgreSQL is away: {str(error).strip()}") from None
-        try:
-            with connection, connection.cursor() as cursor:
-                cursor.execute(f"CREATE SCHEMA {schema_name(name)}; SET LOCAL search_path = {name}")
-                cursor.execute(Path(__file__).with_name("schema.sql").read_text(encoding="utf-8"))
-                values = (id, spelled, said, seal, seal, number(most_lead, "the lead"))
-                columns = "id, fields, rules, position, seal, cut_seal, most_lead"
-                cursor.execute(f"INSERT INTO head ({columns}) VALUES (%s, %s, %s, 0, %s, %s, %s)", values)
-        except psycopg2.Error as error:
-            raise LogRefused(str(error).strip().split("\n")[0]) from None
-        finally:
-            connection.close()
+        values = (id, spelled, said, seal, seal, number(most_lead, "the lead"))
+        columns = "id, fields, rules, position, seal, cut_seal, most_lead"
+        statements = [
+            (f"CREATE SCHEMA {schema_name(name)}; SET LOCAL search_path = {name}", ()),
+            (Path(__file__).with_name("schema.sql").read_text(encoding="utf-8"), ()),
+            (f"INSERT INTO head ({columns}) VALUES (%s, %s, %s, 0, %s, %s, %s)", values),
+        ]
+        say_together(dsn, statements)
         return cls(dsn, name)
 
     def __enter__(self) -> "Log":
@@ -181,10 +172,8 @@ class Log:
             cursor.execute("SELECT current_setting('search_path')")
             before = cursor.fetchone()[0]
             cursor.execute(f"SET LOCAL search_path = {self.name}")
-            try:
+            with refusing():
                 cursor.execute(_APPEND, given)
-            except psycopg2.Error as error:
-                raise refused(error) from None
             position = int(cursor.fetchone()[0])
             cursor.execute("SELECT set_config('search_path', %s, true)", (before,))
         return position

@@ -4,6 +4,7 @@ from __future__ import annotations
 
 import asyncio
 import hashlib
+import re
 from collections import deque
 from typing import Deque, List, Sequence, Tuple
 
@@ -24,6 +25,7 @@ AHEAD = 4
 
 _EVERYWHERE = frozenset((10, 11, 12, 13, 14, 15, 24))  # refusals that hang on the line and the fields alone
 _HEAD = b"%d " % WRITER
+_REFUSAL = re.compile(rb"%bNO ([0-9]{1,4})(?: [0-9]+)?\Z" % _HEAD)
 _SUMS = 1 << 64
 
 
@@ -95,8 +97,8 @@ class Sending:
             if reply == b"%bOK %d" % (_HEAD, self.count + 1):
                 self.count += 1
                 continue
-            words = reply.split(b" ")
-            number = int(words[2]) if len(words) > 2 and words[1] == b"NO" and words[2].isdigit() else -1
+            found = _REFUSAL.match(reply)
+            number = int(found.group(1)) if found else -1
             if number not in _EVERYWHERE:
                 raise Tainted(f"line {place[1]} of {place[0]} was answered {reply[:80]!r} behind {self.count} writes")
             self._note(place, number)

@@ -1,6 +1,6 @@
 """The stand-in as one that now and then refuses what others accept, for want of memory or by its device; and that can end.
 
-FLAKY is the chance of a refusal; while there is no file FLAKY_ONCE names, the 40th item is refused for certain. A line that
+FLAKY is the chance of a refusal, and FLAKY_READS that of one of a read; while there is no file FLAKY_ONCE names, the 40th item is refused for certain. A line that
 holds the word `deadly` ends it, as a fault of a program would.
 """
 
@@ -14,6 +14,7 @@ sys.path.insert(0, str(Path(__file__).resolve().parent.parent))
 import fake_catalogue  # noqa: E402
 
 CHANCE = float(os.environ.get("FLAKY", "0"))
+READS = float(os.environ.get("FLAKY_READS", "0"))
 ONCE = Path(os.environ["FLAKY_ONCE"]) if "FLAKY_ONCE" in os.environ else None
 TROUBLES = {
     "do_put": ((40, 1), (30, 1)),
@@ -43,6 +44,20 @@ def trouble(name, refusals):
 
     setattr(fake_catalogue.Fake, name, method)
 
+
+def read_trouble(name):
+    sound = getattr(fake_catalogue.Fake, name)
+
+    def method(self, *arguments):
+        if random.random() < READS:
+            raise fake_catalogue.No(40)
+        return sound(self, *arguments)
+
+    setattr(fake_catalogue.Fake, name, method)
+
+
+for name in ("do_find", "do_facets", "do_get"):
+    read_trouble(name)
 
 for name, refusals in TROUBLES.items():
     trouble(name, refusals)
