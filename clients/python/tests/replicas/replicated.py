@@ -170,12 +170,12 @@ def dump(address, token, ids=(), queries=("*:*",)):
     return digest.hexdigest(), size
 
 
-def log_of(dsn, name):
+def log_of(dsn, name, fields=FIELDS):
     """A new log under that name, in place of an old one."""
     database = Database(dsn, "public", 30)
     database.ask(f"DROP SCHEMA IF EXISTS {name} CASCADE")
     database.close()
-    return Log.create(dsn, FIELDS, name)
+    return Log.create(dsn, fields, name)
 
 
 class LogTest(unittest.TestCase):
