@@ -24,6 +24,9 @@ else
   if [ -x tests/limits.py ]; then begin 'tests/limits.py' tests/limits.py "$program"; fi
   if [ -x tests/folder.py ]; then begin 'tests/folder.py' tests/folder.py "$program" "$check"; fi
   begin 'clients/python' env JASMINEDOME_PROGRAM="$named" python3 clients/python/tests
+  if python3 clients/python/tests/replicas --can; then
+    begin 'clients/python/tests/replicas' env JASMINEDOME_PROGRAM="$named" python3 clients/python/tests/replicas
+  fi
   if command -v chromium >/dev/null && command -v chromedriver >/dev/null; then
     begin 'examples/shop/test' env JASMINEDOME_PROGRAM="$named" examples/shop/test
   else

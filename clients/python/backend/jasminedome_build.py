@@ -39,6 +39,8 @@ def metadata() -> str:
         f"Version: {version()}",
         "Summary: Client of Jasminedome, search over a catalogue whose views hold still",
         "Requires-Python: >=3.9",
+        "Provides-Extra: postgres",
+        "Requires-Dist: psycopg2>=2.9; extra == 'postgres'",
         "Description-Content-Type: text/markdown",
     ]
     return "\n".join(lines) + "\n\n" + (TOP / "README.md").read_text(encoding="utf-8")
@@ -81,7 +83,7 @@ def build_wheel(wheel_directory: str, config_settings: _Settings = None, metadat
     """The package as a wheel."""
     wheel = Wheel(wheel_directory)
     for path in sorted((TOP / NAME).rglob("*")):
-        if path.suffix == ".py" or path.name == "py.typed":
+        if path.suffix in (".py", ".sql") or path.name == "py.typed":
             wheel.add(path.relative_to(TOP).as_posix(), path.read_bytes())
     return wheel.end()
 

@@ -35,9 +35,10 @@ class Wheels(unittest.TestCase):
             names = {each for each in wheel.namelist() if ".dist-info" not in each}
             record = wheel.read(f"jasminedome-{jasminedome.__version__}.dist-info/RECORD").decode().splitlines()
             self.assertEqual({line.split(",")[0] for line in record}, set(wheel.namelist()))
-        modules = [path.name for path in (PACKAGE / "jasminedome").iterdir()]
-        sources = {f"jasminedome/{name}" for name in modules if name.endswith((".py", ".typed"))}
+        files = [path.relative_to(PACKAGE).as_posix() for path in (PACKAGE / "jasminedome").rglob("*")]
+        sources = {name for name in files if name.endswith((".py", ".sql", ".typed"))}
         self.assertEqual(names, sources)
+        self.assertIn("jasminedome/replicas/schema.sql", names)
         jasminedome_build.build_wheel(str(self.room))
         self.assertEqual((self.room / name).read_bytes(), first)
 

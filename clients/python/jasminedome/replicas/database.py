@@ -7,6 +7,7 @@ import os
 import re
 import select
 import time
+import weakref
 from typing import Any, Iterator, List, Optional, Sequence, Tuple
 
 try:
@@ -46,7 +47,9 @@ class Database:
         self.patience = patience
         self._listens = listens
         self._connection: Optional[Any] = None
-        self._woken, self._wakes = os.pipe()
+        self._woken, self._wakes = os.pipe() if listens else (-1, -1)
+        if listens:
+            weakref.finalize(self, _close, self._woken, self._wakes)
 
     def close(self) -> None:
         """Ends the connection; the next statement makes another."""
@@ -90,7 +93,7 @@ class Database:
             raise _refused(error) from None
 
     def wait(self, seconds: float) -> None:
-        """Waits for a word that something was appended, for `wake`, or for the time to pass."""
+        """Waits for a word that something was appended, for `wake`, or for the time to pass; for one that listens."""
         try:
             connection = self._connected()
             if not connection.notifies:
@@ -164,6 +167,11 @@ def _known(error: Exception) -> Optional[Exception]:
 
 def _first_line(error: Exception) -> str:
     return str(error).strip().split("\n")[0]
+
+
+def _close(*descriptors: int) -> None:
+    for each in descriptors:
+        os.close(each)
 
 
 def _plain(value: object) -> object:

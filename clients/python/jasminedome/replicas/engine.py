@@ -53,7 +53,8 @@ class _Cut:
 class Engine(asyncio.SubprocessProtocol):
     """A running program. All calls are for the thread of its event loop; lines are answered in the order in which they go out."""
 
-    def __init__(self) -> None:
+    def __init__(self, on_end: Callable[[], object]) -> None:
+        self._on_end = on_end
         self._awaited: Deque[_Cut] = deque()
         self._rest = b""
         self._lines: List[bytes] = []
@@ -64,12 +65,15 @@ class Engine(asyncio.SubprocessProtocol):
         self.pid = 0
 
     @classmethod
-    async def start(cls, command: Sequence[str], schema: str) -> "Engine":
-        """Starts the command and opens it by the schema line. Raises the Refusal of that line, or ProgramEnded."""
+    async def start(cls, command: Sequence[str], schema: str, on_end: Callable[[], object] = lambda: None) -> "Engine":
+        """Starts the command and opens it by the schema line; `on_end` is called when it has ended.
+
+        Raises the Refusal of that line, or ProgramEnded.
+        """
         loop = asyncio.get_running_loop()
         try:
             # Of a group of its own, so that an interrupt at the terminal is for the replica, which ends it in order.
-            transport, protocol = await loop.subprocess_exec(cls, *command, start_new_session=True)
+            transport, protocol = await loop.subprocess_exec(lambda: cls(on_end), *command, start_new_session=True)
         except OSError as error:
             raise ProgramEnded(None, f"{command[0]} can't be started: {error}") from None
         engine = protocol
@@ -83,6 +87,11 @@ class Engine(asyncio.SubprocessProtocol):
 
     opened_at = 0
     """The number of writes that it opened with."""
+
+    @property
+    def is_alive(self) -> bool:
+        """Whether lines can be said to it."""
+        return self._end is None
 
     @property
     def last_words(self) -> str:
@@ -195,6 +204,7 @@ class Engine(asyncio.SubprocessProtocol):
             self._end = error
         while self._awaited:
             self._awaited.popleft().done(None)
+        self._on_end()
 
 
 def read_ok(reply: bytes, head: bytes) -> str:

@@ -71,6 +71,10 @@ class Follower:
         """Ends the connection; the next call makes another."""
         self._database.close()
 
+    def wake(self) -> None:
+        """Ends a wait of `next`; from any thread."""
+        self._database.wake()
+
     def stop(self) -> None:
         """Has a call that waits raise LogUnreachable, and a wait of `next` end; from any thread."""
         self._database.patience = 0.0

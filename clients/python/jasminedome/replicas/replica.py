@@ -112,7 +112,7 @@ class Replica:
             "fields": self._fields,
             "position": life.position if life else 0,
             "shown": life.shown if life else 0,
-            "is_ready": life is not None and life.is_ready,
+            "is_ready": life is not None and life.is_ready and life.engine.is_alive,
             "newest": asdict(window.newest) if window.newest else None,
             "anchor": asdict(window.anchor) if window.anchor else None,
             "tokens": window.held,
@@ -274,7 +274,8 @@ class Replica:
     async def _opened(self, head: Head, chosen: Optional[int]) -> Engine:
         """The program over its room. One that finds the base damaged has it put aside, and an older one comes next."""
         try:
-            return await Engine.start(self._command, schema_line(head.fields, _FACTOR, _LEAST))
+            # Once it has ended, whoever waits for the log is to find that, and not a second later.
+            return await Engine.start(self._command, schema_line(head.fields, _FACTOR, _LEAST), self._follower.wake)
         except Damaged:
             if chosen is not None:
                 await self._files_thread.do(self._bases.put_aside, chosen)

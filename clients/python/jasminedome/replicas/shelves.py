@@ -242,8 +242,9 @@ class Shelves:
         if not lines:
             return []
         until = time.monotonic() + self._patience
-        lacking, trouble, is_first = False, None, True
+        trouble, is_first = None, True
         while True:
+            lacking = 0
             for shelf in self._round():
                 replies = shelf.ask(lines, self._silence)
                 if replies is not None and GONE not in replies:
@@ -256,10 +257,9 @@ class Shelves:
                     else:
                         self.moved += not is_first
                         return told
-                lacking = lacking or replies is not None
+                lacking += replies is not None and GONE in replies
                 is_first = False
-            # One that comes back brings the token back, as long as the log has it in the window.
-            if time.monotonic() > until or (lacking and not trouble and self._are_past(lines[0])):
+            if time.monotonic() > until or self._are_past(lacking, lines[0]):
                 raise trouble or _lost(lacking, lines[0])
             time.sleep(_TURN)
 
@@ -268,19 +268,24 @@ class Shelves:
         if " " in token:
             raise UsageError(f"{token!r:.200} is no token")
         until = time.monotonic() + self._patience
-        lacking = False
         while True:
+            lacking = 0
             for shelf in self._round():
                 replies = shelf.ask([asked], self._silence)
                 if replies is not None and replies[0].startswith(b"OK "):
                     return ShelfView(self, replies[0][3:-1].decode())
-                lacking = lacking or replies is not None
-            if time.monotonic() > until or (lacking and self._are_past(asked)):
+                lacking += replies is not None
+            if time.monotonic() > until or self._are_past(lacking, asked):
                 raise _lost(lacking, asked)
             time.sleep(_TURN)
 
-    def _are_past(self, asked: bytes) -> bool:
-        """Whether every replica has caught up, and is past the line's token, so that none will bring it back."""
+    def _are_past(self, lacking: int, asked: bytes) -> bool:
+        """Whether every replica lacks the line's token, has caught up, and is past it, so that none will bring it back.
+
+        One that comes back brings back every token that the log has in the window.
+        """
+        if lacking < len(self._shelves):
+            return False
         number = _token_of(asked).partition("-")[0]
         told = self.status().values()
         are_ready = all(each is not None and each["is_ready"] and each["newest"] for each in told)
@@ -357,8 +362,8 @@ def _shown_behind(told: Told, position: int, is_lasting: bool) -> Shown:
     return found
 
 
-def _lost(is_lacking: bool, asked: bytes) -> Exception:
-    return TokenLost(detail=_token_of(asked)) if is_lacking else NoReplica("no replica could be asked")
+def _lost(lacking: int, asked: bytes) -> Exception:
+    return TokenLost(detail=_token_of(asked)) if lacking else NoReplica("no replica could be asked")
 
 
 def _token_of(asked: bytes) -> str:

@@ -1,7 +1,7 @@
 """Runs every test of replicas: `python3 clients/python/tests/replicas`. The last line is `N passed, M failed`.
 
-They make a PostgreSQL of their own. Where that or psycopg2 is wanting, they are left out, with a word. Where this Python has
-no psycopg2 and the system's has, they run in that one.
+They make a PostgreSQL of their own. Where that or psycopg2 is wanting, they are left out, with a word; `--can` only says so,
+and its status is 0 where they can be run. Where this Python has no psycopg2 and the system's has, they run in that one.
 """
 
 import importlib.util
@@ -25,10 +25,13 @@ def system_has_psycopg2():
 
 def main():
     if importlib.util.find_spec("psycopg2") is None and system_has_psycopg2():
-        os.execv(SYSTEM, [SYSTEM, str(HERE)])
+        os.execv(SYSTEM, [SYSTEM, str(HERE), *sys.argv[1:]])
     wanting = cluster.wanting()
     if wanting is not None:
         print(f"left out for want of {wanting}: the tests of replicas", file=sys.stderr)
+    if "--can" in sys.argv:
+        return 0 if wanting is None else 1
+    if wanting is not None:
         print("0 passed, 0 failed")
         return 0
     return running.run(HERE)

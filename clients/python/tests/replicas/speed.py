@@ -1,0 +1,179 @@
+"""How fast replicas are: writes through the log, the lag of what is shown, and reads from one, two and three replicas.
+
+    JASMINEDOME_PROGRAM=$(./run --path) /usr/bin/python3 clients/python/tests/replicas/speed.py [--items N]
+
+By hand: it takes a minute, and wants processors. Each replica is pinned to a processor of its own for the reads, with its
+program.
+"""
+
+import argparse
+import contextlib
+import multiprocessing
+import os
+import shutil
+import tempfile
+import threading
+import time
+from pathlib import Path
+
+import replicated  # first: it finds the package
+from cluster import Cluster
+from replicated import puts
+
+from jasminedome.replicas import Log, Mark, Shelves
+from jasminedome.replicas.wire import Wire
+
+LOG = "speed"
+WRITERS, READERS = 8, 6
+SECONDS = 3.0
+
+
+def load():
+    return f"(load {os.getloadavg()[0]:.1f})"
+
+
+def quantiles(times):
+    ordered = sorted(times)
+    return "/".join(f"{ordered[int(len(ordered) * share)] * 1_000:.1f}" for share in (0.5, 0.9, 0.99))
+
+
+def append(dsn, numbers, batch, out):
+    log, position = Log(dsn, LOG), 0
+    texts = puts(*numbers)
+    out.put("ready")
+    for at in range(0, len(texts), batch):
+        position = log.append(texts[at : at + batch])
+    out.put(position)
+
+
+def write(dsn, nodes, items, batch):
+    """Items by eight writers, from the first append until all replicas show the last."""
+    out = multiprocessing.Queue()
+    shares = [range(number, items, WRITERS) for number in range(WRITERS)]
+    writers = [multiprocessing.Process(target=append, args=(dsn, share, batch, out)) for share in shares]
+    for writer in writers:
+        writer.start()
+    for _ in writers:
+        out.get()
+    begun = time.monotonic()
+    for _ in writers:
+        out.get()
+    appended = time.monotonic() - begun
+    end = Log(dsn, LOG).append([], Mark.ANCHOR)
+    for node in nodes:
+        node.wait(end, 120)
+    shown = time.monotonic() - begun
+    print(f"{items:,} items in batches of {batch}: {items / appended:,.0f} a second appended, {items / shown:,.0f} shown by all {load()}")
+
+
+def lag(dsn, nodes, count):
+    """From the call of an append of one item with a mark until replicas show it."""
+    log = Log(dsn, LOG)
+    appended, first, last = [], [], []
+    wires = [Wire(node.address) for node in nodes]
+    for number in range(count):
+        position = log.head().position + 1
+        seen = []
+
+        def wait(wire):
+            wire.ask([b"WAIT %d 10\n" % position], 20)
+            seen.append(time.monotonic())
+
+        waiters = [threading.Thread(target=wait, args=(wire,)) for wire in wires]
+        for waiter in waiters:
+            waiter.start()
+        time.sleep(0.01)
+        begun = time.monotonic()
+        log.append(puts(number), Mark.VIEW)
+        appended.append(time.monotonic() - begun)
+        for waiter in waiters:
+            waiter.join()
+        first.append(min(seen) - begun)
+        last.append(max(seen) - begun)
+    print(
+        f"lag of {count} items, each with a mark, ms p50/p90/p99: appended {quantiles(appended)},"
+        f" shown by the first {quantiles(first)}, by all {quantiles(last)} {load()}"
+    )
+
+
+def read(addresses, line, number, out):
+    """Reads as often as it can, each from the next replica, as bytes."""
+    wires = [Wire(address) for address in addresses]
+    times, until = [], time.monotonic() + SECONDS
+    while time.monotonic() < until:
+        begun = time.perf_counter()
+        wires[(len(times) + number) % len(wires)].ask([line], 10)
+        times.append(time.perf_counter() - begun)
+    out.put(times)
+
+
+def find(addresses, token, number, out):
+    """The same by the calls of a view."""
+    view = Shelves(addresses).open(token)
+    times, until = [], time.monotonic() + SECONDS
+    while time.monotonic() < until:
+        begun = time.perf_counter()
+        view.find()
+        times.append(time.perf_counter() - begun)
+    out.put(times)
+
+
+def together(work, *arguments):
+    out = multiprocessing.Queue()
+    readers = [multiprocessing.Process(target=work, args=(*arguments, number, out)) for number in range(READERS)]
+    for reader in readers:
+        reader.start()
+    times = [each for _ in readers for each in out.get()]
+    for reader in readers:
+        reader.join()
+    return f"{len(times) / SECONDS:,.0f} a second, ms p50/p90/p99 {quantiles(times)} {load()}"
+
+
+def pin(node, processor):
+    """Keeps a replica and its program on one processor."""
+    for process in (node.process.pid, node.status()["process"]):
+        for thread in os.listdir(f"/proc/{process}/task"):
+            with contextlib.suppress(ProcessLookupError):
+                os.sched_setaffinity(int(thread), {processor})
+
+
+def read_all(nodes):
+    token = nodes[0].status()["anchor"]["stamp"]
+    for processor, node in enumerate(nodes):
+        pin(node, processor)
+    for title, asked in (("FIND .", f"FIND {token} 20 . . *:*"), ("FIND +price", f"FIND {token} 20 +price . *:*")):
+        for count in range(1, len(nodes) + 1):
+            addresses = [node.address for node in nodes[:count]]
+            told = together(read, addresses, f"{asked}\n".encode())
+            print(f"{title}, {count} replicas, {READERS} readers, bytes: {told}")
+    for count in range(1, len(nodes) + 1):
+        addresses = [node.address for node in nodes[:count]]
+        print(f"view.find(), {count} replicas, {READERS} readers: {together(find, addresses, token)}")
+
+
+def main():
+    parser = argparse.ArgumentParser(description=__doc__.split("\n\n")[0])
+    parser.add_argument("--items", type=int, default=100_000)
+    given = parser.parse_args()
+    cluster, room = Cluster(), Path(tempfile.mkdtemp(prefix="speed-"))
+    replicated.log_of(cluster.dsn, LOG)
+    nodes = [replicated.Node(cluster.dsn, LOG, room, f"r{number}").start() for number in (1, 2, 3)]
+    try:
+        for node in nodes:
+            node.status()
+        for batch in (100, 500):
+            write(cluster.dsn, nodes, given.items, batch)
+        lag(cluster.dsn, nodes, 200)
+        anchor = Log(cluster.dsn, LOG).append([], Mark.ANCHOR)
+        for node in nodes:
+            node.wait(anchor)
+        read_all(nodes)
+    finally:
+        for node in nodes:
+            node.kill()
+        cluster.end()
+        shutil.rmtree(room)
+
+
+if __name__ == "__main__":
+    main()
