@@ -16,7 +16,7 @@ from .applying import Applying, Begun, Every
 from .bases import Bases, Note
 from .digests import outvoted
 from .engine import Engine
-from .errors import Diverged, LogDiffers, LogUnreachable
+from .errors import Diverged, LogDiffers
 from .following import Follower, Pulse, Row
 from .front import Front
 from .log import Head
@@ -321,9 +321,11 @@ class Replica:
             if settings.pulse is not None and life.is_ready:
                 await self._log_thread.do(self._follower.pulse, settings.pulse)
             await self._log_thread.do(self._follower.tell, row)
-        except LogUnreachable as error:
+            await self._check(now)
+        except Diverged:
+            raise
+        except JasminedomeError as error:  # the log can't be written to for now: it is told later
             self._trouble = str(error)
-        await self._check(now)
 
     async def _check(self, now: float) -> None:
         """Looks whether the others' digests of the newest checked anchor are this one's, for a while."""

@@ -6,11 +6,12 @@ import contextlib
 import itertools
 import json
 import logging
+import threading
 import time
 from collections import deque
 from typing import Any, Callable, Deque, Dict, Iterable, List, NamedTuple, Optional, Sequence, Tuple, TypeVar, Union
 
-from ..errors import BadReply, Refusal, UsageError
+from ..errors import BadReply, JasminedomeError, Refusal, UsageError
 from ..lines import line, number, reading, text
 from ..replies import Reply
 from ..view import Reads
@@ -163,7 +164,9 @@ class Shelves:
         """`silence` are the seconds after which a replica that says nothing is passed over, `patience` those in which a
         call goes round them all. Raises UsageError for what is no address.
         """
-        self._log = replicas if isinstance(replicas, Log) else None
+        # Of its own, since nobody is to wait for PostgreSQL who could read without it.
+        self._log = Log(replicas.dsn, replicas.name, patience=0) if isinstance(replicas, Log) else None
+        self._looking = threading.Lock()
         self._silence = silence
         self._patience = patience
         self._turn = itertools.count()
@@ -194,6 +197,8 @@ class Shelves:
         """Ends the connections; a later call makes them anew."""
         for each in self._shelves.values():
             each.close()
+        if self._log is not None:
+            self._log.close()
 
     @property
     def addresses(self) -> List[str]:
@@ -323,17 +328,30 @@ class Shelves:
         return ShelfView(self, shown.stamp, shown.position)
 
     def _round(self) -> List[_Shelf]:
-        """The replicas that don't rest, another first each time."""
-        awake = [shelf for shelf in self._known() if not shelf.rests]
-        turn = next(self._turn) % max(1, len(awake))
-        return awake[turn:] + awake[:turn]
+        """The replicas that don't rest, or all where each does, another first each time."""
+        known = self._known()
+        asked = [shelf for shelf in known if not shelf.rests] or known
+        turn = next(self._turn) % max(1, len(asked))
+        return asked[turn:] + asked[:turn]
 
     def _known(self) -> List[_Shelf]:
-        if self._log is not None and time.monotonic() - self._looked_at > _LOOKED:
+        if self._log is not None and time.monotonic() - self._looked_at > _LOOKED and self._looking.acquire(blocking=False):
             self._looked_at = time.monotonic()
-            alive = [row.address for row in self._log.replicas() if row.age < _ALIVE]
-            self._shelves = {each: self._shelves.get(each) or _Shelf(each) for each in alive} or self._shelves
+            if self._shelves:
+                threading.Thread(target=self._look, args=(self._log,), daemon=True).start()
+            else:
+                self._look(self._log)
         return list(self._shelves.values())
+
+    def _look(self, known_by: Log) -> None:
+        """Asks the log for the replicas that told of themselves lately."""
+        try:
+            alive = [row.address for row in known_by.replicas() if row.age < _ALIVE]
+            self._shelves = {each: self._shelves.get(each) or _Shelf(each) for each in alive} or self._shelves
+        except JasminedomeError as error:
+            log.info("the log doesn't say which replicas there are: %s", error)
+        finally:
+            self._looking.release()
 
 
 def _text(asked: str) -> str:

@@ -118,6 +118,12 @@ class Reads(replicated.LogTest):
         with Shelves(self.log) as shelves:
             self.assertEqual((shelves.addresses, shelves.open().find().total), ([path], 1))
             self.assertEqual(list(shelves.status()), [path])
+            shelves._looked_at -= 60
+            self.cluster.stop()
+            begun = time.monotonic()
+            self.assertEqual(shelves.open().find().total, 1)  # nobody waits for PostgreSQL
+            self.assertLess(time.monotonic() - begun, 2)
+            self.cluster.start()
         for addresses in ([], "shop:1", ["shop"]):
             self.assertRaises(jasminedome.UsageError, Shelves, addresses)
 
