@@ -24,7 +24,8 @@ from jasminedome.replicas import Log, Mark, Shelves
 from jasminedome.replicas.wire import Wire
 
 LOG = "speed"
-WRITERS, READERS = 8, 6
+WRITERS, READERS = 8, 4
+TOGETHER = 32  # lines that a reader has on the way at the same time
 SECONDS = 3.0
 
 
@@ -97,58 +98,74 @@ def lag(dsn, nodes, count):
 
 
 def read(addresses, line, number, out):
-    """Reads as often as it can, each from the next replica, as bytes."""
+    """Reads as often as it can, some lines at once, as bytes; each time from the next replica."""
     wires = [Wire(address) for address in addresses]
     times, until = [], time.monotonic() + SECONDS
     while time.monotonic() < until:
         begun = time.perf_counter()
-        wires[(len(times) + number) % len(wires)].ask([line], 10)
+        wires[(len(times) + number) % len(wires)].ask([line] * TOGETHER, 10)
         times.append(time.perf_counter() - begun)
-    out.put(times)
+    out.put((len(times) * TOGETHER, times))
 
 
 def find(addresses, token, number, out):
-    """The same by the calls of a view."""
+    """Pages by the call of a view, one after another."""
     view = Shelves(addresses).open(token)
     times, until = [], time.monotonic() + SECONDS
     while time.monotonic() < until:
         begun = time.perf_counter()
         view.find()
         times.append(time.perf_counter() - begun)
-    out.put(times)
+    out.put((len(times), times))
 
 
-def together(work, *arguments):
+def spent(process):
+    """The seconds of a processor that a process has had."""
+    words = Path(f"/proc/{process}/stat").read_text().rsplit(")", 1)[1].split()
+    return (int(words[11]) + int(words[12])) / os.sysconf("SC_CLK_TCK")
+
+
+def together(nodes, work, *arguments):
+    """What readers side by side read in a second, and what a read costs the replica and its program."""
     out = multiprocessing.Queue()
-    readers = [multiprocessing.Process(target=work, args=(*arguments, number, out)) for number in range(READERS)]
+    pairs = [(node.process.pid, node.status()["process"]) for node in nodes]
+    before = [[spent(process) for process in pair] for pair in pairs]
+    addresses = [node.address for node in nodes]
+    readers = [multiprocessing.Process(target=work, args=(addresses, *arguments, number, out)) for number in range(READERS)]
     for reader in readers:
         reader.start()
-    times = [each for _ in readers for each in out.get()]
+    told = [out.get() for _ in readers]
     for reader in readers:
         reader.join()
-    return f"{len(times) / SECONDS:,.0f} a second, ms p50/p90/p99 {quantiles(times)} {load()}"
+    count = sum(each[0] for each in told)
+    costs = [sum(spent(pair[at]) - was[at] for pair, was in zip(pairs, before)) / count * 1e6 for at in (0, 1)]
+    times = quantiles([each for _, times in told for each in times])
+    return (
+        f"{count / SECONDS:,.0f} a second, ms p50/p90/p99 {times}; µs of a processor for each: replica {costs[0]:.0f},"
+        f" program {costs[1]:.0f} {load()}"
+    )
 
 
-def pin(node, processor):
-    """Keeps a replica and its program on one processor."""
-    for process in (node.process.pid, node.status()["process"]):
-        for thread in os.listdir(f"/proc/{process}/task"):
-            with contextlib.suppress(ProcessLookupError):
-                os.sched_setaffinity(int(thread), {processor})
+def pin(process, processors):
+    """Keeps a process, with its threads, on some processors."""
+    for thread in os.listdir(f"/proc/{process}/task"):
+        with contextlib.suppress(ProcessLookupError):
+            os.sched_setaffinity(int(thread), processors)
 
 
 def read_all(nodes):
+    """Reads from one, two and three replicas, each on a processor of its own; the readers are on those that are left."""
     token = nodes[0].status()["anchor"]["stamp"]
-    for processor, node in enumerate(nodes):
-        pin(node, processor)
-    for title, asked in (("FIND .", f"FIND {token} 20 . . *:*"), ("FIND +price", f"FIND {token} 20 +price . *:*")):
-        for count in range(1, len(nodes) + 1):
-            addresses = [node.address for node in nodes[:count]]
-            told = together(read, addresses, f"{asked}\n".encode())
-            print(f"{title}, {count} replicas, {READERS} readers, bytes: {told}")
+    everywhere = os.sched_getaffinity(0)
+    for processor, node in zip(sorted(everywhere), nodes):
+        for process in (node.process.pid, node.status()["process"]):
+            pin(process, {processor})
+    lines = {title: f"FIND {token} 20 {sort} . *:*\n".encode() for title, sort in (("FIND .", "."), ("FIND +price", "+price"))}
     for count in range(1, len(nodes) + 1):
-        addresses = [node.address for node in nodes[:count]]
-        print(f"view.find(), {count} replicas, {READERS} readers: {together(find, addresses, token)}")
+        pin(os.getpid(), everywhere - set(sorted(everywhere)[:count]) or everywhere)
+        for title, line in lines.items():
+            print(f"{title}, {count} replicas, {READERS} readers of {TOGETHER} lines: {together(nodes[:count], read, line)}")
+        print(f"view.find(), {count} replicas, {READERS} readers: {together(nodes[:count], find, token)}")
 
 
 def main():
