@@ -22,6 +22,8 @@ from .terminal import Bar, shown, table
 if TYPE_CHECKING:
     from .replicas.log import Log
 
+_COLUMNS = ("replica", "address", "version", "at", "behind", "token", "base", "ready", "told")
+
 UNLIKE = 1
 """The exit status where something was refused, or replicas differ."""
 
@@ -162,7 +164,8 @@ def _load(log: "Log", asked: argparse.Namespace) -> int:
     finally:
         bar.end()
     speed = told.count / told.seconds if told.seconds else 0
-    print(f"{told.count:,} items appended in {told.seconds:.1f} s ({speed:,.0f} a second), up to {told.position:,} of {log.name}")
+    took = f"in {told.seconds:.1f} s ({speed:,.0f} a second)"
+    print(f"{told.count:,} items appended {took}, up to {told.position:,} of {log.name}")
     if told.before:
         print(f"{told.before:,} of them were there before: --again appends them anew")
     for line in (*plan_lines(told.plan), *repeated_lines(told.repeated, told.repeats), *refused_lines(told.refused)):
@@ -178,12 +181,12 @@ def _status(log: "Log", asked: argparse.Namespace) -> int:
     print("fields: " + ", ".join(f"{name} {kind}" for name, kind in head.fields.items()))
     rows = [
         [
-            each.name, each.address, each.version, f"{each.position:,}", f"{head.position - each.position:,}", f"{each.token:,}",
-            f"{each.base:,}", "yes" if each.is_ready else "no", f"{each.age:.1f} s",
+            each.name, each.address, each.version, f"{each.position:,}", f"{head.position - each.position:,}",
+            f"{each.token:,}", f"{each.base:,}", "yes" if each.is_ready else "no", f"{each.age:.1f} s ago",
         ]
         for each in log.replicas()
     ]  # fmt: skip
-    for line in table(("replica", "address", "version", "at", "behind", "token", "base", "ready", "told"), rows, is_cut=False):
+    for line in table(_COLUMNS, rows, is_cut=False):
         print(line)
     if not rows:
         print("no replica has told of itself yet")
@@ -205,7 +208,8 @@ def _audit(log: "Log", asked: argparse.Namespace) -> int:
     for name in told.silent:
         print(f"{shown(name)} has told nothing of {told.last:,}")
     is_well = told.fault is None and len(set(told.digests.values())) <= 1 and not told.silent
-    print("all replicas show the same" if is_well and told.digests else "no replica was heard" if is_well else "NOT ALL IS WELL")
+    verdict = "all replicas show the same" if told.digests else "no replica was heard"
+    print(verdict if is_well else "NOT ALL IS WELL")
     return 0 if is_well else UNLIKE
 
 

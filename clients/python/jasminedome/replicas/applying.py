@@ -28,7 +28,8 @@ _READS = b"%d OK " % READER
 _FIRST_REST, _LONGEST_REST = 0.02, 2.0  # seconds before a line is said again
 _TRIES = 12  # of a commit, before it is left to the next one
 _MOST_FAILED = 3  # commits in a row that failed, before the program is given up
-_MERGES = 64  # steps in one turn, each of which readers may have to wait for
+_MERGES = 64  # steps in one turn
+_MERGES_AT_ONCE = 4  # of these, for which readers may have to wait
 _WRITES_A_STEP = 64  # behind how many writes a step of a merge is due
 
 
@@ -178,7 +179,10 @@ class Applying:
             self.engine.relay(b"%d CLOSE %d\n" % (AUDITOR, token), lambda _: None, b"", no_more)
 
     async def _keep_base(self) -> None:
-        """Commits what is applied, and keeps the commit's files under their position. Where that fails, the next one will do."""
+        """Commits what is applied, and keeps the commit's files under their position.
+
+        Where that fails, the next one will do; where it fails again and again, raises Tainted.
+        """
         try:
             note = Note(self._begun.note.log, self.position, self.seal, self._sending.refusals)
             await self._again(b"1 COMMIT %b" % str(note).encode(), _KEEPS, tries=_TRIES)
@@ -218,9 +222,14 @@ class Applying:
             rest = min(_LONGEST_REST, rest * 2)
 
     async def _merge(self, steps: int) -> None:
-        count = min(steps, _MERGES)
-        told = await self.engine.say(b"0 MERGE\n" * count, count)
-        if b"0 OK done\n" in told:
+        """Takes at most so many steps of merges, a few at once, so that no reader waits for all of them."""
+        is_done = False
+        for _ in range(min(steps, _MERGES) // _MERGES_AT_ONCE + 1):
+            told = await self.engine.say(b"0 MERGE\n" * _MERGES_AT_ONCE, _MERGES_AT_ONCE)
+            is_done = is_done or b"0 OK done\n" in told
+            if b"0 OK idle\n" in told:
+                break
+        if is_done:
             await self._sweep()
 
     async def _sweep(self) -> None:

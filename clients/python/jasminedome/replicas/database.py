@@ -41,7 +41,10 @@ class Database:
     """A connection for one thread at a time, whose statements are each a transaction of their own."""
 
     def __init__(self, dsn: str, schema: str, patience: float, listens: bool = False) -> None:
-        """`dsn` is as libpq has it; `patience` are the seconds in which PostgreSQL may be away. Connects when asked first."""
+        """`dsn` is as libpq has it; `patience` are the seconds in which PostgreSQL may be away, and may be set at any time.
+
+        Connects when asked first. One that `listens` hears of appends.
+        """
         self._dsn = dsn
         self._schema = schema_name(schema)
         self.patience = patience
@@ -63,14 +66,14 @@ class Database:
 
         Raises LogUnreachable where it is away for longer than the patience; WrongBatch, LogBehind and LogRefused.
         """
-        until = time.monotonic() + self.patience
+        begun = time.monotonic()
         rest = _FIRST_REST
         while True:
             try:
                 return self._ask_once(sql, arguments)
             except _AWAY as error:
                 self.close()
-                if time.monotonic() > until:
+                if time.monotonic() - begun > self.patience:
                     raise LogUnreachable(f"PostgreSQL is away: {str(error).strip()}") from None
                 time.sleep(rest)
                 rest = min(_LONGEST_REST, rest * 2)
@@ -131,7 +134,10 @@ class Database:
 
 
 def say_together(dsn: str, statements: Sequence[Statement]) -> None:
-    """Says statements in one transaction of a connection of its own. Raises LogUnreachable, and LogRefused, where none holds."""
+    """Says statements in one transaction of a connection of its own.
+
+    Raises LogUnreachable, and LogRefused; none of them holds then.
+    """
     try:
         connection = psycopg2.connect(dsn, connect_timeout=_CONNECTING)
     except psycopg2.Error as error:

@@ -1,4 +1,4 @@
-"""The program as a replica's child: one event loop writes its lines, and cuts its replies apart without reading them further."""
+"""The program as a replica's child: one event loop writes its lines, and cuts its replies apart without reading them."""
 
 from __future__ import annotations
 
@@ -51,7 +51,7 @@ class _Cut:
 
 
 class Engine(asyncio.SubprocessProtocol):
-    """A running program. All calls are for the thread of its event loop; lines are answered in the order in which they go out."""
+    """A running program. All calls are for the thread of its event loop. Lines are answered in the order of their calls."""
 
     def __init__(self, on_end: Callable[[], object]) -> None:
         self._on_end = on_end
@@ -187,6 +187,7 @@ class Engine(asyncio.SubprocessProtocol):
     def connection_lost(self, exc: Optional[Exception]) -> None:
         """It has ended, and all of its output has come."""
         self._fail(ProgramEnded(self._transport.get_returncode(), self.last_words))
+        self._transport.close()
         if not self._ended.done():
             self._ended.set_result(None)
 

@@ -1,14 +1,14 @@
-"""The log as a replica reads it: batches in order, each held against the chain of seals, and what replicas tell each other."""
+"""The log as a replica reads it: batches in order, each held against its seal, and what replicas tell each other."""
 
 from __future__ import annotations
 
 from dataclasses import dataclass
-from typing import Dict, List, Optional, Sequence, Tuple
+from typing import Dict, List, Optional, Tuple
 
 from .batches import Batch, next_seal
 from .database import Database, Statement
 from .errors import Diverged, LogDiffers
-from .log import Head, read_batches, read_head
+from .log import Head, read_batches, read_digests, read_head
 
 NEWEST = 8
 """How many tokens of the newest marks every replica holds."""
@@ -19,14 +19,18 @@ ANCHORS = 48
 _FOREVER = 1e9  # seconds
 _AT_ONCE = 64  # batches
 _TURN = 1.0  # seconds between two looks, where no word comes
+_SEAL = "SELECT seal FROM batch WHERE position = %s UNION ALL SELECT cut_seal FROM head WHERE cut = %s"
+_PULSE = "SELECT pulse(%s::interval, %s::interval, %s::interval)"
 _WINDOW = """
     (SELECT position FROM batch WHERE mark <> '-' AND position <= %s ORDER BY position DESC LIMIT %s) UNION
     (SELECT position FROM batch WHERE mark IN ('a', 'd') AND position <= %s ORDER BY position DESC LIMIT %s) ORDER BY 1
 """
 _TOLD = """
-    INSERT INTO replica (name, address, version, position, shown, token, base, is_ready) VALUES (%s, %s, %s, %s, %s, %s, %s, %s)
-    ON CONFLICT (name) DO UPDATE SET address = excluded.address, version = excluded.version, position = excluded.position,
-    shown = excluded.shown, token = excluded.token, base = excluded.base, is_ready = excluded.is_ready, at = clock_timestamp()
+    INSERT INTO replica (name, address, version, position, shown, token, base, is_ready)
+    VALUES (%s, %s, %s, %s, %s, %s, %s, %s)
+    ON CONFLICT (name) DO UPDATE SET
+        address = excluded.address, version = excluded.version, position = excluded.position, shown = excluded.shown,
+        token = excluded.token, base = excluded.base, is_ready = excluded.is_ready, at = clock_timestamp()
 """
 _VIEW = "INSERT INTO view VALUES (%s, %s, %s, %s) ON CONFLICT DO NOTHING"
 _REFUSED = "INSERT INTO refused VALUES (%s, %s, %s) ON CONFLICT DO NOTHING"
@@ -86,9 +90,7 @@ class Follower:
 
     def seal_at(self, position: int) -> Optional[bytes]:
         """The seal at a position; None where the log has none such, or not any more."""
-        found = self._database.ask(
-            "SELECT seal FROM batch WHERE position = %s UNION ALL SELECT cut_seal FROM head WHERE cut = %s", (position, position)
-        )
+        found = self._database.ask(_SEAL, (position, position))
         return bytes(found[0][0]) if found else None
 
     def window(self, upto: int) -> List[int]:
@@ -161,11 +163,11 @@ class Follower:
 
     def pulse(self, pulse: Pulse) -> None:
         """Appends the mark that is due, if one is."""
-        self._database.ask("SELECT pulse(%s::interval, %s::interval, %s::interval)", (pulse.views, pulse.anchors, pulse.digests))
+        self._database.ask(_PULSE, (pulse.views, pulse.anchors, pulse.digests))
 
     def digests(self, position: int) -> Dict[str, str]:
         """What each replica has told of a checked anchor, by its name."""
-        return {name: digest for name, digest in self._database.ask("SELECT name, digest FROM digest WHERE position = %s", (position,))}
+        return read_digests(self._database, position)
 
     def others(self, name: str) -> List[str]:
         """The addresses of the other replicas, whoever told last first."""

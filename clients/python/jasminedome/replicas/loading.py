@@ -27,8 +27,9 @@ _WAITS = 30.0  # seconds for a replica that tells what was refused
 class Appended:
     """What a load appended: how many items, up to which position, and what replicas have told of them.
 
-    `before` of the items were there already, since the same load was said before. `refused` are the lines that were refused here or by replicas, and `is_told` says whether one had applied all of it by
-    then. Times are in seconds. `repeated` and `repeats` are as `Loaded` has them.
+    `before` of the items were there already, since the same load was said before. `refused` are the lines that were refused
+    here or by replicas, and `is_told` says whether one had applied all of it by then. Times are in seconds. `repeated` and
+    `repeats` are as `Loaded` has them.
     """
 
     plan: Plan
@@ -56,8 +57,8 @@ def load(
     """Appends the items of a file to a log, in batches of 500, and an anchor behind them; waits for a replica to apply it.
 
     Arguments are those of the load into a folder; the fields are the log's. Each batch has a key of the file's bytes, so
-    that the same load said again, after it was stopped or not, appends nothing twice, unless it is said `again`. Raises what the load into a folder
-    does of the file, and what `Log.append` raises.
+    that the same load said again, after it was stopped or not, appends nothing twice, unless it is said `again`. Raises
+    what the load into a folder does of the file, and what `Log.append` raises.
     """
     begun = time.monotonic()
     with Source(path, form, encoding) as source:

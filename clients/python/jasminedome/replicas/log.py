@@ -280,7 +280,8 @@ class Log:
 
     def digests(self, position: int) -> Dict[str, str]:
         """What each replica has told of all that it shows at a checked anchor, by its name."""
-        return {name: digest for name, digest in self._ask("SELECT name, digest FROM digest WHERE position = %s", (position,))}
+        with self._reads:
+            return read_digests(self._reading, number(position, "the position"))
 
     def forget(self, name: str) -> bool:
         """Forgets a replica that won't come back, so that a cut no longer waits for it; False where there is none."""
@@ -343,6 +344,12 @@ def read_batches(database: Database, after: int, count: int) -> List[Batch]:
     """The first `count` batches of a connection's log behind a position."""
     rows = database.ask(_BATCHES, (after, count))
     return [Batch(position, Mark(mark), lines, seal, frozenset(skips)) for position, mark, lines, seal, skips in rows]
+
+
+def read_digests(database: Database, position: int) -> Dict[str, str]:
+    """What replicas have told a connection's log of a checked anchor, by their names."""
+    rows = database.ask("SELECT name, digest FROM digest WHERE position = %s", (position,))
+    return {name: digest for name, digest in rows}
 
 
 def _shown(show: bool) -> Mark:

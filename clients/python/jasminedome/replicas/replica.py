@@ -10,7 +10,7 @@ from dataclasses import asdict, dataclass, field
 from pathlib import Path
 from typing import IO, Any, Dict, List, Optional, Sequence, Set, Tuple, Union
 
-from ..errors import Damaged, JasminedomeError, ProgramEnded
+from ..errors import Damaged, JasminedomeError
 from ..starting import Command, command_for, schema_line
 from .applying import Applying, Begun, Every
 from .bases import Bases, Note
@@ -145,15 +145,14 @@ class Replica:
     # Its life
 
     async def run(self) -> None:
-        """Applies the log until `stop`. A program that ended, or did what the others don't, is given up, and a base opened again.
+        """Applies the log until `stop`. A program that ended, or did what others don't, is given up, and a base opened again.
 
-        Where nothing helps but somebody who looks at it, it stays up to say so: `status()["failed"]`.
+        Ends by itself where nothing helps but somebody who looks at it: `status()["failed"]`.
         """
-        rest = _FIRST_REST
+        rest, furthest = _FIRST_REST, 0
         while not self._stopping:
             try:
                 await self._begin()
-                rest = _FIRST_REST
                 await self._follow()
             except (LogDiffers, Diverged) as error:
                 self._failed = f"{type(error).__name__}: {error}"
@@ -162,10 +161,12 @@ class Replica:
             except (JasminedomeError, OSError) as error:
                 if not self._stopping:
                     self._note_trouble(error)
+            reached = self._life.position if self._life is not None else 0
+            rest = _FIRST_REST if reached > furthest else min(_LONGEST_REST, rest * 2)
+            furthest = max(furthest, reached)
             await self._leave()
             if not self._stopping:
                 await asyncio.sleep(rest)
-            rest = min(_LONGEST_REST, rest * 2)
         await self._leave()
 
     def stop(self) -> None:
@@ -212,7 +213,7 @@ class Replica:
         notes = await self._notes(head)
         chosen = _chosen(sorted(notes), wanted if settings.restores else [], head.cut)
         if chosen is None and head.cut:
-            raise LogDiffers(f"the log was cut up to {head.cut}, and neither this folder nor another replica has a base behind that")
+            raise LogDiffers(f"the log was cut up to {head.cut}, and no base behind that is here or comes from another replica")
         await self._files_thread.do(self._bases.fill_live, chosen, _ORPHAN)
         note = notes[chosen] if chosen is not None else Note(head.id, 0, await self._first_seal(head), 0)
         is_mark = note.position in wanted and note.position > head.cut
@@ -223,7 +224,7 @@ class Replica:
             engine, begun, settings.name, self._follower, self._bases, self._files_thread, settings.every, self._note_shown
         )
         await self._life.begin()
-        log.info("%s began at %d, %s", settings.name, note.position, "a base" if chosen is not None else "the log's beginning")
+        log.info("%s began at %d, of a log at %d", settings.name, note.position, head.position)
 
     async def _notes(self, head: Head) -> Dict[int, Note]:
         """The notes of the bases that lie in the log, its own or one of another replica."""
@@ -343,7 +344,7 @@ class Replica:
 
 
 def _chosen(bases: Sequence[int], wanted: Sequence[int], cut: int) -> Optional[int]:
-    """The base to begin at: the newest, or where marks are wanted, one that lies before them; None is the log's beginning."""
+    """The base to begin at: the newest, or where marks are wanted, one before them. None is the log's beginning."""
     if not wanted:
         return bases[-1] if bases else None
     before = [position for position in bases if position <= wanted[0]]
@@ -361,8 +362,11 @@ async def serve(settings: Settings, stopped: "asyncio.Event") -> None:
     where = endpoint(settings.listen)
     try:
         server = await _listening(loop, replica, connections, where)
-        running = loop.create_task(replica.run())
-        await stopped.wait()
+        running, waiting = loop.create_task(replica.run()), loop.create_task(stopped.wait())
+        await asyncio.wait({running, waiting}, return_when=asyncio.FIRST_COMPLETED)
+        if running.done():
+            running.result()  # a fault of this package ends the process; one that `run` knows is for somebody to look at
+        await waiting
         replica.stop()
         server.close()
         for each in list(connections):

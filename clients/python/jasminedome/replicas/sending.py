@@ -39,7 +39,7 @@ class Ended(Tainted):
 
 
 class Sending:
-    """The writes of a log as one program takes them. `count` are the accepted ones, `refused` what was told of the others."""
+    """The writes of a log as one program takes them; `count` of all were accepted."""
 
     def __init__(self, engine: Engine, count: int, refusals: int) -> None:
         self._engine = engine

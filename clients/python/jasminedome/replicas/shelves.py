@@ -307,8 +307,7 @@ class Shelves:
                 if status is not None and status["newest"] and status["shown"] >= position:
                     told.append(status)
                 if len(told) >= on:
-                    found = min((_shown_behind(each, position, is_lasting) for each in told), key=lambda shown: shown.position)
-                    return found
+                    return min(_shown_behind(each, position, is_lasting) for each in told)
             if time.monotonic() > until:
                 raise NoReplica(f"{len(told)} of {on} replicas show {position}")
 

@@ -1,4 +1,4 @@
-"""How readers speak with a replica: lines over TCP or a socket of Unix, each answered by its length, a line feed, and so many bytes.
+"""How readers speak with a replica: lines, each answered by the length of its reply, a line feed, and so many bytes.
 
     FIND t ..  FACETS t ..  GET t id    as the program has them, under a token or a stamp; its reply, or GONE
     HAS t                               OK and the stamp, or GONE
@@ -36,18 +36,14 @@ def endpoint(address: object) -> Union[str, Tuple[str, int]]:
 
 
 class Wire:
-    """A connection to a replica, for one thread at a time. Calls raise OSError once it is broken, or nothing comes in time."""
+    """A connection to a replica, over TCP or a socket of Unix, for one thread at a time.
+
+    Calls raise OSError once it is broken, or where nothing comes in time.
+    """
 
     def __init__(self, address: str) -> None:
         """Raises UsageError for what is no address, and OSError where nobody is there."""
-        where = endpoint(address)
-        if isinstance(where, str):
-            self._socket = socket.socket(socket.AF_UNIX)
-            self._socket.settimeout(_CONNECTING)
-            self._socket.connect(where)
-        else:
-            self._socket = socket.create_connection(where, _CONNECTING)
-            self._socket.setsockopt(socket.IPPROTO_TCP, socket.TCP_NODELAY, 1)
+        self._socket = _connected(endpoint(address))
         self._file = self._socket.makefile("rb", _BLOCK)
 
     def close(self) -> None:
@@ -87,3 +83,18 @@ class Wire:
         if not told.endswith(b"\n") or not told[:-1].isdigit():
             raise ConnectionError("the replica is gone")
         return int(told)
+
+
+def _connected(where: Union[str, Tuple[str, int]]) -> socket.socket:
+    if isinstance(where, tuple):
+        found = socket.create_connection(where, _CONNECTING)
+        found.setsockopt(socket.IPPROTO_TCP, socket.TCP_NODELAY, 1)
+        return found
+    found = socket.socket(socket.AF_UNIX)
+    try:
+        found.settimeout(_CONNECTING)
+        found.connect(where)
+    except BaseException:
+        found.close()
+        raise
+    return found

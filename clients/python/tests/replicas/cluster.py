@@ -76,7 +76,8 @@ class Cluster:
 
     def _run(self, what, *words):
         command = [*self._as, str(Path(initdb()).parent / what), *words]
-        subprocess.run(command, check=True, cwd=self.top, stdin=subprocess.DEVNULL, stdout=subprocess.DEVNULL, stderr=subprocess.DEVNULL)
+        silent = {stream: subprocess.DEVNULL for stream in ("stdin", "stdout", "stderr")}
+        subprocess.run(command, check=True, cwd=self.top, **silent)
 
 
 @functools.lru_cache(maxsize=None)

@@ -1,7 +1,7 @@
 """The stand-in as one that now and then refuses what others accept, for want of memory or by its device; and that can end.
 
-FLAKY is the chance of a refusal, and FLAKY_READS that of one of a read; while there is no file FLAKY_ONCE names, the 40th item is refused for certain. A line that
-holds the word `deadly` ends it, as a fault of a program would.
+FLAKY is the chance of a refusal, and FLAKY_READS that of one of a read; while there is no file that FLAKY_ONCE names, the
+40th item is refused for certain. A line that holds the word `deadly` ends it, as a fault of a program would.
 """
 
 import os

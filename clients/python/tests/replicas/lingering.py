@@ -1,4 +1,6 @@
-"""A program that goes on for a while after its input's end, and notes when it begins and ends: `lingering.py PROGRAM .. run FOLDER`.
+"""A program that goes on for a while after its input's end, and notes when it begins and ends.
+
+usage: lingering.py PROGRAM .. run FOLDER
 
 As the program does, it has the lock of its folder as long as it lives.
 """

@@ -203,7 +203,7 @@ class LogTest(unittest.TestCase):
         return node
 
     def shelves(self, *nodes, **options):
-        shelves = Shelves([node.address for node in nodes], **options)
+        shelves = Shelves([node.address for node in nodes], **{"patience": PATIENCE, **options})
         self.addCleanup(shelves.close)
         return shelves
 

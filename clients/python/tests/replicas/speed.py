@@ -64,7 +64,8 @@ def write(dsn, nodes, items, batch):
     for node in nodes:
         node.wait(end, 120)
     shown = time.monotonic() - begun
-    print(f"{items:,} items in batches of {batch}: {items / appended:,.0f} a second appended, {items / shown:,.0f} shown by all {load()}")
+    rates = f"{items / appended:,.0f} a second appended, {items / shown:,.0f} shown by all"
+    print(f"{items:,} items in batches of {batch}: {rates} {load()}")
 
 
 def lag(dsn, nodes, count):

@@ -58,7 +58,8 @@ class Commands(replicated.LogTest):
         self.assertNotIn("there before", out)
         status, out, err = self.log_it("status", name=name)
         self.assertEqual((status, err), (0, ""))
-        self.assertRegex(out, r"(?s)^log .*: at \d+, cut up to 0, rules 0\.1\nfields: brand keyword.*\none +127\.0\.0\.1:\d+ +0\.1\.\d")
+        self.assertRegex(out, r"^log .*: at \d+, cut up to 0, rules 0\.1\nfields: brand keyword")
+        self.assertRegex(out, r"\none +127\.0\.0\.1:\d+ +0\.1\.\d")
 
     def test_an_audit(self):
         nodes = [self.node(name) for name in ("one", "two")]
@@ -67,7 +68,8 @@ class Commands(replicated.LogTest):
             node.wait(position)
         status, out, err = self.log_it("audit", "--patience", 20)
         self.assertEqual((status, err), (0, ""))
-        self.assertRegex(out, "^2 batches, 1 to 2: each has its seal\none shows ([0-9a-f]{16}) at 2\ntwo shows \\1 at 2\nall replicas show the same\n$")
+        shown = "one shows ([0-9a-f]{16}) at 2\ntwo shows \\1 at 2\nall replicas show the same\n$"
+        self.assertRegex(out, f"^2 batches, 1 to 2: each has its seal\n{shown}")
         self.ask("UPDATE batch SET lines = 'DEL a' WHERE position = 1")
         nodes[1].process.send_signal(signal.SIGSTOP)
         status, out, err = self.log_it("audit", "--patience", 1)
@@ -80,7 +82,8 @@ class Commands(replicated.LogTest):
             self.log.append([f"DEL {number}"])
         self.ask("INSERT INTO replica VALUES ('gone', 'nowhere:1', '0.1.0', 3, 0, 0, 3, true)")
         self.assertEqual(self.log_it("cut", "--days", 0)[:2], (0, "cut up to 2; the log is at 5\n"))
-        self.assertEqual(self.log_it("skip", 5, 0, "--reason", "it ends the program")[:2], (0, "every replica leaves out line 0 of 5\n"))
+        told = self.log_it("skip", 5, 0, "--reason", "it ends the program")
+        self.assertEqual(told[:2], (0, "every replica leaves out line 0 of 5\n"))
         status, out, err = self.log_it("skip", 3, 0, "--reason", "late")
         self.assertEqual((status, out, err), (2, "", "jasminedome: the replica gone has applied 3 already\n"))
         self.assertEqual(self.log_it("forget", "gone")[:2], (0, "gone is forgotten\n"))

@@ -99,7 +99,9 @@ class Choices(unittest.TestCase):
 
 class Folders(unittest.TestCase):
     def setUp(self):
-        self.room = Path(tempfile.mkdtemp())
+        room = tempfile.TemporaryDirectory()
+        self.addCleanup(room.cleanup)
+        self.room = Path(room.name)
         self.bases = Bases(self.room / "one")
         self.addCleanup(self.bases.close)
 
@@ -138,9 +140,13 @@ class Folders(unittest.TestCase):
         self.assertEqual(self.bases.positions(), [90])
 
     def test_a_base_is_sent_whole(self):
-        self.assertIsNone(Bases(self.room / "two").unpack(self.bases.packed()))
+        others = [Bases(self.room / name) for name in ("two", "three")]
+        for each in others:
+            self.addCleanup(each.close)
+        with self.bases.packed() as file:
+            self.assertIsNone(others[0].unpack(file))
         self.keep(5, 6)
-        three = Bases(self.room / "three")
+        three = others[1]
         with self.bases.packed() as file:
             self.assertEqual(three.unpack(file), 5)
         self.assertEqual((self.room / "three" / "base-5" / "file_5").read_text(), "5")
@@ -256,7 +262,8 @@ class Engines(unittest.IsolatedAsyncioTestCase):
 
     async def test_a_digest_sees_texts_orders_and_counts(self):
         seen = set()
-        for items in (('{"id":"a","price":1}',), ('{"id":"a", "price":1}',), ('{"id":"a","price":2}',), ('{"id":"a","color":["b"]}',), ()):
+        texts = ('{"id":"a","price":1}', '{"id":"a", "price":1}', '{"id":"a","price":2}', '{"id":"a","color":["b"]}')
+        for items in (*((text,) for text in texts), ()):
             engine = await self.start(FAKE)
             for item in items:
                 await engine.ask(b"1 PUT %b" % item.encode(), b"")
@@ -312,8 +319,8 @@ class Fronts(unittest.IsolatedAsyncioTestCase):
         )  # fmt: skip
 
     async def test_nothing_but_reads_goes_through(self):
-        writes = (b"PUT {}", b"1 DEL a", b"DELW *:*", b"CLOSE 50", b"", b"FIND", b"FIND 50", b"FACETS 50 color x *:*", b"STATUS x", b"BASE x")
-        self.assertEqual(set(await self.ask(*writes)), {b"2 NO 10\n"})
+        writes = (b"PUT {}", b"1 DEL a", b"DELW *:*", b"CLOSE 50", b"", b"FIND", b"FIND 50", b"STATUS x", b"BASE x")
+        self.assertEqual(set(await self.ask(*writes, b"FACETS 50 color x *:*")), {b"2 NO 10\n"})
         self.assertEqual((await self.ask(b"FIND 50 0 . . *:*"))[0], b"2 OK 0 50\n")
 
     async def test_many_lines_ahead_are_answered_in_their_order(self):

@@ -3,9 +3,7 @@
 import os
 import random
 import re
-import shutil
 import signal
-import subprocess
 import sys
 import threading
 import time
@@ -17,7 +15,6 @@ from replicated import FAKE, FLAKY, PROGRAM, dump, puts
 
 import jasminedome
 from jasminedome.replicas import Delete, Mark, NoReplica, Put, Skipped, TokenLost
-from jasminedome.replicas.batches import next_seal
 from jasminedome.replicas.digests import outvoted
 
 SOON = "20,0.1"  # a base behind 20 writes, or 0.1 seconds

@@ -81,7 +81,8 @@ class Reads(replicated.LogTest):
             shelves.open(2)
         self.assertIsInstance(caught.exception, jasminedome.TokenGone)
         view = ShelfView(shelves, "2")
-        for call in (view.find, lambda: view.facets("color"), lambda: view.get("item0000001"), lambda: view.get_many(["a", "b"])):
+        some = (lambda: view.facets("color"), lambda: view.get("item0000001"), lambda: view.get_many(["a", "b"]))
+        for call in (view.find, *some):
             with self.assertRaisesRegex(TokenLost, "no replica has the token.*: 2"):
                 call()
         self.assertLess(time.monotonic() - begun, 5)
