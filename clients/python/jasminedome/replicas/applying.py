@@ -94,6 +94,12 @@ class Applying:
         """Whether it has caught up with what the log had when it began."""
         return self.position >= self._begun.upto
 
+    @property
+    def needed(self) -> int:
+        """The position at or before which a base brings all of the window back."""
+        first = self.window.first
+        return self.position if first is None else first
+
     async def begin(self) -> None:
         """Shows the base itself, where that was made at a mark of the window."""
         if self._begun.base is not None:
@@ -199,8 +205,7 @@ class Applying:
                 raise Tainted(f"{self._failed} commits failed one after another: {error}") from None
         else:
             self._failed = 0
-            needed = self.window.first
-            await self._files.do(self._bases.drop, self.position if needed is None else needed)
+            await self._files.do(self._bases.drop, self.needed)
         await self._sweep()
         self._since_base, self._base_at = 0, asyncio.get_running_loop().time()
 

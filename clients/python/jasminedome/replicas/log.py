@@ -67,7 +67,7 @@ class Outcome:
 
 @dataclass(frozen=True)
 class ReplicaRow:
-    """What a replica told last, and how many seconds ago. Positions are of the log; `base` is where it can start again."""
+    """What a replica told last, and how many seconds ago. Positions are of the log; at `base` it would start again."""
 
     name: str
     address: str

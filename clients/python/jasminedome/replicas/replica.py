@@ -314,7 +314,7 @@ class Replica:
             position, digest = life.digest
             self._follower.note_digest(position, settings.name, digest)
             self._checked, life.digest = (position, now), None
-        base = (self._bases.positions() or [0])[0]
+        base = max((each for each in self._bases.positions() if each <= life.needed), default=0)
         row = Row(
             settings.name, settings.address, self.version, life.position, life.shown, life.token, base, life.is_ready
         )  # fmt: skip

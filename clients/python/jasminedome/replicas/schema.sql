@@ -37,7 +37,7 @@ CREATE TABLE replica (
     position bigint NOT NULL,                -- applied
     shown    bigint NOT NULL,                -- of the newest mark that can be read
     token    bigint NOT NULL,
-    base     bigint NOT NULL,                -- the oldest from which it can start again
+    base     bigint NOT NULL,                -- at which it would start again, with all of its tokens; 0: the log's beginning
     is_ready boolean NOT NULL,               -- whether it has caught up since it started
     at       timestamptz NOT NULL DEFAULT clock_timestamp()
 );

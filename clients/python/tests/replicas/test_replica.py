@@ -225,6 +225,18 @@ class Folders(replicated.LogTest):
         for node in (one, two):
             self.assertEqual(node.start().wait(position)["tokens"], told["tokens"])
 
+    def test_no_cut_takes_what_brings_a_token_back(self):
+        one = self.node("one", every="20,60")
+        for number in range(3):
+            self.log.append(puts(number), Mark.ANCHOR)
+        position = self.log.append(puts(*range(3, 30)), Mark.ANCHOR)
+        told = one.until_it("has a base", lambda told: told["bases"] == [position])
+        self.log.append(puts(0))
+        one.until_it("has told", lambda _: self.log.replicas()[0].position == position + 1)
+        self.assertEqual((self.log.replicas()[0].base, self.log.cut(0)), (0, 0))
+        one.kill()
+        self.assertEqual(one.start().wait(position)["tokens"], told["tokens"])
+
     def test_a_damaged_base_is_put_aside(self):
         one = self.node("one", every="1,0", newest=True)
         for number in range(6):
