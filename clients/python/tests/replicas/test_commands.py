@@ -6,7 +6,6 @@ import os
 import signal
 import subprocess
 import sys
-import threading
 
 import replicated  # first: it finds the package
 from replicated import PACKAGE, puts
@@ -100,11 +99,11 @@ class Commands(replicated.LogTest):
             self.assertFalse(os.path.exists(f"/proc/{program}"))
             program = one.start().until("process")
         self.cluster.stop()
-        starter = threading.Timer(0.7, self.cluster.start)
-        starter.start()
-        one.process.send_signal(signal.SIGTERM)
-        self.assertEqual(one.process.wait(20), 0)  # it doesn't wait for PostgreSQL
-        starter.join()
+        try:
+            one.process.send_signal(signal.SIGTERM)
+            self.assertEqual(one.process.wait(20), 0)  # it doesn't wait for PostgreSQL
+        finally:
+            self.cluster.start()
 
     def test_words_that_are_none(self):
         for words in (

@@ -4,6 +4,7 @@ import random
 import threading
 import time
 import unittest
+from concurrent.futures import ThreadPoolExecutor
 
 import replicated  # first: it finds the package
 
@@ -94,15 +95,14 @@ class Appends(replicated.LogTest):
                 while not is_over.is_set():
                     seen.extend(batch.position for batch in log.batches(seen[-1] if seen else 0, 100))
 
-        reader = threading.Thread(target=read)
-        writers = [threading.Thread(target=write, args=(number,)) for number in range(8)]
-        for thread in (reader, *writers):
-            thread.start()
-        for thread in writers:
-            thread.join()
-        time.sleep(0.3)
-        is_over.set()
-        reader.join()
+        with ThreadPoolExecutor(9) as threads:
+            reader = threads.submit(read)
+            try:
+                list(threads.map(write, range(8)))
+                time.sleep(0.3)
+            finally:
+                is_over.set()
+            reader.result()
         head = self.log.head()
         self.assertEqual(seen, list(range(1, head.position + 1)))
         seal = head.cut_seal
@@ -120,11 +120,8 @@ class Appends(replicated.LogTest):
                 self.log.append(["DEL other"], key=f"{writer} 0")
 
         told = {}
-        threads = [threading.Thread(target=write, args=(number,)) for number in range(8)]
-        for thread in threads:
-            thread.start()
-        for thread in threads:
-            thread.join()
+        with ThreadPoolExecutor(8) as threads:
+            list(threads.map(write, range(8)))
         lines = {batch.position: batch.lines for batch in self.log.batches(0, 1_000)}
         self.assertEqual(sorted(told.values()), list(range(1, 161)))
         for (writer, number), position in told.items():

@@ -273,6 +273,13 @@ class Engines(unittest.IsolatedAsyncioTestCase):
         self.assertEqual(len(seen), 5)
 
 
+class Stalled:
+    """A program that answers nothing."""
+
+    def relay(self, *_):
+        pass
+
+
 class FakeReplica:
     """A replica's side of its readers, over a program alone."""
 
@@ -292,8 +299,9 @@ class Fronts(unittest.IsolatedAsyncioTestCase):
         for line in lines:
             await engine.ask(line.encode(), b"")
         self.replica = FakeReplica(engine)
+        self.fronts = set()
         self.replica.window.add(mark(9), 50)
-        self.server = await asyncio.get_running_loop().create_server(lambda: Front(self.replica, set()), "127.0.0.1", 0)
+        self.server = await asyncio.get_running_loop().create_server(lambda: Front(self.replica, self.fronts), "127.0.0.1", 0)
         self.addCleanup(self.server.close)
         self.address = "127.0.0.1:%d" % self.server.sockets[0].getsockname()[1]
 
@@ -331,6 +339,20 @@ class Fronts(unittest.IsolatedAsyncioTestCase):
             await asyncio.to_thread(wire.sendall, b"".join(line + b"\n" for line in lines))
             read = await asyncio.to_thread(read_to, wire, sum(len(each) + len(b"%d\n" % len(each)) for each in told))
         self.assertEqual(read, b"".join(b"%d\n%b" % (len(each), each) for each in told))
+
+    async def test_no_more_is_taken_than_is_answered(self):
+        self.replica.engine = Stalled()
+        with socket.create_connection(endpoint(self.address)) as wire:
+            wire.setblocking(False)
+            line, sent = b"GET 50 " + b"x" * 60 + b"\n", 0
+            for _ in range(50):
+                with contextlib.suppress(BlockingIOError):
+                    sent += wire.send(line * 5_000)
+                await asyncio.sleep(0.01)
+            (front,) = self.fronts
+            self.assertGreater(sent // len(line), 20_000)
+            self.assertLess(len(front._slots), 10_000)
+            front.close()
 
     async def test_a_line_without_an_end_is_no_line(self):
         with socket.create_connection(endpoint(self.address)) as wire:

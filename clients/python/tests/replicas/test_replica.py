@@ -92,9 +92,11 @@ class Alike(replicated.LogTest):
 
     def test_the_window_is_a_function_of_the_log(self):
         one, two = self.node("one"), self.node("two")
+        for node in (one, two):
+            node.until("is_ready")
         chance = random.Random(1)
-        for number in range(150):
-            writes = puts(number) if chance.random() < 0.7 else []
+        for number in range(250):
+            writes = puts(number) if chance.random() < 0.8 else []
             position = self.log.append(writes, chance.choice([Mark.NOTHING, Mark.VIEW, Mark.ANCHOR]))
         position = self.log.refresh()
         tokens = one.wait(position)["tokens"]
