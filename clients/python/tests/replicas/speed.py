@@ -2,7 +2,7 @@
 
     JASMINEDOME_PROGRAM=$(./run --path) /usr/bin/python3 clients/python/tests/replicas/speed.py [--items N]
 
-By hand: it takes a minute, and wants processors. Each replica is pinned to a processor of its own for the reads, with its
+By hand: it takes a minute or two, and wants processors. Each replica is pinned to a processor of its own for the reads, with its
 program.
 """
 
@@ -10,6 +10,7 @@ import argparse
 import contextlib
 import multiprocessing
 import os
+import random
 import shutil
 import tempfile
 import threading
@@ -169,6 +170,25 @@ def read_all(nodes):
         print(f"view.find(), {count} replicas, {READERS} readers: {together(nodes[:count], find, token)}")
 
 
+def resident(process):
+    """The megabytes of memory that a process has."""
+    lines = Path(f"/proc/{process}/status").read_text().splitlines()
+    return next(int(line.split()[1]) for line in lines if line.startswith("VmRSS")) / 1024
+
+
+def remember(dsn, nodes, items):
+    """Sixty anchors with a hundredth of the items changed between each, of which 48 are held."""
+    log = Log(dsn, LOG)
+    pairs = [(node.process.pid, node.status()["process"]) for node in nodes]
+    before = [[resident(process) for process in pair] for pair in pairs]
+    for _ in range(60):
+        end = log.append(puts(*random.sample(range(items), items // 100)), Mark.ANCHOR)
+    tokens = [len(node.wait(end)["tokens"]) for node in nodes]
+    grown = [f"{was[1]:.0f} to {resident(pair[1]):.0f}" for pair, was in zip(pairs, before)]
+    told = [f"{resident(pair[0]):.0f}" for pair in pairs]
+    print(f"memory in MB with {tokens} tokens held over {items * 60 // 100:,} changes: programs {grown}, replicas {told} {load()}")
+
+
 def main():
     parser = argparse.ArgumentParser(description=__doc__.split("\n\n")[0])
     parser.add_argument("--items", type=int, default=100_000)
@@ -186,6 +206,7 @@ def main():
         for node in nodes:
             node.wait(anchor)
         read_all(nodes)
+        remember(cluster.dsn, nodes, given.items)
     finally:
         for node in nodes:
             node.kill()
