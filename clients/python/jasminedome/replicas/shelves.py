@@ -250,7 +250,7 @@ class Shelves:
         trouble, is_first = None, True
         while True:
             lacking = 0
-            for shelf in self._round():
+            for shelf in self._every():
                 replies = shelf.ask(lines, self._silence)
                 if replies is not None and GONE not in replies:
                     try:
@@ -275,7 +275,7 @@ class Shelves:
         until = time.monotonic() + self._patience
         while True:
             lacking = 0
-            for shelf in self._round():
+            for shelf in self._every():
                 replies = shelf.ask([asked], self._silence)
                 if replies is not None and replies[0].startswith(b"OK "):
                     return ShelfView(self, replies[0][3:-1].decode())
@@ -327,11 +327,15 @@ class Shelves:
         return ShelfView(self, shown.stamp, shown.position)
 
     def _round(self) -> List[_Shelf]:
-        """The replicas that don't rest, or all where each does, another first each time."""
+        """The replicas that don't rest, or all where each does; another first each time."""
+        every = self._every()
+        return [shelf for shelf in every if not shelf.rests] or every
+
+    def _every(self) -> List[_Shelf]:
+        """All replicas, another first each time, and those that rest last."""
         known = self._known()
-        asked = [shelf for shelf in known if not shelf.rests] or known
-        turn = next(self._turn) % max(1, len(asked))
-        return asked[turn:] + asked[:turn]
+        turn = next(self._turn) % max(1, len(known))
+        return sorted(known[turn:] + known[:turn], key=lambda shelf: shelf.rests)
 
     def _known(self) -> List[_Shelf]:
         if self._log is not None and time.monotonic() - self._looked_at > _LOOKED and self._looking.acquire(blocking=False):
