@@ -26,6 +26,9 @@ else
   begin 'tests/large.py' tests/large.py "$program"
   if [ -x tests/folder.py ]; then begin 'tests/folder.py' tests/folder.py "$program" "$check"; fi
   begin 'clients/python' env JASMINEDOME_PROGRAM="$named" python3 clients/python/tests
+  if python3 clients/python/tests/replicas --can; then
+    begin 'clients/python/tests/replicas' env JASMINEDOME_PROGRAM="$named" python3 clients/python/tests/replicas
+  fi
   # The sample shop serves by the first Python that can.
   serves() { python3 -c 'import starlette, uvicorn' 2>/dev/null || /usr/bin/python3 -c 'import starlette, uvicorn' 2>/dev/null; }
   if ! serves; then

@@ -140,7 +140,7 @@ def build_wheel(wheel_directory: str, config_settings: _Settings = None, metadat
     released = release() if runs_here() else None
     wheel = Wheel(wheel_directory, tag(released))
     for path in sorted((TOP / NAME).rglob("*")):
-        if path.suffix == ".py" or path.name == "py.typed":
+        if path.suffix in (".py", ".sql") or path.name == "py.typed":
             wheel.add(path.relative_to(TOP).as_posix(), path.read_bytes())
     for name, data in programs(released) if released is not None else ():
         wheel.add(f"{NAME}/bin/{name}", data, 0o755)

@@ -1,24 +1,21 @@
-"""The command line: `python -m jasminedome` and load, shell, serve, backup, dump or reindex."""
+"""The command line: `python -m jasminedome` and load, shell, serve, backup, dump, reindex, log or replica."""
 
 from __future__ import annotations
 
 import argparse
 import os
 import sys
-from collections import Counter
-from typing import Callable, Dict, List, Optional, Tuple
+from typing import Callable, List, Optional, Tuple
 
-from . import copying, shell
-from .errors import JasminedomeError, Refusal, UsageError
+from . import copying, log_commands, shell
+from .errors import JasminedomeError
 from .http import command
 from .loading import EVERY, Loaded, load
 from .plans import ASKED, CENTS, SKIP
 from .sources import FORMS, STANDARD_INPUT
+from .summaries import plan_lines, refused_lines, repeated_lines
 from .terminal import Bar, shown
 from .version import __version__
-
-_SHOWN = 20  # refused lines that a summary tells one by one
-_REPEATS = 5  # ids that come again which it tells
 
 REFUSED = 1
 FAILED = 2
@@ -58,6 +55,7 @@ def _parser() -> argparse.ArgumentParser:
         description="Puts the items of FILE into a folder, which is made where there is none, and commits them.",
     )
     _add_load(loading)
+    _add_folder_load(loading)
     loading.set_defaults(run=_load)
     shelled = commands.add_parser("shell", help="ask a folder's catalogue", description="Asks the catalogue of a folder.")
     shelled.add_argument("folder", metavar="F", help="where the catalogue is kept")
@@ -65,7 +63,14 @@ def _parser() -> argparse.ArgumentParser:
     serving = commands.add_parser("serve", help="answer over HTTP", description="Serves a catalogue over HTTP, as JSON.")
     command.add_arguments(serving)
     serving.set_defaults(run=command.serve)
-    for each in (loading, shelled, serving, *copying.add_commands(commands)):
+    logs = "a log of writes in PostgreSQL, which replicas apply"
+    logged = commands.add_parser("log", help=f"make, fill and look after {logs}", description=f"{logs}.")
+    log_commands.add_log(logged, _add_load)
+    logged.set_defaults(run=log_commands.run_log)
+    replica = commands.add_parser("replica", help="apply a log, and answer readers", description="Applies a log, and answers.")
+    log_commands.add_replica(replica)
+    replica.set_defaults(run=log_commands.run_replica)
+    for each in (loading, shelled, serving, replica, *copying.add_commands(commands)):
         each.add_argument("--program", metavar="PATH", help="the program; else JASMINEDOME_PROGRAM, else catalogue on the PATH")
     return parser
 
@@ -77,7 +82,6 @@ def _add_load(parser: argparse.ArgumentParser) -> None:
         help="lines of JSON (.jsonl), an array of JSON (.json), or a table with a line of names (.csv, .tsv), any of them "
         f"packed (.gz); {STANDARD_INPUT} for standard input",
     )
-    parser.add_argument("--folder", required=True, metavar="F", help="where the catalogue is kept")
     parser.add_argument(
         "--field",
         action="append",
@@ -90,6 +94,10 @@ def _add_load(parser: argparse.ArgumentParser) -> None:
     parser.add_argument("--id", metavar="NAME", help="the column that tells items apart, where that isn't id")
     parser.add_argument("--format", choices=FORMS, help="what the file is, where its name doesn't tell")
     parser.add_argument("--encoding", metavar="NAME", help="what it is written in, where that isn't UTF-8: latin-1, say")
+
+
+def _add_folder_load(parser: argparse.ArgumentParser) -> None:
+    parser.add_argument("--folder", required=True, metavar="F", help="where the catalogue is kept")
     parser.add_argument("--every", type=int, default=EVERY, metavar="N", help="items between two commits (%(default)s)")
 
 
@@ -120,40 +128,10 @@ def _summary(told: Loaded, name: str, folder: str) -> List[str]:
     speed = told.accepted / told.seconds if told.seconds else 0
     kept = f"commit {told.commit:,} of {folder}" if told.commit is not None else "so nothing was committed"
     lines = [f"{name}: {told.accepted:,} of {count:,} items put in {told.seconds:.1f} s ({speed:,.0f} a second), {kept}"]
-    lines.append("fields: " + ", ".join(f"{field} {kind}" for field, kind in told.plan.fields.items()))
-    renamed = {column: field for column, field in told.plan.names.items() if column != field}
-    if renamed:
-        lines.append("renamed: " + ", ".join(f"{column!r} to {field}" for column, field in renamed.items()))
+    lines += plan_lines(told.plan)
     if told.skipped:
         lines.append(f"went on behind row {told.skipped:,}, up to which a load that was stopped had committed")
-    if told.repeated:
-        lines += _repeated(told)
-    if told.refused:
-        lines += _refused(told)
-    return lines
-
-
-def _repeated(told: Loaded) -> List[str]:
-    ids = "id comes" if told.repeated == 1 else "ids come"
-    lines = [f"{told.repeated:,} {ids} again, and the last of each counts:"]
-    lines += [f"  line {line:,}: {id}, as in line {first:,}" for id, first, line in told.repeats[:_REPEATS]]
-    return lines + ([f"  and {told.repeated - _REPEATS:,} more"] if told.repeated > _REPEATS else [])
-
-
-def _refused(told: Loaded) -> List[str]:
-    reasons: Dict[str, int] = Counter(_reason(each.error) for each in told.refused)
-    lines = [f"{len(told.refused):,} refused:"]
-    lines += [f"  line {each.line:,}: {each.error}" for each in told.refused[:_SHOWN]]
-    if len(told.refused) > _SHOWN:
-        lines.append(f"  and {len(told.refused) - _SHOWN:,} more; in all:")
-        lines += [f"  {count:,} times: {reason}" for reason, count in Counter(reasons).most_common()]
-    if any(isinstance(each.error, UsageError) and "UTF-8" in str(each.error) for each in told.refused):
-        lines.append("what isn't UTF-8 is read by --encoding: latin-1 or cp1252, say")
-    return lines
-
-
-def _reason(error: JasminedomeError) -> str:
-    return f"{error.text} (refusal {error.number})" if isinstance(error, Refusal) else str(error).partition(": ")[0]
+    return lines + repeated_lines(told.repeated, told.repeats) + refused_lines(told.refused)
 
 
 if __name__ == "__main__":

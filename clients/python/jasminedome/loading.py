@@ -87,7 +87,7 @@ def load(
     begun = time.monotonic()
     with Source(path, form, encoding) as source:
         table = Table(source)
-        told_progress = _told(source, progress)
+        told_progress = told_by(source, progress)
         columns = table.columns(lambda: told_progress(0), id_column)
         existing = fields_of(kept) if kept.is_dir() else None
         plan = planned(columns, fields or {}, existing, id_column)
@@ -119,7 +119,7 @@ def _check(fields: object, id_column: object, every: object) -> None:
         raise UsageError("a load commits after 1 item or more")
 
 
-def _told(source: Source, progress: Optional[Progress]) -> Callable[[int], None]:
+def told_by(source: Source, progress: Optional[Progress]) -> Callable[[int], None]:
     """Calls `progress` with what was answered and how far the source is read."""
 
     def told(answered: int) -> None:
@@ -127,6 +127,12 @@ def _told(source: Source, progress: Optional[Progress]) -> Callable[[int], None]
             progress(answered, source.read, source.size)
 
     return told
+
+
+def load_digest(table: Table, plan: Plan) -> str:
+    """A text that no load of another file, or under another plan, has."""
+    told = f"{table.source.digest()} {table.source.form} {table.source.encoding} {plan!r}"
+    return hashlib.blake2b(told.encode(errors="replace"), digest_size=16).hexdigest()
 
 
 class _Work:
@@ -137,10 +143,9 @@ class _Work:
     ) -> None:
         self._shop = shop
         self._name = table.source.name
-        told = f"{table.source.digest()} {table.source.form} {table.source.encoding} {plan!r}"
-        self._digest = hashlib.blake2b(told.encode(errors="replace"), digest_size=16).hexdigest()
+        self._digest = load_digest(table, plan)
         self.skipped = _rows_done(shop, self._digest)
-        self._rows = _Rows(table, plan, columns, self.skipped)
+        self._rows = Rows(table, plan, columns, self.skipped)
         self._progress = progress
         self._refused: Dict[int, JasminedomeError] = {}
         self._answered = 0
@@ -179,7 +184,7 @@ class _Work:
             self._shop.sweep()
 
 
-class _Rows:
+class Rows:
     """The items of a file's rows, the line of each, and the rows that can't be items."""
 
     def __init__(self, table: Table, plan: Plan, columns: Mapping[str, Column], skipped: int) -> None:

@@ -68,41 +68,11 @@ class Facets:
     counts: Tuple[FacetCount, ...]
 
 
-class View:
-    """The catalogue after `token` writes, held until it is closed; `Catalogue.open` makes it.
+class Reads:
+    """What can be read under one token: the calls that every view has, wherever it is asked."""
 
-    A context manager. Any thread may read from it. One that is forgotten is closed at the next call of the catalogue.
-    Reads raise UsageError once it is closed, and ProgramEnded where the program is gone, beside what they name.
-    """
-
-    def __init__(self, catalogue: "Catalogue", session: int, token: int, left: "Deque[Tuple[int, int]]") -> None:
-        self._catalogue = catalogue
-        self._session = session
-        self.token = token
-        # A finalizer runs anywhere, even in a thread that is sending: it notes what to close, and sends nothing.
-        self._forget = weakref.finalize(self, left.append, (session, token))
-        self._forget.atexit = False
-
-    def __enter__(self) -> "View":
-        return self
-
-    def __exit__(self, *_: object) -> None:
-        self.close()
-
-    async def __aenter__(self) -> "View":
-        return self
-
-    async def __aexit__(self, *_: object) -> None:
-        self.close()
-
-    def __repr__(self) -> str:
-        return f"<View of token {self.token}{'' if self._forget.alive else ', closed'}>"
-
-    def close(self) -> None:
-        """Ends the hold; a second call does nothing, nor does a call once the program has ended."""
-        if self._forget.alive:
-            self._forget()
-            self._catalogue.close_left()
+    _under: str
+    """The token, as a line spells it."""
 
     def find(
         self, query: QueryText = "*:*", sort: Optional[str] = None, after: Optional[int] = None, count: int = 20
@@ -117,7 +87,7 @@ class View:
             raise UsageError(f"the sort {sort!r:.200} isn't + or - and a field")
         mark = "." if after is None else number(after, "the mark")
         shown = number(count, "the count")
-        first, *lines = self._ask(f"FIND {self.token} {shown} {sort or '.'} {mark} {query_text(query)}", _shown)
+        first, *lines = self._ask(f"FIND {self._under} {shown} {sort or '.'} {mark} {query_text(query)}", _shown)
         with reading():
             return Page(int(first.split(" ")[1]), tuple(_hit(line) for line in lines))
 
@@ -158,7 +128,7 @@ class View:
         if not _NAME.match(text(field, "the field")):
             raise UsageError(f"{field!r:.200} is no name of a field")
         shown = number(count, "the count")
-        asked = f"FACETS {self.token} {field} {shown} {query_text(query)}"
+        asked = f"FACETS {self._under} {field} {shown} {query_text(query)}"
         return asked, lambda told: min(shown, int(told.split(" ")[1]))
 
     def source(self, id: str) -> Optional[str]:
@@ -185,7 +155,51 @@ class View:
         return [_source(each) for each in self._ask_many((line, _none) for line in asked)]
 
     def _get_line(self, id: str) -> str:
-        return f"GET {self.token} {text(id, 'the id')}"
+        return f"GET {self._under} {text(id, 'the id')}"
+
+    def _ask(self, asked: str, more: Callable[[str], int] = lambda _: 0) -> List[str]:
+        raise NotImplementedError
+
+    def _ask_many(self, asked: "Iterable[Tuple[str, Callable[[str], int]]]") -> List[List[str]]:
+        raise NotImplementedError
+
+
+class View(Reads):
+    """The catalogue after `token` writes, held until it is closed; `Catalogue.open` makes it.
+
+    A context manager. Any thread may read from it. One that is forgotten is closed at the next call of the catalogue.
+    Reads raise UsageError once it is closed, and ProgramEnded where the program is gone, beside what they name.
+    """
+
+    def __init__(self, catalogue: "Catalogue", session: int, token: int, left: "Deque[Tuple[int, int]]") -> None:
+        self._catalogue = catalogue
+        self._session = session
+        self.token = token
+        self._under = str(token)
+        # A finalizer runs anywhere, even in a thread that is sending: it notes what to close, and sends nothing.
+        self._forget = weakref.finalize(self, left.append, (session, token))
+        self._forget.atexit = False
+
+    def __enter__(self) -> "View":
+        return self
+
+    def __exit__(self, *_: object) -> None:
+        self.close()
+
+    async def __aenter__(self) -> "View":
+        return self
+
+    async def __aexit__(self, *_: object) -> None:
+        self.close()
+
+    def __repr__(self) -> str:
+        return f"<View of token {self.token}{'' if self._forget.alive else ', closed'}>"
+
+    def close(self) -> None:
+        """Ends the hold; a second call does nothing, nor does a call once the program has ended."""
+        if self._forget.alive:
+            self._forget()
+            self._catalogue.close_left()
 
     def files(self) -> List[str]:
         """The names of the files that the view needs, in byte order. Raises OutOfMemory."""

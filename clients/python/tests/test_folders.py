@@ -11,6 +11,7 @@ import support  # before the package: it finds it
 
 import jasminedome
 from jasminedome import between, fields_of
+from jasminedome.folders import text_of
 
 # The example of a commit's file in docs/FORMATS.md.
 COMMIT = bytes.fromhex(
@@ -87,6 +88,15 @@ class Fields(FolderTest):
                 shop.commit(text)
                 self.assertEqual(fields_of(self.folder), support.FIELDS)
         self.assertRaises(OSError, fields_of, self.folder / "nowhere")
+
+    def test_text_of_the_newest_commit(self):
+        self.assertIsNone(text_of(self.folder))
+        with support.shop(folder=self.folder) as shop:
+            for text in ("spring", "", "Größe 42"):
+                shop.commit(text)
+                self.assertEqual(text_of(self.folder), text)
+        (self.folder / "segments_9").write_bytes(b"CSGM")
+        self.assertRaises(jasminedome.Damaged, text_of, self.folder)
 
     def test_files_that_are_none(self):
         (self.folder / "segments_1").write_bytes(COMMIT)

@@ -43,11 +43,13 @@ class Wheels(unittest.TestCase):
             programs = {each.filename: each.external_attr >> 16 & 0o777 for each in wheel.infolist() if "/bin/" in each.filename}
             told = wheel.read(f"jasminedome-{jasminedome.__version__}.dist-info/METADATA").decode()
         modules = [path.relative_to(PACKAGE).as_posix() for path in (PACKAGE / "jasminedome").rglob("*")]
-        sources = {each for each in modules if each.endswith((".py", ".typed"))}
+        sources = {each for each in modules if each.endswith((".py", ".sql", ".typed"))}
         released = {f"jasminedome/bin/{each}" for each in jasminedome_build.PROGRAMS} if RELEASE else set()
         self.assertEqual((names, programs), (sources | released, {each: 0o755 for each in released}))
         self.assertIn("Requires-Dist: starlette>=0.26; extra == 'http'\n", told)
         self.assertIn("Requires-Dist: uvicorn>=0.17; extra == 'http'\n", told)
+        self.assertIn("Requires-Dist: psycopg2>=2.9; extra == 'postgres'\n", told)
+        self.assertIn("jasminedome/replicas/schema.sql", names)
         jasminedome_build.build_wheel(str(self.room))
         self.assertEqual((self.room / name).read_bytes(), first)
 
