@@ -18,6 +18,7 @@ import os
 import random
 import re
 import shutil
+import signal
 import subprocess
 import sys
 import tempfile
@@ -383,8 +384,9 @@ def main():
     if why is not None:
         print(f"chaos.py: left out for want of {why}", file=sys.stderr)
         return 2
+    signal.signal(signal.SIGTERM, lambda *_: sys.exit(1))  # in order, so that nothing goes on running
     room = Path(tempfile.mkdtemp(prefix="chaos-"))
-    cluster = Cluster(room=None)
+    cluster = Cluster()
     try:
         told = run(given, cluster, room)
     except Mismatch as mismatch:
