@@ -188,7 +188,14 @@ pub(crate) fn expect_tables(
 
 /// Serves the shop's schema line and the rows behind it, to the end.
 pub(crate) fn expect_rows(rt: &impl Abort, alloc: Global, rows: Rows<'_>) -> Result<(), Fail> {
-    expect_tables(rt, alloc, &[rows])
+    expect_script(rt, alloc, script_of_rows(alloc, rows))
+}
+
+/// The script of the shop's schema line and the rows behind it.
+fn script_of_rows(alloc: Global, rows: Rows<'_>) -> Result<Script, AllocError> {
+    let mut script = Script::shop(alloc)?;
+    script.rows(rows)?;
+    Ok(script)
 }
 
 /// Serves the shop's schema line and the lines of each day, which have to get the replies that are written below them, and no
