@@ -118,7 +118,8 @@ fn serves_over_deletes(alloc: Global, schema: &Schema, leaf: &Leaf) -> Result<bo
     let rest = (9, "color", "*:*", "2 2: 1 blue, 1 red");
     let is_made = is_kept(alloc, &mut states, &before, &all, 1)?;
     let serves = is_kept(alloc, &mut states, &after, &rest, 1)?;
-    Ok(is_made && serves && is_kept(alloc, &mut states, &before, &all, 1)?)
+    let serves_again = is_kept(alloc, &mut states, &before, &all, 1)?;
+    Ok(is_made && serves && serves_again)
 }
 
 #[test]
