@@ -1,0 +1,9 @@
+//! One growing list of accepted writes that many callers share: two words, and what each caller's pass has seen of them.
+
+mod cell;
+mod sight;
+mod steps;
+
+pub use cell::{Cell, Noting, Seat, new_cell};
+pub use sight::Sight;
+pub use steps::{join, look, meet, note, part, record, seat};

@@ -1,0 +1,6 @@
+//! One ledger for callers in their own threads: each call is one locked section, and all callers share one growing list of
+//! accepted writes.
+#![tactic(auto)]
+
+pub mod history;
+pub mod sharing;
