@@ -8,7 +8,7 @@ from typing import Dict, List, Optional, Tuple
 from .batches import Batch, next_seal
 from .database import Database, Statement
 from .errors import Diverged, LogDiffers
-from .log import Head, read_batches, read_digests, read_head
+from .log import Head, Row, read_batches, read_digests, read_head
 
 NEWEST = 8
 """How many tokens of the newest marks every replica holds."""
@@ -35,20 +35,6 @@ _TOLD = """
 _VIEW = "INSERT INTO view VALUES (%s, %s, %s, %s) ON CONFLICT DO NOTHING"
 _REFUSED = "INSERT INTO refused VALUES (%s, %s, %s) ON CONFLICT DO NOTHING"
 _DIGEST = "INSERT INTO digest VALUES (%s, %s, %s) ON CONFLICT (position, name) DO UPDATE SET digest = excluded.digest"
-
-
-@dataclass(frozen=True)
-class Row:
-    """What a replica tells of itself, as `ReplicaRow` has it."""
-
-    name: str
-    address: str
-    version: str
-    position: int
-    shown: int
-    token: int
-    base: int
-    is_ready: bool
 
 
 @dataclass(frozen=True)

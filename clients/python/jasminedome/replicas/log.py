@@ -66,8 +66,8 @@ class Outcome:
 
 
 @dataclass(frozen=True)
-class ReplicaRow:
-    """What a replica told last, and how many seconds ago. Positions are of the log; at `base` it would start again."""
+class Row:
+    """What a replica tells of itself. Positions are of the log; at `base` it would start again."""
 
     name: str
     address: str
@@ -77,6 +77,12 @@ class ReplicaRow:
     token: int
     base: int
     is_ready: bool
+
+
+@dataclass(frozen=True)
+class ReplicaRow(Row):
+    """What a replica told last, and how many seconds ago."""
+
     age: float
 
 

@@ -17,9 +17,9 @@ from .bases import Bases, Note
 from .digests import outvoted
 from .engine import Engine
 from .errors import Diverged, LogDiffers
-from .following import Follower, Pulse, Row
+from .following import Follower, Pulse
 from .front import Front
-from .log import Head
+from .log import Head, Row
 from .rules import program_version, rules_of
 from .sending import Ended, Place
 from .window import Window
