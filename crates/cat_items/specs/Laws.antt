@@ -36,7 +36,7 @@ HaveOneSchema first₁ first₂ =
 abbrev pub EveryAnswerIsOneTalk : Type 0
 EveryAnswerIsOneTalk = AnswersAreTalks json OpensEmpty
 
--- For every two inputs with one schema, and whatever answers them: where the writes that were answered a number up to t have
--- the same text in both, a read under t has the same reply in both, for sessions that hold t.
+-- For two inputs with one schema that both begin with nothing, and whatever answers them: where the writes that were answered
+-- a number up to t have the same text in both, a read under t has the same reply in both, for sessions that hold t.
 abbrev pub HeldReadsAgreeInBytes : Type 0
 HeldReadsAgreeInBytes = TalksAgree json OpensEmpty OpensEmpty HaveOneSchema

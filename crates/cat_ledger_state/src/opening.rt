@@ -1,7 +1,7 @@
 //! What memory has of a ledger that was opened: at a commit, or where none is.
 //!
 //! Lucene's constructor of `IndexWriter`, with that of its `IndexFileDeleter`. Which commit it is, and that its files hold it,
-//! is left to cat_opening.
+//! is left to cat_commits.
 ghost use Rattle.std.specs.Prelude.{◌≡◌, ◌<◌, ◌≤◌, ◌+◌, ◌^◌, ℕ, [], ◌∷◌, true, All, IfOk, OnOk};
 ghost use Rattle.cat_model.specs.CommitFile.{commit_needs};
 ghost use Rattle.cat_model.specs.Files.{Name};

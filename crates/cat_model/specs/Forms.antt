@@ -1,5 +1,5 @@
 -- The forms of what an item has. A file of a segment is judged by them too. They are our own. Which refusal an item gets
--- that hasn't these forms is said where texts of JSON are read, by cat_schema.
+-- that hasn't these forms is said where texts of JSON are read, by cat_items.
 use Rattle.std.specs.Prelude.{◌≡◌, ℕ, ◌<◌, ◌≤◌, ◌^◌, Bool, true, nat_le, ◌&&◌, ◌==◌, not, length, All, IfSome, IsUtf8}
 use Rattle.std.specs.List.{list_all}
 use Rattle.std.specs.Char.{is_ascii_uppercase}

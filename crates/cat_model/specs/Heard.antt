@@ -14,7 +14,7 @@ use Rattle.cat_model.specs.Answer.{Read}
 use Rattle.cat_model.specs.Run.{Command, Line}
 use Rattle.cat_model.specs.Lines.{Said, ShowsSession, SpellsLine, IsReadable}
 
--- how texts of JSON are read, which cat_schema says
+-- how texts of JSON are read, which cat_items says
 pub record Json : Type 0 where
   pub schema_of : Text → Result Schema Refusal
   pub item_of : Schema → Text → Result Item Refusal

@@ -3,8 +3,6 @@ ghost use Rattle.cat_ledger_laws.specs.lines.RunLaws.{AnswersAreSteps, OpenedSta
 
 /// What answers a line for every ledger that memory carries is a step of every run that led to it: a reply fits that run, and what is
 /// left stands for the longer one.
-///
-/// Lucene has no such statement; ours is what a service promises.
 pub fn answers_are_steps()
     ensures { AnswersAreSteps }
 {}
