@@ -1,12 +1,20 @@
 -- Sets of texts that are merged, and what is told of elements by their codes.
-use Rattle.std.proofs.Common.{◌≡◌, ℕ, ◌+◌, ◌-◌, ◌<◌, ◌≤◌, ◌⊎◌, inl, inr, List, [], ◌∷◌, ◌++◌, length, get_or, take, drop, map, Result, Ok, Err, refl, sym, ap, ◌∙◌, subst, arith, append_assoc, append-nil}
-use Rattle.std.proofs.lemmas.Bool.{cases_eq, cases_lt}
+use Rattle.std.proofs.Common.{◌≡◌, ◌+◌, inl, inr, List, [], ◌∷◌, ◌++◌, take, map, Bool, true, Result, Ok, Err, refl, sym, ap, ◌∙◌, subst, append_assoc, append-nil, nat_eq, ℕ}
+use Rattle.std.proofs.lemmas.Bool.{cases_Bool}
 use Rattle.std.proofs.lemmas.Grind.{flat_map-append}
-use Rattle.std.proofs.lemmas.List.{get_or_default, get_or-drop, get_or-map, length-drop, length-map, map-append, drop-map, take-append-drop, take_rest}
-use Rattle.std.proofs.lemmas.List.Elements.{Contains-push, Contains-push_cases, Contains-get_or, Contains-append_left, Contains-append_right, Contains-append_cases}
+use Rattle.std.proofs.lemmas.List.{map-append}
+use Rattle.std.proofs.lemmas.List.Elements.{Contains-append_left, Contains-append_right, Contains-append_cases}
+use Rattle.std.proofs.lemmas.List.Kept.{Contains-dedup, Contains-from_dedup}
+use Rattle.std.proofs.lemmas.List.Sorted.{Contains-permutation, IsPermutation-refl, IsPermutation-sym, IsPermutation-cons, IsPermutation-middle, IsPermutation-trans, IsPermutation-map}
+use Rattle.std.proofs.lemmas.Slice.Eq.{bytes_eq-Decides}
 use Rattle.std.specs.Borrow.{Bor}
-use Rattle.std.specs.List.{flat_map}
+use Rattle.std.specs.Cmp.{IsEquivalence}
+use Rattle.std.specs.Cmp.Lexicographic.{pointwise, nat_list_eq_equiv}
+use Rattle.std.specs.List.{flat_map, dedup, dedup_from}
+use Rattle.std.specs.List.Sorted.{IsPermutation}
 use Rattle.std.specs.Prelude.{Contains, IfOk, ◌↔◌, Vec}
+use Rattle.itertools.specs.List as kit
+use Rattle.itertools.specs.List.{merge_at, merge_by}
 use Rattle.cat_base.specs.Texts.{sorted_set}
 use Rattle.cat_base.proofs.TextSets.{sorted_set_members, sorted_set_only, IsTextSet-sorted_set}
 use Rattle.cat_model.specs.Text.{Text}
@@ -23,145 +31,74 @@ if_ok_both P Q R f (Err e) h k = tt
 
 -- ---- sets of texts
 
--- a text more behind references
-pub seen_more : (xs ys : List (Bor Text)) (x : Bor Text) → ys ≡ xs ++ x ∷ [] → map (λ t. t.now) ys ≡ map (λ t. t.now) xs ++ x.now ∷ []
-seen_more xs ys x push = ap (map (λ t. t.now)) push ∙ map-append (λ t. t.now) xs (x ∷ [])
-
-pub seen_at : (xs : List (Bor Text)) (i : ℕ) (x : Bor Text) → i < length xs → x ≡ get_or xs i x → x.now ≡ get_or (map (λ t. t.now) xs) i []
-seen_at xs i x lt is = ap (λ (t : Bor Text). t.now) is ∙ sym (get_or-map (λ t. t.now) xs i x [] lt)
-
--- what is read twice is one
-pub seen_twice : (xs : List (Bor Text)) (i : ℕ) (x y : Bor Text) → i < length xs → x ≡ get_or xs i x → y ≡ get_or xs i y → x.now ≡ y.now
-seen_twice xs i x y lt one other = seen_at xs i x lt one ∙ sym (seen_at xs i y lt other)
-
--- as many of the first texts of both lists are there, and none but texts of theirs
-pub record AreMerged (left right all : List Text) (i j : ℕ) : Type 0 where
-  pub in_left : i ≤ length left
-  pub in_right : j ≤ length right
-  pub only : (t : Text) → Contains all t → Contains (left ++ right) t
-  pub lefts : (k : ℕ) → k < i → Contains all (get_or left k [])
-  pub rights : (k : ℕ) → k < j → Contains all (get_or right k [])
-
-pub merged_none : (left right all : List Text) → all ≡ [] → AreMerged left right all 0 0
-merged_none left right all none = record {
-  in_left = omega arith;
-  in_right = omega arith;
-  only = λ t h. absurd (omega (arith, h.1, ap length none));
-  lefts = λ k lt. absurd (omega arith);
-  rights = λ k lt. absurd (omega arith);
-}
-
--- one text more, of one of the lists or of both
-merged_only : (left right all all' : List Text) (text : Text) → Contains (left ++ right) text → all' ≡ all ++ text ∷ [] → ((t : Text) → Contains all t → Contains (left ++ right) t)
-    → (t : Text) → Contains all' t → Contains (left ++ right) t
-merged_only left right all all' text there push only t h = elim (Contains-push_cases all text t (subst (λ (l : List Text). Contains l t) push h)) [
-  | inl old ↦ only t old
-  | inr new ↦ subst (λ u. Contains (left ++ right) u) new there
-]
-
-merged_kept : (all all' : List Text) (text t : Text) → all' ≡ all ++ text ∷ [] → Contains all t → Contains all' t
-merged_kept all all' text t push h = subst (λ (l : List Text). Contains l t) (sym push) (Contains-append_left all (text ∷ []) t h)
-
-merged_new : (all all' : List Text) (text : Text) → all' ≡ all ++ text ∷ [] → Contains all' text
-merged_new all all' text push = subst (λ (l : List Text). Contains l text) (sym push) (Contains-push all text)
-
-merged_texts : (xs all all' : List Text) (text : Text) (i : ℕ) → text ≡ get_or xs i [] → all' ≡ all ++ text ∷ [] → ((k : ℕ) → k < i → Contains all (get_or xs k []))
-    → (k : ℕ) → k < i + 1 → Contains all' (get_or xs k [])
-merged_texts xs all all' text i is push old k lt = elim (cases_eq k i) [
-  | inl same ↦ subst (λ u. Contains all' u) (is ∙ ap (λ n. get_or xs n []) (sym same)) (merged_new all all' text push)
-  | inr apart ↦ merged_kept all all' text (get_or xs k []) push (old k (omega arith))
-]
-
 abbrev pub seen : List (Bor Text) → List Text
 seen xs = map (λ t. t.now) xs
 
-within_seen : (xs : List (Bor Text)) (i : ℕ) → i < length xs → i < length (seen xs)
-within_seen xs i lt = omega (arith, length-map xs (λ (t : Bor Text). t.now))
-
-pub merged_left : (left right all all' : List (Bor Text)) (x : Bor Text) (i j : ℕ) → AreMerged (seen left) (seen right) (seen all) i j → i < length left → x ≡ get_or left i x → all' ≡ all ++ x ∷ []
-    → AreMerged (seen left) (seen right) (seen all') (i + 1) j
-merged_left left right all all' x i j m lt is push =
-    let at : x.now ≡ get_or (seen left) i [] = seen_at left i x lt is in
-    let more : seen all' ≡ seen all ++ x.now ∷ [] = seen_more all all' x push in
-    let within : i < length (seen left) = within_seen left i lt in record {
-      in_left = omega arith;
-      in_right = m.in_right;
-      only =
-          merged_only (seen left) (seen right) (seen all) (seen all') x.now
-          (subst (λ u. Contains (seen left ++ seen right) u) (sym at) (Contains-append_left (seen left) (seen right) (get_or (seen left) i []) (Contains-get_or (seen left) i [] within))) more m.only;
-      lefts = merged_texts (seen left) (seen all) (seen all') x.now i at more m.lefts;
-      rights = λ k below. merged_kept (seen all) (seen all') x.now (get_or (seen right) k []) more (m.rights k below);
-    }
-
-pub merged_right : (left right all all' : List (Bor Text)) (x : Bor Text) (i j : ℕ) → AreMerged (seen left) (seen right) (seen all) i j → j < length right → x ≡ get_or right j x → all' ≡ all ++ x ∷ []
-    → AreMerged (seen left) (seen right) (seen all') i (j + 1)
-merged_right left right all all' x i j m lt is push =
-    let at : x.now ≡ get_or (seen right) j [] = seen_at right j x lt is in
-    let more : seen all' ≡ seen all ++ x.now ∷ [] = seen_more all all' x push in
-    let within : j < length (seen right) = within_seen right j lt in record {
-      in_left = m.in_left;
-      in_right = omega arith;
-      only =
-          merged_only (seen left) (seen right) (seen all) (seen all') x.now
-          (subst (λ u. Contains (seen left ++ seen right) u) (sym at) (Contains-append_right (seen left) (seen right) (get_or (seen right) j []) (Contains-get_or (seen right) j [] within))) more m.only;
-      lefts = λ k below. merged_kept (seen all) (seen all') x.now (get_or (seen left) k []) more (m.lefts k below);
-      rights = merged_texts (seen right) (seen all) (seen all') x.now j at more m.rights;
-    }
-
-pub merged_same : (left right all all' : List (Bor Text)) (x y : Bor Text) (i j : ℕ) → AreMerged (seen left) (seen right) (seen all) i j → i < length left → j < length right → x ≡ get_or left i x
-    → y ≡ get_or right j y → x.now ≡ y.now → all' ≡ all ++ x ∷ [] → AreMerged (seen left) (seen right) (seen all') (i + 1) (j + 1)
-merged_same left right all all' x y i j m lt below is other same push =
-    let one = merged_left left right all all' x i j m lt is push in
-    let within : j < length (seen right) = within_seen right j below in record {
-      in_left = one.in_left;
-      in_right = omega arith;
-      only = one.only;
-      lefts = one.lefts;
-      rights = merged_texts (seen right) (seen all) (seen all') x.now j (same ∙ seen_at right j y below other) (seen_more all all' x push) m.rights;
-    }
-
--- and then the others of both
-rest_there : (xs all : List Text) (i : ℕ) (t : Text) → ((k : ℕ) → k < i → Contains all (get_or xs k [])) → Contains xs t → Contains all t ⊎ Contains (drop i xs) t
-rest_there xs all i t first h = elim (cases_lt h.0 i) [
-  | inl before ↦ inl (subst (λ u. Contains all u) (get_or_default xs h.0 [] t h.1 ∙ h.2) (first h.0 before))
-  | inr after ↦
-      let at : i + (h.0 - i) ≡ h.0 = omega arith in
-      inr (h.0 - i, omega (arith, h.1, length-drop i xs), get_or-drop i xs (h.0 - i) t ∙ ap (λ k. get_or xs k t) at ∙ h.2)
+-- a merge has the texts of both lists, in an order of its own
+merge_at_permutes : {X : Type 0} (first : X → X → Bool) (x : X) (xs : List X) (after : List X → List X) → ((ys : List X) → IsPermutation (xs ++ ys) (after ys)) → (ys : List X)
+    → IsPermutation ((x ∷ xs) ++ ys) (merge_at first x xs after ys)
+merge_at_permutes first x xs after rest [] = subst (λ l. IsPermutation l (x ∷ xs)) (sym (append-nil (x ∷ xs))) (IsPermutation-refl (x ∷ xs))
+merge_at_permutes first x xs after rest (y ∷ ys) = elim (cases_Bool (first x y)) [
+  | inl goes ↦ rw goes (IsPermutation-cons x (xs ++ y ∷ ys) (after (y ∷ ys)) (rest (y ∷ ys)))
+  | inr waits ↦ rw waits (IsPermutation-trans ((x ∷ xs) ++ y ∷ ys) (y ∷ ((x ∷ xs) ++ ys)) (y ∷ merge_at first x xs after ys) (IsPermutation-middle (x ∷ xs) y ys)
+    (IsPermutation-cons y ((x ∷ xs) ++ ys) (merge_at first x xs after ys) (merge_at_permutes first x xs after rest ys)))
 ]
 
-rest_only : (xs : List Text) (i : ℕ) (t : Text) → Contains (drop i xs) t → Contains xs t
-rest_only xs i t h = subst (λ (l : List Text). Contains l t) (take-append-drop i xs) (Contains-append_right (take i xs) (drop i xs) t h)
+merge_permutes : {X : Type 0} (first : X → X → Bool) (xs ys : List X) → IsPermutation (xs ++ ys) (merge_by first xs ys)
+merge_permutes first [] ys = IsPermutation-refl ys
+merge_permutes first (x ∷ xs) ys = merge_at_permutes first x xs (merge_by first xs) (merge_permutes first xs) ys
 
-merged_whole : (left right all most whole : List Text) (i j : ℕ) → AreMerged left right all i j → most ≡ all ++ drop i left → whole ≡ most ++ drop j right → HaveSame whole (left ++ right)
-merged_whole left right all most whole i j m one other t = (
-  λ h. elim (Contains-append_cases most (drop j right) t (subst (λ (l : List Text). Contains l t) other h)) [
-    | inl early ↦ elim (Contains-append_cases all (drop i left) t (subst (λ (l : List Text). Contains l t) one early)) [
-      | inl there ↦ m.only t there
-      | inr rest ↦ Contains-append_left left right t (rest_only left i t rest)
-    ]
-    | inr rest ↦ Contains-append_right left right t (rest_only right j t rest)
-  ],
-  λ h. subst (λ (l : List Text). Contains l t) (sym other) (elim (Contains-append_cases left right t h) [
-    | inl there ↦ Contains-append_left most (drop j right) t (subst (λ (l : List Text). Contains l t) (sym one) (from_either all (drop i left) (rest_there left all i t m.lefts there)))
-    | inr there ↦ elim (rest_there right all j t m.rights there) [
-      | inl before ↦ Contains-append_left most (drop j right) t (subst (λ (l : List Text). Contains l t) (sym one) (Contains-append_left all (drop i left) t before))
-      | inr rest ↦ Contains-append_right most (drop j right) t rest
-    ]
-  ]),
-)
-  where
-    from_either : (xs ys : List Text) → Contains xs t ⊎ Contains ys t → Contains (xs ++ ys) t
-    from_either xs ys (inl h) = Contains-append_left xs ys t h
-    from_either xs ys (inr h) = Contains-append_right xs ys t h
+-- what is dropped behind references is what is dropped of the texts
+abbrev same_as_kept : Text → Text → Bool
+same_as_kept text kept = pointwise nat_eq kept text
 
-rest_seen : (xs : List (Bor Text)) (i : ℕ) → seen (take (length xs - i) (drop i xs)) ≡ drop i (seen xs)
-rest_seen xs i = ap seen (take_rest xs i) ∙ sym (drop-map (λ (t : Bor Text). t.now) i xs)
+abbrev seen_as_kept : Bor Text → Bor Text → Bool
+seen_as_kept text kept = same_as_kept text.now kept.now
 
-pub merged_all : (left right all most whole : List (Bor Text)) (i j : ℕ) → AreMerged (seen left) (seen right) (seen all) i j → seen most ≡ seen all ++ seen (take (length left - i) (drop i left))
-    → seen whole ≡ seen most ++ seen (take (length right - j) (drop j right)) → HaveSame (seen whole) (seen left ++ seen right)
-merged_all left right all most whole i j m one other =
-    merged_whole (seen left) (seen right) (seen all) (seen most) (seen whole) i j m (one ∙ ap (λ (l : List Text). seen all ++ l) (rest_seen left i))
-    (other ∙ ap (λ (l : List Text). seen most ++ l) (rest_seen right j))
+seen_kept_from : (kept : Bor Text) (xs : List (Bor Text)) → seen (dedup_from seen_as_kept kept xs) ≡ dedup_from same_as_kept kept.now (seen xs)
+seen_kept_from kept [] = refl
+seen_kept_from kept (x ∷ xs) = elim (cases_Bool (same_as_kept x.now kept.now)) [
+  | inl same ↦ rw same (seen_kept_from kept xs)
+  | inr other ↦ rw other (ap (λ (l : List Text). kept.now ∷ l) (seen_kept_from x xs))
+]
+
+seen_kept : (xs : List (Bor Text)) → seen (dedup seen_as_kept xs) ≡ dedup same_as_kept (seen xs)
+seen_kept [] = refl
+seen_kept (x ∷ xs) = seen_kept_from x xs
+
+same_either_way : IsEquivalence same_as_kept
+same_either_way = record {
+  refl = nat_list_eq_equiv.refl;
+  symm = λ x y. nat_list_eq_equiv.symm y x;
+  congr = λ x y z e. nat_list_eq_equiv.symm z x ∙ nat_list_eq_equiv.congr x y z (nat_list_eq_equiv.symm x y ∙ e) ∙ nat_list_eq_equiv.symm y z;
+}
+
+exact : (x y : Text) → same_as_kept x y ≡ true → x ≡ y
+exact x y e = sym ((bytes_eq-Decides y x).0 e)
+
+-- each text once has the same texts
+kept_have_same : (xs : List Text) → HaveSame (dedup same_as_kept xs) xs
+kept_have_same xs t = (λ h. Contains-from_dedup same_as_kept xs t h, λ h. Contains-dedup same_either_way exact xs t h)
+
+-- the texts of two lists that are merged, without doubles
+merged_have_same : (first : Bor Text → Bor Text → Bool) (left right : List (Bor Text)) → HaveSame (seen (kit.dedup (λ x y. pointwise nat_eq x.now y.now) (merge_by first left right))) (seen left ++ seen right)
+merged_have_same first left right t =
+    let whole : IsPermutation (seen left ++ seen right) (seen (merge_by first left right)) =
+    subst (λ (l : List Text). IsPermutation l (seen (merge_by first left right))) (map-append (λ (t : Bor Text). t.now) left right)
+    (IsPermutation-map (λ (t : Bor Text). t.now) (left ++ right) (merge_by first left right) (merge_permutes first left right)) in
+    let kept : seen (kit.dedup (λ x y. pointwise nat_eq x.now y.now) (merge_by first left right)) ≡ dedup same_as_kept (seen (merge_by first left right)) = seen_kept (merge_by first left right) in
+    let same = kept_have_same (seen (merge_by first left right)) t in (
+      λ h. Contains-permutation (seen (merge_by first left right)) (seen left ++ seen right) t (IsPermutation-sym (seen left ++ seen right) (seen (merge_by first left right)) whole)
+      (same.0 (subst (λ (l : List Text). Contains l t) kept h)),
+      λ h. subst (λ (l : List Text). Contains l t) (sym kept) (same.1 (Contains-permutation (seen left ++ seen right) (seen (merge_by first left right)) t whole h)),
+    )
+
+-- and where they are added to none
+pub taken_have_same : (first : Bor Text → Bor Text → Bool) (left right none xs all : List (Bor Text)) → none ≡ [] → xs ≡ kit.dedup (λ x y. pointwise nat_eq x.now y.now) (merge_by first left right) → all ≡ none ++ xs
+    → HaveSame (seen all) (seen left ++ seen right)
+taken_have_same first left right none xs all empty kept added =
+    let is : all ≡ kit.dedup (λ x y. pointwise nat_eq x.now y.now) (merge_by first left right) = added ∙ ap (λ (l : List (Bor Text)). l ++ xs) empty ∙ kept in
+    subst (λ (l : List (Bor Text)). HaveSame (seen l) (seen left ++ seen right)) (sym is) (merged_have_same first left right)
 
 -- a part that is joined with those behind it
 pub part_joined : (front below part all whole : List Text) → HaveSame all (below ++ part) → HaveSame ((front ++ below) ++ part) whole → HaveSame (front ++ all) whole

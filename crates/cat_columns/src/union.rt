@@ -4,8 +4,8 @@ ghost use Rattle.std.specs.List.{flat_map};
 ghost use Rattle.cat_columns.specs.Merged.{HaveSame, texts_in};
 
 use cat_base::Text;
+use itertools::Itertools;
 use std::alloc::{AllocError, Global};
-use std::cmp::Ordering;
 
 /// The texts of a set.
 fn texts_of<'a>(alloc: Global, set: &'a [Text]) -> Result<Vec<&'a Text>, AllocError>
@@ -18,17 +18,7 @@ fn texts_of<'a>(alloc: Global, set: &'a [Text]) -> Result<Vec<&'a Text>, AllocEr
     Ok(texts)
 }
 
-/// Adds the texts.
-fn add_all<'a>(all: &mut Vec<&'a Text>, texts: &[&'a Text]) -> Result<(), AllocError>
-    ensures ok { OnOk result (map (λ t. t.now) all.new.items ≡ map (λ t. t.now) all.old.items ++ map (λ t. t.now) texts.now) }
-{
-    for text in texts {
-        all.push(*text)?;
-    }
-    Ok(())
-}
-
-/// The texts of both lists. Where both are in byte order, each text once, so is what comes out.
+/// The texts of both lists. Where both are in byte order, so is what comes out, each text once. No text is copied.
 fn merged<'a>(
     alloc: Global,
     left: &[&'a Text],
@@ -37,27 +27,8 @@ fn merged<'a>(
     ensures ok { IfOk result (λ v. HaveSame (map (λ t. t.now) v.items) (map (λ t. t.now) left.now ++ map (λ t. t.now) right.now)) }
 {
     let mut all = Vec::with_capacity(alloc, left.len() + right.len())?;
-    let mut i = 0;
-    let mut j = 0;
-    while i < left.len() && j < right.len() {
-        match left[i].cmp(right[j]) {
-            Ordering::Less => {
-                all.push(left[i])?;
-                i += 1;
-            }
-            Ordering::Greater => {
-                all.push(right[j])?;
-                j += 1;
-            }
-            Ordering::Equal => {
-                all.push(left[i])?;
-                i += 1;
-                j += 1;
-            }
-        }
-    }
-    add_all(&mut all, &left[i..])?;
-    add_all(&mut all, &right[j..])?;
+    let texts = left.iter().copied().merge(right.iter().copied());
+    all.extend(texts.dedup())?;
     Ok(all)
 }
 

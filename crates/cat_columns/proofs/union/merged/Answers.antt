@@ -1,27 +1,21 @@
-use Rattle.std.proofs.Common.{sym, ◌∙◌}
-use Rattle.std.proofs.lemmas.Map.Lookups.{exact_bytes}
-use Rattle.cat_columns.proofs.Merged.{seen_twice, merged_left, merged_right, merged_same, merged_all}
+use Rattle.std.proofs.Common.{◌++◌, sym, ◌∙◌, subst, map-id}
+use Rattle.std.proofs.lemmas.Iterator.{YieldsList-from_slice}
+use Rattle.std.proofs.lemmas.Iterator.Adapters.{fact_from_extend}
+use Rattle.std.proofs.lemmas.Iterator.Consumers.{YieldsList-at, YieldsList-from_copied}
+use Rattle.std.specs.Prelude.{OnOk}
+use Rattle.itertools.proofs.AdaptorLemmas.{YieldsList-from_gives}
+use Rattle.itertools.proofs.TwoLemmas.{YieldsList-from_gives_of_both}
+use Rattle.cat_columns.specs.Merged.{HaveSame}
+use Rattle.cat_columns.proofs.Merged.{seen, taken_have_same}
 use Rattle.cat_columns.proofs.union.merged.Goals as goal
 
-pub loop-i-preserved-in-Less : goal.loop-i-preserved-in-Less
-loop-i-preserved-in-Less c =
-    merged_left c.args.left.now c.args.right.now c.loop-i.all.items c.push.new.self.items c.index-left-i-in-Less.result c.loop-i.i c.loop-i.j c.loop-i.invariant c.loop-i-test.true
-    c.index-left-i-in-Less.is c.in_ok-push-in-Less.ensures.items
-
-pub loop-i-preserved-in-Greater : goal.loop-i-preserved-in-Greater
-loop-i-preserved-in-Greater c =
-    merged_right c.args.left.now c.args.right.now c.loop-i.all.items c.push-in-Greater.new.self.items c.index-right-j-in-Greater.result c.loop-i.i c.loop-i.j c.loop-i.invariant c.if-j-right.true
-    c.index-right-j-in-Greater.is c.in_ok-push-in-Greater.ensures.items
-
-pub loop-i-preserved : goal.loop-i-preserved
-loop-i-preserved c =
-    merged_same c.args.left.now c.args.right.now c.loop-i.all.items c.push-in-Equal.new.self.items c.index-left-i-in-Equal.result c.index-right-j.result c.loop-i.i c.loop-i.j c.loop-i.invariant
-    c.loop-i-test.true c.if-j-right.true c.index-left-i-in-Equal.is c.index-right-j.is
-    (seen_twice c.args.left.now c.loop-i.i c.index-left-i-in-Equal.result c.index-left-i.result c.loop-i-test.true c.index-left-i-in-Equal.is c.index-left-i.is
-    ∙ exact_bytes c.index-left-i.result.now c.index-right-j.result.now (sym c.cmp.ensures ∙ c.in-Equal.is))
-    c.in_ok-push-in-Equal.ensures.items
-
 pub returns : goal.returns
-returns c = record {
-  ok = merged_all c.args.left.now c.args.right.now c.loop-i.all.items c.add_all.new.all.items c.add_all-2.new.all.items c.loop-i.i c.loop-i.j c.loop-i.invariant c.in_ok-add_all.ensures.ok c.in_ok-add_all-2.ensures.ok;
-}
+returns c =
+    let left = YieldsList-from_copied {ys = c.args.left.now} (YieldsList-at c.copied.ensures.source (YieldsList-from_slice {s = c.iter.result} c.args.left.now c.iter.ensures.rest)) in
+    let right = YieldsList-from_copied {ys = c.args.right.now} (YieldsList-at c.copied-2.ensures.source (YieldsList-from_slice {s = c.iter-2.result} c.args.right.now c.iter-2.ensures.rest)) in
+    let merge = YieldsList-from_gives_of_both _ c.merge-texts.ensures.runs left (YieldsList-at c.merge-texts.ensures.second.0 right) in
+    let texts = YieldsList-from_gives _ c.dedup.ensures.runs merge in
+    let same : OnOk c.extend.result (HaveSame (seen c.extend.new.self.items) (seen c.args.left.now ++ seen c.args.right.now)) =
+    fact_from_extend (λ x. x) c.extend.result c.extend.ensures.ran (λ it is. YieldsList-at is texts) (λ xs kept added.
+    taken_have_same _ c.args.left.now c.args.right.now c.in_ok-all.all.items xs c.extend.new.self.items c.in_ok-all.ensures.items (sym (map-id xs) ∙ kept) added.0) in
+    record { ok = subst (λ r. OnOk r (HaveSame (seen c.extend.new.self.items) (seen c.args.left.now ++ seen c.args.right.now))) c.in_ok-extend.was same }
