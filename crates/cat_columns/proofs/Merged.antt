@@ -41,7 +41,7 @@ merge_at_permutes first x xs after rest [] = subst (λ l. IsPermutation l (x ∷
 merge_at_permutes first x xs after rest (y ∷ ys) = elim (cases_Bool (first x y)) [
   | inl goes ↦ rw goes (IsPermutation-cons x (xs ++ y ∷ ys) (after (y ∷ ys)) (rest (y ∷ ys)))
   | inr waits ↦ rw waits (IsPermutation-trans ((x ∷ xs) ++ y ∷ ys) (y ∷ ((x ∷ xs) ++ ys)) (y ∷ merge_at first x xs after ys) (IsPermutation-middle (x ∷ xs) y ys)
-    (IsPermutation-cons y ((x ∷ xs) ++ ys) (merge_at first x xs after ys) (merge_at_permutes first x xs after rest ys)))
+      (IsPermutation-cons y ((x ∷ xs) ++ ys) (merge_at first x xs after ys) (merge_at_permutes first x xs after rest ys)))
 ]
 
 merge_permutes : {X : Type 0} (first : X → X → Bool) (xs ys : List X) → IsPermutation (xs ++ ys) (merge_by first xs ys)
@@ -89,7 +89,7 @@ merged_have_same first left right t =
     let kept : seen (kit.dedup (λ x y. pointwise nat_eq x.now y.now) (merge_by first left right)) ≡ dedup same_as_kept (seen (merge_by first left right)) = seen_kept (merge_by first left right) in
     let same = kept_have_same (seen (merge_by first left right)) t in (
       λ h. Contains-permutation (seen (merge_by first left right)) (seen left ++ seen right) t (IsPermutation-sym (seen left ++ seen right) (seen (merge_by first left right)) whole)
-      (same.0 (subst (λ (l : List Text). Contains l t) kept h)),
+          (same.0 (subst (λ (l : List Text). Contains l t) kept h)),
       λ h. subst (λ (l : List Text). Contains l t) (sym kept) (same.1 (Contains-permutation (seen left ++ seen right) (seen (merge_by first left right)) t whole h)),
     )
 
