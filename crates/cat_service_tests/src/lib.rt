@@ -5,6 +5,8 @@
 pub mod days;
 pub mod inputs;
 pub mod lines;
+#[cfg(test)]
+mod plain;
 pub mod serving;
 #[cfg(test)]
 mod verdict;

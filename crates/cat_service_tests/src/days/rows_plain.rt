@@ -2,9 +2,9 @@
 //! does between.
 use crate::days::rows_run::open_shop;
 use crate::days::script::SHOP;
+use crate::plain::{Answer, Plain};
 use cat_base::Refusal;
 use cat_directory::MemoryDirectory;
-use cat_plain::{Answer, Plain};
 use cat_service::World;
 use cat_service::cat_protocol::lines::Line;
 use cat_service::cat_protocol::replies::{Answer as Told, News};

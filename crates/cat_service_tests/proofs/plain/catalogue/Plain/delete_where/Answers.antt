@@ -1,0 +1,12 @@
+use Rattle.std.proofs.Common.{◌≡◌, ◌+◌, ◌∙◌, sym, ap}
+use Rattle.cat_service_tests.proofs.plain.Rising.{items-filter, table-delete}
+use Rattle.cat_service_tests.proofs.plain.catalogue.Plain.delete_where.Goals as goal
+
+pub invariant_of-self : goal.invariant_of-self
+invariant_of-self c =
+    let next : c.in_ok-number.number ≡ c.self.inside.count + 1 = c.in_ok-number.ensures.ok.0 ∙ ap (λ w. w.state.count + 1) (sym c.self.view_is) in (
+      c.self.invariant.0,
+      rw c.remove_hits.ensures (table-delete _ _ _ _ next c.self.invariant.1),
+      rw c.remove_hits.ensures (items-filter _ _ _ c.self.invariant.2),
+      c.self.invariant.3,
+    )

@@ -1,0 +1,12 @@
+use Rattle.cat_service_tests.proofs.plain.Written.{front_before, sent_behind, sent_at_fault, no_query_in_pieces}
+use Rattle.cat_service_tests.proofs.plain.output.send_reason.Goals as goal
+
+pub returns-in_err-send_number-in-Query : goal.returns-in_err-send_number-in-Query
+returns-in_err-send_number-in-Query g c =
+    rw (no_query_in_pieces c.args.refusal c.number-number.result c.in-Query.place c.in-Query.is c.number-number.ensures)
+    (sent_at_fault _ c.from_residual.ensures.0 (front_before _ c.in_err-send_number-in-Query.ensures))
+
+pub returns-in_ok-send_number-in-Query : goal.returns-in_ok-send_number-in-Query
+returns-in_ok-send_number-in-Query g c =
+    rw (no_query_in_pieces c.args.refusal c.number-number.result c.in-Query.place c.in-Query.is c.number-number.ensures)
+    (sent_behind _ _ _ _ _ _ c.in_ok-send_number-in-Query.ensures c.send_number-in-Query.ensures)
