@@ -5,8 +5,7 @@
 pub mod days;
 pub mod inputs;
 pub mod lines;
-#[cfg(test)]
-mod plain;
+pub mod plain;
 pub mod serving;
 #[cfg(test)]
 mod verdict;

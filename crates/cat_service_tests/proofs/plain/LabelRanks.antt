@@ -15,7 +15,7 @@ use Rattle.cat_model.specs.Ranks.{AreApart}
 use Rattle.cat_model.specs.Text.{Text, text_cmp}
 use Rattle.cat_search.proofs.Marks.{find-map}
 use Rattle.cat_service_tests.specs.plain.Counts.{comes_first, count_from, counted_of}
-use Rattle.cat_service_tests.specs.declared.plain.counting.LabelCount.{LabelCount}
+use Rattle.cat_service_tests.specs.declared.plain.counts.LabelCount.{LabelCount}
 
 -- ---- ranks go through what keeps the order
 

@@ -20,8 +20,8 @@ use Rattle.cat_model.specs.Run as run
 use Rattle.cat_model.specs.Served.{AppendsFront}
 use Rattle.cat_service_tests.specs.plain.Counts.{counted_of, facets_told}
 use Rattle.cat_service_tests.specs.plain.Out.{Sent}
-use Rattle.cat_service_tests.specs.declared.plain.counting.Counts.{Counts}
-use Rattle.cat_service_tests.specs.declared.plain.counting.LabelCount.{LabelCount}
+use Rattle.cat_service_tests.specs.declared.plain.counts.Counts.{Counts}
+use Rattle.cat_service_tests.specs.declared.plain.counts.LabelCount.{LabelCount}
 use Rattle.cat_service_tests.specs.plain.Reply.{answer_of, reply_of}
 use Rattle.cat_service_tests.specs.declared.plain.reply.Answer.{Answer}
 use Rattle.cat_service_tests.specs.declared.plain.reply.Answer.TheVariants.{Number}

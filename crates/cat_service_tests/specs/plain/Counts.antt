@@ -2,9 +2,9 @@
 use Rattle.std.specs.Prelude.{Bool, map}
 use Rattle.cat_model.specs.Facets as model
 use Rattle.cat_search.specs.BestItems.{less}
-use Rattle.cat_service_tests.specs.contracts.plain.counting.LabelCountOrd.TheImpl as by_count
-use Rattle.cat_service_tests.specs.declared.plain.counting.Counts.{Counts}
-use Rattle.cat_service_tests.specs.declared.plain.counting.LabelCount.{LabelCount}
+use Rattle.cat_service_tests.specs.contracts.plain.counts.LabelCountOrd.TheImpl as by_count
+use Rattle.cat_service_tests.specs.declared.plain.counts.Counts.{Counts}
+use Rattle.cat_service_tests.specs.declared.plain.counts.LabelCount.{LabelCount}
 
 -- the order of labels with their counts, which is derived
 abbrev pub comes_first : LabelCount → LabelCount → Bool

@@ -15,14 +15,14 @@ mod holding;
 mod reading;
 mod writing;
 
-use crate::plain::holds::Hold;
 use crate::plain::catalogue::asking::ask_of;
+use crate::plain::holds::Hold;
 use crate::plain::record::Record;
 use crate::plain::recorded::RecordedTable;
 use crate::plain::reply::{Answer, Reply};
 use cat_base::{MAX_LINE_BYTES, Refusal, WriteNo};
-use cat_search::cat_items::Schema;
 use cat_protocol::lines::{Command, Line, SchemaLine};
+use cat_search::cat_items::Schema;
 use std::alloc::{AllocError, Global};
 use std::marker::Model;
 

@@ -10,21 +10,15 @@ ghost use Rattle.cat_model.specs.Text.{same_text};
 ghost use Rattle.cat_service_tests.specs.plain.Counts.{count_from, counted_of, facets_told};
 ghost use Rattle.cat_search.specs.cat_query.View.{query_of};
 
+use crate::plain::counts::{Counts, LabelCount};
 use crate::plain::record::Record;
 use crate::plain::tables::copy_records;
 use cat_base::{Text, TextSet};
-use cat_search::cat_items::{FieldValue, Item};
 use cat_query::Query;
 use cat_search::Best;
+use cat_search::cat_items::{FieldValue, Item};
 use std::alloc::{AllocError, Global};
 use std::cmp::Reverse;
-
-/// A label, and how many hits have it (Lucene: a `LabelAndValue`). The greater count comes first, and ties go by bytes.
-#[derive(PartialEq, Eq, PartialOrd, Ord, Drop)]
-pub struct LabelCount {
-    count: Reverse<usize>,
-    label: Text,
-}
 
 impl LabelCount {
     /// How many hits have the label, at least 1.
@@ -40,17 +34,6 @@ impl LabelCount {
     {
         self.label.as_str()
     }
-}
-
-/// How many hits have a label, how many different labels they have, and the first counts (Lucene: a `FacetResult`).
-#[derive(Drop)]
-pub struct Counts {
-    /// How many hits have a label in the dimension.
-    pub matching: usize,
-    /// How many different labels the hits have (`FacetResult.childCount`).
-    pub met: usize,
-    /// The first counts (`FacetResult.labelValues`).
-    pub counts: Vec<LabelCount>,
 }
 
 /// The labels that the item has in the dimension.

@@ -8,8 +8,8 @@ ghost use Rattle.cat_service_tests.specs.plain.Tables.{AreItems, NumbersRise};
 
 use crate::plain::record::Record;
 use cat_base::Refusal;
-use cat_search::cat_items::{Item, Schema};
 use cat_query::Query;
+use cat_search::cat_items::{Item, Schema};
 use cat_search::{Accepts, Ask, Page, page_of};
 use std::alloc::Global;
 

@@ -11,16 +11,31 @@ ghost use Rattle.cat_service_tests.specs.plain.Out.{Sent};
 ghost use Rattle.cat_service_tests.specs.plain.Reply.{answer_of, reply_of};
 ghost use Rattle.cat_search.specs.Keys.{key_of};
 
-use crate::plain::counting::{Counts, LabelCount};
+use crate::plain::counts::{Counts, LabelCount};
 use crate::plain::reply::{Answer, Reply};
 use cat_base::{Refusal, SessionNo};
 use cat_search::{Entry, Key, Page};
 use itoa::Buffer;
+use std::alloc::{AllocError, Global};
 use std::io::{ErrorKind, Write};
 
 /// A write failed, or took nothing.
 #[derive(Drop)]
 pub(crate) struct WriteFault;
+
+impl Reply {
+    /// The lines of the reply, each with its line feed: the first, and one for each entry of a page and each count.
+    pub fn text(&self, alloc: Global) -> Result<Vec<u8>, AllocError>
+        ensures ok { IfOk result (λ t. t.items ≡ reply_text self.now.session (reply_of self.now.answer)) }
+    {
+        let mut text = Vec::new(alloc);
+        match send_reply(self, &mut text) {
+            Ok(()) => Ok(text),
+            // A vector refuses bytes only where it can't grow.
+            Err(WriteFault) => Err(AllocError),
+        }
+    }
+}
 
 /// One call of the writer. A call that a signal interrupts wrote nothing.
 fn send_some<W: Write>(bytes: &[u8], to: &mut W) -> Result<usize, WriteFault>

@@ -3,8 +3,8 @@ ghost use Rattle.std.specs.Prelude.{◌≡◌, IfOk};
 ghost use Rattle.std.specs.Arc.{arc_value};
 
 use cat_base::WriteNo;
-use cat_search::cat_items::Item;
 use cat_search::Numbered;
+use cat_search::cat_items::Item;
 use std::alloc::AllocError;
 use std::marker::Model;
 use std::sync::Arc;

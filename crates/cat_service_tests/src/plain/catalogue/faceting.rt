@@ -8,8 +8,8 @@ ghost use Rattle.cat_service_tests.specs.plain.Exchange.{DoesFacets};
 ghost use Rattle.cat_service_tests.specs.plain.Reply.{reply_of};
 ghost use Rattle.cat_search.specs.cat_items.Kinds.{field_kind_of};
 
-use crate::plain::counting::counts_in;
 use crate::plain::catalogue::Plain;
+use crate::plain::counting::counts_in;
 use crate::plain::reply::Answer;
 use cat_base::{MAX_PAGE, Refusal, SessionNo, Token};
 use cat_search::cat_items::{Kind, Schema, kind_of};

@@ -6,9 +6,11 @@ ghost use Rattle.cat_model.specs.State.{has_hold, has_view, held_in, refreshed, 
 ghost use Rattle.cat_service_tests.specs.plain.Plain.{Does, open_command};
 ghost use Rattle.cat_service_tests.specs.plain.Reply.{reply_of};
 
-use crate::plain::holds::{Hold, is_holding, remove_hold};
 use crate::plain::catalogue::Plain;
-use crate::plain::recorded::{RecordedTable, is_recorded, leaving, newest, prune_views, record_view};
+use crate::plain::holds::{Hold, is_holding, remove_hold};
+use crate::plain::recorded::{
+    RecordedTable, is_recorded, leaving, newest, prune_views, record_view,
+};
 use crate::plain::reply::Answer;
 use crate::plain::tables::copy_records;
 use cat_base::{Refusal, SessionNo, Token};

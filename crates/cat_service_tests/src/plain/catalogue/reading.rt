@@ -7,8 +7,8 @@ ghost use Rattle.cat_service_tests.specs.plain.Exchange.{DoesFind, IsReadQuery, 
 ghost use Rattle.cat_service_tests.specs.plain.Reply.{reply_of};
 ghost use Rattle.cat_service_tests.specs.plain.Tables.{AreItems, NumbersRise};
 
-use crate::plain::finding::{find_in, refusal_in};
 use crate::plain::catalogue::Plain;
+use crate::plain::finding::{find_in, refusal_in};
 use crate::plain::record::Record;
 use crate::plain::recorded::recorded_under;
 use crate::plain::reply::Answer;
