@@ -1,7 +1,7 @@
 //! Whose rights are found.
 use crate::rights::making::{add, end, has};
 use cat_base::Refusal;
-use cat_lifetimes::rights::Rights;
+use cat_ledger::cat_lifetimes::rights::Rights;
 use std::alloc::Global;
 use std::test::Fail;
 

@@ -3,7 +3,7 @@ ghost use Rattle.std.specs.Prelude.{◌≡◌, IfOk};
 
 use cat_base::{Refusal, SessionNo, Token};
 use cat_items::Schema;
-use cat_lifetimes::rights::Rights;
+use cat_ledger::cat_lifetimes::rights::Rights;
 use cat_views::{Hold, View};
 use std::alloc::Global;
 

@@ -1,7 +1,7 @@
 //! Which rights are taken out, and which stay.
 use crate::rights::making::{add, end, has, take};
 use cat_base::{Refusal, SessionNo, Token};
-use cat_lifetimes::rights::Rights;
+use cat_ledger::cat_lifetimes::rights::Rights;
 use std::alloc::Global;
 use std::test::Fail;
 

@@ -7,9 +7,9 @@ use crate::ledger::ledger::writing::{commit, delete, delete_where, put, put_unde
 use cat_base::{Generation, Refusal, SessionNo, Token};
 use cat_directory::{Directory, Shelf};
 use cat_items::Schema;
+use cat_ledger::cat_lifetimes::rights::Rights;
 use cat_ledger::upkeep::MergePolicy;
 use cat_ledger::{Ledger, NotOpened};
-use cat_lifetimes::rights::Rights;
 use std::alloc::Global;
 
 /// The fields of the items.

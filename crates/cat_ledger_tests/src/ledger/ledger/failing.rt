@@ -6,7 +6,7 @@ use crate::ledger::ledger::maintaining::standing_of;
 use cat_base::{Refusal, WriteNo};
 use cat_directory::{Directory, Faults, Faulty, FileName, Holder, MemoryDirectory, Shelf};
 use cat_ledger::Ledger;
-use cat_lifetimes::rights::Rights;
+use cat_ledger::cat_lifetimes::rights::Rights;
 use std::alloc::Global;
 use std::test::Fail;
 

@@ -7,7 +7,7 @@ use crate::ledger::ledger::writing::commit;
 use cat_base::{MAX_SNAPSHOTS, Refusal};
 use cat_directory::{Directory, FileName, MemoryDirectory, Shelf};
 use cat_ledger::Ledger;
-use cat_lifetimes::rights::Rights;
+use cat_ledger::cat_lifetimes::rights::Rights;
 use std::alloc::Global;
 use std::test::Fail;
 

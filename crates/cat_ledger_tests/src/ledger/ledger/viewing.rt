@@ -2,9 +2,9 @@
 use crate::ledger::ledger::telling::{self, number, refused};
 use cat_base::{Refusal, SessionNo, Token};
 use cat_directory::{Directory, Shelf};
+use cat_ledger::cat_lifetimes::rights::Rights;
 use cat_ledger::{Grant, Ledger};
-use cat_lifetimes::rights::Rights;
-use cat_query::Query;
+use cat_live_table::Query;
 use cat_search::{Ask, Prepared, Sort};
 use cat_views::Hold;
 use std::alloc::Global;

@@ -4,7 +4,7 @@ use cat_base::Refusal;
 use cat_directory::{Directory, Shelf};
 use cat_items::{Item, Schema};
 use cat_ledger::Ledger;
-use cat_query::Query;
+use cat_live_table::Query;
 use std::alloc::Global;
 
 /// Puts the item.

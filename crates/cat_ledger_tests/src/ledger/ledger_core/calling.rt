@@ -1,10 +1,10 @@
 //! The state of a ledger where nothing is, and its calls with what they ask for.
 use cat_base::{Generation, LAST_NUMBER, Refusal, SegNo, SessionNo, Token};
-use cat_commits::commit_text_ok;
 use cat_directory::{Faulty, MemoryDirectory};
 use cat_items::Schema;
+use cat_ledger::cat_ledger_state::cat_commits::commit_text_ok;
 use cat_ledger::cat_ledger_state::{Core, known_names};
-use cat_query::Query;
+use cat_live_table::Query;
 use std::alloc::Global;
 
 /// A device in memory whose calls may fail.

@@ -7,8 +7,8 @@ ghost use Rattle.cat_ledger_tests.specs.parts.Windows.{rows_put};
 
 use cat_base::{Refusal, SegNo};
 use cat_items::Schema;
+use cat_live_table::Query;
 use cat_live_table::current::Current;
-use cat_query::Query;
 use cat_search_tests::views::{Put, PutText, read_puts, segment_of};
 use cat_segment::Live;
 use cat_views::Leaf;

@@ -3,8 +3,8 @@ ghost use Rattle.std.specs.Prelude.{◌≡◌, ◌<◌, ◌≤◌, ◌+◌, ◌^
 
 use cat_base::{Refusal, SegNo, WriteNo};
 use cat_items::Schema;
+use cat_live_table::Query;
 use cat_live_table::buffer::{Buffer, Sealed};
-use cat_query::Query;
 use cat_segment::Segment;
 use std::alloc::{AllocError, Global};
 use std::fmt::Write;

@@ -1,7 +1,7 @@
 //! Who holds what.
 use crate::parts::records::making::{acquire_at, finds_view, has_tokens, record_at, records_at};
 use cat_base::{Refusal, Token};
-use cat_lifetimes::records::Records;
+use cat_ledger::cat_lifetimes::records::Records;
 use std::alloc::Global;
 use std::test::Fail;
 

@@ -3,7 +3,7 @@ use crate::parts::records::making::{
     acquire_at, fill, finds_view, has_tokens, record_at, records_at,
 };
 use cat_base::{Refusal, Token};
-use cat_lifetimes::records::Records;
+use cat_ledger::cat_lifetimes::records::Records;
 use std::alloc::{AllocError, Global};
 use std::test::Fail;
 

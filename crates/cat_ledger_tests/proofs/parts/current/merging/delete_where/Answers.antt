@@ -2,7 +2,7 @@ use Rattle.std.proofs.Common.{List, sym, subst}
 use Rattle.cat_model.specs.View.{Leaf}
 use Rattle.cat_model.specs.Write.{Write}
 use Rattle.cat_ledger_laws.specs.model.Leaves.{leaves_after}
-use Rattle.cat_query.specs.View.{query_of}
+use Rattle.cat_live_table.specs.cat_query.View.{query_of}
 use Rattle.cat_ledger_tests.specs.parts.Windows.{MayReplace}
 use Rattle.cat_ledger_tests.proofs.parts.Replaced.{both_after}
 use Rattle.cat_ledger_tests.proofs.parts.current.merging.delete_where.Goals as goal
