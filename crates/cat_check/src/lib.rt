@@ -7,7 +7,6 @@ mod commits;
 mod counts;
 mod dropping;
 mod fault;
-mod file;
 mod look;
 mod look_together;
 mod report;

@@ -3,9 +3,9 @@ ghost use Rattle.std.specs.Prelude.{◌≡◌, ◌<◌, ◌^◌, length, vec_len
 ghost use Rattle.cat_directory.specs.Devices.{NoMore};
 
 use crate::fault::{Fault, Rule};
-use crate::file::read_file;
 use crate::look_together::{id_twice, out_of_order};
 use cat_base::{Generation, Refusal, SegNo};
+use cat_commits::reading::read_file;
 use cat_commits::{Commit, Leaf, ListedSegment};
 use cat_directory::{FileName, Shelf};
 use cat_segment::cat_items::Schema;

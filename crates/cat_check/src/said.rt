@@ -5,9 +5,9 @@ ghost use Rattle.cat_directory.specs.Devices.{CountsReading, NoMore};
 ghost use Rattle.cat_ledger_laws.specs.shape.OpeningLaws.{MayHold};
 ghost use Rattle.cat_check.specs.Said.{SaysCommit, IsTorn};
 
-use crate::file::read_file;
 use cat_base::{Generation, Refusal};
 use cat_commits::Commit;
+use cat_commits::reading::read_file;
 use cat_directory::{FileName, Shelf};
 use std::alloc::Global;
 

@@ -164,21 +164,6 @@ impl Filters {
         Ok(WarmNews::Begun)
     }
 
-    /// Gives up the set in the making where it is over the segment of this number. It takes no memory.
-    pub fn forget(&mut self, segment: SegNo)
-        ensures value { self.new ≡ without (λ n. n == segment) self.old }
-        ensures known { Remembers self.old self.new }
-        ensures below { RemembersBelow self.old self.new }
-    {
-        let is_over = match &self.warming {
-            Some(warm) => warm.key().segment == segment,
-            None => false,
-        };
-        if is_over {
-            self.warming = None;
-        }
-    }
-
     /// Gives up the set in the making where it is over none of these segments, as when its segment was merged away. It takes
     /// no memory. (Lucene: `LRUQueryCache.clearCoreCacheKey`, as a segment's core is closed.)
     pub fn keep_among(&mut self, leaves: &[Leaf])

@@ -22,7 +22,7 @@ fn piece(left: u64) -> u32
 }
 
 /// All bytes of the file. [`Refusal::Damaged`] where it is absent, which want of memory never hides.
-pub(crate) fn read_file<S: Shelf>(
+pub fn read_file<S: Shelf>(
     alloc: Global,
     shelf: &mut S,
     name: FileName,

@@ -5,12 +5,12 @@ use std::test::Fail;
 #[test]
 fn a_set_over_the_segment_is_given_up(rt: HostRuntime) -> Result<(), Fail> {
     const ROWS: &[Row<'static>] = &[
-        (Call::Forget(1), ""),
+        (Call::KeepFrom(1), ""),
         (Call::KeepFrom(0), ""),
         (Call::Note("price:299"), ""),
         (Call::Steps(2), "begun 256 "),
-        // It is over another segment than this one, and over one of these.
-        (Call::Forget(2), ""),
+        // It is over the first segment.
+        (Call::KeepFirst, ""),
         (Call::KeepFrom(0), ""),
         (Call::Steps(2), "stored begun "),
         (Call::KeepFrom(1), ""),
@@ -18,7 +18,7 @@ fn a_set_over_the_segment_is_given_up(rt: HostRuntime) -> Result<(), Fail> {
         (Call::KeepFrom(2), ""),
         (Call::Steps(1), "begun "),
         // Its segment is gone.
-        (Call::Forget(2), ""),
+        (Call::KeepFirst, ""),
         (Call::StepsOverFirst(1), "idle "),
         // What is cached stays.
         (Call::Sets("price:299"), "1 - "),
@@ -32,7 +32,7 @@ fn a_set_that_is_given_up_is_begun_anew(rt: HostRuntime) -> Result<(), Fail> {
     const ROWS: &[Row<'static>] = &[
         (Call::Note("price:[512 TO *]"), ""),
         (Call::Steps(3), "begun 256 512 "),
-        (Call::Forget(1), ""),
+        (Call::KeepFrom(1), ""),
         (Call::Steps(5), "begun 256 512 stored idle "),
         (Call::Sets("price:[512 TO *]"), "88 "),
     ];

@@ -4,7 +4,7 @@ ghost use Rattle.cat_model.specs.Item.{IsItem};
 
 use crate::facets::priced::{Dead, priced_puts};
 use crate::views::{Put, are_in_order, view_of};
-use cat_base::{Refusal, SegNo};
+use cat_base::Refusal;
 use cat_cached_sets::cache::Key;
 use cat_cached_sets::filters::{Filters, WarmNews};
 use cat_cached_sets::{DocSet, Leaf, Query, View};
@@ -32,8 +32,8 @@ pub(crate) enum Call<'a> {
     Prices(u64),
     /// How many sets are cached.
     Len,
-    /// Gives up a set over the segment of this number. It is answered nothing.
-    Forget(SegNo),
+    /// Gives up a set that is over another leaf than the first. It is answered nothing.
+    KeepFirst,
     /// Gives up a set that is over none of the leaves from this place on. It is answered nothing.
     KeepFrom(usize),
 }
@@ -218,7 +218,7 @@ fn write_answer(
         Call::Sets(query) => write_sets(alloc, text, filters, view, query)?,
         Call::Prices(below) => write_prices(alloc, text, filters, view, below)?,
         Call::Len => write!(text, "{}", filters.len())?,
-        Call::Forget(segment) => filters.forget(segment),
+        Call::KeepFirst => filters.keep_among(first_leaf(leaves)),
         Call::KeepFrom(place) => filters.keep_among(leaves_from(leaves, place)),
     }
     Ok(())
