@@ -1,6 +1,6 @@
--- ---- What has to be believed. First what serving an input means, up to `Served`, on which the contract of `serve` rests;
--- then what segments, their files and views are, on which the contracts of what keeps them rest. Each file stands on those
--- before it.
+-- ---- What has to be believed, in the order of reading: each file stands on those before it. First what serving an input means, up to
+-- `Served`; then what segments, their files and views are, and what a directory tells; then `Serving`, on which the contract of `serve`
+-- rests, and what the theorem says of every two calls, up to `Found`.
 pub mod Text
 pub mod Limits
 pub mod Item
@@ -18,17 +18,26 @@ pub mod Run
 pub mod Lines
 pub mod Heard
 pub mod Input
+pub mod Files
 pub mod Served
 pub mod RowSets
 pub mod Ordinals
-pub mod Files
 pub mod View
 pub mod Layout
 pub mod LiveFile
 pub mod CommitFile
+pub mod Merged
+pub mod Told
+pub mod Restored
+pub mod Opens
+pub mod Promised
+pub mod Serving
+pub mod Talk
+pub mod Calls
+pub mod Found
+-- ---- What the contracts of single crates rest on beside these.
 pub mod GlobalOrdinals
 pub mod Window
-pub mod Merged
 -- ---- What needs no belief: laws, each proved as the contract of a public function, samples that were judged by hand, and
 -- what serves proofs (`Reader`, `Ranks`, `State`).
 pub mod Reader
@@ -38,7 +47,6 @@ pub mod Ranks
 pub mod RankLaws
 pub mod State
 pub mod Laws
-pub mod Talk
 pub mod TalkSample
 pub mod ViewLaws
 pub mod SegmentLaws

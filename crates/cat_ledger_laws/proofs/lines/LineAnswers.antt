@@ -18,14 +18,14 @@ use Rattle.cat_ledger_laws.specs.model.Replies.{IsLeft, MayStop, Calls}
 use Rattle.cat_ledger_laws.specs.shape.Shapes.{Shape, shape_of, recorded_view}
 use Rattle.cat_ledger_laws.specs.shape.Steps.{tokens_of}
 use Rattle.cat_ledger_laws.specs.shape.Ties.{ToldFiles, Makes, TouchesNothing}
-use Rattle.cat_ledger_laws.specs.lines.RunLaws.{AreAlike, Answers}
+use Rattle.cat_ledger_laws.specs.lines.RunLaws.{Answers, ReplyLike}
 use Rattle.cat_ledger_laws.specs.lines.LineLaws.{line_of, tells, NothingChanges, CallsAnswer, Puts, PutsAnswer, DeletesAnswer, QueryDeletesAnswer, MayRefresh, Refreshes, RefreshesAnswer, PrunesAnswer, Commits, CommitsAnswer, SnapsAnswer, UnsnapsAnswer, MemoryAnswers, StoppedPutsAnswer, StoppedRefreshesAnswer}
 use Rattle.cat_ledger_laws.specs.model.Stored.{FileBytes, AreStored}
 use Rattle.cat_ledger_laws.proofs.model.Replies.{calls_are_steps}
 use Rattle.cat_ledger_laws.proofs.shape.Told.{makes_of, makes_still, agrees_still}
 use Rattle.cat_ledger_laws.proofs.shape.Leaves.{any_map, map_twice, length_map}
 
-pub alike_self : (r : Reply) → AreAlike r r
+pub alike_self : (r : Reply) → ReplyLike r r
 alike_self (Ok (Answer.number n)) = refl
 alike_self (Ok (Answer.found (Found.page p))) = refl
 alike_self (Ok (Answer.found (Found.facets f))) = refl

@@ -28,7 +28,7 @@ use Rattle.cat_ledger_laws.specs.shape.Shapes.{Shape, shape_of, recorded_view}
 use Rattle.cat_ledger_laws.specs.shape.Ties.{ToldFiles, IsTold, Carries}
 use Rattle.cat_ledger_laws.proofs.shape.Told.{carries_still}
 use Rattle.cat_ledger_laws.proofs.shape.Leaves.{any_map, map_twice}
-use Rattle.cat_ledger_laws.specs.lines.RunLaws.{AreAlike}
+use Rattle.cat_ledger_laws.specs.lines.RunLaws.{ReplyLike}
 use Rattle.cat_ledger_laws.specs.lines.LineLaws.{line_of}
 use Rattle.cat_ledger_laws.specs.lines.ReadLaws.{IsRecordedAs, Finds, ReadsAnswer, UnheldReadsAnswer, TellsSources, length_shown, IsTextOf, GetsAnswer, SourcesAreWhole, FilesAnswer, UnheldFilesAnswer, kept_under, CommitFilesAnswer, UnkeptFilesAnswer, TextsAnswer, UnkeptTextsAnswer}
 use Rattle.cat_ledger_laws.proofs.lines.LineAnswers.{answers_still, given, denied}
@@ -74,7 +74,7 @@ unheld_reads_answer policy told told' s new session t asked unheld still = answe
 -- ---- the text of an item
 
 alike_texts : (a b : Option Text) → option_map (λ text. length text) a ≡ option_map (λ text. length text) b
-    → AreAlike (Ok (Answer.found (Found.source a))) (Ok (Answer.found (Found.source b)))
+    → ReplyLike (Ok (Answer.found (Found.source a))) (Ok (Answer.found (Found.source b)))
 alike_texts None None e = refl
 alike_texts None (Some y) e = absurd (cc e)
 alike_texts (Some x) None e = absurd (cc e)

@@ -1,10 +1,11 @@
 -- The laws that tie what memory and its device carry to runs of the service: what a call answers is a step of each run that led to it.
-use Rattle.std.specs.Prelude.{◌≡◌, ◌≢◌, ℕ, List, [], ◌∷◌, ◌++◌, length, Some, None, Ok}
+use Rattle.std.specs.Prelude.{◌≡◌, ◌≢◌, ℕ, List, [], ◌∷◌, ◌++◌, Some, None}
 use Rattle.cat_model.specs.Item.{Schema}
-use Rattle.cat_model.specs.Answer.{Found}
 use Rattle.cat_model.specs.Table.{Opened}
-use Rattle.cat_model.specs.Run.{Answer, Line, Reply, Run, IsRun, Fits}
+use Rattle.cat_model.specs.Run.{Line, Reply, Run, IsRun, Fits}
 use Rattle.cat_model.specs.State.{StandsFor}
+pub use Rattle.cat_model.specs.Serving.{ReplyLike}
+pub use Rattle.cat_model.specs.Serving.{ReplyLike as AreAlike}
 use Rattle.cat_directory.specs.declared.name.FileName.{FileName}
 use Rattle.cat_ledger_laws.specs.model.Users.{Used}
 use Rattle.cat_ledger_laws.specs.model.Plans.{MergePolicy}
@@ -16,15 +17,10 @@ use Rattle.cat_ledger_laws.specs.shape.Shapes.{Shape}
 use Rattle.cat_ledger_laws.specs.shape.Ties.{ToldFiles, Carries}
 use Rattle.cat_ledger_laws.specs.shape.OpeningLaws.{MayHold, opened_at, IsCountedAt, empty_at, IsCountedEmpty}
 
--- the replies are the same, but for the text of a stored item, of which only the length is
-abbrev pub AreAlike : Reply → Reply → Type 0
-AreAlike (Ok (Answer.found (Found.source (Some text)))) (Ok (Answer.found (Found.source (Some other)))) = length text ≡ length other
-AreAlike reply other = reply ≡ other
-
 -- The reply is the one that fits, where the device tells its files. On a device that doesn't, a GET may show another text of that
 -- length.
 pub record IsShown (told : ToldFiles) (reply fitting : Reply) : Type 0 where
-  pub alike : AreAlike reply fitting
+  pub alike : ReplyLike reply fitting
   pub same : ((q : FileName) → told q ≢ None) → reply ≡ fitting
 
 -- Whatever ledger is carried, the line makes of it what is carried afterwards, with a reply that is shown so.

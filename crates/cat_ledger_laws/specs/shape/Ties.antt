@@ -1,32 +1,21 @@
 -- Which ledgers a shape in memory, with the device beside it, stands for. On a device that tells no bytes the files are what it
 -- would hold if it returned what was written.
-use Rattle.std.specs.Prelude.{◌≡◌, false, List, Option, Some, None}
+use Rattle.std.specs.Prelude.{◌≡◌, false, List, Some}
 use Rattle.cat_model.specs.Text.{Text}
 use Rattle.cat_model.specs.Files.{Name}
 use Rattle.cat_directory.specs.declared.name.FileName.{FileName}
-use Rattle.cat_directory.specs.declared.name.FileName.TheVariants as file
+pub use Rattle.cat_model.specs.Told.{IsTold}
 use Rattle.cat_directory.specs.Names.{name_of}
+pub use Rattle.cat_directory.specs.Names.{file_of}
 use Rattle.cat_directory.specs.Devices.{Told}
 use Rattle.cat_ledger_laws.specs.model.Users.{has_name}
 use Rattle.cat_ledger_laws.specs.model.Ledger.{Ledger, IsLedger}
 use Rattle.cat_ledger_laws.specs.model.Stored.{FileBytes, AreStored}
 use Rattle.cat_ledger_laws.specs.shape.Shapes.{Shape, shape_of}
 
--- the file of a name, as the code calls it
-abbrev pub file_of : Name → FileName
-file_of (Name.segment n) = file.Segment n
-file_of (Name.source n) = file.Source n
-file_of (Name.live n d) = file.Live n d
-file_of (Name.commit g) = file.Commit g
-
 -- what a device tells of its files
 abbrev pub ToldFiles : Type 0
 ToldFiles = FileName → Told
-
--- what is told of a file is so; where nothing is told, it may be anything
-abbrev pub IsTold : Told → Option Text → Type 0
-IsTold None content = Unit {0}
-IsTold (Some told) content = told ≡ content
 
 -- the files hold what the device tells of them
 abbrev pub Agrees : ToldFiles → FileBytes → Type 0

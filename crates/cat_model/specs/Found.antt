@@ -1,0 +1,79 @@
+-- What is found of a call's catalogue afterwards: after a crash, or when the folder is opened again.
+use Rattle.std.specs.Prelude.{◌≡◌, ℕ, List, [], ◌∷◌, ◌++◌, filter_map, Some, None, Result, Ok, Err}
+use Rattle.std.specs.List.{AllByRecursion}
+use Rattle.cat_base.specs.declared.refusal.Refusal.{Refusal}
+use Rattle.cat_model.specs.Run.{Command, Exchange, Run, commit_by, commits, committed_at, newest_commit, text_under, writes}
+use Rattle.cat_model.specs.Served.{exchange}
+use Rattle.cat_model.specs.Table.{Opened, table}
+use Rattle.cat_model.specs.Talk.{HeldAsk, IsRead, IsTalk, Pair}
+use Rattle.cat_model.specs.Text.{Text}
+use Rattle.cat_model.specs.Heard.{Json}
+use Rattle.cat_model.specs.Files.{Name}
+use Rattle.cat_model.specs.Told.{FileContent, LeftByName, MayBeLeft, TellsAlways, ToldByName}
+use Rattle.cat_model.specs.Opens.{BeginsFrom}
+use Rattle.cat_model.specs.Serving.{IsServedIn}
+use Rattle.cat_model.specs.Calls.{Agree, IsCall}
+
+-- the device tells just these files
+abbrev pub TellsJust : ToldByName → (Name → FileContent) → Type 0
+TellsJust told image = (q : Name) → told q ≡ Some (image q)
+
+-- It is found at the run's newest commit: the one that was answered last, or else was opened. It has the run's text of that commit; its
+-- token is the number of writes that were accepted before that COMMIT; and its table is the run's at that token.
+pub record FindsNewest (from : Opened) (run : Run) (found : Opened) : Type 0 where
+  pub generation : ℕ
+  pub newest : newest_commit from run ≡ Some generation
+  pub commit : found.commit ≡ Some (record { generation = generation; text = text_under (commits from run) generation })
+  pub reaches : committed_at from run generation ≡ Some found.start.token
+  pub records : found.start.records ≡ table from.start (writes run) found.start.token
+
+-- some COMMIT was refused, and none was answered OK after it
+pub record RefusedSince (run : Run) : Type 0 where
+  pub past : Run
+  pub here : Exchange
+  pub later : Run
+  pub split : run ≡ past ++ here ∷ later
+  pub text : Result Text Refusal
+  pub asked : here.line.command ≡ Command.commit text
+  pub refusal : Refusal
+  pub refused : here.reply ≡ Err refusal
+  pub none : AllByRecursion (λ x. commit_by x.line.command x.reply ≡ None) later
+
+-- nothing is found, and nothing was committed
+pub record FindsNothing (from : Opened) (run : Run) (found : Opened) : Type 0 where
+  pub none : newest_commit from run ≡ None
+  pub start : (found.start.records ≡ []) × (found.start.token ≡ 0)
+  pub commit : found.commit ≡ None
+
+-- what is found
+pub data FindsAfterwards (from : Opened) (run : Run) (found : Opened) : Type 0 where
+  newest : FindsNewest from run found → FindsAfterwards from run found
+  refused : RefusedSince run → FindsAfterwards from run found
+  none : FindsNothing from run found → FindsAfterwards from run found
+
+-- Whatever a crash leaves of the files of a call that always tells of them: however a directory with these files is opened, it finds the
+-- newest commit of the call's run; or one of a COMMIT that was refused since; or, where there is none, nothing.
+abbrev pub CallsAreFound : Json → {D E : Type 0} → (D → ToldByName) → (D → LeftByName) → (D → Type 0) → (E → ToldByName) → Type 0
+CallsAreFound json {D} {E} bytes may_leave can_fail bytes₂ =
+    TellsAlways bytes
+    → (device left : D) (first : Text) (lines : List Text) (output : Text) (s : IsServedIn json bytes may_leave can_fail device left first lines output)
+    → (image : Name → FileContent) → MayBeLeft (may_leave left) image
+    → (device₂ : E) (first₂ : Text) (found : Opened) → TellsJust (bytes₂ device₂) image → BeginsFrom json (bytes₂ device₂) first₂ (Ok found)
+    → FindsAfterwards s.from (filter_map exchange s.fitting) found
+
+-- For every two calls, the second of which found the newest commit of the first, under one schema: a read under the token that the second
+-- opened with, which is what its first reply tells, has the same reply in both, for sessions that hold it.
+abbrev pub ReadsAgreeAfterwards : Json → {D E : Type 0} → (D → ToldByName) → (D → LeftByName) → (D → Type 0) → (E → ToldByName)
+    → (E → LeftByName) → (E → Type 0) → Type 0
+ReadsAgreeAfterwards json {D} {E} bytes₁ may_leave₁ can_fail₁ bytes₂ may_leave₂ can_fail₂ =
+    (device₁ left₁ : D) (device₂ left₂ : E) (first₁ first₂ : Text) (lines₁ lines₂ : List Text) (output₁ output₂ : Text)
+    → (one : IsCall json bytes₁ may_leave₁ can_fail₁ device₁ left₁ first₁ lines₁ output₁)
+    → (two : IsCall json bytes₂ may_leave₂ can_fail₂ device₂ left₂ first₂ lines₂ output₂)
+    → FindsNewest one.served.from (filter_map exchange one.served.fitting) two.served.from
+    → one.served.from.start.schema ≡ two.served.from.start.schema
+    → (talk₁ talk₂ : List Pair) → IsTalk (first₁ ∷ lines₁) output₁ talk₁ → IsTalk (first₂ ∷ lines₂) output₂ talk₂
+    → (s₁ s₂ : ℕ) (text reply₁ reply₂ : Text)
+    → (read : IsRead two.served.from.start.token text)
+    → HeldAsk talk₁ two.served.from.start.token s₁ text reply₁
+    → HeldAsk talk₂ two.served.from.start.token s₂ text reply₂
+    → Agree (TellsAlways bytes₁) (TellsAlways bytes₂) read.said s₁ s₂ reply₁ reply₂

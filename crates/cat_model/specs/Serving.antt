@@ -1,0 +1,127 @@
+-- What serving lines over a directory means: what was read and written, and what is left of the directory.
+use Rattle.std.specs.Prelude.{◌≡◌, ℕ, false, length, List, [], ◌∷◌, ◌++◌, codes, filter_map, Option, Some, Result, Ok, Err}
+use Rattle.std.specs.List.{flat_map, AllByRecursion}
+use Rattle.std.specs.Fmt.{decimal}
+use Rattle.std.specs.Io.KnownBytes.{Consumes}
+use Rattle.cat_base.specs.declared.refusal.Refusal.TheVariants.{Device, Memory}
+use Rattle.cat_model.specs.Text.{Text}
+use Rattle.cat_model.specs.Query.{Query}
+use Rattle.cat_model.specs.Table.{Opened}
+use Rattle.cat_model.specs.Answer.{Found, Read}
+use Rattle.cat_model.specs.Run.{Answer, Chore, Command, Fits, IsRun, Line, Reply, Run, greatest, holds, view_tokens}
+use Rattle.cat_model.specs.Lines.{line_text}
+use Rattle.cat_model.specs.Heard.{Json}
+use Rattle.cat_model.specs.Input.{ended_lines}
+use Rattle.cat_model.specs.Served.{Ending, HeardAll, Outcome, ServesBy, TellsFiles, exchange, outcome_text}
+use Rattle.cat_model.specs.Told.{LeavesNoMore, LeftByName, TellsAlways, TellsAsBefore, ToldByName}
+use Rattle.cat_model.specs.Opens.{BeginsFrom}
+use Rattle.cat_model.specs.Promised.{LeavesPromised, SurvivesCrash}
+
+-- ---- replies that are alike
+
+-- the replies are the same, but for the text of a stored item, of which only the length is
+abbrev pub ReplyLike : Reply → Reply → Type 0
+ReplyLike (Ok (Answer.found (Found.source (Some text)))) (Ok (Answer.found (Found.source (Some other)))) = length text ≡ length other
+ReplyLike reply other = reply ≡ other
+
+-- Lines are told the same, or the replies are alike: the text of a stored item may be another one of its length.
+abbrev pub IsLike : Outcome → Outcome → Type 0
+IsLike Outcome.unreadable Outcome.unreadable = Unit {0}
+IsLike Outcome.unreadable (Outcome.replied e) = ⊥
+IsLike (Outcome.replied e) Outcome.unreadable = ⊥
+IsLike (Outcome.replied e) (Outcome.replied fitting) = (e.line ≡ fitting.line) × ReplyLike e.reply fitting.reply
+
+-- so with each of them
+abbrev pub AreLike : List Outcome → List Outcome → Type 0
+AreLike [] [] = Unit {0}
+AreLike [] (o ∷ os) = ⊥
+AreLike (told ∷ tolds) [] = ⊥
+AreLike (told ∷ tolds) (o ∷ os) = IsLike told o × AreLike tolds os
+
+-- ---- want of memory
+
+-- the line of a session
+abbrev pub line_of : ℕ → Command → Line
+line_of session c = record { session = session; command = c }
+
+-- some OK fits the run, so that none of the refusals that the run tells is due to the command
+abbrev pub OkFits : Opened → Run → ℕ → Command → Type 0
+OkFits from run session c = (a : Answer) × Fits from run (record { line = line_of session c; reply = Ok a })
+
+-- Want of memory may be told of the session's command behind the run: where an OK fits. A line without a form and a CLOSE take none,
+-- nor does an OPEN of a token that the session holds. What is due to a PUT is known only once its text was read, which takes memory; and of
+-- a DELW it is known that its text spells a query.
+abbrev pub MayWantIn : Opened → Run → ℕ → Command → Type 0
+MayWantIn from run session Command.formless = ⊥
+MayWantIn from run session (Command.close t) = ⊥
+MayWantIn from run session (Command.put item) = Unit {0}
+MayWantIn from run session (Command.delete_where query) = (q : Query) × (query ≡ Ok q)
+MayWantIn from run session Command.open_newest =
+    OkFits from run session Command.open_newest × (holds session (greatest (view_tokens from.start run)) run ≡ false)
+MayWantIn from run session (Command.open_at t) = OkFits from run session (Command.open_at t) × (holds session t run ≡ false)
+MayWantIn from run session c = OkFits from run session c
+
+-- behind its past, the rest of a run tells want of memory only there
+abbrev pub WantRightly : Opened → Run → Run → Type 0
+WantRightly from past [] = Unit {0}
+WantRightly from past (e ∷ rest) =
+    (e.reply ≡ Err Memory → MayWantIn from past e.line.session e.line.command) × WantRightly from (past ++ e ∷ []) rest
+
+-- ---- a device that failed
+
+-- So of a command that is told that the device failed: but to a MERGE it can fail.
+abbrev pub FailsBy : Type 0 → Command → Type 0
+FailsBy fails (Command.put item) = fails
+FailsBy fails Command.refresh = fails
+FailsBy fails (Command.read t (Read.get id)) = fails
+FailsBy fails (Command.commit text) = fails
+FailsBy fails (Command.chore Chore.force) = fails
+FailsBy fails (Command.chore Chore.sweep) = fails
+FailsBy fails c = Unit {0}
+
+-- so of what a line was told, which may have been unreadable
+abbrev pub FailsRightly : Type 0 → Outcome → Type 0
+FailsRightly fails Outcome.unreadable = Unit {0}
+FailsRightly fails (Outcome.replied e) = e.reply ≡ Err Device → FailsBy fails e.line.command
+
+-- ---- the whole
+
+-- The text answers the schema line and the lines behind it: with a run from where the directory is opened, in which the names of files
+-- alone are told as names, and no source that is told has a line feed, and the replies to unreadable lines between. Want of memory hides
+-- none of the refusals that the run tells, and where the device can't fail no line but a MERGE is told that it did. Of directories that
+-- don't tell of their files, the text of a stored item may be another one of its length than the one that fits; of those that do, all that
+-- is told fits. The directory that is left holds what the run promises at its end, and what a crash leaves of it is found.
+pub record IsServedIn (json : Json) {D : Type 0} (bytes : D → ToldByName) (may_leave : D → LeftByName) (can_fail : D → Type 0) (device left : D)
+    (first : Text) (lines : List Text) (text : Text) : Type 0 where
+  pub from : Opened
+  pub begins : BeginsFrom json (bytes device) first (Ok from)
+  pub tolds : List Outcome
+  pub heard_all : HeardAll json from.start.schema lines tolds
+  pub fitting : List Outcome
+  pub is_run : IsRun from (filter_map exchange fitting)
+  pub alike : AreLike tolds fitting
+  pub same : TellsAlways bytes → tolds ≡ fitting
+  pub wanting : WantRightly from [] (filter_map exchange fitting)
+  pub files : AllByRecursion TellsFiles tolds
+  pub failing : AllByRecursion (FailsRightly (can_fail device)) tolds
+  pub promised : LeavesPromised bytes may_leave left from (filter_map exchange fitting)
+  pub survives : TellsAlways bytes → SurvivesCrash (may_leave left) from (filter_map exchange fitting)
+  pub whole : text ≡ line_text (codes "OK" ∷ decimal from.start.token ∷ []) ++ flat_map outcome_text tolds
+
+-- What is written answers the lines that were read: it is the text of a run that fits them, from where the directory is opened; and
+-- another directory is left. The first arguments say how JSON is read, what a directory tells of its files, what a crash may leave of
+-- them, and whether it can fail.
+abbrev pub ServesIn : Json → {D : Type 0} → (D → ToldByName) → (D → LeftByName) → (D → Type 0) → (device left : D)
+    → (input rest before after : Option Text) → Result (Unit {0}) Ending → Type 0
+ServesIn json bytes may_leave can_fail device left =
+    ServesBy (IsServedIn json bytes may_leave can_fail device left) (λ first e. BeginsFrom json (bytes device) first (Err e))
+
+-- Where the schema line is refused, each file is told as it was, and a crash may leave no more of it than it could have. Where a read failed
+-- before any line had ended, the directory is the one that was given. The reader went from `input` to `rest`.
+abbrev pub SparesUnserved : {D : Type 0} → (D → ToldByName) → (D → LeftByName) → (device left : D)
+    → (input rest : Option Text) → Result (Unit {0}) Ending → Type 0
+SparesUnserved bytes may_leave device left input rest (Err Ending.schema) =
+    TellsAsBefore (bytes device) (bytes left) × LeavesNoMore (may_leave device) (may_leave left)
+SparesUnserved {D = D} bytes may_leave device left input rest (Err Ending.read) =
+    (read : Text) × Consumes input rest read × (ended_lines read ≡ [] → ◌≡◌ {A = D} left device)
+SparesUnserved bytes may_leave device left input rest ended = Unit {0}

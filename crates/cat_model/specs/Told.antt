@@ -1,0 +1,74 @@
+-- What a directory tells of its files, and what a crash may leave of them.
+use Rattle.std.specs.Prelude.{◌≡◌, ◌≢◌, ℕ, ◌≤◌, List, Option, Some, None}
+use Rattle.cat_model.specs.Text.{Text}
+use Rattle.cat_model.specs.Files.{Name}
+
+-- ---- of one file
+
+-- a file's bytes, or nothing where it is absent
+abbrev pub FileContent : Type 0
+FileContent = Option (List ℕ)
+
+-- what a device tells of a file, or nothing where it doesn't tell
+abbrev pub Told : Type 0
+Told = Option FileContent
+
+-- what is told of a file is so; where nothing is told, it may be anything
+abbrev pub IsTold : Told → Option Text → Type 0
+IsTold None content = Unit {0}
+IsTold (Some told) content = told ≡ content
+
+-- What a crash may leave of a file is a set of contents. This one has nothing that the other hasn't.
+abbrev pub NoMore : (FileContent → Type 0) → (FileContent → Type 0) → Type 0
+NoMore old new = (e : FileContent) → new e → old e
+
+-- what is told of the file, and nothing else; where nothing is told, this says nothing
+abbrev pub IsSettled : Told → (FileContent → Type 0) → Type 0
+IsSettled told left = (now e : FileContent) → told ≡ Some now → left e → e ≡ now
+
+-- ---- of all files
+
+-- what a directory tells, by the names of its files
+abbrev pub ToldByName : Type 0
+ToldByName = Name → Told
+
+-- what a crash may leave of each
+abbrev pub LeftByName : Type 1
+LeftByName = Name → FileContent → Type 0
+
+-- directories of this kind tell of every file, at any time, as the one in memory does
+abbrev pub TellsAlways : {D : Type 0} → (D → ToldByName) → Type 0
+TellsAlways {D} bytes = (d : D) (q : Name) → bytes d q ≢ None
+
+-- the file has these bytes, as is told
+abbrev pub IsToldToHave : ToldByName → Name → Text → Type 0
+IsToldToHave told q bytes = told q ≡ Some (Some bytes)
+
+-- the file may have these bytes: where the directory tells of it, it tells them
+abbrev pub MayHave : ToldByName → Name → Text → Type 0
+MayHave told q bytes = IsTold (told q) (Some bytes)
+
+-- The commit of this generation is the newest: its file may be there, and that of none of a greater number is told to be.
+pub record IsNewestTold (told : ToldByName) (generation : ℕ) : Type 0 where
+  pub there : told (Name.commit generation) ≢ Some None
+  pub greatest : (h : ℕ) (bytes : Text) → IsToldToHave told (Name.commit h) bytes → h ≤ generation
+
+-- no file of a commit is told to be there
+abbrev pub TellsNoCommit : ToldByName → Type 0
+TellsNoCommit told = (h : ℕ) (bytes : Text) → IsToldToHave told (Name.commit h) bytes → ⊥
+
+-- each file is told as it was
+abbrev pub TellsAsBefore : ToldByName → ToldByName → Type 0
+TellsAsBefore old new = (q : Name) → new q ≡ old q
+
+-- and a crash may leave no more of it than it could have
+abbrev pub LeavesNoMore : LeftByName → LeftByName → Type 0
+LeavesNoMore old new = (q : Name) → NoMore (old q) (new q)
+
+-- what a crash left: of each file, by itself, something that it may leave
+abbrev pub MayBeLeft : LeftByName → (Name → FileContent) → Type 0
+MayBeLeft may_leave image = (q : Name) → may_leave q (image q)
+
+-- what a directory tells that has just these files, and tells of all
+abbrev pub told_of : (Name → FileContent) → ToldByName
+told_of image = λ q. Some (image q)
