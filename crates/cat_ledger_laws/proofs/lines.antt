@@ -10,3 +10,4 @@ pub mod StopAnswers
 pub mod KeptCalls
 pub mod NeededFiles
 pub mod Numbered
+pub mod Held

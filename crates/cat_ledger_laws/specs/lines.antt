@@ -8,3 +8,4 @@ pub mod RefusalLaws
 pub mod StopLaws
 pub mod StayLaws
 pub mod NeededLaws
+pub mod HeldLaws

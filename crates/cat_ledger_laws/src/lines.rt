@@ -24,7 +24,9 @@ pub use joining::{
     flushed_commits_make, flushes_flush, flushes_rest, puts_make, refreshes_make, room_is_made,
     room_is_there, views_stand,
 };
-pub use needing::{needed_files_stand, needed_names_stand, promised_files_stand};
+pub use needing::{
+    needed_files_stand, needed_names_stand, promised_are_held, promised_files_stand,
+};
 pub use planning::{
     forced_fit, forces_begin, forces_rest, forces_wait, merges_are_done, merges_begin, merges_copy,
     merges_rest, merges_tell, windows_fit,

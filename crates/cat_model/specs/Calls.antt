@@ -7,7 +7,7 @@ use Rattle.cat_model.specs.Input.{lines_of, ended_lines}
 use Rattle.cat_model.specs.Served.{Ending}
 use Rattle.cat_model.specs.Talk.{AreAlike, HeldAsk, IsRead, IsTalk, Pair, WritesAgree}
 use Rattle.cat_model.specs.Heard.{Json}
-use Rattle.cat_model.specs.Told.{LeftByName, TellsAlways, ToldByName}
+use Rattle.cat_model.specs.Told.{DirectoryKind, TellsAlways}
 use Rattle.cat_model.specs.Opens.{BeginsFrom}
 use Rattle.cat_model.specs.Serving.{IsServedIn, ServesIn}
 
@@ -15,27 +15,25 @@ use Rattle.cat_model.specs.Serving.{IsServedIn, ServesIn}
 
 -- What a call of `serve` read and wrote that answered these lines: all, at the end of the input; or those that had ended, where a read
 -- failed. This is what `serve` ensures, with bytes that are known.
-pub data HasAnswered (json : Json) {D : Type 0} (bytes : D → ToldByName) (may_leave : D → LeftByName) (can_fail : D → Type 0) (device left : D)
-    (input output : Text) : List Text → Type 0 where
-  to_the_end : ServesIn json bytes may_leave can_fail device left (Some input) (Some []) (Some []) (Some output) (Ok tt)
-      → HasAnswered json bytes may_leave can_fail device left input output (lines_of input)
+pub data HasAnswered (json : Json) {D : Type 0} (kind : DirectoryKind D) (device left : D) (input output : Text) : List Text → Type 0 where
+  to_the_end : ServesIn json kind device left (Some input) (Some []) (Some []) (Some output) (Ok tt)
+      → HasAnswered json kind device left input output (lines_of input)
   to_a_fault :
-      (rest : Text) → ServesIn json bytes may_leave can_fail device left (Some (input ++ rest)) (Some rest) (Some []) (Some output) (Err Ending.read)
-      → HasAnswered json bytes may_leave can_fail device left input output (ended_lines input)
+      (rest : Text) → ServesIn json kind device left (Some (input ++ rest)) (Some rest) (Some []) (Some output) (Err Ending.read)
+      → HasAnswered json kind device left input output (ended_lines input)
 
 -- A call that answered these lines so: what it wrote to those behind the first is told of a run from where it was opened.
-pub record IsCall (json : Json) {D : Type 0} (bytes : D → ToldByName) (may_leave : D → LeftByName) (can_fail : D → Type 0) (device left : D)
-    (first : Text) (lines : List Text) (output : Text) : Type 0 where
+pub record IsCall (json : Json) {D : Type 0} (kind : DirectoryKind D) (device left : D) (first : Text) (lines : List Text) (output : Text) : Type 0 where
   pub input : Text
-  pub answered : HasAnswered json bytes may_leave can_fail device left input output (first ∷ lines)
-  pub served : IsServedIn json bytes may_leave can_fail device left first lines output
+  pub answered : HasAnswered json kind device left input output (first ∷ lines)
+  pub served : IsServedIn json kind device left first lines output
 
 -- Each call of `serve` that answered a first line is one, opened from what the device tells of its files.
-abbrev pub CallsAreOpened : Json → {D : Type 0} → (D → ToldByName) → (D → LeftByName) → (D → Type 0) → Type 0
-CallsAreOpened json {D} bytes may_leave can_fail =
+abbrev pub CallsAreOpened : Json → {D : Type 0} → DirectoryKind D → Type 0
+CallsAreOpened json {D} kind =
     (device left : D) (input output first : Text) (lines : List Text)
-    → HasAnswered json bytes may_leave can_fail device left input output (first ∷ lines)
-    → (call : IsCall json bytes may_leave can_fail device left first lines output) × BeginsFrom json (bytes device) first (Ok call.served.from)
+    → HasAnswered json kind device left input output (first ∷ lines)
+    → (call : IsCall json kind device left first lines output) × BeginsFrom json (kind.bytes device) first (Ok call.served.from)
 
 -- ---- what two replies have in common
 
@@ -65,12 +63,11 @@ Agree tells₁ tells₂ said s₁ s₂ reply₁ reply₂ = AreAlike s₁ s₂ re
 -- For every two calls, over devices of any two kinds, that were opened with one schema, one table and one token, and each talk of what they
 -- read and wrote: where the writes that were answered a number up to t have the same text in both, a read under t, be it a FIND, a FACETS
 -- or a GET, has the same reply in both, for sessions that hold t.
-abbrev pub HeldReadsAgreeInCalls : Json → {D E : Type 0} → (D → ToldByName) → (D → LeftByName) → (D → Type 0) → (E → ToldByName)
-    → (E → LeftByName) → (E → Type 0) → Type 0
-HeldReadsAgreeInCalls json {D} {E} bytes₁ may_leave₁ can_fail₁ bytes₂ may_leave₂ can_fail₂ =
+abbrev pub HeldReadsAgreeInCalls : Json → {D E : Type 0} → DirectoryKind D → DirectoryKind E → Type 0
+HeldReadsAgreeInCalls json {D} {E} kind₁ kind₂ =
     (device₁ left₁ : D) (device₂ left₂ : E) (first₁ first₂ : Text) (lines₁ lines₂ : List Text) (output₁ output₂ : Text)
-    → (one : IsCall json bytes₁ may_leave₁ can_fail₁ device₁ left₁ first₁ lines₁ output₁)
-    → (two : IsCall json bytes₂ may_leave₂ can_fail₂ device₂ left₂ first₂ lines₂ output₂)
+    → (one : IsCall json kind₁ device₁ left₁ first₁ lines₁ output₁)
+    → (two : IsCall json kind₂ device₂ left₂ first₂ lines₂ output₂)
     → one.served.from.start ≡ two.served.from.start
     → (talk₁ talk₂ : List Pair) → IsTalk (first₁ ∷ lines₁) output₁ talk₁ → IsTalk (first₂ ∷ lines₂) output₂ talk₂
     → (t s₁ s₂ : ℕ) (text reply₁ reply₂ : Text)
@@ -78,4 +75,4 @@ HeldReadsAgreeInCalls json {D} {E} bytes₁ may_leave₁ can_fail₁ bytes₂ ma
     → (read : IsRead t text)
     → HeldAsk talk₁ t s₁ text reply₁
     → HeldAsk talk₂ t s₂ text reply₂
-    → Agree (TellsAlways bytes₁) (TellsAlways bytes₂) read.said s₁ s₂ reply₁ reply₂
+    → Agree (TellsAlways kind₁) (TellsAlways kind₂) read.said s₁ s₂ reply₁ reply₂

@@ -9,7 +9,7 @@ use Rattle.cat_model.specs.Talk.{HeldAsk, IsRead, IsTalk, Pair}
 use Rattle.cat_model.specs.Text.{Text}
 use Rattle.cat_model.specs.Heard.{Json}
 use Rattle.cat_model.specs.Files.{Name}
-use Rattle.cat_model.specs.Told.{FileContent, LeftByName, MayBeLeft, TellsAlways, ToldByName}
+use Rattle.cat_model.specs.Told.{DirectoryKind, FileContent, MayBeLeft, TellsAlways, ToldByName}
 use Rattle.cat_model.specs.Opens.{BeginsFrom}
 use Rattle.cat_model.specs.Serving.{IsServedIn}
 use Rattle.cat_model.specs.Calls.{Agree, IsCall}
@@ -53,22 +53,21 @@ pub data FindsAfterwards (from : Opened) (run : Run) (found : Opened) : Type 0 w
 
 -- Whatever a crash leaves of the files of a call that always tells of them: however a directory with these files is opened, it finds the
 -- newest commit of the call's run; or one of a COMMIT that was refused since; or, where there is none, nothing.
-abbrev pub CallsAreFound : Json → {D E : Type 0} → (D → ToldByName) → (D → LeftByName) → (D → Type 0) → (E → ToldByName) → Type 0
-CallsAreFound json {D} {E} bytes may_leave can_fail bytes₂ =
-    TellsAlways bytes
-    → (device left : D) (first : Text) (lines : List Text) (output : Text) (s : IsServedIn json bytes may_leave can_fail device left first lines output)
-    → (image : Name → FileContent) → MayBeLeft (may_leave left) image
-    → (device₂ : E) (first₂ : Text) (found : Opened) → TellsJust (bytes₂ device₂) image → BeginsFrom json (bytes₂ device₂) first₂ (Ok found)
+abbrev pub CallsAreFound : Json → {D E : Type 0} → DirectoryKind D → DirectoryKind E → Type 0
+CallsAreFound json {D} {E} kind kind₂ =
+    TellsAlways kind
+    → (device left : D) (first : Text) (lines : List Text) (output : Text) (s : IsServedIn json kind device left first lines output)
+    → (image : Name → FileContent) → MayBeLeft (kind.may_leave left) image
+    → (device₂ : E) (first₂ : Text) (found : Opened) → TellsJust (kind₂.bytes device₂) image → BeginsFrom json (kind₂.bytes device₂) first₂ (Ok found)
     → FindsAfterwards s.from (filter_map exchange s.fitting) found
 
 -- For every two calls, the second of which found the newest commit of the first, under one schema: a read under the token that the second
 -- opened with, which is what its first reply tells, has the same reply in both, for sessions that hold it.
-abbrev pub ReadsAgreeAfterwards : Json → {D E : Type 0} → (D → ToldByName) → (D → LeftByName) → (D → Type 0) → (E → ToldByName)
-    → (E → LeftByName) → (E → Type 0) → Type 0
-ReadsAgreeAfterwards json {D} {E} bytes₁ may_leave₁ can_fail₁ bytes₂ may_leave₂ can_fail₂ =
+abbrev pub ReadsAgreeAfterwards : Json → {D E : Type 0} → DirectoryKind D → DirectoryKind E → Type 0
+ReadsAgreeAfterwards json {D} {E} kind₁ kind₂ =
     (device₁ left₁ : D) (device₂ left₂ : E) (first₁ first₂ : Text) (lines₁ lines₂ : List Text) (output₁ output₂ : Text)
-    → (one : IsCall json bytes₁ may_leave₁ can_fail₁ device₁ left₁ first₁ lines₁ output₁)
-    → (two : IsCall json bytes₂ may_leave₂ can_fail₂ device₂ left₂ first₂ lines₂ output₂)
+    → (one : IsCall json kind₁ device₁ left₁ first₁ lines₁ output₁)
+    → (two : IsCall json kind₂ device₂ left₂ first₂ lines₂ output₂)
     → FindsNewest one.served.from (filter_map exchange one.served.fitting) two.served.from
     → one.served.from.start.schema ≡ two.served.from.start.schema
     → (talk₁ talk₂ : List Pair) → IsTalk (first₁ ∷ lines₁) output₁ talk₁ → IsTalk (first₂ ∷ lines₂) output₂ talk₂
@@ -76,4 +75,4 @@ ReadsAgreeAfterwards json {D} {E} bytes₁ may_leave₁ can_fail₁ bytes₂ may
     → (read : IsRead two.served.from.start.token text)
     → HeldAsk talk₁ two.served.from.start.token s₁ text reply₁
     → HeldAsk talk₂ two.served.from.start.token s₂ text reply₂
-    → Agree (TellsAlways bytes₁) (TellsAlways bytes₂) read.said s₁ s₂ reply₁ reply₂
+    → Agree (TellsAlways kind₁) (TellsAlways kind₂) read.said s₁ s₂ reply₁ reply₂

@@ -1,6 +1,6 @@
 -- ---- What has to be believed, in the order of reading: each file stands on those before it. First what serving an input means, up to
--- `Served`; then what segments, their files and views are, and what a directory tells; then `Serving`, on which the contract of `serve`
--- rests, and what the theorem says of every two calls, up to `Found`.
+-- `Served`; then what segments, their files and views are, and what a directory tells; then `Serving` and
+-- `Reasons`, on which the contract of `serve` rests, and what the theorem says of every two calls, up to `Found`.
 pub mod Text
 pub mod Limits
 pub mod Item
@@ -27,17 +27,19 @@ pub mod Layout
 pub mod LiveFile
 pub mod CommitFile
 pub mod Merged
+pub mod Window
 pub mod Told
 pub mod Restored
 pub mod Opens
 pub mod Promised
 pub mod Serving
+pub mod Standings
+pub mod Reasons
 pub mod Talk
 pub mod Calls
 pub mod Found
 -- ---- What the contracts of single crates rest on beside these.
 pub mod GlobalOrdinals
-pub mod Window
 -- ---- What needs no belief: laws, each proved as the contract of a public function, samples that were judged by hand, and
 -- what serves proofs (`Reader`, `Ranks`, `State`).
 pub mod Reader

@@ -7,7 +7,7 @@ use Rattle.cat_model.specs.Run.{Command, Reply, Run, commit_by, commits, committ
 use Rattle.cat_model.specs.Files.{Name}
 use Rattle.cat_model.specs.CommitFile.{CommitFile, commit_needs}
 use Rattle.cat_model.specs.View.{IsView, Leaf, View}
-use Rattle.cat_model.specs.Told.{FileContent, IsNewestTold, IsSettled, LeftByName, MayBeLeft, MayHave, TellsAlways, TellsNoCommit, ToldByName, told_of}
+use Rattle.cat_model.specs.Told.{DirectoryKind, FileContent, IsNewestTold, IsSettled, LeftByName, MayBeLeft, MayHave, TellsAlways, TellsNoCommit, ToldByName, told_of}
 use Rattle.cat_model.specs.Restored.{HasSegment}
 use Rattle.cat_model.specs.Opens.{HoldsCommit, HoldsRecords}
 
@@ -48,10 +48,10 @@ NewestIsSettled told may_leave from run =
     (g : ℕ) → newest_commit from run ≡ Some g → (here : HoldsGeneration told from run g)
     × ((q : Name) → Contains (commit_needs here.commit) q → IsSettled (told q) (may_leave q))
 
--- What serving leaves of a directory. The first two arguments say what a directory tells, and what a crash may leave.
-pub record LeavesPromised {D : Type 0} (bytes : D → ToldByName) (may_leave : D → LeftByName) (left : D) (from : Opened) (run : Run) : Type 0 where
-  pub stand : HoldsPromised (bytes left) from run
-  pub outlasts : TellsAlways bytes → NewestIsSettled (bytes left) (may_leave left) from run
+-- what serving leaves of a directory
+pub record LeavesPromised {D : Type 0} (kind : DirectoryKind D) (left : D) (from : Opened) (run : Run) : Type 0 where
+  pub stand : HoldsPromised (kind.bytes left) from run
+  pub outlasts : TellsAlways kind → NewestIsSettled (kind.bytes left) (kind.may_leave left) from run
 
 -- a COMMIT was refused
 abbrev pub refuses_commit : Command → Reply → Bool

@@ -11,9 +11,9 @@ use Rattle.cat_model.specs.Answer.{Found, Read}
 use Rattle.cat_model.specs.Run.{Answer, Chore, Command, Fits, IsRun, Line, Reply, Run, greatest, holds, view_tokens}
 use Rattle.cat_model.specs.Lines.{line_text}
 use Rattle.cat_model.specs.Heard.{Json}
-use Rattle.cat_model.specs.Input.{ended_lines}
+use Rattle.cat_model.specs.Input.{HaveCome, ended_lines}
 use Rattle.cat_model.specs.Served.{Ending, HeardAll, Outcome, ServesBy, TellsFiles, exchange, outcome_text}
-use Rattle.cat_model.specs.Told.{LeavesNoMore, LeftByName, TellsAlways, TellsAsBefore, ToldByName}
+use Rattle.cat_model.specs.Told.{DirectoryKind, LeavesNoMore, TellsAlways, TellsAsBefore}
 use Rattle.cat_model.specs.Opens.{BeginsFrom}
 use Rattle.cat_model.specs.Promised.{LeavesPromised, SurvivesCrash}
 
@@ -91,37 +91,36 @@ FailsRightly fails (Outcome.replied e) = e.reply ≡ Err Device → FailsBy fail
 -- none of the refusals that the run tells, and where the device can't fail no line but a MERGE is told that it did. Of directories that
 -- don't tell of their files, the text of a stored item may be another one of its length than the one that fits; of those that do, all that
 -- is told fits. The directory that is left holds what the run promises at its end, and what a crash leaves of it is found.
-pub record IsServedIn (json : Json) {D : Type 0} (bytes : D → ToldByName) (may_leave : D → LeftByName) (can_fail : D → Type 0) (device left : D)
-    (first : Text) (lines : List Text) (text : Text) : Type 0 where
+pub record IsServedIn (json : Json) {D : Type 0} (kind : DirectoryKind D) (device left : D) (first : Text) (lines : List Text) (text : Text) : Type 0 where
   pub from : Opened
-  pub begins : BeginsFrom json (bytes device) first (Ok from)
+  pub begins : BeginsFrom json (kind.bytes device) first (Ok from)
   pub tolds : List Outcome
   pub heard_all : HeardAll json from.start.schema lines tolds
   pub fitting : List Outcome
   pub is_run : IsRun from (filter_map exchange fitting)
   pub alike : AreLike tolds fitting
-  pub same : TellsAlways bytes → tolds ≡ fitting
+  pub same : TellsAlways kind → tolds ≡ fitting
   pub wanting : WantRightly from [] (filter_map exchange fitting)
   pub files : AllByRecursion TellsFiles tolds
-  pub failing : AllByRecursion (FailsRightly (can_fail device)) tolds
-  pub promised : LeavesPromised bytes may_leave left from (filter_map exchange fitting)
-  pub survives : TellsAlways bytes → SurvivesCrash (may_leave left) from (filter_map exchange fitting)
+  pub failing : AllByRecursion (FailsRightly (kind.can_fail device)) tolds
+  pub promised : LeavesPromised kind left from (filter_map exchange fitting)
+  pub survives : TellsAlways kind → SurvivesCrash (kind.may_leave left) from (filter_map exchange fitting)
   pub whole : text ≡ line_text (codes "OK" ∷ decimal from.start.token ∷ []) ++ flat_map outcome_text tolds
 
 -- What is written answers the lines that were read: it is the text of a run that fits them, from where the directory is opened; and
--- another directory is left. The first arguments say how JSON is read, what a directory tells of its files, what a crash may leave of
--- them, and whether it can fail.
-abbrev pub ServesIn : Json → {D : Type 0} → (D → ToldByName) → (D → LeftByName) → (D → Type 0) → (device left : D)
-    → (input rest before after : Option Text) → Result (Unit {0}) Ending → Type 0
-ServesIn json bytes may_leave can_fail device left =
-    ServesBy (IsServedIn json bytes may_leave can_fail device left) (λ first e. BeginsFrom json (bytes device) first (Err e))
+-- another directory is left. The reader goes from `input` to `rest`, the writer from `before` to `after`.
+abbrev pub ServesIn : Json → {D : Type 0} → DirectoryKind D → (device left : D) → (input rest before after : Option Text)
+    → Result (Unit {0}) Ending → Type 0
+ServesIn json kind device left = ServesBy (IsServedIn json kind device left) (λ first e. BeginsFrom json (kind.bytes device) first (Err e))
 
 -- Where the schema line is refused, each file is told as it was, and a crash may leave no more of it than it could have. Where a read failed
--- before any line had ended, the directory is the one that was given. The reader went from `input` to `rest`.
-abbrev pub SparesUnserved : {D : Type 0} → (D → ToldByName) → (D → LeftByName) → (device left : D)
-    → (input rest : Option Text) → Result (Unit {0}) Ending → Type 0
-SparesUnserved bytes may_leave device left input rest (Err Ending.schema) =
-    TellsAsBefore (bytes device) (bytes left) × LeavesNoMore (may_leave device) (may_leave left)
-SparesUnserved {D = D} bytes may_leave device left input rest (Err Ending.read) =
+-- before any line had ended, or a write before any had come, the directory is the one that was given. The reader went from `input` to `rest`.
+abbrev pub SparesUnserved : {D : Type 0} → DirectoryKind D → (device left : D) → (input rest : Option Text) → Result (Unit {0}) Ending
+    → Type 0
+SparesUnserved kind device left input rest (Err Ending.schema) =
+    TellsAsBefore (kind.bytes device) (kind.bytes left) × LeavesNoMore (kind.may_leave device) (kind.may_leave left)
+SparesUnserved {D = D} kind device left input rest (Err Ending.read) =
     (read : Text) × Consumes input rest read × (ended_lines read ≡ [] → ◌≡◌ {A = D} left device)
-SparesUnserved bytes may_leave device left input rest ended = Unit {0}
+SparesUnserved {D = D} kind device left input rest (Err Ending.write) =
+    (read : Text) × Consumes input rest read × (lines : List Text) × HaveCome read rest lines × (lines ≡ [] → ◌≡◌ {A = D} left device)
+SparesUnserved kind device left input rest ended = Unit {0}

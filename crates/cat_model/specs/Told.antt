@@ -1,5 +1,5 @@
 -- What a directory tells of its files, and what a crash may leave of them.
-use Rattle.std.specs.Prelude.{◌≡◌, ◌≢◌, ℕ, ◌≤◌, List, Option, Some, None}
+use Rattle.std.specs.Prelude.{◌≡◌, ◌≢◌, ◌⊎◌, ℕ, ◌+◌, ◌-◌, ◌^◌, ◌<◌, ◌≤◌, List, Option, Some, None}
 use Rattle.cat_model.specs.Text.{Text}
 use Rattle.cat_model.specs.Files.{Name}
 
@@ -26,6 +26,12 @@ NoMore old new = (e : FileContent) → new e → old e
 abbrev pub IsSettled : Told → (FileContent → Type 0) → Type 0
 IsSettled told left = (now e : FileContent) → told ≡ Some now → left e → e ≡ now
 
+-- ---- of the count of failures
+
+-- one failure more; at the last value of a u64 the count stays
+abbrev pub CountsOne : ℕ → ℕ → Type 0
+CountsOne old new = ((old < 2 ^ 64 - 1) × (new ≡ old + 1)) ⊎ ((old ≡ 2 ^ 64 - 1) × (new ≡ old))
+
 -- ---- of all files
 
 -- what a directory tells, by the names of its files
@@ -36,9 +42,17 @@ ToldByName = Name → Told
 abbrev pub LeftByName : Type 1
 LeftByName = Name → FileContent → Type 0
 
+-- How directories of one kind behave: what one tells of its files, what a crash may leave of them, whether a call of it can fail, and how many
+-- of its calls have failed.
+pub record DirectoryKind (D : Type 0) : Type 1 where
+  pub bytes : D → ToldByName
+  pub may_leave : D → LeftByName
+  pub can_fail : D → Type 0
+  pub failures : D → ℕ
+
 -- directories of this kind tell of every file, at any time, as the one in memory does
-abbrev pub TellsAlways : {D : Type 0} → (D → ToldByName) → Type 0
-TellsAlways {D} bytes = (d : D) (q : Name) → bytes d q ≢ None
+abbrev pub TellsAlways : {D : Type 0} → DirectoryKind D → Type 0
+TellsAlways {D} kind = (d : D) (q : Name) → kind.bytes d q ≢ None
 
 -- the file has these bytes, as is told
 abbrev pub IsToldToHave : ToldByName → Name → Text → Type 0

@@ -1,5 +1,6 @@
 //! The files that are needed.
 ghost use Rattle.cat_ledger_laws.specs.lines.NeededLaws.{NeededFilesStand, NeededNamesStand, PromisedFilesStand};
+ghost use Rattle.cat_ledger_laws.specs.lines.HeldLaws.{PromisedAreHeld};
 
 /// Every file that a recorded view or a kept commit needs has a user, and where the device tells of it, it is there with its
 /// bytes.
@@ -22,4 +23,11 @@ pub fn needed_names_stand()
 /// Lucene's `SearcherLifetimeManager.acquire` and `SnapshotDeletionPolicy.snapshot`, which keep the files of a point in time.
 pub fn promised_files_stand()
     ensures { PromisedFilesStand }
+{}
+
+/// So, in the model's words: the directory holds a view of each token and each commit that the run promises.
+///
+/// Lucene's `DirectoryReader.open` of an `IndexCommit`, which finds the table again.
+pub fn promised_are_held()
+    ensures { PromisedAreHeld }
 {}

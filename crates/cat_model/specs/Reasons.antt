@@ -1,0 +1,89 @@
+-- Why each line was told what it was told, as a directory is served.
+use Rattle.std.specs.Prelude.{◌≡◌, ◌≢◌, ◌⊎◌, ℕ, ◌<◌, ◌≤◌, max, count_by, List, [], length, map, filter_map, Contains, Option, Some, None, Result, Err}
+use Rattle.std.specs.List.{AllByRecursion}
+use Rattle.cat_model.specs.Text.{Text}
+use Rattle.cat_model.specs.Item.{Schema}
+use Rattle.cat_model.specs.Run.{SegmentStat}
+use Rattle.cat_model.specs.Heard.{Json}
+use Rattle.cat_model.specs.Files.{IsFileName, Name}
+use Rattle.cat_model.specs.Served.{Ending, ServesBy, SpellsSchema, exchange}
+use Rattle.cat_model.specs.View.{Leaf}
+use Rattle.cat_model.specs.Told.{DirectoryKind, IsNewestTold, IsToldToHave, MayHave, TellsAlways, TellsNoCommit, ToldByName}
+use Rattle.cat_model.specs.Restored.{IsRestored, Restored}
+use Rattle.cat_model.specs.Opens.{BeginsFrom}
+use Rattle.cat_model.specs.Serving.{IsServedIn}
+use Rattle.cat_model.specs.Standings.{HaveReasons, Standing}
+
+-- ---- the numbers that come first
+
+-- Names of files, each with the form of one: those that may be there, and all that are told to be.
+pub record AreNamesIn (told : ToldByName) (names : List Name) : Type 0 where
+  pub formed : AllByRecursion IsFileName names
+  pub there : (q : Name) → Contains names q → told q ≢ Some None
+  pub complete : (q : Name) (bytes : Text) → IsToldToHave told q bytes → Contains names q
+
+-- the numbers of segments in the name are below the first number, those of commits below the second
+abbrev pub HasLowerNumbers : ℕ → ℕ → Name → Type 0
+HasLowerNumbers n g (Name.segment m) = m < n
+HasLowerNumbers n g (Name.source m) = m < n
+HasLowerNumbers n g (Name.live m d) = (m < n) × (d < g)
+HasLowerNumbers n g (Name.commit d) = d < g
+
+-- they are the least such numbers for all of the names, from 1 on
+pub record AreFirstNumbers (names : List Name) (n g : ℕ) : Type 0 where
+  pub some : (1 ≤ n) × (1 ≤ g)
+  pub above : AllByRecursion (HasLowerNumbers n g) names
+  pub least : (m h : ℕ) → 1 ≤ m → 1 ≤ h → AllByRecursion (HasLowerNumbers m h) names → (n ≤ m) × (g ≤ h)
+
+-- ---- how the service stands at first
+
+-- what STAT tells of a segment that stands
+abbrev pub leaf_stat : Leaf → SegmentStat
+leaf_stat leaf = record { number = leaf.segment.number; rows = length leaf.segment.rows; live = count_by (λ b. b) leaf.live }
+
+-- It begins at the newest commit: its segments stand, and the next one has a number that is above those in names of files, and no less
+-- than the commit tells.
+pub record BeginsWith (told : ToldByName) (schema : Schema) (first : ℕ) (s : Standing) : Type 0 where
+  pub generation : ℕ
+  pub newest : IsNewestTold told generation
+  pub restored : Restored
+  pub held : IsRestored (MayHave told) schema generation restored
+  pub segments : s.stat.segments ≡ map leaf_stat restored.leaves
+  pub next : s.next_segment ≡ max first restored.commit.next
+
+-- no commit is there, and no segment stands
+abbrev pub BeginsWithout : ToldByName → (first : ℕ) → Standing → Type 0
+BeginsWithout told first s = TellsNoCommit told × (s.stat.segments ≡ []) × (s.next_segment ≡ max first 1)
+
+-- How it stands before the first line: nothing waits, no merge is in the making, and the numbers that come next are the least that are
+-- above those in the names of the directory's files.
+pub record StandsFirst (told : ToldByName) (schema : Schema) (s : Standing) : Type 0 where
+  pub names : List Name
+  pub listed : AreNamesIn told names
+  pub first : ℕ
+  pub next : AreFirstNumbers names first s.next_generation
+  pub commit : BeginsWith told schema first s ⊎ BeginsWithout told first s
+  pub waits : s.stat.buffered ≡ 0
+  pub idle : s.merging ≡ None
+
+-- ---- the whole
+
+-- The text answers the lines as it is served, and each reply has its cause: between the lines the service stands somehow, from the first
+-- one on; and at the end the directory that is left has counted as many failures.
+pub record IsCausedIn (json : Json) {D : Type 0} (kind : DirectoryKind D) (device left : D) (first : Text) (lines : List Text) (text : Text)
+    : Type 0 where
+  pub served : IsServedIn json kind device left first lines text
+  pub factor : ℕ
+  pub least : ℕ
+  pub fields : Text
+  pub policy : SpellsSchema first factor least fields
+  pub opened : Standing
+  pub begins : StandsFirst (kind.bytes device) served.from.start.schema opened
+  pub last : Standing
+  pub reasons : HaveReasons (TellsAlways kind) factor least served.from [] opened (filter_map exchange served.fitting) last
+  pub failures : last.failures ≡ kind.failures left
+
+-- What is written answers the lines that were read, and each reply has its cause.
+abbrev pub CausesIn : Json → {D : Type 0} → DirectoryKind D → (device left : D) → (input rest before after : Option Text)
+    → Result (Unit {0}) Ending → Type 0
+CausesIn json kind device left = ServesBy (IsCausedIn json kind device left) (λ first e. BeginsFrom json (kind.bytes device) first (Err e))

@@ -1,0 +1,142 @@
+-- How a service stands between two lines: what a STAT would tell, how far a merge is, which numbers come next, and how many failures its
+-- directory has counted. By it each refusal that stands in place of an OK has its cause, and what maintenance tells is so.
+use Rattle.std.specs.Prelude.{◌≡◌, ◌⊎◌, ℕ, ◌+◌, ◌-◌, ◌<◌, ◌≤◌, min, List, [], ◌∷◌, ◌++◌, length, map, sum, option_to_list, Option, Some, None, Ok, Err}
+use Rattle.cat_base.specs.declared.refusal.Refusal.TheVariants.{Damaged, Device, Spent}
+use Rattle.cat_model.specs.Answer.{HasNoLineFeed, Read, stored}
+use Rattle.cat_model.specs.Limits.{buffer_limit, last_number, row_limit, segment_limit, step_limit}
+use Rattle.cat_model.specs.Run.{Answer, Chore, Command, Exchange, News, Reply, Run, Stat, accepted_by, now, view_tokens, writes}
+use Rattle.cat_model.specs.Table.{Opened, table}
+use Rattle.cat_model.specs.Window.{IsWindow}
+use Rattle.cat_model.specs.Told.{CountsOne}
+
+-- how many rows a merge in the making has passed, and of how many
+pub record Progress : Type 0 where
+  pub passed : ℕ
+  pub rows : ℕ
+
+-- What a STAT would tell, with no cached set; the merge in the making; the numbers of the next segment and of the next commit; and the
+-- failures that the directory has counted.
+pub record Standing : Type 0 where
+  pub stat : Stat
+  pub merging : Option Progress
+  pub next_segment : ℕ
+  pub next_generation : ℕ
+  pub failures : ℕ
+
+-- how many rows each of its segments has, deleted ones counted
+abbrev pub segment_rows : Standing → List ℕ
+segment_rows s = map (λ x. x.rows) s.stat.segments
+
+-- ---- refusals
+
+-- something waits, and no number is left for its segment, or as many segments stand as may
+abbrev pub HasNoRoom : Standing → Type 0
+HasNoRoom s = (0 < s.stat.buffered) × ((last_number < s.next_segment) ⊎ (segment_limit ≤ length s.stat.segments))
+
+-- a MERGE is to begin a merge: none is in the making, and the policy of this factor and minimum picks segments
+abbrev pub IsToMerge : (factor least : ℕ) → Standing → Type 0
+IsToMerge factor least s = (s.merging ≡ None) × (index : ℕ) × IsWindow factor least (segment_rows s) (Some index)
+
+-- so is a FORCE: none is in the making, and one segment can hold the rows of all
+abbrev pub IsToForce : Standing → Type 0
+IsToForce s = (s.merging ≡ None) × (0 < length s.stat.segments) × (sum (segment_rows s) ≤ row_limit)
+
+-- A number or a limit is spent that the command asks for. A PUT asks for the number of the write, and where as many items wait as may, for
+-- room, as a REFRESH and a COMMIT do; a COMMIT asks for a generation too; a MERGE and a FORCE that are to begin a merge ask for the number of
+-- its segment. Of another command the run says when it is told that a number is spent.
+abbrev pub IsSpentFor : (factor least : ℕ) → Standing → Command → Type 0
+IsSpentFor factor least s (Command.put item) = (last_number ≤ s.stat.writes) ⊎ ((buffer_limit ≤ s.stat.buffered) × HasNoRoom s)
+IsSpentFor factor least s Command.refresh = HasNoRoom s
+IsSpentFor factor least s (Command.commit text) = (last_number < s.next_generation) ⊎ HasNoRoom s
+IsSpentFor factor least s (Command.chore Chore.merge) = IsToMerge factor least s × (last_number < s.next_segment)
+IsSpentFor factor least s (Command.chore Chore.force) = IsToForce s × (last_number < s.next_segment)
+IsSpentFor factor least s c = Unit {0}
+
+-- The directory counted one failure more. No run has another command that is told that the device failed.
+abbrev pub IsCountedFor : Standing → Command → Standing → Type 0
+IsCountedFor s (Command.put item) new = CountsOne s.failures new.failures
+IsCountedFor s Command.refresh new = CountsOne s.failures new.failures
+IsCountedFor s (Command.read t (Read.get id)) new = CountsOne s.failures new.failures
+IsCountedFor s (Command.commit text) new = CountsOne s.failures new.failures
+IsCountedFor s (Command.chore Chore.merge) new = CountsOne s.failures new.failures
+IsCountedFor s (Command.chore Chore.force) new = CountsOne s.failures new.failures
+IsCountedFor s (Command.chore Chore.sweep) new = CountsOne s.failures new.failures
+IsCountedFor s c new = Unit {0}
+
+-- a merge is in the making, which has rows left to pass
+abbrev pub HasRowsToPass : Option Progress → Type 0
+HasRowsToPass None = ⊥
+HasRowsToPass (Some m) = m.passed < m.rows
+
+-- A file is damaged. On directories that always tell of their files none is, so that a GET finds what was stored: but text that has a line
+-- feed isn't told. A MERGE is to copy rows. The first argument says whether directories always tell of their files.
+abbrev pub IsDamagedFor : Type 0 → Opened → Run → Standing → Command → Type 0
+IsDamagedFor always from past s (Command.read t (Read.get (Ok id))) = always → HasNoLineFeed (stored (table from.start (writes past) t) id) → ⊥
+IsDamagedFor always from past s (Command.chore Chore.merge) = HasRowsToPass s.merging
+IsDamagedFor always from past s c = Unit {0}
+
+-- ---- news
+
+-- a MERGE had nothing to do, began the merge of the segments that the policy picks, passed more rows of the one in the making, or ended it
+abbrev pub MergeTells : (factor least : ℕ) → Standing → News → Type 0
+MergeTells factor least s News.idle = (s.merging ≡ None) × IsWindow factor least (segment_rows s) None
+MergeTells factor least s (News.begun_merge k) = IsToMerge factor least s × (k ≡ factor)
+MergeTells factor least s (News.copied n) =
+    (m : Progress) × (s.merging ≡ Some m) × (m.passed < m.rows) × (n ≡ m.passed + min step_limit (m.rows - m.passed))
+MergeTells factor least s News.done = (m : Progress) × (s.merging ≡ Some m) × (m.passed ≡ m.rows)
+MergeTells factor least s n = ⊥
+
+-- a FORCE had nothing to do, a merge is in the making, or it began that of all segments
+abbrev pub ForceTells : Standing → News → Type 0
+ForceTells s News.idle = (s.merging ≡ None) × (2 ≤ length s.stat.segments → sum (segment_rows s) ≤ row_limit → ⊥)
+ForceTells s News.busy = (m : Progress) × (s.merging ≡ Some m)
+ForceTells s (News.begun_merge k) = IsToForce s × (k ≡ length s.stat.segments)
+ForceTells s n = ⊥
+
+-- What is told is so: a COMMIT tells the generation that comes next, a SWEEP how many files nobody needs, a STAT how the service stands,
+-- with some number of cached sets, and a MERGE and a FORCE what they did.
+abbrev pub IsToldOf : (factor least : ℕ) → Standing → Command → Reply → Type 0
+IsToldOf factor least s (Command.commit text) (Ok (Answer.number g)) = g ≡ s.next_generation
+IsToldOf factor least s (Command.chore Chore.merge) (Ok (Answer.news n)) = MergeTells factor least s n
+IsToldOf factor least s (Command.chore Chore.force) (Ok (Answer.news n)) = ForceTells s n
+IsToldOf factor least s (Command.chore Chore.sweep) (Ok (Answer.news n)) = n ≡ News.swept s.stat.pending
+IsToldOf factor least s (Command.chore Chore.stat) (Ok (Answer.news n)) = (sets : ℕ) × (n ≡ News.state (record s.stat { cached = sets }))
+IsToldOf factor least s c reply = Unit {0}
+
+-- ---- from one line to the next
+
+-- how many writes the exchange adds to those accepted: one or none
+abbrev pub writes_by : Command → Reply → ℕ
+writes_by c reply = length (option_to_list (accepted_by c reply))
+
+-- a COMMIT that was answered OK took the generation
+abbrev pub IsTakenBy : Command → Reply → (next new : ℕ) → Type 0
+IsTakenBy (Command.commit text) (Ok a) next new = new ≡ next + 1
+IsTakenBy c reply next new = Unit {0}
+
+-- What a line makes of it, whatever it is told: it takes one number of each kind at most, and makes one segment at most; nothing waits more
+-- than before but an item that was accepted; and a merge comes only where that was told.
+pub record MovesOn (s : Standing) (c : Command) (reply : Reply) (new : Standing) : Type 0 where
+  pub segment : (s.next_segment ≤ new.next_segment) × (new.next_segment ≤ s.next_segment + 1)
+  pub generation : (s.next_generation ≤ new.next_generation) × (new.next_generation ≤ s.next_generation + 1)
+  pub taken : IsTakenBy c reply s.next_generation new.next_generation
+  pub segments : length new.stat.segments ≤ length s.stat.segments + 1
+  pub waits : new.stat.buffered ≤ s.stat.buffered + writes_by c reply
+  pub merges : s.merging ≡ None → (new.merging ≡ None) ⊎ ((k : ℕ) × (reply ≡ Ok (Answer.news (News.begun_merge k))))
+
+-- Behind its past, the exchange leads from one standing to the next: its reply has its cause and tells what is so, and the numbers of writes
+-- and of recorded views are those of the run.
+pub record HasReason (always : Type 0) (factor least : ℕ) (from : Opened) (past : Run) (s : Standing) (e : Exchange) (new : Standing) : Type 0 where
+  pub spent : e.reply ≡ Err Spent → IsSpentFor factor least s e.line.command
+  pub counted : e.reply ≡ Err Device → IsCountedFor s e.line.command new
+  pub damaged : e.reply ≡ Err Damaged → IsDamagedFor always from past s e.line.command
+  pub told : IsToldOf factor least s e.line.command e.reply
+  pub writes : s.stat.writes ≡ now from.start past
+  pub views : s.stat.views ≡ length (view_tokens from.start past)
+  pub moves : MovesOn s e.line.command e.reply new
+
+-- so with each exchange of the rest of a run, one after another
+abbrev pub HaveReasons : Type 0 → (factor least : ℕ) → Opened → Run → Standing → Run → Standing → Type 0
+HaveReasons always factor least from past s [] last = last ≡ s
+HaveReasons always factor least from past s (e ∷ rest) last =
+    (mid : Standing) × HasReason always factor least from past s e mid × HaveReasons always factor least from (past ++ e ∷ []) mid rest last
