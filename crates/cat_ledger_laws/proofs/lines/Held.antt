@@ -42,7 +42,7 @@ text_in None = []
 text_in (Some bytes) = bytes
 
 -- records have as many bytes of sources as their rows say
-length_joined : (rs : List Record) → length (joined_sources rs) ≡ sum (map (λ (r : Row). r.length) (map row_of rs))
+pub length_joined : (rs : List Record) → length (joined_sources rs) ≡ sum (map (λ (r : Row). r.length) (map row_of rs))
 length_joined [] = refl
 length_joined (r ∷ rs) =
     length-append r.item.source (joined_sources rs)
@@ -133,7 +133,7 @@ module _ (told : ToldFiles) (files : FileBytes) (agrees : Agrees told files) whe
     held_leaves [] long h live = tt
     held_leaves (x ∷ xs) long h live = (held_leaf x long.0 h.0 live.0, held_leaves xs long.1 h.1 live.1)
 
-    stored_portions : (xs : List Listed) → AllByRecursion (λ (x : Listed). IsStored files schema x.portion) xs → AllByRecursion (IsStored files schema) (map (λ (x : Listed). x.portion) xs)
+    pub stored_portions : (xs : List Listed) → AllByRecursion (λ (x : Listed). IsStored files schema x.portion) xs → AllByRecursion (IsStored files schema) (map (λ (x : Listed). x.portion) xs)
     stored_portions [] a = tt
     stored_portions (x ∷ xs) a = (a.0, stored_portions xs a.1)
 
