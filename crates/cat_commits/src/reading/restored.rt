@@ -5,7 +5,7 @@ ghost use Rattle.cat_directory.specs.Devices.{CountsReading, NoMore};
 ghost use Rattle.cat_model.specs.CommitFile as file;
 ghost use Rattle.cat_model.specs.Merged.{rows_of_all};
 ghost use Rattle.cat_commits.specs.reading.Judged.{AreInOrder, Differ, live_ids};
-ghost use Rattle.cat_ledger_laws.specs.model.Opening as model;
+ghost use Rattle.cat_model.specs.Restored as model;
 ghost use Rattle.cat_ledger_laws.specs.model.Opening.{HasCommit, IsForeign, IsRestored};
 ghost use Rattle.cat_commits.specs.reading.Refused.{CountsOpening};
 ghost use Rattle.cat_ledger_laws.specs.shape.OpeningLaws.{MayHold};
@@ -38,7 +38,7 @@ pub struct Restored {
 impl Model for Restored {
     ghost use Rattle.cat_model.specs.Merged.{rows_of_all};
     ghost use Rattle.cat_commits.specs.reading.Judged.{AreInOrder, Differ, live_ids};
-    ghost use Rattle.cat_ledger_laws.specs.model.Opening as model;
+    ghost use Rattle.cat_model.specs.Restored as model;
 
     ghost Value = { model.Restored };
 
