@@ -22,11 +22,7 @@ fn piece(left: u64) -> u32
 }
 
 /// All bytes of the file. [`Refusal::Damaged`] where it is absent, which want of memory never hides.
-pub fn read_file<S: Shelf>(
-    alloc: Global,
-    shelf: &mut S,
-    name: FileName,
-) -> Result<Vec<u8>, Refusal>
+pub fn read_file<S: Shelf>(alloc: Global, shelf: &mut S, name: FileName) -> Result<Vec<u8>, Refusal>
     ensures ok { IfOk result (λ v. IsTold (S.bytes shelf.old name) (Some v.items)) }
     ensures damaged { IfErr result (λ e. e ≡ Damaged → (bs : Text) → S.bytes shelf.old name ≢ Some (Some bs)) }
     ensures due { IfErr result (λ e. e ≡ Memory → S.bytes shelf.old name ≢ Some None) }
