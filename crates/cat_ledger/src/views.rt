@@ -6,7 +6,7 @@ ghost use Rattle.cat_base.specs.declared.refusal.Refusal.TheVariants.{Damaged, D
 ghost use Rattle.cat_ledger.specs.Histories.{Event, Goes};
 ghost use Rattle.cat_ledger.specs.Ledgers.{Does, Spares, device_in, policy_in, shape_in};
 ghost use Rattle.cat_ledger.specs.upkeep.Spared.{SparesCommits};
-ghost use Rattle.std.specs.Prelude.{Err, IfErr, IfOk, List, None, Ok, OnErr, OnOk, [], false, length, not, option_map, true, ℕ, ◌&&◌, ◌-◌, ◌==◌, ◌≡◌, ◌≢◌, ◌⊎◌, Some, find};
+ghost use Rattle.std.specs.Prelude.{Err, IfErr, IfNone, IfOk, IfSome, List, None, Ok, OnErr, OnOk, [], false, length, not, option_map, true, ℕ, ◌&&◌, ◌-◌, ◌==◌, ◌≡◌, ◌≢◌, ◌⊎◌, Some, find};
 ghost use Rattle.cat_directory.specs.declared.name.FileName.{FileName};
 ghost use Rattle.cat_ledger_state.specs.cat_views.Sources.{HoldsSource, TellsSource, stored_length};
 ghost use Rattle.cat_ledger.specs.Grants.{IsAsked, IsGrant, released_session, released_token, token_granted};
@@ -18,6 +18,7 @@ ghost use Rattle.cat_ledger_laws.specs.lines.LineLaws.{MayRefresh, Refreshes};
 ghost use Rattle.cat_ledger_laws.specs.model.Calls.{Pruned, RecordsView};
 ghost use Rattle.cat_model.specs.State.{has_hold, held_in};
 ghost use Rattle.cat_ledger_laws.specs.lines.HoldLaws.{holding, letting_go};
+ghost use Rattle.cat_ledger_laws.specs.lines.ReadLaws.{IsRecordedAs};
 ghost use Rattle.cat_model.specs.Run.{is_full};
 ghost use Rattle.std.specs.List.{list_any};
 ghost use Rattle.cat_directory.specs.Names.{name_of};
@@ -232,6 +233,20 @@ impl<D: Directory + Shelf> Ledger<D> {
         let _had = self.core.let_go(session, token);
         hold.give_up();
         Ok(Released { session, token })
+    }
+
+    /// The view that the session has a right to under the token; none where it holds no such token. (Lucene: the searcher that
+    /// `SearcherLifetimeManager.acquire` gives once more.)
+    pub fn held_view(&self, session: SessionNo, token: Token) -> Option<&View>
+        ensures some { IfSome result (λ v. (has_hold (shape_in self.now).holds session token ≡ true)
+            × IsRecordedAs (shape_in self.now).views token v.now) }
+        ensures none { IfNone result (has_hold (shape_in self.now).holds session token ≡ true
+            → find (λ v. v.token == token) (shape_in self.now).views ≡ None) }
+    {
+        if !self.core.is_held_by(session, token) {
+            return None;
+        }
+        self.core.view_at(token)
     }
 
     /// Takes out each view that isn't among the newest, as many as the count says but at least one, and that nobody holds;

@@ -5,7 +5,7 @@ ghost use Rattle.cat_directory.specs.Devices.{CountsOne};
 ghost use Rattle.cat_base.specs.declared.refusal.Refusal.TheVariants.{Device, Kind, Memory, Spent};
 ghost use Rattle.cat_ledger.specs.Histories.{Event, Goes};
 ghost use Rattle.cat_ledger.specs.Ledgers.{Does, Spares, device_in, policy_in, shape_in};
-ghost use Rattle.std.specs.Prelude.{Err, IfErr, IfOk, OnErr, OnOk, length, ◌+◌, ◌<◌, ◌≡◌, ◌≤◌, ◌⊎◌};
+ghost use Rattle.std.specs.Prelude.{Err, IfErr, IfOk, OnErr, OnOk, length, ◌+◌, ◌<◌, ◌≡◌, ◌≢◌, ◌≤◌, ◌⊎◌};
 ghost use Rattle.cat_model.specs.Item.{IsItem};
 ghost use Rattle.cat_ledger_laws.specs.model.Replies.{IsLeft};
 ghost use Rattle.cat_ledger_state.specs.Cores.{MayNotFlush};
@@ -36,6 +36,7 @@ impl<D: Directory + Shelf> Ledger<D> {
         ensures left { OnOk result ((shape_in self.old).count < last_number) }
         ensures ok { OnOk result (Does D.bytes (Puts item) self.old self.new) }
         ensures kind { IfErr result (λ e. e ≡ Kind → (IsItem (shape_in self.old).schema item → ⊥) × (self.new ≡ self.old)) }
+        ensures fitting { IfErr result (λ e. e ≢ Kind → IsItem (shape_in self.old).schema item) }
         ensures full { IsItem (shape_in self.old).schema item → last_number ≤ (shape_in self.old).count
             → (result ≡ Err Spent) × (self.new ≡ self.old) }
         ensures spent { IfErr result (λ e. e ≡ Spent → (last_number ≤ (shape_in self.old).count)
