@@ -2,6 +2,7 @@
 use Rattle.std.proofs.Common.{◌≡◌, ℕ, ◌≤◌, Bool, true, false, ◌||◌, List, [], refl, ap, ◌∙◌, arith}
 use Rattle.cat_model.specs.Files.{Name}
 use Rattle.cat_ledger_laws.specs.model.Users.{Used, users_of, is_known, has_name, times, Changes}
+use Rattle.cat_ledger_state.specs.Cores.{StayKnown}
 
 pub or_none : (b : Bool) → (b || false) ≡ b
 or_none true = refl
@@ -34,3 +35,12 @@ pub known_undone : (names : List Name) (old mid new : List Used) → Changes nam
     → (q : Name) → has_name q names ≡ true → is_known new q ≡ true
 known_undone names old mid new first second q there =
     second.known q ∙ or_none (is_known mid q) ∙ first.known q ∙ ap (λ b. is_known old q || b) there ∙ or_there (is_known old q)
+
+-- What was known still is, whatever is taken and given,
+pub known_after : (taken given : List Name) (old new : List Used) → Changes taken given old new → StayKnown old new
+known_after taken given old new changed q there = changed.known q ∙ ap (λ b. b || has_name q taken) there
+
+-- also where it is taken first, and then given.
+pub known_still : (names given : List Name) (old mid new : List Used) → Changes names [] old mid → Changes [] given mid new → StayKnown old new
+known_still names given old mid new first second q there =
+    known_after [] given mid new second q (known_after names [] old mid first q there)

@@ -1,12 +1,12 @@
 -- What memory has of a ledger, as a shape; what always holds of it; and what a flush or a refusal makes of it and of the device.
-use Rattle.std.specs.Prelude.{◌≡◌, ◌≢◌, ◌⊎◌, ◌<◌, ◌≤◌, Bool, List, [], ◌∷◌, length, Option, Some, None, option_map}
+use Rattle.std.specs.Prelude.{◌≡◌, ◌≢◌, ◌⊎◌, ◌<◌, ◌≤◌, Bool, true, List, [], ◌∷◌, length, Option, Some, None, option_map}
 use Rattle.cat_model.specs.Files.{Name}
 use Rattle.cat_model.specs.Item.{Schema}
 use Rattle.cat_model.specs.Limits.{last_number, segment_limit}
 use Rattle.cat_model.specs.Merged.{rows_of_all}
 use Rattle.cat_directory.specs.Names.{name_of}
 use Rattle.cat_directory.specs.declared.name.FileName.{FileName}
-use Rattle.cat_ledger_laws.specs.model.Users.{has_name}
+use Rattle.cat_ledger_laws.specs.model.Users.{Used, has_name, is_known}
 use Rattle.cat_ledger_laws.specs.shape.Shapes.{MergingShape, Shape, IsShape, flushed_leaf, names_of_leaves}
 use Rattle.cat_ledger_laws.specs.shape.Steps.{IsFlushed, IsCopied, IsEnded, Leaves}
 use Rattle.cat_ledger_laws.specs.shape.MergeLaws.{CopiesOn}
@@ -57,6 +57,10 @@ HasFlushed told s told' new =
 -- What a refused call leaves: all as it was, or names that it began.
 abbrev pub HasGivenUp : List Name → ToldFiles → Shape → ToldFiles → Shape → Type 0
 HasGivenUp begun told s told' new = ((new ≡ s) × TouchesNothing told told') ⊎ (Leaves begun s new × TouchesOnly begun told told')
+
+-- Each name that was known, used or pending, still is: no file is forgotten that a sweep is to delete.
+abbrev pub StayKnown : List Used → List Used → Type 0
+StayKnown old new = (q : Name) → is_known old q ≡ true → is_known new q ≡ true
 
 -- its views and holds
 abbrev pub records_in : Shape → Records

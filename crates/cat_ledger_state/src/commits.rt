@@ -13,7 +13,7 @@ ghost use Rattle.cat_ledger_laws.specs.model.Users.{has_name};
 ghost use Rattle.cat_ledger_laws.specs.shape.CommitLaws.{names_begun};
 ghost use Rattle.cat_commits.specs.writing.NewFiles.{AreSettled, ComesLast};
 ghost use Rattle.cat_ledger_state.specs.Commits.{HasCommitted, draft_now, names_synced};
-ghost use Rattle.cat_ledger_state.specs.Cores.{HasGivenUp, is_begun};
+ghost use Rattle.cat_ledger_state.specs.Cores.{HasGivenUp, StayKnown, is_begun};
 
 use crate::kept::{files_leaving, keep};
 use crate::state::Core;
@@ -46,8 +46,9 @@ impl Core {
     /// `IndexWriter.commit` with its user data.)
     ///
     /// [`Refusal::Spent`] where no number is left for a commit; else [`Refusal::Device`] where the directory fails, or doesn't
-    /// have a file of a segment that is to be synced, or [`Refusal::Memory`]. Then no commit comes and none goes; the files that
-    /// were begun are pending.
+    /// have a file of a segment that is to be synced, or [`Refusal::Memory`], where the directory counted no
+    /// failure. Behind an error no commit comes and none goes; the files that were begun are pending, and those that were pending
+    /// stay so.
     pub fn commit<D: Directory>(
         &mut self,
         device: &mut D,
@@ -58,6 +59,7 @@ impl Core {
         ensures number { IfOk result (λ g. g ≡ self.old.next_generation) }
         ensures ok { OnOk result (HasCommitted text.now (D.bytes device.old) self.old (D.bytes device.new) self.new) }
         ensures err { OnErr result (HasGivenUp (names_begun self.old) (D.bytes device.old) self.old (D.bytes device.new) self.new) }
+        ensures known { OnErr result (StayKnown self.old.users self.new.users) }
         ensures crash { (q : FileName) → is_begun (names_begun self.old) q ≡ false
             → NoMore (D.may_leave device.old q) (D.may_leave device.new q) }
         ensures lasts { OnOk result (AreSettled (Name.commit self.old.next_generation ∷ names_synced self.old)
@@ -70,6 +72,7 @@ impl Core {
             ⊎ ((q : FileName) × (has_name (name_of q) (names_synced self.old) ≡ true) × (is_begun (names_begun self.old) q ≡ false)
             × (D.bytes device.old q ≡ Some None))) }
         ensures counted { IfErr result (λ e. e ≡ Device → CountsOne (D.fault_count device.old) (D.fault_count device.new)) }
+        ensures memory { IfErr result (λ e. e ≡ Memory → D.fault_count device.new ≡ D.fault_count device.old) }
         ensures can { D.can_fail device.new → D.can_fail device.old }
         ensures refusal { IfErr result (λ e. (e ≡ Memory) ⊎ (e ≡ Device) ⊎ (e ≡ Spent)) }
     {

@@ -14,7 +14,7 @@ ghost use Rattle.cat_ledger_laws.specs.model.Stored.{joined_sources};
 ghost use Rattle.cat_ledger_laws.specs.model.Users.{users_of, times, Changes};
 ghost use Rattle.cat_ledger_laws.specs.shape.Shapes.{names_of_leaves};
 ghost use Rattle.cat_ledger_laws.specs.shape.Ties.{IsTold};
-ghost use Rattle.cat_ledger_state.specs.Cores.{HasFlushed, HasGivenUp, MayNotFlush, flush_begins, is_begun};
+ghost use Rattle.cat_ledger_state.specs.Cores.{HasFlushed, HasGivenUp, MayNotFlush, StayKnown, flush_begins, is_begun};
 
 use crate::state::Core;
 use cat_base::{LAST_NUMBER, MAX_RECORDS, MAX_SEGMENTS, Refusal, SegNo};
@@ -116,10 +116,12 @@ impl Core {
     /// Makes a segment of what waits, with files of its own; nothing where nothing waits.
     ///
     /// [`Refusal::Spent`] where no number is left for a segment, or as many stand as may; else [`Refusal::Device`] where the
-    /// directory fails, or [`Refusal::Memory`]. What waits still waits then; files that were begun are pending.
+    /// directory fails, or [`Refusal::Memory`], where it counted no failure. What waits still waits then; files that were begun are
+    /// pending, and those that were pending stay so.
     pub fn flush<D: Directory>(&mut self, device: &mut D) -> Result<(), Refusal>
         ensures ok { OnOk result (HasFlushed (D.bytes device.old) self.old (D.bytes device.new) self.new) }
         ensures err { OnErr result (HasGivenUp (flush_begins self.old) (D.bytes device.old) self.old (D.bytes device.new) self.new) }
+        ensures known { OnErr result (StayKnown self.old.users self.new.users) }
         ensures crash { (q : FileName) → is_begun (flush_begins self.old) q ≡ false
             → NoMore (D.may_leave device.old q) (D.may_leave device.new q) }
         ensures spent { IfErr result (λ e. e ≡ Spent → MayNotFlush self.old) }
@@ -128,6 +130,7 @@ impl Core {
         ensures device { IfErr result (λ e. e ≡ Device → D.can_fail device.old) }
         ensures counted { IfErr result (λ e. e ≡ Device → CountsOne (D.fault_count device.old) (D.fault_count device.new)) }
         ensures quiet { OnOk result (D.fault_count device.new ≡ D.fault_count device.old) }
+        ensures memory { IfErr result (λ e. e ≡ Memory → D.fault_count device.new ≡ D.fault_count device.old) }
         ensures can { D.can_fail device.new → D.can_fail device.old }
         ensures refusal { IfErr result (λ e. (e ≡ Memory) ⊎ (e ≡ Device) ⊎ (e ≡ Spent)) }
     {

@@ -7,13 +7,14 @@ ghost use Rattle.std.specs.Option.{option_to_list};
 ghost use Rattle.cat_base.specs.declared.refusal.Refusal.TheVariants.{Memory, Device};
 ghost use Rattle.cat_model.specs.Files.{Name, IsFileNumber};
 ghost use Rattle.cat_model.specs.Layout.{SpellsSegment};
-ghost use Rattle.cat_directory.specs.Devices.{CountsOne, NoMore};
+ghost use Rattle.cat_directory.specs.Devices.{CountsWriting, NoMore};
 ghost use Rattle.cat_directory.specs.Names.{name_of};
 ghost use Rattle.cat_directory.specs.declared.name.FileName.{FileName};
 ghost use Rattle.cat_ledger_laws.specs.model.Users.{users_of, Changes};
 ghost use Rattle.cat_ledger_laws.specs.shape.Shapes.{names_of_leaves};
 ghost use Rattle.cat_ledger_laws.specs.shape.Steps.{window_now};
 ghost use Rattle.cat_ledger_laws.specs.shape.Ties.{TellsBytes};
+ghost use Rattle.cat_ledger_state.specs.Cores.{StayKnown};
 ghost use Rattle.cat_ledger_state.specs.Installs.{HasAllPassed, HasFailed, HasInstalled, IsOfMerge, MayInstall, MayPlace, made_of, placed_in};
 
 use crate::merges::give_source;
@@ -73,7 +74,7 @@ fn write_new<D: Directory>(
         (λ leaf. TellsBytes (D.bytes device.new) (FileName.Segment number) (λ bytes. SpellsSegment bytes leaf.segment))
         (option_to_list merged.now)) }
     ensures device { IfErr result (λ e. e ≡ Device → D.can_fail device.old) }
-    ensures counted { IfErr result (λ e. e ≡ Device → CountsOne (D.fault_count device.old) (D.fault_count device.new)) }
+    ensures counted { CountsWriting (D.fault_count device.old) (D.fault_count device.new) result }
     ensures can { D.can_fail device.new → D.can_fail device.old }
     ensures refusal { IfErr result (λ e. (e ≡ Memory) ⊎ (e ≡ Device)) }
 {
@@ -104,7 +105,7 @@ fn write_and_place<D: Directory>(
     ensures ok { OnOk result (current.new ≡ placed_in current.old place.0 place.1 (option_to_list merged)) }
     ensures err { OnErr result (current.new ≡ current.old) }
     ensures device { IfErr result (λ e. e ≡ Device → D.can_fail device.old) }
-    ensures counted { IfErr result (λ e. e ≡ Device → CountsOne (D.fault_count device.old) (D.fault_count device.new)) }
+    ensures counted { CountsWriting (D.fault_count device.old) (D.fault_count device.new) result }
     ensures can { D.can_fail device.new → D.can_fail device.old }
     ensures refusal { IfErr result (λ e. (e ≡ Memory) ⊎ (e ≡ Device)) }
 {
@@ -114,7 +115,8 @@ fn write_and_place<D: Directory>(
 }
 
 /// Puts the segment of the merge in the place of those that it takes, writes its file, and moves the users of the files of all of
-/// these. An error leaves the list and the users as they are; the names of the new segment may be known then.
+/// these. An error leaves the list and the users as they are; the names of the new segment may be known then, and those that were
+/// known stay so.
 fn install_merged<D: Directory>(
     current: &mut Current,
     refs: &mut FileRefs,
@@ -134,8 +136,9 @@ fn install_merged<D: Directory>(
         refs.old refs.new) }
     ensures err { OnErr result (current.new ≡ current.old) }
     ensures same { OnErr result ((q : Name) → users_of refs.new q ≡ users_of refs.old q) }
+    ensures known { OnErr result (StayKnown refs.old refs.new) }
     ensures device { IfErr result (λ e. e ≡ Device → D.can_fail device.old) }
-    ensures counted { IfErr result (λ e. e ≡ Device → CountsOne (D.fault_count device.old) (D.fault_count device.new)) }
+    ensures counted { CountsWriting (D.fault_count device.old) (D.fault_count device.new) result }
     ensures can { D.can_fail device.new → D.can_fail device.old }
     ensures refusal { IfErr result (λ e. (e ≡ Memory) ⊎ (e ≡ Device)) }
 {
@@ -163,16 +166,17 @@ impl Core {
     /// that it took, with the rows live that are so now (Lucene: `IndexWriter.commitMerge`). Where no row was kept there is no new
     /// segment. Files that nobody needs any more are pending.
     ///
-    /// [`Refusal::Device`] where the directory fails, or [`Refusal::Memory`]. Whichever comes, the merge is over, what it took
-    /// stands as before, and its files are pending.
+    /// [`Refusal::Device`] where the directory fails, or [`Refusal::Memory`], where it counted no failure. Whichever comes, the merge is
+    /// over, what it took stands as before, its files are pending, and those that were pending stay so.
     pub fn install<D: Directory>(&mut self, device: &mut D) -> Result<(), Refusal>
         requires { HasAllPassed self.old.merging }
         ensures ok { OnOk result (HasInstalled (D.bytes device.old) self.old (D.bytes device.new) self.new) }
         ensures err { OnErr result (HasFailed (D.bytes device.old) self.old (D.bytes device.new) self.new) }
+        ensures known { OnErr result (StayKnown self.old.users self.new.users) }
         ensures crash { (q : FileName) → (IsOfMerge self.old.merging q → ⊥)
             → NoMore (D.may_leave device.old q) (D.may_leave device.new q) }
         ensures device { IfErr result (λ e. e ≡ Device → D.can_fail device.old) }
-        ensures counted { IfErr result (λ e. e ≡ Device → CountsOne (D.fault_count device.old) (D.fault_count device.new)) }
+        ensures counted { CountsWriting (D.fault_count device.old) (D.fault_count device.new) result }
         ensures can { D.can_fail device.new → D.can_fail device.old }
         ensures refusal { IfErr result (λ e. (e ≡ Memory) ⊎ (e ≡ Device)) }
     {

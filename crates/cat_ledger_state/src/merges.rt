@@ -11,7 +11,7 @@ ghost use Rattle.cat_directory.specs.declared.name.FileName.{FileName};
 ghost use Rattle.cat_ledger_laws.specs.model.Users.{users_of, times, Changes};
 ghost use Rattle.cat_ledger_laws.specs.shape.Steps.{IsBegun};
 ghost use Rattle.cat_ledger_laws.specs.shape.Ties.{IsTold, TouchesOnly};
-ghost use Rattle.cat_ledger_state.specs.Cores.{HasCopied, HasEnded, HasGivenUp, HasRowsLeft, IsSourceOf};
+ghost use Rattle.cat_ledger_state.specs.Cores.{HasCopied, HasEnded, HasGivenUp, HasRowsLeft, IsSourceOf, StayKnown};
 
 use crate::state::Core;
 use cat_base::{LAST_NUMBER, MAX_RECORDS, Refusal, SegNo};
@@ -42,7 +42,8 @@ impl Core {
     /// `IndexWriter.mergeInit`). They stand in the list, and one segment can hold their rows.
     ///
     /// [`Refusal::Spent`] where no number is left for the new segment; else [`Refusal::Device`] where the directory fails, which
-    /// leaves the name of its file of sources pending, or [`Refusal::Memory`].
+    /// leaves the name of its file of sources pending, or [`Refusal::Memory`], where the directory counted no failure. What was
+    /// pending stays so.
     pub fn begin_merge<D: Directory>(
         &mut self,
         device: &mut D,
@@ -58,12 +59,14 @@ impl Core {
         ensures others { TouchesOnly (Name.source self.old.next_segment ∷ []) (D.bytes device.old) (D.bytes device.new) }
         ensures err { OnErr result
             (HasGivenUp (Name.source self.old.next_segment ∷ []) (D.bytes device.old) self.old (D.bytes device.new) self.new) }
+        ensures known { OnErr result (StayKnown self.old.users self.new.users) }
         ensures crash { (q : FileName) → q ≢ FileName.Source self.old.next_segment
             → NoMore (D.may_leave device.old q) (D.may_leave device.new q) }
         ensures spent { IfErr result (λ e. e ≡ Spent → last_number < self.old.next_segment) }
         ensures due { IfErr result (λ e. (e ≡ Memory) ⊎ (e ≡ Device) → self.old.next_segment ≤ last_number) }
         ensures device { IfErr result (λ e. e ≡ Device → D.can_fail device.old) }
         ensures counted { IfErr result (λ e. e ≡ Device → CountsOne (D.fault_count device.old) (D.fault_count device.new)) }
+        ensures memory { IfErr result (λ e. e ≡ Memory → D.fault_count device.new ≡ D.fault_count device.old) }
         ensures can { D.can_fail device.new → D.can_fail device.old }
         ensures refusal { IfErr result (λ e. (e ≡ Memory) ⊎ (e ≡ Device) ⊎ (e ≡ Spent)) }
     {

@@ -5,7 +5,8 @@ use Rattle.cat_model.specs.Merged.{rows_of_all}
 use Rattle.cat_ledger_laws.proofs.shape.MergeSteps.{begun_keep}
 use Rattle.cat_ledger_laws.proofs.shape.Writes.{refusals_keep}
 use Rattle.cat_ledger_laws.specs.shape.Ties.{TouchesOnly}
-use Rattle.cat_ledger_state.specs.Cores.{HasGivenUp, shape_in}
+use Rattle.cat_ledger_state.specs.Cores.{HasGivenUp, StayKnown, shape_in}
+use Rattle.cat_ledger_state.proofs.Counting.{known_still}
 use Rattle.cat_ledger_state.proofs.Merging.{run_is, may_merge, one_fits, begun_is, begun_left}
 use Rattle.cat_ledger_state.proofs.state.Core.begin_merge.Goals as goal
 
@@ -54,3 +55,8 @@ returns-in-Err-clause-err g c =
     let touched = subst (λ n. TouchesOnly (Name.source n ∷ []) told told') (ap (λ m. m.shape.number) c.in_ok-merge.ensures.ok) c.in-Err.ensures.others in
     let new = record (shape_in c.self.inside) { users = c.give_source.new.refs; next_segment = c.self.inside.next_segment + 1 } in
     subst (λ s. HasGivenUp (Name.source s.next_segment ∷ []) told s told' new) c.self.view_is (inr (left, touched))
+
+pub returns-in-Err-clause-known : goal.returns-in-Err-clause-known
+returns-in-Err-clause-known g c =
+    subst (λ s. StayKnown s.users c.give_source.new.refs) c.self.view_is
+    (known_still _ _ c.self.inside.refs c.take_source.new.refs c.give_source.new.refs c.in_ok-take_source.ensures.ok c.give_source.ensures)

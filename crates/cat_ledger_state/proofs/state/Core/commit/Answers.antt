@@ -16,7 +16,8 @@ use Rattle.cat_ledger_laws.proofs.shape.Writes.{refusals_keep}
 use Rattle.cat_commits.specs.writing.NewFiles.{AreSettled, ComesLast, NoMoreBut}
 use Rattle.cat_commits.specs.writing.Unsynced.{begun}
 use Rattle.cat_ledger_state.specs.Commits.{HasCommitted, draft_now}
-use Rattle.cat_ledger_state.specs.Cores.{HasGivenUp, shape_in}
+use Rattle.cat_ledger_state.specs.Cores.{HasGivenUp, StayKnown, shape_in}
+use Rattle.cat_ledger_state.proofs.Counting.{known_still}
 use Rattle.cat_ledger_state.proofs.Committing.{needs_fit, leaving_fit_after, committed_is, commit_writes, commit_left}
 use Rattle.cat_ledger_state.proofs.state.Core.commit.Goals as goal
 
@@ -131,3 +132,8 @@ returns-in-Err-clause-device g c =
     subst (λ d. c.in-Err.refusal ≡ Device → g.D.Holder.can_fail c.args.device.now
     ⊎ ((q : FileName) × (has_name (name_of q) d.unsynced ≡ true) × (has_name (name_of q) (begun d.commit.generation d.listing) ≡ false)
     × (g.D.Holder.bytes c.args.device.now q ≡ Some None))) c.in_ok-draft.ensures c.in-Err.ensures.device
+
+pub returns-in-Err-clause-known : goal.returns-in-Err-clause-known
+returns-in-Err-clause-known g c =
+    subst (λ s. StayKnown s.users c.give-in-Err.new.self) c.self.view_is
+    (known_still _ _ c.self.inside.refs c.take.new.self c.give-in-Err.new.self c.in_ok-take.ensures.ok c.give-in-Err.ensures)

@@ -4,7 +4,8 @@ use Rattle.cat_model.specs.Limits.{segment_limit}
 use Rattle.cat_ledger_laws.specs.model.Leaves.{AreLeaves}
 use Rattle.cat_ledger_laws.specs.model.Portions.{all_live, leaf_of}
 use Rattle.cat_ledger_laws.proofs.shape.Writes.{flushed_may_stand, flushes_keep, refusals_keep}
-use Rattle.cat_ledger_state.specs.Cores.{shape_in, flush_begins, HasFlushed, HasGivenUp}
+use Rattle.cat_ledger_state.specs.Cores.{shape_in, flush_begins, HasFlushed, HasGivenUp, StayKnown}
+use Rattle.cat_ledger_state.proofs.Counting.{known_still}
 use Rattle.cat_ledger_state.proofs.Flushing.{pair_fits, flush_is, flush_writes, one_more, without_last, flush_left, other_files}
 use Rattle.cat_ledger_state.proofs.state.Core.flush.Goals as goal
 
@@ -79,3 +80,8 @@ returns-clause-err g c =
     } in
     subst (λ s. HasGivenUp (flush_begins s) (g.D.Holder.bytes c.args.device.now) s (g.D.Holder.bytes c.write_segment.new.device) new) c.self.view_is
     (inr (left, touched))
+
+pub returns-clause-known : goal.returns-clause-known
+returns-clause-known g c =
+    subst (λ s. StayKnown s.users c.remove_segment.new.refs) c.self.view_is
+    (known_still _ _ c.self.inside.refs c.add_segment.new.refs c.remove_segment.new.refs c.in_ok-add_segment.ensures.refs c.remove_segment.ensures.refs)

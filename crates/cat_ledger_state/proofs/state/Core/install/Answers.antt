@@ -4,7 +4,8 @@ use Rattle.cat_model.specs.Files.{Name}
 use Rattle.cat_model.specs.Limits.{segment_limit}
 use Rattle.cat_ledger_laws.specs.model.Users.{Changes}
 use Rattle.cat_ledger_laws.proofs.shape.MergeInstalls.{installs_keep}
-use Rattle.cat_ledger_state.specs.Cores.{shape_in}
+use Rattle.cat_ledger_state.specs.Cores.{StayKnown, shape_in}
+use Rattle.cat_ledger_state.proofs.Counting.{known_after}
 use Rattle.cat_ledger_state.specs.Installs.{HasAllPassed, HasFailed, HasInstalled}
 use Rattle.cat_ledger_state.proofs.Merging.{still_under, none_under}
 use Rattle.cat_ledger_state.proofs.Installing.{may_install, fails, fails_keep, installs, no_longer, installed_has, failed_has}
@@ -80,3 +81,8 @@ returns-clause-ok g c =
     let told' = g.D.Holder.bytes c.install_merged-done.new.device in
     subst (λ s. HasInstalled told s told' new) c.self.view_is
     (installed_has (shape_in c.self.inside) new c.in-Some.merge told told' is under c.in_default-done.ensures.others c.in_default-done.ensures.written)
+
+pub returns-in-Err-clause-known : goal.returns-in-Err-clause-known
+returns-in-Err-clause-known g c =
+    subst (λ s. StayKnown s.users c.install_merged-done.new.refs) c.self.view_is
+    (λ q there. c.in-Err.ensures.known q (known_after _ _ c.self.inside.refs c.give_source.new.refs c.give_source.ensures q there))
