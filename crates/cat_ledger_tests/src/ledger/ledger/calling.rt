@@ -2,7 +2,7 @@
 use crate::ledger::ledger::maintaining::{
     files_of, force, merge, note, snapshot, stat, step, sweep, unsnapshot,
 };
-use crate::ledger::ledger::viewing::{acquire, page, prune, refresh, release, source};
+use crate::ledger::ledger::viewing::{acquire, held_view, page, prune, refresh, release, source};
 use crate::ledger::ledger::writing::{commit, delete, delete_where, put, put_under};
 use cat_base::{Generation, Refusal, SessionNo, Token};
 use cat_directory::{Directory, Shelf};
@@ -30,6 +30,8 @@ pub(crate) enum Call<'a> {
     Acquire(SessionNo, Option<Token>),
     /// `release` by the first session of a right that the second was granted.
     Release(SessionNo, SessionNo, Token),
+    /// `held_view` of the session under the token.
+    HeldView(SessionNo, Token),
     Prune(u64),
     /// `source` of the id in the view that the session holds.
     Source(SessionNo, Token, &'a str),
@@ -65,6 +67,7 @@ fn answer_writes<D: Directory + Shelf>(
         Call::Release(session, owner, token) => {
             release(alloc, ledger, rights, (session, owner), token)
         }
+        Call::HeldView(session, token) => held_view(alloc, ledger, session, token),
         Call::Prune(count) => prune(alloc, ledger, count),
         Call::Source(session, token, id) => source(alloc, ledger, rights, (session, token), id),
         Call::Page(session, token, query) => page(alloc, ledger, rights, (session, token), query),
