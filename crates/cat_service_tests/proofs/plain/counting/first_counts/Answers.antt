@@ -3,7 +3,7 @@ use Rattle.std.proofs.lemmas.List.{take_all}
 use Rattle.cat_model.specs.Page.{first_ranked}
 use Rattle.cat_search.specs.BestItems.{IsBestOf}
 use Rattle.cat_service_tests.specs.plain.Counts.{comes_first, counted_of}
-use Rattle.cat_service_tests.proofs.plain.LabelRanks.{first_told, labels_apart, labels_more, ranked_label}
+use Rattle.cat_service_tests.proofs.plain.catalogue.LabelRanks.{first_told, labels_apart, labels_more, ranked_label}
 use Rattle.cat_service_tests.proofs.plain.counting.first_counts.Goals as goal
 
 pub loop-label-preserved : goal.loop-label-preserved

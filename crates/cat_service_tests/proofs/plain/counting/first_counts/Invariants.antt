@@ -1,7 +1,7 @@
 use Rattle.std.proofs.Common.{◌≡◌, map, take}
 use Rattle.cat_search.specs.BestItems.{IsBestOf}
 use Rattle.cat_service_tests.specs.plain.Counts.{comes_first}
-use Rattle.cat_service_tests.proofs.plain.LabelRanks.{ranked_label}
+use Rattle.cat_service_tests.proofs.plain.catalogue.LabelRanks.{ranked_label}
 use Rattle.cat_service_tests.proofs.plain.counting.first_counts.Given as goal
 
 abbrev pub invariant-loop-label : goal.invariant-loop-label

@@ -1,7 +1,7 @@
 use Rattle.std.proofs.Common.{false}
 use Rattle.cat_search.specs.Sorts.{sort_of}
-use Rattle.cat_service_tests.proofs.plain.Finds.{tells_less}
-use Rattle.cat_service_tests.proofs.plain.Rising.{rising_pairs}
+use Rattle.cat_service_tests.proofs.plain.catalogue.Finds.{tells_less}
+use Rattle.cat_service_tests.proofs.plain.catalogue.Rising.{rising_pairs}
 use Rattle.cat_service_tests.proofs.plain.finding.refusal_in.Goals as goal
 
 pub page_of-requires-clause-rising : goal.page_of-requires-clause-rising

@@ -1,5 +1,5 @@
 use Rattle.std.proofs.Common.{arith, length, ◌-◌, drop, length-take}
-use Rattle.cat_service_tests.proofs.plain.Written.{front_more, front_kept, front_of_take, sent_at_fault}
+use Rattle.cat_service_tests.proofs.plain.catalogue.Written.{front_more, front_kept, front_of_take, sent_at_fault}
 use Rattle.cat_service_tests.proofs.plain.output.send.Goals as goal
 
 pub loop-preserved : goal.loop-preserved

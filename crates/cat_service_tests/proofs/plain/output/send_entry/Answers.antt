@@ -1,5 +1,5 @@
 use Rattle.std.specs.Fmt.{decimal}
-use Rattle.cat_service_tests.proofs.plain.Written.{front_before, front_behind, sent_behind, sent_at_fault, entry_in_pieces}
+use Rattle.cat_service_tests.proofs.plain.catalogue.Written.{front_before, front_behind, sent_behind, sent_at_fault, entry_in_pieces}
 use Rattle.cat_service_tests.proofs.plain.output.send_entry.Goals as goal
 
 pub returns-in_err-send_number : goal.returns-in_err-send_number

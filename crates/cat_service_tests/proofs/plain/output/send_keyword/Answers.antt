@@ -1,5 +1,5 @@
 use Rattle.std.proofs.Common.{codes}
-use Rattle.cat_service_tests.proofs.plain.Written.{front_before, sent_behind, sent_at_fault}
+use Rattle.cat_service_tests.proofs.plain.catalogue.Written.{front_before, sent_behind, sent_at_fault}
 use Rattle.cat_service_tests.proofs.plain.output.send_keyword.Goals as goal
 
 pub returns-in_err-send : goal.returns-in_err-send

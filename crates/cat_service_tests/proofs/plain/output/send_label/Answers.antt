@@ -1,6 +1,6 @@
 use Rattle.std.specs.Fmt.{decimal}
 use Rattle.cat_service_tests.specs.plain.Counts.{counted_of}
-use Rattle.cat_service_tests.proofs.plain.Written.{front_before, front_behind, sent_behind, sent_at_fault, label_in_pieces}
+use Rattle.cat_service_tests.proofs.plain.catalogue.Written.{front_before, front_behind, sent_behind, sent_at_fault, label_in_pieces}
 use Rattle.cat_service_tests.proofs.plain.output.send_label.Goals as goal
 
 pub returns-in_err-send_number : goal.returns-in_err-send_number

@@ -1,5 +1,5 @@
 use Rattle.std.proofs.KnownBytes.{Appends-trans}
-use Rattle.cat_service_tests.proofs.plain.Written.{front_before, front_behind, sent_at_fault, label_line, flat_map_more, flat_map_split}
+use Rattle.cat_service_tests.proofs.plain.catalogue.Written.{front_before, front_behind, sent_at_fault, label_line, flat_map_more, flat_map_split}
 use Rattle.cat_service_tests.proofs.plain.output.send_labels.Goals as goal
 
 pub loop-counted-preserved : goal.loop-counted-preserved

@@ -1,5 +1,5 @@
 use Rattle.std.proofs.Common.{◌∙◌}
-use Rattle.cat_service_tests.proofs.plain.Written.{front_before, sent_behind, sent_at_fault, front_as}
+use Rattle.cat_service_tests.proofs.plain.catalogue.Written.{front_before, sent_behind, sent_at_fault, front_as}
 use Rattle.cat_service_tests.proofs.plain.output.send_number.Goals as goal
 
 pub returns-in_err-send : goal.returns-in_err-send

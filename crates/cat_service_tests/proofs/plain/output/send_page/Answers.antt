@@ -1,4 +1,4 @@
-use Rattle.cat_service_tests.proofs.plain.Written.{front_before, front_behind, sent_behind, sent_at_fault, page_in_pieces}
+use Rattle.cat_service_tests.proofs.plain.catalogue.Written.{front_before, front_behind, sent_behind, sent_at_fault, page_in_pieces}
 use Rattle.cat_service_tests.proofs.plain.output.send_page.Goals as goal
 
 pub returns-in_err-send_number : goal.returns-in_err-send_number

@@ -1,4 +1,4 @@
-use Rattle.cat_service_tests.proofs.plain.Written.{front_before, sent_behind, sent_at_fault, no_query_in_pieces}
+use Rattle.cat_service_tests.proofs.plain.catalogue.Written.{front_before, sent_behind, sent_at_fault, no_query_in_pieces}
 use Rattle.cat_service_tests.proofs.plain.output.send_reason.Goals as goal
 
 pub returns-in_err-send_number-in-Query : goal.returns-in_err-send_number-in-Query

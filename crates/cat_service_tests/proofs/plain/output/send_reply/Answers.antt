@@ -1,4 +1,4 @@
-use Rattle.cat_service_tests.proofs.plain.Written.{front_before, sent_behind, sent_at_fault, refused_in_pieces}
+use Rattle.cat_service_tests.proofs.plain.catalogue.Written.{front_before, sent_behind, sent_at_fault, refused_in_pieces}
 use Rattle.cat_service_tests.proofs.plain.output.send_reply.Goals as goal
 
 pub returns-in_err-send_number-in-Err : goal.returns-in_err-send_number-in-Err

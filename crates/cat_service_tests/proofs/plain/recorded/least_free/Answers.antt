@@ -1,6 +1,6 @@
 use Rattle.std.proofs.Common.{◌≡◌, ◌∙◌, ap, sym, get_or}
 use Rattle.cat_model.specs.State.{held_in}
-use Rattle.cat_service_tests.proofs.plain.Tokens.{IsLeastFree_more-held, IsLeastFree_more-free}
+use Rattle.cat_service_tests.proofs.plain.catalogue.Tokens.{IsLeastFree_more-held, IsLeastFree_more-free}
 use Rattle.cat_service_tests.proofs.plain.recorded.least_free.Goals as goal
 use Rattle.cat_service_tests.proofs.plain.recorded.least_free.Goals.{then-not-is_held, else-not-is_held}
 

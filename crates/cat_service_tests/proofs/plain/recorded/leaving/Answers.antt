@@ -1,7 +1,7 @@
 use Rattle.std.proofs.Common.{◌≡◌, sym, length, ltb, false, arith}
 use Rattle.std.proofs.lemmas.Bool.Decides.{nat_tests}
 use Rattle.cat_model.specs.State.{held_in}
-use Rattle.cat_service_tests.proofs.plain.Sound.{least_leaves, some_free}
+use Rattle.cat_service_tests.proofs.plain.catalogue.Sound.{least_leaves, some_free}
 use Rattle.cat_service_tests.proofs.plain.recorded.leaving.Goals as goal
 
 pub returns-in-Some-clause-room : goal.returns-in-Some-clause-room

@@ -1,5 +1,5 @@
 use Rattle.std.proofs.Common.{arith}
-use Rattle.cat_service_tests.proofs.plain.Tokens.{greatest_more}
+use Rattle.cat_service_tests.proofs.plain.catalogue.Tokens.{greatest_more}
 use Rattle.cat_service_tests.proofs.plain.recorded.newest.Goals as goal
 
 pub loop-view-preserved : goal.loop-view-preserved

@@ -7,7 +7,7 @@ use Rattle.cat_search.specs.cat_items.Reading.{item_of}
 use Rattle.cat_protocol.specs.lines.Line.{sort_said}
 use Rattle.cat_service_tests.specs.plain.Exchange.{find_of}
 use Rattle.cat_service_tests.specs.plain.Line.{plain_of}
-use Rattle.cat_service_tests.proofs.plain.Finds.{asks_so}
+use Rattle.cat_service_tests.proofs.plain.catalogue.Finds.{asks_so}
 use Rattle.cat_service_tests.proofs.plain.catalogue.Plain.answer.Goals as goal
 
 pub returns-in-Put-clause-does : goal.returns-in-Put-clause-does

@@ -1,8 +1,8 @@
 use Rattle.std.proofs.Common.{subst}
 use Rattle.cat_search.specs.cat_query.View.{query_of}
 use Rattle.cat_service_tests.specs.plain.Exchange.{IsReadQuery}
-use Rattle.cat_service_tests.proofs.plain.Deletes.{delete_fault, delete_spent, delete_told, delete_want}
-use Rattle.cat_service_tests.proofs.plain.Openings.{fault_is}
+use Rattle.cat_service_tests.proofs.plain.catalogue.Deletes.{delete_fault, delete_spent, delete_told, delete_want}
+use Rattle.cat_service_tests.proofs.plain.catalogue.Openings.{fault_is}
 use Rattle.cat_service_tests.proofs.plain.catalogue.Plain.answer_delete_where.Goals as goal
 
 pub returns-in_err-query-clause-does : goal.returns-in_err-query-clause-does

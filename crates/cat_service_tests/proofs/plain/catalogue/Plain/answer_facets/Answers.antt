@@ -8,9 +8,9 @@ use Rattle.cat_model.specs.State.{table_under}
 use Rattle.cat_search.specs.cat_query.View.{query_of}
 use Rattle.cat_service_tests.specs.plain.Counts.{facets_told}
 use Rattle.cat_service_tests.specs.plain.Exchange.{IsReadQuery}
-use Rattle.cat_service_tests.proofs.plain.FacetReplies.{facets_fault, facets_refused, facets_told_so, facets_unheld, facets_want}
-use Rattle.cat_service_tests.proofs.plain.Finds.{some_query}
-use Rattle.cat_service_tests.proofs.plain.Openings.{fault_is}
+use Rattle.cat_service_tests.proofs.plain.catalogue.FacetReplies.{facets_fault, facets_refused, facets_told_so, facets_unheld, facets_want}
+use Rattle.cat_service_tests.proofs.plain.catalogue.Finds.{some_query}
+use Rattle.cat_service_tests.proofs.plain.catalogue.Openings.{fault_is}
 use Rattle.cat_service_tests.proofs.plain.catalogue.Plain.answer_facets.Goals as goal
 
 pub returns-in_err-query : goal.returns-in_err-query

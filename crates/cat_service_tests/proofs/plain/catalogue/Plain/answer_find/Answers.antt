@@ -1,4 +1,4 @@
-use Rattle.cat_service_tests.proofs.plain.Openings.{fault_is}
+use Rattle.cat_service_tests.proofs.plain.catalogue.Openings.{fault_is}
 use Rattle.cat_service_tests.proofs.plain.catalogue.Plain.answer_find.Goals as goal
 
 pub returns-in_err-find : goal.returns-in_err-find

@@ -1,5 +1,5 @@
 use Rattle.std.proofs.Common.{◌≡◌, ◌+◌, ◌∙◌, sym, ap}
-use Rattle.cat_service_tests.proofs.plain.Rising.{items-filter, table-delete}
+use Rattle.cat_service_tests.proofs.plain.catalogue.Rising.{items-filter, table-delete}
 use Rattle.cat_service_tests.proofs.plain.catalogue.Plain.delete_where.Goals as goal
 
 pub invariant_of-self : goal.invariant_of-self

@@ -3,8 +3,8 @@ use Rattle.std.specs.Prelude.{Ok, Err}
 use Rattle.cat_model.specs.Answer.{answer}
 use Rattle.cat_search.specs.cat_query.View.{query_of}
 use Rattle.cat_service_tests.specs.plain.Exchange.{IsReadQuery, TellsFound, find_of}
-use Rattle.cat_service_tests.proofs.plain.Finds.{does_fault, does_unheld, does_tell, some_query}
-use Rattle.cat_service_tests.proofs.plain.Openings.{fault_is}
+use Rattle.cat_service_tests.proofs.plain.catalogue.Finds.{does_fault, does_unheld, does_tell, some_query}
+use Rattle.cat_service_tests.proofs.plain.catalogue.Openings.{fault_is}
 use Rattle.cat_service_tests.proofs.plain.catalogue.Plain.find.Goals as goal
 
 pub returns-in_err-query : goal.returns-in_err-query

@@ -1,4 +1,4 @@
-use Rattle.cat_service_tests.proofs.plain.Sound.{newest_has}
+use Rattle.cat_service_tests.proofs.plain.catalogue.Sound.{newest_has}
 use Rattle.cat_service_tests.proofs.plain.catalogue.Plain.newest_token.Goals as goal
 
 pub returns-clause-recorded : goal.returns-clause-recorded

@@ -1,7 +1,7 @@
 use Rattle.std.proofs.Common.{inr, arith}
 use Rattle.cat_model.specs.Lines.{IsReadable}
 use Rattle.cat_model.specs.Served.{Begins}
-use Rattle.cat_service_tests.proofs.plain.Openings.{refused_schema, opened_plain}
+use Rattle.cat_service_tests.proofs.plain.catalogue.Openings.{refused_schema, opened_plain}
 use Rattle.cat_service_tests.proofs.plain.catalogue.Plain.open.Goals as goal
 
 pub returns-then-line-gt-MAX_LINE_BYTES : goal.returns-then-line-gt-MAX_LINE_BYTES

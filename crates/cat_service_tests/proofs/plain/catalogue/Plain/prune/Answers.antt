@@ -1,5 +1,5 @@
-use Rattle.cat_service_tests.proofs.plain.Rising.{views-filter}
-use Rattle.cat_service_tests.proofs.plain.Sound.{sound_pruned}
+use Rattle.cat_service_tests.proofs.plain.catalogue.Rising.{views-filter}
+use Rattle.cat_service_tests.proofs.plain.catalogue.Sound.{sound_pruned}
 use Rattle.cat_service_tests.proofs.plain.catalogue.Plain.prune.Goals as goal
 
 pub invariant_of-self-2 : goal.invariant_of-self-2

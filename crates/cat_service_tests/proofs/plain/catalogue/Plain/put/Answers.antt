@@ -1,6 +1,6 @@
 use Rattle.std.proofs.Common.{◌≡◌, ◌+◌, ◌∙◌, sym, ap, subst}
 use Rattle.cat_model.specs.Item.{IsItem}
-use Rattle.cat_service_tests.proofs.plain.Rising.{items-put, table-put}
+use Rattle.cat_service_tests.proofs.plain.catalogue.Rising.{items-put, table-put}
 use Rattle.cat_service_tests.proofs.plain.catalogue.Plain.put.Goals as goal
 
 pub invariant_of-self-2 : goal.invariant_of-self-2

@@ -2,7 +2,7 @@ use Rattle.std.proofs.Common.{◌∙◌, ap, subst}
 use Rattle.std.specs.Prelude.{Err}
 use Rattle.cat_model.specs.Grammar.{Spells}
 use Rattle.cat_model.specs.Query.{Query}
-use Rattle.cat_service_tests.proofs.plain.Finds.{judged_query}
+use Rattle.cat_service_tests.proofs.plain.catalogue.Finds.{judged_query}
 use Rattle.cat_service_tests.proofs.plain.catalogue.Plain.query.Goals as goal
 
 pub returns-in-Memory-clause-ok : goal.returns-in-Memory-clause-ok

@@ -1,7 +1,7 @@
 use Rattle.std.proofs.Common.{◌∙◌, ap, subst, sym}
 use Rattle.cat_service_tests.specs.plain.Tables.{AreItems}
-use Rattle.cat_service_tests.proofs.plain.Sound.{sound_recorded}
-use Rattle.cat_service_tests.proofs.plain.Rising.{views-recorded}
+use Rattle.cat_service_tests.proofs.plain.catalogue.Sound.{sound_recorded}
+use Rattle.cat_service_tests.proofs.plain.catalogue.Rising.{views-recorded}
 use Rattle.cat_service_tests.proofs.plain.catalogue.Plain.refresh.Goals as goal
 
 pub invariant_of-self-2 : goal.invariant_of-self-2

@@ -1,4 +1,4 @@
-use Rattle.cat_service_tests.proofs.plain.Sound.{sound_closed}
+use Rattle.cat_service_tests.proofs.plain.catalogue.Sound.{sound_closed}
 use Rattle.cat_service_tests.proofs.plain.catalogue.Plain.release.Goals as goal
 
 pub invariant_of-self : goal.invariant_of-self

@@ -6,7 +6,7 @@ use Rattle.cat_protocol.specs.declared.lines.command.Command.TheVariants.{NoForm
 use Rattle.cat_service_tests.specs.plain.Exchange.{AreExchanges}
 use Rattle.cat_service_tests.specs.plain.Reply.{reply_of}
 use Rattle.cat_service_tests.specs.plain.Plain.{beginning_of}
-use Rattle.cat_service_tests.proofs.plain.ModelRuns.{Reaches-start, Reaches-push, exchanges-more, maps-more}
+use Rattle.cat_service_tests.proofs.plain.catalogue.ModelRuns.{Reaches-start, Reaches-push, exchanges-more, maps-more}
 use Rattle.cat_service_tests.proofs.plain.catalogue.Plain.run.Goals as goal
 
 pub loop-line-init : goal.loop-line-init

@@ -2,7 +2,7 @@ use Rattle.std.proofs.Common.{◌≡◌, ◌≤◌, length, map, take, vec_len, 
 use Rattle.cat_model.specs.Run.{Run}
 use Rattle.cat_service_tests.specs.plain.Exchange.{AreExchanges}
 use Rattle.cat_service_tests.specs.plain.Plain.{beginning_of}
-use Rattle.cat_service_tests.proofs.plain.ModelRuns.{Reaches}
+use Rattle.cat_service_tests.proofs.plain.catalogue.ModelRuns.{Reaches}
 use Rattle.cat_service_tests.proofs.plain.catalogue.Plain.run.Given as goal
 
 abbrev pub invariant-loop-line : goal.invariant-loop-line

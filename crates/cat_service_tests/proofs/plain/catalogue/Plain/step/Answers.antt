@@ -1,7 +1,7 @@
 use Rattle.std.proofs.Common.{refl}
 use Rattle.cat_model.specs.Run.{Exchange}
 use Rattle.cat_service_tests.specs.plain.Reply.{reply_of}
-use Rattle.cat_service_tests.proofs.plain.ModelRuns.{Step-keeps}
+use Rattle.cat_service_tests.proofs.plain.catalogue.ModelRuns.{Step-keeps}
 use Rattle.cat_service_tests.proofs.plain.catalogue.Plain.step.Goals as goal
 
 pub returns-clause-run : goal.returns-clause-run

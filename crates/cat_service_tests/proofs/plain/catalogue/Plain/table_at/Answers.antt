@@ -1,6 +1,6 @@
 use Rattle.std.proofs.Common.{subst, sym}
 use Rattle.cat_service_tests.specs.plain.Tables.{AreItems}
-use Rattle.cat_service_tests.proofs.plain.Rising.{items-of_found}
+use Rattle.cat_service_tests.proofs.plain.catalogue.Rising.{items-of_found}
 use Rattle.cat_service_tests.proofs.plain.catalogue.Plain.table_at.Goals as goal
 
 pub returns-in-Some-clause-items : goal.returns-in-Some-clause-items

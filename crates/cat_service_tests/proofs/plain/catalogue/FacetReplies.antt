@@ -17,7 +17,7 @@ use Rattle.cat_model.specs.Run.{found_reply}
 use Rattle.cat_model.specs.State.{has_hold, table_under}
 use Rattle.cat_service_tests.specs.plain.Exchange.{DoesFacets}
 use Rattle.cat_service_tests.specs.plain.Plain.{Service}
-use Rattle.cat_service_tests.proofs.plain.Finds.{either_way}
+use Rattle.cat_service_tests.proofs.plain.catalogue.Finds.{either_way}
 
 module _ (w : Service) (s t : ℕ) (dim : Text) (n : ℕ) (text : Text) where
   -- the text is no query

@@ -23,7 +23,7 @@ use Rattle.cat_search.specs.Sorts.{sort_of}
 use Rattle.cat_service_tests.specs.plain.Exchange.{DoesFind, IsReadQuery, TellsFound, find_of, page_reply, refusal_told}
 use Rattle.cat_service_tests.specs.plain.Plain.{Service}
 use Rattle.cat_search.specs.declared.ask.Ask.{Ask}
-use Rattle.cat_service_tests.proofs.plain.Openings.{is_memory}
+use Rattle.cat_service_tests.proofs.plain.catalogue.Openings.{is_memory}
 
 -- ---- what is asked
 
