@@ -3,3 +3,5 @@
 
 pub mod foundation;
 pub mod opening;
+#[cfg(test)]
+mod verdict;

@@ -5,3 +5,5 @@
 pub mod ledger;
 pub mod parts;
 pub mod rights;
+#[cfg(test)]
+mod verdict;

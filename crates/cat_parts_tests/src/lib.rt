@@ -6,3 +6,5 @@ pub mod columns;
 pub mod directory;
 pub mod items;
 pub mod query;
+#[cfg(test)]
+mod verdict;

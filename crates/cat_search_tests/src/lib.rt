@@ -4,4 +4,6 @@
 
 pub mod facets;
 pub mod segment;
+#[cfg(test)]
+mod verdict;
 pub mod views;

@@ -3,6 +3,7 @@ ghost use Rattle.std.specs.Prelude.{◌≤◌, ◌<◌, length, IfOk};
 ghost use Rattle.cat_model.specs.Files.{Name};
 ghost use Rattle.cat_ledger_laws.specs.model.Users.{users_of};
 
+use crate::verdict::{expect, expect_yes};
 use cat_base::Refusal;
 use cat_directory::{Directory, Faults, Faulty, FileName, MemoryDirectory};
 use cat_lifetimes::refs::FileRefs;
@@ -106,8 +107,7 @@ fn users_are_counted_by_name(rt: HostRuntime) -> Result<(), Fail> {
     let are_counted = are_counted(&refs);
     let are_given = are_given_once(&mut refs);
     let is_taken = is_taken_again(&mut refs)?;
-    assert!(rt; are_counted && are_given && is_taken && are_pending(&mut refs));
-    Ok(())
+    expect(are_counted && are_given && is_taken && are_pending(&mut refs))
 }
 
 /// Whether just these files are there, and all of them pending.
@@ -143,8 +143,7 @@ fn is_swept_up_to_each(alloc: Global) -> Result<bool, Refusal> {
 
 #[test]
 fn sweeps_go_by_bytes_up_to_the_first_fault(rt: HostRuntime) -> Result<(), Fail> {
-    assert!(rt; is_swept_up_to_each(rt.alloc())?);
-    Ok(())
+    expect_yes(is_swept_up_to_each(rt.alloc()))
 }
 
 /// Whether the file of this index stays where it is used, and no other.
@@ -168,8 +167,7 @@ fn each_stays(alloc: Global) -> Result<bool, Refusal> {
 
 #[test]
 fn used_files_stay(rt: HostRuntime) -> Result<(), Fail> {
-    assert!(rt; each_stays(rt.alloc())?);
-    Ok(())
+    expect_yes(each_stays(rt.alloc()))
 }
 
 #[test]
@@ -178,8 +176,7 @@ fn a_sweep_of_nothing_asks_for_nothing(rt: HostRuntime) -> Result<(), Fail> {
     let mut device = Faulty::new(directory(alloc)?, Faults::All(0));
     let none_known = FileRefs::new(alloc).sweep(alloc, &mut device) == Ok(0);
     let none_pending = taken(alloc, FILES)?.sweep(alloc, &mut device) == Ok(0);
-    assert!(rt; none_known && none_pending && device.calls() == 0);
-    Ok(())
+    expect(none_known && none_pending && device.calls() == 0)
 }
 
 #[test]
@@ -187,6 +184,5 @@ fn an_absent_file_is_no_fault(rt: HostRuntime) -> Result<(), Fail> {
     let alloc = rt.alloc();
     let mut refs = all_but(alloc, 0)?;
     let are_swept = refs.sweep(alloc, &mut MemoryDirectory::new(alloc)) == Ok(6);
-    assert!(rt; are_swept && refs.pending() == 0);
-    Ok(())
+    expect(are_swept && refs.pending() == 0)
 }

@@ -1,5 +1,6 @@
 //! Whose rights are found.
 use crate::rights::making::{add, end, has};
+use crate::verdict::expect_yes;
 use cat_base::Refusal;
 use cat_ledger::cat_lifetimes::rights::Rights;
 use std::alloc::Global;
@@ -30,8 +31,7 @@ fn are_their_own(alloc: Global) -> Result<bool, Refusal> {
 
 #[test]
 fn sessions_find_their_own(rt: HostRuntime) -> Result<(), Fail> {
-    assert!(&rt; are_their_own(rt.alloc())?);
-    Ok(())
+    expect_yes(are_their_own(rt.alloc()))
 }
 
 /// A session has a view once.
@@ -50,6 +50,5 @@ fn is_one(alloc: Global) -> Result<bool, Refusal> {
 
 #[test]
 fn a_session_has_a_view_once(rt: HostRuntime) -> Result<(), Fail> {
-    assert!(&rt; is_one(rt.alloc())?);
-    Ok(())
+    expect_yes(is_one(rt.alloc()))
 }

@@ -1,5 +1,6 @@
 //! Which rights are taken out, and which stay.
 use crate::rights::making::{add, end, has, take};
+use crate::verdict::expect_yes;
 use cat_base::{Refusal, SessionNo, Token};
 use cat_ledger::cat_lifetimes::rights::Rights;
 use std::alloc::Global;
@@ -59,8 +60,7 @@ fn takes_its_own(alloc: Global) -> Result<bool, Refusal> {
 
 #[test]
 fn what_is_taken_out_is_the_sessions(rt: HostRuntime) -> Result<(), Fail> {
-    assert!(&rt; takes_its_own(rt.alloc())?);
-    Ok(())
+    expect_yes(takes_its_own(rt.alloc()))
 }
 
 /// Takes one out, and gives it to its session once more.
@@ -79,8 +79,7 @@ fn end_all(alloc: Global) -> Result<bool, Refusal> {
 
 #[test]
 fn each_right_is_taken_out_at_the_end(rt: HostRuntime) -> Result<(), Fail> {
-    assert!(&rt; end_all(rt.alloc())?);
-    Ok(())
+    expect_yes(end_all(rt.alloc()))
 }
 
 #[test]

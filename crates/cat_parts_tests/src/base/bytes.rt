@@ -1,4 +1,5 @@
 //! Numbers and texts as bytes, and what is refused of bytes.
+use crate::verdict::expect;
 use cat_base::{Cursor, Refusal, put_bytes, put_u32, put_u64};
 use std::alloc::{AllocError, Global};
 use std::test::Fail;
@@ -15,8 +16,7 @@ fn put(alloc: Global) -> Result<Vec<u8>, AllocError> {
 #[test]
 fn puts_the_high_byte_first(rt: HostRuntime) -> Result<(), Fail> {
     let want = [0, 0, 0, 1, 0, 0, 0, 0, 0, 0, 1, 2, 0, 0, 0, 2, 0x61, 0x62];
-    assert!(rt; put(rt.alloc())?.as_slice() == want.as_slice());
-    Ok(())
+    expect(put(rt.alloc())?.as_slice() == want.as_slice())
 }
 
 /// Whether the next are 7, 1 and 258, in one byte, four and eight.

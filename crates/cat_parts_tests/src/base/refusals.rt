@@ -1,4 +1,5 @@
 //! What each refusal shows, and that a bare `?` lifts want of memory.
+use crate::verdict::{expect, expect_yes};
 use cat_base::Refusal;
 use std::alloc::{AllocError, Global};
 use std::sync::Arc;
@@ -99,8 +100,7 @@ fn are_shown(alloc: Global, rows: &[(Refusal, u8, &str)]) -> Result<bool, AllocE
 
 #[test]
 fn shows_its_number_and_a_sentence(rt: HostRuntime) -> Result<(), Fail> {
-    assert!(rt; are_shown(rt.alloc(), SHOWN)?);
-    Ok(())
+    expect_yes(are_shown(rt.alloc(), SHOWN))
 }
 
 // A bare `?` on each kind of refused allocation.
@@ -120,6 +120,5 @@ fn are_two_of(words: &[Arc<String>], word: &str) -> bool {
 #[test]
 fn shares_by_a_bare_question_mark(rt: HostRuntime) -> Result<(), Fail> {
     let words = shared(rt.alloc(), "red")?;
-    assert!(rt; are_two_of(&words, "red"));
-    Ok(())
+    expect(are_two_of(&words, "red"))
 }

@@ -1,5 +1,6 @@
 //! Texts and sets of texts.
 use crate::columns::texts::set;
+use crate::verdict::{expect, expect_yes};
 use cat_base::{SHORT_BYTES, Text, TextSet};
 use std::alloc::{AllocError, Global};
 use std::cmp::Ordering;
@@ -49,8 +50,7 @@ fn texts_compare_by_bytes(rt: HostRuntime) -> Result<(), Fail> {
         ("seventeen letters", "seventeen", Ordering::Greater),
         ("seventeen letters", "z", Ordering::Less),
     ];
-    assert!(rt; all_compare_so(rt.alloc(), ROWS)?);
-    Ok(())
+    expect_yes(all_compare_so(rt.alloc(), ROWS))
 }
 
 /// Whether the text has these letters, and so has its copy.
@@ -69,8 +69,7 @@ fn texts_are_shown(rt: HostRuntime) -> Result<(), Fail> {
     const SHOE: &str = "red \"shoe\"";
     const SHOWN: &str = "red \"shoe\", \"red \\\"shoe\\\"\"";
     let text = Text::new(String::from_str(rt.alloc(), SHOE)?);
-    assert!(rt; is_copied(&text, SHOE)? && is_shown(rt.alloc(), &text, SHOWN)?);
-    Ok(())
+    expect(is_copied(&text, SHOE)? && is_shown(rt.alloc(), &text, SHOWN)?)
 }
 
 /// Whether a text of these letters is kept as it is, be it read of them or made of a string.
@@ -101,8 +100,7 @@ fn texts_of_each_length_are_kept(rt: HostRuntime) -> Result<(), Fail> {
         "seventeen letters",
         "fifteen bytes: é",
     ];
-    assert!(rt; are_kept(rt.alloc(), TEXTS)?);
-    Ok(())
+    expect_yes(are_kept(rt.alloc(), TEXTS))
 }
 
 /// Whether the letters are few, and those of a copy of their text.
@@ -125,8 +123,7 @@ fn are_short(alloc: Global, texts: &[&str]) -> Result<bool, AllocError> {
 #[test]
 fn short_texts_take_no_memory(rt: HostRuntime) -> Result<(), Fail> {
     const TEXTS: &[&str] = &["", "a", "ten bytes ééé", "sixteen letters:"];
-    assert!(rt; are_short(rt.alloc(), TEXTS)?);
-    Ok(())
+    expect_yes(are_short(rt.alloc(), TEXTS))
 }
 
 // Each text, and whether it is in the set of "a" and "b".
@@ -169,6 +166,5 @@ fn has_nothing(set: &TextSet) -> bool {
 fn a_set_has_each_text_once(rt: HostRuntime) -> Result<(), Fail> {
     let words = set(rt.alloc(), &["b", "a", "b"])?;
     let none = TextSet::new(rt.alloc());
-    assert!(rt; are_a_and_b(rt.alloc(), &words)? && has_nothing(&none));
-    Ok(())
+    expect(are_a_and_b(rt.alloc(), &words)? && has_nothing(&none))
 }

@@ -3,6 +3,7 @@ ghost use Rattle.std.specs.Prelude.{◌≤◌, ◌^◌, ◌<◌, length};
 ghost use Rattle.cat_model.specs.Layout.{AreEnds};
 
 use crate::columns::texts::{are_words, equal_rows, has_rows, number, rows_in, set, texts};
+use crate::verdict::{expect, expect_yes};
 use cat_base::{MAX_ROWS, Refusal};
 use cat_columns::{Dictionary, KeywordColumn, RowSet, SetColumn};
 use std::alloc::{AllocError, Global};
@@ -41,8 +42,7 @@ fn keywords_are_made_of_codes(rt: HostRuntime) -> Result<(), Fail> {
     const CODES: &[u32] = &[2, 0, 1, 2];
     const TEXTS: &[&str] = &["red", "missing", "blue", "red"];
     let column = keywords(rt.alloc(), &["blue", "red"], CODES)?;
-    assert!(rt; are_keywords(&column, TEXTS) && column.codes() == CODES);
-    Ok(())
+    expect(are_keywords(&column, TEXTS) && column.codes() == CODES)
 }
 
 /// Whether the codes are damaged.
@@ -104,8 +104,7 @@ fn are_labels(column: &SetColumn, words: &[&str], rows: &[&[u32]]) -> bool {
 fn labels_are_made_of_ordinals(rt: HostRuntime) -> Result<(), Fail> {
     const ROWS: &[&[u32]] = &[&[1], &[], &[0, 1]];
     let column = labels(rt.alloc(), &["blue", "red"], &[1, 1, 3], &[1, 0, 1])?;
-    assert!(rt; are_labels(&column, &["blue", "red"], ROWS));
-    Ok(())
+    expect(are_labels(&column, &["blue", "red"], ROWS))
 }
 
 /// Whether the ordinals are damaged.
@@ -142,8 +141,7 @@ fn is_packed(
 fn sets_are_made_of_bytes(rt: HostRuntime) -> Result<(), Fail> {
     const ROWS: &[usize] = &[0, 9, 63, 64, 66];
     let set = RowSet::from_bytes(rt.alloc(), 67, PACKED)?;
-    assert!(rt; is_packed(rt.alloc(), &set, ROWS, PACKED)?);
-    Ok(())
+    expect_yes(is_packed(rt.alloc(), &set, ROWS, PACKED))
 }
 
 /// Whether the bytes are of no set of so many rows.
@@ -221,8 +219,7 @@ fn rows_below_one_are_removed(rt: HostRuntime) -> Result<(), Fail> {
         && are_left(alloc, 64, &[0, 1, 63, 64])?
         && are_left(alloc, 65, &[0, 1, 63, 64, 65])?
         && are_left(alloc, 200, &[0, 1, 63, 64, 65, 130, 200])?;
-    assert!(rt; are_removed);
-    Ok(())
+    expect(are_removed)
 }
 
 /// The set of the first and the last of so many rows.
@@ -248,8 +245,7 @@ fn has_ends(alloc: Global, len: usize) -> Result<bool, AllocError>
 #[test]
 fn a_set_has_the_rows_of_a_full_segment(rt: HostRuntime) -> Result<(), Fail> {
     let alloc = rt.alloc();
-    assert!(rt; has_ends(alloc, 65_537)? && has_ends(alloc, MAX_ROWS)?);
-    Ok(())
+    expect(has_ends(alloc, 65_537)? && has_ends(alloc, MAX_ROWS)?)
 }
 
 /// A column of so many rows, each with two labels.
@@ -270,8 +266,7 @@ fn has_all_pairs(column: &SetColumn) -> bool {
 #[test]
 fn a_column_has_more_labels_than_two_bytes_count(rt: HostRuntime) -> Result<(), Fail> {
     let column = column_of_pairs(rt.alloc(), 40_000)?;
-    assert!(rt; has_all_pairs(&column));
-    Ok(())
+    expect(has_all_pairs(&column))
 }
 
 /// A dictionary that is shared with one that is gone.
@@ -289,8 +284,7 @@ fn is_blue_and_red(dictionary: &Dictionary) -> bool {
 #[test]
 fn a_dictionary_is_shared(rt: HostRuntime) -> Result<(), Fail> {
     let shared = shared(rt.alloc())?;
-    assert!(rt; is_blue_and_red(&shared));
-    Ok(())
+    expect(is_blue_and_red(&shared))
 }
 
 /// The union of two sets and an empty one.
@@ -303,8 +297,7 @@ fn union_of_few(alloc: Global) -> Result<Dictionary, AllocError> {
 #[test]
 fn a_union_has_the_texts_of_all_sets(rt: HostRuntime) -> Result<(), Fail> {
     let union = union_of_few(rt.alloc())?;
-    assert!(rt; are_words(union.as_slice(), &["ash", "birch", "elm", "oak"]));
-    Ok(())
+    expect(are_words(union.as_slice(), &["ash", "birch", "elm", "oak"]))
 }
 
 /// The union of three sets, one of them twice, and an empty one.
@@ -327,6 +320,5 @@ fn a_union_of_many_sets_has_each_text_once(rt: HostRuntime) -> Result<(), Fail> 
     const WORDS: &[&str] = &["ash", "birch", "elm", "oak", "yew"];
     let union = union_of_many(rt.alloc())?;
     let none = Dictionary::union(rt.alloc(), &[])?;
-    assert!(rt; are_words(union.as_slice(), WORDS) && none.len() == 0);
-    Ok(())
+    expect(are_words(union.as_slice(), WORDS) && none.len() == 0)
 }

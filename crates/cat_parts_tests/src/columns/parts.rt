@@ -1,5 +1,6 @@
 //! A segment of one row, byte by byte as it is laid out.
 use crate::columns::texts::{are_words, number, texts};
+use crate::verdict::expect;
 use cat_base::{Cursor, Refusal, put_bytes, put_u32};
 use cat_items::file_parts::{
     ColumnParts, SegmentParts, put_fields, put_head, put_list, put_number, put_start, put_texts,
@@ -39,8 +40,7 @@ fn has_head(parts: &SegmentParts) -> bool {
 fn reads_the_fields_and_the_heads_of_rows(rt: HostRuntime) -> Result<(), Fail> {
     const FIELDS: &[(&str, Kind)] = &[("color", Kind::Facet), ("price", Kind::Number)];
     let parts = read_segment(rt.alloc(), FILE)?;
-    assert!(rt; has_head(&parts) && are_fields(parts.schema.fields(), FIELDS));
-    Ok(())
+    expect(has_head(&parts) && are_fields(parts.schema.fields(), FIELDS))
 }
 
 /// Whether the one row has the label `red`.
@@ -76,8 +76,7 @@ fn are_red_and_five(columns: &[ColumnParts]) -> bool {
 #[test]
 fn reads_each_column(rt: HostRuntime) -> Result<(), Fail> {
     let parts = read_segment(rt.alloc(), FILE)?;
-    assert!(rt; are_red_and_five(&parts.columns));
-    Ok(())
+    expect(are_red_and_five(&parts.columns))
 }
 
 /// Whether the bytes lay out no segment.
@@ -106,8 +105,7 @@ fn with_one_more(alloc: Global, bytes: &[u8]) -> Result<Vec<u8>, AllocError> {
 fn reads_nothing_less_or_more(rt: HostRuntime) -> Result<(), Fail> {
     let alloc = rt.alloc();
     let longer = with_one_more(alloc, FILE)?;
-    assert!(rt; are_fronts_damaged(alloc, FILE) && is_damaged(alloc, &longer));
-    Ok(())
+    expect(are_fronts_damaged(alloc, FILE) && is_damaged(alloc, &longer))
 }
 
 /// The parts before the columns.
@@ -136,8 +134,7 @@ fn written(alloc: Global, schema: &Schema) -> Result<Vec<u8>, AllocError> {
 fn writes_each_part(rt: HostRuntime) -> Result<(), Fail> {
     let parts = read_segment(rt.alloc(), FILE)?;
     let out = written(rt.alloc(), &parts.schema)?;
-    assert!(rt; out.as_slice() == FILE);
-    Ok(())
+    expect(out.as_slice() == FILE)
 }
 
 // So many text fields, named `a0` to `a9`, `b0` and so on.
@@ -161,6 +158,5 @@ fn fields_read(alloc: Global, count: u8) -> Result<Schema, Refusal> {
 fn reads_as_many_fields_as_a_schema_may_have(rt: HostRuntime) -> Result<(), Fail> {
     let most = fields_read(rt.alloc(), 32)?;
     let more = number(&fields_read(rt.alloc(), 33));
-    assert!(rt; most.fields().len() == 32 && more == 31);
-    Ok(())
+    expect(most.fields().len() == 32 && more == 31)
 }

@@ -3,6 +3,7 @@ ghost use Rattle.std.specs.Prelude.{◌≡◌, ◌^◌, ◌<◌, length, IfOk};
 ghost use Rattle.cat_model.specs.Layout.{AreEnds};
 
 use crate::columns::texts::{are_words, equal_rows, has_rows, number, set, texts};
+use crate::verdict::{expect, expect_yes};
 use cat_base::{Refusal, Text, TextSet};
 use cat_columns::Dictionary;
 use cat_columns::inverted::{MergeInput, Terms};
@@ -97,8 +98,7 @@ fn words_lead_to_their_rows(rt: HostRuntime) -> Result<(), Fail> {
     let alloc = rt.alloc();
     let terms = terms(alloc)?;
     let lead = are_postings(alloc, &terms, ROWS)? && are_rows_with(alloc, &terms, ROWS)?;
-    assert!(rt; lead && is_of(&terms, 4, WORDS));
-    Ok(())
+    expect(lead && is_of(&terms, 4, WORDS))
 }
 
 /// Whether the set of the rows of each prefix has these rows.
@@ -121,8 +121,7 @@ fn prefixes_lead_to_rows(rt: HostRuntime) -> Result<(), Fail> {
         ("a", &[]),
     ];
     let terms = terms(rt.alloc())?;
-    assert!(rt; are_rows_of(rt.alloc(), &terms, ROWS)?);
-    Ok(())
+    expect_yes(are_rows_of(rt.alloc(), &terms, ROWS))
 }
 
 /// The text, where there is one.
@@ -162,8 +161,7 @@ fn ranges_lead_to_rows(rt: HostRuntime) -> Result<(), Fail> {
         (Some("redder"), Some("z"), &[0, 2, 3]),
     ];
     let terms = terms(rt.alloc())?;
-    assert!(rt; are_ranges(rt.alloc(), &terms, ROWS)?);
-    Ok(())
+    expect_yes(are_ranges(rt.alloc(), &terms, ROWS))
 }
 
 #[test]
@@ -173,8 +171,7 @@ fn open_ends_bound_nothing(rt: HostRuntime) -> Result<(), Fail> {
         (Some("red"), None, &[0, 2, 3]),
     ];
     let terms = terms(rt.alloc())?;
-    assert!(rt; are_ranges(rt.alloc(), &terms, ROWS)?);
-    Ok(())
+    expect_yes(are_ranges(rt.alloc(), &terms, ROWS))
 }
 
 /// The terms of `len` rows with these words, whose postings end where `ends` says.
@@ -210,8 +207,7 @@ fn postings_make_terms(rt: HostRuntime) -> Result<(), Fail> {
     let terms = read(alloc, 3, &["blue", "red"], &[1, 3], &[2, 0, 2])?;
     let is_made = is_of(&terms, 3, &["blue", "red"])
         && second_postings(&terms) == [0, 2].as_slice();
-    assert!(rt; is_made && are_postings(alloc, &terms, ROWS)?);
-    Ok(())
+    expect(is_made && are_postings(alloc, &terms, ROWS)?)
 }
 
 /// Whether no terms of three rows have these words and postings.
@@ -253,8 +249,7 @@ fn of_one_word(alloc: Global, word: &str) -> Result<Terms, AllocError> {
 fn ordinals_make_terms(rt: HostRuntime) -> Result<(), Fail> {
     let alloc = rt.alloc();
     let terms = of_one_word(alloc, "red")?;
-    assert!(rt; is_of(&terms, 3, &["red"]) && are_postings(alloc, &terms, &[("red", &[1])])?);
-    Ok(())
+    expect(is_of(&terms, 3, &["red"]) && are_postings(alloc, &terms, &[("red", &[1])])?)
 }
 
 /// The terms of so many rows, each with the same word.
@@ -278,8 +273,7 @@ fn are_all_red(terms: &Terms) -> bool {
 #[test]
 fn a_word_has_more_rows_than_two_bytes_count(rt: HostRuntime) -> Result<(), Fail> {
     let terms = terms_of_equal_rows(rt.alloc(), "red", 66_000)?;
-    assert!(rt; are_all_red(&terms) && terms.rows_with("red")?.count() == 66_000);
-    Ok(())
+    expect(are_all_red(&terms) && terms.rows_with("red")?.count() == 66_000)
 }
 
 /// So many texts: the numbers from 0 on, in decimal.
@@ -320,8 +314,7 @@ fn a_row_has_more_words_than_two_bytes_count(rt: HostRuntime) -> Result<(), Fail
     const ROWS: Rows<'static> = &[("0", &[0, 1]), ("65999", &[1])];
     let alloc = rt.alloc();
     let terms = terms_of_many_words(alloc, 66_000)?;
-    assert!(rt; are_many_words(&terms)? && are_postings(alloc, &terms, ROWS)?);
-    Ok(())
+    expect(are_many_words(&terms)? && are_postings(alloc, &terms, ROWS)?)
 }
 
 /// The rows below the number.
@@ -344,8 +337,7 @@ fn read_equal_rows(alloc: Global, word: &str, count: u32) -> Result<Terms, Refus
 #[test]
 fn a_file_has_more_postings_than_two_bytes_count(rt: HostRuntime) -> Result<(), Fail> {
     let terms = read_equal_rows(rt.alloc(), "red", 66_000)?;
-    assert!(rt; are_all_red(&terms));
-    Ok(())
+    expect(are_all_red(&terms))
 }
 
 /// The terms of rows of two segments: of the first segment the second and the last are left out, of the other the first.
@@ -380,8 +372,7 @@ fn a_merge_keeps_the_words_of_the_rows_that_stay(rt: HostRuntime) -> Result<(), 
     ];
     let alloc = rt.alloc();
     let terms = merged_without_some(alloc)?;
-    assert!(rt; is_of(&terms, 3, WORDS) && are_postings(alloc, &terms, ROWS)?);
-    Ok(())
+    expect(is_of(&terms, 3, WORDS) && are_postings(alloc, &terms, ROWS)?)
 }
 
 /// The terms of a row of so many words.
@@ -420,13 +411,11 @@ fn a_merge_finds_words_that_lie_far_apart(rt: HostRuntime) -> Result<(), Fail> {
     ];
     let alloc = rt.alloc();
     let terms = merged_with_few(alloc)?;
-    assert!(rt; terms.words().len() == 100 && are_postings(alloc, &terms, ROWS)?);
-    Ok(())
+    expect(terms.words().len() == 100 && are_postings(alloc, &terms, ROWS)?)
 }
 
 #[test]
 fn a_merge_of_nothing_has_no_words(rt: HostRuntime) -> Result<(), Fail> {
     let terms = Terms::merge(rt.alloc(), 0, &[])?;
-    assert!(rt; terms.len() == 0 && terms.words().is_empty());
-    Ok(())
+    expect(terms.len() == 0 && terms.words().is_empty())
 }

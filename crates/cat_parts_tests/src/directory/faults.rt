@@ -2,6 +2,7 @@
 use crate::directory::calls::{
     Call, FIRST, ROWS, Row, SOURCE, answer, are_answered, make_folder, remove_folder,
 };
+use crate::verdict::{expect_done, expect_yes};
 use cat_base::Refusal;
 use cat_directory::{Directory, Faults, Faulty, Folder, MemoryDirectory, Shelf};
 use std::alloc::Global;
@@ -200,8 +201,7 @@ fn each_fails_in_memory(alloc: Global) -> Result<bool, Refusal> {
 
 #[test]
 fn a_call_that_fails_does_nothing(rt: HostRuntime) -> Result<(), Fail> {
-    assert!(rt; each_fails_in_memory(rt.alloc())?);
-    Ok(())
+    expect_yes(each_fails_in_memory(rt.alloc()))
 }
 
 /// Whether each call that fails in a folder does nothing.
@@ -216,8 +216,7 @@ fn each_fails_in_folder<R: Files + AllocGlobal + Clone + Drop>(rt: &R) -> Result
 
 #[test]
 fn a_folder_that_fails_does_nothing(rt: HostRuntime) -> Result<(), Fail> {
-    assert!(rt; each_fails_in_folder(&rt)?);
-    Ok(())
+    expect_done(each_fails_in_folder(&rt))
 }
 
 /// Which names are there behind so many of the rows: from the first number to before the second.
@@ -255,8 +254,7 @@ fn are_names_left(alloc: Global) -> Result<bool, Refusal> {
 
 #[test]
 fn calls_behind_a_fault_do_nothing(rt: HostRuntime) -> Result<(), Fail> {
-    assert!(rt; are_names_left(rt.alloc())?);
-    Ok(())
+    expect_yes(are_names_left(rt.alloc()))
 }
 
 /// Whether a file of memory is written as far as no call fails.
@@ -271,8 +269,7 @@ fn are_written_in_memory(alloc: Global) -> Result<bool, Refusal> {
 
 #[test]
 fn a_file_of_memory_is_written_as_far_as_no_call_fails(rt: HostRuntime) -> Result<(), Fail> {
-    assert!(rt; are_written_in_memory(rt.alloc())?);
-    Ok(())
+    expect_yes(are_written_in_memory(rt.alloc()))
 }
 
 /// The same of a file of a folder.
@@ -287,6 +284,5 @@ fn are_written_in_folder<R: Files + AllocGlobal + Clone + Drop>(rt: &R) -> Resul
 
 #[test]
 fn a_file_of_a_folder_is_written_as_far_as_no_call_fails(rt: HostRuntime) -> Result<(), Fail> {
-    assert!(rt; are_written_in_folder(&rt)?);
-    Ok(())
+    expect_done(are_written_in_folder(&rt))
 }

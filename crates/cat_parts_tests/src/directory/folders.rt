@@ -2,6 +2,7 @@
 use crate::directory::calls::{
     Call, FIRST, ROWS, Row, all_answered, are_answered, is_read_so, make_folder, remove_folder,
 };
+use crate::verdict::{expect, expect_yes};
 use cat_base::Refusal;
 use cat_directory::{Directory, FileName, Folder, FolderShelf, MemoryDirectory, Shelf};
 use std::alloc::Global;
@@ -28,8 +29,7 @@ const TABLES: &[&[Row<'static>]] = &[ROWS, FOUR_FAILURES];
 #[test]
 fn memory_answers_as_a_folder_does(rt: HostRuntime) -> Result<(), Fail> {
     let mut memory = MemoryDirectory::new(rt.alloc());
-    assert!(rt; all_answered(rt.alloc(), &mut memory, TABLES)?);
-    Ok(())
+    expect_yes(all_answered(rt.alloc(), &mut memory, TABLES))
 }
 
 #[test]
@@ -55,8 +55,7 @@ const ANEW: &[&[Row<'static>]] = &[&[
 #[test]
 fn memory_makes_a_file_anew(rt: HostRuntime) -> Result<(), Fail> {
     let mut memory = MemoryDirectory::new(rt.alloc());
-    assert!(rt; all_answered(rt.alloc(), &mut memory, ANEW)?);
-    Ok(())
+    expect_yes(all_answered(rt.alloc(), &mut memory, ANEW))
 }
 
 /// A file that is there stays as it is, until it is deleted.
@@ -169,8 +168,7 @@ fn is_copied(alloc: Global, memory: &mut MemoryDirectory) -> Result<bool, Refusa
 fn a_copy_has_files_of_its_own(rt: HostRuntime) -> Result<(), Fail> {
     let alloc = rt.alloc();
     let mut memory = MemoryDirectory::new(alloc);
-    assert!(rt; are_answered(alloc, &mut memory, ONE)? && is_copied(alloc, &mut memory)?);
-    Ok(())
+    expect(are_answered(alloc, &mut memory, ONE)? && is_copied(alloc, &mut memory)?)
 }
 
 /// Files that have no name of ours.

@@ -2,6 +2,7 @@
 use crate::directory::calls::{make_folder, remove_folder};
 use crate::directory::faulty_system::{Doing, FaultySystem, Notes};
 use crate::directory::systems::system_of;
+use crate::verdict::expect;
 use cat_directory::{FolderLock, LockRefusal, Lockable};
 use std::alloc::Global;
 use std::fs;
@@ -59,8 +60,7 @@ fn a_lock_puts_no_file_into_the_folder(rt: HostRuntime) -> Result<(), Fail> {
     let lock = FolderLock::take(&rt, rt.alloc(), "empty_test");
     // A folder in which something lies isn't removed so.
     let removed = fs::remove_dir(&rt, "empty_test");
-    assert!(rt; lock.is_ok() && removed.is_ok());
-    Ok(())
+    expect(lock.is_ok() && removed.is_ok())
 }
 
 /// What has no lock: no folder, a file, and no path.

@@ -1,4 +1,5 @@
 //! The texts of names.
+use crate::verdict::expect_yes;
 use cat_directory::FileName;
 use std::alloc::{AllocError, Global};
 use std::test::Fail;
@@ -59,8 +60,7 @@ fn have_texts(alloc: Global, names: &[(&str, FileName)]) -> Result<bool, AllocEr
 
 #[test]
 fn names_have_one_text(rt: HostRuntime) -> Result<(), Fail> {
-    assert!(rt; have_texts(rt.alloc(), NAMES)?);
-    Ok(())
+    expect_yes(have_texts(rt.alloc(), NAMES))
 }
 
 /// Whether no name is read of any of the texts.

@@ -1,6 +1,7 @@
 //! What a folder asks of the system, and what it tells where the system fails.
 use crate::directory::calls::{Call, FIRST, Row, SOURCE, are_answered, make_folder, remove_folder};
 use crate::directory::faulty_system::{Doing, FaultySystem, Notes};
+use crate::verdict::expect_done;
 use cat_base::Refusal;
 use cat_directory::{Directory, FileName, Folder, Shelf};
 use std::alloc::{AllocError, Global};
@@ -114,8 +115,7 @@ const SYNCED: &[Scene<'static>] = &[(None, WHOLE, 0), (None, SYNC_NONE, 4), (Non
 
 #[test]
 fn a_folder_asks_the_system_for_all_it_needs(rt: HostRuntime) -> Result<(), Fail> {
-    assert!(rt; is_done(&rt, "system_test", Job::Scenes(SYNCED))?);
-    Ok(())
+    expect_done(is_done(&rt, "system_test", Job::Scenes(SYNCED)))
 }
 
 const MAKE: &[Row<'static>] = &[
@@ -168,8 +168,7 @@ const KINDS: &[Scene<'static>] = &[
 
 #[test]
 fn each_error_of_the_system_is_told_as_it_is(rt: HostRuntime) -> Result<(), Fail> {
-    assert!(rt; is_done(&rt, "kinds_test", Job::Scenes(KINDS))?);
-    Ok(())
+    expect_done(is_done(&rt, "kinds_test", Job::Scenes(KINDS)))
 }
 
 /// An absent file is a failure of this call alone.
@@ -196,8 +195,7 @@ const FAILED_SYNC: &[Scene<'static>] = &[
 
 #[test]
 fn after_a_failed_sync_none_succeeds(rt: HostRuntime) -> Result<(), Fail> {
-    assert!(rt; is_done(&rt, "sync_test", Job::Scenes(FAILED_SYNC))?);
-    Ok(())
+    expect_done(is_done(&rt, "sync_test", Job::Scenes(FAILED_SYNC)))
 }
 
 const FOLDER_NOT_SYNCED: &[Row<'static>] = &[(Call::Sync(&[]), "NO 30")];
@@ -214,8 +212,7 @@ const FAILED_FOLDER_SYNC: &[Scene<'static>] = &[
 
 #[test]
 fn after_a_failed_sync_of_the_folder_none_succeeds(rt: HostRuntime) -> Result<(), Fail> {
-    assert!(rt; is_done(&rt, "folder_sync_test", Job::Scenes(FAILED_FOLDER_SYNC))?);
-    Ok(())
+    expect_done(is_done(&rt, "folder_sync_test", Job::Scenes(FAILED_FOLDER_SYNC)))
 }
 
 const LISTED: &[Row<'static>] = &[
@@ -254,8 +251,7 @@ const FAILED_LISTING: &[Scene<'static>] = &[
 
 #[test]
 fn a_listing_that_fails_is_no_list(rt: HostRuntime) -> Result<(), Fail> {
-    assert!(rt; is_done(&rt, "listing_test", Job::Scenes(FAILED_LISTING))?);
-    Ok(())
+    expect_done(is_done(&rt, "listing_test", Job::Scenes(FAILED_LISTING)))
 }
 
 const NOT_DELETED: &[Row<'static>] = &[
@@ -283,8 +279,7 @@ const DENIED_DELETE: &[Scene<'static>] = &[
 
 #[test]
 fn a_denied_delete_is_a_failure(rt: HostRuntime) -> Result<(), Fail> {
-    assert!(rt; is_done(&rt, "delete_test", Job::Scenes(DENIED_DELETE))?);
-    Ok(())
+    expect_done(is_done(&rt, "delete_test", Job::Scenes(DENIED_DELETE)))
 }
 
 /// Whether 70 files are written and read, one behind the other.
@@ -310,6 +305,5 @@ fn are_few<D: Directory + Shelf>(
 
 #[test]
 fn few_files_are_open_at_once(rt: HostRuntime) -> Result<(), Fail> {
-    assert!(rt; is_done(&rt, "open_test", Job::Many)?);
-    Ok(())
+    expect_done(is_done(&rt, "open_test", Job::Many))
 }

@@ -1,5 +1,6 @@
 //! Items: the refusals of texts, and the values of an item.
 use crate::items::texts::{Parts, SHOP, are_texts, number, whole};
+use crate::verdict::{expect, expect_yes};
 use cat_base::Refusal;
 use cat_items::{FieldValue, Item, Schema};
 use std::alloc::{AllocError, Global};
@@ -44,8 +45,7 @@ fn item_texts(rt: HostRuntime) -> Result<(), Fail> {
         (r#""id""#, 13),
         ("null", 13),
     ];
-    assert!(rt; are_answered_under(rt.alloc(), "{}", ROWS)?);
-    Ok(())
+    expect_yes(are_answered_under(rt.alloc(), "{}", ROWS))
 }
 
 #[test]
@@ -65,8 +65,7 @@ fn item_ids(rt: HostRuntime) -> Result<(), Fail> {
         (r#"{"id":"","id":"a"}"#, 0),
         (r#"{"\u0069d":"\u0061"}"#, 0),
     ];
-    assert!(rt; are_answered_under(rt.alloc(), "{}", ROWS)?);
-    Ok(())
+    expect_yes(are_answered_under(rt.alloc(), "{}", ROWS))
 }
 
 /// The id is looked at before the other members, and those in byte order of their names. Null is as absent, and the
@@ -85,8 +84,7 @@ fn item_members(rt: HostRuntime) -> Result<(), Fail> {
         (r#"{"id":"a","price":"x","price":1}"#, 0),
         (r#"{"id":"a","price":1,"price":"x"}"#, 13),
     ];
-    assert!(rt; are_answered_under(rt.alloc(), SHOP, ROWS)?);
-    Ok(())
+    expect_yes(are_answered_under(rt.alloc(), SHOP, ROWS))
 }
 
 /// Texts may have control characters, and keywords not.
@@ -105,8 +103,7 @@ fn item_strings(rt: HostRuntime) -> Result<(), Fail> {
         (r#"{"id":"a","brand":"a\u007f"}"#, 13),
         (r#"{"id":"a","brand":true}"#, 13),
     ];
-    assert!(rt; are_answered_under(rt.alloc(), SHOP, ROWS)?);
-    Ok(())
+    expect_yes(are_answered_under(rt.alloc(), SHOP, ROWS))
 }
 
 #[test]
@@ -127,8 +124,7 @@ fn item_numbers(rt: HostRuntime) -> Result<(), Fail> {
         (r#"{"id":"a","price":01}"#, 11),
         (r#"{"id":"a","price":+1}"#, 11),
     ];
-    assert!(rt; are_answered_under(rt.alloc(), SHOP, ROWS)?);
-    Ok(())
+    expect_yes(are_answered_under(rt.alloc(), SHOP, ROWS))
 }
 
 #[test]
@@ -143,15 +139,13 @@ fn item_labels(rt: HostRuntime) -> Result<(), Fail> {
         (r#"{"id":"a","color":["red","a\u0000"]}"#, 13),
         (r#"{"id":"a","color":"red"}"#, 13),
     ];
-    assert!(rt; are_answered_under(rt.alloc(), SHOP, ROWS)?);
-    Ok(())
+    expect_yes(are_answered_under(rt.alloc(), SHOP, ROWS))
 }
 
 #[test]
 fn items_are_utf8(rt: HostRuntime) -> Result<(), Fail> {
     let schema = Schema::read(rt.alloc(), "{}".as_bytes())?;
-    assert!(rt; number(&schema.item(rt.alloc(), b"{\"id\":\"\xff\"}")) == 11);
-    Ok(())
+    expect(number(&schema.item(rt.alloc(), b"{\"id\":\"\xff\"}")) == 11)
 }
 
 /// Whether a text in parts is refused so as an item, or is one.
@@ -208,8 +202,7 @@ fn item_limits(rt: HostRuntime) -> Result<(), Fail> {
         ((r#"{"id":"a","color":[1,""#, ("x", 129), "\"]}"), 13),
     ];
     let schema = Schema::read(rt.alloc(), SHOP.as_bytes())?;
-    assert!(rt; are_long_answered(rt.alloc(), &schema, ROWS)?);
-    Ok(())
+    expect_yes(are_long_answered(rt.alloc(), &schema, ROWS))
 }
 
 /// What an item has in the fields of the shop: its brand, its colors, its price and the words of its title.
@@ -282,6 +275,5 @@ fn item_values(rt: HostRuntime) -> Result<(), Fail> {
     const BARE: &str = r#"{"id":"b"}"#;
     let full = is_read_so(rt.alloc(), FULL, "sku-1", &VALUES)?;
     let bare = is_read_so(rt.alloc(), BARE, "b", &NONE)?;
-    assert!(rt; full && bare);
-    Ok(())
+    expect(full && bare)
 }

@@ -1,6 +1,7 @@
 //! Schemas: the refusals of texts, and the fields of a schema.
 use crate::columns::parts::are_fields;
 use crate::items::texts::{Parts, SHOP, number, whole};
+use crate::verdict::{expect, expect_yes};
 use cat_base::Refusal;
 use cat_items::{Item, Kind, Schema};
 use std::alloc::{AllocError, Global};
@@ -64,8 +65,7 @@ fn names_of_32_bytes(rt: HostRuntime) -> Result<(), Fail> {
     const MOST: Parts<'static> = ("{\"", ("n", 32), "\":\"text\"}");
     const MORE: Parts<'static> = ("{\"", ("n", 33), "\":\"text\"}");
     let alloc = rt.alloc();
-    assert!(rt; is_long_answered(alloc, &MOST, 0)? && is_long_answered(alloc, &MORE, 13)?);
-    Ok(())
+    expect(is_long_answered(alloc, &MOST, 0)? && is_long_answered(alloc, &MORE, 13)?)
 }
 
 /// The text of a schema of so many fields.
@@ -88,8 +88,7 @@ fn fields_read(alloc: Global, count: u32) -> Result<Schema, Refusal> {
 fn schemas_of_32_fields(rt: HostRuntime) -> Result<(), Fail> {
     let most = fields_read(rt.alloc(), 32)?;
     let more = number(&fields_read(rt.alloc(), 33));
-    assert!(rt; most.fields().len() == 32 && more == 13);
-    Ok(())
+    expect(most.fields().len() == 32 && more == 13)
 }
 
 #[test]
@@ -103,8 +102,7 @@ fn schema_fields(rt: HostRuntime) -> Result<(), Fail> {
         ("title", Kind::Text),
     ];
     let schema = Schema::read(rt.alloc(), TEXT)?.copy()?;
-    assert!(rt; are_fields(schema.fields(), WANT));
-    Ok(())
+    expect(are_fields(schema.fields(), WANT))
 }
 
 /// The texts of two schemas, and whether these are equal.
@@ -148,8 +146,7 @@ fn schemas_are_equal_by_names_and_kinds(rt: HostRuntime) -> Result<(), Fail> {
             false,
         ),
     ];
-    assert!(rt; are_pairs(rt.alloc(), ROWS)?);
-    Ok(())
+    expect_yes(are_pairs(rt.alloc(), ROWS))
 }
 
 /// Whether each schema accepts the item, or doesn't, as stands beside its text.
@@ -180,8 +177,7 @@ fn schemas_accept_the_items_of_their_fields(rt: HostRuntime) -> Result<(), Fail>
         (r#"{"a":"text","b":"keyword"}"#, false),
         (r#"{"a":"text","c":"facet"}"#, false),
     ];
-    assert!(rt; accept_each_so(rt.alloc(), ROWS)?);
-    Ok(())
+    expect_yes(accept_each_so(rt.alloc(), ROWS))
 }
 
 /// So many opening brackets, and as many closing ones.
@@ -202,6 +198,5 @@ fn is_refused(alloc: Global, schema: &Schema, count: u32, want: u8) -> Result<bo
 fn nesting(rt: HostRuntime) -> Result<(), Fail> {
     let alloc = rt.alloc();
     let schema = Schema::read(alloc, SHOP.as_bytes())?;
-    assert!(rt; is_refused(alloc, &schema, 127, 13)? && is_refused(alloc, &schema, 128, 11)?);
-    Ok(())
+    expect(is_refused(alloc, &schema, 127, 13)? && is_refused(alloc, &schema, 128, 11)?)
 }

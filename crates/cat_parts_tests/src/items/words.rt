@@ -1,5 +1,6 @@
 //! The words of a text, and the form of ids.
 use crate::items::texts::{are_texts, whole};
+use crate::verdict::{expect, expect_yes};
 use cat_items::{id_ok, words};
 use std::alloc::{AllocError, Global};
 use std::test::Fail;
@@ -27,8 +28,7 @@ fn texts_have_words(rt: HostRuntime) -> Result<(), Fail> {
         ("naïve naive", &["naive", "naïve"]),
         ("日本 日本語", &["日本", "日本語"]),
     ];
-    assert!(rt; have_words(rt.alloc(), ROWS)?);
-    Ok(())
+    expect_yes(have_words(rt.alloc(), ROWS))
 }
 
 /// Whether each text may be an id, or may not, as stands beside it.
@@ -61,6 +61,5 @@ fn is_id(alloc: Global, count: u32) -> Result<bool, AllocError> {
 
 #[test]
 fn ids_of_64_bytes(rt: HostRuntime) -> Result<(), Fail> {
-    assert!(rt; is_id(rt.alloc(), 64)? && !is_id(rt.alloc(), 65)?);
-    Ok(())
+    expect(is_id(rt.alloc(), 64)? && !is_id(rt.alloc(), 65)?)
 }

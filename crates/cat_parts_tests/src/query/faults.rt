@@ -2,6 +2,7 @@
 //!
 //! Each place was counted from the rules, and none was taken from a reply. Behind the tables of faults stand texts that only
 //! look faulty.
+use crate::verdict::expect_yes;
 use cat_base::Refusal;
 use cat_items::Schema;
 use cat_query::Query;
@@ -129,8 +130,7 @@ fn a_sixty_fifth_clause_behind_sixty_four(rt: HostRuntime) -> Result<(), Fail> {
         (("", ("brand:é", 64), "brand:é"), 576),
         (("", ("brand:é", 64), " -(*:*)"), 577),
     ];
-    assert!(rt; are_long_faults(rt.alloc(), ROWS)?);
-    Ok(())
+    expect_yes(are_long_faults(rt.alloc(), ROWS))
 }
 
 #[test]
@@ -143,8 +143,7 @@ fn a_sixty_fifth_clause_where_groups_count_too(rt: HostRuntime) -> Result<(), Fa
         (("", ("*:*", 63), "-(+"), 254),
         (("", ("*:*", 63), "(  ("), 255),
     ];
-    assert!(rt; are_long_faults(rt.alloc(), ROWS)?);
-    Ok(())
+    expect_yes(are_long_faults(rt.alloc(), ROWS))
 }
 
 #[test]
@@ -158,8 +157,7 @@ fn a_sixty_fifth_clause_in_groups(rt: HostRuntime) -> Result<(), Fail> {
         (("((((((((", ("*:*", 56), "("), 232),
         (("((((((((", ("*:*", 56), "-("), 232),
     ];
-    assert!(rt; are_long_faults(rt.alloc(), ROWS)?);
-    Ok(())
+    expect_yes(are_long_faults(rt.alloc(), ROWS))
 }
 
 // Where a clause has to begin, a byte that can't begin one: that byte.
@@ -188,8 +186,7 @@ fn bytes_that_begin_no_clause(rt: HostRuntime) -> Result<(), Fail> {
         ("( ( {", 4),
         ("(*:*) ~", 6),
     ];
-    assert!(rt; are_faults(rt.alloc(), ROWS)?);
-    Ok(())
+    expect_yes(are_faults(rt.alloc(), ROWS))
 }
 
 // `)` in a group without a clause, or where no group is open: that `)`.
@@ -208,8 +205,7 @@ fn closings_of_empty_groups(rt: HostRuntime) -> Result<(), Fail> {
         ("brand:é +()", 11),
         (r#"title:"\"a" ()"#, 13),
     ];
-    assert!(rt; are_faults(rt.alloc(), ROWS)?);
-    Ok(())
+    expect_yes(are_faults(rt.alloc(), ROWS))
 }
 
 #[test]
@@ -228,8 +224,7 @@ fn closings_of_no_group(rt: HostRuntime) -> Result<(), Fail> {
         ("(title:a))(", 9),
         ("-((((*:*)))))", 12),
     ];
-    assert!(rt; are_faults(rt.alloc(), ROWS)?);
-    Ok(())
+    expect_yes(are_faults(rt.alloc(), ROWS))
 }
 
 // Behind a sign, a byte that begins no clause: that byte.
@@ -254,8 +249,7 @@ fn signs_before_no_primary(rt: HostRuntime) -> Result<(), Fail> {
         ("(*:* +:)", 6),
         ("-price:-1 +1", 11),
     ];
-    assert!(rt; are_faults(rt.alloc(), ROWS)?);
-    Ok(())
+    expect_yes(are_faults(rt.alloc(), ROWS))
 }
 
 // `(` that would be the ninth group inside one another: that `(`.
@@ -277,8 +271,7 @@ fn ninth_groups(rt: HostRuntime) -> Result<(), Fail> {
         ("(*:* (*:* (*:* (*:* (*:* (*:* (*:* (*:* (", 40),
         ("(*:*) (*:*) (*:*) (*:*) (((((((((", 32),
     ];
-    assert!(rt; are_faults(rt.alloc(), ROWS)?);
-    Ok(())
+    expect_yes(are_faults(rt.alloc(), ROWS))
 }
 
 // `*` that doesn't begin `*:*`: that `*`.
@@ -304,8 +297,7 @@ fn stars_that_begin_no_clause(rt: HostRuntime) -> Result<(), Fail> {
         ("*:* *:* *:* *:", 12),
         ("((((((((-*(", 9),
     ];
-    assert!(rt; are_faults(rt.alloc(), ROWS)?);
-    Ok(())
+    expect_yes(are_faults(rt.alloc(), ROWS))
 }
 
 // A name that is no field, or isn't followed by `:`: its first byte.
@@ -326,8 +318,7 @@ fn names_that_are_no_field(rt: HostRuntime) -> Result<(), Fail> {
         ("abcdefghijklmnopqrstuvwxyz0123456789_:a", 0),
         ("*:*  -(price:5 +prices:5)", 16),
     ];
-    assert!(rt; are_faults(rt.alloc(), ROWS)?);
-    Ok(())
+    expect_yes(are_faults(rt.alloc(), ROWS))
 }
 
 #[test]
@@ -349,8 +340,7 @@ fn names_without_a_colon(rt: HostRuntime) -> Result<(), Fail> {
         ("-(+(*:* -n 5))", 9),
         ("title:red shoe", 10),
     ];
-    assert!(rt; are_faults(rt.alloc(), ROWS)?);
-    Ok(())
+    expect_yes(are_faults(rt.alloc(), ROWS))
 }
 
 // A value that is missing, isn't closed, or is wrong for the field's kind: the byte behind the colon.
@@ -376,8 +366,7 @@ fn values_without_a_byte(rt: HostRuntime) -> Result<(), Fail> {
         (r"title:\a", 6),
         ("title:a title: title:b", 14),
     ];
-    assert!(rt; are_faults(rt.alloc(), ROWS)?);
-    Ok(())
+    expect_yes(are_faults(rt.alloc(), ROWS))
 }
 
 #[test]
@@ -403,8 +392,7 @@ fn values_that_stay_open(rt: HostRuntime) -> Result<(), Fail> {
         ("((*:* -(n:[", 10),
         (r#"brand:"a\\" color:"a\\\""#, 18),
     ];
-    assert!(rt; are_faults(rt.alloc(), ROWS)?);
-    Ok(())
+    expect_yes(are_faults(rt.alloc(), ROWS))
 }
 
 #[test]
@@ -423,8 +411,7 @@ fn wrong_escapes(rt: HostRuntime) -> Result<(), Fail> {
         (r#"brand:"\"\\" title:"\/""#, 19),
         (r#"*:* -(*:* -(size_2:"a\)""#, 19),
     ];
-    assert!(rt; are_faults(rt.alloc(), ROWS)?);
-    Ok(())
+    expect_yes(are_faults(rt.alloc(), ROWS))
 }
 
 #[test]
@@ -444,8 +431,7 @@ fn ranges_of_another_form(rt: HostRuntime) -> Result<(), Fail> {
         ("brand:é size_2:[é-ü]", 16),
         ("((n:[1..2]", 4),
     ];
-    assert!(rt; are_faults(rt.alloc(), ROWS)?);
-    Ok(())
+    expect_yes(are_faults(rt.alloc(), ROWS))
 }
 
 #[test]
@@ -465,8 +451,7 @@ fn ranges_with_a_byte_too_many(rt: HostRuntime) -> Result<(), Fail> {
         ("(size_2:[(a) TO b])", 8),
         ("+(price:[[1] TO 2])", 8),
     ];
-    assert!(rt; are_faults(rt.alloc(), ROWS)?);
-    Ok(())
+    expect_yes(are_faults(rt.alloc(), ROWS))
 }
 
 #[test]
@@ -486,8 +471,7 @@ fn values_wrong_for_a_text(rt: HostRuntime) -> Result<(), Fail> {
         (r#"+(*:* -(title:"a\"b"))"#, 14),
         ("title:a title:b/c title:d", 14),
     ];
-    assert!(rt; are_faults(rt.alloc(), ROWS)?);
-    Ok(())
+    expect_yes(are_faults(rt.alloc(), ROWS))
 }
 
 #[test]
@@ -504,8 +488,7 @@ fn prefixes_and_ranges_wrong_for_a_text(rt: HostRuntime) -> Result<(), Fail> {
         ("(-title:[a TO *])", 8),
         ("brand:a  title:[* TO é]", 15),
     ];
-    assert!(rt; are_faults(rt.alloc(), ROWS)?);
-    Ok(())
+    expect_yes(are_faults(rt.alloc(), ROWS))
 }
 
 #[test]
@@ -530,8 +513,7 @@ fn values_wrong_for_a_number(rt: HostRuntime) -> Result<(), Fail> {
         ("-(n:5-)", 4),
         ("+price:5-3", 7),
     ];
-    assert!(rt; are_faults(rt.alloc(), ROWS)?);
-    Ok(())
+    expect_yes(are_faults(rt.alloc(), ROWS))
 }
 
 #[test]
@@ -546,8 +528,7 @@ fn numbers_past_64_bits(rt: HostRuntime) -> Result<(), Fail> {
         ("price:[-9223372036854775809 TO 1]", 6),
         ("brand:é -n:[* TO 18446744073709551621]", 12),
     ];
-    assert!(rt; are_faults(rt.alloc(), ROWS)?);
-    Ok(())
+    expect_yes(are_faults(rt.alloc(), ROWS))
 }
 
 #[test]
@@ -565,8 +546,7 @@ fn ranges_wrong_for_a_number(rt: HostRuntime) -> Result<(), Fail> {
         ("(*:* n:[a TO b])", 7),
         (r#"brand:"é\"" -n:[1 TO "2 "]"#, 16),
     ];
-    assert!(rt; are_faults(rt.alloc(), ROWS)?);
-    Ok(())
+    expect_yes(are_faults(rt.alloc(), ROWS))
 }
 
 #[test]
@@ -580,8 +560,7 @@ fn ranges_wrong_for_a_facet(rt: HostRuntime) -> Result<(), Fail> {
         ("(color:[* TO b])", 7),
         ("*:* +(color:red -color:[é TO ü])", 23),
     ];
-    assert!(rt; are_faults(rt.alloc(), ROWS)?);
-    Ok(())
+    expect_yes(are_faults(rt.alloc(), ROWS))
 }
 
 // Behind a clause, a byte that is no space and no `)`: that byte.
@@ -602,8 +581,7 @@ fn bytes_behind_everything_or_a_group(rt: HostRuntime) -> Result<(), Fail> {
         ("((((((((*:*))))))))(", 19),
         ("-(*:* *:*é)", 9),
     ];
-    assert!(rt; are_faults(rt.alloc(), ROWS)?);
-    Ok(())
+    expect_yes(are_faults(rt.alloc(), ROWS))
 }
 
 #[test]
@@ -627,8 +605,7 @@ fn bytes_behind_a_value(rt: HostRuntime) -> Result<(), Fail> {
         ("*:* price:-5(", 12),
         ("((n:5[", 5),
     ];
-    assert!(rt; are_faults(rt.alloc(), ROWS)?);
-    Ok(())
+    expect_yes(are_faults(rt.alloc(), ROWS))
 }
 
 // The end of the text with a group open, just behind a sign, or without any clause: the text's length.
@@ -645,8 +622,7 @@ fn texts_that_end_too_early(rt: HostRuntime) -> Result<(), Fail> {
         (r#"brand:"é\\" +"#, 14),
         ("*:* (brand:a -(title:b) +", 25),
     ];
-    assert!(rt; are_faults(rt.alloc(), ROWS)?);
-    Ok(())
+    expect_yes(are_faults(rt.alloc(), ROWS))
 }
 
 #[test]
@@ -666,8 +642,7 @@ fn groups_that_stay_open(rt: HostRuntime) -> Result<(), Fail> {
         ("((((((((", 8),
         ("((((((((*:*)))))))", 18),
     ];
-    assert!(rt; are_faults(rt.alloc(), ROWS)?);
-    Ok(())
+    expect_yes(are_faults(rt.alloc(), ROWS))
 }
 
 // Texts that are queries.
@@ -694,8 +669,7 @@ fn values_that_look_faulty(rt: HostRuntime) -> Result<(), Fail> {
         "title:+5",
         "title:É*",
     ];
-    assert!(rt; are_queries(rt.alloc(), ROWS)?);
-    Ok(())
+    expect_yes(are_queries(rt.alloc(), ROWS))
 }
 
 #[test]
@@ -718,8 +692,7 @@ fn numbers_and_ranges_that_look_faulty(rt: HostRuntime) -> Result<(), Fail> {
         r#"brand:["]" TO " TO "]"#,
         "brand:[- TO +]",
     ];
-    assert!(rt; are_queries(rt.alloc(), ROWS)?);
-    Ok(())
+    expect_yes(are_queries(rt.alloc(), ROWS))
 }
 
 #[test]
@@ -735,8 +708,7 @@ fn clauses_that_look_faulty(rt: HostRuntime) -> Result<(), Fail> {
         "( ( ( ( ( ( ( ( *:* ) ) ) ) ) ) ) )",
         "(((((((+(*:*) -(*:*) (*:*))))))))",
     ];
-    assert!(rt; are_queries(rt.alloc(), ROWS)?);
-    Ok(())
+    expect_yes(are_queries(rt.alloc(), ROWS))
 }
 
 #[test]
@@ -749,8 +721,7 @@ fn sixty_four_clauses(rt: HostRuntime) -> Result<(), Fail> {
         ("", ("(brand:é)", 31), "*:* *:*"),
         ("", ("(brand:é)", 31), "-(  -*:*)  "),
     ];
-    assert!(rt; are_long_queries(rt.alloc(), ROWS)?);
-    Ok(())
+    expect_yes(are_long_queries(rt.alloc(), ROWS))
 }
 
 // Each rule once more.
@@ -769,6 +740,5 @@ fn each_rule_once(rt: HostRuntime) -> Result<(), Fail> {
         ("(brand:a", 8),
         ("+", 1),
     ];
-    assert!(rt; are_faults(rt.alloc(), ROWS)?);
-    Ok(())
+    expect_yes(are_faults(rt.alloc(), ROWS))
 }

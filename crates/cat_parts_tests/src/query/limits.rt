@@ -1,4 +1,5 @@
 //! Queries at their limits, and escaped values: which items they accept.
+use crate::verdict::{expect, expect_yes};
 use cat_base::{MAX_CLAUSES, MAX_DEPTH, Refusal};
 use cat_items::Schema;
 use cat_query::Query;
@@ -47,8 +48,7 @@ fn as_many_clauses_as_may_are_all_asked(rt: HostRuntime) -> Result<(), Fail> {
         && !accepts_many(alloc, "price:8 ", "price:9")?
         && accepts_many(alloc, "+price:7 ", "+title:garden")?
         && !accepts_many(alloc, "+price:7 ", "-title:garden")?;
-    assert!(rt; are_asked && has_one_too_many(alloc, 512)?);
-    Ok(())
+    expect(are_asked && has_one_too_many(alloc, 512)?)
 }
 
 /// A clause within so many groups.
@@ -94,6 +94,5 @@ fn escaped_values_are_what_they_stand_for(rt: HostRuntime) -> Result<(), Fail> {
         (r#"color:"\\\\""#, false),
         (r#"price:"007""#, true),
     ];
-    assert!(rt; accept_so(rt.alloc(), ROWS)?);
-    Ok(())
+    expect_yes(accept_so(rt.alloc(), ROWS))
 }

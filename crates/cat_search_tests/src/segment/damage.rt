@@ -1,5 +1,6 @@
 //! Files of segments that keep each rule of the format but one, and files that reach the limits of the rules.
 use crate::segment::bytes::{Parts, file_of, file_with, is_damaged, is_exact};
+use crate::verdict::{expect, expect_yes};
 use cat_base::Refusal;
 use std::alloc::Global;
 use std::test::Fail;
@@ -62,8 +63,7 @@ fn are_right(alloc: Global, index: usize, parts: Parts<'_>) -> Result<bool, Refu
 #[test]
 fn the_file_itself_is_a_segment(rt: HostRuntime) -> Result<(), Fail> {
     let bytes = file_of(rt.alloc(), FILE)?;
-    assert!(rt; is_exact(rt.alloc(), &bytes)?);
-    Ok(())
+    expect_yes(is_exact(rt.alloc(), &bytes))
 }
 
 #[test]
@@ -71,8 +71,7 @@ fn other_magic_words_and_versions_are_damaged(rt: HostRuntime) -> Result<(), Fai
     const WORDS: Parts<'static> = &[b"CSEH", b"cseg", b"CSGM", b"CLIV"];
     const VERSIONS: Parts<'static> = &[b"\0", b"\x02", b"\xff"];
     let alloc = rt.alloc();
-    assert!(rt; are_wrong(alloc, MAGIC, WORDS)? && are_wrong(alloc, VERSION, VERSIONS)?);
-    Ok(())
+    expect(are_wrong(alloc, MAGIC, WORDS)? && are_wrong(alloc, VERSION, VERSIONS)?)
 }
 
 #[test]
@@ -80,16 +79,14 @@ fn numbers_of_segments_are_those_of_names(rt: HostRuntime) -> Result<(), Fail> {
     const WRONG: Parts<'static> = &[b"\0\0\0\0\0\0\0\0", b"\x80\0\0\0\0\0\0\0"];
     const RIGHT: Parts<'static> = &[b"\x7f\xff\xff\xff\xff\xff\xff\xff"];
     let alloc = rt.alloc();
-    assert!(rt; are_wrong(alloc, NUMBER, WRONG)? && are_right(alloc, NUMBER, RIGHT)?);
-    Ok(())
+    expect(are_wrong(alloc, NUMBER, WRONG)? && are_right(alloc, NUMBER, RIGHT)?)
 }
 
 #[test]
 fn as_many_rows_stand_there_as_are_told(rt: HostRuntime) -> Result<(), Fail> {
     // None, one less, one more, and one more than a segment may have.
     const WRONG: Parts<'static> = &[b"\0\0\0\0", b"\0\0\0\x01", b"\0\0\0\x03", b"\0\x04\0\x01"];
-    assert!(rt; are_wrong(rt.alloc(), COUNT, WRONG)?);
-    Ok(())
+    expect_yes(are_wrong(rt.alloc(), COUNT, WRONG))
 }
 
 #[test]
@@ -110,8 +107,7 @@ fn fields_rise_and_have_names_and_kinds(rt: HostRuntime) -> Result<(), Fail> {
         b"\0\0\0\x03\0\0\0\x05brand\x02\0\0\0\x05color\x04\0\0\0\x05price\x03",
         b"\0\0\0\x05\0\0\0\x05brand\x02\0\0\0\x05color\x04\0\0\0\x05price\x03\0\0\0\x05title\x01\0\0\0\x01w\x01",
     ];
-    assert!(rt; are_wrong(rt.alloc(), FIELDS, WRONG)?);
-    Ok(())
+    expect_yes(are_wrong(rt.alloc(), FIELDS, WRONG))
 }
 
 #[test]
@@ -126,8 +122,7 @@ fn numbers_of_rows_rise_from_one(rt: HostRuntime) -> Result<(), Fail> {
         b"\0\0\0\0\0\0\0\x01\0\0\0\x01a\0\0\0\x24\x7f\xff\xff\xff\xff\xff\xff\xff\0\0\0\x01b\0\0\0\x28",
     ];
     let alloc = rt.alloc();
-    assert!(rt; are_wrong(alloc, ROWS, WRONG)? && are_right(alloc, ROWS, RIGHT)?);
-    Ok(())
+    expect(are_wrong(alloc, ROWS, WRONG)? && are_right(alloc, ROWS, RIGHT)?)
 }
 
 #[test]
@@ -146,8 +141,7 @@ fn ids_of_rows_differ_and_are_ids(rt: HostRuntime) -> Result<(), Fail> {
         b"\0\0\0\0\0\0\0\x01\0\0\0\x01~\0\0\0\x24\0\0\0\0\0\0\0\x02\0\0\0\x01!\0\0\0\x28",
     ];
     let alloc = rt.alloc();
-    assert!(rt; are_wrong(alloc, ROWS, WRONG)? && are_right(alloc, ROWS, RIGHT)?);
-    Ok(())
+    expect(are_wrong(alloc, ROWS, WRONG)? && are_right(alloc, ROWS, RIGHT)?)
 }
 
 #[test]
@@ -160,8 +154,7 @@ fn texts_of_rows_have_one_to_8192_bytes(rt: HostRuntime) -> Result<(), Fail> {
         b"\0\0\0\0\0\0\0\x01\0\0\0\x01a\0\0\0\x01\0\0\0\0\0\0\0\x02\0\0\0\x01b\0\0\x20\0",
     ];
     let alloc = rt.alloc();
-    assert!(rt; are_wrong(alloc, ROWS, WRONG)? && are_right(alloc, ROWS, RIGHT)?);
-    Ok(())
+    expect(are_wrong(alloc, ROWS, WRONG)? && are_right(alloc, ROWS, RIGHT)?)
 }
 
 #[test]
@@ -183,8 +176,7 @@ fn keywords_rise_and_are_used(rt: HostRuntime) -> Result<(), Fail> {
         b"\0\0\0\x02\0\0\0\x04acme\0\0\0\x03ze\x7f\0\0\0\x02\0\0\0\x01",
         b"\0\0\0\x02\0\0\0\x04acme\0\0\0\x03ze\xff\0\0\0\x02\0\0\0\x01",
     ];
-    assert!(rt; are_wrong(rt.alloc(), BRANDS, WRONG)?);
-    Ok(())
+    expect_yes(are_wrong(rt.alloc(), BRANDS, WRONG))
 }
 
 #[test]
@@ -194,8 +186,7 @@ fn keywords_may_be_empty_or_missing(rt: HostRuntime) -> Result<(), Fail> {
         b"\0\0\0\x01\0\0\0\x03zed\0\0\0\0\0\0\0\x01",
         b"\0\0\0\0\0\0\0\0\0\0\0\0",
     ];
-    assert!(rt; are_right(rt.alloc(), BRANDS, RIGHT)?);
-    Ok(())
+    expect_yes(are_right(rt.alloc(), BRANDS, RIGHT))
 }
 
 #[test]
@@ -224,8 +215,7 @@ fn labels_rise_and_are_used(rt: HostRuntime) -> Result<(), Fail> {
         b"\0\0\0\0\0\0\0\0\0\0\0\0",
     ];
     let alloc = rt.alloc();
-    assert!(rt; are_wrong(alloc, COLORS, WRONG)? && are_right(alloc, COLORS, RIGHT)?);
-    Ok(())
+    expect(are_wrong(alloc, COLORS, WRONG)? && are_right(alloc, COLORS, RIGHT)?)
 }
 
 #[test]
@@ -242,8 +232,7 @@ fn numbers_are_there_or_not(rt: HostRuntime) -> Result<(), Fail> {
         b"\x01\x80\0\0\0\0\0\0\0\x01\x7f\xff\xff\xff\xff\xff\xff\xff",
     ];
     let alloc = rt.alloc();
-    assert!(rt; are_wrong(alloc, PRICES, WRONG)? && are_right(alloc, PRICES, RIGHT)?);
-    Ok(())
+    expect(are_wrong(alloc, PRICES, WRONG)? && are_right(alloc, PRICES, RIGHT)?)
 }
 
 #[test]
@@ -266,8 +255,7 @@ fn words_rise_and_are_words(rt: HostRuntime) -> Result<(), Fail> {
         b"\0\0\0\x01\0\0\0\x03\xc3\x891\0\0\0\x01\0\0\0\0",
     ];
     let alloc = rt.alloc();
-    assert!(rt; are_wrong(alloc, TITLES, WRONG)? && are_right(alloc, TITLES, RIGHT)?);
-    Ok(())
+    expect(are_wrong(alloc, TITLES, WRONG)? && are_right(alloc, TITLES, RIGHT)?)
 }
 
 #[test]
@@ -281,6 +269,5 @@ fn rows_of_words_rise_and_are_there(rt: HostRuntime) -> Result<(), Fail> {
         // There is no third row.
         b"\0\0\0\x02\0\0\0\x04boot\0\0\0\x01\0\0\0\x02\0\0\0\x04shoe\0\0\0\x02\0\0\0\0\0\0\0\x01",
     ];
-    assert!(rt; are_wrong(rt.alloc(), TITLES, WRONG)?);
-    Ok(())
+    expect_yes(are_wrong(rt.alloc(), TITLES, WRONG))
 }

@@ -4,6 +4,7 @@ ghost use Rattle.std.specs.Prelude.{◌≡◌};
 
 use crate::segment::bytes::{Parts, are_fronts_damaged, file_of, is_damaged, is_exact, rewritten};
 use crate::segment::made::made_of_texts;
+use crate::verdict::{expect, expect_yes};
 use cat_base::Refusal;
 use cat_segment::{Segment, decode_seg, encode_seg};
 use std::alloc::{AllocError, Global};
@@ -54,8 +55,7 @@ fn a_segment_has_these_bytes(rt: HostRuntime) -> Result<(), Fail> {
     const TEXT: &str = r#"{"id":"a","price":5,"color":["red"]}"#;
     let segment = made_of_texts(rt.alloc(), FIELDS, &[TEXT])?;
     let bytes = file_of(rt.alloc(), SEGMENT)?;
-    assert!(rt; has_bytes(rt.alloc(), &segment, &bytes)?);
-    Ok(())
+    expect_yes(has_bytes(rt.alloc(), &segment, &bytes))
 }
 
 /// Whether it is segment 1, of one row with the id `a`.
@@ -70,8 +70,7 @@ fn is_of_one_row(segment: &Segment) -> bool {
 fn these_bytes_have_a_segment(rt: HostRuntime) -> Result<(), Fail> {
     let bytes = file_of(rt.alloc(), SEGMENT)?;
     let segment = decode_seg(rt.alloc(), &bytes)?;
-    assert!(rt; is_exact(rt.alloc(), &bytes)? && is_of_one_row(&segment));
-    Ok(())
+    expect(is_exact(rt.alloc(), &bytes)? && is_of_one_row(&segment))
 }
 
 #[test]
@@ -79,8 +78,7 @@ fn a_front_of_a_segment_is_damaged_and_so_is_a_byte_more(rt: HostRuntime) -> Res
     let mut bytes = file_of(rt.alloc(), SEGMENT)?;
     let are_damaged = are_fronts_damaged(rt.alloc(), &bytes);
     bytes.push(0)?;
-    assert!(rt; are_damaged && is_damaged(rt.alloc(), &bytes));
-    Ok(())
+    expect(are_damaged && is_damaged(rt.alloc(), &bytes))
 }
 
 /// Whether the bytes with any one turned are damaged, or those of another segment.
@@ -96,6 +94,5 @@ fn are_turned_so(alloc: Global, bytes: &[u8]) -> Result<bool, Refusal> {
 #[test]
 fn a_turned_byte_is_damaged_or_spells_another_segment(rt: HostRuntime) -> Result<(), Fail> {
     let bytes = file_of(rt.alloc(), SEGMENT)?;
-    assert!(rt; are_turned_so(rt.alloc(), &bytes)?);
-    Ok(())
+    expect_yes(are_turned_so(rt.alloc(), &bytes))
 }

@@ -2,6 +2,7 @@
 ghost use Rattle.std.specs.Prelude.{◌<◌};
 
 use crate::segment::bytes::{is_damaged, is_exact};
+use crate::verdict::{expect, expect_yes};
 use cat_base::{MAX_FIELDS, MAX_LABELS, Refusal, put_bytes, put_u32};
 use std::alloc::{AllocError, Global};
 use std::test::Fail;
@@ -34,8 +35,7 @@ fn ids_have_at_most_64_bytes(rt: HostRuntime) -> Result<(), Fail> {
         64,
         b"\0\0\0\x24",
     );
-    assert!(rt; is_limit(rt.alloc(), &ID)?);
-    Ok(())
+    expect_yes(is_limit(rt.alloc(), &ID))
 }
 
 #[test]
@@ -46,8 +46,7 @@ fn names_of_fields_have_at_most_32_bytes(rt: HostRuntime) -> Result<(), Fail> {
         32,
         b"\x03\0\0\0\0\0\0\0\x01\0\0\0\x01a\0\0\0\x24\0",
     );
-    assert!(rt; is_limit(rt.alloc(), &NAME)?);
-    Ok(())
+    expect_yes(is_limit(rt.alloc(), &NAME))
 }
 
 #[test]
@@ -58,8 +57,7 @@ fn keywords_have_at_most_128_bytes(rt: HostRuntime) -> Result<(), Fail> {
         128,
         b"\0\0\0\x01",
     );
-    assert!(rt; is_limit(rt.alloc(), &KEYWORD)?);
-    Ok(())
+    expect_yes(is_limit(rt.alloc(), &KEYWORD))
 }
 
 #[test]
@@ -70,8 +68,7 @@ fn labels_have_at_most_128_bytes(rt: HostRuntime) -> Result<(), Fail> {
         128,
         b"\0\0\0\x01\0\0\0\0",
     );
-    assert!(rt; is_limit(rt.alloc(), &LABEL)?);
-    Ok(())
+    expect_yes(is_limit(rt.alloc(), &LABEL))
 }
 
 /// Appends a text of two letters: those of greater numbers come later in byte order.
@@ -106,8 +103,7 @@ fn rows_have_at_most_64_labels(rt: HostRuntime) -> Result<(), Fail> {
     let most = file_with_labels(rt.alloc(), 64)?;
     let more = file_with_labels(rt.alloc(), 65)?;
     let is_most = MAX_LABELS == 64 && is_exact(rt.alloc(), &most)?;
-    assert!(rt; is_most && is_damaged(rt.alloc(), &more));
-    Ok(())
+    expect(is_most && is_damaged(rt.alloc(), &more))
 }
 
 /// Appends so many number fields.
@@ -140,6 +136,5 @@ fn are_fields(alloc: Global, count: u8) -> Result<bool, Refusal> {
 fn segments_have_at_most_32_fields(rt: HostRuntime) -> Result<(), Fail> {
     let more = file_with_fields(rt.alloc(), 33)?;
     let are_few = MAX_FIELDS == 32 && are_fields(rt.alloc(), 0)? && are_fields(rt.alloc(), 32)?;
-    assert!(rt; are_few && is_damaged(rt.alloc(), &more));
-    Ok(())
+    expect(are_few && is_damaged(rt.alloc(), &more))
 }

@@ -1,5 +1,6 @@
 //! The bytes of files of live rows: worked out by hand, with one rule broken, and at the limits of a segment.
 use crate::segment::bytes::{Parts, file_of, file_with};
+use crate::verdict::expect;
 use cat_base::{MAX_ROWS, Refusal, put_u32};
 use cat_segment::{Live, decode_liv, encode_liv};
 use std::alloc::{AllocError, Global};
@@ -92,8 +93,7 @@ fn is_written_so(live: &Live, bytes: &[u8]) -> Result<bool, AllocError> {
 fn live_rows_have_these_bytes(rt: HostRuntime) -> Result<(), Fail> {
     let bytes = file_of(rt.alloc(), LIVE)?;
     let live = ends_of_nine(rt.alloc())?;
-    assert!(rt; is_written_so(&live, &bytes)? && is_exact(rt.alloc(), &bytes)?);
-    Ok(())
+    expect(is_written_so(&live, &bytes)? && is_exact(rt.alloc(), &bytes)?)
 }
 
 /// Whether of nine rows just the first and the last are live.
@@ -104,8 +104,7 @@ fn are_ends(live: &Live) -> bool {
 #[test]
 fn these_bytes_have_live_rows(rt: HostRuntime) -> Result<(), Fail> {
     let read = decode_liv(rt.alloc(), &file_of(rt.alloc(), LIVE)?)?;
-    assert!(rt; read.number == 1 && read.generation == 2 && are_ends(&read.live));
-    Ok(())
+    expect(read.number == 1 && read.generation == 2 && are_ends(&read.live))
 }
 
 /// Whether no live rows are spelled by any front of the bytes.
@@ -123,8 +122,7 @@ fn a_front_of_live_rows_is_damaged_and_so_is_a_byte_more(rt: HostRuntime) -> Res
     let mut bytes = file_of(rt.alloc(), LIVE)?;
     let are_damaged = are_fronts_damaged(rt.alloc(), &bytes);
     bytes.push(0)?;
-    assert!(rt; are_damaged && is_damaged(rt.alloc(), &bytes));
-    Ok(())
+    expect(are_damaged && is_damaged(rt.alloc(), &bytes))
 }
 
 #[test]
@@ -132,8 +130,7 @@ fn other_magic_words_and_versions_are_no_live_rows(rt: HostRuntime) -> Result<()
     const WORDS: Parts<'static> = &[b"CLIW", b"cliv", b"CSEG"];
     const VERSIONS: Parts<'static> = &[b"\0", b"\x02"];
     let alloc = rt.alloc();
-    assert!(rt; are_wrong(alloc, MAGIC, WORDS)? && are_wrong(alloc, VERSION, VERSIONS)?);
-    Ok(())
+    expect(are_wrong(alloc, MAGIC, WORDS)? && are_wrong(alloc, VERSION, VERSIONS)?)
 }
 
 #[test]
@@ -143,8 +140,7 @@ fn live_rows_are_of_a_segment_and_a_commit(rt: HostRuntime) -> Result<(), Fail> 
     let alloc = rt.alloc();
     let is_segment = are_wrong(alloc, NUMBER, WRONG)? && are_right(alloc, NUMBER, RIGHT)?;
     let is_commit = are_wrong(alloc, GENERATION, WRONG)? && are_right(alloc, GENERATION, RIGHT)?;
-    assert!(rt; is_segment && is_commit);
-    Ok(())
+    expect(is_segment && is_commit)
 }
 
 #[test]
@@ -153,8 +149,7 @@ fn live_rows_have_a_bit_for_each_row(rt: HostRuntime) -> Result<(), Fail> {
     const WRONG: Parts<'static> = &[b"\0\0\0\x08", b"\0\0\0\x11"];
     const RIGHT: Parts<'static> = &[b"\0\0\0\x0a", b"\0\0\0\x10"];
     let alloc = rt.alloc();
-    assert!(rt; are_wrong(alloc, COUNT, WRONG)? && are_right(alloc, COUNT, RIGHT)?);
-    Ok(())
+    expect(are_wrong(alloc, COUNT, WRONG)? && are_right(alloc, COUNT, RIGHT)?)
 }
 
 #[test]
@@ -164,8 +159,7 @@ fn some_row_is_dead_and_none_lies_past_the_last(rt: HostRuntime) -> Result<(), F
     // All dead; all but the first, and all but the last live.
     const RIGHT: Parts<'static> = &[b"\0\0", b"\xfe\x01", b"\xff\0"];
     let alloc = rt.alloc();
-    assert!(rt; are_wrong(alloc, ROWS, WRONG)? && are_right(alloc, ROWS, RIGHT)?);
-    Ok(())
+    expect(are_wrong(alloc, ROWS, WRONG)? && are_right(alloc, ROWS, RIGHT)?)
 }
 
 /// The bytes as of a file where all of nine rows are live. No test of them takes memory, so they are damaged where none is left.
@@ -199,8 +193,7 @@ fn is_count(alloc: Global, count: u32) -> Result<bool, Refusal> {
 fn live_rows_are_as_many_as_those_of_a_segment(rt: HostRuntime) -> Result<(), Fail> {
     let alloc = rt.alloc();
     let are_some = is_no_count(alloc, 0)? && is_count(alloc, 1)?;
-    assert!(rt; are_some && is_count(alloc, 262_144)? && is_no_count(alloc, 262_145)?);
-    Ok(())
+    expect(are_some && is_count(alloc, 262_144)? && is_no_count(alloc, 262_145)?)
 }
 
 /// The live rows that are read of the bytes of those of a full segment whose last row is dead.
@@ -224,6 +217,5 @@ fn are_all_but_one(live: Option<&Live>) -> bool {
 #[test]
 fn a_full_segment_has_live_rows(rt: HostRuntime) -> Result<(), Fail> {
     let live = all_but_the_last(rt.alloc())?;
-    assert!(rt; are_all_but_one(live.as_ref()));
-    Ok(())
+    expect(are_all_but_one(live.as_ref()))
 }

@@ -7,6 +7,7 @@ ghost use Rattle.cat_model.specs.Layout.{IsLayout};
 use crate::segment::bytes::{Parts, file_of};
 use crate::segment::made::{FIELDS, made, made_of_texts};
 use crate::segment::thrown::{Dice, items};
+use crate::verdict::{expect, expect_yes};
 use cat_base::Refusal;
 use cat_items::file_parts::{SegmentParts, read_segment};
 use cat_items::{Item, Schema};
@@ -94,8 +95,7 @@ fn is_order(segment: &Segment, rows: &[u32]) -> bool {
 fn rows_stand_in_byte_order_of_their_ids(rt: HostRuntime) -> Result<(), Fail> {
     let odd = even_and_odd(rt.alloc())?;
     let rising = rising(rt.alloc())?;
-    assert!(rt; is_order(&odd, &[0, 2, 4, 1, 3, 5]) && is_order(&rising, &[0, 1, 2, 3, 4, 5]));
-    Ok(())
+    expect(is_order(&odd, &[0, 2, 4, 1, 3, 5]) && is_order(&rising, &[0, 1, 2, 3, 4, 5]))
 }
 
 /// Whether the rising rows are merged of one run of six and of two of three, and the others of three of two.
@@ -114,8 +114,7 @@ fn are_merged(alloc: Global, rising: &Segment, odd: &Segment) -> Result<bool, Re
 fn an_index_is_merged_of_runs(rt: HostRuntime) -> Result<(), Fail> {
     let rising = rising(rt.alloc())?;
     let odd = even_and_odd(rt.alloc())?;
-    assert!(rt; are_merged(rt.alloc(), &rising, &odd)?);
-    Ok(())
+    expect_yes(are_merged(rt.alloc(), &rising, &odd))
 }
 
 /// What the id of the row begins with: those of even rows come before those of odd ones.
@@ -158,8 +157,7 @@ fn an_index_of_a_thousand_ids_is_merged_of_two_runs(rt: HostRuntime) -> Result<(
     let schema = Schema::read(rt.alloc(), FIELDS)?;
     let odd = thousand_in_two_runs(rt.alloc(), &schema)?;
     let rising = thousand_in_one_run(rt.alloc(), &schema)?;
-    assert!(rt; is_merged(rt.alloc(), &rising, &odd)?);
-    Ok(())
+    expect_yes(is_merged(rt.alloc(), &rising, &odd))
 }
 
 /// Segment 1, without fields, of four rows with the ids `a`, `b`, `b` and `c`.
@@ -199,6 +197,5 @@ fn an_id_in_two_runs_is_damaged(rt: HostRuntime) -> Result<(), Fail> {
     let bytes = file_of(rt.alloc(), TWICE)?;
     let order = made_of_texts(rt.alloc(), FIELDS, ORDER)?;
     let is_sorted_damaged = is_damaged_sorted(rt.alloc(), &bytes)?;
-    assert!(rt; is_sorted_damaged && is_damaged_merged(rt.alloc(), &bytes, &order)?);
-    Ok(())
+    expect(is_sorted_damaged && is_damaged_merged(rt.alloc(), &bytes, &order)?)
 }

@@ -6,6 +6,7 @@ use crate::segment::bytes::is_exact;
 use crate::segment::made::{FIELDS, made, made_of_texts, read_items};
 use crate::segment::matched::rows_matched;
 use crate::segment::thrown::{Dice, items, query_text};
+use crate::verdict::{expect, expect_yes};
 use cat_base::{MAX_ROWS, Refusal};
 use cat_items::{Item, Schema};
 use cat_segment::cat_columns::SetColumn;
@@ -60,8 +61,7 @@ fn queries_match_rows_by_labels(rt: HostRuntime) -> Result<(), Fail> {
         ("color:green", &[]),
         ("price:[* TO *]", &[]),
     ];
-    assert!(rt; are_rows_of(rt.alloc(), COLORED, ROWS)?);
-    Ok(())
+    expect_yes(are_rows_of(rt.alloc(), COLORED, ROWS))
 }
 
 #[test]
@@ -81,8 +81,7 @@ fn queries_match_rows_by_numbers(rt: HostRuntime) -> Result<(), Fail> {
         ("(-brand:y)", &[]),
         ("*:* -price:[* TO *]", &[1]),
     ];
-    assert!(rt; are_rows_of(rt.alloc(), TEXTS, ROWS)?);
-    Ok(())
+    expect_yes(are_rows_of(rt.alloc(), TEXTS, ROWS))
 }
 
 #[test]
@@ -101,8 +100,7 @@ fn queries_match_rows_by_words_and_keywords(rt: HostRuntime) -> Result<(), Fail>
         ("brand:Z*", &[1]),
         ("brand:zed", &[]),
     ];
-    assert!(rt; are_rows_of(rt.alloc(), TEXTS, ROWS)?);
-    Ok(())
+    expect_yes(are_rows_of(rt.alloc(), TEXTS, ROWS))
 }
 
 /// The ordinals of the row's labels; none where there is no such row.
@@ -149,8 +147,7 @@ fn labels_have_ordinals_in_byte_order(rt: HostRuntime) -> Result<(), Fail> {
     const ROWS: &[&[u32]] = &[&[0, 1], &[1], &[0], &[]];
     let segment = made_of_texts(rt.alloc(), FIELDS, COLORED)?;
     let has_colors = is_facet(segment.column("color"), &["blue", "red"], ROWS);
-    assert!(rt; has_colors && segment.column("size").is_none());
-    Ok(())
+    expect(has_colors && segment.column("size").is_none())
 }
 
 /// How many rows match a thrown query, and `None` unless they are those of the items that it accepts.
@@ -216,8 +213,7 @@ fn agree_at_each(alloc: Global, sizes: &[usize]) -> Result<bool, Refusal> {
 #[test]
 fn sets_agree_with_items(rt: HostRuntime) -> Result<(), Fail> {
     const SIZES: &[usize] = &[1, 63, 64, 65, 128, 1_000, 5_000];
-    assert!(rt; agree_at_each(rt.alloc(), SIZES)?);
-    Ok(())
+    expect_yes(agree_at_each(rt.alloc(), SIZES))
 }
 
 /// The bytes of the segment of the items.
@@ -253,12 +249,10 @@ fn a_segment_is_read_as_it_was_written(rt: HostRuntime) -> Result<(), Fail> {
     let alloc = rt.alloc();
     let are_few_read = is_read_again(alloc, 1, 1)? && is_read_again(alloc, 2, 65)?;
     let are_many_read = is_read_again(alloc, 3, 1_000)? && is_read_again(alloc, 4, 5_000)?;
-    assert!(rt; are_few_read && are_many_read);
-    Ok(())
+    expect(are_few_read && are_many_read)
 }
 
 #[test]
 fn a_full_segment_is_read_as_it_was_written(rt: HostRuntime) -> Result<(), Fail> {
-    assert!(rt; is_read_again(rt.alloc(), 5, MAX_ROWS)?);
-    Ok(())
+    expect_yes(is_read_again(rt.alloc(), 5, MAX_ROWS))
 }

@@ -3,6 +3,7 @@
 ghost use Rattle.std.specs.Prelude.{◌≡◌, ◌≢◌, ◌<◌, true, IfOk, All, AllPairs};
 ghost use Rattle.cat_model.specs.Item.{IsItem};
 
+use crate::verdict::{expect, expect_yes};
 use crate::views::making::{PutText, are_in_order, read_put, read_puts, view_of};
 use crate::views::put::Put;
 use cat_base::{Refusal, SegNo, WriteNo};
@@ -181,8 +182,7 @@ const PRICED: &[PutText<'static>] = &[
 fn a_page_shows_the_key_that_it_is_sorted_by(rt: HostRuntime) -> Result<(), Fail> {
     const ROWS: &[PutText<'static>] = &[(1, true, r#"{"id":"a","price":5,"color":["red"]}"#)];
     const FINDS: &[FindText<'static>] = &[(10, "+price", None, "*:*", "1 of 1: 1 a 5")];
-    assert!(rt; are_found(rt.alloc(), ROWS, &[1], FINDS)?);
-    Ok(())
+    expect_yes(are_found(rt.alloc(), ROWS, &[1], FINDS))
 }
 
 #[test]
@@ -209,8 +209,7 @@ fn ties_go_by_number_and_a_missing_value_is_last(rt: HostRuntime) -> Result<(), 
         (9, "+id", None, "*:*", "NO 28"),
         (9, "+size", None, "*:*", "NO 28"),
     ];
-    assert!(rt; are_found(rt.alloc(), PRICED, &[1, 3, 6], FINDS)?);
-    Ok(())
+    expect_yes(are_found(rt.alloc(), PRICED, &[1, 3, 6], FINDS))
 }
 
 #[test]
@@ -225,8 +224,7 @@ fn a_mark_is_any_record_and_the_total_counts_all(rt: HostRuntime) -> Result<(), 
         (9, ".", Some(5), "*:*", "NO 23"),
         (9, "+price", Some(6), "*:*", "NO 23"),
     ];
-    assert!(rt; are_found(rt.alloc(), PRICED, &[3, 4, 6], FINDS)?);
-    Ok(())
+    expect_yes(are_found(rt.alloc(), PRICED, &[3, 4, 6], FINDS))
 }
 
 /// The four items under ten times their numbers, each but one behind an older row of its id.
@@ -270,8 +268,7 @@ fn an_older_row_of_an_id_is_not_shown(rt: HostRuntime) -> Result<(), Fail> {
         (1_001, "+title", Some(3), "*:*", "NO 25"),
         (9, "+title", Some(3), "*:*", "NO 28"),
     ];
-    assert!(rt; are_found(rt.alloc(), REPLACED, &[1, 3, 6, 7], FINDS)?);
-    Ok(())
+    expect_yes(are_found(rt.alloc(), REPLACED, &[1, 3, 6, 7], FINDS))
 }
 
 /// Ids of 39, 40, 41 and 64 bytes: a page holds the first two in its entries, and the others in memory of their own.
@@ -316,8 +313,7 @@ fn long_ids_are_shown_as_short_ones_are(rt: HostRuntime) -> Result<(), Fail> {
             "4 of 4: 4 dddddddddddddddddddddddddddddddddddddddddddddddddddddddddddddddd 6, 3 ccccccccccccccccccccccccccccccccccccccccc 7, 2 bbbbbbbbbbbbbbbbbbbbbbbbbbbbbbbbbbbbbbbb 8, 1 aaaaaaaaaaaaaaaaaaaaaaaaaaaaaaaaaaaaaaa 9",
         ),
     ];
-    assert!(rt; are_found(rt.alloc(), LONG_IDS, &[3, 4], FINDS)?);
-    Ok(())
+    expect_yes(are_found(rt.alloc(), LONG_IDS, &[3, 4], FINDS))
 }
 
 #[test]
@@ -342,8 +338,7 @@ fn words_are_lowered_and_kept_whole(rt: HostRuntime) -> Result<(), Fail> {
         (9, ".", None, "+brand:[B TO *] title:red", "1 of 1: 2 b ."),
         (9, "-brand", None, "*:*", "2 of 2: 2 b =Zed, 1 a =Acme"),
     ];
-    assert!(rt; are_found(rt.alloc(), ROWS, &[1, 3], FINDS)?);
-    Ok(())
+    expect_yes(are_found(rt.alloc(), ROWS, &[1, 3], FINDS))
 }
 
 #[test]
@@ -360,8 +355,7 @@ fn clauses_are_musts_must_nots_and_shoulds(rt: HostRuntime) -> Result<(), Fail> 
         (9, ".", None, "price:[3 TO -3]", "0 of 0"),
         (9, "+price", None, "*:*", "2 of 2: 1 a -3, 2 b ."),
     ];
-    assert!(rt; are_found(rt.alloc(), ROWS, &[1, 2, 3], FINDS)?);
-    Ok(())
+    expect_yes(are_found(rt.alloc(), ROWS, &[1, 2, 3], FINDS))
 }
 
 #[test]
@@ -373,8 +367,7 @@ fn a_query_may_have_64_clauses_and_8_groups(rt: HostRuntime) -> Result<(), Fail>
         (9, ".", None, most.as_str(), "1 of 1: 1 a ."),
         (9, ".", None, "((((((((*:*))))))))", "1 of 1: 1 a ."),
     ];
-    assert!(rt; are_found(alloc, ROWS, &[2], finds)?);
-    Ok(())
+    expect_yes(are_found(alloc, ROWS, &[2], finds))
 }
 
 #[test]
@@ -387,8 +380,7 @@ fn a_view_without_rows_shows_nothing(rt: HostRuntime) -> Result<(), Fail> {
         (9, "+price", Some(5), "*:*", "NO 23"),
     ];
     let alloc = rt.alloc();
-    assert!(rt; are_found(alloc, &[], &[], FINDS)? && are_found(alloc, KILLED, &[1], FINDS)?);
-    Ok(())
+    expect(are_found(alloc, &[], &[], FINDS)? && are_found(alloc, KILLED, &[1], FINDS)?)
 }
 
 #[test]
@@ -408,8 +400,7 @@ fn each_view_shows_the_rows_that_it_has_live(rt: HostRuntime) -> Result<(), Fail
     let in_each = are_found(alloc, SECOND, &[2], IN_SECOND)?
         && are_found(alloc, THIRD, &[2], IN_THIRD)?
         && are_found(alloc, FIFTH, &[2, 4], IN_FIFTH)?;
-    assert!(rt; in_each);
-    Ok(())
+    expect(in_each)
 }
 
 #[test]
@@ -426,8 +417,7 @@ fn a_page_shows_the_first_hits_and_counts_all(rt: HostRuntime) -> Result<(), Fai
         (1_000, ".", None, "*:*", "3 of 3: 1 a ., 2 b ., 3 c ."),
         (1_001, ".", None, "*:*", "NO 25"),
     ];
-    assert!(rt; are_found(rt.alloc(), ROWS, &[1, 3], FINDS)?);
-    Ok(())
+    expect_yes(are_found(rt.alloc(), ROWS, &[1, 3], FINDS))
 }
 
 /// How many rows the long pages are of, which have the prices from 0 on, each once.
@@ -561,14 +551,12 @@ fn have_thousand(alloc: Global, falling: bool) -> Result<bool, Refusal> {
 
 #[test]
 fn a_page_by_rising_price_has_a_thousand_hits_and_no_more(rt: HostRuntime) -> Result<(), Fail> {
-    assert!(rt; have_thousand(rt.alloc(), false)?);
-    Ok(())
+    expect_yes(have_thousand(rt.alloc(), false))
 }
 
 #[test]
 fn a_page_by_falling_price_has_a_thousand_hits_and_no_more(rt: HostRuntime) -> Result<(), Fail> {
-    assert!(rt; have_thousand(rt.alloc(), true)?);
-    Ok(())
+    expect_yes(have_thousand(rt.alloc(), true))
 }
 
 /// The view of the four items and of two that were killed, in three segments.
@@ -591,8 +579,7 @@ fn names_text(alloc: Global, names: &[FileName]) -> Result<String, Refusal> {
 fn a_view_needs_two_files_of_each_segment(rt: HostRuntime) -> Result<(), Fail> {
     let view = priced_view(rt.alloc())?;
     let names = names_text(rt.alloc(), &view.files(rt.alloc())?)?;
-    assert!(rt; names.as_str() == "_1.seg _1.sto _2.seg _2.sto _3.seg _3.sto ");
-    Ok(())
+    expect(names.as_str() == "_1.seg _1.sto _2.seg _2.sto _3.seg _3.sto ")
 }
 
 /// Puts the texts into the file of a segment's sources, one behind the other.
@@ -681,8 +668,7 @@ fn a_view_gives_the_texts_of_live_ids(rt: HostRuntime) -> Result<(), Fail> {
     let view = priced_view(alloc)?;
     let mut files = MemoryDirectory::new(alloc);
     let are_given = gives_texts(alloc, &view, &mut files)?;
-    assert!(rt; are_given && is_damaged_by(alloc, &view, &mut files, C_CUT)?);
-    Ok(())
+    expect(are_given && is_damaged_by(alloc, &view, &mut files, C_CUT)?)
 }
 
 /// Whether each text that somebody broke into lines is damaged.
@@ -713,6 +699,5 @@ fn a_text_with_a_line_feed_is_damaged(rt: HostRuntime) -> Result<(), Fail> {
     let view = priced_view(alloc)?;
     let mut files = MemoryDirectory::new(alloc);
     let are_broken = are_broken(alloc, &view, &mut files)?;
-    assert!(rt; are_broken && is_given_behind(alloc, &view, &mut files)?);
-    Ok(())
+    expect(are_broken && is_given_behind(alloc, &view, &mut files)?)
 }

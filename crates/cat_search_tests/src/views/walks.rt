@@ -3,6 +3,7 @@
 ghost use Rattle.std.specs.Prelude.{◌≡◌, ◌≢◌, ◌<◌, true, IfOk, All, AllPairs};
 ghost use Rattle.cat_model.specs.Item.{IsItem};
 
+use crate::verdict::expect_yes;
 use crate::views::making::{are_in_order, read_put, view_of};
 use crate::views::put::Put;
 use crate::views::views::{FIELDS, shown_by_records, shown_by_view};
@@ -188,30 +189,25 @@ fn walks_agree(alloc: Global, rows: Rows) -> Result<bool, Refusal> {
 
 #[test]
 fn many_rows_of_one_number_go_by_their_numbers(rt: HostRuntime) -> Result<(), Fail> {
-    assert!(rt; walks_agree(rt.alloc(), Rows::Tied)?);
-    Ok(())
+    expect_yes(walks_agree(rt.alloc(), Rows::Tied))
 }
 
 #[test]
 fn numbers_stand_at_the_ends_of_the_integers(rt: HostRuntime) -> Result<(), Fail> {
-    assert!(rt; walks_agree(rt.alloc(), Rows::AtTheEnds)?);
-    Ok(())
+    expect_yes(walks_agree(rt.alloc(), Rows::AtTheEnds))
 }
 
 #[test]
 fn rows_without_numbers_go_by_their_numbers(rt: HostRuntime) -> Result<(), Fail> {
-    assert!(rt; walks_agree(rt.alloc(), Rows::Missing)?);
-    Ok(())
+    expect_yes(walks_agree(rt.alloc(), Rows::Missing))
 }
 
 #[test]
 fn dead_rows_are_passed_and_are_no_marks(rt: HostRuntime) -> Result<(), Fail> {
-    assert!(rt; walks_agree(rt.alloc(), Rows::Thinned)?);
-    Ok(())
+    expect_yes(walks_agree(rt.alloc(), Rows::Thinned))
 }
 
 #[test]
 fn of_dead_rows_alone_none_is_shown(rt: HostRuntime) -> Result<(), Fail> {
-    assert!(rt; walks_agree(rt.alloc(), Rows::Dead)?);
-    Ok(())
+    expect_yes(walks_agree(rt.alloc(), Rows::Dead))
 }

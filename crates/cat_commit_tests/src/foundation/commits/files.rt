@@ -1,4 +1,5 @@
 //! The bytes of commits, of both versions, that a person worked out.
+use crate::verdict::{expect, expect_yes};
 use cat_base::Refusal;
 use cat_check::cat_commits::{Commit, Version, commit_text_ok, judge_commit_text};
 use std::alloc::{AllocError, Global};
@@ -144,8 +145,7 @@ fn are_files(alloc: Global, files: &[File<'_>]) -> Result<bool, Refusal> {
 
 #[test]
 fn files_say_what_their_bytes_say(rt: HostRuntime) -> Result<(), Fail> {
-    assert!(rt; are_files(rt.alloc(), FILES)?);
-    Ok(())
+    expect_yes(are_files(rt.alloc(), FILES))
 }
 
 /// Whether all beginnings of the bytes are refused as damaged.
@@ -187,8 +187,7 @@ fn counts_every_byte(alloc: Global, bytes: &[u8]) -> Result<bool, Refusal> {
 
 #[test]
 fn every_byte_counts(rt: HostRuntime) -> Result<(), Fail> {
-    assert!(rt; counts_every_byte(rt.alloc(), FIRST)? && counts_every_byte(rt.alloc(), SECOND)?);
-    Ok(())
+    expect(counts_every_byte(rt.alloc(), FIRST)? && counts_every_byte(rt.alloc(), SECOND)?)
 }
 
 /// Whether a text may be a commit's.

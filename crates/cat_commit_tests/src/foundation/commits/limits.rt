@@ -1,5 +1,6 @@
 //! Files at the limits, and just past them.
 use crate::foundation::commits::files::is_commit;
+use crate::verdict::expect;
 use cat_base::{MAX_SEGMENTS, Refusal, put_bytes, put_u32, put_u64};
 use cat_check::cat_commits::{commit_text_ok, judge_commit_text};
 use std::alloc::{AllocError, Global};
@@ -165,8 +166,7 @@ fn all_fit(alloc: Global, table: &[Said<'_>], want: bool) -> Result<bool, Refusa
 
 #[test]
 fn numbers_fit(rt: HostRuntime) -> Result<(), Fail> {
-    assert!(rt; all_fit(rt.alloc(), FIT, true)? && all_fit(rt.alloc(), MISFIT, false)?);
-    Ok(())
+    expect(all_fit(rt.alloc(), FIT, true)? && all_fit(rt.alloc(), MISFIT, false)?)
 }
 
 /// A text of so many letters.
@@ -221,6 +221,5 @@ fn a_text_has_256_bytes_and_a_commit_65536_segments_at_most(rt: HostRuntime) -> 
     let alloc = rt.alloc();
     let texts = is_judged(alloc, 256, Ok(()))? && is_judged(alloc, 257, Err(Refusal::Large))?;
     let segments = many_fit(alloc, MAX_SEGMENTS)? && !many_fit(alloc, MAX_SEGMENTS + 1)?;
-    assert!(rt; texts && segments);
-    Ok(())
+    expect(texts && segments)
 }

@@ -1,4 +1,5 @@
 //! Which commits are kept, and snapshots.
+use crate::verdict::expect;
 use cat_base::{Generation, MAX_SNAPSHOTS, Refusal};
 use cat_check::cat_commits::{KeepLast, Snapshots};
 use std::alloc::{AllocError, Global};
@@ -111,6 +112,5 @@ fn are_answered_anew(alloc: Global, calls: &[Call<'_>]) -> Result<bool, AllocErr
 fn snapshots_are_counted_and_their_commits_kept(rt: HostRuntime) -> Result<(), Fail> {
     let alloc = rt.alloc();
     let are_kept = are_answered_anew(alloc, KEPT)? && are_answered_anew(alloc, COUNTED)?;
-    assert!(rt; are_kept && are_answered_anew(alloc, FILLED)?);
-    Ok(())
+    expect(are_kept && are_answered_anew(alloc, FILLED)?)
 }

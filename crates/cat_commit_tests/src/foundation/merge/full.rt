@@ -5,6 +5,7 @@ ghost use Rattle.cat_model.specs.Item.{IsItem};
 use crate::foundation::merge::rising::are_rising;
 use crate::foundation::merge::running::walked;
 use crate::foundation::merge::thrown::{FIELDS, Which, rising_puts};
+use crate::verdict::expect_yes;
 use cat_base::{MAX_ROWS, Refusal};
 use cat_items::Schema;
 use cat_merge::Merge;
@@ -87,6 +88,5 @@ fn a_full_segment_is_merged_of_64(rt: HostRuntime) -> Result<(), Fail> {
     let schema = Schema::read(rt.alloc(), FIELDS)?;
     let ends = ends_of(rt.alloc(), 64, MAX_ROWS / 64)?;
     let puts = in_order(rising_puts(rt.alloc(), &schema, MAX_ROWS as u64)?)?;
-    assert!(rt; is_merged_full(rt.alloc(), &schema, &puts, &ends)?);
-    Ok(())
+    expect_yes(is_merged_full(rt.alloc(), &schema, &puts, &ends))
 }

@@ -3,6 +3,7 @@ ghost use Rattle.std.specs.Prelude.{◌≡◌, ◌≢◌, ◌<◌, true, IfOk, A
 
 use crate::foundation::merge::running::is_merged;
 use crate::foundation::merge::thrown::{FIELDS, Which, thrown_puts};
+use crate::verdict::{expect, expect_yes};
 use cat_base::Refusal;
 use cat_items::Schema;
 use cat_search_tests::views::{Put, PutText, are_in_order, read_puts};
@@ -58,8 +59,7 @@ fn live_rows_of_all_inputs_are_kept(rt: HostRuntime) -> Result<(), Fail> {
         // All rows with brands, labels and words of their own are dead.
         (60, &[30, 60], Which::Every(10), Which::None),
     ];
-    assert!(rt; are_merged(rt.alloc(), PLANS)?);
-    Ok(())
+    expect_yes(are_merged(rt.alloc(), PLANS))
 }
 
 #[test]
@@ -68,8 +68,7 @@ fn one_input_loses_its_dead_rows(rt: HostRuntime) -> Result<(), Fail> {
         (1, &[1], Which::None, Which::None),
         (20, &[20], Which::Every(3), Which::Every(5)),
     ];
-    assert!(rt; are_merged(rt.alloc(), PLANS)?);
-    Ok(())
+    expect_yes(are_merged(rt.alloc(), PLANS))
 }
 
 #[test]
@@ -82,8 +81,7 @@ fn inputs_without_a_live_row_leave_nothing(rt: HostRuntime) -> Result<(), Fail> 
         (30, &[10, 20, 30], Which::Through(20), Which::None),
         (30, &[10, 20, 30], Which::Through(29), Which::None),
     ];
-    assert!(rt; are_merged(rt.alloc(), PLANS)?);
-    Ok(())
+    expect_yes(are_merged(rt.alloc(), PLANS))
 }
 
 #[test]
@@ -92,8 +90,7 @@ fn rows_that_all_die_meanwhile_are_kept_dead(rt: HostRuntime) -> Result<(), Fail
         (30, &[10, 20, 30], Which::None, Which::Every(1)),
         (30, &[10, 20, 30], Which::Every(2), Which::Through(29)),
     ];
-    assert!(rt; are_merged(rt.alloc(), PLANS)?);
-    Ok(())
+    expect_yes(are_merged(rt.alloc(), PLANS))
 }
 
 #[test]
@@ -104,8 +101,7 @@ fn a_step_passes_256_rows_dead_or_live(rt: HostRuntime) -> Result<(), Fail> {
         (257, &[256, 257], Which::Every(256), Which::None),
         (600, &[256, 511, 600], Which::Through(300), Which::Every(7)),
     ];
-    assert!(rt; are_merged(rt.alloc(), PLANS)?);
-    Ok(())
+    expect_yes(are_merged(rt.alloc(), PLANS))
 }
 
 /// Where each of a hundred segments of nine rows ends.
@@ -121,8 +117,7 @@ fn hundred_ends(alloc: Global) -> Result<Vec<usize>, AllocError> {
 fn a_hundred_segments_are_merged(rt: HostRuntime) -> Result<(), Fail> {
     let ends = hundred_ends(rt.alloc())?;
     let plan = (900, ends.as_slice(), Which::Every(9), Which::Every(11));
-    assert!(rt; are_merged(rt.alloc(), &[plan])?);
-    Ok(())
+    expect_yes(are_merged(rt.alloc(), &[plan]))
 }
 
 /// Whether rows that are written out are merged, in segments that end at these places.
@@ -153,8 +148,7 @@ fn an_id_that_was_put_again_is_kept_once(rt: HostRuntime) -> Result<(), Fail> {
     ];
     let in_four = are_texts_merged(rt.alloc(), FIELDS, ROWS, &[2, 3, 5, 6])?;
     let in_three = are_texts_merged(rt.alloc(), FIELDS, ROWS, &[1, 3, 6])?;
-    assert!(rt; in_four && in_three);
-    Ok(())
+    expect(in_four && in_three)
 }
 
 #[test]
@@ -180,6 +174,5 @@ fn fields_may_be_many_of_a_kind_or_none(rt: HostRuntime) -> Result<(), Fail> {
     let are_merged = are_texts_merged(alloc, b"{}", ROWS, &[2, 3])?
         && are_texts_merged(alloc, MANY, ROWS, &[1, 3])?
         && are_texts_merged(alloc, MANY, FILLED, &[1, 2, 4])?;
-    assert!(rt; are_merged);
-    Ok(())
+    expect(are_merged)
 }

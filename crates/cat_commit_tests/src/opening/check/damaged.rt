@@ -4,6 +4,7 @@ use crate::opening::files::{
     COMMIT, CommitText, Content, Files, LIVE_OF_ONE, LiveText, ONE, SegmentText, THREE, TWO, WHOLE,
     bytes_of, whole_but, write_bytes,
 };
+use crate::verdict::expect_yes;
 use cat_base::Refusal;
 use cat_check::check;
 use cat_directory::{FileName, MemoryDirectory};
@@ -74,8 +75,7 @@ fn are_missed(alloc: Global, files: &[(FileName, &str)]) -> Result<bool, Refusal
 
 #[test]
 fn each_file_is_missed(rt: HostRuntime) -> Result<(), Fail> {
-    assert!(rt; are_missed(rt.alloc(), EMPTY)?);
-    Ok(())
+    expect_yes(are_missed(rt.alloc(), EMPTY))
 }
 
 #[test]
@@ -115,8 +115,7 @@ fn each_segment_has_its_faults(rt: HostRuntime) -> Result<(), Fail> {
             "_2.sto: it has 22 bytes in place of 21",
         ),
     ];
-    assert!(rt; are_found_with(rt.alloc(), ROWS)?);
-    Ok(())
+    expect_yes(are_found_with(rt.alloc(), ROWS))
 }
 
 #[test]
@@ -144,8 +143,7 @@ fn a_commit_has_the_number_of_its_file(rt: HostRuntime) -> Result<(), Fail> {
             "segments_3: it says that it is commit 2",
         ),
     ];
-    assert!(rt; are_found_with(rt.alloc(), ROWS)?);
-    Ok(())
+    expect_yes(are_found_with(rt.alloc(), ROWS))
 }
 
 /// What the file of live rows of segment 1 says, and what is found.
@@ -189,8 +187,7 @@ fn are_found_live(alloc: Global, rows: &[(LiveText, &str)]) -> Result<bool, Refu
 
 #[test]
 fn live_rows_are_those_of_the_segment_and_the_commit(rt: HostRuntime) -> Result<(), Fail> {
-    assert!(rt; are_found_live(rt.alloc(), LIVE)?);
-    Ok(())
+    expect_yes(are_found_live(rt.alloc(), LIVE))
 }
 
 #[test]
@@ -245,8 +242,7 @@ fn segments_fit_together(rt: HostRuntime) -> Result<(), Fail> {
             "_3.seg: its first write isn't behind those before it; _3.seg: it has a live row with the id of one before it",
         ),
     ];
-    assert!(rt; are_found_with(rt.alloc(), ROWS)?);
-    Ok(())
+    expect_yes(are_found_with(rt.alloc(), ROWS))
 }
 
 /// The directory, where all bits of one byte of the file are turned.
@@ -320,6 +316,5 @@ fn are_all_agreed(
 #[test]
 fn a_spoilt_byte_is_found_where_an_opening_finds_it(rt: HostRuntime) -> Result<(), Fail> {
     let directory = whole_but(rt.alloc(), &[])?;
-    assert!(rt; are_all_agreed(rt.alloc(), &directory, WHOLE)?);
-    Ok(())
+    expect_yes(are_all_agreed(rt.alloc(), &directory, WHOLE))
 }

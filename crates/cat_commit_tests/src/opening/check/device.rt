@@ -1,6 +1,7 @@
 //! Devices whose calls fail.
 use crate::opening::check::found;
 use crate::opening::files::{Content, Files, is_whole, whole_but};
+use crate::verdict::{expect, expect_yes};
 use cat_base::Refusal;
 use cat_check::{Standing, Verdict, check, drop_torn};
 use cat_directory::{Faults, Faulty, FileName, Holder, MemoryDirectory};
@@ -66,8 +67,7 @@ fn is_found(alloc: Global, device: &mut Faulty<MemoryDirectory>) -> Result<bool,
 #[test]
 fn a_failing_device_is_no_damage(rt: HostRuntime) -> Result<(), Fail> {
     let mut device = Faulty::new(whole_but(rt.alloc(), &[])?, Faults::Never);
-    assert!(rt; is_found(rt.alloc(), &mut device)? && is_told_behind_each(rt.alloc())?);
-    Ok(())
+    expect(is_found(rt.alloc(), &mut device)? && is_told_behind_each(rt.alloc())?)
 }
 
 /// How many calls a drop makes: one for the names, two for each own file, those of an opening, a delete and a sync.
@@ -107,6 +107,5 @@ fn is_dropped_behind_each(alloc: Global) -> Result<bool, Refusal> {
 
 #[test]
 fn a_drop_that_fails_can_be_done_again(rt: HostRuntime) -> Result<(), Fail> {
-    assert!(rt; is_dropped_behind_each(rt.alloc())?);
-    Ok(())
+    expect_yes(is_dropped_behind_each(rt.alloc()))
 }

@@ -1,6 +1,7 @@
 //! The way back after a crash in the middle of a commit.
 use crate::opening::check::found::is_found;
 use crate::opening::files::{COMMIT, Content, Files, whole_but};
+use crate::verdict::{expect_done, expect_yes};
 use cat_base::Refusal;
 use cat_check::{Standing, drop_torn, tell_standing};
 use cat_directory::{Directory, FileName, MemoryDirectory};
@@ -107,8 +108,7 @@ fn are_dropped_with(alloc: Global, rows: &[(Files<'_>, Standing, &str)]) -> Resu
 
 #[test]
 fn a_torn_commit_over_a_whole_one_is_dropped_and_nothing_else(rt: HostRuntime) -> Result<(), Fail> {
-    assert!(rt; are_dropped_with(rt.alloc(), ROWS)?);
-    Ok(())
+    expect_yes(are_dropped_with(rt.alloc(), ROWS))
 }
 
 /// What is told of each.
@@ -151,6 +151,5 @@ fn are_told(alloc: Global, rows: &[(Standing, &str)]) -> Result<bool, Fail> {
 
 #[test]
 fn what_was_dropped_is_told(rt: HostRuntime) -> Result<(), Fail> {
-    assert!(rt; are_told(rt.alloc(), TOLD)?);
-    Ok(())
+    expect_done(are_told(rt.alloc(), TOLD))
 }

@@ -1,6 +1,7 @@
 //! All that is told of directories: commits with their numbers, and files that no commit names.
 use crate::opening::check::found::is_all_told;
 use crate::opening::files::{COMMIT, CommitText, Content, Files, whole_but};
+use crate::verdict::expect_done;
 use cat_directory::{Directory, FileName, MemoryDirectory};
 use std::alloc::Global;
 use std::test::Fail;
@@ -61,8 +62,7 @@ fn are_told_with(alloc: Global, rows: &[(Files<'_>, &str)]) -> Result<bool, Fail
 
 #[test]
 fn all_is_told(rt: HostRuntime) -> Result<(), Fail> {
-    assert!(rt; are_told_with(rt.alloc(), ROWS)?);
-    Ok(())
+    expect_done(are_told_with(rt.alloc(), ROWS))
 }
 
 #[test]
@@ -71,6 +71,5 @@ fn a_directory_may_have_no_commit(rt: HostRuntime) -> Result<(), Fail> {
     let alloc = rt.alloc();
     let mut directory = MemoryDirectory::new(alloc);
     directory.create(alloc, FileName::Source(7))?;
-    assert!(rt; is_all_told(alloc, &mut directory, TOLD)?);
-    Ok(())
+    expect_done(is_all_told(alloc, &mut directory, TOLD))
 }

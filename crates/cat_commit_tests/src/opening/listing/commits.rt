@@ -1,5 +1,6 @@
 //! Three commits with deletes between, and a fourth of a segment more.
 use crate::opening::listing::calling::{Call, Row, are_answered_over};
+use crate::verdict::expect;
 use std::test::Fail;
 
 /// Segments 1 and 2, all of them live.
@@ -83,6 +84,5 @@ fn live_files_are_new_or_kept(rt: HostRuntime) -> Result<(), Fail> {
     let are_kept = are_answered_over(alloc, 2, ONE)?
         && are_answered_over(alloc, 2, THREE)?
         && are_answered_over(alloc, 3, FOUR)?;
-    assert!(rt; are_kept && are_answered_over(alloc, 1, REFUSED)?);
-    Ok(())
+    expect(are_kept && are_answered_over(alloc, 1, REFUSED)?)
 }

@@ -4,6 +4,7 @@ use crate::opening::listing::calling::{
 };
 use crate::opening::listing::commits::{FIRST, SECOND};
 use crate::opening::listing::making::{bytes_of, number_of, write_live, write_to};
+use crate::verdict::expect_yes;
 use cat_base::Refusal;
 use cat_directory::{Faults, Faulty, FileName, MemoryDirectory};
 use std::alloc::Global;
@@ -87,6 +88,5 @@ const FAILING: &[(u64, &str)] = &[
 
 #[test]
 fn the_own_file_comes_last(rt: HostRuntime) -> Result<(), Fail> {
-    assert!(rt; are_told(rt.alloc(), FAILING)?);
-    Ok(())
+    expect_yes(are_told(rt.alloc(), FAILING))
 }

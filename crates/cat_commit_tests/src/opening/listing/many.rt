@@ -1,6 +1,7 @@
 //! A thousand segments.
 use crate::opening::listing::calling::{Call, Desk, are_answered, desk_of};
 use crate::opening::listing::making::leaf_of;
+use crate::verdict::expect_yes;
 use cat_base::{Refusal, put_u32, put_u64};
 use cat_merge::Leaf;
 use std::alloc::{AllocError, Global};
@@ -72,6 +73,5 @@ fn are_kept(alloc: Global) -> Result<bool, Refusal> {
 
 #[test]
 fn a_thousand_segments_keep_their_files(rt: HostRuntime) -> Result<(), Fail> {
-    assert!(rt; are_kept(rt.alloc())?);
-    Ok(())
+    expect_yes(are_kept(rt.alloc()))
 }

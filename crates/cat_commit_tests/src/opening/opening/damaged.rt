@@ -4,6 +4,7 @@ use crate::opening::files::{
     bytes_of, whole_but, write_bytes,
 };
 use crate::opening::opening::told::{is_told, told};
+use crate::verdict::expect_yes;
 use cat_base::Refusal;
 use cat_directory::{FileName, MemoryDirectory};
 use std::alloc::Global;
@@ -45,8 +46,7 @@ fn are_needed(alloc: Global, files: Files<'_>) -> Result<bool, Refusal> {
 
 #[test]
 fn each_file_is_needed(rt: HostRuntime) -> Result<(), Fail> {
-    assert!(rt; are_needed(rt.alloc(), WHOLE)?);
-    Ok(())
+    expect_yes(are_needed(rt.alloc(), WHOLE))
 }
 
 #[test]
@@ -68,8 +68,7 @@ fn a_commit_has_the_number_of_its_file(rt: HostRuntime) -> Result<(), Fail> {
             }),
         )],
     ];
-    assert!(rt; are_damaged(rt.alloc(), OTHERS)?);
-    Ok(())
+    expect_yes(are_damaged(rt.alloc(), OTHERS))
 }
 
 #[test]
@@ -96,8 +95,7 @@ fn a_segment_has_the_number_and_the_schema_of_the_commit(rt: HostRuntime) -> Res
             (FileName::Segment(2), Content::Segment(ONE)),
         ],
     ];
-    assert!(rt; are_damaged(rt.alloc(), OTHERS)?);
-    Ok(())
+    expect_yes(are_damaged(rt.alloc(), OTHERS))
 }
 
 /// Whether each of these, in place of the live rows of segment 1, leaves no commit.
@@ -135,8 +133,7 @@ fn live_rows_are_those_of_the_segment_and_the_commit(rt: HostRuntime) -> Result<
             ..LIVE_OF_ONE
         },
     ];
-    assert!(rt; are_no_live_rows(rt.alloc(), OTHERS)?);
-    Ok(())
+    expect_yes(are_no_live_rows(rt.alloc(), OTHERS))
 }
 
 #[test]
@@ -165,8 +162,7 @@ fn an_id_is_live_once(rt: HostRuntime) -> Result<(), Fail> {
             }),
         )],
     ];
-    assert!(rt; are_damaged(rt.alloc(), OTHERS)?);
-    Ok(())
+    expect_yes(are_damaged(rt.alloc(), OTHERS))
 }
 
 #[test]
@@ -213,8 +209,7 @@ fn numbers_of_writes_rise_up_to_the_token(rt: HostRuntime) -> Result<(), Fail> {
             }),
         )],
     ];
-    assert!(rt; are_damaged(rt.alloc(), OTHERS)?);
-    Ok(())
+    expect_yes(are_damaged(rt.alloc(), OTHERS))
 }
 
 #[test]
@@ -229,8 +224,7 @@ fn stored_texts_are_as_long_as_the_rows_say(rt: HostRuntime) -> Result<(), Fail>
         &[(FileName::Source(2), Content::Source(r#" {"id":"c"}"#))],
         &[(FileName::Source(2), Content::Source(r#"{"id":"a"}"#))],
     ];
-    assert!(rt; are_damaged(rt.alloc(), OTHERS)?);
-    Ok(())
+    expect_yes(are_damaged(rt.alloc(), OTHERS))
 }
 
 /// What is read where all bits of one byte of the file are turned.
@@ -317,6 +311,5 @@ fn are_all_spoilt_so(
 #[test]
 fn a_spoilt_byte_is_found(rt: HostRuntime) -> Result<(), Fail> {
     let directory = whole_but(rt.alloc(), &[])?;
-    assert!(rt; are_all_spoilt_so(rt.alloc(), &directory, WHOLE)?);
-    Ok(())
+    expect_yes(are_all_spoilt_so(rt.alloc(), &directory, WHOLE))
 }

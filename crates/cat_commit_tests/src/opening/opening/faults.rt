@@ -1,6 +1,7 @@
 //! Openings on a device whose calls fail, and without memory.
 use crate::opening::files::{WHOLE_TOLD, is_whole, whole_but};
 use crate::opening::opening::told::{FIELDS, is_told};
+use crate::verdict::{expect, expect_yes};
 use cat_base::Refusal;
 use cat_check::cat_commits::reading::read_commit;
 use cat_directory::{Directory, Faults, Faulty, Holder, MemoryDirectory, Shelf};
@@ -26,8 +27,7 @@ fn each_file_is_read_once(rt: HostRuntime) -> Result<(), Fail> {
     let alloc = rt.alloc();
     let mut device = Faulty::new(whole_but(alloc, &[])?, Faults::Never);
     let is_read = is_told(alloc, &mut device, WHOLE_TOLD)? && has_met(&device, CALLS, 0);
-    assert!(rt; is_read && is_whole(alloc, &mut device)?);
-    Ok(())
+    expect(is_read && is_whole(alloc, &mut device)?)
 }
 
 /// Whether an opening is refused by the device, which counts one failure, and another answers the files as they were.
@@ -52,8 +52,7 @@ fn are_refused(alloc: Global) -> Result<bool, Refusal> {
 
 #[test]
 fn the_first_call_that_fails_ends_an_opening(rt: HostRuntime) -> Result<(), Fail> {
-    assert!(rt; are_refused(rt.alloc())?);
-    Ok(())
+    expect_yes(are_refused(rt.alloc()))
 }
 
 /// Whether the commit is read, or memory is wanting.
@@ -70,8 +69,7 @@ fn an_opening_without_memory_changes_nothing(rt: HostRuntime) -> Result<(), Fail
     let schema = Schema::read(alloc, FIELDS)?;
     let mut directory = whole_but(alloc, &[])?;
     let is_one_of_both = is_read_or_memory(alloc, &mut directory, &schema);
-    assert!(rt; is_one_of_both && is_read(alloc, &mut directory)?);
-    Ok(())
+    expect(is_one_of_both && is_read(alloc, &mut directory)?)
 }
 
 #[test]
@@ -80,6 +78,5 @@ fn an_absent_commit_is_damage_without_memory(rt: HostRuntime) -> Result<(), Fail
     let schema = Schema::read(alloc, FIELDS)?;
     let mut directory = MemoryDirectory::new(alloc);
     let refused = read_commit(alloc, &mut directory, &schema, 3);
-    assert!(rt; matches!(refused, Err(Refusal::Damaged)));
-    Ok(())
+    expect(matches!(refused, Err(Refusal::Damaged)))
 }

@@ -1,5 +1,6 @@
 //! What the names of files say by themselves.
 use crate::opening::files::write_bytes;
+use crate::verdict::expect_yes;
 use cat_base::{Generation, LAST_NUMBER, Refusal, SegNo};
 use cat_check::cat_commits::reading::{newest_commit, next_numbers};
 use cat_directory::{Directory, FileName, MemoryDirectory};
@@ -89,6 +90,5 @@ fn are_told(alloc: Global, rows: &[Row<'_>]) -> Result<bool, Refusal> {
 
 #[test]
 fn names_tell_the_newest_commit_and_the_next_numbers(rt: HostRuntime) -> Result<(), Fail> {
-    assert!(rt; are_told(rt.alloc(), ROWS)?);
-    Ok(())
+    expect_yes(are_told(rt.alloc(), ROWS))
 }

@@ -4,6 +4,7 @@ use crate::opening::files::{
     WHOLE_TOLD, whole_but, write_files,
 };
 use crate::opening::opening::told::{FIELDS, is_told, told_under};
+use crate::verdict::{expect, expect_yes};
 use cat_base::{Generation, Refusal};
 use cat_directory::{FileName, Folder, FolderShelf, MemoryDirectory};
 use std::alloc::Global;
@@ -14,8 +15,7 @@ use std::test::Fail;
 #[test]
 fn memory_holds_the_commit(rt: HostRuntime) -> Result<(), Fail> {
     let mut directory = whole_but(rt.alloc(), &[])?;
-    assert!(rt; is_told(rt.alloc(), &mut directory, WHOLE_TOLD)?);
-    Ok(())
+    expect(is_told(rt.alloc(), &mut directory, WHOLE_TOLD)?)
 }
 
 /// Whether the commit is read of the folder into which its files are written.
@@ -125,8 +125,7 @@ fn are_read_with(alloc: Global, rows: &[(Files<'_>, &str)]) -> Result<bool, Refu
 
 #[test]
 fn what_fits_is_read(rt: HostRuntime) -> Result<(), Fail> {
-    assert!(rt; are_read_with(rt.alloc(), FITTING)?);
-    Ok(())
+    expect_yes(are_read_with(rt.alloc(), FITTING))
 }
 
 /// Fields, and what is read under them.
@@ -181,8 +180,7 @@ fn another_schema_is_told_before_a_segment_is_read(rt: HostRuntime) -> Result<()
         (br#"{"color":"text"}"#, "NO 13"),
     ];
     let alloc = rt.alloc();
-    assert!(rt; are_told_with(alloc, &[], SCHEMAS)? && are_told_with(alloc, ABSENT, UNREAD)?);
-    Ok(())
+    expect(are_told_with(alloc, &[], SCHEMAS)? && are_told_with(alloc, ABSENT, UNREAD)?)
 }
 
 /// Each commit is read by its own number.
@@ -205,6 +203,5 @@ fn an_older_commit_is_read_too(rt: HostRuntime) -> Result<(), Fail> {
     let are_read = is_told_under(alloc, &mut directory, FIELDS, 2, TOLD)?
         && is_told(alloc, &mut directory, WHOLE_TOLD)?
         && is_told_under(alloc, &mut directory, FIELDS, 1, "NO 31")?;
-    assert!(rt; are_read);
-    Ok(())
+    expect(are_read)
 }

@@ -1,5 +1,6 @@
 //! A shop's day, in memory and in a folder, and openings again.
 use crate::ledger::ledger::calling::{Call, Row, run};
+use crate::verdict::expect_yes;
 use cat_base::Refusal;
 use cat_directory::{Directory, Folder, MemoryDirectory, Shelf};
 use std::alloc::Global;
@@ -172,8 +173,7 @@ fn pass_over<D: Directory + Shelf + Drop>(alloc: Global, device: D) -> Result<bo
 
 #[test]
 fn days_in_memory(rt: HostRuntime) -> Result<(), Fail> {
-    assert!(&rt; pass_over(rt.alloc(), MemoryDirectory::new(rt.alloc()))?);
-    Ok(())
+    expect_yes(pass_over(rt.alloc(), MemoryDirectory::new(rt.alloc())))
 }
 
 /// Makes a folder at the path, without a file.

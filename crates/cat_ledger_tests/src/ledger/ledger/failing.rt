@@ -3,6 +3,7 @@ use crate::ledger::ledger::calling::{
     Call, FIELDS, Row, answer, are_answered, close, end, open, run, try_open,
 };
 use crate::ledger::ledger::maintaining::standing_of;
+use crate::verdict::expect_yes;
 use cat_base::{Refusal, WriteNo};
 use cat_directory::{Directory, Faults, Faulty, FileName, Holder, MemoryDirectory, Shelf};
 use cat_ledger::Ledger;
@@ -164,8 +165,7 @@ fn each_succeeds_later(alloc: Global, calls: u64) -> Result<bool, Refusal> {
 
 #[test]
 fn each_call_that_fails_succeeds_later(rt: HostRuntime) -> Result<(), Fail> {
-    assert!(&rt; each_succeeds_later(rt.alloc(), CALLS)?);
-    Ok(())
+    expect_yes(each_succeeds_later(rt.alloc(), CALLS))
 }
 
 /// Whether just so many calls are made where none fails.
@@ -177,8 +177,7 @@ fn makes_calls(alloc: Global, calls: u64) -> Result<bool, Refusal> {
 
 #[test]
 fn no_other_call_is_made(rt: HostRuntime) -> Result<(), Fail> {
-    assert!(&rt; makes_calls(rt.alloc(), CALLS)?);
-    Ok(())
+    expect_yes(makes_calls(rt.alloc(), CALLS))
 }
 
 /// Makes the calls in turn up to the first that the directory fails at. Answers how many writes the last commit has that came.
@@ -344,6 +343,5 @@ fn survives_each(alloc: Global, calls: u64) -> Result<bool, Refusal> {
 /// No commit that came is lost by a crash, wherever it comes.
 #[test]
 fn a_crash_leaves_the_newest_commit(rt: HostRuntime) -> Result<(), Fail> {
-    assert!(&rt; survives_each(rt.alloc(), CALLS)?);
-    Ok(())
+    expect_yes(survives_each(rt.alloc(), CALLS))
 }

@@ -4,6 +4,7 @@ use crate::ledger::ledger::calling::{
 };
 use crate::ledger::ledger::maintaining::{note, snapshot};
 use crate::ledger::ledger::writing::commit;
+use crate::verdict::expect_yes;
 use cat_base::{MAX_SNAPSHOTS, Refusal};
 use cat_directory::{Directory, FileName, MemoryDirectory, Shelf};
 use cat_ledger::Ledger;
@@ -51,8 +52,7 @@ fn refuses_without_change(alloc: Global) -> Result<bool, Refusal> {
 
 #[test]
 fn a_refusal_changes_nothing(rt: HostRuntime) -> Result<(), Fail> {
-    assert!(&rt; refuses_without_change(rt.alloc())?);
-    Ok(())
+    expect_yes(refuses_without_change(rt.alloc()))
 }
 
 /// A text of so many bytes.
@@ -264,20 +264,17 @@ fn has_limit(alloc: Global, limit: Limit) -> Result<bool, Refusal> {
 
 #[test]
 fn texts_of_commits_have_a_limit(rt: HostRuntime) -> Result<(), Fail> {
-    assert!(&rt; has_limit(rt.alloc(), Limit::Texts)?);
-    Ok(())
+    expect_yes(has_limit(rt.alloc(), Limit::Texts))
 }
 
 #[test]
 fn sixty_four_views_are_held(rt: HostRuntime) -> Result<(), Fail> {
-    assert!(&rt; has_limit(rt.alloc(), Limit::Views)?);
-    Ok(())
+    expect_yes(has_limit(rt.alloc(), Limit::Views))
 }
 
 #[test]
 fn snapshots_have_a_limit(rt: HostRuntime) -> Result<(), Fail> {
-    assert!(&rt; has_limit(rt.alloc(), Limit::Snapshots)?);
-    Ok(())
+    expect_yes(has_limit(rt.alloc(), Limit::Snapshots))
 }
 
 /// An item of a commit, and one behind it.
@@ -338,6 +335,5 @@ fn refuses_twice(alloc: Global) -> Result<bool, Refusal> {
 /// A refused opening gives the directory back with all files, those behind the commit too.
 #[test]
 fn an_opening_that_is_refused_deletes_nothing(rt: HostRuntime) -> Result<(), Fail> {
-    assert!(&rt; refuses_twice(rt.alloc())?);
-    Ok(())
+    expect_yes(refuses_twice(rt.alloc()))
 }

@@ -1,5 +1,6 @@
 //! Commits, snapshots and sweeps.
 use crate::ledger::ledger_core::steps::{Case, Row, Step, run_each, run_failing};
+use crate::verdict::expect_yes;
 use cat_base::LAST_NUMBER;
 use cat_directory::FileName;
 use std::test::Fail;
@@ -58,8 +59,7 @@ const ONE_DELETED: &[Row<'static>] = &[
 /// The live file is made and written, it is synced, and then the commit's own file is made, written and synced.
 #[test]
 fn a_refused_commit_is_none(rt: HostRuntime) -> Result<(), Fail> {
-    assert!(&rt; run_failing(rt.alloc(), ONE_DELETED, 6, SECOND_FAILS)?);
-    Ok(())
+    expect_yes(run_failing(rt.alloc(), ONE_DELETED, 6, SECOND_FAILS))
 }
 
 /// There is nothing to take a snapshot of.
@@ -114,6 +114,5 @@ const CASES: &[Case<'static>] = &[
 
 #[test]
 fn commits_and_snapshots_keep_their_files(rt: HostRuntime) -> Result<(), Fail> {
-    assert!(&rt; run_each(rt.alloc(), CASES)?);
-    Ok(())
+    expect_yes(run_each(rt.alloc(), CASES))
 }

@@ -1,5 +1,6 @@
 //! Flushes, at their limits and on devices that fail.
 use crate::ledger::ledger_core::steps::{Case, Row, Step, run_each, run_failing};
+use crate::verdict::expect_yes;
 use cat_base::LAST_NUMBER;
 use cat_directory::{Faults, FileName};
 use std::test::Fail;
@@ -26,8 +27,7 @@ const FLUSH_FAILS: &[Row<'static>] = &[
 /// Two files are made and written.
 #[test]
 fn each_call_of_a_flush_fails(rt: HostRuntime) -> Result<(), Fail> {
-    assert!(&rt; run_failing(rt.alloc(), &[], 4, FLUSH_FAILS)?);
-    Ok(())
+    expect_yes(run_failing(rt.alloc(), &[], 4, FLUSH_FAILS))
 }
 
 /// Nothing waits, and the device isn't called.
@@ -70,6 +70,5 @@ const CASES: &[Case<'static>] = &[
 
 #[test]
 fn nothing_the_last_number_and_a_full_buffer_are_flushed(rt: HostRuntime) -> Result<(), Fail> {
-    assert!(&rt; run_each(rt.alloc(), CASES)?);
-    Ok(())
+    expect_yes(run_each(rt.alloc(), CASES))
 }

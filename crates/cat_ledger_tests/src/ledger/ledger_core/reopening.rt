@@ -6,6 +6,7 @@ ghost use Rattle.cat_model.specs.CommitFile.{commit_needs};
 
 use crate::ledger::ledger_core::calling::Device;
 use crate::ledger::ledger_core::steps::{Row, Step, new_device, run_in, run_on};
+use crate::verdict::expect_yes;
 use cat_base::{Generation, Refusal, SegNo};
 use cat_directory::FileName;
 use cat_items::Schema;
@@ -133,6 +134,5 @@ fn is_opened_again(alloc: Global) -> Result<bool, Refusal> {
 
 #[test]
 fn a_committed_state_is_opened_again_and_goes_on(rt: HostRuntime) -> Result<(), Fail> {
-    assert!(&rt; is_opened_again(rt.alloc())?);
-    Ok(())
+    expect_yes(is_opened_again(rt.alloc()))
 }

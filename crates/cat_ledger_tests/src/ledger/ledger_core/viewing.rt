@@ -1,5 +1,6 @@
 //! Recorded views, who holds them, and the users of their files.
 use crate::ledger::ledger_core::steps::{Case, Row, Step, run_each};
+use crate::verdict::expect_yes;
 use cat_directory::FileName;
 use std::test::Fail;
 
@@ -40,6 +41,5 @@ const CASES: &[Case<'static>] = &[((1, 1), &[PRUNED]), ((1, 1), &[LEAST_GOES])];
 
 #[test]
 fn held_views_stay_and_others_go(rt: HostRuntime) -> Result<(), Fail> {
-    assert!(&rt; run_each(rt.alloc(), CASES)?);
-    Ok(())
+    expect_yes(run_each(rt.alloc(), CASES))
 }

@@ -1,5 +1,6 @@
 //! Puts and deletes, of items that wait and of rows that stand.
 use crate::ledger::ledger_core::steps::{Case, Row, Step, run_each};
+use crate::verdict::expect_yes;
 use std::test::Fail;
 
 /// Three items in a segment, and one that waits.
@@ -47,6 +48,5 @@ const CASES: &[Case<'static>] = &[
 
 #[test]
 fn items_are_put_again_and_deleted(rt: HostRuntime) -> Result<(), Fail> {
-    assert!(&rt; run_each(rt.alloc(), CASES)?);
-    Ok(())
+    expect_yes(run_each(rt.alloc(), CASES))
 }

@@ -1,5 +1,6 @@
 //! Merges of all segments.
 use crate::ledger::upkeep::calling::{Row, run};
+use crate::verdict::expect;
 use cat_ledger::upkeep::MergeNews;
 use std::test::Fail;
 
@@ -26,6 +27,5 @@ const ALONE: &[Row<'static>] = &[
 
 #[test]
 fn all_are_merged(rt: HostRuntime) -> Result<(), Fail> {
-    assert!(&rt; run(rt.alloc(), 1, ALONE)?);
-    Ok(())
+    expect(run(rt.alloc(), 1, ALONE)?)
 }

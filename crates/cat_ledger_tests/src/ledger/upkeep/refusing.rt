@@ -1,5 +1,6 @@
 //! Merges that are refused.
 use crate::ledger::upkeep::calling::{Row, empty_at, put_apart, run, standing, step};
+use crate::verdict::{expect, expect_yes};
 use cat_base::{LAST_NUMBER, Refusal};
 use cat_directory::{Faults, Faulty, MemoryDirectory};
 use cat_ledger::cat_ledger_state::Core;
@@ -19,8 +20,7 @@ const LAST_NUMBERS: &[Row<'static>] = &[
 
 #[test]
 fn no_number_is_left(rt: HostRuntime) -> Result<(), Fail> {
-    assert!(&rt; run(rt.alloc(), LAST_NUMBER - 1, LAST_NUMBERS)?);
-    Ok(())
+    expect(run(rt.alloc(), LAST_NUMBER - 1, LAST_NUMBERS)?)
 }
 
 /// A device where two segments were put, and of whose calls from then on the one behind so many fails.
@@ -83,6 +83,5 @@ fn fails_at_each(alloc: Global, calls: u64) -> Result<bool, Refusal> {
 /// One call begins the file, three copy the sources of two segments, and two write the new one.
 #[test]
 fn each_call_of_a_merge_fails(rt: HostRuntime) -> Result<(), Fail> {
-    assert!(&rt; fails_at_each(rt.alloc(), 6)?);
-    Ok(())
+    expect_yes(fails_at_each(rt.alloc(), 6))
 }

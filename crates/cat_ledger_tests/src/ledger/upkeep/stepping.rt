@@ -1,5 +1,6 @@
 //! Merges of a window, step by step.
 use crate::ledger::upkeep::calling::{Row, run};
+use crate::verdict::expect;
 use cat_ledger::upkeep::{MergeNews, MergePolicy};
 use std::test::Fail;
 
@@ -43,6 +44,5 @@ const WINDOW_OF_THREE: &[Row<'static>] = &[
 
 #[test]
 fn a_window_is_merged(rt: HostRuntime) -> Result<(), Fail> {
-    assert!(&rt; run(rt.alloc(), 1, WINDOW_OF_THREE)?);
-    Ok(())
+    expect(run(rt.alloc(), 1, WINDOW_OF_THREE)?)
 }

@@ -6,6 +6,7 @@ ghost use Rattle.cat_ledger_tests.specs.parts.Windows.{rows_put, HasBehind, MayR
 use crate::parts::current::making::{asked, fields, is_unused, leaf_at, leaf_of, push};
 use crate::parts::current::steps::{Step, run};
 use crate::parts::current::told::stands;
+use crate::verdict::expect_yes;
 use cat_base::{Refusal, SegNo};
 use cat_items::Schema;
 use cat_live_table::current::Current;
@@ -185,8 +186,7 @@ const MOVED: &[Step] = &[
 
 #[test]
 fn ids_move(rt: HostRuntime) -> Result<(), Fail> {
-    assert!(&rt; run_over_window(rt.alloc(), AS_IT_STOOD, MOVED)?);
-    Ok(())
+    expect_yes(run_over_window(rt.alloc(), AS_IT_STOOD, MOVED))
 }
 
 const ROWS_DIE: &[Step] = &[
@@ -200,8 +200,7 @@ const DEAD: &[Step] = &[Step::Stands("1: a; 9: -b -c -d e; 4: -f g", "aeg")];
 
 #[test]
 fn rows_die_meanwhile(rt: HostRuntime) -> Result<(), Fail> {
-    assert!(&rt; run_over_window(rt.alloc(), ROWS_DIE, DEAD)?);
-    Ok(())
+    expect_yes(run_over_window(rt.alloc(), ROWS_DIE, DEAD))
 }
 
 const ALL_DIE: &[Step] = &[
@@ -217,6 +216,5 @@ const NONE_LEFT: &[Step] = &[
 
 #[test]
 fn nothing_comes_where_no_row_is_left(rt: HostRuntime) -> Result<(), Fail> {
-    assert!(&rt; run_over_window(rt.alloc(), ALL_DIE, NONE_LEFT)?);
-    Ok(())
+    expect_yes(run_over_window(rt.alloc(), ALL_DIE, NONE_LEFT))
 }

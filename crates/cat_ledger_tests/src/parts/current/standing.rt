@@ -1,6 +1,7 @@
 //! Segments that come and go, and rows that die.
 use crate::parts::current::steps::{Step, run};
 use crate::parts::current::told::are_leaves;
+use crate::verdict::expect_yes;
 use cat_base::Refusal;
 use cat_live_table::current::Current;
 use cat_search_tests::views::PutText;
@@ -58,8 +59,7 @@ const BY_ID: &[Step] = &[
 
 #[test]
 fn deletes_by_id(rt: HostRuntime) -> Result<(), Fail> {
-    assert!(&rt; run_over_three(rt.alloc(), BY_ID)?);
-    Ok(())
+    expect_yes(run_over_three(rt.alloc(), BY_ID))
 }
 
 const BY_QUERY: &[Step] = &[
@@ -73,8 +73,7 @@ const BY_QUERY: &[Step] = &[
 
 #[test]
 fn deletes_by_query(rt: HostRuntime) -> Result<(), Fail> {
-    assert!(&rt; run_over_three(rt.alloc(), BY_QUERY)?);
-    Ok(())
+    expect_yes(run_over_three(rt.alloc(), BY_QUERY))
 }
 
 const TAKEN_BACK: &[Step] = &[
@@ -92,8 +91,7 @@ const TAKEN_BACK: &[Step] = &[
 
 #[test]
 fn a_push_is_taken_back(rt: HostRuntime) -> Result<(), Fail> {
-    assert!(&rt; run_over_three(rt.alloc(), TAKEN_BACK)?);
-    Ok(())
+    expect_yes(run_over_three(rt.alloc(), TAKEN_BACK))
 }
 
 const BEHIND_A_COPY: &[Step] = &[
@@ -123,6 +121,5 @@ fn copies_stay(alloc: Global) -> Result<bool, Refusal> {
 
 #[test]
 fn copies_stay_as_they_were(rt: HostRuntime) -> Result<(), Fail> {
-    assert!(&rt; copies_stay(rt.alloc())?);
-    Ok(())
+    expect_yes(copies_stay(rt.alloc()))
 }

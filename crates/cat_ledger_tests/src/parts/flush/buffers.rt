@@ -1,6 +1,7 @@
 //! Buffers from their first item to their flush.
 ghost use Rattle.std.specs.Prelude.{◌≡◌, ◌<◌, ◌≤◌, ◌+◌, ◌^◌, [], All, OnOk};
 
+use crate::verdict::expect_yes;
 use cat_base::{Refusal, SegNo, WriteNo};
 use cat_items::Schema;
 use cat_live_table::Query;
@@ -126,8 +127,7 @@ fn puts_update_last(alloc: Global) -> Result<bool, Refusal> {
 
 #[test]
 fn an_update_goes_last(rt: HostRuntime) -> Result<(), Fail> {
-    assert!(&rt; puts_update_last(rt.alloc())?);
-    Ok(())
+    expect_yes(puts_update_last(rt.alloc()))
 }
 
 /// This many lines, each an item's.
@@ -172,8 +172,7 @@ fn fills(alloc: Global) -> Result<bool, Refusal> {
 
 #[test]
 fn as_many_wait_as_may(rt: HostRuntime) -> Result<(), Fail> {
-    assert!(&rt; fills(rt.alloc())?);
-    Ok(())
+    expect_yes(fills(rt.alloc()))
 }
 
 /// Four items, of which two have a price of 5 or more.
@@ -227,6 +226,5 @@ fn deletes_what_matches(alloc: Global) -> Result<bool, Refusal> {
 
 #[test]
 fn what_a_query_matches_goes(rt: HostRuntime) -> Result<(), Fail> {
-    assert!(&rt; deletes_what_matches(rt.alloc())?);
-    Ok(())
+    expect_yes(deletes_what_matches(rt.alloc()))
 }

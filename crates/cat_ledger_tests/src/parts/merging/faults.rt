@@ -8,6 +8,7 @@ use crate::parts::merging::merges::bytes_of;
 use crate::parts::merging::running::{
     MERGED, begin_view, copy_step, merge_view, settle_view, write_merged,
 };
+use crate::verdict::expect_yes;
 use cat_base::Refusal;
 use cat_directory::{Directory, Faults, Faulty, FileName, Holder, MemoryDirectory, Shelf};
 use cat_search_tests::views::Put;
@@ -119,8 +120,7 @@ fn touches_no_other(alloc: Global) -> Result<bool, Refusal> {
 
 #[test]
 fn a_failing_call_touches_no_other_file(rt: HostRuntime) -> Result<(), Fail> {
-    assert!(&rt; touches_no_other(rt.alloc())?);
-    Ok(())
+    expect_yes(touches_no_other(rt.alloc()))
 }
 
 /// Whether no file of the merged segment is there.
@@ -195,8 +195,7 @@ fn finds_all(alloc: Global) -> Result<bool, Refusal> {
 
 #[test]
 fn damage_and_files_that_are_gone_are_found(rt: HostRuntime) -> Result<(), Fail> {
-    assert!(&rt; finds_all(rt.alloc())?);
-    Ok(())
+    expect_yes(finds_all(rt.alloc()))
 }
 
 /// The call behind so many fails of those that write the segment of a merge that is settled. Whether it has no file until then,

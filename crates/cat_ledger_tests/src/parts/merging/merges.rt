@@ -4,6 +4,7 @@ use crate::parts::merging::files::{
 };
 use crate::parts::merging::making::{Every, Rows, kept_segment, rows_of};
 use crate::parts::merging::running::{INDEX, MERGED, begin_view, copy_step, merge_view};
+use crate::verdict::expect_yes;
 use cat_base::Refusal;
 use cat_directory::{FileName, MemoryDirectory};
 use cat_merge::files::MergeInMaking;
@@ -164,8 +165,7 @@ const PLANS: &[Plan<'static>] = &[
 
 #[test]
 fn several_segments_become_one(rt: HostRuntime) -> Result<(), Fail> {
-    assert!(&rt; make_all(rt.alloc(), PLANS)?);
-    Ok(())
+    expect_yes(make_all(rt.alloc(), PLANS))
 }
 
 /// Whether the merge tells what it is.
@@ -208,6 +208,5 @@ fn tells_how_far(alloc: Global) -> Result<bool, Refusal> {
 
 #[test]
 fn a_merge_knows_how_far_it_is(rt: HostRuntime) -> Result<(), Fail> {
-    assert!(&rt; tells_how_far(rt.alloc())?);
-    Ok(())
+    expect_yes(tells_how_far(rt.alloc()))
 }

@@ -1,5 +1,6 @@
 //! Who holds what.
 use crate::parts::records::making::{acquire_at, finds_view, has_tokens, record_at, records_at};
+use crate::verdict::expect_yes;
 use cat_base::{Refusal, Token};
 use cat_ledger::cat_lifetimes::records::Records;
 use std::alloc::Global;
@@ -40,8 +41,7 @@ fn holds_once(alloc: Global) -> Result<bool, Refusal> {
 
 #[test]
 fn a_second_open_counts_once(rt: HostRuntime) -> Result<(), Fail> {
-    assert!(&rt; holds_once(rt.alloc())?);
-    Ok(())
+    expect_yes(holds_once(rt.alloc()))
 }
 
 /// Whether a view is found at 4 and at no token before it.
@@ -63,8 +63,7 @@ fn holds_none(alloc: Global) -> Result<bool, Refusal> {
 
 #[test]
 fn a_token_without_a_view_is_not_held(rt: HostRuntime) -> Result<(), Fail> {
-    assert!(&rt; holds_none(rt.alloc())?);
-    Ok(())
+    expect_yes(holds_none(rt.alloc()))
 }
 
 /// Two sessions open the view at 4, and one of them that at 6 too.
@@ -100,6 +99,5 @@ fn hold_apart(alloc: Global) -> Result<bool, Refusal> {
 
 #[test]
 fn sessions_hold_apart(rt: HostRuntime) -> Result<(), Fail> {
-    assert!(&rt; hold_apart(rt.alloc())?);
-    Ok(())
+    expect_yes(hold_apart(rt.alloc()))
 }

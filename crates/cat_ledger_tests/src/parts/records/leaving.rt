@@ -2,6 +2,7 @@
 use crate::parts::records::making::{
     acquire_at, fill, finds_view, has_tokens, record_at, records_at,
 };
+use crate::verdict::{expect, expect_yes};
 use cat_base::{Refusal, Token};
 use cat_ledger::cat_lifetimes::records::Records;
 use std::alloc::{AllocError, Global};
@@ -40,8 +41,7 @@ fn drops_the_least(alloc: Global) -> Result<bool, Refusal> {
 
 #[test]
 fn the_least_free_view_goes(rt: HostRuntime) -> Result<(), Fail> {
-    assert!(&rt; drops_the_least(rt.alloc())?);
-    Ok(())
+    expect_yes(drops_the_least(rt.alloc()))
 }
 
 /// Records a second view, before which none is to go, nor behind it.
@@ -59,8 +59,7 @@ fn drops_none(alloc: Global) -> Result<bool, Refusal> {
 
 #[test]
 fn no_view_goes_while_there_is_room(rt: HostRuntime) -> Result<(), Fail> {
-    assert!(&rt; drops_none(rt.alloc())?);
-    Ok(())
+    expect_yes(drops_none(rt.alloc()))
 }
 
 /// Lets all views that there may be be held, of which that at 63 is the last.
@@ -93,8 +92,7 @@ fn drops_no_held(alloc: Global) -> Result<bool, Refusal> {
 
 #[test]
 fn where_all_64_are_held_none_is_recorded(rt: HostRuntime) -> Result<(), Fail> {
-    assert!(&rt; drops_no_held(rt.alloc())?);
-    Ok(())
+    expect_yes(drops_no_held(rt.alloc()))
 }
 
 /// Records nine views more beside that at the token 10, at 20, 30 and so on.
@@ -147,8 +145,7 @@ fn prunes_the_others(alloc: Global) -> Result<bool, Refusal> {
 
 #[test]
 fn a_prune_keeps_the_newest_and_the_held(rt: HostRuntime) -> Result<(), Fail> {
-    assert!(&rt; prunes_the_others(rt.alloc())?);
-    Ok(())
+    expect_yes(prunes_the_others(rt.alloc()))
 }
 
 /// How many files a prune of ten views to one would drop.
@@ -165,6 +162,5 @@ fn files_of_ten(alloc: Global) -> Result<usize, Refusal> {
 
 #[test]
 fn views_without_segments_need_no_files(rt: HostRuntime) -> Result<(), Fail> {
-    assert!(&rt; files_of_ten(rt.alloc())? == 0);
-    Ok(())
+    expect(files_of_ten(rt.alloc())? == 0)
 }

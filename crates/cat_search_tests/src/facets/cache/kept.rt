@@ -1,5 +1,6 @@
 //! The cache keeps 64 sets, and the least recently used goes first.
 use crate::facets::cache::made::{begun, parsed, priced, step};
+use crate::verdict::{expect, expect_yes};
 use cat_base::{MAX_CACHED_SETS, Refusal, SegNo};
 use cat_cached_sets::DocSet;
 use cat_cached_sets::cache::{FilterCache, Key, Warming};
@@ -178,8 +179,7 @@ fn are_answered_anew(alloc: Global, calls: &[Call<'_>]) -> Result<bool, Refusal>
 #[test]
 fn the_least_recently_used_set_goes(rt: HostRuntime) -> Result<(), Fail> {
     let alloc = rt.alloc();
-    assert!(rt; are_answered_anew(alloc, PAST_ROOM)? && are_answered_anew(alloc, LOOKED_AT)?);
-    Ok(())
+    expect(are_answered_anew(alloc, PAST_ROOM)? && are_answered_anew(alloc, LOOKED_AT)?)
 }
 
 /// Texts in a segment, and whether their key is that of `price:5 title:red` in segment 1.
@@ -221,6 +221,5 @@ fn are_told(alloc: Global, schema: &Schema, rows: &[(SegNo, &str, bool)]) -> Res
 #[test]
 fn a_key_is_a_segment_and_a_parsed_query(rt: HostRuntime) -> Result<(), Fail> {
     let schema = Schema::read(rt.alloc(), br#"{"price":"number","title":"text"}"#)?;
-    assert!(rt; are_told(rt.alloc(), &schema, SAME)?);
-    Ok(())
+    expect_yes(are_told(rt.alloc(), &schema, SAME))
 }

@@ -1,6 +1,7 @@
 //! A set is made in steps of 256 rows.
 
 use crate::facets::priced::{Dead, priced_puts};
+use crate::verdict::expect_yes;
 use crate::views::segment_of;
 use cat_base::Refusal;
 use cat_cached_sets::cache::{Warm, Warming};
@@ -96,6 +97,5 @@ fn are_made_so(alloc: Global, sets: &[StepText<'_>]) -> Result<bool, Refusal> {
 
 #[test]
 fn a_step_passes_256_rows(rt: HostRuntime) -> Result<(), Fail> {
-    assert!(rt; are_made_so(rt.alloc(), STEPS)?);
-    Ok(())
+    expect_yes(are_made_so(rt.alloc(), STEPS))
 }

@@ -1,5 +1,6 @@
 //! With sets at hand a query has the hits that it has without them.
 use crate::facets::cache::made::parsed;
+use crate::verdict::expect_yes;
 use crate::views::{PutText, sets_of, view_of_texts};
 use cat_base::Refusal;
 use cat_cached_sets::View;
@@ -87,6 +88,5 @@ fn have_hits(alloc: Global, view: &View, rows: &[(&str, &str)]) -> Result<bool, 
 fn dead_rows_of_a_set_are_no_hits(rt: HostRuntime) -> Result<(), Fail> {
     let schema = Schema::read(rt.alloc(), br#"{"color":"facet","price":"number"}"#)?;
     let view = view_of_texts(rt.alloc(), &schema, ROWS, &[2, 3, 5, 7])?;
-    assert!(rt; have_hits(rt.alloc(), &view, HITS)?);
-    Ok(())
+    expect_yes(have_hits(rt.alloc(), &view, HITS))
 }

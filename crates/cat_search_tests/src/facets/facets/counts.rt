@@ -4,6 +4,7 @@ ghost use Rattle.cat_model.specs.Item.{IsItem};
 ghost use Rattle.cat_facets.specs.Kept.{KnowsIn};
 ghost use Rattle.cat_model.specs.View.{segments_of};
 
+use crate::verdict::{expect, expect_yes};
 use crate::views::{Put, PutText, are_in_order, read_put, sets_of, view_of, view_of_texts};
 use cat_base::Refusal;
 use cat_cached_sets::{Query, View};
@@ -169,8 +170,7 @@ fn an_item_counts_once_for_each_of_its_labels(rt: HostRuntime) -> Result<(), Fai
         (1, "color", "color:red", "2 2: 2 red"),
         (9, "color", "price:1", "0 0"),
     ];
-    assert!(rt; are_counts_by(rt.alloc(), COLORED, CUTS, COUNTS)?);
-    Ok(())
+    expect_yes(are_counts_by(rt.alloc(), COLORED, CUTS, COUNTS))
 }
 
 /// Four rows in one segment, in two, and each in one of its own.
@@ -190,8 +190,7 @@ fn the_dimension_is_judged_before_the_count(rt: HostRuntime) -> Result<(), Fail>
         (u64::MAX, "color", "price:1", "NO 25"),
         (1_000, "color", "*:*", "3 2: 2 blue, 2 red"),
     ];
-    assert!(rt; are_counts(rt.alloc(), COLORED, &[2, 4], COUNTS)?);
-    Ok(())
+    expect_yes(are_counts(rt.alloc(), COLORED, &[2, 4], COUNTS))
 }
 
 /// The four items after one more that took the place of `a`, and a delete of `b`.
@@ -212,8 +211,7 @@ fn a_dead_row_is_not_counted(rt: HostRuntime) -> Result<(), Fail> {
         (9, "color", "color:red", "1 1: 1 red"),
         (9, "color", "color:red color:blue", "2 2: 1 blue, 1 red"),
     ];
-    assert!(rt; are_counts_by(rt.alloc(), REPLACED, &[&[4, 5], &[2, 5]], COUNTS)?);
-    Ok(())
+    expect_yes(are_counts_by(rt.alloc(), REPLACED, &[&[4, 5], &[2, 5]], COUNTS))
 }
 
 #[test]
@@ -226,8 +224,7 @@ fn a_label_of_dead_rows_alone_is_not_met(rt: HostRuntime) -> Result<(), Fail> {
         (9, "color", "*:*", "1 1: 1 red"),
         (9, "color", "color:blue", "0 0"),
     ];
-    assert!(rt; are_counts_by(rt.alloc(), ROWS, &[&[2], &[1, 2]], COUNTS)?);
-    Ok(())
+    expect_yes(are_counts_by(rt.alloc(), ROWS, &[&[2], &[1, 2]], COUNTS))
 }
 
 #[test]
@@ -245,8 +242,7 @@ fn ties_go_by_the_bytes_of_labels(rt: HostRuntime) -> Result<(), Fail> {
         (9, "color", "price:3", "1 2: 1 B, 1 ab"),
         (1, "color", "price:[3 TO *]", "2 4: 2 ab"),
     ];
-    assert!(rt; are_counts_by(rt.alloc(), ROWS, CUTS, COUNTS)?);
-    Ok(())
+    expect_yes(are_counts_by(rt.alloc(), ROWS, CUTS, COUNTS))
 }
 
 #[test]
@@ -259,8 +255,7 @@ fn a_view_without_rows_has_no_labels(rt: HostRuntime) -> Result<(), Fail> {
     ];
     const KILLED: &[PutText<'static>] = &[(5, false, r#"{"id":"a","color":["red"]}"#)];
     let alloc = rt.alloc();
-    assert!(rt; are_counts(alloc, &[], &[], COUNTS)? && are_counts(alloc, KILLED, &[1], COUNTS)?);
-    Ok(())
+    expect(are_counts(alloc, &[], &[], COUNTS)? && are_counts(alloc, KILLED, &[1], COUNTS)?)
 }
 
 /// Nine items with one color, one with another, and two that were killed: all hits are most rows of a segment, and one color's
@@ -290,8 +285,7 @@ fn most_rows_and_few_rows_are_counted_alike(rt: HostRuntime) -> Result<(), Fail>
         (9, "color", "*:* -color:red", "0 0"),
     ];
     const ENDS: &[&[usize]] = &[&[12], &[4, 12], &[11, 12]];
-    assert!(rt; are_counts_by(rt.alloc(), MOSTLY_RED, ENDS, COUNTS)?);
-    Ok(())
+    expect_yes(are_counts_by(rt.alloc(), MOSTLY_RED, ENDS, COUNTS))
 }
 
 /// The text of an item with 60 colors, which are the numbers from this one on.
@@ -388,6 +382,5 @@ fn a_thousand_counts_are_told_and_no_more(rt: HostRuntime) -> Result<(), Fail> {
     let view = colored_view(rt.alloc())?;
     let facets = colors_of(rt.alloc(), &view, 1_000)?;
     let more = answer_text(rt.alloc(), &colors_of(rt.alloc(), &view, 1_001))?;
-    assert!(rt; more.as_str() == "NO 25" && are_thousand(rt.alloc(), &facets)?);
-    Ok(())
+    expect(more.as_str() == "NO 25" && are_thousand(rt.alloc(), &facets)?)
 }

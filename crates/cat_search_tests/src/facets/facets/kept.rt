@@ -4,6 +4,7 @@ ghost use Rattle.cat_facets.specs.Kept.{KnowsIn};
 ghost use Rattle.cat_model.specs.View.{segments_of};
 
 use crate::facets::facets::counts::{CountText, answer_text, counts_kept};
+use crate::verdict::{expect, expect_yes};
 use crate::views::{PutText, view_of_texts};
 use cat_base::Token;
 use cat_cached_sets::{Leaf, View};
@@ -81,8 +82,7 @@ fn sixteen_states_are_kept_and_a_seventeenth_is_made(rt: HostRuntime) -> Result<
     let view = view_of_texts(alloc, &schema, LABELED, &[1, 2])?;
     let mut states = ReaderStates::new(alloc)?;
     let are_sixteen = are_all_kept(alloc, &mut states, &view, 0)?;
-    assert!(rt; are_sixteen && are_all_kept(alloc, &mut states, &view, 16)?);
-    Ok(())
+    expect(are_sixteen && are_all_kept(alloc, &mut states, &view, 16)?)
 }
 
 /// The leaf with its first row dead.
@@ -136,6 +136,5 @@ fn a_kept_state_serves_a_later_view_of_the_same_segments(rt: HostRuntime) -> Res
     let Some(leaf) = view.leaves().first() else {
         panic!(&rt; "a view without leaves");
     };
-    assert!(rt; serves_over_deletes(alloc, &schema, leaf)?);
-    Ok(())
+    expect_yes(serves_over_deletes(alloc, &schema, leaf))
 }

@@ -2,6 +2,7 @@
 ghost use Rattle.std.specs.Prelude.{◌≡◌, ◌<◌, length};
 ghost use Rattle.cat_model.specs.View.{segments_of};
 
+use crate::verdict::expect;
 use crate::views::{PutText, view_of_texts};
 use cat_cached_sets::View;
 use cat_facets::ReaderState;
@@ -47,6 +48,5 @@ fn ordinals_are_places_among_the_labels_of_all_rows(rt: HostRuntime) -> Result<(
     let schema = Schema::read(alloc, br#"{"color":"facet"}"#)?;
     let view = view_of_texts(alloc, &schema, ROWS, &[2, 3, 4, 5])?;
     let state = ReaderState::of(alloc, &view, "color")?;
-    assert!(rt; globals_text(alloc, &view, &state)?.as_str() == "1 2 3 |0 3 ||1 |");
-    Ok(())
+    expect(globals_text(alloc, &view, &state)?.as_str() == "1 2 3 |0 3 ||1 |")
 }

@@ -1,5 +1,6 @@
 //! A set in the making over a segment that is gone is given up.
 use crate::facets::filters::making::{Call, Row, are_answered};
+use crate::verdict::expect_yes;
 use std::test::Fail;
 
 #[test]
@@ -23,8 +24,7 @@ fn a_set_over_the_segment_is_given_up(rt: HostRuntime) -> Result<(), Fail> {
         // What is cached stays.
         (Call::Sets("price:299"), "1 - "),
     ];
-    assert!(rt; are_answered(rt.alloc(), 302, &[300, 302], ROWS)?);
-    Ok(())
+    expect_yes(are_answered(rt.alloc(), 302, &[300, 302], ROWS))
 }
 
 #[test]
@@ -36,6 +36,5 @@ fn a_set_that_is_given_up_is_begun_anew(rt: HostRuntime) -> Result<(), Fail> {
         (Call::Steps(5), "begun 256 512 stored idle "),
         (Call::Sets("price:[512 TO *]"), "88 "),
     ];
-    assert!(rt; are_answered(rt.alloc(), 600, &[600], ROWS)?);
-    Ok(())
+    expect_yes(are_answered(rt.alloc(), 600, &[600], ROWS))
 }

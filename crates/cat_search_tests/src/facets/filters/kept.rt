@@ -1,5 +1,6 @@
 //! The newest 16 noted queries are kept, and the 64 sets that were used last.
 use crate::facets::filters::making::{Call, Row, are_answered};
+use crate::verdict::expect_yes;
 use cat_base::Refusal;
 use std::alloc::Global;
 use std::test::Fail;
@@ -46,8 +47,7 @@ fn the_newest_16_queries_are_kept(rt: HostRuntime) -> Result<(), Fail> {
         (&[16, 17], 40, "--++++++++++++++++"),
         (&[16, 0], 40, "+-+++++++++++++++-"),
     ];
-    assert!(rt; are_noted(rt.alloc(), NOTED)?);
-    Ok(())
+    expect_yes(are_noted(rt.alloc(), NOTED))
 }
 
 #[test]
@@ -67,6 +67,5 @@ fn the_64_sets_that_were_used_last_are_kept(rt: HostRuntime) -> Result<(), Fail>
         (Call::Sets("price:1"), "- 0 0 0 "),
         (Call::Sets("price:0"), "1 0 0 0 "),
     ];
-    assert!(rt; are_answered(rt.alloc(), 20, &[5, 10, 15, 20], ROWS)?);
-    Ok(())
+    expect_yes(are_answered(rt.alloc(), 20, &[5, 10, 15, 20], ROWS))
 }

@@ -1,5 +1,6 @@
 //! Sets are made one at a time, for the first missing pair, in steps of 256 rows.
 use crate::facets::filters::making::{Call, Row, are_answered};
+use crate::verdict::expect_yes;
 use cat_base::Refusal;
 use std::alloc::Global;
 use std::test::Fail;
@@ -37,8 +38,7 @@ fn a_step_passes_256_rows(rt: HostRuntime) -> Result<(), Fail> {
         (512, 512, "begun 256 stored idle idle "),
         (513, 513, "begun 256 512 stored idle "),
     ];
-    assert!(rt; are_warmed(rt.alloc(), STEPS)?);
-    Ok(())
+    expect_yes(are_warmed(rt.alloc(), STEPS))
 }
 
 #[test]
@@ -71,8 +71,7 @@ fn queries_come_before_segments(rt: HostRuntime) -> Result<(), Fail> {
         ONE_SET,
         (Call::Len, "4"),
     ];
-    assert!(rt; are_answered(rt.alloc(), 5, &[3, 5], ROWS)?);
-    Ok(())
+    expect_yes(are_answered(rt.alloc(), 5, &[3, 5], ROWS))
 }
 
 #[test]
@@ -87,6 +86,5 @@ fn a_set_in_the_making_is_not_found(rt: HostRuntime) -> Result<(), Fail> {
         (Call::Sets("price:[10 TO 19]"), "10 "),
         (Call::Sets("price:[10 TO 18]"), "- "),
     ];
-    assert!(rt; are_answered(rt.alloc(), 300, &[300], ROWS)?);
-    Ok(())
+    expect_yes(are_answered(rt.alloc(), 300, &[300], ROWS))
 }
