@@ -97,17 +97,17 @@ class Store:
 
     def shelf(self, view: ViewCalls, wish: Wish) -> Shelf:
         """The page of the view that the visitor asks for, or the last one where there are fewer."""
-        search = wish.search()
-        total = view.find(search.narrowed(), count=0).total
-        pages = max(1, -(-total // PAGE))
-        page = min(wish.page, pages)
-        mark = _mark(view, search.narrowed(), search.sort, (page - 1) * PAGE)
-        told: Dict[str, Any] = wish.search(mark).answer(view)
+        query, sort = wish.search().narrowed(), SORTS[wish.sort]
+        # What the first page tells is enough; of a later one it isn't known before whether it is there, and where it begins.
+        total = view.find(query, count=0).total if wish.page > 1 else 0
+        page = min(wish.page, max(1, -(-total // PAGE)))
+        told: Dict[str, Any] = wish.search(_mark(view, query, sort, (page - 1) * PAGE)).answer(view)
         items = [hit["item"] or {} for hit in told["hits"]]
         counts = {group: {each["label"]: each["count"] for each in told["facets"][group]["counts"]} for group in GROUPS}
         by_low = {bar["from"]: bar["count"] for bar in told["histograms"]["price"]}
         counts["price"] = {name: by_low[low] for name, (low, _) in PRICES.items() if name}
-        return Shelf(self.service.views.stamp(view.token), items, total, page, pages, counts)
+        pages = max(1, -(-told["total"] // PAGE))
+        return Shelf(self.service.views.stamp(view.token), items, told["total"], page, pages, counts)
 
     def item(self, id: str) -> Optional[Dict[str, Any]]:
         """An item as it is now, which is what the staff changes; None where there is none."""

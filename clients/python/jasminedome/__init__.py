@@ -2,6 +2,7 @@
 
 import logging
 
+from .answers import FacetCount, Facets, Hit, Page
 from .backups import backup, tar_of
 from .catalogue import Catalogue
 from .dumps import dump
@@ -41,11 +42,12 @@ from .histograms import Bar, even_edges, histogram
 from .journal import Journal
 from .putting import PutMany, RefusedItem
 from .query import EVERYTHING, NOTHING, Query, all_of, any_of, between, none_of, prefix, quote, term, words
+from .questions import Question, facets_of, item_of, page_of, source_of, total_of
 from .reindexing import fitted, reindex
 from .stats import SegmentStat, Snapshot, Stat
 from .typed import folded, searchable, typed
 from .version import __version__
-from .view import FacetCount, Facets, Hit, Page, View
+from .view import View
 
 __all__ = [
     "AllHeld",
@@ -78,6 +80,7 @@ __all__ = [
     "ProgramEnded",
     "PutMany",
     "Query",
+    "Question",
     "REFUSALS",
     "Refusal",
     "RefusedItem",
@@ -99,19 +102,24 @@ __all__ = [
     "between",
     "dump",
     "even_edges",
+    "facets_of",
     "fields_of",
     "fitted",
     "folded",
     "highlighted",
     "histogram",
+    "item_of",
     "marks",
     "none_of",
+    "page_of",
     "prefix",
     "quote",
     "reindex",
     "searchable",
+    "source_of",
     "tar_of",
     "term",
+    "total_of",
     "typed",
     "words",
 ]

@@ -3,10 +3,11 @@
 from __future__ import annotations
 
 from dataclasses import dataclass
-from typing import TYPE_CHECKING, Optional, Sequence, Tuple
+from typing import TYPE_CHECKING, List, Optional, Sequence, Tuple
 
 from .errors import UsageError
 from .query import EVERYTHING, Query, all_of, between
+from .questions import Question, total_of
 
 if TYPE_CHECKING:
     from .http.calls import ViewCalls
@@ -26,15 +27,16 @@ class Bar:
 def histogram(view: "ViewCalls", field: str, edges: Sequence[int], query: Query = EVERYTHING) -> Tuple[Bar, ...]:
     """The hits of the query by their number in the field: below the first edge, between each two, and from the last on.
 
-    `edges` are 1 to 100 rising integers. Each bar is one question to the program. Raises UsageError for what are no
-    edges, and what `View.find` raises.
+    `edges` are 1 to 100 rising integers. All bars are asked in one write. Raises UsageError for what are no edges, and
+    what `View.find` raises.
     """
+    return tuple(view.answers(*bars_of(field, edges, query)))
+
+
+def bars_of(field: str, edges: Sequence[int], query: Query = EVERYTHING) -> "List[Question[Bar]]":
+    """The questions of a histogram, a bar each. Raises UsageError for what are no edges."""
     ends = _checked(edges)
-    bars = []
-    for low, high in zip((None, *ends), (*ends, None)):
-        asked = all_of(query, between(field, low, None if high is None else high - 1))
-        bars.append(Bar(low, high, view.find(asked, count=0).total))
-    return tuple(bars)
+    return [_bar_of(field, query, low, high) for low, high in zip((None, *ends), (*ends, None))]
 
 
 def even_edges(low: int, high: int, count: int) -> Tuple[int, ...]:
@@ -42,6 +44,11 @@ def even_edges(low: int, high: int, count: int) -> Tuple[int, ...]:
     if not 1 <= count < MOST_EDGES or high - low < count:
         raise UsageError(f"there are no {count} bars of integers from {low} to {high}")
     return tuple(low + (high - low) * step // count for step in range(count + 1))
+
+
+def _bar_of(field: str, query: Query, low: Optional[int], high: Optional[int]) -> "Question[Bar]":
+    total = total_of(all_of(query, between(field, low, None if high is None else high - 1)))
+    return Question(total.command, total.rest, total.more, lambda told: Bar(low, high, total.read(told)))
 
 
 def _checked(edges: object) -> Tuple[int, ...]:

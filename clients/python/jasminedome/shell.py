@@ -8,13 +8,14 @@ import re
 import sys
 from typing import Callable, Dict, Iterator, List, Optional, TextIO, Tuple
 
+from .answers import Page
 from .catalogue import Catalogue
 from .errors import BadQuery, JasminedomeError, ProgramEnded, Refusal, UsageError
 from .folders import fields_of
 from .keys import keys
 from .starting import Command, Folder
 from .terminal import shown, table
-from .view import Page, View
+from .view import View
 
 HELP = """\
 A query names a field, a colon and a value: title:red, price:[10 TO 20], brand:ac*. Several of them find what has any

@@ -2,70 +2,16 @@
 
 from __future__ import annotations
 
-import json
-import re
 import weakref
-from dataclasses import dataclass
 from typing import TYPE_CHECKING, Any, Callable, Deque, Dict, Iterable, Iterator, List, Mapping, Optional, Tuple, Union
 
+from .answers import Facets, Hit, Page
 from .errors import UsageError
-from .lines import number, reading, text
-from .query import Query, query_text
+from .lines import number
+from .questions import Question, QueryText, T, facets_of, item_of, page_of, source_of
 
 if TYPE_CHECKING:
     from .catalogue import Catalogue
-
-Key = Union[None, int, str]
-QueryText = Union[str, Query]
-
-_SORT = re.compile(r"[+-][a-z][a-z0-9_]{0,31}\Z")
-_NAME = re.compile(r"[a-z][a-z0-9_]{0,31}\Z")
-
-
-@dataclass(frozen=True)
-class Hit:
-    """An item that a query matches: the number of the write that put it, its id, and what it was sorted by.
-
-    `key` is None in the order of addition, or where the item has no value in the field.
-    """
-
-    number: int
-    id: str
-    key: Key
-
-
-@dataclass(frozen=True)
-class Page:
-    """Some of the hits of a query, in order, and how many hits there are in all. It is gone through as `hits` is."""
-
-    total: int
-    hits: Tuple[Hit, ...]
-
-    def __iter__(self) -> Iterator[Hit]:
-        return iter(self.hits)
-
-    def __len__(self) -> int:
-        return len(self.hits)
-
-    def __bool__(self) -> bool:
-        return bool(self.hits)
-
-
-@dataclass(frozen=True)
-class FacetCount:
-    """A label, and how many hits have it."""
-
-    label: str
-    count: int
-
-
-@dataclass(frozen=True)
-class Facets:
-    """Counts of labels: how many hits have a label at all, how many labels they have, and the commonest of these."""
-
-    matching: int
-    labels: int
-    counts: Tuple[FacetCount, ...]
 
 
 class Reads:
@@ -83,13 +29,7 @@ class Reads:
         Raises BadQuery with the fault's place, TooMany, NotSortable, BadMark (`after` is no record of this view),
         OutOfMemory, and UsageError where an argument has no form.
         """
-        if sort is not None and not _SORT.match(text(sort, "the sort")):
-            raise UsageError(f"the sort {sort!r:.200} isn't + or - and a field")
-        mark = "." if after is None else number(after, "the mark")
-        shown = number(count, "the count")
-        first, *lines = self._ask(f"FIND {self._under} {shown} {sort or '.'} {mark} {query_text(query)}", _shown)
-        with reading():
-            return Page(int(first.split(" ")[1]), tuple(_hit(line) for line in lines))
+        return self._answer(page_of(query, sort, after, count))
 
     def pages(self, query: QueryText = "*:*", sort: Optional[str] = None, count: int = 20) -> Iterator[Page]:
         """All pages of `count` items (1 to 1,000), one after another, of this view; none where nothing matches.
@@ -116,46 +56,45 @@ class Reads:
         By falling count, ties by bytes. Raises BadQuery, NotFacet, TooMany, OutOfMemory, and UsageError where an
         argument has no form.
         """
-        return _read_facets(self._ask(*self._facets_line(field, query, count)))
+        return self._answer(facets_of(field, query, count))
 
     def facets_many(self, fields: Iterable[str], query: QueryText = "*:*", count: int = 20) -> Dict[str, Facets]:
         """The counts of several fields for one query, asked in one write; by the field. Raises what `facets` does."""
         names = list(_names(fields))
-        told = self._ask_many(self._facets_line(name, query, count) for name in names)
-        return {name: _read_facets(each) for name, each in zip(names, told)}
-
-    def _facets_line(self, field: str, query: QueryText, count: int) -> "Tuple[str, Callable[[str], int]]":
-        if not _NAME.match(text(field, "the field")):
-            raise UsageError(f"{field!r:.200} is no name of a field")
-        shown = number(count, "the count")
-        asked = f"FACETS {self._under} {field} {shown} {query_text(query)}"
-        return asked, lambda told: min(shown, int(told.split(" ")[1]))
+        return dict(zip(names, self.answers(*(facets_of(name, query, count) for name in names))))
 
     def source(self, id: str) -> Optional[str]:
         """The JSON text that the item came as, or None where the view has no such item.
 
         Raises BadId, DeviceFailed, Damaged, OutOfMemory, and UsageError where the id can't stand in a line.
         """
-        return _source(self._ask(self._get_line(id)))
+        return self._answer(source_of(id))
 
     def get(self, id: str) -> Optional[Dict[str, Any]]:
         """The item, or None where the view has no such one. Raises what `source` does."""
-        return _item(self.source(id))
+        return self._answer(item_of(id))
 
     def get_many(self, ids: Iterable[Union[str, Hit]]) -> List[Optional[Dict[str, Any]]]:
         """The items of these ids, or of a page's hits, asked in one write; None for one that isn't there.
 
         `view.get_many(page)` are the items of a page, in its order. Raises what `source` does.
         """
-        return [_item(each) for each in self.sources(ids)]
+        return self.answers(*(item_of(each) for each in _names(ids)))
 
     def sources(self, ids: Iterable[Union[str, Hit]]) -> List[Optional[str]]:
         """The texts of these items as they were put, as `get_many` has the items. Raises what `source` does."""
-        asked = [self._get_line(each.id if isinstance(each, Hit) else each) for each in _names(ids)]
-        return [_source(each) for each in self._ask_many((line, _none) for line in asked)]
+        return self.answers(*(source_of(each) for each in _names(ids)))
 
-    def _get_line(self, id: str) -> str:
-        return f"GET {self._under} {text(id, 'the id')}"
+    def answers(self, *questions: "Question[Any]") -> List[Any]:
+        """The answers to questions (`jasminedome.questions`), all of them asked in one write, in their order.
+
+        Raises the first of what they are refused by.
+        """
+        told = self._ask_many((each.line(self._under), each.more) for each in questions)
+        return [each.read(lines) for each, lines in zip(questions, told)]
+
+    def _answer(self, question: "Question[T]") -> T:
+        return question.read(self._ask(question.line(self._under), question.more))
 
     def _ask(self, asked: str, more: Callable[[str], int] = lambda _: 0) -> List[str]:
         raise NotImplementedError
@@ -221,37 +160,3 @@ def _names(given: Iterable[Any]) -> Iterable[Any]:
     if isinstance(given, (str, bytes, Mapping)) or not isinstance(given, Iterable):
         raise UsageError(f"{given!r:.200} is no list")
     return given
-
-
-def _none(_: str) -> int:
-    return 0
-
-
-def _shown(told: str) -> int:
-    return int(told.split(" ")[0])
-
-
-def _hit(line: str) -> Hit:
-    told, id, key = line.split(" ", 2)
-    if key == ".":
-        return Hit(int(told), id, None)
-    return Hit(int(told), id, key[1:] if key.startswith("=") else int(key))
-
-
-def _source(told: List[str]) -> Optional[str]:
-    return None if told[0] == "." else told[0]
-
-
-def _item(source: Optional[str]) -> Optional[Dict[str, Any]]:
-    if source is None:
-        return None
-    with reading():
-        return dict(json.loads(source))
-
-
-def _read_facets(told: List[str]) -> Facets:
-    first, *lines = told
-    with reading():
-        matching, labels = first.split(" ")
-        counts = (line.split(" ", 1) for line in lines)
-        return Facets(int(matching), int(labels), tuple(FacetCount(label, int(many)) for many, label in counts))

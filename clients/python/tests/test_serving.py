@@ -74,13 +74,25 @@ class Told(unittest.TestCase):
         self.assertRaises(OSError, command._key, "/no/such/file", "A_KEY")
 
     def test_what_is_wanting_is_told(self):
-        with mock.patch.dict("sys.modules", {"uvicorn": None, "starlette": None, "jasminedome.http.serving": None}):
-            with self.assertRaisesRegex(UsageError, "apt-get install python3-starlette"):
-                command.serve(argparse.Namespace())
-            with mock.patch.dict("sys.modules", {"jasminedome.http.app": None}):
-                with jasminedome.Catalogue(support.FIELDS, program=support.PROGRAM) as shop:
-                    with jasminedome.http.Service(shop) as service, self.assertRaisesRegex(UsageError, "needs Starlette"):
-                        jasminedome.http.make_app(service)
+        with wanting("uvicorn", "starlette"), self.assertRaisesRegex(UsageError, "apt-get install python3-starlette"):
+            command.serve(argparse.Namespace())
+        with wanting("starlette"), jasminedome.Catalogue(support.FIELDS, program=support.PROGRAM) as shop:
+            with jasminedome.http.Service(shop) as service, self.assertRaisesRegex(UsageError, "needs Starlette"):
+                jasminedome.http.make_app(service)
+
+
+@contextlib.contextmanager
+def wanting(*libraries):
+    """As if these weren't installed, also where what rests on them was imported before."""
+    resting = ("serving", "app")
+    away = dict.fromkeys((*libraries, *(f"jasminedome.http.{name}" for name in resting)))
+    with contextlib.ExitStack() as stack:
+        stack.enter_context(mock.patch.dict("sys.modules", away))
+        for name in resting:
+            if hasattr(jasminedome.http, name):
+                stack.callback(setattr, jasminedome.http, name, getattr(jasminedome.http, name))
+                delattr(jasminedome.http, name)
+        yield
 
 
 if __name__ == "__main__":

@@ -142,7 +142,7 @@ class Shelved:
 
     def __init__(self, view):
         self.token = f"at-{view.token}"
-        for name in ("find", "facets_many", "get_many", "source", "close"):
+        for name in ("find", "answers", "get_many", "source", "close"):
             setattr(self, name, getattr(view, name))
 
 

@@ -7,15 +7,13 @@ from __future__ import annotations
 
 from typing import Any, ContextManager, Dict, Iterable, List, Mapping, Optional, Protocol, Union, runtime_checkable
 
+from ..answers import Hit, Page
 from ..putting import Item, Told
-from ..query import Query
+from ..questions import Question, QueryText
 from ..stats import Snapshot, Stat
-from ..view import Facets, Hit, Page
 
 Token = Union[int, str]
 """The name of a catalogue that holds still. An integer means something in one run of a program alone; a text outlives it."""
-
-QueryText = Union[str, Query]
 
 
 class ViewCalls(Protocol):
@@ -30,8 +28,8 @@ class ViewCalls(Protocol):
     ) -> Page:
         """A page of hits."""
 
-    def facets_many(self, fields: Iterable[str], query: QueryText = "*:*", count: int = 20) -> Dict[str, Facets]:
-        """The counts of several fields."""
+    def answers(self, *questions: "Question[Any]") -> List[Any]:
+        """The answers to questions, asked together."""
 
     def get_many(self, ids: Iterable[Union[str, Hit]]) -> List[Optional[Dict[str, Any]]]:
         """The items of these ids."""

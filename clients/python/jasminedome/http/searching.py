@@ -3,13 +3,15 @@
 from __future__ import annotations
 
 from dataclasses import dataclass, field
+from itertools import islice
 from typing import Any, Dict, List, Mapping, Optional, Sequence, Tuple
 
+from ..answers import Facets, Page
 from ..highlights import highlighted
-from ..histograms import histogram
+from ..histograms import Bar, bars_of
 from ..query import EVERYTHING, Query, all_of, term
+from ..questions import Question, facets_of, item_of, page_of, total_of
 from ..typed import typed
-from ..view import Facets, Page
 from .calls import ViewCalls
 from .parts import filter_of, query_of
 from .problems import unread, wrong
@@ -19,6 +21,7 @@ MOST_TYPED = 1_000
 
 _MOST_FIELDS = 32  # as a catalogue has at most
 _MOST_LABELS = 16  # chosen labels of a filter that are counted one by one
+_TOGETHER = 64  # things that are counted in one write
 _SAID = ("words", "fields", "query", "filters")  # what is looked for
 _MEMBERS = (*_SAID, "sort", "after", "count", "facets", "labels", "items", "highlight", "histograms")
 
@@ -49,50 +52,75 @@ class Search:
         return all_of(self.query, *(each for name, each in self.filters.items() if name != without))
 
     def answer(self, view: ViewCalls) -> Dict[str, object]:
-        """What the view tells: a page of hits, how many there are, and counts."""
-        query = self.narrowed()
-        page = view.find(query, self.sort, self.after, self.count)
+        """What the view tells: a page of hits, how many there are, and counts.
+
+        It takes two writes to the program. The first asks for the page and for all counts. The second asks for what their
+        answers name: the items of the hits, and the counts of chosen labels that aren't among the commonest. Where
+        nothing is named there is none, and where more than 64 things are counted there are more of the first.
+        """
+        page, *told = _asked(view, [self._page(), *self._counts(), *self._bars()])
+        facets = dict(zip(self.facets, told))
+        shown = page.hits if self.has_items or self.highlight else ()
+        rare = [(name, label) for name, counts in facets.items() for label in self._uncounted(name, counts)]
+        named = view.answers(*map(item_of, shown), *(total_of(self._chosen(name, label)) for name, label in rare))
+        totals = dict(zip(rare, named[len(shown) :]))
         is_full = self.count > 0 and len(page.hits) == self.count
         return {
             "total": page.total,
-            "hits": self._hits(view, page),
+            "hits": self._hits(page, named[: len(shown)]),
             "next": page.hits[-1].number if is_full else None,
-            "facets": {name: self._facet(view, name, each) for name, each in self._facets(view, query).items()},
-            "histograms": {name: self._bars(view, name, edges) for name, edges in self.histograms.items()},
+            "facets": {name: _facet(name, counts, totals) for name, counts in facets.items()},
+            "histograms": self._histograms(told[len(facets) :]),
         }
 
-    def _hits(self, view: ViewCalls, page: Page) -> List[Dict[str, object]]:
+    def _page(self) -> "Question[Page]":
+        return page_of(self.narrowed(), self.sort, self.after, self.count)
+
+    def _counts(self) -> "List[Question[Facets]]":
+        return [facets_of(name, self.narrowed(name), self.labels) for name in self.facets]
+
+    def _bars(self) -> "List[Question[Bar]]":
+        return [bar for name, edges in self.histograms.items() for bar in bars_of(name, edges, self.narrowed(name))]
+
+    def _chosen(self, name: str, label: str) -> Query:
+        return all_of(self.narrowed(name), term(name, label))
+
+    def _uncounted(self, name: str, counts: Facets) -> List[str]:
+        """The chosen labels of a field that aren't among the commonest: they are told too, however few have them."""
+        common = {each.label for each in counts.counts}
+        return [label for label in dict.fromkeys(self.chosen.get(name, ())[:_MOST_LABELS]) if label not in common]
+
+    def _hits(self, page: Page, items: Sequence[Optional[Dict[str, Any]]]) -> List[Dict[str, object]]:
         told: List[Dict[str, object]] = [{"id": hit.id, "number": hit.number, "key": hit.key} for hit in page.hits]
-        if self.has_items or self.highlight:
-            for hit, item in zip(told, view.get_many(page)):
-                hit.update({"item": item} if self.has_items else {})
-                hit.update({"highlights": self._highlights(item or {})} if self.highlight else {})
+        for hit, item in zip(told, items):
+            hit.update({"item": item} if self.has_items else {})
+            hit.update({"highlights": self._highlights(item or {})} if self.highlight else {})
         return told
 
     def _highlights(self, item: Mapping[str, Any]) -> Dict[str, str]:
         texts = ((name, item.get(name)) for name in self.highlight)
         return {name: highlighted(value, self.words) for name, value in texts if isinstance(value, str)}
 
-    def _facets(self, view: ViewCalls, query: Query) -> Dict[str, Facets]:
-        """The counts by the field: in one write those of one query, which are all but those with filters of their own."""
-        free = [name for name in self.facets if name not in self.filters]
-        found = view.facets_many(free, query, self.labels) if free else {}
-        for name in self.facets:
-            if name in self.filters:
-                found.update(view.facets_many([name], self.narrowed(name), self.labels))
-        return {name: found[name] for name in self.facets}
+    def _histograms(self, bars: Sequence[Bar]) -> Dict[str, List[Dict[str, object]]]:
+        rest = iter(bars)
+        return {name: [_bar(each) for each in islice(rest, len(edges) + 1)] for name, edges in self.histograms.items()}
 
-    def _facet(self, view: ViewCalls, name: str, told: Facets) -> Dict[str, object]:
-        counts = {each.label: each.count for each in told.counts}
-        for label in self.chosen.get(name, ())[:_MOST_LABELS]:
-            if label not in counts:  # it was chosen, so it is told, however few have it
-                counts[label] = view.find(all_of(self.narrowed(name), term(name, label)), count=0).total
-        listed = [{"label": label, "count": count} for label, count in counts.items()]
-        return {"matching": told.matching, "labels": told.labels, "counts": listed}
 
-    def _bars(self, view: ViewCalls, name: str, edges: Sequence[int]) -> List[Dict[str, object]]:
-        bars = histogram(view, name, edges, self.narrowed(name))
-        return [{"from": each.low, "below": each.high, "count": each.count} for each in bars]
+def _asked(view: ViewCalls, questions: "Sequence[Question[Any]]") -> List[Any]:
+    """The answers to questions, some in a write, so that whoever counts much doesn't keep the program from others."""
+    parts = (questions[at : at + _TOGETHER] for at in range(0, len(questions), _TOGETHER))
+    return [answer for some in parts for answer in view.answers(*some)]
+
+
+def _bar(told: Bar) -> Dict[str, object]:
+    return {"from": told.low, "below": told.high, "count": told.count}
+
+
+def _facet(name: str, counts: Facets, totals: Mapping[Tuple[str, str], int]) -> Dict[str, object]:
+    listed = [(each.label, each.count) for each in counts.counts]
+    listed += [(label, count) for (of, label), count in totals.items() if of == name]
+    told = [{"label": label, "count": count} for label, count in listed]
+    return {"matching": counts.matching, "labels": counts.labels, "counts": told}
 
 
 def search_of(asked: object, searched: Sequence[str], is_folded: bool) -> Search:
@@ -118,7 +146,7 @@ def search_of(asked: object, searched: Sequence[str], is_folded: bool) -> Search
         words=words,
         query=all_of(*parts),
         filters={name: filter_of(name, each) for name, each in filters.items()},
-        chosen={name: _chosen(each) for name, each in filters.items()},
+        chosen={name: _texts(each) for name, each in filters.items()},
         sort=_text(asked, "sort") or None,
         after=_number(asked, "after", None),
         count=_number(asked, "count", 20) or 0,
@@ -136,7 +164,7 @@ def narrows(asked: object) -> bool:
     return isinstance(asked, dict) and any(asked.get(name) for name in named) and set(asked) <= set(_SAID)
 
 
-def _chosen(asked: object) -> Tuple[str, ...]:
+def _texts(asked: object) -> Tuple[str, ...]:
     values = asked if isinstance(asked, list) else [asked]
     return tuple(each for each in values if isinstance(each, str))
 
