@@ -212,7 +212,9 @@ class App:
         return _json(told)
 
     async def _shown(self) -> str:
-        """Waits for a view of what was written, in no thread; answers the newest token."""
+        """Waits for a view of what was written, in no thread where it is one of this service; answers its token."""
+        if self._service.is_shared:
+            return await self._write(self._service.show)
         views, end = self._service.views, time.monotonic() + self._settings.show_seconds
         wanted = views.next
         while not await self._write(self._service.shows, wanted):
@@ -227,7 +229,8 @@ class App:
             # Answers wait until all lines are read: a client that sends all before it reads would wait for ever else.
             told = stack.enter_context(tempfile.SpooledTemporaryFile(_SPOOLED))
             number = 1
-            async for lines in line_batches(request, self._settings.most_bulk, self._settings.body_seconds):
+            count = bulk.SHARED_BATCH if self._service.is_shared else bulk.BATCH
+            async for lines in line_batches(request, self._settings.most_bulk, self._settings.body_seconds, count):
                 answered = await self._write(bulk.answers, self._service, lines, number)
                 told.write("".join(answered).encode())
                 number += len(lines)

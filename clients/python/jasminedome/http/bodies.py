@@ -10,9 +10,6 @@ from starlette.requests import Request
 from .problems import Problem, unread
 from .service import parsed
 
-BATCH = 512
-"""Lines of a bulk that are written at once."""
-
 _MOST_LINE = 16_384  # bytes of a line of a bulk: more than any item has
 
 
@@ -67,8 +64,8 @@ def parsed_body(body: bytes) -> Any:
         raise unread(f"no JSON: {error}") from None
 
 
-async def line_batches(request: Request, most: int, seconds: float) -> AsyncIterator[List[bytes]]:
-    """The lines of a body, some at a time, empty ones too. Raises Problem, also for a line that no item could fill."""
+async def line_batches(request: Request, most: int, seconds: float, count: int) -> AsyncIterator[List[bytes]]:
+    """The lines of a body, so many at a time, empty ones too. Raises Problem, also for a line that no item could fill."""
     rest, lines = b"", []
     async for chunk in chunks(request, most, seconds):
         parts = (rest + chunk).split(b"\n")
@@ -76,9 +73,9 @@ async def line_batches(request: Request, most: int, seconds: float) -> AsyncIter
         if len(rest) > _MOST_LINE or any(len(each) > _MOST_LINE for each in parts):
             raise Problem(413, "TooLargeBody", f"a line has more than {_MOST_LINE:,} bytes")
         lines += parts
-        while len(lines) >= BATCH:
-            yield lines[:BATCH]
-            lines = lines[BATCH:]
+        while len(lines) >= count:
+            yield lines[:count]
+            lines = lines[count:]
     lines += [rest] if rest else []
     if lines:
         yield lines

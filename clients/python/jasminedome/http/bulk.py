@@ -9,6 +9,12 @@ from ..errors import JasminedomeError, UsageError
 from .problems import problem_of
 from .service import Service, parsed
 
+BATCH = 512
+"""Lines that are written at once."""
+
+SHARED_BATCH = 4_096
+"""Lines that are written at once where each time means to wait for a replica."""
+
 Read = Union[Mapping[str, Any], UsageError]
 
 

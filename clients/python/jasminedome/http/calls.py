@@ -5,10 +5,11 @@ One that is read alone, or that shows and commits by itself, has fewer: `ReaderC
 
 from __future__ import annotations
 
-from typing import Any, ContextManager, Dict, Iterable, List, Mapping, Optional, Protocol, Union, runtime_checkable
+from typing import Any, ContextManager, Dict, Iterable, List, Mapping, Optional, Protocol, Sequence, Union, runtime_checkable
 
 from ..answers import Hit, Page
-from ..putting import Item, Told
+from ..errors import JasminedomeError
+from ..putting import Item
 from ..questions import Question, QueryText
 from ..stats import Snapshot, Stat
 
@@ -71,7 +72,7 @@ class WriterCalls(Protocol):
     def delete_where(self, query: QueryText) -> int:
         """Takes out what a query matches; answers the write's number."""
 
-    def say_many(self, lines: Iterable[str]) -> List[Told]:
+    def say_many(self, lines: Iterable[str]) -> Sequence[Union[int, JasminedomeError]]:
         """Writes as lines of the protocol; answers what became of each."""
 
 
@@ -93,6 +94,17 @@ class KeeperCalls(Protocol):
 
     def stat(self) -> Stat:
         """How it stands."""
+
+
+@runtime_checkable
+class SharedCalls(Protocol):
+    """What a catalogue has that is shown and kept for many services, as `jasminedome.replicas.LoggedCatalogue` does it."""
+
+    def show(self) -> Any:
+        """Waits until all that was written can be read; answers the token of a view that has it."""
+
+    def lasts(self) -> int:
+        """A number that rises with what is written: all up to there outlives the program."""
 
 
 class CatalogueCalls(ReaderCalls, WriterCalls, KeeperCalls, Protocol):

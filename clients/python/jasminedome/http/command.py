@@ -6,6 +6,7 @@ import argparse
 import contextlib
 import logging
 import os
+import sys
 import time
 from pathlib import Path
 from typing import Dict, List, Optional, Tuple
@@ -16,10 +17,10 @@ from ..folders import fields_of
 from ..journal import Journal
 from ..plans import KINDS
 from . import MISSING, Folding, Keys, Service, Settings, make_app
-from .calls import CatalogueCalls
+from .calls import CatalogueCalls, ReaderCalls
 
 ENDED = 3
-"""The exit status where the program ended by itself."""
+"""The exit status where the program ended by itself, or no replica was there in time: to start again may help."""
 
 _TIMEOUT = 30.0  # seconds
 _PATIENCE = 3.0  # seconds in which a folder has to be free
@@ -39,6 +40,13 @@ def add_arguments(parser: argparse.ArgumentParser) -> None:
     parser.add_argument(
         "--fold", type=_folding, metavar="FIELD=FIELD,..",
         help="a text field that the service fills with the words of others, in small letters and without accents",
+    )  # fmt: skip
+    about = "in place of a folder: the log in PostgreSQL that is written, as libpq has it"
+    parser.add_argument("--log", metavar="DSN", help=about)
+    parser.add_argument("--name", default="shop", help="of that log (%(default)s)")
+    parser.add_argument(
+        "--replicas", type=_names, metavar="ADDRESS,..",
+        help="the replicas that are read, with --log or alone; else those that the log knows",
     )  # fmt: skip
     parser.add_argument("--journal", metavar="F", help="a folder for a journal: what was answered outlives a kill, commit or not")
     numbers = {
@@ -70,9 +78,14 @@ def serve(asked: argparse.Namespace) -> int:
     )  # fmt: skip
     with contextlib.ExitStack() as stack:
         listening = stack.enter_context(contextlib.closing(serving.bound(*serving.address(asked.listen))))
-        if keys.write is None and not asked.without_keys and not serving.is_local(listening):
+        is_read_alone = asked.replicas is not None and asked.log is None
+        if not is_read_alone and keys.write is None and not asked.without_keys and not serving.is_local(listening):
             raise UsageError(f"other machines reach {asked.listen}: name a key for writing, or say --without-keys")
-        catalogue = _opened(asked, stack)
+        try:
+            catalogue = _catalogue(asked, stack)
+        except _NotThere as error:
+            print(f"jasminedome: {error}", file=sys.stderr)
+            return ENDED
         service = stack.enter_context(Service(catalogue, settings))
 
         def tell() -> None:
@@ -80,6 +93,38 @@ def serve(asked: argparse.Namespace) -> int:
 
         is_told = serving.run(make_app(service, keys), service, listening, tell)
     return 0 if is_told else ENDED
+
+
+class _NotThere(Exception):
+    """Neither replicas nor a log that one needs were there in time."""
+
+
+def _catalogue(asked: argparse.Namespace, stack: contextlib.ExitStack) -> ReaderCalls:
+    """What is served. Raises UsageError for arguments that don't fit together, and _NotThere."""
+    if asked.log is None and asked.replicas is None:
+        return _opened(asked, stack)
+    if asked.folder is not None or asked.journal is not None or asked.field:
+        raise UsageError("replicas have folders and fields of their own: leave --folder, --journal and --field out")
+    try:
+        from ..replicas import Log, LoggedCatalogue, LogUnreachable, NoReplica, Shelves
+    except ImportError as error:
+        raise UsageError(str(error)) from None
+    end = time.monotonic() + asked.timeout
+    try:
+        log = None if asked.log is None else stack.enter_context(Log(asked.log, asked.name, patience=asked.timeout))
+        shelves = stack.enter_context(Shelves(log if asked.replicas is None and log is not None else asked.replicas))
+        catalogue: ReaderCalls = shelves
+        if log is not None:
+            catalogue = LoggedCatalogue(log, shelves, asked.timeout)
+        while True:
+            try:
+                catalogue.open().close()
+                return catalogue
+            except NoReplica:
+                if time.monotonic() > end:
+                    raise
+    except (NoReplica, LogUnreachable) as error:
+        raise _NotThere(str(error)) from None
 
 
 def _opened(asked: argparse.Namespace, stack: contextlib.ExitStack) -> CatalogueCalls:

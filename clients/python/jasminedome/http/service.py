@@ -7,18 +7,20 @@ import json
 import logging
 import threading
 import time
-from typing import Any, Dict, Iterator, List, Mapping, Optional, Sequence, Union
+from typing import Any, Callable, Dict, Iterator, List, Mapping, Optional, Sequence, TypeVar, Union
 
-from ..errors import BadQuery, JasminedomeError, ProgramEnded, Refusal, UsageError
+from ..errors import BadQuery, JasminedomeError, ProgramEnded, Refusal, TokenGone, UsageError
 from ..lines import line, text
-from ..putting import Told, explained, item_text
+from ..putting import explained, item_text
 from ..query import Query
 from ..stats import Stat
-from .calls import KeeperCalls, ReaderCalls, ViewCalls, WriterCalls
+from .calls import KeeperCalls, ReaderCalls, SharedCalls, ViewCalls, WriterCalls
 from .problems import Problem, problem_of, wrong
 from .searching import Search, narrows, search_of
 from .settings import Settings
 from .views import Clock, Views
+
+T = TypeVar("T")
 
 _LOOK = 5.0  # seconds between two looks at whether the program is there, where nothing is written
 _LONGEST_SESSION = "9999"
@@ -34,7 +36,8 @@ class Service:
     these but for the one line that the program is at. The catalogue is the caller's to close, behind this.
 
     A catalogue that has no calls to write is read alone, unless there is a `writer` beside it; and one that doesn't
-    record and commit when it is told to is looked at anew every `show_every` seconds.
+    record and commit when it is told to is looked at anew every `show_every` seconds. Where it has the calls of
+    `SharedCalls`, it is asked to show what was written, and to tell that it lasts.
     """
 
     def __init__(
@@ -48,6 +51,7 @@ class Service:
         self.catalogue = catalogue
         self._writer = writer or (catalogue if isinstance(catalogue, WriterCalls) else None)
         self._keeper = catalogue if isinstance(catalogue, KeeperCalls) else None
+        self._shared = catalogue if isinstance(catalogue, SharedCalls) else None
         self.settings = settings
         self._fields = catalogue.fields
         self.searched = settings.searched(self._fields)
@@ -90,6 +94,11 @@ class Service:
         """Whether it isn't closed, and its program hasn't ended as far as is known."""
         return not self._is_closed.is_set() and not self._ended.is_set()
 
+    @property
+    def is_shared(self) -> bool:
+        """Whether the catalogue is shown and kept for others too."""
+        return self._shared is not None
+
     def wait_for_end(self, seconds: Optional[float] = None) -> bool:
         """Waits until the program has ended by itself, for so many seconds at most; answers whether it has."""
         return self._ended.wait(seconds)
@@ -107,9 +116,12 @@ class Service:
         Raises Gone, Problem, and what `View.find`, `facets` and `get` raise.
         """
         search = asked if isinstance(asked, Search) else self.search_of(asked)
-        view = self.views.get(stamp)
-        try:
+
+        def answer(view: ViewCalls) -> Dict[str, object]:
             return {"token": self.views.stamp(view.token), "newest": self.views.newest, **search.answer(view)}
+
+        try:
+            return self._read(stamp, answer)
         except BadQuery as error:  # its place is in what was made of all parts, so this is told beside it
             problem = problem_of(error)
             problem.more["query"] = search.narrowed().text
@@ -125,7 +137,18 @@ class Service:
 
     def source(self, id: str, stamp: Optional[str] = None) -> Optional[str]:
         """The text of an item in that view; None where it has none. Raises Gone, and what `View.source` raises."""
-        return self.views.get(stamp).source(id)
+        return self._read(stamp, lambda view: view.source(id))
+
+    def _read(self, stamp: Optional[str], read: Callable[[ViewCalls], T]) -> T:
+        """What is read of a view. Raises Gone where it is lost since, as one may be that others hold."""
+        view = self.views.get(stamp)
+        try:
+            return read(view)
+        except TokenGone:
+            self.views.drop(view)
+            if stamp is not None:
+                raise self.views.lost(stamp) from None
+            return read(self.views.get())
 
     def stat(self) -> Optional[Stat]:
         """How the catalogue stands; None where it doesn't tell, but answers. Raises what `Catalogue.stat` raises."""
@@ -174,7 +197,7 @@ class Service:
             except UsageError as error:
                 told.append(error)
         with self._writing():
-            answers: List[Told] = self._written_by().say_many(lines)
+            answers = self._written_by().say_many(lines)
         for place, answer in zip(places, answers):
             told[place] = explained(answer, items[place], self._fields) if isinstance(answer, Refusal) else answer
         return told
@@ -184,6 +207,8 @@ class Service:
 
         Raises what `Catalogue.commit` raises.
         """
+        if self._shared is not None:
+            return self._shared.lasts()
         wanted = self._begun + 1
         with self._committing:
             if self._done >= wanted:  # somebody's commit began after this call
@@ -192,6 +217,8 @@ class Service:
 
     def commit(self, text: str = "") -> int:
         """Commits what was written; answers the commit's number. Raises what `Catalogue.commit` raises."""
+        if self._shared is not None and not text:
+            return self._shared.lasts()
         keeper = self._kept_by()
         with self._committing:
             self._begun += 1
@@ -208,8 +235,10 @@ class Service:
     def show(self) -> str:
         """Waits until a view has what was written, which is made as soon as it may; answers the newest one's stamp.
 
-        Raises what `Catalogue.refresh` raises.
+        Of a catalogue of `SharedCalls` it is the stamp of the view that was asked for. Raises what `Catalogue.refresh` raises.
         """
+        if self._shared is not None:
+            return self.views.stamp(self._shared.show())
         self._kept_by()
         wanted = self.views.next
         while not self.shows(wanted):

@@ -10,7 +10,7 @@ import time
 from dataclasses import dataclass
 from typing import Callable, Dict, Optional
 
-from ..errors import AllHeld, JasminedomeError, TokenGone
+from ..errors import AllHeld, JasminedomeError, TokenGone, UsageError
 from .calls import KeeperCalls, ReaderCalls, Token, ViewCalls
 from .problems import Gone
 
@@ -99,9 +99,22 @@ class Views:
                 return kept.view
         found = self._opened(token) if isinstance(token, str) else None
         if found is None:
-            self.gone += 1
-            raise Gone(stamp or "", self.newest)
+            raise self.lost(stamp or "")
         return found
+
+    def lost(self, stamp: str) -> Gone:
+        """What a visitor is told whose view isn't kept any more; counts it."""
+        self.gone += 1
+        return Gone(stamp, self.newest)
+
+    def drop(self, view: ViewCalls) -> None:
+        """Forgets a view that others held, and hold no more. Where it was the newest, a newer one is made."""
+        with self._making:
+            if view.token == self._newest:
+                self._make()
+        with self._lock:
+            if view.token != self._newest:
+                self._kept.pop(view.token, None)
 
     def current(self) -> ViewCalls:
         """The newest view, for whoever keeps no token."""
@@ -121,7 +134,7 @@ class Views:
         """A view whose token is a text, which another run or another machine may have given."""
         try:
             view = self._catalogue.open(token)
-        except TokenGone:
+        except (TokenGone, UsageError):  # the latter for what is no token
             return None
         with self._lock:
             kept = self._kept.setdefault(token, _Kept(view, self._clock(), True))

@@ -17,6 +17,7 @@ from .errors import (
     WrongBatch,
 )
 from .log import Head, Log, Outcome, ReplicaRow, Writing
+from .logged import LoggedCatalogue
 from .shelves import ShelfView, Shelves, Shown
 
 __all__ = [
@@ -29,6 +30,7 @@ __all__ = [
     "LogDiffers",
     "LogRefused",
     "LogUnreachable",
+    "LoggedCatalogue",
     "Mark",
     "NoReplica",
     "NotTold",

@@ -6,6 +6,7 @@ import contextlib
 import itertools
 import json
 import logging
+import re
 import threading
 import time
 from collections import deque
@@ -38,6 +39,7 @@ _TURN = 0.1  # seconds between two rounds
 _ALIVE = 60.0  # seconds since its last word in which a replica counts
 _LOOKED = 5.0  # seconds between two looks into the log for addresses
 _IDLE = 16  # connections of one replica that are kept for later calls
+_TOKEN = re.compile(r"(0|[1-9][0-9]{0,18})(-[0-9a-f]{12})?\Z", re.ASCII)  # or a stamp
 _Asked = Tuple[str, Callable[[str], int]]
 
 
@@ -246,15 +248,26 @@ class Shelves:
         lines = [line(_text(each)) for each, _ in asked]
         if not lines:
             return []
+        return self._told(lines, lambda replies: [_read(reply, more) for reply, (_, more) in zip(replies, asked)])
+
+    def _reopened(self, token: str) -> ShelfView:
+        asked = line(f"HAS {token}")
+        if not _TOKEN.match(token):
+            raise UsageError(f"{token!r:.200} is no token")
+        return self._told([asked], lambda replies: ShelfView(self, _read_stamp(replies[0])))
+
+    def _told(self, lines: Sequence[bytes], pick: Callable[[List[bytes]], Picked]) -> Picked:
+        """What is picked of the replies of a replica that has the token of these lines; goes round until one has it."""
         until = time.monotonic() + self._patience
-        trouble, is_first = None, True
+        trouble: Optional[Refusal] = None
+        is_first, are_past, end = True, False, None
         while True:
             lacking = 0
             for shelf in self._every():
                 replies = shelf.ask(lines, self._silence)
                 if replies is not None and GONE not in replies:
                     try:
-                        told = [_read(reply, more) for reply, (_, more) in zip(replies, asked)]
+                        told = pick(replies)
                     except Refusal as error:
                         if not is_own_trouble(error):
                             raise
@@ -264,37 +277,33 @@ class Shelves:
                         return told
                 lacking += replies is not None and GONE in replies
                 is_first = False
-            if time.monotonic() > until or self._are_past(lacking, lines[0]):
-                raise trouble or _lost(lacking, lines[0])
-            time.sleep(_TURN)
+            if are_past and lacking:
+                raise TokenLost(detail=_token_of(lines[0]))
+            if time.monotonic() > until:
+                raise trouble or NoReplica(f"no replica has {_token_of(lines[0])} yet" if lacking else "no replica could be asked")
+            end = self._end() if lacking and end is None else end
+            are_past = lacking == len(self._shelves) and self._are_past(_token_of(lines[0]), end)
+            if not are_past:  # else asked once more, since one may have come to have it meanwhile
+                time.sleep(_TURN)
 
-    def _reopened(self, token: str) -> ShelfView:
-        asked = line(f"HAS {token}")
-        if " " in token:
-            raise UsageError(f"{token!r:.200} is no token")
-        until = time.monotonic() + self._patience
-        while True:
-            lacking = 0
-            for shelf in self._every():
-                replies = shelf.ask([asked], self._silence)
-                if replies is not None and replies[0].startswith(b"OK "):
-                    return ShelfView(self, replies[0][3:-1].decode())
-                lacking += replies is not None
-            if time.monotonic() > until or self._are_past(lacking, asked):
-                raise _lost(lacking, asked)
-            time.sleep(_TURN)
-
-    def _are_past(self, lacking: int, asked: bytes) -> bool:
-        """Whether every replica lacks the line's token, has caught up, and is past it, so that none will bring it back.
-
-        One that comes back brings back every token that the log has in the window.
+    def _are_past(self, token: str, end: Optional[int]) -> bool:
+        """Whether every replica has caught up, and is past the token or at this end of the log, so that none that lacks it
+        will have it. One that comes back brings back every token that the log has in the window.
         """
-        if lacking < len(self._shelves):
-            return False
-        number = _token_of(asked).partition("-")[0]
+        number = int(token.partition("-")[0])
         told = self.status().values()
-        are_ready = all(each is not None and each["is_ready"] and each["newest"] for each in told)
-        return are_ready and number.isdigit() and all(each["newest"]["token"] > int(number) for each in told if each)
+        return all(
+            each is not None and each["is_ready"] and each["newest"]
+            and (each["newest"]["token"] >= number or (end is not None and each["position"] >= end))
+            for each in told
+        )  # fmt: skip
+
+    def _end(self) -> Optional[int]:
+        """The position of the log now, behind that of every token that was given out; None where it isn't known."""
+        try:
+            return None if self._log is None else self._log.head().position
+        except JasminedomeError:
+            return None
 
     def _newest_behind(self, position: int, on: int, is_lasting: bool) -> Shown:
         """A mark that `on` replicas show, at or behind a position."""
@@ -338,7 +347,8 @@ class Shelves:
         return sorted(known[turn:] + known[:turn], key=lambda shelf: shelf.rests)
 
     def _known(self) -> List[_Shelf]:
-        if self._log is not None and time.monotonic() - self._looked_at > _LOOKED and self._looking.acquire(blocking=False):
+        rest = _LOOKED if self._shelves else _TURN
+        if self._log is not None and time.monotonic() - self._looked_at > rest and self._looking.acquire(blocking=False):
             self._looked_at = time.monotonic()
             if self._shelves:
                 threading.Thread(target=self._look, args=(self._log,), daemon=True).start()
@@ -383,8 +393,10 @@ def _shown_behind(told: Told, position: int, is_lasting: bool) -> Shown:
     return found
 
 
-def _lost(lacking: int, asked: bytes) -> Exception:
-    return TokenLost(detail=_token_of(asked)) if lacking else NoReplica("no replica could be asked")
+def _read_stamp(reply: bytes) -> str:
+    if not reply.startswith(b"OK "):
+        raise BadReply(f"no stamp: {reply[:200]!r}")
+    return reply[3:-1].decode()
 
 
 def _token_of(asked: bytes) -> str:

@@ -8,6 +8,7 @@ import unittest.mock
 
 import replicated  # first: it finds the package
 from replicated import FAKE, FLAKY, PROGRAM, puts
+from serving import eventually
 
 import jasminedome
 from jasminedome.replicas import Mark, NoReplica, Shelves, TokenLost
@@ -116,6 +117,7 @@ class Reads(replicated.LogTest):
         path = str(self.room / "one.sock")
         one = self.node("one", listen=path)
         one.wait(self.log.append(puts(1), Mark.ANCHOR))
+        self.assertTrue(eventually(self.log.replicas))  # it has told of itself
         with Shelves(self.log) as shelves:
             self.assertEqual((shelves.addresses, shelves.open().find().total), ([path], 1))
             self.assertEqual(list(shelves.status()), [path])
