@@ -53,7 +53,7 @@ def write_table(path, rows):
         table = csv.writer(out)
         table.writerow(["id", "title", "brand", "color", "price"])
         for number in range(rows):
-            title = " ".join(chance.choices(WORDS, k=5)).capitalize()
+            title = " ".join([chance.choice(COLORS), *chance.choices(WORDS, k=4)]).capitalize()
             colors = "|".join(chance.sample(COLORS, chance.choice((1, 1, 2))))
             table.writerow([f"item-{number}", title, f"Brand {chance.randrange(80)}", colors, int(chance.lognormvariate(8, 1))])
 
