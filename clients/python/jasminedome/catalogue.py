@@ -10,6 +10,7 @@ from collections import deque
 from itertools import islice
 from typing import Callable, Deque, Iterable, Iterator, List, Mapping, Optional, Sequence, Tuple, Union
 
+from .closing import Closing
 from .errors import JasminedomeError, Refusal, Timeout, UsageError
 from .lines import line, number, reading, seconds
 from .lines import text as _text
@@ -31,7 +32,7 @@ More = Callable[[str], int]
 """Of what follows OK in a reply's first line, how many lines the reply goes on for."""
 
 
-class Catalogue:
+class Catalogue(Closing):
     """A catalogue that a program of its own serves; a context manager, which ends the program.
 
     `fields` maps each field's name to its kind: "text", "keyword", "number" or "facet". `folder` is one that exists,
@@ -90,15 +91,6 @@ class Catalogue:
     def __repr__(self) -> str:
         where = "memory" if self.folder is None else repr(self.folder)
         return f"<Catalogue in {where}, process {self.pid}{'' if self._leave.alive else ', closed'}>"
-
-    def __enter__(self) -> "Catalogue":
-        return self
-
-    def __exit__(self, *_: object) -> None:
-        self.close()
-
-    async def __aenter__(self) -> "Catalogue":
-        return self
 
     async def __aexit__(self, *_: object) -> None:
         await asyncio.to_thread(self.close)

@@ -7,10 +7,10 @@ import threading
 from collections import deque
 from dataclasses import dataclass, field
 from pathlib import Path
-from types import TracebackType
-from typing import ContextManager, Deque, Iterable, List, Mapping, Optional, Tuple, Type, Union
+from typing import ContextManager, Deque, Iterable, List, Mapping, Optional, Tuple, Union
 
 from .catalogue import Catalogue
+from .closing import Closing
 from .errors import BadReply, JasminedomeError, NoCommit, Refusal, Timeout, UsageError, fresh
 from .journal_files import JournalFiles
 from .lines import line, text
@@ -36,7 +36,7 @@ class _Said:
     is_done: bool = False
 
 
-class Journal:
+class Journal(Closing):
     """A catalogue of a folder whose every write is in a journal first; a context manager, which closes the journal.
 
     It has the calls of `Catalogue` that its readers and writers need, and all writes have to go through it. Any thread
@@ -67,14 +67,6 @@ class Journal:
         except BaseException:
             self._files.close()
             raise
-
-    def __enter__(self) -> "Journal":
-        return self
-
-    def __exit__(
-        self, kind: Optional[Type[BaseException]], error: Optional[BaseException], trace: Optional[TracebackType]
-    ) -> None:
-        self.close()
 
     def close(self) -> None:
         """Closes the journal. Nothing can be written then, and nothing is committed by this."""

@@ -15,6 +15,7 @@ import zlib
 from pathlib import Path
 from typing import Any, BinaryIO, Iterator, Optional, Union
 
+from .closing import Closing
 from .errors import UsageError
 from .lines import text
 
@@ -30,7 +31,7 @@ _BLOCK = 1 << 20
 _SNIFFED = 4_096  # bytes that tell a form
 
 
-class Source:
+class Source(Closing):
     """A text that is read from its beginning as often as is asked for. `read` of its `size` bytes were read last."""
 
     def __init__(
@@ -54,12 +55,6 @@ class Source:
         self._read = 0
         self.encoding = self._marked_encoding() if encoding is None else _known(encoding)
         self.form = form or self._told_form()
-
-    def __enter__(self) -> "Source":
-        return self
-
-    def __exit__(self, *_: object) -> None:
-        self.close()
 
     def close(self) -> None:
         """Lets go what was kept of standard input."""

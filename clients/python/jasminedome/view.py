@@ -6,6 +6,7 @@ import weakref
 from typing import TYPE_CHECKING, Any, Callable, Deque, Dict, Iterable, Iterator, List, Mapping, Optional, Tuple, Union
 
 from .answers import Facets, Hit, Page
+from .closing import Closing
 from .errors import UsageError
 from .lines import number
 from .questions import Question, QueryText, T, facets_of, item_of, page_of, source_of
@@ -103,7 +104,7 @@ class Reads:
         raise NotImplementedError
 
 
-class View(Reads):
+class View(Closing, Reads):
     """The catalogue after `token` writes, held until it is closed; `Catalogue.open` makes it.
 
     A context manager. Any thread may read from it. One that is forgotten is closed at the next call of the catalogue.
@@ -118,18 +119,6 @@ class View(Reads):
         # A finalizer runs anywhere, even in a thread that is sending: it notes what to close, and sends nothing.
         self._forget = weakref.finalize(self, left.append, (session, token))
         self._forget.atexit = False
-
-    def __enter__(self) -> "View":
-        return self
-
-    def __exit__(self, *_: object) -> None:
-        self.close()
-
-    async def __aenter__(self) -> "View":
-        return self
-
-    async def __aexit__(self, *_: object) -> None:
-        self.close()
 
     def __repr__(self) -> str:
         return f"<View of token {self.token}{'' if self._forget.alive else ', closed'}>"

@@ -89,14 +89,7 @@ class Ends(unittest.TestCase):
         with jasminedome.Catalogue({}, program=[sys.executable, "-c", code]) as shop:
             errors = []
             calls = [lambda: shop.put({"id": "a"}), lambda: shop.put_many([{"id": "a" * 60}] * 100_000), shop.open]
-            threads = [threading.Thread(target=self.catch, args=(call, errors)) for call in calls]
-            for thread in threads:
-                thread.start()
-            time.sleep(0.2)
-            os.kill(shop.pid, signal.SIGKILL)
-            for thread in threads:
-                thread.join(20)
-                self.assertFalse(thread.is_alive())
+            self.killed_under(shop, [threading.Thread(target=self.catch, args=(call, errors)) for call in calls])
         self.assertEqual([type(error) for error in errors], [ProgramEnded] * 3)
 
     def test_a_child_killed_under_eight_threads(self):
@@ -112,16 +105,19 @@ class Ends(unittest.TestCase):
                     with shop.open() as view:
                         view.find(sort="+price")
 
-            threads = [threading.Thread(target=self.catch, args=(call, errors)) for _ in range(8)]
-            for thread in threads:
-                thread.start()
-            begun.wait()
-            time.sleep(0.3)
-            os.kill(shop.pid, signal.SIGKILL)
-            for thread in threads:
-                thread.join(20)
-                self.assertFalse(thread.is_alive())
+            self.killed_under(shop, [threading.Thread(target=self.catch, args=(call, errors)) for _ in range(8)], begun.wait)
         self.assertEqual([(type(error), error.status) for error in errors], [(ProgramEnded, -signal.SIGKILL)] * 8)
+
+    def killed_under(self, shop, threads, wait=lambda: None):
+        """Kills the program while threads are at it, each of which has to end then."""
+        for thread in threads:
+            thread.start()
+        wait()
+        time.sleep(0.3)
+        os.kill(shop.pid, signal.SIGKILL)
+        for thread in threads:
+            thread.join(20)
+            self.assertFalse(thread.is_alive())
 
     def catch(self, call, errors):
         try:

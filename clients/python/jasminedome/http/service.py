@@ -9,6 +9,7 @@ import threading
 import time
 from typing import Any, Callable, Dict, Iterator, List, Mapping, Optional, Sequence, TypeVar, Union
 
+from ..closing import Closing
 from ..errors import BadQuery, JasminedomeError, ProgramEnded, Refusal, TokenGone, UsageError
 from ..lines import line, text
 from ..putting import explained, item_text
@@ -29,7 +30,7 @@ _FIRST_PAUSE, _LONGEST_PAUSE = 0.1, 5.0  # seconds until what failed is tried ag
 log = logging.getLogger("jasminedome.http")
 
 
-class Service:
+class Service(Closing):
     """A catalogue with the views that visitors hold. Any thread may call; a context manager, which closes it.
 
     A thread of its own makes views of what is written, commits it and keeps the folder in order. No visitor waits for
@@ -72,12 +73,6 @@ class Service:
         turns = self._keep if self._keeper is not None else self._look
         self._upkeep = threading.Thread(target=turns, name="jasminedome upkeep", daemon=True)
         self._upkeep.start()
-
-    def __enter__(self) -> "Service":
-        return self
-
-    def __exit__(self, *_: object) -> None:
-        self.close()
 
     def close(self) -> None:
         """Ends the upkeep and commits what wasn't committed. A second call does nothing. Raises what `commit` raises."""

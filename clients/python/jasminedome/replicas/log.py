@@ -13,6 +13,7 @@ from itertools import islice
 from pathlib import Path
 from typing import Any, Dict, Iterable, Iterator, List, Mapping, Optional, Sequence, Tuple, Union
 
+from ..closing import Closing
 from ..errors import JasminedomeError, UsageError, refusal
 from ..lines import number, text
 from ..putting import Item, json_text
@@ -86,7 +87,7 @@ class ReplicaRow(Row):
     age: float
 
 
-class Log:
+class Log(Closing):
     """A log of writes. Any thread may call; what many threads append goes into PostgreSQL together.
 
     A call raises LogUnreachable where PostgreSQL is away for longer than `patience` seconds, LogRefused where it refuses
@@ -130,12 +131,6 @@ class Log:
         ]
         say_together(dsn, statements)
         return cls(dsn, name)
-
-    def __enter__(self) -> "Log":
-        return self
-
-    def __exit__(self, *_: object) -> None:
-        self.close()
 
     def close(self) -> None:
         """Ends the connections; a later call makes them anew."""

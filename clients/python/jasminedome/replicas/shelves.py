@@ -12,6 +12,7 @@ import time
 from collections import deque
 from typing import Any, Callable, Deque, Dict, Iterable, List, NamedTuple, Optional, Sequence, Tuple, TypeVar, Union
 
+from ..closing import Closing
 from ..errors import BadReply, JasminedomeError, Refusal, UsageError
 from ..lines import line, number, reading, text
 from ..replies import Reply
@@ -51,7 +52,7 @@ class Shown(NamedTuple):
     stamp: str
 
 
-class ShelfView(Reads):
+class ShelfView(Closing, Reads):
     """The catalogue under one token, wherever it is read; `Shelves.open` makes it. A context manager, which ends nothing:
     replicas hold the token for as long as their log says, whoever reads.
 
@@ -65,18 +66,6 @@ class ShelfView(Reads):
         self._under = token
         self.position = position
         """The position of the log up to which it shows the catalogue, where that is known."""
-
-    def __enter__(self) -> "ShelfView":
-        return self
-
-    def __exit__(self, *_: object) -> None:
-        self.close()
-
-    async def __aenter__(self) -> "ShelfView":
-        return self
-
-    async def __aexit__(self, *_: object) -> None:
-        self.close()
 
     def __repr__(self) -> str:
         return f"<ShelfView of token {self.token}>"
@@ -154,7 +143,7 @@ class _Shelf:
         self.close()  # what waits there is of the same replica
 
 
-class Shelves:
+class Shelves(Closing):
     """The replicas of a log, for readers. Any thread may call; nothing of a visitor is kept here or there.
 
     `replicas` are their addresses, HOST:PORT or the path of a socket; or a Log, which knows them.
@@ -182,18 +171,6 @@ class Shelves:
             self._shelves = {text(each, "the address"): _Shelf(each) for each in replicas}
             if not self._shelves:
                 raise UsageError("there are no addresses of replicas")
-
-    def __enter__(self) -> "Shelves":
-        return self
-
-    def __exit__(self, *_: object) -> None:
-        self.close()
-
-    async def __aenter__(self) -> "Shelves":
-        return self
-
-    async def __aexit__(self, *_: object) -> None:
-        self.close()
 
     def close(self) -> None:
         """Ends the connections; a later call makes them anew."""
