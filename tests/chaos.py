@@ -4,10 +4,11 @@
 usage: tests/chaos.py [PROGRAM] [--items N] [--seconds S] [--seed N]    (by hand: it takes a minute or two, and every processor)
 
 Eight writers put their share of the items and then go on changing, deleting and breaking them, in batches under keys of
-which some are said twice. Visitors page through the newest anchor, and note what they are shown. In the end every
-acknowledged batch has to be in the log once, at its position and in its writer's order; every replica has to show what a
-plain model of the log shows, and the same bytes as the others under equal tokens; and whatever a visitor was shown under a
-token has to be one thing, whoever answered. The last line is `chaos.py: ..` with the figures, and the status 0 where all is so.
+which some are said twice. Visitors page through the newest anchor, and note what they are shown; one of them over HTTP, from
+services that are killed too. In the end every acknowledged batch has to be in the log once, at its position and in its
+writer's order; every replica has to show what a plain model of the log shows, and the same bytes as the others under equal
+tokens; and whatever a visitor was shown under a token has to be one thing, whoever answered. The last line is `chaos.py: ..`
+with the figures, and the status 0 where all is so.
 """
 
 import argparse
@@ -33,6 +34,7 @@ sys.path[:0] = [str(TOP / "bench"), str(TOP / "clients" / "python" / "tests" / "
 import items  # noqa: E402
 import replicated  # noqa: E402
 from cluster import Cluster, wanting  # noqa: E402
+from serving import PYTHON, Server  # noqa: E402
 
 from jasminedome.replicas import Log, Mark, NoReplica, Shelves, TokenLost  # noqa: E402
 
@@ -115,6 +117,8 @@ class Seen:
     sessions: int = 0
     moved: int = 0
     longest: float = 0.0
+    longest_over_http: float = 0.0
+    services: int = 0
 
 
 def visit(addresses, number, until, out):
@@ -152,6 +156,83 @@ def read(shelves, seen, line, more):
     seen.reads += 1
     seen.digests[line].add(digest(told))
     return told
+
+
+class Guest:
+    """A visitor over HTTP. The service is its own, and is killed again and again: the next one goes on under the token."""
+
+    def __init__(self, dsn, number, seen):
+        self.dsn, self.chance, self.seen = dsn, random.Random(number), seen
+        self.server = None
+
+    def visit(self, until):
+        """Does what `visit_once` does, in the words of HTTP."""
+        sort, query, token, after = self.chance.choice(SORTS), self.chance.choice(QUERIES), None, None
+        self.seen.sessions += 1
+        while time.monotonic() < until:
+            asked = {"query": query, "count": PAGE, "after": after, "facets": ["color"], "labels": 50, "items": False}
+            told = self.search(token, {**asked, **({} if sort == "." else {"sort": sort})})
+            if told is None:
+                return
+            token, after = told["token"], told["next"]
+            if after is None:
+                break
+            if self.chance.random() < 0.1:
+                self.end()
+            time.sleep(self.chance.random() * 0.1)
+
+    def search(self, token, asked):
+        """An answer, noted as the lines that a replica answers; None where the token is gone."""
+        begun = time.monotonic()
+        while True:
+            try:
+                status, told = self.service().ask("POST", "/search" + ("" if token is None else f"?token={token}"), asked)
+            except OSError as error:
+                status, told = 503, error
+            if status in (200, 410) or time.monotonic() > begun + PATIENCE:
+                break
+            time.sleep(0.2)
+        if status != 200:
+            print(f"chaos.py: a visitor lost the page over HTTP: {status} {told}", file=sys.stderr)
+            self.seen.lost += 1
+            return None
+        self.note(told, asked)
+        self.seen.longest_over_http = max(self.seen.longest_over_http, time.monotonic() - begun)
+        return told
+
+    def note(self, told, asked):
+        hits, counts, token, query = told["hits"], told["facets"]["color"], told["token"], asked["query"]
+        keys = ["." if hit["key"] is None else f"={hit['key']}" if isinstance(hit["key"], str) else hit["key"] for hit in hits]
+        page = [f"{len(hits)} {told['total']}", *(f"{hit['number']} {hit['id']} {key}" for hit, key in zip(hits, keys))]
+        after = "." if asked["after"] is None else asked["after"]
+        labels = [f"{each['count']} {each['label']}" for each in counts["counts"]]
+        self.seen.digests[f"FIND {token} {PAGE} {asked.get('sort', '.')} {after} {query}"].add(digest(page))
+        self.seen.digests[f"FACETS {token} color 50 {query}"].add(digest([f"{counts['matching']} {counts['labels']}", *labels]))
+        self.seen.reads += 2
+
+    def service(self):
+        if self.server is None:
+            self.server = Server("--log", self.dsn, "--name", LOG, "--show-every", "0.5", "--timeout", PATIENCE, fields=False)
+        return self.server
+
+    def end(self):
+        """Kills the service, if one runs."""
+        if self.server is not None:
+            self.server.stop(signal.SIGKILL)
+            self.server = None
+            self.seen.services += 1
+
+
+def visit_over_http(dsn, number, until, out):
+    seen = Seen()
+    guest = Guest(dsn, number, seen)
+    try:
+        while time.monotonic() < until:
+            guest.visit(until)
+    finally:
+        guest.end()
+        seen.digests = dict(seen.digests)
+        out.put(seen)
 
 
 def digest(told):
@@ -304,11 +385,18 @@ def compare_visits(nodes, visits, window):
 # The run.
 
 
+def can_serve():
+    """Whether a Python is there that serves over HTTP and speaks with PostgreSQL."""
+    asked = [PYTHON or sys.executable, "-c", "import psycopg2, starlette, uvicorn"]
+    return subprocess.run(asked, stderr=subprocess.DEVNULL).returncode == 0
+
+
 def arguments():
     parser = argparse.ArgumentParser(description=__doc__.split("\n\n")[0])
     parser.add_argument("program", nargs="?", help="the program; else the one that ./run would run")
     for name, value in (("items", 100_000), ("replicas", 3), ("writers", 8), ("visitors", 3), ("batch", 50), ("full", 3)):
         parser.add_argument(f"--{name}", type=int, default=value, help="(%(default)s)")
+    parser.add_argument("--guests", type=int, default=1 if can_serve() else 0, help="visitors over HTTP (%(default)s)")
     parser.add_argument("--seconds", type=float, default=60, help="(%(default)s)")
     parser.add_argument("--kill-every", type=float, default=4, help="seconds between two kills, about (%(default)s)")
     parser.add_argument("--stop-every", type=float, default=20, help="seconds between two stops of PostgreSQL (%(default)s)")
@@ -342,13 +430,14 @@ def played(given, cluster, log, nodes):
     addresses = [node.address for node in nodes]
     works = [(write, (cluster.dsn, number, given, until, written)) for number in range(given.writers)]
     works += [(visit, (addresses, number, until + 3, visited)) for number in range(given.visitors)]
+    works += [(visit_over_http, (cluster.dsn, number, until + 3, visited)) for number in range(given.guests)]
     processes = [multiprocessing.Process(target=work, args=args, daemon=True) for work, args in works]
     for process in processes:
         process.start()
     killer = Killer(cluster, nodes, given)
     killer.work(until)
     writers = [written.get(timeout=PATIENCE + given.seconds) for _ in range(given.writers)]
-    visits = [visited.get(timeout=PATIENCE) for _ in range(given.visitors)]
+    visits = [visited.get(timeout=PATIENCE) for _ in range(given.visitors + given.guests)]
     wrote = max(end for *_, end in writers) - begun
     end = log.append([], Mark.ANCHOR)
     told = [node.wait(end, PATIENCE) for node in nodes]
@@ -366,15 +455,17 @@ def compared(given, log, nodes, killer, writers, visits, told, wrote, caught_up)
     require(lost == 0, f"{lost} pages were lost")
     lines = sum(each[3] for each in writers)
     refused = log._ask("SELECT count(*) FROM refused")[0][0]
+    over_http = max(visits, key=lambda seen: seen.services)
     return (
-        f"{log.head().position:,} batches, {lines:,} writes ({lines / wrote:,.0f} a second, {refused:,} refused), {count:,} accepted,"
-        f" {sum(each[2] for each in writers)} keys said twice; {killer.replicas} replicas and {killer.programs} programs killed,"
-        f" PostgreSQL stopped {killer.stops} times in {wrote:.0f} s; all caught up {caught_up:.1f} s later,"
-        f" after {[each['starts'] for each in told]} starts; windows of {len(window)} tokens are one, {full} compared byte by byte,"
+        f"{log.head().position:,} batches, {lines:,} writes ({lines / wrote:,.0f} a second, {refused:,} refused), {count:,}"
+        f" accepted, {sum(each[2] for each in writers)} keys said twice; {killer.replicas} replicas and {killer.programs} programs"
+        f" killed, PostgreSQL stopped {killer.stops} times in {wrote:.0f} s; all caught up {caught_up:.1f} s later, after"
+        f" {[each['starts'] for each in told]} starts; windows of {len(window)} tokens are one, {full} compared byte by byte,"
         f" {size / 1e6:.0f} MB a replica; {sum(seen.sessions for seen in visits)} visits,"
         f" {sum(seen.reads for seen in visits):,} reads, {sum(seen.moved for seen in visits)} answered by another replica,"
-        f" 0 lost, 0 unlike, the longest {max(seen.longest for seen in visits):.2f} s; {different:,} different ones, each with one"
-        f" answer, {again:,} asked again"
+        f" 0 lost, 0 unlike, the longest {max(seen.longest for seen in visits):.2f} s; {different:,} different ones, each with"
+        f" one answer, {again:,} asked again; of these {over_http.reads:,} reads over HTTP, from {over_http.services} services"
+        f" that were killed, the longest search {over_http.longest_over_http:.2f} s"
     )
 
 

@@ -62,7 +62,8 @@ class Served:
     """The service in a process of its own."""
 
     def __init__(self, steps, python, room, shown):
-        command = [python, "-m", "jasminedome", "serve", "--folder", "shop", "--journal", "shop-journal", "--listen", "127.0.0.1:0"]
+        command = [python, "-m", "jasminedome", "serve", "--listen", "127.0.0.1:0"]
+        command += ["--folder", "shop", "--journal", "shop-journal"]
         begun = time.monotonic()
         self.process = subprocess.Popen(command, cwd=room, stdout=subprocess.PIPE, text=True, start_new_session=True)
         said = []

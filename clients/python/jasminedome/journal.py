@@ -41,8 +41,9 @@ class Journal(Closing):
 
     It has the calls of `Catalogue` that its readers and writers need, and all writes have to go through it. Any thread
     may call; writes go one after another, since the journal has them in the order in which the program has them, and
-    those of threads that wait go together, with one wait for the disk. A commit is marked with the place of the journal up to which it goes, and what comes
-    before goes from the journal then. The catalogue is the caller's to close, behind this.
+    those of threads that wait go together, with one wait for the disk. A commit is marked with the place of the journal
+    up to which it goes, and what comes before goes from the journal then. The catalogue is the caller's to close, behind
+    this.
     """
 
     def __init__(self, catalogue: Catalogue, folder: Folder) -> None:

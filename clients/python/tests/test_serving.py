@@ -63,7 +63,8 @@ class Told(unittest.TestCase):
         parse = __main__._parser().parse_args
         self.assertEqual(parse(["serve", "--fold", "words=title, brand"]).fold, Folding("words", ("title", "brand")))
         self.assertEqual(parse(["serve", "--words", "title,brand"]).words, ("title", "brand"))
-        for wrong in (["--field", "title"], ["--field", "title:cents"], ["--fold", "words"], ["--show-every", "x"], ["--port", "5"]):
+        fields = (["--field", "title"], ["--field", "title:cents"], ["--fold", "words"])
+        for wrong in (*fields, ["--show-every", "x"], ["--port", "5"]):
             with self.assertRaises(SystemExit), contextlib.redirect_stderr(io.StringIO()):
                 parse(["serve", *wrong])
 

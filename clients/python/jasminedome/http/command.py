@@ -48,7 +48,8 @@ def add_arguments(parser: argparse.ArgumentParser) -> None:
         "--replicas", type=_names, metavar="ADDRESS,..",
         help="the replicas that are read, with --log or alone; else those that the log knows",
     )  # fmt: skip
-    parser.add_argument("--journal", metavar="F", help="a folder for a journal: what was answered outlives a kill, commit or not")
+    about = "a folder for a journal: what was answered outlives a kill, commit or not"
+    parser.add_argument("--journal", metavar="F", help=about)
     numbers = {
         "--show-every": (plain.show_every, "S", "least seconds between two views"),
         "--commit-every": (plain.commit_every, "S", "seconds in which a write is committed"),

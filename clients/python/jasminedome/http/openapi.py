@@ -89,7 +89,8 @@ _SCHEMAS: Dict[str, Dict[str, Any]] = {
         histograms={"type": "object", "description": "By the field a list of rising edges."},
     ),
     "Found": _object(
-        token=_TEXT, newest=_TEXT, total=_NUMBER, next={**_NUMBER, "nullable": True, "description": "The mark of the next page."},
+        token=_TEXT, newest=_TEXT, total=_NUMBER,
+        next={**_NUMBER, "nullable": True, "description": "The mark of the next page."},
         hits=_list(_object(id=_TEXT, number=_NUMBER, key=_ANY, item=_ANY, highlights=_ANY)),
         facets={"type": "object"}, histograms={"type": "object"},
     ),

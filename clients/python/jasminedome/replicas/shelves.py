@@ -257,7 +257,8 @@ class Shelves(Closing):
             if are_past and lacking:
                 raise TokenLost(detail=_token_of(lines[0]))
             if time.monotonic() > until:
-                raise trouble or NoReplica(f"no replica has {_token_of(lines[0])} yet" if lacking else "no replica could be asked")
+                why = f"no replica has {_token_of(lines[0])} yet" if lacking else "no replica could be asked"
+                raise trouble or NoReplica(why)
             end = self._end() if lacking and end is None else end
             are_past = lacking == len(self._shelves) and self._are_past(_token_of(lines[0]), end)
             if not are_past:  # else asked once more, since one may have come to have it meanwhile

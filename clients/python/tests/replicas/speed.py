@@ -2,8 +2,8 @@
 
     JASMINEDOME_PROGRAM=$(./run --path) /usr/bin/python3 clients/python/tests/replicas/speed.py [--items N]
 
-By hand: it takes a minute or two, and wants processors. Each replica is pinned to a processor of its own for the reads, with its
-program.
+By hand: it takes a minute or two, and wants processors. Each replica is pinned to a processor of its own for the reads, with
+its program.
 """
 
 import argparse

@@ -193,7 +193,8 @@ class Told(OverHttp):
         for where in (["--replicas", "127.0.0.1:9"], ["--log", "host=127.0.0.1 port=9"], ["--log", self.dsn]):
             command = [PYTHON, "-m", "jasminedome", "serve", "--listen", "127.0.0.1:0", "--timeout", "0.2", "--name", self.name]
             environment = {"PYTHONPATH": str(replicated.PACKAGE), "LC_ALL": "C.UTF-8"}
-            told = subprocess.run([*command, *where], env=environment, stdout=subprocess.PIPE, stderr=subprocess.PIPE, text=True)
+            piped = {"stdout": subprocess.PIPE, "stderr": subprocess.PIPE, "text": True}
+            told = subprocess.run([*command, *where], env=environment, **piped)
             self.assertEqual((told.returncode, told.stdout), (3, ""), told.stderr)
             self.assertTrue(told.stderr.startswith("jasminedome: "), told.stderr)
 
