@@ -117,9 +117,11 @@ class Searches(ServedTest):
     def test_what_no_search_is(self):
         for asked, status in (
             ("{", 400), ("[]", 400), ('{"count":NaN}', 400), ("[" * 60_000, 400), ({"wrods": "x"}, 422), ({"words": 5}, 422),
-            ({"count": "9"}, 422), ({"count": True}, 422), ({"after": 1.5}, 422), ({"facets": "color"}, 422), ({"items": 1}, 422),
+            ({"count": "9"}, 422), ({"count": True}, 422), ({"after": 1.5}, 422), ({"facets": "color"}, 422),
+            ({"items": 1}, 422),
             ({"filters": []}, 422), ({"filters": {"color": {"has": 1}}}, 422), ({"query": {"field": "a b", "is": "c"}}, 422),
-            ({"query": {"all": "x"}}, 422), ({"query": {"all": [], "any": []}}, 422), ({"query": 'brand:a) (brand:b', "words": "x"}, 422),
+            ({"query": {"all": "x"}}, 422), ({"query": {"all": [], "any": []}}, 422),
+            ({"query": "brand:a) (brand:b", "words": "x"}, 422),
             ({"histograms": {"price": [5, 1]}}, 422), ({"histograms": {"price": []}}, 422), ({"fields": ["title"] * 40}, 422),
         ):  # fmt: skip
             self.refused("POST", "/search", asked, status)
@@ -156,7 +158,8 @@ class Writes(ServedTest):
         for path in ("/items/%C3%A9", "/items/" + "x" * 65, "/items/a%20b"):
             self.assertEqual(self.refused("PUT", path, {})["number"], 14)
         self.refused("PUT", "/items/a%0Ab", {}, 404), self.refused("DELETE", "/items/a%0A1%20COMMIT", None, 404)
-        self.refused("PUT", "/items/a", {"id": "b"}), self.refused("PUT", "/items/a", []), self.refused("PUT", "/items/a", "", 400)
+        for body, status in (({"id": "b"}, 422), ([], 422), ("", 400)):
+            self.refused("PUT", "/items/a", body, status)
         self.refused("PUT", "/items/a?show=maybe", {})
 
     def test_a_bulk_has_one_answer_a_line(self):
@@ -167,7 +170,8 @@ class Writes(ServedTest):
         self.assertEqual(why, [None, "UsageError", 13, None, "UsageError", "UsageError", 14])
         self.assertEqual(told[3]["write"], told[0]["write"] + 1)
         self.assertEqual(self.server.ask("GET", "/items/a")[0], 404)
-        told = self.bulk({"id": "a"}, '{"id":"b","title":"\\ud800"}', {"id": "c", "title": "x" * 9_999}, {"delete": "a\r"}, {"id": "d"})
+        odd = ('{"id":"b","title":"\\ud800"}', {"id": "c", "title": "x" * 9_999}, {"delete": "a\r"})
+        told = self.bulk({"id": "a"}, *odd, {"id": "d"})
         self.assertEqual([each.get("status", 200) for each in told], [200, 422, 422, 422, 200])
         self.server.ask("DELETE", "/items/a"), self.server.ask("DELETE", "/items/d")
         many = self.bulk(*({"id": f"many-{n}", "price": n} for n in range(2_000)))
@@ -233,7 +237,8 @@ class Told(ServedTest):
         self.assertEqual((document["openapi"], document["info"]["version"]), ("3.0.3", jasminedome.__version__))
         for path, methods in document["paths"].items():
             for method, operation in methods.items():
-                status, _ = self.server.ask(method.upper(), path.replace("{id}", "a"), {} if method in ("post", "put") else None)
+                body = {} if method in ("post", "put") else None
+                status, _ = self.server.ask(method.upper(), path.replace("{id}", "a"), body)
                 self.assertIn(str(status), operation["responses"], (method, path))
         schemas = document["components"]["schemas"]
         self.assertTrue(set(re.findall(r"#/components/schemas/(\w+)", json.dumps(document))) <= set(schemas))
@@ -253,7 +258,8 @@ class KeysOfReadersAndWriters(unittest.TestCase):
         file.write_text("write-key-1\n")
         server = Server("--write-key-file", file, JASMINEDOME_READ_KEY="read-key-1")
         self.addCleanup(server.stop)
-        for key, reads, writes in ((None, 401, 401), ("no-key-at-all", 401, 401), ("read-key-1", 200, 403), ("write-key-1", 200, 200)):
+        none = ((None, 401, 401), ("no-key-at-all", 401, 401))
+        for key, reads, writes in (*none, ("read-key-1", 200, 403), ("write-key-1", 200, 200)):
             self.assertEqual(server.ask("POST", "/search", {}, key)[0], reads, key)
             self.assertEqual(server.ask("GET", "/metrics", None, key)[0], reads, key)
             self.assertEqual(server.ask("PUT", "/items/a", {}, key)[0], writes, key)

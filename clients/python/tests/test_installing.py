@@ -40,7 +40,8 @@ class Wheels(unittest.TestCase):
             names = {each for each in wheel.namelist() if ".dist-info" not in each}
             record = wheel.read(f"jasminedome-{jasminedome.__version__}.dist-info/RECORD").decode().splitlines()
             self.assertEqual({line.split(",")[0] for line in record}, set(wheel.namelist()))
-            programs = {each.filename: each.external_attr >> 16 & 0o777 for each in wheel.infolist() if "/bin/" in each.filename}
+            inside = [each for each in wheel.infolist() if "/bin/" in each.filename]
+            programs = {each.filename: each.external_attr >> 16 & 0o777 for each in inside}
             told = wheel.read(f"jasminedome-{jasminedome.__version__}.dist-info/METADATA").decode()
         modules = [path.relative_to(PACKAGE).as_posix() for path in (PACKAGE / "jasminedome").rglob("*")]
         sources = {each for each in modules if each.endswith((".py", ".sql", ".typed"))}

@@ -196,7 +196,8 @@ class CommandLine(CommandTest):
         )
         status, out, err = self.run_main("shell", self.folder, said=said)
         self.assertEqual((status, err), (1, ""))  # there was no fourth page
-        self.assertIn("id  color  price\n--  -----  -----\nx3  c0     3\nx2  c2     2\n2 shown, 4 found, .next shows more\n", out)
+        table = "id  color  price\n--  -----  -----\nx3  c0     3\nx2  c2     2\n"
+        self.assertIn(table + "2 shown, 4 found, .next shows more\n", out)
         self.assertIn("x1  c1     1\nx0  c0     0\n2 shown, 4 found, .next shows more\n", out)
         self.assertIn("0 shown, 4 found\n", out)
         self.assertIn("count  color\n-----  -----\n2      c0\n1      c1\n1      c2\n3 labels shown, 3 found on 4 items\n", out)
@@ -209,7 +210,8 @@ class CommandLine(CommandTest):
 
     def test_shell_tells_what_is_wrong(self):
         self.run_main("load", self.file("a.jsonl", '{"id":"a","title":"x"}'), "--folder", self.folder)
-        said = 'title:é "\n.facets title (\n.nonsense\n.count 0\n.sort +title\n.sort title\n.put {\n.put {"id":"b"}\n.quit\n.get a'
+        said = 'title:é "\n.facets title (\n.nonsense\n.count 0\n.sort +title\n.sort title\n.put {\n.put {"id":"b"}\n'
+        said += ".quit\n.get a"
         status, out, err = self.run_main("shell", self.folder, said=said)
         self.assertEqual(status, 1)
         self.assertIn('title:é "\n        ^ here', out)

@@ -125,7 +125,8 @@ class Keys(unittest.TestCase):
         import tempfile
 
         with tempfile.TemporaryDirectory() as room:
-            code = "from jasminedome.keys import keys\nwith keys(lambda: ['.facets', 'title:']):\n    print('said', input('> '))"
+            code = "from jasminedome.keys import keys\nwith keys(lambda: ['.facets', 'title:']):\n"
+            code += "    print('said', input('> '))"
             ours, theirs = pty.openpty()
             environment = {**os.environ, "PYTHONPATH": str(HERE.parent), "XDG_STATE_HOME": room, "TERM": "dumb"}
             child = subprocess.Popen([sys.executable, "-c", code], stdin=theirs, stdout=theirs, stderr=theirs, env=environment)

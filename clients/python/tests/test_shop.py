@@ -134,7 +134,8 @@ class Page(unittest.TestCase):
     def test_a_form_from_elsewhere_or_too_long_is_refused(self):
         self.assertEqual(self.ask("/staff", "POST", {"title": "x" * 10_000})[0].status, 413)
         port = self.server.server_port
-        for name, value in (("Origin", "http://elsewhere.example"), ("Host", f"elsewhere.example:{port}"), ("Host", "127.0.0.1")):
+        hosts = (("Host", f"elsewhere.example:{port}"), ("Host", "127.0.0.1"))
+        for name, value in (("Origin", "http://elsewhere.example"), *hosts):
             headers = {name: value}
             with contextlib.closing(http.client.HTTPConnection("127.0.0.1", port, timeout=20)) as connection:
                 connection.request("POST", "/staff", "do=delete&id=boot-1", headers)

@@ -1,4 +1,4 @@
-"""What the loader takes and asks: forms, encodings, columns that aren't plain, ids that come again, and loads that were stopped."""
+"""What the loader takes and asks: forms, encodings, columns that aren't plain, ids that come again, and stopped loads."""
 
 import contextlib
 import gzip
@@ -111,7 +111,8 @@ class Columns(FileTest):
         for way in ("'price:cents'", "'price:number'", "'price:text'", "'price:skip'"):
             self.assertIn(way, told)
         loaded = self.load("a.csv", content, fields={"price": "number"})
-        self.assertEqual([(each.line, each.detail) for each in loaded.refused], [(101, 'price is "19.99"'), (4_002, 'price is "cheap"')])
+        refused = [(each.line, each.detail) for each in loaded.refused]
+        self.assertEqual(refused, [(101, 'price is "19.99"'), (4_002, 'price is "cheap"')])
 
     def test_what_is_asked_names_each_column(self):
         told = self.asked("id,size,price,n\n1,38,1.50,1\n2,39,2.75,2\n3,XL,3.00,3\n")
@@ -133,7 +134,8 @@ class Columns(FileTest):
         content = "id;price\n1;19.99\n2;19\n3;-0,5\n4; 1234567.5 \n5;cheap\n6;1.999\n7;\n"
         told = self.load("a.csv", content, fields={"price": "cents"})
         self.assertEqual(told.plan.fields, {"price": "number"})
-        self.assertEqual([(each.line, each.detail) for each in told.refused], [(6, 'price is "cheap"'), (7, 'price is "1.999"')])
+        refused = [(each.line, each.detail) for each in told.refused]
+        self.assertEqual(refused, [(6, 'price is "cheap"'), (7, 'price is "1.999"')])
         prices = [1_999, 1_900, -50, 123_456_750, None]
         self.assertEqual([item.get("price") for item in self.items()], prices)
         lines = '{"id":"a","price":19.99}\n{"id":"b","price":5}\n{"id":"c","price":"0.10"}\n{"id":"d","price":null}\n'

@@ -117,7 +117,8 @@ class Set(unittest.TestCase):
         self.assertEqual(Settings(folding=Folding("words", ("title",))).searched(fields), ("words",))
         for wrong in (
             {"words": ("none",)}, {"words": ("price",)}, {"folding": Folding("brand", ("title",))},
-            {"folding": Folding("words", ())}, {"folding": Folding("words", ("price",))}, {"folding": Folding("words", ("words",))},
+            {"folding": Folding("words", ())}, {"folding": Folding("words", ("price",))},
+            {"folding": Folding("words", ("words",))},
         ):  # fmt: skip
             self.assertRaises(UsageError, Settings(**wrong).searched, fields)
 

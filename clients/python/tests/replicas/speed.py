@@ -186,7 +186,8 @@ def remember(dsn, nodes, items):
     tokens = [len(node.wait(end)["tokens"]) for node in nodes]
     grown = [f"{was[1]:.0f} to {resident(pair[1]):.0f}" for pair, was in zip(pairs, before)]
     told = [f"{resident(pair[0]):.0f}" for pair in pairs]
-    print(f"memory in MB with {tokens} tokens held over {items * 60 // 100:,} changes: programs {grown}, replicas {told} {load()}")
+    changes = items * 60 // 100
+    print(f"memory in MB with {tokens} tokens held over {changes:,} changes: programs {grown}, replicas {told} {load()}")
 
 
 def main():

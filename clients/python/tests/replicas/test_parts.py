@@ -183,7 +183,8 @@ class Engines(unittest.IsolatedAsyncioTestCase):
 
     async def test_replies_are_cut_as_they_come(self):
         pieces = ["2 OK 2 5\n2 1 a .\n", "2 7 b", " .\n2 NO 23\n1 OK 1\n1 O", "K 2\n2 OK 0 0\n"]
-        code = "os.read(0, 1000)\nfor piece in %r:\n    os.write(1, piece.encode()); time.sleep(0.03)\nos.read(0, 1000)" % pieces
+        code = "os.read(0, 1000)\nfor piece in %r:\n    os.write(1, piece.encode()); time.sleep(0.03)\n" % pieces
+        code += "os.read(0, 1000)"
         engine = await self.start(scripted(code))
 
         def find():
