@@ -32,7 +32,7 @@ _STATUSES = {
     "403": "the key is for reading alone",
     "404": "there is no such item, or no such path",
     "408": "the body came too slowly",
-    "409": "there is no folder or no commit to be copied",
+    "409": "there is no folder or no commit to be copied, or the catalogue is written or kept elsewhere",
     "410": "the view isn't kept any more; newest is the token of the newest one",
     "413": "the body is too large",
     "415": "the body's type isn't the one that is asked for",
