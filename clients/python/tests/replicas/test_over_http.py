@@ -173,7 +173,8 @@ class Tokens(OverHttp):
 
     def test_replicas_are_read_alone(self):
         one, two = self.begun("one", "two")
-        server = self.serve("--replicas", f"{one.address},{two.address}")
+        addresses = f"{one.address},{two.address}"
+        server = self.serve("--replicas", addresses, "--listen", "0.0.0.0:0")  # who can't write needs no key for it
         first = self.first(server)
         for method, path, body in (("PUT", "/items/a", {}), ("POST", "/show", None), ("POST", "/commit", None)):
             self.answered(server.ask(method, path, body), 409)
