@@ -2,6 +2,8 @@
 
 from __future__ import annotations
 
+import threading
+import time
 from typing import Dict, Iterable, Iterator, List, Optional, Union
 
 from ..errors import JasminedomeError, Refusal, Timeout
@@ -17,6 +19,8 @@ PATIENCE = 20.0
 """For how many seconds a write waits to be told what became of it, where nothing else is said."""
 
 _LINES = 500  # of one batch
+_PULSE = 1.5  # seconds in which replicas make a mark, where they make any
+_TURN = 0.05  # seconds between two looks whether it is there
 
 
 class LoggedCatalogue:
@@ -32,6 +36,7 @@ class LoggedCatalogue:
         self._log = log
         self._shelves = shelves
         self._patience = patience
+        self._marking = threading.Lock()
         head = log.head()
         self.fields: Dict[str, str] = head.fields
         if head.position == 0:
@@ -44,8 +49,23 @@ class LoggedCatalogue:
         return self._shelves.open(token)
 
     def show(self) -> str:
-        """Has everything shown that the log has, and answers its token, which lasts for the next 8 marks."""
-        return self._shelves.open(after=self._log.refresh(), is_lasting=False).token
+        """Waits until everything is shown that the log has, and answers the token of that, which lasts for the next 8 marks.
+
+        Replicas make a mark each second, and only where they don't is one made for this: else whoever wants each write
+        shown would have the tokens of all others go.
+        """
+        end, until = self._log.head().position, time.monotonic() + _PULSE
+        while time.monotonic() < until:
+            stamp = self._shown(end)
+            if stamp is not None:
+                return stamp
+            time.sleep(_TURN)
+        with self._marking:  # whoever waits here finds the mark of the one before
+            return self._shown(end) or self._shelves.open(after=self._log.refresh(), is_lasting=False).token
+
+    def _shown(self, position: int) -> Optional[str]:
+        newest = self._shelves.newest(is_lasting=False)
+        return newest.stamp if newest.position >= position else None
 
     # Writing
 

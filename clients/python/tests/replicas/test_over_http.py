@@ -3,6 +3,7 @@
 import json
 import signal
 import subprocess
+import threading
 import time
 import unittest
 
@@ -56,6 +57,23 @@ class Writes(OverHttp):
         self.assertEqual(self.ask("GET", "/items/shoe-1"), {"id": "shoe-1", **item})
         self.assertGreater(self.ask("DELETE", "/items/shoe-1")["write"], told["write"])
         self.assertEqual(self.server.search(self.ask("POST", "/show")["token"])["total"], 0)
+
+    def test_those_who_want_their_writes_shown_share_the_marks_of_the_replicas(self):
+        self.node("two", pulse="0.5s,30s").wait(self.log.append(puts(1)), 60)
+        before, told = self.log.head().position, []
+
+        def save(number):
+            token = self.ask("PUT", f"/items/saved-{number}?show=true", {"title": "Saved"})["token"]
+            told.append((number, token, [hit["id"] for hit in self.server.search(token, words="saved")["hits"]]))
+
+        threads = [threading.Thread(target=save, args=(number,)) for number in range(8)]
+        for thread in threads:
+            thread.start()
+        for thread in threads:
+            thread.join(60)
+        self.assertEqual(sorted(number for number, _, ids in told if f"saved-{number}" in ids), list(range(8)))
+        marks = [batch for batch in self.log.batches(before, 100) if batch.mark.is_view]
+        self.assertLess(len(marks), 8)
 
     def test_what_is_refused_is_told_as_by_one_catalogue(self):
         told = self.ask("PUT", "/items/a", {"price": "x", "none": 5}, 422)
