@@ -1,5 +1,6 @@
 pub mod Lasting
 pub mod Made
+pub mod Refused
 pub mod Results
 pub mod Swept
 pub mod Histories

@@ -6,6 +6,7 @@ ghost use Rattle.cat_base.specs.declared.refusal.Refusal.TheVariants.{Device, Me
 ghost use Rattle.cat_ledger.specs.Histories.{Event, Goes, SparesOtherCommits};
 ghost use Rattle.cat_ledger.specs.Lasting.{IsCarried, IsLasting};
 ghost use Rattle.cat_ledger.specs.Ledgers.{Does, Spares, device_in, policy_in, shape_in};
+ghost use Rattle.cat_ledger.specs.Refusals.{KeepsMerge};
 ghost use Rattle.std.specs.Prelude.{Err, IfErr, IfOk, None, Ok, OnErr, OnOk, Some, ℕ, ◌-◌, ◌<◌, ◌≡◌, ◌≤◌, ◌⊎◌};
 ghost use Rattle.cat_directory.specs.declared.name.FileName.{FileName};
 ghost use Rattle.cat_model.specs.Forms.{IsCommitText};
@@ -40,6 +41,7 @@ fn flush_and_commit<D: Directory>(
     ensures number { IfOk result (λ g. g ≡ core.old.next_generation) }
     ensures ok { OnOk result (Makes (Commits text.now) (D.bytes device.old) core.old (D.bytes device.new) core.new) }
     ensures err { OnErr result (Makes IsLeft (D.bytes device.old) core.old (D.bytes device.new) core.new) }
+    ensures stays { OnErr result (KeepsMerge core.old core.new) }
     ensures crash { (q : FileName) → (IsNew core.old.next_segment core.old.next_generation (name_of q) → ⊥)
         → NoMore (D.may_leave device.old q) (D.may_leave device.new q) }
     ensures commits { SparesOtherCommits core.old.next_generation (D.may_leave device.old) (D.may_leave device.new) }
@@ -50,6 +52,7 @@ fn flush_and_commit<D: Directory>(
     ensures spent { IfErr result (λ e. e ≡ Spent → MayNotFlush core.old) }
     ensures device { IsCarried (D.bytes device.old) core.old → IfErr result (λ e. e ≡ Device → D.can_fail device.old) }
     ensures counted { IfErr result (λ e. e ≡ Device → CountsOne (D.fault_count device.old) (D.fault_count device.new)) }
+    ensures memory { IfErr result (λ e. e ≡ Memory → D.fault_count device.new ≡ D.fault_count device.old) }
     ensures can { D.can_fail device.new → D.can_fail device.old }
     ensures refusal { IfErr result (λ e. (e ≡ Memory) ⊎ (e ≡ Device) ⊎ (e ≡ Spent)) }
 {
@@ -73,7 +76,8 @@ impl<D: Directory + Shelf> Ledger<D> {
     /// The first of these that is due comes: [`Refusal::Large`] where the text has more than 256 bytes, [`Refusal::Kind`] where it
     /// has a control character; [`Refusal::Spent`] where no generation is left, and nothing is done then; [`Refusal::Spent`] where
     /// no number is left for the segment of what waits, or as many stand as may; else [`Refusal::Device`] where the directory
-    /// fails, or [`Refusal::Memory`]. A flush that ended stays done, and names that were begun are pending.
+    /// fails, or [`Refusal::Memory`], where it counted no failure. A flush that ended stays done, and names that were begun are
+    /// pending. A merge in the making goes on.
     pub fn commit(&mut self, text: &str) -> Result<Generation, Refusal>
         ensures number { IfOk result (λ g. g ≡ (shape_in self.old).next_generation) }
         ensures form { OnOk result (commit_text_of text.now ≡ Ok text.now) }
@@ -85,10 +89,12 @@ impl<D: Directory + Shelf> Ledger<D> {
         ensures spent { commit_text_of text.now ≡ Ok text.now → IfErr result (λ e. e ≡ Spent
             → (last_number < (shape_in self.old).next_generation) ⊎ MayNotFlush (shape_in self.old)) }
         ensures err { OnErr result (Does D.bytes IsLeft self.old self.new) }
+        ensures stays { OnErr result (KeepsMerge (shape_in self.old) (shape_in self.new)) }
         ensures crash { Spares D.may_leave self.old self.new }
         ensures refusal { commit_text_of text.now ≡ Ok text.now → IfErr result (λ e. (e ≡ Memory) ⊎ (e ≡ Device) ⊎ (e ≡ Spent)) }
         ensures device { commit_text_of text.now ≡ Ok text.now → IfErr result (λ e. e ≡ Device → D.can_fail (device_in self.old)) }
         ensures counted { commit_text_of text.now ≡ Ok text.now → IfErr result (λ e. e ≡ Device → CountsOne (D.fault_count (device_in self.old)) (D.fault_count (device_in self.new))) }
+        ensures memory { IfErr result (λ e. e ≡ Memory → D.fault_count (device_in self.new) ≡ D.fault_count (device_in self.old)) }
         ensures can { D.can_fail (device_in self.new) → D.can_fail (device_in self.old) }
         ensures answered { IfOk result (λ g. Goes D.may_leave (Event.Answered g) self.old self.new) }
         ensures refused { OnErr result (Goes D.may_leave Event.Other self.old self.new

@@ -12,6 +12,7 @@ ghost use Rattle.cat_ledger.specs.upkeep.Due.{IsForceDue, IsMergeDue};
 ghost use Rattle.cat_ledger.specs.upkeep.News.{news_of};
 ghost use Rattle.cat_ledger.specs.Histories.{Event, Goes};
 ghost use Rattle.cat_ledger.specs.Ledgers.{Does, Spares, device_in, policy_in, shape_in};
+ghost use Rattle.cat_ledger.specs.Refusals.{KeepsMerge, KeepsSegments};
 
 use crate::ledger::Ledger;
 use crate::upkeep::MergeNews;
@@ -25,11 +26,12 @@ impl<D: Directory + Shelf> Ledger<D> {
     ///
     /// [`Refusal::Spent`] where a merge is to be begun and no number is left for its segment; [`Refusal::Damaged`] where a text
     /// that is to be copied isn't in the file of its segment; [`Refusal::Device`] where the directory fails, or doesn't have that
-    /// file; or [`Refusal::Memory`], which may come before it is known whether the policy picks any segments. A merge in the
-    /// making is over then, and its files are pending.
+    /// file; or [`Refusal::Memory`], where the directory counted no failure, which may come before it is known whether the policy
+    /// picks any segments. A merge in the making is over then, and its files are pending; nothing is flushed.
     pub fn merge_step(&mut self) -> Result<MergeNews, Refusal>
         ensures ok { IfOk result (λ news. Does D.bytes (Maintains (policy_in self.old) Chore.merge (news_of news)) self.old self.new) }
         ensures err { OnErr result (Does D.bytes IsLeft self.old self.new) }
+        ensures segments { OnErr result (KeepsSegments (shape_in self.old) (shape_in self.new)) }
         ensures crash { Spares D.may_leave self.old self.new }
         ensures spent { IfErr result (λ e. e ≡ Spent → IsMergeDue (policy_in self.old) (shape_in self.old)
             × (last_number < (shape_in self.old).next_segment)) }
@@ -38,6 +40,7 @@ impl<D: Directory + Shelf> Ledger<D> {
         ensures damaged { IfErr result (λ e. e ≡ Damaged → HasRowsLeft (shape_in self.old).merging) }
         ensures device { IfErr result (λ e. e ≡ Device → HasRowsLeft (shape_in self.old).merging ⊎ D.can_fail (device_in self.old)) }
         ensures counted { IfErr result (λ e. e ≡ Device → CountsOne (D.fault_count (device_in self.old)) (D.fault_count (device_in self.new))) }
+        ensures memory { IfErr result (λ e. e ≡ Memory → D.fault_count (device_in self.new) ≡ D.fault_count (device_in self.old)) }
         ensures can { D.can_fail (device_in self.new) → D.can_fail (device_in self.old) }
         ensures history { Goes D.may_leave Event.Other self.old self.new }
         ensures policy { policy_in self.new ≡ policy_in self.old }
@@ -52,17 +55,20 @@ impl<D: Directory + Shelf> Ledger<D> {
     /// It is [`MergeNews::Busy`] where a merge is in the making, whatever else stands, and [`MergeNews::Idle`] where no
     /// segment stands, one alone without a deleted row, or those that stand have more than 262,144 rows together.
     ///
-    /// [`Refusal::Spent`] where no number is left for the new segment; else [`Refusal::Device`], or [`Refusal::Memory`]. An
-    /// error leaves at most names that are pending.
+    /// [`Refusal::Spent`] where no number is left for the new segment; else [`Refusal::Device`], or [`Refusal::Memory`], where
+    /// the directory counted no failure. An error leaves at most names that are pending.
     pub fn force(&mut self) -> Result<MergeNews, Refusal>
         ensures ok { IfOk result (λ news. Does D.bytes (Maintains (policy_in self.old) Chore.force (news_of news)) self.old self.new) }
         ensures err { OnErr result (Does D.bytes IsLeft self.old self.new) }
+        ensures stays { OnErr result (KeepsMerge (shape_in self.old) (shape_in self.new)) }
+        ensures segments { OnErr result (KeepsSegments (shape_in self.old) (shape_in self.new)) }
         ensures crash { Spares D.may_leave self.old self.new }
         ensures due { OnErr result (IsForceDue (shape_in self.old)) }
         ensures spent { IfErr result (λ e. e ≡ Spent → last_number < (shape_in self.old).next_segment) }
         ensures left { IfErr result (λ e. (e ≡ Memory) ⊎ (e ≡ Device) → (shape_in self.old).next_segment ≤ last_number) }
         ensures device { IfErr result (λ e. e ≡ Device → D.can_fail (device_in self.old)) }
         ensures counted { IfErr result (λ e. e ≡ Device → CountsOne (D.fault_count (device_in self.old)) (D.fault_count (device_in self.new))) }
+        ensures memory { IfErr result (λ e. e ≡ Memory → D.fault_count (device_in self.new) ≡ D.fault_count (device_in self.old)) }
         ensures can { D.can_fail (device_in self.new) → D.can_fail (device_in self.old) }
         ensures history { Goes D.may_leave Event.Other self.old self.new }
         ensures policy { policy_in self.new ≡ policy_in self.old }

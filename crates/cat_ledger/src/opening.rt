@@ -9,6 +9,7 @@ ghost use Rattle.cat_directory.specs.Names.{name_of};
 ghost use Rattle.cat_directory.specs.declared.name.FileName.{FileName};
 ghost use Rattle.cat_ledger_laws.specs.model.Users.{users_of};
 ghost use Rattle.cat_ledger_laws.specs.lines.RunLaws.{Stands};
+ghost use Rattle.cat_ledger_state.specs.cat_commits.reading.Refused.{OpeningCount};
 ghost use Rattle.cat_ledger_state.specs.startup.Refused.{IsNewestDamaged, IsNewestForeign};
 ghost use Rattle.cat_ledger.specs.Histories.{LeavesNoneAhead, NoneIsAhead};
 ghost use Rattle.cat_ledger.specs.Lasting.{AlwaysTells, IsLasting};
@@ -48,6 +49,7 @@ fn open_swept<D: Directory + Shelf>(
     ensures damaged { IfErr result (λ e. e ≡ Damaged → IsNewestDamaged (D.bytes device.old) schema) }
     ensures foreign { IfErr result (λ e. e ≡ Kind → IsNewestForeign (D.bytes device.old) schema) }
     ensures device { IfErr result (λ e. e ≡ Device → D.can_fail device.old) }
+    ensures counted { IfErr result (OpeningCount (D.fault_count device.old) (D.fault_count device.new)) }
     ensures refusal { IfErr result (λ e. (e ≡ Kind) ⊎ (e ≡ Damaged) ⊎ (e ≡ Device) ⊎ (e ≡ Memory)) }
     ensures same { OnErr result ((q : FileName) → D.bytes device.new q ≡ D.bytes device.old q) }
     ensures spared { OnErr result ((q : FileName) → NoMore (D.may_leave device.old q) (D.may_leave device.new q)) }
@@ -65,7 +67,8 @@ impl<D: Directory + Shelf> Ledger<D> {
     /// pending. (Lucene: the constructor of `IndexWriter` with `OpenMode.CREATE_OR_APPEND`.)
     ///
     /// [`Refusal::Kind`] where the commit has another schema, [`Refusal::Damaged`] where its files don't hold it,
-    /// [`Refusal::Device`] where the directory fails, or [`Refusal::Memory`]. Then nothing is deleted.
+    /// [`Refusal::Device`] where the directory fails, or [`Refusal::Memory`]. Then nothing is deleted, and the directory counted a
+    /// failure where that is what is told, and no other time.
     pub fn open(
         alloc: Global,
         device: D,
@@ -84,6 +87,7 @@ impl<D: Directory + Shelf> Ledger<D> {
         ensures damaged { IfErr result (λ e. e.refusal ≡ Damaged → IsNewestDamaged (D.bytes device) schema) }
         ensures foreign { IfErr result (λ e. e.refusal ≡ Kind → IsNewestForeign (D.bytes device) schema) }
         ensures device { IfErr result (λ e. e.refusal ≡ Device → D.can_fail device) }
+        ensures counted { IfErr result (λ e. OpeningCount (D.fault_count device) (D.fault_count e.device) e.refusal) }
         ensures refusal { IfErr result (λ e. (e.refusal ≡ Kind) ⊎ (e.refusal ≡ Damaged) ⊎ (e.refusal ≡ Device) ⊎ (e.refusal ≡ Memory)) }
         ensures same { IfErr result (λ e. (q : FileName) → D.bytes e.device q ≡ D.bytes device q) }
         ensures spared { IfErr result (λ e. (q : FileName) → NoMore (D.may_leave device q) (D.may_leave e.device q)) }

@@ -6,7 +6,7 @@ ghost use Rattle.std.specs.Prelude.{IfErr, OnErr, OnOk, [], length, ◌<◌, ◌
 ghost use Rattle.cat_ledger_laws.specs.model.Replies.{IsLeft, MakesRoom};
 ghost use Rattle.cat_ledger_laws.specs.model.Ledger.{IsNew};
 ghost use Rattle.cat_ledger_laws.specs.shape.Ties.{Makes};
-ghost use Rattle.cat_ledger_state.specs.Cores.{HasFlushed, MayNotFlush};
+ghost use Rattle.cat_ledger_state.specs.Cores.{HasFlushed, MayNotFlush, StayKnown};
 ghost use Rattle.cat_directory.specs.Devices.{CountsOne, NoMore};
 ghost use Rattle.cat_model.specs.Limits.{buffer_limit};
 ghost use Rattle.cat_directory.specs.Names.{name_of};
@@ -26,6 +26,8 @@ pub(crate) fn flush<D: Directory>(core: &mut Core, device: &mut D) -> Result<(),
     ensures holds { core.new.holds ≡ core.old.holds }
     ensures count { core.new.count ≡ core.old.count }
     ensures generation { OnOk result (core.new.next_generation ≡ core.old.next_generation) }
+    ensures merging { core.new.merging ≡ core.old.merging }
+    ensures known { StayKnown core.old.users core.new.users }
     ensures err { OnErr result (Makes IsLeft (D.bytes device.old) core.old (D.bytes device.new) core.new) }
     ensures crash { (q : FileName) → (IsNew core.old.next_segment core.old.next_generation (name_of q) → ⊥)
         → NoMore (D.may_leave device.old q) (D.may_leave device.new q) }
@@ -34,6 +36,7 @@ pub(crate) fn flush<D: Directory>(core: &mut Core, device: &mut D) -> Result<(),
     ensures due { IfErr result (λ e. (e ≡ Memory) ⊎ (e ≡ Device) → MayNotFlush core.old → ⊥) }
     ensures device { IfErr result (λ e. e ≡ Device → D.can_fail device.old) }
     ensures counted { IfErr result (λ e. e ≡ Device → CountsOne (D.fault_count device.old) (D.fault_count device.new)) }
+    ensures memory { IfErr result (λ e. e ≡ Memory → D.fault_count device.new ≡ D.fault_count device.old) }
     ensures quiet { OnOk result (D.fault_count device.new ≡ D.fault_count device.old) }
     ensures can { D.can_fail device.new → D.can_fail device.old }
     ensures refusal { IfErr result (λ e. (e ≡ Memory) ⊎ (e ≡ Device) ⊎ (e ≡ Spent)) }
@@ -50,6 +53,8 @@ pub(crate) fn make_room<D: Directory>(core: &mut Core, device: &mut D) -> Result
     ensures space { OnOk result (length core.new.buffered < buffer_limit) }
     ensures schema { core.new.schema ≡ core.old.schema }
     ensures count { core.new.count ≡ core.old.count }
+    ensures merging { core.new.merging ≡ core.old.merging }
+    ensures known { StayKnown core.old.users core.new.users }
     ensures err { OnErr result (Makes IsLeft (D.bytes device.old) core.old (D.bytes device.new) core.new) }
     ensures crash { (q : FileName) → (IsNew core.old.next_segment core.old.next_generation (name_of q) → ⊥)
         → NoMore (D.may_leave device.old q) (D.may_leave device.new q) }
@@ -58,6 +63,8 @@ pub(crate) fn make_room<D: Directory>(core: &mut Core, device: &mut D) -> Result
     ensures due { IfErr result (λ e. (e ≡ Memory) ⊎ (e ≡ Device) → MayNotFlush core.old → ⊥) }
     ensures device { IfErr result (λ e. e ≡ Device → D.can_fail device.old) }
     ensures counted { IfErr result (λ e. e ≡ Device → CountsOne (D.fault_count device.old) (D.fault_count device.new)) }
+    ensures memory { IfErr result (λ e. e ≡ Memory → D.fault_count device.new ≡ D.fault_count device.old) }
+    ensures quiet { OnOk result (D.fault_count device.new ≡ D.fault_count device.old) }
     ensures can { D.can_fail device.new → D.can_fail device.old }
     ensures refusal { IfErr result (λ e. (e ≡ Memory) ⊎ (e ≡ Device) ⊎ (e ≡ Spent)) }
 {

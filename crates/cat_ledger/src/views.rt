@@ -5,6 +5,7 @@ ghost use Rattle.cat_directory.specs.Devices.{CountsOne, CountsReading, NoMore};
 ghost use Rattle.cat_base.specs.declared.refusal.Refusal.TheVariants.{Damaged, Device, Full, Gone, Memory, Spent};
 ghost use Rattle.cat_ledger.specs.Histories.{Event, Goes};
 ghost use Rattle.cat_ledger.specs.Ledgers.{Does, Spares, device_in, policy_in, shape_in};
+ghost use Rattle.cat_ledger.specs.Refusals.{KeepsMerge};
 ghost use Rattle.cat_ledger.specs.upkeep.Spared.{SparesCommits};
 ghost use Rattle.std.specs.Prelude.{Err, IfErr, IfNone, IfOk, IfSome, List, None, Ok, OnErr, OnOk, [], false, length, not, option_map, true, ℕ, ◌&&◌, ◌-◌, ◌==◌, ◌≡◌, ◌≢◌, ◌⊎◌, Some, find};
 ghost use Rattle.cat_directory.specs.declared.name.FileName.{FileName};
@@ -94,6 +95,7 @@ fn flush_and_record<D: Directory>(core: &mut Core, device: &mut D) -> Result<(),
     requires { MayRefresh core.old }
     ensures ok { OnOk result (Makes Refreshes (D.bytes device.old) core.old (D.bytes device.new) core.new) }
     ensures err { OnErr result (Makes IsLeft (D.bytes device.old) core.old (D.bytes device.new) core.new) }
+    ensures stays { OnErr result (KeepsMerge core.old core.new) }
     ensures crash { (q : FileName) → (IsNew core.old.next_segment core.old.next_generation (name_of q) → ⊥)
         → NoMore (D.may_leave device.old q) (D.may_leave device.new q) }
     ensures commits { SparesCommits (D.may_leave device.old) (D.may_leave device.new) }
@@ -102,6 +104,7 @@ fn flush_and_record<D: Directory>(core: &mut Core, device: &mut D) -> Result<(),
     ensures device { IfErr result (λ e. e ≡ Device → D.can_fail device.old) }
     ensures can { D.can_fail device.new → D.can_fail device.old }
     ensures counted { IfErr result (λ e. e ≡ Device → CountsOne (D.fault_count device.old) (D.fault_count device.new)) }
+    ensures memory { IfErr result (λ e. e ≡ Memory → D.fault_count device.new ≡ D.fault_count device.old) }
     ensures refusal { IfErr result (λ e. (e ≡ Memory) ⊎ (e ≡ Device) ⊎ (e ≡ Spent)) }
 {
     if let Err(refusal) = flush(core, device) {
@@ -147,8 +150,8 @@ impl<D: Directory + Shelf> Ledger<D> {
     ///
     /// [`Refusal::Full`] where no view of now is recorded, and each of 64 is held, which comes first and changes nothing;
     /// [`Refusal::Spent`] where no number is left for the segment of what waits, or as many stand as may; else
-    /// [`Refusal::Device`] where the flush fails, or [`Refusal::Memory`]. A flush that ended stays done; else an error leaves at
-    /// most names that are pending.
+    /// [`Refusal::Device`] where the flush fails, or [`Refusal::Memory`], where the directory counted no failure. A flush that ended
+    /// stays done; else an error leaves at most names that are pending. A merge in the making goes on.
     pub fn refresh(&mut self) -> Result<Token, Refusal>
         ensures token { IfOk result (λ t. t ≡ (shape_in self.old).count) }
         ensures ok { OnOk result (Does D.bytes Refreshes self.old self.new) }
@@ -158,11 +161,13 @@ impl<D: Directory + Shelf> Ledger<D> {
         ensures spent { IfErr result (λ e. e ≡ Spent → MayNotFlush (shape_in self.old)) }
         ensures due { IfErr result (λ e. (e ≡ Memory) ⊎ (e ≡ Device) → MayNotFlush (shape_in self.old) → ⊥) }
         ensures err { OnErr result (Does D.bytes IsLeft self.old self.new) }
+        ensures stays { OnErr result (KeepsMerge (shape_in self.old) (shape_in self.new)) }
         ensures crash { Spares D.may_leave self.old self.new }
         ensures refusal { IfErr result (λ e. (e ≡ Full) ⊎ (e ≡ Memory) ⊎ (e ≡ Device) ⊎ (e ≡ Spent)) }
         ensures device { IfErr result (λ e. e ≡ Device → D.can_fail (device_in self.old)) }
         ensures can { D.can_fail (device_in self.new) → D.can_fail (device_in self.old) }
         ensures counted { IfErr result (λ e. e ≡ Device → CountsOne (D.fault_count (device_in self.old)) (D.fault_count (device_in self.new))) }
+        ensures memory { IfErr result (λ e. e ≡ Memory → D.fault_count (device_in self.new) ≡ D.fault_count (device_in self.old)) }
         ensures history { Goes D.may_leave Event.Other self.old self.new }
         ensures policy { policy_in self.new ≡ policy_in self.old }
     {

@@ -5,6 +5,7 @@ ghost use Rattle.cat_directory.specs.Devices.{CountsOne};
 ghost use Rattle.cat_base.specs.declared.refusal.Refusal.TheVariants.{Device, Kind, Memory, Spent};
 ghost use Rattle.cat_ledger.specs.Histories.{Event, Goes};
 ghost use Rattle.cat_ledger.specs.Ledgers.{Does, Spares, device_in, policy_in, shape_in};
+ghost use Rattle.cat_ledger.specs.Refusals.{KeepsMerge};
 ghost use Rattle.std.specs.Prelude.{Err, IfErr, IfOk, OnErr, OnOk, length, ◌+◌, ◌<◌, ◌≡◌, ◌≢◌, ◌≤◌, ◌⊎◌};
 ghost use Rattle.cat_model.specs.Item.{IsItem};
 ghost use Rattle.cat_ledger_laws.specs.model.Replies.{IsLeft};
@@ -29,7 +30,8 @@ impl<D: Directory + Shelf> Ledger<D> {
     ///
     /// The first of these that is due comes: [`Refusal::Kind`] where the item is of another schema; [`Refusal::Spent`] where no
     /// number is left for the write, or none for the segment that a flush makes; else [`Refusal::Device`] where the flush fails,
-    /// or [`Refusal::Memory`]. A flush that ended stays done; else an error leaves at most names that are pending.
+    /// or [`Refusal::Memory`], where the directory counted no failure. A flush that ended stays done; else an error leaves at most
+    /// names that are pending. A merge in the making goes on.
     pub fn put(&mut self, item: Item) -> Result<WriteNo, Refusal>
         ensures number { IfOk result (λ n. n ≡ (shape_in self.old).count + 1) }
         ensures item { OnOk result (IsItem (shape_in self.old).schema item) }
@@ -44,10 +46,12 @@ impl<D: Directory + Shelf> Ledger<D> {
         ensures due { IfErr result (λ e. (e ≡ Memory) ⊎ (e ≡ Device) → IsItem (shape_in self.old).schema item
             × ((shape_in self.old).count < last_number)) }
         ensures err { OnErr result (Does D.bytes IsLeft self.old self.new) }
+        ensures stays { OnErr result (KeepsMerge (shape_in self.old) (shape_in self.new)) }
         ensures crash { Spares D.may_leave self.old self.new }
         ensures refusal { IfErr result (λ e. (e ≡ Kind) ⊎ (e ≡ Memory) ⊎ (e ≡ Device) ⊎ (e ≡ Spent)) }
         ensures device { IfErr result (λ e. e ≡ Device → D.can_fail (device_in self.old)) }
         ensures counted { IfErr result (λ e. e ≡ Device → CountsOne (D.fault_count (device_in self.old)) (D.fault_count (device_in self.new))) }
+        ensures memory { IfErr result (λ e. e ≡ Memory → D.fault_count (device_in self.new) ≡ D.fault_count (device_in self.old)) }
         ensures can { D.can_fail (device_in self.new) → D.can_fail (device_in self.old) }
         ensures history { Goes D.may_leave Event.Other self.old self.new }
         ensures policy { policy_in self.new ≡ policy_in self.old }

@@ -12,6 +12,7 @@ ghost use Rattle.cat_ledger_laws.specs.model.Ledger.{IsNew};
 ghost use Rattle.cat_ledger_laws.specs.model.Plans as plans;
 ghost use Rattle.cat_ledger_laws.specs.model.Replies.{Maintains, IsLeft};
 ghost use Rattle.cat_ledger_laws.specs.shape.Ties.{Makes};
+ghost use Rattle.cat_ledger.specs.Refusals.{KeepsMerge, KeepsSegments};
 ghost use Rattle.cat_ledger.specs.upkeep.Due.{IsForceDue};
 ghost use Rattle.cat_ledger.specs.upkeep.News.{news_of};
 ghost use Rattle.cat_ledger.specs.upkeep.Spared.{SparesCommits};
@@ -28,6 +29,8 @@ fn begin_all<D: Directory>(core: &mut Core, device: &mut D) -> Result<MergeNews,
     ensures ok { IfOk result (λ news. (policy : plans.MergePolicy) → Makes (Maintains policy Chore.force (news_of news))
         (D.bytes device.old) core.old (D.bytes device.new) core.new) }
     ensures err { OnErr result (Makes IsLeft (D.bytes device.old) core.old (D.bytes device.new) core.new) }
+    ensures stays { OnErr result (KeepsMerge core.old core.new) }
+    ensures segments { OnErr result (KeepsSegments core.old core.new) }
     ensures crash { (q : FileName) → (IsNew core.old.next_segment core.old.next_generation (name_of q) → ⊥)
         → NoMore (D.may_leave device.old q) (D.may_leave device.new q) }
     ensures commits { SparesCommits (D.may_leave device.old) (D.may_leave device.new) }
@@ -36,6 +39,7 @@ fn begin_all<D: Directory>(core: &mut Core, device: &mut D) -> Result<MergeNews,
     ensures left { IfErr result (λ e. (e ≡ Memory) ⊎ (e ≡ Device) → core.old.next_segment ≤ last_number) }
     ensures device { IfErr result (λ e. e ≡ Device → D.can_fail device.old) }
     ensures counted { IfErr result (λ e. e ≡ Device → CountsOne (D.fault_count device.old) (D.fault_count device.new)) }
+    ensures memory { IfErr result (λ e. e ≡ Memory → D.fault_count device.new ≡ D.fault_count device.old) }
     ensures can { D.can_fail device.new → D.can_fail device.old }
     ensures refusal { IfErr result (λ e. (e ≡ Memory) ⊎ (e ≡ Device) ⊎ (e ≡ Spent)) }
 {
@@ -61,6 +65,8 @@ pub fn force<D: Directory>(core: &mut Core, device: &mut D) -> Result<MergeNews,
     ensures ok { IfOk result (λ news. (policy : plans.MergePolicy) → Makes (Maintains policy Chore.force (news_of news))
         (D.bytes device.old) core.old (D.bytes device.new) core.new) }
     ensures err { OnErr result (Makes IsLeft (D.bytes device.old) core.old (D.bytes device.new) core.new) }
+    ensures stays { OnErr result (KeepsMerge core.old core.new) }
+    ensures segments { OnErr result (KeepsSegments core.old core.new) }
     ensures crash { (q : FileName) → (IsNew core.old.next_segment core.old.next_generation (name_of q) → ⊥)
         → NoMore (D.may_leave device.old q) (D.may_leave device.new q) }
     ensures commits { SparesCommits (D.may_leave device.old) (D.may_leave device.new) }
@@ -69,6 +75,7 @@ pub fn force<D: Directory>(core: &mut Core, device: &mut D) -> Result<MergeNews,
     ensures left { IfErr result (λ e. (e ≡ Memory) ⊎ (e ≡ Device) → core.old.next_segment ≤ last_number) }
     ensures device { IfErr result (λ e. e ≡ Device → D.can_fail device.old) }
     ensures counted { IfErr result (λ e. e ≡ Device → CountsOne (D.fault_count device.old) (D.fault_count device.new)) }
+    ensures memory { IfErr result (λ e. e ≡ Memory → D.fault_count device.new ≡ D.fault_count device.old) }
     ensures can { D.can_fail device.new → D.can_fail device.old }
     ensures refusal { IfErr result (λ e. (e ≡ Memory) ⊎ (e ≡ Device) ⊎ (e ≡ Spent)) }
 {

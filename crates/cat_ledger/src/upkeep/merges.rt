@@ -16,6 +16,7 @@ ghost use Rattle.cat_ledger_laws.specs.shape.Ties.{Makes};
 ghost use Rattle.cat_ledger_state.specs.Cores.{HasRowsLeft};
 ghost use Rattle.cat_ledger_state.specs.Installs.{IsOfMerge};
 ghost use Rattle.cat_ledger_laws.specs.lines.PlanLaws.{sizes_in};
+ghost use Rattle.cat_ledger.specs.Refusals.{KeepsSegments};
 ghost use Rattle.cat_ledger.specs.upkeep.Due.{IsMergeDue};
 ghost use Rattle.cat_ledger.specs.upkeep.News.{news_of};
 ghost use Rattle.cat_ledger.specs.upkeep.Spared.{SparesCommits};
@@ -40,6 +41,7 @@ fn begin_at<D: Directory>(
     ensures ok { IfOk result (λ news. Makes (Maintains policy Chore.merge (news_of news))
         (D.bytes device.old) core.old (D.bytes device.new) core.new) }
     ensures err { OnErr result (Makes IsLeft (D.bytes device.old) core.old (D.bytes device.new) core.new) }
+    ensures segments { OnErr result (KeepsSegments core.old core.new) }
     ensures crash { (q : FileName) → (IsNew core.old.next_segment core.old.next_generation (name_of q) → ⊥)
         → NoMore (D.may_leave device.old q) (D.may_leave device.new q) }
     ensures commits { SparesCommits (D.may_leave device.old) (D.may_leave device.new) }
@@ -47,6 +49,7 @@ fn begin_at<D: Directory>(
     ensures left { IfErr result (λ e. (e ≡ Memory) ⊎ (e ≡ Device) → core.old.next_segment ≤ last_number) }
     ensures device { IfErr result (λ e. e ≡ Device → D.can_fail device.old) }
     ensures counted { IfErr result (λ e. e ≡ Device → CountsOne (D.fault_count device.old) (D.fault_count device.new)) }
+    ensures memory { IfErr result (λ e. e ≡ Memory → D.fault_count device.new ≡ D.fault_count device.old) }
     ensures can { D.can_fail device.new → D.can_fail device.old }
     ensures refusal { IfErr result (λ e. (e ≡ Memory) ⊎ (e ≡ Device) ⊎ (e ≡ Spent)) }
 {
@@ -68,6 +71,7 @@ fn begin_window<D: Directory>(
     ensures ok { IfOk result (λ news. Makes (Maintains policy Chore.merge (news_of news))
         (D.bytes device.old) core.old (D.bytes device.new) core.new) }
     ensures err { OnErr result (Makes IsLeft (D.bytes device.old) core.old (D.bytes device.new) core.new) }
+    ensures segments { OnErr result (KeepsSegments core.old core.new) }
     ensures crash { (q : FileName) → (IsNew core.old.next_segment core.old.next_generation (name_of q) → ⊥)
         → NoMore (D.may_leave device.old q) (D.may_leave device.new q) }
     ensures commits { SparesCommits (D.may_leave device.old) (D.may_leave device.new) }
@@ -76,6 +80,7 @@ fn begin_window<D: Directory>(
     ensures left { IfErr result (λ e. e ≡ Device → core.old.next_segment ≤ last_number) }
     ensures device { IfErr result (λ e. e ≡ Device → D.can_fail device.old) }
     ensures counted { IfErr result (λ e. e ≡ Device → CountsOne (D.fault_count device.old) (D.fault_count device.new)) }
+    ensures memory { IfErr result (λ e. e ≡ Memory → D.fault_count device.new ≡ D.fault_count device.old) }
     ensures can { D.can_fail device.new → D.can_fail device.old }
     ensures refusal { IfErr result (λ e. (e ≡ Memory) ⊎ (e ≡ Device) ⊎ (e ≡ Spent)) }
 {
@@ -92,9 +97,11 @@ fn copy<D: Directory + Shelf>(core: &mut Core, device: &mut D) -> Result<usize, 
     ensures ok { IfOk result (λ passed. (policy : plans.MergePolicy) → Makes (Maintains policy Chore.merge (News.copied passed))
         (D.bytes device.old) core.old (D.bytes device.new) core.new) }
     ensures err { OnErr result (Makes IsLeft (D.bytes device.old) core.old (D.bytes device.new) core.new) }
+    ensures segments { OnErr result (KeepsSegments core.old core.new) }
     ensures crash { (q : FileName) → (IsOfMerge core.old.merging q → ⊥) → NoMore (D.may_leave device.old q) (D.may_leave device.new q) }
     ensures commits { SparesCommits (D.may_leave device.old) (D.may_leave device.new) }
     ensures counted { IfErr result (λ e. e ≡ Device → CountsOne (D.fault_count device.old) (D.fault_count device.new)) }
+    ensures memory { IfErr result (λ e. e ≡ Memory → D.fault_count device.new ≡ D.fault_count device.old) }
     ensures can { D.can_fail device.new → D.can_fail device.old }
     ensures refusal { IfErr result (λ e. (e ≡ Memory) ⊎ (e ≡ Device) ⊎ (e ≡ Damaged)) }
 {
@@ -114,10 +121,12 @@ fn finish<D: Directory>(core: &mut Core, device: &mut D) -> Result<(), Refusal>
     ensures ok { OnOk result ((policy : plans.MergePolicy) → Makes (Maintains policy Chore.merge News.done)
         (D.bytes device.old) core.old (D.bytes device.new) core.new) }
     ensures err { OnErr result (Makes IsLeft (D.bytes device.old) core.old (D.bytes device.new) core.new) }
+    ensures segments { OnErr result (KeepsSegments core.old core.new) }
     ensures crash { (q : FileName) → (IsOfMerge core.old.merging q → ⊥) → NoMore (D.may_leave device.old q) (D.may_leave device.new q) }
     ensures commits { SparesCommits (D.may_leave device.old) (D.may_leave device.new) }
     ensures device { IfErr result (λ e. e ≡ Device → D.can_fail device.old) }
     ensures counted { IfErr result (λ e. e ≡ Device → CountsOne (D.fault_count device.old) (D.fault_count device.new)) }
+    ensures memory { IfErr result (λ e. e ≡ Memory → D.fault_count device.new ≡ D.fault_count device.old) }
     ensures can { D.can_fail device.new → D.can_fail device.old }
     ensures refusal { IfErr result (λ e. (e ≡ Memory) ⊎ (e ≡ Device)) }
 {
@@ -135,11 +144,13 @@ fn go_on<D: Directory + Shelf>(core: &mut Core, device: &mut D) -> Result<MergeN
     ensures ok { IfOk result (λ news. (policy : plans.MergePolicy) → Makes (Maintains policy Chore.merge (news_of news))
         (D.bytes device.old) core.old (D.bytes device.new) core.new) }
     ensures err { OnErr result (Makes IsLeft (D.bytes device.old) core.old (D.bytes device.new) core.new) }
+    ensures segments { OnErr result (KeepsSegments core.old core.new) }
     ensures crash { (q : FileName) → (IsOfMerge core.old.merging q → ⊥) → NoMore (D.may_leave device.old q) (D.may_leave device.new q) }
     ensures commits { SparesCommits (D.may_leave device.old) (D.may_leave device.new) }
     ensures damaged { IfErr result (λ e. e ≡ Damaged → HasRowsLeft core.old.merging) }
     ensures device { IfErr result (λ e. e ≡ Device → HasRowsLeft core.old.merging ⊎ D.can_fail device.old) }
     ensures counted { IfErr result (λ e. e ≡ Device → CountsOne (D.fault_count device.old) (D.fault_count device.new)) }
+    ensures memory { IfErr result (λ e. e ≡ Memory → D.fault_count device.new ≡ D.fault_count device.old) }
     ensures can { D.can_fail device.new → D.can_fail device.old }
     ensures refusal { IfErr result (λ e. (e ≡ Memory) ⊎ (e ≡ Device) ⊎ (e ≡ Damaged)) }
 {
@@ -172,6 +183,7 @@ pub fn merge_step<D: Directory + Shelf>(
     ensures ok { IfOk result (λ news. Makes (Maintains policy Chore.merge (news_of news))
         (D.bytes device.old) core.old (D.bytes device.new) core.new) }
     ensures err { OnErr result (Makes IsLeft (D.bytes device.old) core.old (D.bytes device.new) core.new) }
+    ensures segments { OnErr result (KeepsSegments core.old core.new) }
     ensures crash { (q : FileName) → (IsNew core.old.next_segment core.old.next_generation (name_of q) → ⊥)
         → (IsOfMerge core.old.merging q → ⊥) → NoMore (D.may_leave device.old q) (D.may_leave device.new q) }
     ensures commits { SparesCommits (D.may_leave device.old) (D.may_leave device.new) }
@@ -181,6 +193,7 @@ pub fn merge_step<D: Directory + Shelf>(
     ensures damaged { IfErr result (λ e. e ≡ Damaged → HasRowsLeft core.old.merging) }
     ensures device { IfErr result (λ e. e ≡ Device → HasRowsLeft core.old.merging ⊎ D.can_fail device.old) }
     ensures counted { IfErr result (λ e. e ≡ Device → CountsOne (D.fault_count device.old) (D.fault_count device.new)) }
+    ensures memory { IfErr result (λ e. e ≡ Memory → D.fault_count device.new ≡ D.fault_count device.old) }
     ensures can { D.can_fail device.new → D.can_fail device.old }
     ensures refusal { IfErr result (λ e. (e ≡ Memory) ⊎ (e ≡ Device) ⊎ (e ≡ Damaged) ⊎ (e ≡ Spent)) }
 {

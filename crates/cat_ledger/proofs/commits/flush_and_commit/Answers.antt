@@ -1,4 +1,4 @@
-use Rattle.std.proofs.Common.{inl, inr, subst}
+use Rattle.std.proofs.Common.{inl, inr, refl, subst, ◌∙◌}
 use Rattle.cat_directory.specs.Devices.{CountsOne}
 use Rattle.cat_ledger_laws.specs.model.Calls.{Committed, Flushes}
 use Rattle.cat_ledger.proofs.Lasting.{call_keeps, carried_on, commit_lasts, lets_flush}
@@ -9,6 +9,7 @@ use Rattle.cat_ledger_laws.proofs.shape.Listed.{names_are_begun, no_source_begun
 use Rattle.cat_ledger_laws.specs.shape.CommitLaws.{names_begun}
 use Rattle.cat_ledger.proofs.Histories.{commit_spares_others, newest_committed, next_committed}
 use Rattle.cat_ledger.proofs.Synced.{synced_stands}
+use Rattle.cat_ledger.proofs.Refused.{goes_on, goes_on_behind}
 use Rattle.cat_ledger.proofs.commits.flush_and_commit.Goals as goal
 
 pub returns-in-Ok-clause-ok : goal.returns-in-Ok-clause-ok
@@ -100,3 +101,15 @@ returns-in-Err-commit-clause-device g c = λ before is.
 pub returns-in-Err-commit-clause-counted : goal.returns-in-Err-commit-clause-counted
 returns-in-Err-commit-clause-counted g c = λ is.
     subst (λ n. CountsOne n (g.D.Holder.fault_count c.commit.new.device)) c.in_default.ensures.quiet (c.in-Err-commit.ensures.counted is)
+
+pub returns-in-Err-clause-stays : goal.returns-in-Err-clause-stays
+returns-in-Err-clause-stays g c =
+    goes_on c.args.core.now c.flush.new.core c.flush.new.core c.flush.ensures.merging c.flush.ensures.known refl
+
+pub returns-in-Err-commit-clause-stays : goal.returns-in-Err-commit-clause-stays
+returns-in-Err-commit-clause-stays g c =
+    goes_on_behind (names_begun c.flush.new.core) (g.D.Holder.bytes c.flush.new.device) (g.D.Holder.bytes c.commit.new.device) c.args.core.now
+    c.flush.new.core c.commit.new.self c.flush.ensures.merging c.flush.ensures.known c.in-Err-commit.ensures.err c.in-Err-commit.ensures.known
+
+pub returns-in-Err-commit-clause-memory : goal.returns-in-Err-commit-clause-memory
+returns-in-Err-commit-clause-memory g c = λ is. c.in-Err-commit.ensures.memory is ∙ c.in_default.ensures.quiet

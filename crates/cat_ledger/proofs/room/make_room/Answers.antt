@@ -1,6 +1,7 @@
 use Rattle.cat_ledger.proofs.Made.{flush_begun, left_begun, room_made}
 use Rattle.cat_ledger_state.specs.Cores.{flush_begins}
 use Rattle.cat_ledger.proofs.Histories.{flush_spares}
+use Rattle.cat_ledger.proofs.Refused.{flushed_known, flushed_merging, given_up_merging}
 use Rattle.cat_ledger.proofs.room.make_room.Goals as goal
 
 pub returns-in-Err-clause-err : goal.returns-in-Err-clause-err
@@ -20,3 +21,15 @@ returns-in-Err-clause-commits g c =
 pub returns-clause-commits : goal.returns-clause-commits
 returns-clause-commits g c =
     flush_spares c.args.core.now (g.D.Holder.may_leave c.args.device.now) (g.D.Holder.may_leave c.flush.new.device) c.flush.ensures.crash
+
+pub returns-in-Err-clause-merging : goal.returns-in-Err-clause-merging
+returns-in-Err-clause-merging g c =
+    given_up_merging (flush_begins c.args.core.now) (g.D.Holder.bytes c.args.device.now) (g.D.Holder.bytes c.flush.new.device) c.args.core.now c.flush.new.self c.in-Err.ensures.err
+
+pub returns-clause-merging : goal.returns-clause-merging
+returns-clause-merging g c =
+    flushed_merging (g.D.Holder.bytes c.args.device.now) (g.D.Holder.bytes c.flush.new.device) c.args.core.now c.flush.new.self c.in_default.ensures.ok
+
+pub returns-clause-known : goal.returns-clause-known
+returns-clause-known g c =
+    flushed_known (g.D.Holder.bytes c.args.device.now) (g.D.Holder.bytes c.flush.new.device) c.args.core.now c.flush.new.self c.in_default.ensures.ok

@@ -1,5 +1,7 @@
+use Rattle.std.proofs.Common.{refl}
 use Rattle.cat_ledger.proofs.Made.{flush_left, may_still}
 use Rattle.cat_ledger_laws.proofs.lines.JoinedCalls.{refreshes_make}
+use Rattle.cat_ledger.proofs.Refused.{goes_on}
 use Rattle.cat_ledger.proofs.views.flush_and_record.Goals as goal
 
 pub returns-in-Ok-clause-ok : goal.returns-in-Ok-clause-ok
@@ -18,3 +20,12 @@ returns-in-Err-record_where_none-clause-due g c = λ _. c.in_default.ensures.may
 pub record_where_none-requires-clause-may : goal.record_where_none-requires-clause-may
 record_where_none-requires-clause-may g c =
     may_still c.args.core.now c.flush.new.core c.in_default.ensures.count c.in_default.ensures.views c.in_default.ensures.holds c.requires
+
+pub returns-in-Err-clause-stays : goal.returns-in-Err-clause-stays
+returns-in-Err-clause-stays g c =
+    goes_on c.args.core.now c.flush.new.core c.flush.new.core c.flush.ensures.merging c.flush.ensures.known refl
+
+pub returns-in-Err-record_where_none-clause-stays : goal.returns-in-Err-record_where_none-clause-stays
+returns-in-Err-record_where_none-clause-stays g c =
+    goes_on c.args.core.now c.flush.new.core c.record_where_none.new.core c.flush.ensures.merging c.flush.ensures.known
+    c.in-Err-record_where_none.ensures.err

@@ -8,6 +8,7 @@ use Rattle.cat_ledger_laws.specs.shape.Ties.{Makes}
 use Rattle.cat_ledger.proofs.Histories.{answered_goes, if_answered, nothing_goes, on_err, refused_goes}
 use Rattle.cat_ledger.specs.Histories.{Event, Goes}
 use Rattle.cat_ledger_laws.specs.shape.Steps.{newest_generation}
+use Rattle.cat_ledger.proofs.Refused.{nothing_ends}
 use Rattle.cat_ledger.proofs.ledger.Ledger.commit.Goals as goal
 
 pub returns-in-Err-clause-err : goal.returns-in-Err-clause-err
@@ -65,3 +66,12 @@ returns-clause-refused g c =
 
 pub returns-clause-device : goal.returns-clause-device
 returns-clause-device g c = λ formed. rw (← c.self.view_is) (c.flush_and_commit.ensures.device c.self.invariant.carried)
+
+pub returns-in-Err-clause-stays : goal.returns-in-Err-clause-stays
+returns-in-Err-clause-stays g c = nothing_ends c.args.self.now.core
+
+pub returns-then-next_generation-gt-LAST_NUMBER-clause-stays : goal.returns-then-next_generation-gt-LAST_NUMBER-clause-stays
+returns-then-next_generation-gt-LAST_NUMBER-clause-stays g c = nothing_ends c.args.self.now.core
+
+pub returns-clause-stays : goal.returns-clause-stays
+returns-clause-stays g c = rw (← c.self.view_is) c.flush_and_commit.ensures.stays

@@ -41,3 +41,9 @@ returns-clause-history g c =
     (λ news makes. call_goes left bytes (Maintains policy Chore.force (news_of news)) (lets_maintain policy Chore.force (news_of news)) c.self.inside.device
     done.new.device c.self.inside.core done.new.core policy policy (makes policy) c.self.invariant.carried spared)
     (λ made. call_goes left bytes IsLeft lets_left c.self.inside.device done.new.device c.self.inside.core done.new.core policy policy made c.self.invariant.carried spared))
+
+pub returns-clause-stays : goal.returns-clause-stays
+returns-clause-stays g c = rw (← c.self.view_is) c.force.ensures.stays
+
+pub returns-clause-segments : goal.returns-clause-segments
+returns-clause-segments g c = rw (← c.self.view_is) c.force.ensures.segments

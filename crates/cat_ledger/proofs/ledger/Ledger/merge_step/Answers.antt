@@ -41,3 +41,6 @@ returns-clause-history g c =
     (λ news makes. call_goes left bytes (Maintains policy Chore.merge (news_of news)) (lets_maintain policy Chore.merge (news_of news)) c.self.inside.device
     done.new.device c.self.inside.core done.new.core policy policy makes c.self.invariant.carried spared)
     (λ made. call_goes left bytes IsLeft lets_left c.self.inside.device done.new.device c.self.inside.core done.new.core policy policy made c.self.invariant.carried spared))
+
+pub returns-clause-segments : goal.returns-clause-segments
+returns-clause-segments g c = rw (← c.self.view_is) c.merge_step.ensures.segments

@@ -1,4 +1,4 @@
-use Rattle.std.proofs.Common.{arith, subst, sym}
+use Rattle.std.proofs.Common.{arith, refl, subst, sym}
 use Rattle.cat_ledger.proofs.Lasting.{call_keeps, lets_left, lets_put}
 use Rattle.cat_ledger.proofs.Made.{room_left, untouched, written}
 use Rattle.cat_ledger_laws.proofs.lines.JoinedCalls.{puts_make}
@@ -7,6 +7,7 @@ use Rattle.cat_ledger_laws.specs.model.Replies.{IsLeft}
 use Rattle.cat_model.specs.Item.{IsItem}
 use Rattle.cat_model.specs.Write.{Write}
 use Rattle.cat_ledger.proofs.Histories.{call_goes, nothing_goes, or_gone}
+use Rattle.cat_ledger.proofs.Refused.{goes_on, nothing_ends}
 use Rattle.cat_ledger.proofs.ledger.Ledger.put.Goals as goal
 
 pub returns-then-not-accepts-clause-err : goal.returns-then-not-accepts-clause-err
@@ -88,3 +89,18 @@ returns-clause-history g c =
     (omega (arith, c.in_default.ensures.count, c.count.ensures.count, c.if-count-ge-LAST_NUMBER.false))
     (subst (λ f. IsItem f c.args.item) (sym c.in_default.ensures.schema)
     (subst (λ f. IsItem f c.args.item) c.schema.ensures (c.accepts.ensures.0 c.if-not-accepts.false))))) c.self.invariant.carried (or_gone (g.D.Holder.may_leave c.self.inside.device) (g.D.Holder.may_leave c.make_room.new.device) c.make_room.ensures.commits))
+
+pub returns-then-not-accepts-clause-stays : goal.returns-then-not-accepts-clause-stays
+returns-then-not-accepts-clause-stays g c = nothing_ends c.args.self.now.core
+
+pub returns-then-count-ge-LAST_NUMBER-clause-stays : goal.returns-then-count-ge-LAST_NUMBER-clause-stays
+returns-then-count-ge-LAST_NUMBER-clause-stays g c = nothing_ends c.args.self.now.core
+
+pub returns-in-Err-clause-stays : goal.returns-in-Err-clause-stays
+returns-in-Err-clause-stays g c =
+    rw (← c.self.view_is) (goes_on c.self.inside.core c.make_room.new.core c.make_room.new.core c.make_room.ensures.merging c.make_room.ensures.known refl)
+
+pub returns-in-Err-put-clause-stays : goal.returns-in-Err-put-clause-stays
+returns-in-Err-put-clause-stays g c =
+    rw (← c.self.view_is) (goes_on c.self.inside.core c.make_room.new.core c.put.new.self c.make_room.ensures.merging c.make_room.ensures.known
+    c.in-Err-put.ensures.err)

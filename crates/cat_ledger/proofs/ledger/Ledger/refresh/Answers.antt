@@ -4,6 +4,7 @@ use Rattle.cat_ledger_laws.specs.model.Replies.{IsLeft}
 use Rattle.cat_ledger.proofs.Lasting.{call_keeps, lets_left, lets_refresh}
 use Rattle.cat_ledger.proofs.Made.{untouched}
 use Rattle.cat_ledger.proofs.Histories.{call_goes, nothing_goes, or_gone}
+use Rattle.cat_ledger.proofs.Refused.{nothing_ends}
 use Rattle.cat_ledger.proofs.ledger.Ledger.refresh.Goals as goal
 
 pub returns-then-is_refused-clause-err : goal.returns-then-is_refused-clause-err
@@ -45,3 +46,9 @@ pub returns-clause-history : goal.returns-clause-history
 returns-clause-history g c =
     rw (← c.self.view_is) (call_goes g.D.Holder.may_leave g.D.Holder.bytes (Refreshes) (lets_refresh) c.self.inside.device c.flush_and_record.new.device c.self.inside.core c.flush_and_record.new.core
     c.self.inside.policy c.self.inside.policy c.in_default.ensures.ok c.self.invariant.carried (or_gone (g.D.Holder.may_leave c.self.inside.device) (g.D.Holder.may_leave c.flush_and_record.new.device) c.flush_and_record.ensures.commits))
+
+pub returns-then-is_refused-clause-stays : goal.returns-then-is_refused-clause-stays
+returns-then-is_refused-clause-stays g c = nothing_ends c.args.self.now.core
+
+pub returns-in-Err-clause-stays : goal.returns-in-Err-clause-stays
+returns-in-Err-clause-stays g c = rw (← c.self.view_is) c.in-Err.ensures.stays

@@ -1,5 +1,8 @@
+use Rattle.std.proofs.Common.{[], ◌∷◌}
+use Rattle.cat_model.specs.Files.{Name}
 use Rattle.cat_ledger.proofs.upkeep.Made.{left_begun, window_fits, window_begun}
 use Rattle.cat_ledger.proofs.upkeep.Spared.{begun_spares}
+use Rattle.cat_ledger.proofs.Refused.{given_up_segments}
 use Rattle.cat_ledger.proofs.upkeep.merges.begin_at.Goals as goal
 
 pub begin_merge-requires-clause-few : goal.begin_merge-requires-clause-few
@@ -23,3 +26,8 @@ returns-in-Err-clause-commits g c =
 pub returns-clause-commits : goal.returns-clause-commits
 returns-clause-commits g c =
     begun_spares (g.D.Holder.may_leave c.args.device.now) (g.D.Holder.may_leave c.begin_merge.new.device) c.args.core.now.next_segment c.begin_merge.ensures.crash
+
+pub returns-in-Err-clause-segments : goal.returns-in-Err-clause-segments
+returns-in-Err-clause-segments g c =
+    given_up_segments (Name.source c.args.core.now.next_segment ∷ []) (g.D.Holder.bytes c.args.device.now) (g.D.Holder.bytes c.begin_merge.new.device) c.args.core.now
+    c.begin_merge.new.self c.in-Err.ensures.err c.in-Err.ensures.known

@@ -4,6 +4,7 @@ use Rattle.cat_model.specs.Window.{IsWindow}
 use Rattle.cat_ledger_laws.specs.lines.PlanLaws.{sizes_in}
 use Rattle.cat_ledger_laws.proofs.lines.Planned.{merges_rest}
 use Rattle.cat_ledger.proofs.upkeep.Made.{left_as_it_was}
+use Rattle.cat_ledger.proofs.Refused.{nothing_flushed}
 use Rattle.cat_ledger.proofs.upkeep.merges.begin_window.Goals as goal
 
 pub returns-in-Ok-None-clause-ok : goal.returns-in-Ok-None-clause-ok
@@ -16,3 +17,6 @@ returns-in-Ok-None-clause-ok g c =
 
 pub returns-in-Err-clause-err : goal.returns-in-Err-clause-err
 returns-in-Err-clause-err g c = left_as_it_was (g.D.Holder.bytes c.args.device.now) c.args.core.now
+
+pub returns-in-Err-clause-segments : goal.returns-in-Err-clause-segments
+returns-in-Err-clause-segments g c = nothing_flushed c.args.core.now

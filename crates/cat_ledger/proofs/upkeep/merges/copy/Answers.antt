@@ -1,6 +1,7 @@
 use Rattle.std.proofs.Common.{sym, ◌∙◌}
 use Rattle.cat_ledger.proofs.upkeep.Made.{left_ended, copied_made}
 use Rattle.cat_ledger.proofs.upkeep.Spared.{copied_spares}
+use Rattle.cat_ledger.proofs.Refused.{ended_segments}
 use Rattle.cat_ledger.proofs.upkeep.merges.copy.Goals as goal
 
 pub returns-in-Err-clause-err : goal.returns-in-Err-clause-err
@@ -19,3 +20,7 @@ returns-in-Err-clause-commits g c =
 pub returns-clause-commits : goal.returns-clause-commits
 returns-clause-commits g c =
     copied_spares (g.D.Holder.may_leave c.args.device.now) (g.D.Holder.may_leave c.copy_rows.new.device) c.args.core.now.merging c.copy_rows.ensures.crash
+
+pub returns-in-Err-clause-segments : goal.returns-in-Err-clause-segments
+returns-in-Err-clause-segments g c =
+    ended_segments (g.D.Holder.bytes c.args.device.now) (g.D.Holder.bytes c.copy_rows.new.device) c.args.core.now c.copy_rows.new.self c.in-Err.ensures.err

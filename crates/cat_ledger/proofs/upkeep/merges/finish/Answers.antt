@@ -1,5 +1,6 @@
 use Rattle.cat_ledger.proofs.upkeep.Made.{left_failed, all_passed, installed_made}
 use Rattle.cat_ledger.proofs.upkeep.Spared.{installed_spares}
+use Rattle.cat_ledger.proofs.Refused.{failed_segments}
 use Rattle.cat_ledger.proofs.upkeep.merges.finish.Goals as goal
 
 pub install-requires : goal.install-requires
@@ -21,3 +22,8 @@ returns-in-Err-clause-commits g c =
 pub returns-clause-commits : goal.returns-clause-commits
 returns-clause-commits g c =
     installed_spares (g.D.Holder.may_leave c.args.device.now) (g.D.Holder.may_leave c.install.new.device) c.args.core.now.merging c.install.ensures.crash
+
+pub returns-in-Err-clause-segments : goal.returns-in-Err-clause-segments
+returns-in-Err-clause-segments g c =
+    failed_segments (g.D.Holder.bytes c.args.device.now) (g.D.Holder.bytes c.install.new.device) c.args.core.now c.install.new.self c.in-Err.ensures.err
+    c.in-Err.ensures.known
