@@ -1,2 +1,3 @@
 pub mod history
 pub mod sharing
+pub mod service

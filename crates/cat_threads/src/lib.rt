@@ -3,4 +3,7 @@
 #![tactic(auto)]
 
 pub mod history;
+pub mod service;
 pub mod sharing;
+
+pub use service::{Begun, Naming, Pass, Service, Write};

@@ -1,0 +1,87 @@
+use Rattle.std.proofs.Common.{◌≡◌, ℕ, ◌+◌, ◌-◌, ◌≤◌, [], length, sym, ap, ◌∙◌, arith}
+use Rattle.crossbeam_utils.specs.Seq.{cell_view}
+use Rattle.cat_threads.specs.history.Rules.{Sight, scribe}
+use Rattle.cat_ledger.specs.Ledgers.{device_in, shape_in}
+use Rattle.cat_threads.proofs.sharing.Sharing.{counts_share, newest_share}
+use Rattle.cat_threads.proofs.service.Answering.{refresh_left, refreshed}
+use Rattle.cat_threads.proofs.service.Passed.{follows_told}
+use Rattle.cat_threads.proofs.service.Granting.{apart_again, apart_recorded}
+use Rattle.cat_threads.proofs.service.desk.Desk.refresh.Goals as goal
+
+pub record-requires-clause-words : goal.record-requires-clause-words
+record-requires-clause-words g c =
+    let i = c.self.invariant in
+    let old = c.self.inside.ledger in
+    let v = cell_view c.self.inside.scribe in
+    let told = g.D.Holder.bytes (device_in old) in
+    let j = c.join.ensures.desk in
+    let all = counts_share told (shape_in old) g.J.Naming.from g.J.Naming.sessions v i.3 in
+    let most = (newest_share told (shape_in old) g.J.Naming.from g.J.Naming.sessions v i.3).1 in
+    let long = ap (λ (x : Sight). length x.list) j.1 in
+    let top = ap (λ (x : Sight). x.token) j.1 in
+    let start = i.1 in
+    let is = c.in-Ok.ensures.token in
+    (omega arith, omega arith)
+
+pub invariant_of-self : goal.invariant_of-self
+invariant_of-self g c =
+    let i = c.self.invariant in
+    let a = i.3 in
+    let j = c.join.ensures.desk in
+    let n = c.record.ensures in
+    let p = c.part.ensures.desk in
+    let v = cell_view c.self.inside.scribe in
+    let w = cell_view c.part.new.desk in
+    let old = c.self.inside.ledger in
+    let new = c.refresh.new.self in
+    let bytes = g.D.Holder.bytes in
+    let from = g.J.Naming.from in
+    let sessions = g.J.Naming.sessions in
+    let t = c.in-Ok.token in
+    let its = c.in-Ok.ensures.token in
+    let all = counts_share (bytes (device_in old)) (shape_in old) from sessions v a in
+    let is : w ≡ scribe v.list (t - from.start.token) sessions [] =
+    apart_recorded v (cell_view c.join.new.desk) (cell_view c.record.new.desk) w sessions (cell_view c.me.inside.seat).own (t - c.self.inside.start) a.agrees.whole j.1 n.1 p.1
+    ∙ ap (λ (k : ℕ). scribe v.list (t - k) sessions []) i.1 in
+    let token = ap (λ (x : Sight). x.token) is in (
+      p.0 ∙ (n.0 ∙ (j.0 ∙ i.0)),
+      i.1,
+      omega arith,
+      refreshed bytes old new from sessions v w c.args.me.now.session t a its c.in-Ok.ensures.may c.in-Ok.ensures.ok is,
+    )
+
+pub invariant_of-self-in-Err : goal.invariant_of-self-in-Err
+invariant_of-self-in-Err g c =
+    let i = c.self.invariant in
+    let a = i.3 in
+    let j = c.join.ensures.desk in
+    let p = c.part-in-Err.ensures.desk in
+    let v = cell_view c.self.inside.scribe in
+    let w = cell_view c.part-in-Err.new.desk in
+    let from = g.J.Naming.from in
+    let sessions = g.J.Naming.sessions in
+    let is : w ≡ scribe v.list v.token sessions [] =
+    apart_again v (cell_view c.join.new.desk) w sessions (cell_view c.me.inside.seat).own a.agrees.whole j.1 p.1 in (
+      p.0 ∙ (j.0 ∙ i.0),
+      i.1,
+      i.2 ∙ ap (λ (k : ℕ). from.start.token + k) (sym (ap (λ (x : Sight). x.token) is)),
+      refresh_left g.D.Holder.bytes c.self.inside.ledger c.refresh.new.self from sessions v w c.args.me.now.session a c.in-Err.ensures.err is,
+    )
+
+pub returns-in-Ok-clause-seen : goal.returns-in-Ok-clause-seen
+returns-in-Ok-clause-seen g c =
+    let j = c.join.ensures in
+    let n = c.record.ensures in
+    let p = c.part.ensures.mine in
+    let v = cell_view c.self.inside.scribe in
+    let old = c.self.inside.ledger in
+    let i = c.self.invariant in
+    let told = g.D.Holder.bytes (device_in old) in
+    let all = counts_share told (shape_in old) g.J.Naming.from g.J.Naming.sessions v i.3 in
+    let most = (newest_share told (shape_in old) g.J.Naming.from g.J.Naming.sessions v i.3).1 in
+    let top = ap (λ (x : Sight). x.token) j.desk.1 in
+    let start = i.1 in
+    let is = c.in-Ok.ensures.token in
+    let token : (cell_view c.part.result).token ≡ c.in-Ok.token - c.self.inside.start = ap (λ (x : Sight). x.token) p.1 ∙ ap (λ (x : Sight). x.token) n.1 in
+    follows_told g.J.Naming.from.start.token c.me.inside.session (cell_view c.me.inside.seat) (cell_view c.join.new.desk) (cell_view c.part.result) c.args.me.now c.me.view_is j.seen
+    (ap (λ (x : Sight). x.list) p.1 ∙ ap (λ (x : Sight). x.list) n.1) (omega arith)

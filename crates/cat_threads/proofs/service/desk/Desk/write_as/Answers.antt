@@ -1,0 +1,92 @@
+use Rattle.std.proofs.Common.{◌≡◌, ℕ, suc, ◌+◌, [], ◌∷◌, ◌++◌, List, length, sym, ap, ◌∙◌, arith}
+use Rattle.std.specs.Prelude.{Err}
+use Rattle.crossbeam_utils.specs.Seq.{cell_view}
+use Rattle.cat_base.specs.declared.refusal.Refusal.TheVariants.{Memory}
+use Rattle.cat_threads.specs.history.Entries.{Entry, entry, has}
+use Rattle.cat_threads.specs.history.Rules.{Sight, scribe}
+use Rattle.cat_ledger.specs.Ledgers.{device_in, policy_in, shape_in}
+use Rattle.cat_ledger_laws.specs.lines.RefusalLaws.{command_of}
+use Rattle.cat_threads.proofs.sharing.Sharing.{counts_share, noted_share, still_share}
+use Rattle.cat_threads.specs.service.Passes.{Seen}
+use Rattle.cat_threads.specs.service.Writes.{write_of}
+use Rattle.cat_threads.proofs.service.Passed.{follows_noted, wrote_noted, has_self}
+use Rattle.cat_threads.proofs.service.Granting.{apart_again, apart_noted, refused_still}
+use Rattle.cat_threads.proofs.service.desk.Desk.write_as.Goals as goal
+
+pub invariant_of-self : goal.invariant_of-self
+invariant_of-self g c =
+    let i = c.self.invariant in
+    let a = i.3 in
+    let j = c.join.ensures.desk in
+    let n = c.note.ensures in
+    let p = c.part.ensures.desk in
+    let v = cell_view c.self.inside.scribe in
+    let w = cell_view c.part.new.desk in
+    let old = c.self.inside.ledger in
+    let new = c.accept.new.ledger in
+    let bytes = g.D.Holder.bytes in
+    let from = g.J.Naming.from in
+    let sessions = g.J.Naming.sessions in
+    let session = c.args.me.now.session in
+    let write = write_of c.args.write in
+    let is : w ≡ scribe (v.list ++ entry session write ∷ []) v.token sessions [] =
+    apart_noted v (cell_view c.join.new.desk) (cell_view c.note.new.desk) w sessions (cell_view c.me.inside.seat).own g.W.Noting.entry a.agrees.whole j.1 n.1 p.1
+    ∙ ap (λ (e : Entry). scribe (v.list ++ e ∷ []) v.token sessions []) c.requires.named in (
+      p.0 ∙ (n.0 ∙ (j.0 ∙ i.0)),
+      i.1,
+      i.2 ∙ ap (λ (k : ℕ). from.start.token + k) (sym (ap (λ (x : Sight). x.token) is)),
+      noted_share (policy_in old) (bytes (device_in old)) (bytes (device_in new)) (shape_in old) (shape_in new) from sessions v w session a c.in-Ok.number write
+          (c.in-Ok.ensures.answers session) is,
+    )
+
+pub invariant_of-self-in-Err : goal.invariant_of-self-in-Err
+invariant_of-self-in-Err g c =
+    let i = c.self.invariant in
+    let a = i.3 in
+    let j = c.join.ensures.desk in
+    let p = c.part-in-Err.ensures.desk in
+    let v = cell_view c.self.inside.scribe in
+    let w = cell_view c.part-in-Err.new.desk in
+    let old = c.self.inside.ledger in
+    let new = c.accept.new.ledger in
+    let bytes = g.D.Holder.bytes in
+    let from = g.J.Naming.from in
+    let sessions = g.J.Naming.sessions in
+    let session = c.args.me.now.session in
+    let write = write_of c.args.write in
+    let is : w ≡ scribe v.list v.token sessions [] =
+    apart_again v (cell_view c.join.new.desk) w sessions (cell_view c.me.inside.seat).own a.agrees.whole j.1 p.1 in (
+      p.0 ∙ (j.0 ∙ i.0),
+      i.1,
+      i.2 ∙ ap (λ (k : ℕ). from.start.token + k) (sym (ap (λ (x : Sight). x.token) is)),
+      still_share (policy_in old) (bytes (device_in old)) (bytes (device_in new)) (shape_in old) (shape_in new) from sessions v w session a (command_of write) (Err Memory)
+          (refused_still write) (c.in-Err.ensures.refused session) is,
+    )
+
+pub returns-in-Ok-clause-seen : goal.returns-in-Ok-clause-seen
+returns-in-Ok-clause-seen g c =
+    let j = c.join.ensures in
+    let n = c.note.ensures in
+    let p = c.part.ensures.mine in
+    follows_noted g.J.Naming.from.start.token c.me.inside.session (cell_view c.me.inside.seat) (cell_view c.join.new.desk) (cell_view c.part.result) g.W.Noting.entry c.args.me.now c.me.view_is j.seen
+    (ap (λ (v : Sight). v.list) p.1 ∙ ap (λ (v : Sight). v.list) n.1) (ap (λ (v : Sight). v.token) p.1 ∙ ap (λ (v : Sight). v.token) n.1)
+
+pub returns-in-Ok-clause-wrote : goal.returns-in-Ok-clause-wrote
+returns-in-Ok-clause-wrote g c =
+    let j = c.join.ensures in
+    let n = c.note.ensures in
+    let p = c.part.ensures.mine in
+    let start = g.J.Naming.from.start.token in
+    let session = c.me.inside.session in
+    let write = write_of c.args.write in
+    let old = c.self.inside.ledger in
+    let v = cell_view c.self.inside.scribe in
+    let joined = cell_view c.join.new.desk in
+    let named : g.W.Noting.entry ≡ entry session write = c.requires.named ∙ ap (λ (s : ℕ). entry s write) (sym (ap (λ (x : Seen). x.session) c.me.view_is)) in
+    let counted = counts_share (g.D.Holder.bytes (device_in old)) (shape_in old) g.J.Naming.from g.J.Naming.sessions v c.self.invariant.3 in
+    let long : length joined.list ≡ length v.list = ap (λ (x : Sight). length x.list) j.desk.1 in
+    let number = c.in-Ok.ensures.number in
+    wrote_noted start session c.in-Ok.number write (cell_view c.me.inside.seat) joined (cell_view c.part.result) c.args.me.now c.me.view_is j.seen
+    (ap (λ (x : Sight). has session x.own) c.me.invariant.1 ∙ has_self session)
+    (omega arith)
+    (ap (λ (x : Sight). x.list) p.1 ∙ ap (λ (x : Sight). x.list) n.1 ∙ ap (λ (e : Entry). joined.list ++ e ∷ []) named)

@@ -1,0 +1,42 @@
+use Rattle.std.proofs.Common.{◌≡◌, ℕ, sym, subst}
+use Rattle.std.specs.Prelude.{IfOk, OnErr, Err}
+use Rattle.cat_base.specs.declared.refusal.Refusal.TheVariants.{Memory}
+use Rattle.cat_model.specs.Write as model
+use Rattle.cat_ledger.specs.cat_ledger_state.cat_query.View.{query_of}
+use Rattle.cat_ledger.specs.Answering.{Answers}
+use Rattle.cat_ledger_laws.specs.lines.LineLaws.{tells}
+use Rattle.cat_ledger_laws.specs.lines.RefusalLaws.{command_of}
+use Rattle.cat_threads.specs.service.Writes.{write_of}
+use Rattle.cat_threads.proofs.service.Answering.{delete_answers, delete_where_answers, left_refused, put_answers, same_refused}
+use Rattle.cat_threads.proofs.service.writes.accept.Goals as goal
+
+pub returns-in-Put-clause-answers : goal.returns-in-Put-clause-answers
+returns-in-Put-clause-answers g c =
+    let e = c.put.ensures in
+    let bytes = g.D.Holder.bytes in
+    subst (λ w. IfOk c.put.result (λ n. (session : ℕ) → Answers bytes session (command_of (write_of w)) c.args.ledger.now (tells n) c.put.new.self)) (sym c.in-Put.is)
+    (put_answers bytes c.args.ledger.now c.put.new.self c.in-Put.item c.put.result e.number e.item e.left e.ok)
+
+pub returns-in-Put-clause-refused : goal.returns-in-Put-clause-refused
+returns-in-Put-clause-refused g c = left_refused g.D.Holder.bytes c.args.ledger.now c.put.new.self (write_of c.args.write) c.put.result c.put.ensures.err
+
+pub returns-in-Delete-clause-answers : goal.returns-in-Delete-clause-answers
+returns-in-Delete-clause-answers g c =
+    let e = c.delete.ensures in
+    let bytes = g.D.Holder.bytes in
+    subst (λ w. IfOk c.delete.result (λ n. (session : ℕ) → Answers bytes session (command_of (write_of w)) c.args.ledger.now (tells n) c.delete.new.self)) (sym c.in-Delete.is)
+    (subst (λ id. IfOk c.delete.result (λ n. (session : ℕ) → Answers bytes session (command_of (model.Write.delete id)) c.args.ledger.now (tells n) c.delete.new.self)) c.as_str.ensures
+    (delete_answers bytes c.args.ledger.now c.delete.new.self c.as_str.result.now c.delete.result e.number e.left e.ok))
+
+pub returns-in-Delete-clause-refused : goal.returns-in-Delete-clause-refused
+returns-in-Delete-clause-refused g c = same_refused g.D.Holder.bytes c.args.ledger.now c.delete.new.self (write_of c.args.write) c.delete.result c.delete.ensures.err
+
+pub returns-in-DeleteWhere-clause-answers : goal.returns-in-DeleteWhere-clause-answers
+returns-in-DeleteWhere-clause-answers g c =
+    let e = c.delete_where.ensures in
+    let bytes = g.D.Holder.bytes in
+    subst (λ w. IfOk c.delete_where.result (λ n. (session : ℕ) → Answers bytes session (command_of (write_of w)) c.args.ledger.now (tells n) c.delete_where.new.self)) (sym c.in-DeleteWhere.is)
+    (delete_where_answers bytes c.args.ledger.now c.delete_where.new.self (query_of c.in-DeleteWhere.query) c.delete_where.result e.number e.left e.ok)
+
+pub returns-in-DeleteWhere-clause-refused : goal.returns-in-DeleteWhere-clause-refused
+returns-in-DeleteWhere-clause-refused g c = same_refused g.D.Holder.bytes c.args.ledger.now c.delete_where.new.self (write_of c.args.write) c.delete_where.result c.delete_where.ensures.err

@@ -1,0 +1,15 @@
+//! One ledger under a lock, for callers in their own threads: each call is one locked section, and tells the caller how the one list of
+//! accepted writes went on.
+
+mod begun;
+mod desk;
+mod naming;
+mod pass;
+mod service;
+mod writes;
+
+pub use begun::Begun;
+pub use naming::Naming;
+pub use pass::Pass;
+pub use service::Service;
+pub use writes::Write;

@@ -1,0 +1,223 @@
+//! What lies under the lock.
+ghost use Rattle.std.specs.Prelude.{◌≡◌, ◌≢◌, ◌+◌, [], ◌∷◌, ◌++◌, length, IfOk, OnErr, OnOk, IfErr, None};
+ghost use Rattle.crossbeam_utils.specs.Seq.{cell_view};
+ghost use Rattle.cat_base.specs.declared.refusal.Refusal.TheVariants.{Gone};
+ghost use Rattle.cat_ledger.specs.Grants.{released_session, released_token};
+ghost use Rattle.cat_ledger.specs.Ledgers.{device_in, shape_in};
+ghost use Rattle.cat_threads.specs.history.Entries.{entry};
+ghost use Rattle.cat_threads.specs.history.Rules.{NoStrangers, scribe as scribe_sight};
+ghost use Rattle.cat_threads.specs.service.Passes.{Ends, Follows, Granted, Idle, IfNew, Refreshed, Wrote};
+ghost use Rattle.cat_threads.specs.sharing.Grounds.{ground_of};
+ghost use Rattle.cat_threads.specs.sharing.ShareLaws.{IsHistoryOf};
+ghost use Rattle.cat_threads.specs.service.Begins.{Begins};
+ghost use Rattle.cat_threads.specs.service.Writes.{write_of};
+
+use crate::history::{self, Cell, Noting, Seat};
+use crate::service::naming::Naming;
+use crate::service::pass::Pass;
+use crate::service::writes::{Write, accept};
+use cat_base::{Refusal, SessionNo, Token, WriteNo};
+use cat_directory::{Directory, Shelf};
+use cat_ledger::cat_ledger_state::Hold;
+use cat_ledger::{Grant, Ledger, Released};
+use std::marker::{Brand, Model, PhantomData};
+use std::sync::Wait;
+
+/// The ledger, with the pass that knows its whole list.
+#[derive(Drop)]
+pub(crate) struct Desk<D: Directory + Shelf, J: Naming> {
+    ledger: Ledger<D>,
+    start: WriteNo,
+    // The token of the newest view.
+    newest: Token,
+    scribe: Seat,
+    of: PhantomData<J>,
+}
+
+impl<D: Directory + Shelf, J: Naming> Model for Desk<D, J> {
+    ghost use Rattle.std.specs.Prelude.{◌≡◌, ◌+◌};
+    ghost use Rattle.std.specs.Coded.{codes};
+    ghost use Rattle.crossbeam_utils.specs.Seq.{cell_view};
+    ghost use Rattle.cat_threads.specs.history.Coding.{query_code};
+    ghost use Rattle.cat_ledger.specs.Ledgers.{device_in, shape_in};
+    ghost use Rattle.cat_threads.specs.sharing.Grounds.{Shares};
+    ghost use Rattle.cat_threads.specs.service.Passes.{Shared};
+
+    ghost Value = { Shared };
+
+    ghost coded = { Prim.hlevel (codes, query_code) };
+
+    ghost view = { λ d. record { list = (cell_view d.scribe).list; token = J.from.start.token + (cell_view d.scribe).token } };
+
+    ghost invariant = { λ d. (d.scribe.table_id ≡ J.table) × (d.start ≡ J.from.start.token) × (d.newest ≡ J.from.start.token + (cell_view d.scribe).token)
+        × Shares (D.bytes (device_in d.ledger)) (shape_in d.ledger) J.from J.sessions (cell_view d.scribe) };
+}
+
+impl<D: Directory + Shelf, J: Naming> Desk<D, J> {
+    /// Makes a write, and notes it.
+    pub(crate) fn write<R: Wait>(
+        &mut self,
+        rt: &R,
+        cell: &Cell,
+        me: &mut Pass<J>,
+        write: Write,
+    ) -> Result<WriteNo, Refusal>
+        requires { cell.now.table.shared.table_id ≡ J.table }
+        ensures told { (me.new.list ≡ self.new.list) × (me.new.token ≡ self.new.token) }
+        ensures list { IfOk result (λ n. (self.new.list ≡ self.old.list ++ entry me.old.session (write_of write) ∷ [])
+            × (n ≡ J.from.start.token + length self.new.list)) }
+        ensures same { OnErr result (self.new.list ≡ self.old.list) }
+        ensures token { self.new.token ≡ self.old.token }
+        ensures seen { Follows me.old me.new }
+        ensures wrote { IfOk result (λ n. Wrote J.from.start.token n (write_of write) me.old me.new) }
+        ensures idle { OnErr result (Idle me.old me.new) }
+    {
+        self.write_as::<Brand, R>(rt, cell, me, write)
+    }
+
+    /// Makes the write that the call picks.
+    fn write_as<W: Noting, R: Wait>(
+        &mut self,
+        rt: &R,
+        cell: &Cell,
+        me: &mut Pass<J>,
+        write: Write,
+    ) -> Result<WriteNo, Refusal>
+        requires cell { cell.now.table.shared.table_id ≡ J.table }
+        requires named { W.entry ≡ entry me.old.session (write_of write) }
+        ensures told { (me.new.list ≡ self.new.list) × (me.new.token ≡ self.new.token) }
+        ensures list { IfOk result (λ n. (self.new.list ≡ self.old.list ++ W.entry ∷ [])
+            × (n ≡ J.from.start.token + length self.new.list)) }
+        ensures same { OnErr result (self.new.list ≡ self.old.list) }
+        ensures token { self.new.token ≡ self.old.token }
+        ensures seen { Follows me.old me.new }
+        ensures wrote { IfOk result (λ n. Wrote J.from.start.token n (write_of write) me.old me.new) }
+        ensures idle { OnErr result (Idle me.old me.new) }
+    {
+        history::join(rt, cell, &mut self.scribe, &mut me.seat);
+        match accept(&mut self.ledger, write) {
+            Ok(number) => {
+                let count = number - self.start;
+                let token = self.newest - self.start;
+                history::note::<W, R>(rt, cell, &mut self.scribe, count, token);
+                me.seat = history::part(cell, &mut self.scribe);
+                Ok(number)
+            }
+            Err(refusal) => {
+                me.seat = history::part(cell, &mut self.scribe);
+                Err(refusal)
+            }
+        }
+    }
+
+    /// Records a view of now, and its token is noted.
+    pub(crate) fn refresh<R: Wait>(
+        &mut self,
+        rt: &R,
+        cell: &Cell,
+        me: &mut Pass<J>,
+    ) -> Result<Token, Refusal>
+        requires { cell.now.table.shared.table_id ≡ J.table }
+        ensures told { (me.new.list ≡ self.new.list) × (me.new.token ≡ self.new.token) }
+        ensures list { self.new.list ≡ self.old.list }
+        ensures same { OnErr result (self.new.token ≡ self.old.token) }
+        ensures seen { Follows me.old me.new }
+        ensures idle { Idle me.old me.new }
+        ensures token { IfOk result (λ t. Refreshed J.from.start.token t me.old me.new) }
+    {
+        history::join(rt, cell, &mut self.scribe, &mut me.seat);
+        match self.ledger.refresh() {
+            Ok(token) => {
+                let relative = token - self.start;
+                history::record(rt, cell, &mut self.scribe, relative, relative);
+                self.newest = token;
+                me.seat = history::part(cell, &mut self.scribe);
+                Ok(token)
+            }
+            Err(refusal) => {
+                me.seat = history::part(cell, &mut self.scribe);
+                Err(refusal)
+            }
+        }
+    }
+
+    /// Gives the right to a recorded view.
+    pub(crate) fn open<R: Wait>(
+        &mut self,
+        rt: &R,
+        cell: &Cell,
+        me: &mut Pass<J>,
+        token: Option<Token>,
+    ) -> Result<Grant, Refusal>
+        requires { cell.now.table.shared.table_id ≡ J.table }
+        ensures told { (me.new.list ≡ self.new.list) × (me.new.token ≡ self.new.token) }
+        ensures same { (self.new.list ≡ self.old.list) × (self.new.token ≡ self.old.token) }
+        ensures seen { Follows me.old me.new }
+        ensures idle { Idle me.old me.new }
+        ensures given { IfOk result (λ g. IfNew g (λ h. Granted J.from token me.old me.new h)) }
+        ensures gone { IfErr result (λ e. token ≡ None → e ≢ Gone) }
+    {
+        let session = me.session;
+        history::join(rt, cell, &mut self.scribe, &mut me.seat);
+        let result = self.ledger.acquire(session, token);
+        me.seat = history::part(cell, &mut self.scribe);
+        result
+    }
+
+    /// Ends the session's right. One that isn't the session's, or isn't counted, is handed back.
+    pub(crate) fn close(&mut self, session: SessionNo, hold: Hold) -> Result<Released, Hold>
+        ensures same { self.new ≡ self.old }
+        ensures released { IfOk result (λ r. (released_session r ≡ session) × (released_token r ≡ hold.view.token)) }
+        ensures right { OnOk result (hold.session ≡ session) }
+        ensures back { IfErr result (λ h. h ≡ hold) }
+    {
+        self.ledger.release(session, hold)
+    }
+}
+
+impl<D: Directory + Shelf, J: Naming> Desk<D, J> {
+    /// A ledger as it is opened, beside the scribe's pass.
+    pub(crate) fn new(ledger: Ledger<D>, scribe: Seat) -> Desk<D, J>
+        requires names { (scribe.table_id ≡ J.table) × (cell_view scribe ≡ scribe_sight [] 0 J.sessions []) }
+        requires ground { J.from ≡ ground_of (shape_in ledger) }
+        requires fresh { Begins (D.bytes (device_in ledger)) (shape_in ledger) }
+        ensures { (result.list ≡ []) × (result.token ≡ J.from.start.token) }
+    {
+        let start = ledger.count();
+        Desk {
+            ledger,
+            start,
+            newest: start,
+            scribe,
+            of: PhantomData,
+        }
+    }
+
+    /// Compares what a caller has seen with the whole list. The pass is given up.
+    pub(crate) fn check<R: Wait>(&mut self, rt: &R, cell: &Cell, pass: Pass<J>)
+        requires { cell.now.table.shared.table_id ≡ J.table }
+        ensures same { self.new.list ≡ self.old.list }
+        ensures ends { Ends self.new.list pass }
+    {
+        let mut pass = pass;
+        history::join(rt, cell, &mut self.scribe, &mut pass.seat);
+        history::part(cell, &mut self.scribe);
+    }
+
+    /// The ledger, whose table is that of the list.
+    pub(crate) fn into_ledger<R: Wait>(self, rt: &R, cell: &Cell) -> Ledger<D>
+        requires { cell.now.table.shared.table_id ≡ J.table }
+        ensures history { IsHistoryOf (D.bytes (device_in result)) (shape_in result) J.from self.list }
+        ensures others { NoStrangers J.sessions self.list }
+    {
+        let Desk {
+            ledger,
+            start: _,
+            newest: _,
+            mut scribe,
+            of: _,
+        } = self;
+        history::look(rt, cell, &mut scribe);
+        ledger
+    }
+}

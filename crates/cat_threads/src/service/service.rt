@@ -1,0 +1,178 @@
+//! The service: the ledger under a lock, beside the words that its callers share.
+ghost use Rattle.std.specs.Prelude.{◌≡◌, ◌≢◌, IfOk, OnErr, OnOk, IfErr, None, [], map, true};
+ghost use Rattle.crossbeam_utils.specs.Seq.{cell_view};
+ghost use Rattle.cat_base.specs.declared.refusal.Refusal.TheVariants.{Gone};
+ghost use Rattle.cat_ledger.specs.Grants.{released_session, released_token};
+ghost use Rattle.cat_ledger.specs.Ledgers.{device_in, shape_in};
+ghost use Rattle.cat_threads.specs.history.Rules.{Each, scribe as scribe_sight};
+ghost use Rattle.cat_threads.specs.sharing.Grounds.{ground_of};
+ghost use Rattle.cat_threads.specs.service.Begins.{OneHistory};
+ghost use Rattle.cat_threads.specs.service.Passes.{AreOne, Ends, Follows, Granted, Idle, IfNew, Refreshed, Wrote, all_different, newcomer, seated_by};
+ghost use Rattle.cat_threads.specs.service.Writes.{write_of};
+
+use crate::history::{self, Cell, Seat};
+use crate::service::begun::Begun;
+use crate::service::desk::Desk;
+use crate::service::naming::Naming;
+use crate::service::pass::Pass;
+use crate::service::writes::Write;
+use cat_base::{Refusal, SessionNo, Token, WriteNo};
+use cat_directory::{Directory, Shelf};
+use cat_ledger::cat_ledger_state::Hold;
+use cat_ledger::{Grant, Ledger, Released};
+use std::alloc::{AllocError, Global};
+use std::sync::{Mutex, Wait};
+
+/// One ledger for callers in their own threads. Each call that needs the ledger is one locked section with one call of [`Ledger`] in it,
+/// where the caller also learns how the one list of accepted writes went on. Pages, stored texts and counts are asked of a [`Hold`], which
+/// needs no lock. (Lucene: an `IndexWriter` and a `SearcherLifetimeManager` that threads share.)
+///
+/// What a call says holds if it returns; that it is ever given the lock isn't promised.
+#[derive(Drop)]
+pub struct Service<D: Directory + Shelf, J: Naming> {
+    cell: Cell,
+    desk: Mutex<Desk<D, J>>,
+    ghost named: { cell.table.shared.table_id ≡ J.table },
+}
+
+impl<D: Directory + Shelf, J: Naming> Service<D, J> {
+    /// Makes the write, and answers its number: the list that the caller has seen at the exit has the write at this number under the
+    /// caller's session, behind all that the caller had seen before, and of its session nothing else is new. (Lucene: the sequence number
+    /// that `IndexWriter.updateDocument` and `IndexWriter.deleteDocuments` return.)
+    ///
+    /// The refusals are those of [`Ledger::put`], [`Ledger::delete`] and [`Ledger::delete_where`]. What was refused isn't in the list.
+    pub fn write<R: Wait>(&self, rt: &R, me: &mut Pass<J>, write: Write) -> Result<WriteNo, Refusal>
+        ensures seen { Follows me.old me.new }
+        ensures wrote { IfOk result (λ n. Wrote J.from.start.token n (write_of write) me.old me.new) }
+        ensures idle { OnErr result (Idle me.old me.new) }
+    {
+        self.desk.lock(rt).write(rt, &self.cell, me, write)
+    }
+
+    /// Records a view of now, and answers its token, which is the number of writes: no fewer than the caller had seen at the entry.
+    /// (Lucene: `SearcherLifetimeManager.record` of `DirectoryReader.open(IndexWriter)`.)
+    ///
+    /// The refusals are those of [`Ledger::refresh`].
+    pub fn refresh<R: Wait>(&self, rt: &R, me: &mut Pass<J>) -> Result<Token, Refusal>
+        ensures seen { Follows me.old me.new }
+        ensures idle { Idle me.old me.new }
+        ensures token { IfOk result (λ t. Refreshed J.from.start.token t me.old me.new) }
+    {
+        self.desk.lock(rt).refresh(rt, &self.cell, me)
+    }
+
+    /// Gives the caller's session the right to the view that is recorded under the token; with no token to the newest view, which is no
+    /// older than what the caller had seen recorded. It shows the table of the list at its token. (Lucene:
+    /// `SearcherLifetimeManager.acquire`.)
+    ///
+    /// [`Refusal::Gone`] where no view is recorded under the token; else [`Refusal::Memory`].
+    pub fn open<R: Wait>(
+        &self,
+        rt: &R,
+        me: &mut Pass<J>,
+        token: Option<Token>,
+    ) -> Result<Grant, Refusal>
+        ensures seen { Follows me.old me.new }
+        ensures idle { Idle me.old me.new }
+        ensures given { IfOk result (λ g. IfNew g (λ h. Granted J.from token me.old me.new h)) }
+        ensures gone { IfErr result (λ e. token ≡ None → e ≢ Gone) }
+    {
+        self.desk.lock(rt).open(rt, &self.cell, me, token)
+    }
+
+    /// Ends the right, after which its view may go. One that is another session's, or that the ledger doesn't count, is handed back.
+    /// (Lucene: `SearcherLifetimeManager.release`.)
+    pub fn close<R: Wait>(&self, rt: &R, me: &Pass<J>, hold: Hold) -> Result<Released, Hold>
+        ensures released { IfOk result (λ r. (released_session r ≡ me.now.session) × (released_token r ≡ hold.view.token)) }
+        ensures right { OnOk result (hold.session ≡ me.now.session) }
+        ensures back { IfErr result (λ h. h ≡ hold) }
+    {
+        self.desk.lock(rt).close(me.session, hold)
+    }
+
+    /// Two callers tell each other what they have seen: of their two lists one began the other, and both have the longer one afterwards,
+    /// and the greater token. It needs no lock.
+    pub fn meet<R: Wait>(&self, rt: &R, one: &mut Pass<J>, two: &mut Pass<J>)
+        ensures seen { Follows one.old one.new × Follows two.old two.new }
+        ensures idle { Idle one.old one.new × Idle two.old two.new }
+        ensures before { AreOne one.old.list two.old.list }
+        ensures met { (one.new.list ≡ two.new.list) × (one.new.token ≡ two.new.token) }
+    {
+        one.meet(rt, &self.cell, two);
+    }
+}
+
+impl<D: Directory + Shelf, J: Naming> Service<D, J> {
+    /// A service over the ledger, and a pass for each session, in their order. The ledger is handed back where memory is wanting.
+    ///
+    /// The sessions are different. `J` names this service: a function that is generic in it is called with `Brand`.
+    pub fn new(
+        alloc: Global,
+        begun: Begun<D>,
+        sessions: &[SessionNo],
+    ) -> Result<(Service<D, J>, Vec<Pass<J>>), Ledger<D>>
+        requires names { (begun.table ≡ J.table) × (J.from ≡ ground_of (shape_in begun.ledger)) × (J.sessions ≡ seated_by [] sessions.now) }
+        requires different { all_different sessions.now ≡ true }
+        ensures passes { IfOk result (λ r. r.1.items ≡ map (newcomer J.from.start.token) sessions.now) }
+        ensures err { IfErr result (λ l. l ≡ begun.ledger) }
+    {
+        let Begun {
+            cell,
+            mut scribe,
+            ledger,
+        } = begun;
+        let Ok(passes) = seats(alloc, &cell, &mut scribe, sessions) else {
+            return Err(ledger);
+        };
+        let desk = Mutex::new(Desk::new(ledger, scribe));
+        Ok((Service { cell, desk }, passes))
+    }
+
+    /// The ledger, once all callers have ended. Its table is that of one list of writes, which begins with what each pass has seen, has of
+    /// the session of each just the writes that its pass has seen, and has no write of a session that isn't the service's.
+    pub fn finish<R: Wait>(self, rt: &R, passes: Vec<Pass<J>>) -> Ledger<D>
+        ensures { OneHistory (D.bytes (device_in result)) (shape_in result) J.from J.sessions passes.items }
+    {
+        let Service { cell, desk } = self;
+        let mut desk = desk.into_inner();
+        check_all(rt, &cell, &mut desk, passes);
+        desk.into_ledger(rt, &cell)
+    }
+}
+
+/// Compares what each pass has seen with the whole list.
+fn check_all<D: Directory + Shelf, J: Naming, R: Wait>(
+    rt: &R,
+    cell: &Cell,
+    desk: &mut Desk<D, J>,
+    passes: Vec<Pass<J>>,
+)
+    requires { cell.now.table.shared.table_id ≡ J.table }
+    ensures same { desk.new.list ≡ desk.old.list }
+    ensures ends { Each (Ends desk.new.list) passes.items }
+{
+    for pass in passes {
+        desk.check(rt, cell, pass);
+    }
+}
+
+/// A pass for each session, in their order.
+fn seats<J: Naming>(
+    alloc: Global,
+    cell: &Cell,
+    scribe: &mut Seat,
+    sessions: &[SessionNo],
+) -> Result<Vec<Pass<J>>, AllocError>
+    requires cell { (cell.now.table.shared.table_id ≡ J.table) × (scribe.old.table_id ≡ J.table) × (cell_view scribe.old ≡ scribe_sight [] 0 [] []) }
+    requires different { all_different sessions.now ≡ true }
+    ensures table { scribe.new.table_id ≡ J.table }
+    ensures passes { IfOk result (λ v. v.items ≡ map (newcomer J.from.start.token) sessions.now) }
+    ensures scribe { IfOk result (λ v. cell_view scribe.new ≡ scribe_sight [] 0 (seated_by [] sessions.now) []) }
+{
+    let mut passes = Vec::new(alloc);
+    for session in sessions {
+        let seat = history::seat(cell, scribe, *session);
+        passes.push(Pass::new(*session, seat))?;
+    }
+    Ok(passes)
+}
