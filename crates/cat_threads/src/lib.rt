@@ -7,3 +7,6 @@ pub mod service;
 pub mod sharing;
 
 pub use service::{Begun, Naming, Pass, Service, Write};
+
+#[cfg(test)]
+mod tests;

@@ -1,11 +1,18 @@
 //! A ledger as it is opened, beside the words of an empty list, before they have a name.
-ghost use Rattle.std.specs.Prelude.{◌≡◌, IfOk, IfErr};
-ghost use Rattle.cat_ledger.specs.Ledgers.{device_in, shape_in};
+ghost use Rattle.std.specs.Prelude.{◌≡◌, ◌⊎◌, ℕ, IfOk, IfErr};
+ghost use Rattle.cat_base.specs.declared.refusal.Refusal.TheVariants.{Damaged, Device, Kind, Memory};
+ghost use Rattle.cat_directory.specs.declared.name.FileName.{FileName};
+ghost use Rattle.cat_ledger.specs.Ledgers.{device_in, policy_in, shape_in};
+ghost use Rattle.cat_ledger.specs.Openings.{IsOpenedLedger};
+ghost use Rattle.cat_ledger.specs.cat_ledger_state.startup.Refused.{IsNewestDamaged, IsNewestForeign};
 ghost use Rattle.cat_threads.specs.service.Begins.{Begins};
 
 use crate::history::{self, Cell, Seat};
+use cat_base::Refusal;
 use cat_directory::{Directory, Shelf};
-use cat_ledger::Ledger;
+use cat_items::Schema;
+use cat_ledger::upkeep::MergePolicy;
+use cat_ledger::{Ledger, NotOpened};
 use std::alloc::Global;
 use std::marker::Model;
 
@@ -36,19 +43,36 @@ impl<D: Directory + Shelf> Model for Begun<D> {
 }
 
 impl<D: Directory + Shelf> Begun<D> {
-    /// Puts the words of an empty list beside a ledger as [`Ledger::open`] gave it, which is handed back where memory is wanting.
-    pub fn new(alloc: Global, ledger: Ledger<D>) -> Result<Begun<D>, Ledger<D>>
-        requires { Begins (D.bytes (device_in ledger)) (shape_in ledger) }
-        ensures ok { IfOk result (λ b. b.ledger ≡ ledger) }
-        ensures err { IfErr result (λ l. l ≡ ledger) }
+    /// Opens a ledger as [`Ledger::open`] does, beside the words of an empty list. (Lucene: the constructor of `IndexWriter` with
+    /// `OpenMode.CREATE_OR_APPEND`.)
+    ///
+    /// The refusals are those of [`Ledger::open`]; then nothing is deleted.
+    pub fn open(
+        alloc: Global,
+        device: D,
+        schema: Schema,
+        policy: MergePolicy,
+    ) -> Result<Begun<D>, NotOpened<D>>
+        ensures ok { IfOk result (λ b. IsOpenedLedger (D.bytes device) schema (D.bytes (device_in b.ledger)) (shape_in b.ledger)) }
+        ensures fields { IfOk result (λ b. (shape_in b.ledger).schema ≡ schema) }
+        ensures policy { IfOk result (λ b. policy_in b.ledger ≡ policy) }
+        ensures damaged { IfErr result (λ e. e.refusal ≡ Damaged → IsNewestDamaged (D.bytes device) schema) }
+        ensures foreign { IfErr result (λ e. e.refusal ≡ Kind → IsNewestForeign (D.bytes device) schema) }
+        ensures device { IfErr result (λ e. e.refusal ≡ Device → D.can_fail device) }
+        ensures refusal { IfErr result (λ e. (e.refusal ≡ Kind) ⊎ (e.refusal ≡ Damaged) ⊎ (e.refusal ≡ Device) ⊎ (e.refusal ≡ Memory)) }
+        ensures same { IfErr result (λ e. (q : FileName) → D.bytes e.device q ≡ D.bytes device q) }
     {
         let Ok((cell, scribe)) = history::new_cell(alloc) else {
-            return Err(ledger);
+            let refusal = Refusal::Memory;
+            return Err(NotOpened { refusal, device });
         };
-        Ok(Begun {
-            cell,
-            scribe,
-            ledger,
-        })
+        match Ledger::open(alloc, device, schema, policy) {
+            Ok(ledger) => Ok(Begun {
+                cell,
+                scribe,
+                ledger,
+            }),
+            Err(not) => Err(not),
+        }
     }
 }

@@ -1,7 +1,7 @@
 //! What lies under the lock.
-ghost use Rattle.std.specs.Prelude.{◌≡◌, ◌≢◌, ◌+◌, [], ◌∷◌, ◌++◌, length, IfOk, OnErr, OnOk, IfErr, None};
+ghost use Rattle.std.specs.Prelude.{◌≡◌, ◌≢◌, ◌⊎◌, ◌+◌, [], ◌∷◌, ◌++◌, length, IfOk, OnErr, OnOk, IfErr, None};
 ghost use Rattle.crossbeam_utils.specs.Seq.{cell_view};
-ghost use Rattle.cat_base.specs.declared.refusal.Refusal.TheVariants.{Gone};
+ghost use Rattle.cat_base.specs.declared.refusal.Refusal.TheVariants.{Device, Full, Gone, Kind, Memory, Spent};
 ghost use Rattle.cat_ledger.specs.Grants.{released_session, released_token};
 ghost use Rattle.cat_ledger.specs.Ledgers.{device_in, shape_in};
 ghost use Rattle.cat_threads.specs.history.Entries.{entry};
@@ -10,7 +10,7 @@ ghost use Rattle.cat_threads.specs.service.Passes.{Ends, Follows, Granted, Idle,
 ghost use Rattle.cat_threads.specs.sharing.Grounds.{ground_of};
 ghost use Rattle.cat_threads.specs.sharing.ShareLaws.{IsHistoryOf};
 ghost use Rattle.cat_threads.specs.service.Begins.{Begins};
-ghost use Rattle.cat_threads.specs.service.Writes.{write_of};
+ghost use Rattle.cat_threads.specs.service.Writes.{IsForeign, write_of};
 
 use crate::history::{self, Cell, Noting, Seat};
 use crate::service::naming::Naming;
@@ -71,6 +71,8 @@ impl<D: Directory + Shelf, J: Naming> Desk<D, J> {
         ensures seen { Follows me.old me.new }
         ensures wrote { IfOk result (λ n. Wrote J.from.start.token n (write_of write) me.old me.new) }
         ensures idle { OnErr result (Idle me.old me.new) }
+        ensures kind { IfErr result (λ e. e ≡ Kind → IsForeign J.from.start.schema (write_of write)) }
+        ensures refusal { IfErr result (λ e. (e ≡ Kind) ⊎ (e ≡ Memory) ⊎ (e ≡ Device) ⊎ (e ≡ Spent)) }
     {
         self.write_as::<Brand, R>(rt, cell, me, write)
     }
@@ -93,6 +95,8 @@ impl<D: Directory + Shelf, J: Naming> Desk<D, J> {
         ensures seen { Follows me.old me.new }
         ensures wrote { IfOk result (λ n. Wrote J.from.start.token n (write_of write) me.old me.new) }
         ensures idle { OnErr result (Idle me.old me.new) }
+        ensures kind { IfErr result (λ e. e ≡ Kind → IsForeign J.from.start.schema (write_of write)) }
+        ensures refusal { IfErr result (λ e. (e ≡ Kind) ⊎ (e ≡ Memory) ⊎ (e ≡ Device) ⊎ (e ≡ Spent)) }
     {
         history::join(rt, cell, &mut self.scribe, &mut me.seat);
         match accept(&mut self.ledger, write) {
@@ -124,6 +128,7 @@ impl<D: Directory + Shelf, J: Naming> Desk<D, J> {
         ensures seen { Follows me.old me.new }
         ensures idle { Idle me.old me.new }
         ensures token { IfOk result (λ t. Refreshed J.from.start.token t me.old me.new) }
+        ensures refusal { IfErr result (λ e. (e ≡ Full) ⊎ (e ≡ Memory) ⊎ (e ≡ Device) ⊎ (e ≡ Spent)) }
     {
         history::join(rt, cell, &mut self.scribe, &mut me.seat);
         match self.ledger.refresh() {
@@ -156,6 +161,7 @@ impl<D: Directory + Shelf, J: Naming> Desk<D, J> {
         ensures idle { Idle me.old me.new }
         ensures given { IfOk result (λ g. IfNew g (λ h. Granted J.from token me.old me.new h)) }
         ensures gone { IfErr result (λ e. token ≡ None → e ≢ Gone) }
+        ensures refusal { IfErr result (λ e. (e ≡ Gone) ⊎ (e ≡ Memory)) }
     {
         let session = me.session;
         history::join(rt, cell, &mut self.scribe, &mut me.seat);

@@ -1,14 +1,14 @@
 //! The service: the ledger under a lock, beside the words that its callers share.
-ghost use Rattle.std.specs.Prelude.{◌≡◌, ◌≢◌, IfOk, OnErr, OnOk, IfErr, None, [], map, true};
+ghost use Rattle.std.specs.Prelude.{◌≡◌, ◌≢◌, ◌⊎◌, IfOk, OnErr, OnOk, IfErr, None, [], map, true};
 ghost use Rattle.crossbeam_utils.specs.Seq.{cell_view};
-ghost use Rattle.cat_base.specs.declared.refusal.Refusal.TheVariants.{Gone};
+ghost use Rattle.cat_base.specs.declared.refusal.Refusal.TheVariants.{Device, Full, Gone, Kind, Memory, Spent};
 ghost use Rattle.cat_ledger.specs.Grants.{released_session, released_token};
 ghost use Rattle.cat_ledger.specs.Ledgers.{device_in, shape_in};
 ghost use Rattle.cat_threads.specs.history.Rules.{Each, scribe as scribe_sight};
 ghost use Rattle.cat_threads.specs.sharing.Grounds.{ground_of};
 ghost use Rattle.cat_threads.specs.service.Begins.{OneHistory};
 ghost use Rattle.cat_threads.specs.service.Passes.{AreOne, Ends, Follows, Granted, Idle, IfNew, Refreshed, Wrote, all_different, newcomer, seated_by};
-ghost use Rattle.cat_threads.specs.service.Writes.{write_of};
+ghost use Rattle.cat_threads.specs.service.Writes.{IsForeign, write_of};
 
 use crate::history::{self, Cell, Seat};
 use crate::service::begun::Begun;
@@ -40,11 +40,14 @@ impl<D: Directory + Shelf, J: Naming> Service<D, J> {
     /// caller's session, behind all that the caller had seen before, and of its session nothing else is new. (Lucene: the sequence number
     /// that `IndexWriter.updateDocument` and `IndexWriter.deleteDocuments` return.)
     ///
-    /// The refusals are those of [`Ledger::put`], [`Ledger::delete`] and [`Ledger::delete_where`]. What was refused isn't in the list.
+    /// The refusals are those of [`Ledger::put`], [`Ledger::delete`] and [`Ledger::delete_where`]: [`Refusal::Kind`] only for an item of
+    /// another schema than the service began with. What was refused isn't in the list.
     pub fn write<R: Wait>(&self, rt: &R, me: &mut Pass<J>, write: Write) -> Result<WriteNo, Refusal>
         ensures seen { Follows me.old me.new }
         ensures wrote { IfOk result (λ n. Wrote J.from.start.token n (write_of write) me.old me.new) }
         ensures idle { OnErr result (Idle me.old me.new) }
+        ensures kind { IfErr result (λ e. e ≡ Kind → IsForeign J.from.start.schema (write_of write)) }
+        ensures refusal { IfErr result (λ e. (e ≡ Kind) ⊎ (e ≡ Memory) ⊎ (e ≡ Device) ⊎ (e ≡ Spent)) }
     {
         self.desk.lock(rt).write(rt, &self.cell, me, write)
     }
@@ -57,6 +60,7 @@ impl<D: Directory + Shelf, J: Naming> Service<D, J> {
         ensures seen { Follows me.old me.new }
         ensures idle { Idle me.old me.new }
         ensures token { IfOk result (λ t. Refreshed J.from.start.token t me.old me.new) }
+        ensures refusal { IfErr result (λ e. (e ≡ Full) ⊎ (e ≡ Memory) ⊎ (e ≡ Device) ⊎ (e ≡ Spent)) }
     {
         self.desk.lock(rt).refresh(rt, &self.cell, me)
     }
@@ -76,6 +80,7 @@ impl<D: Directory + Shelf, J: Naming> Service<D, J> {
         ensures idle { Idle me.old me.new }
         ensures given { IfOk result (λ g. IfNew g (λ h. Granted J.from token me.old me.new h)) }
         ensures gone { IfErr result (λ e. token ≡ None → e ≢ Gone) }
+        ensures refusal { IfErr result (λ e. (e ≡ Gone) ⊎ (e ≡ Memory)) }
     {
         self.desk.lock(rt).open(rt, &self.cell, me, token)
     }

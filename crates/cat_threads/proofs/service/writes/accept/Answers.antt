@@ -1,13 +1,15 @@
 use Rattle.std.proofs.Common.{◌≡◌, ℕ, sym, subst}
-use Rattle.std.specs.Prelude.{IfOk, OnErr, Err}
-use Rattle.cat_base.specs.declared.refusal.Refusal.TheVariants.{Memory}
+use Rattle.std.specs.Prelude.{IfOk, IfErr, OnErr, Err}
+use Rattle.cat_base.specs.declared.refusal.Refusal.TheVariants.{Kind, Memory}
 use Rattle.cat_model.specs.Write as model
 use Rattle.cat_ledger.specs.cat_ledger_state.cat_query.View.{query_of}
 use Rattle.cat_ledger.specs.Answering.{Answers}
+use Rattle.cat_ledger.specs.Ledgers.{shape_in}
 use Rattle.cat_ledger_laws.specs.lines.LineLaws.{tells}
 use Rattle.cat_ledger_laws.specs.lines.RefusalLaws.{command_of}
-use Rattle.cat_threads.specs.service.Writes.{write_of}
+use Rattle.cat_threads.specs.service.Writes.{IsForeign, write_of}
 use Rattle.cat_threads.proofs.service.Answering.{delete_answers, delete_where_answers, left_refused, put_answers, same_refused}
+use Rattle.cat_threads.proofs.service.Refusing.{among_all, first_kind, never_kind}
 use Rattle.cat_threads.proofs.service.writes.accept.Goals as goal
 
 pub returns-in-Put-clause-answers : goal.returns-in-Put-clause-answers
@@ -40,3 +42,20 @@ returns-in-DeleteWhere-clause-answers g c =
 
 pub returns-in-DeleteWhere-clause-refused : goal.returns-in-DeleteWhere-clause-refused
 returns-in-DeleteWhere-clause-refused g c = same_refused g.D.Holder.bytes c.args.ledger.now c.delete_where.new.self (write_of c.args.write) c.delete_where.result c.delete_where.ensures.err
+
+pub returns-in-Put-clause-kind : goal.returns-in-Put-clause-kind
+returns-in-Put-clause-kind g c =
+    subst (λ w. IfErr c.put.result (λ e. e ≡ Kind → IsForeign (shape_in c.args.ledger.now).schema (write_of w))) (sym c.in-Put.is)
+    (first_kind c.put.result c.put.ensures.kind)
+
+pub returns-in-Delete-clause-kind : goal.returns-in-Delete-clause-kind
+returns-in-Delete-clause-kind g c = never_kind c.delete.result c.delete.ensures.refusal
+
+pub returns-in-Delete-clause-refusal : goal.returns-in-Delete-clause-refusal
+returns-in-Delete-clause-refusal g c = among_all c.delete.result c.delete.ensures.refusal
+
+pub returns-in-DeleteWhere-clause-kind : goal.returns-in-DeleteWhere-clause-kind
+returns-in-DeleteWhere-clause-kind g c = never_kind c.delete_where.result c.delete_where.ensures.refusal
+
+pub returns-in-DeleteWhere-clause-refusal : goal.returns-in-DeleteWhere-clause-refusal
+returns-in-DeleteWhere-clause-refusal g c = among_all c.delete_where.result c.delete_where.ensures.refusal

@@ -1,4 +1,4 @@
-use Rattle.std.proofs.Common.{◌≡◌, ℕ, suc, ◌+◌, [], ◌∷◌, ◌++◌, List, length, sym, ap, ◌∙◌, arith}
+use Rattle.std.proofs.Common.{◌≡◌, ℕ, suc, ◌+◌, [], ◌∷◌, ◌++◌, List, length, sym, ap, ◌∙◌, subst, arith}
 use Rattle.std.specs.Prelude.{Err}
 use Rattle.crossbeam_utils.specs.Seq.{cell_view}
 use Rattle.cat_base.specs.declared.refusal.Refusal.TheVariants.{Memory}
@@ -8,9 +8,10 @@ use Rattle.cat_ledger.specs.Ledgers.{device_in, policy_in, shape_in}
 use Rattle.cat_ledger_laws.specs.lines.RefusalLaws.{command_of}
 use Rattle.cat_threads.proofs.sharing.Sharing.{counts_share, noted_share, still_share}
 use Rattle.cat_threads.specs.service.Passes.{Seen}
-use Rattle.cat_threads.specs.service.Writes.{write_of}
+use Rattle.cat_threads.specs.service.Writes.{IsForeign, write_of}
 use Rattle.cat_threads.proofs.service.Passed.{follows_noted, wrote_noted, has_self}
 use Rattle.cat_threads.proofs.service.Granting.{apart_again, apart_noted, refused_still}
+use Rattle.cat_threads.proofs.service.Refusing.{fields_share}
 use Rattle.cat_threads.proofs.service.desk.Desk.write_as.Goals as goal
 
 pub invariant_of-self : goal.invariant_of-self
@@ -90,3 +91,9 @@ returns-in-Ok-clause-wrote g c =
     (ap (λ (x : Sight). has session x.own) c.me.invariant.1 ∙ has_self session)
     (omega arith)
     (ap (λ (x : Sight). x.list) p.1 ∙ ap (λ (x : Sight). x.list) n.1 ∙ ap (λ (e : Entry). joined.list ++ e ∷ []) named)
+
+pub returns-in-Err-clause-kind : goal.returns-in-Err-clause-kind
+returns-in-Err-clause-kind g c =
+    let old = c.self.inside.ledger in
+    let same = fields_share (g.D.Holder.bytes (device_in old)) (shape_in old) g.J.Naming.from g.J.Naming.sessions (cell_view c.self.inside.scribe) c.self.invariant.3 in
+    λ is. subst (λ s. IsForeign s (write_of c.args.write)) same (c.in-Err.ensures.kind is)
