@@ -1,3 +1,4 @@
 pub mod history
 pub mod sharing
 pub mod service
+pub mod running

@@ -3,10 +3,11 @@
 #![tactic(auto)]
 
 pub mod history;
+pub mod running;
 pub mod service;
 pub mod sharing;
 
-pub use service::{Begun, Naming, Pass, Service, Write};
+pub use service::{Begun, Chore, Naming, News, Outcome, Pass, Service, Write};
 
 #[cfg(test)]
 mod tests;

@@ -2,6 +2,7 @@
 //! accepted writes went on.
 
 mod begun;
+mod chores;
 mod desk;
 mod naming;
 mod pass;
@@ -9,6 +10,7 @@ mod service;
 mod writes;
 
 pub use begun::Begun;
+pub use chores::{Chore, News, Outcome};
 pub use naming::Naming;
 pub use pass::Pass;
 pub use service::Service;

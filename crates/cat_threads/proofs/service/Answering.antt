@@ -1,6 +1,6 @@
 -- What each call of the ledger leaves of the one list.
 use Rattle.std.proofs.Common.{◌≡◌, ℕ, ◌+◌, ◌-◌, ◌<◌, true, refl, sym, ap, ◌∙◌, subst, List, [], Option, None, Some}
-use Rattle.std.specs.Prelude.{IfOk, OnOk, OnErr, IfErr, Result, Ok, Err, IsTrue, ◌==◌}
+use Rattle.std.specs.Prelude.{IfOk, OnOk, OnErr, Result, Ok, Err, IsTrue, ◌==◌}
 use Rattle.std.specs.List.{list_any}
 use Rattle.cat_base.specs.declared.refusal.Refusal.{Refusal}
 use Rattle.cat_base.specs.declared.refusal.Refusal.TheVariants.{Memory}
@@ -24,7 +24,6 @@ use Rattle.cat_ledger.specs.declared.views.Released.{Released}
 use Rattle.cat_ledger_laws.specs.lines.HoldLaws.{holding, letting_go}
 use Rattle.cat_ledger_laws.specs.lines.LineLaws.{MayRefresh, Puts, Refreshes, line_of, tells}
 use Rattle.cat_ledger_laws.specs.lines.RefusalLaws.{command_of}
-use Rattle.cat_ledger_laws.specs.lines.RunLaws.{AreAlike}
 use Rattle.cat_ledger_laws.proofs.lines.HoldAnswers.{closes_answer, opens_answer, opens_newest_answer}
 use Rattle.cat_ledger_laws.proofs.lines.LineAnswers.{deletes_answer, memory_answers, puts_answer, query_deletes_answer, refreshes_answer}
 use Rattle.cat_ledger_laws.proofs.lines.StopAnswers.{nothing_is_left}

@@ -1,22 +1,19 @@
 -- Rights that are granted, and writes that are made, as callers are told of them.
-use Rattle.std.proofs.Common.{◌≡◌, ℕ, ◌+◌, ◌-◌, ◌≤◌, suc, Bool, [], ◌∷◌, ◌++◌, length, List, Option, None, Some, refl, sym, ap, ◌∙◌, subst, arith}
+use Rattle.std.proofs.Common.{◌≡◌, ℕ, ◌+◌, ◌-◌, ◌≤◌, Bool, [], ◌∷◌, ◌++◌, length, List, Option, None, Some, refl, sym, ap, ◌∙◌, subst, arith}
 use Rattle.std.specs.Prelude.{IfOk, Result, Ok, Err}
 use Rattle.cat_base.specs.declared.refusal.Refusal.{Refusal}
 use Rattle.cat_base.specs.declared.refusal.Refusal.TheVariants.{Memory}
-use Rattle.cat_model.specs.Table.{Start, table}
-use Rattle.cat_model.specs.View.{Shows, View}
+use Rattle.cat_model.specs.Table.{table}
+use Rattle.cat_model.specs.View.{Shows}
 use Rattle.cat_model.specs.Write.{Write}
 use Rattle.cat_ledger.specs.cat_ledger_state.cat_views.Holds.{Hold}
-use Rattle.cat_ledger_laws.specs.model.Plans.{MergePolicy}
 use Rattle.cat_ledger_laws.specs.shape.Shapes.{Shape}
 use Rattle.cat_ledger_laws.specs.shape.Ties.{ToldFiles}
 use Rattle.cat_ledger.specs.Grants.{IsAsked, IsGrant, token_granted}
 use Rattle.cat_ledger.specs.declared.views.Grant.{Grant}
-use Rattle.cat_ledger_laws.specs.lines.LineLaws.{line_of, tells}
 use Rattle.cat_ledger_laws.specs.lines.RefusalLaws.{command_of}
-use Rattle.cat_ledger_laws.specs.lines.RunLaws.{Answers}
 use Rattle.cat_threads.specs.history.Rules.{Sight, old_of, scribe, Compared}
-use Rattle.cat_threads.specs.sharing.Grounds.{Ground, IsOn, Shares}
+use Rattle.cat_threads.specs.sharing.Grounds.{Ground, Shares}
 use Rattle.cat_threads.specs.sharing.Laws.{IsStill}
 use Rattle.cat_threads.specs.history.Entries.{writes_in}
 use Rattle.cat_threads.proofs.sharing.Sharing.{newest_share, views_share}

@@ -1,12 +1,12 @@
 -- What a caller is told.
-use Rattle.std.proofs.Common.{◌≡◌, ℕ, zero, suc, ◌+◌, ◌-◌, ◌<◌, ◌≤◌, ◌==◌, ◌||◌, Bool, true, false, not, true≢false, ◌&&◌, List, [], ◌∷◌, ◌++◌, length, take, map, refl, sym, ap, ◌∙◌, subst, arith, length-append, Some}
+use Rattle.std.proofs.Common.{◌≡◌, ℕ, zero, suc, ◌+◌, ◌-◌, ◌<◌, ◌≤◌, ◌==◌, ◌||◌, Bool, true, false, not, true≢false, ◌&&◌, List, [], ◌∷◌, ◌++◌, length, take, map, refl, sym, ap, ◌∙◌, subst, arith, Some}
 use Rattle.std.specs.Prelude.{slice_get, slice_index_or}
 use mathlib.Core.List.{IsPrefix}
 use Rattle.cat_model.specs.Write.{Write}
 use Rattle.cat_threads.specs.history.Entries.{Entry, entry, writes_of, has}
 use Rattle.cat_threads.specs.history.Rules.{Sight, old_of, Compared, Each}
 use Rattle.cat_threads.proofs.history.Lists.{prefix_more, prefix_length, writes_of-own}
-use Rattle.cat_threads.specs.service.Passes.{Seen, Follows, Idle, Wrote, seated_by, all_different}
+use Rattle.cat_threads.specs.service.Passes.{Seen, Follows, Wrote, seated_by, all_different}
 
 get_last : {A : Type 0} (xs : List A) (x : A) → slice_get (xs ++ x ∷ []) (length xs) ≡ Some x
 get_last [] x = refl

@@ -9,17 +9,17 @@ use Rattle.cat_threads.specs.history.Rules.{Sight}
 use Rattle.cat_threads.specs.sharing.Grounds.{Ground, Shares}
 
 -- a refusal that is another one
-not_kind : {A : Type 0} (e : Refusal) → (e ≡ Memory) ⊎ (e ≡ Spent) → e ≡ Kind → A
-not_kind e (inl m) k = absurd (let no : Memory ≡ Kind = sym m ∙ k in cc)
-not_kind e (inr s) k = absurd (let no : Spent ≡ Kind = sym s ∙ k in cc)
+not_kind : (A : Type 0) (e : Refusal) → (e ≡ Memory) ⊎ (e ≡ Spent) → e ≡ Kind → A
+not_kind A e (inl m) k = absurd (let no : Memory ≡ Kind = sym m ∙ k in cc)
+not_kind A e (inr s) k = absurd (let no : Spent ≡ Kind = sym s ∙ k in cc)
 
-pub never_kind : {A : Type 0} (r : Result ℕ Refusal) → IfErr r (λ e. (e ≡ Memory) ⊎ (e ≡ Spent)) → IfErr r (λ e. e ≡ Kind → A)
-never_kind (Ok n) h = h
-never_kind (Err e) h = not_kind e h
+pub never_kind : (A : Type 0) (r : Result ℕ Refusal) → IfErr r (λ e. (e ≡ Memory) ⊎ (e ≡ Spent)) → IfErr r (λ e. e ≡ Kind → A)
+never_kind A (Ok n) h = h
+never_kind A (Err e) h = not_kind A e h
 
-pub first_kind : {A B : Type 0} (r : Result ℕ Refusal) → IfErr r (λ e. e ≡ Kind → A × B) → IfErr r (λ e. e ≡ Kind → A)
-first_kind (Ok n) h = h
-first_kind (Err e) h = λ is. (h is).0
+pub first_kind : (A B : Type 0) (r : Result ℕ Refusal) → IfErr r (λ e. e ≡ Kind → A × B) → IfErr r (λ e. e ≡ Kind → A)
+first_kind A B (Ok n) h = h
+first_kind A B (Err e) h = λ is. (h is).0
 
 among : (e : Refusal) → (e ≡ Memory) ⊎ (e ≡ Spent) → (e ≡ Kind) ⊎ (e ≡ Memory) ⊎ (e ≡ Device) ⊎ (e ≡ Spent)
 among e (inl m) = inr (inl m)

@@ -1,5 +1,4 @@
 -- Writes as code has them.
-use Rattle.std.specs.Prelude.{ℕ}
 use Rattle.cat_model.specs.Item.{IsItem, Schema}
 use Rattle.cat_model.specs.Write as model
 use Rattle.cat_ledger.specs.cat_ledger_state.cat_query.View.{query_of}

@@ -10,9 +10,12 @@ ghost use Rattle.cat_threads.specs.service.Passes.{Ends, Follows, Granted, Idle,
 ghost use Rattle.cat_threads.specs.sharing.Grounds.{ground_of};
 ghost use Rattle.cat_threads.specs.sharing.ShareLaws.{IsHistoryOf};
 ghost use Rattle.cat_threads.specs.service.Begins.{Begins};
+ghost use Rattle.cat_threads.specs.service.Chores.{chore_done};
 ghost use Rattle.cat_threads.specs.service.Writes.{IsForeign, write_of};
 
 use crate::history::{self, Cell, Noting, Seat};
+use crate::running::Gate;
+use crate::service::chores::{Chore, Outcome, tell};
 use crate::service::naming::Naming;
 use crate::service::pass::Pass;
 use crate::service::writes::{Write, accept};
@@ -178,6 +181,24 @@ impl<D: Directory + Shelf, J: Naming> Desk<D, J> {
         ensures back { IfErr result (λ h. h ≡ hold) }
     {
         self.ledger.release(session, hold)
+    }
+
+    /// Does a chore.
+    pub(crate) fn maintain(&mut self, chore: Chore) -> Outcome
+        ensures same { self.new ≡ self.old }
+        ensures chore { chore_done result ≡ chore }
+    {
+        let news = tell(&mut self.ledger, &chore);
+        Outcome::of(chore, news)
+    }
+
+    /// Does a chore, once the gate was told that the lock is held.
+    pub(crate) fn turn<G: Gate>(&mut self, gate: &mut G, chore: Chore) -> Outcome
+        ensures same { self.new ≡ self.old }
+        ensures chore { chore_done result ≡ chore }
+    {
+        gate.inside();
+        self.maintain(chore)
     }
 }
 

@@ -8,10 +8,13 @@ ghost use Rattle.cat_threads.specs.history.Rules.{Each, scribe as scribe_sight};
 ghost use Rattle.cat_threads.specs.sharing.Grounds.{ground_of};
 ghost use Rattle.cat_threads.specs.service.Begins.{OneHistory};
 ghost use Rattle.cat_threads.specs.service.Passes.{AreOne, Ends, Follows, Granted, Idle, IfNew, Refreshed, Wrote, all_different, newcomer, seated_by};
+ghost use Rattle.cat_threads.specs.service.Chores.{chore_done};
 ghost use Rattle.cat_threads.specs.service.Writes.{IsForeign, write_of};
 
 use crate::history::{self, Cell, Seat};
+use crate::running::Gate;
 use crate::service::begun::Begun;
+use crate::service::chores::{Chore, Outcome};
 use crate::service::desk::Desk;
 use crate::service::naming::Naming;
 use crate::service::pass::Pass;
@@ -93,6 +96,21 @@ impl<D: Directory + Shelf, J: Naming> Service<D, J> {
         ensures back { IfErr result (λ h. h ≡ hold) }
     {
         self.desk.lock(rt).close(me.session, hold)
+    }
+
+    /// Does a chore, which leaves the list and what callers have seen of it as they are. The outcome has the chore, and what the ledger's
+    /// call told.
+    pub fn maintain<R: Wait>(&self, rt: &R, chore: Chore) -> Outcome
+        ensures { chore_done result ≡ chore }
+    {
+        self.desk.lock(rt).maintain(chore)
+    }
+
+    /// Does a chore, once the gate was told that the lock is held.
+    pub(crate) fn turn<R: Wait, G: Gate>(&self, rt: &R, gate: &mut G, chore: Chore) -> Outcome
+        ensures { chore_done result ≡ chore }
+    {
+        self.desk.lock(rt).turn(gate, chore)
     }
 
     /// Two callers tell each other what they have seen: of their two lists one began the other, and both have the longer one afterwards,

@@ -1,6 +1,6 @@
 use Rattle.std.proofs.Common.{◌≡◌, ℕ, sym, subst}
-use Rattle.std.specs.Prelude.{IfOk, IfErr, OnErr, Err}
-use Rattle.cat_base.specs.declared.refusal.Refusal.TheVariants.{Kind, Memory}
+use Rattle.std.specs.Prelude.{IfOk, IfErr}
+use Rattle.cat_base.specs.declared.refusal.Refusal.TheVariants.{Kind}
 use Rattle.cat_model.specs.Write as model
 use Rattle.cat_ledger.specs.cat_ledger_state.cat_query.View.{query_of}
 use Rattle.cat_ledger.specs.Answering.{Answers}
@@ -46,16 +46,16 @@ returns-in-DeleteWhere-clause-refused g c = same_refused g.D.Holder.bytes c.args
 pub returns-in-Put-clause-kind : goal.returns-in-Put-clause-kind
 returns-in-Put-clause-kind g c =
     subst (λ w. IfErr c.put.result (λ e. e ≡ Kind → IsForeign (shape_in c.args.ledger.now).schema (write_of w))) (sym c.in-Put.is)
-    (first_kind c.put.result c.put.ensures.kind)
+    (first_kind _ _ c.put.result c.put.ensures.kind)
 
 pub returns-in-Delete-clause-kind : goal.returns-in-Delete-clause-kind
-returns-in-Delete-clause-kind g c = never_kind c.delete.result c.delete.ensures.refusal
+returns-in-Delete-clause-kind g c = never_kind _ c.delete.result c.delete.ensures.refusal
 
 pub returns-in-Delete-clause-refusal : goal.returns-in-Delete-clause-refusal
 returns-in-Delete-clause-refusal g c = among_all c.delete.result c.delete.ensures.refusal
 
 pub returns-in-DeleteWhere-clause-kind : goal.returns-in-DeleteWhere-clause-kind
-returns-in-DeleteWhere-clause-kind g c = never_kind c.delete_where.result c.delete_where.ensures.refusal
+returns-in-DeleteWhere-clause-kind g c = never_kind _ c.delete_where.result c.delete_where.ensures.refusal
 
 pub returns-in-DeleteWhere-clause-refusal : goal.returns-in-DeleteWhere-clause-refusal
 returns-in-DeleteWhere-clause-refusal g c = among_all c.delete_where.result c.delete_where.ensures.refusal

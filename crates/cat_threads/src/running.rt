@@ -1,0 +1,141 @@
+//! Sessions in threads of their own over one service, and a worker beside them that merges.
+ghost use Rattle.std.specs.Prelude.{◌≡◌, IfOk, map};
+ghost use Rattle.cat_threads.specs.running.Sessions.{sessions_back, sessions_of};
+
+use crate::service::{Chore, Naming, Pass, Service};
+use cat_base::SessionNo;
+use cat_directory::{Directory, Shelf};
+use std::alloc::Global;
+use std::sync::Wait;
+use std::sync::atomic::{AtomicU64, Ordering};
+use std::thread;
+use std::thread::{Promise, PromisedHandle, Threads};
+
+/// Whether a worker goes on, and what is done while it has the lock.
+pub trait Gate: Drop {
+    /// Whether it takes another turn. This is asked before the lock is taken: a worker that found nothing to do may sleep here.
+    fn go_on(&mut self) -> bool;
+
+    /// Called with the lock held, before the turn's chore.
+    fn inside(&mut self);
+}
+
+/// What a session does in its thread.
+pub trait Caller<D: Directory + Shelf, J: Naming, R>: Drop {
+    /// Makes the session's calls. The pass comes back as they left it, which is still its session's.
+    fn call(self, rt: &R, service: &Service<D, J>, me: &mut Pass<J>)
+        ensures { me.new.session ≡ me.old.session };
+}
+
+/// Why sessions weren't run to their ends. Those that had begun have ended, and their passes are gone.
+#[derive(Clone, Copy, Debug, PartialEq, Eq)]
+pub enum NotRun {
+    /// A thread couldn't be started.
+    Thread,
+    /// Memory was wanting.
+    Memory,
+}
+
+/// A thread's result is the pass of this session.
+#[derive(Clone, Copy)]
+pub struct Of(SessionNo);
+
+impl<J: Naming> Promise<Pass<J>> for Of {
+    ghost kept_by = { λ p r. r.session ≡ p.0 };
+}
+
+/// Merges step by step, and lets the files go that nobody needs once a merge is done, until the gate says no or the flag isn't 0.
+/// (Lucene: `ConcurrentMergeScheduler`, whose threads run each merge whole.)
+pub fn merger<D: Directory + Shelf, J: Naming, R: Wait, G: Gate>(
+    rt: &R,
+    service: &Service<D, J>,
+    ended: &AtomicU64,
+    mut gate: G,
+) {
+    for _ in rt.forever() {
+        if ended.load(Ordering::SeqCst) != 0 || !gate.go_on() {
+            return;
+        }
+        if service.turn(rt, &mut gate, Chore::Merge).is_merged() {
+            let _swept = service.turn(rt, &mut gate, Chore::Sweep);
+        }
+        thread::yield_now();
+    }
+}
+
+fn run_session<D: Directory + Shelf, J: Naming, R, C: Caller<D, J, R>>(
+    rt: &R,
+    service: &Service<D, J>,
+    pass: Pass<J>,
+    caller: C,
+) -> Pass<J>
+    ensures { result.session ≡ pass.session }
+{
+    let mut pass = pass;
+    caller.call(rt, service, &mut pass);
+    pass
+}
+
+/// The passes that the threads give back, each its session's.
+fn joined<J: Naming, R: Threads>(
+    rt: &R,
+    handles: Vec<PromisedHandle<Pass<J>, Of>>,
+) -> Result<Vec<Pass<J>>, NotRun>
+    ensures { IfOk result (λ v. sessions_back v.items ≡ map (λ h. h.promise.0) handles.items) }
+{
+    match thread::join_promised(rt, handles) {
+        Ok(all) => Ok(all),
+        Err(_) => Err(NotRun::Memory),
+    }
+}
+
+/// Runs each session in a thread of its own, and a merger beside them, which ends once the sessions have. The passes come back in their
+/// order.
+pub fn run_threads<
+    D: Directory + Shelf + Drop + Send,
+    J: Naming + Send + Sync,
+    C: Caller<D, J, R> + Send,
+    G: Gate + Send,
+    R: Threads + Wait + Sync,
+>(
+    rt: &R,
+    alloc: Global,
+    service: &Service<D, J>,
+    sessions: Vec<(Pass<J>, C)>,
+    gate: G,
+) -> Result<Vec<Pass<J>>, NotRun>
+    ensures sessions { IfOk result (λ v. sessions_back v.items ≡ sessions_of sessions.items) }
+{
+    let ended = AtomicU64::new(0);
+    let flag = &ended;
+    thread::scope(
+        thread::scope_env(),
+        rt,
+        move |scope| -> Result<Vec<Pass<J>>, NotRun>
+            ensures { IfOk result (λ v. sessions_back v.items ≡ sessions_of sessions.items) }
+        {
+            let Ok(_merger) = scope.spawn(move || merger(rt, service, flag, gate)) else {
+                return Err(NotRun::Thread);
+            };
+            let mut handles = Vec::new(alloc);
+            for seated in sessions {
+                let (pass, caller) = seated;
+                let session = pass.session();
+                let job = move || -> Pass<J>
+                    ensures { result.session ≡ pass.session }
+                { run_session(rt, service, pass, caller) };
+                let Ok(handle) = scope.spawn_with(Of(session), job) else {
+                    flag.store(1, Ordering::SeqCst);
+                    return Err(NotRun::Thread);
+                };
+                let Ok(()) = handles.push(handle) else {
+                    flag.store(1, Ordering::SeqCst);
+                    return Err(NotRun::Memory);
+                };
+            }
+            let all = joined(rt, handles);
+            flag.store(1, Ordering::SeqCst);
+            all
+        },
+    )
+}
