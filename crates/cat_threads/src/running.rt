@@ -44,8 +44,8 @@ impl<J: Naming> Promise<Pass<J>> for Of {
     ghost kept_by = { λ p r. r.session ≡ p.0 };
 }
 
-/// Merges step by step, and lets the files go that nobody needs once a merge is done, until the gate says no or the flag isn't 0.
-/// (Lucene: `ConcurrentMergeScheduler`, whose threads run each merge whole.)
+/// Merges step by step, and lets the files go that nobody needs once a merge is done, until the gate says no or the flag isn't
+/// 0. (Lucene: `ConcurrentMergeScheduler`, whose threads run each merge whole.)
 pub fn merger<D: Directory + Shelf, J: Naming, R: Wait, G: Gate>(
     rt: &R,
     service: &Service<D, J>,
@@ -89,8 +89,8 @@ fn joined<J: Naming, R: Threads>(
     }
 }
 
-/// Runs each session in a thread of its own, and a merger beside them, which ends once the sessions have. The passes come back in their
-/// order.
+/// Runs each session in a thread of its own, and a merger beside them, which ends once the sessions have. The passes come back
+/// in their order.
 pub fn run_threads<
     D: Directory + Shelf + Drop + Send,
     J: Naming + Send + Sync,

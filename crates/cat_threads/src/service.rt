@@ -1,5 +1,5 @@
-//! One ledger under a lock, for callers in their own threads: each call is one locked section, and tells the caller how the one list of
-//! accepted writes went on.
+//! One ledger under a lock, for callers in their own threads: each call is one locked section, and tells the caller how the one
+//! list of accepted writes went on.
 
 mod begun;
 mod chores;

@@ -16,8 +16,8 @@ use cat_ledger::{Ledger, NotOpened};
 use std::alloc::Global;
 use std::marker::Model;
 
-/// A ledger as it is opened, beside the words of an empty list. [`Service::new`](crate::Service::new) is called with it, in a function
-/// that a call names by `Brand`.
+/// A ledger as it is opened, beside the words of an empty list. [`Service::new`](crate::Service::new) is called with it, in a
+/// function that a call names by `Brand`.
 ///
 /// Contracts see it as the name of its words, and the ledger.
 #[derive(Drop)]
@@ -43,8 +43,8 @@ impl<D: Directory + Shelf> Model for Begun<D> {
 }
 
 impl<D: Directory + Shelf> Begun<D> {
-    /// Opens a ledger as [`Ledger::open`] does, beside the words of an empty list. (Lucene: the constructor of `IndexWriter` with
-    /// `OpenMode.CREATE_OR_APPEND`.)
+    /// Opens a ledger as [`Ledger::open`] does, beside the words of an empty list. (Lucene: the constructor of `IndexWriter`
+    /// with `OpenMode.CREATE_OR_APPEND`.)
     ///
     /// The refusals are those of [`Ledger::open`]; then nothing is deleted.
     pub fn open(

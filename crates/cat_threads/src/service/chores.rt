@@ -50,8 +50,8 @@ pub enum News {
     Files(Vec<FileName>),
 }
 
-/// A chore, and what it told, or why it was refused. [`Service::maintain`](crate::Service::maintain) alone makes one, and it can't be
-/// copied: who has it is sure that the ledger was asked.
+/// A chore, and what it told, or why it was refused. [`Service::maintain`](crate::Service::maintain) alone makes one, and it
+/// can't be copied: who has it is sure that the ledger was asked.
 #[derive(Drop)]
 pub struct Outcome {
     chore: Chore,

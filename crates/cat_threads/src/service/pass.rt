@@ -10,8 +10,8 @@ use cat_base::SessionNo;
 use std::marker::{Model, PhantomData};
 use std::sync::Wait;
 
-/// A caller's session, with what it has seen: the list of accepted writes, of which the service's one list is a longer one, and the token
-/// of the newest view. There is one for each session, and it can't be copied.
+/// A caller's session, with what it has seen: the list of accepted writes, of which the service's one list is a longer one, and
+/// the token of the newest view. There is one for each session, and it can't be copied.
 #[derive(Drop)]
 pub struct Pass<J: Naming> {
     pub(crate) session: SessionNo,

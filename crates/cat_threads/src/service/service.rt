@@ -26,9 +26,9 @@ use cat_ledger::{Grant, Ledger, Released};
 use std::alloc::{AllocError, Global};
 use std::sync::{Mutex, Wait};
 
-/// One ledger for callers in their own threads. Each call that needs the ledger is one locked section with one call of [`Ledger`] in it,
-/// where the caller also learns how the one list of accepted writes went on. Pages, stored texts and counts are asked of a [`Hold`], which
-/// needs no lock. (Lucene: an `IndexWriter` and a `SearcherLifetimeManager` that threads share.)
+/// One ledger for callers in their own threads. Each call that needs the ledger is one locked section with one call of
+/// [`Ledger`] in it, where the caller also learns how the one list of accepted writes went on. Pages, stored texts and counts
+/// are asked of a [`Hold`], which needs no lock. (Lucene: an `IndexWriter` and a `SearcherLifetimeManager` that threads share.)
 ///
 /// What a call says holds if it returns; that it is ever given the lock isn't promised.
 #[derive(Drop)]
@@ -39,12 +39,12 @@ pub struct Service<D: Directory + Shelf, J: Naming> {
 }
 
 impl<D: Directory + Shelf, J: Naming> Service<D, J> {
-    /// Makes the write, and answers its number: the list that the caller has seen at the exit has the write at this number under the
-    /// caller's session, behind all that the caller had seen before, and of its session nothing else is new. (Lucene: the sequence number
-    /// that `IndexWriter.updateDocument` and `IndexWriter.deleteDocuments` return.)
+    /// Makes the write, and answers its number: the list that the caller has seen at the exit has the write at this number
+    /// under the caller's session, behind all that the caller had seen before, and of its session nothing else is new. (Lucene:
+    /// the sequence number that `IndexWriter.updateDocument` and `IndexWriter.deleteDocuments` return.)
     ///
-    /// The refusals are those of [`Ledger::put`], [`Ledger::delete`] and [`Ledger::delete_where`]: [`Refusal::Kind`] only for an item of
-    /// another schema than the service began with. What was refused isn't in the list.
+    /// The refusals are those of [`Ledger::put`], [`Ledger::delete`] and [`Ledger::delete_where`]: [`Refusal::Kind`] only for
+    /// an item of another schema than the service began with. What was refused isn't in the list.
     pub fn write<R: Wait>(&self, rt: &R, me: &mut Pass<J>, write: Write) -> Result<WriteNo, Refusal>
         ensures seen { Follows me.old me.new }
         ensures wrote { IfOk result (λ n. Wrote J.from.start.token n (write_of write) me.old me.new) }
@@ -55,8 +55,8 @@ impl<D: Directory + Shelf, J: Naming> Service<D, J> {
         self.desk.lock(rt).write(rt, &self.cell, me, write)
     }
 
-    /// Records a view of now, and answers its token, which is the number of writes: no fewer than the caller had seen at the entry.
-    /// (Lucene: `SearcherLifetimeManager.record` of `DirectoryReader.open(IndexWriter)`.)
+    /// Records a view of now, and answers its token, which is the number of writes: no fewer than the caller had seen at the
+    /// entry. (Lucene: `SearcherLifetimeManager.record` of `DirectoryReader.open(IndexWriter)`.)
     ///
     /// The refusals are those of [`Ledger::refresh`].
     pub fn refresh<R: Wait>(&self, rt: &R, me: &mut Pass<J>) -> Result<Token, Refusal>
@@ -68,8 +68,8 @@ impl<D: Directory + Shelf, J: Naming> Service<D, J> {
         self.desk.lock(rt).refresh(rt, &self.cell, me)
     }
 
-    /// Gives the caller's session the right to the view that is recorded under the token; with no token to the newest view, which is no
-    /// older than what the caller had seen recorded. It shows the table of the list at its token. (Lucene:
+    /// Gives the caller's session the right to the view that is recorded under the token; with no token to the newest view,
+    /// which is no older than what the caller had seen recorded. It shows the table of the list at its token. (Lucene:
     /// `SearcherLifetimeManager.acquire`.)
     ///
     /// [`Refusal::Gone`] where no view is recorded under the token; else [`Refusal::Memory`].
@@ -88,8 +88,8 @@ impl<D: Directory + Shelf, J: Naming> Service<D, J> {
         self.desk.lock(rt).open(rt, &self.cell, me, token)
     }
 
-    /// Ends the right, after which its view may go. One that is another session's, or that the ledger doesn't count, is handed back.
-    /// (Lucene: `SearcherLifetimeManager.release`.)
+    /// Ends the right, after which its view may go. One that is another session's, or that the ledger doesn't count, is handed
+    /// back. (Lucene: `SearcherLifetimeManager.release`.)
     pub fn close<R: Wait>(&self, rt: &R, me: &Pass<J>, hold: Hold) -> Result<Released, Hold>
         ensures released { IfOk result (λ r. (released_session r ≡ me.now.session) × (released_token r ≡ hold.view.token)) }
         ensures right { OnOk result (hold.session ≡ me.now.session) }
@@ -98,8 +98,8 @@ impl<D: Directory + Shelf, J: Naming> Service<D, J> {
         self.desk.lock(rt).close(me.session, hold)
     }
 
-    /// Does a chore, which leaves the list and what callers have seen of it as they are. The outcome has the chore, and what the ledger's
-    /// call told.
+    /// Does a chore, which leaves the list and what callers have seen of it as they are. The outcome has the chore, and what
+    /// the ledger's call told.
     pub fn maintain<R: Wait>(&self, rt: &R, chore: Chore) -> Outcome
         ensures { chore_done result ≡ chore }
     {
@@ -113,8 +113,8 @@ impl<D: Directory + Shelf, J: Naming> Service<D, J> {
         self.desk.lock(rt).turn(gate, chore)
     }
 
-    /// Two callers tell each other what they have seen: of their two lists one began the other, and both have the longer one afterwards,
-    /// and the greater token. It needs no lock.
+    /// Two callers tell each other what they have seen: of their two lists one began the other, and both have the longer one
+    /// afterwards, and the greater token. It needs no lock.
     pub fn meet<R: Wait>(&self, rt: &R, one: &mut Pass<J>, two: &mut Pass<J>)
         ensures seen { Follows one.old one.new × Follows two.old two.new }
         ensures idle { Idle one.old one.new × Idle two.old two.new }
@@ -126,7 +126,8 @@ impl<D: Directory + Shelf, J: Naming> Service<D, J> {
 }
 
 impl<D: Directory + Shelf, J: Naming> Service<D, J> {
-    /// A service over the ledger, and a pass for each session, in their order. The ledger is handed back where memory is wanting.
+    /// A service over the ledger, and a pass for each session, in their order. The ledger is handed back where memory is
+    /// wanting.
     ///
     /// The sessions are different. `J` names this service: a function that is generic in it is called with `Brand`.
     pub fn new(
@@ -151,8 +152,9 @@ impl<D: Directory + Shelf, J: Naming> Service<D, J> {
         Ok((Service { cell, desk }, passes))
     }
 
-    /// The ledger, once all callers have ended. Its table is that of one list of writes, which begins with what each pass has seen, has of
-    /// the session of each just the writes that its pass has seen, and has no write of a session that isn't the service's.
+    /// The ledger, once all callers have ended. Its table is that of one list of writes, which begins with what each pass has
+    /// seen, has of the session of each just the writes that its pass has seen, and has no write of a session that isn't the
+    /// service's.
     pub fn finish<R: Wait>(self, rt: &R, passes: Vec<Pass<J>>) -> Ledger<D>
         ensures { OneHistory (D.bytes (device_in result)) (shape_in result) J.from J.sessions passes.items }
     {
