@@ -51,7 +51,7 @@ pub enum News {
 }
 
 /// A chore, and what it told, or why it was refused. [`Service::maintain`](crate::Service::maintain) alone makes one, and it
-/// can't be copied: who has it is sure that the ledger was asked.
+/// can't be copied.
 #[derive(Drop)]
 pub struct Outcome {
     chore: Chore,
