@@ -8,6 +8,3 @@ pub mod service;
 pub mod sharing;
 
 pub use service::{Begun, Chore, Naming, News, Outcome, Pass, Service, Write};
-
-#[cfg(test)]
-mod tests;
