@@ -20,6 +20,7 @@ if ! command -v python3 >/dev/null || ! python3 -c 'import sys; sys.exit(sys.ver
   fail "python3, 3.9 or later, is wanting, so of the tests of the programs only tests/program.sh was run"
 else
   named=$(printf %q "$program")
+  begin 'tests/believed.py' tests/believed.py
   begin 'tests/days.py' tests/days.py "$program" "$check"
   begin 'tests/chores.py' tests/chores.py "$program"
   if [ -x tests/limits.py ]; then begin 'tests/limits.py' tests/limits.py "$program"; fi

@@ -12,6 +12,7 @@ use Rattle.cat_model.specs.Item.{Schema}
 use Rattle.cat_model.specs.Limits.{buffer_limit, commit_text_limit, last_number}
 use Rattle.cat_model.specs.Lines.{Said}
 use Rattle.cat_model.specs.Run.{Answer, Chore, Command, News, Reply}
+use Rattle.cat_model.specs.Serving.{FailsBy}
 use Rattle.cat_model.specs.Text.{Text}
 use Rattle.cat_model.specs.View.{View}
 use Rattle.cat_directory.specs.Devices.{CountsOne, FileContent}
@@ -36,7 +37,7 @@ use Rattle.cat_protocol.specs.replies.Reply.{answer_of, reply_of}
 use Rattle.cat_protocol.specs.declared.replies.answer.Answer as code
 use Rattle.cat_protocol.specs.cat_views.Holds.{Hold}
 use Rattle.cat_protocol.specs.cat_views.Sources.{HoldsSource, TellsSource}
-use Rattle.cat_service.specs.Causes.{FailsBy, HasCause, IsDamagedTo, IsSpentTo, MayFailTo, TakesNumbers, TellsSo}
+use Rattle.cat_service.specs.Causes.{HasCause, IsDamagedTo, IsSpentTo, MayFailTo, TakesNumbers, TellsSo}
 use Rattle.cat_service.specs.Lines.{IsCommandOf}
 use Rattle.cat_service.specs.Worlds.{IsCarried, Service}
 

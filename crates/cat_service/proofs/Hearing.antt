@@ -16,10 +16,10 @@ use Rattle.cat_commands.specs.cat_ledger.Histories.{GoesBy}
 use Rattle.cat_ledger_laws.specs.shape.Ties.{ToldFiles}
 use Rattle.cat_ledger_laws.specs.lines.LineLaws.{line_of}
 use Rattle.cat_service.proofs.Caused.{failing_by}
-use Rattle.cat_service.specs.Causes.{HasCause}
+use Rattle.cat_service.specs.Causes.{HasCause, TakesNumbers}
 use Rattle.cat_service.specs.Lines.{IsCommandOf, StepsLine}
-use Rattle.cat_service.specs.Serving.{StepsIfShort}
-use Rattle.cat_service.specs.Worlds.{Service, device_of, shape_of}
+use Rattle.cat_service.specs.Reasons.{StepsCaused}
+use Rattle.cat_service.specs.Worlds.{Service, device_of, policy_of, shape_of}
 use Rattle.cat_service.proofs.Histories.{goes_told}
 use Rattle.cat_service.proofs.Wanted.{wants_rightly}
 
@@ -34,8 +34,8 @@ open_says (Some t) = refl
 
 module _ {D : Type 0} (bytes : D → ToldFiles) (may_leave : D → FileName → FileContent → Type 0) (can_fail : D → Type 0) (faults : D → ℕ) (old : Service D) where
   pub unheard : (line : Text) → (IsReadable line → (session : ℕ) → ShowsSession line session → ⊥)
-      → StepsIfShort bytes may_leave can_fail old (Some line) Outcome.unreadable old
-  unheard line none = (Hears.unreadable none, refl)
+      → StepsCaused bytes may_leave can_fail faults old (Some line) Outcome.unreadable old
+  unheard line none = ((Hears.unreadable none, refl), tt)
 
   hears : (line : Text) (session : ℕ) (said : Option Said) (c : Command) → IsReadable line → SpellsOrShows line session said
       → IsCommandOf (shape_of old).schema said c → Hears json (shape_of old).schema line (Heard.a_line (line_of session c))
@@ -48,17 +48,21 @@ module _ {D : Type 0} (bytes : D → ToldFiles) (may_leave : D → FileName → 
   pub heard_as : (new : Service D) (line text : Text) (session : ℕ) (said : Option Said) (reply : Reply) → text ≡ line → IsReadable line
       → SpellsOrShows text session said → (steps : StepsLine bytes session said old reply new) → (shape_of new).schema ≡ (shape_of old).schema
       → NamesFiles reply → GoesBy may_leave said reply old.ledger new.ledger
-      → HasCause bytes can_fail faults old said reply new → (can_fail (device_of new) → can_fail (device_of old))
-      → StepsIfShort bytes may_leave can_fail old (Some line) (told_to session steps.0 reply) new
-  heard_as new line text session said reply same readable spells steps fields names goes cause can = (
-    hears line session said steps.0 readable (subst (λ t. SpellsOrShows t session said) same spells) steps.1,
+      → HasCause bytes can_fail faults old said reply new → TakesNumbers (shape_of old) (shape_of new) → policy_of new ≡ policy_of old
+      → (can_fail (device_of new) → can_fail (device_of old))
+      → StepsCaused bytes may_leave can_fail faults old (Some line) (told_to session steps.0 reply) new
+  heard_as new line text session said reply same readable spells steps fields names goes cause numbers policy can = (
     (
-      fields,
-      names,
-      steps.2,
-      (λ k. wants_rightly (bytes (device_of old)) (shape_of old) session said steps.0 steps.1 (steps.3 k)),
-      goes_told may_leave old new (shape_of old).schema said steps.0 reply steps.1 goes,
-      (λ k. failing_by can_fail (device_of old) (shape_of old) (shape_of old).schema said steps.0 steps.1 (cause.device k)),
-      can,
+      hears line session said steps.0 readable (subst (λ t. SpellsOrShows t session said) same spells) steps.1,
+      (
+        fields,
+        names,
+        steps.2,
+        (λ k. wants_rightly (bytes (device_of old)) (shape_of old) session said steps.0 steps.1 (steps.3 k)),
+        goes_told may_leave old new (shape_of old).schema said steps.0 reply steps.1 goes,
+        (λ k. failing_by can_fail (device_of old) (shape_of old) (shape_of old).schema said steps.0 steps.1 (cause.device k)),
+        can,
+      ),
     ),
+    (said, steps.1, cause, numbers, steps.4, policy),
   )

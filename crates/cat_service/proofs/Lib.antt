@@ -7,6 +7,13 @@ pub mod Kept
 pub mod ReadAnswers
 pub mod Begun
 pub mod Hearing
+pub mod Moved
+pub mod Gets
+pub mod Reasoned
+pub mod Opens
+pub mod Settled
+pub mod Survived
+pub mod Standing
 pub mod Serves
 pub mod Copied
 pub mod Ran

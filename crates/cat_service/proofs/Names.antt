@@ -39,7 +39,7 @@ use Rattle.cat_ledger_laws.proofs.model.Users.{All-split}
 use Rattle.cat_ledger_laws.specs.lines.LineLaws.{line_of}
 use Rattle.cat_ledger_laws.proofs.lines.Found.{All-unmap, holds_found}
 use Rattle.cat_ledger_laws.specs.lines.ReadLaws.{IsRecordedAs, kept_under}
-use Rattle.cat_ledger_laws.specs.lines.RunLaws.{Answers, AreAlike}
+use Rattle.cat_ledger_laws.specs.lines.RunLaws.{Answers, ReplyLike}
 use Rattle.cat_protocol.specs.replies.Reply.{answer_of, reply_of}
 use Rattle.cat_protocol.specs.declared.replies.answer.Answer as code
 use Rattle.cat_commands.specs.views.Holding.{said_open}
@@ -165,7 +165,7 @@ module _ (policy : MergePolicy) (l : Ledger) (s : ℕ) (r : Reply) (new : Ledger
   called c unasked (inr (inr h)) = found_none c h
 
 -- a reply like one without names and sources has none
-alike : (reply other : Reply) → AreAlike reply other → TellsNone other → TellsNone reply
+alike : (reply other : Reply) → ReplyLike reply other → TellsNone other → TellsNone reply
 alike (Ok (Answer.number n)) other h none = no_names (Ok (Answer.number n)) other h none
 alike (Ok (Answer.found (Found.page p))) other h none = no_names (Ok (Answer.found (Found.page p))) other h none
 alike (Ok (Answer.found (Found.facets f))) other h none = no_names (Ok (Answer.found (Found.facets f))) other h none

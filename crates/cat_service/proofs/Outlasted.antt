@@ -54,7 +54,7 @@ last_numbered cs g e = by (last_or None cs) refl (sym (last_map (λ (c : CommitF
     by None is k = absurd (let no : None ≡ Some g = sym (ap (option_map (λ (c : CommitFile). c.generation)) is) ∙ k in cc)
     by (Some c) is k = (c, is, (let same : Some c.generation ≡ Some g = sym (ap (option_map (λ (c : CommitFile). c.generation)) is) ∙ k in cc))
 
-one_text : (a b : Text) → ◌≡◌ {A = FileContent} (Some a) (Some b) → a ≡ b
+pub one_text : (a b : Text) → ◌≡◌ {A = FileContent} (Some a) (Some b) → a ≡ b
 one_text a b e = cc
 
 -- two commits that stand in one file are one

@@ -9,39 +9,51 @@ use Rattle.cat_base.specs.declared.refusal.Refusal.TheVariants.{Line as NoForm, 
 use Rattle.cat_model.specs.Heard.{Heard, Hears}
 use Rattle.cat_model.specs.Lines.{IsReadable}
 use Rattle.cat_model.specs.Input.{ended_lines, lines_of}
-use Rattle.cat_model.specs.CommitFile.{CommitFile}
-use Rattle.cat_model.specs.Run.{Exchange, IsRun, Reply, Run, newest_commit, now}
+use Rattle.cat_model.specs.Answer.{Read}
+use Rattle.cat_model.specs.Run.{Chore, Command, Exchange, IsRun, Reply, Run, newest_commit, now}
 use Rattle.cat_model.specs.Served.{Answered, Begins, Ending, HeardAll, IsDue, Outcome, Refused, TellsFiles, exchange, heard, outcome_text, refused_text}
+use Rattle.cat_model.specs.Opens.{BeginsFrom}
+use Rattle.cat_model.specs.Promised.{LeavesPromised, SurvivesCrash}
+use Rattle.cat_model.specs.Reasons.{CausesIn, IsCausedIn}
+use Rattle.cat_model.specs.Serving.{AreLike, FailsRightly, IsServedIn, ServesIn, SparesUnserved, WantRightly}
+use Rattle.cat_model.specs.Standings.{HasReason, HaveReasons, IsDamagedFor, Standing}
 use Rattle.cat_model.specs.Table.{Opened}
+use Rattle.cat_model.specs.Told.{DirectoryKind, LeavesNoMore, TellsAlways, TellsAsBefore}
 use Rattle.cat_model.specs.Text.{Text}
 use Rattle.cat_model.proofs.Runs.{runs_go_on}
 use Rattle.cat_items.specs.Reading.{json}
 use Rattle.cat_directory.specs.Devices.{FileContent, Told}
+use Rattle.cat_directory.specs.Names.{by_names, file_of, name_of}
 use Rattle.cat_directory.specs.declared.name.FileName.{FileName}
 use Rattle.cat_directory.specs.declared.name.FileName.TheVariants as file
 use Rattle.cat_commands.specs.cat_ledger.Histories.{LeavesNoneAhead, events_of, tells}
 use Rattle.cat_commands.specs.cat_ledger.Lasting.{AlwaysTells}
 use Rattle.cat_commands.specs.cat_ledger_state.startup.Newest.{IsNewestCommit}
+use Rattle.cat_ledger_laws.specs.model.Plans.{MergePolicy}
 use Rattle.cat_ledger_laws.specs.shape.Shapes.{Shape}
 use Rattle.cat_ledger_laws.specs.shape.Steps.{newest_generation}
 use Rattle.cat_ledger_laws.specs.shape.Ties.{ToldFiles}
 use Rattle.cat_ledger_laws.specs.lines.RunLaws.{Stands}
-use Rattle.cat_ledger_laws.proofs.lines.NeededFiles.{promised_files_stand}
+use Rattle.cat_ledger_laws.proofs.lines.Held.{promised_are_held}
+use Rattle.cat_ledger_laws.proofs.shape.Told.{file_of_name}
 use Rattle.cat_protocol.specs.serving.Machine.{IsAnswered, Steps, opened_text, short_line}
 use Rattle.cat_protocol.specs.serving.Serving.{EndsBy, IsRefused, LeadsTo, RefusedAt}
 use Rattle.cat_protocol.specs.declared.serving.machine.Stage.{Stage}
 use Rattle.cat_protocol.specs.declared.serving.machine.Stage.TheVariants.{Open}
 use Rattle.cat_protocol.specs.declared.serving.machine.Unopened.{Unopened}
 use Rattle.cat_service.proofs.Histories.{tolds_are_calls}
-use Rattle.cat_service.proofs.Outlasted.{newest_number, newest_outlasts, own_outlasts}
+use Rattle.cat_service.proofs.Reasoned.{reasoned}
+use Rattle.cat_service.proofs.Standing.{stands_first}
+use Rattle.cat_service.proofs.Opens.{begins_from}
+use Rattle.cat_service.proofs.Outlasted.{newest_number}
+use Rattle.cat_service.proofs.Settled.{newest_settled, own_left}
+use Rattle.cat_service.proofs.Survived.{survives}
 use Rattle.cat_service.proofs.Caused.{failing_on}
-use Rattle.cat_service.specs.Causes.{FailsRightly}
-use Rattle.cat_service.specs.Histories.{OutlivesCrash}
 use Rattle.cat_service.specs.Opening.{BeginsIn, OpensWorld}
-use Rattle.cat_service.specs.Promises.{LeavesFiles, LeavesPromised, SparesCrash, WorldLasts}
-use Rattle.cat_service.specs.Serving.{AreLike, Changes, IsServedIn, OpensIfShort, ServesIn, SparesUnserved, StageLasts, StageOutlives, StepsIfShort, device_at}
-use Rattle.cat_service.specs.Wanting.{WantRightly}
-use Rattle.cat_service.specs.Worlds.{Service, device_of, shape_of}
+use Rattle.cat_service.specs.Promises.{WorldLasts}
+use Rattle.cat_service.specs.Reasons.{OpensCaused, OpensSo, StepsCaused, standing_of}
+use Rattle.cat_service.specs.Serving.{Changes, OpensIfShort, StageLasts, StageOutlives, StepsIfShort, device_at}
+use Rattle.cat_service.specs.Worlds.{Service, device_of, policy_of, shape_of}
 use Rattle.cat_service.proofs.Wanted.{alike_wants}
 
 -- ---- lines that are too long
@@ -77,9 +89,37 @@ newest_of_mended g mended text own gone = record {
   ];
 }
 
+-- ---- causes
+
+-- a file is damaged in one's sense where it is in the other's, if that is known to tell of files where the one is
+damaged_by : (one other : Type 0) → (other → one) → (from : Opened) (past : Run) (s : Standing) (c : Command) → IsDamagedFor one from past s c
+    → IsDamagedFor other from past s c
+damaged_by one other f from past s (Command.read t (Read.get (Ok id))) d = λ o. d (f o)
+damaged_by one other f from past s (Command.chore Chore.merge) d = d
+damaged_by one other f from past s _ d = d
+
+reason_by : (one other : Type 0) → (other → one) → (factor least : ℕ) (from : Opened) (past : Run) (s : Standing) (e : Exchange) (new : Standing)
+    → HasReason one factor least from past s e new → HasReason other factor least from past s e new
+reason_by one other f factor least from past s e new h = record {
+  spent = h.spent;
+  counted = h.counted;
+  damaged = λ is. damaged_by one other f from past s e.line.command (h.damaged is);
+  told = h.told;
+  writes = h.writes;
+  views = h.views;
+  moves = h.moves;
+}
+
 -- ---- one world
 
-module _ {D : Type 0} (bytes : D → ToldFiles) (may_leave : D → FileName → FileContent → Type 0) (can_fail : D → Type 0) where
+module _ {D : Type 0} (bytes : D → ToldFiles) (may_leave : D → FileName → FileContent → Type 0) (can_fail : D → Type 0) (faults : D → ℕ) where
+  -- such devices, as the model knows them
+  abbrev kind : DirectoryKind D
+  kind = by_names bytes may_leave can_fail faults
+
+  always_tells : TellsAlways kind → AlwaysTells bytes
+  always_tells tells d q none = tells d (name_of q) (ap (bytes d) (file_of_name q) ∙ none)
+
   -- what the machine does with a line that may be too long, the world does with the line
   line_if_short : (old new : Service D) (line : Text) (told : Outcome) (b : Bool) → nat_lt 10000 (length line) ≡ b
       → StepsIfShort bytes may_leave can_fail old (if b then None else Some line) told new
@@ -107,34 +147,39 @@ module _ {D : Type 0} (bytes : D → ToldFiles) (may_leave : D → FileName → 
       err_same a b e = cc
   refusal_if_short device line u false long o = elim o.0.0 [ inl stopped ↦ inl stopped.0 | inr begins ↦ inr begins ]
 
+  -- the exchanges of the rest of a run have their causes, from how the one world stands to how the other does
+  abbrev pub Reasons : Opened → Run → Service D → Run → Service D → Type 0
+  Reasons from past old rest new =
+      HaveReasons (TellsAlways kind) (policy_of old).factor (policy_of old).least from past (standing_of faults old) rest (standing_of faults new)
+
   -- what comes of lines behind a past run: what was told, what fits, and what is promised of the device that is left
-  pub record Goes (fails : Type 0) (from : Opened) (past : Run) (lines : List Text) (outcomes : List Outcome) (left : D) (commits : List CommitFile) : Type 0 where
+  pub record Goes (fails : Type 0) (from : Opened) (past : Run) (old : Service D) (lines : List Text) (outcomes : List Outcome) (new : Service D) : Type 0 where
     pub fitting : List Outcome
     pub heard_all : HeardAll json from.start.schema lines outcomes
     pub is_run : IsRun from (past ++ filter_map exchange fitting)
     pub alike : AreLike outcomes fitting
-    pub same : AlwaysTells bytes → outcomes ≡ fitting
+    pub same : TellsAlways kind → outcomes ≡ fitting
     pub wanting : WantRightly from past (filter_map exchange fitting)
     pub files : AllByRecursion TellsFiles outcomes
     pub failing : AllByRecursion (FailsRightly fails) outcomes
-    pub promised : LeavesPromised bytes may_leave left from (past ++ filter_map exchange fitting)
-    pub newest : newest_generation commits ≡ newest_commit from (past ++ filter_map exchange fitting)
+    pub promised : LeavesPromised kind (device_of new) from (past ++ filter_map exchange fitting)
+    pub newest : newest_generation (shape_of new).commits ≡ newest_commit from (past ++ filter_map exchange fitting)
+    pub reasons : Reasons from past old (filter_map exchange fitting) new
 
-  -- the files stand that are promised
-  promise : (w : Service D) (from : Opened) (run : Run) → WorldLasts bytes may_leave w → Stands (bytes (device_of w)) (shape_of w) from run
-      → LeavesPromised bytes may_leave (device_of w) from run
-  promise w from run lasts stands = record {
-    users = (shape_of w).users;
-    stand = promised_files_stand (bytes (device_of w)) (shape_of w) from run stands;
+  -- what is promised is held
+  promise : (w : Service D) (from : Opened) (run : Run) → (shape_of w).schema ≡ from.start.schema → WorldLasts bytes may_leave w
+      → Stands (bytes (device_of w)) (shape_of w) from run → LeavesPromised kind (device_of w) from run
+  promise w from run fields lasts stands = record {
+    stand = promised_are_held (bytes (device_of w)) (shape_of w) from run fields stands;
     outlasts = λ tells.
-        newest_outlasts (bytes (device_of w)) (may_leave (device_of w)) (shape_of w) from run (tells (device_of w)) (lasts tells) stands;
+        newest_settled (bytes (device_of w)) (may_leave (device_of w)) (shape_of w) from run fields (always_tells tells (device_of w))
+        (lasts (always_tells tells)) stands;
   }
 
   -- the lines that the machine steps through are heard, and their exchanges go on with the run so far
   steps_go : (fails : Type 0) (from : Opened) (past : Run) (old new : Service D) (lines : List Text) (outcomes : List Outcome)
       → WorldLasts bytes may_leave new → (can_fail (device_of old) → fails) → (shape_of old).schema ≡ from.start.schema → IsRun from past → Stands (bytes (device_of old)) (shape_of old) from past
-      → Steps (StepsIfShort bytes may_leave can_fail) old (map short_line lines) outcomes new
-      → Goes fails from past lines outcomes (device_of new) (shape_of new).commits
+      → Steps (StepsCaused bytes may_leave can_fail faults) old (map short_line lines) outcomes new → Goes fails from past old lines outcomes new
   steps_go fails from past old new [] [] lasts can fields run stands s = record {
     fitting = [];
     heard_all = tt;
@@ -144,17 +189,18 @@ module _ {D : Type 0} (bytes : D → ToldFiles) (may_leave : D → FileName → 
     wanting = tt;
     files = tt;
     failing = tt;
-    promised = subst (λ w. LeavesPromised bytes may_leave (device_of w) from (past ++ [])) (sym s)
-        (subst (LeavesPromised bytes may_leave (device_of old) from) (sym (append-nil past)) (promise old from past (subst (WorldLasts bytes may_leave) s lasts) stands));
+    promised = subst (λ w. LeavesPromised kind (device_of w) from (past ++ [])) (sym s)
+        (subst (LeavesPromised kind (device_of old) from) (sym (append-nil past)) (promise old from past fields (subst (WorldLasts bytes may_leave) s lasts) stands));
     newest =
         ap (λ w. newest_generation (shape_of w).commits) s
         ∙ newest_number (bytes (device_of old)) (shape_of old) from past stands
         ∙ ap (newest_commit from) (sym (append-nil past));
+    reasons = ap (standing_of faults) s;
   }
   steps_go fails from past old new [] (told ∷ outcomes) lasts can fields run stands s = absurd s
   steps_go fails from past old new (line ∷ lines) [] lasts can fields run stands s = absurd s
   steps_go fails from past old new (line ∷ lines) (Outcome.unreadable ∷ outcomes) lasts can fields run stands (mid, step, steps) =
-      let here = line_if_short old mid line Outcome.unreadable (nat_lt 10000 (length line)) refl step in
+      let here = line_if_short old mid line Outcome.unreadable (nat_lt 10000 (length line)) refl step.0 in
       let rest = steps_go fails from past mid new lines outcomes lasts (subst (λ w. can_fail (device_of w) → fails) (sym here.1) can) (ap (λ w. (shape_of w).schema) here.1 ∙ fields) run
       (subst (λ w. Stands (bytes (device_of w)) (shape_of w) from past) (sym here.1) stands) steps in record {
         fitting = Outcome.unreadable ∷ rest.fitting;
@@ -167,9 +213,10 @@ module _ {D : Type 0} (bytes : D → ToldFiles) (may_leave : D → FileName → 
         failing = (tt, rest.failing);
         promised = rest.promised;
         newest = rest.newest;
+        reasons = subst (λ w. Reasons from past w (filter_map exchange rest.fitting) new) here.1 rest.reasons;
       }
   steps_go fails from past old new (line ∷ lines) (Outcome.replied e ∷ outcomes) lasts can fields run stands (mid, step, steps) =
-      let here = line_if_short old mid line (Outcome.replied e) (nat_lt 10000 (length line)) refl step in
+      let here = line_if_short old mid line (Outcome.replied e) (nat_lt 10000 (length line)) refl step.0 in
       let next = here.1.2 from past (sym fields) run stands in
       let fit : Exchange = record { line = e.line; reply = next.0 } in
       let rest = steps_go fails from (past ++ fit ∷ []) mid new lines outcomes lasts (λ k. can (here.1.6 k)) (here.1.0 ∙ fields) (runs_go_on from past fit run next.2) next.3 steps in record {
@@ -179,85 +226,136 @@ module _ {D : Type 0} (bytes : D → ToldFiles) (may_leave : D → FileName → 
         alike = ((refl, next.1.alike), rest.alike);
         same = λ tells.
             ap₂ (λ (r : Reply) (os : List Outcome). Outcome.replied (record { line = e.line; reply = r }) ∷ os)
-            (next.1.same (λ q. tells (device_of old) q)) (rest.same tells);
+            (next.1.same (λ q. always_tells tells (device_of old) q)) (rest.same tells);
         wanting = (λ k. here.1.3 (alike_wants e.reply next.0 next.1.alike k) from past (sym fields) run stands, rest.wanting);
         files = (here.1.1, rest.files);
         failing = (λ k. failing_on (can_fail (device_of old)) fails can e.line.command (here.1.5 k), rest.failing);
         promised =
-            subst (LeavesPromised bytes may_leave (device_of new) from) (append_assoc past (fit ∷ []) (filter_map exchange rest.fitting)) rest.promised;
+            subst (LeavesPromised kind (device_of new) from) (append_assoc past (fit ∷ []) (filter_map exchange rest.fitting)) rest.promised;
         newest = rest.newest ∙ ap (newest_commit from) (append_assoc past (fit ∷ []) (filter_map exchange rest.fitting));
+        reasons = (
+          standing_of faults mid,
+          reason_by (AlwaysTells bytes) (TellsAlways kind) always_tells (policy_of old).factor (policy_of old).least from past (standing_of faults old) fit (standing_of faults mid)
+              (reasoned bytes can_fail faults from past old mid e next.0 stands next.2 next.1 step.1),
+          subst (λ (p : MergePolicy). HaveReasons (TellsAlways kind) p.factor p.least from (past ++ fit ∷ []) (standing_of faults mid) (filter_map exchange rest.fitting) (standing_of faults new))
+              step.1.5 rest.reasons,
+        );
       }
+
+  -- what each line was told is still so without its cause
+  steps_less : (old new : Service D) (lines : List (Option Text)) (outcomes : List Outcome) → Steps (StepsCaused bytes may_leave can_fail faults) old lines outcomes new
+      → Steps (StepsIfShort bytes may_leave can_fail) old lines outcomes new
+  steps_less old new [] [] s = s
+  steps_less old new [] (told ∷ outcomes) s = absurd s
+  steps_less old new (line ∷ lines) [] s = absurd s
+  steps_less old new (line ∷ lines) (told ∷ outcomes) (mid, step, steps) = (mid, step.0, steps_less mid new lines outcomes steps)
+
+  -- and what opened, without how it begins
+  opening_less : (device : D) (line : Option Text) (r : Result (Service D) (Unopened D)) → OpensCaused bytes may_leave can_fail device line r
+      → OpensIfShort bytes may_leave can_fail device line r
+  opening_less device None r o = o
+  opening_less device (Some line) r o = o.0
+
+  opening_so : (device : D) (line : Text) (w : Service D) (b : Bool) → OpensCaused bytes may_leave can_fail device (if b then None else Some line) (Ok w)
+      → OpensSo bytes device line w
+  opening_so device line w true o =
+      absurd (let no : ◌≡◌ {A = Result (Service D) (Unopened D)} (Ok w) (Err (record { refusal = NoForm; seed = device })) = o in cc)
+  opening_so device line w false o = o.1
 
   -- ---- what a crash leaves
 
-  -- The newest commit outlives a crash after the lines that the machine stepped through.
-  outlives : (opened last : Service D) (lines : List Text) (outcomes : List Outcome) (from : Opened) (run : Run)
-      → Steps (StepsIfShort bytes may_leave can_fail) opened (map short_line lines) outcomes last → AlwaysTells bytes
-      → LeavesNoneAhead may_leave opened.ledger → StageOutlives bytes may_leave (Open last) → LeavesPromised bytes may_leave (device_of last) from run
-      → newest_generation (shape_of last).commits ≡ newest_commit from run → OutlivesCrash (may_leave (device_of last)) (newest_commit from run) outcomes
-  outlives opened last lines outcomes from run steps always none laws promised newest =
-      let calls = tolds_are_calls may_leave bytes can_fail opened last (map short_line lines) outcomes steps in record {
-        events = events_of calls.0;
-        make = calls.1;
-        found = λ image g crashed is.
-            elim (laws.0 opened.ledger calls.0 always none calls.2 image g crashed is) [ inl same ↦ inl (sym newest ∙ same) | inr tried ↦ inr tried ];
-        lost = λ image crashed no. sym newest ∙ laws.1 always image crashed no;
-        mended = λ g is image mended crashed same gone.
-            let own =
-            own_outlasts (bytes (device_of last)) (may_leave (device_of last)) promised.users from run g (λ q. always (device_of last) q)
-            (promised.outlasts always g is) image crashed in
-            newest_of_mended g mended own.0 (same ∙ own.1) gone;
-      }
+  -- What is found after a crash behind the lines that the machine stepped through.
+  survived : (opened last : Service D) (lines : List Text) (outcomes fitting : List Outcome) (from : Opened)
+      → Steps (StepsIfShort bytes may_leave can_fail) opened (map short_line lines) outcomes last → (tells : TellsAlways kind)
+      → LeavesNoneAhead may_leave opened.ledger → StageOutlives bytes may_leave (Open last) → outcomes ≡ fitting
+      → LeavesPromised kind (device_of last) from (filter_map exchange fitting)
+      → newest_generation (shape_of last).commits ≡ newest_commit from (filter_map exchange fitting)
+      → SurvivesCrash (kind.may_leave (device_of last)) from (filter_map exchange fitting)
+  survived opened last lines outcomes fitting from steps tells none laws same promised newest =
+      let calls = tolds_are_calls may_leave bytes can_fail opened last (map short_line lines) outcomes steps in
+      let always : AlwaysTells bytes = always_tells tells in
+      survives (may_leave (device_of last)) from (filter_map exchange fitting) outcomes (events_of calls.0) (ap (filter_map exchange) same) calls.1
+      (λ image g crashed is.
+      elim (laws.0 opened.ledger calls.0 always none calls.2 image g crashed is) [ inl own ↦ inl (sym newest ∙ own) | inr tried ↦ inr tried ])
+      (λ image crashed no. sym newest ∙ laws.1 always image crashed no)
+      (λ g is image mended crashed kept gone.
+      let own = own_left (bytes (device_of last)) (may_leave (device_of last)) from (filter_map exchange fitting) g (always (device_of last))
+      (promised.outlasts tells) is image crashed in
+      newest_of_mended g mended own.0 (kept ∙ own.1) gone)
 
   -- ---- the world serves
 
   answered_in : (device : D) (first : Text) (lines : List Text) (text : Text)
-      → (a : IsAnswered (OpensIfShort bytes may_leave can_fail device) (StepsIfShort bytes may_leave can_fail) (λ w. (shape_of w).count) first lines text)
-      → WorldLasts bytes may_leave a.left → StageOutlives bytes may_leave (Open a.left) → IsServedIn bytes may_leave can_fail device (device_of a.left) first lines text
+      → (a : IsAnswered (OpensCaused bytes may_leave can_fail device) (StepsCaused bytes may_leave can_fail faults) (λ w. (shape_of w).count) first lines text)
+      → WorldLasts bytes may_leave a.left → StageOutlives bytes may_leave (Open a.left) → IsCausedIn json kind device (device_of a.left) first lines text
   answered_in device first lines text a lasts laws =
-      let opened = opening_if_short device first a.opened (nat_lt 10000 (length first)) a.begins in
+      let long = nat_lt 10000 (length first) in
+      let opened = opening_if_short device first a.opened long (opening_less device (if long then None else Some first) (Ok a.opened) a.begins) in
+      let so = opening_so device first a.opened long a.begins in
       let opening = opened.0 in
       let goes = steps_go (can_fail device) opening.0 [] a.opened a.left lines a.outcomes lasts opened.2 opening.2 tt opening.3 a.steps in record {
-        from = opening.0;
-        begins = opening.1;
-        tolds = a.outcomes;
-        heard_all = goes.heard_all;
-        fitting = goes.fitting;
-        is_run = goes.is_run;
-        alike = goes.alike;
-        same = goes.same;
-        wanting = goes.wanting;
-        files = goes.files;
-        failing = goes.failing;
-        promised = goes.promised;
-        outlives = λ always.
-            outlives a.opened a.left lines a.outcomes opening.0 (filter_map exchange goes.fitting) a.steps always (opened.1 always) laws goes.promised goes.newest;
-        whole = a.whole ∙ ap (λ n. opened_text n ++ flat_map outcome_text a.outcomes) (counted (bytes (device_of a.opened)) (shape_of a.opened) opening.0 opening.3);
+        served = record {
+          from = opening.0;
+          begins = begins_from (bytes device) first (Ok opening.0) opening.1;
+          tolds = a.outcomes;
+          heard_all = goes.heard_all;
+          fitting = goes.fitting;
+          is_run = goes.is_run;
+          alike = goes.alike;
+          same = goes.same;
+          wanting = goes.wanting;
+          files = goes.files;
+          failing = goes.failing;
+          promised = goes.promised;
+          survives = λ tells.
+              survived a.opened a.left lines a.outcomes goes.fitting opening.0 (steps_less a.opened a.left (map short_line lines) a.outcomes a.steps)
+              tells (opened.1 (always_tells tells)) laws (goes.same tells) goes.promised goes.newest;
+          whole = a.whole ∙ ap (λ n. opened_text n ++ flat_map outcome_text a.outcomes) (counted (bytes (device_of a.opened)) (shape_of a.opened) opening.0 opening.3);
+        };
+        factor = (policy_of a.opened).factor;
+        least = (policy_of a.opened).least;
+        fields = so.1;
+        policy = so.2;
+        opened = standing_of faults a.opened;
+        begins = stands_first bytes faults device opening.0.start.schema a.opened opening.2 so.0;
+        last = standing_of faults a.left;
+        reasons = goes.reasons;
+        failures = refl;
       }
 
-  refused_in : (device : D) (first : Text) (e : Refusal) → IsRefused (OpensIfShort bytes may_leave can_fail device) first e
-      → (e ≡ Memory) ⊎ BeginsIn (bytes device) first (Err e)
-  refused_in device first e (back, o) = refusal_if_short device first (record { refusal = e; seed = back }) (nat_lt 10000 (length first)) refl o
+  refused_in : (device : D) (first : Text) (e : Refusal) → IsRefused (OpensCaused bytes may_leave can_fail device) first e
+      → (e ≡ Memory) ⊎ BeginsFrom json (kind.bytes device) first (Err e)
+  refused_in device first e (back, o) =
+      let long = nat_lt 10000 (length first) in
+      let u : Unopened D = record { refusal = e; seed = back } in
+      elim (refusal_if_short device first u long refl (opening_less device (if long then None else Some first) (Err u) o)) [
+        | inl memory ↦ inl memory
+        | inr begins ↦ inr (begins_from (bytes device) first (Err e) begins)
+      ]
+
+  -- each file is told as it was, and a crash leaves no more of it
+  abbrev Spares : D → D → Type 0
+  Spares device left = TellsAsBefore (kind.bytes device) (kind.bytes left) × LeavesNoMore (kind.may_leave device) (kind.may_leave left)
 
   -- ---- the stage that is left
 
   module _ (device : D) (stage : Stage (Service D) D) (lasts : StageLasts bytes may_leave stage) (laws : StageOutlives bytes may_leave stage) where
     abbrev leads_to : List Text → Text → Type 0
-    leads_to = LeadsTo (OpensIfShort bytes may_leave can_fail) (StepsIfShort bytes may_leave can_fail) (λ w. (shape_of w).count) device stage
+    leads_to = LeadsTo (OpensCaused bytes may_leave can_fail) (StepsCaused bytes may_leave can_fail faults) (λ w. (shape_of w).count) device stage
 
     abbrev refused_at : List Text → Refusal → Type 0
-    refused_at = RefusedAt (OpensIfShort bytes may_leave can_fail) device stage
+    refused_at = RefusedAt (OpensCaused bytes may_leave can_fail) device stage
 
     abbrev served : Text → List Text → Text → Type 0
-    served = IsServedIn bytes may_leave can_fail device (device_at stage)
+    served = IsCausedIn json kind device (device_at stage)
 
     abbrev refuses : Text → Refusal → Type 0
-    refuses first e = BeginsIn (bytes device) first (Err e)
+    refuses first e = BeginsFrom json (kind.bytes device) first (Err e)
 
     some_answer : (lines : List Text) (text : Text) → leads_to lines text → Answered served lines text
     some_answer [] text so = so.1
     some_answer (first ∷ lines) text so =
-        subst (λ d. IsServedIn bytes may_leave can_fail device d first lines text) (sym (ap device_at so.1))
+        subst (λ d. IsCausedIn json kind device d first lines text) (sym (ap device_at so.1))
         (answered_in device first lines text so.0 (subst (StageLasts bytes may_leave) so.1 lasts) (subst (StageOutlives bytes may_leave) so.1 laws))
 
     some_refusal : (lines : List Text) (e : Refusal) → refused_at lines e → Refused refuses lines e
@@ -271,32 +369,52 @@ module _ {D : Type 0} (bytes : D → ToldFiles) (may_leave : D → FileName → 
     some_due lines text (inl so) = inl (so.0, so.1, so.2, some_answer so.0 text so.3)
     some_due lines text (inr so) = inr (so.0, some_refusal lines so.0 so.1, so.2)
 
-    -- What is served by a world's machine is served as is promised.
-    pub served_in : (input left before after : Option Text) (r : Result (Unit {0}) Ending) → EndsBy leads_to refused_at input left before after r
-        → ServesIn bytes may_leave can_fail device (device_at stage) input left before after r
-    served_in input left before after (Ok u) so = (so.0, so.1, so.2, so.3, some_answer (lines_of so.0) so.3 so.4, so.5)
-    served_in input left before after (Err Ending.schema) so = (so.0, so.1, so.2, so.3, so.4, some_refusal so.2 so.4 so.5, so.6)
-    served_in input left before after (Err Ending.read) so = (so.0, so.1, so.2, some_answer (ended_lines so.0) so.2 so.3, so.4)
-    served_in input left before after (Err Ending.write) so = (so.0, so.1, so.2, so.3, so.4, some_due so.2 so.4 so.5, so.6)
+    -- What is served by a world's machine is served as is promised, and each reply has its cause.
+    pub caused_in : (input left before after : Option Text) (r : Result (Unit {0}) Ending) → EndsBy leads_to refused_at input left before after r
+        → CausesIn json kind device (device_at stage) input left before after r
+    caused_in input left before after (Ok u) so = (so.0, so.1, so.2, so.3, some_answer (lines_of so.0) so.3 so.4, so.5)
+    caused_in input left before after (Err Ending.schema) so = (so.0, so.1, so.2, so.3, so.4, some_refusal so.2 so.4 so.5, so.6)
+    caused_in input left before after (Err Ending.read) so = (so.0, so.1, so.2, some_answer (ended_lines so.0) so.2 so.3, so.4)
+    caused_in input left before after (Err Ending.write) so = (so.0, so.1, so.2, so.3, so.4, some_due so.2 so.4 so.5, so.6)
+
+    abbrev plain : Text → List Text → Text → Type 0
+    plain = IsServedIn json kind device (device_at stage)
+
+    answer_less : (lines : List Text) (text : Text) → Answered served lines text → Answered plain lines text
+    answer_less [] text so = so
+    answer_less (first ∷ lines) text so = so.served
+
+    due_less : (lines : List Text) (text : Text) → IsDue served refuses lines text → IsDue plain refuses lines text
+    due_less lines text (inl so) = inl (so.0, so.1, so.2, answer_less so.0 text so.3)
+    due_less lines text (inr so) = inr so
+
+    -- It is so without the causes.
+    pub served_in : (input left before after : Option Text) (r : Result (Unit {0}) Ending)
+        → CausesIn json kind device (device_at stage) input left before after r
+        → ServesIn json kind device (device_at stage) input left before after r
+    served_in input left before after (Ok u) so = (so.0, so.1, so.2, so.3, answer_less (lines_of so.0) so.3 so.4, so.5)
+    served_in input left before after (Err Ending.schema) so = so
+    served_in input left before after (Err Ending.read) so = (so.0, so.1, so.2, answer_less (ended_lines so.0) so.2 so.3, so.4)
+    served_in input left before after (Err Ending.write) so = (so.0, so.1, so.2, so.3, so.4, due_less so.2 so.4 so.5, so.6)
 
     -- what opening gave back has its files as they were
-    given_back : (first : Text) (u : Unopened D) (b : Bool) → OpensIfShort bytes may_leave can_fail device (if b then None else Some first) (Err u)
-        → LeavesFiles bytes device u.seed × SparesCrash may_leave device u.seed
+    given_back : (first : Text) (u : Unopened D) (b : Bool) → OpensCaused bytes may_leave can_fail device (if b then None else Some first) (Err u)
+        → Spares device u.seed
     given_back first u true o =
         let same : u ≡ record { refusal = NoForm; seed = device } = err_same u (record { refusal = NoForm; seed = device }) o in
-        subst (λ (x : Unopened D). LeavesFiles bytes device x.seed × SparesCrash may_leave device x.seed) (sym same) ((λ q. refl), λ q e h. h)
+        subst (λ (x : Unopened D). Spares device x.seed) (sym same) ((λ q. refl), λ q e h. h)
       where
         err_same : (a b : Unopened D) → ◌≡◌ {A = Result (Service D) (Unopened D)} (Err a) (Err b) → a ≡ b
         err_same a b e = cc
-    given_back first u false o = (o.0.1, o.0.2)
+    given_back first u false o = (λ q. o.0.0.1 (file_of q), λ q. o.0.0.2 (file_of q))
 
     spared_at : (lines : List Text) (e : Refusal) → refused_at lines e
-        → LeavesFiles bytes device (device_at stage) × SparesCrash may_leave device (device_at stage)
+        → Spares device (device_at stage)
     spared_at [] e so =
-        subst (λ (x : Stage (Service D) D). LeavesFiles bytes device (device_at x) × SparesCrash may_leave device (device_at x)) (sym so.0)
+        subst (λ (x : Stage (Service D) D). Spares device (device_at x)) (sym so.0)
         ((λ q. refl), λ q e h. h)
     spared_at (first ∷ lines) e so =
-        subst (λ (x : Stage (Service D) D). LeavesFiles bytes device (device_at x) × SparesCrash may_leave device (device_at x)) (sym so.2)
+        subst (λ (x : Stage (Service D) D). Spares device (device_at x)) (sym so.2)
         (given_back first (record { refusal = e; seed = so.0 }) (nat_lt 10000 (length first)) so.1)
 
     -- where no line came the seed waits as it was
@@ -304,10 +422,19 @@ module _ {D : Type 0} (bytes : D → ToldFiles) (may_leave : D → FileName → 
     unread [] text so e = ap device_at so.0
     unread (first ∷ lines) text so e = absurd (let no : ◌≡◌ {A = List Text} (first ∷ lines) [] = e in cc)
 
+    uncome : (text : Text) (lines : List Text)
+        → ((first others : List Text) × (first ++ others ≡ lines) × leads_to first text) ⊎ ((e : Refusal) × refused_at lines e × (text ≡ refused_text e))
+        → lines ≡ [] → ◌≡◌ {A = D} (device_at stage) device
+    uncome text lines (inl ([], others, whole, so)) e = unread [] text so refl
+    uncome text lines (inl (first ∷ more, others, whole, so)) e =
+        absurd (let no : ◌≡◌ {A = List Text} (first ∷ (more ++ others)) [] = whole ∙ e in cc)
+    uncome text [] (inr so) e = ap device_at so.1.0
+    uncome text (first ∷ lines) (inr so) e = absurd (let no : ◌≡◌ {A = List Text} (first ∷ lines) [] = e in cc)
+
     -- and where the schema line is refused the files are as they were, and where no line came the directory
     pub spared_in : (input left before after : Option Text) (r : Result (Unit {0}) Ending) → EndsBy leads_to refused_at input left before after r
-        → SparesUnserved bytes may_leave device (device_at stage) input left r
+        → SparesUnserved kind device (device_at stage) input left r
     spared_in input left before after (Ok u) so = tt
     spared_in input left before after (Err Ending.schema) so = spared_at so.2 so.4 so.5
     spared_in input left before after (Err Ending.read) so = (so.0, so.1, unread (ended_lines so.0) so.2 so.3)
-    spared_in input left before after (Err Ending.write) so = tt
+    spared_in input left before after (Err Ending.write) so = (so.0, so.1, so.2, so.3, uncome so.4 so.2 so.5)

@@ -28,7 +28,7 @@ use Rattle.cat_commands.specs.cat_lifetimes.rights.Rights.{right_of}
 use Rattle.cat_commands.specs.cat_ledger_state.Cores.{MayNotFlush}
 use Rattle.cat_ledger_laws.specs.lines.LineLaws.{MayRefresh}
 use Rattle.cat_ledger_laws.specs.lines.ReadLaws.{kept_under}
-use Rattle.cat_ledger_laws.specs.lines.RunLaws.{AreAlike, Stands}
+use Rattle.cat_ledger_laws.specs.lines.RunLaws.{ReplyLike, Stands}
 use Rattle.cat_ledger_laws.proofs.lines.HoldAnswers.{held_as}
 use Rattle.cat_ledger_laws.specs.model.Ledger.{view_shown}
 use Rattle.cat_ledger_laws.specs.shape.Shapes.{Shape, recorded_view}
@@ -385,7 +385,7 @@ module _ (told : ToldFiles) (s : Shape) (session : ℕ) where
 -- ---- of a reply that is like another
 
 -- one that says so is like no other
-pub alike_wants : (reply fitting : Reply) → AreAlike reply fitting → fitting ≡ Err Memory → reply ≡ Err Memory
+pub alike_wants : (reply fitting : Reply) → ReplyLike reply fitting → fitting ≡ Err Memory → reply ≡ Err Memory
 alike_wants (Ok (Answer.number n)) fitting alike is = alike ∙ is
 alike_wants (Ok (Answer.found (Found.page p))) fitting alike is = alike ∙ is
 alike_wants (Ok (Answer.found (Found.facets f))) fitting alike is = alike ∙ is

@@ -3,9 +3,7 @@ use Rattle.std.specs.Prelude.{◌≡◌, ◌⊎◌, ℕ, ◌<◌, ◌≤◌, Opt
 use Rattle.cat_base.specs.declared.refusal.Refusal.TheVariants.{Damaged, Device, Spent}
 use Rattle.cat_model.specs.Limits.{buffer_limit, last_number}
 use Rattle.cat_model.specs.Lines.{Said}
-use Rattle.cat_model.specs.Answer.{Read}
-use Rattle.cat_model.specs.Run.{Answer, Chore, Command, News, Reply}
-use Rattle.cat_model.specs.Served.{Outcome}
+use Rattle.cat_model.specs.Run.{Answer, Chore, News, Reply}
 use Rattle.cat_model.specs.Text.{Text}
 use Rattle.cat_model.specs.View.{View}
 use Rattle.cat_directory.specs.Devices.{CountsOne}
@@ -89,21 +87,6 @@ pub record HasCause {D : Type 0} (bytes : D → ToldFiles) (can_fail : D → Typ
   pub counted : reply ≡ Err Device → IsCountedTo (CountsOne (faults (device_of old)) (faults (device_of new))) said
   pub damaged : reply ≡ Err Damaged → IsDamagedTo (bytes (device_of old)) (shape_of old) said
   pub told : TellsSo (policy_of old) (shape_of old) said reply
-
--- So of a command that is told that the device failed: but to a MERGE it can fail.
-abbrev pub FailsBy : Type 0 → Command → Type 0
-FailsBy fails (Command.put item) = fails
-FailsBy fails Command.refresh = fails
-FailsBy fails (Command.read t (Read.get id)) = fails
-FailsBy fails (Command.commit text) = fails
-FailsBy fails (Command.chore Chore.force) = fails
-FailsBy fails (Command.chore Chore.sweep) = fails
-FailsBy fails c = Unit {0}
-
--- so of what a line was told, which may have been unreadable
-abbrev pub FailsRightly : Type 0 → Outcome → Type 0
-FailsRightly fails Outcome.unreadable = Unit {0}
-FailsRightly fails (Outcome.replied e) = e.reply ≡ Err Device → FailsBy fails e.line.command
 
 -- a line takes the number of one segment at most, and one generation
 pub record TakesNumbers (old new : Shape) : Type 0 where

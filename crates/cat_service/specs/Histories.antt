@@ -1,15 +1,13 @@
 -- Lines in a row with their replies, and which commits a crash after them may leave.
-use Rattle.std.specs.Prelude.{◌≡◌, ◌⊎◌, ℕ, ◌<◌, List, [], ◌∷◌, Option, Some, None, Ok, Err}
+use Rattle.std.specs.Prelude.{◌≡◌, ◌⊎◌, ℕ, List, [], ◌∷◌, Option, Some, Ok, Err}
 use Rattle.cat_model.specs.Lines.{Said}
 use Rattle.cat_model.specs.Run.{Answer, Command, Reply}
 use Rattle.cat_model.specs.Served.{Outcome}
 use Rattle.cat_directory.specs.Devices.{FileContent}
 use Rattle.cat_directory.specs.declared.name.FileName.{FileName}
-use Rattle.cat_directory.specs.declared.name.FileName.TheVariants as file
 use Rattle.cat_protocol.specs.lines.Line.{said_of}
 use Rattle.cat_protocol.specs.declared.lines.line.Line.{Line}
-use Rattle.cat_commands.specs.cat_ledger.Histories.{Call, Event, Goes, GoesBy, IsCrashed, IsHistory, IsTried, events_of, tells}
-use Rattle.cat_commands.specs.cat_ledger_state.startup.Newest.{HasNoCommit, IsNewestCommit}
+use Rattle.cat_commands.specs.cat_ledger.Histories.{Call, Event, Goes, GoesBy, IsHistory, events_of}
 use Rattle.cat_ledger_laws.specs.shape.Ties.{ToldFiles}
 use Rattle.cat_protocol.specs.replies.Reply.{reply_of}
 use Rattle.cat_protocol.specs.declared.replies.reply.Reply as code
@@ -99,15 +97,3 @@ MakeTold _ _ = ⊥
 -- what a command with its reply makes of commits, from one world to the next
 abbrev pub GoesTold : {D : Type 0} → (D → FileName → FileContent → Type 0) → Command → Reply → Service D → Service D → Type 0
 GoesTold left c reply old new = (event : Event) × Makes c reply event × Goes left event old.ledger new.ledger
-
--- What a crash may leave after lines that were told this, of which the newest commit is the one that was answered last, or else was opened.
--- The newest commit that is found is that one, or one that a COMMIT began which was refused after it was answered; one is found where there
--- is one; and once the files of the refused ones are taken away, it is that one.
-pub record OutlivesCrash (left : FileName → FileContent → Type 0) (newest : Option ℕ) (tolds : List Outcome) : Type 0 where
-  pub events : List Event
-  pub make : MakeTold tolds events
-  pub found : (image : FileName → FileContent) (g : ℕ) → IsCrashed left image → IsNewestCommit (tells image) g
-      → (newest ≡ Some g) ⊎ IsTried events g
-  pub lost : (image : FileName → FileContent) → IsCrashed left image → HasNoCommit (tells image) → newest ≡ None
-  pub mended : (g : ℕ) → newest ≡ Some g → (image mended : FileName → FileContent) → IsCrashed left image
-      → mended (file.Commit g) ≡ image (file.Commit g) → ((h : ℕ) → g < h → mended (file.Commit h) ≡ None) → IsNewestCommit (tells mended) g

@@ -8,6 +8,7 @@ pub mod Lines
 pub mod Histories
 pub mod Opening
 pub mod Serving
+pub mod Reasons
 pub mod Copies
 pub mod Running
 pub mod sets

@@ -28,12 +28,13 @@ AnswersLine bytes session said old reply new =
     × Answers (policy_of old) (bytes (device_of old)) (shape_of old) (line_of session c) reply (bytes (device_of new)) (shape_of new)
 
 -- Whatever run led here, a reply that is shown so fits it, and what is left stands for the longer run. Want of memory is told only where
--- that may be.
+-- that may be. And so every ledger of the model that is carried goes on.
 abbrev pub StepsLine : {D : Type 0} → (D → ToldFiles) → ℕ → Option Said → Service D → Reply → Service D → Type 0
 StepsLine bytes session said old reply new =
     (c : Command) × IsCommandOf (shape_of old).schema said c
     × IsStep (bytes (device_of old)) (shape_of old) (line_of session c) reply (bytes (device_of new)) (shape_of new)
     × (reply ≡ Err Memory → MayWant (bytes (device_of old)) (shape_of old) session said c)
+    × Answers (policy_of old) (bytes (device_of old)) (shape_of old) (line_of session c) reply (bytes (device_of new)) (shape_of new)
 
 -- What an answered line makes of a world: the reply answers it, and tells the names that are needed, which are those
 -- of files, and a source that is one line; it says that memory was wanting only where that may be told, and has its cause in what memory has; a device that can't fail goes on so; and neither the fields change nor when it merges.

@@ -6,7 +6,7 @@ use Rattle.cat_model.specs.Table.{Opened}
 use Rattle.cat_protocol.specs.lines.Line.{said_of}
 use Rattle.cat_protocol.specs.declared.lines.line.Line.{Line}
 use Rattle.cat_commands.specs.cat_ledger.Lasting.{AlwaysTells}
-use Rattle.cat_ledger_laws.specs.lines.RunLaws.{AreAlike, Stands}
+use Rattle.cat_ledger_laws.specs.lines.RunLaws.{ReplyLike, Stands}
 use Rattle.cat_ledger_laws.specs.shape.Ties.{ToldFiles}
 use Rattle.cat_protocol.specs.replies.Reply.{reply_of}
 use Rattle.cat_protocol.specs.declared.replies.reply.Reply.{Reply}
@@ -18,7 +18,7 @@ use Rattle.cat_service.specs.Worlds.{Service, device_of, shape_of}
 pub record IsAnsweredLine {D : Type 0} (bytes : D → ToldFiles) (schema : Schema) (line : Line) (given : Reply) (e : run.Exchange) : Type 0 where
   pub session : e.line.session ≡ line.session
   pub command : IsCommandOf schema (said_of line.command) e.line.command
-  pub alike : AreAlike (reply_of given.answer) e.reply
+  pub alike : ReplyLike (reply_of given.answer) e.reply
   pub same : AlwaysTells bytes → reply_of given.answer ≡ e.reply
 
 -- so with each of them, in turn

@@ -12,12 +12,12 @@ use std::io::Write;
 impl<D: Directory + Shelf> Machine for World<D> {
     type Seed = D;
 
-    ghost use Rattle.cat_service.specs.Serving.{OpensIfShort, StepsIfShort};
+    ghost use Rattle.cat_service.specs.Reasons.{OpensCaused, StepsCaused};
     ghost use Rattle.cat_service.specs.Worlds.{shape_of};
 
-    ghost opens = { OpensIfShort D.bytes D.may_leave D.can_fail };
+    ghost opens = { OpensCaused D.bytes D.may_leave D.can_fail };
 
-    ghost step = { StepsIfShort D.bytes D.may_leave D.can_fail };
+    ghost step = { StepsCaused D.bytes D.may_leave D.can_fail D.fault_count };
 
     ghost token = { λ w. (shape_of w).count };
 

@@ -6,6 +6,7 @@ ghost use Rattle.cat_model.specs.Served.{SpellsSchema};
 ghost use Rattle.cat_model.specs.Text.{Text};
 ghost use Rattle.cat_commands.specs.cat_ledger.Histories.{LeavesNoneAhead};
 ghost use Rattle.cat_commands.specs.cat_ledger.Lasting.{AlwaysTells};
+ghost use Rattle.cat_service.specs.Reasons.{OpensSo};
 ghost use Rattle.cat_service.specs.Opening.{OpensWorld};
 ghost use Rattle.cat_service.specs.Worlds.{device_of};
 
@@ -59,6 +60,7 @@ impl<D: Directory + Shelf> World<D> {
     pub fn open(alloc: Global, device: D, line: &str) -> Result<World<D>, Unopened<D>>
         ensures opens { OpensWorld D.bytes D.may_leave device line.now result }
         ensures ahead { IfOk result (λ w. AlwaysTells D.bytes → LeavesNoneAhead D.may_leave w.ledger) }
+        ensures begins { IfOk result (λ w. OpensSo D.bytes device line.now w) }
         ensures can { IfOk result (λ w. D.can_fail (device_of w) → D.can_fail device) }
     {
         if MAX_LINE_BYTES < line.len() {

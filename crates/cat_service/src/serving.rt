@@ -1,7 +1,11 @@
 //! Lines that are served over a directory.
 ghost use Rattle.std.specs.Prelude.{◌≡◌};
+ghost use Rattle.cat_model.specs.Reasons.{CausesIn};
+ghost use Rattle.cat_model.specs.Serving.{ServesIn, SparesUnserved};
+ghost use Rattle.cat_items.specs.Reading.{json};
+ghost use Rattle.cat_directory.specs.Names.{by_names};
 ghost use Rattle.cat_protocol.specs.serving.Serving.{ended_as};
-ghost use Rattle.cat_service.specs.Serving.{ServesIn, SparesUnserved, StageLasts, StageOutlives, device_at};
+ghost use Rattle.cat_service.specs.Serving.{StageLasts, StageOutlives, device_at};
 
 use crate::world::World;
 use cat_directory::{Directory, Shelf};
@@ -45,7 +49,13 @@ fn device_left<D: Directory + Shelf>(stage: Stage<World<D>, D>) -> D
 /// tells of its files, a crash leaves those of the newest commit byte for byte: the commit that was opened, or that the last
 /// COMMIT was answered. What is found after the crash is that commit, or one of a COMMIT that was refused after it; and once the
 /// files of these are taken away, it is that commit. Where the schema line is refused, the files are as they were, also in whatever a
-/// crash may leave; and where a read failed before any line had ended, the directory is untouched.
+/// crash may leave; and where a read failed before any line had ended, or a write before any line had come, the directory is untouched.
+///
+/// Each reply has its cause in how the service stands before its line, from the opening on, as [`World::step`] says of one line. That
+/// a number or a limit is spent is told only where one is; that the device failed, only where the directory counts one failure more
+/// at that line; that a file is damaged, to a MERGE only where it has rows to copy, and to a GET, where such directories always tell
+/// of their files, only where the text has a line feed. A COMMIT tells the generation that comes next, and takes it; SWEEP, STAT,
+/// MERGE and FORCE tell what is so.
 ///
 /// It flushes before each read, so that a client which waits for a reply has it. Its two buffers are taken before the first line
 /// is read, and replies are written without taking memory. The reader is called at most 4,294,967,295 times.
@@ -55,10 +65,12 @@ pub fn serve<D: Directory + Shelf, R: Read, W: Write>(
     reader: &mut R,
     writer: &mut W,
 ) -> Left<D>
-    ensures served { ServesIn D.bytes D.may_leave D.can_fail device result.device (R.remaining reader.old) (R.remaining reader.new)
-        (W.contents writer.old) (W.contents writer.new) (ended_as result.ended) }
-    ensures spared { SparesUnserved D.bytes D.may_leave device result.device (R.remaining reader.old) (R.remaining reader.new)
-        (ended_as result.ended) }
+    ensures served { ServesIn json (by_names D.bytes D.may_leave D.can_fail D.fault_count) device result.device (R.remaining reader.old)
+        (R.remaining reader.new) (W.contents writer.old) (W.contents writer.new) (ended_as result.ended) }
+    ensures caused { CausesIn json (by_names D.bytes D.may_leave D.can_fail D.fault_count) device result.device (R.remaining reader.old)
+        (R.remaining reader.new) (W.contents writer.old) (W.contents writer.new) (ended_as result.ended) }
+    ensures spared { SparesUnserved (by_names D.bytes D.may_leave D.can_fail D.fault_count) device result.device (R.remaining reader.old)
+        (R.remaining reader.new) (ended_as result.ended) }
 {
     let served = serve_machine::<World<D>, R, W>(alloc, device, reader, writer);
     Left {

@@ -1,7 +1,10 @@
 //! The theorem: what holds of every two calls of `serve`, by the bytes that they read and wrote.
 
-ghost use Rattle.cat_service.specs.theorem.Calls.{CallsAreOpened, HeldReadsAgree};
-ghost use Rattle.cat_service.specs.theorem.Found.{CallsAreFound, DirectoriesOpenOneWay, ReadsAgreeAfterwards};
+ghost use Rattle.cat_model.specs.Calls.{CallsAreOpened, HeldReadsAgreeInCalls};
+ghost use Rattle.cat_model.specs.Found.{CallsAreFound, ReadsAgreeAfterwards};
+ghost use Rattle.cat_items.specs.Reading.{json};
+ghost use Rattle.cat_directory.specs.Names.{by_names};
+ghost use Rattle.cat_service.specs.theorem.Openings.{DirectoriesOpenOneWay};
 
 use cat_directory::{Directory, Shelf};
 use cat_protocol::cat_segment::{
@@ -23,10 +26,13 @@ use cat_protocol::cat_segment::{
 ///
 /// (Lucene: `SearcherLifetimeManager`, whose searchers stay as they were recorded; `DirectoryReader.open` of an `IndexCommit`.)
 pub fn the_catalogue_holds<D: Directory + Shelf, E: Directory + Shelf>()
-    ensures opened { CallsAreOpened D.bytes D.may_leave D.can_fail }
-    ensures agree { HeldReadsAgree D.bytes D.may_leave D.can_fail E.bytes E.may_leave E.can_fail }
-    ensures found { CallsAreFound D.bytes D.may_leave D.can_fail E.bytes }
-    ensures afterwards { ReadsAgreeAfterwards D.bytes D.may_leave D.can_fail E.bytes E.may_leave E.can_fail }
+    ensures opened { CallsAreOpened json (by_names D.bytes D.may_leave D.can_fail D.fault_count) }
+    ensures agree { HeldReadsAgreeInCalls json (by_names D.bytes D.may_leave D.can_fail D.fault_count)
+        (by_names E.bytes E.may_leave E.can_fail E.fault_count) }
+    ensures found { CallsAreFound json (by_names D.bytes D.may_leave D.can_fail D.fault_count)
+        (by_names E.bytes E.may_leave E.can_fail E.fault_count) }
+    ensures afterwards { ReadsAgreeAfterwards json (by_names D.bytes D.may_leave D.can_fail D.fault_count)
+        (by_names E.bytes E.may_leave E.can_fail E.fault_count) }
 {
     segments_are_told_by_their_bytes();
     live_rows_are_told_by_their_bytes();

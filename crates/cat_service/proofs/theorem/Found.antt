@@ -1,51 +1,37 @@
 -- What a crash leaves of the newest commit is found with the run's table.
-use Rattle.std.proofs.Common.{inl, inr, ◌≡◌, ◌≢◌, ◌⊎◌, ℕ, ◌≤◌, List, [], ◌∷◌, ◌++◌, length, map, Bool, true, false, cond, refl, sym, ◌∙◌, ap, ap₂, subst, arith, append-nil, eq-eqb}
-use Rattle.std.specs.Prelude.{◌==◌, ◌&&◌, ◌||◌, not, filter, leb, All, Option, None, Some, Result, Ok, Err, filter_map}
+use Rattle.std.proofs.Common.{inl, inr, ◌≡◌, ◌≢◌, ℕ, ◌+◌, ◌≤◌, List, [], ◌∷◌, ◌++◌, length, Bool, true, false, cond, refl, sym, ◌∙◌, ap, ap₂, subst, arith, append-nil}
+use Rattle.std.specs.Prelude.{◌==◌, ◌&&◌, filter, Option, None, Some, Result, Ok, Err, Contains, count_by, filter_map, replicate}
 use Rattle.std.specs.List.{flat_map, AllByRecursion}
 use Rattle.std.proofs.lemmas.Bool.Decides.{leb_tells}
-use Rattle.std.proofs.lemmas.List.Elements.{recursion_from_All}
+use Rattle.std.proofs.lemmas.List.Elements.{Contains-append_right}
+use Rattle.std.proofs.lemmas.List.Sums.{sum_by-cons}
 use Rattle.cat_base.specs.declared.refusal.Refusal.{Refusal}
-use Rattle.cat_model.specs.CommitFile.{CommitFile, SpellsCommit, commit_needs, listed_names}
+use Rattle.cat_model.specs.CommitFile.{CommitFile, ListedSegment, SpellsCommit, commit_needs, listed_names}
 use Rattle.cat_model.specs.Files.{Name}
 use Rattle.cat_model.specs.Item.{Record, Schema}
 use Rattle.cat_model.specs.Layout.{SpellsSegment}
 use Rattle.cat_model.specs.LiveFile.{LiveRows, SpellsLive}
-use Rattle.cat_model.specs.Run.{Answer, Command, Exchange, Reply, Run, commit_by, commits, newest_commit, text_under, writes}
-use Rattle.cat_model.specs.Served.{Begins, OpensEmpty, Outcome, exchange}
-use Rattle.cat_model.specs.Table.{CommitText, Opened, table}
+use Rattle.cat_model.specs.Run.{Command, Exchange, Reply, Run, commit_by, newest_commit, writes}
+use Rattle.cat_model.specs.Served.{Begins, exchange}
+use Rattle.cat_model.specs.Table.{Opened, Start, stands, table}
 use Rattle.cat_model.specs.Text.{Text}
-use Rattle.cat_model.specs.View.{Segment, row_of, sourced}
-use Rattle.cat_model.specs.Table.{Numbered, Start, count, put_by, numbered, replaces, stands}
+use Rattle.cat_model.specs.Told.{DirectoryKind, FileContent, IsNewestTold, IsTold, LeftByName, MayBeLeft, MayHave, Told, ToldByName, TellsAlways, TellsNoCommit, told_of}
+use Rattle.cat_model.specs.View.{Leaf, Segment, selected, sourced}
 use Rattle.cat_model.specs.Write.{Write}
+use Rattle.cat_model.specs.Restored.{AreLeavesOf, HasCommit, HasLiveFile, IsLeafOf}
+use Rattle.cat_model.specs.Opens.{BeginsAtNewest, BeginsFrom, HoldsCommit, MayHaveSources, OpensFrom}
+use Rattle.cat_model.specs.Promised.{HoldsGeneration, SurvivesCrash, refuses_commit}
+use Rattle.cat_model.specs.Serving.{IsServedIn}
+use Rattle.cat_model.specs.Found.{CallsAreFound, FindsAfterwards, FindsNewest, ReadsAgreeAfterwards, RefusedSince, TellsJust}
 use Rattle.cat_model.proofs.UpTo.{table-more}
+use Rattle.cat_model.proofs.CommitFiles.{commits_are_told_by_their_bytes}
 use Rattle.cat_items.specs.Laws.{HaveOneSchema}
 use Rattle.cat_items.specs.Reading.{json}
-use Rattle.cat_model.proofs.Lists.{All-each}
 use Rattle.cat_items.proofs.TalkTexts.{reads_lines}
-use Rattle.cat_model.proofs.CommitFiles.{commits_are_told_by_their_bytes}
-use Rattle.cat_directory.specs.Devices.{FileContent, IsSettled, Told}
-use Rattle.cat_directory.specs.Names.{name_of}
-use Rattle.cat_directory.specs.declared.name.FileName.{FileName}
-use Rattle.cat_directory.specs.declared.name.FileName.TheVariants as file
-use Rattle.cat_commands.specs.cat_ledger.Histories.{Event, IsTried, IsUnanswered, tells}
-use Rattle.cat_commands.specs.cat_ledger.Lasting.{AlwaysTells}
-use Rattle.cat_ledger_laws.specs.lines.NeededLaws.{CommitStands, IsThere, LiveStands, SegmentStands}
-use Rattle.cat_ledger_laws.specs.model.Ledger.{LedgerCommit, Listed, commit_file, listed_segment, names_of_listed, portions_in}
-use Rattle.cat_ledger_laws.specs.model.Portions.{Portion, records_of, segment_of}
-use Rattle.cat_ledger_laws.specs.model.Stored.{FileBytes, HasLive, IsLiveStored, IsStored, joined_sources}
-use Rattle.cat_ledger_laws.specs.model.Users.{Used, has_name, same_file_name}
-use Rattle.cat_ledger_laws.proofs.model.Sourced.{portions_are_read}
 use Rattle.cat_ledger_laws.proofs.model.Users.{All-split}
-use Rattle.cat_commands.specs.cat_ledger_state.startup.Newest.{HasNoCommit, IsNewestCommit}
-use Rattle.cat_ledger_laws.specs.shape.Ties.{Agrees, IsTold, ToldFiles, file_of}
-use Rattle.cat_ledger_laws.proofs.shape.Told.{name_of_file}
-use Rattle.cat_service.specs.Histories.{MakeTold, Makes, MakesTold, OutlivesCrash}
-use Rattle.cat_service.specs.Opening.{BeginsAtCommit, BeginsIn, OpensIn}
-use Rattle.cat_service.specs.Outlasting.{Outlasts}
-use Rattle.cat_service.specs.Serving.{IsServedIn}
+use Rattle.cat_service.specs.theorem.Openings.{DirectoriesOpenOneWay}
 use Rattle.cat_service.proofs.theorem.Calls.{call_said, sound}
 use Rattle.cat_service.proofs.theorem.Law.{reads_agree_where}
-use Rattle.cat_service.specs.theorem.Found.{CallsAreFound, DirectoriesOpenOneWay, Finds, FindsNewest, FindsNone, IsLeft, ReadsAgreeAfterwards, RefusedSince, TellsJust}
 
 -- bytes are the file of one segment, and of one live set, at most
 abbrev pub SegmentsLaw : Type 0
@@ -54,118 +40,93 @@ SegmentsLaw = (bytes : List ℕ) (s t : Segment) → SpellsSegment bytes s → S
 abbrev pub LiveLaw : Type 0
 LiveLaw = (a : List ℕ) (r s : LiveRows) → SpellsLive a r → SpellsLive a s → r ≡ s
 
-one_text : (a b : Text) → ◌≡◌ {A = Option Text} (Some a) (Some b) → a ≡ b
-one_text a b e = cc
+some_text : (a b : Text) → ◌≡◌ {A = Option Text} (Some a) (Some b) → a ≡ b
+some_text a b e = cc
 
--- of two lists of live rows of one length, in which all are live
-all_true : (xs ys : List Bool) → AllByRecursion (λ b. b ≡ true) xs → AllByRecursion (λ b. b ≡ true) ys → length xs ≡ length ys → xs ≡ ys
-all_true [] [] a b e = refl
-all_true [] (y ∷ ys) a b e = absurd (omega (arith, e))
-all_true (x ∷ xs) [] a b e = absurd (omega (arith, e))
-all_true (x ∷ xs) (y ∷ ys) a b e = ap₂ (λ (z : Bool) (zs : List Bool). z ∷ zs) (a.0 ∙ sym b.0) (all_true xs ys a.1 b.1 (omega (arith, e)))
+-- what is so of each element is so along the list
+all_contained : {X : Type 0} (P : X → Type 0) (xs : List X) → ((x : X) → Contains xs x → P x) → AllByRecursion P xs
+all_contained P [] f = tt
+all_contained P (x ∷ xs) f = (f x (0, omega arith, refl), all_contained P xs (λ y c. f y (Contains-append_right (x ∷ []) xs y c)))
 
-module _ (segments : SegmentsLaw) (lives : LiveLaw) (schema : Schema) (held files : FileBytes) where
-  -- ---- one segment
+-- ---- two directories that hold one commit
 
-  -- the records of a portion are its rows with the sources in its file
-  read_back : (p : Portion) → sourced (map row_of p.records) (joined_sources p.records) ≡ p.records
-  read_back p = ap (λ (p : Portion). p.records) (portions_are_read schema p (λ n. joined_sources p.records) refl)
+-- the table of leaves, with these sources
+abbrev shown_by : (ℕ → Text) → List Leaf → List Record
+shown_by sources leaves = flat_map (λ leaf. selected leaf.live (sourced leaf.segment.rows (sources leaf.segment.number))) leaves
 
-  -- portions of one number whose files are the same have the same records
-  same_records : (p q : Portion) → p.number ≡ q.number → IsStored held schema p → IsStored files schema q
-      → held (Name.segment q.number) ≡ files (Name.segment q.number) → held (Name.source q.number) ≡ files (Name.source q.number)
-      → p.records ≡ q.records
-  same_records p q number h k segment source =
-      let bytes : h.segment.bytes ≡ k.segment.bytes =
-      one_text h.segment.bytes k.segment.bytes (sym h.segment.there ∙ ap (λ n. held (Name.segment n)) number ∙ segment ∙ k.segment.there) in
-      let same : segment_of schema p ≡ segment_of schema q =
-      segments k.segment.bytes (segment_of schema p) (segment_of schema q) (subst (λ b. SpellsSegment b (segment_of schema p)) bytes h.segment.spelled)
-      k.segment.spelled in
-      let rows : map row_of p.records ≡ map row_of q.records = ap (λ (s : Segment). s.rows) same in
-      let sources : joined_sources p.records ≡ joined_sources q.records =
-      one_text (joined_sources p.records) (joined_sources q.records) (sym h.source ∙ ap (λ n. held (Name.source n)) number ∙ source ∙ k.source) in
-      sym (read_back p) ∙ ap₂ sourced rows sources ∙ read_back q
+module _ (segments : SegmentsLaw) (lives : LiveLaw) (one two : ToldByName) where
+  -- whatever both may have in the file of this name is the same
+  abbrev pub Same : Name → Type 0
+  Same q = (x y : Text) → MayHave one q x → MayHave two q y → x ≡ y
 
-  -- and the same live rows, where those are as many as the records
-  same_live : (x y : Listed) → x.file ≡ y.file → x.portion.number ≡ y.portion.number → length x.portion.live ≡ length y.portion.live
-      → HasLive held x → HasLive files y
-      → AllByRecursion (λ n. held n ≡ files n) (cond (y.file == 0) [] (Name.live y.portion.number y.file ∷ []))
-      → x.portion.live ≡ y.portion.live
-  same_live x y file number long h k same =
-      by (y.file == 0) (subst (λ f. cond (f == 0) (AllByRecursion (λ b. b ≡ true) x.portion.live) (IsLiveStored held x)) file h) k same
-    where
-      by : (b : Bool) → cond b (AllByRecursion (λ b. b ≡ true) x.portion.live) (IsLiveStored held x)
-          → cond b (AllByRecursion (λ b. b ≡ true) y.portion.live) (IsLiveStored files y)
-          → AllByRecursion (λ n. held n ≡ files n) (cond b [] (Name.live y.portion.number y.file ∷ []))
-          → x.portion.live ≡ y.portion.live
-      by true h k same = all_true x.portion.live y.portion.live h k long
-      by false h k same =
-          let bytes : h.bytes ≡ k.bytes =
-          one_text h.bytes k.bytes (sym h.there ∙ ap₂ (λ (n d : ℕ). held (Name.live n d)) number file ∙ same.0 ∙ k.there) in
-          ap (λ (r : LiveRows). r.live) (lives k.bytes (record { number = x.portion.number; generation = x.file; live = x.portion.live })
-          (record { number = y.portion.number; generation = y.file; live = y.portion.live })
-          (subst (λ b. SpellsLive b (record { number = x.portion.number; generation = x.file; live = x.portion.live })) bytes h.spelled) k.spelled)
+  module _ (schema : Schema) where
+    same_live : (x : ListedSegment) (rows : ℕ) (a b : List Bool) (z : Bool) → cond z (a ≡ replicate rows true) (HasLiveFile (MayHave one) x a)
+        → cond z (b ≡ replicate rows true) (HasLiveFile (MayHave two) x b) → AllByRecursion Same (cond z [] (Name.live x.number x.file ∷ [])) → a ≡ b
+    same_live x rows a b true h k same = h ∙ sym k
+    same_live x rows a b false h k same =
+        let bytes : h.bytes ≡ k.bytes = same.0 h.bytes k.bytes h.there k.there in
+        ap (λ (r : LiveRows). r.live) (lives k.bytes (record { number = x.number; generation = x.file; live = a })
+        (record { number = x.number; generation = x.file; live = b })
+        (subst (λ t. SpellsLive t (record { number = x.number; generation = x.file; live = a })) bytes h.spelled) k.spelled)
 
-  -- ---- all segments of a commit
+    same_leaf : (x : ListedSegment) (a b : Leaf) → IsLeafOf (MayHave one) schema x a → IsLeafOf (MayHave two) schema x b
+        → AllByRecursion Same (listed_names x) → a ≡ b
+    same_leaf x a b h k same =
+        let bytes : h.segment.bytes ≡ k.segment.bytes =
+        same.0 h.segment.bytes k.segment.bytes (subst (λ n. MayHave one (Name.segment n) h.segment.bytes) h.number h.segment.there)
+        (subst (λ n. MayHave two (Name.segment n) k.segment.bytes) k.number k.segment.there) in
+        let segment : a.segment ≡ b.segment =
+        segments k.segment.bytes a.segment b.segment (subst (λ t. SpellsSegment t a.segment) bytes h.segment.spelled) k.segment.spelled in
+        let mine : cond (x.file == 0) (a.live ≡ replicate (length b.segment.rows) true) (HasLiveFile (MayHave one) x a.live) =
+        subst (λ (s : Segment). cond (x.file == 0) (a.live ≡ replicate (length s.rows) true) (HasLiveFile (MayHave one) x a.live)) segment h.live in
+        let live : a.live ≡ b.live = same_live x (length b.segment.rows) a.live b.live (x.file == 0) mine k.live same.1.1 in
+        λ i. record { segment = segment i; live = live i }
 
-  abbrev pub AreLong : Portion → Type 0
-  AreLong p = length p.live ≡ length p.records
+    same_leaves : (xs : List ListedSegment) (ls bs : List Leaf) → AreLeavesOf (MayHave one) schema xs ls → AreLeavesOf (MayHave two) schema xs bs
+        → AllByRecursion Same (flat_map listed_names xs) → ls ≡ bs
+    same_leaves [] [] [] h k same = refl
+    same_leaves [] [] (b ∷ bs) h k same = absurd k
+    same_leaves [] (a ∷ ls) bs h k same = absurd h
+    same_leaves (x ∷ xs) [] bs h k same = absurd h
+    same_leaves (x ∷ xs) (a ∷ ls) [] h k same = absurd k
+    same_leaves (x ∷ xs) (a ∷ ls) (b ∷ bs) h k same =
+        let parts = All-split Same (listed_names x) (flat_map listed_names xs) same in
+        ap₂ (λ (l : Leaf) (more : List Leaf). l ∷ more) (same_leaf x a b h.0 k.0 parts.0) (same_leaves xs ls bs h.1 k.1 parts.1)
 
-  same_portion : (x y : Listed) → listed_segment x ≡ listed_segment y → IsStored held schema x.portion → IsStored files schema y.portion
-      → HasLive held x → HasLive files y → AreLong x.portion → AreLong y.portion
-      → AllByRecursion (λ n. held n ≡ files n) (names_of_listed y) → x.portion ≡ y.portion
-  same_portion x y e h k hl kl lx ly same =
-      let number : x.portion.number ≡ y.portion.number = ap (λ s. s.number) e in
-      let records : x.portion.records ≡ y.portion.records = same_records x.portion y.portion number h k same.0 same.1.0 in
-      let live : x.portion.live ≡ y.portion.live =
-      same_live x y (ap (λ s. s.file) e) number (lx ∙ ap length records ∙ sym ly) hl kl same.1.1 in
-      λ i. record { number = number i; records = records i; live = live i }
+    same_sources : (xs : List ListedSegment) (leaves : List Leaf) → AreLeavesOf (MayHave one) schema xs leaves → AllByRecursion Same (flat_map listed_names xs)
+        → AllByRecursion (λ leaf. Same (Name.source leaf.segment.number)) leaves
+    same_sources [] [] h same = tt
+    same_sources [] (a ∷ ls) h same = absurd h
+    same_sources (x ∷ xs) [] h same = absurd h
+    same_sources (x ∷ xs) (a ∷ ls) h same =
+        let parts = All-split Same (listed_names x) (flat_map listed_names xs) same in
+        (subst (λ n. Same (Name.source n)) (sym h.0.number) parts.0.1.0, same_sources xs ls h.1 parts.1)
 
-  same_portions : (xs ys : List Listed) → map listed_segment xs ≡ map listed_segment ys
-      → AllByRecursion (λ (x : Listed). IsStored held schema x.portion) xs → AllByRecursion (λ (y : Listed). IsStored files schema y.portion) ys
-      → AllByRecursion (HasLive held) xs → AllByRecursion (HasLive files) ys
-      → AllByRecursion AreLong (map (λ (x : Listed). x.portion) xs) → AllByRecursion AreLong (map (λ (y : Listed). y.portion) ys)
-      → AllByRecursion (λ n. held n ≡ files n) (flat_map names_of_listed ys)
-      → map (λ (x : Listed). x.portion) xs ≡ map (λ (y : Listed). y.portion) ys
-  same_portions [] [] e h k hl kl lx ly same = refl
-  same_portions [] (y ∷ ys) e h k hl kl lx ly same = absurd (cc e)
-  same_portions (x ∷ xs) [] e h k hl kl lx ly same = absurd (cc e)
-  same_portions (x ∷ xs) (y ∷ ys) e h k hl kl lx ly same =
-      let parts = All-split (λ n. held n ≡ files n) (names_of_listed y) (flat_map names_of_listed ys) same in
-      ap₂ (λ (p : Portion) (ps : List Portion). p ∷ ps) (same_portion x y (cc e) h.0 k.0 hl.0 kl.0 lx.0 ly.0 parts.0)
-      (same_portions xs ys (cc e) h.1 k.1 hl.1 kl.1 lx.1 ly.1 parts.1)
+  same_shown : (leaves : List Leaf) (mine theirs : ℕ → Text) → AllByRecursion (MayHaveSources one mine) leaves → AllByRecursion (MayHaveSources two theirs) leaves
+      → AllByRecursion (λ leaf. Same (Name.source leaf.segment.number)) leaves → shown_by mine leaves ≡ shown_by theirs leaves
+  same_shown [] mine theirs h k same = refl
+  same_shown (l ∷ leaves) mine theirs h k same =
+      ap₂ (λ (x y : List Record). x ++ y)
+      (ap (λ t. selected l.live (sourced l.segment.rows t)) (same.0 (mine l.segment.number) (theirs l.segment.number) h.0.there k.0.there))
+      (same_shown leaves mine theirs h.1 k.1 same.1)
 
--- ---- names
+  -- so both have one table of the commit
+  pub same_table : (schema : Schema) (g h : ℕ) (c : CommitFile) (rs ss : List Record) → HoldsCommit one schema g c rs → HoldsCommit two schema h c ss
+      → AllByRecursion Same (flat_map listed_names c.segments) → rs ≡ ss
+  same_table schema g h c rs ss a b same =
+      let leaves : a.leaves ≡ b.leaves = same_leaves schema c.segments a.leaves b.leaves a.held.leaves b.held.leaves same in
+      a.table.shown
+      ∙ same_shown a.leaves a.table.sources b.table.sources a.table.stand
+      (subst (λ ls. AllByRecursion (MayHaveSources two b.table.sources) ls) (sym leaves) b.table.stand)
+      (same_sources schema c.segments a.leaves a.held.leaves same)
+      ∙ ap (shown_by b.table.sources) leaves
+      ∙ sym b.table.shown
 
-same_name : (q : Name) → same_file_name q q ≡ true
-same_name (Name.segment a) = eq-eqb a a refl
-same_name (Name.source a) = eq-eqb a a refl
-same_name (Name.live a d) = ap₂ (λ (x y : Bool). x && y) (eq-eqb a a refl) (eq-eqb d d refl)
-same_name (Name.commit g) = eq-eqb g g refl
-
-or_true : (b : Bool) → (b || true) ≡ true
-or_true true = refl
-or_true false = refl
-
-more_names : (m : Name) (all ns : List Name) → AllByRecursion (λ n. has_name n all ≡ true) ns → AllByRecursion (λ n. has_name n (m ∷ all) ≡ true) ns
-more_names m all [] a = tt
-more_names m all (n ∷ ns) a = (ap (λ b. same_file_name n m || b) a.0 ∙ or_true (same_file_name n m), more_names m all ns a.1)
-
-own_names : (ns : List Name) → AllByRecursion (λ n. has_name n ns ≡ true) ns
-own_names [] = tt
-own_names (n ∷ ns) = (ap (λ b. b || has_name n ns) (same_name n), more_names n ns ns (own_names ns))
-
-each_of : (P : Name → Type 0) (all ns : List Name) → ((n : Name) → has_name n all ≡ true → P n) → AllByRecursion (λ n. has_name n all ≡ true) ns → AllByRecursion P ns
-each_of P all [] f a = tt
-each_of P all (n ∷ ns) f a = (f n a.0, each_of P all ns f a.1)
-
-of_listed : (xs : List Listed) → flat_map names_of_listed xs ≡ flat_map listed_names (map listed_segment xs)
-of_listed [] = refl
-of_listed (x ∷ xs) = ap (λ l. names_of_listed x ++ l) (of_listed xs)
-
-long_portions : (xs : List Listed) → AllByRecursion (λ x. length x.portion.live ≡ length x.portion.records) xs → AllByRecursion (λ p. length p.live ≡ length p.records) (map (λ (x : Listed). x.portion) xs)
-long_portions [] a = tt
-long_portions (x ∷ xs) a = (a.0, long_portions xs a.1)
+  -- and one commit where its own file is the same
+  pub same_commit : (g : ℕ) (c d : CommitFile) → HasCommit (MayHave one) g c → HasCommit (MayHave two) g d → Same (Name.commit g) → c ≡ d
+  same_commit g c d h k same =
+      let bytes : h.bytes ≡ k.bytes = same h.bytes k.bytes h.there k.there in
+      commits_are_told_by_their_bytes k.bytes c d (subst (λ t. SpellsCommit t c) bytes h.spelled) k.spelled
 
 -- ---- what is told, as files
 
@@ -178,191 +139,151 @@ unfolding content_of
 content_told None a = absurd (a refl)
 content_told (Some content) a = refl
 
-module _ (told : ToldFiles) (always : (q : FileName) → told q ≢ None) (users : List Used) where
-  abbrev files : FileBytes
-  files = λ n. content_of (told (file_of n))
-
-  there : (n : Name) (is_so : Text → Type 0) → IsThere told users n is_so → (bytes : Text) × (files n ≡ Some bytes) × is_so bytes
-  there n is_so h = h.there (files n) (content_told (told (file_of n)) (always (file_of n)))
-
-  stored_of : (schema : Schema) (p : Portion) → SegmentStands told users schema p → IsStored files schema p
-  stored_of schema p h =
-      let a = there (Name.segment p.number) (λ bytes. SpellsSegment bytes (segment_of schema p)) h.segment in
-      let b = there (Name.source p.number) (λ bytes. bytes ≡ joined_sources p.records) h.source in
-      record { segment = record { bytes = a.0; there = a.1; spelled = a.2 }; source = b.1 ∙ ap Some b.2 }
-
-  all_stored : (schema : Schema) (xs : List Listed) → AllByRecursion (λ x. SegmentStands told users schema x.portion) xs → AllByRecursion (λ (x : Listed). IsStored files schema x.portion) xs
-  all_stored schema [] a = tt
-  all_stored schema (x ∷ xs) a = (stored_of schema x.portion a.0, all_stored schema xs a.1)
-
-  live_of : (x : Listed) (b : Bool)
-      → cond b (AllByRecursion (λ c. c ≡ true) x.portion.live) (IsThere told users (Name.live x.portion.number x.file) (λ bytes. SpellsLive bytes (record { number = x.portion.number; generation = x.file; live = x.portion.live })))
-      → cond b (AllByRecursion (λ c. c ≡ true) x.portion.live) (IsLiveStored files x)
-  live_of x true h = h
-  live_of x false h =
-      let a = there (Name.live x.portion.number x.file) (λ bytes. SpellsLive bytes (record { number = x.portion.number; generation = x.file; live = x.portion.live })) h in
-      record { bytes = a.0; there = a.1; spelled = a.2 }
-
-  all_live : (xs : List Listed) → AllByRecursion (LiveStands told users) xs → AllByRecursion (HasLive files) xs
-  all_live [] a = tt
-  all_live (x ∷ xs) a = (live_of x (x.file == 0) a.0, all_live xs a.1)
-
 -- ---- the newest commit
 
-module _ (segments : SegmentsLaw) (lives : LiveLaw) (told told₂ : ToldFiles) (always : (q : FileName) → told q ≢ None) (may : FileName → FileContent → Type 0)
-    (image : FileName → FileContent) (left : IsLeft may image) (just : TellsJust told₂ image) (users : List Used) (from : Opened) (run : Run) (g : ℕ) (o : Outlasts told may users from run g)
-    (schema : Schema) (found : Opened) (b : BeginsAtCommit told₂ schema found) (number : b.generation ≡ g) where
-  abbrev mine : FileBytes
-  mine = files told always users
+module _ (segments : SegmentsLaw) (lives : LiveLaw) (told told₂ : ToldByName) (always : (q : Name) → told q ≢ None) (may : LeftByName) (image : Name → FileContent)
+    (left : MayBeLeft may image) (just : TellsJust told₂ image) (from : Opened) (run : Run) (g : ℕ) (here : HoldsGeneration told from run g)
+    (settled : (q : Name) → Contains (commit_needs here.commit) q → (now e : FileContent) → told q ≡ Some now → may q e → e ≡ now)
+    (schema : Schema) (found : Opened) (b : BeginsAtNewest told₂ schema found) (number : b.generation ≡ g) where
+  alike : (q : Name) → Contains (commit_needs here.commit) q → Same segments lives told₂ told q
+  alike q c x y theirs mine =
+      let now : FileContent = content_of (told q) in
+      let tells : told q ≡ Some now = content_told (told q) (always q) in
+      let image_is : image q ≡ now = settled q c now (image q) tells (left q) in
+      let one : image q ≡ Some x = subst (λ t. IsTold t (Some x)) (just q) theirs in
+      let two : now ≡ Some y = subst (λ t. IsTold t (Some y)) tells mine in
+      some_text x y (sym one ∙ image_is ∙ two)
 
-  abbrev theirs : FileBytes
-  theirs = b.table.files
+  all_alike : AllByRecursion (Same segments lives told₂ told) (commit_needs here.commit)
+  all_alike = all_contained (Same segments lives told₂ told) (commit_needs here.commit) alike
 
-  image_is : (n : Name) → has_name n (commit_needs o.commit) ≡ true → image (file_of n) ≡ mine n
-  image_is n h =
-      o.settled (file_of n) (subst (λ m. has_name m (commit_needs o.commit) ≡ true) (sym (name_of_file n)) h) (mine n) (image (file_of n)) (content_told (told (file_of n)) (always (file_of n))) (left (file_of n))
+  one_commit : b.commit ≡ here.commit
+  one_commit =
+      same_commit segments lives told₂ told g b.commit here.commit (subst (λ n. HasCommit (MayHave told₂) n b.commit) number b.held.held.commit) here.held.held.commit
+      (subst (λ n. Same segments lives told₂ told (Name.commit n)) here.held.held.commit.number all_alike.0)
 
-  theirs_are : (n : Name) → theirs n ≡ image (file_of n)
-  theirs_are n = sym (subst (λ t. IsTold t (theirs n)) (just (file_of n)) (b.table.agrees n))
+  fields : schema ≡ from.start.schema
+  fields = sym b.held.held.fields ∙ ap (λ (c : CommitFile). c.schema) one_commit ∙ here.held.held.fields
 
-  same_files : AllByRecursion (λ n. theirs n ≡ mine n) (commit_needs o.commit)
-  same_files = each_of (λ n. theirs n ≡ mine n) (commit_needs o.commit) (commit_needs o.commit) (λ n h. theirs_are n ∙ image_is n h) (own_names (commit_needs o.commit))
-
-  same_commit : b.restored.commit ≡ o.commit
-  same_commit =
-      let own = there told always users (Name.commit o.commit.generation) (λ bytes. SpellsCommit bytes o.commit) o.stands.file in
-      let here : image (file.Commit o.commit.generation) ≡ Some own.0 = image_is (Name.commit o.commit.generation) (own_names (commit_needs o.commit)).0 ∙ own.1 in
-      let found_here : image (file.Commit b.generation) ≡ Some b.held.commit.bytes = subst (λ t. IsTold t (Some b.held.commit.bytes)) (just (file.Commit b.generation)) b.held.commit.there in
-      let generations : b.generation ≡ o.commit.generation = number ∙ sym o.generation in
-      let bytes : own.0 ≡ b.held.commit.bytes = one_text own.0 b.held.commit.bytes (sym here ∙ ap (λ h. image (file.Commit h)) (sym generations) ∙ found_here) in
-      commits_are_told_by_their_bytes b.held.commit.bytes b.restored.commit o.commit b.held.commit.spelled (subst (λ x. SpellsCommit x o.commit) bytes own.2)
-
-  same_table : portions_in b.table.commit ≡ map (λ (x : Listed). x.portion) o.stands.listed
-  same_table =
-      let listed : map listed_segment b.table.commit.listed ≡ map listed_segment o.stands.listed = ap (λ (x : CommitFile). x.segments) (b.table.same ∙ same_commit) ∙ o.stands.lists in
-      let fields : o.commit.schema ≡ schema = ap (λ (x : CommitFile). x.schema) (sym same_commit) ∙ b.held.fields in
-      let names : flat_map listed_names o.commit.segments ≡ flat_map names_of_listed o.stands.listed = ap (flat_map listed_names) o.stands.lists ∙ sym (of_listed o.stands.listed) in
-      same_portions segments lives schema theirs mine b.table.commit.listed o.stands.listed listed b.table.stored.portions
-      (subst (λ s. AllByRecursion (λ (x : Listed). IsStored mine s x.portion) o.stands.listed) fields (all_stored told always users o.commit.schema o.stands.listed o.stands.segments))
-      b.table.stored.live (all_live told always users o.stands.listed o.stands.live) b.table.formed.lengths (long_portions o.stands.listed o.stands.lengths)
-      (subst (AllByRecursion (λ n. theirs n ≡ mine n)) names same_files.1)
+  records : found.start.records ≡ table from.start (writes run) here.commit.token
+  records =
+      same_table segments lives told₂ told from.start.schema b.generation g here.commit found.start.records (table from.start (writes run) here.commit.token)
+      (subst (λ (s : Schema). HoldsCommit told₂ s b.generation here.commit found.start.records) fields
+      (subst (λ (c : CommitFile). HoldsCommit told₂ schema b.generation c found.start.records) one_commit b.held))
+      here.held all_alike.1
 
   pub finds_newest : newest_commit from run ≡ Some g → FindsNewest from run found
-  finds_newest newest = record {
-    generation = g;
-    newest = newest;
-    commit = b.commit ∙ ap (λ (x : CommitFile). Some (record { generation = x.generation; text = x.text })) same_commit ∙ (λ i. Some (record { generation = o.generation i; text = o.text i }));
-    reaches = o.reaches ∙ ap (λ (x : CommitFile). Some x.token) (sym same_commit) ∙ ap Some (sym b.token);
-    records = b.table.table ∙ ap records_of same_table ∙ o.stands.table ∙ ap (table from.start (writes run)) (sym (b.token ∙ ap (λ (x : CommitFile). x.token) same_commit));
-  }
+  finds_newest newest =
+      let token : found.start.token ≡ here.commit.token = b.token ∙ ap (λ (c : CommitFile). c.token) one_commit in record {
+        generation = g;
+        newest = newest;
+        commit =
+            b.text
+            ∙ ap (λ (c : CommitFile). Some (record { generation = c.generation; text = c.text })) one_commit
+            ∙ (λ i. Some (record { generation = here.held.held.commit.number i; text = here.text i }));
+        reaches = here.reaches ∙ ap Some (sym token);
+        records = records ∙ ap (table from.start (writes run)) (sym token);
+      }
 
 -- ---- a commit that was refused
 
--- what was told from a place on, by what it had to do with commits
-record IsToldAt (tolds : List Outcome) (before : List Event) (event : Event) (since : List Event) : Type 0 where
-  past : List Outcome
-  told : Outcome
-  later : List Outcome
-  whole : tolds ≡ past ++ told ∷ later
-  here : MakesTold told event
-  more : MakeTold later since
+abbrev refuses : Exchange → Bool
+refuses x = refuses_commit x.line.command x.reply
 
-told_at : (tolds : List Outcome) (events before : List Event) (event : Event) (since : List Event) → MakeTold tolds events → events ≡ before ++ event ∷ since → IsToldAt tolds before event since
-told_at [] [] [] event since m e = absurd (cc e)
-told_at [] [] (x ∷ before) event since m e = absurd (cc e)
-told_at [] (y ∷ events) before event since m e = absurd m
-told_at (told ∷ tolds) [] before event since m e = absurd m
-told_at (told ∷ tolds) (y ∷ events) [] event since m e =
-    let head : y ≡ event = cc e in
-    let tail : events ≡ since = cc e in
-    record { past = []; told = told; later = tolds; whole = refl; here = subst (MakesTold told) head m.0; more = subst (MakeTold tolds) tail m.1 }
-told_at (told ∷ tolds) (y ∷ events) (x ∷ before) event since m e =
-    let rest = told_at tolds events before event since m.1 (cc e) in
-    record { past = told ∷ rest.past; told = rest.told; later = rest.later; whole = ap (λ ts. told ∷ ts) rest.whole; here = rest.here; more = rest.more }
+-- where some COMMIT was refused, one was
+record IsRefusedIn (run : Run) : Type 0 where
+  before : Run
+  here : Exchange
+  later : Run
+  split : run ≡ before ++ here ∷ later
+  refused : refuses here ≡ true
 
-exchange_place : (past : List Outcome) (x : Exchange) (later : List Outcome) → filter_map exchange (past ++ Outcome.replied x ∷ later) ≡ filter_map exchange past ++ x ∷ filter_map exchange later
-exchange_place [] x later = refl
-exchange_place (Outcome.unreadable ∷ past) x later = exchange_place past x later
-exchange_place (Outcome.replied y ∷ past) x later = ap (λ xs. y ∷ xs) (exchange_place past x later)
+counted_next : (x : Exchange) (xs : Run) → count_by refuses (x ∷ xs) ≡ cond (refuses x) 1 0 + count_by refuses xs
+counted_next x xs = sum_by-cons (λ y. cond (refuses y) 1 0) x xs
 
-answered_none : (c : Command) (r : Reply) (event : Event) → Makes c r event → IsUnanswered event → commit_by c r ≡ None
-answered_none (Command.commit (Ok text)) (Ok (Answer.number g)) event m u = absurd (subst IsUnanswered m u)
-answered_none _ _ event m u = refl
+some_refused : (run : Run) → 1 ≤ count_by refuses run → IsRefusedIn run
+some_refused [] some = absurd (omega (arith, some))
+some_refused (x ∷ xs) some = by (refuses x) refl (λ k. some_refused xs k)
+  where
+    by : (b : Bool) → refuses x ≡ b → (1 ≤ count_by refuses xs → IsRefusedIn xs) → IsRefusedIn (x ∷ xs)
+    by true e more = record { before = []; here = x; later = xs; split = refl; refused = e }
+    by false e more =
+        let none : count_by refuses (x ∷ xs) ≡ 0 + count_by refuses xs = counted_next x xs ∙ ap (λ b. cond b 1 0 + count_by refuses xs) e in
+        let rest : IsRefusedIn xs = more (omega (arith, some, none)) in
+        record { before = x ∷ rest.before; here = rest.here; later = rest.later; split = ap (λ r. x ∷ r) rest.split; refused = rest.refused }
 
-later_none : (tolds : List Outcome) (events : List Event) → MakeTold tolds events → AllByRecursion IsUnanswered events → AllByRecursion (λ x. commit_by x.line.command x.reply ≡ None) (filter_map exchange tolds)
-later_none [] [] m a = tt
-later_none [] (e ∷ events) m a = tt
-later_none (told ∷ tolds) [] m a = absurd m
-later_none (Outcome.unreadable ∷ tolds) (e ∷ events) m a = later_none tolds events m.1 a.1
-later_none (Outcome.replied x ∷ tolds) (e ∷ events) m a = (answered_none x.line.command x.reply e m.0 a.0, later_none tolds events m.1 a.1)
-
--- what a command and its reply are that made a refused commit
+-- what a command and its reply are that refuse a commit
 record IsRefusedCommit (c : Command) (r : Reply) : Type 0 where
   text : Result Text Refusal
   asked : c ≡ Command.commit text
   refusal : Refusal
   refused : r ≡ Err refusal
 
-refused_by : (c : Command) (r : Reply) (g : ℕ) → Makes c r (Event.Refused g) → IsRefusedCommit c r
-refused_by (Command.commit text) (Ok (Answer.number h)) g m = absurd (cc m)
-refused_by (Command.commit text) (Ok a) g m = absurd m
-refused_by (Command.commit text) (Err e) g m = record { text = text; asked = refl; refusal = e; refused = refl }
-refused_by _ r g m = absurd (cc m)
+refused_so : (c : Command) (r : Reply) → refuses_commit c r ≡ true → IsRefusedCommit c r
+refused_so (Command.commit text) (Err e) is = record { text = text; asked = refl; refusal = e; refused = refl }
+refused_so _ r is = absurd (let no : false ≡ true = is in cc)
 
-refused_since : (tolds : List Outcome) (events : List Event) (g : ℕ) → MakeTold tolds events → IsTried events g → RefusedSince (filter_map exchange tolds)
-refused_since tolds events g m tried =
-    let p = told_at tolds events tried.before (Event.Refused g) tried.since m tried.split in
-    by p p.told refl
-  where
-    by : (p : IsToldAt tolds tried.before (Event.Refused g) tried.since) → (t : Outcome) → p.told ≡ t → RefusedSince (filter_map exchange tolds)
-    by p Outcome.unreadable is = absurd (let no : Event.Refused g ≡ Event.Other = subst (λ t. MakesTold t (Event.Refused g)) is p.here in cc no)
-    by p (Outcome.replied x) is =
-        let r : IsRefusedCommit x.line.command x.reply = refused_by x.line.command x.reply g (subst (λ t. MakesTold t (Event.Refused g)) is p.here) in
-        record {
-          past = filter_map exchange p.past;
-          here = x;
-          later = filter_map exchange p.later;
-          split = ap (filter_map exchange) (p.whole ∙ ap (λ t. p.past ++ t ∷ p.later) is) ∙ exchange_place p.past x p.later;
-          text = r.text;
-          asked = r.asked;
-          refusal = r.refusal;
-          refused = r.refused;
-          none = later_none p.later tried.since p.more (recursion_from_All IsUnanswered tried.since tried.none);
-        }
+later_all : {X : Type 0} (P : X → Type 0) (before : List X) (x : X) (later : List X) → AllByRecursion P (before ++ x ∷ later) → AllByRecursion P later
+later_all P before x later a = (All-split P before (x ∷ later) a).1.1
+
+append_three : {X : Type 0} (a b : List X) (x : X) (c : List X) → a ++ (b ++ x ∷ c) ≡ (a ++ b) ++ x ∷ c
+append_three [] b x c = refl
+append_three (y ∷ a) b x c = ap (λ l. y ∷ l) (append_three a b x c)
+
+some_tried : (tried : List ℕ) (g : ℕ) → Contains tried g → 1 ≤ length tried
+some_tried tried g (k, within, is) = omega (arith, within)
+
+refused_since : (may : LeftByName) (from : Opened) (run : Run) (s : SurvivesCrash may from run) (g : ℕ) → Contains s.tried g → RefusedSince run
+refused_since may from run s g c =
+    let one = some_refused s.since (omega (arith, some_tried s.tried g c, s.few)) in
+    let so = refused_so one.here.line.command one.here.reply one.refused in record {
+      past = s.past ++ one.before;
+      here = one.here;
+      later = one.later;
+      split = s.split ∙ ap (λ r. s.past ++ r) one.split ∙ append_three s.past one.before one.here one.later;
+      text = so.text;
+      asked = so.asked;
+      refusal = so.refusal;
+      refused = so.refused;
+      none = later_all (λ x. commit_by x.line.command x.reply ≡ None) one.before one.here one.later
+          (subst (AllByRecursion (λ x. commit_by x.line.command x.reply ≡ None)) one.split s.none);
+    }
 
 -- ---- the law
 
-same_told : (told : ToldFiles) (image : FileName → FileContent) → TellsJust told image → told ≡ tells image
+same_told : (told : ToldByName) (image : Name → FileContent) → TellsJust told image → told ≡ told_of image
 same_told told image just = λ i. λ q. just q i
 
-module _ {D : Type 0} (bytes : D → ToldFiles) (may_leave : D → FileName → FileContent → Type 0) (can_fail : D → Type 0) (device left : D) (segments : SegmentsLaw) (lives : LiveLaw) (always : AlwaysTells bytes)
-    (first : Text) (lines : List Text) (output : Text) (s : IsServedIn bytes may_leave can_fail device left first lines output) (image : FileName → FileContent) (crashed : IsLeft (may_leave left) image)
-    (told₂ : ToldFiles) (just : TellsJust told₂ image) where
+module _ {D : Type 0} (kind : DirectoryKind D) (device left : D) (segments : SegmentsLaw) (lives : LiveLaw) (always : TellsAlways kind) (first : Text) (lines : List Text)
+    (output : Text) (s : IsServedIn json kind device left first lines output) (image : Name → FileContent) (crashed : MayBeLeft (kind.may_leave left) image)
+    (told₂ : ToldByName) (just : TellsJust told₂ image) where
   abbrev run : Run
   run = filter_map exchange s.fitting
 
-  abbrev lasts : OutlivesCrash (may_leave left) (newest_commit s.from run) s.tolds
-  lasts = s.outlives always
+  abbrev lasts : SurvivesCrash (kind.may_leave left) s.from run
+  lasts = s.survives always
 
-  found_at : (schema : Schema) (found : Opened) → OpensIn told₂ schema (Ok found) → Finds s.from run found
+  found_at : (schema : Schema) (found : Opened) → OpensFrom told₂ schema (Ok found) → FindsAfterwards s.from run found
   found_at schema found (inl b) =
-      elim (lasts.found image b.generation crashed (subst (λ t. IsNewestCommit t b.generation) (same_told told₂ image just) b.newest)) [
-        | inl newest ↦ Finds.newest (finds_newest segments lives (bytes left) told₂ (always left) (may_leave left) image crashed just s.promised.users s.from run b.generation (s.promised.outlasts always b.generation newest) schema found b refl newest)
-        | inr tried ↦ Finds.refused (subst (λ os. RefusedSince (filter_map exchange os)) (s.same always) (refused_since s.tolds lasts.events b.generation lasts.make tried))
+      elim (lasts.found image b.generation crashed (subst (λ t. IsNewestTold t b.generation) (same_told told₂ image just) b.newest)) [
+        | inl newest ↦
+            let here = s.promised.outlasts always b.generation newest in
+            FindsAfterwards.newest (finds_newest segments lives (kind.bytes left) told₂ (always left) (kind.may_leave left) image crashed just s.from run b.generation here.0 here.1 schema found b refl newest)
+        | inr tried ↦ FindsAfterwards.refused (refused_since (kind.may_leave left) s.from run lasts b.generation tried)
       ]
   found_at schema found (inr e) =
-      Finds.none (record {
-        none = lasts.lost image crashed (subst HasNoCommit (same_told told₂ image just) e.0);
+      FindsAfterwards.none (record {
+        none = lasts.lost image crashed (subst TellsNoCommit (same_told told₂ image just) e.0);
         start = (ap (λ o. o.start.records) e.1, ap (λ o. o.start.token) e.1);
         commit = ap (λ o. o.commit) e.1;
       })
 
-  pub found_by : (first₂ : Text) (found : Opened) → BeginsIn told₂ first₂ (Ok found) → Finds s.from run found
+  pub found_by : (first₂ : Text) (found : Opened) → BeginsFrom json told₂ first₂ (Ok found) → FindsAfterwards s.from run found
   found_by first₂ found (Begins.opened f l text schema r readable a is opens) = found_at schema found opens
 
-pub calls_are_found : SegmentsLaw → LiveLaw → {D E : Type 0} (bytes : D → ToldFiles) (may_leave : D → FileName → FileContent → Type 0) (can_fail : D → Type 0) (bytes₂ : E → ToldFiles) → CallsAreFound bytes may_leave can_fail bytes₂
-calls_are_found segments lives bytes may_leave can_fail bytes₂ always device left first lines output s image crashed device₂ first₂ found just begins =
-    found_by bytes may_leave can_fail device left segments lives always first lines output s image crashed (bytes₂ device₂) just first₂ found begins
+pub calls_are_found : SegmentsLaw → LiveLaw → {D E : Type 0} (kind : DirectoryKind D) (kind₂ : DirectoryKind E) → CallsAreFound json kind kind₂
+calls_are_found segments lives kind kind₂ always device left first lines output s image crashed device₂ first₂ found just begins =
+    found_by kind device left segments lives always first lines output s image crashed (kind₂.bytes device₂) just first₂ found begins
 
 -- ---- the table that was found
 
@@ -379,12 +300,11 @@ first_table : (start : Start) (ws : List Write) → AllByRecursion (λ r. r.numb
 first_table start ws a =
     table-more start [] ws start.token (omega arith) ∙ ap (filter (stands start.token [])) (append-nil start.records) ∙ whole_table start.token start.records a
 
-pub reads_afterwards : {D E : Type 0} (bytes₁ : D → ToldFiles) (may_leave₁ : D → FileName → FileContent → Type 0) (can_fail₁ : D → Type 0) (bytes₂ : E → ToldFiles) (may_leave₂ : E → FileName → FileContent → Type 0) (can_fail₂ : E → Type 0)
-    → ReadsAgreeAfterwards bytes₁ may_leave₁ can_fail₁ bytes₂ may_leave₂ can_fail₂
-reads_afterwards bytes₁ may_leave₁ can_fail₁ bytes₂ may_leave₂ can_fail₂ device₁ left₁ device₂ left₂ first₁ first₂ lines₁ lines₂ output₁ output₂ one two finds schemas talk₁ talk₂ cut₁ cut₂ s₁ s₂ text reply₁ reply₂ read ask₁ ask₂ =
-    let tables = sym finds.records ∙ sym (first_table two.served.from.start (writes (filter_map exchange two.served.fitting)) (sound (bytes₂ device₂) first₂ two.served.from two.served.begins).seen) in
-    reads_agree_where (AlwaysTells bytes₁) (AlwaysTells bytes₂) json one.served.from two.served.from first₁ first₂ lines₁ lines₂ output₁ output₂ reads_lines
-    (call_said bytes₁ may_leave₁ can_fail₁ device₁ left₁ first₁ lines₁ output₁ one) (call_said bytes₂ may_leave₂ can_fail₂ device₂ left₂ first₂ lines₂ output₂ two)
+pub reads_afterwards : {D E : Type 0} (kind₁ : DirectoryKind D) (kind₂ : DirectoryKind E) → ReadsAgreeAfterwards json kind₁ kind₂
+reads_afterwards kind₁ kind₂ device₁ left₁ device₂ left₂ first₁ first₂ lines₁ lines₂ output₁ output₂ one two finds schemas talk₁ talk₂ cut₁ cut₂ s₁ s₂ text reply₁ reply₂ read ask₁ ask₂ =
+    let tables = sym finds.records ∙ sym (first_table two.served.from.start (writes (filter_map exchange two.served.fitting)) (sound (kind₂.bytes device₂) first₂ two.served.from two.served.begins).seen) in
+    reads_agree_where (TellsAlways kind₁) (TellsAlways kind₂) json one.served.from two.served.from first₁ first₂ lines₁ lines₂ output₁ output₂ reads_lines
+    (call_said kind₁ device₁ left₁ first₁ lines₁ output₁ one) (call_said kind₂ device₂ left₂ first₂ lines₂ output₂ two)
     schemas talk₁ talk₂ cut₁ cut₂ two.served.from.start.token s₁ s₂ text reply₁ reply₂ tables read ask₁ ask₂
 
 -- ---- one way to open
@@ -395,56 +315,59 @@ there_told None a b = absurd (a refl)
 there_told (Some None) a b = absurd (b refl)
 there_told (Some (Some bytes)) a b = (bytes, refl)
 
-held_told : (t : Told) → t ≢ None → (a b : FileContent) → IsTold t a → IsTold t b → a ≡ b
+held_told : (t : Told) → t ≢ None → (a b : Text) → IsTold t (Some a) → IsTold t (Some b) → a ≡ b
 held_told None n a b h k = absurd (n refl)
-held_told (Some content) n a b h k = sym h ∙ k
+held_told (Some content) n a b h k = some_text a b (sym h ∙ k)
 
-module _ (segments : SegmentsLaw) (lives : LiveLaw) (told : ToldFiles) (always : (q : FileName) → told q ≢ None) (schema : Schema) (one two : Opened)
-    (a : BeginsAtCommit told schema one) (b : BeginsAtCommit told schema two) where
+module _ (segments : SegmentsLaw) (lives : LiveLaw) (told : ToldByName) (always : (q : Name) → told q ≢ None) (schema : Schema) (one two : Opened)
+    (a : BeginsAtNewest told schema one) (b : BeginsAtNewest told schema two) where
   most : a.generation ≤ b.generation
-  most = let t = there_told (told (file.Commit a.generation)) (always (file.Commit a.generation)) a.newest.there in b.newest.greatest a.generation t.0 t.1
+  most = let t = there_told (told (Name.commit a.generation)) (always (Name.commit a.generation)) a.newest.there in b.newest.greatest a.generation t.0 t.1
 
   least : b.generation ≤ a.generation
-  least = let t = there_told (told (file.Commit b.generation)) (always (file.Commit b.generation)) b.newest.there in a.newest.greatest b.generation t.0 t.1
+  least = let t = there_told (told (Name.commit b.generation)) (always (Name.commit b.generation)) b.newest.there in a.newest.greatest b.generation t.0 t.1
 
   one_generation : a.generation ≡ b.generation
   one_generation = omega (arith, most, least)
 
-  one_commit : a.restored.commit ≡ b.restored.commit
-  one_commit =
-      let here : IsTold (told (file.Commit b.generation)) (Some a.held.commit.bytes) = subst (λ g. IsTold (told (file.Commit g)) (Some a.held.commit.bytes)) one_generation a.held.commit.there in
-      let bytes : a.held.commit.bytes ≡ b.held.commit.bytes = one_text a.held.commit.bytes b.held.commit.bytes (held_told (told (file.Commit b.generation)) (always (file.Commit b.generation)) (Some a.held.commit.bytes) (Some b.held.commit.bytes) here b.held.commit.there) in
-      commits_are_told_by_their_bytes b.held.commit.bytes a.restored.commit b.restored.commit (subst (λ x. SpellsCommit x a.restored.commit) bytes a.held.commit.spelled) b.held.commit.spelled
+  held_alike : (q : Name) → Same segments lives told told q
+  held_alike q x y h k = held_told (told q) (always q) x y h k
 
-  one_table : portions_in a.table.commit ≡ portions_in b.table.commit
-  one_table =
-      let listed : map listed_segment a.table.commit.listed ≡ map listed_segment b.table.commit.listed = ap (λ (x : CommitFile). x.segments) (a.table.same ∙ one_commit ∙ sym b.table.same) in
-      same_portions segments lives schema a.table.files b.table.files a.table.commit.listed b.table.commit.listed listed a.table.stored.portions b.table.stored.portions
-      a.table.stored.live b.table.stored.live a.table.formed.lengths b.table.formed.lengths
-      (All-each (λ n. a.table.files n ≡ b.table.files n) (λ n. held_told (told (file_of n)) (always (file_of n)) (a.table.files n) (b.table.files n) (a.table.agrees n) (b.table.agrees n)) (flat_map names_of_listed b.table.commit.listed))
+  commits_alike : a.commit ≡ b.commit
+  commits_alike =
+      same_commit segments lives told told b.generation a.commit b.commit (subst (λ n. HasCommit (MayHave told) n a.commit) one_generation a.held.held.commit)
+      b.held.held.commit (held_alike (Name.commit b.generation))
 
   pub opened_one : one ≡ two
   opened_one =
       let fields : one.start.schema ≡ two.start.schema = a.fields ∙ sym b.fields in
-      let records : one.start.records ≡ two.start.records = a.table.table ∙ ap records_of one_table ∙ sym b.table.table in
-      let token : one.start.token ≡ two.start.token = a.token ∙ ap (λ (x : CommitFile). x.token) one_commit ∙ sym b.token in
-      let commit : one.commit ≡ two.commit = a.commit ∙ ap (λ (x : CommitFile). Some (record { generation = x.generation; text = x.text })) one_commit ∙ sym b.commit in
+      let records : one.start.records ≡ two.start.records =
+      same_table segments lives told told schema a.generation b.generation b.commit one.start.records two.start.records
+      (subst (λ (c : CommitFile). HoldsCommit told schema a.generation c one.start.records) commits_alike a.held) b.held
+      (all_contained (Same segments lives told told) (flat_map listed_names b.commit.segments) (λ q c. held_alike q)) in
+      let token : one.start.token ≡ two.start.token = a.token ∙ ap (λ (x : CommitFile). x.token) commits_alike ∙ sym b.token in
+      let commit : one.commit ≡ two.commit =
+      a.text ∙ ap (λ (x : CommitFile). Some (record { generation = x.generation; text = x.text })) commits_alike ∙ sym b.text in
       λ i. record { start = record { schema = fields i; records = records i; token = token i }; commit = commit i }
 
-opened_both : SegmentsLaw → LiveLaw → (told : ToldFiles) → ((q : FileName) → told q ≢ None) → (schema : Schema) (one two : Opened) → OpensIn told schema (Ok one) → OpensIn told schema (Ok two) → one ≡ two
+opened_both : SegmentsLaw → LiveLaw → (told : ToldByName) → ((q : Name) → told q ≢ None) → (schema : Schema) (one two : Opened) → OpensFrom told schema (Ok one)
+    → OpensFrom told schema (Ok two) → one ≡ two
 opened_both segments lives told always schema one two (inl a) (inl b) = opened_one segments lives told always schema one two a b
-opened_both segments lives told always schema one two (inl a) (inr b) = let t = there_told (told (file.Commit a.generation)) (always (file.Commit a.generation)) a.newest.there in absurd (b.0 a.generation t.0 t.1)
-opened_both segments lives told always schema one two (inr a) (inl b) = let t = there_told (told (file.Commit b.generation)) (always (file.Commit b.generation)) b.newest.there in absurd (a.0 b.generation t.0 t.1)
+opened_both segments lives told always schema one two (inl a) (inr b) =
+    let t = there_told (told (Name.commit a.generation)) (always (Name.commit a.generation)) a.newest.there in absurd (b.0 a.generation t.0 t.1)
+opened_both segments lives told always schema one two (inr a) (inl b) =
+    let t = there_told (told (Name.commit b.generation)) (always (Name.commit b.generation)) b.newest.there in absurd (a.0 b.generation t.0 t.1)
 opened_both segments lives told always schema one two (inr a) (inr b) = a.1 ∙ sym b.1
 
-opened_lines : SegmentsLaw → LiveLaw → (told : ToldFiles) → ((q : FileName) → told q ≢ None) → (first₁ first₂ : Text) (one two : Opened) → HaveOneSchema first₁ first₂ → BeginsIn told first₁ (Ok one) → BeginsIn told first₂ (Ok two) → one ≡ two
+opened_lines : SegmentsLaw → LiveLaw → (told : ToldByName) → ((q : Name) → told q ≢ None) → (first₁ first₂ : Text) (one two : Opened) → HaveOneSchema first₁ first₂
+    → BeginsFrom json told first₁ (Ok one) → BeginsFrom json told first₂ (Ok two) → one ≡ two
 opened_lines segments lives told always first₁ first₂ one two same (Begins.opened f l text schema r readable a is opens) (Begins.opened g k text' schema' r' readable' b is' opens') =
     let schemas : schema' ≡ schema = ok_value (sym is' ∙ sym (same f l g k text text' a b) ∙ is) in
-    opened_both segments lives told always schema one two opens (subst (λ s. OpensIn told s (Ok two)) schemas opens')
+    opened_both segments lives told always schema one two opens (subst (λ s. OpensFrom told s (Ok two)) schemas opens')
   where
     ok_value : ◌≡◌ {A = Result Schema Refusal} (Ok schema') (Ok schema) → schema' ≡ schema
     ok_value e = cc e
 
 pub open_one_way : SegmentsLaw → LiveLaw → DirectoriesOpenOneWay
 open_one_way segments lives told₁ told₂ always same first₁ first₂ one two schemas b c =
-    opened_lines segments lives told₁ always first₁ first₂ one two schemas b (subst (λ t. BeginsIn t first₂ (Ok two)) (λ i. λ q. sym (same q) i) c)
+    opened_lines segments lives told₁ always first₁ first₂ one two schemas b (subst (λ t. BeginsFrom json t first₂ (Ok two)) (λ i. λ q. sym (same q) i) c)

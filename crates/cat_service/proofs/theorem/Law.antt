@@ -26,9 +26,9 @@ use Rattle.cat_model.proofs.TalkHeard.{Entry, pair, run_of, Heeded, Understood, 
 use Rattle.cat_model.proofs.TalkHolds.{around, run_place, fits_from, held_in}
 use Rattle.cat_model.proofs.TalkWrites.{Makes, Stands, writes_stand, makes_one, take_same}
 use Rattle.cat_model.proofs.TalkLines.{Shown, lines_said, said_lines, reply_lines}
-use Rattle.cat_ledger_laws.specs.lines.RunLaws.{AreAlike as ReplyLike}
-use Rattle.cat_service.specs.Serving.{IsLike}
-use Rattle.cat_service.specs.theorem.Calls.{SayTheSame, SayAsLong, Agree}
+use Rattle.cat_ledger_laws.specs.lines.RunLaws.{ReplyLike}
+use Rattle.cat_model.specs.Serving.{IsLike}
+use Rattle.cat_model.specs.Calls.{SayTheSame, SayAsLong, Agree}
 use Rattle.cat_service.proofs.theorem.Told.{IsSaid, PartRecord, ReadsAgreeSo, ReadsAgreeWhere}
 use Rattle.cat_service.proofs.theorem.Cuts.{cut_one_way}
 use Rattle.cat_service.proofs.theorem.Shown.{page_told, facets_told, tables_part}

@@ -15,8 +15,8 @@ use Rattle.cat_model.specs.Served.{Outcome, heard, exchange, outcome_text, Heard
 use Rattle.cat_model.specs.Talk.{Pair, granted, AsksToWrite, IsWrite, WritesAgree, ShowsHold, HeldAsk, refusal_text, excepted_replies}
 use Rattle.cat_model.proofs.TalkHeard.{Entry, pair, run_of, Heeded, heard_line}
 use Rattle.cat_model.proofs.TalkDigits.{decimal_one_word}
-use Rattle.cat_ledger_laws.specs.lines.RunLaws.{AreAlike as ReplyLike}
-use Rattle.cat_service.specs.Serving.{IsLike, AreLike}
+use Rattle.cat_ledger_laws.specs.lines.RunLaws.{ReplyLike}
+use Rattle.cat_model.specs.Serving.{IsLike, AreLike}
 use Rattle.cat_service.proofs.theorem.Cuts.{Begun, told_begun}
 use Rattle.cat_service.proofs.theorem.Sources.{NoSource, IsGet, source_told, SaysGet, says_get}
 

@@ -1,7 +1,7 @@
 -- What a page shows of the items of an opened commit has no line feed, since the files of its segments are judged.
-use Rattle.std.proofs.Common.{◌≡◌, ◌≢◌, ℕ, ◌≤◌, List, [], ◌∷◌, ◌++◌, map, Bool, true, false, refl, sym, ◌∙◌, ap, subst, arith, true≢false}
-use Rattle.std.specs.Prelude.{Option, None, Some, ◌&&◌, ltb, leb, length, All}
-use Rattle.std.specs.List.{list_all, AllByRecursion}
+use Rattle.std.proofs.Common.{◌≡◌, ◌≢◌, ℕ, ◌≤◌, List, [], ◌∷◌, drop, Bool, true, false, refl, sym, ◌∙◌, ap, true≢false}
+use Rattle.std.specs.Prelude.{None, Some, ◌&&◌, ltb, leb, length}
+use Rattle.std.specs.List.{flat_map, list_all, AllByRecursion}
 use Rattle.std.specs.Char.{is_ascii_graphic}
 use Rattle.std.proofs.lemmas.Bool.{and_parts}
 use Rattle.std.proofs.lemmas.List.Elements.{recursion_from_All}
@@ -10,14 +10,13 @@ use Rattle.cat_model.specs.Item.{Content, FieldContent, Record, Schema, is_id}
 use Rattle.cat_model.specs.Files.{Name}
 use Rattle.cat_model.specs.Forms.{IsFormed, IsLabel, is_plain_byte}
 use Rattle.cat_model.specs.CommitFile.{ListedSegment}
-use Rattle.cat_model.specs.View.{IsFormedRow, Leaf, Row, row_of, selected}
+use Rattle.cat_model.specs.View.{IsFormedRow, Leaf, Row, selected, sourced}
 use Rattle.cat_model.specs.Talk.{HasOneLines}
 use Rattle.cat_model.proofs.Lists.{All-both, All-weaken}
-use Rattle.cat_ledger_laws.specs.model.Opening.{AreLeavesOf, IsRestored, Restored}
-use Rattle.cat_ledger_laws.specs.model.Portions.{Portion, leaf_of, live_records, records_of}
+use Rattle.cat_model.specs.Restored.{AreLeavesOf, IsRestored, Restored}
 use Rattle.cat_ledger_laws.proofs.model.Views.{All-unflat}
 use Rattle.cat_model.specs.Merged.{rows_of_all}
-use Rattle.cat_service.proofs.theorem.Told.{PartRecord, PartShown}
+use Rattle.cat_service.proofs.theorem.Told.{PartRecord}
 
 tested_line : (p : ℕ → Bool) (t : Text) → p 10 ≡ false → list_all p t ≡ true → IsOneLine t
 tested_line p [] none h = tt
@@ -41,15 +40,16 @@ content_lines (Content.labels ls) f = All-weaken IsLabel IsOneLine label_line ls
 field_lines : (p : FieldContent) → IsFormed p.content → HasOneLines p.content
 field_lines p f = content_lines p.content f
 
-record_part : (r : Record) → IsFormedRow (row_of r) → PartRecord r
-record_part r f = record {
-  id = id_line r.item.id f.id;
-  fields = All-weaken {X = FieldContent} (λ p. IsFormed p.content) (λ p. HasOneLines p.content) field_lines r.item.fields (recursion_from_All {X = FieldContent} (λ p. IsFormed p.content) r.item.fields f.fields);
-}
-
-records_part : (rs : List Record) → AllByRecursion IsFormedRow (map row_of rs) → AllByRecursion PartRecord rs
-records_part [] a = tt
-records_part (r ∷ rs) a = (record_part r a.0, records_part rs a.1)
+-- records that are read of rows with their forms
+sourced_part : (rows : List Row) (bytes : Text) → AllByRecursion IsFormedRow rows → AllByRecursion PartRecord (sourced rows bytes)
+sourced_part [] bytes a = tt
+sourced_part (row ∷ rows) bytes a = (
+  record {
+    id = id_line row.id a.0.id;
+    fields = All-weaken {X = FieldContent} (λ p. IsFormed p.content) (λ p. HasOneLines p.content) field_lines row.fields (recursion_from_All {X = FieldContent} (λ p. IsFormed p.content) row.fields a.0.fields);
+  },
+  sourced_part rows (drop row.length bytes) a.1,
+)
 
 selected_part : (live : List Bool) (rs : List Record) → AllByRecursion PartRecord rs → AllByRecursion PartRecord (selected live rs)
 selected_part [] rs a = tt
@@ -68,23 +68,28 @@ leaves_formed holds schema [] (l ∷ leaves) a = absurd a
 leaves_formed holds schema (x ∷ xs) [] a = absurd a
 leaves_formed holds schema (x ∷ xs) (l ∷ leaves) a = (recursion_from_All IsFormedRow l.segment.rows a.0.segment.spelled.form.formed, leaves_formed holds schema xs leaves a.1)
 
-portions_part : (schema : Schema) (ps : List Portion) → Formed (map (leaf_of schema) ps) → AllByRecursion PartRecord (records_of ps)
+leaves_part : (sources : ℕ → Text) (leaves : List Leaf) → Formed leaves
+    → AllByRecursion PartRecord (flat_map (λ leaf. selected leaf.live (sourced leaf.segment.rows (sources leaf.segment.number))) leaves)
 unfolding Formed
-portions_part schema [] a = tt
-portions_part schema (p ∷ ps) a = All-both PartRecord (live_records p) (records_of ps) (selected_part p.live p.records (records_part p.records a.0)) (portions_part schema ps a.1)
+leaves_part sources [] a = tt
+leaves_part sources (l ∷ leaves) a =
+    All-both PartRecord (selected l.live (sourced l.segment.rows (sources l.segment.number)))
+    (flat_map (λ leaf. selected leaf.live (sourced leaf.segment.rows (sources leaf.segment.number))) leaves)
+    (selected_part l.live (sourced l.segment.rows (sources l.segment.number)) (sourced_part l.segment.rows (sources l.segment.number) a.0))
+    (leaves_part sources leaves a.1)
 
-pub opened_part : (holds : Name → Text → Type 0) (schema : Schema) (generation : ℕ) (r : Restored) (ps : List Portion) → IsRestored holds schema generation r → map (leaf_of schema) ps ≡ r.leaves
-    → AllByRecursion PartRecord (records_of ps)
-opened_part holds schema generation r ps a leaves = portions_part schema ps (subst Formed (sym leaves) (leaves_formed holds schema r.commit.segments r.leaves a.leaves))
+pub opened_part : (holds : Name → Text → Type 0) (schema : Schema) (generation : ℕ) (r : Restored) (sources : ℕ → Text) → IsRestored holds schema generation r
+    → AllByRecursion PartRecord (flat_map (λ leaf. selected leaf.live (sourced leaf.segment.rows (sources leaf.segment.number))) r.leaves)
+opened_part holds schema generation r sources a = leaves_part sources r.leaves (leaves_formed holds schema r.commit.segments r.leaves a.leaves)
 
 -- ---- numbers
 
 Seen : ℕ → List Leaf → Type 0
 Seen n leaves = AllByRecursion (λ (l : Leaf). AllByRecursion (λ (row : Row). row.number ≤ n) l.segment.rows) leaves
 
-rows_seen : (n : ℕ) (rs : List Record) → AllByRecursion (λ (row : Row). row.number ≤ n) (map row_of rs) → AllByRecursion (λ (r : Record). r.number ≤ n) rs
-rows_seen n [] a = tt
-rows_seen n (r ∷ rs) a = (a.0, rows_seen n rs a.1)
+sourced_seen : (n : ℕ) (rows : List Row) (bytes : Text) → AllByRecursion (λ (row : Row). row.number ≤ n) rows → AllByRecursion (λ (r : Record). r.number ≤ n) (sourced rows bytes)
+sourced_seen n [] bytes a = tt
+sourced_seen n (row ∷ rows) bytes a = (a.0, sourced_seen n rows (drop row.length bytes) a.1)
 
 selected_seen : (n : ℕ) (live : List Bool) (rs : List Record) → AllByRecursion (λ (r : Record). r.number ≤ n) rs → AllByRecursion (λ (r : Record). r.number ≤ n) (selected live rs)
 selected_seen n [] rs a = tt
@@ -92,14 +97,19 @@ selected_seen n (b ∷ live) [] a = tt
 selected_seen n (true ∷ live) (r ∷ rs) a = (a.0, selected_seen n live rs a.1)
 selected_seen n (false ∷ live) (r ∷ rs) a = selected_seen n live rs a.1
 
-portions_seen : (n : ℕ) (schema : Schema) (ps : List Portion) → Seen n (map (leaf_of schema) ps) → AllByRecursion (λ (r : Record). r.number ≤ n) (records_of ps)
+leaves_seen : (n : ℕ) (sources : ℕ → Text) (leaves : List Leaf) → Seen n leaves
+    → AllByRecursion (λ (r : Record). r.number ≤ n) (flat_map (λ leaf. selected leaf.live (sourced leaf.segment.rows (sources leaf.segment.number))) leaves)
 unfolding Seen
-portions_seen n schema [] a = tt
-portions_seen n schema (p ∷ ps) a = All-both (λ (r : Record). r.number ≤ n) (live_records p) (records_of ps) (selected_seen n p.live p.records (rows_seen n p.records a.0)) (portions_seen n schema ps a.1)
+leaves_seen n sources [] a = tt
+leaves_seen n sources (l ∷ leaves) a =
+    All-both (λ (r : Record). r.number ≤ n) (selected l.live (sourced l.segment.rows (sources l.segment.number)))
+    (flat_map (λ leaf. selected leaf.live (sourced leaf.segment.rows (sources leaf.segment.number))) leaves)
+    (selected_seen n l.live (sourced l.segment.rows (sources l.segment.number)) (sourced_seen n l.segment.rows (sources l.segment.number) a.0))
+    (leaves_seen n sources leaves a.1)
 
-pub opened_seen : (holds : Name → Text → Type 0) (schema : Schema) (generation : ℕ) (r : Restored) (ps : List Portion) → IsRestored holds schema generation r → map (leaf_of schema) ps ≡ r.leaves
-    → AllByRecursion (λ (x : Record). x.number ≤ r.commit.token) (records_of ps)
+pub opened_seen : (holds : Name → Text → Type 0) (schema : Schema) (generation : ℕ) (r : Restored) (sources : ℕ → Text) → IsRestored holds schema generation r
+    → AllByRecursion (λ (x : Record). x.number ≤ r.commit.token) (flat_map (λ leaf. selected leaf.live (sourced leaf.segment.rows (sources leaf.segment.number))) r.leaves)
 unfolding Seen
-opened_seen holds schema generation r ps a leaves =
-    portions_seen r.commit.token schema ps (subst (Seen r.commit.token) (sym leaves)
-    (All-unflat (λ (row : Row). row.number ≤ r.commit.token) (λ (l : Leaf). l.segment.rows) r.leaves (recursion_from_All (λ (row : Row). row.number ≤ r.commit.token) (rows_of_all r.leaves) a.seen)))
+opened_seen holds schema generation r sources a =
+    leaves_seen r.commit.token sources r.leaves
+    (All-unflat (λ (row : Row). row.number ≤ r.commit.token) (λ (l : Leaf). l.segment.rows) r.leaves (recursion_from_All (λ (row : Row). row.number ≤ r.commit.token) (rows_of_all r.leaves) a.seen))

@@ -3,8 +3,8 @@ use Rattle.std.specs.Prelude.{◌≡◌, ℕ, ◌≤◌, ◌⊎◌, List, [], �
 use Rattle.std.specs.List.{flat_map, AllByRecursion}
 use Rattle.std.specs.Fmt.{decimal}
 use Rattle.cat_model.specs.Text.{Text, IsOneLine}
-use Rattle.cat_service.specs.Serving.{AreLike}
-use Rattle.cat_service.specs.theorem.Calls.{Agree}
+use Rattle.cat_model.specs.Serving.{AreLike}
+use Rattle.cat_model.specs.Calls.{Agree}
 use Rattle.cat_model.specs.Item.{IsSchema, Item, Record}
 use Rattle.cat_model.specs.Table.{Opened, table}
 use Rattle.cat_model.specs.Limits.{last_number}

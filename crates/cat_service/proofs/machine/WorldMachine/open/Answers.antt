@@ -4,4 +4,4 @@ use Rattle.cat_service.proofs.machine.WorldMachine.open.Goals as goal
 
 pub returns-in-None : goal.returns-in-None
 returns-in-None g c =
-    rw c.in-Some.is ((inr (Begins.formless (λ readable factor least text spelled. absurd (c.in-None.ensures.none readable))), (λ q. refl), λ q e h. h), tt, tt)
+    rw c.in-Some.is (((inr (Begins.formless (λ readable factor least text spelled. absurd (c.in-None.ensures.none readable))), (λ q. refl), λ q e h. h), tt, tt), tt)

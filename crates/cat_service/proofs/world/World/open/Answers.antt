@@ -1,9 +1,11 @@
 use Rattle.std.proofs.Common.{◌∙◌, arith, inr, refl, subst, sym}
 use Rattle.std.specs.Prelude.{Ok, Err}
 use Rattle.cat_model.specs.Lines.{IsReadable}
-use Rattle.cat_model.specs.Served.{Begins}
+use Rattle.cat_model.specs.Served.{Begins, SpellsSchema}
+use Rattle.cat_commands.specs.cat_ledger.Openings.{IsOpenedLedger}
 use Rattle.cat_commands.specs.cat_ledger.Ledgers.{device_in, shape_in}
 use Rattle.cat_commands.specs.views.Holding.{AreRights}
+use Rattle.cat_ledger_laws.specs.model.Plans.{MergePolicy}
 use Rattle.cat_service.proofs.Begun.{begins_so, begun, carried_there, none_counted, refused_schema, unopened}
 use Rattle.cat_service.proofs.Beside.{no_sets, no_states}
 use Rattle.cat_service.proofs.world.World.open.Goals as goal
@@ -41,6 +43,16 @@ returns-in-Ok-open-clause-opens g c =
 
 pub returns-in-Ok-open-clause-ahead : goal.returns-in-Ok-open-clause-ahead
 returns-in-Ok-open-clause-ahead g c = c.in-Ok-open.ensures.ahead
+
+pub returns-in-Ok-open-clause-begins : goal.returns-in-Ok-open-clause-begins
+returns-in-Ok-open-clause-begins g c =
+    let ledger = c.in-Ok-open.ledger in
+    let found = c.in-Some.found in (
+      subst (λ k. IsOpenedLedger (g.D.Holder.bytes c.args.device) k (g.D.Holder.bytes (device_in ledger)) (shape_in ledger)) (sym c.in-Ok-open.ensures.fields)
+          c.in-Ok-open.ensures.ok,
+      found.json.now,
+      subst (λ (p : MergePolicy). SpellsSchema c.args.line.now p.factor p.least found.json.now) (sym (c.in-Ok-open.ensures.policy ∙ c.policy_of.ensures)) c.in-Some.ensures.found,
+    )
 
 pub returns-in-Ok-open-clause-can : goal.returns-in-Ok-open-clause-can
 returns-in-Ok-open-clause-can g c = c.in-Ok-open.ensures.can

@@ -16,6 +16,7 @@ returns-clause-run g c =
       answers_are_steps (policy_of old) (g.D.Holder.bytes (device_of old)) (g.D.Holder.bytes (device_of new)) (shape_of old) (shape_of new)
           (line_of c.args.line.now.session does.answers.0) (reply_of c.answer-answer.result) does.answers.2,
       does.wanting,
+      does.answers.2,
     )
 
 pub returns-clause-history : goal.returns-clause-history

@@ -1,0 +1,485 @@
+-- Each reply has its cause in how the world stands before its line.
+use Rattle.std.proofs.Common.{◌≡◌, ◌≢◌, ℕ, ◌+◌, ◌<◌, ◌≤◌, List, [], ◌∷◌, ◌++◌, length, map, sum, Bool, true, false, cond, refl, sym, ◌∙◌, ap, subst, arith, inl, inr}
+use Rattle.std.specs.Prelude.{◌⊎◌, Option, None, Some, Result, Ok, Err, option_map}
+use Rattle.std.proofs.lemmas.List.{length-map}
+use Rattle.cat_base.specs.declared.refusal.Refusal.{Refusal}
+use Rattle.cat_base.specs.declared.refusal.Refusal.TheVariants.{Damaged, Device, Id, Spent}
+use Rattle.cat_model.specs.Answer.{Found, Read}
+use Rattle.cat_model.specs.Heard.{commit_text_of, id_of}
+use Rattle.cat_model.specs.Item.{Record, Schema, is_id}
+use Rattle.cat_model.specs.Limits.{buffer_limit, last_number, row_limit, segment_limit}
+use Rattle.cat_model.specs.Lines.{Said}
+use Rattle.cat_model.specs.Merged.{rows_of_all}
+use Rattle.cat_model.specs.Run.{Answer, Chore, Command, Exchange, Fits, Line, News, Reply, Run, SegmentStat, now, view_tokens}
+use Rattle.cat_model.specs.Served.{Outcome}
+use Rattle.cat_model.specs.State.{RecordedTable, table_recorded}
+use Rattle.cat_model.specs.Table.{Opened}
+use Rattle.cat_model.specs.Text.{Text}
+use Rattle.cat_model.specs.View.{Leaf, View}
+use Rattle.cat_model.specs.Window.{IsWindow}
+use Rattle.cat_directory.specs.Devices.{CountsOne}
+use Rattle.cat_commands.specs.cat_ledger.Lasting.{AlwaysTells}
+use Rattle.cat_commands.specs.cat_ledger_state.Cores.{HasRowsLeft, MayNotFlush}
+use Rattle.cat_commands.specs.cat_ledger.upkeep.Due.{IsForceDue, IsMergeDue}
+use Rattle.cat_commands.specs.ledger.Chores.{pending_in, segment_told, stat_in}
+use Rattle.cat_ledger_laws.specs.lines.PlanLaws.{TellsForce, TellsMerge, live_sets_in, sizes_in}
+use Rattle.cat_ledger_laws.specs.lines.RunLaws.{ReplyLike, IsShown, Stands}
+use Rattle.cat_ledger_laws.specs.model.Ledger.{Ledger, RecordedView, state_of, view_shown}
+use Rattle.cat_ledger_laws.specs.model.Plans.{MayBeForced, MergePolicy}
+use Rattle.cat_ledger_laws.specs.model.Portions.{Merging, Portion, leaf_of}
+use Rattle.cat_ledger_laws.specs.shape.Shapes.{MergingShape, Shape, merging_shape, recorded_view, shape_of as shape_of_ledger}
+use Rattle.cat_ledger_laws.specs.shape.Ties.{Carries, ToldFiles}
+use Rattle.cat_service.proofs.Gets.{damaged_get}
+use Rattle.cat_service.proofs.Moved.{Moved, calls_move}
+use Rattle.cat_service.specs.Causes.{HasCause, IsCountedTo, IsDamagedTo, IsSpentTo, TakesNumbers, TellsSo}
+use Rattle.cat_service.specs.Lines.{IsCommandOf}
+use Rattle.cat_service.specs.Reasons.{IsCausedBy, progress_of, standing_of}
+use Rattle.cat_model.specs.Standings.{ForceTells, HasNoRoom, HasReason, HasRowsToPass, IsCountedFor, IsDamagedFor, IsSpentFor, IsTakenBy, IsToForce, IsToldOf, IsToMerge, MergeTells, MovesOn, Progress, Standing, segment_rows, writes_by}
+use Rattle.cat_service.specs.Worlds.{Service, device_of, policy_of, shape_of}
+
+-- ---- replies that are alike
+
+-- they are the same, or both tell a source
+abbrev TellSources : Reply → Reply → Type 0
+TellSources reply fitting =
+    (a b : Text) × (reply ≡ Ok (Answer.found (Found.source (Some a)))) × (fitting ≡ Ok (Answer.found (Found.source (Some b))))
+
+alike_cases : (reply fitting : Reply) → ReplyLike reply fitting → (reply ≡ fitting) ⊎ TellSources reply fitting
+alike_cases (Ok (Answer.number n)) fitting alike = inl alike
+alike_cases (Ok (Answer.found (Found.page p))) fitting alike = inl alike
+alike_cases (Ok (Answer.found (Found.facets f))) fitting alike = inl alike
+alike_cases (Ok (Answer.found (Found.source None))) fitting alike = inl alike
+alike_cases (Ok (Answer.found (Found.source (Some text)))) (Ok (Answer.found (Found.source (Some other)))) alike = inr (text, other, refl, refl)
+alike_cases (Ok (Answer.found (Found.source (Some text)))) (Ok (Answer.found (Found.source None))) alike = inl alike
+alike_cases (Ok (Answer.found (Found.source (Some text)))) (Ok (Answer.found (Found.page p))) alike = inl alike
+alike_cases (Ok (Answer.found (Found.source (Some text)))) (Ok (Answer.found (Found.facets f))) alike = inl alike
+alike_cases (Ok (Answer.found (Found.source (Some text)))) (Ok (Answer.number n)) alike = inl alike
+alike_cases (Ok (Answer.found (Found.source (Some text)))) (Ok (Answer.names ns)) alike = inl alike
+alike_cases (Ok (Answer.found (Found.source (Some text)))) (Ok (Answer.commit_text t)) alike = inl alike
+alike_cases (Ok (Answer.found (Found.source (Some text)))) (Ok (Answer.news n)) alike = inl alike
+alike_cases (Ok (Answer.found (Found.source (Some text)))) (Err e) alike = inl alike
+alike_cases (Ok (Answer.names ns)) fitting alike = inl alike
+alike_cases (Ok (Answer.commit_text t)) fitting alike = inl alike
+alike_cases (Ok (Answer.news n)) fitting alike = inl alike
+alike_cases (Err e) fitting alike = inl alike
+
+-- what is so whichever source is told is so of both, or of none
+alike_on : (P : Reply → Type 0) → ((a b : Text) → P (Ok (Answer.found (Found.source (Some a)))) → P (Ok (Answer.found (Found.source (Some b)))))
+    → (reply fitting : Reply) → ReplyLike reply fitting → (P reply → P fitting) × (P fitting → P reply)
+alike_on P same reply fitting alike = elim (alike_cases reply fitting alike) [
+  | inl e ↦ (subst P e, subst P (sym e))
+  | inr e ↦ (λ p. subst P (sym e.3) (same e.0 e.1 (subst P e.2 p)), λ p. subst P (sym e.2) (same e.1 e.0 (subst P e.3 p)))
+]
+
+-- a refusal is told as it fits
+refused_alike : (x : Refusal) (reply fitting : Reply) → ReplyLike reply fitting → fitting ≡ Err x → reply ≡ Err x
+refused_alike x reply fitting alike =
+    (alike_on (λ r. r ≡ Err x) (λ a b e. absurd (let no : ◌≡◌ {A = Reply} (Ok (Answer.found (Found.source (Some a)))) (Err x) = e in cc)) reply fitting alike).1
+
+-- ---- parts of a standing
+
+sizes_told : (leaves : List Leaf) → map (λ (x : SegmentStat). x.rows) (map segment_told leaves) ≡ sizes_in leaves
+sizes_told [] = refl
+sizes_told (leaf ∷ leaves) = ap (λ ns. length leaf.segment.rows ∷ ns) (sizes_told leaves)
+
+some_waits : (rs : List Record) → rs ≢ [] → 0 < length rs
+some_waits [] some = absurd (some refl)
+some_waits (r ∷ rs) some = omega arith
+
+none_passes : (m : Option MergingShape) → m ≡ None → option_map progress_of m ≡ None
+none_passes m e = ap (option_map progress_of) e
+
+passes : (m : Option MergingShape) (x : MergingShape) → m ≡ Some x → option_map progress_of m ≡ Some (progress_of x)
+passes m x e = ap (option_map progress_of) e
+
+rows_left : (m : Option MergingShape) → HasRowsLeft m → HasRowsToPass (option_map progress_of m)
+rows_left None h = absurd h
+rows_left (Some m) h = h
+
+some_passes : (m : Option MergingShape) → m ≢ None → (p : Progress) × (option_map progress_of m ≡ Some p)
+some_passes None some = absurd (some refl)
+some_passes (Some m) some = (progress_of m, refl)
+
+module _ {D : Type 0} (bytes : D → ToldFiles) (can_fail : D → Type 0) (faults : D → ℕ) (old : Service D) where
+  abbrev s : Shape
+  s = shape_of old
+
+  abbrev st : Standing
+  st = standing_of faults old
+
+  sizes : segment_rows st ≡ sizes_in s.leaves
+  sizes = sizes_told s.leaves
+
+  many : length st.stat.segments ≡ length s.leaves
+  many = length-map s.leaves segment_told
+
+  no_room : MayNotFlush s → HasNoRoom st
+  no_room h = (some_waits s.buffered h.0, elim h.1 [ inl n ↦ inl n | inr n ↦ inr (subst (λ k. segment_limit ≤ k) (sym many) n) ])
+
+  to_merge : IsMergeDue (policy_of old) s → IsToMerge (policy_of old).factor (policy_of old).least st
+  to_merge h = (none_passes s.merging h.0, h.1, subst (λ ns. IsWindow (policy_of old).factor (policy_of old).least ns (Some h.1)) (sym sizes) h.2)
+
+  to_force : s.merging ≡ None → MayBeForced (sizes_in s.leaves) (live_sets_in s.leaves) → IsToForce st
+  to_force none h = (
+    none_passes s.merging none,
+    (let a = h.some in let b = length-map s.leaves (λ (leaf : Leaf). length leaf.segment.rows) in let c = many in omega (arith, a, b, c)),
+    subst (λ ns. sum ns ≤ row_limit) (sym sizes) h.few,
+  )
+
+  -- ---- of commands
+
+  abbrev SpentFor : Command → Type 0
+  SpentFor c = IsSpentFor (policy_of old).factor (policy_of old).least st c
+
+  abbrev CountedFor : Service D → Command → Type 0
+  CountedFor new c = IsCountedFor st c (standing_of faults new)
+
+  abbrev DamagedFor : Opened → Run → Command → Type 0
+  DamagedFor from past c = IsDamagedFor (AlwaysTells bytes) from past st c
+
+  abbrev FitsTo : Opened → Run → ℕ → Command → Type 0
+  FitsTo from past session c = Fits from past (record { line = record { session = session; command = c }; reply = Err Damaged })
+
+  spent_for : (schema : Schema) (said : Option Said) (c : Command) → IsCommandOf schema said c → IsSpentTo (policy_of old) s said
+      → IsSpentFor (policy_of old).factor (policy_of old).least st c
+  spent_for schema said c is m = by said is m
+    where
+      by : (said : Option Said) → IsCommandOf schema said c → IsSpentTo (policy_of old) s said → SpentFor c
+      by None is m = subst SpentFor (sym is) tt
+      by (Some (Said.put text)) is m =
+          subst SpentFor (sym is) (elim m [ inl n ↦ inl n | inr n ↦ inr (n.0, no_room n.1) ])
+      by (Some (Said.delete text)) is m = subst SpentFor (sym is) tt
+      by (Some (Said.delete_where text)) is m = subst SpentFor (sym is.2) tt
+      by (Some Said.refresh) is m = subst SpentFor (sym is) (no_room m)
+      by (Some Said.open_newest) is m = subst SpentFor (sym is) tt
+      by (Some (Said.open_at t)) is m = subst SpentFor (sym is) tt
+      by (Some (Said.close t)) is m = subst SpentFor (sym is) tt
+      by (Some (Said.find t n sort mark text)) is m = subst SpentFor (sym is.2) tt
+      by (Some (Said.facets t dim n text)) is m = subst SpentFor (sym is.2) tt
+      by (Some (Said.get t text)) is m = subst SpentFor (sym is) tt
+      by (Some (Said.files_of_token t)) is m = subst SpentFor (sym is) tt
+      by (Some (Said.files_of_commit g)) is m = subst SpentFor (sym is) tt
+      by (Some (Said.commit text)) is m = subst SpentFor (sym is) (elim m [ inl n ↦ inl n | inr n ↦ inr (no_room n) ])
+      by (Some (Said.text_of_commit g)) is m = subst SpentFor (sym is) tt
+      by (Some Said.snapshot) is m = subst SpentFor (sym is) tt
+      by (Some (Said.release_snapshot g)) is m = subst SpentFor (sym is) tt
+      by (Some (Said.prune n)) is m = subst SpentFor (sym is) tt
+      by (Some (Said.chore Chore.merge)) is m = subst SpentFor (sym is) (to_merge m.0, m.1)
+      by (Some (Said.chore Chore.force)) is m = subst SpentFor (sym is) (to_force m.0.0 m.0.1, m.1)
+      by (Some (Said.chore Chore.warm)) is m = subst SpentFor (sym is) tt
+      by (Some (Said.chore Chore.sweep)) is m = subst SpentFor (sym is) tt
+      by (Some (Said.chore Chore.stat)) is m = subst SpentFor (sym is) tt
+
+  counted_for : (new : Service D) (schema : Schema) (said : Option Said) (c : Command) → IsCommandOf schema said c
+      → IsCountedTo (CountsOne (faults (device_of old)) (faults (device_of new))) said → IsCountedFor st c (standing_of faults new)
+  counted_for new schema said c is m = by said is m
+    where
+      by : (said : Option Said) → IsCommandOf schema said c → IsCountedTo (CountsOne (faults (device_of old)) (faults (device_of new))) said → CountedFor new c
+      by None is m = subst (CountedFor new) (sym is) tt
+      by (Some (Said.put text)) is m = subst (CountedFor new) (sym is) m
+      by (Some (Said.delete text)) is m = subst (CountedFor new) (sym is) tt
+      by (Some (Said.delete_where text)) is m = subst (CountedFor new) (sym is.2) tt
+      by (Some Said.refresh) is m = subst (CountedFor new) (sym is) m
+      by (Some Said.open_newest) is m = subst (CountedFor new) (sym is) tt
+      by (Some (Said.open_at t)) is m = subst (CountedFor new) (sym is) tt
+      by (Some (Said.close t)) is m = subst (CountedFor new) (sym is) tt
+      by (Some (Said.find t n sort mark text)) is m = subst (CountedFor new) (sym is.2) tt
+      by (Some (Said.facets t dim n text)) is m = subst (CountedFor new) (sym is.2) tt
+      by (Some (Said.get t text)) is m = subst (CountedFor new) (sym is) m
+      by (Some (Said.files_of_token t)) is m = subst (CountedFor new) (sym is) tt
+      by (Some (Said.files_of_commit g)) is m = subst (CountedFor new) (sym is) tt
+      by (Some (Said.commit text)) is m = subst (CountedFor new) (sym is) m
+      by (Some (Said.text_of_commit g)) is m = subst (CountedFor new) (sym is) tt
+      by (Some Said.snapshot) is m = subst (CountedFor new) (sym is) tt
+      by (Some (Said.release_snapshot g)) is m = subst (CountedFor new) (sym is) tt
+      by (Some (Said.prune n)) is m = subst (CountedFor new) (sym is) tt
+      by (Some (Said.chore Chore.merge)) is m = subst (CountedFor new) (sym is) m
+      by (Some (Said.chore Chore.force)) is m = subst (CountedFor new) (sym is) m
+      by (Some (Said.chore Chore.warm)) is m = subst (CountedFor new) (sym is) tt
+      by (Some (Said.chore Chore.sweep)) is m = subst (CountedFor new) (sym is) m
+      by (Some (Said.chore Chore.stat)) is m = subst (CountedFor new) (sym is) tt
+
+  -- ---- what is told
+
+  merge_told : (n : News) → TellsMerge (policy_of old) s n → MergeTells (policy_of old).factor (policy_of old).least st n
+  merge_told News.idle m = (none_passes s.merging m.0, subst (λ ns. IsWindow (policy_of old).factor (policy_of old).least ns None) (sym sizes) m.1)
+  merge_told (News.begun_merge k) m = (to_merge (m.0, m.2, m.3), m.1)
+  merge_told (News.copied n) m = (progress_of m.0, passes s.merging m.0 m.1, m.2, m.3)
+  merge_told News.done m = (progress_of m.0, passes s.merging m.0 m.1, m.2)
+  merge_told News.busy m = absurd m
+  merge_told News.begun_warming m = absurd m
+  merge_told (News.warmed r) m = absurd m
+  merge_told News.stored m = absurd m
+  merge_told (News.swept n) m = absurd m
+  merge_told (News.state x) m = absurd m
+
+  force_told : (n : News) → TellsForce s n → ForceTells st n
+  force_told News.idle m = (
+    none_passes s.merging m.0,
+    λ two few. m.1 (record {
+      some = (let a = length-map s.leaves (λ (leaf : Leaf). length leaf.segment.rows) in let c = many in omega (arith, a, c, two));
+      useful = λ one. absurd (let a = length-map s.leaves (λ (leaf : Leaf). length leaf.segment.rows) in let c = many in omega (arith, a, c, two, one));
+      few = subst (λ ns. sum ns ≤ row_limit) sizes few;
+    }),
+  )
+  force_told News.busy m = some_passes s.merging m
+  force_told (News.begun_merge k) m = (to_force m.0 m.2, m.1 ∙ sym many)
+  force_told (News.copied n) m = absurd m
+  force_told News.done m = absurd m
+  force_told News.begun_warming m = absurd m
+  force_told (News.warmed r) m = absurd m
+  force_told News.stored m = absurd m
+  force_told (News.swept n) m = absurd m
+  force_told (News.state x) m = absurd m
+
+  abbrev Told : Command → Reply → Type 0
+  Told c r = IsToldOf (policy_of old).factor (policy_of old).least st c r
+
+  commit_told : (said : Text) (text : Result Text Refusal) (r : Reply) → TellsSo (policy_of old) s (Some (Said.commit said)) r → Told (Command.commit text) r
+  commit_told said text (Ok (Answer.number g)) m = m
+  commit_told said text (Ok (Answer.found f)) m = tt
+  commit_told said text (Ok (Answer.names ns)) m = tt
+  commit_told said text (Ok (Answer.commit_text t)) m = tt
+  commit_told said text (Ok (Answer.news n)) m = tt
+  commit_told said text (Err e) m = tt
+
+  chore_told : (what : Chore) (r : Reply) → TellsSo (policy_of old) s (Some (Said.chore what)) r → Told (Command.chore what) r
+  chore_told Chore.merge (Ok (Answer.news n)) m = merge_told n m
+  chore_told Chore.force (Ok (Answer.news n)) m = force_told n m
+  chore_told Chore.warm (Ok (Answer.news n)) m = tt
+  chore_told Chore.sweep (Ok (Answer.news n)) m = m
+  chore_told Chore.stat (Ok (Answer.news n)) m = m
+  chore_told Chore.merge (Ok (Answer.number g)) m = tt
+  chore_told Chore.force (Ok (Answer.number g)) m = tt
+  chore_told Chore.warm (Ok (Answer.number g)) m = tt
+  chore_told Chore.sweep (Ok (Answer.number g)) m = tt
+  chore_told Chore.stat (Ok (Answer.number g)) m = tt
+  chore_told Chore.merge (Ok (Answer.found f)) m = tt
+  chore_told Chore.force (Ok (Answer.found f)) m = tt
+  chore_told Chore.warm (Ok (Answer.found f)) m = tt
+  chore_told Chore.sweep (Ok (Answer.found f)) m = tt
+  chore_told Chore.stat (Ok (Answer.found f)) m = tt
+  chore_told Chore.merge (Ok (Answer.names ns)) m = tt
+  chore_told Chore.force (Ok (Answer.names ns)) m = tt
+  chore_told Chore.warm (Ok (Answer.names ns)) m = tt
+  chore_told Chore.sweep (Ok (Answer.names ns)) m = tt
+  chore_told Chore.stat (Ok (Answer.names ns)) m = tt
+  chore_told Chore.merge (Ok (Answer.commit_text t)) m = tt
+  chore_told Chore.force (Ok (Answer.commit_text t)) m = tt
+  chore_told Chore.warm (Ok (Answer.commit_text t)) m = tt
+  chore_told Chore.sweep (Ok (Answer.commit_text t)) m = tt
+  chore_told Chore.stat (Ok (Answer.commit_text t)) m = tt
+  chore_told Chore.merge (Err e) m = tt
+  chore_told Chore.force (Err e) m = tt
+  chore_told Chore.warm (Err e) m = tt
+  chore_told Chore.sweep (Err e) m = tt
+  chore_told Chore.stat (Err e) m = tt
+
+  told_for : (schema : Schema) (said : Option Said) (c : Command) (r : Reply) → IsCommandOf schema said c → TellsSo (policy_of old) s said r → Told c r
+  told_for schema None c r is m = subst (λ k. Told k r) (sym is) tt
+  told_for schema (Some (Said.commit text)) c r is m = subst (λ k. Told k r) (sym is) (commit_told text (commit_text_of text) r m)
+  told_for schema (Some (Said.chore what)) c r is m = subst (λ k. Told k r) (sym is) (chore_told what r m)
+  told_for schema (Some (Said.put text)) c r is m = subst (λ k. Told k r) (sym is) tt
+  told_for schema (Some (Said.delete text)) c r is m = subst (λ k. Told k r) (sym is) tt
+  told_for schema (Some (Said.delete_where text)) c r is m = subst (λ k. Told k r) (sym is.2) tt
+  told_for schema (Some Said.refresh) c r is m = subst (λ k. Told k r) (sym is) tt
+  told_for schema (Some Said.open_newest) c r is m = subst (λ k. Told k r) (sym is) tt
+  told_for schema (Some (Said.open_at t)) c r is m = subst (λ k. Told k r) (sym is) tt
+  told_for schema (Some (Said.close t)) c r is m = subst (λ k. Told k r) (sym is) tt
+  told_for schema (Some (Said.find t n sort mark text)) c r is m = subst (λ k. Told k r) (sym is.2) tt
+  told_for schema (Some (Said.facets t dim n text)) c r is m = subst (λ k. Told k r) (sym is.2) tt
+  told_for schema (Some (Said.get t text)) c r is m = subst (λ k. Told k r) (sym is) tt
+  told_for schema (Some (Said.files_of_token t)) c r is m = subst (λ k. Told k r) (sym is) tt
+  told_for schema (Some (Said.files_of_commit g)) c r is m = subst (λ k. Told k r) (sym is) tt
+  told_for schema (Some (Said.text_of_commit g)) c r is m = subst (λ k. Told k r) (sym is) tt
+  told_for schema (Some Said.snapshot) c r is m = subst (λ k. Told k r) (sym is) tt
+  told_for schema (Some (Said.release_snapshot g)) c r is m = subst (λ k. Told k r) (sym is) tt
+  told_for schema (Some (Said.prune n)) c r is m = subst (λ k. Told k r) (sym is) tt
+
+  -- of what is found nothing is said
+  found_told : (c : Command) (f : Found) → Told c (Ok (Answer.found f))
+  found_told Command.formless f = tt
+  found_told (Command.put item) f = tt
+  found_told (Command.delete id) f = tt
+  found_told (Command.delete_where q) f = tt
+  found_told Command.refresh f = tt
+  found_told Command.open_newest f = tt
+  found_told (Command.open_at t) f = tt
+  found_told (Command.close t) f = tt
+  found_told (Command.read t asked) f = tt
+  found_told (Command.prune n) f = tt
+  found_told (Command.commit text) f = tt
+  found_told Command.snapshot f = tt
+  found_told (Command.release_snapshot g) f = tt
+  found_told (Command.files_of_token t) f = tt
+  found_told (Command.files_of_commit g) f = tt
+  found_told (Command.text_of_commit g) f = tt
+  found_told (Command.chore Chore.merge) f = tt
+  found_told (Command.chore Chore.force) f = tt
+  found_told (Command.chore Chore.warm) f = tt
+  found_told (Command.chore Chore.sweep) f = tt
+  found_told (Command.chore Chore.stat) f = tt
+
+  -- ---- a damaged file
+
+  damaged_for : (from : Opened) (past : Run) (session : ℕ) (schema : Schema) (said : Option Said) (c : Command)
+      → IsCommandOf schema said c → Stands (bytes (device_of old)) s from past
+      → Fits from past (record { line = record { session = session; command = c }; reply = Err Damaged })
+      → IsDamagedTo (bytes (device_of old)) s said → IsDamagedFor (AlwaysTells bytes) from past st c
+  damaged_for from past session schema said c is stands fits m = by said is m
+    where
+      got : (t : ℕ) (text : Text) (b : Bool) → is_id text ≡ b → IsDamagedTo (bytes (device_of old)) s (Some (Said.get t text))
+          → FitsTo from past session (Command.read t (Read.get (cond b (Ok text) (Err Id)))) → DamagedFor from past (Command.read t (Read.get (cond b (Ok text) (Err Id))))
+      got t text true e m fits = λ always one_line. damaged_get (bytes (device_of old)) s from past stands (λ q. always (device_of old) q) session t text fits m one_line
+      got t text false e m fits = tt
+
+      by : (said : Option Said) → IsCommandOf schema said c → IsDamagedTo (bytes (device_of old)) s said → DamagedFor from past c
+      by None is m = subst (DamagedFor from past) (sym is) tt
+      by (Some (Said.put text)) is m = subst (DamagedFor from past) (sym is) tt
+      by (Some (Said.delete text)) is m = subst (DamagedFor from past) (sym is) tt
+      by (Some (Said.delete_where text)) is m = subst (DamagedFor from past) (sym is.2) tt
+      by (Some Said.refresh) is m = subst (DamagedFor from past) (sym is) tt
+      by (Some Said.open_newest) is m = subst (DamagedFor from past) (sym is) tt
+      by (Some (Said.open_at t)) is m = subst (DamagedFor from past) (sym is) tt
+      by (Some (Said.close t)) is m = subst (DamagedFor from past) (sym is) tt
+      by (Some (Said.find t n sort mark text)) is m = subst (DamagedFor from past) (sym is.2) tt
+      by (Some (Said.facets t dim n text)) is m = subst (DamagedFor from past) (sym is.2) tt
+      by (Some (Said.get t text)) is m = subst (DamagedFor from past) (sym is) (got t text (is_id text) refl m (subst (FitsTo from past session) is fits))
+      by (Some (Said.files_of_token t)) is m = subst (DamagedFor from past) (sym is) tt
+      by (Some (Said.files_of_commit g)) is m = subst (DamagedFor from past) (sym is) tt
+      by (Some (Said.commit text)) is m = subst (DamagedFor from past) (sym is) tt
+      by (Some (Said.text_of_commit g)) is m = subst (DamagedFor from past) (sym is) tt
+      by (Some Said.snapshot) is m = subst (DamagedFor from past) (sym is) tt
+      by (Some (Said.release_snapshot g)) is m = subst (DamagedFor from past) (sym is) tt
+      by (Some (Said.prune n)) is m = subst (DamagedFor from past) (sym is) tt
+      by (Some (Said.chore Chore.merge)) is m = subst (DamagedFor from past) (sym is) (rows_left s.merging m)
+      by (Some (Said.chore Chore.force)) is m = subst (DamagedFor from past) (sym is) tt
+      by (Some (Said.chore Chore.warm)) is m = subst (DamagedFor from past) (sym is) tt
+      by (Some (Said.chore Chore.sweep)) is m = subst (DamagedFor from past) (sym is) tt
+      by (Some (Said.chore Chore.stat)) is m = subst (DamagedFor from past) (sym is) tt
+
+-- ---- from one line to the next
+
+-- which source is told matters to no write and to no commit
+sources_write : (c : Command) (f g : Found) → writes_by c (Ok (Answer.found f)) ≡ writes_by c (Ok (Answer.found g))
+sources_write Command.formless f g = refl
+sources_write (Command.put (Ok i)) f g = refl
+sources_write (Command.put (Err e)) f g = refl
+sources_write (Command.delete (Ok id)) f g = refl
+sources_write (Command.delete (Err e)) f g = refl
+sources_write (Command.delete_where (Ok q)) f g = refl
+sources_write (Command.delete_where (Err e)) f g = refl
+sources_write Command.refresh f g = refl
+sources_write Command.open_newest f g = refl
+sources_write (Command.open_at t) f g = refl
+sources_write (Command.close t) f g = refl
+sources_write (Command.read t asked) f g = refl
+sources_write (Command.prune n) f g = refl
+sources_write (Command.commit text) f g = refl
+sources_write Command.snapshot f g = refl
+sources_write (Command.release_snapshot n) f g = refl
+sources_write (Command.files_of_token t) f g = refl
+sources_write (Command.files_of_commit n) f g = refl
+sources_write (Command.text_of_commit n) f g = refl
+sources_write (Command.chore what) f g = refl
+
+sources_take : (c : Command) (f g : Found) (next new : ℕ) → IsTakenBy c (Ok (Answer.found f)) next new → IsTakenBy c (Ok (Answer.found g)) next new
+sources_take (Command.commit text) f g next new h = h
+sources_take Command.formless f g next new h = tt
+sources_take (Command.put item) f g next new h = tt
+sources_take (Command.delete id) f g next new h = tt
+sources_take (Command.delete_where q) f g next new h = tt
+sources_take Command.refresh f g next new h = tt
+sources_take Command.open_newest f g next new h = tt
+sources_take (Command.open_at t) f g next new h = tt
+sources_take (Command.close t) f g next new h = tt
+sources_take (Command.read t asked) f g next new h = tt
+sources_take (Command.prune n) f g next new h = tt
+sources_take Command.snapshot f g next new h = tt
+sources_take (Command.release_snapshot n) f g next new h = tt
+sources_take (Command.files_of_token t) f g next new h = tt
+sources_take (Command.files_of_commit n) f g next new h = tt
+sources_take (Command.text_of_commit n) f g next new h = tt
+sources_take (Command.chore what) f g next new h = tt
+
+-- so of all that a call makes of a ledger
+sources_move : (c : Command) (l new : Ledger) (a b : Text) → Moved c (Ok (Answer.found (Found.source (Some a)))) l new
+    → Moved c (Ok (Answer.found (Found.source (Some b)))) l new
+sources_move c l new a b m = record {
+  taken = sources_take c (Found.source (Some a)) (Found.source (Some b)) l.next_generation new.next_generation m.taken;
+  segments = m.segments;
+  waits = subst (λ n. length new.buffered ≤ length l.buffered + n) (sources_write c (Found.source (Some a)) (Found.source (Some b))) m.waits;
+  merges = λ none. elim (m.merges none) [
+    | inl gone ↦ inl gone
+    | inr begun ↦ absurd (let no : ◌≡◌ {A = Reply} (Ok (Answer.found (Found.source (Some a)))) (Ok (Answer.news (News.begun_merge begun.0))) = begun.1 in cc)
+  ];
+}
+
+merging_told : (schema : Schema) (m : Option Merging) (x : Option MergingShape) → merging_shape schema m ≡ x → option_map progress_of x ≡ None → m ≡ None
+merging_told schema None x e none = refl
+merging_told schema (Some m) x e none =
+    absurd (let no : option_map progress_of (merging_shape schema (Some m)) ≡ None = ap (option_map progress_of) e ∙ none in cc)
+
+merging_gone : (schema : Schema) (m : Option Merging) (x : Option MergingShape) → merging_shape schema m ≡ x → m ≡ None → option_map progress_of x ≡ None
+merging_gone schema m x e none = sym (ap (option_map progress_of) e) ∙ ap (λ o. option_map progress_of (merging_shape schema o)) none
+
+module _ {D : Type 0} (bytes : D → ToldFiles) (can_fail : D → Type 0) (faults : D → ℕ) where
+  -- what a call made of a ledger is made of the standing that memory has of it
+  moves_on : (old new : Service D) (c : Command) (r : Reply) (l l' : Ledger) → shape_of_ledger l ≡ shape_of old → shape_of_ledger l' ≡ shape_of new
+      → TakesNumbers (shape_of old) (shape_of new) → Moved c r l l' → MovesOn (standing_of faults old) c r (standing_of faults new)
+  moves_on old new c r l l' is is' numbers m = record {
+    segment = numbers.segment;
+    generation = numbers.generation;
+    taken =
+        subst (λ n. IsTakenBy c r n (shape_of new).next_generation) (ap (λ (x : Shape). x.next_generation) is)
+        (subst (λ n. IsTakenBy c r l.next_generation n) (ap (λ (x : Shape). x.next_generation) is') m.taken);
+    segments =
+        (let a = ap (λ (x : Shape). length x.leaves) is in
+        let b = ap (λ (x : Shape). length x.leaves) is' in
+        let d = length-map l.portions (leaf_of l.schema) in
+        let e = length-map l'.portions (leaf_of l'.schema) in
+        let f = length-map (shape_of old).leaves segment_told in
+        let g = length-map (shape_of new).leaves segment_told in
+        let h = m.segments in omega (arith, a, b, d, e, f, g, h));
+    waits =
+        (let a = ap (λ (x : Shape). length x.buffered) is in
+        let b = ap (λ (x : Shape). length x.buffered) is' in
+        let h = m.waits in omega (arith, a, b, h));
+    merges = λ none. elim (m.merges (merging_told l.schema l.merging (shape_of old).merging (ap (λ (x : Shape). x.merging) is) none)) [
+      | inl gone ↦ inl (merging_gone l'.schema l'.merging (shape_of new).merging (ap (λ (x : Shape). x.merging) is') gone)
+      | inr begun ↦ inr begun
+    ];
+  }
+
+  -- The reply that fits has its cause, where the one that was told has it.
+  pub reasoned : (from : Opened) (past : Run) (old new : Service D) (e : Exchange) (fitting : Reply)
+      → Stands (bytes (device_of old)) (shape_of old) from past → Fits from past (record { line = e.line; reply = fitting })
+      → IsShown (bytes (device_of old)) e.reply fitting → IsCausedBy bytes can_fail faults old (Outcome.replied e) new
+      → HasReason (AlwaysTells bytes) (policy_of old).factor (policy_of old).least from past (standing_of faults old)
+      (record { line = e.line; reply = fitting }) (standing_of faults new)
+  reasoned from past old new e fitting stands fits shown (said, is, cause, numbers, answers, same) =
+      let c = e.line.command in
+      let schema = (shape_of old).schema in
+      let l = stands.ledger in
+      let made = answers l stands.files stands.carries in
+      let moved : Moved c made.2 l made.0 = calls_move (policy_of old) l made.0 e.line made.2 made.4 in
+      let told_moved : Moved c e.reply l made.0 =
+      (alike_on (λ r. Moved c r l made.0) (sources_move c l made.0) e.reply made.2 made.3.alike).1 moved in
+      let fit_moved : Moved c fitting l made.0 = (alike_on (λ r. Moved c r l made.0) (sources_move c l made.0) e.reply fitting shown.alike).0 told_moved in record {
+        spent = λ k. spent_for bytes can_fail faults old schema said c is (cause.spent (refused_alike Spent e.reply fitting shown.alike k));
+        counted = λ k. counted_for bytes can_fail faults old new schema said c is (cause.counted (refused_alike Device e.reply fitting shown.alike k));
+        damaged = λ k.
+            damaged_for bytes can_fail faults old from past e.line.session schema said c is stands (subst (λ r. Fits from past (record { line = e.line; reply = r })) k fits)
+            (cause.damaged (refused_alike Damaged e.reply fitting shown.alike k));
+        told =
+            (alike_on (λ r. IsToldOf (policy_of old).factor (policy_of old).least (standing_of faults old) c r)
+            (λ a b h. found_told bytes can_fail faults old c (Found.source (Some b))) e.reply fitting shown.alike).0 (told_for bytes can_fail faults old schema said c e.reply is cause.told);
+        writes = ap (λ (x : Shape). x.count) (sym stands.carries.shape) ∙ stands.stands.shows.count_now;
+        views =
+            (let a = ap (λ (x : Shape). length x.views) stands.carries.shape in
+            let b = length-map l.views (recorded_view l.schema) in
+            let d = length-map l.views view_shown in
+            let f = ap (λ (vs : List RecordedTable). length vs) stands.stands.shows.views_now in
+            let g = length-map (view_tokens from.start past) (table_recorded from.start past) in omega (arith, a, b, d, f, g));
+        moves = moves_on old new c fitting l made.0 stands.carries.shape made.5.shape numbers fit_moved;
+      }

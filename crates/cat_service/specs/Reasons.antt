@@ -1,0 +1,64 @@
+-- Why each line was told what it was told, as a world is served.
+use Rattle.std.specs.Prelude.{◌≡◌, ℕ, option_map, Option, None, Some, Result, length, IfOk}
+use Rattle.cat_model.specs.Lines.{Said}
+use Rattle.cat_model.specs.Merged.{rows_of_all}
+use Rattle.cat_model.specs.Served.{Outcome, SpellsSchema}
+use Rattle.cat_model.specs.Text.{Text}
+use Rattle.cat_directory.specs.Devices.{FileContent}
+use Rattle.cat_directory.specs.declared.name.FileName.{FileName}
+use Rattle.cat_commands.specs.cat_ledger.Openings.{IsOpenedLedger}
+use Rattle.cat_commands.specs.ledger.Chores.{stat_in}
+use Rattle.cat_ledger_laws.specs.lines.RunLaws.{Answers}
+use Rattle.cat_ledger_laws.specs.shape.Shapes.{MergingShape}
+use Rattle.cat_ledger_laws.specs.shape.Ties.{ToldFiles}
+use Rattle.cat_protocol.specs.declared.serving.machine.Unopened.{Unopened}
+use Rattle.cat_service.specs.Causes.{HasCause, TakesNumbers}
+use Rattle.cat_service.specs.Lines.{IsCommandOf}
+use Rattle.cat_service.specs.Serving.{OpensIfShort, StepsIfShort}
+use Rattle.cat_model.specs.Standings.{Progress, Standing}
+use Rattle.cat_service.specs.Worlds.{Service, device_of, policy_of, shape_of}
+
+-- ---- of a world
+
+abbrev pub progress_of : MergingShape → Progress
+progress_of m = record { passed = m.passed; rows = length (rows_of_all m.inputs) }
+
+-- how a world stands, by how many failures a device has counted
+abbrev pub standing_of : {D : Type 0} → (D → ℕ) → Service D → Standing
+standing_of faults w = record {
+  stat = stat_in 0 (shape_of w);
+  merging = option_map progress_of (shape_of w).merging;
+  next_segment = (shape_of w).next_segment;
+  next_generation = (shape_of w).next_generation;
+  failures = faults (device_of w);
+}
+
+-- ---- as a machine
+
+-- it was opened as the ledger says, and merges as the line says
+abbrev pub OpensSo : {D : Type 0} → (D → ToldFiles) → D → Text → Service D → Type 0
+OpensSo bytes device line w =
+    IsOpenedLedger (bytes device) (shape_of w).schema (bytes (device_of w)) (shape_of w)
+    × (text : Text) × SpellsSchema line (policy_of w).factor (policy_of w).least text
+
+-- what opening by a first line may give, which may be too long, with how it begins
+abbrev pub OpensCaused : {D : Type 0} → (D → ToldFiles) → (D → FileName → FileContent → Type 0) → (D → Type 0) → D → Option Text
+    → Result (Service D) (Unopened D) → Type 0
+OpensCaused bytes may_leave can_fail device None r = OpensIfShort bytes may_leave can_fail device None r
+OpensCaused bytes may_leave can_fail device (Some line) r =
+    OpensIfShort bytes may_leave can_fail device (Some line) r × IfOk r (λ w. OpensSo bytes device line w)
+
+-- What a line said, which is its command, has its cause in the world before it; and the command was answered.
+abbrev pub IsCausedBy : {D : Type 0} → (D → ToldFiles) → (D → Type 0) → (D → ℕ) → Service D → Outcome → Service D → Type 0
+IsCausedBy bytes can_fail faults old Outcome.unreadable new = Unit {0}
+IsCausedBy bytes can_fail faults old (Outcome.replied e) new =
+    (said : Option Said) × IsCommandOf (shape_of old).schema said e.line.command × HasCause bytes can_fail faults old said e.reply new
+    × TakesNumbers (shape_of old) (shape_of new)
+    × Answers (policy_of old) (bytes (device_of old)) (shape_of old) e.line e.reply (bytes (device_of new)) (shape_of new)
+    × (policy_of new ≡ policy_of old)
+
+-- a line, which may be too long, is heard and changes the world, and what it is told has its cause
+abbrev pub StepsCaused : {D : Type 0} → (D → ToldFiles) → (D → FileName → FileContent → Type 0) → (D → Type 0) → (D → ℕ) → Service D → Option Text
+    → Outcome → Service D → Type 0
+StepsCaused bytes may_leave can_fail faults old line told new =
+    StepsIfShort bytes may_leave can_fail old line told new × IsCausedBy bytes can_fail faults old told new
