@@ -1,5 +1,5 @@
 -- What is found of a call's catalogue afterwards: after a crash, or when the folder is opened again.
-use Rattle.std.specs.Prelude.{◌≡◌, ℕ, List, [], ◌∷◌, ◌++◌, filter_map, Some, None, Result, Ok, Err}
+use Rattle.std.specs.Prelude.{◌≡◌, ℕ, List, [], ◌∷◌, ◌++◌, filter_map, Some, None, Ok, Err}
 use Rattle.std.specs.List.{AllByRecursion}
 use Rattle.cat_base.specs.declared.refusal.Refusal.{Refusal}
 use Rattle.cat_model.specs.Run.{Command, Exchange, Run, commit_by, commits, committed_at, newest_commit, text_under, writes}
@@ -27,14 +27,14 @@ pub record FindsNewest (from : Opened) (run : Run) (found : Opened) : Type 0 whe
   pub reaches : committed_at from run generation ≡ Some found.start.token
   pub records : found.start.records ≡ table from.start (writes run) found.start.token
 
--- some COMMIT was refused, and none was answered OK after it
+-- some COMMIT was refused, but not for its text, and none was answered OK after it
 pub record RefusedSince (run : Run) : Type 0 where
   pub past : Run
   pub here : Exchange
   pub later : Run
   pub split : run ≡ past ++ here ∷ later
-  pub text : Result Text Refusal
-  pub asked : here.line.command ≡ Command.commit text
+  pub text : Text
+  pub asked : here.line.command ≡ Command.commit (Ok text)
   pub refusal : Refusal
   pub refused : here.reply ≡ Err refusal
   pub none : AllByRecursion (λ x. commit_by x.line.command x.reply ≡ None) later

@@ -1,5 +1,5 @@
 -- What a directory holds when serving ends: what the run promises of its tokens and its commits, also after a crash.
-use Rattle.std.specs.Prelude.{◌≡◌, ◌⊎◌, ℕ, ◌<◌, ◌≤◌, Bool, true, false, List, ◌++◌, length, count_by, Contains, Some, None, Err}
+use Rattle.std.specs.Prelude.{◌≡◌, ◌⊎◌, ℕ, ◌<◌, ◌≤◌, Bool, true, false, List, ◌++◌, length, count_by, Contains, Some, None, Ok, Err}
 use Rattle.std.specs.List.{AllByRecursion}
 use Rattle.cat_model.specs.Item.{Record}
 use Rattle.cat_model.specs.Table.{Opened, table}
@@ -53,14 +53,14 @@ pub record LeavesPromised {D : Type 0} (kind : DirectoryKind D) (left : D) (from
   pub stand : HoldsPromised (kind.bytes left) from run
   pub outlasts : TellsAlways kind → NewestIsSettled (kind.bytes left) (kind.may_leave left) from run
 
--- a COMMIT was refused
+-- a COMMIT was refused whose text a commit may have
 abbrev pub refuses_commit : Command → Reply → Bool
-refuses_commit (Command.commit text) (Err e) = true
+refuses_commit (Command.commit (Ok text)) (Err e) = true
 refuses_commit _ _ = false
 
--- What is found of the run after a crash. Behind some place of it no COMMIT was answered OK; each that was refused there tried one
--- generation at most. The newest commit that is found is the run's newest, or one that was tried so; one is found where the run has one;
--- and once the files of commits past the run's newest are taken away, and its own is left, that one is found.
+-- What is found of the run after a crash. Behind some place of it no COMMIT was answered OK; each that was refused there, but for its text,
+-- tried one generation at most. The newest commit that is found is the run's newest, or one that was tried so; one is found where the run
+-- has one; and once the files of commits past the run's newest are taken away, and its own is left, that one is found.
 pub record SurvivesCrash (may_leave : LeftByName) (from : Opened) (run : Run) : Type 0 where
   pub past : Run
   pub since : Run

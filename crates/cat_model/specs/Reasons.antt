@@ -8,7 +8,7 @@ use Rattle.cat_model.specs.Heard.{Json}
 use Rattle.cat_model.specs.Files.{IsFileName, Name}
 use Rattle.cat_model.specs.Served.{Ending, ServesBy, SpellsSchema, exchange}
 use Rattle.cat_model.specs.View.{Leaf}
-use Rattle.cat_model.specs.Told.{DirectoryKind, IsNewestTold, IsToldToHave, MayHave, TellsAlways, TellsNoCommit, ToldByName}
+use Rattle.cat_model.specs.Told.{DirectoryKind, FileContent, IsNewestTold, IsToldToHave, LeftByName, MayBeLeft, MayHave, TellsAlways, TellsNoCommit, ToldByName, told_of}
 use Rattle.cat_model.specs.Restored.{IsRestored, Restored}
 use Rattle.cat_model.specs.Opens.{BeginsFrom}
 use Rattle.cat_model.specs.Serving.{IsServedIn}
@@ -55,9 +55,9 @@ pub record BeginsWith (told : ToldByName) (schema : Schema) (first : ℕ) (s : S
 abbrev pub BeginsWithout : ToldByName → (first : ℕ) → Standing → Type 0
 BeginsWithout told first s = TellsNoCommit told × (s.stat.segments ≡ []) × (s.next_segment ≡ max first 1)
 
--- How it stands before the first line: nothing waits, no merge is in the making, and the numbers that come next are the least that are
--- above those in the names of the directory's files.
-pub record StandsFirst (told : ToldByName) (schema : Schema) (s : Standing) : Type 0 where
+-- How it stands before the first line: nothing waits, no merge is in the making, the numbers that come next are the least that are above
+-- those in the names of the directory's files, and no failure is counted but those that the directory had counted.
+pub record StandsFirst (told : ToldByName) (failures : ℕ) (schema : Schema) (s : Standing) : Type 0 where
   pub names : List Name
   pub listed : AreNamesIn told names
   pub first : ℕ
@@ -65,11 +65,17 @@ pub record StandsFirst (told : ToldByName) (schema : Schema) (s : Standing) : Ty
   pub commit : BeginsWith told schema first s ⊎ BeginsWithout told first s
   pub waits : s.stat.buffered ≡ 0
   pub idle : s.merging ≡ None
+  pub counted : s.failures ≡ failures
 
 -- ---- the whole
 
+-- Whatever commit a crash leaves as the newest, also one of a COMMIT that was refused, its generation has been taken: it is below the one
+-- that comes next, so that no later COMMIT is told it.
+abbrev pub HasTakenAll : LeftByName → Standing → Type 0
+HasTakenAll may_leave s = (image : Name → FileContent) (g : ℕ) → MayBeLeft may_leave image → IsNewestTold (told_of image) g → g < s.next_generation
+
 -- The text answers the lines as it is served, and each reply has its cause: between the lines the service stands somehow, from the first
--- one on; and at the end the directory that is left has counted as many failures.
+-- one on; and at the end the directory that is left has counted as many failures, and the generations of its commits are taken.
 pub record IsCausedIn (json : Json) {D : Type 0} (kind : DirectoryKind D) (device left : D) (first : Text) (lines : List Text) (text : Text)
     : Type 0 where
   pub served : IsServedIn json kind device left first lines text
@@ -78,10 +84,11 @@ pub record IsCausedIn (json : Json) {D : Type 0} (kind : DirectoryKind D) (devic
   pub fields : Text
   pub policy : SpellsSchema first factor least fields
   pub opened : Standing
-  pub begins : StandsFirst (kind.bytes device) served.from.start.schema opened
+  pub begins : StandsFirst (kind.bytes device) (kind.failures device) served.from.start.schema opened
   pub last : Standing
   pub reasons : HaveReasons (TellsAlways kind) factor least served.from [] opened (filter_map exchange served.fitting) last
   pub failures : last.failures ≡ kind.failures left
+  pub taken : TellsAlways kind → HasTakenAll (kind.may_leave left) last
 
 -- What is written answers the lines that were read, and each reply has its cause.
 abbrev pub CausesIn : Json → {D : Type 0} → DirectoryKind D → (device left : D) → (input rest before after : Option Text)

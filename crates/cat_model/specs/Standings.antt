@@ -115,7 +115,7 @@ IsTakenBy (Command.commit text) (Ok a) next new = new ≡ next + 1
 IsTakenBy c reply next new = Unit {0}
 
 -- What a line makes of it, whatever it is told: it takes one number of each kind at most, and makes one segment at most; nothing waits more
--- than before but an item that was accepted; and a merge comes only where that was told.
+-- than before but an item that was accepted; a merge comes only where that was told; and no failure is forgotten.
 pub record MovesOn (s : Standing) (c : Command) (reply : Reply) (new : Standing) : Type 0 where
   pub segment : (s.next_segment ≤ new.next_segment) × (new.next_segment ≤ s.next_segment + 1)
   pub generation : (s.next_generation ≤ new.next_generation) × (new.next_generation ≤ s.next_generation + 1)
@@ -123,6 +123,7 @@ pub record MovesOn (s : Standing) (c : Command) (reply : Reply) (new : Standing)
   pub segments : length new.stat.segments ≤ length s.stat.segments + 1
   pub waits : new.stat.buffered ≤ s.stat.buffered + writes_by c reply
   pub merges : s.merging ≡ None → (new.merging ≡ None) ⊎ ((k : ℕ) × (reply ≡ Ok (Answer.news (News.begun_merge k))))
+  pub failures : s.failures ≤ new.failures
 
 -- Behind its past, the exchange leads from one standing to the next: its reply has its cause and tells what is so, and the numbers of writes
 -- and of recorded views are those of the run.
