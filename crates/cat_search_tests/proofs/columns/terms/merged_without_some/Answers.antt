@@ -1,8 +1,8 @@
 use Rattle.std.proofs.Common.{List, [], ◌∷◌, ◌++◌, length-append, sym, arith}
 use Rattle.cat_model.specs.Text.{Text}
 use Rattle.cat_columns.specs.Merged.{kept_of}
-use Rattle.cat_parts_tests.proofs.columns.Kept.{length-kept_of}
-use Rattle.cat_parts_tests.proofs.columns.terms.merged_without_some.Goals as goal
+use Rattle.cat_search_tests.proofs.columns.Kept.{length-kept_of}
+use Rattle.cat_search_tests.proofs.columns.terms.merged_without_some.Goals as goal
 
 pub merge-requires-clause-count : goal.merge-requires-clause-count
 merge-requires-clause-count c =

@@ -2,7 +2,7 @@
 use crate::verdict::expect_yes;
 use cat_base::Refusal;
 use cat_items::{Item, Schema};
-use cat_query::Query;
+use cat_cached_sets::Query;
 use std::alloc::Global;
 use std::test::Fail;
 

@@ -2,7 +2,7 @@ use Rattle.std.proofs.Common.{[], ◌∷◌, nat_cmp}
 use Rattle.std.proofs.lemmas.List.Elements.{All-from_recursion}
 use Rattle.std.specs.List.{AllByRecursion}
 use Rattle.std.specs.List.Sorted.{IsStrictlySortedBy}
-use Rattle.cat_parts_tests.proofs.columns.terms.of_one_word.Goals as goal
+use Rattle.cat_search_tests.proofs.columns.terms.of_one_word.Goals as goal
 
 each_rises : AllByRecursion (IsStrictlySortedBy nat_cmp) ([] ∷ (0 ∷ []) ∷ [] ∷ [])
 unfolding IsStrictlySortedBy

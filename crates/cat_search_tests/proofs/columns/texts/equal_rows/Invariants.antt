@@ -1,7 +1,7 @@
 use Rattle.std.proofs.Common.{◌≡◌, length}
 use Rattle.std.specs.Prelude.{All}
 use Rattle.cat_base.specs.Texts.{IsTextSet}
-use Rattle.cat_parts_tests.proofs.columns.texts.equal_rows.Given as goal
+use Rattle.cat_search_tests.proofs.columns.texts.equal_rows.Given as goal
 
 abbrev pub invariant-loop : goal.invariant-loop
 invariant-loop l = record {

@@ -5,7 +5,7 @@
 use crate::verdict::expect_yes;
 use cat_base::Refusal;
 use cat_items::Schema;
-use cat_query::Query;
+use cat_cached_sets::Query;
 use std::alloc::{AllocError, Global};
 use std::test::Fail;
 

@@ -2,7 +2,7 @@
 use crate::verdict::{expect, expect_yes};
 use cat_base::{MAX_CLAUSES, MAX_DEPTH, Refusal};
 use cat_items::Schema;
-use cat_query::Query;
+use cat_cached_sets::Query;
 use std::alloc::{AllocError, Global};
 use std::test::Fail;
 
