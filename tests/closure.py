@@ -15,7 +15,7 @@ import sys
 
 TOP = pathlib.Path(__file__).resolve().parent.parent
 USE = re.compile(r"(?:ghost |pub )*use\s+(Rattle\.[\w.-]+?)(?:\.\{(.*)\}|\s+as\s+(\S+))?;?\s*$")
-HEAD = re.compile(r"(?:(?:abbrev|pub|record|data|opaque)\s+)*([^\s:(){};,]+)")
+HEAD = re.compile(r"(?:(?:abbrev|pub|record|data|opaque|unfoldable)\s+)*([^\s:(){};,]+)")
 WORD = re.compile(r"[^\s(){}\[\],;→λ×⊎≡≢≤<↔∷∧∨¬=|↦]+")
 
 
@@ -44,7 +44,7 @@ class Module:
             if line.startswith(("use ", "pub use ")):
                 self.brought.update(imports(line))
                 continue
-            if not line.strip() or line.lstrip().startswith("--"):
+            if not line.strip() or line.lstrip().startswith(("--", "pub mod ", "infix")):
                 continue
             indent = len(line) - len(line.lstrip())
             if indent == 0:
