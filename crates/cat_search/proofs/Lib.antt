@@ -18,6 +18,7 @@ pub mod ViewPages
 pub mod Pushed
 pub mod Arranged
 pub mod Walked
+pub mod Stepped
 pub mod Ordered
 pub use Rattle.cat_query.proofs.columns_laws as columns_laws
 pub use Rattle.cat_views.proofs as views_laws

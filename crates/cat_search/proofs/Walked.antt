@@ -1,19 +1,18 @@
 -- Hits that are offered in the order of a page.
-use Rattle.std.proofs.Common.{◌≡◌, ℕ, zero, suc, ◌+◌, ◌<◌, ◌≤◌, List, [], ◌∷◌, ◌++◌, length, map, filter, take, drop, get_or, cond, set, AllPairs, IsPermutation, Option, Bool, true, false, refl, sym, ◌∙◌, ap, subst, arith, inl, inr, append-nil, append_assoc, ◌&&◌, not, ltb, None, Some}
-use Rattle.std.specs.Prelude.{◌⊎◌}
+use Rattle.std.proofs.Common.{◌≡◌, ℕ, ◌+◌, ◌<◌, ◌≤◌, List, [], ◌∷◌, ◌++◌, length, map, filter, take, drop, get_or, cond, set, IsPermutation, Option, Bool, true, false, refl, sym, ◌∙◌, ap, subst, arith, inl, inr, append-nil, append_assoc, ◌&&◌, not, ltb, None, Some}
 use Rattle.std.specs.List.{AllByRecursion, range_with_len, swap}
 use Rattle.std.proofs.lemmas.Bool.{true≢false, lt-ltb, cases_order}
-use Rattle.std.proofs.lemmas.List.{drop_more, take_all, map-append, map-set, get_or-map, take-append-drop, take_at, drop_at, length-map, take-map, drop-map, get_or-take, length-take-le}
-use Rattle.std.proofs.lemmas.List.Elements.{All-drop, filter-append, filter_more, recursion_from_All}
+use Rattle.std.proofs.lemmas.List.{drop_more, map-append, map-set, get_or-map, take-append-drop, take_at, drop_at, length-map, take-map, drop-map, get_or-take, length-take-le}
+use Rattle.std.proofs.lemmas.List.Elements.{filter-append}
 use Rattle.std.proofs.lemmas.List.Sorted.{IsPermutation-map, IsPermutation-sym, IsPermutation-refl, IsPermutation-trans, IsPermutation-swap, IsPermutation-keeps, ranks_by}
 use Rattle.cat_model.specs.Page.{Key}
 use Rattle.cat_model.specs.Ranks.{AreApart, IsStrictOrder, sorted}
 use Rattle.cat_model.specs.RowSets.{has_row, indices}
 use Rattle.cat_model.specs.View.{selected}
 use Rattle.cat_model.proofs.Insert.{strict_from_weak, which, one_way}
-use Rattle.cat_model.proofs.Places.{AllApart, EachPair, each_pair, all_pairs}
+use Rattle.cat_model.proofs.Places.{AllApart, EachPair, each_pair}
 use Rattle.cat_search.specs.Bars.{IsFullBy}
-use Rattle.cat_search.specs.BestItems.{BestItems, IsBestOf}
+use Rattle.cat_search.specs.BestItems.{BestItems}
 use Rattle.std.specs.Cmp.{IsStrictWeakOrder}
 use Rattle.std.proofs.lemmas.List.FromFn.{length-range_with_len, get_or-range_with_len}
 use Rattle.std.proofs.lemmas.List.Sorted.{All-permutation}
@@ -23,7 +22,7 @@ use Rattle.cat_search.specs.Candidates.{IsBestAt, TakesIn, standing_of, comes_fi
 use Rattle.cat_search.specs.Keys.{key_ref_of}
 use Rattle.cat_search.specs.Pages.{beyond, behind}
 use Rattle.cat_search.specs.Standings.{Standing, Rank, standing_before}
-use Rattle.cat_search.specs.Walks.{IsWalk, is_passed, standing_at}
+use Rattle.cat_search.specs.Walks.{IsOrderedRun, IsWalk, is_passed, standing_at}
 use Rattle.cat_search.specs.declared.keys.KeyRef.{KeyRef}
 use Rattle.cat_search.specs.declared.keys.KeyRef.TheVariants.{Number, Keyword}
 use Rattle.cat_search.specs.declared.standings.Candidate.{Candidate}
@@ -34,7 +33,7 @@ use Rattle.cat_search.proofs.Arranged.{may_be_arranged, IsPermutation-filter}
 use Rattle.cat_search.proofs.Candidates.{comes_first-is}
 use Rattle.cat_search.proofs.Defined.{each_pair-filter, each_pair-map}
 use Rattle.cat_model.proofs.Lists.{All-weaken, All-kept}
-use Rattle.cat_search.proofs.Gathered.{none, standings_at, standings_at-all, standings_at-append, standings_at-more}
+use Rattle.cat_search.proofs.Gathered.{none, standings_at, standings_at-all, standings_at-append}
 use Rattle.cat_views.proofs.Selected.{Pairs-right}
 
 -- ---- elements with given images, in another order
@@ -195,10 +194,6 @@ walk_within ranks walk is = All-permutation (λ r. r < length ranks) (range_with
         let at = get_or-range_with_len 0 (length ranks) k d within in
         omega (arith, within, at)
 
--- and so is each of those that are left
-pub left_within : (ranks : List Standing) (walk left : List ℕ) (first n : ℕ) → IsWalk ranks walk → left ≡ drop first walk → n ≡ length ranks → All (λ r. r < n) left
-left_within ranks walk left first n is e long = subst (All (λ r. r < n)) (sym e) (All-drop (λ r. r < n) first walk (subst (λ m. All (λ r. r < m) walk) (sym long) (walk_within ranks walk is)))
-
 -- ---- the steps of a walk
 
 module _ (ranks : List Standing) (walk : List ℕ) (hits : List Bool) (mark : Option Standing) where
@@ -208,20 +203,6 @@ module _ (ranks : List Standing) (walk : List ℕ) (hits : List Bool) (mark : Op
 
   abbrev pub passed : ℕ → List Standing
   passed i = standings_at mark ranks (first_hits i)
-
-  pub hit_more : (i : ℕ) (d : ℕ) → i < length walk → has_row hits (get_or walk i d) ≡ true → (p : Standing) → p ≡ get_or ranks (get_or walk i d) none → passed (i + 1) ≡ passed i ++ cond (beyond mark p) (p ∷ []) []
-  hit_more i d h e p at =
-      let row = get_or walk i d in
-      let more : first_hits (i + 1) ≡ first_hits i ++ row ∷ [] = filter_more (has_row hits) walk i d h ∙ ap (λ b. first_hits i ++ cond b (row ∷ []) []) e in
-      ap (standings_at mark ranks) more ∙ standings_at-more mark ranks (first_hits i) row p at
-
-  pub other_more : (i : ℕ) (d : ℕ) → i < length walk → has_row hits (get_or walk i d) ≡ false → passed (i + 1) ≡ passed i
-  other_more i d h e =
-      let row = get_or walk i d in
-      ap (standings_at mark ranks) (filter_more (has_row hits) walk i d h ∙ ap (λ b. first_hits i ++ cond b (row ∷ []) []) e ∙ append-nil (first_hits i))
-
-  pub passed_all : (i : ℕ) → length walk ≤ i → passed i ≡ standings_at mark ranks (filter (has_row hits) walk)
-  passed_all i h = ap (λ l. standings_at mark ranks (filter (has_row hits) l)) (take_all i walk h)
 
   module _ (is : IsWalk ranks walk) where
     abbrev Follows : ℕ → ℕ → Type 0
@@ -255,7 +236,7 @@ module _ (ranks : List Standing) (walk : List ℕ) (hits : List Bool) (mark : Op
 
 -- ---- a walk that begins behind a mark
 
-passed_from : (mark : Option Standing) (ranks : List Standing) (row : ℕ) → is_passed mark ranks row ≡ true → beyond mark (standing_at ranks row) ≡ false
+pub passed_from : (mark : Option Standing) (ranks : List Standing) (row : ℕ) → is_passed mark ranks row ≡ true → beyond mark (standing_at ranks row) ≡ false
 passed_from mark ranks row e = by (ltb row (length ranks)) (beyond mark (standing_at ranks row)) e
   where
     by : (a b : Bool) → (a && not b) ≡ true → b ≡ false
@@ -267,42 +248,38 @@ passed_to : (mark : Option Standing) (ranks : List Standing) (row : ℕ) → row
 passed_to mark ranks row h e = ap (λ a. a && not (beyond mark (standing_at ranks row))) (lt-ltb row (length ranks) h) ∙ ap not e
 
 -- the mark doesn't come before what comes before one that it doesn't come before
-stays_passed : (mark : Option Standing) (p q : Standing) → standing_before p q ≡ true → beyond mark q ≡ false → beyond mark p ≡ false
+pub stays_passed : (mark : Option Standing) (p q : Standing) → standing_before p q ≡ true → beyond mark q ≡ false → beyond mark p ≡ false
 stays_passed None p q e f = absurd (true≢false f)
 stays_passed (Some m) p q e f = elim (which (standing_before m p)) [
   | inl t ↦ absurd (true≢false (sym (standing_strict.transitive m p q t e) ∙ f))
   | inr g ↦ g
 ]
 
-module _ (mark : Option Standing) (ranks : List Standing) (walk : List ℕ) where
-  -- the rows that the mark doesn't come before stand at the head of the walk
-  pub parted_passed : IsWalk ranks walk → IsPartitionedBy (is_passed mark ranks) walk
-  parted_passed is i j d p q e = elim (cases_order i j) [
-    | inl same ↦ ap (λ k. is_passed mark ranks (get_or walk k d)) same ∙ e
+module _ (mark : Option Standing) (ranks : List Standing) where
+  abbrev pub Passed : ℕ → Type 0
+  Passed row = beyond mark (standing_at ranks row) ≡ false
+
+  -- the rows that the mark doesn't come before stand at the head
+  pub parted_passed : (rows : List ℕ) → IsOrderedRun ranks rows → IsPartitionedBy (is_passed mark ranks) rows
+  parted_passed rows is i j d p q e = elim (cases_order i j) [
+    | inl same ↦ ap (λ k. is_passed mark ranks (get_or rows k d)) same ∙ e
     | inr other ↦ elim other [
       | inl under ↦
-          let a = get_or walk i d in
-          let b = get_or walk j d in
-          let within : a < length ranks = walk_within ranks walk is i d (omega (arith, under, q)) in
-          passed_to mark ranks a within (stays_passed mark (standing_at ranks a) (standing_at ranks b) (is.rising i j d under q) (passed_from mark ranks b e))
+          let a = get_or rows i d in
+          let b = get_or rows j d in
+          passed_to mark ranks a (is.within i d (omega (arith, under, q))) (stays_passed mark (standing_at ranks a) (standing_at ranks b) (is.rising i j d under q) (passed_from mark ranks b e))
       | inr over ↦ absurd (omega (arith, p, over))
     ]
   ]
 
-  abbrev Passed : ℕ → Type 0
-  Passed row = beyond mark (standing_at ranks row) ≡ false
-
-  -- from where the walk is parted
-  pub passed_before : (n : ℕ) → n ≤ length walk → ((k d : ℕ) → k < n → is_passed mark ranks (get_or walk k d) ≡ true) → All Passed (take n walk)
-  passed_before n h each k d q =
-      let short = length-take-le n walk h in
+  -- from where the rows are parted
+  pub passed_before : (rows : List ℕ) (n : ℕ) → n ≤ length rows → ((k d : ℕ) → k < n → is_passed mark ranks (get_or rows k d) ≡ true) → All Passed (take n rows)
+  passed_before rows n h each k d q =
+      let short = length-take-le n rows h in
       let under : k < n = omega (arith, q, short) in
-      subst Passed (sym (get_or-take n walk k d under)) (passed_from mark ranks (get_or walk k d) (each k d under))
-
-  none_offered : (rows : List ℕ) → AllByRecursion Passed rows → standings_at mark ranks rows ≡ []
-  none_offered [] a = refl
-  none_offered (r ∷ rows) a = ap (λ b. cond b (get_or ranks r none ∷ standings_at mark ranks rows) (standings_at mark ranks rows)) a.0 ∙ none_offered rows a.1
+      subst Passed (sym (get_or-take n rows k d under)) (passed_from mark ranks (get_or rows k d) (each k d under))
 
   -- none of the rows that the mark doesn't come before is offered
-  pub none_passed : (hits : List Bool) (n : ℕ) → All Passed (take n walk) → passed ranks walk hits mark n ≡ []
-  none_passed hits n a = none_offered (filter (has_row hits) (take n walk)) (All-kept Passed (has_row hits) (take n walk) (recursion_from_All Passed (take n walk) a))
+  pub none_offered : (rows : List ℕ) → AllByRecursion Passed rows → standings_at mark ranks rows ≡ []
+  none_offered [] a = refl
+  none_offered (r ∷ rows) a = ap (λ b. cond b (get_or ranks r none ∷ standings_at mark ranks rows) (standings_at mark ranks rows)) a.0 ∙ none_offered rows a.1

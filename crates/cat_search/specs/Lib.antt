@@ -12,6 +12,7 @@ pub mod Bars
 pub mod OrdinalBars
 pub mod Hits
 pub mod Walks
+pub mod Steps
 pub use Rattle.cat_query.specs.cat_items as cat_items
 pub use Rattle.cat_query.specs as cat_query
 pub use Rattle.cat_views.specs.cat_segment as cat_segment

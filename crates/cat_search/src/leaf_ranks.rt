@@ -3,6 +3,7 @@ ghost use Rattle.std.specs.Prelude.{◌≡◌, ◌<◌, length, map, option_map,
 ghost use Rattle.std.specs.List.{HoldsAt};
 ghost use Rattle.cat_model.specs.Page.{Key, key, key_in};
 ghost use Rattle.cat_views.specs.cat_segment.Contents.{contents_of};
+ghost use Rattle.cat_views.specs.cat_segment.RowParts.{rows_of_parts};
 ghost use Rattle.cat_search.specs.Bars.{HaveRanks};
 ghost use Rattle.cat_search.specs.Candidates.{standing_of};
 ghost use Rattle.cat_search.specs.Keys.{key_ref_of};
@@ -14,7 +15,7 @@ use crate::keys::KeyRef;
 use crate::sort::{Order, rank_with};
 use crate::standings::Candidate;
 use cat_query::cat_columns::{KeywordColumn, NumberColumn};
-use cat_views::cat_segment::{Column, Segment};
+use cat_views::cat_segment::{Column, RowParts, Segment};
 use std::marker::Model;
 
 /// The rows of a segment as hits of one sort, whose column is looked up once (Lucene: a `LeafFieldComparator` over the
@@ -117,8 +118,8 @@ impl<'a> LeafRanks<'a> {
     }
 
     /// All rows in the order of the page, where the sort is by a number field.
-    pub(crate) fn walk(&self) -> Option<&'a [u32]>
-        ensures { IfSome result (λ w. IsWalk self.now w.now) }
+    fn number_walk(&self) -> Option<RowParts<'a>>
+        ensures { IfSome result (λ w. IsWalk self.now (rows_of_parts w)) }
     {
         let Column::Number(numbers) = self.column? else {
             return None;
@@ -127,8 +128,34 @@ impl<'a> LeafRanks<'a> {
         let _rows = self.segment.len();
         match self.order {
             Order::Added => None,
-            Order::Rising(_) => Some(numbers.rising()),
-            Order::Falling(_) => Some(numbers.falling()),
+            Order::Rising(_) => Some(RowParts::Whole(numbers.rising())),
+            Order::Falling(_) => Some(RowParts::Whole(numbers.falling())),
+        }
+    }
+
+    /// All rows in the order of the page, where the sort is by a keyword field.
+    fn keyword_walk(&self) -> Option<RowParts<'a>>
+        ensures { IfSome result (λ w. IsWalk self.now (rows_of_parts w)) }
+    {
+        let Column::Keyword(keywords) = self.column? else {
+            return None;
+        };
+        // Its contract says that the numbers of the rows rise.
+        let _rows = self.segment.len();
+        match self.order {
+            Order::Added => None,
+            Order::Rising(_) => Some(keywords.rising()),
+            Order::Falling(_) => Some(keywords.falling()),
+        }
+    }
+
+    /// All rows in the order of the page, where the sort is by a field and the segment has a column of it.
+    pub(crate) fn walk(&self) -> Option<RowParts<'a>>
+        ensures { IfSome result (λ w. IsWalk self.now (rows_of_parts w)) }
+    {
+        match self.number_walk() {
+            Some(walk) => Some(walk),
+            None => self.keyword_walk(),
         }
     }
 

@@ -20,6 +20,7 @@ mod pages;
 mod prepared;
 mod sort;
 mod standings;
+mod steps;
 mod walk;
 
 pub use ask::Ask;

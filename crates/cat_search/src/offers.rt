@@ -11,7 +11,7 @@ use crate::leaf_ranks::LeafRanks;
 use crate::number_bar::NumberRows;
 use crate::ordinal_bar::KeywordRows;
 use crate::standings::Candidate;
-use crate::walk::{Reach, offer_walk, rows_passed};
+use crate::walk::{Reach, offer_walk, steps_behind};
 use cat_query::cat_columns::RowSet;
 use std::alloc::AllocError;
 
@@ -98,10 +98,9 @@ pub(crate) fn offer_rows<'a>(
     if let Some(reach) = reach
         && let Some(walk) = ranks.walk()
     {
-        let first = rows_passed(ranks, walk, mark);
-        let (_, left) = walk.split_at(first);
-        if reach.covers(left, hits) {
-            return offer_walk(best, ranks, walk, first, hits, mark);
+        let left = steps_behind(ranks, walk, mark);
+        if reach.covers(left.again(), hits) {
+            return offer_walk(best, ranks, left, hits, mark);
         }
     }
     if let Some((numbers, order)) = ranks.numbers() {

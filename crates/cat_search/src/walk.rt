@@ -1,16 +1,20 @@
 //! Hits that are offered to a page in its own order.
 ghost use Rattle.std.specs.Prelude.{◌≡◌, ◌<◌, ◌≤◌, false, length, take, All, OnOk, IsTrue};
+ghost use Rattle.cat_views.specs.cat_segment.RowParts.{parts_of, rows_of_parts};
 ghost use Rattle.cat_model.specs.View.{selected};
 ghost use Rattle.cat_search.specs.Bars.{IsFullBy};
 ghost use Rattle.cat_search.specs.Candidates.{TakesIn, mark_standing, standing_of};
 ghost use Rattle.cat_search.specs.Pages.{behind, beyond};
-ghost use Rattle.cat_search.specs.Walks.{IsWalk, is_passed, standing_at};
+ghost use Rattle.cat_search.specs.Steps.{rows_of_parts_before};
+ghost use Rattle.cat_search.specs.Walks.{EndsPassed, IsRestOfWalk, IsOrderedRun, IsWalk, is_passed, standing_at};
 
 use crate::best::{Best, LEAST_SPARE};
 use crate::leaf_ranks::LeafRanks;
 use crate::offers::{is_beyond, offer_hit};
 use crate::standings::Candidate;
+use crate::steps::Steps;
 use cat_query::cat_columns::RowSet;
+use cat_views::cat_segment::RowParts;
 use std::alloc::AllocError;
 
 /// By how many times more steps than are expected a walk may take.
@@ -45,18 +49,20 @@ impl Reach {
 
     /// Whether the first steps of the walk meet these hits, or end it. Hits may lie far behind, as those of a range of greater
     /// numbers do.
-    pub(crate) fn covers(&self, walk: &[u32], hits: &RowSet) -> bool
-        requires { All (λ row. row < length hits.now) walk.now }
+    pub(crate) fn covers(&self, steps: Steps<'_>, hits: &RowSet) -> bool
+        requires { All (λ row. row < length hits.now) steps }
     {
         let mut left = self.hits;
-        for (step, row) in walk.iter().enumerate() {
+        let mut more = self.steps;
+        for row in steps {
             if left == 0 {
                 return true;
             }
-            if step == self.steps {
+            if more == 0 {
                 return false;
             }
-            if hits.contains(*row as usize) {
+            more -= 1;
+            if hits.contains(row) {
                 left -= 1;
             }
         }
@@ -72,18 +78,83 @@ fn is_passed<'a>(ranks: &LeafRanks<'a>, row: u32, mark: &Option<Candidate<'a>>) 
     row < ranks.len() && !is_beyond(mark, &ranks.at(row))
 }
 
-/// How many rows at the head of the walk the mark doesn't come before (Lucene: the rows that `LeafFieldComparator.setTopValue`
-/// has a collector leave out).
-pub(crate) fn rows_passed<'a>(
+/// How many of these rows, which stand in the order of the page, the mark doesn't come before.
+fn rows_passed<'a>(ranks: &LeafRanks<'a>, rows: &[u32], mark: &Option<Candidate<'a>>) -> usize
+    requires { IsOrderedRun ranks.now rows.now }
+    ensures bound { result ≤ length rows.now }
+    ensures passed { All (λ row. beyond (mark_standing mark.now) (standing_at ranks.now row) ≡ false) (take result rows.now) }
+{
+    rows.partition_point(|row| is_passed(ranks, *row, mark))
+}
+
+/// Whether there is a last row of these, and the mark doesn't come before it.
+fn is_part_passed<'a>(ranks: &LeafRanks<'a>, rows: &[u32], mark: &Option<Candidate<'a>>) -> bool
+    ensures { IsTrue result → EndsPassed (mark_standing mark.now) ranks.now rows.now }
+{
+    match rows.last() {
+        Some(row) => is_passed(ranks, *row, mark),
+        None => false,
+    }
+}
+
+/// How many parts at the head of the walk have no row that the mark comes before, but for parts without rows.
+fn parts_passed<'a>(
     ranks: &LeafRanks<'a>,
-    walk: &[u32],
+    walk: RowParts<'a>,
     mark: &Option<Candidate<'a>>,
 ) -> usize
-    requires { IsWalk ranks.now walk.now }
-    ensures bound { result ≤ length walk.now }
-    ensures passed { All (λ row. beyond (mark_standing mark.now) (standing_at ranks.now row) ≡ false) (take result walk.now) }
+    requires { IsWalk ranks.now (rows_of_parts walk) }
+    ensures bound { result ≤ length (parts_of walk.entry) }
+    ensures passed { All (λ row. beyond (mark_standing mark.now) (standing_at ranks.now row) ≡ false) (rows_of_parts_before walk.entry result) }
 {
-    walk.partition_point(|row| is_passed(ranks, *row, mark))
+    let mut low = 0;
+    let mut high = walk.len();
+    while low < high {
+        let middle = low + (high - low) / 2;
+        if is_part_passed(ranks, walk.part(middle), mark) {
+            low = middle + 1;
+        } else {
+            high = middle;
+        }
+    }
+    low
+}
+
+/// The rows of the walk from this part on, but for those at the head of the part that the mark doesn't come before.
+fn steps_from<'a>(
+    ranks: &LeafRanks<'a>,
+    walk: RowParts<'a>,
+    index: usize,
+    mark: &Option<Candidate<'a>>,
+) -> Steps<'a>
+    requires walk { IsWalk ranks.now (rows_of_parts walk) }
+    requires part { index < length (parts_of walk) }
+    requires passed { All (λ row. beyond (mark_standing mark.now) (standing_at ranks.now row) ≡ false) (rows_of_parts_before walk index) }
+    ensures { IsRestOfWalk (mark_standing mark.now) ranks.now result }
+{
+    let part = walk.part(index);
+    let (_, left) = part.split_at(rows_passed(ranks, part, mark));
+    Steps::behind(walk, index + 1, left)
+}
+
+/// The rows of the walk but for those at its head that the mark doesn't come before (Lucene: the rows that
+/// `LeafFieldComparator.setTopValue` has a collector leave out). Two binary searches find them.
+pub(crate) fn steps_behind<'a>(
+    ranks: &LeafRanks<'a>,
+    walk: RowParts<'a>,
+    mark: &Option<Candidate<'a>>,
+) -> Steps<'a>
+    requires { IsWalk ranks.now (rows_of_parts walk) }
+    ensures { IsRestOfWalk (mark_standing mark.now) ranks.now result }
+{
+    if mark.is_none() {
+        return Steps::of(walk);
+    }
+    let index = parts_passed(ranks, walk, mark);
+    if index == walk.len() {
+        return Steps::behind(walk, index, &[]);
+    }
+    steps_from(ranks, walk, index, mark)
 }
 
 /// Whether the page is full, and leaves the hit out.
@@ -102,23 +173,18 @@ fn is_left_out<'a>(best: &Best<Candidate<'a>>, candidate: &Candidate<'a>) -> boo
 pub(crate) fn offer_walk<'a>(
     best: &mut Best<Candidate<'a>>,
     ranks: &LeafRanks<'a>,
-    walk: &[u32],
-    first: usize,
+    walk: Steps<'_>,
     hits: &RowSet,
     mark: &Option<Candidate<'a>>,
 ) -> Result<(), AllocError>
     requires long { length hits.now ≡ length ranks.now }
-    requires walk { IsWalk ranks.now walk.now }
-    requires first { first ≤ length walk.now }
-    requires passed { All (λ row. beyond (mark_standing mark.now) (standing_at ranks.now row) ≡ false) (take first walk.now) }
+    requires left { IsRestOfWalk (mark_standing mark.now) ranks.now walk }
     ensures limit { best.new.limit ≡ best.old.limit }
     ensures best { OnOk result (TakesIn best.old best.new (behind (mark_standing mark.now) (selected hits.now ranks.now))) }
 {
-    let (_, left) = walk.split_at(first);
-    for row in left {
-        let index = *row as usize;
-        if hits.contains(index) {
-            let candidate = ranks.at(index);
+    for row in walk {
+        if hits.contains(row) {
+            let candidate = ranks.at(row);
             if is_left_out(best, &candidate) {
                 return Ok(());
             }

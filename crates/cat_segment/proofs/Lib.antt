@@ -17,5 +17,6 @@ pub mod Steps
 pub mod Through
 pub mod Worded
 pub mod RowOrders
+pub mod Grouped
 pub use Rattle.cat_columns.proofs as columns_laws
 pub use Rattle.cat_items.proofs as items_laws

@@ -7,4 +7,6 @@ pub mod LiveStart
 pub mod Parts
 pub mod Sources
 pub mod Orders
+pub mod RowParts
+pub mod Valued
 pub use Rattle.cat_items.specs as cat_items

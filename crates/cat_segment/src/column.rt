@@ -1,31 +1,39 @@
 //! The columns of a segment: what its rows have in one field, with the terms of that field.
-ghost use Rattle.std.specs.Prelude.{◌≡◌, ◌<◌, map, IfOk};
+ghost use Rattle.std.specs.Prelude.{◌≡◌, ◌<◌, None, map, IfOk};
 ghost use Rattle.cat_model.specs.Ordinals.{texts_of};
+ghost use Rattle.cat_model.specs.Text.{text_cmp};
+ghost use Rattle.cat_segment.specs.Orders.{IsOrderBy, turned};
+ghost use Rattle.cat_segment.specs.RowParts.{rows_of_parts};
+ghost use Rattle.cat_segment.specs.Valued.{rows_with};
 
 use crate::inverting::{terms_of_keywords, terms_of_labels};
+use crate::missing_rows::missing_rows;
 use crate::numbers::Numbers;
+use crate::row_parts::RowParts;
 use cat_columns::inverted::Terms;
 use cat_columns::{KeywordColumn, SetColumn};
 use std::alloc::{AllocError, Global};
 use std::marker::Model;
 
-/// What each row has in a keyword field, and the rows of each text (Lucene: the field's `SortedDocValues`, and its
-/// `Terms`).
+/// What each row has in a keyword field, the rows of each text, and those without a text (Lucene: the field's
+/// `SortedDocValues`, and its `Terms`).
 #[derive(Drop)]
 pub struct Keywords {
     values: KeywordColumn,
     terms: Terms,
+    missing: Vec<u32>,
 }
 
 impl Model for Keywords {
-    ghost use Rattle.std.specs.Prelude.{◌≡◌, List, Option, ℕ, map};
+    ghost use Rattle.std.specs.Prelude.{◌≡◌, List, Option, None, ℕ, map};
     ghost use Rattle.cat_model.specs.Ordinals.{texts_of};
+    ghost use Rattle.cat_segment.specs.Valued.{rows_with};
 
     ghost Value = { List (Option (List ℕ)) };
 
     ghost view = { λ k. k.values };
 
-    ghost invariant = { λ k. k.terms ≡ map texts_of k.values };
+    ghost invariant = { λ k. (k.terms ≡ map texts_of k.values) × (k.missing.items ≡ rows_with k.values None) };
 }
 
 impl Keywords {
@@ -35,7 +43,12 @@ impl Keywords {
         ensures ok { IfOk result (λ k. k ≡ values) }
     {
         let terms = terms_of_keywords(alloc, &values)?;
-        Ok(Keywords { values, terms })
+        let missing = missing_rows(alloc, &values)?;
+        Ok(Keywords {
+            values,
+            terms,
+            missing,
+        })
     }
 
     /// The text of each row.
@@ -50,6 +63,29 @@ impl Keywords {
         ensures { result.now ≡ map texts_of self.now }
     {
         &self.terms
+    }
+
+    /// The rows without a text, rising.
+    pub fn missing(&self) -> &[u32]
+        ensures { result.now ≡ rows_with self.now None }
+    {
+        &self.missing
+    }
+
+    /// All rows in parts, the least text first. A row without a text stands last, and of rows that tie the lower one stands
+    /// first.
+    pub fn rising(&self) -> RowParts<'_>
+        ensures { IsOrderBy text_cmp self.now (rows_of_parts result) }
+    {
+        RowParts::Rising(self)
+    }
+
+    /// All rows in parts, the greatest text first. A row without a text stands last here too, and of rows that tie the lower
+    /// one stands first.
+    pub fn falling(&self) -> RowParts<'_>
+        ensures { IsOrderBy (turned text_cmp) self.now (rows_of_parts result) }
+    {
+        RowParts::Falling(self)
     }
 }
 

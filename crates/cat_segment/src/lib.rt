@@ -12,7 +12,9 @@ mod ids;
 mod inverting;
 mod live;
 mod live_file;
+mod missing_rows;
 mod numbers;
+mod row_parts;
 mod segment;
 mod sources;
 
@@ -25,4 +27,5 @@ pub use encoding::encode_seg;
 pub use live::Live;
 pub use live_file::{LiveFile, decode_liv, encode_liv, live_rows_are_told_by_their_bytes};
 pub use numbers::Numbers;
+pub use row_parts::RowParts;
 pub use segment::{Row, Segment};

@@ -1,5 +1,5 @@
-//! Pages by a number field over segments are the pages over the records that their live rows show, where many rows tie, stand
-//! at an end of the integers, have no number, or are dead, and behind each mark.
+//! Pages by a number or keyword field over segments are the pages over the records that their live rows show, where many rows
+//! tie, stand at an end of the integers, have no value, or are dead, and behind each mark.
 ghost use Rattle.std.specs.Prelude.{◌≡◌, ◌≢◌, ◌<◌, true, IfOk, All, AllPairs};
 ghost use Rattle.cat_model.specs.Item.{IsItem};
 
@@ -33,35 +33,36 @@ const MARKS: &[Option<WriteNo>] = &[
     Some(151),
 ];
 
-/// What prices the rows have, and which of them are dead.
+/// What prices and brands the rows have, and which of them are dead.
 #[derive(Clone, Copy)]
 enum Rows {
-    /// One price.
+    /// One price, and one brand.
     Tied,
-    /// The least and the greatest integer in turn, and none.
+    /// The least and the greatest integer in turn, and none; two brands in the same turn, and none.
     AtTheEnds,
     /// None.
     Missing,
-    /// Five prices and none, and every third row is dead.
+    /// Five prices and brands and none, and every third row is dead.
     Thinned,
-    /// Five prices and none, and all are dead.
+    /// Five prices and brands and none, and all are dead.
     Dead,
 }
 
-/// The text of the price of the row, and nothing for none.
-fn price_of(rows: Rows, number: WriteNo) -> &'static str {
+/// The text of the price and the brand of the row, and nothing for none. Of two rows with brands the one with the greater price
+/// has the greater brand.
+fn values_of(rows: Rows, number: WriteNo) -> &'static str {
     match (rows, number % 6) {
         (Rows::Missing, _) => "",
-        (Rows::Tied, _) => r#","price":7"#,
-        (Rows::AtTheEnds, 0 | 3) => r#","price":-9223372036854775808"#,
-        (Rows::AtTheEnds, 1 | 4) => r#","price":9223372036854775807"#,
+        (Rows::Tied, _) => r#","price":7,"brand":"acme""#,
+        (Rows::AtTheEnds, 0 | 3) => r#","price":-9223372036854775808,"brand":"a""#,
+        (Rows::AtTheEnds, 1 | 4) => r#","price":9223372036854775807,"brand":"zzz""#,
         (Rows::AtTheEnds, _) => "",
         (_, 0) => "",
-        (_, 1) => r#","price":5"#,
-        (_, 2) => r#","price":-1"#,
-        (_, 3) => r#","price":0"#,
-        (_, 4) => r#","price":44"#,
-        (_, _) => r#","price":43"#,
+        (_, 1) => r#","price":5,"brand":"cord""#,
+        (_, 2) => r#","price":-1,"brand":"acme""#,
+        (_, 3) => r#","price":0,"brand":"bolt""#,
+        (_, 4) => r#","price":44,"brand":"east""#,
+        (_, _) => r#","price":43,"brand":"dune""#,
     }
 }
 
@@ -78,8 +79,8 @@ fn is_live(rows: Rows, number: WriteNo) -> bool {
 fn put_of(alloc: Global, schema: &Schema, rows: Rows, number: WriteNo) -> Result<Put, Refusal>
     ensures { IfOk result (λ p. IsItem schema.now p.item) }
 {
-    let price = price_of(rows, number);
-    let text = format!(in alloc; r#"{{"id":"i{number}"{price}}}"#)?;
+    let values = values_of(rows, number);
+    let text = format!(in alloc; r#"{{"id":"i{number}"{values}}}"#)?;
     read_put(
         alloc,
         schema,
@@ -169,17 +170,17 @@ const FINDS: &[(u64, &str)] = &[
     (0, "*:*"),
     (1, "price:[0 TO *]"),
     (1, "price:[* TO 7]"),
+    (1, "brand:[b TO *]"),
 ];
 
-/// Whether all pages by rising and by falling price are those over the records.
-fn walks_agree(alloc: Global, rows: Rows) -> Result<bool, Refusal> {
-    let schema = Schema::read(alloc, FIELDS)?;
-    let puts = puts_in_order(alloc, &schema, rows, false)?;
-    let view = view_of(alloc, &schema, &puts, ENDS)?;
-    let records = puts_in_order(alloc, &schema, rows, true)?;
+/// Whether all pages by the field, rising and falling, are those over the records.
+fn sorts_agree(alloc: Global, view: &View, records: &[Put], field: &str) -> Result<bool, Refusal>
+    requires rising { AllPairs (λ a b. a.number < b.number) records.now }
+    requires items { All (λ p. IsItem view.now.schema p.item) records.now }
+{
     for &(count, query) in FINDS {
-        let rising = pages_agree(alloc, &view, &records, query, Sort::Rising("price"), count)?;
-        let falling = pages_agree(alloc, &view, &records, query, Sort::Falling("price"), count)?;
+        let rising = pages_agree(alloc, view, records, query, Sort::Rising(field), count)?;
+        let falling = pages_agree(alloc, view, records, query, Sort::Falling(field), count)?;
         if !(rising && falling) {
             return Ok(false);
         }
@@ -187,8 +188,19 @@ fn walks_agree(alloc: Global, rows: Rows) -> Result<bool, Refusal> {
     Ok(true)
 }
 
+/// Whether all pages by price and by brand are those over the records.
+fn walks_agree(alloc: Global, rows: Rows) -> Result<bool, Refusal> {
+    let schema = Schema::read(alloc, FIELDS)?;
+    let puts = puts_in_order(alloc, &schema, rows, false)?;
+    let view = view_of(alloc, &schema, &puts, ENDS)?;
+    let records = puts_in_order(alloc, &schema, rows, true)?;
+    let by_price = sorts_agree(alloc, &view, &records, "price")?;
+    let by_brand = sorts_agree(alloc, &view, &records, "brand")?;
+    Ok(by_price && by_brand)
+}
+
 #[test]
-fn many_rows_of_one_number_go_by_their_numbers(rt: HostRuntime) -> Result<(), Fail> {
+fn many_rows_of_one_value_go_by_their_numbers(rt: HostRuntime) -> Result<(), Fail> {
     expect_yes(walks_agree(rt.alloc(), Rows::Tied))
 }
 
@@ -198,7 +210,7 @@ fn numbers_stand_at_the_ends_of_the_integers(rt: HostRuntime) -> Result<(), Fail
 }
 
 #[test]
-fn rows_without_numbers_go_by_their_numbers(rt: HostRuntime) -> Result<(), Fail> {
+fn rows_without_values_go_by_their_numbers(rt: HostRuntime) -> Result<(), Fail> {
     expect_yes(walks_agree(rt.alloc(), Rows::Missing))
 }
 

@@ -1,7 +1,9 @@
-use Rattle.std.proofs.Common.{length, map, option_map, refl, ap}
+use Rattle.std.proofs.Common.{length, map, option_map, refl, sym, ap, subst}
 use Rattle.cat_model.specs.Page.{Key}
 use Rattle.cat_search.proofs.Bars.{keyed_ranks, renewed_ranks}
-use Rattle.cat_search.proofs.Walked.{left_within}
+use Rattle.cat_search.specs.Candidates.{mark_standing}
+use Rattle.cat_search.specs.Walks.{IsRestOfWalk}
+use Rattle.cat_search.proofs.Stepped.{left_rows}
 use Rattle.cat_search.proofs.offers.offer_rows.Goals as goal
 
 pub offer_by-requires : goal.offer_by-requires
@@ -20,4 +22,7 @@ offer_by-requires-in-Some-keywords c =
     λ k. ((refl, tt), (opened.ensures.ordinals, (c.requires, ranked)))
 
 pub covers-requires : goal.covers-requires
-covers-requires c = left_within c.args.ranks.now c.in-Some-walk.walk.now c.split_at.result.1.now c.rows_passed-first.result (length c.args.hits.now) c.in-Some-walk.ensures c.split_at.ensures.back c.requires
+covers-requires c =
+    let mark = mark_standing c.args.mark.now in
+    let ranks = c.args.ranks.now in
+    left_rows mark ranks c.again.result (length c.args.hits.now) (subst (IsRestOfWalk mark ranks) (sym c.again.ensures) c.steps_behind-left.ensures) c.requires

@@ -9,6 +9,6 @@ pub returns-clause-passed : goal.returns-clause-passed
 returns-clause-passed c =
     let mark = mark_standing c.args.mark.now in
     let ranks = c.args.ranks.now in
-    let walk = c.args.walk.now in
-    let point = IsPartitionPoint-from_clause (is_passed mark ranks) walk c.partition_point.result c.partition_point.ensures.partitioned (parted_passed mark ranks walk c.requires) (λ x r q k. search (rules, tests)) in
-    passed_before mark ranks walk c.partition_point.result c.partition_point.ensures.bound (λ k d under. point.0 k d (omega (arith)) under)
+    let rows = c.args.rows.now in
+    let point = IsPartitionPoint-from_clause (is_passed mark ranks) rows c.partition_point.result c.partition_point.ensures.partitioned (parted_passed mark ranks rows c.requires) (λ x r q k. search (rules, tests)) in
+    passed_before mark ranks rows c.partition_point.result c.partition_point.ensures.bound (λ k d under. point.0 k d (omega (arith)) under)

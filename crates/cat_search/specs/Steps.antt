@@ -1,0 +1,19 @@
+-- The rows of parts, one after another.
+use Rattle.std.specs.Prelude.{◌≡◌, ℕ, ◌≤◌, ◌++◌, List, ◌∷◌, length, take, drop}
+use Rattle.std.specs.List.{flat_map}
+use Rattle.cat_views.specs.cat_segment.RowParts.{parts_of}
+use Rattle.cat_views.specs.cat_segment.declared.row_parts.RowParts.{RowParts}
+
+-- the rows of the parts from this index on
+abbrev pub rows_of_parts_from : RowParts → ℕ → List ℕ
+rows_of_parts_from parts index = flat_map (λ part. part) (drop index (parts_of parts))
+
+-- the rows of the parts before this index
+abbrev pub rows_of_parts_before : RowParts → ℕ → List ℕ
+rows_of_parts_before parts index = flat_map (λ part. part) (take index (parts_of parts))
+
+-- the row comes first of these and of those of the parts from this index on, and then come the rest and those of the parts from
+-- another index on
+pub record IsNextRow (parts : RowParts) (next : ℕ) (left : List ℕ) (row next_then : ℕ) (rest : List ℕ) : Type 0 where
+  pub within : next_then ≤ length (parts_of parts)
+  pub rows : left ++ rows_of_parts_from parts next ≡ row ∷ (rest ++ rows_of_parts_from parts next_then)
