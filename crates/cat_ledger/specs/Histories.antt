@@ -49,12 +49,14 @@ IsPastNewest None g = Unit {0}
 IsPastNewest (Some h) g = h < g
 
 -- What a call leaves of commits: the newest one is the one that it was answered, if it was; generations go up, and a commit asks for the
--- one that comes next, which is past the newest; and a crash may leave of each commit's own file what it could have left before, or
--- nothing, but of the one that the call may have begun. The first argument says what a crash may leave of a device's files.
+-- one that comes next, which is past the newest, and isn't given out again where its files may have been begun; and a crash may leave of
+-- each commit's own file what it could have left before, or nothing, but of the one that the call may have begun. The first argument says
+-- what a crash may leave of a device's files.
 pub record Goes {D : Type 0} (left : D → FileName → FileContent → Type 0) (event : Event) (old new : Ledger D) : Type 0 where
   pub newest : newest_of new ≡ newest_after event (newest_of old)
   pub next : (shape_in old).next_generation ≤ (shape_in new).next_generation
   pub asked : (g : ℕ) → MayBegin event g → (g ≡ (shape_in old).next_generation) × IsPastNewest (newest_of old) g
+  pub taken : (g : ℕ) → MayBegin event g → g < (shape_in new).next_generation
   pub files : (g : ℕ) → (MayBegin event g → ⊥) → OrGone (left (device_in old) (file.Commit g)) (left (device_in new) (file.Commit g))
 
 -- What a line makes of commits, by its reply: a COMMIT that was answered OK keeps one of this generation; one that was refused may have
@@ -136,6 +138,13 @@ FoundIsTried {D} bytes left last =
     (first : Ledger D) (calls : List (Call D)) → AlwaysTells bytes → LeavesNoneAhead left first → IsHistory left first calls last
     → (image : FileName → FileContent) (g : ℕ) → IsCrashed (left (device_in last)) image → IsNewestCommit (tells image) g
     → (newest_of last ≡ Some g) ⊎ IsTried (events_of calls) g
+
+-- So its generation is below the one that comes next: no later commit gets it.
+abbrev pub FoundIsTaken : {D : Type 0} → (D → ToldFiles) → (D → FileName → FileContent → Type 0) → Ledger D → Type 0
+FoundIsTaken {D} bytes left last =
+    (first : Ledger D) (calls : List (Call D)) → AlwaysTells bytes → LeavesNoneAhead left first → IsHistory left first calls last
+    → (image : FileName → FileContent) (g : ℕ) → IsCrashed (left (device_in last)) image → IsNewestCommit (tells image) g
+    → g < (shape_in last).next_generation
 
 -- Where a crash leaves no commit, the ledger has none.
 abbrev pub NoneIsLost : {D : Type 0} → (D → ToldFiles) → (D → FileName → FileContent → Type 0) → Ledger D → Type 0

@@ -7,6 +7,7 @@ ghost use Rattle.cat_ledger.specs.Histories.{Event, Goes, SparesOtherCommits};
 ghost use Rattle.cat_ledger.specs.Lasting.{IsCarried, IsLasting};
 ghost use Rattle.cat_ledger.specs.Ledgers.{Does, Spares, device_in, policy_in, shape_in};
 ghost use Rattle.cat_ledger.specs.Refusals.{KeepsMerge};
+ghost use Rattle.cat_ledger.specs.upkeep.Spared.{SparesCommits};
 ghost use Rattle.std.specs.Prelude.{Err, IfErr, IfOk, None, Ok, OnErr, OnOk, Some, ℕ, ◌-◌, ◌<◌, ◌≡◌, ◌≤◌, ◌⊎◌};
 ghost use Rattle.cat_directory.specs.declared.name.FileName.{FileName};
 ghost use Rattle.cat_model.specs.Forms.{IsCommitText};
@@ -46,7 +47,9 @@ fn flush_and_commit<D: Directory>(
         → NoMore (D.may_leave device.old q) (D.may_leave device.new q) }
     ensures commits { SparesOtherCommits core.old.next_generation (D.may_leave device.old) (D.may_leave device.new) }
     ensures newest { IfOk result (λ g. newest_generation core.new.commits ≡ Some g) }
-    ensures next { OnOk result (core.old.next_generation ≤ core.new.next_generation) }
+    ensures next { OnOk result (core.old.next_generation < core.new.next_generation) }
+    ensures taken { OnErr result ((core.old.next_generation < core.new.next_generation)
+        ⊎ SparesCommits (D.may_leave device.old) (D.may_leave device.new)) }
     ensures lasts { OnOk result (IsLasting D.bytes D.may_leave device.old core.old
         → IsLasting D.bytes D.may_leave device.new core.new) }
     ensures spent { IfErr result (λ e. e ≡ Spent → MayNotFlush core.old) }
@@ -54,6 +57,7 @@ fn flush_and_commit<D: Directory>(
     ensures counted { IfErr result (λ e. e ≡ Device → CountsOne (D.fault_count device.old) (D.fault_count device.new)) }
     ensures memory { IfErr result (λ e. e ≡ Memory → D.fault_count device.new ≡ D.fault_count device.old) }
     ensures can { D.can_fail device.new → D.can_fail device.old }
+    ensures rises { D.fault_count device.old ≤ D.fault_count device.new }
     ensures refusal { IfErr result (λ e. (e ≡ Memory) ⊎ (e ≡ Device) ⊎ (e ≡ Spent)) }
 {
     needed_are_synced();
@@ -76,8 +80,8 @@ impl<D: Directory + Shelf> Ledger<D> {
     /// The first of these that is due comes: [`Refusal::Large`] where the text has more than 256 bytes, [`Refusal::Kind`] where it
     /// has a control character; [`Refusal::Spent`] where no generation is left, and nothing is done then; [`Refusal::Spent`] where
     /// no number is left for the segment of what waits, or as many stand as may; else [`Refusal::Device`] where the directory
-    /// fails, or [`Refusal::Memory`], where it counted no failure. A flush that ended stays done, and names that were begun are
-    /// pending. A merge in the making goes on.
+    /// fails, or [`Refusal::Memory`], where it counted no failure. A flush that ended stays done, names that were begun are
+    /// pending, and a generation whose file was begun isn't given out again. A merge in the making goes on.
     pub fn commit(&mut self, text: &str) -> Result<Generation, Refusal>
         ensures number { IfOk result (λ g. g ≡ (shape_in self.old).next_generation) }
         ensures form { OnOk result (commit_text_of text.now ≡ Ok text.now) }
@@ -96,6 +100,7 @@ impl<D: Directory + Shelf> Ledger<D> {
         ensures counted { commit_text_of text.now ≡ Ok text.now → IfErr result (λ e. e ≡ Device → CountsOne (D.fault_count (device_in self.old)) (D.fault_count (device_in self.new))) }
         ensures memory { IfErr result (λ e. e ≡ Memory → D.fault_count (device_in self.new) ≡ D.fault_count (device_in self.old)) }
         ensures can { D.can_fail (device_in self.new) → D.can_fail (device_in self.old) }
+        ensures rises { D.fault_count (device_in self.old) ≤ D.fault_count (device_in self.new) }
         ensures answered { IfOk result (λ g. Goes D.may_leave (Event.Answered g) self.old self.new) }
         ensures refused { OnErr result (Goes D.may_leave Event.Other self.old self.new
             ⊎ Goes D.may_leave (Event.Refused (shape_in self.old).next_generation) self.old self.new) }

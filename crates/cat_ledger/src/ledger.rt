@@ -1,5 +1,5 @@
 //! The ledger, which is its directory and what memory has of it.
-ghost use Rattle.cat_ledger.specs.Histories.{FoundIsTried, NewestIsAnswered, NewestIsFound, NoneIsLost};
+ghost use Rattle.cat_ledger.specs.Histories.{FoundIsTaken, FoundIsTried, NewestIsAnswered, NewestIsFound, NoneIsLost};
 ghost use Rattle.cat_ledger.specs.Lasting.{AlwaysTells, IsCarried, NewestLasts};
 ghost use Rattle.cat_ledger.specs.Ledgers.{device_in, policy_in, shape_in};
 ghost use Rattle.std.specs.Prelude.{◌≡◌};
@@ -92,7 +92,7 @@ impl<D: Directory + Shelf> Ledger<D> {
     /// - Where such directories always tell of their files, and a crash left no commit ahead of the first ledger's newest one, as
     ///   once it was [opened](Ledger::open): in whatever a crash leaves at this moment, the newest commit that is found is that one,
     ///   or one that was refused after it; and one is found, where the ledger has one. (Whether opening accepts a refused one, or
-    ///   finds it damaged, is for its bytes to say.)
+    ///   finds it damaged, is for its bytes to say.) Its generation isn't given out again.
     /// - Once the files of such refused commits are taken away, that newest commit is the one that is found, and each file that it
     ///   needs is byte for byte as the directory told of it.
     ///
@@ -101,6 +101,7 @@ impl<D: Directory + Shelf> Ledger<D> {
     pub fn histories_last(&self)
         ensures answered { NewestIsAnswered D.may_leave self.now }
         ensures tried { FoundIsTried D.bytes D.may_leave self.now }
+        ensures taken { FoundIsTaken D.bytes D.may_leave self.now }
         ensures lost { NoneIsLost D.bytes D.may_leave self.now }
         ensures found { NewestIsFound D.bytes D.may_leave self.now }
     {

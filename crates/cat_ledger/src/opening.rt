@@ -1,7 +1,7 @@
 //! Opening: at the newest commit of a directory, or where there is none.
 //!
 //! Lucene's constructor of `IndexWriter` with `OpenMode.CREATE_OR_APPEND`, and that of its `IndexFileDeleter`.
-ghost use Rattle.std.specs.Prelude.{◌≡◌, ◌⊎◌, ◌<◌, [], IfOk, IfErr, OnErr};
+ghost use Rattle.std.specs.Prelude.{◌≡◌, ◌⊎◌, ◌<◌, ◌≤◌, [], IfOk, IfErr, OnErr};
 ghost use Rattle.cat_base.specs.declared.refusal.Refusal.TheVariants.{Damaged, Device, Kind, Memory};
 ghost use Rattle.cat_model.specs.Table.{Opened};
 ghost use Rattle.cat_directory.specs.Devices.{NoMore};
@@ -14,7 +14,7 @@ ghost use Rattle.cat_ledger_state.specs.startup.Refused.{IsNewestDamaged, IsNewe
 ghost use Rattle.cat_ledger.specs.Histories.{LeavesNoneAhead, NoneIsAhead};
 ghost use Rattle.cat_ledger.specs.Lasting.{AlwaysTells, IsLasting};
 ghost use Rattle.cat_ledger.specs.Ledgers.{device_in, policy_in, shape_in};
-ghost use Rattle.cat_ledger.specs.Openings.{IsOpenedLedger};
+ghost use Rattle.cat_ledger.specs.Openings.{CountsSwept, IsOpenedLedger};
 
 use crate::ledger::Ledger;
 use crate::upkeep::MergePolicy;
@@ -54,6 +54,8 @@ fn open_swept<D: Directory + Shelf>(
     ensures same { OnErr result ((q : FileName) → D.bytes device.new q ≡ D.bytes device.old q) }
     ensures spared { OnErr result ((q : FileName) → NoMore (D.may_leave device.old q) (D.may_leave device.new q)) }
     ensures can { D.can_fail device.new → D.can_fail device.old }
+    ensures rises { D.fault_count device.old ≤ D.fault_count device.new }
+    ensures swept { IfOk result (λ s. CountsSwept (D.can_fail device.old) (D.fault_count device.old) s (D.fault_count device.new)) }
 {
     let mut core = cat_ledger_state::startup::open(alloc, device, schema)?;
     // Where a file can't be deleted, or memory is wanting, names stay pending for a later sweep.
@@ -63,8 +65,8 @@ fn open_swept<D: Directory + Shelf>(
 
 impl<D: Directory + Shelf> Ledger<D> {
     /// Opens the newest commit of the directory, or an empty catalogue where there is none, under this schema. What the commit needs
-    /// outlasts a loss of power before anything goes; then the files that it doesn't need are deleted, and one that can't be stays
-    /// pending. (Lucene: the constructor of `IndexWriter` with `OpenMode.CREATE_OR_APPEND`.)
+    /// outlasts a loss of power before anything goes; then the files that it doesn't need are deleted. The first that can't be is
+    /// counted as a failure, and stays pending with those behind it. (Lucene: the constructor of `IndexWriter` with `OpenMode.CREATE_OR_APPEND`.)
     ///
     /// [`Refusal::Kind`] where the commit has another schema, [`Refusal::Damaged`] where its files don't hold it,
     /// [`Refusal::Device`] where the directory fails, or [`Refusal::Memory`]. Then nothing is deleted, and the directory counted a
@@ -84,6 +86,8 @@ impl<D: Directory + Shelf> Ledger<D> {
             → NoMore (D.may_leave device q) (D.may_leave (device_in l) q)) }
         ensures ahead { IfOk result (λ l. AlwaysTells D.bytes → LeavesNoneAhead D.may_leave l) }
         ensures can { IfOk result (λ l. D.can_fail (device_in l) → D.can_fail device) }
+        ensures rises { IfOk result (λ l. D.fault_count device ≤ D.fault_count (device_in l)) }
+        ensures swept { IfOk result (λ l. CountsSwept (D.can_fail device) (D.fault_count device) (shape_in l) (D.fault_count (device_in l))) }
         ensures damaged { IfErr result (λ e. e.refusal ≡ Damaged → IsNewestDamaged (D.bytes device) schema) }
         ensures foreign { IfErr result (λ e. e.refusal ≡ Kind → IsNewestForeign (D.bytes device) schema) }
         ensures device { IfErr result (λ e. e.refusal ≡ Device → D.can_fail device) }

@@ -39,6 +39,7 @@ pub(crate) fn flush<D: Directory>(core: &mut Core, device: &mut D) -> Result<(),
     ensures memory { IfErr result (λ e. e ≡ Memory → D.fault_count device.new ≡ D.fault_count device.old) }
     ensures quiet { OnOk result (D.fault_count device.new ≡ D.fault_count device.old) }
     ensures can { D.can_fail device.new → D.can_fail device.old }
+    ensures rises { D.fault_count device.old ≤ D.fault_count device.new }
     ensures refusal { IfErr result (λ e. (e ≡ Memory) ⊎ (e ≡ Device) ⊎ (e ≡ Spent)) }
 {
     if let Err(refusal) = core.flush(device) {
@@ -66,6 +67,7 @@ pub(crate) fn make_room<D: Directory>(core: &mut Core, device: &mut D) -> Result
     ensures memory { IfErr result (λ e. e ≡ Memory → D.fault_count device.new ≡ D.fault_count device.old) }
     ensures quiet { OnOk result (D.fault_count device.new ≡ D.fault_count device.old) }
     ensures can { D.can_fail device.new → D.can_fail device.old }
+    ensures rises { D.fault_count device.old ≤ D.fault_count device.new }
     ensures refusal { IfErr result (λ e. (e ≡ Memory) ⊎ (e ≡ Device) ⊎ (e ≡ Spent)) }
 {
     if !core.is_due() {

@@ -5,7 +5,7 @@ ghost use Rattle.cat_base.specs.declared.refusal.Refusal.TheVariants.{Device, Me
 ghost use Rattle.cat_ledger.specs.Histories.{Event, Goes};
 ghost use Rattle.cat_ledger.specs.Ledgers.{Does, device_in, policy_in, shape_in};
 ghost use Rattle.cat_directory.specs.declared.name.FileName.{FileName};
-ghost use Rattle.std.specs.Prelude.{IfErr, IfOk, OnOk, [], false, count_by, ◌<◌, ◌==◌, ◌≡◌, ◌⊎◌};
+ghost use Rattle.std.specs.Prelude.{IfErr, IfOk, OnOk, [], false, count_by, ◌<◌, ◌==◌, ◌≡◌, ◌⊎◌, ◌≤◌};
 ghost use Rattle.cat_ledger_laws.specs.model.Calls.{MayLeave};
 ghost use Rattle.cat_directory.specs.Devices.{CountsOne, NoMore};
 ghost use Rattle.cat_directory.specs.Names.{name_of};
@@ -44,6 +44,7 @@ impl<D: Directory + Shelf> Ledger<D> {
         ensures counted { IfErr result (λ e. e ≡ Device → CountsOne (D.fault_count (device_in self.old)) (D.fault_count (device_in self.new))) }
         ensures quiet { IfErr result (λ e. e ≡ Memory → D.fault_count (device_in self.new) ≡ D.fault_count (device_in self.old)) }
         ensures can { D.can_fail (device_in self.new) → D.can_fail (device_in self.old) }
+        ensures rises { D.fault_count (device_in self.old) ≤ D.fault_count (device_in self.new) }
         ensures history { Goes D.may_leave Event.Other self.old self.new }
         ensures policy { policy_in self.new ≡ policy_in self.old }
     {

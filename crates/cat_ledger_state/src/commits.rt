@@ -1,7 +1,7 @@
 //! The commit: what stands is to outlast the program.
 //!
 //! Lucene's `IndexWriter.commit`, with `IndexFileDeleter.checkpoint`. That what waits is flushed before is left to who commits.
-ghost use Rattle.std.specs.Prelude.{◌≡◌, ◌⊎◌, ◌<◌, ◌≤◌, false, true, [], ◌∷◌, Some, None, IfOk, IfErr, OnOk, OnErr};
+ghost use Rattle.std.specs.Prelude.{◌≡◌, ◌⊎◌, ◌<◌, ◌≤◌, ◌+◌, false, true, [], ◌∷◌, Some, None, IfOk, IfErr, OnOk, OnErr};
 ghost use Rattle.cat_base.specs.declared.refusal.Refusal.TheVariants.{Memory, Device, Spent};
 ghost use Rattle.cat_model.specs.Files.{Name};
 ghost use Rattle.cat_model.specs.Forms.{IsCommitText};
@@ -47,8 +47,8 @@ impl Core {
     ///
     /// [`Refusal::Spent`] where no number is left for a commit; else [`Refusal::Device`] where the directory fails, or doesn't
     /// have a file of a segment that is to be synced, or [`Refusal::Memory`], where the directory counted no
-    /// failure. Behind an error no commit comes and none goes; the files that were begun are pending, and those that were pending
-    /// stay so.
+    /// failure. Behind an error no commit comes and none goes; where a file was begun, the number isn't given out again; the files
+    /// that were begun are pending, and those that were pending stay so.
     pub fn commit<D: Directory>(
         &mut self,
         device: &mut D,
@@ -60,6 +60,7 @@ impl Core {
         ensures ok { OnOk result (HasCommitted text.now (D.bytes device.old) self.old (D.bytes device.new) self.new) }
         ensures err { OnErr result (HasGivenUp (names_begun self.old) (D.bytes device.old) self.old (D.bytes device.new) self.new) }
         ensures known { OnErr result (StayKnown self.old.users self.new.users) }
+        ensures taken { OnErr result ((self.new.next_generation ≡ self.old.next_generation + 1) ⊎ (device.new ≡ device.old)) }
         ensures crash { (q : FileName) → is_begun (names_begun self.old) q ≡ false
             → NoMore (D.may_leave device.old q) (D.may_leave device.new q) }
         ensures lasts { OnOk result (AreSettled (Name.commit self.old.next_generation ∷ names_synced self.old)
@@ -74,6 +75,7 @@ impl Core {
         ensures counted { IfErr result (λ e. e ≡ Device → CountsOne (D.fault_count device.old) (D.fault_count device.new)) }
         ensures memory { IfErr result (λ e. e ≡ Memory → D.fault_count device.new ≡ D.fault_count device.old) }
         ensures can { D.can_fail device.new → D.can_fail device.old }
+        ensures rises { D.fault_count device.old ≤ D.fault_count device.new }
         ensures refusal { IfErr result (λ e. (e ≡ Memory) ⊎ (e ≡ Device) ⊎ (e ≡ Spent)) }
     {
         drafts_write_commits();

@@ -132,6 +132,7 @@ impl Core {
         ensures quiet { OnOk result (D.fault_count device.new ≡ D.fault_count device.old) }
         ensures memory { IfErr result (λ e. e ≡ Memory → D.fault_count device.new ≡ D.fault_count device.old) }
         ensures can { D.can_fail device.new → D.can_fail device.old }
+        ensures rises { D.fault_count device.old ≤ D.fault_count device.new }
         ensures refusal { IfErr result (λ e. (e ≡ Memory) ⊎ (e ≡ Device) ⊎ (e ≡ Spent)) }
     {
         if self.buffer.is_empty() {

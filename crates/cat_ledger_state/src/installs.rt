@@ -1,7 +1,7 @@
 //! The end of a merge: its segment stands in the place of those that it took.
 //!
 //! Lucene's `IndexWriter.commitMerge`, with the end of `mergeMiddle`.
-ghost use Rattle.std.specs.Prelude.{◌≡◌, ◌≢◌, ◌⊎◌, ◌+◌, ◌<◌, ◌++◌, ◌∷◌, [], map, length, take, IfOk, IfErr, OnOk, OnErr};
+ghost use Rattle.std.specs.Prelude.{◌≡◌, ◌≢◌, ◌⊎◌, ◌+◌, ◌<◌, ◌++◌, ◌∷◌, [], map, length, take, IfOk, IfErr, OnOk, OnErr, ◌≤◌};
 ghost use Rattle.std.specs.List.{AllByRecursion};
 ghost use Rattle.std.specs.Option.{option_to_list};
 ghost use Rattle.cat_base.specs.declared.refusal.Refusal.TheVariants.{Memory, Device};
@@ -178,6 +178,7 @@ impl Core {
         ensures device { IfErr result (λ e. e ≡ Device → D.can_fail device.old) }
         ensures counted { CountsWriting (D.fault_count device.old) (D.fault_count device.new) result }
         ensures can { D.can_fail device.new → D.can_fail device.old }
+        ensures rises { D.fault_count device.old ≤ D.fault_count device.new }
         ensures refusal { IfErr result (λ e. (e ≡ Memory) ⊎ (e ≡ Device)) }
     {
         prove!(self.records.len() <= MAX_RECORDS);

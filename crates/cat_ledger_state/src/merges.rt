@@ -68,6 +68,7 @@ impl Core {
         ensures counted { IfErr result (λ e. e ≡ Device → CountsOne (D.fault_count device.old) (D.fault_count device.new)) }
         ensures memory { IfErr result (λ e. e ≡ Memory → D.fault_count device.new ≡ D.fault_count device.old) }
         ensures can { D.can_fail device.new → D.can_fail device.old }
+        ensures rises { D.fault_count device.old ≤ D.fault_count device.new }
         ensures refusal { IfErr result (λ e. (e ≡ Memory) ⊎ (e ≡ Device) ⊎ (e ≡ Spent)) }
     {
         let number = self.next_segment;
@@ -102,6 +103,7 @@ impl Core {
         ensures crash { (q : FileName) → (IsSourceOf self.old.merging q → ⊥)
             → NoMore (D.may_leave device.old q) (D.may_leave device.new q) }
         ensures can { D.can_fail device.new → D.can_fail device.old }
+        ensures rises { D.fault_count device.old ≤ D.fault_count device.new }
         ensures counted { CountsReading (D.fault_count device.old) (D.fault_count device.new) result }
     {
         let Some(mut merge) = self.merging.take() else {

@@ -1,7 +1,7 @@
 //! The sweep: the files go that nobody needs.
 //!
 //! Lucene's `IndexFileDeleter.deletePendingFiles`. When one is due is left to who asks.
-ghost use Rattle.std.specs.Prelude.{◌≡◌, ◌<◌, ◌==◌, [], false, count_by, IfOk, IfErr};
+ghost use Rattle.std.specs.Prelude.{◌≡◌, ◌<◌, ◌==◌, [], false, count_by, IfOk, IfErr, ◌≤◌};
 ghost use Rattle.cat_base.specs.declared.refusal.Refusal.TheVariants.{Memory, Device};
 ghost use Rattle.cat_model.specs.Files.{Name};
 ghost use Rattle.cat_directory.specs.Devices.{CountsWriting, NoMore};
@@ -37,6 +37,7 @@ impl Core {
         ensures stays { IfErr result (λ e. e ≡ Device → (q : FileName) × IsPending self.new.users q) }
         ensures device { IfErr result (λ e. e ≡ Device → D.can_fail device.old) }
         ensures can { D.can_fail device.new → D.can_fail device.old }
+        ensures rises { D.fault_count device.old ≤ D.fault_count device.new }
         ensures counted { CountsWriting (D.fault_count device.old) (D.fault_count device.new) result }
     {
         self.refs.sweep(self.alloc, device)

@@ -41,6 +41,7 @@ fn begin_all<D: Directory>(core: &mut Core, device: &mut D) -> Result<MergeNews,
     ensures counted { IfErr result (λ e. e ≡ Device → CountsOne (D.fault_count device.old) (D.fault_count device.new)) }
     ensures memory { IfErr result (λ e. e ≡ Memory → D.fault_count device.new ≡ D.fault_count device.old) }
     ensures can { D.can_fail device.new → D.can_fail device.old }
+    ensures rises { D.fault_count device.old ≤ D.fault_count device.new }
     ensures refusal { IfErr result (λ e. (e ≡ Memory) ⊎ (e ≡ Device) ⊎ (e ≡ Spent)) }
 {
     if !may_be_forced(core.leaves()) {
@@ -77,6 +78,7 @@ pub fn force<D: Directory>(core: &mut Core, device: &mut D) -> Result<MergeNews,
     ensures counted { IfErr result (λ e. e ≡ Device → CountsOne (D.fault_count device.old) (D.fault_count device.new)) }
     ensures memory { IfErr result (λ e. e ≡ Memory → D.fault_count device.new ≡ D.fault_count device.old) }
     ensures can { D.can_fail device.new → D.can_fail device.old }
+    ensures rises { D.fault_count device.old ≤ D.fault_count device.new }
     ensures refusal { IfErr result (λ e. (e ≡ Memory) ⊎ (e ≡ Device) ⊎ (e ≡ Spent)) }
 {
     if core.is_merging() {

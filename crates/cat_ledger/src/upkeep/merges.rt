@@ -51,6 +51,7 @@ fn begin_at<D: Directory>(
     ensures counted { IfErr result (λ e. e ≡ Device → CountsOne (D.fault_count device.old) (D.fault_count device.new)) }
     ensures memory { IfErr result (λ e. e ≡ Memory → D.fault_count device.new ≡ D.fault_count device.old) }
     ensures can { D.can_fail device.new → D.can_fail device.old }
+    ensures rises { D.fault_count device.old ≤ D.fault_count device.new }
     ensures refusal { IfErr result (λ e. (e ≡ Memory) ⊎ (e ≡ Device) ⊎ (e ≡ Spent)) }
 {
     let count = policy.factor() as usize;
@@ -82,6 +83,7 @@ fn begin_window<D: Directory>(
     ensures counted { IfErr result (λ e. e ≡ Device → CountsOne (D.fault_count device.old) (D.fault_count device.new)) }
     ensures memory { IfErr result (λ e. e ≡ Memory → D.fault_count device.new ≡ D.fault_count device.old) }
     ensures can { D.can_fail device.new → D.can_fail device.old }
+    ensures rises { D.fault_count device.old ≤ D.fault_count device.new }
     ensures refusal { IfErr result (λ e. (e ≡ Memory) ⊎ (e ≡ Device) ⊎ (e ≡ Spent)) }
 {
     match window_of(alloc, core.leaves(), policy) {
@@ -103,6 +105,7 @@ fn copy<D: Directory + Shelf>(core: &mut Core, device: &mut D) -> Result<usize, 
     ensures counted { IfErr result (λ e. e ≡ Device → CountsOne (D.fault_count device.old) (D.fault_count device.new)) }
     ensures memory { IfErr result (λ e. e ≡ Memory → D.fault_count device.new ≡ D.fault_count device.old) }
     ensures can { D.can_fail device.new → D.can_fail device.old }
+    ensures rises { D.fault_count device.old ≤ D.fault_count device.new }
     ensures refusal { IfErr result (λ e. (e ≡ Memory) ⊎ (e ≡ Device) ⊎ (e ≡ Damaged)) }
 {
     if let Err(refusal) = core.copy_rows(device) {
@@ -128,6 +131,7 @@ fn finish<D: Directory>(core: &mut Core, device: &mut D) -> Result<(), Refusal>
     ensures counted { IfErr result (λ e. e ≡ Device → CountsOne (D.fault_count device.old) (D.fault_count device.new)) }
     ensures memory { IfErr result (λ e. e ≡ Memory → D.fault_count device.new ≡ D.fault_count device.old) }
     ensures can { D.can_fail device.new → D.can_fail device.old }
+    ensures rises { D.fault_count device.old ≤ D.fault_count device.new }
     ensures refusal { IfErr result (λ e. (e ≡ Memory) ⊎ (e ≡ Device)) }
 {
     // Its contract says that the merge has passed no more rows than there are.
@@ -152,6 +156,7 @@ fn go_on<D: Directory + Shelf>(core: &mut Core, device: &mut D) -> Result<MergeN
     ensures counted { IfErr result (λ e. e ≡ Device → CountsOne (D.fault_count device.old) (D.fault_count device.new)) }
     ensures memory { IfErr result (λ e. e ≡ Memory → D.fault_count device.new ≡ D.fault_count device.old) }
     ensures can { D.can_fail device.new → D.can_fail device.old }
+    ensures rises { D.fault_count device.old ≤ D.fault_count device.new }
     ensures refusal { IfErr result (λ e. (e ≡ Memory) ⊎ (e ≡ Device) ⊎ (e ≡ Damaged)) }
 {
     if core.has_rows_left() {
@@ -195,6 +200,7 @@ pub fn merge_step<D: Directory + Shelf>(
     ensures counted { IfErr result (λ e. e ≡ Device → CountsOne (D.fault_count device.old) (D.fault_count device.new)) }
     ensures memory { IfErr result (λ e. e ≡ Memory → D.fault_count device.new ≡ D.fault_count device.old) }
     ensures can { D.can_fail device.new → D.can_fail device.old }
+    ensures rises { D.fault_count device.old ≤ D.fault_count device.new }
     ensures refusal { IfErr result (λ e. (e ≡ Memory) ⊎ (e ≡ Device) ⊎ (e ≡ Damaged) ⊎ (e ≡ Spent)) }
 {
     if core.is_merging() {
