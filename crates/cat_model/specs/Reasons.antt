@@ -8,7 +8,7 @@ use Rattle.cat_model.specs.Heard.{Json}
 use Rattle.cat_model.specs.Files.{IsFileName, Name}
 use Rattle.cat_model.specs.Served.{Ending, ServesBy, SpellsSchema, exchange}
 use Rattle.cat_model.specs.View.{Leaf}
-use Rattle.cat_model.specs.Told.{DirectoryKind, FileContent, IsNewestTold, IsToldToHave, LeftByName, MayBeLeft, MayHave, TellsAlways, TellsNoCommit, ToldByName, told_of}
+use Rattle.cat_model.specs.Told.{CountsOne, DirectoryKind, FileContent, IsNewestTold, IsToldToHave, LeftByName, MayBeLeft, MayHave, TellsAlways, TellsNoCommit, ToldByName, told_of}
 use Rattle.cat_model.specs.Restored.{IsRestored, Restored}
 use Rattle.cat_model.specs.Opens.{BeginsFrom}
 use Rattle.cat_model.specs.Serving.{IsServedIn}
@@ -55,9 +55,14 @@ pub record BeginsWith (told : ToldByName) (schema : Schema) (first : ℕ) (s : S
 abbrev pub BeginsWithout : ToldByName → (first : ℕ) → Standing → Type 0
 BeginsWithout told first s = TellsNoCommit told × (s.stat.segments ≡ []) × (s.next_segment ≡ max first 1)
 
+-- No failure is counted but those that the directory had counted. Or one more is, where the directory can fail: a file that nobody needs
+-- couldn't be deleted, and waits for a SWEEP.
+abbrev pub HasCountedFirst : (fails : Type 0) → (failures : ℕ) → Standing → Type 0
+HasCountedFirst fails failures s = (s.failures ≡ failures) ⊎ (fails × CountsOne failures s.failures × (0 < s.stat.pending))
+
 -- How it stands before the first line: nothing waits, no merge is in the making, the numbers that come next are the least that are above
--- those in the names of the directory's files, and no failure is counted but those that the directory had counted.
-pub record StandsFirst (told : ToldByName) (failures : ℕ) (schema : Schema) (s : Standing) : Type 0 where
+-- those in the names of the directory's files, and failures are counted as above. The second argument says whether the directory can fail.
+pub record StandsFirst (told : ToldByName) (fails : Type 0) (failures : ℕ) (schema : Schema) (s : Standing) : Type 0 where
   pub names : List Name
   pub listed : AreNamesIn told names
   pub first : ℕ
@@ -65,7 +70,7 @@ pub record StandsFirst (told : ToldByName) (failures : ℕ) (schema : Schema) (s
   pub commit : BeginsWith told schema first s ⊎ BeginsWithout told first s
   pub waits : s.stat.buffered ≡ 0
   pub idle : s.merging ≡ None
-  pub counted : s.failures ≡ failures
+  pub counted : HasCountedFirst fails failures s
 
 -- ---- the whole
 
@@ -84,7 +89,7 @@ pub record IsCausedIn (json : Json) {D : Type 0} (kind : DirectoryKind D) (devic
   pub fields : Text
   pub policy : SpellsSchema first factor least fields
   pub opened : Standing
-  pub begins : StandsFirst (kind.bytes device) (kind.failures device) served.from.start.schema opened
+  pub begins : StandsFirst (kind.bytes device) (kind.can_fail device) (kind.failures device) served.from.start.schema opened
   pub last : Standing
   pub reasons : HaveReasons (TellsAlways kind) factor least served.from [] opened (filter_map exchange served.fitting) last
   pub failures : last.failures ≡ kind.failures left

@@ -70,46 +70,56 @@ module _ {D : Type 0} (bytes : D → ToldFiles) (can_fail : D → Type 0) (fault
   abbrev Counted : Type 0
   Counted = CountsOne (faults (device_in old)) (faults (device_in left))
 
+  -- no failure is forgotten
+  abbrev Rises : Type 0
+  Rises = faults (device_in old) ≤ faults (device_in left)
+
   abbrev Causes : Said → Type 0
   Causes said = HasCause bytes can_fail faults world (Some said) (reply_of result) after
 
   pub put_caused : (text : Text)
       → IfErr result (λ e. e ≡ Spent → (last_number ≤ (shape_in old).count) ⊎ ((buffer_limit ≤ length (shape_in old).buffered) × MayNotFlush (shape_in old)))
-      → IfErr result (λ e. e ≡ Device → can_fail (device_in old)) → IfErr result (λ e. e ≡ Device → Counted) → Causes (Said.put text)
-  put_caused text spent device counted = record {
+      → IfErr result (λ e. e ≡ Device → can_fail (device_in old)) → IfErr result (λ e. e ≡ Device → Counted) → Rises → Causes (Said.put text)
+  put_caused text spent device counted rises = record {
     spent = given_so (IsSpentTo (policy_in old) (shape_in old) (Some (Said.put text))) Spent result Spent spent refl;
     device = given_so (can_fail (device_in old)) Device result Device device refl;
     counted = given_so Counted Device result Device counted refl;
     damaged = λ k. tt;
     told = tt;
+    rises = rises;
+    stays = tt;
   }
 
   pub refresh_caused : IfErr result (λ e. e ≡ Spent → MayNotFlush (shape_in old)) → IfErr result (λ e. e ≡ Device → can_fail (device_in old))
-      → IfErr result (λ e. e ≡ Device → Counted) → Causes Said.refresh
-  refresh_caused spent device counted = record {
+      → IfErr result (λ e. e ≡ Device → Counted) → Rises → Causes Said.refresh
+  refresh_caused spent device counted rises = record {
     spent = given_so (MayNotFlush (shape_in old)) Spent result Spent spent refl;
     device = given_so (can_fail (device_in old)) Device result Device device refl;
     counted = given_so Counted Device result Device counted refl;
     damaged = λ k. tt;
     told = tt;
+    rises = rises;
+    stays = tt;
   }
 
   pub get_caused : (t : ℕ) (id : Text)
       → IfErr result (λ e. e ≡ Damaged → (view : View) → IsRecordedAs (shape_in old).views t view → (files : ℕ → List ℕ)
       → TellsSource (bytes (device_in old)) files view id → HoldsSource files view id → ⊥)
-      → IfErr result (λ e. e ≡ Device → can_fail (device_in old)) → IfErr result (λ e. e ≡ Device → Counted) → Causes (Said.get t id)
-  get_caused t id damaged device counted = record {
+      → IfErr result (λ e. e ≡ Device → can_fail (device_in old)) → IfErr result (λ e. e ≡ Device → Counted) → Rises → Causes (Said.get t id)
+  get_caused t id damaged device counted rises = record {
     spent = λ k. tt;
     device = given_so (can_fail (device_in old)) Device result Device device refl;
     counted = given_so Counted Device result Device counted refl;
     damaged = given_so (IsDamagedTo (bytes (device_in old)) (shape_in old) (Some (Said.get t id))) Damaged result Damaged damaged refl;
     told = tt;
+    rises = rises;
+    stays = tt;
   }
 
   -- an OPEN, of which the run says what it is told
-  pub open_caused : (token : Option ℕ) → Causes (said_open token)
-  open_caused None = record { spent = λ k. tt; device = λ k. tt; counted = λ k. tt; damaged = λ k. tt; told = tt }
-  open_caused (Some t) = record { spent = λ k. tt; device = λ k. tt; counted = λ k. tt; damaged = λ k. tt; told = tt }
+  pub open_caused : (token : Option ℕ) → Rises → Causes (said_open token)
+  open_caused None rises = record { spent = λ k. tt; device = λ k. tt; counted = λ k. tt; damaged = λ k. tt; told = tt; rises = rises; stays = tt }
+  open_caused (Some t) rises = record { spent = λ k. tt; device = λ k. tt; counted = λ k. tt; damaged = λ k. tt; told = tt; rises = rises; stays = tt }
 
   -- ---- COMMIT
 
@@ -139,20 +149,27 @@ module _ {D : Type 0} (bytes : D → ToldFiles) (can_fail : D → Type 0) (fault
   commit_told may text (Ok (Answer.news n)) new goes = tt
   commit_told may text (Err e) new goes = tt
 
-  pub commit_caused : (A : Type 0) (may : D → FileName → FileContent → Type 0) (text : Text)
-      → IfErr (commit_text_of text) (λ e. (result ≡ Err e) × A)
+  -- what is so of a refused text beside its refusal
+  if_wrong : {A : Type 0} (judged : Result Text Refusal) → IfErr judged (λ e. (result ≡ Err e) × A) → IfErr judged (λ e. A)
+  if_wrong (Ok t) wrong = tt
+  if_wrong (Err e) wrong = wrong.1
+
+  pub commit_caused : (may : D → FileName → FileContent → Type 0) (text : Text)
+      → IfErr (commit_text_of text) (λ e. (result ≡ Err e) × (left ≡ old))
       → (commit_text_of text ≡ Ok text → IfErr result (λ e. e ≡ Spent → (last_number < (shape_in old).next_generation) ⊎ MayNotFlush (shape_in old)))
       → (commit_text_of text ≡ Ok text → IfErr result (λ e. e ≡ Device → can_fail (device_in old)))
       → (commit_text_of text ≡ Ok text → IfErr result (λ e. e ≡ Device → Counted))
-      → GoesBy may (Some (Said.commit text)) (reply_of result) old left → Causes (Said.commit text)
-  commit_caused A may text wrong spent device counted goes = record {
+      → GoesBy may (Some (Said.commit text)) (reply_of result) old left → Rises → Causes (Said.commit text)
+  commit_caused may text wrong spent device counted goes rises = record {
     spent = λ k.
         given_so ((last_number < (shape_in old).next_generation) ⊎ MayNotFlush (shape_in old)) Spent result Spent
-        (spent (right_text A text Spent (λ e. cc e) (λ e. cc e) wrong k)) refl k;
-    device = λ k. given_so (can_fail (device_in old)) Device result Device (device (right_text A text Device (λ e. cc e) (λ e. cc e) wrong k)) refl k;
-    counted = λ k. given_so Counted Device result Device (counted (right_text A text Device (λ e. cc e) (λ e. cc e) wrong k)) refl k;
+        (spent (right_text (left ≡ old) text Spent (λ e. cc e) (λ e. cc e) wrong k)) refl k;
+    device = λ k. given_so (can_fail (device_in old)) Device result Device (device (right_text (left ≡ old) text Device (λ e. cc e) (λ e. cc e) wrong k)) refl k;
+    counted = λ k. given_so Counted Device result Device (counted (right_text (left ≡ old) text Device (λ e. cc e) (λ e. cc e) wrong k)) refl k;
     damaged = λ k. tt;
     told = commit_told may text (reply_of result) left goes;
+    rises = rises;
+    stays = if_wrong (commit_text_of text) wrong;
   }
 
   -- ---- maintenance
@@ -235,29 +252,34 @@ module _ {D : Type 0} (bytes : D → ToldFiles) (can_fail : D → Type 0) (fault
 
       refuses : (chore : code_chore.Chore) → (session ≡ 0 → IfErr result (MayRefuse (policy_in old) (shape_in old) chore))
           → IfErr result (λ e. e ≡ Device → FailsFor chore (shape_in old).merging (can_fail (device_in old))) → IfErr result (λ e. e ≡ Device → Counted)
-          → TellsSo (policy_in old) (shape_in old) (Some (Said.chore (chore_of chore))) (reply_of result) → Causes (Said.chore (chore_of chore))
-      refuses Merge may device counted told = record {
+          → TellsSo (policy_in old) (shape_in old) (Some (Said.chore (chore_of chore))) (reply_of result) → Rises → Causes (Said.chore (chore_of chore))
+      refuses Merge may device counted told rises = record {
         spent = λ k. (merge_may may Spent (λ e. cc e) k).spent refl;
         device = given_so (HasRowsLeft (shape_in old).merging ⊎ can_fail (device_in old)) Device result Device device refl;
         counted = given_so Counted Device result Device counted refl;
         damaged = λ k. (merge_may may Damaged (λ e. cc e) k).damaged refl;
         told = told;
+        rises = rises;
+        stays = tt;
       }
-      refuses Force may device counted told = record {
+      refuses Force may device counted told rises = record {
         spent = λ k. let m = force_may may Spent (λ e. cc e) k in (m.due, m.spent refl);
         device = given_so (can_fail (device_in old)) Device result Device device refl;
         counted = given_so Counted Device result Device counted refl;
         damaged = λ k. tt;
         told = told;
+        rises = rises;
+        stays = tt;
       }
-      refuses Sweep may device counted told =
-          record { spent = λ k. tt; device = given_so (can_fail (device_in old)) Device result Device device refl; counted = given_so Counted Device result Device counted refl; damaged = λ k. tt; told = told }
-      refuses Stat may device counted told = record { spent = λ k. tt; device = λ k. tt; counted = λ k. tt; damaged = λ k. tt; told = told }
+      refuses Sweep may device counted told rises =
+          record { spent = λ k. tt; device = given_so (can_fail (device_in old)) Device result Device device refl; counted = given_so Counted Device result Device counted refl; damaged = λ k. tt; told = told; rises = rises; stays = tt }
+      refuses Stat may device counted told rises =
+          record { spent = λ k. tt; device = λ k. tt; counted = λ k. tt; damaged = λ k. tt; told = told; rises = rises; stays = tt }
 
       pub chore_caused : (sets : ℕ) (chore : code_chore.Chore) → AnswersSaid bytes session (Said.chore (chore_of chore)) old (reply_of result) left
           → IfOk result (λ a. Tells sets (shape_in old) chore (answer_of a)) → (session ≡ 0 → IfErr result (MayRefuse (policy_in old) (shape_in old) chore))
-          → IfErr result (λ e. e ≡ Device → FailsFor chore (shape_in old).merging (can_fail (device_in old))) → IfErr result (λ e. e ≡ Device → Counted) → Causes (Said.chore (chore_of chore))
-      chore_caused sets chore answers told may device counted = refuses chore may device counted (maintain_told sets chore result (λ k. (foreign k).0) answers told)
+          → IfErr result (λ e. e ≡ Device → FailsFor chore (shape_in old).merging (can_fail (device_in old))) → IfErr result (λ e. e ≡ Device → Counted) → Rises → Causes (Said.chore (chore_of chore))
+      chore_caused sets chore answers told may device counted rises = refuses chore may device counted (maintain_told sets chore result (λ k. (foreign k).0) answers told) rises
 
 -- ---- of commands
 

@@ -59,7 +59,7 @@ module _ {D : Type 0} (bytes : D → ToldFiles) (may_leave : D → FileName → 
         names,
         steps.2,
         (λ k. wants_rightly (bytes (device_of old)) (shape_of old) session said steps.0 steps.1 (steps.3 k)),
-        goes_told may_leave old new (shape_of old).schema said steps.0 reply steps.1 goes,
+        goes_told may_leave old new (shape_of old).schema said steps.0 reply steps.1 goes cause.stays,
         (λ k. failing_by can_fail (device_of old) (shape_of old) (shape_of old).schema said steps.0 steps.1 (cause.device k)),
         can,
       ),

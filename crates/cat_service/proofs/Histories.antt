@@ -1,6 +1,6 @@
 -- What lines in a row have to do with commits.
 use Rattle.std.proofs.Common.{◌≡◌, ℕ, ◌+◌, ◌<◌, List, [], ◌∷◌, ◌++◌, length, take, get_or, refl, sym, ap, subst, inl, inr, arith}
-use Rattle.std.specs.Prelude.{Option, None, Some, Result, Ok, Err}
+use Rattle.std.specs.Prelude.{Option, None, Some, Result, Ok, Err, IfErr}
 use Rattle.std.proofs.lemmas.List.{take_more}
 use Rattle.cat_base.specs.declared.refusal.Refusal.{Refusal}
 use Rattle.cat_model.specs.Heard.{commit_text_of}
@@ -21,7 +21,7 @@ use Rattle.cat_protocol.specs.replies.Reply.{reply_of}
 use Rattle.cat_protocol.specs.declared.replies.reply.Reply as code
 use Rattle.cat_protocol.specs.serving.Machine.{Steps}
 use Rattle.cat_service.specs.Histories.{AreSpoken, GoesTold, HaveCauses, IsEventOf, IsSpoken, LinesAreCalls, MakeTold, Makes, MakesTold, RunsHistory, Spoken}
-use Rattle.cat_service.specs.Causes.{HasCause}
+use Rattle.cat_service.specs.Causes.{HasCause, StaysIfWrong}
 use Rattle.cat_service.specs.Lines.{IsCommandOf}
 use Rattle.cat_service.specs.Serving.{StepsIfShort}
 use Rattle.cat_service.specs.Worlds.{Service}
@@ -38,55 +38,72 @@ module _ {D : Type 0} (left : D → FileName → FileContent → Type 0) where
   other_call : (old new : Ledger D) → Goes left Event.Other old new → (event : Event) × (event ≡ Event.Other) × Goes left event old new
   other_call old new goes = (Event.Other, refl, goes)
 
+  -- what changes nothing has nothing to do with commits
+  stays : (l : Ledger D) → Goes left Event.Other l l
+  stays l = record {
+    newest = refl;
+    next = omega arith;
+    asked = λ g no. absurd no;
+    taken = λ g no. absurd no;
+    files = λ g none e after. inl after;
+  }
+
   -- the event of a line
   abbrev HasEvent : Option Said → Reply → Ledger D → Ledger D → Type 0
   HasEvent said reply old new = (event : Event) × IsEventOf said reply event × Goes left event old new
 
-  commit_call : (text : List ℕ) (reply : Reply) (old new : Ledger D) → GoesBy left (Some (Said.commit text)) reply old new
-      → HasEvent (Some (Said.commit text)) reply old new
-  commit_call text (Ok (Answer.number g)) old new goes = (Event.Answered g, refl, goes)
-  commit_call text (Ok (Answer.found f)) old new goes = absurd goes
-  commit_call text (Ok (Answer.names ns)) old new goes = absurd goes
-  commit_call text (Ok (Answer.commit_text t)) old new goes = absurd goes
-  commit_call text (Ok (Answer.news n)) old new goes = absurd goes
-  commit_call text (Err e) old new (inl goes) = (Event.Other, inl refl, goes)
-  commit_call text (Err e) old new (inr goes) = (Event.Refused _, inr (_, refl), goes)
+  -- that of a COMMIT, by what its text is
+  commit_call : (text : Text) (judged : Result Text Refusal) (reply : Reply) (old new : Ledger D) → GoesBy left (Some (Said.commit text)) reply old new
+      → IfErr judged (λ e. new ≡ old) → (event : Event) × Makes (Command.commit judged) reply event × Goes left event old new
+  commit_call text (Err f) reply old new goes same = (Event.Other, refl, subst (Goes left Event.Other old) (sym same) (stays old))
+  commit_call text (Ok t) (Ok (Answer.number g)) old new goes same = (Event.Answered g, refl, goes)
+  commit_call text (Ok t) (Ok (Answer.found f)) old new goes same = absurd goes
+  commit_call text (Ok t) (Ok (Answer.names ns)) old new goes same = absurd goes
+  commit_call text (Ok t) (Ok (Answer.commit_text x)) old new goes same = absurd goes
+  commit_call text (Ok t) (Ok (Answer.news n)) old new goes same = absurd goes
+  commit_call text (Ok t) (Err e) old new (inl goes) same = (Event.Other, inl refl, goes)
+  commit_call text (Ok t) (Err e) old new (inr goes) same = (Event.Refused _, inr (_, refl), goes)
 
-  line_call : (said : Option Said) (reply : Reply) (old new : Ledger D) → GoesBy left said reply old new → HasEvent said reply old new
-  line_call None reply old new goes = other_call old new goes
-  line_call (Some (Said.commit text)) reply old new goes = commit_call text reply old new goes
-  line_call (Some (Said.put text)) reply old new goes = other_call old new goes
-  line_call (Some (Said.delete text)) reply old new goes = other_call old new goes
-  line_call (Some (Said.delete_where text)) reply old new goes = other_call old new goes
-  line_call (Some Said.refresh) reply old new goes = other_call old new goes
-  line_call (Some Said.open_newest) reply old new goes = other_call old new goes
-  line_call (Some (Said.open_at t)) reply old new goes = other_call old new goes
-  line_call (Some (Said.close t)) reply old new goes = other_call old new goes
-  line_call (Some (Said.find t n sort mark text)) reply old new goes = other_call old new goes
-  line_call (Some (Said.facets t dim n text)) reply old new goes = other_call old new goes
-  line_call (Some (Said.get t text)) reply old new goes = other_call old new goes
-  line_call (Some (Said.files_of_token t)) reply old new goes = other_call old new goes
-  line_call (Some (Said.files_of_commit g)) reply old new goes = other_call old new goes
-  line_call (Some (Said.text_of_commit g)) reply old new goes = other_call old new goes
-  line_call (Some Said.snapshot) reply old new goes = other_call old new goes
-  line_call (Some (Said.release_snapshot g)) reply old new goes = other_call old new goes
-  line_call (Some (Said.prune n)) reply old new goes = other_call old new goes
-  line_call (Some (Said.chore what)) reply old new goes = other_call old new goes
+  line_call : (said : Option Said) (reply : Reply) (old new : Ledger D) → GoesBy left said reply old new → StaysIfWrong said old new
+      → HasEvent said reply old new
+  line_call None reply old new goes same = other_call old new goes
+  line_call (Some (Said.commit text)) reply old new goes same = commit_call text (commit_text_of text) reply old new goes same
+  line_call (Some (Said.put text)) reply old new goes same = other_call old new goes
+  line_call (Some (Said.delete text)) reply old new goes same = other_call old new goes
+  line_call (Some (Said.delete_where text)) reply old new goes same = other_call old new goes
+  line_call (Some Said.refresh) reply old new goes same = other_call old new goes
+  line_call (Some Said.open_newest) reply old new goes same = other_call old new goes
+  line_call (Some (Said.open_at t)) reply old new goes same = other_call old new goes
+  line_call (Some (Said.close t)) reply old new goes same = other_call old new goes
+  line_call (Some (Said.find t n sort mark text)) reply old new goes same = other_call old new goes
+  line_call (Some (Said.facets t dim n text)) reply old new goes same = other_call old new goes
+  line_call (Some (Said.get t text)) reply old new goes same = other_call old new goes
+  line_call (Some (Said.files_of_token t)) reply old new goes same = other_call old new goes
+  line_call (Some (Said.files_of_commit g)) reply old new goes same = other_call old new goes
+  line_call (Some (Said.text_of_commit g)) reply old new goes same = other_call old new goes
+  line_call (Some Said.snapshot) reply old new goes same = other_call old new goes
+  line_call (Some (Said.release_snapshot g)) reply old new goes same = other_call old new goes
+  line_call (Some (Said.prune n)) reply old new goes same = other_call old new goes
+  line_call (Some (Said.chore what)) reply old new goes same = other_call old new goes
 
   pub lines_are_calls : (last : Service D) → LinesAreCalls left last
   lines_are_calls last first [] same = ([], tt, ap (λ (w : Service D). w.ledger) same)
   lines_are_calls last first (x ∷ xs) leads =
-      let one = line_call x.said x.reply first.ledger x.after.ledger leads.0 in
-      let rest = lines_are_calls last x.after xs leads.1 in
+      let one = line_call x.said x.reply first.ledger x.after.ledger leads.0 leads.1 in
+      let rest = lines_are_calls last x.after xs leads.2 in
       let call : Call D = record { event = one.0; after = x.after.ledger } in
       (call ∷ rest.0, (one.1, rest.1), (one.2, rest.2))
 
   -- ---- one line more
 
   goes_on : (old mid : Service D) (xs : List (Spoken D)) (x : Spoken D) → IsSpoken left old xs mid
-      → GoesBy left x.said x.reply mid.ledger x.after.ledger → IsSpoken left old (xs ++ x ∷ []) x.after
-  goes_on old mid [] x same goes = (subst (λ (w : Service D). GoesBy left x.said x.reply w.ledger x.after.ledger) same goes, refl)
-  goes_on old mid (y ∷ xs) x leads goes = (leads.0, goes_on y.after mid xs x leads.1 goes)
+      → GoesBy left x.said x.reply mid.ledger x.after.ledger → StaysIfWrong x.said mid.ledger x.after.ledger → IsSpoken left old (xs ++ x ∷ []) x.after
+  goes_on old mid [] x same goes stays = (
+    subst (λ (w : Service D). GoesBy left x.said x.reply w.ledger x.after.ledger) same goes,
+    subst (λ (w : Service D). StaysIfWrong x.said w.ledger x.after.ledger) same stays,
+    refl,
+  )
+  goes_on old mid (y ∷ xs) x leads goes stays = (leads.0, leads.1, goes_on y.after mid xs x leads.2 goes stays)
 
   spoken_on : (ls : List Line) (rs : List code.Reply) (xs : List (Spoken D)) (l : Line) (r : code.Reply) (x : Spoken D) → AreSpoken ls rs xs
       → x.said ≡ said_of l.command → x.reply ≡ reply_of r.answer → AreSpoken (ls ++ l ∷ []) (rs ++ r ∷ []) (xs ++ x ∷ [])
@@ -104,7 +121,7 @@ module _ {D : Type 0} (left : D → FileName → FileContent → Type 0) where
     causes_on : (first mid : Service D) (xs : List (Spoken D)) (x : Spoken D) → IsSpoken left first xs mid → HaveCauses bytes can_fail faults first xs
         → HasCause bytes can_fail faults mid x.said x.reply x.after → HaveCauses bytes can_fail faults first (xs ++ x ∷ [])
     causes_on first mid [] x same all cause = (subst (λ (w : Service D). HasCause bytes can_fail faults w x.said x.reply x.after) same cause, tt)
-    causes_on first mid (y ∷ ys) x leads all cause = (all.0, causes_on y.after mid ys x leads.1 all.1 cause)
+    causes_on first mid (y ∷ ys) x leads all cause = (all.0, causes_on y.after mid ys x leads.2 all.1 cause)
 
     -- no line leads nowhere
     pub none_spoken : (w : Service D) → RunsHistory bytes can_fail faults left w [] [] w
@@ -122,27 +139,17 @@ module _ {D : Type 0} (left : D → FileName → FileContent → Type 0) where
           are =
               subst (λ ks. AreSpoken ks (rs ++ r ∷ []) (before.spoken ++ x ∷ [])) (sym (take_more ls i d lt))
               (spoken_on (take i ls) rs before.spoken (get_or ls i d) r x before.are refl refl);
-          leads = goes_on old mid before.spoken x before.leads goes;
+          leads = goes_on old mid before.spoken x before.leads goes cause.stays;
           causes = causes_on old mid before.spoken x before.leads before.causes cause;
         }
 
   -- ---- commands
 
-  commit_makes : (text : Result Text Refusal) (said : Text) (reply : Reply) (event : Event) → IsEventOf (Some (Said.commit said)) reply event
-      → Makes (Command.commit text) reply event
-  commit_makes text said (Ok (Answer.number g)) event is = is
-  commit_makes text said (Ok (Answer.found f)) event is = is
-  commit_makes text said (Ok (Answer.names ns)) event is = is
-  commit_makes text said (Ok (Answer.commit_text t)) event is = is
-  commit_makes text said (Ok (Answer.news n)) event is = is
-  commit_makes text said (Err e) event is = is
-
   -- a line makes of commits what its command makes of them
   line_makes : (schema : Schema) (said : Option Said) (c : Command) (reply : Reply) (event : Event) → IsCommandOf schema said c
       → IsEventOf said reply event → Makes c reply event
   line_makes schema None c reply event is e = subst (λ k. Makes k reply event) (sym is) e
-  line_makes schema (Some (Said.commit text)) c reply event is e =
-      subst (λ k. Makes k reply event) (sym is) (commit_makes (commit_text_of text) text reply event e)
+  line_makes schema (Some (Said.commit text)) c reply event is e = subst (λ k. Makes k reply event) (sym is) e
   line_makes schema (Some (Said.put text)) c reply event is e = subst (λ k. Makes k reply event) (sym is) e
   line_makes schema (Some (Said.delete text)) c reply event is e = subst (λ k. Makes k reply event) (sym is) e
   line_makes schema (Some (Said.delete_where text)) c reply event is e = subst (λ k. Makes k reply event) (sym is.2) e
@@ -162,19 +169,10 @@ module _ {D : Type 0} (left : D → FileName → FileContent → Type 0) where
   line_makes schema (Some (Said.chore what)) c reply event is e = subst (λ k. Makes k reply event) (sym is) e
 
   pub goes_told : (old new : Service D) (schema : Schema) (said : Option Said) (c : Command) (reply : Reply) → IsCommandOf schema said c
-      → GoesBy left said reply old.ledger new.ledger → GoesTold left c reply old new
-  goes_told old new schema said c reply is goes =
-      let one = line_call said reply old.ledger new.ledger goes in
+      → GoesBy left said reply old.ledger new.ledger → StaysIfWrong said old.ledger new.ledger → GoesTold left c reply old new
+  goes_told old new schema said c reply is goes same =
+      let one = line_call said reply old.ledger new.ledger goes same in
       (one.0, line_makes schema said c reply one.0 is one.1, one.2)
-
-  -- a line that can't be read has nothing to do with commits
-  stays : (l : Ledger D) → Goes left Event.Other l l
-  stays l = record {
-    newest = refl;
-    next = omega arith;
-    asked = λ g no. absurd no;
-    files = λ g none e after. inl after;
-  }
 
   -- ---- lines that were served
 

@@ -426,8 +426,8 @@ merging_gone schema m x e none = sym (ap (option_map progress_of) e) ∙ ap (λ 
 module _ {D : Type 0} (bytes : D → ToldFiles) (can_fail : D → Type 0) (faults : D → ℕ) where
   -- what a call made of a ledger is made of the standing that memory has of it
   moves_on : (old new : Service D) (c : Command) (r : Reply) (l l' : Ledger) → shape_of_ledger l ≡ shape_of old → shape_of_ledger l' ≡ shape_of new
-      → TakesNumbers (shape_of old) (shape_of new) → Moved c r l l' → MovesOn (standing_of faults old) c r (standing_of faults new)
-  moves_on old new c r l l' is is' numbers m = record {
+      → TakesNumbers (shape_of old) (shape_of new) → faults (device_of old) ≤ faults (device_of new) → Moved c r l l' → MovesOn (standing_of faults old) c r (standing_of faults new)
+  moves_on old new c r l l' is is' numbers rises m = record {
     segment = numbers.segment;
     generation = numbers.generation;
     taken =
@@ -449,6 +449,7 @@ module _ {D : Type 0} (bytes : D → ToldFiles) (can_fail : D → Type 0) (fault
       | inl gone ↦ inl (merging_gone l'.schema l'.merging (shape_of new).merging (ap (λ (x : Shape). x.merging) is') gone)
       | inr begun ↦ inr begun
     ];
+    failures = rises;
   }
 
   -- The reply that fits has its cause, where the one that was told has it.
@@ -481,5 +482,5 @@ module _ {D : Type 0} (bytes : D → ToldFiles) (can_fail : D → Type 0) (fault
             let d = length-map l.views view_shown in
             let f = ap (λ (vs : List RecordedTable). length vs) stands.stands.shows.views_now in
             let g = length-map (view_tokens from.start past) (table_recorded from.start past) in omega (arith, a, b, d, f, g));
-        moves = moves_on old new c fitting l made.0 stands.carries.shape made.5.shape numbers fit_moved;
+        moves = moves_on old new c fitting l made.0 stands.carries.shape made.5.shape numbers cause.rises fit_moved;
       }

@@ -14,7 +14,7 @@ use Rattle.cat_model.specs.Run.{Chore, Command, Exchange, IsRun, Reply, Run, new
 use Rattle.cat_model.specs.Served.{Answered, Begins, Ending, HeardAll, IsDue, Outcome, Refused, TellsFiles, exchange, heard, outcome_text, refused_text}
 use Rattle.cat_model.specs.Opens.{BeginsFrom}
 use Rattle.cat_model.specs.Promised.{LeavesPromised, SurvivesCrash}
-use Rattle.cat_model.specs.Reasons.{CausesIn, IsCausedIn}
+use Rattle.cat_model.specs.Reasons.{CausesIn, HasTakenAll, IsCausedIn}
 use Rattle.cat_model.specs.Serving.{AreLike, FailsRightly, IsServedIn, ServesIn, SparesUnserved, WantRightly}
 use Rattle.cat_model.specs.Standings.{HasReason, HaveReasons, IsDamagedFor, Standing}
 use Rattle.cat_model.specs.Table.{Opened}
@@ -47,7 +47,7 @@ use Rattle.cat_service.proofs.Standing.{stands_first}
 use Rattle.cat_service.proofs.Opens.{begins_from}
 use Rattle.cat_service.proofs.Outlasted.{newest_number}
 use Rattle.cat_service.proofs.Settled.{newest_settled, own_left}
-use Rattle.cat_service.proofs.Survived.{survives}
+use Rattle.cat_service.proofs.Survived.{survives, taken_all}
 use Rattle.cat_service.proofs.Caused.{failing_on}
 use Rattle.cat_service.specs.Opening.{BeginsIn, OpensWorld}
 use Rattle.cat_service.specs.Promises.{WorldLasts}
@@ -251,13 +251,13 @@ module _ {D : Type 0} (bytes : D → ToldFiles) (may_leave : D → FileName → 
   steps_less old new (line ∷ lines) (told ∷ outcomes) (mid, step, steps) = (mid, step.0, steps_less mid new lines outcomes steps)
 
   -- and what opened, without how it begins
-  opening_less : (device : D) (line : Option Text) (r : Result (Service D) (Unopened D)) → OpensCaused bytes may_leave can_fail device line r
+  opening_less : (device : D) (line : Option Text) (r : Result (Service D) (Unopened D)) → OpensCaused bytes may_leave can_fail faults device line r
       → OpensIfShort bytes may_leave can_fail device line r
   opening_less device None r o = o
   opening_less device (Some line) r o = o.0
 
-  opening_so : (device : D) (line : Text) (w : Service D) (b : Bool) → OpensCaused bytes may_leave can_fail device (if b then None else Some line) (Ok w)
-      → OpensSo bytes device line w
+  opening_so : (device : D) (line : Text) (w : Service D) (b : Bool) → OpensCaused bytes may_leave can_fail faults device (if b then None else Some line) (Ok w)
+      → OpensSo bytes can_fail faults device line w
   opening_so device line w true o =
       absurd (let no : ◌≡◌ {A = Result (Service D) (Unopened D)} (Ok w) (Err (record { refusal = NoForm; seed = device })) = o in cc)
   opening_so device line w false o = o.1
@@ -283,10 +283,20 @@ module _ {D : Type 0} (bytes : D → ToldFiles) (may_leave : D → FileName → 
       (promised.outlasts tells) is image crashed in
       newest_of_mended g mended own.0 (kept ∙ own.1) gone)
 
+  -- the generations of commits that a crash leaves are taken
+  taken_so : (opened last : Service D) (lines : List Text) (outcomes : List Outcome)
+      → Steps (StepsIfShort bytes may_leave can_fail) opened (map short_line lines) outcomes last → (tells : TellsAlways kind)
+      → LeavesNoneAhead may_leave opened.ledger → StageOutlives bytes may_leave (Open last)
+      → HasTakenAll (kind.may_leave (device_of last)) (standing_of faults last)
+  taken_so opened last lines outcomes steps tells none laws =
+      let calls = tolds_are_calls may_leave bytes can_fail opened last (map short_line lines) outcomes steps in
+      taken_all (may_leave (device_of last)) (shape_of last).next_generation
+      (λ image g crashed is. laws.2 opened.ledger calls.0 (always_tells tells) none calls.2 image g crashed is)
+
   -- ---- the world serves
 
   answered_in : (device : D) (first : Text) (lines : List Text) (text : Text)
-      → (a : IsAnswered (OpensCaused bytes may_leave can_fail device) (StepsCaused bytes may_leave can_fail faults) (λ w. (shape_of w).count) first lines text)
+      → (a : IsAnswered (OpensCaused bytes may_leave can_fail faults device) (StepsCaused bytes may_leave can_fail faults) (λ w. (shape_of w).count) first lines text)
       → WorldLasts bytes may_leave a.left → StageOutlives bytes may_leave (Open a.left) → IsCausedIn json kind device (device_of a.left) first lines text
   answered_in device first lines text a lasts laws =
       let long = nat_lt 10000 (length first) in
@@ -314,16 +324,19 @@ module _ {D : Type 0} (bytes : D → ToldFiles) (may_leave : D → FileName → 
         };
         factor = (policy_of a.opened).factor;
         least = (policy_of a.opened).least;
-        fields = so.1;
-        policy = so.2;
+        fields = so.2;
+        policy = so.3;
         opened = standing_of faults a.opened;
-        begins = stands_first bytes faults device opening.0.start.schema a.opened opening.2 so.0;
+        begins = stands_first bytes can_fail faults device opening.0.start.schema a.opened opening.2 so.0 so.1;
         last = standing_of faults a.left;
         reasons = goes.reasons;
         failures = refl;
+        taken = λ tells.
+            taken_so a.opened a.left lines a.outcomes (steps_less a.opened a.left (map short_line lines) a.outcomes a.steps) tells
+            (opened.1 (always_tells tells)) laws;
       }
 
-  refused_in : (device : D) (first : Text) (e : Refusal) → IsRefused (OpensCaused bytes may_leave can_fail device) first e
+  refused_in : (device : D) (first : Text) (e : Refusal) → IsRefused (OpensCaused bytes may_leave can_fail faults device) first e
       → (e ≡ Memory) ⊎ BeginsFrom json (kind.bytes device) first (Err e)
   refused_in device first e (back, o) =
       let long = nat_lt 10000 (length first) in
@@ -341,10 +354,10 @@ module _ {D : Type 0} (bytes : D → ToldFiles) (may_leave : D → FileName → 
 
   module _ (device : D) (stage : Stage (Service D) D) (lasts : StageLasts bytes may_leave stage) (laws : StageOutlives bytes may_leave stage) where
     abbrev leads_to : List Text → Text → Type 0
-    leads_to = LeadsTo (OpensCaused bytes may_leave can_fail) (StepsCaused bytes may_leave can_fail faults) (λ w. (shape_of w).count) device stage
+    leads_to = LeadsTo (OpensCaused bytes may_leave can_fail faults) (StepsCaused bytes may_leave can_fail faults) (λ w. (shape_of w).count) device stage
 
     abbrev refused_at : List Text → Refusal → Type 0
-    refused_at = RefusedAt (OpensCaused bytes may_leave can_fail) device stage
+    refused_at = RefusedAt (OpensCaused bytes may_leave can_fail faults) device stage
 
     abbrev served : Text → List Text → Text → Type 0
     served = IsCausedIn json kind device (device_at stage)
@@ -398,7 +411,7 @@ module _ {D : Type 0} (bytes : D → ToldFiles) (may_leave : D → FileName → 
     served_in input left before after (Err Ending.write) so = (so.0, so.1, so.2, so.3, so.4, due_less so.2 so.4 so.5, so.6)
 
     -- what opening gave back has its files as they were
-    given_back : (first : Text) (u : Unopened D) (b : Bool) → OpensCaused bytes may_leave can_fail device (if b then None else Some first) (Err u)
+    given_back : (first : Text) (u : Unopened D) (b : Bool) → OpensCaused bytes may_leave can_fail faults device (if b then None else Some first) (Err u)
         → Spares device u.seed
     given_back first u true o =
         let same : u ≡ record { refusal = NoForm; seed = device } = err_same u (record { refusal = NoForm; seed = device }) o in

@@ -1,20 +1,23 @@
 -- How a world stands that was opened.
-use Rattle.std.proofs.Common.{◌≡◌, ℕ, ◌<◌, ◌≤◌, List, [], ◌∷◌, length, map, true, false, refl, sym, ◌∙◌, ap, subst, arith, inl, inr}
-use Rattle.std.specs.Prelude.{All, Contains, option_map, slice_index_or}
+use Rattle.std.proofs.Common.{◌≡◌, ℕ, ◌+◌, ◌<◌, ◌≤◌, List, [], ◌∷◌, length, map, Bool, true, false, cond, ◌&&◌, ◌||◌, refl, sym, ◌∙◌, ap, subst, arith, inl, inr}
+use Rattle.std.specs.Prelude.{◌⊎◌, ◌==◌, All, Contains, count_by, option_map, slice_index_or}
 use Rattle.std.specs.List.{AllByRecursion}
 use Rattle.std.proofs.lemmas.List.{length-map, get_or-map}
 use Rattle.std.proofs.lemmas.List.Elements.{All-from_recursion, Contains-append_right, recursion_from_All}
+use Rattle.std.proofs.lemmas.List.Sums.{sum_by-cons}
 use Rattle.cat_model.specs.Files.{IsFileName, Name}
 use Rattle.cat_model.specs.Item.{Schema}
 use Rattle.cat_model.specs.Reasons.{AreFirstNumbers, AreNamesIn, HasLowerNumbers, StandsFirst}
-use Rattle.cat_directory.specs.Devices.{Lists}
+use Rattle.cat_directory.specs.Devices.{CountsOne, Lists}
 use Rattle.cat_directory.specs.Names.{file_of, name_of}
 use Rattle.cat_directory.specs.declared.name.FileName.{FileName}
-use Rattle.cat_commands.specs.cat_ledger.Openings.{IsOpenedLedger}
+use Rattle.cat_commands.specs.cat_ledger.Openings.{CountsSwept, IsOpenedLedger}
 use Rattle.cat_commands.specs.cat_ledger_state.startup.Opened.{HasOpened}
-use Rattle.cat_commands.specs.ledger.Chores.{segment_told}
+use Rattle.cat_commands.specs.cat_lifetimes.refs.Counts.{is_pending}
+use Rattle.cat_commands.specs.ledger.Chores.{pending_in, segment_told}
 use Rattle.cat_ledger_laws.specs.model.Calls.{TakesOne}
 use Rattle.cat_ledger_laws.specs.model.Ledger.{IsPast}
+use Rattle.cat_ledger_laws.specs.model.Users.{Used, is_known, same_file_name, users_of}
 use Rattle.cat_ledger_laws.specs.shape.Shapes.{Shape}
 use Rattle.cat_ledger_laws.specs.shape.Steps.{Leaves}
 use Rattle.cat_ledger_laws.specs.shape.Ties.{ToldFiles}
@@ -93,10 +96,37 @@ takes_none : (q : Name) (n next : ℕ) → TakesOne [] q n next → next ≡ n
 takes_none q n next (inl same) = same
 takes_none q n next (inr one) = absurd (let no : false ≡ true = one.1 in cc)
 
-module _ {D : Type 0} (bytes : D → ToldFiles) (faults : D → ℕ) (device : D) where
+abbrev pending_among : List Used → ℕ
+pending_among us = count_by (λ (u : Used). u.users == 0) us
+
+-- a name that nobody has is one of those that are counted as pending
+some_pending : (us : List Used) (n : Name) → is_pending us n ≡ true → 0 < pending_among us
+some_pending [] n h = absurd (let no : false ≡ true = h in cc)
+some_pending (u ∷ us) n h = by (same_file_name n u.name) h (some_pending us n)
+  where
+    more : pending_among (u ∷ us) ≡ cond (u.users == 0) 1 0 + pending_among us
+    more = sum_by-cons (λ (x : Used). cond (x.users == 0) 1 0) u us
+
+    by : (b : Bool) → ((b || is_known us n) && (cond b u.users (users_of us n) == 0)) ≡ true → (is_pending us n ≡ true → 0 < pending_among us)
+        → 0 < pending_among (u ∷ us)
+    by true none rest =
+        let one : pending_among (u ∷ us) ≡ 1 + pending_among us = more ∙ ap (λ b. cond b 1 0 + pending_among us) none in
+        omega (arith, one)
+    by false none rest = omega (arith, more, rest none)
+
+-- which failures were counted, as the standing tells it
+counted_first : (fails : Type 0) (before now : ℕ) (s : Shape) → CountsSwept fails before s now
+    → (now ≡ before) ⊎ (fails × CountsOne before now × (0 < pending_in s))
+counted_first fails before now s (inl same) = inl same
+counted_first fails before now s (inr more) = inr (more.0, more.1, some_pending s.users (name_of more.2.0) more.2.1)
+
+module _ {D : Type 0} (bytes : D → ToldFiles) (can_fail : D → Type 0) (faults : D → ℕ) (device : D) where
+  abbrev Begins : Schema → Service D → Type 0
+  Begins schema w = StandsFirst (named (bytes device)) (can_fail device) (faults device) schema (standing_of faults w)
+
   opened_so : (schema : Schema) (w : Service D) (mid : Shape) → HasOpened (bytes device) schema (bytes device) mid → Leaves [] mid (shape_of w)
-      → StandsFirst (named (bytes device)) schema (standing_of faults w)
-  opened_so schema w mid (inl c) swept =
+      → CountsSwept (can_fail device) (faults device) (shape_of w) (faults (device_of w)) → Begins schema w
+  opened_so schema w mid (inl c) swept counted =
       let s = shape_of w in
       let g : s.next_generation ≡ mid.next_generation = takes_none (Name.commit mid.next_generation) mid.next_generation s.next_generation swept.one_generation in
       let n : s.next_segment ≡ mid.next_segment = takes_none (Name.source mid.next_segment) mid.next_segment s.next_segment swept.one_segment in record {
@@ -117,8 +147,9 @@ module _ {D : Type 0} (bytes : D → ToldFiles) (faults : D → ℕ) (device : D
         });
         waits = ap (λ (x : Shape). length x.buffered) swept.rest ∙ ap (λ (x : Shape). length x.buffered) c.memory;
         idle = ap (λ (x : Shape). option_map progress_of x.merging) swept.rest ∙ ap (λ (x : Shape). option_map progress_of x.merging) c.memory;
+        counted = counted_first (can_fail device) (faults device) (faults (device_of w)) s counted;
       }
-  opened_so schema w mid (inr c) swept =
+  opened_so schema w mid (inr c) swept counted =
       let s = shape_of w in
       let g : s.next_generation ≡ mid.next_generation = takes_none (Name.commit mid.next_generation) mid.next_generation s.next_generation swept.one_generation in
       let n : s.next_segment ≡ mid.next_segment = takes_none (Name.source mid.next_segment) mid.next_segment s.next_segment swept.one_segment in record {
@@ -136,9 +167,11 @@ module _ {D : Type 0} (bytes : D → ToldFiles) (faults : D → ℕ) (device : D
         );
         waits = ap (λ (x : Shape). length x.buffered) swept.rest ∙ ap (λ (x : Shape). length x.buffered) c.memory;
         idle = ap (λ (x : Shape). option_map progress_of x.merging) swept.rest ∙ ap (λ (x : Shape). option_map progress_of x.merging) c.memory;
+        counted = counted_first (can_fail device) (faults device) (faults (device_of w)) s counted;
       }
 
   -- It stands as it was opened.
   pub stands_first : (schema : Schema) (w : Service D) → (shape_of w).schema ≡ schema
-      → IsOpenedLedger (bytes device) (shape_of w).schema (bytes (device_of w)) (shape_of w) → StandsFirst (named (bytes device)) schema (standing_of faults w)
-  stands_first schema w fields o = subst (λ k. StandsFirst (named (bytes device)) k (standing_of faults w)) fields (opened_so (shape_of w).schema w o.state o.opened o.swept)
+      → IsOpenedLedger (bytes device) (shape_of w).schema (bytes (device_of w)) (shape_of w)
+      → CountsSwept (can_fail device) (faults device) (shape_of w) (faults (device_of w)) → Begins schema w
+  stands_first schema w fields o counted = subst (λ k. Begins k w) fields (opened_so (shape_of w).schema w o.state o.opened o.swept counted)

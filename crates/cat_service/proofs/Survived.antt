@@ -9,7 +9,7 @@ use Rattle.cat_model.specs.Promised.{SurvivesCrash, refuses_commit}
 use Rattle.cat_model.specs.Run.{Answer, Command, Exchange, Reply, Run, commit_by, newest_commit}
 use Rattle.cat_model.specs.Served.{Outcome, exchange}
 use Rattle.cat_model.specs.Table.{Opened}
-use Rattle.cat_model.specs.Told.{MayBeLeft}
+use Rattle.cat_model.specs.Told.{IsNewestTold, MayBeLeft, told_of}
 use Rattle.cat_directory.specs.Devices.{FileContent}
 use Rattle.cat_directory.specs.Names.{file_of, name_of}
 use Rattle.cat_directory.specs.declared.name.FileName.{FileName}
@@ -36,9 +36,9 @@ refuses x = refuses_commit x.line.command x.reply
 
 -- a refused COMMIT is one by its command and its reply
 refused_so : (c : Command) (r : Reply) (g : ℕ) → Makes c r (Event.Refused g) → refuses_commit c r ≡ true
-refused_so (Command.commit text) (Ok (Answer.number h)) g m = absurd (cc m)
-refused_so (Command.commit text) (Ok a) g m = absurd m
-refused_so (Command.commit text) (Err e) g m = refl
+refused_so (Command.commit (Ok text)) (Ok (Answer.number h)) g m = absurd (cc m)
+refused_so (Command.commit (Ok text)) (Ok a) g m = absurd m
+refused_so (Command.commit (Ok text)) (Err e) g m = refl
 refused_so _ r g m = absurd (cc m)
 
 counted_more : (x : Exchange) (xs : Run) → count_by refuses xs ≤ count_by refuses (x ∷ xs)
@@ -176,6 +176,12 @@ by_file image q = image (name_of q)
 
 crashed_so : (left : FileName → FileContent → Type 0) (image : Name → FileContent) → MayBeLeft (λ q. left (file_of q)) image → IsCrashed left (by_file image)
 crashed_so left image may q = subst (λ f. left f (image (name_of q))) (file_of_name q) (may (name_of q))
+
+-- The generation of whatever commit a crash leaves is below a number, where that is so by the code's names.
+pub taken_all : (left : FileName → FileContent → Type 0) (next : ℕ)
+    → ((image : FileName → FileContent) (g : ℕ) → IsCrashed left image → IsNewestCommit (tells image) g → g < next)
+    → (image : Name → FileContent) (g : ℕ) → MayBeLeft (λ q. left (file_of q)) image → IsNewestTold (told_of image) g → g < next
+taken_all left next found image g may is = found (by_file image) g (crashed_so left image may) (record { there = is.there; greatest = is.greatest })
 
 -- What is found after a crash, by what the lines had to do with commits, is so in the model's words.
 pub survives : (left : FileName → FileContent → Type 0) (from : Opened) (run : Run) (tolds : List Outcome) (events : List Event) → filter_map exchange tolds ≡ run

@@ -1,6 +1,7 @@
 -- Why a line is refused where an OK would fit, and what COMMIT and maintenance tell, by what memory has.
-use Rattle.std.specs.Prelude.{◌≡◌, ◌⊎◌, ℕ, ◌<◌, ◌≤◌, Option, Some, Ok, Err, length}
+use Rattle.std.specs.Prelude.{◌≡◌, ◌⊎◌, ℕ, ◌<◌, ◌≤◌, Option, Some, Ok, Err, IfErr, length}
 use Rattle.cat_base.specs.declared.refusal.Refusal.TheVariants.{Damaged, Device, Spent}
+use Rattle.cat_model.specs.Heard.{commit_text_of}
 use Rattle.cat_model.specs.Limits.{buffer_limit, last_number}
 use Rattle.cat_model.specs.Lines.{Said}
 use Rattle.cat_model.specs.Run.{Answer, Chore, News, Reply}
@@ -8,6 +9,7 @@ use Rattle.cat_model.specs.Text.{Text}
 use Rattle.cat_model.specs.View.{View}
 use Rattle.cat_directory.specs.Devices.{CountsOne}
 use Rattle.cat_commands.specs.ledger.Chores.{pending_in, stat_in}
+use Rattle.cat_commands.specs.cat_ledger.Ledgers.{Ledger}
 use Rattle.cat_commands.specs.cat_ledger_state.Cores.{HasRowsLeft, MayNotFlush}
 use Rattle.cat_ledger_laws.specs.lines.PlanLaws.{TellsForce, TellsMerge}
 use Rattle.cat_ledger_laws.specs.lines.ReadLaws.{IsRecordedAs}
@@ -77,9 +79,14 @@ TellsSo policy s said reply = Unit {0}
 
 -- ---- of a world
 
+-- a COMMIT whose text no commit may have changes nothing
+abbrev pub StaysIfWrong : {D : Type 0} → Option Said → Ledger D → Ledger D → Type 0
+StaysIfWrong (Some (Said.commit text)) old new = IfErr (commit_text_of text) (λ e. new ≡ old)
+StaysIfWrong said old new = Unit {0}
+
 -- The reply has its cause in the world: 16 where a number or a limit is spent, 30 where the device can fail and its count of failures rose, 31
--- where a file is damaged, and the news as they are. The first three arguments say what a device tells of its files, whether it can fail, and
--- how many failures it has counted.
+-- where a file is damaged, and the news as they are. No failure is forgotten, whatever is told; and a COMMIT that is refused for its text
+-- changes nothing. The first three arguments say what a device tells of its files, whether it can fail, and how many failures it has counted.
 pub record HasCause {D : Type 0} (bytes : D → ToldFiles) (can_fail : D → Type 0) (faults : D → ℕ) (old : Service D) (said : Option Said)
     (reply : Reply) (new : Service D) : Type 0 where
   pub spent : reply ≡ Err Spent → IsSpentTo (policy_of old) (shape_of old) said
@@ -87,6 +94,8 @@ pub record HasCause {D : Type 0} (bytes : D → ToldFiles) (can_fail : D → Typ
   pub counted : reply ≡ Err Device → IsCountedTo (CountsOne (faults (device_of old)) (faults (device_of new))) said
   pub damaged : reply ≡ Err Damaged → IsDamagedTo (bytes (device_of old)) (shape_of old) said
   pub told : TellsSo (policy_of old) (shape_of old) said reply
+  pub rises : faults (device_of old) ≤ faults (device_of new)
+  pub stays : StaysIfWrong said old.ledger new.ledger
 
 -- a line takes the number of one segment at most, and one generation
 pub record TakesNumbers (old new : Shape) : Type 0 where

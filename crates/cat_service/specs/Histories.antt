@@ -1,5 +1,6 @@
 -- Lines in a row with their replies, and which commits a crash after them may leave.
 use Rattle.std.specs.Prelude.{◌≡◌, ◌⊎◌, ℕ, List, [], ◌∷◌, Option, Some, Ok, Err}
+use Rattle.cat_model.specs.Heard.{commit_text_of}
 use Rattle.cat_model.specs.Lines.{Said}
 use Rattle.cat_model.specs.Run.{Answer, Command, Reply}
 use Rattle.cat_model.specs.Served.{Outcome}
@@ -11,7 +12,7 @@ use Rattle.cat_commands.specs.cat_ledger.Histories.{Call, Event, Goes, GoesBy, I
 use Rattle.cat_ledger_laws.specs.shape.Ties.{ToldFiles}
 use Rattle.cat_protocol.specs.replies.Reply.{reply_of}
 use Rattle.cat_protocol.specs.declared.replies.reply.Reply as code
-use Rattle.cat_service.specs.Causes.{HasCause}
+use Rattle.cat_service.specs.Causes.{HasCause, StaysIfWrong}
 use Rattle.cat_service.specs.Worlds.{Service}
 
 -- ---- lines in a row
@@ -22,20 +23,26 @@ pub record Spoken (D : Type 0) : Type 0 where
   pub reply : Reply
   pub after : Service D
 
--- The lines lead from the one to the other, each of which makes of commits what it may by its reply. The first argument says what a
--- crash may leave of a device's files.
+-- The lines lead from the one to the other, each of which makes of commits what it may by its reply, and changes nothing where it is a
+-- COMMIT that is refused for its text. The first argument says what a crash may leave of a device's files.
 abbrev pub IsSpoken : {D : Type 0} → (D → FileName → FileContent → Type 0) → Service D → List (Spoken D) → Service D → Type 0
 IsSpoken {D} left first [] last = ◌≡◌ {A = Service D} last first
-IsSpoken {D} left first (x ∷ xs) last = GoesBy left x.said x.reply first.ledger x.after.ledger × IsSpoken left x.after xs last
+IsSpoken {D} left first (x ∷ xs) last =
+    GoesBy left x.said x.reply first.ledger x.after.ledger × StaysIfWrong x.said first.ledger x.after.ledger × IsSpoken left x.after xs last
 
 -- ---- what they have to do with commits
 
--- A COMMIT that was answered OK is an answered commit of the generation that it was told; one that was refused is a refused commit, or
--- did nothing; and any other line has nothing to do with commits.
+-- A COMMIT that was answered OK is an answered commit of the generation that it was told; one that was refused, but not for its text, is a
+-- refused commit, or did nothing; and any other command has nothing to do with commits.
+abbrev pub Makes : Command → Reply → Event → Type 0
+Makes (Command.commit (Ok text)) (Ok (Answer.number g)) event = event ≡ Event.Answered g
+Makes (Command.commit (Ok text)) (Ok a) event = ⊥
+Makes (Command.commit (Ok text)) (Err e) event = (event ≡ Event.Other) ⊎ ((g : ℕ) × (event ≡ Event.Refused g))
+Makes c reply event = event ≡ Event.Other
+
+-- so of what is said
 abbrev pub IsEventOf : Option Said → Reply → Event → Type 0
-IsEventOf (Some (Said.commit text)) (Ok (Answer.number g)) event = event ≡ Event.Answered g
-IsEventOf (Some (Said.commit text)) (Ok a) event = ⊥
-IsEventOf (Some (Said.commit text)) (Err e) event = (event ≡ Event.Other) ⊎ ((g : ℕ) × (event ≡ Event.Refused g))
+IsEventOf (Some (Said.commit text)) reply event = Makes (Command.commit (commit_text_of text)) reply event
 IsEventOf said reply event = event ≡ Event.Other
 
 -- so with each of the lines, in turn
@@ -75,15 +82,7 @@ pub record RunsHistory {D : Type 0} (bytes : D → ToldFiles) (can_fail : D → 
 
 -- ---- lines that are served
 
--- The same of a command with its reply: a COMMIT that was answered OK is an answered commit, one that was refused is a refused commit or
--- did nothing, and any other command has nothing to do with commits.
-abbrev pub Makes : Command → Reply → Event → Type 0
-Makes (Command.commit text) (Ok (Answer.number g)) event = event ≡ Event.Answered g
-Makes (Command.commit text) (Ok a) event = ⊥
-Makes (Command.commit text) (Err e) event = (event ≡ Event.Other) ⊎ ((g : ℕ) × (event ≡ Event.Refused g))
-Makes c reply event = event ≡ Event.Other
-
--- so of what a line was told, which may have been unreadable
+-- what a line makes that was told something, or was unreadable
 abbrev pub MakesTold : Outcome → Event → Type 0
 MakesTold Outcome.unreadable event = event ≡ Event.Other
 MakesTold (Outcome.replied e) event = Makes e.line.command e.reply event

@@ -6,7 +6,7 @@ use Rattle.cat_model.specs.Served.{Outcome, SpellsSchema}
 use Rattle.cat_model.specs.Text.{Text}
 use Rattle.cat_directory.specs.Devices.{FileContent}
 use Rattle.cat_directory.specs.declared.name.FileName.{FileName}
-use Rattle.cat_commands.specs.cat_ledger.Openings.{IsOpenedLedger}
+use Rattle.cat_commands.specs.cat_ledger.Openings.{CountsSwept, IsOpenedLedger}
 use Rattle.cat_commands.specs.ledger.Chores.{stat_in}
 use Rattle.cat_ledger_laws.specs.lines.RunLaws.{Answers}
 use Rattle.cat_ledger_laws.specs.shape.Shapes.{MergingShape}
@@ -35,18 +35,19 @@ standing_of faults w = record {
 
 -- ---- as a machine
 
--- it was opened as the ledger says, and merges as the line says
-abbrev pub OpensSo : {D : Type 0} → (D → ToldFiles) → D → Text → Service D → Type 0
-OpensSo bytes device line w =
+-- It was opened as the ledger says, which also says which failures were counted, and merges as the line says.
+abbrev pub OpensSo : {D : Type 0} → (D → ToldFiles) → (D → Type 0) → (D → ℕ) → D → Text → Service D → Type 0
+OpensSo bytes can_fail faults device line w =
     IsOpenedLedger (bytes device) (shape_of w).schema (bytes (device_of w)) (shape_of w)
+    × CountsSwept (can_fail device) (faults device) (shape_of w) (faults (device_of w))
     × (text : Text) × SpellsSchema line (policy_of w).factor (policy_of w).least text
 
 -- what opening by a first line may give, which may be too long, with how it begins
-abbrev pub OpensCaused : {D : Type 0} → (D → ToldFiles) → (D → FileName → FileContent → Type 0) → (D → Type 0) → D → Option Text
+abbrev pub OpensCaused : {D : Type 0} → (D → ToldFiles) → (D → FileName → FileContent → Type 0) → (D → Type 0) → (D → ℕ) → D → Option Text
     → Result (Service D) (Unopened D) → Type 0
-OpensCaused bytes may_leave can_fail device None r = OpensIfShort bytes may_leave can_fail device None r
-OpensCaused bytes may_leave can_fail device (Some line) r =
-    OpensIfShort bytes may_leave can_fail device (Some line) r × IfOk r (λ w. OpensSo bytes device line w)
+OpensCaused bytes may_leave can_fail faults device None r = OpensIfShort bytes may_leave can_fail device None r
+OpensCaused bytes may_leave can_fail faults device (Some line) r =
+    OpensIfShort bytes may_leave can_fail device (Some line) r × IfOk r (λ w. OpensSo bytes can_fail faults device line w)
 
 -- What a line said, which is its command, has its cause in the world before it; and the command was answered.
 abbrev pub IsCausedBy : {D : Type 0} → (D → ToldFiles) → (D → Type 0) → (D → ℕ) → Service D → Outcome → Service D → Type 0

@@ -7,7 +7,7 @@ use Rattle.cat_model.specs.Text.{Text}
 use Rattle.cat_items.specs.Reading.{json}
 use Rattle.cat_directory.specs.Devices.{FileContent}
 use Rattle.cat_directory.specs.declared.name.FileName.{FileName}
-use Rattle.cat_commands.specs.cat_ledger.Histories.{FoundIsTried, LeavesNoneAhead, NoneIsLost}
+use Rattle.cat_commands.specs.cat_ledger.Histories.{FoundIsTaken, FoundIsTried, LeavesNoneAhead, NoneIsLost}
 use Rattle.cat_commands.specs.cat_ledger.Lasting.{AlwaysTells}
 use Rattle.cat_ledger_laws.specs.shape.Ties.{ToldFiles}
 use Rattle.cat_ledger_laws.specs.lines.RunLaws.{IsStep}
@@ -65,8 +65,9 @@ StageLasts bytes may_leave (Waiting device) = Unit {0}
 StageLasts bytes may_leave (Refused device) = Unit {0}
 StageLasts bytes may_leave (Open w) = WorldLasts bytes may_leave w
 
--- and the newest commit outlives it
+-- and the newest commit outlives it, and whatever commit is found has a generation that isn't given out again
 abbrev pub StageOutlives : {D : Type 0} → (D → ToldFiles) → (D → FileName → FileContent → Type 0) → Stage (Service D) D → Type 0
 StageOutlives bytes may_leave (Waiting device) = Unit {0}
 StageOutlives bytes may_leave (Refused device) = Unit {0}
-StageOutlives bytes may_leave (Open w) = FoundIsTried bytes may_leave w.ledger × NoneIsLost bytes may_leave w.ledger
+StageOutlives bytes may_leave (Open w) =
+    FoundIsTried bytes may_leave w.ledger × NoneIsLost bytes may_leave w.ledger × FoundIsTaken bytes may_leave w.ledger

@@ -1,5 +1,5 @@
 //! What lines in a row leave of commits.
-ghost use Rattle.cat_commands.specs.cat_ledger.Histories.{FoundIsTried, NewestIsAnswered, NewestIsFound, NoneIsLost};
+ghost use Rattle.cat_commands.specs.cat_ledger.Histories.{FoundIsTaken, FoundIsTried, NewestIsAnswered, NewestIsFound, NoneIsLost};
 ghost use Rattle.cat_service.specs.Histories.{LinesAreCalls};
 
 use crate::world::World;
@@ -25,6 +25,7 @@ impl<D: Directory + Shelf> World<D> {
         ensures lines { LinesAreCalls D.may_leave self.now }
         ensures answered { NewestIsAnswered D.may_leave self.now.ledger }
         ensures tried { FoundIsTried D.bytes D.may_leave self.now.ledger }
+        ensures taken { FoundIsTaken D.bytes D.may_leave self.now.ledger }
         ensures lost { NoneIsLost D.bytes D.may_leave self.now.ledger }
         ensures found { NewestIsFound D.bytes D.may_leave self.now.ledger }
     {

@@ -15,7 +15,7 @@ impl<D: Directory + Shelf> Machine for World<D> {
     ghost use Rattle.cat_service.specs.Reasons.{OpensCaused, StepsCaused};
     ghost use Rattle.cat_service.specs.Worlds.{shape_of};
 
-    ghost opens = { OpensCaused D.bytes D.may_leave D.can_fail };
+    ghost opens = { OpensCaused D.bytes D.may_leave D.can_fail D.fault_count };
 
     ghost step = { StepsCaused D.bytes D.may_leave D.can_fail D.fault_count };
 

@@ -60,7 +60,7 @@ impl<D: Directory + Shelf> World<D> {
     pub fn open(alloc: Global, device: D, line: &str) -> Result<World<D>, Unopened<D>>
         ensures opens { OpensWorld D.bytes D.may_leave device line.now result }
         ensures ahead { IfOk result (λ w. AlwaysTells D.bytes → LeavesNoneAhead D.may_leave w.ledger) }
-        ensures begins { IfOk result (λ w. OpensSo D.bytes device line.now w) }
+        ensures begins { IfOk result (λ w. OpensSo D.bytes D.can_fail D.fault_count device line.now w) }
         ensures can { IfOk result (λ w. D.can_fail (device_of w) → D.can_fail device) }
     {
         if MAX_LINE_BYTES < line.len() {

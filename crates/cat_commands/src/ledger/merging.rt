@@ -2,7 +2,7 @@
 //!
 //! Lucene's `IndexWriter.maybeMerge` and `forceMerge(1)`.
 ghost use Rattle.cat_directory.specs.Devices.{CountsOne};
-ghost use Rattle.std.specs.Prelude.{◌≡◌, ◌⊎◌, IfErr};
+ghost use Rattle.std.specs.Prelude.{◌≡◌, ◌⊎◌, IfErr, ◌≤◌};
 ghost use Rattle.cat_base.specs.declared.refusal.Refusal.TheVariants.{Device};
 ghost use Rattle.cat_model.specs.Run as run;
 ghost use Rattle.cat_ledger.specs.cat_ledger_state.Cores.{HasRowsLeft};
@@ -40,6 +40,7 @@ pub(crate) fn merge_step<D: Directory + Shelf>(ledger: &mut Ledger<D>) -> Result
     ensures crash { Spares D.may_leave ledger.old ledger.new }
     ensures counted { IfErr result (λ e. e ≡ Device → CountsOne (D.fault_count (device_in ledger.old)) (D.fault_count (device_in ledger.new))) }
     ensures can { D.can_fail (device_in ledger.new) → D.can_fail (device_in ledger.old) }
+    ensures rises { D.fault_count (device_in ledger.old) ≤ D.fault_count (device_in ledger.new) }
     ensures history { Goes D.may_leave Event.Other ledger.old ledger.new }
     ensures policy { policy_in ledger.new ≡ policy_in ledger.old }
 {
@@ -57,6 +58,7 @@ pub(crate) fn force<D: Directory + Shelf>(ledger: &mut Ledger<D>) -> Result<Answ
     ensures crash { Spares D.may_leave ledger.old ledger.new }
     ensures counted { IfErr result (λ e. e ≡ Device → CountsOne (D.fault_count (device_in ledger.old)) (D.fault_count (device_in ledger.new))) }
     ensures can { D.can_fail (device_in ledger.new) → D.can_fail (device_in ledger.old) }
+    ensures rises { D.fault_count (device_in ledger.old) ≤ D.fault_count (device_in ledger.new) }
     ensures history { Goes D.may_leave Event.Other ledger.old ledger.new }
     ensures policy { policy_in ledger.new ≡ policy_in ledger.old }
 {

@@ -2,7 +2,7 @@
 //!
 //! Lucene's `SearcherLifetimeManager.record` and `prune`.
 ghost use Rattle.cat_directory.specs.Devices.{CountsOne};
-ghost use Rattle.std.specs.Prelude.{◌≡◌, ℕ, ◌⊎◌, IfErr, OnErr, Err};
+ghost use Rattle.std.specs.Prelude.{◌≡◌, ℕ, ◌⊎◌, IfErr, OnErr, Err, ◌≤◌};
 ghost use Rattle.cat_base.specs.declared.refusal.Refusal.TheVariants.{Device, Full, Memory, Spent};
 ghost use Rattle.cat_model.specs.Lines.{Said};
 ghost use Rattle.cat_ledger.specs.cat_ledger_state.Cores.{MayNotFlush};
@@ -33,6 +33,7 @@ pub fn refresh<D: Directory + Shelf>(ledger: &mut Ledger<D>) -> Result<Answer, R
     ensures crash { Spares D.may_leave ledger.old ledger.new }
     ensures counted { IfErr result (λ e. e ≡ Device → CountsOne (D.fault_count (device_in ledger.old)) (D.fault_count (device_in ledger.new))) }
     ensures can { D.can_fail (device_in ledger.new) → D.can_fail (device_in ledger.old) }
+    ensures rises { D.fault_count (device_in ledger.old) ≤ D.fault_count (device_in ledger.new) }
     ensures history { Goes D.may_leave Event.Other ledger.old ledger.new }
     ensures policy { policy_in ledger.new ≡ policy_in ledger.old }
 {
@@ -52,6 +53,7 @@ pub fn prune<D: Directory + Shelf>(ledger: &mut Ledger<D>, count: u64) -> Result
     ensures err { OnErr result (ledger.new ≡ ledger.old) }
     ensures crash { Spares D.may_leave ledger.old ledger.new }
     ensures can { D.can_fail (device_in ledger.new) → D.can_fail (device_in ledger.old) }
+    ensures rises { D.fault_count (device_in ledger.old) ≤ D.fault_count (device_in ledger.new) }
     ensures history { Goes D.may_leave Event.Other ledger.old ledger.new }
     ensures policy { policy_in ledger.new ≡ policy_in ledger.old }
 {

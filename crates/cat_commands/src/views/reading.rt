@@ -2,7 +2,7 @@
 //!
 //! Lucene's `StoredFields.document`, over a reader that `SearcherLifetimeManager.acquire` gave.
 ghost use Rattle.cat_directory.specs.Devices.{CountsOne};
-ghost use Rattle.std.specs.Prelude.{◌≡◌, ◌⊎◌, ℕ, Err, IfErr, IfOk, List, Ok, Option, false, true};
+ghost use Rattle.std.specs.Prelude.{◌≡◌, ◌⊎◌, ℕ, Err, IfErr, IfOk, List, Ok, Option, false, true, ◌≤◌};
 ghost use Rattle.cat_base.specs.declared.refusal.Refusal.TheVariants.{Damaged, Device, Memory, NotHeld};
 ghost use Rattle.cat_model.specs.Answer.{Found, HasNoLineFeed};
 ghost use Rattle.cat_model.specs.Heard.{id_of};
@@ -55,6 +55,7 @@ pub fn get<D: Directory + Shelf>(
     ensures shape { shape_in ledger.new ≡ shape_in ledger.old }
     ensures same { (q : FileName) → D.bytes (device_in ledger.new) q ≡ D.bytes (device_in ledger.old) q }
     ensures can { D.can_fail (device_in ledger.new) → D.can_fail (device_in ledger.old) }
+    ensures rises { D.fault_count (device_in ledger.old) ≤ D.fault_count (device_in ledger.new) }
     ensures history { Goes D.may_leave Event.Other ledger.old ledger.new }
     ensures policy { policy_in ledger.new ≡ policy_in ledger.old }
 {

@@ -1,6 +1,6 @@
 -- What a crash leaves of the newest commit is found with the run's table.
 use Rattle.std.proofs.Common.{inl, inr, ◌≡◌, ◌≢◌, ℕ, ◌+◌, ◌≤◌, List, [], ◌∷◌, ◌++◌, length, Bool, true, false, cond, refl, sym, ◌∙◌, ap, ap₂, subst, arith, append-nil}
-use Rattle.std.specs.Prelude.{◌==◌, ◌&&◌, filter, Option, None, Some, Result, Ok, Err, Contains, count_by, filter_map, replicate}
+use Rattle.std.specs.Prelude.{◌==◌, ◌&&◌, filter, Option, None, Some, Ok, Err, Contains, count_by, filter_map, replicate}
 use Rattle.std.specs.List.{flat_map, AllByRecursion}
 use Rattle.std.proofs.lemmas.Bool.Decides.{leb_tells}
 use Rattle.std.proofs.lemmas.List.Elements.{Contains-append_right}
@@ -214,13 +214,13 @@ some_refused (x ∷ xs) some = by (refuses x) refl (λ k. some_refused xs k)
 
 -- what a command and its reply are that refuse a commit
 record IsRefusedCommit (c : Command) (r : Reply) : Type 0 where
-  text : Result Text Refusal
-  asked : c ≡ Command.commit text
+  text : Text
+  asked : c ≡ Command.commit (Ok text)
   refusal : Refusal
   refused : r ≡ Err refusal
 
 refused_so : (c : Command) (r : Reply) → refuses_commit c r ≡ true → IsRefusedCommit c r
-refused_so (Command.commit text) (Err e) is = record { text = text; asked = refl; refusal = e; refused = refl }
+refused_so (Command.commit (Ok text)) (Err e) is = record { text = text; asked = refl; refusal = e; refused = refl }
 refused_so _ r is = absurd (let no : false ≡ true = is in cc)
 
 later_all : {X : Type 0} (P : X → Type 0) (before : List X) (x : X) (later : List X) → AllByRecursion P (before ++ x ∷ later) → AllByRecursion P later

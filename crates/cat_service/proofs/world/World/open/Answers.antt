@@ -50,6 +50,7 @@ returns-in-Ok-open-clause-begins g c =
     let found = c.in-Some.found in (
       subst (λ k. IsOpenedLedger (g.D.Holder.bytes c.args.device) k (g.D.Holder.bytes (device_in ledger)) (shape_in ledger)) (sym c.in-Ok-open.ensures.fields)
           c.in-Ok-open.ensures.ok,
+      c.in-Ok-open.ensures.swept,
       found.json.now,
       subst (λ (p : MergePolicy). SpellsSchema c.args.line.now p.factor p.least found.json.now) (sym (c.in-Ok-open.ensures.policy ∙ c.policy_of.ensures)) c.in-Some.ensures.found,
     )
