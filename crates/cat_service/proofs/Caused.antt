@@ -1,6 +1,6 @@
 -- The causes of replies, as those who answer tell them.
 use Rattle.std.proofs.Common.{◌≡◌, ◌≢◌, ℕ, ◌<◌, ◌≤◌, List, Bool, true, false, cond, ltb, length, refl, sym, ◌∙◌, ap, subst, inl, inr}
-use Rattle.std.specs.Prelude.{◌⊎◌, ◌==◌, Option, None, Some, Result, Ok, Err, IfErr, IfOk}
+use Rattle.std.specs.Prelude.{◌⊎◌, Option, None, Some, Result, Ok, Err, IfErr, IfOk}
 use Rattle.std.specs.List.{list_all}
 use Rattle.std.proofs.lemmas.Bool.Decides.{eqb_tells}
 use Rattle.cat_base.specs.declared.refusal.Refusal.{Refusal}
@@ -11,14 +11,14 @@ use Rattle.cat_model.specs.Heard.{commit_text_of}
 use Rattle.cat_model.specs.Item.{Schema}
 use Rattle.cat_model.specs.Limits.{buffer_limit, commit_text_limit, last_number}
 use Rattle.cat_model.specs.Lines.{Said}
-use Rattle.cat_model.specs.Run.{Answer, Chore, Command, News, Reply}
+use Rattle.cat_model.specs.Run.{Answer, Chore, Command, Reply}
 use Rattle.cat_model.specs.Serving.{FailsBy}
 use Rattle.cat_model.specs.Text.{Text}
 use Rattle.cat_model.specs.View.{View}
 use Rattle.cat_directory.specs.Devices.{CountsOne, FileContent}
 use Rattle.cat_directory.specs.declared.name.FileName.{FileName}
 use Rattle.cat_commands.specs.views.Holding.{said_open}
-use Rattle.cat_commands.specs.ledger.Chores.{FailsFor, MayRefuse, MayRefuseForce, MayRefuseMerge, Tells, chore_of, stat_in}
+use Rattle.cat_commands.specs.ledger.Chores.{FailsFor, MayRefuse, MayRefuseForce, MayRefuseMerge, Tells, chore_of}
 use Rattle.cat_commands.specs.declared.ledger.chores.Chore as code_chore
 use Rattle.cat_commands.specs.declared.ledger.chores.Chore.TheVariants.{Force, Merge, Stat, Sweep}
 use Rattle.cat_commands.specs.cat_ledger.Answering.{AnswersSaid}
@@ -28,16 +28,14 @@ use Rattle.cat_commands.specs.cat_ledger_state.Cores.{HasRowsLeft, MayNotFlush}
 use Rattle.cat_ledger_laws.specs.lines.LineLaws.{line_of}
 use Rattle.cat_ledger_laws.specs.lines.ReadLaws.{IsRecordedAs}
 use Rattle.cat_ledger_laws.specs.lines.RunLaws as lines
-use Rattle.cat_ledger_laws.proofs.lines.Numbered.{numbers_rise}
 use Rattle.cat_ledger_laws.proofs.lines.Planned.{merges_tell}
-use Rattle.cat_ledger_laws.specs.model.Plans.{MergePolicy}
 use Rattle.cat_ledger_laws.specs.shape.Shapes.{Shape}
 use Rattle.cat_ledger_laws.specs.shape.Ties.{ToldFiles}
 use Rattle.cat_protocol.specs.replies.Reply.{answer_of, reply_of}
 use Rattle.cat_protocol.specs.declared.replies.answer.Answer as code
 use Rattle.cat_protocol.specs.cat_views.Holds.{Hold}
 use Rattle.cat_protocol.specs.cat_views.Sources.{HoldsSource, TellsSource}
-use Rattle.cat_service.specs.Causes.{HasCause, IsDamagedTo, IsSpentTo, MayFailTo, TakesNumbers, TellsSo}
+use Rattle.cat_service.specs.Causes.{HasCause, IsDamagedTo, IsSpentTo, MayFailTo, TellsSo}
 use Rattle.cat_service.specs.Lines.{IsCommandOf}
 use Rattle.cat_service.specs.Worlds.{IsCarried, Service}
 

@@ -1,15 +1,14 @@
 -- What a GET that is told of a damaged file finds, where the device tells of its files.
 use Rattle.std.proofs.Common.{◌≡◌, ◌≢◌, ℕ, List, [], ◌∷◌, map, Bool, true, false, ◌&&◌, cond, refl, sym, ◌∙◌, ap, subst, inl, inr}
-use Rattle.std.specs.Prelude.{◌⊎◌, ◌==◌, Option, None, Some, Result, Ok, Err, is_some, option_map}
+use Rattle.std.specs.Prelude.{◌==◌, Option, None, Some, Ok, Err, is_some, option_map}
 use Rattle.std.specs.List.{find, list_any, AllByRecursion}
 use Rattle.std.proofs.lemmas.Bool.Decides.{eqb_tells}
 use Rattle.std.proofs.lemmas.List.Elements.{All-from_recursion}
 use Rattle.cat_base.specs.declared.refusal.Refusal.TheVariants.{Damaged, Memory, NotHeld}
 use Rattle.cat_model.specs.Answer.{Found, HasNoLineFeed, Read, stored}
 use Rattle.cat_model.specs.Files.{Name}
-use Rattle.cat_model.specs.Item.{Record, Schema}
-use Rattle.cat_model.specs.Run.{Answer, Command, Fits, Reply, Run, found_reply, or_not_held, holds, now, view_tokens, writes}
-use Rattle.cat_model.specs.State.{Hold, RecordedTable, StandsFor, has_hold, held_in, table_recorded}
+use Rattle.cat_model.specs.Run.{Answer, Command, Fits, Reply, Run, found_reply, or_not_held, holds, view_tokens, writes}
+use Rattle.cat_model.specs.State.{Hold, RecordedTable, has_hold, held_in, table_recorded}
 use Rattle.cat_model.specs.Table.{Opened, table}
 use Rattle.cat_model.specs.Text.{Text}
 use Rattle.cat_model.specs.View.{Leaf, View, records_in}
@@ -20,7 +19,7 @@ use Rattle.cat_directory.specs.declared.name.FileName.TheVariants as file
 use Rattle.cat_ledger_laws.specs.lines.LineLaws.{line_of}
 use Rattle.cat_ledger_laws.specs.lines.ReadLaws.{IsRecordedAs, TellsSources}
 use Rattle.cat_ledger_laws.specs.lines.RunLaws.{Stands}
-use Rattle.cat_ledger_laws.specs.model.Ledger.{Ledger, RecordedView, state_of, view_shown}
+use Rattle.cat_ledger_laws.specs.model.Ledger.{Ledger, RecordedView, view_shown}
 use Rattle.cat_ledger_laws.specs.model.Portions.{Portion, leaf_of, records_of}
 use Rattle.cat_ledger_laws.specs.model.Stored.{FileBytes, IsStored, joined_sources, portion_in}
 use Rattle.cat_ledger_laws.specs.shape.Shapes.{Shape, recorded_view}

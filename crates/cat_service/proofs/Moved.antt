@@ -1,5 +1,5 @@
 -- What a call of the ledger's model makes of what a standing tells of it.
-use Rattle.std.proofs.Common.{◌≡◌, ℕ, ◌+◌, ◌≤◌, List, [], ◌∷◌, ◌++◌, length, map, take, drop, Bool, true, false, cond, ltb, refl, sym, ◌∙◌, ap, subst, arith, inl, inr}
+use Rattle.std.proofs.Common.{◌≡◌, ℕ, ◌+◌, ◌≤◌, List, [], ◌∷◌, ◌++◌, length, take, drop, Bool, true, false, cond, ltb, refl, sym, ◌∙◌, ap, subst, arith, inl, inr}
 use Rattle.std.specs.Prelude.{◌⊎◌, ◌==◌, not, filter, None, Some, Ok, Err}
 use Rattle.std.proofs.lemmas.List.{length-append, length-drop, length-map, length-take}
 use Rattle.std.proofs.lemmas.List.Filters.{length-filter_both}
@@ -14,7 +14,7 @@ use Rattle.cat_model.specs.Write.{Write, removes}
 use Rattle.cat_ledger_laws.specs.model.Calls.{Flushed, Flushes, RecordsNow, has_recorded, wrote}
 use Rattle.cat_ledger_laws.specs.model.Ledger.{Ledger, state_of}
 use Rattle.cat_ledger_laws.specs.model.Plans.{MergePolicy}
-use Rattle.cat_ledger_laws.specs.model.Portions.{Merging, Portion, all_live, live_after, installed, merged, settled}
+use Rattle.cat_ledger_laws.specs.model.Portions.{Portion, all_live, live_after, merged, settled}
 use Rattle.cat_ledger_laws.specs.model.Replies.{Calls, CarriesOut, FindsNone, IsLeft, Maintains, SnapsBy}
 use Rattle.cat_model.specs.Standings.{IsTakenBy, writes_by}
 

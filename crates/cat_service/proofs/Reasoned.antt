@@ -1,37 +1,36 @@
 -- Each reply has its cause in how the world stands before its line.
-use Rattle.std.proofs.Common.{◌≡◌, ◌≢◌, ℕ, ◌+◌, ◌<◌, ◌≤◌, List, [], ◌∷◌, ◌++◌, length, map, sum, Bool, true, false, cond, refl, sym, ◌∙◌, ap, subst, arith, inl, inr}
+use Rattle.std.proofs.Common.{◌≡◌, ◌≢◌, ℕ, ◌+◌, ◌<◌, ◌≤◌, List, [], ◌∷◌, length, map, sum, Bool, true, false, cond, refl, sym, ◌∙◌, ap, subst, arith, inl, inr}
 use Rattle.std.specs.Prelude.{◌⊎◌, Option, None, Some, Result, Ok, Err, option_map}
 use Rattle.std.proofs.lemmas.List.{length-map}
 use Rattle.cat_base.specs.declared.refusal.Refusal.{Refusal}
 use Rattle.cat_base.specs.declared.refusal.Refusal.TheVariants.{Damaged, Device, Id, Spent}
 use Rattle.cat_model.specs.Answer.{Found, Read}
-use Rattle.cat_model.specs.Heard.{commit_text_of, id_of}
+use Rattle.cat_model.specs.Heard.{commit_text_of}
 use Rattle.cat_model.specs.Item.{Record, Schema, is_id}
-use Rattle.cat_model.specs.Limits.{buffer_limit, last_number, row_limit, segment_limit}
+use Rattle.cat_model.specs.Limits.{row_limit, segment_limit}
 use Rattle.cat_model.specs.Lines.{Said}
-use Rattle.cat_model.specs.Merged.{rows_of_all}
-use Rattle.cat_model.specs.Run.{Answer, Chore, Command, Exchange, Fits, Line, News, Reply, Run, SegmentStat, now, view_tokens}
+use Rattle.cat_model.specs.Run.{Answer, Chore, Command, Exchange, Fits, News, Reply, Run, SegmentStat, view_tokens}
 use Rattle.cat_model.specs.Served.{Outcome}
 use Rattle.cat_model.specs.State.{RecordedTable, table_recorded}
 use Rattle.cat_model.specs.Table.{Opened}
 use Rattle.cat_model.specs.Text.{Text}
-use Rattle.cat_model.specs.View.{Leaf, View}
+use Rattle.cat_model.specs.View.{Leaf}
 use Rattle.cat_model.specs.Window.{IsWindow}
 use Rattle.cat_directory.specs.Devices.{CountsOne}
 use Rattle.cat_commands.specs.cat_ledger.Lasting.{AlwaysTells}
 use Rattle.cat_commands.specs.cat_ledger_state.Cores.{HasRowsLeft, MayNotFlush}
-use Rattle.cat_commands.specs.cat_ledger.upkeep.Due.{IsForceDue, IsMergeDue}
-use Rattle.cat_commands.specs.ledger.Chores.{pending_in, segment_told, stat_in}
+use Rattle.cat_commands.specs.cat_ledger.upkeep.Due.{IsMergeDue}
+use Rattle.cat_commands.specs.ledger.Chores.{segment_told}
 use Rattle.cat_ledger_laws.specs.lines.PlanLaws.{TellsForce, TellsMerge, live_sets_in, sizes_in}
 use Rattle.cat_ledger_laws.specs.lines.RunLaws.{ReplyLike, IsShown, Stands}
-use Rattle.cat_ledger_laws.specs.model.Ledger.{Ledger, RecordedView, state_of, view_shown}
-use Rattle.cat_ledger_laws.specs.model.Plans.{MayBeForced, MergePolicy}
-use Rattle.cat_ledger_laws.specs.model.Portions.{Merging, Portion, leaf_of}
+use Rattle.cat_ledger_laws.specs.model.Ledger.{Ledger, view_shown}
+use Rattle.cat_ledger_laws.specs.model.Plans.{MayBeForced}
+use Rattle.cat_ledger_laws.specs.model.Portions.{Merging, leaf_of}
 use Rattle.cat_ledger_laws.specs.shape.Shapes.{MergingShape, Shape, merging_shape, recorded_view, shape_of as shape_of_ledger}
-use Rattle.cat_ledger_laws.specs.shape.Ties.{Carries, ToldFiles}
+use Rattle.cat_ledger_laws.specs.shape.Ties.{ToldFiles}
 use Rattle.cat_service.proofs.Gets.{damaged_get}
 use Rattle.cat_service.proofs.Moved.{Moved, calls_move}
-use Rattle.cat_service.specs.Causes.{HasCause, IsCountedTo, IsDamagedTo, IsSpentTo, TakesNumbers, TellsSo}
+use Rattle.cat_service.specs.Causes.{IsCountedTo, IsDamagedTo, IsSpentTo, TakesNumbers, TellsSo}
 use Rattle.cat_service.specs.Lines.{IsCommandOf}
 use Rattle.cat_service.specs.Reasons.{IsCausedBy, progress_of, standing_of}
 use Rattle.cat_model.specs.Standings.{ForceTells, HasNoRoom, HasReason, HasRowsToPass, IsCountedFor, IsDamagedFor, IsSpentFor, IsTakenBy, IsToForce, IsToldOf, IsToMerge, MergeTells, MovesOn, Progress, Standing, segment_rows, writes_by}

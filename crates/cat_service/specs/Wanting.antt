@@ -3,7 +3,7 @@ use Rattle.std.specs.Prelude.{◌≡◌, ℕ, ◌≤◌, false, Option, None, So
 use Rattle.cat_model.specs.Limits.{last_number}
 use Rattle.cat_model.specs.Lines.{Said}
 use Rattle.cat_model.specs.Query.{Query}
-use Rattle.cat_model.specs.Run.{Chore, Command, IsRun, Run, holds}
+use Rattle.cat_model.specs.Run.{Chore, Command, IsRun, Run}
 use Rattle.cat_model.specs.Serving.{MayWantIn, OkFits}
 use Rattle.cat_model.specs.State.{has_hold}
 use Rattle.cat_model.specs.Table.{Opened}

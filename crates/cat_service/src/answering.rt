@@ -55,11 +55,13 @@ impl<D: Directory + Shelf> World<D> {
     /// directory doesn't tell of its files, the text of a stored item alone may be another of that length. The files stand of
     /// each token that is recorded or held and of each commit that is kept, and a crash leaves those of the newest commit.
     /// [`Refusal::Memory`] is told only where an OK fits, so that it hides no other refusal; and never of a CLOSE or of a line
-    /// without a form, nor of an OPEN of a token that the session holds. Of a PUT that is known as far as its length and its UTF-8,
-    /// and of a DELW as far as its query. A refusal that stands in place of an OK has its cause: [`Refusal::Spent`] that a number or
-    /// a limit is spent, [`Refusal::Device`] that the directory can fail, [`Refusal::Damaged`] that a file is damaged; but a MERGE that
-    /// copies rows may be told these two also where a file is gone. COMMIT tells the generation that comes next, and maintenance
-    /// what is so. A line takes one number of a segment and one generation at most. What the line makes of commits is known by its reply, from which
+    /// without a form, nor of an OPEN of a token that the session holds. Of a PUT that is known as far as its length and its
+    /// UTF-8, and of a DELW as far as its query. A refusal that stands in place of an OK has its cause: [`Refusal::Spent`] that
+    /// a number or a limit is spent, [`Refusal::Device`] that the directory can fail and counted one failure more,
+    /// [`Refusal::Damaged`] that a file is damaged; but a MERGE that copies rows may be told these two also where a file is
+    /// gone. No line has the directory forget a failure, and a COMMIT that is refused for its text changes nothing. COMMIT
+    /// tells the generation that comes next, and maintenance what is so. A line takes one number of a segment and one
+    /// generation at most. What the line makes of commits is known by its reply, from which
     /// [`histories_last`](World::histories_last) tells what a crash leaves.
     pub fn step(&mut self, line: &Line) -> Reply
         ensures session { result.session ≡ line.now.session }

@@ -48,12 +48,11 @@ impl<D: Directory + Shelf> World<D> {
     /// gives, as `SCHEMA 10 1000 {"price":"number"}`: a factor of merges (2 to 100), their minimum (1 to 100,000), and the
     /// schema. No session has a right to a view. (Lucene: `OpenMode.CREATE_OR_APPEND`, and the `LogDocMergePolicy`.)
     ///
-    /// The first of these that is so is the refusal, with which the directory comes back, and nothing was deleted from it, nor may a
-    /// crash leave more of a file than it could have left before:
-    /// [`Refusal::Line`] of what isn't of that form, or is longer than a line may be; [`Refusal::Json`] or [`Refusal::Kind`]
-    /// of what is no schema; then [`Refusal::Kind`] where the commit has another schema, [`Refusal::Damaged`] where its
-    /// files don't hold it, [`Refusal::Device`] where the directory fails. [`Refusal::Memory`] is told only of a line of the
-    /// form.
+    /// The first of these that is so is the refusal, with which the directory comes back, and nothing was deleted from it, nor
+    /// may a crash leave more of a file than it could have left before: [`Refusal::Line`] of what isn't of that form, or is
+    /// longer than a line may be; [`Refusal::Json`] or [`Refusal::Kind`] of what is no schema; then [`Refusal::Kind`] where the
+    /// commit has another schema, [`Refusal::Damaged`] where its files don't hold it, [`Refusal::Device`] where the directory
+    /// fails. [`Refusal::Memory`] is told only of a line of the form.
     ///
     /// A crash leaves no commit that is newer than the one that was opened, where such directories always tell of their files:
     /// so [`histories_last`](World::histories_last) speaks of what a crash leaves after the lines that come.

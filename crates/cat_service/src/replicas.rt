@@ -18,12 +18,13 @@ pub fn logs_are_applied_alike()
 
 /// Reads under a held token have equal replies in two runs, also where the second was opened with the table of the first.
 ///
-/// - *across*: the second run began under the schema of the first, with the table that this one has at some number of writes, and
-///   with that number as its token; and the writes of the first up to t are those up to that number and then the second's own.
+/// - *across*: the second run began under the schema of the first, with the table that this one has at some number of writes,
+///   and with that number as its token; and the writes of the first up to t are those up to that number and then the second's
+///   own.
 /// - *of_one_log*: so it is of two runs that each began so with a table of one list of writes, be it at different numbers.
 ///
-/// Both ask that no record of the start of those writes has a number past its token. That t lies within both runs is no premise: a
-/// session holds it in both.
+/// Both ask that no record of the start of those writes has a number past its token. That t lies within both runs is no
+/// premise: a session holds it in both.
 ///
 /// Lucene promises it of one searcher; that it holds between programs is our own claim.
 pub fn held_reads_agree_across_openings()
@@ -34,12 +35,13 @@ pub fn held_reads_agree_across_openings()
 /// A replica answers alike.
 ///
 /// - *alike*: it is opened with what another service had at some moment: its schema, its table, and its number of writes as the
-///   token. As far as both were then asked to write the same, in one order, a read under a held token has the same reply in both.
-/// - *commits*: whoever opens a commit of a run, with the table and the number of writes that the run had before that COMMIT, is
-///   opened so. That an opening finds these, `the_catalogue_holds` and `copies_open_alike` say.
+///   token. As far as both were then asked to write the same, in one order, a read under a held token has the same reply in
+///   both.
+/// - *commits*: whoever opens a commit of a run, with the table and the number of writes that the run had before that COMMIT,
+///   is opened so. That an opening finds these, `the_catalogue_holds` and `copies_open_alike` say.
 ///
-/// A PUT, DEL or DELW that was answered 16, 30 or 40 is left aside, in either. The token has to be one of the writes that both were
-/// asked; later each may have been told anything else.
+/// A PUT, DEL or DELW that was answered 16, 30 or 40 is left aside, in either. The token has to be one of the writes that both
+/// were asked; later each may have been told anything else.
 ///
 /// Lucene's `ReplicaNode` shows what its primary does by copying segments; here only the writes are told.
 pub fn replicas_answer_alike()

@@ -13,8 +13,9 @@ use std::alloc::AllocError;
 
 impl<D: Directory + Shelf> World<D> {
     /// Answers the lines in turn. Whatever run led here, the replies fit it one after another, as those of
-    /// [`step`](World::step) do, each has its cause in the world before its line, and the files stand that are promised at the end. What the lines make of commits is known by their
-    /// replies, from which [`histories_last`](World::histories_last) tells what a crash leaves.
+    /// [`step`](World::step) do, each has its cause in the world before its line, and the files stand that are promised at the
+    /// end. What the lines make of commits is known by their replies, from which
+    /// [`histories_last`](World::histories_last) tells what a crash leaves.
     ///
     /// The list of replies is taken before the first line is answered, so an error changes nothing.
     pub fn run(&mut self, lines: &[Line]) -> Result<Vec<Reply>, AllocError>

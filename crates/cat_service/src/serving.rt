@@ -42,35 +42,39 @@ fn device_left<D: Directory + Shelf>(stage: Stage<World<D>, D>) -> D
 /// Answers each line of the reader: the first opens the newest commit of the directory, or an empty catalogue where there is
 /// none, and the others are its sessions'.
 ///
-/// What it writes is the text of a run that fits the lines, and nothing else, and of a directory that can't fail it says to no line but
-/// a MERGE that it did; where a directory doesn't tell of its files, the
-/// text of a stored item alone may be another of that length, and has no line feed either. In the directory that is left stand the files of every token that
-/// the run has recorded, held ones too, and of every commit that it keeps, with the table of each. Where the directory always
-/// tells of its files, a crash leaves those of the newest commit byte for byte: the commit that was opened, or that the last
-/// COMMIT was answered. What is found after the crash is that commit, or one of a COMMIT that was refused after it; and once the
-/// files of these are taken away, it is that commit. Where the schema line is refused, the files are as they were, also in whatever a
-/// crash may leave; and where a read failed before any line had ended, or a write before any line had come, the directory is untouched.
+/// What it writes is the text of a run that fits the lines, and nothing else, and of a directory that can't fail it says to no
+/// line but a MERGE that it did; where a directory doesn't tell of its files, the text of a stored item alone may be another of
+/// that length, and has no line feed either. In the directory that is left stand, as far as it tells of its files, those of
+/// every token that the run has recorded, held ones too, and of every commit that it keeps, with the table of each. Where such
+/// directories always tell of their files, a crash leaves those of the newest commit byte for byte: the commit that was opened,
+/// or that the last COMMIT was answered. What is found after the crash is that commit, or one of a COMMIT that was refused
+/// after it, but not for its text; and once the files of these are taken away, it is that commit. Where the schema line is
+/// refused, the files are as they were, also in whatever a crash may leave; and where a read failed before any line had ended,
+/// or a write before any line had come, the directory is untouched.
 ///
-/// Each reply has its cause in how the service stands before its line, from the opening on, as [`World::step`] says of one line. That
-/// a number or a limit is spent is told only where one is; that the device failed, only where the directory counts one failure more
-/// at that line; that a file is damaged, to a MERGE only where it has rows to copy, and to a GET, where such directories always tell
-/// of their files, only where the text has a line feed. A COMMIT tells the generation that comes next, and takes it; SWEEP, STAT,
-/// MERGE and FORCE tell what is so.
+/// Each reply has its cause in how the service stands before its line, from the opening on, as [`World::step`] says of one
+/// line. That a number or a limit is spent is told only where one is; that the device failed, only where the directory counts
+/// one failure more at that line, and no failure is forgotten; that a file is damaged, to a MERGE only where it has rows to
+/// copy, and to a GET, where such directories always tell of their files, only where the text has a line feed. A COMMIT tells
+/// the generation that comes next, and takes it; SWEEP, STAT, MERGE and FORCE tell what is so. Where such directories always
+/// tell of their files, whatever commit a crash leaves as the newest has a generation below the one that comes next.
 ///
-/// It flushes before each read, so that a client which waits for a reply has it. Its two buffers are taken before the first line
-/// is read, and replies are written without taking memory. The reader is called at most 4,294,967,295 times.
+/// It flushes before each read, so that a client which waits for a reply has it. Its two buffers are taken before the first
+/// line is read, and replies are written without taking memory. The reader is called at most 4,294,967,295 times.
 pub fn serve<D: Directory + Shelf, R: Read, W: Write>(
     alloc: Global,
     device: D,
     reader: &mut R,
     writer: &mut W,
 ) -> Left<D>
-    ensures served { ServesIn json (by_names D.bytes D.may_leave D.can_fail D.fault_count) device result.device (R.remaining reader.old)
-        (R.remaining reader.new) (W.contents writer.old) (W.contents writer.new) (ended_as result.ended) }
-    ensures caused { CausesIn json (by_names D.bytes D.may_leave D.can_fail D.fault_count) device result.device (R.remaining reader.old)
-        (R.remaining reader.new) (W.contents writer.old) (W.contents writer.new) (ended_as result.ended) }
-    ensures spared { SparesUnserved (by_names D.bytes D.may_leave D.can_fail D.fault_count) device result.device (R.remaining reader.old)
-        (R.remaining reader.new) (ended_as result.ended) }
+    ensures served { ServesIn json (by_names D.bytes D.may_leave D.can_fail D.fault_count) device result.device
+        (R.remaining reader.old) (R.remaining reader.new) (W.contents writer.old) (W.contents writer.new)
+        (ended_as result.ended) }
+    ensures caused { CausesIn json (by_names D.bytes D.may_leave D.can_fail D.fault_count) device result.device
+        (R.remaining reader.old) (R.remaining reader.new) (W.contents writer.old) (W.contents writer.new)
+        (ended_as result.ended) }
+    ensures spared { SparesUnserved (by_names D.bytes D.may_leave D.can_fail D.fault_count) device result.device
+        (R.remaining reader.old) (R.remaining reader.new) (ended_as result.ended) }
 {
     let served = serve_machine::<World<D>, R, W>(alloc, device, reader, writer);
     Left {

@@ -15,11 +15,13 @@ use cat_protocol::cat_segment::{
 ///
 /// - *opened*: each call that answered a first line began somewhere, by what its directory tells of its files: at the newest
 ///   commit, or empty.
-/// - *agree*: where two began with one table, a read under a token that a session holds is answered alike in both, if the writes
-///   up to that token have the same texts; whatever else either was told.
-/// - *found*: what a call leaves, also in a crash, opens at its last COMMIT that was answered OK, with its text, with the number
-///   of writes before it as token, and with the table at that token; or a COMMIT was refused since; or there was none.
-/// - *afterwards*: under that token the next call answers as this one did.
+/// - *agree*: where two began with one schema, one table and one number of writes, a read under a token that a session holds
+///   is answered alike in both, if the writes up to that token have the same texts; whatever else either was told.
+/// - *found*: what a call leaves, also in a crash, opens at its last COMMIT that was answered OK, or else at the commit that it
+///   had opened, with its text, with the number of writes before it as token, and with the table at that token; or a COMMIT was
+///   refused since, but not for its text; or there was none.
+/// - *afterwards*: where the next call found that commit under the same schema, a read under its token is answered alike in
+///   both calls, in sessions that hold it.
 ///
 /// *Found* asks for a kind of directory that always tells of its files, as the one in memory does. Of a folder, which doesn't,
 /// the others hold, but for the text of a stored item: GET may answer another one of its length, if somebody changed the file.

@@ -40,8 +40,8 @@ fn news_told(news: WarmNews) -> News
 /// A set in the making is over a segment of the list: the end of a merge that takes its segment out gives it up (see
 /// [`maintain`](crate::ledger::maintain)).
 ///
-/// [`Refusal::Line`] for any session but 0, which comes first and changes nothing; else [`Refusal::Memory`] alone, after which the
-/// set in the making may have passed its last rows without being stored: the next step stores it. The ledger isn't changed.
+/// [`Refusal::Line`] for any session but 0, which comes first and changes nothing; else [`Refusal::Memory`] alone, after which
+/// the set in the making may have passed its last rows without being stored: the next step stores it. The ledger isn't changed.
 pub fn warm<D: Directory + Shelf>(
     ledger: &Ledger<D>,
     filters: &mut Filters,

@@ -31,9 +31,9 @@ use cat_protocol::replies::Answer;
 /// (Lucene: `StoredFields.document`.)
 ///
 /// The first of these that is so is the refusal: [`Refusal::Id`] where the id has the wrong form, [`Refusal::NotHeld`] where
-/// the session doesn't hold the token; [`Refusal::Damaged`] where the file with the bytes is absent, ends before they do, or has
-/// a line feed in them; [`Refusal::Device`] where the directory fails; else [`Refusal::Memory`]. So no bytes that are told go
-/// beyond their line. The ledger stays as it is in each case.
+/// the session doesn't hold the token; [`Refusal::Damaged`] where the file with the bytes is absent, ends before they do, or
+/// has a line feed in them; [`Refusal::Device`] where the directory fails; else [`Refusal::Memory`]. So no bytes that are told
+/// go beyond their line. The ledger stays as it is in each case.
 pub fn get<D: Directory + Shelf>(
     ledger: &mut Ledger<D>,
     rights: &Rights,

@@ -1,13 +1,12 @@
 -- A commit of a run has what some front of the run had.
-use Rattle.std.proofs.Common.{◌≡◌, ℕ, ◌+◌, ◌≤◌, List, [], ◌∷◌, ◌++◌, length, refl, sym, ◌∙◌, ap, subst, arith, append-nil, append_assoc}
+use Rattle.std.proofs.Common.{◌≡◌, ℕ, List, [], ◌∷◌, ◌++◌, refl, sym, ◌∙◌, ap, arith, append-nil, append_assoc}
 use Rattle.std.specs.Prelude.{Option, None, Some, true, false, Bool, cond, find, option_map, ◌==◌}
-use Rattle.std.specs.List.{filter_map, cons_option}
+use Rattle.std.specs.List.{cons_option}
 use Rattle.std.proofs.lemmas.List.Elements.{filter_map-append}
-use Rattle.cat_model.specs.Write.{Write}
-use Rattle.cat_model.specs.Table.{Start, Opened, CommitText, table, count}
+use Rattle.cat_model.specs.Table.{Start, Opened, CommitText, table}
 use Rattle.cat_model.specs.Run.{Exchange, Run, accepted, commit_by, CommitMark, mark_of, marks_from, token_of, committed_at, writes, now}
 use Rattle.cat_model.proofs.UpTo.{table-more}
-use Rattle.cat_service.specs.replicas.Laws.{start_behind, CommitsBeginReplicas}
+use Rattle.cat_service.specs.replicas.Laws.{CommitsBeginReplicas}
 
 -- the token of the first mark of a generation
 abbrev token_under : ℕ → List CommitMark → Option ℕ

@@ -1,13 +1,13 @@
 -- A log is due by the number of writes before it and by its commands alone.
-use Rattle.std.proofs.Common.{inl, inr, ◌≡◌, ◌⊎◌, ℕ, ◌+◌, List, [], ◌∷◌, ◌++◌, map, length, refl, sym, ◌∙◌, ap, subst, arith}
-use Rattle.std.specs.Prelude.{Option, None, Some, Ok, Err, true, false, Bool, cond, not, ◌&&◌, IsTrue}
+use Rattle.std.proofs.Common.{inl, inr, ◌≡◌, ℕ, ◌+◌, List, [], ◌∷◌, ◌++◌, length, refl, sym, ◌∙◌, ap, subst, arith}
+use Rattle.std.specs.Prelude.{Option, None, Some, Ok, Err, true, false, Bool, not, ◌&&◌, IsTrue}
 use Rattle.std.specs.List.{filter_map, cons_option}
 use Rattle.std.proofs.lemmas.List.{length-append}
 use Rattle.cat_base.specs.declared.refusal.Refusal.{Refusal}
 use Rattle.cat_base.specs.declared.refusal.Refusal.TheVariants.{Line as NoForm, Spent, Device, Memory}
 use Rattle.cat_model.specs.Write.{Write}
-use Rattle.cat_model.specs.Table.{Start, Opened, count}
-use Rattle.cat_model.specs.Run.{Command, Answer, Reply, Exchange, Run, accepted, accepted_by, writes, now, write_reply, may_refuse, Answers, Refuses, Stops, Fits, FitsFrom, IsRun}
+use Rattle.cat_model.specs.Table.{Start, Opened}
+use Rattle.cat_model.specs.Run.{Command, Reply, Exchange, Run, accepted, accepted_by, writes, now, write_reply, may_refuse, Answers, Refuses, Fits, FitsFrom}
 use Rattle.cat_model.proofs.Runs.{FitsFrom-split, writes-push, stops_refuse}
 use Rattle.cat_service.specs.replicas.Laws.{asks_to_write, is_stop, Logged, logged, log, commands, LogsAreAppliedAlike}
 

@@ -1,23 +1,23 @@
 -- A run that is opened with the table of other writes, and goes on with those behind it.
 use Rattle.std.proofs.Common.{inl, inr, ◌≡◌, ◌⊎◌, ℕ, ◌+◌, ◌-◌, ◌≤◌, ◌<◌, List, [], ◌∷◌, ◌++◌, length, take, refl, sym, ◌∙◌, ap, subst, arith, append-nil, append_assoc}
-use Rattle.std.specs.Prelude.{Option, None, Some, Ok, Err, true, false, Bool, cond, not, ◌&&◌, ◌||◌, ltb, leb, min, All}
+use Rattle.std.specs.Prelude.{Ok, Err, true, false, Bool, cond, not, ◌&&◌, ◌||◌, ltb, leb, min}
 use Rattle.std.specs.List.{list_any, filter, filter_map, cons_option, AllByRecursion}
 use Rattle.std.proofs.lemmas.Bool.Decides.{nat_tests, leb_tells}
 use Rattle.std.proofs.lemmas.List.{length-append, length-take}
 use Rattle.std.proofs.lemmas.List.Elements.{filter-append, filter_map-append, recursion_from_All}
 use Rattle.cat_base.specs.declared.refusal.Refusal.{Refusal}
-use Rattle.cat_model.specs.Item.{Record, Schema}
+use Rattle.cat_model.specs.Item.{Record}
 use Rattle.cat_model.specs.Write.{Write}
 use Rattle.cat_model.specs.Table.{Start, Opened, Numbered, numbered, record_of, put_by, replaces, stands, table, count, writes_up_to}
 use Rattle.cat_model.specs.Answer.{Read, answer}
-use Rattle.cat_model.specs.Run.{Command, Answer, Reply, Exchange, Run, accepted, writes, now, is_held, has, without_least_free, pruned, with_view, view_tokens_by, view_tokens_from, view_tokens, found_reply, Answers, Stops, Fits, FitsFrom, IsRun}
+use Rattle.cat_model.specs.Run.{Command, Answer, Reply, Exchange, Run, accepted, writes, now, is_held, has, without_least_free, with_view, view_tokens_by, view_tokens_from, view_tokens, found_reply, Answers, Stops, FitsFrom, IsRun}
 use Rattle.cat_model.specs.Limits.{view_limit}
 use Rattle.cat_model.specs.Laws.{IsBounded, HeldRead}
-use Rattle.cat_model.proofs.Lists.{filter_alike, filter_none, filter-filter, list_any-append, list_any_alike, list_any_none, All-weaken, All-both, All-each, All-kept}
+use Rattle.cat_model.proofs.Lists.{filter_alike, filter_none, filter-filter, list_any-append, list_any_alike, list_any_none, All-weaken, All-both, All-kept}
 use Rattle.cat_model.proofs.Table.{numbered_above, numbered_up_to}
 use Rattle.cat_model.proofs.UpTo.{table-up_to, table-more}
 use Rattle.cat_model.proofs.Runs.{FitsFrom-split, answered, bounded, held_low, held_writes, held_read_is_of_its_table}
-use Rattle.cat_service.specs.replicas.Laws.{GoesOn, IsSeen, start_behind, HeldReadsAgreeAcrossOpenings, HeldReadsAgreeOverOneLog, ReplicasAnswerAlike}
+use Rattle.cat_service.specs.replicas.Laws.{GoesOn, IsSeen, HeldReadsAgreeAcrossOpenings, HeldReadsAgreeOverOneLog, ReplicasAnswerAlike}
 use Rattle.cat_service.proofs.replicas.Logs.{logs_alike}
 
 -- ---- the table that writes leave, and the writes behind them

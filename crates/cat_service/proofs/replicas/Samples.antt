@@ -1,17 +1,15 @@
 -- The samples of replicas are as the laws ask.
-use Rattle.std.proofs.Common.{inl, inr, ◌≡◌, ◌⊎◌, ℕ, ◌≤◌, List, [], ◌∷◌, ◌++◌, refl, arith}
+use Rattle.std.proofs.Common.{inl, inr, ◌≡◌, [], ◌∷◌, ◌++◌, refl, arith}
 use Rattle.std.specs.Prelude.{Ok, Err}
 use Rattle.std.proofs.lemmas.List.Elements.{All-from_recursion}
-use Rattle.cat_base.specs.declared.refusal.Refusal.{Refusal}
-use Rattle.cat_base.specs.declared.refusal.Refusal.TheVariants.{Spent, Device, Memory}
+use Rattle.cat_base.specs.declared.refusal.Refusal.TheVariants.{Spent, Device}
 use Rattle.cat_model.specs.Text.{Text}
 use Rattle.cat_model.specs.Item.{Item, Schema}
 use Rattle.cat_model.specs.Write.{Write}
 use Rattle.cat_model.specs.Table.{table}
 use Rattle.cat_model.specs.Answer.{Read, Found, stored}
 use Rattle.cat_model.specs.Run.{Command, Answer, Reply, Refuses, IsRun}
-use Rattle.cat_model.specs.Laws.{HeldRead}
-use Rattle.cat_service.specs.replicas.Samples.{said, told, first, first_past, first_run, first_read, second, second_run, second_read, source_at_two, one_put, AreReplicas, StopsPart, SamplesAreReplicas}
+use Rattle.cat_service.specs.replicas.Samples.{said, told, first, first_past, first_run, first_read, second, second_run, second_read, AreReplicas, StopsPart, SamplesAreReplicas}
 
 no_refusal : (c : Command) (a : Answer) → Refuses c (Ok a) → ⊥
 no_refusal c a f = let h : ◌≡◌ {A = Reply} (Ok a) (Err f.0) = f.1 in cc h

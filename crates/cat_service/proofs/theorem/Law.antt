@@ -17,13 +17,13 @@ use Rattle.cat_model.specs.Limits.{last_number}
 use Rattle.cat_model.specs.Heard.{Json, IsCommand, id_of}
 use Rattle.cat_model.specs.Served.{Outcome, outcome_text}
 use Rattle.cat_model.specs.Laws.{HeldRead}
-use Rattle.cat_model.specs.Talk.{AreAlike, Pair, IsTalk, IsWrite, WritesAgree, IsRead, ReadsUnder, HeldAsk, ShowsHold, excepted_replies}
+use Rattle.cat_model.specs.Talk.{AreAlike, Pair, IsTalk, IsWrite, WritesAgree, ReadsUnder, HeldAsk, ShowsHold, excepted_replies}
 use Rattle.cat_model.proofs.Runs.{held_read_is_of_its_table, held_reads_agree, held_low, held_writes}
 use Rattle.cat_model.proofs.Sayings.{one_command}
 use Rattle.cat_model.proofs.TalkCuts.{same_line}
 use Rattle.cat_model.proofs.TalkDigits.{decimal_one_line, decimal_starts, not_letter}
 use Rattle.cat_model.proofs.TalkHeard.{Entry, pair, run_of, Heeded, Understood, understood}
-use Rattle.cat_model.proofs.TalkHolds.{around, run_place, fits_from, held_in}
+use Rattle.cat_model.proofs.TalkHolds.{around, run_place, held_in}
 use Rattle.cat_model.proofs.TalkWrites.{Makes, Stands, writes_stand, makes_one, take_same}
 use Rattle.cat_model.proofs.TalkLines.{Shown, lines_said, said_lines, reply_lines}
 use Rattle.cat_ledger_laws.specs.lines.RunLaws.{ReplyLike}
@@ -32,8 +32,8 @@ use Rattle.cat_model.specs.Calls.{SayTheSame, SayAsLong, Agree}
 use Rattle.cat_service.proofs.theorem.Told.{IsSaid, PartRecord, ReadsAgreeSo, ReadsAgreeWhere}
 use Rattle.cat_service.proofs.theorem.Cuts.{cut_one_way}
 use Rattle.cat_service.proofs.theorem.Shown.{page_told, facets_told, tables_part}
-use Rattle.cat_service.proofs.theorem.Sources.{NoSource, IsGet, source_told, SaysGet, says_get}
-use Rattle.cat_service.proofs.theorem.Likeness.{Both, as_fits, shown, due, Zipped, zipped, each_begun, due_pairs, Longs, alike_cases, Calm, FitsSome, fit_some, all_calm, IsPlaced, placed, map_place, split_all, write_shown, hold_due, source_no_stop}
+use Rattle.cat_service.proofs.theorem.Sources.{NoSource, source_told, SaysGet, says_get}
+use Rattle.cat_service.proofs.theorem.Likeness.{Both, as_fits, shown, Zipped, zipped, each_begun, due_pairs, Longs, alike_cases, Calm, FitsSome, fit_some, all_calm, IsPlaced, placed, map_place, split_all, write_shown, hold_due, source_no_stop}
 
 -- what is said is a FIND or a FACETS
 abbrev Searches : Said → Type 0

@@ -1,6 +1,6 @@
 -- What was told shows the writes and the holds of the run that fits.
-use Rattle.std.proofs.Common.{inl, inr, suc, ◌≡◌, ◌≢◌, ◌⊎◌, ℕ, ◌<◌, ◌≤◌, List, [], ◌∷◌, ◌++◌, map, length, get_or, slice_index_or, refl, sym, ◌∙◌, ap, subst, append_assoc, append-nil, arith, codes}
-use Rattle.std.specs.Prelude.{zero, Contains, Option, None, Some, Ok, Err}
+use Rattle.std.proofs.Common.{inl, inr, suc, ◌≡◌, ◌≢◌, ◌⊎◌, ℕ, ◌<◌, List, [], ◌∷◌, ◌++◌, map, length, get_or, slice_index_or, refl, sym, ◌∙◌, ap, subst, append_assoc, append-nil, arith, codes}
+use Rattle.std.specs.Prelude.{zero, Contains, Option, Some, Ok}
 use Rattle.std.specs.List.{flat_map, filter_map, cons_option, AllByRecursion}
 use Rattle.std.specs.Fmt.{decimal}
 use Rattle.std.proofs.lemmas.List.Elements.{Contains-append_right, Contains-append_cases}
@@ -12,13 +12,13 @@ use Rattle.cat_model.specs.Lines.{Said, spaced, spelling, line_text, reply_text,
 use Rattle.cat_model.specs.Run.{Command, Answer, Reply, Exchange, Run, Fits, FitsFrom}
 use Rattle.cat_model.specs.Heard.{Json, Heard, Hears, IsCommand}
 use Rattle.cat_model.specs.Served.{Outcome, heard, exchange, outcome_text, HeardAll}
-use Rattle.cat_model.specs.Talk.{Pair, granted, AsksToWrite, IsWrite, WritesAgree, ShowsHold, HeldAsk, refusal_text, excepted_replies}
+use Rattle.cat_model.specs.Talk.{Pair, granted, AsksToWrite, IsWrite, ShowsHold, refusal_text, excepted_replies}
 use Rattle.cat_model.proofs.TalkHeard.{Entry, pair, run_of, Heeded, heard_line}
 use Rattle.cat_model.proofs.TalkDigits.{decimal_one_word}
 use Rattle.cat_ledger_laws.specs.lines.RunLaws.{ReplyLike}
 use Rattle.cat_model.specs.Serving.{IsLike, AreLike}
 use Rattle.cat_service.proofs.theorem.Cuts.{Begun, told_begun}
-use Rattle.cat_service.proofs.theorem.Sources.{NoSource, IsGet, source_told, SaysGet, says_get}
+use Rattle.cat_service.proofs.theorem.Sources.{NoSource, source_told, SaysGet, says_get}
 
 -- ---- lines with what was told and what fits
 

@@ -1,5 +1,5 @@
 -- What a page shows of the items of an opened commit has no line feed, since the files of its segments are judged.
-use Rattle.std.proofs.Common.{◌≡◌, ◌≢◌, ℕ, ◌≤◌, List, [], ◌∷◌, drop, Bool, true, false, refl, sym, ◌∙◌, ap, true≢false}
+use Rattle.std.proofs.Common.{◌≡◌, ℕ, ◌≤◌, List, [], ◌∷◌, drop, Bool, true, false, refl, sym, ◌∙◌, ap, true≢false}
 use Rattle.std.specs.Prelude.{None, Some, ◌&&◌, ltb, leb, length}
 use Rattle.std.specs.List.{flat_map, list_all, AllByRecursion}
 use Rattle.std.specs.Char.{is_ascii_graphic}

@@ -1,9 +1,8 @@
 -- No line of a page or of counts has a line feed within it, whatever stands in sources.
-use Rattle.std.proofs.Common.{inl, inr, ◌≡◌, ◌≢◌, ◌⊎◌, ℕ, ◌+◌, ◌<◌, ◌≤◌, List, [], ◌∷◌, ◌++◌, map, length, ltb, sym, ◌∙◌, refl, ap, subst, arith, codes, true≢false}
-use Rattle.std.specs.Prelude.{find, not, ◌&&◌, ◌==◌, option_map, Option, None, Some, Result, Ok, Err, true, false, Bool, cond}
-use Rattle.std.specs.List.{flat_map, filter_map, cons_option, list_all, AllByRecursion}
+use Rattle.std.proofs.Common.{inl, inr, ◌≡◌, ◌≢◌, ℕ, ◌+◌, List, [], ◌∷◌, ◌++◌, map, ltb, sym, ◌∙◌, refl, ap, subst, codes}
+use Rattle.std.specs.Prelude.{find, option_map, Option, None, Some, Result, Ok, Err, true, false, Bool, cond}
+use Rattle.std.specs.List.{flat_map, filter_map, cons_option, AllByRecursion}
 use Rattle.std.specs.Fmt.{decimal}
-use Rattle.std.proofs.lemmas.Bool.{and_parts}
 use Rattle.cat_base.specs.declared.refusal.Refusal.{Refusal}
 use Rattle.cat_base.specs.declared.refusal.Refusal.TheVariants.{Count, SortField, NotFacet, Mark}
 use Rattle.std.proofs.lemmas.List.Elements.{All-from_recursion, recursion_from_All}
@@ -17,8 +16,8 @@ use Rattle.cat_model.specs.Page.{Sort, hits, key, key_in, before, ranked, first_
 use Rattle.cat_model.specs.Facets.{labels_of, counted, more, facets_in}
 use Rattle.cat_model.specs.Table.{Start, Opened, numbered, put_by, stands, table}
 use Rattle.cat_model.specs.Answer.{Read, Found, can_sort, has_mark, is_facet_kind, answer}
-use Rattle.cat_model.specs.Run.{Command, Answer, Reply, Exchange, Run, accepted, accepted_by, writes, found_reply}
-use Rattle.cat_model.specs.Lines.{Said, spaced, spelling}
+use Rattle.cat_model.specs.Run.{Command, Answer, Exchange, accepted, accepted_by, writes, found_reply}
+use Rattle.cat_model.specs.Lines.{spaced, spelling}
 use Rattle.cat_model.specs.Heard.{Json, Hears}
 use Rattle.cat_model.specs.Served.{Outcome, heard, exchange}
 use Rattle.cat_model.specs.Talk.{HasOneLines, IsShownInLines, ReadsLines}

@@ -1,5 +1,5 @@
 -- What is said to lines, beside the run that fits them: the law of held reads over what a call of `serve` is promised to write.
-use Rattle.std.specs.Prelude.{◌≡◌, ℕ, ◌≤◌, ◌⊎◌, List, [], ◌∷◌, ◌++◌, codes, filter_map, length, map, Option, Some, None, Ok}
+use Rattle.std.specs.Prelude.{◌≡◌, ℕ, ◌≤◌, List, [], ◌∷◌, ◌++◌, codes, filter_map}
 use Rattle.std.specs.List.{flat_map, AllByRecursion}
 use Rattle.std.specs.Fmt.{decimal}
 use Rattle.cat_model.specs.Text.{Text, IsOneLine}
@@ -8,11 +8,11 @@ use Rattle.cat_model.specs.Calls.{Agree}
 use Rattle.cat_model.specs.Item.{IsSchema, Item, Record}
 use Rattle.cat_model.specs.Table.{Opened, table}
 use Rattle.cat_model.specs.Limits.{last_number}
-use Rattle.cat_model.specs.Lines.{Said, SpellsSaid, line_text}
+use Rattle.cat_model.specs.Lines.{line_text}
 use Rattle.cat_model.specs.Run.{IsRun, writes}
 use Rattle.cat_model.specs.Heard.{Json}
 use Rattle.cat_model.specs.Served.{HeardAll, Outcome, exchange, outcome_text}
-use Rattle.cat_model.specs.Talk.{AreAlike, HasOneLines, HeldAsk, IsRead, IsTalk, Pair, ReadsLines, WritesAgree}
+use Rattle.cat_model.specs.Talk.{HasOneLines, HeldAsk, IsRead, IsTalk, Pair, ReadsLines, WritesAgree}
 
 -- no text of the item that a page or counts show has a line feed; its source may have some
 pub record PartShown (i : Item) : Type 0 where

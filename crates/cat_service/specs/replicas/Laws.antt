@@ -1,5 +1,5 @@
 -- What replicas rest on: services that apply one log of writes. Nothing to believe: the laws are proved. They are our own.
-use Rattle.std.specs.Prelude.{◌≡◌, ℕ, ◌≤◌, Bool, true, false, not, ◌&&◌, cond, List, ◌++◌, map, filter_map, All, Option, Some, None, Ok, Err}
+use Rattle.std.specs.Prelude.{◌≡◌, ℕ, ◌≤◌, Bool, true, false, not, ◌&&◌, cond, List, ◌++◌, map, filter_map, All, Option, Some, None, Err}
 use Rattle.cat_base.specs.declared.refusal.Refusal.TheVariants.{Spent, Device, Memory}
 use Rattle.cat_model.specs.Write.{Write}
 use Rattle.cat_model.specs.Table.{Start, Opened, table, writes_up_to}

@@ -1,5 +1,5 @@
 -- Two services that were made by hand: a replica that goes on from a commit of the other; and what parts two services.
-use Rattle.std.specs.Prelude.{◌≡◌, ℕ, ◌≤◌, List, [], ◌∷◌, ◌++◌, Some, None, Ok, Err}
+use Rattle.std.specs.Prelude.{◌≡◌, ℕ, ◌≤◌, [], ◌∷◌, ◌++◌, Some, None, Ok, Err}
 use Rattle.cat_base.specs.declared.refusal.Refusal.TheVariants.{Id, Spent, Device, Memory}
 use Rattle.cat_model.specs.Text.{Text}
 use Rattle.cat_model.specs.Item.{Item, Schema}

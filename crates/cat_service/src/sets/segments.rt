@@ -11,8 +11,8 @@ pub fn segments_stay()
     ensures { SegmentsStay }
 {}
 
-/// Wherever two segments of one number stand, in the current list or in recorded views, they are one, since the file of that number
-/// is one segment's.
+/// Wherever two segments of one number stand, in the current list or in recorded views, they are one, since the file of that
+/// number is one segment's.
 ///
 /// Lucene's readers of a `SegmentCommitInfo` share its `SegmentCoreReaders`.
 pub fn segments_are_one()
