@@ -148,9 +148,9 @@ module _ {D : Type 0} (bytes : D → ToldFiles) (can_fail : D → Type 0) (fault
   commit_told may text (Err e) new goes = tt
 
   -- what is so of a refused text beside its refusal
-  if_wrong : {A : Type 0} (judged : Result Text Refusal) → IfErr judged (λ e. (result ≡ Err e) × A) → IfErr judged (λ e. A)
-  if_wrong (Ok t) wrong = tt
-  if_wrong (Err e) wrong = wrong.1
+  if_wrong : (A : Type 0) (judged : Result Text Refusal) → IfErr judged (λ e. (result ≡ Err e) × A) → IfErr judged (λ e. A)
+  if_wrong A (Ok t) wrong = tt
+  if_wrong A (Err e) wrong = wrong.1
 
   pub commit_caused : (may : D → FileName → FileContent → Type 0) (text : Text)
       → IfErr (commit_text_of text) (λ e. (result ≡ Err e) × (left ≡ old))
@@ -167,7 +167,7 @@ module _ {D : Type 0} (bytes : D → ToldFiles) (can_fail : D → Type 0) (fault
     damaged = λ k. tt;
     told = commit_told may text (reply_of result) left goes;
     rises = rises;
-    stays = if_wrong (commit_text_of text) wrong;
+    stays = if_wrong (left ≡ old) (commit_text_of text) wrong;
   }
 
   -- ---- maintenance

@@ -16,4 +16,4 @@ pub spares_same : {D : Type 0} (left : D → FileName → FileContent → Type 0
 spares_same left old new same q fresh merging e might = subst (λ d. left d q e) same might
 
 pub goes_same : {D : Type 0} (left : D → FileName → FileContent → Type 0) (l : Ledger D) → Goes left Event.Other l l
-goes_same left l = record { newest = refl; next = omega arith; asked = λ g no. absurd no; files = λ g other e after. inl after }
+goes_same left l = record { newest = refl; next = omega arith; asked = λ g no. absurd no; taken = λ g no. absurd no; files = λ g other e after. inl after }

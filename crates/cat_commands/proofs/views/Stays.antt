@@ -15,6 +15,7 @@ module _ {D : Type 0} (left : D → FileName → FileContent → Type 0) where
     newest = ap newest_generation commits;
     next = omega (arith, next);
     asked = λ g no. absurd no;
+    taken = λ g no. absurd no;
     files = λ g other e after. inl (subst (λ d. left d (file.Commit g) e) device after);
   }
 

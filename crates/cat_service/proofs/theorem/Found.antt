@@ -1,6 +1,6 @@
 -- What a crash leaves of the newest commit is found with the run's table.
 use Rattle.std.proofs.Common.{inl, inr, ◌≡◌, ◌≢◌, ℕ, ◌+◌, ◌≤◌, List, [], ◌∷◌, ◌++◌, length, Bool, true, false, cond, refl, sym, ◌∙◌, ap, ap₂, subst, arith, append-nil}
-use Rattle.std.specs.Prelude.{◌==◌, ◌&&◌, filter, Option, None, Some, Ok, Err, Contains, count_by, filter_map, replicate}
+use Rattle.std.specs.Prelude.{◌==◌, ◌&&◌, filter, Option, None, Some, Result, Ok, Err, Contains, count_by, filter_map, replicate}
 use Rattle.std.specs.List.{flat_map, AllByRecursion}
 use Rattle.std.proofs.lemmas.Bool.Decides.{leb_tells}
 use Rattle.std.proofs.lemmas.List.Elements.{Contains-append_right}
