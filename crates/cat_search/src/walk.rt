@@ -134,6 +134,8 @@ fn steps_from<'a>(
 {
     let part = walk.part(index);
     let (_, left) = part.split_at(rows_passed(ranks, part, mark));
+    // Its contract says that the index behind the last part's fits too.
+    let _parts = walk.len();
     Steps::behind(walk, index + 1, left)
 }
 
