@@ -28,7 +28,7 @@ use Rattle.cat_ledger_laws.proofs.shape.Told.{same_again}
 use Rattle.cat_ledger_state.specs.Cores.{flush_begins, is_begun}
 use Rattle.cat_ledger_state.specs.startup.Opened.{HasOpened}
 use Rattle.cat_ledger.specs.upkeep.Spared.{SparesCommits}
-use Rattle.cat_ledger.specs.Histories.{Call, Event, FoundIsTried, Goes, IsAnswered, IsCrashed, IsHistory, IsLastAnswered, IsPastNewest, IsTried, IsUnanswered, LeavesNoneAhead, NewestIsAnswered, NewestIsFound, NoneIsAhead, NoneIsLost, SparesOtherCommits, events_of, newest_after, newest_of, tells}
+use Rattle.cat_ledger.specs.Histories.{Call, Event, FoundIsTaken, FoundIsTried, Goes, IsAnswered, IsCrashed, IsHistory, IsLastAnswered, IsPastNewest, IsTried, IsUnanswered, LeavesNoneAhead, NewestIsAnswered, NewestIsFound, NoneIsAhead, NoneIsLost, SparesOtherCommits, events_of, newest_after, newest_of, tells}
 use Rattle.cat_ledger.specs.Lasting.{AlwaysTells, IsCarried, NewestLasts, needs_of, newest_needs}
 use Rattle.cat_ledger.specs.Ledgers.{Ledger, device_in, shape_in}
 use Rattle.cat_ledger.proofs.Lasting.{LetsCommits, carried_shape, commits_on, newest_old, next_on}
@@ -108,7 +108,7 @@ newest_committed text s s' g committed number =
     ∙ newest_put (filter (λ (c : CommitFile). stays_kept s.taken (Some s.next_generation) c.generation) s.commits) (commit_now text s)
     ∙ ap (λ n. Some n) (sym number)
 
-pub next_committed : (text : Text) (n : ℕ) (s s' : Shape) → IsCommitted text s s' → s.next_generation ≡ n → n ≤ s'.next_generation
+pub next_committed : (text : Text) (n : ℕ) (s s' : Shape) → IsCommitted text s s' → s.next_generation ≡ n → n < s'.next_generation
 next_committed text n s s' committed same = omega (arith, same, ap (λ (x : Shape). x.next_generation) committed.rest)
 
 -- ---- files of commits
@@ -150,34 +150,34 @@ or_gone could can spared g e after = inl (spared g e after)
 -- ---- results
 
 -- what a commit's answer says of its generation
-pub if_answered : (P : ℕ → Type 0) (n next : ℕ) (newest : Option ℕ) (r : Result ℕ Refusal) → IfOk r (λ g. g ≡ n) → IfOk r (λ g. newest ≡ Some g) → OnOk r (n ≤ next)
-    → ((g : ℕ) → g ≡ n → newest ≡ Some g → n ≤ next → P g) → IfOk r P
+pub if_answered : (P : ℕ → Type 0) (n next : ℕ) (newest : Option ℕ) (r : Result ℕ Refusal) → IfOk r (λ g. g ≡ n) → IfOk r (λ g. newest ≡ Some g) → OnOk r (n < next)
+    → ((g : ℕ) → g ≡ n → newest ≡ Some g → n < next → P g) → IfOk r P
 if_answered P n next newest (Ok g) number is more f = f g number is more
 if_answered P n next newest (Err e) number is more f = tt
 
-pub on_err : {X E A B : Type 0} (r : Result X E) → (A → B) → OnErr r A → OnErr r B
-on_err (Ok x) f a = tt
-on_err (Err e) f a = f a
+pub on_both : {X E A B C : Type 0} (r : Result X E) → (A → B → C) → OnErr r A → OnErr r B → OnErr r C
+on_both (Ok x) f a b = tt
+on_both (Err e) f a b = f a b
 
 -- ---- calls
 
 module _ {D : Type 0} (left : D → FileName → FileContent → Type 0) where
   -- a call that does nothing
   pub nothing_goes : (l : Ledger D) → Goes left Event.Other l l
-  nothing_goes l = record { newest = refl; next = omega arith; asked = λ g no. absurd no; files = λ g other e after. inl after }
+  nothing_goes l = record { newest = refl; next = omega arith; asked = λ g no. absurd no; taken = λ g no. absurd no; files = λ g other e after. inl after }
 
   -- a call that leaves the files, the commits and the generations as they are,
   pub memory_goes : (d : D) (s s' : Shape) (policy policy' : plans.MergePolicy) → newest_generation s'.commits ≡ newest_generation s.commits
       → s'.next_generation ≡ s.next_generation
       → Goes left Event.Other (record { device = d; core = s; policy = policy }) (record { device = d; core = s'; policy = policy' })
   memory_goes d s s' policy policy' commits same =
-      record { newest = commits; next = omega (arith, same); asked = λ g no. absurd no; files = λ g other e after. inl after }
+      record { newest = commits; next = omega (arith, same); asked = λ g no. absurd no; taken = λ g no. absurd no; files = λ g other e after. inl after }
 
   -- or memory as it is, where a crash leaves no more,
   pub reading_goes : (d d' : D) (s : Shape) (policy policy' : plans.MergePolicy) → ((q : FileName) → NoMore (left d q) (left d' q))
       → Goes left Event.Other (record { device = d; core = s; policy = policy }) (record { device = d'; core = s; policy = policy' })
   reading_goes d d' s policy policy' crash =
-      record { newest = refl; next = omega arith; asked = λ g no. absurd no; files = λ g other e after. inl (crash (file.Commit g) e after) }
+      record { newest = refl; next = omega arith; asked = λ g no. absurd no; taken = λ g no. absurd no; files = λ g other e after. inl (crash (file.Commit g) e after) }
 
   -- or spares the files of commits, and makes of each ledger one with the same commits
   pub call_goes : (bytes : D → ToldFiles) (call : model.Ledger → model.Ledger → Type 0) → ((l l' : model.Ledger) → call l l' → LetsCommits l l') → (d d' : D)
@@ -188,6 +188,7 @@ module _ {D : Type 0} (left : D → FileName → FileContent → Type 0) where
     newest = ap newest_generation (commits_on call lets (bytes d) (bytes d') s s' makes carried);
     next = next_on call lets (bytes d) (bytes d') s s' makes carried;
     asked = λ g no. absurd no;
+    taken = λ g no. absurd no;
     files = λ g other e after. spared g e after;
   }
 
@@ -197,37 +198,29 @@ module _ {D : Type 0} (left : D → FileName → FileContent → Type 0) where
   asked_next bytes d s carried g same =
       (same, subst (λ n. IsPastNewest (newest_generation s.commits) n) (sym same) (comes_past (bytes d) s carried))
 
-  -- a commit that is refused before anything is done
-  pub refused_first : (bytes : D → ToldFiles) (l : Ledger D) → IsCarried (bytes (device_in l)) (shape_in l)
-      → Goes left (Event.Refused (shape_in l).next_generation) l l
-  refused_first bytes l carried = record {
-    newest = refl;
-    next = omega arith;
-    asked = λ g same. asked_next bytes (device_in l) (shape_in l) carried g same;
-    files = λ g other e after. inl after;
-  }
-
-  -- a commit that is refused
+  -- a commit that is refused, whose generation is taken
   pub refused_goes : (bytes : D → ToldFiles) (call : model.Ledger → model.Ledger → Type 0) → ((l l' : model.Ledger) → call l l' → LetsCommits l l') → (d d' : D)
       (s s' : Shape) (policy policy' : plans.MergePolicy) → Makes call (bytes d) s (bytes d') s' → IsCarried (bytes d) s
-      → ((g : ℕ) → g ≢ s.next_generation → NoMore (left d (file.Commit g)) (left d' (file.Commit g)))
+      → s.next_generation < s'.next_generation → ((g : ℕ) → g ≢ s.next_generation → NoMore (left d (file.Commit g)) (left d' (file.Commit g)))
       → Goes left (Event.Refused s.next_generation) (record { device = d; core = s; policy = policy }) (record { device = d'; core = s'; policy = policy' })
-  refused_goes bytes call lets d d' s s' policy policy' makes carried spared = record {
+  refused_goes bytes call lets d d' s s' policy policy' makes carried next spared = record {
     newest = ap newest_generation (commits_on call lets (bytes d) (bytes d') s s' makes carried);
-    next = next_on call lets (bytes d) (bytes d') s s' makes carried;
+    next = omega (arith, next);
     asked = λ g same. asked_next bytes d s carried g same;
+    taken = λ g same. omega (arith, same, next);
     files = λ g other e after. inl (spared g other e after);
   }
 
   -- and one that is answered
   pub answered_goes : (bytes : D → ToldFiles) (d d' : D) (s s' : Shape) (policy policy' : plans.MergePolicy) (g : ℕ) → IsCarried (bytes d) s
-      → g ≡ s.next_generation → newest_generation s'.commits ≡ Some g → s.next_generation ≤ s'.next_generation
+      → g ≡ s.next_generation → newest_generation s'.commits ≡ Some g → s.next_generation < s'.next_generation
       → ((h : ℕ) → h ≢ s.next_generation → NoMore (left d (file.Commit h)) (left d' (file.Commit h)))
       → Goes left (Event.Answered g) (record { device = d; core = s; policy = policy }) (record { device = d'; core = s'; policy = policy' })
   answered_goes bytes d d' s s' policy policy' g carried number newest next spared = record {
     newest = newest;
-    next = next;
+    next = omega (arith, next);
     asked = λ h same. asked_next bytes d s carried h (same ∙ number);
+    taken = λ h same. omega (arith, same, number, next);
     files = λ h other e after. inl (spared h (λ is. other (is ∙ sym number)) e after);
   }
 
@@ -365,6 +358,28 @@ module _ {D : Type 0} (left : D → FileName → FileContent → Type 0) where
         | inr more ↦ elim more [ inl k ↦ absurd k.1 | inr tried ↦ inr tried ]
       ]
 
+  -- ---- the generations that were taken
+
+  next_rises : (first : Ledger D) (calls : List (Call D)) (last : Ledger D) → IsHistory left first calls last
+      → (shape_in first).next_generation ≤ (shape_in last).next_generation
+  next_rises first [] last h = omega (arith, ap (λ (l : Ledger D). (shape_in l).next_generation) h)
+  next_rises first (call ∷ calls) last h = omega (arith, h.0.next, next_rises call.after calls last h.1)
+
+  -- one that was refused isn't given out again
+  refused_taken : (first : Ledger D) (calls : List (Call D)) (last : Ledger D) → IsHistory left first calls last
+      → (before since : List Event) (g : ℕ) → events_of calls ≡ before ++ Event.Refused g ∷ since → g < (shape_in last).next_generation
+  refused_taken first [] last h [] since g e = absurd (let no : [] ≡ Event.Refused g ∷ since = e in cc)
+  refused_taken first [] last h (x ∷ before) since g e = absurd (let no : [] ≡ x ∷ (before ++ Event.Refused g ∷ since) = e in cc)
+  refused_taken first (call ∷ calls) last h [] since g e =
+      let both : (call.event ∷ events_of calls) ≡ (Event.Refused g ∷ since) = e in
+      let is : call.event ≡ Event.Refused g = cc in
+      let go : Goes left (Event.Refused g) first call.after = subst (λ (event : Event). Goes left event first call.after) is h.0 in
+      omega (arith, go.taken g refl, next_rises call.after calls last h.1)
+  refused_taken first (call ∷ calls) last h (x ∷ before) since g e =
+      let both : (call.event ∷ events_of calls) ≡ (x ∷ (before ++ Event.Refused g ∷ since)) = e in
+      let rest : events_of calls ≡ (before ++ Event.Refused g ∷ since) = cc in
+      refused_taken call.after calls last h.1 before since g rest
+
   -- ---- what is found after a crash
 
   module _ (bytes : D → ToldFiles) (last : Ledger D) (carried : IsCarried (bytes (device_in last)) (shape_in last))
@@ -399,6 +414,13 @@ module _ {D : Type 0} (left : D → FileName → FileContent → Type 0) where
               let same : n ≡ g = omega (arith, less, greatest) in
               inl (e ∙ ap (λ m. Some m) same)
         ]
+
+    pub found_is_taken : FoundIsTaken bytes left last
+    found_is_taken first calls always none h image g crashed found = elim (found_is_tried first calls always none h image g crashed found) [
+      | inl newest ↦
+          subst (λ (o : Option ℕ). IsPastNewest o (shape_in last).next_generation) newest (comes_past (bytes (device_in last)) (shape_in last) carried)
+      | inr tried ↦ refused_taken first calls last h tried.before tried.since g tried.split
+    ]
 
     pub none_is_lost : NoneIsLost bytes left last
     none_is_lost always image crashed lost = by (newest_of last) refl

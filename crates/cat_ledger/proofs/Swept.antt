@@ -1,11 +1,13 @@
 -- What a ledger carries that was opened, once it was swept.
-use Rattle.std.proofs.Common.{inl, inr, ◌≡◌, ◌⊎◌, ℕ, ◌<◌, [], refl, sym, ◌∙◌, ap, subst}
+use Rattle.std.proofs.Common.{inl, inr, ◌≡◌, ◌⊎◌, ℕ, ◌<◌, [], Result, Ok, Err, refl, sym, ◌∙◌, ap, subst}
+use Rattle.std.specs.Prelude.{IfErr}
 use Rattle.cat_base.specs.declared.refusal.Refusal.{Refusal}
 use Rattle.cat_base.specs.declared.refusal.Refusal.TheVariants.{Damaged, Device, Kind, Memory}
 use Rattle.cat_model.specs.Item.{Schema}
 use Rattle.cat_model.specs.State.{IsFresh, StandsFor, opened_as}
 use Rattle.cat_model.specs.Table.{Opened}
 use Rattle.cat_model.proofs.Opening.{fresh_begins}
+use Rattle.cat_directory.specs.Devices.{CountsOne, CountsWriting}
 use Rattle.cat_directory.specs.declared.name.FileName.{FileName}
 use Rattle.cat_directory.specs.Names.{name_of}
 use Rattle.cat_ledger_laws.specs.model.Ledger.{Ledger, state_of}
@@ -17,7 +19,9 @@ use Rattle.cat_ledger_laws.specs.shape.Ties.{Carries, ToldFiles}
 use Rattle.cat_ledger_laws.proofs.shape.Writes.{sweeps_make}
 use Rattle.cat_ledger_laws.specs.lines.RunLaws.{Stands}
 use Rattle.cat_ledger_state.specs.cat_commits.reading.Refused.{OpeningCount}
+use Rattle.cat_ledger_state.specs.cat_lifetimes.refs.Counts.{IsPending}
 use Rattle.cat_ledger_state.specs.startup.Opened.{HasOpened}
+use Rattle.cat_ledger.specs.Openings.{CountsSwept}
 
 -- the start of a run under the schema, for which memory stands
 abbrev pub Begins : ToldFiles → Shape → Schema → Type 0
@@ -74,3 +78,12 @@ opening_refusal old new Damaged h = inr (inl refl)
 opening_refusal old new Device h = inr (inr (inl refl))
 opening_refusal old new Memory h = inr (inr (inr refl))
 opening_refusal old new _ h = absurd h
+
+-- what the sweep counts, whatever it answers, behind an opening that counted nothing
+pub counts_swept : {X : Type 0} (fails could : Type 0) (old mid new : ℕ) (s : Shape) (r : Result X Refusal) → mid ≡ old → CountsWriting mid new r → (could → fails)
+    → IfErr r (λ e. e ≡ Device → could) → IfErr r (λ e. e ≡ Device → (q : FileName) × IsPending s.users q) → CountsSwept fails old s new
+counts_swept fails could old mid new s (Ok x) same counted back device stays = inl (counted ∙ same)
+counts_swept fails could old mid new s (Err Memory) same counted back device stays = inl (counted ∙ same)
+counts_swept fails could old mid new s (Err Device) same counted back device stays =
+    inr (back (device refl), subst (λ n. CountsOne n new) same counted, stays refl)
+counts_swept fails could old mid new s (Err _) same counted back device stays = absurd counted

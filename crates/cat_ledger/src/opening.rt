@@ -1,7 +1,7 @@
 //! Opening: at the newest commit of a directory, or where there is none.
 //!
 //! Lucene's constructor of `IndexWriter` with `OpenMode.CREATE_OR_APPEND`, and that of its `IndexFileDeleter`.
-ghost use Rattle.std.specs.Prelude.{◌≡◌, ◌⊎◌, ◌<◌, ◌≤◌, [], IfOk, IfErr, OnErr};
+ghost use Rattle.std.specs.Prelude.{◌≡◌, ◌⊎◌, ◌<◌, ◌≤◌, [], IfOk, IfErr, OnOk, OnErr};
 ghost use Rattle.cat_base.specs.declared.refusal.Refusal.TheVariants.{Damaged, Device, Kind, Memory};
 ghost use Rattle.cat_model.specs.Table.{Opened};
 ghost use Rattle.cat_directory.specs.Devices.{NoMore};
@@ -54,7 +54,7 @@ fn open_swept<D: Directory + Shelf>(
     ensures same { OnErr result ((q : FileName) → D.bytes device.new q ≡ D.bytes device.old q) }
     ensures spared { OnErr result ((q : FileName) → NoMore (D.may_leave device.old q) (D.may_leave device.new q)) }
     ensures can { D.can_fail device.new → D.can_fail device.old }
-    ensures rises { D.fault_count device.old ≤ D.fault_count device.new }
+    ensures rises { OnOk result (D.fault_count device.old ≤ D.fault_count device.new) }
     ensures swept { IfOk result (λ s. CountsSwept (D.can_fail device.old) (D.fault_count device.old) s (D.fault_count device.new)) }
 {
     let mut core = cat_ledger_state::startup::open(alloc, device, schema)?;
@@ -66,7 +66,8 @@ fn open_swept<D: Directory + Shelf>(
 impl<D: Directory + Shelf> Ledger<D> {
     /// Opens the newest commit of the directory, or an empty catalogue where there is none, under this schema. What the commit needs
     /// outlasts a loss of power before anything goes; then the files that it doesn't need are deleted. The first that can't be is
-    /// counted as a failure, and stays pending with those behind it. (Lucene: the constructor of `IndexWriter` with `OpenMode.CREATE_OR_APPEND`.)
+    /// counted as a failure, and stays pending with those behind it. (Lucene: the constructor of `IndexWriter` with
+    /// `OpenMode.CREATE_OR_APPEND`.)
     ///
     /// [`Refusal::Kind`] where the commit has another schema, [`Refusal::Damaged`] where its files don't hold it,
     /// [`Refusal::Device`] where the directory fails, or [`Refusal::Memory`]. Then nothing is deleted, and the directory counted a

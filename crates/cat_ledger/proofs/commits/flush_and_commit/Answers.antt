@@ -1,4 +1,4 @@
-use Rattle.std.proofs.Common.{inl, inr, refl, subst, ◌∙◌}
+use Rattle.std.proofs.Common.{inl, inr, refl, subst, sym, arith, ◌∙◌}
 use Rattle.cat_directory.specs.Devices.{CountsOne}
 use Rattle.cat_ledger_laws.specs.model.Calls.{Committed, Flushes}
 use Rattle.cat_ledger.proofs.Lasting.{call_keeps, carried_on, commit_lasts, lets_flush}
@@ -9,6 +9,7 @@ use Rattle.cat_ledger_laws.proofs.shape.Listed.{names_are_begun, no_source_begun
 use Rattle.cat_ledger_laws.specs.shape.CommitLaws.{names_begun}
 use Rattle.cat_ledger.proofs.Histories.{commit_spares_others, newest_committed, next_committed}
 use Rattle.cat_ledger.proofs.Synced.{synced_stands}
+use Rattle.cat_ledger.specs.upkeep.Spared.{SparesCommits}
 use Rattle.cat_ledger.proofs.Refused.{goes_on, goes_on_behind}
 use Rattle.cat_ledger.proofs.commits.flush_and_commit.Goals as goal
 
@@ -78,6 +79,16 @@ returns-in-Err-commit-clause-commits g c =
     λ n other e after. c.flush.ensures.commits n e
     (commit_spares_others c.flush.new.core c.args.core.now.next_generation (g.D.Holder.may_leave c.flush.new.device) (g.D.Holder.may_leave c.commit.new.device) c.in_default.ensures.generation
     c.commit.ensures.crash n other e after)
+
+-- no file of a commit was begun by the flush, and by the commit only where its generation was taken
+pub returns-in-Err-clause-taken : goal.returns-in-Err-clause-taken
+returns-in-Err-clause-taken g c = inr c.flush.ensures.commits
+
+pub returns-in-Err-commit-clause-taken : goal.returns-in-Err-commit-clause-taken
+returns-in-Err-commit-clause-taken g c = elim c.in-Err-commit.ensures.taken [
+  | inl next ↦ inl (omega (arith, next, c.in_default.ensures.generation))
+  | inr same ↦ inr (subst (λ d. SparesCommits (g.D.Holder.may_leave c.args.device.now) (g.D.Holder.may_leave d)) (sym same) c.flush.ensures.commits)
+]
 
 pub returns-in-Ok-clause-newest : goal.returns-in-Ok-clause-newest
 returns-in-Ok-clause-newest g c =

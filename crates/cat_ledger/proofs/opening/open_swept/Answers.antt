@@ -1,6 +1,6 @@
-use Rattle.std.proofs.Common.{◌∙◌}
+use Rattle.std.proofs.Common.{arith, ◌∙◌}
 use Rattle.cat_ledger.proofs.Lasting.{opened_lasts}
-use Rattle.cat_ledger.proofs.Swept.{opened_alike, opened_begins, opened_schema, opened_shape, swept_users}
+use Rattle.cat_ledger.proofs.Swept.{counts_swept, opened_alike, opened_begins, opened_schema, opened_shape, swept_users}
 use Rattle.cat_ledger.proofs.Histories.{opened_ahead}
 use Rattle.cat_ledger.proofs.opening.open_swept.Goals as goal
 
@@ -50,3 +50,12 @@ returns-clause-ahead g c =
     opened_ahead (g.D.Holder.bytes c.args.device.now) c.args.schema (g.D.Holder.bytes c.«open».new.device) c.in_ok-core.core c.sweep-swept.new.self (g.D.Holder.may_leave c.«open».new.device)
     (g.D.Holder.may_leave c.sweep-swept.new.device) (tells c.args.device.now) c.in_ok-core.ensures.ok c.sweep-swept.ensures.leaves c.in_ok-core.ensures.gone
     c.sweep-swept.ensures.files.back
+
+pub returns-clause-rises : goal.returns-clause-rises
+returns-clause-rises g c = omega (arith, c.in_ok-core.ensures.counted, c.sweep-swept.ensures.rises)
+
+pub returns-clause-swept : goal.returns-clause-swept
+returns-clause-swept g c =
+    counts_swept (g.D.Holder.can_fail c.args.device.now) (g.D.Holder.can_fail c.«open».new.device) (g.D.Holder.fault_count c.args.device.now)
+    (g.D.Holder.fault_count c.«open».new.device) (g.D.Holder.fault_count c.sweep-swept.new.device) c.sweep-swept.new.self c.sweep-swept.result
+    c.in_ok-core.ensures.counted c.sweep-swept.ensures.counted c.«open».ensures.can c.sweep-swept.ensures.device c.sweep-swept.ensures.stays

@@ -1,4 +1,4 @@
-use Rattle.cat_ledger.proofs.Histories.{found_is_tried, newest_is_answered, newest_is_found, none_is_lost}
+use Rattle.cat_ledger.proofs.Histories.{found_is_taken, found_is_tried, newest_is_answered, newest_is_found, none_is_lost}
 use Rattle.cat_ledger.proofs.ledger.Ledger.histories_last.Goals as goal
 
 pub returns-clause-answered : goal.returns-clause-answered
@@ -8,6 +8,11 @@ returns-clause-answered g c =
 pub returns-clause-tried : goal.returns-clause-tried
 returns-clause-tried g c =
     rw (← c.self.view_is) (found_is_tried g.D.Holder.may_leave g.D.Holder.bytes (record { device = c.self.inside.device; core = c.self.inside.core; policy = c.self.inside.policy })
+    c.self.invariant.carried c.self.invariant.lasts)
+
+pub returns-clause-taken : goal.returns-clause-taken
+returns-clause-taken g c =
+    rw (← c.self.view_is) (found_is_taken g.D.Holder.may_leave g.D.Holder.bytes (record { device = c.self.inside.device; core = c.self.inside.core; policy = c.self.inside.policy })
     c.self.invariant.carried c.self.invariant.lasts)
 
 pub returns-clause-lost : goal.returns-clause-lost

@@ -1,4 +1,4 @@
-use Rattle.std.proofs.Common.{◌≡◌, ◌+◌, [], ◌∷◌, List, map, filter, not, sym, ◌∙◌, ap, subst, inr, Some, None, true, false}
+use Rattle.std.proofs.Common.{◌≡◌, ◌+◌, [], ◌∷◌, List, map, filter, not, sym, ◌∙◌, ap, subst, inl, inr, Some, None, true, false}
 use Rattle.std.specs.Prelude.{◌⊎◌}
 use Rattle.cat_base.specs.declared.refusal.Refusal.TheVariants.{Device}
 use Rattle.cat_model.specs.Files.{Name}
@@ -137,3 +137,6 @@ pub returns-in-Err-clause-known : goal.returns-in-Err-clause-known
 returns-in-Err-clause-known g c =
     subst (λ s. StayKnown s.users c.give-in-Err.new.self) c.self.view_is
     (known_still _ _ c.self.inside.refs c.take.new.self c.give-in-Err.new.self c.in_ok-take.ensures.ok c.give-in-Err.ensures)
+
+pub returns-in-Err-clause-taken : goal.returns-in-Err-clause-taken
+returns-in-Err-clause-taken g c = inl (ap (λ s. s.next_generation + 1) c.self.view_is)
