@@ -211,6 +211,18 @@ module _ {D : Type 0} (left : D → FileName → FileContent → Type 0) where
     files = λ g other e after. inl (spared g other e after);
   }
 
+  -- whether its generation is taken, or it began no file
+  pub refused_or_other : (bytes : D → ToldFiles) (call : model.Ledger → model.Ledger → Type 0) → ((l l' : model.Ledger) → call l l' → LetsCommits l l') → (d d' : D)
+      (s s' : Shape) (policy policy' : plans.MergePolicy) → Makes call (bytes d) s (bytes d') s' → IsCarried (bytes d) s
+      → (s.next_generation < s'.next_generation) ⊎ SparesCommits (left d) (left d')
+      → ((g : ℕ) → g ≢ s.next_generation → NoMore (left d (file.Commit g)) (left d' (file.Commit g)))
+      → Goes left Event.Other (record { device = d; core = s; policy = policy }) (record { device = d'; core = s'; policy = policy' })
+      ⊎ Goes left (Event.Refused s.next_generation) (record { device = d; core = s; policy = policy }) (record { device = d'; core = s'; policy = policy' })
+  refused_or_other bytes call lets d d' s s' policy policy' makes carried (inl next) spared =
+      inr (refused_goes bytes call lets d d' s s' policy policy' makes carried next spared)
+  refused_or_other bytes call lets d d' s s' policy policy' makes carried (inr kept) spared =
+      inl (call_goes bytes call lets d d' s s' policy policy' makes carried (or_gone (left d) (left d') kept))
+
   -- and one that is answered
   pub answered_goes : (bytes : D → ToldFiles) (d d' : D) (s s' : Shape) (policy policy' : plans.MergePolicy) (g : ℕ) → IsCarried (bytes d) s
       → g ≡ s.next_generation → newest_generation s'.commits ≡ Some g → s.next_generation < s'.next_generation

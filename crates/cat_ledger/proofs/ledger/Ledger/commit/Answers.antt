@@ -5,7 +5,7 @@ use Rattle.cat_ledger.proofs.Results.{on_ok, one_way}
 use Rattle.cat_ledger.specs.Lasting.{IsLasting}
 use Rattle.cat_ledger_laws.specs.model.Replies.{IsLeft}
 use Rattle.cat_ledger_laws.specs.shape.Ties.{Makes}
-use Rattle.cat_ledger.proofs.Histories.{answered_goes, call_goes, if_answered, nothing_goes, on_both, or_gone, refused_goes}
+use Rattle.cat_ledger.proofs.Histories.{answered_goes, if_answered, nothing_goes, on_both, refused_or_other}
 use Rattle.cat_ledger.specs.Histories.{Event, Goes}
 use Rattle.cat_ledger_laws.specs.shape.Steps.{newest_generation}
 use Rattle.cat_ledger.proofs.Refused.{nothing_ends}
@@ -61,12 +61,8 @@ returns-clause-refused g c =
     let s = c.self.inside.core in
     let policy = c.self.inside.policy in
     rw (← c.self.view_is) (on_both done.result
-    (λ made taken. elim taken [
-      | inl next ↦ inr (refused_goes left bytes IsLeft lets_left c.self.inside.device done.new.device s done.new.core policy policy made c.self.invariant.carried next
-          done.ensures.commits)
-      | inr spared ↦ inl (call_goes left bytes IsLeft lets_left c.self.inside.device done.new.device s done.new.core policy policy made c.self.invariant.carried
-          (or_gone (left c.self.inside.device) (left done.new.device) spared))
-    ]) done.ensures.err done.ensures.taken)
+    (λ made taken. refused_or_other left bytes IsLeft lets_left c.self.inside.device done.new.device s done.new.core policy policy made c.self.invariant.carried taken
+    done.ensures.commits) done.ensures.err done.ensures.taken)
 
 pub returns-clause-device : goal.returns-clause-device
 returns-clause-device g c = λ formed. rw (← c.self.view_is) (c.flush_and_commit.ensures.device c.self.invariant.carried)
