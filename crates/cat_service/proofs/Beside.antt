@@ -11,12 +11,12 @@ use Rattle.cat_protocol.specs.cat_views.Holds.{Hold}
 use Rattle.cat_commands.specs.cat_lifetimes.rights.Rights.{right_of}
 use Rattle.cat_ledger_laws.specs.lines.ReadLaws.{IsRecordedAs}
 use Rattle.cat_ledger_laws.specs.shape.Shapes.{Shape}
-use Rattle.cat_service.specs.sets.Kept.{HasKept, KnowsIn, RemembersIn, RemembersInBelow}
-use Rattle.cat_service.specs.sets.Segments.{SegmentsAgree}
-use Rattle.cat_service.specs.sets.Sets.{HasSets}
-use Rattle.cat_service.proofs.sets.Knowing.{added_are_right, none_are_kept, of_lists, of_values, recorded_agree}
-use Rattle.cat_service.proofs.sets.Beside.{recorded_are_among}
-use Rattle.cat_service.proofs.sets.Right.{empty_are_right, recorded_are_known}
+use Rattle.cat_commands.specs.sets.Kept.{HasKept, KnowsIn, RemembersIn, RemembersInBelow}
+use Rattle.cat_commands.specs.sets.Segments.{SegmentsAgree}
+use Rattle.cat_commands.specs.sets.Sets.{HasSets}
+use Rattle.cat_commands.proofs.sets.Knowing.{added_are_right, none_are_kept, of_lists, of_values, recorded_agree}
+use Rattle.cat_commands.proofs.sets.Beside.{recorded_are_among}
+use Rattle.cat_commands.proofs.sets.Right.{empty_are_right, recorded_are_known}
 use Rattle.cat_commands.specs.views.Holding.{AreRights}
 use Rattle.cat_service.specs.Worlds.{segments_kept}
 

@@ -18,10 +18,10 @@ use Rattle.cat_ledger_laws.proofs.lines.KeptCalls.{held_views_stay, holds_stay, 
 use Rattle.cat_commands.specs.cat_ledger.Answering.{AnswersSaid}
 use Rattle.cat_commands.specs.cat_ledger.Ledgers.{device_in, policy_in, shape_in}
 use Rattle.cat_commands.specs.cat_ledger.Ledgers.{Ledger}
-use Rattle.cat_service.specs.sets.Kept.{HasKept}
-use Rattle.cat_service.specs.sets.Sets.{HasSets}
-use Rattle.cat_service.proofs.sets.Knowing.{kept_stay}
-use Rattle.cat_service.proofs.sets.Right.{sets_stay}
+use Rattle.cat_commands.specs.sets.Kept.{HasKept}
+use Rattle.cat_commands.specs.sets.Sets.{HasSets}
+use Rattle.cat_commands.proofs.sets.Knowing.{kept_stay}
+use Rattle.cat_commands.proofs.sets.Right.{sets_stay}
 use Rattle.cat_commands.proofs.views.Counted.{rights_kept}
 use Rattle.cat_service.specs.Causes.{HasCause, TakesNumbers}
 use Rattle.cat_service.specs.Lines.{Does}

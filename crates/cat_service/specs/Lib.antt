@@ -11,6 +11,5 @@ pub mod Serving
 pub mod Reasons
 pub mod Copies
 pub mod Running
-pub mod sets
 pub mod theorem
 pub mod replicas

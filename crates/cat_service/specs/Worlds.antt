@@ -11,8 +11,8 @@ use Rattle.cat_ledger_laws.specs.shape.Shapes.{Shape}
 use Rattle.cat_ledger_laws.specs.shape.Ties.{ToldFiles, Carries}
 use Rattle.cat_commands.specs.cat_ledger.Ledgers.{device_in, policy_in, shape_in}
 use Rattle.cat_commands.specs.cat_ledger.Ledgers.{Ledger}
-use Rattle.cat_service.specs.sets.Kept.{HasKept}
-use Rattle.cat_service.specs.sets.Sets.{HasSets}
+use Rattle.cat_commands.specs.sets.Kept.{HasKept}
+use Rattle.cat_commands.specs.sets.Sets.{HasSets}
 use Rattle.cat_commands.specs.views.Holding.{AreRights}
 
 -- a ledger, and the rights to its views

@@ -13,7 +13,6 @@ mod reading;
 pub mod replicas;
 mod running;
 mod serving;
-pub mod sets;
 pub mod theorem;
 mod world;
 mod writing;

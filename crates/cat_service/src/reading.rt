@@ -7,9 +7,9 @@ ghost use Rattle.cat_protocol.specs.replies.Reply.{reply_of};
 ghost use Rattle.cat_commands.specs.cat_ledger.Histories.{GoesBy};
 ghost use Rattle.cat_service.specs.Lines.{Does};
 
-use crate::sets::segments_are_one;
 use crate::world::World;
 use cat_base::{Refusal, SessionNo};
+use cat_commands::sets::segments_are_one;
 use cat_commands::{Ask, Sort};
 use cat_directory::{Directory, Shelf};
 use cat_protocol::lines::{Facets, Find};

@@ -2,7 +2,7 @@ use Rattle.std.proofs.Common.{length, refl}
 use Rattle.cat_model.specs.Lines.{Said}
 use Rattle.cat_protocol.specs.replies.Reply.{reply_of}
 use Rattle.cat_commands.specs.ledger.Chores.{chore_of}
-use Rattle.cat_service.proofs.sets.Right.{remembered_are_right}
+use Rattle.cat_commands.proofs.sets.Right.{remembered_are_right}
 use Rattle.cat_service.specs.Worlds.{IsWorld}
 use Rattle.cat_service.proofs.Kept.{does, world_stays}
 use Rattle.cat_service.proofs.Caused.{chore_caused}

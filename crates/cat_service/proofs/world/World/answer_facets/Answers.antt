@@ -5,7 +5,7 @@ use Rattle.cat_protocol.specs.replies.Reply.{reply_of}
 use Rattle.cat_commands.proofs.ledger_laws.Histories.{nothing_goes}
 use Rattle.cat_commands.specs.cat_ledger.Ledgers.{device_in, policy_in, shape_in}
 use Rattle.cat_commands.proofs.views.Answered.{option_map_twice}
-use Rattle.cat_service.proofs.sets.Right.{remembered_are_right}
+use Rattle.cat_commands.proofs.sets.Right.{remembered_are_right}
 use Rattle.cat_service.proofs.Beside.{held_sets, held_states, states_after}
 use Rattle.cat_service.proofs.Kept.{does}
 use Rattle.cat_service.proofs.ReadAnswers.{facets_answers}

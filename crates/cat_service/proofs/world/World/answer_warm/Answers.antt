@@ -5,7 +5,7 @@ use Rattle.cat_model.specs.View.{segments_of}
 use Rattle.cat_protocol.specs.replies.Reply.{reply_of}
 use Rattle.cat_commands.proofs.ledger_laws.Histories.{nothing_goes}
 use Rattle.cat_commands.specs.cat_ledger.Ledgers.{device_in, shape_in}
-use Rattle.cat_service.proofs.sets.Right.{current_are_among, warmed_are_right}
+use Rattle.cat_commands.proofs.sets.Right.{current_are_among, warmed_are_right}
 use Rattle.cat_service.proofs.Kept.{does}
 use Rattle.cat_service.proofs.Wanted.{stopped, warm_wants}
 use Rattle.cat_service.proofs.world.World.answer_warm.Goals as goal

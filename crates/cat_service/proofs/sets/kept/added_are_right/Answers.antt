@@ -1,5 +1,0 @@
-use Rattle.cat_service.proofs.sets.Knowing.{added_are_right}
-use Rattle.cat_service.proofs.sets.kept.added_are_right.Goals as goal
-
-pub returns : goal.returns
-returns c = added_are_right

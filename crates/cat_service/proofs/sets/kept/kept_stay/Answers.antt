@@ -1,5 +1,0 @@
-use Rattle.cat_service.proofs.sets.Knowing.{kept_stay}
-use Rattle.cat_service.proofs.sets.kept.kept_stay.Goals as goal
-
-pub returns : goal.returns
-returns c = kept_stay

@@ -1,5 +1,0 @@
-use Rattle.cat_service.proofs.sets.Knowing.{unkept_are_known}
-use Rattle.cat_service.proofs.sets.kept.unkept_are_known.Goals as goal
-
-pub returns : goal.returns
-returns c = unkept_are_known

@@ -1,5 +1,0 @@
-use Rattle.cat_service.proofs.sets.Shaped.{segments_stay}
-use Rattle.cat_service.proofs.sets.segments.segments_stay.Goals as goal
-
-pub returns : goal.returns
-returns c = segments_stay

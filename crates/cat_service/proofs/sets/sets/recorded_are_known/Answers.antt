@@ -1,5 +1,0 @@
-use Rattle.cat_service.proofs.sets.Right.{recorded_are_known}
-use Rattle.cat_service.proofs.sets.sets.recorded_are_known.Goals as goal
-
-pub returns : goal.returns
-returns c = recorded_are_known

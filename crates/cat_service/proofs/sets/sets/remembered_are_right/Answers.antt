@@ -1,5 +1,0 @@
-use Rattle.cat_service.proofs.sets.Right.{remembered_are_right}
-use Rattle.cat_service.proofs.sets.sets.remembered_are_right.Goals as goal
-
-pub returns : goal.returns
-returns c = remembered_are_right

@@ -1,5 +1,0 @@
-use Rattle.cat_service.proofs.sets.Right.{unset_are_known}
-use Rattle.cat_service.proofs.sets.sets.unset_are_known.Goals as goal
-
-pub returns : goal.returns
-returns c = unset_are_known
