@@ -11,7 +11,8 @@ use std::marker::Model;
 /// its own.
 fn first_from<'a>(parts: RowParts<'a>, from: usize) -> Option<(u32, usize, &'a [u32])>
     requires { from ≤ length (parts_of parts) }
-    ensures { MatchOption result (rows_of_parts_from parts.entry from ≡ []) (λ step. IsNextRow parts.entry from [] step.0 step.1 step.2.now) }
+    ensures { MatchOption result (rows_of_parts_from parts.entry from ≡ [])
+        (λ step. IsNextRow parts.entry from [] step.0 step.1 step.2.now) }
 {
     let mut index = from;
     while index < parts.len() {
@@ -32,7 +33,8 @@ fn next_step<'a>(
     left: &'a [u32],
 ) -> Option<(u32, usize, &'a [u32])>
     requires { next ≤ length (parts_of parts) }
-    ensures { MatchOption result (left.now ++ rows_of_parts_from parts.entry next ≡ []) (λ step. IsNextRow parts.entry next left.now step.0 step.1 step.2.now) }
+    ensures { MatchOption result (left.now ++ rows_of_parts_from parts.entry next ≡ [])
+        (λ step. IsNextRow parts.entry next left.now step.0 step.1 step.2.now) }
 {
     match left.split_first() {
         Some((row, rest)) => Some((*row, next, rest)),

@@ -105,7 +105,8 @@ fn parts_passed<'a>(
 ) -> usize
     requires { IsWalk ranks.now (rows_of_parts walk) }
     ensures bound { result ≤ length (parts_of walk.entry) }
-    ensures passed { All (λ row. beyond (mark_standing mark.now) (standing_at ranks.now row) ≡ false) (rows_of_parts_before walk.entry result) }
+    ensures passed { All (λ row. beyond (mark_standing mark.now) (standing_at ranks.now row) ≡ false)
+        (rows_of_parts_before walk.entry result) }
 {
     let mut low = 0;
     let mut high = walk.len();
