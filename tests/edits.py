@@ -6,7 +6,8 @@ usage: tests/edits.py [--anew] [--lanes N] [CRATE..]
 All edits of a crate go into one copy of it, and one check proves the functions that they change and no others; of two edits
 of one function the second goes into a further check. An edit is refused where its function is not proved, and for what it
 does: a goal of its own function is left open, or an answer to one no longer proves it. Where nothing but names that are gone
-tells against it, it shows nothing of the contract, and counts as not refused.
+tells against it, it shows nothing of the contract, and counts as not refused. An edit with a line '# compiler: TEXT' is one that
+must not compile: the compiler has to refuse it by an error with this text.
 
 A crate is tried over the libraries below it as `rt ci` built and kept them on this machine, or else over those that `rt lib`
 builds. What an edit came to is kept beside the kit by the checksums of all that it stands on, and not tried again before one
@@ -161,6 +162,8 @@ class Edit:
         self.crate, self.file, self.name = crate, file, file.stem
         self.label = f"{crate}/{self.name}"
         self.pairs, self.only, self.lemmas, self.fault = [], [], [], None
+        # What the compiler has to say of an edit that must not compile.
+        self.compiler = None
         # Whether it stands in no function, so that it changes more than one.
         self.is_wide = False
         path = old = None
@@ -181,6 +184,8 @@ class Edit:
             elif line.startswith("# only: "):
                 # The functions that have to refuse an edit that stands in none, as one of a type.
                 self.only += line[len("# only: ") :].split()
+            elif line.startswith("# compiler: "):
+                self.compiler = line[len("# compiler: ") :].strip()
             elif line.startswith("# lemma: "):
                 # The files of lemmas that say of the type what the functions' contracts rest on.
                 self.lemmas += line[len("# lemma: ") :].split()
@@ -205,7 +210,7 @@ class Edit:
             if unit:
                 units[unit.path] = unit
             texts[path] = texts[path].replace(old, new)
-        self.is_wide = not units
+        self.is_wide = not units or self.compiler is not None
         if not units and not self.only:
             units = {unit.path: unit for path, text in texts.items() for unit in units_of(room, path, text)}
             if not units:
@@ -310,6 +315,10 @@ def check(crate, edits, words):
 def judged(edit, units, ran):
     """What the check says of the edit, and by which words."""
     lines = ran.stdout.split("\n")
+    if edit.compiler is not None and ran.returncode == 1:
+        refused = next((it for it in lines if re.search(r"\berror\b", it) and edit.compiler in it), None)
+        if refused:
+            return REFUSED, re.sub(r"^(\./)?", "", refused)[:200]
     said = {}
     for line in lines:
         found = re.match(rf"fn {edit.crate}::(\S+): (.*)", line)
@@ -323,6 +332,8 @@ def judged(edit, units, ran):
             return BAD, f"it doesn't reach the prover: {first[:200]}"
         limit = next((it for it in lines if "no verdict" in it), first)
         return UNTRIED, f"its check ended with status {ran.returncode}: {limit[:200]}"
+    if edit.compiler is not None:
+        return MISSED, f"it compiles, and the compiler was to say '{edit.compiler}'"
     unproved = {name: status for name, status in mine.items() if status.startswith(("not proved", "no proof"))}
     if not unproved:
         if all(status.startswith("proved") for status in mine.values()):
