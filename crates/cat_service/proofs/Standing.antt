@@ -118,7 +118,7 @@ some_pending (u ∷ us) n h = by (same_file_name n u.name) h (some_pending us n)
 counted_first : (fails : Type 0) (before now : ℕ) (s : Shape) → CountsSwept fails before s now
     → (now ≡ before) ⊎ (fails × CountsOne before now × (0 < pending_in s))
 counted_first fails before now s (inl same) = inl same
-counted_first fails before now s (inr (can, one, q, waits)) = inr (can, one, some_pending s.users (name_of q) waits)
+counted_first fails before now s (inr (can, one, (q, waits))) = inr (can, one, some_pending s.users (name_of q) waits)
 
 module _ {D : Type 0} (bytes : D → ToldFiles) (can_fail : D → Type 0) (faults : D → ℕ) (device : D) where
   abbrev Begins : Schema → Service D → Type 0
