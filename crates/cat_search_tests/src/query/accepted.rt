@@ -1,8 +1,8 @@
 //! Queries, and which items they accept: what the grammar says of texts that are written out here.
 use crate::verdict::expect_yes;
 use cat_base::Refusal;
-use cat_items::{Item, Schema};
 use cat_cached_sets::Query;
+use cat_items::{Item, Schema};
 use std::alloc::Global;
 use std::test::Fail;
 

@@ -4,8 +4,8 @@
 //! look faulty.
 use crate::verdict::expect_yes;
 use cat_base::Refusal;
-use cat_items::Schema;
 use cat_cached_sets::Query;
+use cat_items::Schema;
 use std::alloc::{AllocError, Global};
 use std::test::Fail;
 

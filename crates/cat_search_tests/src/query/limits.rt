@@ -1,8 +1,8 @@
 //! Queries at their limits, and escaped values: which items they accept.
 use crate::verdict::{expect, expect_yes};
 use cat_base::{MAX_CLAUSES, MAX_DEPTH, Refusal};
-use cat_items::Schema;
 use cat_cached_sets::Query;
+use cat_items::Schema;
 use std::alloc::{AllocError, Global};
 use std::test::Fail;
 
