@@ -29,11 +29,11 @@ pub struct Text {
 
 impl Model for Text {
     ghost use Rattle.std.specs.Prelude.{ℕ, List};
-    ghost use Rattle.cat_base.specs.Texts.{bytes_in, LiesRight};
+    ghost use Rattle.cat_base.specs.Texts.{place_bytes, LiesRight};
 
     ghost Value = { List ℕ };
 
-    ghost view = { λ t. bytes_in t.place };
+    ghost view = { λ t. place_bytes t.place };
 
     ghost invariant = { λ t. LiesRight t.place };
 }

@@ -7,12 +7,12 @@ use Rattle.cat_ledger_laws.specs.shape.Ties.{ToldFiles}
 use Rattle.cat_check.specs.declared.report.Report.{Report}
 use Rattle.cat_check.specs.declared.verdict.Verdict.{Verdict}
 use Rattle.cat_check.specs.declared.verdict.Verdict.TheVariants as verdict
-use Rattle.cat_check.specs.Judged.{IsWhole, IsLost, IsJudged}
+use Rattle.cat_check.specs.Judged.{IsCommitWhole, IsLost, IsJudged}
 use Rattle.cat_check.specs.Checked.{IsNewestReport}
 
 -- what is judged of files that are as before was so before
 pub judged_before : (told now : ToldFiles) (can could : Type 0) (g : ℕ) (v : Verdict) → now ≡ told → (can → could) → IsJudged now can g v → IsJudged told could g v
-judged_before told now can could g (verdict.Whole counts) same f h = subst (λ (t : ToldFiles). IsWhole t g) same h
+judged_before told now can could g (verdict.Whole counts) same f h = subst (λ (t : ToldFiles). IsCommitWhole t g) same h
 judged_before told now can could g (verdict.Damaged faults) same f h = subst (λ (t : ToldFiles). IsLost t g) same h
 judged_before told now can could g verdict.Unread same f h = f h
 

@@ -9,7 +9,7 @@ use Rattle.cat_check.specs.declared.verdict.Verdict.{Verdict}
 use Rattle.cat_check.specs.declared.verdict.Verdict.TheVariants as verdict
 
 -- the files may hold the commit, under its own fields, with its segments
-pub record IsWhole (told : ToldFiles) (generation : ℕ) : Type 0 where
+pub record IsCommitWhole (told : ToldFiles) (generation : ℕ) : Type 0 where
   pub restored : Restored
   pub held : IsRestored (MayHold told) restored.commit.schema generation restored
 
@@ -19,6 +19,6 @@ IsLost told generation = (schema : Schema) (r : Restored) → IsRestored (Tells 
 
 -- what a verdict says, where the device can fail or not
 abbrev pub IsJudged : ToldFiles → Type 0 → ℕ → Verdict → Type 0
-IsJudged told can_fail generation (verdict.Whole counts) = IsWhole told generation
+IsJudged told can_fail generation (verdict.Whole counts) = IsCommitWhole told generation
 IsJudged told can_fail generation (verdict.Damaged faults) = IsLost told generation
 IsJudged told can_fail generation verdict.Unread = can_fail

@@ -10,7 +10,7 @@ use Rattle.cat_commits.specs.reading.Numbers.{IsNewest}
 use Rattle.cat_check.specs.declared.dropping.Standing.{Standing}
 use Rattle.cat_check.specs.declared.dropping.Standing.TheVariants as standing
 use Rattle.cat_check.specs.Said.{SaysCommit, IsTorn}
-use Rattle.cat_check.specs.Judged.{IsWhole, IsLost}
+use Rattle.cat_check.specs.Judged.{IsCommitWhole, IsLost}
 use Rattle.cat_check.specs.Below.{IsNextBelow, HasNoneBelow}
 
 -- by the names of the directory's files
@@ -19,7 +19,7 @@ StandsSo told names standing.Empty = (g : ℕ) → Contains names (file.Commit g
 StandsSo told names (standing.Readable g) = IsNewest names g × ((c : CommitFile) × SaysCommit (MayHold told) g c)
 StandsSo told names (standing.Alone g) = IsNewest names g × IsTorn told g × HasNoneBelow names g
 StandsSo told names (standing.OverDamaged g h) = IsNewest names g × IsTorn told g × IsNextBelow names g h × IsLost told h
-StandsSo told names (standing.OverWhole g h) = IsNewest names g × IsTorn told g × IsNextBelow names g h × IsWhole told h
+StandsSo told names (standing.OverWhole g h) = IsNewest names g × IsTorn told g × IsNextBelow names g h × IsCommitWhole told h
 
 pub record IsStanding (told : ToldFiles) (s : Standing) : Type 0 where
   pub names : List FileName

@@ -5,7 +5,7 @@ ghost use Rattle.cat_model.specs.CommitFile.{CommitFile};
 ghost use Rattle.cat_directory.specs.Devices.{IsSettled, NoMore, removed, told_after};
 ghost use Rattle.cat_ledger_laws.specs.shape.OpeningLaws.{MayHold};
 ghost use Rattle.cat_check.specs.Said.{SaysCommit, IsTorn};
-ghost use Rattle.cat_check.specs.Judged.{IsLost, IsWhole};
+ghost use Rattle.cat_check.specs.Judged.{IsLost, IsCommitWhole};
 ghost use Rattle.cat_check.specs.Standing.{IsDroppable, IsDropped, IsStanding, StandsSo};
 
 use crate::commits::commit_below;
@@ -49,7 +49,7 @@ fn is_torn<S: Shelf>(alloc: Global, shelf: &mut S, generation: Generation) -> Re
 
 /// Whether an opening reads the commit, under the fields of its own file.
 fn is_whole<S: Shelf>(alloc: Global, shelf: &mut S, generation: Generation) -> Result<bool, Refusal>
-    ensures ok { IfOk result (λ whole. MatchBool whole (IsWhole (S.bytes shelf.old) generation) (IsLost (S.bytes shelf.old) generation)) }
+    ensures ok { IfOk result (λ whole. MatchBool whole (IsCommitWhole (S.bytes shelf.old) generation) (IsLost (S.bytes shelf.old) generation)) }
     ensures device { IfErr result (λ e. e ≡ Device → S.can_fail shelf.old) }
     ensures same { (q : FileName) → S.bytes shelf.new q ≡ S.bytes shelf.old q }
     ensures crash { (q : FileName) → NoMore (S.may_leave shelf.old q) (S.may_leave shelf.new q) }

@@ -8,7 +8,7 @@ use Rattle.cat_base.specs.Texts.{sorted_set}
 use Rattle.cat_base.proofs.TextSets.{has-sorted_set, has-Decides}
 use Rattle.cat_model.specs.Text.{Text, same_text}
 use Rattle.cat_model.specs.Ordinals.{texts_of, dictionary_of}
-use Rattle.cat_columns.specs.Columns.{texts_behind, HasText, text_of_code, IsKeywords}
+use Rattle.cat_columns.specs.Columns.{texts_behind, DictionaryHas, text_of_code, IsKeywords}
 use Rattle.cat_columns.proofs.Members.{length-sorted_set, gathered_all}
 
 -- the texts behind references are those of the rows
@@ -25,23 +25,23 @@ length-texts_of (Some t ∷ vs) = omega (arith, length-texts_of vs)
 pub length-dictionary_of : (vs : List (Option Text)) → length (dictionary_of (map texts_of vs)) ≤ length vs
 length-dictionary_of vs = omega (arith, length-sorted_set (flat_map (λ texts. texts) (map texts_of vs)), length-texts_of vs)
 
-text_more : (t : Text) (xs : List Text) (o : Option Text) → HasText xs o → HasText (t ∷ xs) o
+text_more : (t : Text) (xs : List Text) (o : Option Text) → DictionaryHas xs o → DictionaryHas (t ∷ xs) o
 text_more t xs None h = tt
 text_more t xs (Some u) h = (suc h.0, (let lt = h.1 in omega arith), h.2)
 
-has_texts : (vs : List (Option (Bor Text))) → All (λ v. HasText (flat_map texts_behind vs) (option_map (λ t. t.now) v)) vs
+has_texts : (vs : List (Option (Bor Text))) → All (λ v. DictionaryHas (flat_map texts_behind vs) (option_map (λ t. t.now) v)) vs
 has_texts [] k d lt = absurd (omega arith)
 has_texts (None ∷ vs) zero d lt = tt
 has_texts (None ∷ vs) (suc k) d lt = has_texts vs k d (omega arith)
 has_texts (Some t ∷ vs) zero d lt = (0, omega arith, refl)
 has_texts (Some t ∷ vs) (suc k) d lt = text_more t.now (flat_map texts_behind vs) (option_map (λ t. t.now) (get_or vs k d)) (has_texts vs k d (omega arith))
 
-text_sorted : (xs : List Text) (o : Option Text) → HasText xs o → HasText (sorted_set xs) o
+text_sorted : (xs : List Text) (o : Option Text) → DictionaryHas xs o → DictionaryHas (sorted_set xs) o
 text_sorted xs None h = tt
 text_sorted xs (Some t) h = (has-Decides t (sorted_set xs)).0 (has-sorted_set t xs ∙ (has-Decides t xs).1 h)
 
 -- the dictionary of the rows has each row's text
-pub each_text : (vs : List (Option (Bor Text))) → All (λ v. HasText (sorted_set (flat_map texts_behind vs)) (option_map (λ t. t.now) v)) vs
+pub each_text : (vs : List (Option (Bor Text))) → All (λ v. DictionaryHas (sorted_set (flat_map texts_behind vs)) (option_map (λ t. t.now) v)) vs
 each_text vs k d lt = text_sorted (flat_map texts_behind vs) (option_map (λ t. t.now) (get_or vs k d)) (has_texts vs k d lt)
 
 -- the dictionary of the labels that were gathered is that of the rows
@@ -57,8 +57,8 @@ module _ (vs : List (Option (Bor Text))) (ks : List (Bor Text)) (ds : List Text)
   keywords_few few =
       omega (arith, ap length keywords_dictionary, length-dictionary_of (map (option_map (λ t. t.now)) vs), length-map vs (option_map {T = Bor Text} {U = Text} (λ t. t.now)))
 
-  pub keywords_there : All (λ v. HasText ds (option_map (λ t. t.now) v)) vs
-  keywords_there = subst (λ (l : List Text). All (λ v. HasText l (option_map (λ t. t.now) v)) vs) (sym gathered_dictionary) (each_text vs)
+  pub keywords_there : All (λ v. DictionaryHas ds (option_map (λ t. t.now) v)) vs
+  keywords_there = subst (λ (l : List Text). All (λ v. DictionaryHas l (option_map (λ t. t.now) v)) vs) (sym gathered_dictionary) (each_text vs)
 
   pub IsKeywords-of : (codes : List ℕ) → length vs < 2 ^ 32 → map (text_of_code ds) codes ≡ map (option_map (λ t. t.now)) vs → All (λ code. code ≤ length ds) codes → IsKeywords ds codes
   IsKeywords-of codes few values bound = record {

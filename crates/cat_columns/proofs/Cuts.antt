@@ -13,7 +13,7 @@ use Rattle.cat_base.specs.Texts.{sorted_set, IsTextSet}
 use Rattle.cat_model.specs.Text.{Text, same_text}
 use Rattle.cat_model.specs.Layout.{pieces, AreEnds}
 use Rattle.cat_model.specs.Ordinals.{text_at, dictionary_of}
-use Rattle.cat_columns.specs.Columns.{ends_from, IsSets}
+use Rattle.cat_columns.specs.Columns.{row_ends_from, IsSets}
 
 abbrev pub joined_rows : List (List Text) → List Text
 joined_rows rows = flat_map (λ texts. texts) rows
@@ -25,27 +25,27 @@ take_length (p ∷ r) xs = ap (λ l. p ∷ l) (take_length r xs)
 less : (a b : ℕ) → (a + b) - a ≡ b
 less a b = omega arith
 
-pieces_from : (n : ℕ) (rs : List (List Text)) (pre : List Text) → length pre ≡ n → pieces n (ends_from n rs) (pre ++ joined_rows rs) ≡ rs
+pieces_from : (n : ℕ) (rs : List (List Text)) (pre : List Text) → length pre ≡ n → pieces n (row_ends_from n rs) (pre ++ joined_rows rs) ≡ rs
 pieces_from n [] pre e = refl
 pieces_from n (r ∷ rs) pre e =
-    ap (λ k. take k (drop n (pre ++ (r ++ joined_rows rs))) ∷ pieces (n + length r) (ends_from (n + length r) rs) (pre ++ (r ++ joined_rows rs))) (less n (length r))
-    ∙ ap (λ k. take (length r) (drop k (pre ++ (r ++ joined_rows rs))) ∷ pieces (n + length r) (ends_from (n + length r) rs) (pre ++ (r ++ joined_rows rs))) (sym e)
-    ∙ ap (λ l. take (length r) l ∷ pieces (n + length r) (ends_from (n + length r) rs) (pre ++ (r ++ joined_rows rs))) (drop-append_seam pre (r ++ joined_rows rs))
-    ∙ ap (λ l. l ∷ pieces (n + length r) (ends_from (n + length r) rs) (pre ++ (r ++ joined_rows rs))) (take_length r (joined_rows rs))
-    ∙ ap (λ l. r ∷ pieces (n + length r) (ends_from (n + length r) rs) l) (sym (append_assoc pre r (joined_rows rs)))
+    ap (λ k. take k (drop n (pre ++ (r ++ joined_rows rs))) ∷ pieces (n + length r) (row_ends_from (n + length r) rs) (pre ++ (r ++ joined_rows rs))) (less n (length r))
+    ∙ ap (λ k. take (length r) (drop k (pre ++ (r ++ joined_rows rs))) ∷ pieces (n + length r) (row_ends_from (n + length r) rs) (pre ++ (r ++ joined_rows rs))) (sym e)
+    ∙ ap (λ l. take (length r) l ∷ pieces (n + length r) (row_ends_from (n + length r) rs) (pre ++ (r ++ joined_rows rs))) (drop-append_seam pre (r ++ joined_rows rs))
+    ∙ ap (λ l. l ∷ pieces (n + length r) (row_ends_from (n + length r) rs) (pre ++ (r ++ joined_rows rs))) (take_length r (joined_rows rs))
+    ∙ ap (λ l. r ∷ pieces (n + length r) (row_ends_from (n + length r) rs) l) (sym (append_assoc pre r (joined_rows rs)))
     ∙ ap (λ l. r ∷ l) (pieces_from (n + length r) rs (pre ++ r) (length-append pre r ∙ ap (λ k. k + length r) e))
 
-pub pieces_joined : (rs : List (List Text)) → pieces 0 (ends_from 0 rs) (joined_rows rs) ≡ rs
+pub pieces_joined : (rs : List (List Text)) → pieces 0 (row_ends_from 0 rs) (joined_rows rs) ≡ rs
 pieces_joined rs = pieces_from 0 rs [] refl
 
 joined_push : (rs : List (List Text)) (r : List Text) → joined_rows (rs ++ r ∷ []) ≡ joined_rows rs ++ r
 joined_push rs r = flat_map-append (λ texts. texts) rs (r ∷ []) ∙ ap (λ l. joined_rows rs ++ l) (append-nil r)
 
-ends_push : (n : ℕ) (rs : List (List Text)) (r : List Text) → ends_from n (rs ++ r ∷ []) ≡ ends_from n rs ++ (n + length (joined_rows rs) + length r) ∷ []
+ends_push : (n : ℕ) (rs : List (List Text)) (r : List Text) → row_ends_from n (rs ++ r ∷ []) ≡ row_ends_from n rs ++ (n + length (joined_rows rs) + length r) ∷ []
 ends_push n [] r = ap (λ k. (k + length r) ∷ []) (let e : n ≡ n + 0 = omega arith in e)
 ends_push n (q ∷ rs) r =
     ap (λ l. (n + length q) ∷ l) (ends_push (n + length q) rs r)
-    ∙ ap (λ k. (n + length q) ∷ (ends_from (n + length q) rs ++ k ∷ [])) (let both : length (q ++ joined_rows rs) ≡ length q + length (joined_rows rs) = length-append q (joined_rows rs) in omega (arith, both))
+    ∙ ap (λ k. (n + length q) ∷ (row_ends_from (n + length q) rs ++ k ∷ [])) (let both : length (q ++ joined_rows rs) ≡ length q + length (joined_rows rs) = length-append q (joined_rows rs) in omega (arith, both))
 
 -- the rows behind references
 pub joined_now : (rows : List (Bor (List Text))) → flat_map (λ row. row.now) rows ≡ joined_rows (map (λ row. row.now) rows)
@@ -54,15 +54,15 @@ joined_now (r ∷ rows) = ap (λ l. r.now ++ l) (joined_now rows)
 
 -- one row more
 pub ends_more : (rows : List (Bor (List Text))) (i n : ℕ) (d : Bor (List Text)) (ends ends' : List ℕ) → i < length rows
-    → ends ≡ ends_from 0 (map (λ row. row.now) (take i rows)) → n ≡ length (flat_map (λ row. row.now) (take (i + 1) rows)) → ends' ≡ ends ++ n ∷ []
-    → ends' ≡ ends_from 0 (map (λ row. row.now) (take (i + 1) rows))
+    → ends ≡ row_ends_from 0 (map (λ row. row.now) (take i rows)) → n ≡ length (flat_map (λ row. row.now) (take (i + 1) rows)) → ends' ≡ ends ++ n ∷ []
+    → ends' ≡ row_ends_from 0 (map (λ row. row.now) (take (i + 1) rows))
 ends_more rows i n d ends ends' lt before long push =
     let rs : List (List Text) = map (λ row. row.now) (take i rows) in
     let r : List Text = (get_or rows i d).now in
     let more : map (λ row. row.now) (take (i + 1) rows) ≡ rs ++ r ∷ [] = ap (map (λ row. row.now)) (take_more rows i d lt) ∙ map-append (λ row. row.now) (take i rows) (get_or rows i d ∷ []) in
     let all : n ≡ 0 + length (joined_rows rs) + length r =
     let e : n ≡ length (joined_rows rs) + length r = long ∙ ap length (joined_now (take (i + 1) rows) ∙ ap joined_rows more ∙ joined_push rs r) ∙ length-append (joined_rows rs) r in omega (arith, e) in
-    push ∙ ap (λ l. l ++ n ∷ []) before ∙ ap (λ k. ends_from 0 rs ++ k ∷ []) all ∙ sym (ap (ends_from 0) more ∙ ends_push 0 rs r)
+    push ∙ ap (λ l. l ++ n ∷ []) before ∙ ap (λ k. row_ends_from 0 rs ++ k ∷ []) all ∙ sym (ap (row_ends_from 0) more ∙ ends_push 0 rs r)
 
 pub flat_more : (rows : List (Bor (List Text))) (i : ℕ) (d : Bor (List Text)) → i < length rows
     → flat_map (λ row. row.now) (take (i + 1) rows) ≡ flat_map (λ row. row.now) (take i rows) ++ (get_or rows i d).now
@@ -71,14 +71,14 @@ flat_more rows i d lt =
     ∙ ap (λ l. flat_map (λ row. row.now) (take i rows) ++ l) (append-nil (get_or rows i d).now)
 
 -- the ends of rows in a list that has them all
-ends_are : (n : ℕ) (rs : List (List Text)) → AreEnds n (ends_from n rs) (n + length (joined_rows rs))
+ends_are : (n : ℕ) (rs : List (List Text)) → AreEnds n (row_ends_from n rs) (n + length (joined_rows rs))
 ends_are n [] = omega arith
-ends_are n (r ∷ rs) = (omega arith, subst (λ k. AreEnds (n + length r) (ends_from (n + length r) rs) k) (let e : n + length r + length (joined_rows rs) ≡ n + length (r ++ joined_rows rs) = omega (arith, length-append r (joined_rows rs)) in e) (ends_are (n + length r) rs))
+ends_are n (r ∷ rs) = (omega arith, subst (λ k. AreEnds (n + length r) (row_ends_from (n + length r) rs) k) (let e : n + length r + length (joined_rows rs) ≡ n + length (r ++ joined_rows rs) = omega (arith, length-append r (joined_rows rs)) in e) (ends_are (n + length r) rs))
 
-pub AreEnds-ends_from : (rs : List (List Text)) (total : ℕ) → total ≡ length (joined_rows rs) → AreEnds 0 (ends_from 0 rs) total
-AreEnds-ends_from rs total e = subst (λ k. AreEnds 0 (ends_from 0 rs) k) (let f : 0 + length (joined_rows rs) ≡ total = omega (arith, e) in f) (ends_are 0 rs)
+pub AreEnds-ends_from : (rs : List (List Text)) (total : ℕ) → total ≡ length (joined_rows rs) → AreEnds 0 (row_ends_from 0 rs) total
+AreEnds-ends_from rs total e = subst (λ k. AreEnds 0 (row_ends_from 0 rs) k) (let f : 0 + length (joined_rows rs) ≡ total = omega (arith, e) in f) (ends_are 0 rs)
 
-pub length-ends_from : (n : ℕ) (rs : List (List Text)) → length (ends_from n rs) ≡ length rs
+pub length-ends_from : (n : ℕ) (rs : List (List Text)) → length (row_ends_from n rs) ≡ length rs
 length-ends_from n [] = refl
 length-ends_from n (r ∷ rs) = ap suc (length-ends_from (n + length r) rs)
 
@@ -143,10 +143,10 @@ module _ (rows : List (Bor (List Text))) (ks : List (Bor Text)) (ds : List Text)
       let q : Text = get_or (get_or rows k d).now j e in
       subst (λ (xs : List Text). Contains xs q) (sym gathered_dictionary) (sorted_has (flat_map (λ row. row.now) rows) q (each_joined rows k d lt j e l))
 
-  module _ (ends ordinals : List ℕ) (ends_is : ends ≡ ends_from 0 (map (λ row. row.now) rows)) (texts_are : map (text_at ds) ordinals ≡ flat_map (λ row. row.now) rows) where
+  module _ (ends ordinals : List ℕ) (ends_is : ends ≡ row_ends_from 0 (map (λ row. row.now) rows)) (texts_are : map (text_at ds) ordinals ≡ flat_map (λ row. row.now) rows) where
     pub laid_rows : pieces 0 ends (map (text_at ds) ordinals) ≡ map (λ row. row.now) rows
     laid_rows =
-        ap (λ es. pieces 0 es (map (text_at ds) ordinals)) ends_is ∙ ap (pieces 0 (ends_from 0 (map (λ row. row.now) rows))) (texts_are ∙ joined_now rows)
+        ap (λ es. pieces 0 es (map (text_at ds) ordinals)) ends_is ∙ ap (pieces 0 (row_ends_from 0 (map (λ row. row.now) rows))) (texts_are ∙ joined_now rows)
         ∙ pieces_joined (map (λ row. row.now) rows)
 
     pub IsSets-of : length rows < 2 ^ 32 → All (λ row. IsTextSet row.now) rows → All (λ o. o < length ds) ordinals → IsSets ds ends ordinals

@@ -15,7 +15,7 @@ use Rattle.cat_base.proofs.TextSets.{sorted_set_members, sorted_set_only}
 use Rattle.cat_model.specs.Text.{Text}
 use Rattle.cat_model.specs.Layout.{ordinal_in, code_in, keywords_of, pieces, AreEnds}
 use Rattle.cat_model.specs.Ordinals.{text_at, texts_of, dictionary_of}
-use Rattle.cat_columns.specs.Columns.{text_of_code, HasText, IsKeywords, IsSets, AreCodes, AreOrdinals, HasNoKeywords, HasNoSets}
+use Rattle.cat_columns.specs.Columns.{text_of_code, DictionaryHas, IsKeywords, IsSets, AreCodes, AreOrdinals, HasNoKeywords, HasNoSets}
 use Rattle.cat_columns.proofs.Codes.{length-dictionary_of}
 use Rattle.cat_columns.proofs.Cuts.{joined_rows}
 use Rattle.cat_columns.proofs.Members.{length-sorted_set}
@@ -63,14 +63,14 @@ dictionary_had rows t h = (sorted_set_members (joined_rows rows) t).0 h
 
 -- ---- keywords
 
-keyword_there : (vs : List (Option Text)) (v : Option Text) → Contains vs v → HasText (keywords_of vs) v
+keyword_there : (vs : List (Option Text)) (v : Option Text) → Contains vs v → DictionaryHas (keywords_of vs) v
 keyword_there vs None h = tt
 keyword_there vs (Some t) h = dictionary_has (map texts_of vs) t (texts_have vs t h)
 
-pub keywords_there : (vs : List (Option Text)) → All (HasText (keywords_of vs)) vs
+pub keywords_there : (vs : List (Option Text)) → All (DictionaryHas (keywords_of vs)) vs
 keywords_there vs k d lt = keyword_there vs (get_or vs k d) (Contains-get_or vs k d lt)
 
-code_within : (ds : List Text) (v : Option Text) → HasText ds v → code_in ds v ≤ length ds
+code_within : (ds : List Text) (v : Option Text) → DictionaryHas ds v → code_in ds v ≤ length ds
 code_within ds None h = omega arith
 code_within ds (Some t) h = omega (arith, ordinal_within ds t h)
 

@@ -10,17 +10,17 @@ use Rattle.cat_model.specs.Layout.{ordinal_in, code_in, keywords_of}
 use Rattle.cat_model.specs.Ordinals.{text_at, dictionary_of}
 use Rattle.cat_model.specs.RowSets.{IsPacked}
 use Rattle.cat_columns.specs.Bits.{has_bit, has_row_bit}
-use Rattle.cat_columns.specs.Columns.{text_of_code, HasText}
+use Rattle.cat_columns.specs.Columns.{text_of_code, DictionaryHas}
 use Rattle.cat_columns.proofs.Laid.{keywords_there, rows_there}
 use Rattle.cat_columns.proofs.Ordinals.{text_back}
 
 -- ---- columns
 
-label_back : (ds : List Text) (v : Option Text) → HasText ds v → text_of_code ds (code_in ds v) ≡ v
+label_back : (ds : List Text) (v : Option Text) → DictionaryHas ds v → text_of_code ds (code_in ds v) ≡ v
 label_back ds None h = refl
 label_back ds (Some t) h = ap Some (text_back ds t h)
 
-labels_back : (ds : List Text) (vs : List (Option Text)) → All (HasText ds) vs → map (text_of_code ds) (map (code_in ds) vs) ≡ vs
+labels_back : (ds : List Text) (vs : List (Option Text)) → All (DictionaryHas ds) vs → map (text_of_code ds) (map (code_in ds) vs) ≡ vs
 labels_back ds [] all = refl
 labels_back ds (v ∷ vs) all =
     ap (λ w. w ∷ map (text_of_code ds) (map (code_in ds) vs)) (label_back ds v (all 0 v (omega arith))) ∙ ap (λ l. v ∷ l) (labels_back ds vs (λ k d lt. all (suc k) d (omega arith)))

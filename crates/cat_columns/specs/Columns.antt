@@ -44,9 +44,9 @@ texts_behind None = []
 texts_behind (Some t) = t.now ∷ []
 
 -- the dictionary has the text, if there is one
-abbrev pub HasText : List Text → Option Text → Type 0
-HasText dictionary None = ⊤
-HasText dictionary (Some text) = Contains dictionary text
+abbrev pub DictionaryHas : List Text → Option Text → Type 0
+DictionaryHas dictionary None = ⊤
+DictionaryHas dictionary (Some text) = Contains dictionary text
 
 -- the text of a code, which is 0 for none and else an ordinal plus 1
 abbrev pub text_of_code : List Text → ℕ → Option Text
@@ -60,9 +60,9 @@ pub record IsKeywords (dictionary : List Text) (codes : List ℕ) : Type 0 where
   pub whole : dictionary ≡ dictionary_of (map texts_of (map (text_of_code dictionary) codes))
 
 -- the index behind each row's last text, once the rows stand one behind another, the first from `from` on
-abbrev pub ends_from : ℕ → List (List Text) → List ℕ
-ends_from from [] = []
-ends_from from (row ∷ rows) = (from + length row) ∷ ends_from (from + length row) rows
+abbrev pub row_ends_from : ℕ → List (List Text) → List ℕ
+row_ends_from from [] = []
+row_ends_from from (row ∷ rows) = (from + length row) ∷ row_ends_from (from + length row) rows
 
 -- fewer than 2^32 rows, whose parts of the ordinals stand one behind another, each in byte order; the dictionary has the
 -- rows' labels alone

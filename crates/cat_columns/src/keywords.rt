@@ -5,7 +5,7 @@ ghost use Rattle.cat_base.specs.declared.refusal.Refusal.TheVariants.{Damaged, M
 ghost use Rattle.cat_model.specs.Text.{Text, same_text};
 ghost use Rattle.cat_model.specs.Layout.{code_in, keywords_of};
 ghost use Rattle.cat_model.specs.Ordinals.{dictionary_of, text_at, texts_of};
-ghost use Rattle.cat_columns.specs.Columns.{has_text, HasText, text_of_code, texts_behind, AreCodes, IsLaidAsKeywords, HasNoKeywords};
+ghost use Rattle.cat_columns.specs.Columns.{has_text, DictionaryHas, text_of_code, texts_behind, AreCodes, IsLaidAsKeywords, HasNoKeywords};
 
 use crate::covering::covers;
 use crate::dictionary::Dictionary;
@@ -55,7 +55,7 @@ fn keywords_in<'a>(
 /// 0 for no keyword, else its ordinal plus 1.
 fn code_of(dictionary: &Dictionary, value: Option<&Text>) -> u32
     requires few { length dictionary.now < 2 ^ 32 }
-    requires there { HasText dictionary.now (option_map (λ t. t.now) value) }
+    requires there { DictionaryHas dictionary.now (option_map (λ t. t.now) value) }
     ensures value { text_of_code dictionary.now result ≡ option_map (λ t. t.now) value.entry }
     ensures bound { result ≤ length dictionary.now }
 {
@@ -75,7 +75,7 @@ fn codes_of(
     values: &[Option<&Text>],
 ) -> Result<Vec<u32>, AllocError>
     requires few { length dictionary.now < 2 ^ 32 }
-    requires there { All (λ v. HasText dictionary.now (option_map (λ t. t.now) v)) values.now }
+    requires there { All (λ v. DictionaryHas dictionary.now (option_map (λ t. t.now) v)) values.now }
     ensures values { IfOk result (λ v. map (text_of_code dictionary.now) v.items ≡ map (option_map (λ t. t.now)) values.now) }
     ensures bound { IfOk result (λ v. All (λ code. code ≤ length dictionary.now) v.items) }
 {

@@ -7,7 +7,7 @@ ghost use Rattle.cat_base.specs.declared.refusal.Refusal.TheVariants.{Damaged, M
 ghost use Rattle.cat_model.specs.Text.{Text, same_text};
 ghost use Rattle.cat_model.specs.Layout.{ordinal_in, pieces, AreEnds};
 ghost use Rattle.cat_model.specs.Ordinals.{dictionary_of, text_at};
-ghost use Rattle.cat_columns.specs.Columns.{has_text, ends_from, AreOrdinals, IsLaidAsSets, HasNoSets};
+ghost use Rattle.cat_columns.specs.Columns.{has_text, row_ends_from, AreOrdinals, IsLaidAsSets, HasNoSets};
 
 use crate::covering::covers;
 use crate::dictionary::Dictionary;
@@ -92,7 +92,7 @@ fn laid(
 ) -> Result<(Vec<u32>, Vec<u32>), AllocError>
     requires few { length dictionary.now < 2 ^ 32 }
     requires there { All (λ row. All (Contains dictionary.now) row.now) rows.now }
-    ensures ends { IfOk result (λ p. p.0.items ≡ ends_from 0 (map (λ row. row.now) rows.now)) }
+    ensures ends { IfOk result (λ p. p.0.items ≡ row_ends_from 0 (map (λ row. row.now) rows.now)) }
     ensures ordinals { IfOk result (λ p. map (text_at dictionary.now) p.1.items ≡ flat_map (λ row. row.now) rows.now) }
     ensures bound { IfOk result (λ p. All (λ o. o < length dictionary.now) p.1.items) }
 {

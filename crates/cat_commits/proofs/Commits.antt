@@ -19,10 +19,10 @@ use Rattle.cat_items.proofs.file_parts.Readers.{reads_many}
 use Rattle.cat_items.proofs.file_parts.Layouts.{reads_fields}
 use Rattle.cat_items.proofs.file_parts.Rests.{rest_is, rest_is_none}
 use Rattle.cat_commits.specs.Layouts.{CommitStart, is_count, start_at, listed_at, commit_at}
-use Rattle.cat_commits.specs.Judged.{start_of}
+use Rattle.cat_commits.specs.Judged.{commit_start_of}
 use Rattle.cat_commits.proofs.Lists.{drop_behind}
 use Rattle.cat_commits.proofs.Listings.{Fits, length-spelled, differ_told}
-use Rattle.cat_commits.specs.Listings.{Differ}
+use Rattle.cat_commits.specs.Listings.{NumbersDiffer}
 use Rattle.cat_commits.proofs.Starts.{spelled_start, reads_start, reads_count, reads_listed}
 
 abbrev pub made : CommitStart → Schema → List ListedSegment → CommitFile
@@ -203,17 +203,17 @@ spelled_told bytes c spells =
     let third : List ℕ = flat_map spelled_listed c.segments in
     let second : List ℕ = spelled_u32 (length c.segments) ++ third in
     let first : List ℕ = spelled_fields c.schema ++ second in
-    let p : Pieces bytes first second third [] (start_of c) c.schema (length c.segments) c.segments = record {
-      start = ap start_at spells.spelled ∙ reads_start.complete (start_of c) first (record { generation = ok.generation; token = ok.token; next = (ok.next_low, ok.next_high); text = ok.text });
+    let p : Pieces bytes first second third [] (commit_start_of c) c.schema (length c.segments) c.segments = record {
+      start = ap start_at spells.spelled ∙ reads_start.complete (commit_start_of c) first (record { generation = ok.generation; token = ok.token; next = (ok.next_low, ok.next_high); text = ok.text });
       fields = reads_fields.complete c.schema second ok.schema;
       count = reads_count.complete (length c.segments) third ok.few;
       segments = ap (many_at (listed_at c.generation c.next) (length c.segments)) (sym (append-nil third))
           ∙ (reads_many (listed_at c.generation c.next) spelled_listed (IsListed c.generation c.next) (reads_listed c.generation c.next low high) (length c.segments)).complete c.segments [] (refl, ok.listed);
     } in
-    some_ended bytes first second third [] (start_of c) c.schema (length c.segments) c.segments p refl
+    some_ended bytes first second third [] (commit_start_of c) c.schema (length c.segments) c.segments p refl
 
 -- what was judged, and its numbers found to differ, is spelled
-pub judged_spelled : (bytes : List ℕ) (c : CommitFile) (listing : List ℕ) → commit_at bytes ≡ Some c → listing ≡ flat_map spelled_listed c.segments → Differ listing → SpellsCommit bytes c
+pub judged_spelled : (bytes : List ℕ) (c : CommitFile) (listing : List ℕ) → commit_at bytes ≡ Some c → listing ≡ flat_map spelled_listed c.segments → NumbersDiffer listing → SpellsCommit bytes c
 judged_spelled bytes c listing e is differ =
     let t = told_spelled bytes c e in
     let shaped : IsShaped c = t.2.shaped in

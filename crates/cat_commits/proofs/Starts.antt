@@ -10,11 +10,11 @@ use Rattle.cat_model.specs.Files.{IsFileNumber}
 use Rattle.cat_model.specs.Forms.{is_plain_byte, IsCommitText}
 use Rattle.cat_model.specs.Limits.{last_number, segment_limit}
 use Rattle.cat_model.specs.CommitFile.{Version, ListedSegment, HasText, IsListed, version_byte, spelled_text, spelled_listed}
-use Rattle.cat_items.specs.file_parts.Reading.{◌>>=◌, byte_at, u32_at, u64_at, where_at, text_at}
+use Rattle.cat_items.specs.file_parts.Reading.{◌>>=◌, byte_at, u32_at, u64_at, where_at, tested_text_at}
 use Rattle.cat_items.proofs.file_parts.Numbers.{Reads, bind_some, bind_at, both_true, at_some, reads_u32, reads_u64, reads_byte}
 use Rattle.cat_items.proofs.file_parts.Readers.{reads_where, reads_as, reads_text, both_sound, both_complete}
 use Rattle.cat_items.proofs.file_parts.Forms.{both_hold}
-use Rattle.cat_commits.specs.Layouts.{CommitStart, magic, is_number, is_token, is_next, is_note, is_count, is_below_next, version_at, text_for, start_at, listed_at}
+use Rattle.cat_commits.specs.Layouts.{CommitStart, commit_magic, is_number, is_token, is_next, is_note, is_count, is_below_next, version_at, text_for, start_at, listed_at}
 
 -- ---- the version
 
@@ -22,11 +22,11 @@ abbrev pub spelled_version : Version → List ℕ
 spelled_version v = codes "CSGM" ++ version_byte v ∷ []
 
 -- CSGM
-the_magic : spelled_u32 magic ≡ codes "CSGM"
+the_magic : spelled_u32 commit_magic ≡ codes "CSGM"
 the_magic = refl
 
 abbrev versions : ℕ → ℕ × List ℕ → Option (Version × List ℕ)
-versions word version = cond (eqb version.0 1 && eqb word magic) (Some (Version.first, version.1)) (cond (eqb version.0 2 && eqb word magic) (Some (Version.second, version.1)) None)
+versions word version = cond (eqb version.0 1 && eqb word commit_magic) (Some (Version.first, version.1)) (cond (eqb version.0 2 && eqb word commit_magic) (Some (Version.second, version.1)) None)
 
 version_sound : (bytes : List ℕ) (x : Version × List ℕ) → version_at bytes ≡ Some x → (bytes ≡ spelled_version x.0 ++ x.1) × Unit {0}
 unfolding version_at
@@ -35,29 +35,29 @@ version_sound bytes x e =
     let b = bind_some (byte_at a.0.1) (λ version. versions a.0.0 version) x a.2 in
     let t0 = reads_u32.sound bytes a.0 a.1 in
     let t1 = reads_byte.sound a.0.1 b.0 b.1 in
-    first (eqb b.0.0 1 && eqb a.0.0 magic) a.0.0 b.0.0 b.0.1 refl b.2 (t0.0 ∙ ap (λ (l : List ℕ). spelled_u32 a.0.0 ++ l) t1.0)
+    first (eqb b.0.0 1 && eqb a.0.0 commit_magic) a.0.0 b.0.0 b.0.1 refl b.2 (t0.0 ∙ ap (λ (l : List ℕ). spelled_u32 a.0.0 ++ l) t1.0)
   where
-    made : (v : Version) (n word version : ℕ) (rest : List ℕ) → version_byte v ≡ n → (eqb version n && eqb word magic) ≡ true → Some (v, rest) ≡ Some x → bytes ≡ spelled_u32 word ++ (version ∷ rest)
+    made : (v : Version) (n word version : ℕ) (rest : List ℕ) → version_byte v ≡ n → (eqb version n && eqb word commit_magic) ≡ true → Some (v, rest) ≡ Some x → bytes ≡ spelled_u32 word ++ (version ∷ rest)
         → (bytes ≡ spelled_version x.0 ++ x.1) × Unit {0}
     made v n word version rest is passes same whole =
-        let h = both_true (eqb version n) (eqb word magic) passes in
+        let h = both_true (eqb version n) (eqb word commit_magic) passes in
         at_some (λ (y : Version × List ℕ). (bytes ≡ spelled_version y.0 ++ y.1) × Unit {0}) (v, rest) x same
         (whole ∙ ap (λ (k : ℕ). spelled_u32 k ++ (version ∷ rest)) (eqb-true _ _ h.1) ∙ ap (λ (k : ℕ). codes "CSGM" ++ (k ∷ rest)) (eqb-true _ _ h.0 ∙ sym is), tt)
 
-    second : (t : Bool) (word version : ℕ) (rest : List ℕ) → (eqb version 2 && eqb word magic) ≡ t → cond t (Some (Version.second, rest)) None ≡ Some x → bytes ≡ spelled_u32 word ++ (version ∷ rest)
+    second : (t : Bool) (word version : ℕ) (rest : List ℕ) → (eqb version 2 && eqb word commit_magic) ≡ t → cond t (Some (Version.second, rest)) None ≡ Some x → bytes ≡ spelled_u32 word ++ (version ∷ rest)
         → (bytes ≡ spelled_version x.0 ++ x.1) × Unit {0}
     second true word version rest is s whole = made Version.second 2 word version rest refl is s whole
     second false word version rest is s whole = absurd cc
 
-    first : (t : Bool) (word version : ℕ) (rest : List ℕ) → (eqb version 1 && eqb word magic) ≡ t → cond t (Some (Version.first, rest)) (cond (eqb version 2 && eqb word magic) (Some (Version.second, rest)) None) ≡ Some x
+    first : (t : Bool) (word version : ℕ) (rest : List ℕ) → (eqb version 1 && eqb word commit_magic) ≡ t → cond t (Some (Version.first, rest)) (cond (eqb version 2 && eqb word commit_magic) (Some (Version.second, rest)) None) ≡ Some x
         → bytes ≡ spelled_u32 word ++ (version ∷ rest) → (bytes ≡ spelled_version x.0 ++ x.1) × Unit {0}
     first true word version rest is s whole = made Version.first 1 word version rest refl is s whole
-    first false word version rest is s whole = second (eqb version 2 && eqb word magic) word version rest refl s whole
+    first false word version rest is s whole = second (eqb version 2 && eqb word commit_magic) word version rest refl s whole
 
 version_complete : (v : Version) (rest : List ℕ) → Unit {0} → version_at (spelled_version v ++ rest) ≡ Some (v, rest)
 unfolding version_at byte_at
-version_complete Version.first rest h = bind_at (u32_at (spelled_u32 magic ++ (1 ∷ rest))) (λ word. byte_at word.1 >>= λ version. versions word.0 version) (magic, 1 ∷ rest) (reads_u32.complete magic (1 ∷ rest) (omega arith))
-version_complete Version.second rest h = bind_at (u32_at (spelled_u32 magic ++ (2 ∷ rest))) (λ word. byte_at word.1 >>= λ version. versions word.0 version) (magic, 2 ∷ rest) (reads_u32.complete magic (2 ∷ rest) (omega arith))
+version_complete Version.first rest h = bind_at (u32_at (spelled_u32 commit_magic ++ (1 ∷ rest))) (λ word. byte_at word.1 >>= λ version. versions word.0 version) (commit_magic, 1 ∷ rest) (reads_u32.complete commit_magic (1 ∷ rest) (omega arith))
+version_complete Version.second rest h = bind_at (u32_at (spelled_u32 commit_magic ++ (2 ∷ rest))) (λ word. byte_at word.1 >>= λ version. versions word.0 version) (commit_magic, 2 ∷ rest) (reads_u32.complete commit_magic (2 ∷ rest) (omega arith))
 
 reads_version : Reads version_at spelled_version (λ v. Unit {0})
 reads_version = record { sound = version_sound; complete = version_complete }
@@ -101,8 +101,8 @@ note_from t utf8 e =
 note_to : (t : Text) → IsCommitText t → is_note t ≡ true
 note_to t k = both_hold (leb (length t) 256) _ (le-leb _ _ k.short) k.plain
 
-reads_note : Reads (text_at is_note) spelled_bytes IsCommitText
-reads_note = reads_as (text_at is_note) spelled_bytes (λ t. ((length t < 2 ^ 32) × (is_utf8 t ≡ true)) × (is_note t ≡ true)) IsCommitText
+reads_note : Reads (tested_text_at is_note) spelled_bytes IsCommitText
+reads_note = reads_as (tested_text_at is_note) spelled_bytes (λ t. ((length t < 2 ^ 32) × (is_utf8 t ≡ true)) × (is_note t ≡ true)) IsCommitText
     (λ t h. note_from t h.0.1 h.1)
     (λ t h. ((let short : length t ≤ 256 = h.short in omega arith, is_utf8-from_IsUtf8 t h.utf8), note_to t h))
     (reads_text is_note)

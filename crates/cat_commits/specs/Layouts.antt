@@ -6,7 +6,7 @@ use Rattle.cat_model.specs.Text.{Text}
 use Rattle.cat_model.specs.Forms.{is_plain_byte}
 use Rattle.cat_model.specs.Limits.{last_number, segment_limit, commit_text_limit}
 use Rattle.cat_model.specs.CommitFile.{Version, ListedSegment, CommitFile}
-use Rattle.cat_items.specs.file_parts.Reading.{Reader, ◌>>=◌, byte_at, u32_at, u64_at, where_at, both_at, many_at, text_at}
+use Rattle.cat_items.specs.file_parts.Reading.{Reader, ◌>>=◌, byte_at, u32_at, u64_at, where_at, both_at, many_at, tested_text_at}
 use Rattle.cat_items.specs.file_parts.Layouts.{fields_at}
 use Rattle.cat_commits.specs.declared.start.Start.{Start}
 use Rattle.cat_commits.specs.Versions.{version_of}
@@ -46,19 +46,19 @@ is_below_next next n = nat_le 1 n && nat_lt n next
 -- ---- parts
 
 -- CSGM
-abbrev pub magic : ℕ
-magic = 1129531213
+abbrev pub commit_magic : ℕ
+commit_magic = 1129531213
 
 unfoldable pub version_at : Reader Version
 version_at bytes = do
   word ← u32_at bytes
   version ← byte_at word.1
-  if version.0 == 1 && word.0 == magic then Some (Version.first, version.1)
-      else (if version.0 == 2 && word.0 == magic then Some (Version.second, version.1) else None)
+  if version.0 == 1 && word.0 == commit_magic then Some (Version.first, version.1)
+      else (if version.0 == 2 && word.0 == commit_magic then Some (Version.second, version.1) else None)
 
 unfoldable pub text_for : Version → Reader Text
 text_for Version.first bytes = Some ([], bytes)
-text_for Version.second bytes = text_at is_note bytes
+text_for Version.second bytes = tested_text_at is_note bytes
 
 unfoldable pub start_at : Reader CommitStart
 start_at bytes = do

@@ -5,7 +5,7 @@ ghost use Rattle.cat_model.specs.CommitFile as model;
 ghost use Rattle.cat_items.specs.file_parts.Layouts.{fields_at};
 ghost use Rattle.cat_items.specs.file_parts.Reading.{rest_of, u32_at, where_at};
 ghost use Rattle.cat_commits.specs.Layouts.{commit_at, is_count};
-ghost use Rattle.cat_commits.specs.Judged.{Tells};
+ghost use Rattle.cat_commits.specs.Judged.{TellsCommit};
 
 use crate::commit::Commit;
 use crate::cursor::take_u32;
@@ -49,7 +49,7 @@ fn take_count(cursor: &mut Cursor<'_>) -> Option<u32>
 
 /// Judges all but whether the numbers of the segments differ, and takes no memory but that of the fields.
 fn judge<'a>(alloc: Global, bytes: &'a [u8]) -> Option<Judged<'a>>
-    ensures some { IfSome result (λ j. (c : model.CommitFile) × (commit_at bytes.now ≡ Some c) × Tells j c) }
+    ensures some { IfSome result (λ j. (c : model.CommitFile) × (commit_at bytes.now ≡ Some c) × TellsCommit j c) }
     ensures none { IfNone result (commit_at bytes.now ≡ None) }
 {
     let mut cursor = Cursor::new(bytes);
@@ -68,7 +68,7 @@ fn judge<'a>(alloc: Global, bytes: &'a [u8]) -> Option<Judged<'a>>
 
 /// The commit that was judged.
 fn assembled(alloc: Global, judged: Judged<'_>) -> Result<Commit, AllocError>
-    ensures { IfOk result (λ c. (told : model.CommitFile) → model.IsCommitFile told → Tells judged.entry told → c ≡ told) }
+    ensures { IfOk result (λ c. (told : model.CommitFile) → model.IsCommitFile told → TellsCommit judged.entry told → c ≡ told) }
 {
     let Judged {
         start,

@@ -2,7 +2,7 @@
 ghost use Rattle.std.specs.Prelude.{◌≡◌, ◌+◌, ◌*◌, ◌/◌, ◌<◌, ◌≤◌, ◌↔◌, length, IfOk, IsTrue, option_map};
 ghost use Rattle.cat_items.specs.file_parts.Reading.{many_at, rest_of};
 ghost use Rattle.cat_commits.specs.Layouts.{listed_at};
-ghost use Rattle.cat_commits.specs.Listings.{number_in, listed_in, all_listed_in, Differ, DiffersFrom};
+ghost use Rattle.cat_commits.specs.Listings.{number_in_listing, listed_segment_at, all_listed_in, NumbersDiffer, DiffersFrom};
 
 use crate::commit::ListedSegment;
 use crate::cursor::take_u64;
@@ -49,10 +49,10 @@ pub(crate) fn pass_segments(
 }
 
 /// The number of 8 bytes from this offset on.
-#[tactic(auto, unfolding(crate::specs::Listings::number_in))]
+#[tactic(auto, unfolding(crate::specs::Listings::number_in_listing))]
 fn number_at(bytes: &[u8], offset: usize) -> u64
     requires { offset + 8 ≤ length bytes.now }
-    ensures { result ≡ number_in bytes.now offset }
+    ensures { result ≡ number_in_listing bytes.now offset }
 {
     let found = &bytes[offset..offset + 8];
     u64::from_be_bytes([
@@ -63,7 +63,7 @@ fn number_at(bytes: &[u8], offset: usize) -> u64
 /// The segment of the index.
 fn segment_at(listing: &[u8], index: usize) -> ListedSegment
     requires { 16 * index + 16 ≤ length listing.now }
-    ensures { result ≡ listed_in listing.now index }
+    ensures { result ≡ listed_segment_at listing.now index }
 {
     let offset = SEGMENT_BYTES * index;
     ListedSegment::of(number_at(listing, offset), number_at(listing, offset + 8))
@@ -83,7 +83,7 @@ pub(crate) fn segments(alloc: Global, listing: &[u8]) -> Result<Vec<ListedSegmen
 
 /// Whether their numbers differ. Where memory is refused, it takes longer.
 pub(crate) fn numbers_differ(alloc: Global, listing: &[u8]) -> bool
-    ensures { IsTrue result ↔ Differ listing.now }
+    ensures { IsTrue result ↔ NumbersDiffer listing.now }
 {
     match numbers_differ_by_hash(alloc, listing) {
         Ok(differ) => differ,
@@ -93,7 +93,7 @@ pub(crate) fn numbers_differ(alloc: Global, listing: &[u8]) -> bool
 
 /// The same, by a set of the numbers.
 fn numbers_differ_by_hash(alloc: Global, listing: &[u8]) -> Result<bool, AllocError>
-    ensures { IfOk result (λ differ. IsTrue differ ↔ Differ listing.now) }
+    ensures { IfOk result (λ differ. IsTrue differ ↔ NumbersDiffer listing.now) }
 {
     let count = listing.len() / SEGMENT_BYTES;
     let mut seen = HashSet::with_capacity(alloc, count)?;
@@ -107,7 +107,7 @@ fn numbers_differ_by_hash(alloc: Global, listing: &[u8]) -> Result<bool, AllocEr
 
 /// The same, in no memory, comparing each with each.
 fn numbers_differ_one_by_one(listing: &[u8]) -> bool
-    ensures { IsTrue result ↔ Differ listing.now }
+    ensures { IsTrue result ↔ NumbersDiffer listing.now }
 {
     for index in 0..listing.len() / SEGMENT_BYTES {
         if !differs_from_earlier(listing, index) {

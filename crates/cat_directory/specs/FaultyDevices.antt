@@ -4,8 +4,8 @@ use Rattle.cat_directory.specs.declared.faulty.Faults.{Faults}
 use Rattle.cat_directory.specs.declared.faulty.Faulty.{Faulty}
 
 -- the device within
-abbrev pub device_in : {D : Type 0} → Faulty D → D
-device_in faulty = faulty.device
+abbrev pub device_within : {D : Type 0} → Faulty D → D
+device_within faulty = faulty.device
 
 -- which calls are to fail from now on
 abbrev pub faults_in : {D : Type 0} → Faulty D → Faults

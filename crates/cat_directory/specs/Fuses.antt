@@ -7,10 +7,10 @@ use Rattle.cat_directory.specs.declared.faulty.Faults.TheVariants as faults
 use Rattle.cat_directory.specs.Devices.{CountsOne}
 
 -- the next call fails
-abbrev pub IsDue : Faults → Type 0
-IsDue (faults.One zero) = Unit {0}
-IsDue (faults.All zero) = Unit {0}
-IsDue plan = ⊥
+abbrev pub IsFaultDue : Faults → Type 0
+IsFaultDue (faults.One zero) = Unit {0}
+IsFaultDue (faults.All zero) = Unit {0}
+IsFaultDue plan = ⊥
 
 -- some call to come fails
 abbrev pub IsArmed : Faults → Type 0

@@ -2,7 +2,7 @@
 ghost use Rattle.std.specs.Prelude.{◌≡◌, ◌-◌, ◌↔◌, IfErr, IsErr};
 ghost use Rattle.cat_base.specs.declared.refusal.Refusal.TheVariants.{Device};
 ghost use Rattle.cat_directory.specs.Devices.{CountsWriting};
-ghost use Rattle.cat_directory.specs.Fuses.{IsArmed, IsDue, Notes};
+ghost use Rattle.cat_directory.specs.Fuses.{IsArmed, IsFaultDue, Notes};
 
 use crate::{Directory, FileName, Holder, Shelf};
 use cat_base::Refusal;
@@ -30,7 +30,7 @@ struct Fuse {
 impl Fuse {
     /// Counts a call, and says whether it passes.
     fn meet(&mut self) -> Result<(), Refusal>
-        ensures due { IsErr result ↔ IsDue self.old.faults }
+        ensures due { IsErr result ↔ IsFaultDue self.old.faults }
         ensures armed { IsArmed self.new.faults → IsArmed self.old.faults }
         ensures device { IfErr result (λ e. (e ≡ Device) × IsArmed self.old.faults) }
         ensures counted { CountsWriting self.old.failures self.new.failures result }
@@ -77,11 +77,11 @@ pub struct Faulty<D> {
 }
 
 impl<D> Faulty<D> {
-    ghost use Rattle.cat_directory.specs.FaultyDevices.{calls_in, device_in, failures_in, faults_in};
+    ghost use Rattle.cat_directory.specs.FaultyDevices.{calls_in, device_within, failures_in, faults_in};
 
     /// The device, with calls that are to fail. No call was made yet, and none has failed.
     pub fn new(device: D, faults: Faults) -> Self
-        ensures device { device_in result ≡ device }
+        ensures device { device_within result ≡ device }
         ensures faults { faults_in result ≡ faults }
         ensures calls { calls_in result ≡ 0 }
         ensures failures { failures_in result ≡ 0 }
@@ -112,7 +112,7 @@ impl<D> Faulty<D> {
 
     /// From now on other calls fail.
     pub fn set_faults(&mut self, faults: Faults)
-        ensures device { device_in self.new ≡ device_in self.old }
+        ensures device { device_within self.new ≡ device_within self.old }
         ensures faults { faults_in self.new ≡ faults }
         ensures calls { calls_in self.new ≡ calls_in self.old }
         ensures failures { failures_in self.new ≡ failures_in self.old }
@@ -122,7 +122,7 @@ impl<D> Faulty<D> {
 
     /// The device within, as its calls left it.
     pub fn into_device(self) -> D
-        ensures { result ≡ device_in self }
+        ensures { result ≡ device_within self }
     {
         let Faulty { device, fuse: _ } = self;
         device
@@ -131,24 +131,24 @@ impl<D> Faulty<D> {
 
 impl<D: Holder> Holder for Faulty<D> {
     ghost use Rattle.std.specs.Prelude.{◌⊎◌};
-    ghost use Rattle.cat_directory.specs.FaultyDevices.{device_in, failures_in, faults_in};
+    ghost use Rattle.cat_directory.specs.FaultyDevices.{device_within, failures_in, faults_in};
     ghost use Rattle.cat_directory.specs.Fuses.{IsArmed};
 
-    ghost bytes = { λ d. D.bytes (device_in d) };
+    ghost bytes = { λ d. D.bytes (device_within d) };
 
-    ghost may_leave = { λ d. D.may_leave (device_in d) };
+    ghost may_leave = { λ d. D.may_leave (device_within d) };
 
     ghost fault_count = { failures_in };
 
-    ghost can_fail = { λ d. D.can_fail (device_in d) ⊎ IsArmed (faults_in d) };
+    ghost can_fail = { λ d. D.can_fail (device_within d) ⊎ IsArmed (faults_in d) };
 
     fn failures(&self) -> u64 {
         self.fuse.failures
     }
 
-    ghost may_stay = { λ d. D.may_stay (device_in d) };
+    ghost may_stay = { λ d. D.may_stay (device_within d) };
 
-    ghost tells_alike = { λ d. D.tells_alike (device_in d) };
+    ghost tells_alike = { λ d. D.tells_alike (device_within d) };
 }
 
 impl<D: Directory> Directory for Faulty<D> {

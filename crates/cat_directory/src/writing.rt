@@ -3,7 +3,7 @@ ghost use Rattle.std.specs.Prelude.{◌≡◌, ◌≢◌, ◌⊎◌, Some, None,
 ghost use Rattle.cat_base.specs.declared.refusal.Refusal.TheVariants.{Memory, Device};
 ghost use Rattle.cat_model.specs.Files.{IsFileName};
 ghost use Rattle.cat_directory.specs.Names.{name_of};
-ghost use Rattle.cat_directory.specs.Devices.{CountsWriting, IsSettled, NoMore, emptied, told_after, written};
+ghost use Rattle.cat_directory.specs.Devices.{CountsWriting, IsSettled, NoMore, emptied, told_after, file_written};
 
 use crate::{Directory, FileName};
 use cat_base::Refusal;
@@ -22,7 +22,7 @@ pub fn write_file<D: Directory>(
     requires form { IsFileName (name_of name) }
     ensures others { (q : FileName) → q ≢ name → D.bytes device.new q ≡ D.bytes device.old q }
     ensures crash { (q : FileName) → q ≢ name → NoMore (D.may_leave device.old q) (D.may_leave device.new q) }
-    ensures ok { OnOk result (D.bytes device.new name ≡ told_after (written bytes.now) (D.bytes device.old name)) }
+    ensures ok { OnOk result (D.bytes device.new name ≡ told_after (file_written bytes.now) (D.bytes device.old name)) }
     ensures memory { IfErr result (λ e. e ≡ Memory → (D.bytes device.new name ≡ D.bytes device.old name)
         ⊎ (D.bytes device.new name ≡ told_after emptied (D.bytes device.old name))) }
     ensures device { IfErr result (λ e. e ≡ Device → D.can_fail device.old) }
@@ -46,9 +46,9 @@ pub fn write_lasting<D: Directory>(
     requires form { IsFileName (name_of name) }
     ensures others { (q : FileName) → q ≢ name → D.bytes device.new q ≡ D.bytes device.old q }
     ensures crash { (q : FileName) → q ≢ name → NoMore (D.may_leave device.old q) (D.may_leave device.new q) }
-    ensures ok { OnOk result (D.bytes device.new name ≡ told_after (written bytes.now) (D.bytes device.old name)) }
+    ensures ok { OnOk result (D.bytes device.new name ≡ told_after (file_written bytes.now) (D.bytes device.old name)) }
     ensures lasts { OnOk result
-        (IsSettled (told_after (written bytes.now) (D.bytes device.old name)) (D.may_leave device.new name)) }
+        (IsSettled (told_after (file_written bytes.now) (D.bytes device.old name)) (D.may_leave device.new name)) }
     ensures gone { OnOk result ((q : FileName) → q ≢ name → D.bytes device.old q ≡ Some None
         → IsSettled (D.bytes device.old q) (D.may_leave device.new q)) }
     ensures memory { IfErr result (λ e. e ≡ Memory → (D.bytes device.new name ≡ D.bytes device.old name)

@@ -16,34 +16,34 @@ use Rattle.cat_model.specs.View.{View, Shows}
 use Rattle.cat_search.specs.cat_query.declared.query.Query.{Query}
 use Rattle.cat_search.specs.cat_query.View.{query_of}
 use Rattle.cat_facets.specs.declared.first.Ranked.{Ranked}
-use Rattle.cat_facets.specs.Met.{comes_first, met_from, told}
+use Rattle.cat_facets.specs.Met.{label_comes_first, met_from, label_told}
 use Rattle.cat_model.specs.GlobalOrdinals.{view_dictionary}
-use Rattle.cat_facets.specs.States.{HasLabels, IsDimensionOf, answer_over}
+use Rattle.cat_facets.specs.States.{HasLabels, IsDimensionOf, facets_answer_over}
 use Rattle.cat_facets.specs.Tallies.{has_label, hit_labels, labelled_count, AreCounts}
 use Rattle.cat_facets.proofs.Bridge.{view_labels}
 use Rattle.cat_facets.proofs.Leaves.{hits_heard}
 use Rattle.cat_facets.proofs.Told.{facets_are}
 
 -- the dimension is no facet field
-pub no_facet : (view : View) (dimension : Text) (q : Query) (n : ℕ) (rs : List Record) → is_facet_kind (kind_of view.schema dimension) ≡ false → answer_over view dimension q n rs ≡ Err NotFacet
+pub no_facet : (view : View) (dimension : Text) (q : Query) (n : ℕ) (rs : List Record) → is_facet_kind (kind_of view.schema dimension) ≡ false → facets_answer_over view dimension q n rs ≡ Err NotFacet
 no_facet view dimension q n rs other =
     ap (λ b. cond b (cond (nat_lt page_limit n) (Err Count) (Ok (Found.facets (facets_in rs (query_of q) dimension n)))) (Err NotFacet)) other
 
 -- too many counts are asked for
-pub refused : (view : View) (dimension : Text) (q : Query) (n : ℕ) (rs : List Record) → IsDimensionOf view dimension → page_limit < n → answer_over view dimension q n rs ≡ Err Count
+pub refused : (view : View) (dimension : Text) (q : Query) (n : ℕ) (rs : List Record) → IsDimensionOf view dimension → page_limit < n → facets_answer_over view dimension q n rs ≡ Err Count
 refused view dimension q n rs facet past =
     ap (λ b. cond b (cond (nat_lt page_limit n) (Err Count) (Ok (Found.facets (facets_in rs (query_of q) dimension n)))) (Err NotFacet)) facet
     ∙ ap (λ b. cond b (Err Count) (Ok (Found.facets (facets_in rs (query_of q) dimension n)))) (lt-ltb page_limit n past)
 
 -- counts are due
 pub told_facets : (view : View) (dimension : Text) (q : Query) (n : ℕ) (rs : List Record) → IsDimensionOf view dimension → n ≤ page_limit
-    → answer_over view dimension q n rs ≡ Ok (Found.facets (facets_of (hits rs (query_of q)) dimension n))
+    → facets_answer_over view dimension q n rs ≡ Ok (Found.facets (facets_of (hits rs (query_of q)) dimension n))
 told_facets view dimension q n rs facet few =
     ap (λ b. cond b (cond (nat_lt page_limit n) (Err Count) (Ok (Found.facets (facets_in rs (query_of q) dimension n)))) (Err NotFacet)) facet
     ∙ ap (λ b. cond b (Err Count) (Ok (Found.facets (facets_in rs (query_of q) dimension n)))) (le-ltb page_limit n few)
 
 pub found : (view : View) (dimension : Text) (q : Query) (n : ℕ) (rs : List Record) (f : Facets) → IsDimensionOf view dimension → n ≤ page_limit
-    → f ≡ facets_of (hits rs (query_of q)) dimension n → answer_over view dimension q n rs ≡ Ok (Found.facets f)
+    → f ≡ facets_of (hits rs (query_of q)) dimension n → facets_answer_over view dimension q n rs ≡ Ok (Found.facets f)
 found view dimension q n rs f facet few is = told_facets view dimension q n rs facet few ∙ ap (λ g. Ok (Found.facets g)) (sym is)
 
 -- a refusal is due only where it is the answer
@@ -57,7 +57,7 @@ due_found given f r is = subst (λ a. IfErr a (λ x. given ≡ Err x)) (sym is) 
 pub counted_facets : (view : View) (q : Query) (dimension : Text) (n labelled met : ℕ) (labels : List Text) (totals : List ℕ) (ranked : List Ranked) (counts : List Counted) (rs : List Record)
     → Shows view rs → IsTextSet labels → All (HasLabels dimension) view.leaves → labels ≡ view_dictionary dimension view
     → AreCounts labels (flat_map (hit_labels (query_of q) dimension) view.leaves) totals → labelled ≡ labelled_count (flat_map (hit_labels (query_of q) dimension) view.leaves)
-    → met ≡ length (met_from 0 totals) → ranked ≡ first_ranked comes_first (met_from 0 totals) n → counts ≡ map (told labels) ranked
+    → met ≡ length (met_from 0 totals) → ranked ≡ first_ranked label_comes_first (met_from 0 totals) n → counts ≡ map (label_told labels) ranked
     → ◌≡◌ {A = Facets} (record { matching = labelled; met = met; counts = counts }) (facets_of (hits rs (query_of q)) dimension n)
 counted_facets view q dimension n labelled met labels totals ranked counts rs shown set texts whole are l m r c =
     let rows = flat_map (hit_labels (query_of q) dimension) view.leaves in

@@ -22,7 +22,7 @@ use Rattle.cat_model.proofs.Lists.{All-weaken}
 use Rattle.cat_model.proofs.Places.{EachPair, all_pairs, each_pair}
 use Rattle.cat_model.proofs.Ranked.{ranks_follow_order}
 use Rattle.cat_facets.specs.declared.first.Ranked.{Ranked}
-use Rattle.cat_facets.specs.Met.{comes_first, met_from, told}
+use Rattle.cat_facets.specs.Met.{label_comes_first, met_from, label_told}
 use Rattle.cat_facets.specs.contracts.first.RankedOrd.TheImpl as by_count
 
 -- ---- one label beside another
@@ -48,7 +48,7 @@ text_order labels o p sorted lo lp = elim (cases_order o p) [
   ]
 ]
 
-pub order_told : (labels : List Text) (a b : Ranked) → IsTextSet labels → a.ordinal < length labels → b.ordinal < length labels → comes_first a b ≡ more (told labels a) (told labels b)
+pub order_told : (labels : List Text) (a b : Ranked) → IsTextSet labels → a.ordinal < length labels → b.ordinal < length labels → label_comes_first a b ≡ more (label_told labels a) (label_told labels b)
 order_told labels a b sorted la lb = ap (λ o. is_lt (ordering_then (nat_cmp b.count.0 a.count.0) o)) (sym (text_order labels a.ordinal b.ordinal sorted la lb))
 
 -- ---- the two orders are strict
@@ -56,8 +56,8 @@ order_told labels a b sorted la lb = ap (λ o. is_lt (ordering_then (nat_cmp b.c
 first_total : IsTotalOrder by_count.ghosts.cmp
 first_total = then_total (on_total (λ (r : Ranked). r.count.0) (back_total nat_cmp_total)) (on_total (λ (r : Ranked). r.ordinal) nat_cmp_total)
 
-pub first_strict : IsStrictOrder comes_first
-first_strict = strict_from_weak comes_first (ranks_by first_total (λ r. r))
+pub first_strict : IsStrictOrder label_comes_first
+first_strict = strict_from_weak label_comes_first (ranks_by first_total (λ r. r))
 
 pub more_strict : IsStrictOrder more
 more_strict =
@@ -71,7 +71,7 @@ one_way Less t x y e l = inl refl
 one_way Equal t x y e l = inl (ap is_lt l)
 one_way Greater t x y e l = inr (ap (λ o. is_lt (ordering_then o y)) e)
 
-apart_pair : (r s : Ranked) → r.ordinal < s.ordinal → AreApart comes_first r s
+apart_pair : (r s : Ranked) → r.ordinal < s.ordinal → AreApart label_comes_first r s
 apart_pair r s lt =
     one_way (nat_cmp s.count.0 r.count.0) (nat_cmp r.count.0 s.count.0) (nat_cmp r.ordinal s.ordinal) (nat_cmp s.ordinal r.ordinal)
     (nat_cmp_total.antisymm r.count.0 s.count.0) (below_is r.ordinal s.ordinal lt)
@@ -81,12 +81,12 @@ from_on a [] = tt
 from_on a (zero ∷ ts) = All-weaken (λ r. a + 1 ≤ r.ordinal) (λ r. a ≤ r.ordinal) (λ r h. omega arith) (met_from (a + 1) ts) (from_on (a + 1) ts)
 from_on a (suc t ∷ ts) = (omega arith, All-weaken (λ r. a + 1 ≤ r.ordinal) (λ r. a ≤ r.ordinal) (λ r h. omega arith) (met_from (a + 1) ts) (from_on (a + 1) ts))
 
-pub met_apart : (a : ℕ) (ts : List ℕ) → EachPair (AreApart comes_first) (met_from a ts)
+pub met_apart : (a : ℕ) (ts : List ℕ) → EachPair (AreApart label_comes_first) (met_from a ts)
 met_apart a [] = tt
 met_apart a (zero ∷ ts) = met_apart (a + 1) ts
 met_apart a (suc t ∷ ts) =
     let r : Ranked = record { count = record { 0 = suc t }; ordinal = a } in
-    (All-weaken (λ s. a + 1 ≤ s.ordinal) (AreApart comes_first r) (λ s h. apart_pair r s (omega arith)) (met_from (a + 1) ts) (from_on (a + 1) ts), met_apart (a + 1) ts)
+    (All-weaken (λ s. a + 1 ≤ s.ordinal) (AreApart label_comes_first r) (λ s h. apart_pair r s (omega arith)) (met_from (a + 1) ts) (from_on (a + 1) ts), met_apart (a + 1) ts)
 
 met_below : (a : ℕ) (ts : List ℕ) (n : ℕ) → a + length ts ≡ n → AllByRecursion (λ r. r.ordinal < n) (met_from a ts)
 met_below a [] n e = tt
@@ -119,41 +119,41 @@ module _ (labels : List Text) (totals : List ℕ) (n : ℕ) (set : IsTextSet lab
   abbrev inside : Ranked → Type 0
   inside r = r.ordinal < length labels
 
-  by_first : AreRanked comes_first met n
-  by_first = ranks_follow_order comes_first met n first_strict (all_pairs (AreApart comes_first) met (met_apart 0 totals))
+  by_first : AreRanked label_comes_first met n
+  by_first = ranks_follow_order label_comes_first met n first_strict (all_pairs (AreApart label_comes_first) met (met_apart 0 totals))
 
-  sorted_within : AllByRecursion inside (sorted comes_first met)
+  sorted_within : AllByRecursion inside (sorted label_comes_first met)
   sorted_within =
-      recursion_from_All inside (sorted comes_first met)
-      (All-permutation inside met (sorted comes_first met) by_first.arranged.same (All-from_recursion inside met (met_within labels totals long)))
+      recursion_from_All inside (sorted label_comes_first met)
+      (All-permutation inside met (sorted label_comes_first met) by_first.arranged.same (All-from_recursion inside met (met_within labels totals long)))
 
-  apart_alike : (a b : Ranked) → inside a → inside b → AreApart comes_first a b → AreApart more (told labels a) (told labels b)
+  apart_alike : (a b : Ranked) → inside a → inside b → AreApart label_comes_first a b → AreApart more (label_told labels a) (label_told labels b)
   apart_alike a b la lb (inl e) = inl (sym (order_told labels a b set la lb) ∙ e)
   apart_alike a b la lb (inr e) = inr (sym (order_told labels b a set lb la) ∙ e)
 
-  by_more : AreRanked more (map (told labels) met) n
+  by_more : AreRanked more (map (label_told labels) met) n
   by_more =
-      ranks_follow_order more (map (told labels) met) n more_strict
-      (all_pairs (AreApart more) (map (told labels) met)
-      (each_pair_through (told labels) inside (AreApart comes_first) (AreApart more) apart_alike met (met_within labels totals long) (met_apart 0 totals)))
+      ranks_follow_order more (map (label_told labels) met) n more_strict
+      (all_pairs (AreApart more) (map (label_told labels) met)
+      (each_pair_through (label_told labels) inside (AreApart label_comes_first) (AreApart more) apart_alike met (met_within labels totals long) (met_apart 0 totals)))
 
   -- the first labels by rank are those of the first ordinals by rank
-  pub first_told : map (told labels) (first_ranked comes_first met n) ≡ first_ranked more (map (told labels) met) n
+  pub first_told : map (label_told labels) (first_ranked label_comes_first met n) ≡ first_ranked more (map (label_told labels) met) n
   first_told =
-      ap (map (told labels)) (by_first.first (sorted comes_first met) by_first.arranged)
-      ∙ map-take (told labels) n (sorted comes_first met)
-      ∙ sym (by_more.first (map (told labels) (sorted comes_first met)) (record {
-        same = IsPermutation-map (told labels) met (sorted comes_first met) by_first.arranged.same;
-        rising = all_pairs (λ x y. more x y ≡ true) (map (told labels) (sorted comes_first met))
-            (each_pair_through (told labels) inside (λ a b. comes_first a b ≡ true) (λ x y. more x y ≡ true)
-            (λ a b la lb e. sym (order_told labels a b set la lb) ∙ e) (sorted comes_first met) sorted_within
-            (each_pair (λ a b. comes_first a b ≡ true) (sorted comes_first met) by_first.arranged.rising));
+      ap (map (label_told labels)) (by_first.first (sorted label_comes_first met) by_first.arranged)
+      ∙ map-take (label_told labels) n (sorted label_comes_first met)
+      ∙ sym (by_more.first (map (label_told labels) (sorted label_comes_first met)) (record {
+        same = IsPermutation-map (label_told labels) met (sorted label_comes_first met) by_first.arranged.same;
+        rising = all_pairs (λ x y. more x y ≡ true) (map (label_told labels) (sorted label_comes_first met))
+            (each_pair_through (label_told labels) inside (λ a b. label_comes_first a b ≡ true) (λ x y. more x y ≡ true)
+            (λ a b la lb e. sym (order_told labels a b set la lb) ∙ e) (sorted label_comes_first met) sorted_within
+            (each_pair (λ a b. label_comes_first a b ≡ true) (sorted label_comes_first met) by_first.arranged.rising));
       }))
 
   -- each of them is a label of the dictionary
-  pub first_within : (ranked : List Ranked) → ranked ≡ first_ranked comes_first met n → AllByRecursion inside ranked
+  pub first_within : (ranked : List Ranked) → ranked ≡ first_ranked label_comes_first met n → AllByRecursion inside ranked
   first_within ranked is =
-      subst (AllByRecursion inside) (sym (is ∙ by_first.first (sorted comes_first met) by_first.arranged)) (front n (sorted comes_first met) sorted_within)
+      subst (AllByRecursion inside) (sym (is ∙ by_first.first (sorted label_comes_first met) by_first.arranged)) (front n (sorted label_comes_first met) sorted_within)
     where
       front : (k : ℕ) (rs : List Ranked) → AllByRecursion inside rs → AllByRecursion inside (take k rs)
       front zero rs a = tt

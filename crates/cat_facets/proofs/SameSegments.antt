@@ -7,7 +7,7 @@ use Rattle.cat_model.specs.Text.{Text}
 use Rattle.cat_model.specs.View.{Leaf, Segment, segments_of}
 use Rattle.cat_model.specs.GlobalOrdinals.{leaf_dictionary}
 use Rattle.cat_facets.specs.declared.segments.SegmentLabels.{SegmentLabels}
-use Rattle.cat_facets.specs.States.{as_leaf, as_leaves, union_in, AreKnown, HasLabels, IsKept, IsKnown}
+use Rattle.cat_facets.specs.States.{as_leaf, as_leaves, union_in, AreKnown, HasLabels, IsDimensionKept, IsKnown}
 use Rattle.cat_facets.specs.Tallies.{leaf_labels}
 
 -- the segment of a leaf
@@ -48,7 +48,7 @@ module _ (dimension : Text) (ls ks : List Leaf) (same : segments_of ls ≡ segme
         subst (λ (s : Segment). IsKnown all (leaf_labels dimension (as_leaf s)) (get_or known i d)) (at i leaf lt) (h.each i leaf d (omega (arith, lt, long)));
   }
 
-  pub kept_alike : (all : List Text) (known : List SegmentLabels) → IsKept dimension ls all known → IsKept dimension ks all known
+  pub kept_alike : (all : List Text) (known : List SegmentLabels) → IsDimensionKept dimension ls all known → IsDimensionKept dimension ks all known
   kept_alike all known h = record {
     texts = all_alike (λ s. HasLabels dimension (as_leaf s)) h.texts;
     labels = h.labels ∙ union_alike;

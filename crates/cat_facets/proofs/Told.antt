@@ -16,7 +16,7 @@ use Rattle.cat_model.specs.Page.{first_ranked}
 use Rattle.cat_model.specs.Text.{Text, same_text, text_cmp}
 use Rattle.cat_model.proofs.Lists.{All-kept}
 use Rattle.cat_facets.specs.declared.first.Ranked.{Ranked}
-use Rattle.cat_facets.specs.Met.{comes_first, met_from, one_met, told}
+use Rattle.cat_facets.specs.Met.{label_comes_first, met_from, one_met, label_told}
 use Rattle.cat_facets.specs.Tallies.{has_label, label_count, labelled_count, one_if, AreCounts}
 use Rattle.cat_facets.proofs.Counted.{count, count-is, count-map}
 use Rattle.cat_facets.proofs.Globals.{any_flat, same_has}
@@ -36,15 +36,15 @@ at_length [] after t = refl
 at_length (b ∷ before) after t = at_length before after t
 
 one_told : (labels : List Text) (h : Text → ℕ) (a n : ℕ) (t : Text) (ranked : List Ranked) (texts : List Text) → h t ≡ n → text_at labels a ≡ t
-    → map (told labels) ranked ≡ map (counted_as h) texts → map (told labels) (one_met a n ++ ranked) ≡ map (counted_as h) (cond (is_more n) (t ∷ texts) texts)
+    → map (label_told labels) ranked ≡ map (counted_as h) texts → map (label_told labels) (one_met a n ++ ranked) ≡ map (counted_as h) (cond (is_more n) (t ∷ texts) texts)
 one_told labels h a zero t ranked texts e l r = r
 one_told labels h a (suc n) t ranked texts e l r = λ i. record { count = (sym e) i; label = l i } ∷ r i
 
 met_told_from : (labels before after : List Text) (a : ℕ) (h : Text → ℕ) → labels ≡ before ++ after → a ≡ length before
-    → map (told labels) (met_from a (map h after)) ≡ map (counted_as h) (filter (λ t. is_more (h t)) after)
+    → map (label_told labels) (met_from a (map h after)) ≡ map (counted_as h) (filter (λ t. is_more (h t)) after)
 met_told_from labels before [] a h e at = refl
 met_told_from labels before (t ∷ after) a h e at =
-    let rest : map (told labels) (met_from (a + 1) (map h after)) ≡ map (counted_as h) (filter (λ s. is_more (h s)) after) =
+    let rest : map (label_told labels) (met_from (a + 1) (map h after)) ≡ map (counted_as h) (filter (λ s. is_more (h s)) after) =
     met_told_from labels (before ++ t ∷ []) after (a + 1) h (e ∙ sym (append_assoc before (t ∷ []) after)) (ap (λ n. n + 1) at ∙ sym (length-append before (t ∷ []))) in
     one_told labels h a (h t) t (met_from (a + 1) (map h after)) (filter (λ s. is_more (h s)) after) refl (ap (λ ls. get_or ls a []) e ∙ ap (λ k. get_or (before ++ t ∷ after) k []) at ∙ at_length before after t) rest
 
@@ -127,20 +127,20 @@ module _ (labels : List Text) (rows : List (List Text)) (dimension : Text) (hs :
   count_alike : (t : Text) → label_count t rows ≡ count_by (λ h. list_any (same_text t) (labels_of dimension h)) hs
   count_alike t = ap (label_count t) is ∙ count-map (has_label t) (labels_of dimension) hs
 
-  told_are : (totals : List ℕ) → AreCounts labels rows totals → map (told labels) (met_from 0 totals) ≡ map (counted dimension hs) (labels_met dimension hs)
+  told_are : (totals : List ℕ) → AreCounts labels rows totals → map (label_told labels) (met_from 0 totals) ≡ map (counted dimension hs) (labels_met dimension hs)
   told_are totals are =
-      ap (λ ts. map (told labels) (met_from 0 ts)) (counts_are labels rows totals are)
+      ap (λ ts. map (label_told labels) (met_from 0 ts)) (counts_are labels rows totals are)
       ∙ met_told_from labels [] labels 0 (λ t. label_count t rows) refl refl
       ∙ ap (λ (f : Text → Counted). map f with_hits) (λ i t. record { count = count_alike t i; label = t })
       ∙ ap (map (counted dimension hs)) (sym met_are)
 
   pub facets_are : (totals : List ℕ) (n labelled met : ℕ) (ranked : List Ranked) (counts : List Counted) → AreCounts labels rows totals → labelled ≡ labelled_count rows
-      → met ≡ length (met_from 0 totals) → ranked ≡ first_ranked comes_first (met_from 0 totals) n → counts ≡ map (told labels) ranked
+      → met ≡ length (met_from 0 totals) → ranked ≡ first_ranked label_comes_first (met_from 0 totals) n → counts ≡ map (label_told labels) ranked
       → ◌≡◌ {A = Facets} (record { matching = labelled; met = met; counts = counts }) (facets_of hs dimension n)
   facets_are totals n labelled met ranked counts are l m r c =
       let matching : labelled ≡ count_by (λ h. not (is_empty (labels_of dimension h))) hs = l ∙ ap labelled_count is ∙ count-map (λ ls. not (is_empty ls)) (labels_of dimension) hs in
       let many : met ≡ length (labels_met dimension hs) =
-      m ∙ sym (length-map (met_from 0 totals) (told labels)) ∙ ap length (told_are totals are) ∙ length-map (labels_met dimension hs) (counted dimension hs) in
+      m ∙ sym (length-map (met_from 0 totals) (label_told labels)) ∙ ap length (told_are totals are) ∙ length-map (labels_met dimension hs) (counted dimension hs) in
       let shown : counts ≡ first_ranked more (map (counted dimension hs) (labels_met dimension hs)) n =
-      c ∙ ap (map (told labels)) r ∙ first_told labels totals n set are.long ∙ ap (λ xs. first_ranked more xs n) (told_are totals are) in
+      c ∙ ap (map (label_told labels)) r ∙ first_told labels totals n set are.long ∙ ap (λ xs. first_ranked more xs n) (told_are totals are) in
       λ i. record { matching = matching i; met = many i; counts = shown i }

@@ -11,12 +11,12 @@ use Rattle.cat_facets.specs.declared.limits.TheConstants as base
 -- ---- which state is used
 
 -- the numbers of segments
-abbrev pub numbers_of : List Segment → List ℕ
-numbers_of segments = map (λ s. s.number) segments
+abbrev pub segment_numbers : List Segment → List ℕ
+segment_numbers segments = map (λ s. s.number) segments
 
 -- it is a state of segments of these numbers, in order, in this dimension
 abbrev pub is_kept_as : List ℕ → Text → ReaderState → Bool
-is_kept_as numbers dimension k = same_text k.dimension dimension && pointwise nat_eq (numbers_of k.segments) numbers
+is_kept_as numbers dimension k = same_text k.dimension dimension && pointwise nat_eq (segment_numbers k.segments) numbers
 
 -- the states but the first one that is kept as this
 abbrev pub others : List ℕ → Text → List ReaderState → List ReaderState
@@ -31,8 +31,8 @@ abbrev pub last_kept : List ReaderState → List ReaderState
 last_kept ks = drop (length ks - most_kept) ks
 
 -- the state was used: it comes last, none else is kept as it is, and the first goes where there are too many
-abbrev pub used_in : ReaderState → List ReaderState → List ReaderState
-used_in k ks = last_kept (others (numbers_of k.segments) k.dimension ks ++ k ∷ [])
+abbrev pub state_used_in : ReaderState → List ReaderState → List ReaderState
+state_used_in k ks = last_kept (others (segment_numbers k.segments) k.dimension ks ++ k ∷ [])
 
 -- ---- what segments are known
 
@@ -41,8 +41,8 @@ abbrev pub KnowsIn : List ReaderState → Segment → Type 0
 KnowsIn ks s = All (λ k. All (AgreesWith s) k.segments) ks
 
 -- the numbers of all segments of kept states are below this
-abbrev pub AreBelow : ℕ → List ReaderState → Type 0
-AreBelow n ks = All (λ k. All (λ s. s.number < n) k.segments) ks
+abbrev pub AreKeptBelow : ℕ → List ReaderState → Type 0
+AreKeptBelow n ks = All (λ k. All (λ s. s.number < n) k.segments) ks
 
 -- whatever segment was known is, if none of these is another of its number
 abbrev pub RemembersOf : List Segment → List ReaderState → List ReaderState → Type 0
@@ -50,4 +50,4 @@ RemembersOf segments old new = (s : Segment) → All (AgreesWith s) segments →
 
 -- numbers stay below what they were below, if those of these are too
 abbrev pub RemembersOfBelow : List Segment → List ReaderState → List ReaderState → Type 0
-RemembersOfBelow segments old new = (n : ℕ) → All (λ s. s.number < n) segments → AreBelow n old → AreBelow n new
+RemembersOfBelow segments old new = (n : ℕ) → All (λ s. s.number < n) segments → AreKeptBelow n old → AreKeptBelow n new

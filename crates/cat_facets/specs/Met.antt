@@ -8,8 +8,8 @@ use Rattle.cat_facets.specs.contracts.first.RankedOrd.TheImpl as by_count
 use Rattle.cat_facets.specs.declared.first.Ranked.{Ranked}
 
 -- the order of labels, which is derived
-abbrev pub comes_first : Ranked → Ranked → Bool
-comes_first = less by_count.ghosts.cmp
+abbrev pub label_comes_first : Ranked → Ranked → Bool
+label_comes_first = less by_count.ghosts.cmp
 
 -- the label of the ordinal, where its count isn't 0
 abbrev pub one_met : ℕ → ℕ → List Ranked
@@ -22,5 +22,5 @@ met_from ordinal [] = []
 met_from ordinal (total ∷ totals) = one_met ordinal total ++ met_from (ordinal + 1) totals
 
 -- the label of the dictionary with its count
-abbrev pub told : List Text → Ranked → Counted
-told dictionary r = record { count = r.count.0; label = text_at dictionary r.ordinal }
+abbrev pub label_told : List Text → Ranked → Counted
+label_told dictionary r = record { count = r.count.0; label = text_at dictionary r.ordinal }

@@ -53,14 +53,14 @@ pub record AreKnown (dimension : Text) (all : List Text) (leaves : List Leaf) (k
       → IsKnown all (leaf_labels dimension (slice_index_or leaves i leaf)) (slice_index_or known i d)
 
 -- what is kept of the dimension of these leaves
-pub record IsKept (dimension : Text) (leaves : List Leaf) (all : List Text) (ordinals : List SegmentLabels) : Type 0 where
+pub record IsDimensionKept (dimension : Text) (leaves : List Leaf) (all : List Text) (ordinals : List SegmentLabels) : Type 0 where
   pub texts : All (HasLabels dimension) leaves
   pub labels : all ≡ union_in dimension leaves
   pub known : AreKnown dimension all leaves ordinals
 
 -- what is kept of the dimension of segments
 abbrev pub IsState : ReaderState → List Text → List SegmentLabels → Type 0
-IsState state all ordinals = IsKept state.dimension (as_leaves state.segments) all ordinals
+IsState state all ordinals = IsDimensionKept state.dimension (as_leaves state.segments) all ordinals
 
 -- ---- answers
 
@@ -69,9 +69,9 @@ abbrev pub IsDimensionOf : View → Text → Type 0
 IsDimensionOf view dimension = is_facet_kind (kind_of view.schema dimension) ≡ true
 
 -- the answer to the FACETS over records, under the schema of the view
-abbrev pub answer_over : View → Text → Query → ℕ → List Record → Result Found Refusal
-answer_over view dimension q n rs = answer view.schema rs (Read.facets dimension n (Ok (query_of q)))
+abbrev pub facets_answer_over : View → Text → Query → ℕ → List Record → Result Found Refusal
+facets_answer_over view dimension q n rs = answer view.schema rs (Read.facets dimension n (Ok (query_of q)))
 
 -- it is the answer over whatever records the view shows
-abbrev pub IsAnswerTo : View → Text → Query → ℕ → Result Found Refusal → Type 0
-IsAnswerTo view dimension q n found = (rs : List Record) → Shows view rs → answer_over view dimension q n rs ≡ found
+abbrev pub IsFacetsAnswer : View → Text → Query → ℕ → Result Found Refusal → Type 0
+IsFacetsAnswer view dimension q n found = (rs : List Record) → Shows view rs → facets_answer_over view dimension q n rs ≡ found

@@ -1,7 +1,7 @@
 //! The first labels by falling count.
 ghost use Rattle.std.specs.Prelude.{◌≡◌, ◌<◌, length, map, All, IfOk};
 ghost use Rattle.cat_model.specs.Page.{first_ranked};
-ghost use Rattle.cat_facets.specs.Met.{comes_first, met_from, told};
+ghost use Rattle.cat_facets.specs.Met.{label_comes_first, met_from, label_told};
 
 use crate::facets::FacetCount;
 use cat_search::Best;
@@ -23,7 +23,7 @@ pub(crate) fn first_met(
     n: usize,
 ) -> Result<(usize, Vec<Ranked>), AllocError>
     ensures met { IfOk result (λ r. r.0 ≡ length (met_from 0 totals.now)) }
-    ensures first { IfOk result (λ r. r.1.items ≡ first_ranked comes_first (met_from 0 totals.now) n) }
+    ensures first { IfOk result (λ r. r.1.items ≡ first_ranked label_comes_first (met_from 0 totals.now) n) }
 {
     let mut met = 0;
     let mut best = Best::new(alloc, n);
@@ -47,7 +47,7 @@ pub(crate) fn counts_told(
     ranked: &[Ranked],
 ) -> Result<Vec<FacetCount>, AllocError>
     requires { All (λ r. r.ordinal < length labels.now) ranked.now }
-    ensures ok { IfOk result (λ v. v.items ≡ map (told labels.now) ranked.now) }
+    ensures ok { IfOk result (λ v. v.items ≡ map (label_told labels.now) ranked.now) }
 {
     let mut counts = Vec::with_capacity(alloc, ranked.len())?;
     for each in ranked {

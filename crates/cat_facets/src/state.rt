@@ -8,7 +8,7 @@ ghost use Rattle.cat_model.specs.Ordinals.{text_at, IsOrdinal};
 ghost use Rattle.cat_model.specs.View.{Shows, segments_of};
 ghost use Rattle.cat_search.specs.cat_items.Kinds.{field_kind_of};
 ghost use Rattle.cat_model.specs.GlobalOrdinals.{leaf_dictionary};
-ghost use Rattle.cat_facets.specs.States.{answer_over, as_leaves, union_in, IsAnswerTo, IsDimensionOf};
+ghost use Rattle.cat_facets.specs.States.{facets_answer_over, as_leaves, union_in, IsFacetsAnswer, IsDimensionOf};
 
 use crate::facets::Facets;
 use crate::first::{counts_told, first_met};
@@ -131,10 +131,10 @@ impl ReaderState {
     pub fn counts(&mut self, alloc: Global, prepared: &Prepared, n: u64) -> Result<Facets, Refusal>
         requires segments { segments_of prepared.now.view.leaves ≡ self.old.segments }
         requires facet { IsDimensionOf prepared.now.view self.old.dimension }
-        ensures ok { IfOk result (λ f. IsAnswerTo prepared.now.view self.old.dimension prepared.now.query n (Ok (Found.facets f))) }
-        ensures err { IfErr result (λ e. e ≢ Memory → IsAnswerTo prepared.now.view self.old.dimension prepared.now.query n (Err e)) }
+        ensures ok { IfOk result (λ f. IsFacetsAnswer prepared.now.view self.old.dimension prepared.now.query n (Ok (Found.facets f))) }
+        ensures err { IfErr result (λ e. e ≢ Memory → IsFacetsAnswer prepared.now.view self.old.dimension prepared.now.query n (Err e)) }
         ensures due { (rs : List Record) → Shows prepared.now.view rs
-            → IfErr (answer_over prepared.now.view self.old.dimension prepared.now.query n rs) (λ e. result ≡ Err e) }
+            → IfErr (facets_answer_over prepared.now.view self.old.dimension prepared.now.query n rs) (λ e. result ≡ Err e) }
         ensures same { self.new ≡ self.old }
     {
         let dimension = self.dimension.as_str();

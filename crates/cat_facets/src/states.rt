@@ -5,8 +5,8 @@ ghost use Rattle.cat_base.specs.declared.refusal.Refusal.TheVariants.{Memory};
 ghost use Rattle.cat_model.specs.Answer.{Found};
 ghost use Rattle.cat_model.specs.Item.{Record};
 ghost use Rattle.cat_model.specs.View.{Shows, segments_of};
-ghost use Rattle.cat_facets.specs.Kept.{is_kept_as, last_kept, most_kept, numbers_of, others, used_in, KnowsIn, RemembersOf, RemembersOfBelow};
-ghost use Rattle.cat_facets.specs.States.{answer_over, IsAnswerTo, IsDimensionOf};
+ghost use Rattle.cat_facets.specs.Kept.{is_kept_as, last_kept, most_kept, segment_numbers, others, state_used_in, KnowsIn, RemembersOf, RemembersOfBelow};
+ghost use Rattle.cat_facets.specs.States.{facets_answer_over, IsFacetsAnswer, IsDimensionOf};
 
 use crate::facets::Facets;
 use crate::limits::MAX_KEPT_STATES;
@@ -27,14 +27,14 @@ struct KeptState {
 
 impl Model for KeptState {
     ghost use Rattle.std.specs.Prelude.{◌≡◌};
-    ghost use Rattle.cat_facets.specs.Kept.{numbers_of};
+    ghost use Rattle.cat_facets.specs.Kept.{segment_numbers};
     ghost use Rattle.cat_facets.specs.States as model;
 
     ghost Value = { model.ReaderState };
 
     ghost view = { λ k. k.state };
 
-    ghost invariant = { λ k. k.numbers.items ≡ numbers_of k.state.segments };
+    ghost invariant = { λ k. k.numbers.items ≡ segment_numbers k.state.segments };
 }
 
 impl KeptState {
@@ -72,7 +72,7 @@ impl Model for ReaderStates {
 
 /// The numbers of the leaves' segments, in order.
 fn numbers_in(alloc: Global, leaves: &[Leaf]) -> Result<Vec<SegNo>, AllocError>
-    ensures { IfOk result (λ v. v.items ≡ numbers_of (segments_of leaves.now)) }
+    ensures { IfOk result (λ v. v.items ≡ segment_numbers (segments_of leaves.now)) }
 {
     let mut numbers = Vec::with_capacity(alloc, leaves.len())?;
     for leaf in leaves {
@@ -123,14 +123,14 @@ impl ReaderStates {
         n: u64,
     ) -> Result<Facets, Refusal>
         requires { All (KnowsIn self.old) (segments_of prepared.now.view.leaves) }
-        ensures ok { IfOk result (λ f. IsAnswerTo prepared.now.view dimension.now prepared.now.query n (Ok (Found.facets f))) }
-        ensures err { IfErr result (λ e. e ≢ Memory → IsAnswerTo prepared.now.view dimension.now prepared.now.query n (Err e)) }
+        ensures ok { IfOk result (λ f. IsFacetsAnswer prepared.now.view dimension.now prepared.now.query n (Ok (Found.facets f))) }
+        ensures err { IfErr result (λ e. e ≢ Memory → IsFacetsAnswer prepared.now.view dimension.now prepared.now.query n (Err e)) }
         ensures due { (rs : List Record) → Shows prepared.now.view rs
-            → IfErr (answer_over prepared.now.view dimension.now prepared.now.query n rs) (λ e. result ≡ Err e) }
+            → IfErr (facets_answer_over prepared.now.view dimension.now prepared.now.query n rs) (λ e. result ≡ Err e) }
         ensures used { OnOk result (self.new
-            ≡ used_in (record { segments = segments_of prepared.now.view.leaves; dimension = dimension.now }) self.old) }
+            ≡ state_used_in (record { segments = segments_of prepared.now.view.leaves; dimension = dimension.now }) self.old) }
         ensures left { OnErr result ((self.new ≡ self.old) ⊎ (self.new
-            ≡ used_in (record { segments = segments_of prepared.now.view.leaves; dimension = dimension.now }) self.old)) }
+            ≡ state_used_in (record { segments = segments_of prepared.now.view.leaves; dimension = dimension.now }) self.old)) }
         ensures known { RemembersOf (segments_of prepared.now.view.leaves) self.old self.new }
         ensures below { RemembersOfBelow (segments_of prepared.now.view.leaves) self.old self.new }
     {
@@ -152,7 +152,7 @@ impl ReaderStates {
         requires known { All (KnowsIn self.old) (segments_of view.now.leaves) }
         requires facet { IsDimensionOf view.now dimension.now }
         ensures ok { IfOk result (λ k. k ≡ record { segments = segments_of view.now.leaves; dimension = dimension.now }) }
-        ensures others { OnOk result (self.new ≡ others (numbers_of (segments_of view.now.leaves)) dimension.now self.old) }
+        ensures others { OnOk result (self.new ≡ others (segment_numbers (segments_of view.now.leaves)) dimension.now self.old) }
         ensures err { OnErr result (self.new ≡ self.old) }
     {
         let numbers = numbers_in(alloc, view.leaves())?;

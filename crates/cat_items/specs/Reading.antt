@@ -136,7 +136,7 @@ abbrev pub source_fault : Text → Option Refusal
 source_fault bytes = if nat_lt source_limit (length bytes) then Some refusal.Large else text_fault bytes
 
 -- a value of JSON passed each check for an item: it is an object, with an id, and no member of it is wrong
-pub record IsJudged (fs : Schema) (d : Data) (id : Text) : Type 0 where
+pub record PassesChecks (fs : Schema) (d : Data) (id : Text) : Type 0 where
   pub members : Members
   pub object : Some members ≡ as_object d
   pub has_id : option_and_then as_str (get id_name d) ≡ Some id

@@ -8,7 +8,7 @@ ghost use Rattle.cat_model.specs.Item.{IsItem};
 ghost use Rattle.cat_model.specs.Limits.{source_limit};
 ghost use Rattle.cat_items.specs.Contents.{field_content_of, IsTyped};
 ghost use Rattle.cat_items.specs.Kinds.{field_kind_of};
-ghost use Rattle.cat_items.specs.Reading.{label_texts, value_of, json_of, of_value, item_of, source_fault, IsJudged};
+ghost use Rattle.cat_items.specs.Reading.{label_texts, value_of, json_of, of_value, item_of, source_fault, PassesChecks};
 
 use crate::analysis::words;
 use crate::faults::first_fault;
@@ -85,7 +85,7 @@ fn text_member<'v>(root: &'v Value, name: &str) -> Option<&'v str>
 
 // The id of the item that a value of JSON is, where it is one; memory isn't needed to tell.
 fn judged_id<'v>(fields: &[Field], root: &'v Value) -> Result<&'v str, Refusal>
-    ensures ok { IfOk result (λ id. IsJudged fields.now (view root.now) id.now) }
+    ensures ok { IfOk result (λ id. PassesChecks fields.now (view root.now) id.now) }
     ensures err { IfErr result (λ e. (bytes : List ℕ) → of_value fields.now bytes (Some (view root.now)) ≡ Err e) }
 {
     let Some(members) = root.as_object() else {
@@ -112,7 +112,7 @@ impl Schema {
         id: &str,
         bytes: &[u8],
     ) -> Result<Item, AllocError>
-        requires judged { IsJudged self.now (view root.now) id.now }
+        requires judged { PassesChecks self.now (view root.now) id.now }
         requires small { length bytes.now ≤ source_limit }
         requires read { json_of bytes.now ≡ Some (view root.now) }
         ensures ok { IfOk result (λ i. item_of self.now bytes.now ≡ Ok i) }

@@ -22,15 +22,15 @@ use Rattle.cat_ledger_laws.specs.model.Users.{has_name, same_file_name}
 use Rattle.cat_ledger_laws.proofs.model.Counted.{same_name_is}
 use Rattle.cat_ledger_laws.specs.shape.CommitLaws.{names_begun}
 use Rattle.cat_ledger_laws.specs.shape.Shapes.{ListedLive, Shape}
-use Rattle.cat_ledger_laws.specs.shape.Steps.{IsCommitted, Leaves, commit_now, listed_now, newest_generation}
+use Rattle.cat_ledger_laws.specs.shape.Steps.{IsCommitted, Leaves, commit_file_now, listed_now, newest_generation}
 use Rattle.cat_ledger_laws.specs.shape.Ties.{IsTold, Makes, ToldFiles}
 use Rattle.cat_ledger_laws.proofs.shape.Told.{same_again}
 use Rattle.cat_ledger_state.specs.Cores.{flush_begins, is_begun}
 use Rattle.cat_ledger_state.specs.startup.Opened.{HasOpened}
 use Rattle.cat_ledger.specs.upkeep.Spared.{SparesCommits}
-use Rattle.cat_ledger.specs.Histories.{Call, Event, FoundIsTaken, FoundIsTried, Goes, IsAnswered, IsCrashed, IsHistory, IsLastAnswered, IsPastNewest, IsTried, IsUnanswered, LeavesNoneAhead, NewestIsAnswered, NewestIsFound, NoneIsAhead, NoneIsLost, SparesOtherCommits, events_of, newest_after, newest_of, tells}
+use Rattle.cat_ledger.specs.Histories.{Call, Event, FoundIsTaken, FoundIsTried, Goes, IsAnswered, IsCrashed, IsHistory, IsLastAnswered, IsPastNewest, IsTried, IsUnanswered, LeavesNoneAhead, NewestIsAnswered, NewestIsFound, NoneIsAhead, NoneIsLost, SparesOtherCommits, events_of, newest_after, newest_commit_in, image_tells}
 use Rattle.cat_ledger.specs.Lasting.{AlwaysTells, IsCarried, NewestLasts, needs_of, newest_needs}
-use Rattle.cat_ledger.specs.Ledgers.{Ledger, device_in, shape_in}
+use Rattle.cat_ledger.specs.Ledgers.{LedgerOnDevice, device_in, shape_in}
 use Rattle.cat_ledger.proofs.Lasting.{LetsCommits, carried_shape, commits_on, newest_old, next_on}
 
 abbrev generation_of : CommitFile → ℕ
@@ -105,7 +105,7 @@ newest_put cs c = newest_last None cs c
 pub newest_committed : (text : Text) (s s' : Shape) (g : ℕ) → IsCommitted text s s' → g ≡ s.next_generation → newest_generation s'.commits ≡ Some g
 newest_committed text s s' g committed number =
     ap (λ (x : Shape). newest_generation x.commits) committed.rest
-    ∙ newest_put (filter (λ (c : CommitFile). stays_kept s.taken (Some s.next_generation) c.generation) s.commits) (commit_now text s)
+    ∙ newest_put (filter (λ (c : CommitFile). stays_kept s.taken (Some s.next_generation) c.generation) s.commits) (commit_file_now text s)
     ∙ ap (λ n. Some n) (sym number)
 
 pub next_committed : (text : Text) (n : ℕ) (s s' : Shape) → IsCommitted text s s' → s.next_generation ≡ n → n < s'.next_generation
@@ -163,7 +163,7 @@ on_both (Err e) f a b = f a b
 
 module _ {D : Type 0} (left : D → FileName → FileContent → Type 0) where
   -- a call that does nothing
-  pub nothing_goes : (l : Ledger D) → Goes left Event.Other l l
+  pub nothing_goes : (l : LedgerOnDevice D) → Goes left Event.Other l l
   nothing_goes l = record { newest = refl; next = omega arith; asked = λ g no. absurd no; taken = λ g no. absurd no; files = λ g other e after. inl after }
 
   -- a call that leaves the files, the commits and the generations as they are,
@@ -271,20 +271,20 @@ same_or g h = elim (cases_lt g h) [
 ]
 
 module _ {D : Type 0} (left : D → FileName → FileContent → Type 0) where
-  pub newest_is_answered : (last : Ledger D) → NewestIsAnswered left last
-  newest_is_answered last first [] h = inr (All-from_recursion IsUnanswered [] tt, ap (λ (l : Ledger D). newest_of l) h)
+  pub newest_is_answered : (last : LedgerOnDevice D) → NewestIsAnswered left last
+  newest_is_answered last first [] h = inr (All-from_recursion IsUnanswered [] tt, ap (λ (l : LedgerOnDevice D). newest_commit_in l) h)
   newest_is_answered last first (call ∷ calls) h =
-      last_answered (newest_of first) (newest_of call.after) (newest_of last) call.event (events_of calls) h.0.newest (newest_is_answered last call.after calls h.1)
+      last_answered (newest_commit_in first) (newest_commit_in call.after) (newest_commit_in last) call.event (events_of calls) h.0.newest (newest_is_answered last call.after calls h.1)
 
   -- Past the newest commit a crash leaves only own files of these generations, of which none is past the one that comes next.
-  record IsAhead (T : ℕ → Type 0) (l : Ledger D) : Type 0 where
-    files : (g : ℕ) (e : FileContent) → IsPastNewest (newest_of l) g → left (device_in l) (file.Commit g) e → (e ≡ None) ⊎ T g
+  record IsAhead (T : ℕ → Type 0) (l : LedgerOnDevice D) : Type 0 where
+    files : (g : ℕ) (e : FileContent) → IsPastNewest (newest_commit_in l) g → left (device_in l) (file.Commit g) e → (e ≡ None) ⊎ T g
     past : (g : ℕ) → T g → g ≤ (shape_in l).next_generation
 
   abbrev or_refused : (ℕ → Type 0) → ℕ → ℕ → Type 0
   or_refused T h g = T g ⊎ (g ≡ h)
 
-  other_ahead : (T : ℕ → Type 0) (l l' : Ledger D) → Goes left Event.Other l l' → IsAhead T l → IsAhead T l'
+  other_ahead : (T : ℕ → Type 0) (l l' : LedgerOnDevice D) → Goes left Event.Other l l' → IsAhead T l → IsAhead T l'
   other_ahead T l l' go a = record {
     files = λ g e past after. elim (go.files g (λ no. no) e after) [
       | inl before ↦ a.files g e (subst (λ (o : Option ℕ). IsPastNewest o g) go.newest past) before
@@ -293,7 +293,7 @@ module _ {D : Type 0} (left : D → FileName → FileContent → Type 0) where
     past = λ g t. omega (arith, a.past g t, go.next);
   }
 
-  refused_ahead : (T : ℕ → Type 0) (h : ℕ) (l l' : Ledger D) → Goes left (Event.Refused h) l l' → IsAhead T l → IsAhead (or_refused T h) l'
+  refused_ahead : (T : ℕ → Type 0) (h : ℕ) (l l' : LedgerOnDevice D) → Goes left (Event.Refused h) l l' → IsAhead T l → IsAhead (or_refused T h) l'
   refused_ahead T h l l' go a = record {
     files = λ g e past after. elim (same_or g h) [
       | inl same ↦ inr (inr same)
@@ -305,13 +305,13 @@ module _ {D : Type 0} (left : D → FileName → FileContent → Type 0) where
     past = λ g which. elim which [ inl t ↦ omega (arith, a.past g t, go.next) | inr same ↦ omega (arith, same, (go.asked h refl).0, go.next) ];
   }
 
-  answered_ahead : (T : ℕ → Type 0) (h : ℕ) (l l' : Ledger D) → Goes left (Event.Answered h) l l' → IsAhead T l → IsAhead (λ g. ⊥) l'
+  answered_ahead : (T : ℕ → Type 0) (h : ℕ) (l l' : LedgerOnDevice D) → Goes left (Event.Answered h) l l' → IsAhead T l → IsAhead (λ g. ⊥) l'
   answered_ahead T h l l' go a = record {
     files = λ g e past after.
         let asked = go.asked h refl in
         let more : h < g = subst (λ (o : Option ℕ). IsPastNewest o g) go.newest past in
         elim (go.files g (λ same. omega (arith, same, more)) e after) [
-          | inl before ↦ elim (a.files g e (past_more (newest_of l) h g asked.1 more) before) [
+          | inl before ↦ elim (a.files g e (past_more (newest_commit_in l) h g asked.1 more) before) [
             | inl none ↦ inl none
             | inr t ↦ absurd (omega (arith, a.past g t, asked.0, more))
           ]
@@ -347,10 +347,10 @@ module _ {D : Type 0} (left : D → FileName → FileContent → Type 0) where
   after_answered T h events g e (inr (inl k)) = absurd k.1
   after_answered T h events g e (inr (inr tried)) = inr (inr (tried_later (Event.Answered h) events g tried))
 
-  ahead_after : (T : ℕ → Type 0) (first : Ledger D) (calls : List (Call D)) (last : Ledger D) → IsAhead T first → IsHistory left first calls last
-      → (g : ℕ) (e : FileContent) → IsPastNewest (newest_of last) g → left (device_in last) (file.Commit g) e → IsLeft T (events_of calls) g e
+  ahead_after : (T : ℕ → Type 0) (first : LedgerOnDevice D) (calls : List (Call D)) (last : LedgerOnDevice D) → IsAhead T first → IsHistory left first calls last
+      → (g : ℕ) (e : FileContent) → IsPastNewest (newest_commit_in last) g → left (device_in last) (file.Commit g) e → IsLeft T (events_of calls) g e
   ahead_after T first [] last a h g e past after =
-      let now : IsAhead T last = subst (λ (l : Ledger D). IsAhead T l) (sym h) a in
+      let now : IsAhead T last = subst (λ (l : LedgerOnDevice D). IsAhead T l) (sym h) a in
       elim (now.files g e past after) [ inl none ↦ inl none | inr t ↦ inr (inl (tt, t)) ]
   ahead_after T first (call ∷ calls) last a h g e past after =
       by call.event h.0 (λ T mid. ahead_after T call.after calls last mid h.1 g e past after)
@@ -362,8 +362,8 @@ module _ {D : Type 0} (left : D → FileName → FileContent → Type 0) where
       by (Event.Answered n) go rest = after_answered T n (events_of calls) g e (rest (λ m. ⊥) (answered_ahead T n first call.after go a))
 
   -- so, where nothing was ahead at first
-  tried_after : (first : Ledger D) (calls : List (Call D)) (last : Ledger D) → LeavesNoneAhead left first → IsHistory left first calls last
-      → (g : ℕ) (e : FileContent) → IsPastNewest (newest_of last) g → left (device_in last) (file.Commit g) e → (e ≡ None) ⊎ IsTried (events_of calls) g
+  tried_after : (first : LedgerOnDevice D) (calls : List (Call D)) (last : LedgerOnDevice D) → LeavesNoneAhead left first → IsHistory left first calls last
+      → (g : ℕ) (e : FileContent) → IsPastNewest (newest_commit_in last) g → left (device_in last) (file.Commit g) e → (e ≡ None) ⊎ IsTried (events_of calls) g
   tried_after first calls last none h g e past after =
       elim (ahead_after (λ n. ⊥) first calls last (record { files = λ g e past after. inl (none g e past after); past = λ g no. absurd no }) h g e past after) [
         | inl gone ↦ inl gone
@@ -372,13 +372,13 @@ module _ {D : Type 0} (left : D → FileName → FileContent → Type 0) where
 
   -- ---- the generations that were taken
 
-  next_rises : (first : Ledger D) (calls : List (Call D)) (last : Ledger D) → IsHistory left first calls last
+  next_rises : (first : LedgerOnDevice D) (calls : List (Call D)) (last : LedgerOnDevice D) → IsHistory left first calls last
       → (shape_in first).next_generation ≤ (shape_in last).next_generation
-  next_rises first [] last h = omega (arith, ap (λ (l : Ledger D). (shape_in l).next_generation) h)
+  next_rises first [] last h = omega (arith, ap (λ (l : LedgerOnDevice D). (shape_in l).next_generation) h)
   next_rises first (call ∷ calls) last h = omega (arith, h.0.next, next_rises call.after calls last h.1)
 
   -- one that was refused isn't given out again
-  refused_taken : (first : Ledger D) (calls : List (Call D)) (last : Ledger D) → IsHistory left first calls last
+  refused_taken : (first : LedgerOnDevice D) (calls : List (Call D)) (last : LedgerOnDevice D) → IsHistory left first calls last
       → (before since : List Event) (g : ℕ) → events_of calls ≡ before ++ Event.Refused g ∷ since → g < (shape_in last).next_generation
   refused_taken first [] last h [] since g e = absurd (let no : [] ≡ Event.Refused g ∷ since = e in cc)
   refused_taken first [] last h (x ∷ before) since g e = absurd (let no : [] ≡ x ∷ (before ++ Event.Refused g ∷ since) = e in cc)
@@ -394,10 +394,10 @@ module _ {D : Type 0} (left : D → FileName → FileContent → Type 0) where
 
   -- ---- what is found after a crash
 
-  module _ (bytes : D → ToldFiles) (last : Ledger D) (carried : IsCarried (bytes (device_in last)) (shape_in last))
+  module _ (bytes : D → ToldFiles) (last : LedgerOnDevice D) (carried : IsCarried (bytes (device_in last)) (shape_in last))
       (lasts : AlwaysTells bytes → NewestLasts (bytes (device_in last)) (left (device_in last)) (shape_in last)) where
     -- the newest commit's own file is there
-    own_stands : AlwaysTells bytes → (n : ℕ) → newest_of last ≡ Some n → (image : FileName → FileContent) → IsCrashed (left (device_in last)) image
+    own_stands : AlwaysTells bytes → (n : ℕ) → newest_commit_in last ≡ Some n → (image : FileName → FileContent) → IsCrashed (left (device_in last)) image
         → (text : Text) × (image (file.Commit n) ≡ Some text)
     own_stands always n newest image crashed = by (bytes (device_in last) (file.Commit n)) refl
       where
@@ -408,15 +408,15 @@ module _ {D : Type 0} (left : D → FileName → FileContent → Type 0) where
             (own.0, lasts always (file.Commit n) (own_needed (shape_in last) n newest) content (image (file.Commit n)) e (crashed (file.Commit n)) ∙ own.1)
 
     pub found_is_tried : FoundIsTried bytes left last
-    found_is_tried first calls always none h image g crashed found = by (newest_of last) refl
+    found_is_tried first calls always none h image g crashed found = by (newest_commit_in last) refl
       where
-        past : IsPastNewest (newest_of last) g → IsTried (events_of calls) g
+        past : IsPastNewest (newest_commit_in last) g → IsTried (events_of calls) g
         past more = elim (tried_after first calls last none h g (image (file.Commit g)) more (crashed (file.Commit g))) [
           | inl gone ↦ absurd (found.there (ap (λ (c : FileContent). Some c) gone))
           | inr tried ↦ tried
         ]
 
-        by : (o : Option ℕ) → newest_of last ≡ o → (newest_of last ≡ Some g) ⊎ IsTried (events_of calls) g
+        by : (o : Option ℕ) → newest_commit_in last ≡ o → (newest_commit_in last ≡ Some g) ⊎ IsTried (events_of calls) g
         by None e = inr (past (subst (λ (o : Option ℕ). IsPastNewest o g) (sym e) tt))
         by (Some n) e = elim (cases_lt n g) [
           | inl more ↦ inr (past (subst (λ (o : Option ℕ). IsPastNewest o g) (sym e) more))
@@ -435,9 +435,9 @@ module _ {D : Type 0} (left : D → FileName → FileContent → Type 0) where
     ]
 
     pub none_is_lost : NoneIsLost bytes left last
-    none_is_lost always image crashed lost = by (newest_of last) refl
+    none_is_lost always image crashed lost = by (newest_commit_in last) refl
       where
-        by : (o : Option ℕ) → newest_of last ≡ o → newest_of last ≡ None
+        by : (o : Option ℕ) → newest_commit_in last ≡ o → newest_commit_in last ≡ None
         by None e = e
         by (Some n) e = let own = own_stands always n e image crashed in absurd (lost n own.0 (ap (λ (c : FileContent). Some c) own.1))
 
@@ -464,7 +464,7 @@ module _ {D : Type 0} (left : D → FileName → FileContent → Type 0) where
         gone_not text e = cc
 
         by : (q : FileName) → has_name (name_of q) (newest_needs (shape_in last).commits) ≡ true → (t : Told) → bytes (device_in last) q ≡ t
-            → bytes (device_in last) q ≡ tells mended q
+            → bytes (device_in last) q ≡ image_tells mended q
         by q needed None e = absurd (always (device_in last) q e)
         by q needed (Some content) e =
             e ∙ ap (λ (c : FileContent). Some c) (sym (same q needed ∙ lasts always q needed content (image q) e (crashed q)))

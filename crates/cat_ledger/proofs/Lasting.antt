@@ -28,7 +28,7 @@ use Rattle.cat_ledger_laws.proofs.model.Stored.{each_used}
 use Rattle.cat_ledger_laws.proofs.model.Users.{All-four, All-split}
 use Rattle.cat_ledger_laws.specs.shape.Shapes.{IsShape, ListedLive, Shape, listed_live, merging_shape, names_of_commits, shape_of}
 use Rattle.cat_ledger_laws.specs.shape.CommitLaws.{names_begun}
-use Rattle.cat_ledger_laws.specs.shape.Steps.{IsCommitted, Leaves, commit_now, newest_generation}
+use Rattle.cat_ledger_laws.specs.shape.Steps.{IsCommitted, Leaves, commit_file_now, newest_generation}
 use Rattle.cat_ledger_laws.specs.shape.Ties.{Makes, ToldFiles, file_of}
 use Rattle.cat_ledger_laws.proofs.shape.Told.{file_of_name, name_of_file}
 use Rattle.cat_ledger_laws.proofs.shape.Committed.{commits_named}
@@ -381,7 +381,7 @@ listed_needed s its n =
     (newest_lists its.0.schema None its.0.commits n)
 
 -- what a commit of now needs is synced with it, or the newest one needs it too
-now_needs : NeededAreSynced → (text : Text) (s : Shape) → IsShape s → (n : Name) → has_name n (commit_needs (commit_now text s)) ≡ true
+now_needs : NeededAreSynced → (text : Text) (s : Shape) → IsShape s → (n : Name) → has_name n (commit_needs (commit_file_now text s)) ≡ true
     → (has_name n (Name.commit s.next_generation ∷ names_synced s) ≡ true) ⊎ (has_name n (newest_needs s.commits) ≡ true)
 now_needs law text s its n needed =
     elim (law s.listed s.leaves (record { generation = s.next_generation; token = s.count; next_segment = s.next_segment; text = text; schema = s.schema }) n needed) [
@@ -400,8 +400,8 @@ module _ {D : Type 0} (bytes : D → ToldFiles) (left : D → FileName → FileC
     carried = carried;
     lasts = λ tells q needed.
         let its = carried_shape (bytes d) s kept.carried in
-        let now : newest_needs s'.commits ≡ commit_needs (commit_now text s) =
-        ap (λ (x : Shape). newest_needs x.commits) committed.rest ∙ ap needs_of (last_or-append None (filter (λ (c : CommitFile). stays_kept s.taken (Some s.next_generation) c.generation) s.commits) (commit_now text s)) in
+        let now : newest_needs s'.commits ≡ commit_needs (commit_file_now text s) =
+        ap (λ (x : Shape). newest_needs x.commits) committed.rest ∙ ap needs_of (last_or-append None (filter (λ (c : CommitFile). stays_kept s.taken (Some s.next_generation) c.generation) s.commits) (commit_file_now text s)) in
         elim (now_needs law text s its (name_of q) (subst (λ ns. has_name (name_of q) ns ≡ true) now needed)) [
           | inl synced ↦ settled q synced
           | inr before ↦ settled_still bytes left stay d d' q tells (kept.lasts tells q before)

@@ -11,18 +11,18 @@ use Rattle.cat_directory.specs.declared.name.FileName.{FileName}
 use Rattle.cat_ledger_laws.specs.shape.Ties.{ToldFiles}
 use Rattle.cat_ledger_laws.specs.lines.LineLaws.{line_of}
 use Rattle.cat_ledger_laws.specs.lines.RunLaws as lines
-use Rattle.cat_ledger.specs.Ledgers.{Ledger, device_in, policy_in, shape_in}
+use Rattle.cat_ledger.specs.Ledgers.{LedgerOnDevice, device_in, policy_in, shape_in}
 
 -- The reply answers the command of the session, for every ledger of the model that is carried. The first argument says what a device
 -- tells of its files.
-abbrev pub Answers : {D : Type 0} → (D → ToldFiles) → ℕ → Command → Ledger D → Reply → Ledger D → Type 0
-Answers bytes session c old reply new =
-    lines.Answers (policy_in old) (bytes (device_in old)) (shape_in old) (line_of session c) reply (bytes (device_in new)) (shape_in new)
+abbrev pub AnswersCommand : {D : Type 0} → (D → ToldFiles) → ℕ → Command → LedgerOnDevice D → Reply → LedgerOnDevice D → Type 0
+AnswersCommand bytes session c old reply new =
+    lines.AnswersCarried (policy_in old) (bytes (device_in old)) (shape_in old) (line_of session c) reply (bytes (device_in new)) (shape_in new)
 
 -- so it does what is said, under the schema
-abbrev pub AnswersSaid : {D : Type 0} → (D → ToldFiles) → ℕ → Said → Ledger D → Reply → Ledger D → Type 0
+abbrev pub AnswersSaid : {D : Type 0} → (D → ToldFiles) → ℕ → Said → LedgerOnDevice D → Reply → LedgerOnDevice D → Type 0
 AnswersSaid bytes session said old reply new =
-    (c : Command) × IsCommand json (shape_in old).schema said c × Answers bytes session c old reply new
+    (c : Command) × IsCommand json (shape_in old).schema said c × AnswersCommand bytes session c old reply new
 
 -- The names of just these files are told, in the byte order of their texts.
 pub record TellsNames (needed : List Name) (told : Answer) : Type 0 where

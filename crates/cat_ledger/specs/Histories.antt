@@ -12,7 +12,7 @@ use Rattle.cat_ledger_laws.specs.shape.Steps.{newest_generation}
 use Rattle.cat_ledger_laws.specs.shape.Ties.{ToldFiles}
 use Rattle.cat_ledger_state.specs.startup.Newest.{HasNoCommit, IsNewestCommit}
 use Rattle.cat_ledger.specs.Lasting.{AlwaysTells, newest_needs}
-use Rattle.cat_ledger.specs.Ledgers.{Ledger, device_in, shape_in}
+use Rattle.cat_ledger.specs.Ledgers.{LedgerOnDevice, device_in, shape_in}
 
 -- ---- what a call has to do with commits
 
@@ -35,8 +35,8 @@ MayBegin (Event.Answered h) g = g ≡ h
 MayBegin (Event.Refused h) g = g ≡ h
 
 -- the generation of the newest commit, if there is one
-abbrev pub newest_of : {D : Type 0} → Ledger D → Option ℕ
-newest_of l = newest_generation (shape_in l).commits
+abbrev pub newest_commit_in : {D : Type 0} → LedgerOnDevice D → Option ℕ
+newest_commit_in l = newest_generation (shape_in l).commits
 
 -- the newest commit after the call, by the newest one before
 abbrev pub newest_after : Event → Option ℕ → Option ℕ
@@ -52,16 +52,16 @@ IsPastNewest (Some h) g = h < g
 -- one that comes next, which is past the newest, and isn't given out again where its files may have been begun; and a crash may leave of
 -- each commit's own file what it could have left before, or nothing, but of the one that the call may have begun. The first argument says
 -- what a crash may leave of a device's files.
-pub record Goes {D : Type 0} (left : D → FileName → FileContent → Type 0) (event : Event) (old new : Ledger D) : Type 0 where
-  pub newest : newest_of new ≡ newest_after event (newest_of old)
+pub record Goes {D : Type 0} (left : D → FileName → FileContent → Type 0) (event : Event) (old new : LedgerOnDevice D) : Type 0 where
+  pub newest : newest_commit_in new ≡ newest_after event (newest_commit_in old)
   pub next : (shape_in old).next_generation ≤ (shape_in new).next_generation
-  pub asked : (g : ℕ) → MayBegin event g → (g ≡ (shape_in old).next_generation) × IsPastNewest (newest_of old) g
+  pub asked : (g : ℕ) → MayBegin event g → (g ≡ (shape_in old).next_generation) × IsPastNewest (newest_commit_in old) g
   pub taken : (g : ℕ) → MayBegin event g → g < (shape_in new).next_generation
   pub files : (g : ℕ) → (MayBegin event g → ⊥) → OrGone (left (device_in old) (file.Commit g)) (left (device_in new) (file.Commit g))
 
 -- What a line makes of commits, by its reply: a COMMIT that was answered OK keeps one of this generation; one that was refused may have
 -- begun the files of the generation that comes next; and no other line has to do with commits. (None is a line without a form.)
-abbrev pub GoesBy : {D : Type 0} → (D → FileName → FileContent → Type 0) → Option Said → Reply → Ledger D → Ledger D → Type 0
+abbrev pub GoesBy : {D : Type 0} → (D → FileName → FileContent → Type 0) → Option Said → Reply → LedgerOnDevice D → LedgerOnDevice D → Type 0
 GoesBy left (Some (Said.commit text)) (Ok (Answer.number g)) old new = Goes left (Event.Answered g) old new
 GoesBy left (Some (Said.commit text)) (Ok a) old new = ⊥
 GoesBy left (Some (Said.commit text)) (Err e) old new =
@@ -77,11 +77,11 @@ SparesOtherCommits n could can = (g : ℕ) → g ≢ n → NoMore (could (file.C
 -- a call, and the ledger after it
 pub record Call (D : Type 0) : Type 0 where
   pub event : Event
-  pub after : Ledger D
+  pub after : LedgerOnDevice D
 
 -- the calls lead from the one to the other
-abbrev pub IsHistory : {D : Type 0} → (D → FileName → FileContent → Type 0) → Ledger D → List (Call D) → Ledger D → Type 0
-IsHistory {D} left first [] last = ◌≡◌ {A = Ledger D} last first
+abbrev pub IsHistory : {D : Type 0} → (D → FileName → FileContent → Type 0) → LedgerOnDevice D → List (Call D) → LedgerOnDevice D → Type 0
+IsHistory {D} left first [] last = ◌≡◌ {A = LedgerOnDevice D} last first
 IsHistory {D} left first (call ∷ calls) last = Goes left call.event first call.after × IsHistory left call.after calls last
 
 -- what they had to do with commits
@@ -113,7 +113,7 @@ abbrev pub NoneIsAhead : (FileName → FileContent → Type 0) → Shape → Typ
 NoneIsAhead left s = (g : ℕ) (e : FileContent) → IsPastNewest (newest_generation s.commits) g → left (file.Commit g) e → e ≡ None
 
 -- so at this moment, as when a ledger was opened
-abbrev pub LeavesNoneAhead : {D : Type 0} → (D → FileName → FileContent → Type 0) → Ledger D → Type 0
+abbrev pub LeavesNoneAhead : {D : Type 0} → (D → FileName → FileContent → Type 0) → LedgerOnDevice D → Type 0
 LeavesNoneAhead left l = NoneIsAhead (left (device_in l)) (shape_in l)
 
 -- what a crash leaves: of each file, by itself, something that it may leave
@@ -121,42 +121,42 @@ abbrev pub IsCrashed : (FileName → FileContent → Type 0) → (FileName → F
 IsCrashed left image = (q : FileName) → left q (image q)
 
 -- what a device tells that has these files
-abbrev pub tells : (FileName → FileContent) → ToldFiles
-tells image = λ q. Some (image q)
+abbrev pub image_tells : (FileName → FileContent) → ToldFiles
+image_tells image = λ q. Some (image q)
 
 -- ---- the laws
 
 -- The newest commit of a ledger is the last one that was answered, or else the one that it began with.
-abbrev pub NewestIsAnswered : {D : Type 0} → (D → FileName → FileContent → Type 0) → Ledger D → Type 0
+abbrev pub NewestIsAnswered : {D : Type 0} → (D → FileName → FileContent → Type 0) → LedgerOnDevice D → Type 0
 NewestIsAnswered {D} left last =
-    (first : Ledger D) (calls : List (Call D)) → IsHistory left first calls last → IsLastAnswered (newest_of first) (events_of calls) (newest_of last)
+    (first : LedgerOnDevice D) (calls : List (Call D)) → IsHistory left first calls last → IsLastAnswered (newest_commit_in first) (events_of calls) (newest_commit_in last)
 
 -- Whatever a crash leaves, the newest commit that is found there has the generation of the ledger's newest one, or of one that was
 -- refused since that was answered.
-abbrev pub FoundIsTried : {D : Type 0} → (D → ToldFiles) → (D → FileName → FileContent → Type 0) → Ledger D → Type 0
+abbrev pub FoundIsTried : {D : Type 0} → (D → ToldFiles) → (D → FileName → FileContent → Type 0) → LedgerOnDevice D → Type 0
 FoundIsTried {D} bytes left last =
-    (first : Ledger D) (calls : List (Call D)) → AlwaysTells bytes → LeavesNoneAhead left first → IsHistory left first calls last
-    → (image : FileName → FileContent) (g : ℕ) → IsCrashed (left (device_in last)) image → IsNewestCommit (tells image) g
-    → (newest_of last ≡ Some g) ⊎ IsTried (events_of calls) g
+    (first : LedgerOnDevice D) (calls : List (Call D)) → AlwaysTells bytes → LeavesNoneAhead left first → IsHistory left first calls last
+    → (image : FileName → FileContent) (g : ℕ) → IsCrashed (left (device_in last)) image → IsNewestCommit (image_tells image) g
+    → (newest_commit_in last ≡ Some g) ⊎ IsTried (events_of calls) g
 
 -- So its generation is below the one that comes next: no later commit gets it.
-abbrev pub FoundIsTaken : {D : Type 0} → (D → ToldFiles) → (D → FileName → FileContent → Type 0) → Ledger D → Type 0
+abbrev pub FoundIsTaken : {D : Type 0} → (D → ToldFiles) → (D → FileName → FileContent → Type 0) → LedgerOnDevice D → Type 0
 FoundIsTaken {D} bytes left last =
-    (first : Ledger D) (calls : List (Call D)) → AlwaysTells bytes → LeavesNoneAhead left first → IsHistory left first calls last
-    → (image : FileName → FileContent) (g : ℕ) → IsCrashed (left (device_in last)) image → IsNewestCommit (tells image) g
+    (first : LedgerOnDevice D) (calls : List (Call D)) → AlwaysTells bytes → LeavesNoneAhead left first → IsHistory left first calls last
+    → (image : FileName → FileContent) (g : ℕ) → IsCrashed (left (device_in last)) image → IsNewestCommit (image_tells image) g
     → g < (shape_in last).next_generation
 
 -- Where a crash leaves no commit, the ledger has none.
-abbrev pub NoneIsLost : {D : Type 0} → (D → ToldFiles) → (D → FileName → FileContent → Type 0) → Ledger D → Type 0
+abbrev pub NoneIsLost : {D : Type 0} → (D → ToldFiles) → (D → FileName → FileContent → Type 0) → LedgerOnDevice D → Type 0
 NoneIsLost bytes left last =
-    AlwaysTells bytes → (image : FileName → FileContent) → IsCrashed (left (device_in last)) image → HasNoCommit (tells image) → newest_of last ≡ None
+    AlwaysTells bytes → (image : FileName → FileContent) → IsCrashed (left (device_in last)) image → HasNoCommit (image_tells image) → newest_commit_in last ≡ None
 
 -- Once the commits past the ledger's newest one are taken away from what a crash left, with whatever else it doesn't need, that one is the
 -- newest that is found, and each file that it needs is what the device told of it.
-abbrev pub NewestIsFound : {D : Type 0} → (D → ToldFiles) → (D → FileName → FileContent → Type 0) → Ledger D → Type 0
+abbrev pub NewestIsFound : {D : Type 0} → (D → ToldFiles) → (D → FileName → FileContent → Type 0) → LedgerOnDevice D → Type 0
 NewestIsFound {D} bytes left last =
-    (newest : ℕ) → AlwaysTells bytes → newest_of last ≡ Some newest → (image mended : FileName → FileContent) → IsCrashed (left (device_in last)) image
+    (newest : ℕ) → AlwaysTells bytes → newest_commit_in last ≡ Some newest → (image mended : FileName → FileContent) → IsCrashed (left (device_in last)) image
     → ((q : FileName) → has_name (name_of q) (newest_needs (shape_in last).commits) ≡ true → mended q ≡ image q)
     → ((g : ℕ) → newest < g → mended (file.Commit g) ≡ None)
-    → IsNewestCommit (tells mended) newest
-    × ((q : FileName) → has_name (name_of q) (newest_needs (shape_in last).commits) ≡ true → bytes (device_in last) q ≡ tells mended q)
+    → IsNewestCommit (image_tells mended) newest
+    × ((q : FileName) → has_name (name_of q) (newest_needs (shape_in last).commits) ≡ true → bytes (device_in last) q ≡ image_tells mended q)

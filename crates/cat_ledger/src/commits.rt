@@ -5,7 +5,7 @@ ghost use Rattle.cat_ledger_laws.specs.lines.LineLaws.{Commits};
 ghost use Rattle.cat_base.specs.declared.refusal.Refusal.TheVariants.{Device, Memory, NoCommit, NoSnapshot, Spent};
 ghost use Rattle.cat_ledger.specs.Histories.{Event, Goes, SparesOtherCommits};
 ghost use Rattle.cat_ledger.specs.Lasting.{IsCarried, IsLasting};
-ghost use Rattle.cat_ledger.specs.Ledgers.{Does, Spares, device_in, policy_in, shape_in};
+ghost use Rattle.cat_ledger.specs.Ledgers.{DoesCall, Spares, device_in, policy_in, shape_in};
 ghost use Rattle.cat_ledger.specs.Refusals.{KeepsMerge};
 ghost use Rattle.cat_ledger.specs.upkeep.Spared.{SparesCommits};
 ghost use Rattle.std.specs.Prelude.{Err, IfErr, IfOk, None, Ok, OnErr, OnOk, Some, ℕ, ◌-◌, ◌<◌, ◌≡◌, ◌≤◌, ◌⊎◌};
@@ -86,13 +86,13 @@ impl<D: Directory + Shelf> Ledger<D> {
         ensures number { IfOk result (λ g. g ≡ (shape_in self.old).next_generation) }
         ensures form { OnOk result (commit_text_of text.now ≡ Ok text.now) }
         ensures left { OnOk result ((shape_in self.old).next_generation ≤ last_number) }
-        ensures ok { OnOk result (Does D.bytes (Commits text.now) self.old self.new) }
+        ensures ok { OnOk result (DoesCall D.bytes (Commits text.now) self.old self.new) }
         ensures wrong { IfErr (commit_text_of text.now) (λ e. (result ≡ Err e) × (self.new ≡ self.old)) }
         ensures none { commit_text_of text.now ≡ Ok text.now → last_number < (shape_in self.old).next_generation
             → (result ≡ Err Spent) × (self.new ≡ self.old) }
         ensures spent { commit_text_of text.now ≡ Ok text.now → IfErr result (λ e. e ≡ Spent
             → (last_number < (shape_in self.old).next_generation) ⊎ MayNotFlush (shape_in self.old)) }
-        ensures err { OnErr result (Does D.bytes IsLeft self.old self.new) }
+        ensures err { OnErr result (DoesCall D.bytes IsLeft self.old self.new) }
         ensures stays { OnErr result (KeepsMerge (shape_in self.old) (shape_in self.new)) }
         ensures crash { Spares D.may_leave self.old self.new }
         ensures refusal { commit_text_of text.now ≡ Ok text.now → IfErr result (λ e. (e ≡ Memory) ⊎ (e ≡ Device) ⊎ (e ≡ Spent)) }
@@ -122,7 +122,7 @@ impl<D: Directory + Shelf> Ledger<D> {
     /// [`Refusal::Memory`]. An error changes nothing.
     pub fn snapshot(&mut self) -> Result<Generation, Refusal>
         ensures room { IfOk result (λ g. snapshots_in (shape_in self.old).taken g < snapshot_limit) }
-        ensures ok { IfOk result (λ g. Does D.bytes (Snaps g) self.old self.new) }
+        ensures ok { IfOk result (λ g. DoesCall D.bytes (Snaps g) self.old self.new) }
         ensures none { IfErr result (λ e. e ≡ NoCommit → newest_generation (shape_in self.old).commits ≡ None) }
         ensures spent { IfErr result (λ e. e ≡ Spent → (g : ℕ) × (newest_generation (shape_in self.old).commits ≡ Some g)
             × (snapshots_in (shape_in self.old).taken g ≡ snapshot_limit)) }
@@ -146,7 +146,7 @@ impl<D: Directory + Shelf> Ledger<D> {
     pub fn unsnapshot(&mut self, generation: Generation) -> Result<u32, Refusal>
         ensures some { OnOk result (0 < snapshots_in (shape_in self.old).taken generation) }
         ensures left { IfOk result (λ left. left ≡ snapshots_in (shape_in self.old).taken generation - 1) }
-        ensures ok { OnOk result (Does D.bytes (Unsnapped generation) self.old self.new) }
+        ensures ok { OnOk result (DoesCall D.bytes (Unsnapped generation) self.old self.new) }
         ensures none { IfErr result (λ e. e ≡ NoSnapshot → snapshots_in (shape_in self.old).taken generation ≡ 0) }
         ensures due { IfErr result (λ e. e ≡ Memory → 0 < snapshots_in (shape_in self.old).taken generation) }
         ensures refusal { IfErr result (λ e. (e ≡ NoSnapshot) ⊎ (e ≡ Memory)) }

@@ -31,9 +31,9 @@ pub struct Ledger<D: Directory + Shelf> {
 
 impl<D: Directory + Shelf> Model for Ledger<D> {
     ghost use Rattle.cat_ledger.specs.Lasting.{IsLasting};
-    ghost use Rattle.cat_ledger.specs.Ledgers.{Ledger};
+    ghost use Rattle.cat_ledger.specs.Ledgers.{LedgerOnDevice};
 
-    ghost Value = { Ledger D };
+    ghost Value = { LedgerOnDevice D };
 
     ghost view = { λ l. record { device = l.device; core = l.core; policy = l.policy } };
 

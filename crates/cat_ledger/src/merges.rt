@@ -11,7 +11,7 @@ ghost use Rattle.cat_ledger_state.specs.Cores.{HasRowsLeft};
 ghost use Rattle.cat_ledger.specs.upkeep.Due.{IsForceDue, IsMergeDue};
 ghost use Rattle.cat_ledger.specs.upkeep.News.{news_of};
 ghost use Rattle.cat_ledger.specs.Histories.{Event, Goes};
-ghost use Rattle.cat_ledger.specs.Ledgers.{Does, Spares, device_in, policy_in, shape_in};
+ghost use Rattle.cat_ledger.specs.Ledgers.{DoesCall, Spares, device_in, policy_in, shape_in};
 ghost use Rattle.cat_ledger.specs.Refusals.{KeepsMerge, KeepsSegments};
 
 use crate::ledger::Ledger;
@@ -29,8 +29,8 @@ impl<D: Directory + Shelf> Ledger<D> {
     /// file; or [`Refusal::Memory`], where the directory counted no failure, which may come before it is known whether the policy
     /// picks any segments. A merge in the making is over then, and its files are pending; nothing is flushed.
     pub fn merge_step(&mut self) -> Result<MergeNews, Refusal>
-        ensures ok { IfOk result (λ news. Does D.bytes (Maintains (policy_in self.old) Chore.merge (news_of news)) self.old self.new) }
-        ensures err { OnErr result (Does D.bytes IsLeft self.old self.new) }
+        ensures ok { IfOk result (λ news. DoesCall D.bytes (Maintains (policy_in self.old) Chore.merge (news_of news)) self.old self.new) }
+        ensures err { OnErr result (DoesCall D.bytes IsLeft self.old self.new) }
         ensures segments { OnErr result (KeepsSegments (shape_in self.old) (shape_in self.new)) }
         ensures crash { Spares D.may_leave self.old self.new }
         ensures spent { IfErr result (λ e. e ≡ Spent → IsMergeDue (policy_in self.old) (shape_in self.old)
@@ -59,8 +59,8 @@ impl<D: Directory + Shelf> Ledger<D> {
     /// [`Refusal::Spent`] where no number is left for the new segment; else [`Refusal::Device`], or [`Refusal::Memory`], where
     /// the directory counted no failure. An error leaves at most names that are pending.
     pub fn force(&mut self) -> Result<MergeNews, Refusal>
-        ensures ok { IfOk result (λ news. Does D.bytes (Maintains (policy_in self.old) Chore.force (news_of news)) self.old self.new) }
-        ensures err { OnErr result (Does D.bytes IsLeft self.old self.new) }
+        ensures ok { IfOk result (λ news. DoesCall D.bytes (Maintains (policy_in self.old) Chore.force (news_of news)) self.old self.new) }
+        ensures err { OnErr result (DoesCall D.bytes IsLeft self.old self.new) }
         ensures stays { OnErr result (KeepsMerge (shape_in self.old) (shape_in self.new)) }
         ensures segments { OnErr result (KeepsSegments (shape_in self.old) (shape_in self.new)) }
         ensures crash { Spares D.may_leave self.old self.new }

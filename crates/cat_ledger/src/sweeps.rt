@@ -3,7 +3,7 @@
 //! Lucene's `IndexWriter.deleteUnusedFiles`.
 ghost use Rattle.cat_base.specs.declared.refusal.Refusal.TheVariants.{Device, Memory};
 ghost use Rattle.cat_ledger.specs.Histories.{Event, Goes};
-ghost use Rattle.cat_ledger.specs.Ledgers.{Does, device_in, policy_in, shape_in};
+ghost use Rattle.cat_ledger.specs.Ledgers.{DoesCall, device_in, policy_in, shape_in};
 ghost use Rattle.cat_directory.specs.declared.name.FileName.{FileName};
 ghost use Rattle.std.specs.Prelude.{IfErr, IfOk, OnOk, [], false, count_by, ◌<◌, ◌==◌, ◌≡◌, ◌⊎◌, ◌≤◌};
 ghost use Rattle.cat_ledger_laws.specs.model.Calls.{MayLeave};
@@ -26,7 +26,7 @@ impl<D: Directory + Shelf> Ledger<D> {
     /// [`Refusal::Device`] where the directory fails: the file that it failed at and those behind it are still pending; or
     /// [`Refusal::Memory`], with nothing done.
     pub fn sweep(&mut self) -> Result<u64, Refusal>
-        ensures ok { Does D.bytes (MayLeave []) self.old self.new }
+        ensures ok { DoesCall D.bytes (MayLeave []) self.old self.new }
         ensures files { Swept (shape_in self.old).users (shape_in self.new).users (D.bytes (device_in self.old)) (D.bytes (device_in self.new))
             (D.may_leave (device_in self.old)) (D.may_leave (device_in self.new)) }
         ensures none { OnOk result ((q : Name) → is_pending (shape_in self.new).users q ≡ false) }

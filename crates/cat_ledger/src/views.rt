@@ -4,7 +4,7 @@
 ghost use Rattle.cat_directory.specs.Devices.{CountsOne, CountsReading, NoMore};
 ghost use Rattle.cat_base.specs.declared.refusal.Refusal.TheVariants.{Damaged, Device, Full, Gone, Memory, Spent};
 ghost use Rattle.cat_ledger.specs.Histories.{Event, Goes};
-ghost use Rattle.cat_ledger.specs.Ledgers.{Does, Spares, device_in, policy_in, shape_in};
+ghost use Rattle.cat_ledger.specs.Ledgers.{DoesCall, Spares, device_in, policy_in, shape_in};
 ghost use Rattle.cat_ledger.specs.Refusals.{KeepsMerge};
 ghost use Rattle.cat_ledger.specs.upkeep.Spared.{SparesCommits};
 ghost use Rattle.std.specs.Prelude.{Err, IfErr, IfNone, IfOk, IfSome, List, None, Ok, OnErr, OnOk, [], false, length, not, option_map, true, ℕ, ◌&&◌, ◌-◌, ◌==◌, ◌≡◌, ◌≢◌, ◌⊎◌, Some, find, ◌≤◌};
@@ -155,13 +155,13 @@ impl<D: Directory + Shelf> Ledger<D> {
     /// stays done; else an error leaves at most names that are pending. A merge in the making goes on.
     pub fn refresh(&mut self) -> Result<Token, Refusal>
         ensures token { IfOk result (λ t. t ≡ (shape_in self.old).count) }
-        ensures ok { OnOk result (Does D.bytes Refreshes self.old self.new) }
+        ensures ok { OnOk result (DoesCall D.bytes Refreshes self.old self.new) }
         ensures may { OnOk result (MayRefresh (shape_in self.old)) }
         ensures full { (MayRefresh (shape_in self.old) → ⊥) → (result ≡ Err Full) × (self.new ≡ self.old) }
         ensures room { MayRefresh (shape_in self.old) → IfErr result (λ e. e ≢ Full) }
         ensures spent { IfErr result (λ e. e ≡ Spent → MayNotFlush (shape_in self.old)) }
         ensures due { IfErr result (λ e. (e ≡ Memory) ⊎ (e ≡ Device) → MayNotFlush (shape_in self.old) → ⊥) }
-        ensures err { OnErr result (Does D.bytes IsLeft self.old self.new) }
+        ensures err { OnErr result (DoesCall D.bytes IsLeft self.old self.new) }
         ensures stays { OnErr result (KeepsMerge (shape_in self.old) (shape_in self.new)) }
         ensures crash { Spares D.may_leave self.old self.new }
         ensures refusal { IfErr result (λ e. (e ≡ Full) ⊎ (e ≡ Memory) ⊎ (e ≡ Device) ⊎ (e ≡ Spent)) }
@@ -260,7 +260,7 @@ impl<D: Directory + Shelf> Ledger<D> {
     /// answers how many went. (Lucene: `SearcherLifetimeManager.prune` by a `Pruner`.) An error changes nothing.
     pub fn prune(&mut self, count: u64) -> Result<u64, AllocError>
         ensures went { IfOk result (λ n. n ≡ length (shape_in self.old).views - length (shape_in self.new).views) }
-        ensures ok { OnOk result (Does D.bytes (Pruned count) self.old self.new) }
+        ensures ok { OnOk result (DoesCall D.bytes (Pruned count) self.old self.new) }
         ensures err { OnErr result (self.new ≡ self.old) }
         ensures same { device_in self.new ≡ device_in self.old }
         ensures history { Goes D.may_leave Event.Other self.old self.new }

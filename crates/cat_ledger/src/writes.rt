@@ -4,7 +4,7 @@
 ghost use Rattle.cat_directory.specs.Devices.{CountsOne};
 ghost use Rattle.cat_base.specs.declared.refusal.Refusal.TheVariants.{Device, Kind, Memory, Spent};
 ghost use Rattle.cat_ledger.specs.Histories.{Event, Goes};
-ghost use Rattle.cat_ledger.specs.Ledgers.{Does, Spares, device_in, policy_in, shape_in};
+ghost use Rattle.cat_ledger.specs.Ledgers.{DoesCall, Spares, device_in, policy_in, shape_in};
 ghost use Rattle.cat_ledger.specs.Refusals.{KeepsMerge};
 ghost use Rattle.std.specs.Prelude.{Err, IfErr, IfOk, OnErr, OnOk, length, ◌+◌, ◌<◌, ◌≡◌, ◌≢◌, ◌≤◌, ◌⊎◌};
 ghost use Rattle.cat_model.specs.Item.{IsItem};
@@ -36,7 +36,7 @@ impl<D: Directory + Shelf> Ledger<D> {
         ensures number { IfOk result (λ n. n ≡ (shape_in self.old).count + 1) }
         ensures item { OnOk result (IsItem (shape_in self.old).schema item) }
         ensures left { OnOk result ((shape_in self.old).count < last_number) }
-        ensures ok { OnOk result (Does D.bytes (Puts item) self.old self.new) }
+        ensures ok { OnOk result (DoesCall D.bytes (Puts item) self.old self.new) }
         ensures kind { IfErr result (λ e. e ≡ Kind → (IsItem (shape_in self.old).schema item → ⊥) × (self.new ≡ self.old)) }
         ensures fitting { IfErr result (λ e. e ≢ Kind → IsItem (shape_in self.old).schema item) }
         ensures full { IsItem (shape_in self.old).schema item → last_number ≤ (shape_in self.old).count
@@ -45,7 +45,7 @@ impl<D: Directory + Shelf> Ledger<D> {
             ⊎ ((buffer_limit ≤ length (shape_in self.old).buffered) × MayNotFlush (shape_in self.old))) }
         ensures due { IfErr result (λ e. (e ≡ Memory) ⊎ (e ≡ Device) → IsItem (shape_in self.old).schema item
             × ((shape_in self.old).count < last_number)) }
-        ensures err { OnErr result (Does D.bytes IsLeft self.old self.new) }
+        ensures err { OnErr result (DoesCall D.bytes IsLeft self.old self.new) }
         ensures stays { OnErr result (KeepsMerge (shape_in self.old) (shape_in self.new)) }
         ensures crash { Spares D.may_leave self.old self.new }
         ensures refusal { IfErr result (λ e. (e ≡ Kind) ⊎ (e ≡ Memory) ⊎ (e ≡ Device) ⊎ (e ≡ Spent)) }
@@ -79,7 +79,7 @@ impl<D: Directory + Shelf> Ledger<D> {
     pub fn delete(&mut self, id: &str) -> Result<WriteNo, Refusal>
         ensures number { IfOk result (λ n. n ≡ (shape_in self.old).count + 1) }
         ensures left { OnOk result ((shape_in self.old).count < last_number) }
-        ensures ok { OnOk result (Does D.bytes (λ l l'. l' ≡ wrote l (Write.delete id.now)) self.old self.new) }
+        ensures ok { OnOk result (DoesCall D.bytes (λ l l'. l' ≡ wrote l (Write.delete id.now)) self.old self.new) }
         ensures full { last_number ≤ (shape_in self.old).count → result ≡ Err Spent }
         ensures spent { IfErr result (λ e. e ≡ Spent → last_number ≤ (shape_in self.old).count) }
         ensures err { OnErr result (self.new ≡ self.old) }
@@ -102,7 +102,7 @@ impl<D: Directory + Shelf> Ledger<D> {
     pub fn delete_where(&mut self, query: &Query) -> Result<WriteNo, Refusal>
         ensures number { IfOk result (λ n. n ≡ (shape_in self.old).count + 1) }
         ensures left { OnOk result ((shape_in self.old).count < last_number) }
-        ensures ok { OnOk result (Does D.bytes (λ l l'. l' ≡ wrote l (Write.delete_where (query_of query.now))) self.old self.new) }
+        ensures ok { OnOk result (DoesCall D.bytes (λ l l'. l' ≡ wrote l (Write.delete_where (query_of query.now))) self.old self.new) }
         ensures full { last_number ≤ (shape_in self.old).count → result ≡ Err Spent }
         ensures spent { IfErr result (λ e. e ≡ Spent → last_number ≤ (shape_in self.old).count) }
         ensures err { OnErr result (self.new ≡ self.old) }

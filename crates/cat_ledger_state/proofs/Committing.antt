@@ -12,7 +12,7 @@ use Rattle.cat_model.specs.View.{Leaf}
 use Rattle.cat_directory.specs.declared.name.FileName.TheVariants as file
 use Rattle.cat_ledger_laws.specs.model.Users.{Used, users_of, times, Changes, has_name}
 use Rattle.cat_ledger_laws.specs.shape.Shapes.{ListedLive, Shape, IsShape, names_of_commits}
-use Rattle.cat_ledger_laws.specs.shape.Steps.{IsCommitted, Leaves, listed_now, commit_now}
+use Rattle.cat_ledger_laws.specs.shape.Steps.{IsCommitted, Leaves, listed_now, commit_file_now}
 use Rattle.cat_ledger_laws.specs.shape.Ties.{ToldFiles, TellsBytes, TouchesOnly}
 use Rattle.cat_ledger_laws.specs.shape.CommitLaws.{WritesCommit, names_begun}
 use Rattle.cat_ledger_laws.proofs.shape.Committed.{users_fit, names_come_once, commits_may_be_said}
@@ -44,7 +44,7 @@ may_be_said text s text' schema' leaves' its fields form few left said same all 
 
 -- ---- its names
 
-pub needs_fit : (text : Text) (s : Shape) (n : ℕ) (names : List Name) → IsShape s → n ≡ length s.views → n ≤ view_limit → names ≡ commit_needs (commit_now text s)
+pub needs_fit : (text : Text) (s : Shape) (n : ℕ) (names : List Name) → IsShape s → n ≡ length s.views → n ≤ view_limit → names ≡ commit_needs (commit_file_now text s)
     → (q : Name) → users_of s.users q + times q names < 2 ^ 64
 needs_fit text s n names its views few is q =
     let fit : users_of s.users q + 2 < 2 ^ 64 = users_fit s q its (subst (λ k. k ≤ view_limit) views few) in
@@ -64,9 +64,9 @@ leaving_fit_after s goes taken names mid its first is q = given_after taken s.us
 -- ---- done
 
 pub committed_is : (text : Text) (s : Shape) (commit : CommitFile) (reserved commits' : List CommitFile) (listed' : List ListedLive) (taken given : List Name)
-    (mid users' : List Used) → s.next_generation ≤ last_number → commit ≡ commit_now text s → listed' ≡ listed_now s → reserved ≡ s.commits
+    (mid users' : List Used) → s.next_generation ≤ last_number → commit ≡ commit_file_now text s → listed' ≡ listed_now s → reserved ≡ s.commits
     → commits' ≡ filter (λ c. stays_kept s.taken (Some commit.generation) c.generation) reserved ++ commit ∷ []
-    → taken ≡ commit_needs (commit_now text s)
+    → taken ≡ commit_needs (commit_file_now text s)
     → given ≡ names_of_commits (filter (λ c. not (stays_kept s.taken (Some s.next_generation) c.generation)) s.commits)
     → Changes taken [] s.users mid → Changes [] given mid users'
     → IsCommitted text s (record s { commits = commits'; listed = listed'; users = users'; next_generation = s.next_generation + 1 })
@@ -74,7 +74,7 @@ committed_is text s commit reserved commits' listed' taken given mid users' left
     let both : Changes taken given s.users users' = changes_join taken given s.users mid users' first second in
     record {
       left = left;
-      users = subst (λ g. Changes (commit_needs (commit_now text s)) g s.users users') gone (subst (λ t. Changes t given s.users users') needs both);
+      users = subst (λ g. Changes (commit_needs (commit_file_now text s)) g s.users users') gone (subst (λ t. Changes t given s.users users') needs both);
       rest = ap₂ (λ cs ls. record s { commits = cs; listed = ls; users = users'; next_generation = s.next_generation + 1 })
           (kept ∙ ap₂ (λ (c : CommitFile) (cs : List CommitFile). filter (λ (d : CommitFile). stays_kept s.taken (Some c.generation) d.generation) cs ++ c ∷ []) is room)
           listing;
@@ -104,11 +104,11 @@ own_begun s =
 
 -- names were taken and given again, and those that were begun are known
 pub commit_left : (text : Text) (s : Shape) (reserved : List CommitFile) (taken given : List Name) (mid users' : List Used) → IsShape s
-    → s.next_generation ≤ last_number → reserved ≡ s.commits → taken ≡ commit_needs (commit_now text s) → given ≡ commit_needs (commit_now text s)
+    → s.next_generation ≤ last_number → reserved ≡ s.commits → taken ≡ commit_needs (commit_file_now text s) → given ≡ commit_needs (commit_file_now text s)
     → Changes taken [] s.users mid → Changes [] given mid users'
     → Leaves (names_begun s) s (record s { commits = reserved; users = users'; next_generation = s.next_generation + 1 })
 commit_left text s reserved taken given mid users' its left room needs same taking giving =
-    let names : List Name = commit_needs (commit_now text s) in
+    let names : List Name = commit_needs (commit_file_now text s) in
     let first : Changes names [] s.users mid = subst (λ ns. Changes ns [] s.users mid) needs taking in
     let second : Changes [] names mid users' = subst (λ ns. Changes [] ns mid users') same giving in
     record {

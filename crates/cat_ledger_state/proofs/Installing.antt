@@ -17,7 +17,7 @@ use Rattle.cat_ledger_laws.specs.model.Leaves.{AreLeaves}
 use Rattle.cat_ledger_laws.specs.model.Users.{Used, users_of, is_known, times, has_name, same_file_name, Changes}
 use Rattle.cat_ledger_laws.proofs.model.Users.{times-append}
 use Rattle.cat_ledger_laws.specs.shape.Shapes.{MergingShape, Shape, IsShape, names_of_leaves}
-use Rattle.cat_ledger_laws.specs.shape.Steps.{IsInstalled, IsEnded, Leaves, window_now, merged}
+use Rattle.cat_ledger_laws.specs.shape.Steps.{IsInstalled, IsEnded, Leaves, window_now, merged_or_none}
 use Rattle.cat_ledger_laws.specs.shape.Ties.{ToldFiles, TellsBytes, TouchesOnly}
 use Rattle.cat_ledger_laws.proofs.shape.Committed.{users_fit}
 use Rattle.cat_ledger_laws.proofs.shape.MergeSteps.{ends_keep}
@@ -29,7 +29,7 @@ use Rattle.cat_ledger_state.proofs.Counting.{changes_join, or_none}
 use Rattle.cat_ledger_state.proofs.Flushing.{at_most_one}
 
 -- the segment that is made under the schema of all
-pub made_is : (s : Shape) (m : InMaking) → m.schema ≡ s.schema → made_of m s.leaves ≡ merged m.shape s
+pub made_is : (s : Shape) (m : InMaking) → m.schema ≡ s.schema → made_of m s.leaves ≡ merged_or_none m.shape s
 made_is s m same = ap (λ schema. merged_leaves m.shape.number schema m.shape.inputs (window_now m.shape s.leaves)) same
 
 -- a segment, or none, has a name twice at most
@@ -49,7 +49,7 @@ pub may_install : (s : Shape) (m : InMaking) (n : ℕ) (mid : List Used) → IsS
     → n ≡ length s.views → n ≤ view_limit → Changes [] (Name.source m.shape.number ∷ []) s.users mid → MayInstall m s.leaves mid
 may_install s m n mid its making same all views few given =
     let found = merges_find_their_window m.shape s its making in
-    let made : made_of m s.leaves ≡ merged m.shape s = made_is s m same in
+    let made : made_of m s.leaves ≡ merged_or_none m.shape s = made_is s m same in
     record {
       passed = subst HasAllPassed making all;
       deleted = found.deleted;
@@ -71,15 +71,15 @@ pub installed_is : (s : Shape) (m : InMaking) (mid users' : List Used) (leaves' 
     → leaves' ≡ placed_in s.leaves m.shape.index (length m.shape.inputs) (made_of m s.leaves)
     → IsInstalled m.shape s (record s { leaves = leaves'; merging = None; users = users' })
 installed_is s m mid users' leaves' making same all given moved placed =
-    let made : made_of m s.leaves ≡ merged m.shape s = made_is s m same in
-    let moves : Changes (names_of_leaves (merged m.shape s)) (names_of_leaves (window_now m.shape s.leaves)) mid users' =
+    let made : made_of m s.leaves ≡ merged_or_none m.shape s = made_is s m same in
+    let moves : Changes (names_of_leaves (merged_or_none m.shape s)) (names_of_leaves (window_now m.shape s.leaves)) mid users' =
     subst (λ ls. Changes (names_of_leaves ls) (names_of_leaves (window_now m.shape s.leaves)) mid users') made moved in
     record {
       making = making;
       all = subst HasAllPassed making all;
       users = record {
         users = λ q. omega (arith, given.users q, moves.users q, times-append q (names_of_leaves (window_now m.shape s.leaves)) (Name.source m.shape.number ∷ []));
-        known = λ q. moves.known q ∙ ap (λ b. b || has_name q (names_of_leaves (merged m.shape s))) (given.known q ∙ or_none (is_known s.users q));
+        known = λ q. moves.known q ∙ ap (λ b. b || has_name q (names_of_leaves (merged_or_none m.shape s))) (given.known q ∙ or_none (is_known s.users q));
       };
       rest = ap (λ ls. record s { leaves = ls; merging = None; users = users' }) (placed ∙ ap (placed_in s.leaves m.shape.index (length m.shape.inputs)) made);
     }

@@ -10,11 +10,11 @@ use Rattle.cat_model.specs.View.{Leaf, View, IsView, needs}
 use Rattle.cat_ledger_laws.specs.model.Users.{Used, users_of, times, Changes}
 use Rattle.cat_ledger_laws.proofs.model.Users.{times-append}
 use Rattle.cat_ledger_laws.specs.shape.Shapes.{Shape, IsShape, names_of_views, view_now}
-use Rattle.cat_ledger_laws.specs.shape.Steps.{RecordsNow, IsPruned}
+use Rattle.cat_ledger_laws.specs.shape.Steps.{ShapeRecordsNow, IsPruned}
 use Rattle.cat_ledger_laws.proofs.shape.Committed.{users_fit, names_come_once}
 use Rattle.cat_ledger_laws.proofs.shape.Views.{holds_keep, shapes_are_views, views_are_counted}
-use Rattle.cat_lifetimes.specs.records.Records.{Records, AreRecords, acquired, pruned_to, stays_by, stays_in, with_view}
-use Rattle.cat_ledger_state.specs.Cores.{records_in}
+use Rattle.cat_lifetimes.specs.records.Records.{Records, AreRecords, acquired, pruned_to, stays_by, stays_in, records_with_view}
+use Rattle.cat_ledger_state.specs.Cores.{views_and_holds}
 
 -- ---- holds
 
@@ -42,8 +42,8 @@ times-filter q stays (v ∷ vs) = chosen (stays v) (times-filter q stays vs)
 pub gone_fit : (s : Shape) (goes : View → Bool) → IsShape s → (q : Name) → times q (names_of_views (filter goes s.views)) ≤ users_of s.users q
 gone_fit s goes its q = omega (arith, times-filter q goes s.views, views_are_counted s its q)
 
-pub prune_is : (s : Shape) (n : ℕ) (r : Records) (users' : List Used) (names : List Name) → r ≡ pruned_to (records_in s) n
-    → names ≡ names_of_views (filter (λ v. not (stays_in (records_in s) n v)) s.views) → Changes [] names s.users users'
+pub prune_is : (s : Shape) (n : ℕ) (r : Records) (users' : List Used) (names : List Name) → r ≡ pruned_to (views_and_holds s) n
+    → names ≡ names_of_views (filter (λ v. not (stays_in (views_and_holds s) n v)) s.views) → Changes [] names s.users users'
     → IsPruned n s (record s { views = r.views; holds = r.holds; users = users' })
 prune_is s n r users' names pruned gone users = record {
   users = subst (λ given. Changes [] given s.users users') gone users;
@@ -85,11 +85,11 @@ below_now (v ∷ vs) n most none zero d lt =
 below_now (v ∷ vs) n most none (suc k) d lt =
     below_now vs n (λ j e l. most (suc j) e (omega arith)) (or_second (v.token == n) (list_any (λ v. v.token == n) vs) none) k d (omega arith)
 
-pub record_is : (s : Shape) (v : View) (r : Records) (users' : List Used) (taken given : List Name) → v ≡ view_now s → r ≡ with_view (records_in s) v
-    → taken ≡ needs v → given ≡ names_of_views (filter (λ v. not (stays_by (records_in s) v)) s.views) → Changes taken given s.users users'
-    → RecordsNow s (record s { views = r.views; holds = r.holds; users = users' })
+pub record_is : (s : Shape) (v : View) (r : Records) (users' : List Used) (taken given : List Name) → v ≡ view_now s → r ≡ records_with_view (views_and_holds s) v
+    → taken ≡ needs v → given ≡ names_of_views (filter (λ v. not (stays_by (views_and_holds s) v)) s.views) → Changes taken given s.users users'
+    → ShapeRecordsNow s (record s { views = r.views; holds = r.holds; users = users' })
 record_is s v r users' taken given now is names gone users = record {
-  users = subst (λ t. Changes t (names_of_views (filter (λ v. not (stays_by (records_in s) v)) s.views)) s.users users') (names ∙ ap needs now)
+  users = subst (λ t. Changes t (names_of_views (filter (λ v. not (stays_by (views_and_holds s) v)) s.views)) s.users users') (names ∙ ap needs now)
       (subst (λ g. Changes taken g s.users users') gone users);
-  rest = ap (λ r. record s { views = r.views; holds = r.holds; users = users' }) (is ∙ ap (with_view (records_in s)) now);
+  rest = ap (λ r. record s { views = r.views; holds = r.holds; users = users' }) (is ∙ ap (records_with_view (views_and_holds s)) now);
 }

@@ -8,7 +8,7 @@ use Rattle.cat_model.specs.State.{Taken, snapshots_in}
 use Rattle.cat_model.specs.View.{View, needs}
 use Rattle.cat_ledger_laws.specs.model.Users.{times}
 use Rattle.cat_ledger_laws.specs.shape.Shapes.{Shape}
-use Rattle.cat_ledger_laws.specs.shape.Steps.{IsCommitted, listed_now, commit_now}
+use Rattle.cat_ledger_laws.specs.shape.Steps.{IsCommitted, listed_now, commit_file_now}
 use Rattle.cat_ledger_laws.specs.shape.Ties.{ToldFiles}
 use Rattle.cat_ledger_laws.specs.shape.CommitLaws.{WritesCommit}
 use Rattle.cat_commits.specs.writing.Drafts.{Drafted}
@@ -29,7 +29,7 @@ names_synced s = unsynced_in s.listed s.next_generation (listed_now s)
 
 -- a commit of now with this text, ready to be written
 abbrev pub draft_now : Text → Shape → Drafted
-draft_now text s = record { listing = listed_now s; commit = commit_now text s; unsynced = names_synced s }
+draft_now text s = record { listing = listed_now s; commit = commit_file_now text s; unsynced = names_synced s }
 
 -- what a commit makes: it is kept in memory, and its files are written
 abbrev pub HasCommitted : Text → ToldFiles → Shape → ToldFiles → Shape → Type 0

@@ -16,8 +16,8 @@ use Rattle.cat_merge.specs.files.Making.{InMaking}
 use Rattle.cat_lifetimes.specs.records.Records.{Records}
 use Rattle.cat_ledger_state.specs.declared.state.Core.TheInside.{Inside}
 
-abbrev pub shape_in : Inside → Shape
-shape_in c = record {
+abbrev pub shape_of_core : Inside → Shape
+shape_of_core c = record {
   schema = c.schema;
   leaves = c.current;
   buffered = c.buffer.records;
@@ -40,7 +40,7 @@ MergesUnder schema (Some m) = m.schema ≡ schema
 
 -- It is the shape of some ledger; what waits, and a merge, have its schema; and a commit can list its segments.
 pub record IsCore (c : Inside) : Type 0 where
-  pub shape : IsShape (shape_in c)
+  pub shape : IsShape (shape_of_core c)
   pub waits : c.buffer.schema ≡ c.schema
   pub few : length c.current ≤ segment_limit
   pub merges : MergesUnder c.schema c.merging
@@ -63,8 +63,8 @@ abbrev pub StayKnown : List Used → List Used → Type 0
 StayKnown old new = (q : Name) → is_known old q ≡ true → is_known new q ≡ true
 
 -- its views and holds
-abbrev pub records_in : Shape → Records
-records_in s = record { views = s.views; holds = s.holds }
+abbrev pub views_and_holds : Shape → Records
+views_and_holds s = record { views = s.views; holds = s.holds }
 
 -- ---- the flush
 

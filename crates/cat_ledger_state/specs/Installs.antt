@@ -9,7 +9,7 @@ use Rattle.cat_directory.specs.declared.name.FileName.{FileName}
 use Rattle.cat_ledger_laws.specs.model.Leaves.{AreLeaves}
 use Rattle.cat_ledger_laws.specs.model.Users.{Used, users_of, times}
 use Rattle.cat_ledger_laws.specs.shape.Shapes.{MergingShape, Shape, names_of_leaves}
-use Rattle.cat_ledger_laws.specs.shape.Steps.{IsInstalled, IsEnded, Leaves, window_now, merged}
+use Rattle.cat_ledger_laws.specs.shape.Steps.{IsInstalled, IsEnded, Leaves, window_now, merged_or_none}
 use Rattle.cat_ledger_laws.specs.shape.Ties.{ToldFiles, TellsBytes, TouchesOnly}
 use Rattle.cat_merge.specs.files.Making.{InMaking, merged_leaves}
 
@@ -52,7 +52,7 @@ pub record HasInstalled (told : ToldFiles) (s : Shape) (told' : ToldFiles) (new 
   pub merge : MergingShape
   pub installed : IsInstalled merge s new
   pub others : TouchesOnly (Name.segment merge.number ∷ []) told told'
-  pub written : AllByRecursion (λ leaf. TellsBytes told' (FileName.Segment merge.number) (λ bytes. SpellsSegment bytes leaf.segment)) (merged merge s)
+  pub written : AllByRecursion (λ leaf. TellsBytes told' (FileName.Segment merge.number) (λ bytes. SpellsSegment bytes leaf.segment)) (merged_or_none merge s)
 
 -- the merge in the making is over, with nothing made but names that nobody uses
 pub record HasFailed (told : ToldFiles) (s : Shape) (told' : ToldFiles) (new : Shape) : Type 0 where

@@ -44,11 +44,11 @@ pub struct Core {
 
 impl Model for Core {
     ghost use Rattle.cat_ledger_laws.specs.shape.Shapes.{Shape};
-    ghost use Rattle.cat_ledger_state.specs.Cores.{IsCore, shape_in};
+    ghost use Rattle.cat_ledger_state.specs.Cores.{IsCore, shape_of_core};
 
     ghost Value = { Shape };
 
-    ghost view = { shape_in };
+    ghost view = { shape_of_core };
 
     ghost invariant = { IsCore };
 }

@@ -8,8 +8,8 @@ ghost use Rattle.cat_model.specs.State.{has_hold, held_in};
 ghost use Rattle.cat_directory.specs.Names.{name_of};
 ghost use Rattle.cat_lifetimes.specs.records.Records.{acquired, released, stays_by};
 ghost use Rattle.cat_ledger_laws.specs.shape.Shapes.{names_of_views, view_now};
-ghost use Rattle.cat_ledger_laws.specs.shape.Steps.{RecordsNow, IsPruned, tokens_of};
-ghost use Rattle.cat_ledger_state.specs.Cores.{records_in};
+ghost use Rattle.cat_ledger_laws.specs.shape.Steps.{ShapeRecordsNow, IsPruned, tokens_of};
+ghost use Rattle.cat_ledger_state.specs.Cores.{views_and_holds};
 
 use crate::state::Core;
 use crate::users::move_users;
@@ -34,7 +34,7 @@ impl Core {
         requires flushed { self.old.buffered ≡ [] }
         requires fresh { list_any (λ v. v.token == self.old.count) self.old.views ≡ false }
         requires space { is_full (held_in self.old.holds) (tokens_of self.old.views) ≡ false }
-        ensures ok { OnOk result (RecordsNow self.old self.new) }
+        ensures ok { OnOk result (ShapeRecordsNow self.old self.new) }
         ensures err { OnErr result (self.new ≡ self.old) }
     {
         let view = self.view()?;
@@ -50,7 +50,7 @@ impl Core {
     /// changes nothing.
     pub fn hold(&mut self, session: SessionNo, token: Token) -> Result<(), AllocError>
         requires { list_any (λ v. v.token == token) self.old.views ≡ true }
-        ensures ok { OnOk result (self.new ≡ record self.old { holds = (acquired (records_in self.old) session token).holds }) }
+        ensures ok { OnOk result (self.new ≡ record self.old { holds = (acquired (views_and_holds self.old) session token).holds }) }
         ensures err { OnErr result (self.new ≡ self.old) }
     {
         let held = self.records.acquire(session, token);
@@ -63,7 +63,7 @@ impl Core {
     /// takes no memory.
     pub fn let_go(&mut self, session: SessionNo, token: Token) -> bool
         ensures held { result ≡ has_hold self.old.holds session token }
-        ensures released { self.new ≡ record self.old { holds = (released (records_in self.old) session token).holds } }
+        ensures released { self.new ≡ record self.old { holds = (released (views_and_holds self.old) session token).holds } }
     {
         let had = self.records.release(session, token);
         // Its contract says that each held token has a view.

@@ -13,7 +13,8 @@ use Rattle.cat_model.specs.RowSets.{has_row}
 use Rattle.cat_model.specs.View.{Row, Leaf, Segment, IsSegment, live_rows, selected, sourced}
 use Rattle.cat_model.proofs.Merged.{marked-append}
 use Rattle.cat_views.specs.cat_segment.Sources.{source_offset}
-use Rattle.cat_merge.specs.Copied.{no_row, row_at, source_in, joined_sources}
+use Rattle.cat_merge.specs.Copied.{no_row, segment_row_at, source_in}
+use Rattle.cat_ledger_laws.specs.model.Stored.{joined_sources}
 use Rattle.cat_merge.specs.Places.{no_leaf, input_at, passed_at, IsRowPlace, IsPlace}
 use Rattle.cat_merge.specs.Walk.{AreInputs, heads_at, source_at}
 use Rattle.cat_merge.specs.declared.place.Place.{Place}
@@ -107,7 +108,7 @@ module _ (inputs : List Leaf) (are : AreInputs inputs) (place : Place) (is : IsR
   pub place_within : passed_at inputs place < length (rows_of_all inputs)
   place_within = omega (arith, is.row, length-flat_more (λ leaf. leaf.segment.rows) inputs place.input no_leaf is.input, front_long (λ leaf. leaf.segment.rows) inputs (place.input + 1))
 
-  row_there : get_or (rows_of_all inputs) (passed_at inputs place) no_row ≡ row_at here.segment place.row
+  row_there : get_or (rows_of_all inputs) (passed_at inputs place) no_row ≡ segment_row_at here.segment place.row
   row_there = get_or-flat_map (λ leaf. leaf.segment.rows) inputs place.input place.row no_leaf no_row is.input is.row
 
   live_there : has_row (live_of_all inputs) (passed_at inputs place) ≡ has_row here.live place.row

@@ -6,12 +6,12 @@ use Rattle.std.proofs.lemmas.List.Elements.{All-push, All-from_recursion, recurs
 use Rattle.std.proofs.lemmas.List.Sums.{sum-map, sum_by_more, sum_by-take-le}
 use Rattle.cat_model.specs.View.{Row, Leaf, Segment}
 use Rattle.cat_views.specs.cat_segment.Sources.{source_offset}
-use Rattle.cat_merge.specs.Ranges.{CanBeOne, AreApart, IsWithin, AreWithin}
+use Rattle.cat_merge.specs.Ranges.{CanBeOne, AreRangesApart, IsWithin, AreWithin}
 use Rattle.cat_merge.specs.declared.sources.SourceRange.{SourceRange}
 
 -- ---- no two that can be one
 
-pub apart_pushed : (front : List SourceRange) (last next : SourceRange) → AreApart (front ++ last ∷ []) → (CanBeOne last next → ⊥) → AreApart ((front ++ last ∷ []) ++ next ∷ [])
+pub apart_pushed : (front : List SourceRange) (last next : SourceRange) → AreRangesApart (front ++ last ∷ []) → (CanBeOne last next → ⊥) → AreRangesApart ((front ++ last ∷ []) ++ next ∷ [])
 apart_pushed [] last next are two = (two, tt)
 apart_pushed (x ∷ []) last next are two = (are.0, (two, tt))
 apart_pushed (x ∷ y ∷ front) last next are two = (are.0, apart_pushed (y ∷ front) last next are.1 two)
@@ -20,7 +20,7 @@ apart_pushed (x ∷ y ∷ front) last next are two = (are.0, apart_pushed (y ∷
 shorter : (first second long : SourceRange) → long.segment ≡ second.segment → long.offset ≡ second.offset → second.len ≤ long.len → CanBeOne first long → CanBeOne first second
 shorter first second long segment offset len can = record { segment = can.segment ∙ segment; next = can.next ∙ offset; short = omega (arith, len, can.short) }
 
-pub apart_joined : (front : List SourceRange) (last both : SourceRange) → both.segment ≡ last.segment → both.offset ≡ last.offset → last.len ≤ both.len → AreApart (front ++ last ∷ []) → AreApart (front ++ both ∷ [])
+pub apart_joined : (front : List SourceRange) (last both : SourceRange) → both.segment ≡ last.segment → both.offset ≡ last.offset → last.len ≤ both.len → AreRangesApart (front ++ last ∷ []) → AreRangesApart (front ++ both ∷ [])
 apart_joined [] last both segment offset len are = tt
 apart_joined (x ∷ []) last both segment offset len are = (λ can. are.0 (shorter x last both segment offset len can), tt)
 apart_joined (x ∷ y ∷ front) last both segment offset len are = (are.0, apart_joined (y ∷ front) last both segment offset len are.1)

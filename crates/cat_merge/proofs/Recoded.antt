@@ -7,7 +7,7 @@ use Rattle.cat_base.specs.Texts.{IsTextSet}
 use Rattle.cat_model.specs.Layout.{code_in, ordinal_in, keywords_of}
 use Rattle.cat_model.specs.Ordinals.{text_at, IsOrdinal}
 use Rattle.cat_model.specs.Text.{Text}
-use Rattle.cat_columns.specs.Columns.{HasText}
+use Rattle.cat_columns.specs.Columns.{DictionaryHas}
 use Rattle.cat_columns.proofs.Ordinals.{ordinal_back, ordinal_within, text_back}
 use Rattle.cat_merge.specs.Coded.{moved_code, AreOrdinalsAmong}
 
@@ -45,11 +45,11 @@ ordinals_more words front text ordinals ordinal are is = record {
 
 module _ (words : List Text) (values : List (Option Text)) (ordinals : List ℕ) (are : AreOrdinalsAmong words (keywords_of values) ordinals) where
   -- a code is one of the dictionary
-  pub code_within : (v : Option Text) → HasText (keywords_of values) v → code_in (keywords_of values) v ≤ length ordinals
+  pub code_within : (v : Option Text) → DictionaryHas (keywords_of values) v → code_in (keywords_of values) v ≤ length ordinals
   code_within None has = omega arith
   code_within (Some t) has = omega (arith, are.long, ordinal_within (keywords_of values) t has)
 
-  pub code_moved : (v : Option Text) → HasText (keywords_of values) v → HasText words v → moved_code ordinals (code_in (keywords_of values) v) ≡ code_in words v
+  pub code_moved : (v : Option Text) → DictionaryHas (keywords_of values) v → DictionaryHas words v → moved_code ordinals (code_in (keywords_of values) v) ≡ code_in words v
   code_moved None has there = refl
   code_moved (Some t) has there =
       let back : text_at (keywords_of values) (ordinal_in (keywords_of values) t) ≡ t = text_back (keywords_of values) t has in

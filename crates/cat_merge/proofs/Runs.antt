@@ -9,7 +9,7 @@ use Rattle.cat_model.specs.Limits.{row_limit}
 use Rattle.cat_model.specs.Window.{IsLevel, IsMergeable, IsFirst, IsWindow}
 use Rattle.cat_merge.specs.declared.policy.Run.{Run}
 use Rattle.cat_merge.specs.declared.policy.Candidate.{Candidate}
-use Rattle.cat_merge.specs.Runs.{AreOfLevel, IsRun, IsFirstFrom}
+use Rattle.cat_merge.specs.Runs.{AreOfLevel, IsMergeRun, IsFirstFrom}
 
 -- so many rows have one level
 one_level : (factor least rows k l : ℕ) → IsLevel factor least rows k → IsLevel factor least rows l → k ≡ l
@@ -21,7 +21,7 @@ one_level factor least rows k l one two = elim (cases_lt k l) [
   ]
 ]
 
-pub no_run : (factor least : ℕ) → IsRun factor least [] (record { level = 0; count = 0; rows = 0 })
+pub no_run : (factor least : ℕ) → IsMergeRun factor least [] (record { level = 0; count = 0; rows = 0 })
 no_run factor least = record {
   few = omega arith;
   within = omega arith;
@@ -32,7 +32,7 @@ no_run factor least = record {
 
 -- the sizes that come first have the level of the first one, and so has what comes behind it
 longest_one :
-    (factor least y level : ℕ) (ys : List ℕ) (next : Run) → IsRun factor least ys next → IsLevel factor least y level
+    (factor least y level : ℕ) (ys : List ℕ) (next : Run) → IsMergeRun factor least ys next → IsLevel factor least y level
     → (0 < next.count → next.level ≡ level → ⊥)
     → (other count : ℕ) → 0 < count → count ≤ factor → count ≤ suc (length ys) → AreOfLevel factor least other (take count (y ∷ ys))
     → (count ≤ 1) × (other ≡ level)
@@ -47,8 +47,8 @@ longest_one factor least y level ys next run is never other (suc (suc count)) ab
 
 -- one segment is a run, where there is none behind it, or one of another level
 pub run_begins :
-    (factor least y level : ℕ) (ys : List ℕ) (next : Run) → 1 ≤ factor → IsRun factor least ys next → IsLevel factor least y level
-    → (0 < next.count → next.level ≡ level → ⊥) → IsRun factor least (y ∷ ys) (record { level = level; count = 1; rows = y })
+    (factor least y level : ℕ) (ys : List ℕ) (next : Run) → 1 ≤ factor → IsMergeRun factor least ys next → IsLevel factor least y level
+    → (0 < next.count → next.level ≡ level → ⊥) → IsMergeRun factor least (y ∷ ys) (record { level = level; count = 1; rows = y })
 run_begins factor least y level ys next some run is never = record {
   few = some;
   within = omega arith;
@@ -59,7 +59,7 @@ run_begins factor least y level ys next some run is never = record {
 
 -- a run of the same level goes on
 longest_more :
-    (factor least y : ℕ) (ys : List ℕ) (next : Run) → IsRun factor least ys next → IsLevel factor least y next.level
+    (factor least y : ℕ) (ys : List ℕ) (next : Run) → IsMergeRun factor least ys next → IsLevel factor least y next.level
     → (other count : ℕ) → 0 < count → count ≤ factor → count ≤ suc (length ys) → AreOfLevel factor least other (take count (y ∷ ys))
     → (count ≤ suc next.count) × (other ≡ next.level)
 longest_more factor least y ys next run is other zero above few within are = absurd (omega (arith, above))
@@ -72,8 +72,8 @@ longest_more factor least y ys next run is other (suc (suc count)) above few wit
 
 -- with one segment more
 pub run_grows :
-    (factor least y : ℕ) (ys : List ℕ) (next : Run) → next.count < factor → IsRun factor least ys next → IsLevel factor least y next.level
-    → IsRun factor least (y ∷ ys) (record { level = next.level; count = suc next.count; rows = next.rows + y })
+    (factor least y : ℕ) (ys : List ℕ) (next : Run) → next.count < factor → IsMergeRun factor least ys next → IsLevel factor least y next.level
+    → IsMergeRun factor least (y ∷ ys) (record { level = next.level; count = suc next.count; rows = next.rows + y })
 run_grows factor least y ys next few run is = record {
   few = omega (arith, few);
   within = omega (arith, run.within);
@@ -98,9 +98,9 @@ without_last ys rows full count e within is =
 
 -- and where there are enough, without its last
 pub run_moves :
-    (factor least y : ℕ) (ys : List ℕ) (next : Run) (count : ℕ) → next.count ≡ suc count → factor ≡ suc count → IsRun factor least ys next
+    (factor least y : ℕ) (ys : List ℕ) (next : Run) (count : ℕ) → next.count ≡ suc count → factor ≡ suc count → IsMergeRun factor least ys next
     → IsLevel factor least y next.level
-    → IsRun factor least (y ∷ ys) (record { level = next.level; count = suc count; rows = next.rows + y - get_or ys count 0 })
+    → IsMergeRun factor least (y ∷ ys) (record { level = next.level; count = suc count; rows = next.rows + y - get_or ys count 0 })
 run_moves factor least y ys next count full enough run is =
     let split : next.rows ≡ sum (take count ys) + get_or ys count 0 = without_last ys next.rows next.count count full run.within run.rows in
     record {
@@ -116,20 +116,20 @@ run_moves factor least y ys next count full enough run is =
 -- ---- by the index of the first size
 
 same_run : (factor least : ℕ) (sizes : List ℕ) (level count rows level' count' rows' : ℕ) → level ≡ level' → count ≡ count' → rows ≡ rows'
-    → IsRun factor least sizes (record { level = level; count = count; rows = rows })
-    → IsRun factor least sizes (record { level = level'; count = count'; rows = rows' })
+    → IsMergeRun factor least sizes (record { level = level; count = count; rows = rows })
+    → IsMergeRun factor least sizes (record { level = level'; count = count'; rows = rows' })
 same_run factor least sizes level count rows level' count' rows' e f g is =
-    subst (λ n. IsRun factor least sizes (record { level = level'; count = count'; rows = n })) g
-    (subst (λ n. IsRun factor least sizes (record { level = level'; count = n; rows = rows })) f
-    (subst (λ n. IsRun factor least sizes (record { level = n; count = count; rows = rows })) e is))
+    subst (λ n. IsMergeRun factor least sizes (record { level = level'; count = count'; rows = n })) g
+    (subst (λ n. IsMergeRun factor least sizes (record { level = level'; count = n; rows = rows })) f
+    (subst (λ n. IsMergeRun factor least sizes (record { level = n; count = count; rows = rows })) e is))
 
 at_index : (factor least : ℕ) (sizes : List ℕ) (index : ℕ) (run : Run) → index < length sizes
-    → IsRun factor least (get_or sizes index 0 ∷ drop (index + 1) sizes) run → IsRun factor least (drop index sizes) run
-at_index factor least sizes index run within is = subst (λ l. IsRun factor least l run) (sym (drop_more sizes index 0 within)) is
+    → IsMergeRun factor least (get_or sizes index 0 ∷ drop (index + 1) sizes) run → IsMergeRun factor least (drop index sizes) run
+at_index factor least sizes index run within is = subst (λ l. IsMergeRun factor least l run) (sym (drop_more sizes index 0 within)) is
 
 pub begins_at : (factor least : ℕ) (sizes : List ℕ) (index level rows : ℕ) (next : Run) → 1 ≤ factor → index < length sizes → rows ≡ get_or sizes index 0
-    → IsRun factor least (drop (index + 1) sizes) next → IsLevel factor least (get_or sizes index 0) level
-    → (next.count ≡ 0) ⊎ (next.level ≢ level) → IsRun factor least (drop index sizes) (record { level = level; count = 1; rows = rows })
+    → IsMergeRun factor least (drop (index + 1) sizes) next → IsLevel factor least (get_or sizes index 0) level
+    → (next.count ≡ 0) ⊎ (next.level ≢ level) → IsMergeRun factor least (drop index sizes) (record { level = level; count = 1; rows = rows })
 begins_at factor least sizes index level rows next some within e run is never =
     at_index factor least sizes index (record { level = level; count = 1; rows = rows }) within
     (same_run factor least (get_or sizes index 0 ∷ drop (index + 1) sizes) level 1 (get_or sizes index 0) level 1 rows refl refl (sym e)
@@ -140,8 +140,8 @@ begins_at factor least sizes index level rows next some within e run is never =
     apart (inr other) above same = other same
 
 pub grows_at : (factor least : ℕ) (sizes : List ℕ) (index level rows : ℕ) (next : Run) → index < length sizes → rows ≡ get_or sizes index 0
-    → IsRun factor least (drop (index + 1) sizes) next → IsLevel factor least (get_or sizes index 0) level → next.level ≡ level → next.count < factor
-    → IsRun factor least (drop index sizes) (record { level = level; count = next.count + 1; rows = next.rows + rows })
+    → IsMergeRun factor least (drop (index + 1) sizes) next → IsLevel factor least (get_or sizes index 0) level → next.level ≡ level → next.count < factor
+    → IsMergeRun factor least (drop index sizes) (record { level = level; count = next.count + 1; rows = next.rows + rows })
 grows_at factor least sizes index level rows next within e run is same few =
     at_index factor least sizes index (record { level = level; count = next.count + 1; rows = next.rows + rows }) within
     (same_run factor least (get_or sizes index 0 ∷ drop (index + 1) sizes) next.level (suc next.count) (next.rows + get_or sizes index 0)
@@ -155,9 +155,9 @@ last_of factor least sizes index count last next full e =
     e ∙ ap (λ k. get_or sizes k 0) (let same : index + next.count ≡ index + 1 + count = omega (arith, full) in same) ∙ sym (get_or-drop (index + 1) sizes count 0)
 
 moves_by : (factor least : ℕ) (sizes : List ℕ) (index level rows last count : ℕ) (next : Run) → index < length sizes → rows ≡ get_or sizes index 0
-    → last ≡ get_or sizes (index + next.count) 0 → IsRun factor least (drop (index + 1) sizes) next → IsLevel factor least (get_or sizes index 0) level
+    → last ≡ get_or sizes (index + next.count) 0 → IsMergeRun factor least (drop (index + 1) sizes) next → IsLevel factor least (get_or sizes index 0) level
     → next.level ≡ level → factor ≡ next.count → next.count ≡ suc count
-    → IsRun factor least (drop index sizes) (record { level = level; count = next.count; rows = next.rows + rows - last })
+    → IsMergeRun factor least (drop index sizes) (record { level = level; count = next.count; rows = next.rows + rows - last })
 moves_by factor least sizes index level rows last count next within e f run is same full some =
     at_index factor least sizes index (record { level = level; count = next.count; rows = next.rows + rows - last }) within
     (same_run factor least (get_or sizes index 0 ∷ drop (index + 1) sizes) next.level (suc count)
@@ -168,15 +168,15 @@ moves_by factor least sizes index level rows last count next within e f run is s
     (subst (λ l. IsLevel factor least (get_or sizes index 0) l) (sym same) is)))
 
 pub moves_at : (factor least : ℕ) (sizes : List ℕ) (index level rows last : ℕ) (next : Run) → index < length sizes → rows ≡ get_or sizes index 0
-    → last ≡ get_or sizes (index + next.count) 0 → IsRun factor least (drop (index + 1) sizes) next → IsLevel factor least (get_or sizes index 0) level
+    → last ≡ get_or sizes (index + next.count) 0 → IsMergeRun factor least (drop (index + 1) sizes) next → IsLevel factor least (get_or sizes index 0) level
     → next.level ≡ level → factor ≤ next.count → 0 < next.count
-    → IsRun factor least (drop index sizes) (record { level = level; count = next.count; rows = next.rows + rows - last })
+    → IsMergeRun factor least (drop index sizes) (record { level = level; count = next.count; rows = next.rows + rows - last })
 moves_at factor least sizes index level rows last next within e f run is same full some =
     moves_by factor least sizes index level rows last (next.count - 1) next within e f run is same (omega (arith, full, run.few)) (omega (arith, some))
 
 -- the last size of a full run is among its rows
 pub last_within : (factor least : ℕ) (sizes : List ℕ) (index last : ℕ) (next : Run) → last ≡ get_or sizes (index + next.count) 0
-    → IsRun factor least (drop (index + 1) sizes) next → 0 < next.count → last ≤ next.rows
+    → IsMergeRun factor least (drop (index + 1) sizes) next → 0 < next.count → last ≤ next.rows
 last_within factor least sizes index last next f run some =
     let split : next.rows ≡ sum (take (next.count - 1) (drop (index + 1) sizes)) + get_or (drop (index + 1) sizes) (next.count - 1) 0
     = without_last (drop (index + 1) sizes) next.rows next.count (next.count - 1) (omega (arith, some)) run.within run.rows in
@@ -184,7 +184,7 @@ last_within factor least sizes index last next f run some =
 
 -- no run has more rows than a u64 can count
 pub rows_fit : (factor least : ℕ) (sizes : List ℕ) (index : ℕ) (next : Run) → factor ≤ 100 → ((i : ℕ) → get_or sizes i 0 < 2 ^ 32)
-    → IsRun factor least (drop (index + 1) sizes) next → next.rows ≤ 100 * 2 ^ 32
+    → IsMergeRun factor least (drop (index + 1) sizes) next → next.rows ≤ 100 * 2 ^ 32
 rows_fit factor least sizes index next few fit run =
     let part : List ℕ = take next.count (drop (index + 1) sizes) in
     let all : All (λ n. n < 2 ^ 32) part = All-take (λ n. n < 2 ^ 32) next.count (drop (index + 1) sizes) (All-drop (λ n. n < 2 ^ 32) (index + 1) sizes
@@ -197,7 +197,7 @@ rows_fit factor least sizes index next few fit run =
 
 -- what can be merged from an index on makes a run there
 merged_run :
-    (factor least : ℕ) (sizes : List ℕ) (from level : ℕ) (run : Run) → 0 < factor → IsRun factor least (drop from sizes) run
+    (factor least : ℕ) (sizes : List ℕ) (from level : ℕ) (run : Run) → 0 < factor → IsMergeRun factor least (drop from sizes) run
     → IsMergeable factor least sizes level from → (run.count ≡ factor) × (level ≡ run.level) × (run.rows ≤ row_limit)
 merged_run factor least sizes from level run some is m =
     let l : (factor ≤ run.count) × (level ≡ run.level) = is.longest level factor some (omega arith) (omega (arith, m.within, length-drop from sizes)) m.levels in
@@ -216,7 +216,7 @@ at_or_behind from index le = elim (cases_lt from index) [
 
 -- nothing that can be merged begins where the run is shorter, or has more rows
 nothing_here :
-    (factor least : ℕ) (sizes : List ℕ) (from level index : ℕ) (run : Run) → 0 < factor → IsRun factor least (drop from sizes) run
+    (factor least : ℕ) (sizes : List ℕ) (from level index : ℕ) (run : Run) → 0 < factor → IsMergeRun factor least (drop from sizes) run
     → (run.count < factor) ⊎ (row_limit < run.rows) → index ≡ from → IsMergeable factor least sizes level index → ⊥
 nothing_here factor least sizes from level index run some is never here m =
     let all : (run.count ≡ factor) × (level ≡ run.level) × (run.rows ≤ row_limit)
@@ -224,7 +224,7 @@ nothing_here factor least sizes from level index run some is never here m =
     elim never [ inl short ↦ omega (arith, short, all.0) | inr many ↦ omega (arith, many, all.2) ]
 
 pub nothing_first :
-    (factor least : ℕ) (sizes : List ℕ) (from : ℕ) (run : Run) (behind : Option Candidate) → 0 < factor → IsRun factor least (drop from sizes) run
+    (factor least : ℕ) (sizes : List ℕ) (from : ℕ) (run : Run) (behind : Option Candidate) → 0 < factor → IsMergeRun factor least (drop from sizes) run
     → (run.count < factor) ⊎ (row_limit < run.rows) → IsFirstFrom factor least sizes (from + 1) behind → IsFirstFrom factor least sizes from behind
 nothing_first factor least sizes from run None some is never first = λ level index le m. elim (at_or_behind from index le) [
   | inl here ↦ nothing_here factor least sizes from level index run some is never here m
@@ -240,7 +240,7 @@ nothing_first factor least sizes from run (Some c) some is never first = (
 
 -- what comes first behind stays so, where its level is lower
 pub lower_first :
-    (factor least : ℕ) (sizes : List ℕ) (from : ℕ) (run : Run) (c : Candidate) → 0 < factor → IsRun factor least (drop from sizes) run
+    (factor least : ℕ) (sizes : List ℕ) (from : ℕ) (run : Run) (c : Candidate) → 0 < factor → IsMergeRun factor least (drop from sizes) run
     → c.level < run.level → IsFirstFrom factor least sizes (from + 1) (Some c) → IsFirstFrom factor least sizes from (Some c)
 lower_first factor least sizes from run c some is lower first = (
   first.0,
@@ -252,7 +252,7 @@ lower_first factor least sizes from run c some is lower first = (
 
 -- a run that is full, and has few rows, can be merged
 full_run :
-    (factor least : ℕ) (sizes : List ℕ) (from : ℕ) (run : Run) → 0 < factor → IsRun factor least (drop from sizes) run → factor ≤ run.count
+    (factor least : ℕ) (sizes : List ℕ) (from : ℕ) (run : Run) → 0 < factor → IsMergeRun factor least (drop from sizes) run → factor ≤ run.count
     → run.rows ≤ row_limit → IsMergeable factor least sizes run.level from
 full_run factor least sizes from run some is full few =
     let all : run.count ≡ factor = omega (arith, full, is.few) in
@@ -264,7 +264,7 @@ full_run factor least sizes from run some is full few =
 
 -- it comes before what comes first behind it, unless that has a lower level
 pub run_first :
-    (factor least : ℕ) (sizes : List ℕ) (from : ℕ) (run : Run) (behind : Option Candidate) → 0 < factor → IsRun factor least (drop from sizes) run
+    (factor least : ℕ) (sizes : List ℕ) (from : ℕ) (run : Run) (behind : Option Candidate) → 0 < factor → IsMergeRun factor least (drop from sizes) run
     → factor ≤ run.count → run.rows ≤ row_limit → ((c : Candidate) → behind ≡ Some c → run.level ≤ c.level)
     → IsFirstFrom factor least sizes (from + 1) behind → IsFirstFrom factor least sizes from (Some (record { level = run.level; index = from }))
 run_first factor least sizes from run behind some is full few low first = (

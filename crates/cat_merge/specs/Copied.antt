@@ -1,7 +1,5 @@
 -- The texts that the items of kept rows came as, in the files with the sources of segments, by the numbers of the segments.
 use Rattle.std.specs.Prelude.{ℕ, List, [], take, drop, slice_index_or}
-use Rattle.std.specs.List.{flat_map}
-use Rattle.cat_model.specs.Item.{Record}
 use Rattle.cat_model.specs.View.{Row, Segment}
 use Rattle.cat_views.specs.cat_segment.Sources.{source_offset}
 use Rattle.cat_merge.specs.declared.sources.SourceRange.{SourceRange}
@@ -15,13 +13,9 @@ abbrev pub no_row : Row
 no_row = record { number = 0; id = []; fields = []; length = 0 }
 
 -- the row of this index
-abbrev pub row_at : Segment → ℕ → Row
-row_at segment row = slice_index_or segment.rows row no_row
+abbrev pub segment_row_at : Segment → ℕ → Row
+segment_row_at segment row = slice_index_or segment.rows row no_row
 
 -- the text that the row's item came as
 abbrev pub source_in : (ℕ → List ℕ) → Segment → ℕ → List ℕ
-source_in files segment row = take (row_at segment row).length (drop (source_offset segment.rows row) (files segment.number))
-
--- the texts that the records' items came as, one after the other
-abbrev pub joined_sources : List Record → List ℕ
-joined_sources records = flat_map (λ r. r.item.source) records
+source_in files segment row = take (segment_row_at segment row).length (drop (source_offset segment.rows row) (files segment.number))

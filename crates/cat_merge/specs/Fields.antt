@@ -43,16 +43,16 @@ pub record IsMergedColumn (kind : Kind) (index : ℕ) (rows : List Row) (part : 
   pub words : kind ≡ Kind.text → length (dictionary_of (texts_under Kind.text index rows)) < 2 ^ 32
 
 -- the kind of the field of this index
-abbrev pub kind_at : ℕ → Leaf → Kind
-kind_at index leaf = (slice_index_or leaf.segment.schema index (record { name = []; kind = Kind.text })).kind
+abbrev pub field_kind_at : ℕ → Leaf → Kind
+field_kind_at index leaf = (slice_index_or leaf.segment.schema index (record { name = []; kind = Kind.text })).kind
 
 -- the segment has a field of this index and kind
 abbrev pub HasField : Kind → ℕ → Leaf → Type 0
-HasField kind index leaf = (index < length leaf.segment.schema) × (kind_at index leaf ≡ kind)
+HasField kind index leaf = (index < length leaf.segment.schema) × (field_kind_at index leaf ≡ kind)
 
 -- the texts of all rows of a segment, by which the field is searched
 abbrev pub texts_at : ℕ → Leaf → List (List Text)
-texts_at index leaf = texts_under (kind_at index leaf) index leaf.segment.rows
+texts_at index leaf = texts_under (field_kind_at index leaf) index leaf.segment.rows
 
 -- one for each field, in the fields' order
 pub record AreMergedColumns (schema : Schema) (rows : List Row) (parts : List ColumnParts) : Type 0 where

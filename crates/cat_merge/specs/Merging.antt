@@ -9,7 +9,7 @@ use Rattle.cat_model.specs.View.{Leaf, live_rows}
 
 -- the number of the new segment and its fields, the inputs as they were at the beginning, and how many of their rows are
 -- passed, dead ones too
-pub record Merging : Type 0 where
+pub record MergeUnderWay : Type 0 where
   pub number : ℕ
   pub schema : Schema
   pub inputs : List Leaf

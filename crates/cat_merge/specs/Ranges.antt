@@ -10,10 +10,10 @@ pub record CanBeOne (first second : SourceRange) : Type 0 where
   pub short : first.len + second.len < 2 ^ 32
 
 -- no two ranges that stand side by side can be one
-abbrev pub AreApart : List SourceRange → Type 0
-AreApart [] = Unit {0}
-AreApart (first ∷ []) = Unit {0}
-AreApart (first ∷ second ∷ more) = (CanBeOne first second → ⊥) × AreApart (second ∷ more)
+abbrev pub AreRangesApart : List SourceRange → Type 0
+AreRangesApart [] = Unit {0}
+AreRangesApart (first ∷ []) = Unit {0}
+AreRangesApart (first ∷ second ∷ more) = (CanBeOne first second → ⊥) × AreRangesApart (second ∷ more)
 
 -- the range lies within the sources of the segment's rows, dead ones too
 pub record IsWithin (range : SourceRange) (leaf : Leaf) : Type 0 where

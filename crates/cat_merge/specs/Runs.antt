@@ -10,7 +10,7 @@ AreOfLevel factor least level sizes = All (λ rows. IsLevel factor least rows le
 
 -- The sizes begin with so many of one level, at most `factor`, with so many rows together; and with no more of any level,
 -- unless that were more than `factor`.
-pub record IsRun (factor least : ℕ) (sizes : List ℕ) (run : Run) : Type 0 where
+pub record IsMergeRun (factor least : ℕ) (sizes : List ℕ) (run : Run) : Type 0 where
   pub few : run.count ≤ factor
   pub within : run.count ≤ length sizes
   pub level : AreOfLevel factor least run.level (take run.count sizes)

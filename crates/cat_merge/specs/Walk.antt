@@ -5,7 +5,7 @@ use Rattle.cat_model.specs.Layout.{Head, head_of}
 use Rattle.cat_model.specs.Merged.{rows_of_all, rows_kept}
 use Rattle.cat_model.specs.RowSets.{has_row}
 use Rattle.cat_model.specs.View.{Leaf, IsSegment}
-use Rattle.cat_merge.specs.Copied.{row_at, source_in}
+use Rattle.cat_merge.specs.Copied.{segment_row_at, source_in}
 use Rattle.cat_merge.specs.Making.{AreParts}
 use Rattle.cat_merge.specs.Merging.{MayMerge}
 use Rattle.cat_merge.specs.Places.{input_at, passed_at, IsPlace}
@@ -20,7 +20,7 @@ pub record AreInputs (inputs : List Leaf) : Type 0 where
 -- what is kept of the row of this place beside its columns: nothing, where it wasn't live at the beginning
 abbrev pub heads_at : List Leaf → Place → List Head
 heads_at inputs place =
-    (if has_row (input_at inputs place.input).live place.row then head_of (row_at (input_at inputs place.input).segment place.row) ∷ [] else [])
+    (if has_row (input_at inputs place.input).live place.row then head_of (segment_row_at (input_at inputs place.input).segment place.row) ∷ [] else [])
 
 -- the text that its item came as, where it is kept
 abbrev pub source_at : (ℕ → List ℕ) → List Leaf → Place → List ℕ
@@ -29,7 +29,7 @@ source_at files inputs place =
 
 -- of all rows so many are passed, the next is at the place, these are kept of those that were live at the beginning, and these parts
 -- are made of all that were so
-pub record IsWalk (segment_number : ℕ) (schema : Schema) (inputs : List Leaf) (rows passed : ℕ) (next : Place) (heads : List Head) (made : Parts) : Type 0 where
+pub record IsMergeWalk (segment_number : ℕ) (schema : Schema) (inputs : List Leaf) (rows passed : ℕ) (next : Place) (heads : List Head) (made : Parts) : Type 0 where
   pub may : MayMerge segment_number schema inputs
   pub inputs_are : AreInputs inputs
   pub all : rows ≡ length (rows_of_all inputs)

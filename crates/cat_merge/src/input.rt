@@ -2,8 +2,8 @@
 ghost use Rattle.std.specs.Prelude.{◌≡◌, ◌<◌, length};
 ghost use Rattle.std.specs.Arc.{arc_value};
 ghost use Rattle.cat_views.specs.cat_segment.Contents.{contents_of};
-ghost use Rattle.cat_views.specs.cat_segment.Laid.{contents_under, kind_of};
-ghost use Rattle.cat_merge.specs.Fields.{kind_at};
+ghost use Rattle.cat_views.specs.cat_segment.Laid.{contents_under, column_kind};
+ghost use Rattle.cat_merge.specs.Fields.{field_kind_at};
 
 use cat_views::cat_segment::{Column, Live, Segment};
 use std::marker::Model;
@@ -57,7 +57,7 @@ impl Input {
     pub(crate) fn column(&self, index: usize) -> &Column
         requires { index < length self.now.segment.schema }
         ensures contents { contents_of result.now ≡ contents_under index self.now.segment.rows }
-        ensures kind { kind_of result.now ≡ kind_at index self.now }
+        ensures kind { column_kind result.now ≡ field_kind_at index self.now }
         ensures live { length self.now.live ≡ length self.now.segment.rows }
     {
         // Its contract says what always holds of a segment.

@@ -4,7 +4,7 @@ ghost use Rattle.cat_base.specs.Texts.{IsTextSet};
 ghost use Rattle.cat_model.specs.Item.{Kind};
 ghost use Rattle.cat_model.specs.Layout.{code_in, keywords_of};
 ghost use Rattle.cat_model.specs.View.{selected};
-ghost use Rattle.cat_columns.specs.Columns.{HasText};
+ghost use Rattle.cat_columns.specs.Columns.{DictionaryHas};
 ghost use Rattle.cat_merge.specs.Coded.{moved_code, AreOrdinalsAmong};
 ghost use Rattle.cat_merge.specs.Fields.{texts_under, keywords_under, kept_rows, HasField, IsMergedColumn};
 
@@ -42,7 +42,7 @@ fn add_codes(
     requires long { length live.now ≡ length values.now }
     requires ordinals { AreOrdinalsAmong words.now (keywords_of values.now) ordinals.now }
     requires bound { All (λ o. o + 1 < 2 ^ 32) ordinals.now }
-    requires there { All (HasText words.now) (selected live.now values.now) }
+    requires there { All (DictionaryHas words.now) (selected live.now values.now) }
     ensures { OnOk result (codes.new.items ≡ codes.old.items ++ map (code_in words.now) (selected live.now values.now)) }
 {
     for (row, code) in values.codes().iter().enumerate() {
@@ -64,7 +64,7 @@ fn add_input(
     requires sorted { IsTextSet words.now }
     requires few { length words.now < 2 ^ 32 }
     requires field { HasField Kind.keyword index input.now }
-    requires there { All (HasText words.now) (selected input.now.live (keywords_under index input.now.segment.rows)) }
+    requires there { All (DictionaryHas words.now) (selected input.now.live (keywords_under index input.now.segment.rows)) }
     ensures { OnOk result (codes.new.items
         ≡ codes.old.items ++ map (code_in words.now) (selected input.now.live (keywords_under index input.now.segment.rows))) }
 {

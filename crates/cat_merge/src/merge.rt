@@ -4,11 +4,12 @@ ghost use Rattle.std.specs.List.{flat_map};
 ghost use Rattle.cat_model.specs.Layout.{head_of};
 ghost use Rattle.cat_model.specs.Limits.{step_limit};
 ghost use Rattle.cat_model.specs.Merged.{rows_of_all, rows_kept, records_kept, merged_leaf, AreDeletedFrom};
-ghost use Rattle.cat_merge.specs.Copied.{bytes_in, joined_sources};
+ghost use Rattle.cat_merge.specs.Copied.{bytes_in};
+ghost use Rattle.cat_ledger_laws.specs.model.Stored.{joined_sources};
 ghost use Rattle.cat_merge.specs.Fields.{kept_rows};
 ghost use Rattle.cat_merge.specs.Merging.{MayMerge, with_live};
 ghost use Rattle.cat_merge.specs.Places.{passed_at, IsPlace, IsRowPlace};
-ghost use Rattle.cat_merge.specs.Ranges.{AreApart, AreWithin};
+ghost use Rattle.cat_merge.specs.Ranges.{AreRangesApart, AreWithin};
 ghost use Rattle.cat_merge.specs.Walk.{heads_at, source_at, AreInputs};
 
 use crate::counting::rows_in;
@@ -43,14 +44,14 @@ pub struct Merge {
 
 impl Model for Merge {
     ghost use Rattle.cat_merge.specs.Fields.{kept_rows};
-    ghost use Rattle.cat_merge.specs.Merging.{Merging};
-    ghost use Rattle.cat_merge.specs.Walk.{IsWalk};
+    ghost use Rattle.cat_merge.specs.Merging.{MergeUnderWay};
+    ghost use Rattle.cat_merge.specs.Walk.{IsMergeWalk};
 
-    ghost Value = { Merging };
+    ghost Value = { MergeUnderWay };
 
     ghost view = { λ m. record { number = m.number; schema = m.schema; inputs = m.inputs.items; passed = m.passed } };
 
-    ghost invariant = { λ m. IsWalk m.number m.schema m.inputs.items m.total m.passed m.place m.kept.items m.parts };
+    ghost invariant = { λ m. IsMergeWalk m.number m.schema m.inputs.items m.total m.passed m.place m.kept.items m.parts };
 }
 
 /// Keeps the row of the place, if it was live at the beginning, and adds where its source stands.
@@ -64,7 +65,7 @@ fn pass_row(
     ensures kept { OnOk result (kept.new.items ≡ kept.old.items ++ heads_at inputs.now place) }
     ensures ranges { OnOk result ((files : ℕ → List ℕ) → flat_map (bytes_in files) ranges.new.items
         ≡ flat_map (bytes_in files) ranges.old.items ++ source_at files inputs.now place) }
-    ensures apart { OnOk result (AreApart ranges.old.items → AreApart ranges.new.items) }
+    ensures apart { OnOk result (AreRangesApart ranges.old.items → AreRangesApart ranges.new.items) }
     ensures within { OnOk result (AreWithin inputs.now ranges.old.items → AreWithin inputs.now ranges.new.items) }
     ensures front { take (length kept.old.items) kept.new.items ≡ kept.old.items }
 {
@@ -94,7 +95,7 @@ fn pass_rows(
     ensures ranges { IfOk result (λ p. (files : ℕ → List ℕ)
         → joined_sources (records_kept files inputs.now (passed_at inputs.now from)) ++ flat_map (bytes_in files) p.1.items
         ≡ joined_sources (records_kept files inputs.now (passed_at inputs.now from + count))) }
-    ensures apart { IfOk result (λ p. AreApart p.1.items) }
+    ensures apart { IfOk result (λ p. AreRangesApart p.1.items) }
     ensures within { IfOk result (λ p. AreWithin inputs.now p.1.items) }
     ensures front { take (length kept.old.items) kept.new.items ≡ kept.old.items }
 {
@@ -159,7 +160,7 @@ impl Merge {
         ensures sources { IfOk result (λ ranges. (files : ℕ → List ℕ)
             → joined_sources (records_kept files self.old.inputs self.old.passed) ++ flat_map (bytes_in files) ranges.items
             ≡ joined_sources (records_kept files self.new.inputs self.new.passed)) }
-        ensures apart { IfOk result (λ ranges. AreApart ranges.items) }
+        ensures apart { IfOk result (λ ranges. AreRangesApart ranges.items) }
         ensures within { IfOk result (λ ranges. AreWithin self.old.inputs ranges.items) }
         ensures err { OnErr result (self.new ≡ self.old) }
     {

@@ -2,8 +2,8 @@
 ghost use Rattle.std.specs.Prelude.{◌≡◌, ◌≢◌, ◌<◌, ◌^◌, map, length, IfOk, MatchOption, All};
 ghost use Rattle.cat_model.specs.Item.{Kind};
 ghost use Rattle.cat_views.specs.cat_segment.Contents.{contents_of};
-ghost use Rattle.cat_views.specs.cat_segment.Laid.{kind_of};
-ghost use Rattle.cat_merge.specs.Fields.{texts_read, texts_under, texts_at, kind_at, kept_rows, HasField};
+ghost use Rattle.cat_views.specs.cat_segment.Laid.{column_kind};
+ghost use Rattle.cat_merge.specs.Fields.{texts_read, texts_under, texts_at, field_kind_at, kept_rows, HasField};
 ghost use Rattle.cat_merge.specs.Maps.{codes_of};
 ghost use Rattle.cat_merge.specs.Walk.{AreInputs};
 
@@ -14,7 +14,7 @@ use std::alloc::{AllocError, Global};
 
 /// The terms of the column; a number field has none.
 fn terms_of(column: &Column) -> Option<&Terms>
-    ensures { MatchOption result (kind_of column.now ≡ Kind.number) (λ t. t.now ≡ map (texts_read (kind_of column.now)) (contents_of column.now)) }
+    ensures { MatchOption result (column_kind column.now ≡ Kind.number) (λ t. t.now ≡ map (texts_read (column_kind column.now)) (contents_of column.now)) }
 {
     match column {
         Column::Text(terms) => Some(terms),
@@ -27,7 +27,7 @@ fn terms_of(column: &Column) -> Option<&Terms>
 /// The terms of the field of this index.
 fn terms_at(input: &Input, index: usize) -> &Terms
     requires field { index < length input.now.segment.schema }
-    requires kind { kind_at index input.now ≢ Kind.number }
+    requires kind { field_kind_at index input.now ≢ Kind.number }
     ensures { result.now ≡ texts_at index input.now }
 {
     match terms_of(input.column(index)) {
@@ -43,7 +43,7 @@ fn terms_in<'a>(
     maps: &'a [Vec<u32>],
     index: usize,
 ) -> Result<Vec<MergeInput<'a>>, AllocError>
-    requires fields { All (λ leaf. (index < length leaf.segment.schema) × (kind_at index leaf ≢ Kind.number)) inputs.now }
+    requires fields { All (λ leaf. (index < length leaf.segment.schema) × (field_kind_at index leaf ≢ Kind.number)) inputs.now }
     requires maps { map (λ m. m.items) maps.now ≡ codes_of 0 inputs.now }
     ensures terms { IfOk result (λ v. map (λ p. p.terms.now) v.items ≡ map (texts_at index) inputs.now) }
     ensures maps { IfOk result (λ v. map (λ p. p.row_map.now) v.items ≡ codes_of 0 inputs.now) }
@@ -69,7 +69,7 @@ pub(crate) fn merged_terms(
     requires inputs { AreInputs inputs.now }
     requires few { rows < 2 ^ 32 }
     requires rows { rows ≡ length (kept_rows inputs.now) }
-    requires fields { All (λ leaf. (index < length leaf.segment.schema) × (kind_at index leaf ≢ Kind.number)) inputs.now }
+    requires fields { All (λ leaf. (index < length leaf.segment.schema) × (field_kind_at index leaf ≢ Kind.number)) inputs.now }
     requires maps { map (λ m. m.items) maps.now ≡ codes_of 0 inputs.now }
     ensures ok { IfOk result (λ t. (kind : Kind) → All (HasField kind index) inputs.now → t ≡ texts_under kind index (kept_rows inputs.now)) }
 {

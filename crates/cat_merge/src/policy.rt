@@ -3,7 +3,7 @@
 ghost use Rattle.std.specs.Prelude.{ℕ, List, ◌+◌, ◌<◌, drop, length};
 ghost use Rattle.cat_model.specs.Window.{IsLevel, IsWindow};
 ghost use Rattle.cat_merge.specs.Policy.{IsMergePolicy};
-ghost use Rattle.cat_merge.specs.Runs.{IsRun, IsFirstFrom};
+ghost use Rattle.cat_merge.specs.Runs.{IsMergeRun, IsFirstFrom};
 
 use cat_base::MAX_ROWS;
 
@@ -44,8 +44,8 @@ pub fn level_of(rows: u32, factor: u64, minimum: u64) -> u32
 fn run_from(sizes: &[u32], index: usize, factor: u64, minimum: u64, next: Run) -> Run
     requires policy { IsMergePolicy factor minimum }
     requires within { index < length sizes.now }
-    requires next { IsRun factor minimum (drop (index + 1) sizes.now) next }
-    ensures { IsRun factor minimum (drop index sizes.now) result }
+    requires next { IsMergeRun factor minimum (drop (index + 1) sizes.now) next }
+    ensures { IsMergeRun factor minimum (drop index sizes.now) result }
 {
     let level = level_of(sizes[index], factor, minimum);
     let rows = u64::from(sizes[index]);
@@ -75,7 +75,7 @@ fn run_from(sizes: &[u32], index: usize, factor: u64, minimum: u64, next: Run) -
 /// enough, or else what comes first behind them.
 fn first_from(run: Run, index: usize, factor: u64, behind: Option<Candidate>) -> Option<Candidate>
     requires { 0 < factor }
-    ensures { (least : ℕ) (sizes : List ℕ) → IsRun factor least (drop index sizes) run
+    ensures { (least : ℕ) (sizes : List ℕ) → IsMergeRun factor least (drop index sizes) run
         → IsFirstFrom factor least sizes (index + 1) behind → IsFirstFrom factor least sizes index result }
 {
     if run.count < factor as usize || run.rows > MAX_ROWS as u64 {

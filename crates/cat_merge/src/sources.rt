@@ -3,7 +3,7 @@ ghost use Rattle.std.specs.Prelude.{◌≡◌, ◌<◌, ◌+◌, ◌++◌, ℕ, 
 ghost use Rattle.std.specs.List.{flat_map};
 ghost use Rattle.cat_model.specs.View.{Leaf};
 ghost use Rattle.cat_merge.specs.Copied.{bytes_in, source_in};
-ghost use Rattle.cat_merge.specs.Ranges.{AreApart, AreWithin, CanBeOne, IsWithin};
+ghost use Rattle.cat_merge.specs.Ranges.{AreRangesApart, AreWithin, CanBeOne, IsWithin};
 
 use cat_base::SegNo;
 use cat_views::cat_segment::Segment;
@@ -43,7 +43,7 @@ fn joined(first: &SourceRange, second: &SourceRange) -> Option<SourceRange>
 fn add_range(ranges: &mut Vec<SourceRange>, next: SourceRange) -> Result<(), AllocError>
     ensures bytes { OnOk result ((files : ℕ → List ℕ) → flat_map (bytes_in files) ranges.new.items
         ≡ flat_map (bytes_in files) ranges.old.items ++ bytes_in files next) }
-    ensures apart { OnOk result (AreApart ranges.old.items → AreApart ranges.new.items) }
+    ensures apart { OnOk result (AreRangesApart ranges.old.items → AreRangesApart ranges.new.items) }
     ensures within { OnOk result ((inputs : List Leaf) → AreWithin inputs ranges.old.items → Any (IsWithin next) inputs
         → AreWithin inputs ranges.new.items) }
 {
@@ -69,7 +69,7 @@ pub(crate) fn add_source(
     requires { row < length segment.now.rows }
     ensures bytes { OnOk result ((files : ℕ → List ℕ) → flat_map (bytes_in files) ranges.new.items
         ≡ flat_map (bytes_in files) ranges.old.items ++ source_in files segment.now row) }
-    ensures apart { OnOk result (AreApart ranges.old.items → AreApart ranges.new.items) }
+    ensures apart { OnOk result (AreRangesApart ranges.old.items → AreRangesApart ranges.new.items) }
     ensures within { OnOk result ((inputs : List Leaf) → AreWithin inputs ranges.old.items → Any (λ leaf. leaf.segment ≡ segment.now) inputs
         → AreWithin inputs ranges.new.items) }
 {

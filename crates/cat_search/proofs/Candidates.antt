@@ -5,7 +5,7 @@ use Rattle.cat_model.specs.Page.{key_cmp}
 use Rattle.cat_model.specs.Ranks.{insert_by, insert_all, sorted}
 use Rattle.cat_search.specs.BestItems.{BestItems, IsBestOf}
 use Rattle.cat_search.specs.Keys.{key_ref_of}
-use Rattle.cat_search.specs.Standings.{Standing, rank_cmp, standing_before}
+use Rattle.cat_search.specs.Standings.{HitStanding, rank_cmp, standing_before}
 use Rattle.cat_search.specs.Candidates.{standing_of, rank_of, comes_first, IsBestAt}
 use Rattle.cat_search.specs.contracts.keys.KeyRefOrd.TheImpl as by_key
 use Rattle.cat_search.specs.contracts.standings.RankOrd.TheImpl as by_rank
@@ -64,6 +64,6 @@ comes_first-is a b = ap (λ o. is_lt (ordering_then o (nat_cmp a.number b.number
 
 pub best_standings : (kept : BestItems Candidate) (items : List Candidate)
     → ((offered : List Candidate) → IsBestOf comes_first kept offered → items ≡ take kept.limit (sorted comes_first offered))
-    → (standings : List Standing) → IsBestAt kept standings → map standing_of items ≡ take kept.limit (sorted standing_before standings)
+    → (standings : List HitStanding) → IsBestAt kept standings → map standing_of items ≡ take kept.limit (sorted standing_before standings)
 best_standings kept items first standings h =
     ap (map standing_of) (first h.0 h.2) ∙ map-first standing_of comes_first standing_before comes_first-is kept.limit h.0 ∙ ap (λ ps. take kept.limit (sorted standing_before ps)) h.1

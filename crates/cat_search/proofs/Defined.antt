@@ -18,7 +18,7 @@ use Rattle.cat_model.proofs.Lists.{All-kept, All-weaken}
 use Rattle.cat_model.proofs.Places.{EachPair, AllApart, each_pair}
 use Rattle.cat_model.proofs.Ranked.{first_sorted}
 use Rattle.cat_search.specs.Keys.{key_at}
-use Rattle.cat_search.specs.Standings.{Rank, Standing, rank_cmp, standing_before, key_shown, entry_shown}
+use Rattle.cat_search.specs.Standings.{Rank, HitStanding, rank_cmp, standing_before, key_shown, entry_shown}
 use Rattle.cat_search.specs.Pages.{hits_where, page_where, answer_where, rank_by, record_standing, mark_in_records, behind, beyond}
 use Rattle.cat_search.specs.Sorts.{IsOrderOf, HasIndex, index_named, sort_in}
 use Rattle.cat_search.specs.declared.sort.Order.{Order}
@@ -33,7 +33,7 @@ way Sort.added k = Rank.missing
 way (Sort.rising f) k = Rank.rising k
 way (Sort.falling f) k = Rank.falling k
 
-abbrev pub named_standing : Sort → Record → Standing
+abbrev pub named_standing : Sort → Record → HitStanding
 named_standing s r = record { rank = rank_by (way s) (key s r); number = r.number; id = r.item.id }
 
 -- the first standing that passes, by recursion on the list
@@ -171,7 +171,7 @@ same_number m k e = grind (arith, nat_tests)
 
 -- ---- what the mark comes before
 
-abbrev pub named_mark : Sort → List Record → Option ℕ → Option Standing
+abbrev pub named_mark : Sort → List Record → Option ℕ → Option HitStanding
 named_mark s rs None = None
 named_mark s rs (Some mark) = option_map (named_standing s) (find (λ r. r.number == mark) rs)
 
@@ -206,7 +206,7 @@ rest-is s rs None hs a e = filter_all hs
 rest-is s rs (Some mark) hs a e =
     ap (λ p. filter p hs) (found s rs mark a (find (λ r. r.number == mark) rs) refl (sym (any-is_some (λ r. r.number == mark) rs) ∙ e))
 
-marks_alike : (standing standing' : Record → Standing) (rs : List Record) (m : ℕ) → AllByRecursion (λ r. standing r ≡ standing' r) rs → option_map standing (find (λ r. r.number == m) rs) ≡ option_map standing' (find (λ r. r.number == m) rs)
+marks_alike : (standing standing' : Record → HitStanding) (rs : List Record) (m : ℕ) → AllByRecursion (λ r. standing r ≡ standing' r) rs → option_map standing (find (λ r. r.number == m) rs) ≡ option_map standing' (find (λ r. r.number == m) rs)
 marks_alike standing standing' rs m a = find_alike standing standing' (λ r. r.number == m) rs a
 
 -- ---- the page

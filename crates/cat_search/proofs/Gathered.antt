@@ -15,35 +15,35 @@ use Rattle.cat_model.proofs.Lists.{All-weaken}
 use Rattle.cat_model.proofs.Places.{EachPair, each_pair}
 use Rattle.cat_search.specs.declared.sort.Order.{Order}
 use Rattle.cat_search.specs.declared.sort.Order.TheVariants as order
-use Rattle.cat_search.specs.Standings.{Rank, Standing, standing_before}
+use Rattle.cat_search.specs.Standings.{Rank, HitStanding, standing_before}
 use Rattle.cat_search.specs.Pages.{beyond}
 use Rattle.cat_search.specs.Rows.{row_standing}
 use Rattle.cat_search.proofs.Defined.{each_pair-filter, each_pair-map}
 use Rattle.cat_search.proofs.InOrder.{insert_last}
 use Rattle.cat_views.proofs.Selected.{All-right, at_indices, indices-within, count-selected, selected-map}
 
-abbrev pub none : Standing
+abbrev pub none : HitStanding
 none = record { rank = Rank.missing; number = 0; id = [] }
 
 -- the standings of these rows, as far as the mark comes before them
-abbrev pub standings_at : Option Standing → List Standing → List ℕ → List Standing
+abbrev pub standings_at : Option HitStanding → List HitStanding → List ℕ → List HitStanding
 standings_at mark ranks rows = filter (beyond mark) (map (λ i. get_or ranks i none) rows)
 
 -- the one standing, if the mark comes before it
-abbrev pub one : Option Standing → Standing → List Standing
+abbrev pub one : Option HitStanding → HitStanding → List HitStanding
 one mark p = cond (beyond mark p) (p ∷ []) []
 
-pub standings_at-more : (mark : Option Standing) (ranks : List Standing) (rows : List ℕ) (row : ℕ) (p : Standing) → p ≡ get_or ranks row none → standings_at mark ranks (rows ++ row ∷ []) ≡ standings_at mark ranks rows ++ one mark p
+pub standings_at-more : (mark : Option HitStanding) (ranks : List HitStanding) (rows : List ℕ) (row : ℕ) (p : HitStanding) → p ≡ get_or ranks row none → standings_at mark ranks (rows ++ row ∷ []) ≡ standings_at mark ranks rows ++ one mark p
 standings_at-more mark ranks rows row p e =
     ap (filter (beyond mark)) (map-append (λ i. get_or ranks i none) rows (row ∷ []))
     ∙ filter-append (beyond mark) (map (λ i. get_or ranks i none) rows) (get_or ranks row none ∷ [])
     ∙ ap (λ q. standings_at mark ranks rows ++ one mark q) (sym e)
 
-pub standings_at-all : (mark : Option Standing) (ranks : List Standing) (set : List Bool) (rows : List ℕ) → length set ≡ length ranks → rows ≡ indices set → standings_at mark ranks rows ≡ filter (beyond mark) (selected set ranks)
+pub standings_at-all : (mark : Option HitStanding) (ranks : List HitStanding) (set : List Bool) (rows : List ℕ) → length set ≡ length ranks → rows ≡ indices set → standings_at mark ranks rows ≡ filter (beyond mark) (selected set ranks)
 standings_at-all mark ranks set rows e is = ap (standings_at mark ranks) is ∙ ap (filter (beyond mark)) (at_indices set ranks none e)
 
 -- the row that comes next is one of the segment
-pub next_within : (set : List Bool) (ranks : List Standing) (before after : List ℕ) (row : ℕ) → before ++ row ∷ after ≡ indices set → length set ≡ length ranks → row < length ranks
+pub next_within : (set : List Bool) (ranks : List HitStanding) (before after : List ℕ) (row : ℕ) → before ++ row ∷ after ≡ indices set → length set ≡ length ranks → row < length ranks
 next_within set ranks before after row e long =
     let each : AllByRecursion (λ i. i < length set) (before ++ row ∷ after) = subst (AllByRecursion (λ i. i < length set)) (sym e) (indices-within set) in
     let here : row < length set = (All-right (λ i. i < length set) before (row ∷ after) each).0 in
@@ -62,7 +62,7 @@ room n ts xs x e h =
     let more : length (xs ++ x ∷ []) ≡ length xs + 1 = length-append xs (x ∷ []) in
     ap (λ zs. zs ++ x ∷ []) (e ∙ take_all n xs (omega (arith, long))) ∙ sym (take_all n (xs ++ x ∷ []) (omega (arith, long, more)))
 
-pub standings_at-append : (mark : Option Standing) (ranks : List Standing) (xs ys : List ℕ) → standings_at mark ranks (xs ++ ys) ≡ standings_at mark ranks xs ++ standings_at mark ranks ys
+pub standings_at-append : (mark : Option HitStanding) (ranks : List HitStanding) (xs ys : List ℕ) → standings_at mark ranks (xs ++ ys) ≡ standings_at mark ranks xs ++ standings_at mark ranks ys
 standings_at-append mark ranks xs ys =
     ap (filter (beyond mark)) (map-append (λ i. get_or ranks i none) xs ys) ∙ filter-append (beyond mark) (map (λ i. get_or ranks i none) xs) (map (λ i. get_or ranks i none) ys)
 
@@ -82,7 +82,7 @@ module _ (q : Query) (ls : List Leaf) (i : ℕ) (leaf : Leaf) (at : leaf ≡ get
       let sum = length-append (filter (row_matches q) (flat_map live_rows (take i ls))) (selected hits leaf.segment.rows) in
       omega (arith, e, s, count, sum) ∙ sym (ap length hits_more)
 
-  pub standings_more : (mark : Option Standing) (o : Order) (segment : Segment) (ranks : List Standing) → segment ≡ leaf.segment → ranks ≡ map (row_standing o) segment.rows
+  pub standings_more : (mark : Option HitStanding) (o : Order) (segment : Segment) (ranks : List HitStanding) → segment ≡ leaf.segment → ranks ≡ map (row_standing o) segment.rows
       → filter (beyond mark) (map (row_standing o) (filter (row_matches q) (flat_map live_rows (take i ls)))) ++ filter (beyond mark) (selected hits ranks)
       ≡ filter (beyond mark) (map (row_standing o) (filter (row_matches q) (flat_map live_rows (take (i + 1) ls))))
   standings_more mark o segment ranks same e =
@@ -107,7 +107,7 @@ in_order lt ys (x ∷ xs) a =
     let rest = append_assoc ys (x ∷ []) xs in
     ap (λ zs. insert_all lt zs xs) last ∙ in_order lt (ys ++ x ∷ []) xs (subst (EachPair (λ a b. lt b a ≡ false)) (sym rest) a) ∙ rest
 
-abbrev added : Row → Standing
+abbrev added : Row → HitStanding
 added row = row_standing order.Added row
 
 added_after : (a b : Row) → a.number < b.number → standing_before (added b) (added a) ≡ false
@@ -117,11 +117,11 @@ added_after a b h = is_lt-nat_cmp b.number a.number ∙ not_below b.number a.num
     not_below m n k = grind (arith, nat_tests)
 
 -- rows in order of addition stand in order
-pub first_added : (mark : Option Standing) (o : Order) (p : Row → Bool) (rows : List Row) (n : ℕ) → o ≡ order.Added → AllPairs (λ a b. a.number < b.number) rows
+pub first_added : (mark : Option HitStanding) (o : Order) (p : Row → Bool) (rows : List Row) (n : ℕ) → o ≡ order.Added → AllPairs (λ a b. a.number < b.number) rows
     → take n (filter (beyond mark) (map (row_standing order.Added) (filter p rows))) ≡ take n (sorted standing_before (filter (beyond mark) (map (row_standing o) (filter p rows))))
 first_added mark o p rows n is rises =
     let hits : List Row = filter p rows in
-    let indices : List Standing = filter (beyond mark) (map added hits) in
+    let indices : List HitStanding = filter (beyond mark) (map added hits) in
     let pairs : EachPair (λ a b. a.number < b.number) hits = each_pair-filter (λ a b. a.number < b.number) p rows (each_pair (λ a b. a.number < b.number) rows rises) in
     let after : EachPair (λ a b. standing_before b a ≡ false) indices =
     each_pair-filter (λ a b. standing_before b a ≡ false) (beyond mark) (map added hits)

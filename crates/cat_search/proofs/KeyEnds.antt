@@ -17,7 +17,7 @@ use Rattle.cat_search.specs.declared.sort.Order.{Order}
 use Rattle.cat_search.specs.declared.sort.OrderField.{OrderField}
 use Rattle.cat_search.specs.declared.sort.Order.TheVariants as order
 use Rattle.cat_search.specs.Keys.{key_ref_of}
-use Rattle.cat_search.specs.Standings.{Standing, Rank, rank_cmp, standing_before}
+use Rattle.cat_search.specs.Standings.{HitStanding, Rank, rank_cmp, standing_before}
 use Rattle.cat_search.specs.BestItems.{BestItems, IsBestOf}
 use Rattle.cat_search.specs.Pages.{beyond}
 use Rattle.cat_search.specs.Candidates.{standing_of, rank_of, comes_first, IsBestAt}
@@ -34,7 +34,7 @@ as_rank (Rank.rising k) = Rising (as_ref k)
 as_rank (Rank.falling k) = Falling (record { 0 = as_ref k })
 as_rank Rank.missing = Missing
 
-abbrev as_candidate : Standing → Candidate
+abbrev as_candidate : HitStanding → Candidate
 as_candidate p = record { rank = as_rank p.rank; number = p.number; id = record { ref_ptr = (0, 0); now = p.id } }
 
 as_ref-is : (k : Key) → key_ref_of (as_ref k) ≡ k
@@ -46,7 +46,7 @@ as_rank-is (Rank.rising k) = ap Rank.rising (as_ref-is k)
 as_rank-is (Rank.falling k) = ap Rank.falling (as_ref-is k)
 as_rank-is Rank.missing = refl
 
-as_candidate-is : (p : Standing) → standing_of (as_candidate p) ≡ p
+as_candidate-is : (p : HitStanding) → standing_of (as_candidate p) ≡ p
 as_candidate-is p = λ i. record { rank = (as_rank-is p.rank) i; number = p.number; id = p.id }
 
 -- ---- a page that is full
@@ -71,34 +71,34 @@ which_end : (a b : Bool) → (a && b) ≡ false → (a ≡ false) ⊎ (b ≡ fal
 which_end true b e = inr e
 which_end false b e = inl refl
 
-abbrev IsFirst : Order → Option Standing → Option KeyRef → Type 0
+abbrev IsFirst : Order → Option HitStanding → Option KeyRef → Type 0
 IsFirst o mark first = IfSome first (λ k. MarkHas o mark (key_ref_of k))
 
 abbrev IsLast : Order → BestItems Candidate → Option KeyRef → Type 0
 IsLast o kept last = IfSome last (λ k. LastHas o kept (key_ref_of k))
 
 -- what is not before has a greater rank, or ties
-not_before : (p q : Standing) → rank_cmp p.rank q.rank ≡ Greater → standing_before p q ≡ false
+not_before : (p q : HitStanding) → rank_cmp p.rank q.rank ≡ Greater → standing_before p q ≡ false
 not_before p q e = ap (λ r. is_lt (ordering_then r (nat_cmp p.number q.number))) e
 
-module _ (kept : BestItems Candidate) (mark : Option Standing) (p : Standing) (standings : List Standing) (best : IsBestAt kept standings) where
+module _ (kept : BestItems Candidate) (mark : Option HitStanding) (p : HitStanding) (standings : List HitStanding) (best : IsBestAt kept standings) where
   abbrev Unchanged : Type 0
   Unchanged = IsBestAt kept (standings ++ cond (beyond mark p) (p ∷ []) [])
 
   not_beyond : beyond mark p ≡ false → Unchanged
   not_beyond e = subst (λ b. IsBestAt kept (standings ++ cond b (p ∷ []) [])) (sym e) (subst (IsBestAt kept) (sym (append-nil standings)) best)
 
-  too_late : (l : Standing) → IsFullBy kept l → standing_before p l ≡ false → Unchanged
+  too_late : (l : HitStanding) → IsFullBy kept l → standing_before p l ≡ false → Unchanged
   too_late l full e = elim (beyond mark p) as (λ b. IsBestAt kept (standings ++ cond b (p ∷ []) [])) [
     | true ↦ full p e standings best
     | false ↦ subst (IsBestAt kept) (sym (append-nil standings)) best
   ]
 
   -- before the mark
-  early : (m : Standing) → mark ≡ Some m → rank_cmp m.rank p.rank ≡ Greater → Unchanged
+  early : (m : HitStanding) → mark ≡ Some m → rank_cmp m.rank p.rank ≡ Greater → Unchanged
   early m is e = not_beyond (ap (λ o. beyond o p) is ∙ not_before m p e)
 
-  late : (l : Standing) → IsFullBy kept l → rank_cmp p.rank l.rank ≡ Greater → Unchanged
+  late : (l : HitStanding) → IsFullBy kept l → rank_cmp p.rank l.rank ≡ Greater → Unchanged
   late l full e = too_late l full (not_before p l e)
 
   -- rows without a key come last
@@ -126,7 +126,7 @@ module _ (kept : BestItems Candidate) (mark : Option Standing) (p : Standing) (s
   falling_high f z None is r e = absurd (cc)
   falling_high f z (Some n) is r e = early is.0 is.1 (ap (λ q. rank_cmp q p.rank) is.2 ∙ ap (rank_cmp (Rank.falling (key_ref_of n))) r ∙ greater (key_cmp z (key_ref_of n)) e)
 
-pub rising_ends : (f : OrderField) (mark : Option Standing) (kept : BestItems Candidate) (first last : Option KeyRef) → IsFirst (order.Rising f) mark first → IsLast (order.Rising f) kept last
+pub rising_ends : (f : OrderField) (mark : Option HitStanding) (kept : BestItems Candidate) (first last : Option KeyRef) → IsFirst (order.Rising f) mark first → IsLast (order.Rising f) kept last
     → AreEndsOf (order.Rising f) mark kept (record { low = first; high = last; missing = is_none last })
 rising_ends f mark kept first last a b None e p r standings best = rising_missing kept mark p standings best f last b r e
 rising_ends f mark kept first last a b (Some z) e p r standings best = elim (which_end (open_or (λ n. key_le n z) (option_map key_ref_of first)) (open_or (key_le z) (option_map key_ref_of last)) e) [
@@ -134,7 +134,7 @@ rising_ends f mark kept first last a b (Some z) e p r standings best = elim (whi
   | inr high ↦ rising_high kept mark p standings best f z last b r high
 ]
 
-pub falling_ends : (f : OrderField) (mark : Option Standing) (kept : BestItems Candidate) (first last : Option KeyRef) → IsFirst (order.Falling f) mark first → IsLast (order.Falling f) kept last
+pub falling_ends : (f : OrderField) (mark : Option HitStanding) (kept : BestItems Candidate) (first last : Option KeyRef) → IsFirst (order.Falling f) mark first → IsLast (order.Falling f) kept last
     → AreEndsOf (order.Falling f) mark kept (record { low = last; high = first; missing = is_none last })
 falling_ends f mark kept first last a b None e p r standings best = falling_missing kept mark p standings best f last b r e
 falling_ends f mark kept first last a b (Some z) e p r standings best = elim (which_end (open_or (λ n. key_le n z) (option_map key_ref_of last)) (open_or (key_le z) (option_map key_ref_of first)) e) [
@@ -142,7 +142,7 @@ falling_ends f mark kept first last a b (Some z) e p r standings best = elim (wh
   | inr high ↦ falling_high kept mark p standings best f z first a r high
 ]
 
-pub added_ends : (mark : Option Standing) (kept : BestItems Candidate) (first last : Option KeyRef) → IsFirst order.Added mark first → IsLast order.Added kept last
+pub added_ends : (mark : Option HitStanding) (kept : BestItems Candidate) (first last : Option KeyRef) → IsFirst order.Added mark first → IsLast order.Added kept last
     → AreEndsOf order.Added mark kept (record { low = first; high = last; missing = is_none last })
 added_ends mark kept None None a b None e p r standings best = absurd (cc)
 added_ends mark kept None None a b (Some z) e p r standings best = absurd (cc)
@@ -155,7 +155,7 @@ missing_is None false e = absurd (cc)
 missing_is (Some n) true e = absurd (cc)
 missing_is (Some n) false e = refl
 
-module _ (o : Order) (mark : Option Standing) (kept : BestItems Candidate) (first last : Option KeyRef) (missing : Bool) (a : IsFirst o mark first) (b : IsLast o kept last) (e : is_some last ≡ not missing) where
+module _ (o : Order) (mark : Option HitStanding) (kept : BestItems Candidate) (first last : Option KeyRef) (missing : Bool) (a : IsFirst o mark first) (b : IsLast o kept last) (e : is_some last ≡ not missing) where
   abbrev AreEndsWith : Option KeyRef → Option KeyRef → Bool → Type 0
   AreEndsWith low high m = AreEndsOf o mark kept (record { low = low; high = high; missing = m })
 

@@ -12,7 +12,7 @@ use Rattle.std.proofs.lemmas.List.Sorted.{All-permutation}
 use Rattle.cat_model.specs.Page.{Key, key_cmp}
 use Rattle.cat_search.specs.Bars.{HaveRanks}
 use Rattle.cat_search.specs.Pages.{rank_with}
-use Rattle.cat_search.specs.Standings.{Rank, Standing, rank_cmp, standing_before}
+use Rattle.cat_search.specs.Standings.{Rank, HitStanding, rank_cmp, standing_before}
 use Rattle.cat_views.specs.cat_segment.Orders.{IsOrderBy, missing_last, row_before, turned}
 use Rattle.cat_search.specs.Walks.{IsWalk, standing_at}
 use Rattle.cat_search.specs.declared.sort.Order.{Order}
@@ -59,13 +59,13 @@ by_number Less a b m n up e = refl
 by_number Equal a b m n up e = below_to m n (up (below_from a b e))
 by_number Greater a b m n up e = absurd (true≢false (sym e))
 
-module _ {X : Type 0} (key : X → Key) (o : Order) (cmp : X → X → Ordering) (alike : Compares key o cmp) (values : List (Option X)) (standings : List Standing) (ranks : HaveRanks key o values standings) (up : AllPairs (λ p q. p.number < q.number) standings) where
+module _ {X : Type 0} (key : X → Key) (o : Order) (cmp : X → X → Ordering) (alike : Compares key o cmp) (values : List (Option X)) (standings : List HitStanding) (ranks : HaveRanks key o values standings) (up : AllPairs (λ p q. p.number < q.number) standings) where
   long : length values ≡ length standings
   long = sym (length-map values (λ v. rank_in key o v)) ∙ sym (ap length ranks) ∙ length-map standings (λ p. p.rank)
 
   rank_there : (row : ℕ) → row < length standings → (standing_at standings row).rank ≡ rank_in key o (get_or values row None)
   rank_there row h =
-      sym (get_or-map (λ (p : Standing). p.rank) standings row none Rank.missing h)
+      sym (get_or-map (λ (p : HitStanding). p.rank) standings row none Rank.missing h)
       ∙ ap (λ l. get_or l row Rank.missing) ranks
       ∙ get_or-map (λ v. rank_in key o v) values row None Rank.missing (omega (arith, h, long))
 
@@ -96,30 +96,30 @@ module _ {X : Type 0} (key : X → Key) (o : Order) (cmp : X → X → Ordering)
 
 -- the rows in the order of their values, the least first, are a walk where that is the page's order
 pub rising_walk : {X : Type 0} (key : X → Key) (cmp : X → X → Ordering) → ((a b : X) → key_cmp (key a) (key b) ≡ cmp a b)
-    → (field : OrderField) (values : List (Option X)) (standings : List Standing) (rows : List ℕ)
+    → (field : OrderField) (values : List (Option X)) (standings : List HitStanding) (rows : List ℕ)
     → HaveRanks key (order.Rising field) values standings → AllPairs (λ p q. p.number < q.number) standings → IsOrderBy cmp values rows → IsWalk standings rows
 rising_walk key cmp same field values standings rows ranks up is = walk_from key (order.Rising field) cmp (rising_compares key cmp same field) values standings ranks up rows is
 
 -- and those the greatest first
 pub falling_walk : {X : Type 0} (key : X → Key) (cmp : X → X → Ordering) → ((a b : X) → key_cmp (key a) (key b) ≡ cmp a b)
-    → (field : OrderField) (values : List (Option X)) (standings : List Standing) (rows : List ℕ)
+    → (field : OrderField) (values : List (Option X)) (standings : List HitStanding) (rows : List ℕ)
     → HaveRanks key (order.Falling field) values standings → AllPairs (λ p q. p.number < q.number) standings → IsOrderBy (turned cmp) values rows → IsWalk standings rows
 falling_walk key cmp same field values standings rows ranks up is = walk_from key (order.Falling field) (turned cmp) (falling_compares key cmp same field) values standings ranks up rows is
 
 -- ---- the numbers of standings rise with those of the rows
 
 module _ (o : Order) where
-  beside_rise : (n : ℕ) (ks : List (Option Key)) (rows : List Row) → AllByRecursion (λ (r : Row). n < r.number) rows → AllByRecursion (λ (p : Standing). n < p.number) (keyed_standings o ks rows)
+  beside_rise : (n : ℕ) (ks : List (Option Key)) (rows : List Row) → AllByRecursion (λ (r : Row). n < r.number) rows → AllByRecursion (λ (p : HitStanding). n < p.number) (keyed_standings o ks rows)
   beside_rise n [] rows a = tt
   beside_rise n (k ∷ ks) [] a = tt
   beside_rise n (k ∷ ks) (r ∷ rows) a = (a.0, beside_rise n ks rows a.1)
 
-  each_rise : (ks : List (Option Key)) (rows : List Row) → EachPair (λ (a b : Row). a.number < b.number) rows → EachPair (λ (p q : Standing). p.number < q.number) (keyed_standings o ks rows)
+  each_rise : (ks : List (Option Key)) (rows : List Row) → EachPair (λ (a b : Row). a.number < b.number) rows → EachPair (λ (p q : HitStanding). p.number < q.number) (keyed_standings o ks rows)
   each_rise [] rows a = tt
   each_rise (k ∷ ks) [] a = tt
   each_rise (k ∷ ks) (r ∷ rows) a = (beside_rise r.number ks rows a.0, each_rise ks rows a.1)
 
-  pub standings_rise : (ks : List (Option Key)) (rows : List Row) (standings : List Standing) → AllPairs (λ (a b : Row). a.number < b.number) rows → keyed_standings o ks rows ≡ standings → AllPairs (λ (p q : Standing). p.number < q.number) standings
+  pub standings_rise : (ks : List (Option Key)) (rows : List Row) (standings : List HitStanding) → AllPairs (λ (a b : Row). a.number < b.number) rows → keyed_standings o ks rows ≡ standings → AllPairs (λ (p q : HitStanding). p.number < q.number) standings
   standings_rise ks rows standings up e =
-      subst (AllPairs (λ (p q : Standing). p.number < q.number)) e
-      (all_pairs (λ (p q : Standing). p.number < q.number) (keyed_standings o ks rows) (each_rise ks rows (each_pair (λ (a b : Row). a.number < b.number) rows up)))
+      subst (AllPairs (λ (p q : HitStanding). p.number < q.number)) e
+      (all_pairs (λ (p q : HitStanding). p.number < q.number) (keyed_standings o ks rows) (each_rise ks rows (each_pair (λ (a b : Row). a.number < b.number) rows up)))

@@ -17,7 +17,7 @@ use Rattle.cat_search.specs.declared.ends.Ends.{Ends}
 use Rattle.cat_search.specs.declared.ordinal_bar.OrdinalBar.{OrdinalBar}
 use Rattle.cat_search.specs.Bars.{key_le, keyword_of, lies_within}
 use Rattle.cat_search.specs.Keys.{key_ref_of}
-use Rattle.cat_search.specs.OrdinalBars.{is_below_end, is_above_end, AreBelow, AreAbove, AreOrdinalsOf, keyword_key, lets_in}
+use Rattle.cat_search.specs.OrdinalBars.{is_below_end, is_above_end, AreTextsBelow, AreAbove, AreOrdinalsOf, keyword_key, lets_ordinal_in}
 use Rattle.cat_search.proofs.Bars.{either_refuses}
 
 -- ---- the order of texts
@@ -65,8 +65,8 @@ module _ (texts : List Text) (sorted : IsTextSet texts) where
       not_true true h = absurd (cc)
       not_true false h = refl
 
-pub below_before : (low : Option Text) (texts dictionary : List Text) (ordinal : ℕ) → texts ≡ dictionary → IsPartitionPoint (λ t. is_below_end t low ≡ true) (λ t. is_below_end t low ≡ false) texts ordinal → AreBelow low dictionary ordinal
-below_before low texts dictionary ordinal e point = subst (λ ts. AreBelow low ts ordinal) e (λ i under lt. point.0 i [] (omega arith) under)
+pub below_before : (low : Option Text) (texts dictionary : List Text) (ordinal : ℕ) → texts ≡ dictionary → IsPartitionPoint (λ t. is_below_end t low ≡ true) (λ t. is_below_end t low ≡ false) texts ordinal → AreTextsBelow low dictionary ordinal
+below_before low texts dictionary ordinal e point = subst (λ ts. AreTextsBelow low ts ordinal) e (λ i under lt. point.0 i [] (omega arith) under)
 
 pub above_from : (high : Option Text) (texts dictionary : List Text) (ordinal : ℕ) → texts ≡ dictionary
     → IsPartitionPoint (λ t. not (is_above_end t high) ≡ true) (λ t. not (is_above_end t high) ≡ false) texts ordinal → AreAbove high dictionary ordinal
@@ -98,7 +98,7 @@ pub open_ordinals : (texts : List Text) (ordinal n : ℕ) → ordinal ≡ length
 open_ordinals texts ordinal n e = record { below = λ i under lt. absurd (omega arith); above = λ i from lt. absurd (omega (arith, e)) }
 
 pub open_lets_in : (texts : List Text) (ordinal n : ℕ) → ordinal ≡ length texts → (i : Option ℕ) → IfSome i (λ k. k < length texts)
-    → lets_in (record { from = 0; before = ordinal; missing = true; low = None; high = None; lookups = n }) i ≡ true
+    → lets_ordinal_in (record { from = 0; before = ordinal; missing = true; low = None; high = None; lookups = n }) i ≡ true
 open_lets_in texts ordinal n e None within = refl
 open_lets_in texts ordinal n e (Some i) within = both i ordinal (omega (arith, within, e))
   where
@@ -107,7 +107,7 @@ open_lets_in texts ordinal n e (Some i) within = both i ordinal (omega (arith, w
 
 pub outside : (ends : Ends) (texts : List Text) (bar : OrdinalBar) → bar.missing ≡ ends.missing
     → option_map (λ t. t.now) bar.low ≡ keyword_of (option_map key_ref_of ends.low) → option_map (λ t. t.now) bar.high ≡ keyword_of (option_map key_ref_of ends.high) → AreOrdinalsOf texts bar
-    → (i : Option ℕ) → IfSome i (λ k. k < length texts) → lets_in bar i ≡ false → lies_within ends (keyword_key texts i) ≡ false
+    → (i : Option ℕ) → IfSome i (λ k. k < length texts) → lets_ordinal_in bar i ≡ false → lies_within ends (keyword_key texts i) ≡ false
 outside ends texts bar m a b are None within e = sym m ∙ e
 outside ends texts bar m a b are (Some i) within e =
     let t : Text = text_at texts i in

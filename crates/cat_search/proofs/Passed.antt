@@ -5,20 +5,20 @@ use Rattle.std.proofs.lemmas.List.{drop_all}
 use Rattle.cat_model.specs.View.{Row, selected}
 use Rattle.cat_model.proofs.HitOrder.{is_lt-nat_cmp}
 use Rattle.cat_search.specs.declared.sort.Order.TheVariants as order
-use Rattle.cat_search.specs.Standings.{Rank, Standing, standing_before}
+use Rattle.cat_search.specs.Standings.{Rank, HitStanding, standing_before}
 use Rattle.cat_search.specs.Pages.{behind}
 use Rattle.cat_search.specs.Rows.{row_standing}
 
-abbrev added : Row → Standing
+abbrev added : Row → HitStanding
 added row = row_standing order.Added row
 
 -- a mark without a key doesn't come before a row that an earlier write put, or the same
-not_beyond : (m : Standing) (row : Row) → m.rank ≡ Rank.missing → row.number ≤ m.number → standing_before m (added row) ≡ false
+not_beyond : (m : HitStanding) (row : Row) → m.rank ≡ Rank.missing → row.number ≤ m.number → standing_before m (added row) ≡ false
 not_beyond m row is le =
     let up : ltb m.number row.number ≡ false = grind (arith, nat_tests, le) in
     rw is (is_lt-nat_cmp m.number row.number ∙ up)
 
-pub passed : (m : Standing) (k : ℕ) (set : List Bool) (rows : List Row) → m.rank ≡ Rank.missing → ((i : ℕ) (d : Row) → i < k → i < length rows → (get_or rows i d).number ≤ m.number)
+pub passed : (m : HitStanding) (k : ℕ) (set : List Bool) (rows : List Row) → m.rank ≡ Rank.missing → ((i : ℕ) (d : Row) → i < k → i < length rows → (get_or rows i d).number ≤ m.number)
     → filter (standing_before m) (selected (replicate k false ++ drop k set) (map added rows)) ≡ filter (standing_before m) (selected set (map added rows))
 passed m zero set rows is up_to = refl
 passed m (suc k) [] rows is up_to = none k rows
@@ -42,7 +42,7 @@ selected_none (suc k) [] = refl
 selected_none (suc k) (x ∷ xs) = selected_none k xs
 
 -- where all rows are passed, no hit stands behind the mark
-pub all_passed : (mark : Option Standing) (k : ℕ) (hits : List Bool) (ranks : List Standing) → length hits ≤ k
+pub all_passed : (mark : Option HitStanding) (k : ℕ) (hits : List Bool) (ranks : List HitStanding) → length hits ≤ k
     → behind mark (selected (replicate k false ++ drop k hits) ranks) ≡ behind mark (selected hits ranks) → behind mark (selected hits ranks) ≡ []
 all_passed mark k hits ranks all same =
     sym same ∙ ap (behind mark) (ap (λ (l : List Bool). selected (replicate k false ++ l) ranks) (drop_all k hits all) ∙ selected_none k ranks)

@@ -4,11 +4,11 @@ use Rattle.std.proofs.lemmas.List.{map-append, take_more}
 use Rattle.std.proofs.lemmas.List.Elements.{filter-append}
 use Rattle.cat_model.specs.Item.{Item, Record}
 use Rattle.cat_search.specs.declared.sort.Order.{Order}
-use Rattle.cat_search.specs.Standings.{Standing}
+use Rattle.cat_search.specs.Standings.{HitStanding}
 use Rattle.cat_search.specs.Pages.{hits_where, behind, beyond, record_standing}
 
 -- the standings of the hits that the mark comes before
-abbrev pub standings_behind : Order → Option Standing → (Item → Bool) → List Record → List Standing
+abbrev pub standings_behind : Order → Option HitStanding → (Item → Bool) → List Record → List HitStanding
 standings_behind o mark test rs = behind mark (map (record_standing o) (hits_where test rs))
 
 pub records_more : {X : Type 0} (record_of : X → Record) (xs : List X) (i : ℕ) (x : X) → x ≡ get_or xs i x → i < length xs → map record_of (take (i + 1) xs) ≡ map record_of (take i xs) ++ record_of x ∷ []
@@ -26,7 +26,7 @@ module _ (accepts : Item → Bool) (rs : List Record) (r : Record) where
   pub total_other : (t : ℕ) → accepts r.item ≡ false → t ≡ length (hits_where accepts rs) → t ≡ length (hits_where accepts (rs ++ r ∷ []))
   total_other t e s = s ∙ ap length (sym (append-nil (hits_where accepts rs)) ∙ sym (hits_more false e))
 
-  module _ (o : Order) (mark : Option Standing) where
+  module _ (o : Order) (mark : Option HitStanding) where
     standings_more : (b : Bool) → accepts r.item ≡ b → standings_behind o mark accepts (rs ++ r ∷ []) ≡ standings_behind o mark accepts rs ++ filter (beyond mark) (map (record_standing o) (cond b (r ∷ []) []))
     standings_more b e =
         ap (λ hs. filter (beyond mark) (map (record_standing o) hs)) (hits_more b e)

@@ -12,7 +12,7 @@ use Rattle.cat_model.specs.View.{Row, item_in}
 use Rattle.cat_views.specs.cat_segment.Contents.{contents_of}
 use Rattle.cat_views.specs.cat_segment.declared.column.Column.{Column}
 use Rattle.cat_search.specs.declared.sort.Order.{Order}
-use Rattle.cat_search.specs.Standings.{Standing}
+use Rattle.cat_search.specs.Standings.{HitStanding}
 use Rattle.cat_search.specs.Pages.{rank_with}
 use Rattle.cat_search.specs.Sorts.{sort_in}
 use Rattle.cat_search.specs.Rows.{bare_record, keys_by, mark_in_rows, row_standing, keyed_standings}
@@ -59,9 +59,9 @@ length-standings o [] (r ∷ rows) e = absurd (omega arith)
 length-standings o (k ∷ ks) [] e = absurd (omega arith)
 length-standings o (k ∷ ks) (r ∷ rows) e = let h : length (keyed_standings o ks rows) ≡ length rows = length-standings o ks rows (omega arith) in omega (arith, h)
 
-pub keyed-at : (o : Order) (ks : List (Option Key)) (rows : List Row) (i : ℕ) (d : Standing) (k : Option Key) (number : ℕ) (id : Text) → length ks ≡ length rows → i < length rows
+pub keyed-at : (o : Order) (ks : List (Option Key)) (rows : List Row) (i : ℕ) (d : HitStanding) (k : Option Key) (number : ℕ) (id : Text) → length ks ≡ length rows → i < length rows
     → get_or ks i None ≡ k → HoldsAt (λ r. r.number ≡ number) rows i → HoldsAt (λ r. r.id ≡ id) rows i
-    → ◌≡◌ {A = Standing} (record { rank = rank_with o k; number = number; id = id }) (get_or (keyed_standings o ks rows) i d)
+    → ◌≡◌ {A = HitStanding} (record { rank = rank_with o k; number = number; id = id }) (get_or (keyed_standings o ks rows) i d)
 keyed-at o [] [] i d k number id e h at n t = absurd (omega arith)
 keyed-at o [] (r ∷ rows) i d k number id e h at n t = absurd (omega arith)
 keyed-at o (x ∷ ks) [] i d k number id e h at n t = absurd (omega arith)
@@ -107,7 +107,7 @@ none : Row
 none = record { number = 0; id = []; fields = []; length = 0 }
 
 pub found_mark : (o : Order) (rows : List Row) (mark : Option ℕ) (number : ℕ) → mark ≡ Some number
-    → (ps : List Standing) (here : List Row) (i : ℕ) (p : Standing) → ps ≡ map (row_standing o) here
+    → (ps : List HitStanding) (here : List Row) (i : ℕ) (p : HitStanding) → ps ≡ map (row_standing o) here
     → (i < length here) × HoldsAt (λ r. find (λ t. t.number == number) rows ≡ Some r) here i → HoldsAt (λ q. p ≡ q) ps i
     → (Some p ≡ mark_in_rows o rows mark) × (has_mark (map bare_record rows) mark ≡ true)
 found_mark o rows mark number is ps here i p e h at =

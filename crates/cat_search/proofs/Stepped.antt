@@ -16,7 +16,7 @@ use Rattle.cat_search.specs.Bars.{IsFullBy}
 use Rattle.cat_search.specs.BestItems.{BestItems}
 use Rattle.cat_search.specs.Candidates.{IsBestAt}
 use Rattle.cat_search.specs.Pages.{beyond, behind}
-use Rattle.cat_search.specs.Standings.{Standing, standing_before}
+use Rattle.cat_search.specs.Standings.{HitStanding, standing_before}
 use Rattle.cat_search.specs.Steps.{rows_of_parts_before, rows_of_parts_from}
 use Rattle.cat_search.specs.Walks.{EndsPassed, IsRestOfWalk, IsOrderedRun, IsWalk, standing_at}
 use Rattle.cat_search.specs.declared.standings.Candidate.{Candidate}
@@ -43,7 +43,7 @@ rows_more parts i h = ap (flat_map (λ part. part)) (take_more (parts_of parts) 
 
 -- ---- a walk, cut in three
 
-module _ (mark : Option Standing) (ranks : List Standing) where
+module _ (mark : Option HitStanding) (ranks : List HitStanding) where
   abbrev Follows : ℕ → ℕ → Type 0
   Follows a b = standing_before (standing_at ranks a) (standing_at ranks b) ≡ true
 
@@ -133,7 +133,7 @@ module _ (mark : Option Standing) (ranks : List Standing) where
   -- ---- the steps
 
   module _ (hits : List Bool) (left : List ℕ) (is : IsRestOfWalk mark ranks left) where
-    abbrev pub taken : List ℕ → List Standing
+    abbrev pub taken : List ℕ → List HitStanding
     taken rows = standings_at mark ranks (filter (has_row hits) rows)
 
     -- what the mark doesn't come before is nothing to a page
@@ -152,7 +152,7 @@ module _ (mark : Option Standing) (ranks : List Standing) where
           (All-right (λ r. r < length ranks) (is.passed ++ done) (row ∷ rest)
           (subst (AllByRecursion (λ r. r < length ranks)) whole (recursion_from_All (λ r. r < length ranks) (is.passed ++ left) (walk_within ranks (is.passed ++ left) is.walk)))).0
 
-      pub hit_taken : has_row hits row ≡ true → (p : Standing) → p ≡ get_or ranks row none → taken (done ++ row ∷ []) ≡ taken done ++ cond (beyond mark p) (p ∷ []) []
+      pub hit_taken : has_row hits row ≡ true → (p : HitStanding) → p ≡ get_or ranks row none → taken (done ++ row ∷ []) ≡ taken done ++ cond (beyond mark p) (p ∷ []) []
       hit_taken e p at =
           ap (standings_at mark ranks) (filter-append (has_row hits) done (row ∷ []) ∙ ap (λ b. filter (has_row hits) done ++ cond b (row ∷ []) []) e)
           ∙ standings_at-more mark ranks (filter (has_row hits) done) row p at
@@ -163,7 +163,7 @@ module _ (mark : Option Standing) (ranks : List Standing) where
           (filter-append (has_row hits) done (row ∷ []) ∙ ap (λ b. filter (has_row hits) done ++ cond b (row ∷ []) []) e ∙ append-nil (filter (has_row hits) done))
 
       -- where a full page leaves out the row, what is taken is as good as all
-      pub taken_early : length hits ≡ length ranks → (kept : BestItems Candidate) → IsFullBy kept (get_or ranks row none) → (ss : List Standing) → IsBestAt kept (ss ++ taken done)
+      pub taken_early : length hits ≡ length ranks → (kept : BestItems Candidate) → IsFullBy kept (get_or ranks row none) → (ss : List HitStanding) → IsBestAt kept (ss ++ taken done)
           → IsBestAt kept (ss ++ behind mark (selected hits ranks))
       taken_early long kept full ss best =
           let front = is.passed ++ done in
@@ -174,5 +174,5 @@ module _ (mark : Option Standing) (ranks : List Standing) where
           (subst (λ r. IsFullBy kept (get_or ranks r none)) (sym there) full) ss (subst (λ l. IsBestAt kept (ss ++ l)) before best)
 
     -- where all are taken
-    pub taken_all : length hits ≡ length ranks → (kept : BestItems Candidate) (ss : List Standing) → IsBestAt kept (ss ++ taken left) → IsBestAt kept (ss ++ behind mark (selected hits ranks))
+    pub taken_all : length hits ≡ length ranks → (kept : BestItems Candidate) (ss : List HitStanding) → IsBestAt kept (ss ++ taken left) → IsBestAt kept (ss ++ behind mark (selected hits ranks))
     taken_all long kept ss best = walked_all ranks (is.passed ++ left) hits long is.walk mark kept ss (subst (λ l. IsBestAt kept (ss ++ l)) (sym (none_taken left)) best)

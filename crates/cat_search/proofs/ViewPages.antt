@@ -16,7 +16,7 @@ use Rattle.cat_query.specs.View.{query_of}
 use Rattle.cat_search.specs.declared.ask.Ask.{Ask}
 use Rattle.cat_search.specs.declared.sort.Order.{Order}
 use Rattle.cat_search.specs.declared.sort.Order.TheVariants as order
-use Rattle.cat_search.specs.Standings.{Standing, standing_before, entry_shown}
+use Rattle.cat_search.specs.Standings.{HitStanding, standing_before, entry_shown}
 use Rattle.cat_search.specs.Asks.{page_to}
 use Rattle.cat_search.specs.Pages.{answer_where, as_found, behind, hits_where}
 use Rattle.cat_search.specs.Sorts.{IsOrderOf, sort_in, sort_of}
@@ -57,7 +57,7 @@ hits-are : (q : Query) (rows : List Row) → hits_where (matches q) (map bare_re
 hits-are q rows = filter-map (λ r. matches q r.item) bare_record rows
 
 -- the answer over the live rows
-pub page_answered : (view : View) (q : Query) (s : Sort) (m : Option ℕ) (n total : ℕ) (o : Order) (ls : List Leaf) (mark : Option Standing) (entries : List Entry)
+pub page_answered : (view : View) (q : Query) (s : Sort) (m : Option ℕ) (n total : ℕ) (o : Order) (ls : List Leaf) (mark : Option HitStanding) (entries : List Entry)
     → ls ≡ view.leaves → IsView view → n ≤ page_limit → IsOrderOf view.schema s o → can_sort view.schema s ≡ true
     → mark ≡ mark_in_rows o (flat_map live_rows ls) m → has_mark (map bare_record (flat_map live_rows ls)) m ≡ true
     → total ≡ length (hits_in ls q)
@@ -65,7 +65,7 @@ pub page_answered : (view : View) (q : Query) (s : Sort) (m : Option ℕ) (n tot
     → answer_where view.schema (map bare_record (rows_in view)) (matches q) s m n ≡ Ok (record { total = total; entries = entries })
 page_answered view q s m n total o ls mark entries same v few is sorts found has t e =
     let rows : List Row = flat_map live_rows ls in
-    let shown = λ (k : Option Standing) (ps : List Standing). map entry_shown (take n (sorted standing_before (behind k ps))) in
+    let shown = λ (k : Option HitStanding) (ps : List HitStanding). map entry_shown (take n (sorted standing_before (behind k ps))) in
     let hits : List Row = hits_in ls q in
     let standing : entries ≡ shown (named_mark s (map bare_record rows) m) (map (named_standing s) (hits_where (matches q) (map bare_record rows))) =
     e ∙ ap (λ w. shown w (map (row_standing o) hits)) (found ∙ mark-is view s o is rows m)

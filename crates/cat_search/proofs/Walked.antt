@@ -21,7 +21,7 @@ use Rattle.std.specs.List.Sorted.{IsPartitionedBy}
 use Rattle.cat_search.specs.Candidates.{IsBestAt, TakesIn, standing_of, comes_first, rank_of}
 use Rattle.cat_search.specs.Keys.{key_ref_of}
 use Rattle.cat_search.specs.Pages.{beyond, behind}
-use Rattle.cat_search.specs.Standings.{Standing, Rank, standing_before}
+use Rattle.cat_search.specs.Standings.{HitStanding, Rank, standing_before}
 use Rattle.cat_search.specs.Walks.{IsOrderedRun, IsWalk, is_passed, standing_at}
 use Rattle.cat_search.specs.declared.keys.KeyRef.{KeyRef}
 use Rattle.cat_search.specs.declared.keys.KeyRef.TheVariants.{Number, Keyword}
@@ -74,7 +74,7 @@ as_rank (Rank.rising k) = Rising (as_ref k)
 as_rank (Rank.falling k) = Falling (record { 0 = as_ref k })
 as_rank Rank.missing = Missing
 
-abbrev as_candidate : Standing → Candidate
+abbrev as_candidate : HitStanding → Candidate
 as_candidate p = record { rank = as_rank p.rank; number = p.number; id = record { ref_ptr = (0, 0); now = p.id } }
 
 as_ref-is : (k : Key) → key_ref_of (as_ref k) ≡ k
@@ -86,10 +86,10 @@ as_rank-is (Rank.rising k) = ap Rank.rising (as_ref-is k)
 as_rank-is (Rank.falling k) = ap Rank.falling (as_ref-is k)
 as_rank-is Rank.missing = refl
 
-as_candidate-is : (p : Standing) → standing_of (as_candidate p) ≡ p
+as_candidate-is : (p : HitStanding) → standing_of (as_candidate p) ≡ p
 as_candidate-is p = λ i. record { rank = (as_rank-is p.rank) i; number = p.number; id = p.id }
 
-before_alike : (p q : Standing) → standing_before p q ≡ comes_first (as_candidate p) (as_candidate q)
+before_alike : (p q : HitStanding) → standing_before p q ≡ comes_first (as_candidate p) (as_candidate q)
 before_alike p q = sym (
     comes_first-is (as_candidate p) (as_candidate q)
     ∙ ap (λ u. standing_before u (standing_of (as_candidate q))) (as_candidate-is p) ∙ ap (λ u. standing_before p u) (as_candidate-is q)
@@ -126,7 +126,7 @@ apart_all : (cs : List Candidate) → AllApart standing_before (map standing_of 
 apart_all [] a = tt
 apart_all (c ∷ cs) a = (apart_beside c cs a.0, apart_all cs a.1)
 
-pub best_arranged : (kept : BestItems Candidate) (ss ps qs : List Standing) → AllApart standing_before ps → IsPermutation ps qs → IsBestAt kept (ss ++ ps) → IsBestAt kept (ss ++ qs)
+pub best_arranged : (kept : BestItems Candidate) (ss ps qs : List HitStanding) → AllApart standing_before ps → IsPermutation ps qs → IsBestAt kept (ss ++ ps) → IsBestAt kept (ss ++ qs)
 best_arranged kept ss ps qs apart same h =
     let offered = h.0 in
     let n = length ss in
@@ -145,7 +145,7 @@ best_arranged kept ss ps qs apart same h =
 
 -- ---- a walk
 
-module _ (ranks : List Standing) (walk : List ℕ) (hits : List Bool) (long : length hits ≡ length ranks) (is : IsWalk ranks walk) (mark : Option Standing) where
+module _ (ranks : List HitStanding) (walk : List ℕ) (hits : List Bool) (long : length hits ≡ length ranks) (is : IsWalk ranks walk) (mark : Option HitStanding) where
   abbrev walked : List ℕ
   walked = filter (has_row hits) walk
 
@@ -168,11 +168,11 @@ module _ (ranks : List Standing) (walk : List ℕ) (hits : List Bool) (long : le
       (each_pair (λ a b. AreApart standing_before (get_or ranks a none) (get_or ranks b none)) walk (λ i j d p q. inl (is.rising i j d p q)))))
 
   -- all of the walk was offered
-  pub walked_all : (kept : BestItems Candidate) (ss : List Standing) → IsBestAt kept (ss ++ standings_at mark ranks walked) → IsBestAt kept (ss ++ behind mark (selected hits ranks))
+  pub walked_all : (kept : BestItems Candidate) (ss : List HitStanding) → IsBestAt kept (ss ++ standings_at mark ranks walked) → IsBestAt kept (ss ++ behind mark (selected hits ranks))
   walked_all kept ss h = best_arranged kept ss (standings_at mark ranks walked) (behind mark (selected hits ranks)) apart_standings same_standings h
 
   -- what stands behind one that a full page leaves out is left out
-  pub rest_left_out : (kept : BestItems Candidate) (p : Standing) → IsFullBy kept p → (rows : List ℕ) → AllByRecursion (λ r. standing_before (get_or ranks r none) p ≡ false) rows → TakesIn kept kept (standings_at mark ranks rows)
+  pub rest_left_out : (kept : BestItems Candidate) (p : HitStanding) → IsFullBy kept p → (rows : List ℕ) → AllByRecursion (λ r. standing_before (get_or ranks r none) p ≡ false) rows → TakesIn kept kept (standings_at mark ranks rows)
   rest_left_out kept p full [] a = λ ss h. subst (IsBestAt kept) (sym (append-nil ss)) h
   rest_left_out kept p full (r ∷ rows) a = λ ss h.
       let s = get_or ranks r none in
@@ -184,7 +184,7 @@ module _ (ranks : List Standing) (walk : List ℕ) (hits : List Bool) (long : le
       ]
 
 -- each row of a walk is one of the segment
-pub walk_within : (ranks : List Standing) (walk : List ℕ) → IsWalk ranks walk → All (λ r. r < length ranks) walk
+pub walk_within : (ranks : List HitStanding) (walk : List ℕ) → IsWalk ranks walk → All (λ r. r < length ranks) walk
 walk_within ranks walk is = All-permutation (λ r. r < length ranks) (range_with_len 0 (length ranks)) walk is.rows range_within
   where
     range_within : All (λ r. r < length ranks) (range_with_len 0 (length ranks))
@@ -196,12 +196,12 @@ walk_within ranks walk is = All-permutation (λ r. r < length ranks) (range_with
 
 -- ---- the steps of a walk
 
-module _ (ranks : List Standing) (walk : List ℕ) (hits : List Bool) (mark : Option Standing) where
+module _ (ranks : List HitStanding) (walk : List ℕ) (hits : List Bool) (mark : Option HitStanding) where
   -- the hits among the first rows of the walk
   abbrev pub first_hits : ℕ → List ℕ
   first_hits i = filter (has_row hits) (take i walk)
 
-  abbrev pub passed : ℕ → List Standing
+  abbrev pub passed : ℕ → List HitStanding
   passed i = standings_at mark ranks (first_hits i)
 
   module _ (is : IsWalk ranks walk) where
@@ -225,7 +225,7 @@ module _ (ranks : List Standing) (walk : List ℕ) (hits : List Bool) (mark : Op
 
     -- where a full page leaves out the row at this index, the first hits are as good as all
     pub ends_early : (long : length hits ≡ length ranks) (kept : BestItems Candidate) (i d : ℕ) → i < length walk → IsFullBy kept (get_or ranks (get_or walk i d) none)
-        → (ss : List Standing) → IsBestAt kept (ss ++ passed i) → IsBestAt kept (ss ++ behind mark (selected hits ranks))
+        → (ss : List HitStanding) → IsBestAt kept (ss ++ passed i) → IsBestAt kept (ss ++ behind mark (selected hits ranks))
     ends_early long kept i d h full ss best =
         let rest = filter (has_row hits) (drop i walk) in
         let cut : filter (has_row hits) walk ≡ first_hits i ++ rest = ap (filter (has_row hits)) (sym (take-append-drop i walk)) ∙ filter-append (has_row hits) (take i walk) (drop i walk) in
@@ -236,7 +236,7 @@ module _ (ranks : List Standing) (walk : List ℕ) (hits : List Bool) (mark : Op
 
 -- ---- a walk that begins behind a mark
 
-pub passed_from : (mark : Option Standing) (ranks : List Standing) (row : ℕ) → is_passed mark ranks row ≡ true → beyond mark (standing_at ranks row) ≡ false
+pub passed_from : (mark : Option HitStanding) (ranks : List HitStanding) (row : ℕ) → is_passed mark ranks row ≡ true → beyond mark (standing_at ranks row) ≡ false
 passed_from mark ranks row e = by (ltb row (length ranks)) (beyond mark (standing_at ranks row)) e
   where
     by : (a b : Bool) → (a && not b) ≡ true → b ≡ false
@@ -244,18 +244,18 @@ passed_from mark ranks row e = by (ltb row (length ranks)) (beyond mark (standin
     by true true e = absurd (true≢false (sym e))
     by false b e = absurd (true≢false (sym e))
 
-passed_to : (mark : Option Standing) (ranks : List Standing) (row : ℕ) → row < length ranks → beyond mark (standing_at ranks row) ≡ false → is_passed mark ranks row ≡ true
+passed_to : (mark : Option HitStanding) (ranks : List HitStanding) (row : ℕ) → row < length ranks → beyond mark (standing_at ranks row) ≡ false → is_passed mark ranks row ≡ true
 passed_to mark ranks row h e = ap (λ a. a && not (beyond mark (standing_at ranks row))) (lt-ltb row (length ranks) h) ∙ ap not e
 
 -- the mark doesn't come before what comes before one that it doesn't come before
-pub stays_passed : (mark : Option Standing) (p q : Standing) → standing_before p q ≡ true → beyond mark q ≡ false → beyond mark p ≡ false
+pub stays_passed : (mark : Option HitStanding) (p q : HitStanding) → standing_before p q ≡ true → beyond mark q ≡ false → beyond mark p ≡ false
 stays_passed None p q e f = absurd (true≢false f)
 stays_passed (Some m) p q e f = elim (which (standing_before m p)) [
   | inl t ↦ absurd (true≢false (sym (standing_strict.transitive m p q t e) ∙ f))
   | inr g ↦ g
 ]
 
-module _ (mark : Option Standing) (ranks : List Standing) where
+module _ (mark : Option HitStanding) (ranks : List HitStanding) where
   abbrev pub Passed : ℕ → Type 0
   Passed row = beyond mark (standing_at ranks row) ≡ false
 

@@ -11,7 +11,7 @@ use Rattle.cat_search.specs.declared.ask.Wanted.{Wanted}
 use Rattle.cat_search.specs.Candidates.{mark_standing}
 use Rattle.cat_search.specs.Pages.{answer_where, behind}
 use Rattle.cat_search.specs.Sorts.{sort_of}
-use Rattle.cat_search.specs.Standings.{Standing, entry_shown, standing_before}
+use Rattle.cat_search.specs.Standings.{HitStanding, entry_shown, standing_before}
 
 -- the ask for the hits of a query, as a read
 abbrev pub read_of : Ask → Query → Read
@@ -22,9 +22,9 @@ abbrev pub page_to : Schema → List Record → (Item → Bool) → Ask → Resu
 page_to schema rs accepts ask = answer_where schema rs accepts (sort_of ask.sort) ask.after ask.count
 
 -- of these standings the first that are wanted, of those that the mark comes before
-abbrev pub first_wanted : Wanted → List Standing → List Standing
+abbrev pub first_wanted : Wanted → List HitStanding → List HitStanding
 first_wanted wanted standings = take wanted.count (sorted standing_before (behind (mark_standing wanted.mark) standings))
 
 -- and what a page shows of them
-abbrev pub first_shown : Wanted → List Standing → List Entry
+abbrev pub first_shown : Wanted → List HitStanding → List Entry
 first_shown wanted standings = map entry_shown (first_wanted wanted standings)

@@ -4,6 +4,6 @@ use Rattle.cat_search.specs.declared.hits.Hits.{Hits}
 use Rattle.cat_search.specs.declared.hits.Hits.TheVariants.{Live, Matched}
 
 -- the rows that are hits
-abbrev pub rows_of : Hits → List Bool
-rows_of (Live leaf) = leaf.now.live
-rows_of (Matched rows) = rows
+abbrev pub hit_rows : Hits → List Bool
+hit_rows (Live leaf) = leaf.now.live
+hit_rows (Matched rows) = rows

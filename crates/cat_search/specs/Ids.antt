@@ -4,6 +4,6 @@ use Rattle.cat_search.specs.declared.ids.Id.{Id}
 use Rattle.cat_search.specs.declared.ids.Id.TheVariants.{Short, Long}
 
 -- the id, wherever it lies
-abbrev pub id_of : Id → Text
-id_of (Short id) = id.bytes
-id_of (Long id) = id
+abbrev pub id_text : Id → Text
+id_text (Short id) = id.bytes
+id_text (Long id) = id

@@ -11,7 +11,7 @@ use Rattle.cat_model.specs.Page.{key, before, rest, first_ranked}
 use Rattle.cat_search.specs.declared.sort.Order.{Order}
 use Rattle.cat_search.specs.declared.sort.Order.TheVariants as order
 use Rattle.cat_search.specs.Keys.{key_at}
-use Rattle.cat_search.specs.Standings.{Rank, Standing, standing_before}
+use Rattle.cat_search.specs.Standings.{Rank, HitStanding, standing_before}
 
 -- the records whose items pass the test
 abbrev pub hits_where : (Item → Bool) → List Record → List Record
@@ -52,25 +52,25 @@ rank_at (order.Rising field) i = rank_by Rank.rising (key_at field.index i)
 rank_at (order.Falling field) i = rank_by Rank.falling (key_at field.index i)
 
 -- the standing of a record
-abbrev pub record_standing : Order → Record → Standing
+abbrev pub record_standing : Order → Record → HitStanding
 record_standing o r = record { rank = rank_at o r.item; number = r.number; id = r.item.id }
 
 -- the standing of the mark's record, where there is a mark
-abbrev pub mark_in_records : Order → List Record → Option ℕ → Option Standing
+abbrev pub mark_in_records : Order → List Record → Option ℕ → Option HitStanding
 mark_in_records o rs None = None
 mark_in_records o rs (Some mark) = option_map (record_standing o) (find (λ r. r.number == mark) rs)
 
 -- what the mark comes before, and all without a mark
-abbrev pub beyond : Option Standing → Standing → Bool
+abbrev pub beyond : Option HitStanding → HitStanding → Bool
 beyond None p = true
 beyond (Some m) p = standing_before m p
 
 -- the standings that the mark comes before
-abbrev pub behind : Option Standing → List Standing → List Standing
+abbrev pub behind : Option HitStanding → List HitStanding → List HitStanding
 behind mark standings = filter (beyond mark) standings
 
 -- the standing alone, if the mark comes before it
-abbrev pub if_behind : Option Standing → Standing → List Standing
+abbrev pub if_behind : Option HitStanding → HitStanding → List HitStanding
 if_behind mark p = cond (beyond mark p) (p ∷ []) []
 
 -- ---- the law

@@ -12,7 +12,7 @@ use Rattle.cat_views.specs.cat_segment.declared.column.Column.{Column}
 use Rattle.cat_search.specs.declared.sort.Order.{Order}
 use Rattle.cat_search.specs.Pages.{rank_with}
 use Rattle.cat_search.specs.Sorts.{sort_in}
-use Rattle.cat_search.specs.Standings.{Standing}
+use Rattle.cat_search.specs.Standings.{HitStanding}
 
 -- the row as a record, without its source
 abbrev pub bare_record : Row → Record
@@ -33,15 +33,15 @@ live_numbered leaves number = find (λ r. r.number == number) (flat_map live_row
 -- ---- the standings of rows
 
 -- the standing of a row that has this key
-abbrev pub keyed_standing : Order → Option model.Key → Row → Standing
+abbrev pub keyed_standing : Order → Option model.Key → Row → HitStanding
 keyed_standing o k row = record { rank = rank_with o k; number = row.number; id = row.id }
 
 -- the standing of a row
-abbrev pub row_standing : Order → Row → Standing
+abbrev pub row_standing : Order → Row → HitStanding
 row_standing o row = keyed_standing o (key (sort_in o) (bare_record row)) row
 
 -- the standing of the mark's row, where there is a mark
-abbrev pub mark_in_rows : Order → List Row → Option ℕ → Option Standing
+abbrev pub mark_in_rows : Order → List Row → Option ℕ → Option HitStanding
 mark_in_rows o rows None = None
 mark_in_rows o rows (Some mark) = option_map (row_standing o) (find (λ r. r.number == mark) rows)
 
@@ -51,7 +51,7 @@ keys_by None rows = replicate rows None
 keys_by (Some column) rows = map (λ x. key_in (Some x)) (contents_of column.now)
 
 -- the standings of rows that have these keys
-abbrev pub keyed_standings : Order → List (Option model.Key) → List Row → List Standing
+abbrev pub keyed_standings : Order → List (Option model.Key) → List Row → List HitStanding
 keyed_standings o [] rows = []
 keyed_standings o (k ∷ ks) [] = []
 keyed_standings o (k ∷ ks) (row ∷ rows) = keyed_standing o k row ∷ keyed_standings o ks rows

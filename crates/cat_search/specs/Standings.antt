@@ -13,7 +13,7 @@ pub data Rank : Type 0 where
   missing : Rank
 
 -- where a hit stands among others, and its id
-pub record Standing : Type 0 where
+pub record HitStanding : Type 0 where
   pub rank : Rank
   pub number : ℕ
   pub id : Text
@@ -31,7 +31,7 @@ rank_cmp Rank.missing (Rank.falling b) = Greater
 rank_cmp Rank.missing Rank.missing = Equal
 
 -- ties go by number
-abbrev pub standing_before : Standing → Standing → Bool
+abbrev pub standing_before : HitStanding → HitStanding → Bool
 standing_before a b = is_lt (ordering_then (rank_cmp a.rank b.rank) (nat_cmp a.number b.number))
 
 -- the key that a rank shows
@@ -41,5 +41,5 @@ key_shown (Rank.falling k) = Some k
 key_shown Rank.missing = None
 
 -- the entry that a standing shows
-abbrev pub entry_shown : Standing → Entry
+abbrev pub entry_shown : HitStanding → Entry
 entry_shown p = record { number = p.number; id = p.id; key = key_shown p.rank }

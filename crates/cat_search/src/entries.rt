@@ -1,6 +1,6 @@
 //! Pages, and the entries that they show.
 ghost use Rattle.std.specs.Prelude.{◌≡◌, ◌++◌, ◌∷◌, [], map, option_map, IfOk, OnOk};
-ghost use Rattle.cat_search.specs.Ids.{id_of};
+ghost use Rattle.cat_search.specs.Ids.{id_text};
 ghost use Rattle.cat_search.specs.Keys.{key_of};
 ghost use Rattle.cat_search.specs.Standings.{key_shown, entry_shown};
 ghost use Rattle.cat_search.specs.Candidates.{standing_of, rank_of};
@@ -23,12 +23,12 @@ pub struct Entry {
 impl Model for Entry {
     ghost use Rattle.std.specs.Prelude.{option_map};
     ghost use Rattle.cat_model.specs.Page as model;
-    ghost use Rattle.cat_search.specs.Ids.{id_of};
+    ghost use Rattle.cat_search.specs.Ids.{id_text};
     ghost use Rattle.cat_search.specs.Keys.{key_of};
 
     ghost Value = { model.Entry };
 
-    ghost view = { λ e. record { number = e.number; id = id_of e.id; key = option_map key_of e.key } };
+    ghost view = { λ e. record { number = e.number; id = id_text e.id; key = option_map key_of e.key } };
 }
 
 impl Entry {

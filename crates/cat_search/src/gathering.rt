@@ -7,11 +7,11 @@ ghost use Rattle.cat_query.specs.View.{query_of};
 ghost use Rattle.cat_search.specs.declared.sort.Order.TheVariants.{Added};
 ghost use Rattle.cat_search.specs.Asks.{first_shown, first_wanted};
 ghost use Rattle.cat_search.specs.Candidates.{mark_standing, standing_of};
-ghost use Rattle.cat_search.specs.Hits.{rows_of};
+ghost use Rattle.cat_search.specs.Hits.{hit_rows};
 ghost use Rattle.cat_search.specs.Pages.{behind};
 ghost use Rattle.cat_search.specs.Rows.{hits_in, leaf_hits, row_standing};
 ghost use Rattle.cat_views.specs.Sets.{AreSets, set_at};
-ghost use Rattle.cat_search.specs.Standings.{Standing, entry_shown};
+ghost use Rattle.cat_search.specs.Standings.{HitStanding, entry_shown};
 
 use crate::ask::Wanted;
 use crate::best::Best;
@@ -90,8 +90,8 @@ pub(crate) fn hits_of<'a>(
     leaf: &'a Leaf,
 ) -> Result<Hits<'a>, AllocError>
     requires { IfSome set (λ s. s.now ≡ map (row_matches (query_of query.now)) leaf.now.segment.rows) }
-    ensures ok { IfOk result (λ h. selected (rows_of h) leaf.now.segment.rows ≡ leaf_hits leaf.now (query_of query.now)) }
-    ensures long { IfOk result (λ h. length (rows_of h) ≡ length leaf.now.segment.rows) }
+    ensures ok { IfOk result (λ h. selected (hit_rows h) leaf.now.segment.rows ≡ leaf_hits leaf.now (query_of query.now)) }
+    ensures long { IfOk result (λ h. length (hit_rows h) ≡ length leaf.now.segment.rows) }
 {
     if query.is_everything() {
         return Ok(Hits::live_in(leaf));
@@ -102,7 +102,7 @@ pub(crate) fn hits_of<'a>(
 
 /// As many hits more. What a `usize` can't count doesn't fit in memory either.
 fn counted(total: usize, hits: &Hits) -> Result<usize, AllocError>
-    ensures ok { IfOk result (λ n. n ≡ total + count_by (λ b. b) (rows_of hits.now)) }
+    ensures ok { IfOk result (λ n. n ≡ total + count_by (λ b. b) (hit_rows hits.now)) }
 {
     total.checked_add(hits.count()).ok_or(AllocError)
 }
@@ -133,7 +133,7 @@ fn show_rows<'a>(
     mark: &Option<Candidate<'a>>,
 ) -> Result<(), AllocError>
     requires long { length hits.now ≡ length ranks.now }
-    ensures shown { OnOk result ((standings : List Standing) → shown.old.items ≡ take n (map entry_shown standings)
+    ensures shown { OnOk result ((standings : List HitStanding) → shown.old.items ≡ take n (map entry_shown standings)
         → shown.new.items ≡ take n (map entry_shown (standings ++ behind (mark_standing mark.now) (selected hits.now ranks.now)))) }
 {
     for row in hits.iter() {
@@ -157,10 +157,10 @@ fn show_behind(
     segment: &Segment,
     hits: Hits<'_>,
 ) -> Result<(), AllocError>
-    requires long { length (rows_of hits) ≡ length segment.now.rows }
-    ensures shown { OnOk result ((standings : List Standing) → shown.old.items ≡ take wanted.now.count (map entry_shown standings)
+    requires long { length (hit_rows hits) ≡ length segment.now.rows }
+    ensures shown { OnOk result ((standings : List HitStanding) → shown.old.items ≡ take wanted.now.count (map entry_shown standings)
         → shown.new.items ≡ take wanted.now.count (map entry_shown (standings
-        ++ behind (mark_standing wanted.now.mark) (selected (rows_of hits.entry) (map (row_standing Added) segment.now.rows))))) }
+        ++ behind (mark_standing wanted.now.mark) (selected (hit_rows hits.entry) (map (row_standing Added) segment.now.rows))))) }
 {
     let passed = rows_passed(segment, &wanted.mark);
     if passed == segment.len() {

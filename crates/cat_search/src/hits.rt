@@ -1,6 +1,6 @@
 //! The hits of a leaf: its own live set, lent, or a set that was made of what a query matches.
 ghost use Rattle.std.specs.Prelude.{◌≡◌, IfOk, count_by, length};
-ghost use Rattle.cat_search.specs.Hits.{rows_of};
+ghost use Rattle.cat_search.specs.Hits.{hit_rows};
 
 use cat_query::cat_columns::RowSet;
 use cat_views::Leaf;
@@ -18,8 +18,8 @@ pub(crate) enum Hits<'a> {
 impl<'a> Hits<'a> {
     /// All live rows of the leaf.
     pub(crate) fn live_in(leaf: &'a Leaf) -> Hits<'a>
-        ensures rows { rows_of result ≡ leaf.now.live }
-        ensures long { length (rows_of result) ≡ length leaf.now.segment.rows }
+        ensures rows { hit_rows result ≡ leaf.now.live }
+        ensures long { length (hit_rows result) ≡ length leaf.now.segment.rows }
     {
         prove!(leaf.live().len() == leaf.segment().len());
         Hits::Live(leaf)
@@ -27,7 +27,7 @@ impl<'a> Hits<'a> {
 
     /// How many rows there are. Those of a live set are counted already.
     pub(crate) fn count(&self) -> usize
-        ensures { result ≡ count_by (λ b. b) (rows_of self.now) }
+        ensures { result ≡ count_by (λ b. b) (hit_rows self.now) }
     {
         match self {
             Hits::Live(leaf) => leaf.live_count(),
@@ -37,7 +37,7 @@ impl<'a> Hits<'a> {
 
     /// The rows, borrowed.
     pub(crate) fn rows(&self) -> &RowSet
-        ensures { result.now ≡ rows_of self.now }
+        ensures { result.now ≡ hit_rows self.now }
     {
         match self {
             Hits::Live(leaf) => leaf.live().rows(),
@@ -47,7 +47,7 @@ impl<'a> Hits<'a> {
 
     /// The rows as a set that may be changed. Only what is lent is copied.
     pub(crate) fn into_rows(self) -> Result<RowSet, AllocError>
-        ensures ok { IfOk result (λ s. s ≡ rows_of self.entry) }
+        ensures ok { IfOk result (λ s. s ≡ hit_rows self.entry) }
     {
         match self {
             Hits::Live(leaf) => leaf.live().rows().copy(),

@@ -1,6 +1,6 @@
 //! The ids of hits, held by the entries that show them.
 ghost use Rattle.std.specs.Prelude.{◌≡◌, [], OnOk};
-ghost use Rattle.cat_search.specs.Ids.{id_of};
+ghost use Rattle.cat_search.specs.Ids.{id_text};
 
 use arrayvec::ArrayString;
 use cat_base::Text;
@@ -21,7 +21,7 @@ pub(crate) enum Id {
 impl Id {
     /// An id of no byte, to be filled.
     pub(crate) fn empty() -> Id
-        ensures { id_of result ≡ [] }
+        ensures { id_text result ≡ [] }
     {
         Id::Short(ArrayString::new())
     }
@@ -29,8 +29,8 @@ impl Id {
     /// Becomes a copy of the id where it was empty, and stays where it lies: to move bytes that were just copied would
     /// take longer than to copy them.
     pub(crate) fn fill(&mut self, alloc: Global, id: &str) -> Result<(), AllocError>
-        requires { id_of self.old ≡ [] }
-        ensures ok { OnOk result (id_of self.new ≡ id.now) }
+        requires { id_text self.old ≡ [] }
+        ensures ok { OnOk result (id_text self.new ≡ id.now) }
     {
         if let Id::Short(short) = self
             && short.try_push_str(id).is_ok()
@@ -43,7 +43,7 @@ impl Id {
 
     /// The id, borrowed.
     pub(crate) fn as_str(&self) -> &str
-        ensures { result.now ≡ id_of self.now }
+        ensures { result.now ≡ id_text self.now }
     {
         match self {
             Id::Short(short) => short.as_str(),

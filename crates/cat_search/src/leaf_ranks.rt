@@ -33,9 +33,9 @@ pub(crate) struct LeafRanks<'a> {
 impl<'a> Model for LeafRanks<'a> {
     ghost use Rattle.std.specs.Prelude.{◌≡◌, List, length};
     ghost use Rattle.cat_search.specs.Rows.{keyed_standings, keys_by};
-    ghost use Rattle.cat_search.specs.Standings.{Standing};
+    ghost use Rattle.cat_search.specs.Standings.{HitStanding};
 
-    ghost Value = { List Standing };
+    ghost Value = { List HitStanding };
 
     ghost view = { λ r. keyed_standings r.order (keys_by r.column (length r.segment.now.rows)) r.segment.now.rows };
 

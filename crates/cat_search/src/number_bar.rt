@@ -1,6 +1,6 @@
 //! The rows of a column of numbers that a page needn't look at.
 ghost use Rattle.std.specs.Prelude.{◌≡◌, option_map};
-ghost use Rattle.cat_search.specs.Bars.{lets_in, number_of, IsBarOf};
+ghost use Rattle.cat_search.specs.Bars.{lets_in, number_of_key, IsBarOf};
 ghost use Rattle.cat_search.specs.Keys.{key_ref_of};
 ghost use Rattle.cat_search.specs.Candidates.{mark_standing};
 
@@ -27,7 +27,7 @@ pub(crate) struct NumberBar {
 
 /// The number that is the key, if it is one.
 fn number_of(key: Option<KeyRef>) -> Option<i64>
-    ensures { result ≡ number_of (option_map key_ref_of key.entry) }
+    ensures { result ≡ number_of_key (option_map key_ref_of key.entry) }
 {
     match key {
         Some(KeyRef::Number(number)) => Some(number),

@@ -2,7 +2,7 @@
 ghost use Rattle.std.specs.Prelude.{◌≡◌, ℕ, ◌<◌, true, false, length, Option, option_map, IfSome, IsTrue};
 ghost use Rattle.cat_search.specs.Bars.{keyword_of, lies_within};
 ghost use Rattle.cat_search.specs.Keys.{key_ref_of};
-ghost use Rattle.cat_search.specs.OrdinalBars.{is_below_end, is_above_end, AreBelow, AreAbove, lets_in, AreOrdinalsOf, IsOrdinalBarOf, keyword_key};
+ghost use Rattle.cat_search.specs.OrdinalBars.{is_below_end, is_above_end, AreTextsBelow, AreAbove, lets_ordinal_in, AreOrdinalsOf, IsOrdinalBarOf, keyword_key};
 ghost use Rattle.cat_search.specs.Candidates.{mark_standing};
 
 use crate::bar::Bar;
@@ -64,7 +64,7 @@ fn is_above_end(text: &Text, high: Option<&str>) -> bool
 
 /// The ordinal of the first text that isn't below the end.
 fn first_from(dictionary: &Dictionary, low: Option<&str>) -> usize
-    ensures { AreBelow (option_map (λ a. a.now) low.entry) dictionary.now result }
+    ensures { AreTextsBelow (option_map (λ a. a.now) low.entry) dictionary.now result }
 {
     dictionary
         .as_slice()
@@ -95,7 +95,7 @@ impl<'a> OrdinalBar<'a> {
     /// A bar that lets everything in, and that may be renewed by so many look-ups.
     pub(crate) fn open(dictionary: &Dictionary, lookups: usize) -> OrdinalBar<'a>
         ensures ordinals { AreOrdinalsOf dictionary.now result }
-        ensures open { (i : Option ℕ) → IfSome i (λ k. k < length dictionary.now) → lets_in result i ≡ true }
+        ensures open { (i : Option ℕ) → IfSome i (λ k. k < length dictionary.now) → lets_ordinal_in result i ≡ true }
     {
         OrdinalBar {
             from: 0,
@@ -110,7 +110,7 @@ impl<'a> OrdinalBar<'a> {
     /// The bar's `from` for this end, which is looked up only if it isn't the end that the bar has.
     fn from_end(self, dictionary: &Dictionary, low: Option<&str>) -> usize
         requires { AreOrdinalsOf dictionary.now self }
-        ensures { AreBelow (option_map (λ a. a.now) low.entry) dictionary.now result }
+        ensures { AreTextsBelow (option_map (λ a. a.now) low.entry) dictionary.now result }
     {
         if is_same(self.low, low) {
             return self.from;
@@ -134,7 +134,7 @@ impl<'a> OrdinalBar<'a> {
         requires { AreOrdinalsOf dictionary.now self }
         ensures ordinals { AreOrdinalsOf dictionary.now result }
         ensures within { (i : Option ℕ) → IfSome i (λ k. k < length dictionary.now)
-            → lets_in result i ≡ false → lies_within ends.entry (keyword_key dictionary.now i) ≡ false }
+            → lets_ordinal_in result i ≡ false → lies_within ends.entry (keyword_key dictionary.now i) ≡ false }
     {
         let low = keyword_of(ends.low);
         let high = keyword_of(ends.high);
@@ -176,7 +176,7 @@ impl<'a> OrdinalBar<'a> {
     /// Whether a row with the text of this ordinal has to be looked at. A tie with an end has: there the write numbers
     /// decide.
     pub(crate) fn lets_in(self, ordinal: Option<usize>) -> bool
-        ensures { result ≡ lets_in self.entry ordinal }
+        ensures { result ≡ lets_ordinal_in self.entry ordinal }
     {
         match ordinal {
             Some(ordinal) => self.from <= ordinal && ordinal < self.before,

@@ -16,8 +16,8 @@ use Rattle.cat_segment.proofs.Made.{row_here}
 use Rattle.cat_segment.proofs.Placed.{no_content, contents_named}
 use Rattle.cat_segment.proofs.Worded.{words_few, words_fit, words_under}
 use Rattle.cat_segment.specs.Contents.{contents_of, contents_told, contents_under_name}
-use Rattle.cat_segment.specs.Laid.{content_under, contents_under, AreContents, laid_out, laid_in, kind_of, AreRead}
-use Rattle.cat_segment.specs.Body.{content_at, fields_at, Body, row_at, rows_of, IsBody}
+use Rattle.cat_segment.specs.Laid.{content_under, contents_under, AreContents, laid_out, laid_in, column_kind, AreRead}
+use Rattle.cat_segment.specs.Body.{column_content_at, row_fields_at, Body, row_at, rows_of, IsBody}
 use Rattle.cat_segment.specs.declared.column.Column.{Column}
 use Rattle.cat_segment.specs.declared.column.Column.TheVariants.{Text as TextColumn, Keyword, Number, Facet}
 
@@ -30,19 +30,19 @@ laid_at rows (g ∷ fs) (m ∷ ls) (suc index) f l are lt = laid_at rows fs ls i
 
 -- the part of a place among those of a row
 field_at : (fs : Schema) (cs : List Column) (row index : ℕ) (f : Field) (c : Column) (p : FieldContent) → length cs ≡ length fs → index < length fs
-    → get_or (fields_at fs cs row) index p ≡ record { name = (get_or fs index f).name; content = content_at (get_or cs index c) row }
+    → get_or (row_fields_at fs cs row) index p ≡ record { name = (get_or fs index f).name; content = column_content_at (get_or cs index c) row }
 field_at [] cs row index f c p many lt = absurd (omega arith)
 field_at (g ∷ fs) [] row index f c p many lt = absurd (omega arith)
 field_at (g ∷ fs) (d ∷ cs) row zero f c p many lt = refl
 field_at (g ∷ fs) (d ∷ cs) row (suc index) f c p many lt = field_at fs cs row index f c p (omega arith) (omega arith)
 
-length-fields_at : (fs : Schema) (cs : List Column) (row : ℕ) → length cs ≡ length fs → length (fields_at fs cs row) ≡ length fs
+length-fields_at : (fs : Schema) (cs : List Column) (row : ℕ) → length cs ≡ length fs → length (row_fields_at fs cs row) ≡ length fs
 length-fields_at [] cs row many = refl
 length-fields_at (f ∷ fs) [] row many = absurd (omega arith)
 length-fields_at (f ∷ fs) (c ∷ cs) row many = ap suc (length-fields_at fs cs row (omega arith))
 
 fields_are : (fs : Schema) (cs : List Column) (row : ℕ) → length cs ≡ length fs
-    → ((index : ℕ) (f : Field) (c : Column) → index < length fs → IsContent (get_or fs index f).kind (content_at (get_or cs index c) row)) → AreFields fs (fields_at fs cs row)
+    → ((index : ℕ) (f : Field) (c : Column) → index < length fs → IsContent (get_or fs index f).kind (column_content_at (get_or cs index c) row)) → AreFields fs (row_fields_at fs cs row)
 fields_are [] cs row many each = tt
 fields_are (f ∷ fs) [] row many each = absurd (omega arith)
 fields_are (f ∷ fs) (c ∷ cs) row many each = ((refl, each 0 f c (omega arith)), fields_are fs cs row (omega arith) (λ index g d lt. each (suc index) g d (omega arith)))
@@ -57,7 +57,7 @@ contents_in_body body index c many lt long =
     (λ row within. sym (ap (λ p. p.content) (field_at body.schema body.columns row index f c no_content many lt))))
 
 -- a column that has rows tells the kind of its field
-kind_told : (c : Column) (kind : Kind) (d : Content) → 0 < length (contents_of c) → IsContent kind (get_or (contents_of c) 0 d) → kind ≡ kind_of c
+kind_told : (c : Column) (kind : Kind) (d : Content) → 0 < length (contents_of c) → IsContent kind (get_or (contents_of c) 0 d) → kind ≡ column_kind c
 kind_told (TextColumn []) kind d some is = absurd (omega arith)
 kind_told (TextColumn (x ∷ xs)) kind d some (IsContent.words ws rising) = refl
 kind_told (Keyword []) kind d some is = absurd (omega arith)
@@ -68,7 +68,7 @@ kind_told (Facet []) kind d some is = absurd (omega arith)
 kind_told (Facet (x ∷ xs)) kind d some (IsContent.labels ls rising) = refl
 
 -- the column of a field is of the field's kind
-pub kind_in_body : (body : Body) → IsBody body → (index : ℕ) (f : Field) (c : Column) → index < length body.schema → (get_or body.schema index f).kind ≡ kind_of (get_or body.columns index c)
+pub kind_in_body : (body : Body) → IsBody body → (index : ℕ) (f : Field) (c : Column) → index < length body.schema → (get_or body.schema index f).kind ≡ column_kind (get_or body.columns index c)
 kind_in_body body is index f c within =
     let long : length (contents_of (get_or body.columns index c)) ≡ length body.numbers = is.contents index c (omega (arith, is.columns, within)) in
     let s : Segment = record { number = 0; schema = body.schema; rows = rows_of body } in
@@ -133,10 +133,10 @@ module _ (number : ℕ) (schema : Schema) (numbers : List ℕ) (ids : List Text)
     inside : (k : ℕ) → k < length (rows_of body) → k < length numbers
     inside k lt = omega (arith, length-rows_of body)
 
-    content_is : (index row : ℕ) (f : Field) (c : Column) → index < length schema → row < length numbers → IsContent (get_or schema index f).kind (content_at (get_or columns index c) row)
+    content_is : (index row : ℕ) (f : Field) (c : Column) → index < length schema → row < length numbers → IsContent (get_or schema index f).kind (column_content_at (get_or columns index c) row)
     content_is index row f c lt within = let are = is.read.contents index f c lt in are.kinds row (Content.words []) (omega (arith, are.long))
 
-    content_formed : (index row : ℕ) (f : Field) (c : Column) → index < length schema → row < length numbers → IsFormed (content_at (get_or columns index c) row)
+    content_formed : (index row : ℕ) (f : Field) (c : Column) → index < length schema → row < length numbers → IsFormed (column_content_at (get_or columns index c) row)
     content_formed index row f c lt within = let are = is.read.contents index f c lt in are.formed row (Content.words []) (omega (arith, are.long))
 
     contents_read : (index : ℕ) (c : Column) → index < length schema → contents_under index (rows_of body) ≡ contents_of (get_or columns index c)
@@ -157,7 +157,7 @@ module _ (number : ℕ) (schema : Schema) (numbers : List ℕ) (ids : List Text)
       distinct = λ i j d lt within same. is.distinct i j [] lt (omega (arith, inside j within, is.each_id)) (ap (λ r. r.id) (sym (row_is i d (omega arith))) ∙ same ∙ ap (λ r. r.id) (row_is j d within));
     }
 
-    fields_formed : (row : ℕ) → row < length numbers → All (λ p. IsFormed p.content) (fields_at schema columns row)
+    fields_formed : (row : ℕ) → row < length numbers → All (λ p. IsFormed p.content) (row_fields_at schema columns row)
     fields_formed row within k d lt =
         let index : k < length schema = omega (arith, length-fields_at schema columns row is.read.many) in
         let c : Column = Number [] in

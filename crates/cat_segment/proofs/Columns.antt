@@ -12,7 +12,7 @@ use Rattle.cat_model.specs.Item.{Content, Schema, content_of}
 use Rattle.cat_model.specs.View.{Row, item_in}
 use Rattle.cat_segment.specs.declared.column.Column.{Column}
 use Rattle.cat_segment.specs.Contents.{contents_of}
-use Rattle.cat_segment.specs.Body.{content_at, fields_at, Body, row_at, rows_of, IsBody}
+use Rattle.cat_segment.specs.Body.{column_content_at, row_fields_at, Body, row_at, rows_of, IsBody}
 
 pub length-rows_of : (body : Body) → length (rows_of body) ≡ length body.numbers
 length-rows_of body = length-map-range_with_len (row_at body) 0 (length body.numbers)
@@ -26,15 +26,15 @@ map-rows_of f body = map-map f (row_at body) (range_with_len 0 (length body.numb
 
 -- the part of a name is the column of that name's first field
 part_named : (name : Text) (fs : Schema) (cs : List Column) (row : ℕ) → length cs ≡ length fs
-    → option_map (λ c. content_at c row) (slice_get cs (prefix_len (λ f. not (same_text f.name name)) fs)) ≡ option_map (λ p. p.content) (find (λ p. same_text p.name name) (fields_at fs cs row))
+    → option_map (λ c. column_content_at c row) (slice_get cs (prefix_len (λ f. not (same_text f.name name)) fs)) ≡ option_map (λ p. p.content) (find (λ p. same_text p.name name) (row_fields_at fs cs row))
 part_named name [] [] row e = refl
 part_named name [] (c ∷ cs) row e = absurd (omega arith)
 part_named name (f ∷ fs) [] row e = absurd (omega arith)
 part_named name (f ∷ fs) (c ∷ cs) row e = at (same_text f.name name) (part_named name fs cs row (omega arith))
   where
-    at : (b : Bool) → option_map (λ c. content_at c row) (slice_get cs (prefix_len (λ f. not (same_text f.name name)) fs)) ≡ option_map (λ p. p.content) (find (λ p. same_text p.name name) (fields_at fs cs row))
-        → option_map (λ c. content_at c row) (slice_get (c ∷ cs) (cond (not b) (1 + prefix_len (λ f. not (same_text f.name name)) fs) 0))
-        ≡ option_map (λ p. p.content) (cond b (Some (record { name = f.name; content = content_at c row })) (find (λ p. same_text p.name name) (fields_at fs cs row)))
+    at : (b : Bool) → option_map (λ c. column_content_at c row) (slice_get cs (prefix_len (λ f. not (same_text f.name name)) fs)) ≡ option_map (λ p. p.content) (find (λ p. same_text p.name name) (row_fields_at fs cs row))
+        → option_map (λ c. column_content_at c row) (slice_get (c ∷ cs) (cond (not b) (1 + prefix_len (λ f. not (same_text f.name name)) fs) 0))
+        ≡ option_map (λ p. p.content) (cond b (Some (record { name = f.name; content = column_content_at c row })) (find (λ p. same_text p.name name) (row_fields_at fs cs row)))
     at true h = refl
     at false h = let e : 1 + prefix_len (λ f. not (same_text f.name name)) fs ≡ suc (prefix_len (λ f. not (same_text f.name name)) fs) = omega arith in rw e h
 
@@ -54,8 +54,8 @@ module _ (body : Body) (is : IsBody body) (name : Text) (index : ℕ) (found : i
   abbrev content_in : Row → Option Content
   content_in r = content_of name (item_in r)
 
-  in_row : (k : ℕ) → content_of name (item_in (row_at body k)) ≡ option_map (λ c. content_at c k) (slice_get body.columns index)
-  in_row k = sym (ap (λ i. option_map (λ c. content_at c k) (slice_get body.columns i)) found ∙ part_named name body.schema body.columns k is.columns)
+  in_row : (k : ℕ) → content_of name (item_in (row_at body k)) ≡ option_map (λ c. column_content_at c k) (slice_get body.columns index)
+  in_row k = sym (ap (λ i. option_map (λ c. column_content_at c k) (slice_get body.columns i)) found ∙ part_named name body.schema body.columns k is.columns)
 
   -- what `columns.get` answers is the column of the name
   pub column_named : (r : Option (Bor Column)) → MatchOption r (length body.columns ≤ index) (λ x. (index < length body.columns) × HoldsAt (λ y. x.now ≡ y) body.columns index)
@@ -65,13 +65,13 @@ module _ (body : Body) (is : IsBody body) (name : Text) (index : ℕ) (found : i
       map-rows_of content_in body
       ∙ sym (fill_by_all (λ k. content_in (row_at body k)) (replicate (length (rows_of body)) None) (length body.numbers) None
       (length-replicate (length (rows_of body)) None ∙ length-rows_of body)
-      (λ k lt. get_or-replicate (length (rows_of body)) k None None (omega (arith, length-rows_of body)) ∙ sym (in_row k ∙ ap (option_map (λ c. content_at c k)) (slice_get_past body.columns index past))))
+      (λ k lt. get_or-replicate (length (rows_of body)) k None None (omega (arith, length-rows_of body)) ∙ sym (in_row k ∙ ap (option_map (λ c. column_content_at c k)) (slice_get_past body.columns index past))))
   column_named (Some c) here =
       let long = is.contents index c.now here.0 in
       let len = ap (λ d. length (contents_of d)) (here.1 c.now) ∙ long in
       fill_by_all (λ k. content_in (row_at body k)) (map (λ x. Some x) (contents_of c.now)) (length body.numbers) None
       (length-map (contents_of c.now) (λ x. Some x) ∙ len)
-      (λ k lt. get_or-map (λ x. Some x) (contents_of c.now) k (Content.words []) None (omega (arith, len)) ∙ sym (in_row k ∙ ap (option_map (λ c. content_at c k)) (slice_get_read body.columns (length body.columns) index c.now refl here.0 (here.1 c.now))))
+      (λ k lt. get_or-map (λ x. Some x) (contents_of c.now) k (Content.words []) None (omega (arith, len)) ∙ sym (in_row k ∙ ap (option_map (λ c. column_content_at c k)) (slice_get_read body.columns (length body.columns) index c.now refl here.0 (here.1 c.now))))
       ∙ sym (map-rows_of content_in body)
 
 pub numbers_are : (body : Body) → map (λ r. r.number) (rows_of body) ≡ body.numbers

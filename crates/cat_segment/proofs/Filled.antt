@@ -9,7 +9,7 @@ use Rattle.cat_model.specs.Item.{Field, Kind, Content, Schema, FieldContent, IsC
 use Rattle.cat_model.specs.Forms.{IsFormed}
 use Rattle.cat_model.specs.Ordinals.{dictionary_of}
 use Rattle.cat_segment.proofs.Formed.{length-dictionary}
-use Rattle.cat_segment.specs.Fields.{content_in, contents_in, IsFilled, texts_in}
+use Rattle.cat_segment.specs.Fields.{content_in, contents_of_rows, IsFilled, content_texts}
 use Rattle.cat_segment.specs.declared.segment.Row as given
 
 -- what agrees at each element of a list
@@ -17,7 +17,7 @@ pub map_where : {X Y : Type 0} (P : X → Type 0) (f g : X → Y) → ((x : X) �
 map_where P f g same [] all = refl
 map_where P f g same (x ∷ xs) all = λ i. same x (all 0 x (omega arith)) i ∷ map_where P f g same xs (λ k d lt. all (suc k) d (omega arith)) i
 
-text_told : (o : Option Content) → IsFilled Kind.text o → Some (Content.words (texts_in o)) ≡ o
+text_told : (o : Option Content) → IsFilled Kind.text o → Some (Content.words (content_texts o)) ≡ o
 text_told None none = absurd none
 text_told (Some c) (IsContent.words ws sorted) = refl
 
@@ -29,7 +29,7 @@ number_told : (o : Option Content) → IsFilled Kind.number o → Some (Content.
 number_told None none = absurd none
 number_told (Some c) (IsContent.number z) = refl
 
-facet_told : (o : Option Content) → IsFilled Kind.facet o → Some (Content.labels (texts_in o)) ≡ o
+facet_told : (o : Option Content) → IsFilled Kind.facet o → Some (Content.labels (content_texts o)) ≡ o
 facet_told None none = absurd none
 facet_told (Some c) (IsContent.labels ls sorted) = refl
 
@@ -38,24 +38,24 @@ module _ (index : ℕ) (rows : List given.Row) where
   AreFilled kind = All (λ r. IsFilled kind (content_in index r.item.now)) rows
 
   told : {X : Type 0} (kind : Kind) (make : X → Content) (read : Option Content → X) → ((o : Option Content) → IsFilled kind o → Some (make (read o)) ≡ o)
-      → AreFilled kind → (xs : List X) → xs ≡ map (λ r. read (content_in index r.item.now)) rows → map (λ x. Some x) (map make xs) ≡ contents_in index rows
+      → AreFilled kind → (xs : List X) → xs ≡ map (λ r. read (content_in index r.item.now)) rows → map (λ x. Some x) (map make xs) ≡ contents_of_rows index rows
   told kind make read same filled xs is =
       ap (λ l. map (λ x. Some x) (map make l)) is
       ∙ map-map (λ x. Some x) make (map (λ r. read (content_in index r.item.now)) rows)
       ∙ map-map (λ x. Some (make x)) (λ r. read (content_in index r.item.now)) rows
       ∙ map_where (λ r. IsFilled kind (content_in index r.item.now)) (λ r. Some (make (read (content_in index r.item.now)))) (λ r. content_in index r.item.now) (λ r f. same (content_in index r.item.now) f) rows filled
 
-  pub texts_told : AreFilled Kind.text → (xs : List (List Text)) → xs ≡ map (λ r. texts_in (content_in index r.item.now)) rows → map (λ x. Some x) (map (λ x. Content.words x) xs) ≡ contents_in index rows
-  texts_told = told Kind.text (λ x. Content.words x) texts_in text_told
+  pub texts_told : AreFilled Kind.text → (xs : List (List Text)) → xs ≡ map (λ r. content_texts (content_in index r.item.now)) rows → map (λ x. Some x) (map (λ x. Content.words x) xs) ≡ contents_of_rows index rows
+  texts_told = told Kind.text (λ x. Content.words x) content_texts text_told
 
-  pub keywords_told : AreFilled Kind.keyword → (xs : List (Option Text)) → xs ≡ map (λ r. keyword_in (content_in index r.item.now)) rows → map (λ x. Some x) (map (λ x. Content.keyword x) xs) ≡ contents_in index rows
+  pub keywords_told : AreFilled Kind.keyword → (xs : List (Option Text)) → xs ≡ map (λ r. keyword_in (content_in index r.item.now)) rows → map (λ x. Some x) (map (λ x. Content.keyword x) xs) ≡ contents_of_rows index rows
   keywords_told = told Kind.keyword (λ x. Content.keyword x) keyword_in keyword_told
 
-  pub numbers_told : AreFilled Kind.number → (xs : List (Option ℤ)) → xs ≡ map (λ r. number_in (content_in index r.item.now)) rows → map (λ x. Some x) (map (λ x. Content.number x) xs) ≡ contents_in index rows
+  pub numbers_told : AreFilled Kind.number → (xs : List (Option ℤ)) → xs ≡ map (λ r. number_in (content_in index r.item.now)) rows → map (λ x. Some x) (map (λ x. Content.number x) xs) ≡ contents_of_rows index rows
   numbers_told = told Kind.number (λ x. Content.number x) number_in number_told
 
-  pub labels_told : AreFilled Kind.facet → (xs : List (List Text)) → xs ≡ map (λ r. texts_in (content_in index r.item.now)) rows → map (λ x. Some x) (map (λ x. Content.labels x) xs) ≡ contents_in index rows
-  labels_told = told Kind.facet (λ x. Content.labels x) texts_in facet_told
+  pub labels_told : AreFilled Kind.facet → (xs : List (List Text)) → xs ≡ map (λ r. content_texts (content_in index r.item.now)) rows → map (λ x. Some x) (map (λ x. Content.labels x) xs) ≡ contents_of_rows index rows
+  labels_told = told Kind.facet (λ x. Content.labels x) content_texts facet_told
 
 -- what stands at a field's index is of the field's kind
 pub filled_at : (fs : Schema) (ps : List FieldContent) (index : ℕ) (f : Field) → AreFields fs ps → index < length fs → f ≡ get_or fs index f → IsFilled f.kind (option_map (λ p. p.content) (slice_get ps index))
@@ -77,7 +77,7 @@ pub fields_formed : (ps : List FieldContent) → ((index : ℕ) → index < leng
 fields_formed ps each k d lt = subst (λ o. IfSome (option_map (λ p. p.content) o) IsFormed) (slice_get-get_or ps k d lt) (each k lt)
 
 -- the words of a text field are its texts
-pub words_are_texts : (o : Option Content) → IsFilled Kind.text o → words_in o ≡ texts_in o
+pub words_are_texts : (o : Option Content) → IsFilled Kind.text o → words_in o ≡ content_texts o
 words_are_texts None none = absurd none
 words_are_texts (Some c) (IsContent.words ws sorted) = refl
 
@@ -91,20 +91,20 @@ no_words kind other (Some c) (IsContent.labels ls sorted) = omega arith
 
 module _ (index : ℕ) (rows : List given.Row) where
   -- the words of a text field are those of its terms
-  pub words_of_terms : All (λ r. IsFilled Kind.text (content_in index r.item.now)) rows → (terms : List (List Text)) → terms ≡ map (λ r. texts_in (content_in index r.item.now)) rows
-      → length (dictionary_of terms) < 2 ^ 32 → length (dictionary_of (map words_in (contents_in index rows))) < 2 ^ 32
+  pub words_of_terms : All (λ r. IsFilled Kind.text (content_in index r.item.now)) rows → (terms : List (List Text)) → terms ≡ map (λ r. content_texts (content_in index r.item.now)) rows
+      → length (dictionary_of terms) < 2 ^ 32 → length (dictionary_of (map words_in (contents_of_rows index rows))) < 2 ^ 32
   words_of_terms filled terms same few =
-      let words : map words_in (contents_in index rows) ≡ terms =
+      let words : map words_in (contents_of_rows index rows) ≡ terms =
       map-map words_in (λ r. content_in index r.item.now) rows
-      ∙ map_where (λ r. IsFilled Kind.text (content_in index r.item.now)) (λ r. words_in (content_in index r.item.now)) (λ r. texts_in (content_in index r.item.now)) (λ r f. words_are_texts (content_in index r.item.now) f) rows filled
+      ∙ map_where (λ r. IsFilled Kind.text (content_in index r.item.now)) (λ r. words_in (content_in index r.item.now)) (λ r. content_texts (content_in index r.item.now)) (λ r f. words_are_texts (content_in index r.item.now) f) rows filled
       ∙ sym same in
       omega (arith, few, ap (λ (l : List (List Text)). length (dictionary_of l)) words)
 
   -- a field of another kind has none
-  pub words_of_none : (kind : Kind) → kind ≢ Kind.text → All (λ r. IsFilled kind (content_in index r.item.now)) rows → length (dictionary_of (map words_in (contents_in index rows))) < 2 ^ 32
+  pub words_of_none : (kind : Kind) → kind ≢ Kind.text → All (λ r. IsFilled kind (content_in index r.item.now)) rows → length (dictionary_of (map words_in (contents_of_rows index rows))) < 2 ^ 32
   words_of_none kind other filled =
       omega (
         arith,
-        length-dictionary 0 (map words_in (contents_in index rows))
-            (All-map (λ ws. length ws ≤ 0) words_in (contents_in index rows) (All-map (λ o. length (words_in o) ≤ 0) (λ r. content_in index r.item.now) rows (λ k d lt. no_words kind other (content_in index (get_or rows k d).item.now) (filled k d lt)))),
+        length-dictionary 0 (map words_in (contents_of_rows index rows))
+            (All-map (λ ws. length ws ≤ 0) words_in (contents_of_rows index rows) (All-map (λ o. length (words_in o) ≤ 0) (λ r. content_in index r.item.now) rows (λ k d lt. no_words kind other (content_in index (get_or rows k d).item.now) (filled k d lt)))),
       )

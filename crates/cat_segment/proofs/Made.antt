@@ -17,8 +17,8 @@ use Rattle.cat_segment.proofs.Placed.{no_content, length-fields}
 use Rattle.cat_segment.proofs.Worded.{words_few}
 use Rattle.cat_segment.specs.Laid.{content_under, contents_under}
 use Rattle.cat_segment.specs.Contents.{contents_of}
-use Rattle.cat_segment.specs.Fields.{record_of, content_in, contents_in, AreFitting}
-use Rattle.cat_segment.specs.Body.{content_at, fields_at, Body, row_at, rows_of, IsBody}
+use Rattle.cat_segment.specs.Fields.{row_record, content_in, contents_of_rows, AreFitting}
+use Rattle.cat_segment.specs.Body.{column_content_at, row_fields_at, Body, row_at, rows_of, IsBody}
 use Rattle.cat_segment.specs.declared.column.Column.{Column}
 use Rattle.cat_segment.specs.declared.segment.Row as given
 
@@ -27,29 +27,29 @@ pub row_here : (body : Body) (row : ℕ) (d : Row) → row < length body.numbers
 row_here body row d lt = get_or-map-range_with_len (row_at body) 0 (length body.numbers) row row d lt (omega arith)
 
 abbrev row_made : given.Row → Row
-row_made r = row_of (record_of r)
+row_made r = row_of (row_record r)
 
 abbrev pub seen : Column → List (Option Content)
 seen c = map (λ x. Some x) (contents_of c)
 
 -- one more column
-pub columns_more : (rows : List given.Row) (old new : List Column) (c : Column) (index : ℕ) → new ≡ old ++ c ∷ [] → seen c ≡ contents_in index rows
-    → map seen old ≡ map (λ k. contents_in k rows) (range_with_len 0 index) → map seen new ≡ map (λ k. contents_in k rows) (range_with_len 0 (index + 1))
+pub columns_more : (rows : List given.Row) (old new : List Column) (c : Column) (index : ℕ) → new ≡ old ++ c ∷ [] → seen c ≡ contents_of_rows index rows
+    → map seen old ≡ map (λ k. contents_of_rows k rows) (range_with_len 0 index) → map seen new ≡ map (λ k. contents_of_rows k rows) (range_with_len 0 (index + 1))
 columns_more rows old new c index pushed is before =
     ap (map seen) pushed ∙ map-append seen old (c ∷ [])
     ∙ (λ i. before i ++ is i ∷ [])
-    ∙ sym (map-range_with_len_more (λ k. contents_in k rows) 0 index index (omega arith))
+    ∙ sym (map-range_with_len_more (λ k. contents_of_rows k rows) 0 index index (omega arith))
 
 -- the parts of a row, field by field
 fields_made : (fs : Schema) (cs : List Column) (ps : List FieldContent) (row : ℕ) → AreFields fs ps → length cs ≡ length fs
-    → ((j : ℕ) (d : Column) → j < length fs → Some (content_at (get_or cs j d) row) ≡ option_map (λ p. p.content) (slice_get ps j)) → fields_at fs cs row ≡ ps
+    → ((j : ℕ) (d : Column) → j < length fs → Some (column_content_at (get_or cs j d) row) ≡ option_map (λ p. p.content) (slice_get ps j)) → row_fields_at fs cs row ≡ ps
 fields_made [] cs [] row parts e is = refl
 fields_made [] cs (p ∷ ps) row parts e is = absurd parts
 fields_made (f ∷ fs) cs [] row parts e is = absurd parts
 fields_made (f ∷ fs) [] (p ∷ ps) row parts e is = absurd (omega arith)
 fields_made (f ∷ fs) (c ∷ cs) (p ∷ ps) row parts e is =
     let first = is zero c (omega arith) in
-    let here : content_at c row ≡ p.content = (cc) in
+    let here : column_content_at c row ≡ p.content = (cc) in
     let later = fields_made fs cs ps row parts.1 (omega arith) (λ j d lt. is (suc j) d (omega arith)) in
     λ i. record { name = sym parts.0.0 i; content = here i } ∷ later i
 
@@ -58,7 +58,7 @@ module _ (fs : Schema) (rows : List given.Row) (are : AreRows fs (map row_made r
   fields_at_row k d lt = subst (λ r. AreFields fs r.fields) (get_or-map row_made rows k d (row_made d) lt) (are.fields k (row_made d) (omega (arith, length-map rows row_made)))
 
   -- what the items have, place by place
-  contents_placed : (index : ℕ) → index < length fs → contents_in index rows ≡ map (λ c. Some c) (contents_under index (map row_made rows))
+  contents_placed : (index : ℕ) → index < length fs → contents_of_rows index rows ≡ map (λ c. Some c) (contents_under index (map row_made rows))
   contents_placed index lt =
       map_where (λ r. AreFields fs r.item.now.fields) (λ r. content_in index r.item.now) (λ r. Some (content_under index (row_made r)))
       (λ r parts. ap (option_map (λ p. p.content)) (slice_get-get_or r.item.now.fields index no_content (omega (arith, length-fields fs r.item.now.fields parts)))) rows fields_at_row
@@ -85,24 +85,24 @@ module _ (fs : Schema) (rows : List given.Row) (are : AreRows fs (map row_made r
   pub fields_right : (k : ℕ) (d : given.Row) → k < length rows → AreFields fs (get_or rows k d).item.now.fields
   fields_right k d lt = subst (λ r. AreFields fs r.fields) (get_or-map row_made rows k d (row_made d) lt) (are.fields k (row_made d) (omega (arith, length-map rows row_made)))
 
-  module _ (schema : IsSchema fs) (formed : All IsFormedRow (map row_made rows)) (words : (name : Text) → length (words_of_field (map row_made rows) name) < 2 ^ 32) (cs : List Column) (right : map seen cs ≡ map (λ k. contents_in k rows) (range_with_len 0 (length fs))) where
+  module _ (schema : IsSchema fs) (formed : All IsFormedRow (map row_made rows)) (words : (name : Text) → length (words_of_field (map row_made rows) name) < 2 ^ 32) (cs : List Column) (right : map seen cs ≡ map (λ k. contents_of_rows k rows) (range_with_len 0 (length fs))) where
     abbrev made : Body
     made = record { schema = fs; numbers = map (λ r. r.number) rows; ids = map (λ r. r.item.now.id) rows; lengths = map (λ r. length r.item.now.source) rows; columns = cs }
 
     as_many : length cs ≡ length fs
-    as_many = sym (length-map cs seen) ∙ ap length right ∙ length-map-range_with_len (λ k. contents_in k rows) 0 (length fs)
+    as_many = sym (length-map cs seen) ∙ ap length right ∙ length-map-range_with_len (λ k. contents_of_rows k rows) 0 (length fs)
 
-    column_right : (j : ℕ) (d : Column) → j < length fs → seen (get_or cs j d) ≡ contents_in j rows
+    column_right : (j : ℕ) (d : Column) → j < length fs → seen (get_or cs j d) ≡ contents_of_rows j rows
     column_right j d lt =
         sym (get_or-map seen cs j d [] (omega (arith, as_many)))
         ∙ ap (λ l. get_or l j []) right
-        ∙ get_or-map-range_with_len (λ k. contents_in k rows) 0 (length fs) j j [] lt (omega arith)
+        ∙ get_or-map-range_with_len (λ k. contents_of_rows k rows) 0 (length fs) j j [] lt (omega arith)
 
     column_long : (j : ℕ) (d : Column) → j < length fs → length (contents_of (get_or cs j d)) ≡ length rows
     column_long j d lt =
         sym (length-map (contents_of (get_or cs j d)) (λ x. Some x)) ∙ ap length (column_right j d lt) ∙ length-map rows (λ r. content_in j r.item.now)
 
-    content_right : (j : ℕ) (d : Column) (k : ℕ) (r : given.Row) → j < length fs → k < length rows → Some (content_at (get_or cs j d) k) ≡ content_in j (get_or rows k r).item.now
+    content_right : (j : ℕ) (d : Column) (k : ℕ) (r : given.Row) → j < length fs → k < length rows → Some (column_content_at (get_or cs j d) k) ≡ content_in j (get_or rows k r).item.now
     content_right j d k r lt in_rows =
         sym (get_or-map (λ x. Some x) (contents_of (get_or cs j d)) k (Content.words []) None (omega (arith, column_long j d lt)))
         ∙ ap (λ l. get_or l k None) (column_right j d lt)
@@ -143,14 +143,14 @@ pub record IsMade (fs : Schema) (rows : List given.Row) (body : Body) : Type 0 w
   pub numbers : body.numbers ≡ map (λ r. r.number) rows
   pub ids : body.ids ≡ map (λ r. r.item.now.id) rows
   pub lengths : body.lengths ≡ map (λ r. length r.item.now.source) rows
-  pub columns : map seen body.columns ≡ map (λ k. contents_in k rows) (range_with_len 0 (length fs))
+  pub columns : map seen body.columns ≡ map (λ k. contents_of_rows k rows) (range_with_len 0 (length fs))
 
 module _ (fs : Schema) (rows : List given.Row) (are : AreRows fs (map row_made rows)) (schema : IsSchema fs) (formed : All IsFormedRow (map row_made rows)) (words : (name : Text) → length (words_of_field (map row_made rows) name) < 2 ^ 32)
     (body : Body) (is : IsMade fs rows body) where
   all_made : body ≡ made fs rows are schema formed words body.columns is.columns
   all_made = λ i. record { schema = is.schema i; numbers = is.numbers i; ids = is.ids i; lengths = is.lengths i; columns = body.columns }
 
-  pub rows_in_body : rows_of body ≡ map (λ r. row_of (record_of r)) rows
+  pub rows_in_body : rows_of body ≡ map (λ r. row_of (row_record r)) rows
   rows_in_body = ap rows_of all_made ∙ rows_right fs rows are schema formed words body.columns is.columns
 
   pub IsBody-made : IsBody body

@@ -9,14 +9,14 @@ use Rattle.cat_segment.specs.declared.column.Column.{Column}
 use Rattle.cat_segment.specs.declared.segment.Segment.TheInside.{Inside}
 
 -- what the column says of this row
-abbrev pub content_at : Column → ℕ → Content
-content_at column row = slice_index_or (contents_of column) row (Content.words [])
+abbrev pub column_content_at : Column → ℕ → Content
+column_content_at column row = slice_index_or (contents_of column) row (Content.words [])
 
 -- what the columns say of this row, each under the name of its field
-abbrev pub fields_at : Schema → List Column → ℕ → List FieldContent
-fields_at [] columns row = []
-fields_at (f ∷ fs) [] row = []
-fields_at (f ∷ fs) (c ∷ cs) row = record { name = f.name; content = content_at c row } ∷ fields_at fs cs row
+abbrev pub row_fields_at : Schema → List Column → ℕ → List FieldContent
+row_fields_at [] columns row = []
+row_fields_at (f ∷ fs) [] row = []
+row_fields_at (f ∷ fs) (c ∷ cs) row = record { name = f.name; content = column_content_at c row } ∷ row_fields_at fs cs row
 
 -- the fields, what each row has beside its fields, and a column for each field
 pub record Body : Type 0 where
@@ -38,7 +38,7 @@ abbrev pub row_at : Body → ℕ → Row
 row_at body row = record {
   number = slice_index_or body.numbers row 0;
   id = slice_index_or body.ids row [];
-  fields = fields_at body.schema body.columns row;
+  fields = row_fields_at body.schema body.columns row;
   length = slice_index_or body.lengths row 0;
 }
 

@@ -9,24 +9,24 @@ use Rattle.cat_model.specs.View.{Row, row_of}
 use Rattle.cat_segment.specs.declared.segment.Row as given
 
 -- the record of a row that a segment is made of
-abbrev pub record_of : given.Row → Record
-record_of r = record { number = r.number; item = r.item.now }
+abbrev pub row_record : given.Row → Record
+row_record r = record { number = r.number; item = r.item.now }
 
 -- the rows of a segment that is made of them
 abbrev pub rows_made : List given.Row → List Row
-rows_made rows = map (λ r. row_of (record_of r)) rows
+rows_made rows = map (λ r. row_of (row_record r)) rows
 
 -- what the item has in the field of this index
 abbrev pub content_in : ℕ → Item → Option Content
 content_in index i = option_map (λ p. p.content) (slice_get i.fields index)
 
 -- what each row has in the field of this index
-abbrev pub contents_in : ℕ → List given.Row → List (Option Content)
-contents_in index rows = map (λ r. content_in index r.item.now) rows
+abbrev pub contents_of_rows : ℕ → List given.Row → List (Option Content)
+contents_of_rows index rows = map (λ r. content_in index r.item.now) rows
 
 -- what each row has in each of so many fields
 abbrev pub contents_by_field : ℕ → List given.Row → List (List (Option Content))
-contents_by_field fields rows = map (λ k. contents_in k rows) (range_with_len 0 fields)
+contents_by_field fields rows = map (λ k. contents_of_rows k rows) (range_with_len 0 fields)
 
 -- the item has something in the field, of the field's kind
 abbrev pub IsFilled : Kind → Option Content → Type 0
@@ -34,12 +34,12 @@ IsFilled kind None = ⊥
 IsFilled kind (Some c) = IsContent kind c
 
 -- the texts of a text or facet field: words or labels
-abbrev pub texts_in : Option Content → List Text
-texts_in None = []
-texts_in (Some (Content.words ws)) = ws
-texts_in (Some (Content.keyword k)) = []
-texts_in (Some (Content.number n)) = []
-texts_in (Some (Content.labels ls)) = ls
+abbrev pub content_texts : Option Content → List Text
+content_texts None = []
+content_texts (Some (Content.words ws)) = ws
+content_texts (Some (Content.keyword k)) = []
+content_texts (Some (Content.number n)) = []
+content_texts (Some (Content.labels ls)) = ls
 
 -- what the item has in the field of this index, if there is one, has its forms
 abbrev pub IsFormedIn : ℕ → given.Row → Type 0
@@ -48,4 +48,4 @@ IsFormedIn index r = IfSome (content_in index r.item.now) IsFormed
 -- what the rows have in the field of this index: it has its forms, and fewer than 2^32 different words
 pub record AreFitting (index : ℕ) (rows : List given.Row) : Type 0 where
   pub formed : All (IsFormedIn index) rows
-  pub words : length (dictionary_of (map words_in (contents_in index rows))) < 2 ^ 32
+  pub words : length (dictionary_of (map words_in (contents_of_rows index rows))) < 2 ^ 32

@@ -29,15 +29,15 @@ abbrev pub laid_out : Kind → List Content → Laid
 laid_out kind contents = laid_as kind (map (λ c. Some c) contents)
 
 -- the kind of the fields that have such a column
-abbrev pub kind_of : Column → Kind
-kind_of (TextColumn words) = Kind.text
-kind_of (Keyword keywords) = Kind.keyword
-kind_of (Number numbers) = Kind.number
-kind_of (Facet labels) = Kind.facet
+abbrev pub column_kind : Column → Kind
+column_kind (TextColumn words) = Kind.text
+column_kind (Keyword keywords) = Kind.keyword
+column_kind (Number numbers) = Kind.number
+column_kind (Facet labels) = Kind.facet
 
 -- the column as a file lays it out
 abbrev pub laid_in : Column → Laid
-laid_in column = laid_out (kind_of column) (contents_of column)
+laid_in column = laid_out (column_kind column) (contents_of column)
 
 -- the column of what rows have in a keyword field
 abbrev pub laid_keywords : List (Option Text) → Laid

@@ -7,7 +7,7 @@ ghost use Rattle.cat_model.specs.Limits.{row_limit};
 ghost use Rattle.cat_model.specs.Ordinals.{dictionary_of};
 ghost use Rattle.cat_items.specs.Kinds.{field_kind_of};
 ghost use Rattle.cat_segment.specs.Contents.{contents_told};
-ghost use Rattle.cat_segment.specs.Fields.{content_in, contents_in, contents_by_field, AreFitting, IsFilled};
+ghost use Rattle.cat_segment.specs.Fields.{content_in, contents_of_rows, contents_by_field, AreFitting, IsFilled};
 
 use crate::column::{Column, Keywords, Labels};
 use crate::field_values::{keywords, numbers, texts};
@@ -43,7 +43,7 @@ fn column_of(
 ) -> Result<Column, AllocError>
     requires few { length rows.now < 2 ^ 32 }
     requires filled { All (λ r. IsFilled (field_kind_of kind) (content_in index r.item.now)) rows.now }
-    ensures ok { IfOk result (λ c. contents_told c ≡ contents_in index rows.now) }
+    ensures ok { IfOk result (λ c. contents_told c ≡ contents_of_rows index rows.now) }
     ensures fitting { IfOk result (λ c. AreFitting index rows.now) }
 {
     match kind {

@@ -4,7 +4,7 @@ ghost use Rattle.cat_base.specs.Texts.{IsTextSet};
 ghost use Rattle.cat_model.specs.Forms.{IsFormed};
 ghost use Rattle.cat_model.specs.Item.{keyword_in, number_in};
 ghost use Rattle.cat_items.specs.Contents.{field_content_of};
-ghost use Rattle.cat_segment.specs.Fields.{content_in, texts_in, IsFormedIn};
+ghost use Rattle.cat_segment.specs.Fields.{content_in, content_texts, IsFormedIn};
 
 use crate::segment::Row;
 use cat_base::Text;
@@ -21,7 +21,7 @@ fn value_at(item: &Item, index: usize) -> Option<&FieldValue>
 
 /// The texts that the item has in the field of the index: its words or its labels.
 fn texts_at(item: &Item, index: usize) -> &[Text]
-    ensures value { result.now ≡ texts_in (content_in index item.now) }
+    ensures value { result.now ≡ content_texts (content_in index item.now) }
     ensures sorted { IsTextSet result.now }
     ensures formed { IfSome (content_in index item.now) IsFormed }
 {
@@ -60,7 +60,7 @@ pub(crate) fn texts<'a>(
     index: usize,
     rows: &[Row<'a>],
 ) -> Result<Vec<&'a [Text]>, AllocError>
-    ensures ok { IfOk result (λ v. map (λ t. t.now) v.items ≡ map (λ r. texts_in (content_in index r.item.now)) rows.now) }
+    ensures ok { IfOk result (λ v. map (λ t. t.now) v.items ≡ map (λ r. content_texts (content_in index r.item.now)) rows.now) }
     ensures sets { IfOk result (λ v. All (λ t. IsTextSet t.now) v.items) }
     ensures formed { IfOk result (λ v. All (IsFormedIn index) rows.now) }
 {

@@ -9,7 +9,7 @@ ghost use Rattle.cat_model.specs.View.{AreRows, IsSegment};
 ghost use Rattle.cat_segment.specs.Contents.{contents_told, contents_under_name};
 ghost use Rattle.cat_segment.specs.Fields.{rows_made};
 ghost use Rattle.cat_segment.specs.Index.{AreAllRows};
-ghost use Rattle.cat_segment.specs.Laid.{kind_of, laid_in};
+ghost use Rattle.cat_segment.specs.Laid.{column_kind, laid_in};
 ghost use Rattle.cat_segment.specs.Body.{body_with, rows_of, IsBody};
 ghost use Rattle.cat_segment.specs.Sources.{source_offset};
 
@@ -223,7 +223,7 @@ impl Segment {
     pub fn column_at(&self, index: usize) -> &Column
         requires { index < length self.now.schema }
         ensures contents { HoldsAt (λ f. contents_told result.now ≡ contents_under_name f.name self.now.rows) self.now.schema index }
-        ensures kind { HoldsAt (λ f. kind_of result.now ≡ f.kind) self.now.schema index }
+        ensures kind { HoldsAt (λ f. column_kind result.now ≡ f.kind) self.now.schema index }
     {
         &self.columns[index]
     }

@@ -27,7 +27,7 @@ use Rattle.cat_commands.specs.cat_ledger.Openings.{IsOpenedLedger}
 use Rattle.cat_commands.proofs.ledger_laws.Swept.{KeepsUsed}
 use Rattle.cat_commands.specs.views.Holding.{AreRights}
 use Rattle.cat_service.specs.Opening.{BeginsIn, HasSchemaText, HoldsTable, OpensIn}
-use Rattle.cat_service.specs.Worlds.{IsCarried}
+use Rattle.cat_commands.specs.cat_ledger.Lasting.{IsCarried}
 
 -- what is opened, and the run that begins there
 abbrev Begun : ToldFiles → ToldFiles → Shape → Schema → Type 0

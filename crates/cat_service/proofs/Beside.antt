@@ -7,11 +7,11 @@ use Rattle.cat_protocol.specs.cat_facets.States.{ReaderState}
 use Rattle.cat_protocol.specs.cat_facets.Kept as facets
 use Rattle.cat_commands.specs.cat_cached_sets.filters.Filters.{Filters}
 use Rattle.cat_commands.specs.cat_cached_sets.filters.Known.{Knows}
-use Rattle.cat_protocol.specs.cat_views.Holds.{Hold}
+use Rattle.cat_protocol.specs.cat_views.Holds.{HeldView}
 use Rattle.cat_commands.specs.cat_lifetimes.rights.Rights.{right_of}
 use Rattle.cat_ledger_laws.specs.lines.ReadLaws.{IsRecordedAs}
 use Rattle.cat_ledger_laws.specs.shape.Shapes.{Shape}
-use Rattle.cat_commands.specs.sets.Kept.{HasKept, KnowsIn, RemembersIn, RemembersInBelow}
+use Rattle.cat_commands.specs.sets.Kept.{HasKept, ListsKnow, RemembersIn, RemembersInBelow}
 use Rattle.cat_commands.specs.sets.Segments.{SegmentsAgree}
 use Rattle.cat_commands.specs.sets.Sets.{HasSets}
 use Rattle.cat_commands.proofs.sets.Knowing.{added_are_right, none_are_kept, of_lists, of_values, recorded_agree}
@@ -41,31 +41,31 @@ no_states s ks is = subst (λ ks. HasKept (segments_kept ks) s) (sym is) (none_a
 
 -- ---- by the right that a session has
 
-module _ (s : Shape) (session t : ℕ) (rights : List Hold) (are : AreRights s rights) where
+module _ (s : Shape) (session t : ℕ) (rights : List HeldView) (are : AreRights s rights) where
   -- what each segment of a recorded view has, those of the view have that the session holds
   held_have : (P : Segment → Type 0) → ((view : View) → IsRecordedAs s.views t view → All P (segments_of view.leaves))
-      → {R : Type 0} (right : Option R) (value : R → Hold) → option_map value right ≡ right_of rights session t
+      → {R : Type 0} (right : Option R) (value : R → HeldView) → option_map value right ≡ right_of rights session t
       → IfSome right (λ h. All P (segments_of (value h).view.leaves))
   held_have P each None value same = tt
   held_have P each (Some h) value same = each (value h).view (are.views session t (value h) (sym same))
 
   -- its segments are known to the sets
-  pub held_sets : (f : Filters) → HasSets f s → {R : Type 0} (right : Option R) (value : R → Hold)
+  pub held_sets : (f : Filters) → HasSets f s → {R : Type 0} (right : Option R) (value : R → HeldView)
       → option_map value right ≡ right_of rights session t → IfSome right (λ h. All (Knows f) (segments_of (value h).view.leaves))
   held_sets f right_sets right value same = held_have (Knows f) (λ view is. recorded_are_known f s t view right_sets is) right value same
 
   -- and to the states
-  pub held_states : (ks : List ReaderState) → HasKept (segments_kept ks) s → {R : Type 0} (right : Option R) (value : R → Hold)
+  pub held_states : (ks : List ReaderState) → HasKept (segments_kept ks) s → {R : Type 0} (right : Option R) (value : R → HeldView)
       → option_map value right ≡ right_of rights session t → IfSome right (λ h. All (facets.KnowsIn ks) (segments_of (value h).view.leaves))
   held_states ks kept right value same =
       held_have (facets.KnowsIn ks)
       (λ view is.
-      All-weaker (KnowsIn (segments_kept ks)) (facets.KnowsIn ks) (λ s known. of_values (λ k. k.segments) (AgreesWith s) ks known) (segments_of view.leaves)
+      All-weaker (ListsKnow (segments_kept ks)) (facets.KnowsIn ks) (λ s known. of_values (λ k. k.segments) (AgreesWith s) ks known) (segments_of view.leaves)
       (recorded_agree (segments_kept ks) s t view kept is))
       right value same
 
   -- states that counts over that view leave are right
-  pub states_after : SegmentsAgree s → (ks after : List ReaderState) → {R : Type 0} (right : Option R) (value : R → Hold)
+  pub states_after : SegmentsAgree s → (ks after : List ReaderState) → {R : Type 0} (right : Option R) (value : R → HeldView)
       → option_map value right ≡ right_of rights session t
       → MatchOption right (after ≡ ks) (λ h. facets.RemembersOf (segments_of (value h).view.leaves) ks after)
       → MatchOption right (after ≡ ks) (λ h. facets.RemembersOfBelow (segments_of (value h).view.leaves) ks after)

@@ -18,12 +18,12 @@ use Rattle.cat_model.specs.View.{View}
 use Rattle.cat_directory.specs.Devices.{CountsOne, FileContent}
 use Rattle.cat_directory.specs.declared.name.FileName.{FileName}
 use Rattle.cat_commands.specs.views.Holding.{said_open}
-use Rattle.cat_commands.specs.ledger.Chores.{FailsFor, MayRefuse, MayRefuseForce, MayRefuseMerge, Tells, chore_of}
+use Rattle.cat_commands.specs.ledger.Chores.{FailsFor, MayRefuse, MayRefuseForce, MayRefuseMerge, TellsChore, chore_of}
 use Rattle.cat_commands.specs.declared.ledger.chores.Chore as code_chore
 use Rattle.cat_commands.specs.declared.ledger.chores.Chore.TheVariants.{Force, Merge, Stat, Sweep}
 use Rattle.cat_commands.specs.cat_ledger.Answering.{AnswersSaid}
 use Rattle.cat_commands.specs.cat_ledger.Histories.{GoesBy}
-use Rattle.cat_commands.specs.cat_ledger.Ledgers.{Ledger, device_in, policy_in, shape_in}
+use Rattle.cat_commands.specs.cat_ledger.Ledgers.{LedgerOnDevice, device_in, policy_in, shape_in}
 use Rattle.cat_commands.specs.cat_ledger_state.Cores.{HasRowsLeft, MayNotFlush}
 use Rattle.cat_ledger_laws.specs.lines.LineLaws.{line_of}
 use Rattle.cat_ledger_laws.specs.lines.ReadLaws.{IsRecordedAs}
@@ -33,11 +33,12 @@ use Rattle.cat_ledger_laws.specs.shape.Shapes.{Shape}
 use Rattle.cat_ledger_laws.specs.shape.Ties.{ToldFiles}
 use Rattle.cat_protocol.specs.replies.Reply.{answer_of, reply_of}
 use Rattle.cat_protocol.specs.declared.replies.answer.Answer as code
-use Rattle.cat_protocol.specs.cat_views.Holds.{Hold}
+use Rattle.cat_protocol.specs.cat_views.Holds.{HeldView}
 use Rattle.cat_protocol.specs.cat_views.Sources.{HoldsSource, TellsSource}
 use Rattle.cat_service.specs.Causes.{HasCause, IsDamagedTo, IsSpentTo, MayFailTo, TellsSo}
 use Rattle.cat_service.specs.Lines.{IsCommandOf}
-use Rattle.cat_service.specs.Worlds.{IsCarried, Service}
+use Rattle.cat_service.specs.Worlds.{Service}
+use Rattle.cat_commands.specs.cat_ledger.Lasting.{IsCarried}
 
 -- ---- replies
 
@@ -57,8 +58,8 @@ given_so A x result e h same is = refused_so (λ y. y ≡ x → A) result e h is
 not_told : (result : Result code.Answer Refusal) (x : Refusal) (reply : Reply) → (Err x ≢ reply) → result ≡ Err x → reply_of result ≡ reply → ⊥
 not_told result x reply differs given is = differs (sym (ap reply_of given) ∙ is)
 
-module _ {D : Type 0} (bytes : D → ToldFiles) (can_fail : D → Type 0) (faults : D → ℕ) (old : Ledger D) (rights : List Hold) (result : Result code.Answer Refusal)
-    (left : Ledger D) (rights' : List Hold) where
+module _ {D : Type 0} (bytes : D → ToldFiles) (can_fail : D → Type 0) (faults : D → ℕ) (old : LedgerOnDevice D) (rights : List HeldView) (result : Result code.Answer Refusal)
+    (left : LedgerOnDevice D) (rights' : List HeldView) where
   abbrev world : Service D
   world = record { ledger = old; rights = rights }
 
@@ -138,7 +139,7 @@ module _ {D : Type 0} (bytes : D → ToldFiles) (can_fail : D → Type 0) (fault
           ∙ ap (λ plain. cond plain (Ok text) (Err WrongKind)) b
 
   -- what is told of a generation
-  commit_told : (may : D → FileName → FileContent → Type 0) (text : Text) (reply : Reply) (new : Ledger D) → GoesBy may (Some (Said.commit text)) reply old new
+  commit_told : (may : D → FileName → FileContent → Type 0) (text : Text) (reply : Reply) (new : LedgerOnDevice D) → GoesBy may (Some (Said.commit text)) reply old new
       → TellsSo (policy_in old) (shape_in old) (Some (Said.commit text)) reply
   commit_told may text (Ok (Answer.number g)) new goes = (goes.asked g refl).0
   commit_told may text (Ok (Answer.found f)) new goes = tt
@@ -182,10 +183,10 @@ module _ {D : Type 0} (bytes : D → ToldFiles) (can_fail : D → Type 0) (fault
   module _ (session : ℕ) (carried : IsCarried (bytes (device_in old)) (shape_in old)) where
     -- what answers session 0 answers the command
     of_zero : (what : Chore) (reply : Reply) → session ≡ 0 → AnswersSaid bytes session (Said.chore what) old reply left
-        → lines.Answers (policy_in old) (bytes (device_in old)) (shape_in old) (line_of 0 (Command.chore what)) reply (bytes (device_in left)) (shape_in left)
+        → lines.AnswersCarried (policy_in old) (bytes (device_in old)) (shape_in old) (line_of 0 (Command.chore what)) reply (bytes (device_in left)) (shape_in left)
     of_zero what reply is answers =
-        subst (λ c. lines.Answers (policy_in old) (bytes (device_in old)) (shape_in old) (line_of 0 c) reply (bytes (device_in left)) (shape_in left)) answers.1
-        (subst (λ n. lines.Answers (policy_in old) (bytes (device_in old)) (shape_in old) (line_of n answers.0) reply (bytes (device_in left)) (shape_in left)) is answers.2)
+        subst (λ c. lines.AnswersCarried (policy_in old) (bytes (device_in old)) (shape_in old) (line_of 0 c) reply (bytes (device_in left)) (shape_in left)) answers.1
+        (subst (λ n. lines.AnswersCarried (policy_in old) (bytes (device_in old)) (shape_in old) (line_of n answers.0) reply (bytes (device_in left)) (shape_in left)) is answers.2)
 
     merge_told : (a : Answer) → session ≡ 0 → AnswersSaid bytes session (Said.chore Chore.merge) old (Ok a) left
         → TellsSo (policy_in old) (shape_in old) (Some (Said.chore Chore.merge)) (Ok a)
@@ -209,7 +210,7 @@ module _ {D : Type 0} (bytes : D → ToldFiles) (can_fail : D → Type 0) (fault
 
     -- what is told, as it is answered
     maintain_told : (sets : ℕ) (chore : code_chore.Chore) (r : Result code.Answer Refusal) → (session ≢ 0 → r ≡ Err NoForm)
-        → AnswersSaid bytes session (Said.chore (chore_of chore)) old (reply_of r) left → IfOk r (λ a. Tells sets (shape_in old) chore (answer_of a))
+        → AnswersSaid bytes session (Said.chore (chore_of chore)) old (reply_of r) left → IfOk r (λ a. TellsChore sets (shape_in old) chore (answer_of a))
         → TellsSo (policy_in old) (shape_in old) (Some (Said.chore (chore_of chore))) (reply_of r)
     maintain_told sets Merge (Ok a) foreign answers told = merge_told (answer_of a) (zero_answered a foreign) answers
       where
@@ -275,7 +276,7 @@ module _ {D : Type 0} (bytes : D → ToldFiles) (can_fail : D → Type 0) (fault
           record { spent = λ k. tt; device = λ k. tt; counted = λ k. tt; damaged = λ k. tt; told = told; rises = rises; stays = tt }
 
       pub chore_caused : (sets : ℕ) (chore : code_chore.Chore) → AnswersSaid bytes session (Said.chore (chore_of chore)) old (reply_of result) left
-          → IfOk result (λ a. Tells sets (shape_in old) chore (answer_of a)) → (session ≡ 0 → IfErr result (MayRefuse (policy_in old) (shape_in old) chore))
+          → IfOk result (λ a. TellsChore sets (shape_in old) chore (answer_of a)) → (session ≡ 0 → IfErr result (MayRefuse (policy_in old) (shape_in old) chore))
           → IfErr result (λ e. e ≡ Device → FailsFor chore (shape_in old).merging (can_fail (device_in old))) → IfErr result (λ e. e ≡ Device → Counted) → Rises → Causes (Said.chore (chore_of chore))
       chore_caused sets chore answers told may device counted rises = refuses chore may device counted (maintain_told sets chore result (λ k. (foreign k).0) answers told) rises
 

@@ -22,7 +22,7 @@ use Rattle.cat_ledger_laws.proofs.model.Sourced.{portions_are_read}
 use Rattle.cat_ledger_laws.proofs.model.Users.{All-split}
 use Rattle.cat_ledger_laws.proofs.model.Written.{commits_need_their_names}
 use Rattle.cat_ledger_laws.specs.shape.Shapes.{Shape}
-use Rattle.cat_ledger_laws.specs.shape.Ties.{Agrees, IsTold, ToldFiles, file_of}
+use Rattle.cat_ledger_laws.specs.shape.Ties.{FilesAgree, IsTold, ToldFiles, file_of}
 use Rattle.cat_ledger_laws.specs.lines.ReadLaws.{kept_under}
 use Rattle.cat_ledger_laws.specs.lines.RunLaws.{Stands}
 use Rattle.cat_ledger_laws.proofs.lines.Found.{All-unmap, found_in, holds_found}
@@ -54,7 +54,7 @@ find_passes {X = X} p (y ∷ ys) x e = by (p y) refl (λ f. find_passes p ys x f
     by false h more e = more e
 
 -- what a file holds that is copied
-copied : (told copy : ToldFiles) (files held : FileBytes) → Agrees told files → Agrees copy held → TellsEach copy → (q : Name)
+copied : (told copy : ToldFiles) (files held : FileBytes) → FilesAgree told files → FilesAgree copy held → TellsEach copy → (q : Name)
     → copy (file_of q) ≡ told (file_of q) → held q ≡ files q
 copied told copy files held agrees agreed tells q same = by (copy (file_of q)) refl
   where

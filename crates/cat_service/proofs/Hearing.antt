@@ -19,7 +19,7 @@ use Rattle.cat_service.proofs.Caused.{failing_by}
 use Rattle.cat_service.specs.Causes.{HasCause, TakesNumbers}
 use Rattle.cat_service.specs.Lines.{IsCommandOf, StepsLine}
 use Rattle.cat_service.specs.Reasons.{StepsCaused}
-use Rattle.cat_service.specs.Worlds.{Service, device_of, policy_of, shape_of}
+use Rattle.cat_service.specs.Worlds.{Service, device_of, policy_of, shape_of_service}
 use Rattle.cat_service.proofs.Histories.{goes_told}
 use Rattle.cat_service.proofs.Wanted.{wants_rightly}
 
@@ -38,17 +38,17 @@ module _ {D : Type 0} (bytes : D → ToldFiles) (may_leave : D → FileName → 
   unheard line none = ((Hears.unreadable none, refl), tt)
 
   hears : (line : Text) (session : ℕ) (said : Option Said) (c : Command) → IsReadable line → SpellsOrShows line session said
-      → IsCommandOf (shape_of old).schema said c → Hears json (shape_of old).schema line (Heard.a_line (line_of session c))
+      → IsCommandOf (shape_of_service old).schema said c → Hears json (shape_of_service old).schema line (Heard.a_line (line_of session c))
   hears line session (Some said) c readable spells is = Hears.spelled session said c readable spells is
   hears line session None c readable shows is =
-      subst (λ c. Hears json (shape_of old).schema line (Heard.a_line (line_of session c))) (sym is)
+      subst (λ c. Hears json (shape_of_service old).schema line (Heard.a_line (line_of session c))) (sym is)
       (Hears.formless session readable shows.0 shows.1)
 
   -- a line that says something, or has no form
   pub heard_as : (new : Service D) (line text : Text) (session : ℕ) (said : Option Said) (reply : Reply) → text ≡ line → IsReadable line
-      → SpellsOrShows text session said → (steps : StepsLine bytes session said old reply new) → (shape_of new).schema ≡ (shape_of old).schema
+      → SpellsOrShows text session said → (steps : StepsLine bytes session said old reply new) → (shape_of_service new).schema ≡ (shape_of_service old).schema
       → NamesFiles reply → GoesBy may_leave said reply old.ledger new.ledger
-      → HasCause bytes can_fail faults old said reply new → TakesNumbers (shape_of old) (shape_of new) → policy_of new ≡ policy_of old
+      → HasCause bytes can_fail faults old said reply new → TakesNumbers (shape_of_service old) (shape_of_service new) → policy_of new ≡ policy_of old
       → (can_fail (device_of new) → can_fail (device_of old))
       → StepsCaused bytes may_leave can_fail faults old (Some line) (told_to session steps.0 reply) new
   heard_as new line text session said reply same readable spells steps fields names goes cause numbers policy can = (
@@ -58,9 +58,9 @@ module _ {D : Type 0} (bytes : D → ToldFiles) (may_leave : D → FileName → 
         fields,
         names,
         steps.2,
-        (λ k. wants_rightly (bytes (device_of old)) (shape_of old) session said steps.0 steps.1 (steps.3 k)),
-        goes_told may_leave old new (shape_of old).schema said steps.0 reply steps.1 goes cause.stays,
-        (λ k. failing_by can_fail (device_of old) (shape_of old) (shape_of old).schema said steps.0 steps.1 (cause.device k)),
+        (λ k. wants_rightly (bytes (device_of old)) (shape_of_service old) session said steps.0 steps.1 (steps.3 k)),
+        goes_told may_leave old new (shape_of_service old).schema said steps.0 reply steps.1 goes cause.stays,
+        (λ k. failing_by can_fail (device_of old) (shape_of_service old) (shape_of_service old).schema said steps.0 steps.1 (cause.device k)),
         can,
       ),
     ),

@@ -13,14 +13,14 @@ use Rattle.cat_directory.specs.Devices.{FileContent}
 use Rattle.cat_directory.specs.declared.name.FileName.{FileName}
 use Rattle.cat_commands.specs.views.Holding.{said_open}
 use Rattle.cat_commands.specs.cat_ledger.Histories.{Call, Event, Goes, GoesBy, IsHistory, events_of}
-use Rattle.cat_commands.specs.cat_ledger.Ledgers.{Ledger}
+use Rattle.cat_commands.specs.cat_ledger.Ledgers.{LedgerOnDevice}
 use Rattle.cat_ledger_laws.specs.shape.Ties.{ToldFiles}
 use Rattle.cat_protocol.specs.lines.Line.{said_of}
 use Rattle.cat_protocol.specs.declared.lines.line.Line.{Line}
 use Rattle.cat_protocol.specs.replies.Reply.{reply_of}
 use Rattle.cat_protocol.specs.declared.replies.reply.Reply as code
 use Rattle.cat_protocol.specs.serving.Machine.{Steps}
-use Rattle.cat_service.specs.Histories.{AreSpoken, GoesTold, HaveCauses, IsEventOf, IsSpoken, LinesAreCalls, MakeTold, Makes, MakesTold, RunsHistory, Spoken}
+use Rattle.cat_service.specs.Histories.{AreSpoken, GoesTold, HaveCauses, IsEventOf, IsSpoken, LinesAreCalls, MakeTold, MakesEvent, MakesTold, RunsHistory, Spoken}
 use Rattle.cat_service.specs.Causes.{HasCause, StaysIfWrong}
 use Rattle.cat_service.specs.Lines.{IsCommandOf}
 use Rattle.cat_service.specs.Serving.{StepsIfShort}
@@ -28,18 +28,18 @@ use Rattle.cat_service.specs.Worlds.{Service}
 
 module _ {D : Type 0} (left : D → FileName → FileContent → Type 0) where
   -- an OPEN is another line than a COMMIT
-  pub opens_go : (token : Option ℕ) (reply : Reply) (old new : Ledger D) → Goes left Event.Other old new
+  pub opens_go : (token : Option ℕ) (reply : Reply) (old new : LedgerOnDevice D) → Goes left Event.Other old new
       → GoesBy left (Some (said_open token)) reply old new
   opens_go None reply old new goes = goes
   opens_go (Some t) reply old new goes = goes
 
   -- ---- lines are calls
 
-  other_call : (old new : Ledger D) → Goes left Event.Other old new → (event : Event) × (event ≡ Event.Other) × Goes left event old new
+  other_call : (old new : LedgerOnDevice D) → Goes left Event.Other old new → (event : Event) × (event ≡ Event.Other) × Goes left event old new
   other_call old new goes = (Event.Other, refl, goes)
 
   -- what changes nothing has nothing to do with commits
-  stays : (l : Ledger D) → Goes left Event.Other l l
+  stays : (l : LedgerOnDevice D) → Goes left Event.Other l l
   stays l = record {
     newest = refl;
     next = omega arith;
@@ -49,12 +49,12 @@ module _ {D : Type 0} (left : D → FileName → FileContent → Type 0) where
   }
 
   -- the event of a line
-  abbrev HasEvent : Option Said → Reply → Ledger D → Ledger D → Type 0
+  abbrev HasEvent : Option Said → Reply → LedgerOnDevice D → LedgerOnDevice D → Type 0
   HasEvent said reply old new = (event : Event) × IsEventOf said reply event × Goes left event old new
 
   -- that of a COMMIT, by what its text is
-  commit_call : (text : Text) (judged : Result Text Refusal) (reply : Reply) (old new : Ledger D) → GoesBy left (Some (Said.commit text)) reply old new
-      → IfErr judged (λ e. new ≡ old) → (event : Event) × Makes (Command.commit judged) reply event × Goes left event old new
+  commit_call : (text : Text) (judged : Result Text Refusal) (reply : Reply) (old new : LedgerOnDevice D) → GoesBy left (Some (Said.commit text)) reply old new
+      → IfErr judged (λ e. new ≡ old) → (event : Event) × MakesEvent (Command.commit judged) reply event × Goes left event old new
   commit_call text (Err f) reply old new goes same = (Event.Other, refl, subst (Goes left Event.Other old) (sym same) (stays old))
   commit_call text (Ok t) (Ok (Answer.number g)) old new goes same = (Event.Answered g, refl, goes)
   commit_call text (Ok t) (Ok (Answer.found f)) old new goes same = absurd goes
@@ -64,7 +64,7 @@ module _ {D : Type 0} (left : D → FileName → FileContent → Type 0) where
   commit_call text (Ok t) (Err e) old new (inl goes) same = (Event.Other, inl refl, goes)
   commit_call text (Ok t) (Err e) old new (inr goes) same = (Event.Refused _, inr (_, refl), goes)
 
-  line_call : (said : Option Said) (reply : Reply) (old new : Ledger D) → GoesBy left said reply old new → StaysIfWrong said old new
+  line_call : (said : Option Said) (reply : Reply) (old new : LedgerOnDevice D) → GoesBy left said reply old new → StaysIfWrong said old new
       → HasEvent said reply old new
   line_call None reply old new goes same = other_call old new goes
   line_call (Some (Said.commit text)) reply old new goes same = commit_call text (commit_text_of text) reply old new goes same
@@ -147,26 +147,26 @@ module _ {D : Type 0} (left : D → FileName → FileContent → Type 0) where
 
   -- a line makes of commits what its command makes of them
   line_makes : (schema : Schema) (said : Option Said) (c : Command) (reply : Reply) (event : Event) → IsCommandOf schema said c
-      → IsEventOf said reply event → Makes c reply event
-  line_makes schema None c reply event is e = subst (λ k. Makes k reply event) (sym is) e
-  line_makes schema (Some (Said.commit text)) c reply event is e = subst (λ k. Makes k reply event) (sym is) e
-  line_makes schema (Some (Said.put text)) c reply event is e = subst (λ k. Makes k reply event) (sym is) e
-  line_makes schema (Some (Said.delete text)) c reply event is e = subst (λ k. Makes k reply event) (sym is) e
-  line_makes schema (Some (Said.delete_where text)) c reply event is e = subst (λ k. Makes k reply event) (sym is.2) e
-  line_makes schema (Some Said.refresh) c reply event is e = subst (λ k. Makes k reply event) (sym is) e
-  line_makes schema (Some Said.open_newest) c reply event is e = subst (λ k. Makes k reply event) (sym is) e
-  line_makes schema (Some (Said.open_at t)) c reply event is e = subst (λ k. Makes k reply event) (sym is) e
-  line_makes schema (Some (Said.close t)) c reply event is e = subst (λ k. Makes k reply event) (sym is) e
-  line_makes schema (Some (Said.find t n sort mark text)) c reply event is e = subst (λ k. Makes k reply event) (sym is.2) e
-  line_makes schema (Some (Said.facets t dim n text)) c reply event is e = subst (λ k. Makes k reply event) (sym is.2) e
-  line_makes schema (Some (Said.get t text)) c reply event is e = subst (λ k. Makes k reply event) (sym is) e
-  line_makes schema (Some (Said.files_of_token t)) c reply event is e = subst (λ k. Makes k reply event) (sym is) e
-  line_makes schema (Some (Said.files_of_commit g)) c reply event is e = subst (λ k. Makes k reply event) (sym is) e
-  line_makes schema (Some (Said.text_of_commit g)) c reply event is e = subst (λ k. Makes k reply event) (sym is) e
-  line_makes schema (Some Said.snapshot) c reply event is e = subst (λ k. Makes k reply event) (sym is) e
-  line_makes schema (Some (Said.release_snapshot g)) c reply event is e = subst (λ k. Makes k reply event) (sym is) e
-  line_makes schema (Some (Said.prune n)) c reply event is e = subst (λ k. Makes k reply event) (sym is) e
-  line_makes schema (Some (Said.chore what)) c reply event is e = subst (λ k. Makes k reply event) (sym is) e
+      → IsEventOf said reply event → MakesEvent c reply event
+  line_makes schema None c reply event is e = subst (λ k. MakesEvent k reply event) (sym is) e
+  line_makes schema (Some (Said.commit text)) c reply event is e = subst (λ k. MakesEvent k reply event) (sym is) e
+  line_makes schema (Some (Said.put text)) c reply event is e = subst (λ k. MakesEvent k reply event) (sym is) e
+  line_makes schema (Some (Said.delete text)) c reply event is e = subst (λ k. MakesEvent k reply event) (sym is) e
+  line_makes schema (Some (Said.delete_where text)) c reply event is e = subst (λ k. MakesEvent k reply event) (sym is.2) e
+  line_makes schema (Some Said.refresh) c reply event is e = subst (λ k. MakesEvent k reply event) (sym is) e
+  line_makes schema (Some Said.open_newest) c reply event is e = subst (λ k. MakesEvent k reply event) (sym is) e
+  line_makes schema (Some (Said.open_at t)) c reply event is e = subst (λ k. MakesEvent k reply event) (sym is) e
+  line_makes schema (Some (Said.close t)) c reply event is e = subst (λ k. MakesEvent k reply event) (sym is) e
+  line_makes schema (Some (Said.find t n sort mark text)) c reply event is e = subst (λ k. MakesEvent k reply event) (sym is.2) e
+  line_makes schema (Some (Said.facets t dim n text)) c reply event is e = subst (λ k. MakesEvent k reply event) (sym is.2) e
+  line_makes schema (Some (Said.get t text)) c reply event is e = subst (λ k. MakesEvent k reply event) (sym is) e
+  line_makes schema (Some (Said.files_of_token t)) c reply event is e = subst (λ k. MakesEvent k reply event) (sym is) e
+  line_makes schema (Some (Said.files_of_commit g)) c reply event is e = subst (λ k. MakesEvent k reply event) (sym is) e
+  line_makes schema (Some (Said.text_of_commit g)) c reply event is e = subst (λ k. MakesEvent k reply event) (sym is) e
+  line_makes schema (Some Said.snapshot) c reply event is e = subst (λ k. MakesEvent k reply event) (sym is) e
+  line_makes schema (Some (Said.release_snapshot g)) c reply event is e = subst (λ k. MakesEvent k reply event) (sym is) e
+  line_makes schema (Some (Said.prune n)) c reply event is e = subst (λ k. MakesEvent k reply event) (sym is) e
+  line_makes schema (Some (Said.chore what)) c reply event is e = subst (λ k. MakesEvent k reply event) (sym is) e
 
   pub goes_told : (old new : Service D) (schema : Schema) (said : Option Said) (c : Command) (reply : Reply) → IsCommandOf schema said c
       → GoesBy left said reply old.ledger new.ledger → StaysIfWrong said old.ledger new.ledger → GoesTold left c reply old new

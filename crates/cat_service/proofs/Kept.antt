@@ -7,7 +7,7 @@ use Rattle.cat_model.specs.Item.{Schema}
 use Rattle.cat_model.specs.Lines.{Said}
 use Rattle.cat_model.specs.Run.{Command, Reply}
 use Rattle.cat_items.specs.Reading.{json}
-use Rattle.cat_protocol.specs.cat_views.Holds.{Hold}
+use Rattle.cat_protocol.specs.cat_views.Holds.{HeldView}
 use Rattle.cat_protocol.specs.cat_facets.States.{ReaderState}
 use Rattle.cat_commands.specs.cat_cached_sets.filters.Filters.{Filters}
 use Rattle.cat_ledger_laws.specs.shape.Ties.{ToldFiles}
@@ -17,7 +17,7 @@ use Rattle.cat_ledger_laws.proofs.lines.Numbered.{numbers_rise}
 use Rattle.cat_ledger_laws.proofs.lines.KeptCalls.{held_views_stay, holds_stay, schema_stays}
 use Rattle.cat_commands.specs.cat_ledger.Answering.{AnswersSaid}
 use Rattle.cat_commands.specs.cat_ledger.Ledgers.{device_in, policy_in, shape_in}
-use Rattle.cat_commands.specs.cat_ledger.Ledgers.{Ledger}
+use Rattle.cat_commands.specs.cat_ledger.Ledgers.{LedgerOnDevice}
 use Rattle.cat_commands.specs.sets.Kept.{HasKept}
 use Rattle.cat_commands.specs.sets.Sets.{HasSets}
 use Rattle.cat_commands.proofs.sets.Knowing.{kept_stay}
@@ -27,7 +27,8 @@ use Rattle.cat_service.specs.Causes.{HasCause, TakesNumbers}
 use Rattle.cat_service.specs.Lines.{Does}
 use Rattle.cat_service.specs.Named.{TellsNeeded}
 use Rattle.cat_service.proofs.Wanted.{SaysMayWant}
-use Rattle.cat_service.specs.Worlds.{IsCarried, IsWorld, segments_kept}
+use Rattle.cat_service.specs.Worlds.{IsWorld, segments_kept}
+use Rattle.cat_commands.specs.cat_ledger.Lasting.{IsCarried}
 use Rattle.cat_service.proofs.Names.{names_files, says_texts, told_none}
 
 -- no right begins or ends by what is said
@@ -58,7 +59,7 @@ still schema (Said.release_snapshot g) c is k = ap changes_holds is
 still schema (Said.prune n) c is k = ap changes_holds is
 still schema (Said.chore what) c is k = ap changes_holds is
 
-module _ {D : Type 0} {f : Filters} {ks : List ReaderState} (bytes : D → ToldFiles) (session : ℕ) (said : Said) (old : Ledger D) (reply : Reply) (new : Ledger D) (rights : List Hold) where
+module _ {D : Type 0} {f : Filters} {ks : List ReaderState} (bytes : D → ToldFiles) (session : ℕ) (said : Said) (old : LedgerOnDevice D) (reply : Reply) (new : LedgerOnDevice D) (rights : List HeldView) where
   -- what is carried after a line
   pub carried_on : IsWorld bytes old rights f ks → AnswersSaid bytes session said old reply new → IsCarried (bytes (device_in new)) (shape_in new)
   carried_on w answered =
@@ -105,7 +106,7 @@ module _ {D : Type 0} {f : Filters} {ks : List ReaderState} (bytes : D → ToldF
   }
 
 -- what an answer makes of a world that tells what is needed
-pub does_telling : {D : Type 0} {f : Filters} {ks : List ReaderState} (bytes : D → ToldFiles) (can_fail : D → Type 0) (faults : D → ℕ) (session : ℕ) (said : Said) (old : Ledger D) (reply : Reply) (new : Ledger D) (rights after : List Hold)
+pub does_telling : {D : Type 0} {f : Filters} {ks : List ReaderState} (bytes : D → ToldFiles) (can_fail : D → Type 0) (faults : D → ℕ) (session : ℕ) (said : Said) (old : LedgerOnDevice D) (reply : Reply) (new : LedgerOnDevice D) (rights after : List HeldView)
     → IsWorld bytes old rights f ks → HasCause bytes can_fail faults (record { ledger = old; rights = rights }) (Some said) reply (record { ledger = new; rights = after })
     → AnswersSaid bytes session said old reply new → (can_fail (device_in new) → can_fail (device_in old))
     → policy_in new ≡ policy_in old → TellsNeeded (shape_in old) (Some said) reply → (reply ≡ Err Memory → SaysMayWant (bytes (device_in old)) (shape_in old) session said)
@@ -123,7 +124,7 @@ does_telling bytes can_fail faults session said old reply new rights after w cau
 }
 
 -- what one makes to a line that asks for no names and no source
-pub does : {D : Type 0} {f : Filters} {ks : List ReaderState} (bytes : D → ToldFiles) (can_fail : D → Type 0) (faults : D → ℕ) (session : ℕ) (said : Said) (old : Ledger D) (reply : Reply) (new : Ledger D) (rights after : List Hold)
+pub does : {D : Type 0} {f : Filters} {ks : List ReaderState} (bytes : D → ToldFiles) (can_fail : D → Type 0) (faults : D → ℕ) (session : ℕ) (said : Said) (old : LedgerOnDevice D) (reply : Reply) (new : LedgerOnDevice D) (rights after : List HeldView)
     → IsWorld bytes old rights f ks → HasCause bytes can_fail faults (record { ledger = old; rights = rights }) (Some said) reply (record { ledger = new; rights = after })
     → AnswersSaid bytes session said old reply new → (can_fail (device_in new) → can_fail (device_in old))
     → policy_in new ≡ policy_in old → says_texts said ≡ false → (reply ≡ Err Memory → SaysMayWant (bytes (device_in old)) (shape_in old) session said)

@@ -39,7 +39,7 @@ use Rattle.cat_ledger_laws.proofs.model.Users.{All-split}
 use Rattle.cat_ledger_laws.specs.lines.LineLaws.{line_of}
 use Rattle.cat_ledger_laws.proofs.lines.Found.{All-unmap, holds_found}
 use Rattle.cat_ledger_laws.specs.lines.ReadLaws.{IsRecordedAs, kept_under}
-use Rattle.cat_ledger_laws.specs.lines.RunLaws.{Answers, ReplyLike}
+use Rattle.cat_ledger_laws.specs.lines.RunLaws.{AnswersCarried, ReplyLike}
 use Rattle.cat_protocol.specs.replies.Reply.{answer_of, reply_of}
 use Rattle.cat_protocol.specs.declared.replies.answer.Answer as code
 use Rattle.cat_commands.specs.views.Holding.{said_open}
@@ -185,7 +185,7 @@ alike (Err e) other h none = tt
 
 -- what is answered to a command that asks for none has none
 answered : (policy : MergePolicy) (told told' : ToldFiles) (s new : Shape) (session : ℕ) (c : Command) (reply : Reply) (l : Ledger) (files : FileBytes)
-    → Carries told s l files → asks_texts c ≡ false → Answers policy told s (line_of session c) reply told' new → TellsNone reply
+    → Carries told s l files → asks_texts c ≡ false → AnswersCarried policy told s (line_of session c) reply told' new → TellsNone reply
 answered policy told told' s new session c reply l files carries unasked answers =
     let k = answers l files carries in alike reply k.2 k.3.alike (called policy l session k.2 k.0 c unasked k.4)
 
@@ -233,7 +233,7 @@ needs_none s (Said.chore what) reply k h = h
 
 -- a line that asks for none is told none
 pub told_none : (policy : MergePolicy) (told told' : ToldFiles) (s new : Shape) (session : ℕ) (said : Said) (c : Command) (reply : Reply) (l : Ledger)
-    (files : FileBytes) → Carries told s l files → IsCommand json s.schema said c → Answers policy told s (line_of session c) reply told' new
+    (files : FileBytes) → Carries told s l files → IsCommand json s.schema said c → AnswersCarried policy told s (line_of session c) reply told' new
     → says_texts said ≡ false → TellsNeeded s (Some said) reply
 told_none policy told told' s new session said c reply l files carries is answers none =
     needs_none s said reply none (answered policy told told' s new session c reply l files carries (asked_none s.schema said c is none) answers)

@@ -13,7 +13,7 @@ use Rattle.cat_protocol.specs.replies.Reply.{reply_of}
 use Rattle.cat_protocol.specs.declared.replies.reply.Reply.{Reply}
 use Rattle.cat_service.specs.Lines.{StepsLine}
 use Rattle.cat_service.specs.Running.{AreAnsweredLines, IsAnsweredLine, RunsLines}
-use Rattle.cat_service.specs.Worlds.{Service, device_of, shape_of}
+use Rattle.cat_service.specs.Worlds.{Service, device_of, shape_of_service}
 
 -- what is read of the first i lines and of their replies agrees for one more
 pub maps_more : {L R X : Type 0} (f : R → X) (g : L → X) (ls : List L) (i : ℕ) (d : L) (rs : List R) (r : R)
@@ -39,11 +39,11 @@ module _ {D : Type 0} (bytes : D → ToldFiles) where
   -- no line goes on with no exchange
   pub none_runs : (w : Service D) → RunsLines bytes w [] [] w
   none_runs w from past fields run stands =
-      record { more = []; answered = tt; is_run = subst (IsRun from) (sym (append-nil past)) run; stands = subst (Stands (bytes (device_of w)) (shape_of w) from) (sym (append-nil past)) stands }
+      record { more = []; answered = tt; is_run = subst (IsRun from) (sym (append-nil past)) run; stands = subst (Stands (bytes (device_of w)) (shape_of_service w) from) (sym (append-nil past)) stands }
 
   -- one line more goes on with its exchange
   pub one_more : (old mid new : Service D) (ls : List Line) (i : ℕ) (d : Line) (rs : List Reply) (r : Reply)
-      → i < length ls → (shape_of mid).schema ≡ (shape_of old).schema → RunsLines bytes old (take i ls) rs mid
+      → i < length ls → (shape_of_service mid).schema ≡ (shape_of_service old).schema → RunsLines bytes old (take i ls) rs mid
       → StepsLine bytes (get_or ls i d).session (said_of (get_or ls i d).command) mid (reply_of r.answer) new
       → RunsLines bytes old (take (i + 1) ls) (rs ++ r ∷ []) new
   one_more old mid new ls i d rs r lt fields before step from past same run stands =
@@ -54,13 +54,13 @@ module _ {D : Type 0} (bytes : D → ToldFiles) where
       let shown = next.1 in record {
         more = so.more ++ e ∷ [];
         answered =
-            subst (λ ks. AreAnsweredLines bytes (shape_of old).schema ks (rs ++ r ∷ []) (so.more ++ e ∷ [])) (sym (take_more ls i d lt))
-            (pushed (shape_of old).schema (take i ls) rs so.more (get_or ls i d) r e so.answered (record {
+            subst (λ ks. AreAnsweredLines bytes (shape_of_service old).schema ks (rs ++ r ∷ []) (so.more ++ e ∷ [])) (sym (take_more ls i d lt))
+            (pushed (shape_of_service old).schema (take i ls) rs so.more (get_or ls i d) r e so.answered (record {
               session = refl;
               command = rw (← fields) step.1;
               alike = shown.alike;
               same = λ tells. shown.same (λ q. tells (device_of mid) q);
             }));
         is_run = subst (IsRun from) (append_assoc past so.more (e ∷ [])) (runs_go_on from (past ++ so.more) e so.is_run next.2);
-        stands = subst (Stands (bytes (device_of new)) (shape_of new) from) (append_assoc past so.more (e ∷ [])) next.3;
+        stands = subst (Stands (bytes (device_of new)) (shape_of_service new) from) (append_assoc past so.more (e ∷ [])) next.3;
       }

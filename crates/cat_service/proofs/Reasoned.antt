@@ -32,9 +32,9 @@ use Rattle.cat_service.proofs.Gets.{damaged_get}
 use Rattle.cat_service.proofs.Moved.{Moved, calls_move}
 use Rattle.cat_service.specs.Causes.{IsCountedTo, IsDamagedTo, IsSpentTo, TakesNumbers, TellsSo}
 use Rattle.cat_service.specs.Lines.{IsCommandOf}
-use Rattle.cat_service.specs.Reasons.{IsCausedBy, progress_of, standing_of}
+use Rattle.cat_service.specs.Reasons.{IsCausedBy, progress_of, standing_of_service}
 use Rattle.cat_model.specs.Standings.{ForceTells, HasNoRoom, HasReason, HasRowsToPass, IsCountedFor, IsDamagedFor, IsSpentFor, IsTakenBy, IsToForce, IsToldOf, IsToMerge, MergeTells, MovesOn, Progress, Standing, segment_rows, writes_by}
-use Rattle.cat_service.specs.Worlds.{Service, device_of, policy_of, shape_of}
+use Rattle.cat_service.specs.Worlds.{Service, device_of, policy_of, shape_of_service}
 
 -- ---- replies that are alike
 
@@ -101,10 +101,10 @@ some_passes (Some m) some = (progress_of m, refl)
 
 module _ {D : Type 0} (bytes : D → ToldFiles) (can_fail : D → Type 0) (faults : D → ℕ) (old : Service D) where
   abbrev s : Shape
-  s = shape_of old
+  s = shape_of_service old
 
   abbrev st : Standing
-  st = standing_of faults old
+  st = standing_of_service faults old
 
   sizes : segment_rows st ≡ sizes_in s.leaves
   sizes = sizes_told s.leaves
@@ -131,7 +131,7 @@ module _ {D : Type 0} (bytes : D → ToldFiles) (can_fail : D → Type 0) (fault
   SpentFor c = IsSpentFor (policy_of old).factor (policy_of old).least st c
 
   abbrev CountedFor : Service D → Command → Type 0
-  CountedFor new c = IsCountedFor st c (standing_of faults new)
+  CountedFor new c = IsCountedFor st c (standing_of_service faults new)
 
   abbrev DamagedFor : Opened → Run → Command → Type 0
   DamagedFor from past c = IsDamagedFor (AlwaysTells bytes) from past st c
@@ -170,7 +170,7 @@ module _ {D : Type 0} (bytes : D → ToldFiles) (can_fail : D → Type 0) (fault
       by (Some (Said.chore Chore.stat)) is m = subst SpentFor (sym is) tt
 
   counted_for : (new : Service D) (schema : Schema) (said : Option Said) (c : Command) → IsCommandOf schema said c
-      → IsCountedTo (CountsOne (faults (device_of old)) (faults (device_of new))) said → IsCountedFor st c (standing_of faults new)
+      → IsCountedTo (CountsOne (faults (device_of old)) (faults (device_of new))) said → IsCountedFor st c (standing_of_service faults new)
   counted_for new schema said c is m = by said is m
     where
       by : (said : Option Said) → IsCommandOf schema said c → IsCountedTo (CountsOne (faults (device_of old)) (faults (device_of new))) said → CountedFor new c
@@ -424,28 +424,28 @@ merging_gone schema m x e none = sym (ap (option_map progress_of) e) ∙ ap (λ 
 
 module _ {D : Type 0} (bytes : D → ToldFiles) (can_fail : D → Type 0) (faults : D → ℕ) where
   -- what a call made of a ledger is made of the standing that memory has of it
-  moves_on : (old new : Service D) (c : Command) (r : Reply) (l l' : Ledger) → shape_of_ledger l ≡ shape_of old → shape_of_ledger l' ≡ shape_of new
-      → TakesNumbers (shape_of old) (shape_of new) → faults (device_of old) ≤ faults (device_of new) → Moved c r l l' → MovesOn (standing_of faults old) c r (standing_of faults new)
+  moves_on : (old new : Service D) (c : Command) (r : Reply) (l l' : Ledger) → shape_of_ledger l ≡ shape_of_service old → shape_of_ledger l' ≡ shape_of_service new
+      → TakesNumbers (shape_of_service old) (shape_of_service new) → faults (device_of old) ≤ faults (device_of new) → Moved c r l l' → MovesOn (standing_of_service faults old) c r (standing_of_service faults new)
   moves_on old new c r l l' is is' numbers rises m = record {
     segment = numbers.segment;
     generation = numbers.generation;
     taken =
-        subst (λ n. IsTakenBy c r n (shape_of new).next_generation) (ap (λ (x : Shape). x.next_generation) is)
+        subst (λ n. IsTakenBy c r n (shape_of_service new).next_generation) (ap (λ (x : Shape). x.next_generation) is)
         (subst (λ n. IsTakenBy c r l.next_generation n) (ap (λ (x : Shape). x.next_generation) is') m.taken);
     segments =
         (let a = ap (λ (x : Shape). length x.leaves) is in
         let b = ap (λ (x : Shape). length x.leaves) is' in
         let d = length-map l.portions (leaf_of l.schema) in
         let e = length-map l'.portions (leaf_of l'.schema) in
-        let f = length-map (shape_of old).leaves segment_told in
-        let g = length-map (shape_of new).leaves segment_told in
+        let f = length-map (shape_of_service old).leaves segment_told in
+        let g = length-map (shape_of_service new).leaves segment_told in
         let h = m.segments in omega (arith, a, b, d, e, f, g, h));
     waits =
         (let a = ap (λ (x : Shape). length x.buffered) is in
         let b = ap (λ (x : Shape). length x.buffered) is' in
         let h = m.waits in omega (arith, a, b, h));
-    merges = λ none. elim (m.merges (merging_told l.schema l.merging (shape_of old).merging (ap (λ (x : Shape). x.merging) is) none)) [
-      | inl gone ↦ inl (merging_gone l'.schema l'.merging (shape_of new).merging (ap (λ (x : Shape). x.merging) is') gone)
+    merges = λ none. elim (m.merges (merging_told l.schema l.merging (shape_of_service old).merging (ap (λ (x : Shape). x.merging) is) none)) [
+      | inl gone ↦ inl (merging_gone l'.schema l'.merging (shape_of_service new).merging (ap (λ (x : Shape). x.merging) is') gone)
       | inr begun ↦ inr begun
     ];
     failures = rises;
@@ -453,13 +453,13 @@ module _ {D : Type 0} (bytes : D → ToldFiles) (can_fail : D → Type 0) (fault
 
   -- The reply that fits has its cause, where the one that was told has it.
   pub reasoned : (from : Opened) (past : Run) (old new : Service D) (e : Exchange) (fitting : Reply)
-      → Stands (bytes (device_of old)) (shape_of old) from past → Fits from past (record { line = e.line; reply = fitting })
+      → Stands (bytes (device_of old)) (shape_of_service old) from past → Fits from past (record { line = e.line; reply = fitting })
       → IsShown (bytes (device_of old)) e.reply fitting → IsCausedBy bytes can_fail faults old (Outcome.replied e) new
-      → HasReason (AlwaysTells bytes) (policy_of old).factor (policy_of old).least from past (standing_of faults old)
-      (record { line = e.line; reply = fitting }) (standing_of faults new)
+      → HasReason (AlwaysTells bytes) (policy_of old).factor (policy_of old).least from past (standing_of_service faults old)
+      (record { line = e.line; reply = fitting }) (standing_of_service faults new)
   reasoned from past old new e fitting stands fits shown (said, is, cause, numbers, answers, same) =
       let c = e.line.command in
-      let schema = (shape_of old).schema in
+      let schema = (shape_of_service old).schema in
       let l = stands.ledger in
       let made = answers l stands.files stands.carries in
       let moved : Moved c made.2 l made.0 = calls_move (policy_of old) l made.0 e.line made.2 made.4 in
@@ -472,7 +472,7 @@ module _ {D : Type 0} (bytes : D → ToldFiles) (can_fail : D → Type 0) (fault
             damaged_for bytes can_fail faults old from past e.line.session schema said c is stands (subst (λ r. Fits from past (record { line = e.line; reply = r })) k fits)
             (cause.damaged (refused_alike Damaged e.reply fitting shown.alike k));
         told =
-            (alike_on (λ r. IsToldOf (policy_of old).factor (policy_of old).least (standing_of faults old) c r)
+            (alike_on (λ r. IsToldOf (policy_of old).factor (policy_of old).least (standing_of_service faults old) c r)
             (λ a b h. found_told bytes can_fail faults old c (Found.source (Some b))) e.reply fitting shown.alike).0 (told_for bytes can_fail faults old schema said c e.reply is cause.told);
         writes = ap (λ (x : Shape). x.count) (sym stands.carries.shape) ∙ stands.stands.shows.count_now;
         views =

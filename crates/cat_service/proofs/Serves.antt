@@ -26,7 +26,7 @@ use Rattle.cat_directory.specs.Devices.{FileContent, Told}
 use Rattle.cat_directory.specs.Names.{by_names, file_of, name_of}
 use Rattle.cat_directory.specs.declared.name.FileName.{FileName}
 use Rattle.cat_directory.specs.declared.name.FileName.TheVariants as file
-use Rattle.cat_commands.specs.cat_ledger.Histories.{LeavesNoneAhead, events_of, tells}
+use Rattle.cat_commands.specs.cat_ledger.Histories.{LeavesNoneAhead, events_of, image_tells}
 use Rattle.cat_commands.specs.cat_ledger.Lasting.{AlwaysTells}
 use Rattle.cat_commands.specs.cat_ledger_state.startup.Newest.{IsNewestCommit}
 use Rattle.cat_ledger_laws.specs.model.Plans.{MergePolicy}
@@ -36,7 +36,7 @@ use Rattle.cat_ledger_laws.specs.shape.Ties.{ToldFiles}
 use Rattle.cat_ledger_laws.specs.lines.RunLaws.{Stands}
 use Rattle.cat_ledger_laws.proofs.lines.Held.{promised_are_held}
 use Rattle.cat_ledger_laws.proofs.shape.Told.{file_of_name}
-use Rattle.cat_protocol.specs.serving.Machine.{IsAnswered, Steps, opened_text, short_line}
+use Rattle.cat_protocol.specs.serving.Machine.{IsAnsweredByMachine, Steps, opened_text, short_line}
 use Rattle.cat_protocol.specs.serving.Serving.{EndsBy, IsRefused, LeadsTo, RefusedAt}
 use Rattle.cat_protocol.specs.declared.serving.machine.Stage.{Stage}
 use Rattle.cat_protocol.specs.declared.serving.machine.Stage.TheVariants.{Open}
@@ -51,9 +51,9 @@ use Rattle.cat_service.proofs.Survived.{survives, taken_all}
 use Rattle.cat_service.proofs.Caused.{failing_on}
 use Rattle.cat_service.specs.Opening.{BeginsIn, OpensWorld}
 use Rattle.cat_service.specs.Promises.{WorldLasts}
-use Rattle.cat_service.specs.Reasons.{OpensCaused, OpensSo, StepsCaused, standing_of}
-use Rattle.cat_service.specs.Serving.{Changes, OpensIfShort, StageLasts, StageOutlives, StepsIfShort, device_at}
-use Rattle.cat_service.specs.Worlds.{Service, device_of, policy_of, shape_of}
+use Rattle.cat_service.specs.Reasons.{OpensCaused, OpensSo, StepsCaused, standing_of_service}
+use Rattle.cat_service.specs.Serving.{ChangesByOutcome, OpensIfShort, StageLasts, StageOutlives, StepsIfShort, device_at}
+use Rattle.cat_service.specs.Worlds.{Service, device_of, policy_of, shape_of_service}
 use Rattle.cat_service.proofs.Wanted.{alike_wants}
 
 -- ---- lines that are too long
@@ -80,7 +80,7 @@ told_content a b e = cc
 
 -- a commit whose own file is there is the newest where those past it are taken away
 newest_of_mended : (g : ℕ) (mended : FileName → FileContent) (text : Text) → mended (file.Commit g) ≡ Some text
-    → ((h : ℕ) → g < h → mended (file.Commit h) ≡ None) → IsNewestCommit (tells mended) g
+    → ((h : ℕ) → g < h → mended (file.Commit h) ≡ None) → IsNewestCommit (image_tells mended) g
 newest_of_mended g mended text own gone = record {
   there = λ no. none_no_text text (sym own ∙ told_content (mended (file.Commit g)) None no);
   greatest = λ h bytes e. elim (cases_lt g h) [
@@ -123,9 +123,9 @@ module _ {D : Type 0} (bytes : D → ToldFiles) (may_leave : D → FileName → 
   -- what the machine does with a line that may be too long, the world does with the line
   line_if_short : (old new : Service D) (line : Text) (told : Outcome) (b : Bool) → nat_lt 10000 (length line) ≡ b
       → StepsIfShort bytes may_leave can_fail old (if b then None else Some line) told new
-      → Hears json (shape_of old).schema line (heard told) × Changes bytes may_leave can_fail old told new
+      → Hears json (shape_of_service old).schema line (heard told) × ChangesByOutcome bytes may_leave can_fail old told new
   line_if_short old new line told true long s =
-      subst (λ t. Hears json (shape_of old).schema line (heard t) × Changes bytes may_leave can_fail old t new) (sym s.0)
+      subst (λ t. Hears json (shape_of_service old).schema line (heard t) × ChangesByOutcome bytes may_leave can_fail old t new) (sym s.0)
       (Hears.unreadable (λ readable session shows. too_long line long readable), s.1)
   line_if_short old new line told false long s = s
 
@@ -150,7 +150,7 @@ module _ {D : Type 0} (bytes : D → ToldFiles) (may_leave : D → FileName → 
   -- the exchanges of the rest of a run have their causes, from how the one world stands to how the other does
   abbrev pub Reasons : Opened → Run → Service D → Run → Service D → Type 0
   Reasons from past old rest new =
-      HaveReasons (TellsAlways kind) (policy_of old).factor (policy_of old).least from past (standing_of faults old) rest (standing_of faults new)
+      HaveReasons (TellsAlways kind) (policy_of old).factor (policy_of old).least from past (standing_of_service faults old) rest (standing_of_service faults new)
 
   -- what comes of lines behind a past run: what was told, what fits, and what is promised of the device that is left
   pub record Goes (fails : Type 0) (from : Opened) (past : Run) (old : Service D) (lines : List Text) (outcomes : List Outcome) (new : Service D) : Type 0 where
@@ -163,22 +163,22 @@ module _ {D : Type 0} (bytes : D → ToldFiles) (may_leave : D → FileName → 
     pub files : AllByRecursion TellsFiles outcomes
     pub failing : AllByRecursion (FailsRightly fails) outcomes
     pub promised : LeavesPromised kind (device_of new) from (past ++ filter_map exchange fitting)
-    pub newest : newest_generation (shape_of new).commits ≡ newest_commit from (past ++ filter_map exchange fitting)
+    pub newest : newest_generation (shape_of_service new).commits ≡ newest_commit from (past ++ filter_map exchange fitting)
     pub reasons : Reasons from past old (filter_map exchange fitting) new
 
   -- what is promised is held
-  promise : (w : Service D) (from : Opened) (run : Run) → (shape_of w).schema ≡ from.start.schema → WorldLasts bytes may_leave w
-      → Stands (bytes (device_of w)) (shape_of w) from run → LeavesPromised kind (device_of w) from run
+  promise : (w : Service D) (from : Opened) (run : Run) → (shape_of_service w).schema ≡ from.start.schema → WorldLasts bytes may_leave w
+      → Stands (bytes (device_of w)) (shape_of_service w) from run → LeavesPromised kind (device_of w) from run
   promise w from run fields lasts stands = record {
-    stand = promised_are_held (bytes (device_of w)) (shape_of w) from run fields stands;
+    stand = promised_are_held (bytes (device_of w)) (shape_of_service w) from run fields stands;
     outlasts = λ tells.
-        newest_settled (bytes (device_of w)) (may_leave (device_of w)) (shape_of w) from run fields (always_tells tells (device_of w))
+        newest_settled (bytes (device_of w)) (may_leave (device_of w)) (shape_of_service w) from run fields (always_tells tells (device_of w))
         (lasts (always_tells tells)) stands;
   }
 
   -- the lines that the machine steps through are heard, and their exchanges go on with the run so far
   steps_go : (fails : Type 0) (from : Opened) (past : Run) (old new : Service D) (lines : List Text) (outcomes : List Outcome)
-      → WorldLasts bytes may_leave new → (can_fail (device_of old) → fails) → (shape_of old).schema ≡ from.start.schema → IsRun from past → Stands (bytes (device_of old)) (shape_of old) from past
+      → WorldLasts bytes may_leave new → (can_fail (device_of old) → fails) → (shape_of_service old).schema ≡ from.start.schema → IsRun from past → Stands (bytes (device_of old)) (shape_of_service old) from past
       → Steps (StepsCaused bytes may_leave can_fail faults) old (map short_line lines) outcomes new → Goes fails from past old lines outcomes new
   steps_go fails from past old new [] [] lasts can fields run stands s = record {
     fitting = [];
@@ -192,17 +192,17 @@ module _ {D : Type 0} (bytes : D → ToldFiles) (may_leave : D → FileName → 
     promised = subst (λ w. LeavesPromised kind (device_of w) from (past ++ [])) (sym s)
         (subst (LeavesPromised kind (device_of old) from) (sym (append-nil past)) (promise old from past fields (subst (WorldLasts bytes may_leave) s lasts) stands));
     newest =
-        ap (λ w. newest_generation (shape_of w).commits) s
-        ∙ newest_number (bytes (device_of old)) (shape_of old) from past stands
+        ap (λ w. newest_generation (shape_of_service w).commits) s
+        ∙ newest_number (bytes (device_of old)) (shape_of_service old) from past stands
         ∙ ap (newest_commit from) (sym (append-nil past));
-    reasons = ap (standing_of faults) s;
+    reasons = ap (standing_of_service faults) s;
   }
   steps_go fails from past old new [] (told ∷ outcomes) lasts can fields run stands s = absurd s
   steps_go fails from past old new (line ∷ lines) [] lasts can fields run stands s = absurd s
   steps_go fails from past old new (line ∷ lines) (Outcome.unreadable ∷ outcomes) lasts can fields run stands (mid, step, steps) =
       let here = line_if_short old mid line Outcome.unreadable (nat_lt 10000 (length line)) refl step.0 in
-      let rest = steps_go fails from past mid new lines outcomes lasts (subst (λ w. can_fail (device_of w) → fails) (sym here.1) can) (ap (λ w. (shape_of w).schema) here.1 ∙ fields) run
-      (subst (λ w. Stands (bytes (device_of w)) (shape_of w) from past) (sym here.1) stands) steps in record {
+      let rest = steps_go fails from past mid new lines outcomes lasts (subst (λ w. can_fail (device_of w) → fails) (sym here.1) can) (ap (λ w. (shape_of_service w).schema) here.1 ∙ fields) run
+      (subst (λ w. Stands (bytes (device_of w)) (shape_of_service w) from past) (sym here.1) stands) steps in record {
         fitting = Outcome.unreadable ∷ rest.fitting;
         heard_all = (subst (λ schema. Hears json schema line Heard.unreadable) fields here.0, rest.heard_all);
         is_run = rest.is_run;
@@ -234,10 +234,10 @@ module _ {D : Type 0} (bytes : D → ToldFiles) (may_leave : D → FileName → 
             subst (LeavesPromised kind (device_of new) from) (append_assoc past (fit ∷ []) (filter_map exchange rest.fitting)) rest.promised;
         newest = rest.newest ∙ ap (newest_commit from) (append_assoc past (fit ∷ []) (filter_map exchange rest.fitting));
         reasons = (
-          standing_of faults mid,
-          reason_by (AlwaysTells bytes) (TellsAlways kind) always_tells (policy_of old).factor (policy_of old).least from past (standing_of faults old) fit (standing_of faults mid)
+          standing_of_service faults mid,
+          reason_by (AlwaysTells bytes) (TellsAlways kind) always_tells (policy_of old).factor (policy_of old).least from past (standing_of_service faults old) fit (standing_of_service faults mid)
               (reasoned bytes can_fail faults from past old mid e next.0 stands next.2 next.1 step.1),
-          subst (λ (p : MergePolicy). HaveReasons (TellsAlways kind) p.factor p.least from (past ++ fit ∷ []) (standing_of faults mid) (filter_map exchange rest.fitting) (standing_of faults new))
+          subst (λ (p : MergePolicy). HaveReasons (TellsAlways kind) p.factor p.least from (past ++ fit ∷ []) (standing_of_service faults mid) (filter_map exchange rest.fitting) (standing_of_service faults new))
               step.1.5 rest.reasons,
         );
       }
@@ -269,7 +269,7 @@ module _ {D : Type 0} (bytes : D → ToldFiles) (may_leave : D → FileName → 
       → Steps (StepsIfShort bytes may_leave can_fail) opened (map short_line lines) outcomes last → (tells : TellsAlways kind)
       → LeavesNoneAhead may_leave opened.ledger → StageOutlives bytes may_leave (Open last) → outcomes ≡ fitting
       → LeavesPromised kind (device_of last) from (filter_map exchange fitting)
-      → newest_generation (shape_of last).commits ≡ newest_commit from (filter_map exchange fitting)
+      → newest_generation (shape_of_service last).commits ≡ newest_commit from (filter_map exchange fitting)
       → SurvivesCrash (kind.may_leave (device_of last)) from (filter_map exchange fitting)
   survived opened last lines outcomes fitting from steps tells none laws same promised newest =
       let calls = tolds_are_calls may_leave bytes can_fail opened last (map short_line lines) outcomes steps in
@@ -287,16 +287,16 @@ module _ {D : Type 0} (bytes : D → ToldFiles) (may_leave : D → FileName → 
   taken_so : (opened last : Service D) (lines : List Text) (outcomes : List Outcome)
       → Steps (StepsIfShort bytes may_leave can_fail) opened (map short_line lines) outcomes last → (tells : TellsAlways kind)
       → LeavesNoneAhead may_leave opened.ledger → StageOutlives bytes may_leave (Open last)
-      → HasTakenAll (kind.may_leave (device_of last)) (standing_of faults last)
+      → HasTakenAll (kind.may_leave (device_of last)) (standing_of_service faults last)
   taken_so opened last lines outcomes steps tells none laws =
       let calls = tolds_are_calls may_leave bytes can_fail opened last (map short_line lines) outcomes steps in
-      taken_all (may_leave (device_of last)) (shape_of last).next_generation
+      taken_all (may_leave (device_of last)) (shape_of_service last).next_generation
       (λ image g crashed is. laws.2 opened.ledger calls.0 (always_tells tells) none calls.2 image g crashed is)
 
   -- ---- the world serves
 
   answered_in : (device : D) (first : Text) (lines : List Text) (text : Text)
-      → (a : IsAnswered (OpensCaused bytes may_leave can_fail faults device) (StepsCaused bytes may_leave can_fail faults) (λ w. (shape_of w).count) first lines text)
+      → (a : IsAnsweredByMachine (OpensCaused bytes may_leave can_fail faults device) (StepsCaused bytes may_leave can_fail faults) (λ w. (shape_of_service w).count) first lines text)
       → WorldLasts bytes may_leave a.left → StageOutlives bytes may_leave (Open a.left) → IsCausedIn json kind device (device_of a.left) first lines text
   answered_in device first lines text a lasts laws =
       let long = nat_lt 10000 (length first) in
@@ -320,15 +320,15 @@ module _ {D : Type 0} (bytes : D → ToldFiles) (may_leave : D → FileName → 
           survives = λ tells.
               survived a.opened a.left lines a.outcomes goes.fitting opening.0 (steps_less a.opened a.left (map short_line lines) a.outcomes a.steps)
               tells (opened.1 (always_tells tells)) laws (goes.same tells) goes.promised goes.newest;
-          whole = a.whole ∙ ap (λ n. opened_text n ++ flat_map outcome_text a.outcomes) (counted (bytes (device_of a.opened)) (shape_of a.opened) opening.0 opening.3);
+          whole = a.whole ∙ ap (λ n. opened_text n ++ flat_map outcome_text a.outcomes) (counted (bytes (device_of a.opened)) (shape_of_service a.opened) opening.0 opening.3);
         };
         factor = (policy_of a.opened).factor;
         least = (policy_of a.opened).least;
         fields = so.2;
         policy = so.3;
-        opened = standing_of faults a.opened;
+        opened = standing_of_service faults a.opened;
         begins = stands_first bytes can_fail faults device opening.0.start.schema a.opened opening.2 so.0 so.1;
-        last = standing_of faults a.left;
+        last = standing_of_service faults a.left;
         reasons = goes.reasons;
         failures = refl;
         taken = λ tells.
@@ -354,7 +354,7 @@ module _ {D : Type 0} (bytes : D → ToldFiles) (may_leave : D → FileName → 
 
   module _ (device : D) (stage : Stage (Service D) D) (lasts : StageLasts bytes may_leave stage) (laws : StageOutlives bytes may_leave stage) where
     abbrev leads_to : List Text → Text → Type 0
-    leads_to = LeadsTo (OpensCaused bytes may_leave can_fail faults) (StepsCaused bytes may_leave can_fail faults) (λ w. (shape_of w).count) device stage
+    leads_to = LeadsTo (OpensCaused bytes may_leave can_fail faults) (StepsCaused bytes may_leave can_fail faults) (λ w. (shape_of_service w).count) device stage
 
     abbrev refused_at : List Text → Refusal → Type 0
     refused_at = RefusedAt (OpensCaused bytes may_leave can_fail faults) device stage

@@ -22,9 +22,9 @@ use Rattle.cat_ledger_laws.specs.shape.Shapes.{Shape}
 use Rattle.cat_ledger_laws.specs.shape.Steps.{Leaves}
 use Rattle.cat_ledger_laws.specs.shape.Ties.{ToldFiles}
 use Rattle.cat_ledger_laws.proofs.shape.Told.{file_of_name, name_of_file}
-use Rattle.cat_service.specs.Reasons.{progress_of, standing_of}
+use Rattle.cat_service.specs.Reasons.{progress_of, standing_of_service}
 use Rattle.cat_service.proofs.Opens.{named, newest_named}
-use Rattle.cat_service.specs.Worlds.{Service, device_of, shape_of}
+use Rattle.cat_service.specs.Worlds.{Service, device_of, shape_of_service}
 
 -- ---- names, as the model calls them
 
@@ -122,12 +122,12 @@ counted_first fails before now s (inr (can, one, (q, waits))) = inr (can, one, s
 
 module _ {D : Type 0} (bytes : D → ToldFiles) (can_fail : D → Type 0) (faults : D → ℕ) (device : D) where
   abbrev Begins : Schema → Service D → Type 0
-  Begins schema w = StandsFirst (named (bytes device)) (can_fail device) (faults device) schema (standing_of faults w)
+  Begins schema w = StandsFirst (named (bytes device)) (can_fail device) (faults device) schema (standing_of_service faults w)
 
-  opened_so : (schema : Schema) (w : Service D) (mid : Shape) → HasOpened (bytes device) schema (bytes device) mid → Leaves [] mid (shape_of w)
-      → CountsSwept (can_fail device) (faults device) (shape_of w) (faults (device_of w)) → Begins schema w
+  opened_so : (schema : Schema) (w : Service D) (mid : Shape) → HasOpened (bytes device) schema (bytes device) mid → Leaves [] mid (shape_of_service w)
+      → CountsSwept (can_fail device) (faults device) (shape_of_service w) (faults (device_of w)) → Begins schema w
   opened_so schema w mid (inl c) swept counted =
-      let s = shape_of w in
+      let s = shape_of_service w in
       let g : s.next_generation ≡ mid.next_generation = takes_none (Name.commit mid.next_generation) mid.next_generation s.next_generation swept.one_generation in
       let n : s.next_segment ≡ mid.next_segment = takes_none (Name.source mid.next_segment) mid.next_segment s.next_segment swept.one_segment in record {
         names = map name_of c.names;
@@ -150,7 +150,7 @@ module _ {D : Type 0} (bytes : D → ToldFiles) (can_fail : D → Type 0) (fault
         counted = counted_first (can_fail device) (faults device) (faults (device_of w)) s counted;
       }
   opened_so schema w mid (inr c) swept counted =
-      let s = shape_of w in
+      let s = shape_of_service w in
       let g : s.next_generation ≡ mid.next_generation = takes_none (Name.commit mid.next_generation) mid.next_generation s.next_generation swept.one_generation in
       let n : s.next_segment ≡ mid.next_segment = takes_none (Name.source mid.next_segment) mid.next_segment s.next_segment swept.one_segment in record {
         names = map name_of c.names;
@@ -171,7 +171,7 @@ module _ {D : Type 0} (bytes : D → ToldFiles) (can_fail : D → Type 0) (fault
       }
 
   -- It stands as it was opened.
-  pub stands_first : (schema : Schema) (w : Service D) → (shape_of w).schema ≡ schema
-      → IsOpenedLedger (bytes device) (shape_of w).schema (bytes (device_of w)) (shape_of w)
-      → CountsSwept (can_fail device) (faults device) (shape_of w) (faults (device_of w)) → Begins schema w
-  stands_first schema w fields o counted = subst (λ k. Begins k w) fields (opened_so (shape_of w).schema w o.state o.opened o.swept counted)
+  pub stands_first : (schema : Schema) (w : Service D) → (shape_of_service w).schema ≡ schema
+      → IsOpenedLedger (bytes device) (shape_of_service w).schema (bytes (device_of w)) (shape_of_service w)
+      → CountsSwept (can_fail device) (faults device) (shape_of_service w) (faults (device_of w)) → Begins schema w
+  stands_first schema w fields o counted = subst (λ k. Begins k w) fields (opened_so (shape_of_service w).schema w o.state o.opened o.swept counted)

@@ -14,10 +14,10 @@ use Rattle.cat_directory.specs.Devices.{FileContent}
 use Rattle.cat_directory.specs.Names.{file_of, name_of}
 use Rattle.cat_directory.specs.declared.name.FileName.{FileName}
 use Rattle.cat_directory.specs.declared.name.FileName.TheVariants as file
-use Rattle.cat_commands.specs.cat_ledger.Histories.{Event, IsCrashed, IsTried, IsUnanswered, tells}
+use Rattle.cat_commands.specs.cat_ledger.Histories.{Event, IsCrashed, IsTried, IsUnanswered, image_tells}
 use Rattle.cat_commands.specs.cat_ledger_state.startup.Newest.{HasNoCommit, IsNewestCommit}
 use Rattle.cat_ledger_laws.proofs.shape.Told.{file_of_name}
-use Rattle.cat_service.specs.Histories.{MakeTold, Makes}
+use Rattle.cat_service.specs.Histories.{MakeTold, MakesEvent}
 
 -- ---- what was tried
 
@@ -35,7 +35,7 @@ abbrev refuses : Exchange → Bool
 refuses x = refuses_commit x.line.command x.reply
 
 -- a refused COMMIT is one by its command and its reply
-refused_so : (c : Command) (r : Reply) (g : ℕ) → Makes c r (Event.Refused g) → refuses_commit c r ≡ true
+refused_so : (c : Command) (r : Reply) (g : ℕ) → MakesEvent c r (Event.Refused g) → refuses_commit c r ≡ true
 refused_so (Command.commit (Ok text)) (Ok (Answer.number h)) g m = absurd (cc m)
 refused_so (Command.commit (Ok text)) (Ok a) g m = absurd m
 refused_so (Command.commit (Ok text)) (Err e) g m = refl
@@ -75,7 +75,7 @@ tried_contains (x ∷ events) (b ∷ before) since g e =
 
 -- ---- behind the last COMMIT that was answered OK
 
-unanswered_none : (c : Command) (r : Reply) (event : Event) → Makes c r event → IsUnanswered event → commit_by c r ≡ None
+unanswered_none : (c : Command) (r : Reply) (event : Event) → MakesEvent c r event → IsUnanswered event → commit_by c r ≡ None
 unanswered_none (Command.commit (Ok text)) (Ok (Answer.number g)) event m u = absurd (subst IsUnanswered m u)
 unanswered_none _ _ event m u = refl
 
@@ -179,17 +179,17 @@ crashed_so left image may q = subst (λ f. left f (image (name_of q))) (file_of_
 
 -- The generation of whatever commit a crash leaves is below a number, where that is so by the code's names.
 pub taken_all : (left : FileName → FileContent → Type 0) (next : ℕ)
-    → ((image : FileName → FileContent) (g : ℕ) → IsCrashed left image → IsNewestCommit (tells image) g → g < next)
+    → ((image : FileName → FileContent) (g : ℕ) → IsCrashed left image → IsNewestCommit (image_tells image) g → g < next)
     → (image : Name → FileContent) (g : ℕ) → MayBeLeft (λ q. left (file_of q)) image → IsNewestTold (told_of image) g → g < next
 taken_all left next found image g may is = found (by_file image) g (crashed_so left image may) (record { there = is.there; greatest = is.greatest })
 
 -- What is found after a crash, by what the lines had to do with commits, is so in the model's words.
 pub survives : (left : FileName → FileContent → Type 0) (from : Opened) (run : Run) (tolds : List Outcome) (events : List Event) → filter_map exchange tolds ≡ run
     → MakeTold tolds events
-    → ((image : FileName → FileContent) (g : ℕ) → IsCrashed left image → IsNewestCommit (tells image) g → (newest_commit from run ≡ Some g) ⊎ IsTried events g)
-    → ((image : FileName → FileContent) → IsCrashed left image → HasNoCommit (tells image) → newest_commit from run ≡ None)
+    → ((image : FileName → FileContent) (g : ℕ) → IsCrashed left image → IsNewestCommit (image_tells image) g → (newest_commit from run ≡ Some g) ⊎ IsTried events g)
+    → ((image : FileName → FileContent) → IsCrashed left image → HasNoCommit (image_tells image) → newest_commit from run ≡ None)
     → ((g : ℕ) → newest_commit from run ≡ Some g → (image mended : FileName → FileContent) → IsCrashed left image
-    → mended (file.Commit g) ≡ image (file.Commit g) → ((h : ℕ) → g < h → mended (file.Commit h) ≡ None) → IsNewestCommit (tells mended) g)
+    → mended (file.Commit g) ≡ image (file.Commit g) → ((h : ℕ) → g < h → mended (file.Commit h) ≡ None) → IsNewestCommit (image_tells mended) g)
     → SurvivesCrash (λ q. left (file_of q)) from run
 survives left from run tolds events same m found lost mended =
     let s = since_last tolds events m in record {

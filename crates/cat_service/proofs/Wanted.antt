@@ -23,7 +23,7 @@ use Rattle.cat_model.specs.Table.{Opened, Start}
 use Rattle.cat_model.specs.Text.{Text}
 use Rattle.cat_model.specs.View.{View}
 use Rattle.cat_items.specs.Reading.{json, source_fault, text_fault}
-use Rattle.cat_protocol.specs.cat_views.Holds.{Hold}
+use Rattle.cat_protocol.specs.cat_views.Holds.{HeldView}
 use Rattle.cat_commands.specs.cat_lifetimes.rights.Rights.{right_of}
 use Rattle.cat_commands.specs.cat_ledger_state.Cores.{MayNotFlush}
 use Rattle.cat_ledger_laws.specs.lines.LineLaws.{MayRefresh}
@@ -253,11 +253,11 @@ module _ (told : ToldFiles) (s : Shape) (session : ℕ) (result : Result code.An
 
   -- ---- what is looked for by a right
 
-  module _ (t : ℕ) (rights : List Hold) (are : AreRights s rights) (text : Text) (asked : Result Query Refusal → Read)
+  module _ (t : ℕ) (rights : List HeldView) (are : AreRights s rights) (text : Text) (asked : Result Query Refusal → Read)
       (owed : (schema : Schema) (rs : List Record) (q : Query) → IfErr (answer schema rs (asked (Ok q))) (λ e. result ≡ Err e)
       → (found : Found) × (answer schema rs (asked (Ok q)) ≡ Ok found)) where
     -- by the right that the session has
-    by_right : (q : Query) (o : Option Hold) → right_of rights session t ≡ o → (o ≡ None → result ≡ Err NotHeld)
+    by_right : (q : Query) (o : Option HeldView) → right_of rights session t ≡ o → (o ≡ None → result ≡ Err NotHeld)
         → IfSome o (λ h. GivesDue h.view (asked (Ok q)) result) → IsOkDue told s session (Command.read t (asked (Ok q)))
     by_right q None is unheld due = absurd (not_given NotHeld (λ is. cc is) (unheld refl))
     by_right q (Some h) is unheld due =
@@ -266,11 +266,11 @@ module _ (told : ToldFiles) (s : Shape) (session : ℕ) (result : Result code.An
         (λ rs shows. owed h.view.schema rs q (due rs shows)))
 
     -- of the right as the code has it
-    right_due : {R : Type 0} (right : Option R) (value : R → Hold) (P : Hold → Type 0) → IfSome right (λ h. P (value h)) → IfSome (option_map value right) P
+    right_due : {R : Type 0} (right : Option R) (value : R → HeldView) (P : HeldView → Type 0) → IfSome right (λ h. P (value h)) → IfSome (option_map value right) P
     right_due None value P due = due
     right_due (Some h) value P due = due
 
-    no_right : {R : Type 0} (right : Option R) (value : R → Hold) → option_map value right ≡ None → right ≡ None
+    no_right : {R : Type 0} (right : Option R) (value : R → HeldView) → option_map value right ≡ None → right ≡ None
     no_right None value is = refl
     no_right (Some h) value is = absurd (let no : Some (value h) ≡ None = is in cc)
 
@@ -279,7 +279,7 @@ module _ (told : ToldFiles) (s : Shape) (session : ℕ) (result : Result code.An
     spelled_due q None P spells due = due
     spelled_due q (Some h) P spells due = due q spells
 
-    pub read_wants : {R : Type 0} (right : Option R) (value : R → Hold) → option_map value right ≡ right_of rights session t
+    pub read_wants : {R : Type 0} (right : Option R) (value : R → HeldView) → option_map value right ≡ right_of rights session t
         → ((place : ℕ) → Fault s.schema text place → result ≡ Err (NoQuery place))
         → (right ≡ None → ((place : ℕ) → Fault s.schema text place → ⊥) → result ≡ Err NotHeld)
         → IfSome right (λ h. (q : Query) → Spells s.schema text q → GivesDue (value h).view (asked (Ok q)) result)
@@ -291,7 +291,7 @@ module _ (told : ToldFiles) (s : Shape) (session : ℕ) (result : Result code.An
         (right_due right value (λ h. GivesDue h.view (asked (Ok q)) result) (spelled_due q right (λ h q. GivesDue (value h).view (asked (Ok q)) result) spells due))
 
   -- a FIND
-  pub find_wants : {R : Type 0} (right : Option R) (value : R → Hold) (t : ℕ) (rights : List Hold) → AreRights s rights
+  pub find_wants : {R : Type 0} (right : Option R) (value : R → HeldView) (t : ℕ) (rights : List HeldView) → AreRights s rights
       → (n : ℕ) (so sort : Sort) (mark : Option ℕ) (text : Text) → so ≡ sort → option_map value right ≡ right_of rights session t
       → ((place : ℕ) → Fault s.schema text place → result ≡ Err (NoQuery place))
       → (right ≡ None → ((place : ℕ) → Fault s.schema text place → ⊥) → result ≡ Err NotHeld)
@@ -304,7 +304,7 @@ module _ (told : ToldFiles) (s : Shape) (session : ℕ) (result : Result code.An
       due_to (Command.read t (Read.find n sort mark is.0)) (subst (λ x. IsOkDue told s session (Command.read t (Read.find n x mark is.0))) sorts ok) c is.2
 
   -- a FACETS
-  pub facets_wants : {R : Type 0} (right : Option R) (value : R → Hold) (t : ℕ) (rights : List Hold) → AreRights s rights
+  pub facets_wants : {R : Type 0} (right : Option R) (value : R → HeldView) (t : ℕ) (rights : List HeldView) → AreRights s rights
       → (dim : Text) (n : ℕ) (text : Text) → option_map value right ≡ right_of rights session t
       → ((place : ℕ) → Fault s.schema text place → result ≡ Err (NoQuery place))
       → (right ≡ None → ((place : ℕ) → Fault s.schema text place → ⊥) → result ≡ Err NotHeld)

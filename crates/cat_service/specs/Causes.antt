@@ -9,7 +9,7 @@ use Rattle.cat_model.specs.Text.{Text}
 use Rattle.cat_model.specs.View.{View}
 use Rattle.cat_directory.specs.Devices.{CountsOne}
 use Rattle.cat_commands.specs.ledger.Chores.{pending_in, stat_in}
-use Rattle.cat_commands.specs.cat_ledger.Ledgers.{Ledger}
+use Rattle.cat_commands.specs.cat_ledger.Ledgers.{LedgerOnDevice}
 use Rattle.cat_commands.specs.cat_ledger_state.Cores.{HasRowsLeft, MayNotFlush}
 use Rattle.cat_ledger_laws.specs.lines.PlanLaws.{TellsForce, TellsMerge}
 use Rattle.cat_ledger_laws.specs.lines.ReadLaws.{IsRecordedAs}
@@ -19,7 +19,7 @@ use Rattle.cat_ledger_laws.specs.shape.Shapes.{Shape}
 use Rattle.cat_ledger_laws.specs.shape.Ties.{ToldFiles}
 use Rattle.cat_protocol.specs.cat_views.Sources.{HoldsSource, TellsSource}
 use Rattle.cat_commands.specs.cat_ledger.upkeep.Due.{IsForceDue, IsMergeDue}
-use Rattle.cat_service.specs.Worlds.{Service, device_of, policy_of, shape_of}
+use Rattle.cat_service.specs.Worlds.{Service, device_of, policy_of, shape_of_service}
 
 -- ---- refusals
 
@@ -80,7 +80,7 @@ TellsSo policy s said reply = Unit {0}
 -- ---- of a world
 
 -- a COMMIT whose text no commit may have changes nothing
-abbrev pub StaysIfWrong : {D : Type 0} → Option Said → Ledger D → Ledger D → Type 0
+abbrev pub StaysIfWrong : {D : Type 0} → Option Said → LedgerOnDevice D → LedgerOnDevice D → Type 0
 StaysIfWrong (Some (Said.commit text)) old new = IfErr (commit_text_of text) (λ e. new ≡ old)
 StaysIfWrong said old new = Unit {0}
 
@@ -89,11 +89,11 @@ StaysIfWrong said old new = Unit {0}
 -- changes nothing. The first three arguments say what a device tells of its files, whether it can fail, and how many failures it has counted.
 pub record HasCause {D : Type 0} (bytes : D → ToldFiles) (can_fail : D → Type 0) (faults : D → ℕ) (old : Service D) (said : Option Said)
     (reply : Reply) (new : Service D) : Type 0 where
-  pub spent : reply ≡ Err Spent → IsSpentTo (policy_of old) (shape_of old) said
-  pub device : reply ≡ Err Device → MayFailTo can_fail (device_of old) (shape_of old) said
+  pub spent : reply ≡ Err Spent → IsSpentTo (policy_of old) (shape_of_service old) said
+  pub device : reply ≡ Err Device → MayFailTo can_fail (device_of old) (shape_of_service old) said
   pub counted : reply ≡ Err Device → IsCountedTo (CountsOne (faults (device_of old)) (faults (device_of new))) said
-  pub damaged : reply ≡ Err Damaged → IsDamagedTo (bytes (device_of old)) (shape_of old) said
-  pub told : TellsSo (policy_of old) (shape_of old) said reply
+  pub damaged : reply ≡ Err Damaged → IsDamagedTo (bytes (device_of old)) (shape_of_service old) said
+  pub told : TellsSo (policy_of old) (shape_of_service old) said reply
   pub rises : faults (device_of old) ≤ faults (device_of new)
   pub stays : StaysIfWrong said old.ledger new.ledger
 

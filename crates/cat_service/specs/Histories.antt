@@ -34,15 +34,15 @@ IsSpoken {D} left first (x ∷ xs) last =
 
 -- A COMMIT that was answered OK is an answered commit of the generation that it was told; one that was refused, but not for its text, is a
 -- refused commit, or did nothing; and any other command has nothing to do with commits.
-abbrev pub Makes : Command → Reply → Event → Type 0
-Makes (Command.commit (Ok text)) (Ok (Answer.number g)) event = event ≡ Event.Answered g
-Makes (Command.commit (Ok text)) (Ok a) event = ⊥
-Makes (Command.commit (Ok text)) (Err e) event = (event ≡ Event.Other) ⊎ ((g : ℕ) × (event ≡ Event.Refused g))
-Makes c reply event = event ≡ Event.Other
+abbrev pub MakesEvent : Command → Reply → Event → Type 0
+MakesEvent (Command.commit (Ok text)) (Ok (Answer.number g)) event = event ≡ Event.Answered g
+MakesEvent (Command.commit (Ok text)) (Ok a) event = ⊥
+MakesEvent (Command.commit (Ok text)) (Err e) event = (event ≡ Event.Other) ⊎ ((g : ℕ) × (event ≡ Event.Refused g))
+MakesEvent c reply event = event ≡ Event.Other
 
 -- so of what is said
 abbrev pub IsEventOf : Option Said → Reply → Event → Type 0
-IsEventOf (Some (Said.commit text)) reply event = Makes (Command.commit (commit_text_of text)) reply event
+IsEventOf (Some (Said.commit text)) reply event = MakesEvent (Command.commit (commit_text_of text)) reply event
 IsEventOf said reply event = event ≡ Event.Other
 
 -- so with each of the lines, in turn
@@ -85,7 +85,7 @@ pub record RunsHistory {D : Type 0} (bytes : D → ToldFiles) (can_fail : D → 
 -- what a line makes that was told something, or was unreadable
 abbrev pub MakesTold : Outcome → Event → Type 0
 MakesTold Outcome.unreadable event = event ≡ Event.Other
-MakesTold (Outcome.replied e) event = Makes e.line.command e.reply event
+MakesTold (Outcome.replied e) event = MakesEvent e.line.command e.reply event
 
 -- so with each of the lines, in turn
 abbrev pub MakeTold : List Outcome → List Event → Type 0
@@ -95,4 +95,4 @@ MakeTold _ _ = ⊥
 
 -- what a command with its reply makes of commits, from one world to the next
 abbrev pub GoesTold : {D : Type 0} → (D → FileName → FileContent → Type 0) → Command → Reply → Service D → Service D → Type 0
-GoesTold left c reply old new = (event : Event) × Makes c reply event × Goes left event old.ledger new.ledger
+GoesTold left c reply old new = (event : Event) × MakesEvent c reply event × Goes left event old.ledger new.ledger

@@ -17,8 +17,8 @@ TellsNone (Ok (Answer.found (Found.source stored))) = ⊥
 TellsNone reply = Unit {0}
 
 -- the source of an item is told, without a line feed, or that there is none
-abbrev pub TellsSource : Answer → Type 0
-TellsSource a = (stored : Option Text) × (a ≡ Answer.found (Found.source stored)) × HasNoLineFeed stored
+abbrev pub IsToldSource : Answer → Type 0
+IsToldSource a = (stored : Option Text) × (a ≡ Answer.found (Found.source stored)) × HasNoLineFeed stored
 
 -- A FILES of a token tells the names of just the files that the view needs which is recorded under it, and one of a commit those that
 -- the kept commit needs, in byte order. A GET tells a source of one line, or none. To nothing else are names or sources told.
@@ -29,6 +29,6 @@ TellsNeeded s (Some (Said.files_of_token t)) (Err e) = Unit {0}
 TellsNeeded s (Some (Said.files_of_commit g)) (Ok a) =
     (commit : CommitFile) × (kept_under s.commits g ≡ Some commit) × TellsNames (commit_needs commit) a
 TellsNeeded s (Some (Said.files_of_commit g)) (Err e) = Unit {0}
-TellsNeeded s (Some (Said.get t id)) (Ok a) = TellsSource a
+TellsNeeded s (Some (Said.get t id)) (Ok a) = IsToldSource a
 TellsNeeded s (Some (Said.get t id)) (Err e) = Unit {0}
 TellsNeeded s said reply = TellsNone reply

@@ -15,18 +15,18 @@ use Rattle.cat_ledger_laws.specs.model.Opening.{Restored, IsRestored}
 use Rattle.cat_ledger_laws.specs.model.Portions.{ArePortions, leaf_of, records_of}
 use Rattle.cat_ledger_laws.specs.model.Stored.{FileBytes, IsCommitStored}
 use Rattle.cat_ledger_laws.specs.shape.OpeningLaws.{MayHold}
-use Rattle.cat_ledger_laws.specs.shape.Ties.{Agrees, ToldFiles}
+use Rattle.cat_ledger_laws.specs.shape.Ties.{FilesAgree, ToldFiles}
 use Rattle.cat_ledger_laws.specs.lines.RunLaws.{Stands}
 use Rattle.cat_commands.specs.cat_ledger_state.startup.Newest.{HasNoCommit, IsNewestCommit}
 use Rattle.cat_commands.specs.cat_ledger_state.startup.Refused.{IsNewestDamaged, IsNewestForeign}
 use Rattle.cat_protocol.specs.declared.serving.machine.Unopened.{Unopened}
-use Rattle.cat_service.specs.Worlds.{Service, device_of, shape_of}
+use Rattle.cat_service.specs.Worlds.{Service, device_of, shape_of_service}
 
 -- The commit's files hold the records: they are the live ones of its segments, with the rows that were read and the sources that stand
 -- in the files, where the device tells them. (Lucene: what a `DirectoryReader` over an `IndexCommit` shows.)
 pub record HoldsTable (told : ToldFiles) (schema : Schema) (restored : Restored) (records : List Record) : Type 0 where
   pub files : FileBytes
-  pub agrees : Agrees told files
+  pub agrees : FilesAgree told files
   pub commit : LedgerCommit
   pub same : commit_file schema commit ≡ restored.commit
   pub stored : IsCommitStored files schema commit
@@ -66,8 +66,8 @@ BeginsIn told line r = Begins json (OpensIn told) line r
 abbrev pub OpensWorld : {D : Type 0} → (D → ToldFiles) → (D → FileName → FileContent → Type 0) → D → Text → Result (Service D) (Unopened D)
     → Type 0
 OpensWorld bytes may_leave device line (Ok w) =
-    (from : Opened) × BeginsIn (bytes device) line (Ok from) × ((shape_of w).schema ≡ from.start.schema)
-    × Stands (bytes (device_of w)) (shape_of w) from []
+    (from : Opened) × BeginsIn (bytes device) line (Ok from) × ((shape_of_service w).schema ≡ from.start.schema)
+    × Stands (bytes (device_of w)) (shape_of_service w) from []
 OpensWorld bytes may_leave device line (Err u) =
     (((u.refusal ≡ Memory) × HasSchemaText line) ⊎ BeginsIn (bytes device) line (Err u.refusal))
     × ((q : FileName) → bytes u.seed q ≡ bytes device q) × ((q : FileName) → NoMore (may_leave device q) (may_leave u.seed q))

@@ -11,7 +11,7 @@ use Rattle.cat_ledger_laws.specs.lines.NeededLaws.{CommitStands}
 use Rattle.cat_ledger_laws.specs.lines.RunLaws.{Stands}
 use Rattle.cat_ledger_laws.specs.model.Users.{Used, has_name}
 use Rattle.cat_ledger_laws.specs.shape.Ties.{ToldFiles}
-use Rattle.cat_service.specs.Worlds.{Service, device_of, shape_of}
+use Rattle.cat_service.specs.Worlds.{Service, device_of, shape_of_service}
 
 -- The commit of this generation stands, with the text that the run gave it. Its token is the number of writes that were accepted before
 -- the COMMIT that made it, or of those that the opened one has; its files have the run's table at it; and a crash at this moment leaves
@@ -32,5 +32,5 @@ NewestOutlasts told left users from run = (g : ℕ) → newest_commit from run �
 -- crash may leave.
 abbrev pub OutlastsCrash : {D : Type 0} → (D → ToldFiles) → (D → FileName → FileContent → Type 0) → Service D → Type 0
 OutlastsCrash bytes left w =
-    AlwaysTells bytes → (from : Opened) (run : Run) → Stands (bytes (device_of w)) (shape_of w) from run
-    → NewestOutlasts (bytes (device_of w)) (left (device_of w)) (shape_of w).users from run
+    AlwaysTells bytes → (from : Opened) (run : Run) → Stands (bytes (device_of w)) (shape_of_service w) from run
+    → NewestOutlasts (bytes (device_of w)) (left (device_of w)) (shape_of_service w).users from run

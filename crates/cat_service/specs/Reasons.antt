@@ -8,7 +8,7 @@ use Rattle.cat_directory.specs.Devices.{FileContent}
 use Rattle.cat_directory.specs.declared.name.FileName.{FileName}
 use Rattle.cat_commands.specs.cat_ledger.Openings.{CountsSwept, IsOpenedLedger}
 use Rattle.cat_commands.specs.ledger.Chores.{stat_in}
-use Rattle.cat_ledger_laws.specs.lines.RunLaws.{Answers}
+use Rattle.cat_ledger_laws.specs.lines.RunLaws.{AnswersCarried}
 use Rattle.cat_ledger_laws.specs.shape.Shapes.{MergingShape}
 use Rattle.cat_ledger_laws.specs.shape.Ties.{ToldFiles}
 use Rattle.cat_protocol.specs.declared.serving.machine.Unopened.{Unopened}
@@ -16,7 +16,7 @@ use Rattle.cat_service.specs.Causes.{HasCause, TakesNumbers}
 use Rattle.cat_service.specs.Lines.{IsCommandOf}
 use Rattle.cat_service.specs.Serving.{OpensIfShort, StepsIfShort}
 use Rattle.cat_model.specs.Standings.{Progress, Standing}
-use Rattle.cat_service.specs.Worlds.{Service, device_of, policy_of, shape_of}
+use Rattle.cat_service.specs.Worlds.{Service, device_of, policy_of, shape_of_service}
 
 -- ---- of a world
 
@@ -24,12 +24,12 @@ abbrev pub progress_of : MergingShape → Progress
 progress_of m = record { passed = m.passed; rows = length (rows_of_all m.inputs) }
 
 -- how a world stands, by how many failures a device has counted
-abbrev pub standing_of : {D : Type 0} → (D → ℕ) → Service D → Standing
-standing_of faults w = record {
-  stat = stat_in 0 (shape_of w);
-  merging = option_map progress_of (shape_of w).merging;
-  next_segment = (shape_of w).next_segment;
-  next_generation = (shape_of w).next_generation;
+abbrev pub standing_of_service : {D : Type 0} → (D → ℕ) → Service D → Standing
+standing_of_service faults w = record {
+  stat = stat_in 0 (shape_of_service w);
+  merging = option_map progress_of (shape_of_service w).merging;
+  next_segment = (shape_of_service w).next_segment;
+  next_generation = (shape_of_service w).next_generation;
   failures = faults (device_of w);
 }
 
@@ -38,8 +38,8 @@ standing_of faults w = record {
 -- It was opened as the ledger says, which also says which failures were counted, and merges as the line says.
 abbrev pub OpensSo : {D : Type 0} → (D → ToldFiles) → (D → Type 0) → (D → ℕ) → D → Text → Service D → Type 0
 OpensSo bytes can_fail faults device line w =
-    IsOpenedLedger (bytes device) (shape_of w).schema (bytes (device_of w)) (shape_of w)
-    × CountsSwept (can_fail device) (faults device) (shape_of w) (faults (device_of w))
+    IsOpenedLedger (bytes device) (shape_of_service w).schema (bytes (device_of w)) (shape_of_service w)
+    × CountsSwept (can_fail device) (faults device) (shape_of_service w) (faults (device_of w))
     × (text : Text) × SpellsSchema line (policy_of w).factor (policy_of w).least text
 
 -- what opening by a first line may give, which may be too long, with how it begins
@@ -53,9 +53,9 @@ OpensCaused bytes may_leave can_fail faults device (Some line) r =
 abbrev pub IsCausedBy : {D : Type 0} → (D → ToldFiles) → (D → Type 0) → (D → ℕ) → Service D → Outcome → Service D → Type 0
 IsCausedBy bytes can_fail faults old Outcome.unreadable new = Unit {0}
 IsCausedBy bytes can_fail faults old (Outcome.replied e) new =
-    (said : Option Said) × IsCommandOf (shape_of old).schema said e.line.command × HasCause bytes can_fail faults old said e.reply new
-    × TakesNumbers (shape_of old) (shape_of new)
-    × Answers (policy_of old) (bytes (device_of old)) (shape_of old) e.line e.reply (bytes (device_of new)) (shape_of new)
+    (said : Option Said) × IsCommandOf (shape_of_service old).schema said e.line.command × HasCause bytes can_fail faults old said e.reply new
+    × TakesNumbers (shape_of_service old) (shape_of_service new)
+    × AnswersCarried (policy_of old) (bytes (device_of old)) (shape_of_service old) e.line e.reply (bytes (device_of new)) (shape_of_service new)
     × (policy_of new ≡ policy_of old)
 
 -- a line, which may be too long, is heard and changes the world, and what it is told has its cause

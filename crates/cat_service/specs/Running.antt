@@ -11,7 +11,7 @@ use Rattle.cat_ledger_laws.specs.shape.Ties.{ToldFiles}
 use Rattle.cat_protocol.specs.replies.Reply.{reply_of}
 use Rattle.cat_protocol.specs.declared.replies.reply.Reply.{Reply}
 use Rattle.cat_service.specs.Lines.{IsCommandOf}
-use Rattle.cat_service.specs.Worlds.{Service, device_of, shape_of}
+use Rattle.cat_service.specs.Worlds.{Service, device_of, shape_of_service}
 
 -- The exchange is of the line, under the schema, and its reply is the one that was given; on devices that don't tell of their files the
 -- text of a stored item may be another one of its length.
@@ -29,15 +29,15 @@ AreAnsweredLines bytes schema (line ∷ lines) (given ∷ replies) (e ∷ es) =
 AreAnsweredLines bytes schema _ _ _ = ⊥
 
 -- the run goes on from its past with the lines and the replies that were given, and what is left stands for it
-pub record GoesOn {D : Type 0} (bytes : D → ToldFiles) (schema : Schema) (lines : List Line) (replies : List Reply) (new : Service D)
+pub record RunGoesOn {D : Type 0} (bytes : D → ToldFiles) (schema : Schema) (lines : List Line) (replies : List Reply) (new : Service D)
     (from : Opened) (past : run.Run) : Type 0 where
   pub more : run.Run
   pub answered : AreAnsweredLines bytes schema lines replies more
   pub is_run : run.IsRun from (past ++ more)
-  pub stands : Stands (bytes (device_of new)) (shape_of new) from (past ++ more)
+  pub stands : Stands (bytes (device_of new)) (shape_of_service new) from (past ++ more)
 
 -- whatever run led here
 abbrev pub RunsLines : {D : Type 0} → (D → ToldFiles) → Service D → List Line → List Reply → Service D → Type 0
 RunsLines bytes old lines replies new =
-    (from : Opened) (past : run.Run) → from.start.schema ≡ (shape_of old).schema → run.IsRun from past
-    → Stands (bytes (device_of old)) (shape_of old) from past → GoesOn bytes (shape_of old).schema lines replies new from past
+    (from : Opened) (past : run.Run) → from.start.schema ≡ (shape_of_service old).schema → run.IsRun from past
+    → Stands (bytes (device_of old)) (shape_of_service old) from past → RunGoesOn bytes (shape_of_service old).schema lines replies new from past

@@ -19,7 +19,7 @@ use Rattle.cat_service.specs.Histories.{GoesTold}
 use Rattle.cat_service.specs.Opening.{OpensWorld}
 use Rattle.cat_service.specs.Promises.{WorldLasts}
 use Rattle.cat_service.specs.Wanting.{WantsRightly}
-use Rattle.cat_service.specs.Worlds.{Service, device_of, shape_of}
+use Rattle.cat_service.specs.Worlds.{Service, device_of, shape_of_service}
 
 -- ---- as a machine
 
@@ -33,13 +33,13 @@ OpensIfShort bytes may_leave can_fail device (Some line) r =
 
 -- An unreadable line changes nothing. The reply to another is a step of every run that led here, tells no names but those of files, and
 -- want of memory only where that may be; what it makes of commits is known by it; and a failure of the device only where that can fail.
-abbrev pub Changes : {D : Type 0} → (D → ToldFiles) → (D → FileName → FileContent → Type 0) → (D → Type 0) → Service D → Outcome → Service D
+abbrev pub ChangesByOutcome : {D : Type 0} → (D → ToldFiles) → (D → FileName → FileContent → Type 0) → (D → Type 0) → Service D → Outcome → Service D
     → Type 0
-Changes bytes may_leave can_fail old Outcome.unreadable new = new ≡ old
-Changes bytes may_leave can_fail old (Outcome.replied e) new =
-    ((shape_of new).schema ≡ (shape_of old).schema) × NamesFiles e.reply
-    × IsStep (bytes (device_of old)) (shape_of old) e.line e.reply (bytes (device_of new)) (shape_of new)
-    × (e.reply ≡ Err Memory → WantsRightly (bytes (device_of old)) (shape_of old) e.line.session e.line.command)
+ChangesByOutcome bytes may_leave can_fail old Outcome.unreadable new = new ≡ old
+ChangesByOutcome bytes may_leave can_fail old (Outcome.replied e) new =
+    ((shape_of_service new).schema ≡ (shape_of_service old).schema) × NamesFiles e.reply
+    × IsStep (bytes (device_of old)) (shape_of_service old) e.line e.reply (bytes (device_of new)) (shape_of_service new)
+    × (e.reply ≡ Err Memory → WantsRightly (bytes (device_of old)) (shape_of_service old) e.line.session e.line.command)
     × GoesTold may_leave e.line.command e.reply old new
     × FailsRightly (can_fail (device_of old)) (Outcome.replied e)
     × (can_fail (device_of new) → can_fail (device_of old))
@@ -49,7 +49,7 @@ abbrev pub StepsIfShort : {D : Type 0} → (D → ToldFiles) → (D → FileName
     → Outcome → Service D → Type 0
 StepsIfShort bytes may_leave can_fail old None told new = (told ≡ Outcome.unreadable) × (new ≡ old)
 StepsIfShort bytes may_leave can_fail old (Some line) told new =
-    Hears json (shape_of old).schema line (heard told) × Changes bytes may_leave can_fail old told new
+    Hears json (shape_of_service old).schema line (heard told) × ChangesByOutcome bytes may_leave can_fail old told new
 
 -- ---- as it is served
 

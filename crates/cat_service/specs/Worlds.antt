@@ -3,38 +3,34 @@ use Rattle.std.specs.Prelude.{List, map}
 use Rattle.cat_model.specs.View.{Segment}
 use Rattle.cat_protocol.specs.cat_facets.States.{ReaderState}
 use Rattle.cat_commands.specs.cat_cached_sets.filters.Filters.{Filters}
-use Rattle.cat_protocol.specs.cat_views.Holds.{Hold}
+use Rattle.cat_protocol.specs.cat_views.Holds.{HeldView}
 use Rattle.cat_ledger_laws.specs.model.Ledger as model
 use Rattle.cat_ledger_laws.specs.model.Plans.{MergePolicy}
-use Rattle.cat_ledger_laws.specs.model.Stored.{FileBytes}
 use Rattle.cat_ledger_laws.specs.shape.Shapes.{Shape}
-use Rattle.cat_ledger_laws.specs.shape.Ties.{ToldFiles, Carries}
+use Rattle.cat_ledger_laws.specs.shape.Ties.{ToldFiles}
 use Rattle.cat_commands.specs.cat_ledger.Ledgers.{device_in, policy_in, shape_in}
-use Rattle.cat_commands.specs.cat_ledger.Ledgers.{Ledger}
+use Rattle.cat_commands.specs.cat_ledger.Ledgers.{LedgerOnDevice}
 use Rattle.cat_commands.specs.sets.Kept.{HasKept}
 use Rattle.cat_commands.specs.sets.Sets.{HasSets}
 use Rattle.cat_commands.specs.views.Holding.{AreRights}
+use Rattle.cat_commands.specs.cat_ledger.Lasting.{IsCarried}
 
 -- a ledger, and the rights to its views
 pub record Service (D : Type 0) : Type 0 where
-  pub ledger : Ledger D
-  pub rights : List Hold
+  pub ledger : LedgerOnDevice D
+  pub rights : List HeldView
 
 -- its device
 abbrev pub device_of : {D : Type 0} → Service D → D
 device_of w = device_in w.ledger
 
 -- what memory has of the ledger
-abbrev pub shape_of : {D : Type 0} → Service D → Shape
-shape_of w = shape_in w.ledger
+abbrev pub shape_of_service : {D : Type 0} → Service D → Shape
+shape_of_service w = shape_in w.ledger
 
 -- when it merges
 abbrev pub policy_of : {D : Type 0} → Service D → MergePolicy
 policy_of w = policy_in w.ledger
-
--- a ledger of the model is carried by memory and the device
-abbrev pub IsCarried : ToldFiles → Shape → Type 0
-IsCarried told s = (l : model.Ledger) × (files : FileBytes) × Carries told s l files
 
 -- the segments of the states that are kept
 abbrev pub segments_kept : List ReaderState → List (List Segment)
@@ -42,7 +38,7 @@ segments_kept states = map (λ k. k.segments) states
 
 -- A world: a ledger of the model is carried, the rights are those that it counts, and the sets and the states that are kept beside it
 -- are right. The first argument says what a device tells of its files.
-pub record IsWorld {D : Type 0} (bytes : D → ToldFiles) (ledger : Ledger D) (rights : List Hold) (filters : Filters)
+pub record IsWorld {D : Type 0} (bytes : D → ToldFiles) (ledger : LedgerOnDevice D) (rights : List HeldView) (filters : Filters)
     (states : List ReaderState) : Type 0 where
   pub carried : IsCarried (bytes (device_in ledger)) (shape_in ledger)
   pub counted : AreRights (shape_in ledger) rights

@@ -9,7 +9,7 @@ ghost use Rattle.cat_service.specs.Lines.{Does, StepsLine};
 ghost use Rattle.cat_service.specs.Named.{TellsNeeded};
 ghost use Rattle.cat_service.specs.Outlasting.{OutlastsCrash};
 ghost use Rattle.cat_service.specs.Promises.{KeepsPromises};
-ghost use Rattle.cat_service.specs.Worlds.{device_of, policy_of, shape_of};
+ghost use Rattle.cat_service.specs.Worlds.{device_of, policy_of, shape_of_service};
 
 use crate::world::World;
 use cat_base::Refusal;
@@ -69,11 +69,11 @@ impl<D: Directory + Shelf> World<D> {
         ensures promised { KeepsPromises D.bytes self.new }
         ensures outlasts { OutlastsCrash D.bytes D.may_leave self.new }
         ensures history { GoesBy D.may_leave (said_of line.now.command) (reply_of result.answer) self.old.ledger self.new.ledger }
-        ensures told { TellsNeeded (shape_of self.old) (said_of line.now.command) (reply_of result.answer) }
+        ensures told { TellsNeeded (shape_of_service self.old) (said_of line.now.command) (reply_of result.answer) }
         ensures names { NamesFiles (reply_of result.answer) }
         ensures cause { HasCause D.bytes D.can_fail D.fault_count self.old (said_of line.now.command) (reply_of result.answer) self.new }
-        ensures numbers { TakesNumbers (shape_of self.old) (shape_of self.new) }
-        ensures schema { (shape_of self.new).schema ≡ (shape_of self.old).schema }
+        ensures numbers { TakesNumbers (shape_of_service self.old) (shape_of_service self.new) }
+        ensures schema { (shape_of_service self.new).schema ≡ (shape_of_service self.old).schema }
         ensures policy { policy_of self.new ≡ policy_of self.old }
         ensures can { D.can_fail (device_of self.new) → D.can_fail (device_of self.old) }
     {

@@ -13,13 +13,13 @@ impl<D: Directory + Shelf> Machine for World<D> {
     type Seed = D;
 
     ghost use Rattle.cat_service.specs.Reasons.{OpensCaused, StepsCaused};
-    ghost use Rattle.cat_service.specs.Worlds.{shape_of};
+    ghost use Rattle.cat_service.specs.Worlds.{shape_of_service};
 
     ghost opens = { OpensCaused D.bytes D.may_leave D.can_fail D.fault_count };
 
     ghost step = { StepsCaused D.bytes D.may_leave D.can_fail D.fault_count };
 
-    ghost token = { λ w. (shape_of w).count };
+    ghost token = { λ w. (shape_of_service w).count };
 
     fn open(alloc: Global, seed: D, line: Option<&[u8]>) -> Result<World<D>, Unopened<D>> {
         let Some(bytes) = line else {

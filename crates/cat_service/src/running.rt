@@ -3,7 +3,7 @@ ghost use Rattle.std.specs.Prelude.{◌≡◌, IfOk, OnErr, map};
 ghost use Rattle.cat_service.specs.Histories.{RunsHistory};
 ghost use Rattle.cat_service.specs.Promises.{KeepsPromises};
 ghost use Rattle.cat_service.specs.Running.{RunsLines};
-ghost use Rattle.cat_service.specs.Worlds.{device_of, policy_of, shape_of};
+ghost use Rattle.cat_service.specs.Worlds.{device_of, policy_of, shape_of_service};
 
 use crate::world::World;
 use cat_directory::{Directory, Shelf};
@@ -23,7 +23,7 @@ impl<D: Directory + Shelf> World<D> {
         ensures run { IfOk result (λ replies. RunsLines D.bytes self.old lines.now replies.items self.new) }
         ensures history { IfOk result (λ replies. RunsHistory D.bytes D.can_fail D.fault_count D.may_leave self.old lines.now replies.items self.new) }
         ensures promised { KeepsPromises D.bytes self.new }
-        ensures schema { (shape_of self.new).schema ≡ (shape_of self.old).schema }
+        ensures schema { (shape_of_service self.new).schema ≡ (shape_of_service self.old).schema }
         ensures policy { policy_of self.new ≡ policy_of self.old }
         ensures can { D.can_fail (device_of self.new) → D.can_fail (device_of self.old) }
         ensures err { OnErr result (self.new ≡ self.old) }

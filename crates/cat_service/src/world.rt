@@ -1,7 +1,7 @@
 //! The world: a ledger, the rights that its sessions have, and what is kept beside it so that it needn't be made anew.
 ghost use Rattle.std.specs.Prelude.{◌≡◌};
 ghost use Rattle.cat_service.specs.Promises.{WorldLasts};
-ghost use Rattle.cat_service.specs.Worlds.{device_of, shape_of};
+ghost use Rattle.cat_service.specs.Worlds.{device_of, shape_of_service};
 
 use cat_base::WriteNo;
 use cat_commands::cat_cached_sets::filters::Filters;
@@ -51,14 +51,14 @@ impl<D: Directory + Shelf> Model for World<D> {
 impl<D: Directory + Shelf> World<D> {
     /// How many writes were accepted, which is the token of a view of now.
     pub fn count(&self) -> WriteNo
-        ensures { result ≡ (shape_of self.now).count }
+        ensures { result ≡ (shape_of_service self.now).count }
     {
         self.ledger.count()
     }
 
     /// The fields of the items.
     pub fn schema(&self) -> &Schema
-        ensures { result.now ≡ (shape_of self.now).schema }
+        ensures { result.now ≡ (shape_of_service self.now).schema }
     {
         self.ledger.schema()
     }

@@ -1,7 +1,6 @@
 pub mod Counts
 pub mod Line
 pub mod Reply
-pub mod Out
 pub mod Plain
 pub mod Exchange
 pub mod Tables

@@ -1,7 +1,7 @@
 //! The one list that callers share, beside the ledger that carries it: the laws of how they agree. No code.
 
 ghost use Rattle.cat_threads.specs.sharing.ShareLaws.{FreshShare, ViewsShare};
-ghost use Rattle.cat_threads.specs.sharing.Laws.{CountsAgree, FreshAgree, NewestAgree, NotedAgree, PrunedAgree, RecordedAgree, StillAgree, ViewsAgree};
+ghost use Rattle.cat_threads.specs.sharing.Laws.{CountsAgree, FreshAgree, NewestAgree, NotedAgree, PrunedAgree, RefreshAgrees, StillAgree, ViewsAgree};
 
 /// A ledger as it is opened agrees with the empty list.
 pub fn fresh_agree()
@@ -30,7 +30,7 @@ pub fn noted_agree()
 
 /// A refresh that is answered makes the scribe's token that of now.
 pub fn recorded_agree()
-    ensures { RecordedAgree }
+    ensures { RefreshAgrees }
 {}
 
 /// Pruning leaves the newest view.

@@ -17,7 +17,7 @@ use Rattle.cat_model.specs.View.{Row, Leaf, Segment, IsFormedRow, selected, live
 use Rattle.cat_model.proofs.Insert.{which}
 use Rattle.cat_model.proofs.Lists.{list_any-append, list_any_none, All-weaken}
 use Rattle.cat_segment.specs.Sources.{source_offset}
-use Rattle.cat_views.specs.Sources.{IsLiveIn, IsLiveRowOf, has_id, length_at, length_in, source_in, stored_in}
+use Rattle.cat_views.specs.Sources.{IsLiveIn, IsLiveRowOf, has_id, length_at, length_in, source_of_row, stored_in}
 use Rattle.cat_views.proofs.Selected.{All-selected}
 use Rattle.cat_views.proofs.Found.{any-is_some, before_or_at}
 
@@ -127,7 +127,7 @@ abbrev records : (ℕ → List ℕ) → Leaf → List Record
 records files leaf = selected leaf.live (sourced leaf.segment.rows (files leaf.segment.number))
 
 found_record : (files : ℕ → List ℕ) (id : Text) (leaf : Leaf) (i : ℕ) → IdsDiffer leaf.segment.rows → i < length leaf.segment.rows → HoldsAt (λ r. r.id ≡ id) leaf.segment.rows i → has_row leaf.live i ≡ true
-    → stored (records files leaf) id ≡ Some (source_in files leaf i)
+    → stored (records files leaf) id ≡ Some (source_of_row files leaf i)
 found_record files id leaf i apart h is live =
     let rows : List Row = leaf.segment.rows in
     let bytes : List ℕ = files leaf.segment.number in
@@ -239,7 +239,7 @@ live_row id ls i leaf row at h none is =
       within = is.within;
       some = some_length leaf.segment.rows row is.within is.segment.formed;
       long = ap (option_map (λ r. r.length)) (first_found id ls i leaf (get_or leaf.segment.rows row no_row) at h none found) ∙ ap Some (length-got leaf.segment.rows row is.within);
-      source = λ files. first_stored files id ls i leaf (source_in files leaf row) at h none (found_record files id leaf row apart is.within is.named is.live);
+      source = λ files. first_stored files id ls i leaf (source_of_row files leaf row) at h none (found_record files id leaf row apart is.within is.named is.live);
     }
   where
     any_read : {X : Type 0} (xs : List X) (k : ℕ) (d e : X) → k < length xs → get_or xs k e ≡ get_or xs k d
@@ -256,7 +256,7 @@ length-at (r ∷ rows) (suc i) n h is = length-at rows i n (omega arith) is
 
 -- what a device gives of the file with the sources of a segment that the code has by another name
 pub read_is : (files : ℕ → List ℕ) (leaf : Leaf) (s : Segment) (row offset len : ℕ) (items : List ℕ) → s ≡ leaf.segment → row < length leaf.segment.rows
-    → offset ≡ source_offset s.rows row → HoldsAt (λ r. r.length ≡ len) s.rows row → items ≡ take len (drop offset (files leaf.segment.number)) → items ≡ source_in files leaf row
+    → offset ≡ source_offset s.rows row → HoldsAt (λ r. r.length ≡ len) s.rows row → items ≡ take len (drop offset (files leaf.segment.number)) → items ≡ source_of_row files leaf row
 read_is files leaf s row offset len items is h p l e =
     let rows : List Row = leaf.segment.rows in
     let bytes : List ℕ = files leaf.segment.number in
@@ -265,27 +265,27 @@ read_is files leaf s row offset len items is h p l e =
 
 -- a source that isn't cut off ends within its file
 pub not_cut : (files : ℕ → List ℕ) (leaf : Leaf) (s : Segment) (row offset len : ℕ) → s ≡ leaf.segment → row < length leaf.segment.rows → 1 ≤ length_at leaf row
-    → offset ≡ source_offset s.rows row → HoldsAt (λ r. r.length ≡ len) s.rows row → length (source_in files leaf row) ≡ length_at leaf row → length (files leaf.segment.number) < offset + len → ⊥
+    → offset ≡ source_offset s.rows row → HoldsAt (λ r. r.length ≡ len) s.rows row → length (source_of_row files leaf row) ≡ length_at leaf row → length (files leaf.segment.number) < offset + len → ⊥
 not_cut files leaf s row offset len is h some p l whole short =
     let rows : List Row = leaf.segment.rows in
     let bytes : List ℕ = files leaf.segment.number in
     let long : length_at leaf row ≡ len = length-at rows row len h (subst (λ t. HoldsAt (λ r. r.length ≡ len) t.rows row) is l) in
     let at : offset ≡ source_offset rows row = p ∙ ap (λ t. source_offset t.rows row) is in
     let rest : length (drop (source_offset rows row) bytes) ≡ length bytes - source_offset rows row = length-drop (source_offset rows row) bytes in
-    let taken : length (source_in files leaf row) ≡ min (length_at leaf row) (length (drop (source_offset rows row) bytes)) = length-take (length_at leaf row) (drop (source_offset rows row) bytes) in
+    let taken : length (source_of_row files leaf row) ≡ min (length_at leaf row) (length (drop (source_offset rows row) bytes)) = length-take (length_at leaf row) (drop (source_offset rows row) bytes) in
     omega (arith, some, long, at, rest, taken, whole, short)
 
 -- the file that the device tells of holds the source, where it isn't cut off
 pub is_whole : (files : ℕ → List ℕ) (id : Text) (ls : List Leaf) (leaf : Leaf) (row : ℕ) → IsLiveRowOf id ls leaf row
-    → option_map (λ text. length text) (stored_in files ls id) ≡ length_in ls id → length (source_in files leaf row) ≡ length_at leaf row
+    → option_map (λ text. length text) (stored_in files ls id) ≡ length_in ls id → length (source_of_row files leaf row) ≡ length_at leaf row
 is_whole files id ls leaf row is whole =
-    let a : option_map (λ text. length text) (stored_in files ls id) ≡ Some (length (source_in files leaf row)) = ap (option_map (λ text. length text)) (is.source files) in
+    let a : option_map (λ text. length text) (stored_in files ls id) ≡ Some (length (source_of_row files leaf row)) = ap (option_map (λ text. length text)) (is.source files) in
     let b : length_in ls id ≡ Some (length_at leaf row) = is.long in
     cc (a, b, whole)
 
 -- what is read of it is one line, if its source is
 pub one_line_read : (files : ℕ → List ℕ) (id : Text) (ls : List Leaf) (leaf : Leaf) (row : ℕ) (text : Text) → IsLiveRowOf id ls leaf row
-    → text ≡ source_in files leaf row → HasNoLineFeed (stored_in files ls id) → IsOneLine text
+    → text ≡ source_of_row files leaf row → HasNoLineFeed (stored_in files ls id) → IsOneLine text
 one_line_read files id ls leaf row text is same h =
-    let one : IsOneLine (source_in files leaf row) = subst HasNoLineFeed (is.source files) h in
+    let one : IsOneLine (source_of_row files leaf row) = subst HasNoLineFeed (is.source files) h in
     subst IsOneLine (sym same) one

@@ -30,8 +30,8 @@ abbrev pub length_at : Leaf → ℕ → ℕ
 length_at leaf row = slice_index (map (λ r. r.length) leaf.segment.rows) row
 
 -- the source of the row of this index, where files hold the sources of the segments' rows, by the segments' numbers
-abbrev pub source_in : (ℕ → List ℕ) → Leaf → ℕ → Text
-source_in files leaf row = take (length_at leaf row) (drop (source_offset leaf.segment.rows row) (files leaf.segment.number))
+abbrev pub source_of_row : (ℕ → List ℕ) → Leaf → ℕ → Text
+source_of_row files leaf row = take (length_at leaf row) (drop (source_offset leaf.segment.rows row) (files leaf.segment.number))
 
 -- the source of the live row of this id
 abbrev pub stored_in : (ℕ → List ℕ) → List Leaf → Text → Option Text
@@ -51,7 +51,7 @@ pub record IsLiveRowOf (id : Text) (leaves : List Leaf) (leaf : Leaf) (row : ℕ
   pub within : row < length leaf.segment.rows
   pub some : 1 ≤ length_at leaf row
   pub long : length_in leaves id ≡ Some (length_at leaf row)
-  pub source : (files : ℕ → List ℕ) → stored_in files leaves id ≡ Some (source_in files leaf row)
+  pub source : (files : ℕ → List ℕ) → stored_in files leaves id ≡ Some (source_of_row files leaf row)
 
 -- what a device tells of the file with the sources of the leaf that has the id live
 abbrev pub TellsSource : (FileName → Told) → (ℕ → List ℕ) → View → Text → Type 0

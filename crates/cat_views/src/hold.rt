@@ -27,7 +27,7 @@ pub struct Hold {
 impl Model for Hold {
     ghost use Rattle.cat_views.specs.Holds as holds;
 
-    ghost Value = { holds.Hold };
+    ghost Value = { holds.HeldView };
 
     ghost view = { λ h. record { session = h.session; view = h.view } };
 }

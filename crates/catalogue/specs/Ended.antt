@@ -31,11 +31,11 @@ ending_of (Err (Serving fault.Write)) = Fault
 
 -- How a task may end. What asks for nothing that the program does ends so, and nothing else does; a version is said, unless it can't
 -- be written.
-abbrev pub EndsBy : Task → Ending → Type 0
-EndsBy task.InMemory ending = ending ≢ WrongArguments
-EndsBy (task.InFolder path) ending = ending ≢ WrongArguments
-EndsBy task.Version ending = (ending ≡ EndOfInput) ⊎ (ending ≡ Fault)
-EndsBy task.Usage ending = ending ≡ WrongArguments
+abbrev pub TaskEndsBy : Task → Ending → Type 0
+TaskEndsBy task.InMemory ending = ending ≢ WrongArguments
+TaskEndsBy (task.InFolder path) ending = ending ≢ WrongArguments
+TaskEndsBy task.Version ending = (ending ≡ EndOfInput) ⊎ (ending ≡ Fault)
+TaskEndsBy task.Usage ending = ending ≡ WrongArguments
 
 -- the exit status
 abbrev pub status_of : Ending → ℕ

@@ -2,7 +2,7 @@
 ghost use Rattle.std.specs.Prelude.{◌≡◌, ◌≢◌};
 ghost use Rattle.std.specs.Process.{exit_status};
 ghost use Rattle.catalogue.specs.declared.endings.Ending.TheVariants.{WrongArguments};
-ghost use Rattle.catalogue.specs.Ended.{EndsBy, ending_of, serving_told, status_of};
+ghost use Rattle.catalogue.specs.Ended.{TaskEndsBy, ending_of, serving_told, status_of};
 
 use crate::arguments::{Task, USAGE, VERSION};
 use crate::endings::{Ending, RunFault, message};
@@ -130,7 +130,7 @@ fn do_task<R: AllocGlobal + Input + Print + Eprint + Files<File = File> + Clone 
     rt: &R,
     task: Task<'_>,
 ) -> Ending
-    ensures { EndsBy task.entry result }
+    ensures { TaskEndsBy task.entry result }
 {
     match task {
         Task::InMemory => {

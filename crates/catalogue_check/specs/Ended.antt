@@ -36,7 +36,7 @@ ending_told (Ok ending) = ending
 ending_told (Err refusal) = Unjudged
 
 -- how a task may end: nothing that is asked for judges nothing
-abbrev pub EndsBy : Task → Ending → Type 0
-EndsBy task.Usage ending = ending ≡ Unjudged
-EndsBy (task.Judge path) ending = Unit {0}
-EndsBy (task.DropTorn path) ending = Unit {0}
+abbrev pub CheckEndsBy : Task → Ending → Type 0
+CheckEndsBy task.Usage ending = ending ≡ Unjudged
+CheckEndsBy (task.Judge path) ending = Unit {0}
+CheckEndsBy (task.DropTorn path) ending = Unit {0}

@@ -1,7 +1,7 @@
 //! Judges the folder that the arguments name, and tells what is found on standard output.
 ghost use Rattle.std.specs.Prelude.{◌≡◌};
 ghost use Rattle.std.specs.Process.{exit_status};
-ghost use Rattle.catalogue_check.specs.Ended.{EndsBy, ending_of, ending_told, status_of};
+ghost use Rattle.catalogue_check.specs.Ended.{CheckEndsBy, ending_of, ending_told, status_of};
 
 use crate::arguments::{Task, USAGE};
 use crate::endings::Ending;
@@ -130,7 +130,7 @@ fn do_task<R: AllocGlobal + Print + Eprint + Files<File = File> + Clone + Drop>(
     rt: &R,
     task: Task<'_>,
 ) -> Ending
-    ensures { EndsBy task.entry result }
+    ensures { CheckEndsBy task.entry result }
 {
     match task {
         Task::Judge(path) => ending_after(rt, judge_asked(rt, path)),

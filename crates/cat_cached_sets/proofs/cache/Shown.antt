@@ -6,7 +6,7 @@ use Rattle.std.specs.Map.{lookup, lookup_entry, remove_entry}
 use Rattle.std.proofs.lemmas.Bool.{and_parts, eqb-true}
 use Rattle.std.proofs.lemmas.List.{take-map, take_all, length-map}
 use Rattle.cat_query.specs.Same.{same_query, same_query-Decides}
-use Rattle.cat_cached_sets.specs.cache.Cached.{Key, same_key}
+use Rattle.cat_cached_sets.specs.cache.Cached.{CacheKey, same_key}
 use Rattle.lru.proofs.CallerLemmas.{Contains-lookup_entry}
 use Rattle.lru.specs.LruCache.{LruCache, promoted, put_entries}
 
@@ -125,7 +125,7 @@ module _ {K X : Type 0} (test : K → Bool) where
 
 -- ---- keys
 
-pub keys_decided : (a b : Key) → same_key a b ≡ true → a ≡ b
+pub keys_decided : (a b : CacheKey) → same_key a b ≡ true → a ≡ b
 keys_decided a b e =
     let both = and_parts (a.segment == b.segment) (same_query a.query b.query) e in
     let segments : a.segment ≡ b.segment = eqb-true a.segment b.segment both.0 in

@@ -8,9 +8,9 @@ use Rattle.cat_model.specs.Query as model
 use Rattle.cat_model.specs.View.{Segment}
 use Rattle.cat_query.specs.declared.query.Query.{Query}
 use Rattle.cat_query.specs.View.{query_of}
-use Rattle.cat_cached_sets.specs.cache.Cached.{Entry}
+use Rattle.cat_cached_sets.specs.cache.Cached.{CachedSet}
 use Rattle.cat_cached_sets.specs.cache.Warmed.{Warm}
-use Rattle.cat_cached_sets.specs.filters.Filters.{Pair, begun, is_missing, pairs}
+use Rattle.cat_cached_sets.specs.filters.Filters.{QueriedSegment, warm_begun, is_missing, pairs}
 
 found_in : {A B : Type 0} (f : A → B) (b : Bool) (x : A) (o : Option A) (p : Option B) → p ≡ option_map f o → cond b (Some (f x)) p ≡ option_map f (cond b (Some x) o)
 found_in f true x o p e = refl
@@ -21,16 +21,16 @@ find-map f p [] = refl
 find-map f p (x ∷ xs) = found_in f (p (f x)) x (find (λ x. p (f x)) xs) (find p (map f xs)) (find-map f p xs)
 
 -- the first pair of the queries from this one on is that of this query, or else that of those behind it
-abbrev pub first_from : List Entry → List Segment → List Query → Option Pair
+abbrev pub first_from : List CachedSet → List Segment → List Query → Option QueriedSegment
 first_from es ss qs = find (is_missing es) (pairs (map query_of qs) ss)
 
-pub first-cons : (es : List Entry) (ss : List Segment) (q : Query) (qs : List Query)
+pub first-cons : (es : List CachedSet) (ss : List Segment) (q : Query) (qs : List Query)
     → first_from es ss (q ∷ qs) ≡ option_or (option_map (λ s. (query_of q, s)) (find (λ s. is_missing es (query_of q, s)) ss)) (first_from es ss qs)
 first-cons es ss q qs =
     find-append (is_missing es) (map (λ s. (query_of q, s)) ss) (pairs (map query_of qs) ss)
     ∙ ap (λ o. option_or o (first_from es ss qs)) (find-map (λ (s : Segment). (query_of q, s)) (is_missing es) ss)
 
-module _ (es : List Entry) (ss : List Segment) (qs : List Query) (i : ℕ) (item : Query) (p : model.Query)
+module _ (es : List CachedSet) (ss : List Segment) (qs : List Query) (i : ℕ) (item : Query) (p : model.Query)
     (lt : i < length qs) (is : item ≡ get_or qs i item) (query : p ≡ query_of item)
     (before : first_from es ss qs ≡ first_from es ss (drop i qs)) where
   first_here : (o : Option Segment) → o ≡ find (λ s. is_missing es (p, s)) ss → first_from es ss qs ≡ option_or (option_map (λ s. (p, s)) o) (first_from es ss (drop (i + 1) qs))
@@ -44,8 +44,8 @@ module _ (es : List Entry) (ss : List Segment) (qs : List Query) (i : ℕ) (item
       ∙ ap (λ (o : Option Segment). option_or (option_map (λ s. (p, s)) o) (first_from es ss (drop (i + 1) qs))) (sym e)
 
   pub begun_here : (s : Segment) (w : Warm) → Some s ≡ find (λ s. is_missing es (p, s)) ss → w ≡ record { segment = s; query = p; passed = 0 }
-      → Some w ≡ option_map begun (first_from es ss qs)
-  begun_here s w e is_begun = ap (λ (w : Warm). Some w) is_begun ∙ ap (option_map begun) (sym (first_here (Some s) e))
+      → Some w ≡ option_map warm_begun (first_from es ss qs)
+  begun_here s w e is_begun = ap (λ (w : Warm). Some w) is_begun ∙ ap (option_map warm_begun) (sym (first_here (Some s) e))
 
   pub none_here : None ≡ find (λ s. is_missing es (p, s)) ss → first_from es ss qs ≡ first_from es ss (drop (i + 1) qs)
   none_here e = first_here None e

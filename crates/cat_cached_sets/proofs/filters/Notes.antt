@@ -8,7 +8,7 @@ use Rattle.cat_query.specs.declared.query.Query.{Query}
 use Rattle.cat_query.specs.Same.{same_query}
 use Rattle.cat_query.specs.View.{query_of}
 use Rattle.cat_cached_sets.specs.cache.Warmed.{Warm}
-use Rattle.cat_cached_sets.specs.filters.Filters.{Filters, most_noted, newest, noted_with, without}
+use Rattle.cat_cached_sets.specs.filters.Filters.{Filters, most_noted, newest, noted_with, filters_without}
 
 any_of : (q : model.Query) (qs : List Query) → list_any (λ p. same_query p q) (map query_of qs) ≡ list_any (λ p. same_query (query_of p) q) qs
 any_of q [] = refl
@@ -50,8 +50,8 @@ module _ (keeps : ℕ → Bool) (f : Filters) where
   stays None e = refl
   stays (Some w) e = ap (λ b. cond (not b) None (Some w)) e
 
-  pub without_unkept : is_kept f.warming ≡ false → record f { warming = None } ≡ without (λ n. not (keeps n)) f
+  pub without_unkept : is_kept f.warming ≡ false → record f { warming = None } ≡ filters_without (λ n. not (keeps n)) f
   without_unkept e = ap (λ (o : Option Warm). record f { warming = o }) (sym (given_up f.warming e))
 
-  pub without_none : is_kept f.warming ≡ true → f ≡ without (λ n. not (keeps n)) f
+  pub without_none : is_kept f.warming ≡ true → f ≡ filters_without (λ n. not (keeps n)) f
   without_none e = ap (λ (o : Option Warm). record f { warming = o }) (sym (stays f.warming e))

@@ -1,9 +1,10 @@
 -- What a step of warming makes of the cached sets and the set in the making.
 use Rattle.std.specs.Prelude.{◌≡◌, ◌⊎◌, ℕ, ◌+◌, ◌<◌, ◌≤◌, List, length, map, Option, Some, None, IsSome, option_map}
 use Rattle.cat_model.specs.View.{Segment, row_matches}
-use Rattle.cat_cached_sets.specs.cache.Cached.{Entry, stored}
-use Rattle.cat_cached_sets.specs.cache.Warmed.{Warm, step_limit}
-use Rattle.cat_cached_sets.specs.filters.Filters.{Filters, begun, first_missing, key_in}
+use Rattle.cat_cached_sets.specs.cache.Cached.{CachedSet, with_stored_set}
+use Rattle.cat_cached_sets.specs.cache.Warmed.{Warm}
+use Rattle.cat_model.specs.Limits.{step_limit}
+use Rattle.cat_cached_sets.specs.filters.Filters.{Filters, warm_begun, first_missing, cache_key_in}
 use Rattle.cat_cached_sets.specs.declared.filters.news.WarmNews.{WarmNews}
 
 -- a step reaches the last row
@@ -19,8 +20,8 @@ abbrev pub passed_all : Warm → Warm
 passed_all w = passed_to (length w.segment.rows) w
 
 -- the sets with that of the set in the making put under its key
-abbrev pub with_made : Warm → List Entry → List Entry
-with_made w cached = stored (key_in w.query w.segment) (map (row_matches w.query) w.segment.rows) cached
+abbrev pub with_made : Warm → List CachedSet → List CachedSet
+with_made w cached = with_stored_set (cache_key_in w.query w.segment) (map (row_matches w.query) w.segment.rows) cached
 
 -- a set is in the making, and a step passes 256 rows of it, which aren't the last
 pub record IsWarmed (old new : Filters) (n : ℕ) : Type 0 where
@@ -31,7 +32,7 @@ pub record IsWarmed (old new : Filters) (n : ℕ) : Type 0 where
   pub after : new ≡ record old { warming = Some (passed_to n warm) }
 
 -- a set is in the making, and a step passes its last rows and stores it
-pub record IsStored (old new : Filters) : Type 0 where
+pub record IsSetStored (old new : Filters) : Type 0 where
   pub warm : Warm
   pub making : old.warming ≡ Some warm
   pub last : IsLast warm
@@ -39,19 +40,19 @@ pub record IsStored (old new : Filters) : Type 0 where
 
 -- Without a set in the making that of the first missing pair is begun, if there is one. Else 256 rows more are passed where that
 -- leaves some, and the set is stored where it leaves none.
-abbrev pub IsStep : Filters → List Segment → Filters → WarmNews → Type 0
-IsStep old segments new WarmNews.Idle = record {
+abbrev pub IsFiltersStep : Filters → List Segment → Filters → WarmNews → Type 0
+IsFiltersStep old segments new WarmNews.Idle = record {
   free : old.warming ≡ None;
   all : first_missing old segments ≡ None;
   after : new ≡ old;
 }
-IsStep old segments new WarmNews.Begun = record {
+IsFiltersStep old segments new WarmNews.Begun = record {
   free : old.warming ≡ None;
   some : IsSome (first_missing old segments);
-  after : new ≡ record old { warming = option_map begun (first_missing old segments) };
+  after : new ≡ record old { warming = option_map warm_begun (first_missing old segments) };
 }
-IsStep old segments new (WarmNews.Warmed rows) = IsWarmed old new rows
-IsStep old segments new WarmNews.Stored = IsStored old new
+IsFiltersStep old segments new (WarmNews.Warmed rows) = IsWarmed old new rows
+IsFiltersStep old segments new WarmNews.Stored = IsSetStored old new
 
 -- a set is in the making, and its last rows were passed without its being stored
 pub record IsPassed (old new : Filters) : Type 0 where
@@ -61,13 +62,13 @@ pub record IsPassed (old new : Filters) : Type 0 where
   pub after : new ≡ record old { warming = Some (passed_all warm) }
 
 -- what a step leaves that found no memory
-abbrev pub IsLeft : Filters → Filters → Type 0
-IsLeft old new = (new ≡ old) ⊎ IsPassed old new
+abbrev pub IsLeftByStep : Filters → Filters → Type 0
+IsLeftByStep old new = (new ≡ old) ⊎ IsPassed old new
 
 -- ---- the same of a cache and a set in the making
 
 -- a step of the set, by how many rows are passed in all, or none once it is stored
-abbrev pub IsMade : List Entry → Warm → List Entry → Warm → Option ℕ → Type 0
+abbrev pub IsMade : List CachedSet → Warm → List CachedSet → Warm → Option ℕ → Type 0
 IsMade es w es' w' (Some n) = record {
   rows : n ≡ w.passed + step_limit;
   left : n < length w.segment.rows;
@@ -80,5 +81,5 @@ IsMade es w es' w' None = record {
 }
 
 -- what is left of both without memory
-abbrev pub IsMadeInPart : List Entry → Warm → List Entry → Warm → Type 0
+abbrev pub IsMadeInPart : List CachedSet → Warm → List CachedSet → Warm → Type 0
 IsMadeInPart es w es' w' = (es' ≡ es) × ((w' ≡ w) ⊎ IsLast w × (w' ≡ passed_all w))

@@ -3,7 +3,7 @@ ghost use Rattle.std.specs.Prelude.{◌≡◌, ◌≤◌, [], length, is_some, o
 ghost use Rattle.std.specs.Arc.{arc_value};
 ghost use Rattle.std.specs.Borrow.{sem};
 ghost use Rattle.std.specs.Map.{lookup};
-ghost use Rattle.cat_cached_sets.specs.cache.Cached.{key_of, most_sets, same_key, stored, used};
+ghost use Rattle.cat_cached_sets.specs.cache.Cached.{cache_key_of, most_sets, same_key, with_stored_set, used};
 
 use crate::cache::key::Key;
 use cat_base::MAX_CACHED_SETS;
@@ -31,11 +31,11 @@ impl Model for FilterCache {
     ghost use Rattle.cat_cached_sets.specs.cache.Cached as cached;
     ghost use Rattle.cat_cached_sets.specs.cache.Coding.{query_code};
 
-    ghost Value = { List cached.Entry };
+    ghost Value = { List cached.CachedSet };
 
     ghost coded = { Prim.hlevel (codes, query_code) };
 
-    ghost view = { λ c. map (λ e. (cached.key_of e.0, arc_value e.1)) c.sets.entries };
+    ghost view = { λ c. map (λ e. (cached.cache_key_of e.0, arc_value e.1)) c.sets.entries };
 
     ghost invariant = { λ c. c.sets.cap ≡ cached.most_sets };
 }
@@ -63,7 +63,7 @@ impl FilterCache {
 
     /// Whether a set stands under the key. The order stays as it is.
     pub fn has(&self, key: &Key) -> bool
-        ensures { result ≡ is_some (lookup (same_key (key_of key.now)) self.now) }
+        ensures { result ≡ is_some (lookup (same_key (cache_key_of key.now)) self.now) }
     {
         self.sets.contains(key)
     }
@@ -71,8 +71,8 @@ impl FilterCache {
     /// The set that stands under the key, which is the last used from now on; none where none stands there, and then the
     /// order stays as it is (`LRUQueryCache.get`).
     pub fn look(&mut self, key: &Key) -> Option<&Arc<DocSet>>
-        ensures* used { sem 𝓛 (ends_as self.entry (used (key_of key.now) self.old)) }
-        ensures value { option_map (λ s. arc_value s.now) result ≡ lookup (same_key (key_of key.now)) self.old }
+        ensures* used { sem 𝓛 (ends_as self.entry (used (cache_key_of key.now) self.old)) }
+        ensures value { option_map (λ s. arc_value s.now) result ≡ lookup (same_key (cache_key_of key.now)) self.old }
     {
         self.sets.promote(key);
         self.sets.peek(key)
@@ -81,7 +81,7 @@ impl FilterCache {
     /// Puts the set under the key, as the last used, in place of the one that stood there; where there are more than
     /// [`MAX_CACHED_SETS`] then, the least recently used goes (`LRUQueryCache.putIfAbsent`).
     pub fn store(&mut self, key: Key, rows: Arc<DocSet>) -> Result<(), AllocError>
-        ensures ok { OnOk result (self.new ≡ stored (key_of key) (arc_value rows) self.old) }
+        ensures ok { OnOk result (self.new ≡ with_stored_set (cache_key_of key) (arc_value rows) self.old) }
         ensures err { OnErr result (self.new ≡ self.old) }
     {
         prove!(self.sets.len() <= MAX_CACHED_SETS);

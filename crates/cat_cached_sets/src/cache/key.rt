@@ -1,6 +1,6 @@
 //! What a cached set stands under.
 ghost use Rattle.std.specs.Prelude.{◌≡◌, IfOk};
-ghost use Rattle.cat_cached_sets.specs.cache.Cached.{key_of};
+ghost use Rattle.cat_cached_sets.specs.cache.Cached.{cache_key_of};
 
 use cat_base::SegNo;
 use cat_query::Query;
@@ -19,7 +19,7 @@ pub struct Key {
 impl Key {
     /// An equal key in memory of its own.
     pub fn copy(&self) -> Result<Key, AllocError>
-        ensures ok { IfOk result (λ k. key_of k ≡ key_of self.now) }
+        ensures ok { IfOk result (λ k. cache_key_of k ≡ cache_key_of self.now) }
     {
         Ok(Key {
             segment: self.segment,

@@ -2,8 +2,8 @@
 ghost use Rattle.std.specs.Prelude.{◌≡◌, IfOk, OnErr};
 ghost use Rattle.std.specs.Arc.{arc_value};
 ghost use Rattle.cat_query.specs.View.{query_of};
-ghost use Rattle.cat_cached_sets.specs.cache.Cached.{key_of};
-ghost use Rattle.cat_cached_sets.specs.cache.Warmed.{IsStep};
+ghost use Rattle.cat_cached_sets.specs.cache.Cached.{cache_key_of};
+ghost use Rattle.cat_cached_sets.specs.cache.Warmed.{IsWarmStep};
 
 use crate::cache::key::Key;
 use cat_base::MAX_STEP_ROWS;
@@ -68,7 +68,7 @@ impl Warm {
 
     /// What the set is to stand under.
     pub fn key(&self) -> &Key
-        ensures { key_of result.now ≡ record { segment = self.now.segment.number; query = self.now.query } }
+        ensures { cache_key_of result.now ≡ record { segment = self.now.segment.number; query = self.now.query } }
     {
         &self.key
     }
@@ -76,7 +76,7 @@ impl Warm {
     /// Passes at most [`MAX_STEP_ROWS`] rows more, and answers the set with the last of them. Where memory is wanting nothing
     /// is passed. After the set, a further step answers it again.
     pub fn step(&mut self, alloc: Global) -> Result<Warming, AllocError>
-        ensures ok { IfOk result (IsStep self.old self.new) }
+        ensures ok { IfOk result (IsWarmStep self.old self.new) }
         ensures err { OnErr result (self.new ≡ self.old) }
     {
         let rows = self.segment.len();

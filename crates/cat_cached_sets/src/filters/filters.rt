@@ -6,9 +6,9 @@ ghost use Rattle.std.specs.Option.{option_map_or};
 ghost use Rattle.cat_cached_sets.specs.cache.Cached.{most_sets};
 ghost use Rattle.cat_query.specs.View.{query_of};
 ghost use Rattle.cat_views.specs.Sets.{AreSets};
-ghost use Rattle.cat_cached_sets.specs.filters.Filters.{most_noted, newest, noted_with, set_in, used_in, without};
-ghost use Rattle.cat_cached_sets.specs.filters.Known.{Knows, Remembers, RemembersBelow, RemembersOf, RemembersOfBelow};
-ghost use Rattle.cat_cached_sets.specs.filters.Steps.{IsLeft, IsStep};
+ghost use Rattle.cat_cached_sets.specs.filters.Filters.{most_noted, newest, noted_with, set_in, sets_used_in, filters_without};
+ghost use Rattle.cat_cached_sets.specs.filters.Known.{Knows, Remembers, RemembersBelow, FiltersRemember, FiltersRememberBelow};
+ghost use Rattle.cat_cached_sets.specs.filters.Steps.{IsLeftByStep, IsFiltersStep};
 ghost use Rattle.cat_model.specs.View.{segments_of};
 
 use crate::cache::{FilterCache, Key, Warm};
@@ -115,7 +115,7 @@ impl Filters {
     ) -> Result<Vec<Option<Arc<DocSet>>>, AllocError>
         ensures sets { IfOk result (λ v. map (option_map arc_value) v.items
             ≡ map (set_in self.old.cached (query_of key.old.query)) (segments_of leaves.now)) }
-        ensures used { self.new ≡ record self.old { cached = used_in (query_of key.old.query) (segments_of leaves.now) self.old.cached } }
+        ensures used { self.new ≡ record self.old { cached = sets_used_in (query_of key.old.query) (segments_of leaves.now) self.old.cached } }
         ensures query { key.new.query ≡ key.old.query }
         ensures lent { IfOk result (λ v. All (Knows self.old) (segments_of leaves.now) → AreSets (query_of key.old.query) leaves.now v.items) }
         ensures known { Remembers self.old self.new }
@@ -134,10 +134,10 @@ impl Filters {
     /// An error leaves all as it was, but that the set in the making may have passed its last rows without being stored; the
     /// next step stores it. (That sets are made in steps is our own: `LRUQueryCache.cacheImpl` makes one in one go.)
     pub fn step(&mut self, leaves: &[Leaf]) -> Result<WarmNews, AllocError>
-        ensures ok { IfOk result (IsStep self.old (segments_of leaves.now) self.new) }
-        ensures err { OnErr result (IsLeft self.old self.new) }
-        ensures known { RemembersOf (segments_of leaves.now) self.old self.new }
-        ensures below { RemembersOfBelow (segments_of leaves.now) self.old self.new }
+        ensures ok { IfOk result (IsFiltersStep self.old (segments_of leaves.now) self.new) }
+        ensures err { OnErr result (IsLeftByStep self.old self.new) }
+        ensures known { FiltersRemember (segments_of leaves.now) self.old self.new }
+        ensures below { FiltersRememberBelow (segments_of leaves.now) self.old self.new }
     {
         match &mut self.warming {
             None => self.begin(leaves),
@@ -154,7 +154,7 @@ impl Filters {
     /// Begins the set of the first pair that isn't cached.
     fn begin(&mut self, leaves: &[Leaf]) -> Result<WarmNews, AllocError>
         requires { self.old.warming ≡ None }
-        ensures ok { IfOk result (IsStep self.old (segments_of leaves.now) self.new) }
+        ensures ok { IfOk result (IsFiltersStep self.old (segments_of leaves.now) self.new) }
         ensures err { OnErr result (self.new ≡ self.old) }
     {
         let Some(warm) = next_begun(&self.cache, &self.noted, leaves)? else {
@@ -167,7 +167,7 @@ impl Filters {
     /// Gives up the set in the making where it is over none of these segments, as when its segment was merged away. It takes
     /// no memory. (Lucene: `LRUQueryCache.clearCoreCacheKey`, as a segment's core is closed.)
     pub fn keep_among(&mut self, leaves: &[Leaf])
-        ensures value { self.new ≡ without (λ n. not (list_any (λ l. l.segment.number == n) leaves.now)) self.old }
+        ensures value { self.new ≡ filters_without (λ n. not (list_any (λ l. l.segment.number == n) leaves.now)) self.old }
         ensures known { Remembers self.old self.new }
         ensures below { RemembersBelow self.old self.new }
     {

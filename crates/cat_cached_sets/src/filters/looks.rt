@@ -2,9 +2,9 @@
 ghost use Rattle.std.specs.Prelude.{◌≡◌, [], ◌∷◌, ◌++◌, map, None, option_map, replicate, IfOk, MatchResult};
 ghost use Rattle.std.specs.Arc.{arc_value};
 ghost use Rattle.std.specs.Map.{lookup};
-ghost use Rattle.cat_cached_sets.specs.cache.Cached.{key_of, same_key, used};
+ghost use Rattle.cat_cached_sets.specs.cache.Cached.{cache_key_of, same_key, used};
 ghost use Rattle.cat_query.specs.View.{query_of};
-ghost use Rattle.cat_cached_sets.specs.filters.Filters.{set_in, used_in};
+ghost use Rattle.cat_cached_sets.specs.filters.Filters.{set_in, sets_used_in};
 ghost use Rattle.cat_model.specs.View.{segments_of};
 
 use crate::cache::{FilterCache, Key};
@@ -16,8 +16,8 @@ use std::sync::Arc;
 /// The set that stands under the key, which is shared, and the last used from now on, also where the count of its users is
 /// full.
 fn set_under(cache: &mut FilterCache, key: &Key) -> Result<Option<Arc<DocSet>>, AllocError>
-    ensures set { IfOk result (λ s. option_map arc_value s ≡ lookup (same_key (key_of key.now)) cache.old) }
-    ensures used { cache.new ≡ used (key_of key.now) cache.old }
+    ensures set { IfOk result (λ s. option_map arc_value s ≡ lookup (same_key (cache_key_of key.now)) cache.old) }
+    ensures used { cache.new ≡ used (cache_key_of key.now) cache.old }
 {
     match cache.look(key) {
         Some(set) => Ok(Some(Arc::try_clone(set)?)),
@@ -59,7 +59,7 @@ pub(crate) fn sets_under(
 ) -> Result<Vec<Option<Arc<DocSet>>>, AllocError>
     ensures sets { IfOk result (λ v. map (option_map arc_value) v.items
         ≡ map (set_in cache.old (query_of key.old.query)) (segments_of leaves.now)) }
-    ensures used { cache.new ≡ used_in (query_of key.old.query) (segments_of leaves.now) cache.old }
+    ensures used { cache.new ≡ sets_used_in (query_of key.old.query) (segments_of leaves.now) cache.old }
     ensures query { key.new.query ≡ key.old.query }
 {
     // Each look hashes the query, also where there is nothing to find.

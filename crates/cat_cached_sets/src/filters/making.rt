@@ -1,7 +1,7 @@
 //! Sets in the making: which is begun next, and one step of it.
 ghost use Rattle.std.specs.Prelude.{◌≡◌, find, map, option_map, IfOk, OnErr};
 ghost use Rattle.cat_query.specs.View.{query_of};
-ghost use Rattle.cat_cached_sets.specs.filters.Filters.{begun, is_missing, pairs};
+ghost use Rattle.cat_cached_sets.specs.filters.Filters.{warm_begun, is_missing, pairs};
 ghost use Rattle.cat_cached_sets.specs.filters.Steps.{IsMade, IsMadeInPart};
 ghost use Rattle.cat_model.specs.View.{segments_of};
 
@@ -32,7 +32,7 @@ pub(crate) fn next_begun(
     noted: &[Query],
     leaves: &[Leaf],
 ) -> Result<Option<Warm>, AllocError>
-    ensures { IfOk result (λ w. w ≡ option_map begun (find (is_missing cache.now) (pairs (map query_of noted.now) (segments_of leaves.now)))) }
+    ensures { IfOk result (λ w. w ≡ option_map warm_begun (find (is_missing cache.now) (pairs (map query_of noted.now) (segments_of leaves.now)))) }
 {
     for query in noted {
         let mut key = Key {

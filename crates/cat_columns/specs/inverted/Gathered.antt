@@ -28,8 +28,8 @@ abbrev pub lists_in : {S : Type 0} → Vec (SmallVec ℕ) S → List (List ℕ)
 lists_in v = map (λ list. list.items) v.items
 
 -- the list of the ordinal
-abbrev pub list_at : {S : Type 0} → Vec (SmallVec ℕ) S → ℕ → List ℕ
-list_at v ordinal = slice_index_or (lists_in v) ordinal []
+abbrev pub list_of_ordinal : {S : Type 0} → Vec (SmallVec ℕ) S → ℕ → List ℕ
+list_of_ordinal v ordinal = slice_index_or (lists_in v) ordinal []
 
 -- the rows whose ordinals have this one
 abbrev pub rows_at : ℕ → List (List ℕ) → List ℕ

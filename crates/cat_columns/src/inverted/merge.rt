@@ -5,7 +5,7 @@ ghost use Rattle.cat_base.specs.Texts.{IsTextSet};
 ghost use Rattle.cat_model.specs.Text.{Text};
 ghost use Rattle.cat_model.specs.Ordinals.{dictionary_of, postings_of, text_at};
 ghost use Rattle.cat_columns.specs.Merged.{kept_of, row_in, moved, AreNumbered};
-ghost use Rattle.cat_columns.specs.inverted.Gathered.{ends_from, list_at};
+ghost use Rattle.cat_columns.specs.inverted.Gathered.{ends_from, list_of_ordinal};
 
 use crate::Dictionary;
 use crate::inverted::laying::add_list;
@@ -78,8 +78,8 @@ fn add_input(
     requires fits { length input.now.row_map.now ≡ length input.now.terms.now }
     requires there { All (Contains words.now) (dictionary_of input.now.terms.now) }
     ensures count { length lists.new.items ≡ length lists.old.items }
-    ensures lists { OnOk result ((ordinal : ℕ) → ordinal < length words.now → list_at lists.new ordinal
-        ≡ list_at lists.old ordinal
+    ensures lists { OnOk result ((ordinal : ℕ) → ordinal < length words.now → list_of_ordinal lists.new ordinal
+        ≡ list_of_ordinal lists.old ordinal
         ++ moved input.now.row_map.now (postings_of (text_at words.now ordinal) input.now.terms.now)) }
     ensures sets { All IsTextSet input.now.terms.now }
 {
@@ -105,7 +105,7 @@ fn gathered(
     requires numbered { AreNumbered 0 (flat_map (λ p. p.row_map.now) inputs.now) }
     requires there { All (λ p. All (Contains words.now) (dictionary_of p.terms.now)) inputs.now }
     ensures count { IfOk result (λ v. length v.items ≡ length words.now) }
-    ensures lists { IfOk result (λ v. (ordinal : ℕ) → ordinal < length words.now → list_at v ordinal
+    ensures lists { IfOk result (λ v. (ordinal : ℕ) → ordinal < length words.now → list_of_ordinal v ordinal
         ≡ postings_of (text_at words.now ordinal) (flat_map (λ p. kept_of p.row_map.now p.terms.now) inputs.now)) }
     ensures sets { IfOk result (λ v. All (λ p. All IsTextSet p.terms.now) inputs.now) }
 {

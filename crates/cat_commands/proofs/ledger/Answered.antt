@@ -26,7 +26,7 @@ use Rattle.cat_ledger_laws.specs.shape.Steps.{newest_generation, tokens_of}
 use Rattle.cat_ledger_laws.specs.shape.Ties.{Makes, ToldFiles}
 use Rattle.cat_ledger_laws.specs.lines.LineLaws.{MayRefresh, NothingChanges, line_of, tells}
 use Rattle.cat_ledger_laws.specs.lines.ReadLaws.{kept_under}
-use Rattle.cat_ledger_laws.specs.lines.RunLaws.{Answers}
+use Rattle.cat_ledger_laws.specs.lines.RunLaws.{AnswersCarried}
 use Rattle.cat_ledger_laws.proofs.lines.LineAnswers.{memory_answers, stopped_puts_answer, stopped_refreshes_answer}
 use Rattle.cat_ledger_laws.proofs.lines.ReadAnswers.{unkept_files_answer}
 use Rattle.cat_ledger_laws.proofs.lines.RefusalAnswers.{commitless_snaps_answer, faults_answer, full_refreshes_answer, snapless_unsnaps_answer, spent_commits_answer, spent_snaps_answer, spent_writes_answer}
@@ -73,16 +73,16 @@ at_error P r f is h = subst (λ r. IfErr r P) is h
 module _ (policy : MergePolicy) (told told' : ToldFiles) (s new : Shape) (session : ℕ) where
   -- the command is answered by the refusal
   abbrev Refuses : Command → Refusal → Type 0
-  Refuses c e = Answers policy told s (line_of session c) (Err e) told' new
+  Refuses c e = AnswersCarried policy told s (line_of session c) (Err e) told' new
 
   -- one that is known by name
   pub named : (c : Command) (e r : Refusal) → e ≡ r → Refuses c r → Refuses c e
   named c e r same answered = subst (Refuses c) (sym same) answered
 
   -- a number that is told, which equals the one that is due
-  pub tells_same : (c : Command) (n due : ℕ) → n ≡ due → Answers policy told s (line_of session c) (tells due) told' new
-      → Answers policy told s (line_of session c) (tells n) told' new
-  tells_same c n due same answered = subst (λ n. Answers policy told s (line_of session c) (tells n) told' new) (sym same) answered
+  pub tells_same : (c : Command) (n due : ℕ) → n ≡ due → AnswersCarried policy told s (line_of session c) (tells due) told' new
+      → AnswersCarried policy told s (line_of session c) (tells n) told' new
+  tells_same c n due same answered = subst (λ n. AnswersCarried policy told s (line_of session c) (tells n) told' new) (sym same) answered
 
   -- ---- writes
 
@@ -237,12 +237,12 @@ module _ (policy : MergePolicy) (told told' : ToldFiles) (s new : Shape) (sessio
 
 -- what answers a line of session 0 answers that of a session that is 0
 pub at_zero : (policy : MergePolicy) (told told' : ToldFiles) (s new : Shape) (session : ℕ) (c : Command) (r : Reply) → session ≡ 0
-    → Answers policy told s (line_of 0 c) r told' new → Answers policy told s (line_of session c) r told' new
-at_zero policy told told' s new session c r zero answered = subst (λ n. Answers policy told s (line_of n c) r told' new) (sym zero) answered
+    → AnswersCarried policy told s (line_of 0 c) r told' new → AnswersCarried policy told s (line_of session c) r told' new
+at_zero policy told told' s new session c r zero answered = subst (λ n. AnswersCarried policy told s (line_of n c) r told' new) (sym zero) answered
 
 -- a SWEEP that the ledger refuses
 pub sweep_refused : (policy : MergePolicy) (told told' : ToldFiles) (s new : Shape) (e : Refusal) → Makes (MayLeave []) told s told' new
-    → (e ≡ Memory) ⊎ (e ≡ Device) → Answers policy told s (line_of 0 (Command.chore Chore.sweep)) (Err e) told' new
+    → (e ≡ Memory) ⊎ (e ≡ Device) → AnswersCarried policy told s (line_of 0 (Command.chore Chore.sweep)) (Err e) told' new
 sweep_refused policy told told' s new e left (inl is) = named policy told told' s new 0 (Command.chore Chore.sweep) e Memory is
     (memory_answers policy told told' s new (line_of 0 (Command.chore Chore.sweep)) refl (begun_are_left [] told told' s new left))
 sweep_refused policy told told' s new e left (inr is) = named policy told told' s new 0 (Command.chore Chore.sweep) e Device is
@@ -250,7 +250,7 @@ sweep_refused policy told told' s new e left (inr is) = named policy told told' 
 
 -- a FORCE that the ledger refuses
 pub force_refused : (policy : MergePolicy) (told told' : ToldFiles) (s new : Shape) (e : Refusal) → Makes IsLeft told s told' new
-    → (e ≡ Memory) ⊎ (e ≡ Device) ⊎ (e ≡ Spent) → Answers policy told s (line_of 0 (Command.chore Chore.force)) (Err e) told' new
+    → (e ≡ Memory) ⊎ (e ≡ Device) ⊎ (e ≡ Spent) → AnswersCarried policy told s (line_of 0 (Command.chore Chore.force)) (Err e) told' new
 force_refused policy told told' s new e left (inl is) = named policy told told' s new 0 (Command.chore Chore.force) e Memory is
     (memory_answers policy told told' s new (line_of 0 (Command.chore Chore.force)) refl left)
 force_refused policy told told' s new e left (inr (inl is)) = named policy told told' s new 0 (Command.chore Chore.force) e Device is
@@ -260,7 +260,7 @@ force_refused policy told told' s new e left (inr (inr is)) = named policy told 
 
 -- a MERGE that the ledger refuses
 pub merge_refused : (policy : MergePolicy) (told told' : ToldFiles) (s new : Shape) (e : Refusal) → Makes IsLeft told s told' new
-    → (e ≡ Memory) ⊎ (e ≡ Device) ⊎ (e ≡ Damaged) ⊎ (e ≡ Spent) → Answers policy told s (line_of 0 (Command.chore Chore.merge)) (Err e) told' new
+    → (e ≡ Memory) ⊎ (e ≡ Device) ⊎ (e ≡ Damaged) ⊎ (e ≡ Spent) → AnswersCarried policy told s (line_of 0 (Command.chore Chore.merge)) (Err e) told' new
 merge_refused policy told told' s new e left (inl is) = named policy told told' s new 0 (Command.chore Chore.merge) e Memory is
     (memory_answers policy told told' s new (line_of 0 (Command.chore Chore.merge)) refl left)
 merge_refused policy told told' s new e left (inr (inl is)) = named policy told told' s new 0 (Command.chore Chore.merge) e Device is

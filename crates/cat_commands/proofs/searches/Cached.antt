@@ -7,7 +7,7 @@ use Rattle.cat_model.specs.Text.{Text}
 use Rattle.cat_model.specs.View.{View, segments_of}
 use Rattle.cat_cached_sets.specs.cat_query.declared.query.Query as code
 use Rattle.cat_protocol.specs.cat_search.Views.{Prepared}
-use Rattle.cat_cached_sets.specs.filters.Filters.{Filters, noted_with, used_in}
+use Rattle.cat_cached_sets.specs.filters.Filters.{Filters, noted_with, sets_used_in}
 use Rattle.cat_commands.specs.searches.Uses.{Uses, UsesAndNotes, UsesSpelled}
 
 -- what is said of whatever right there is is said of this one
@@ -32,7 +32,7 @@ pub noted_after : (q p : Query) (view : View) (old used new : Filters) → Uses 
     → UsesAndNotes q view old new
 noted_after q p view old used new uses same noted =
     noted ∙ ap (λ (f : Filters). record f { noted = noted_with p f.noted }) uses
-    ∙ ap (λ (p : Query). record { cached = used_in q (segments_of view.leaves) old.cached; noted = noted_with p old.noted; warming = old.warming }) same
+    ∙ ap (λ (p : Query). record { cached = sets_used_in q (segments_of view.leaves) old.cached; noted = noted_with p old.noted; warming = old.warming }) same
 
 -- whatever right there is, nothing changed
 pub unchanged : {A : Type 0} (view : A → View) (schema : Schema) (text : Text) (f : Filters) (right : Option A)

@@ -13,7 +13,7 @@ use Rattle.cat_model.specs.Query.{Query}
 use Rattle.cat_model.specs.Run.{Reply, found_reply, or_not_held}
 use Rattle.cat_model.specs.Text.{Text}
 use Rattle.cat_model.specs.View.{View}
-use Rattle.cat_ledger_laws.specs.lines.ReadLaws.{Finds}
+use Rattle.cat_ledger_laws.specs.lines.ReadLaws.{ReadFinds}
 use Rattle.cat_commands.specs.searches.Reads.{GivesDue, MayTell}
 use Rattle.cat_commands.proofs.ledger.Answered.{err_is}
 
@@ -64,12 +64,12 @@ module _ (schema : Schema) (text : Text) (asked : Result Query Refusal → Read)
 
     module _ (right : Option View) (view : View) (held : right ≡ Some view) where
       -- what is found
-      pub found_told : (found : Result Found Refusal) → Finds view (asked (Ok q)) found → Told right (found_reply found)
+      pub found_told : (found : Result Found Refusal) → ReadFinds view (asked (Ok q)) found → Told right (found_reply found)
       found_told found finds =
           (Ok q, IsQueryOf.spelled q spelled, subst (λ o. MayTell o (asked (Ok q)) (found_reply found)) (sym held) (inl (found, finds, refl)))
 
       -- a refusal, which is found but where it is want of memory
-      pub refusal_told : (e : Refusal) → (e ≢ Memory → Finds view (asked (Ok q)) (Err e)) → Told right (Err e)
+      pub refusal_told : (e : Refusal) → (e ≢ Memory → ReadFinds view (asked (Ok q)) (Err e)) → Told right (Err e)
       refusal_told e finds = elim (is_memory e) [
         | inl memory ↦ subst (λ f. Told right (Err f)) (sym memory) (memory_told right)
         | inr other ↦ found_told (Err e) (finds other)

@@ -13,7 +13,7 @@ use Rattle.cat_model.specs.Text.{Text}
 use Rattle.cat_model.specs.View.{Segment}
 use Rattle.cat_model.specs.Write.{Write}
 use Rattle.cat_model.proofs.Lists.{All-both, All-kept}
-use Rattle.cat_ledger_laws.specs.model.Calls.{Begun, Committed, Copied, Ended, Flushed, Flushes, Installed, MayLeave, Pruned, RecordsNow, Snaps, Unsnapped, has_recorded, stays_pruned, stays_recorded, tokens_in, view_now, views_that, wrote}
+use Rattle.cat_ledger_laws.specs.model.Calls.{MergeBegun, Committed, Copied, Ended, Flushed, Flushes, Installed, MayLeave, Pruned, RecordsNow, Snaps, Unsnapped, has_recorded, stays_pruned, stays_recorded, tokens_in, recorded_view_now, views_that, wrote}
 use Rattle.cat_ledger_laws.specs.model.Ledger.{Ledger, RecordedView, state_of}
 use Rattle.cat_ledger_laws.specs.model.Plans.{MergePolicy}
 use Rattle.cat_ledger_laws.specs.model.Portions.{Merging, Portion, all_live, live_after, merged, segment_of, settled}
@@ -98,7 +98,7 @@ module _ (P : Segment → Type 0) where
       subst (Goes l) (sym k.rest) (record {
         next = omega arith;
         making = λ n h. inr h;
-        holds = λ free h. (h.0, All-both (OfView l.schema) (views_that stays l.views) (view_now l ∷ []) (All-kept (OfView l.schema) (λ v. stays v.token) l.views h.1) (h.0, tt));
+        holds = λ free h. (h.0, All-both (OfView l.schema) (views_that stays l.views) (recorded_view_now l ∷ []) (All-kept (OfView l.schema) (λ v. stays v.token) l.views h.1) (h.0, tt));
       })
 
   pruned_goes : (n : ℕ) (l new : Ledger) → Pruned n l new → Goes l new
@@ -110,7 +110,7 @@ module _ (P : Segment → Type 0) where
 
   -- ---- a merge
 
-  begun_goes : (index k : ℕ) (l new : Ledger) → Begun index k l new → Goes l new
+  begun_goes : (index k : ℕ) (l new : Ledger) → MergeBegun index k l new → Goes l new
   begun_goes index k l new b = subst (Goes l) (sym b.rest) (record {
     next = omega arith;
     making = λ n h. let e : l.next_segment ≡ n = h in inl (omega arith);

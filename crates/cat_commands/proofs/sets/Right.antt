@@ -4,7 +4,7 @@ use Rattle.std.specs.Prelude.{slice_index_or, Contains, IfSome}
 use Rattle.std.specs.List.{flat_map}
 use Rattle.std.proofs.lemmas.List.Elements.{All-contains_itself, All-nil, All-weaker, Contains-append_left}
 use Rattle.cat_model.specs.View.{Row, Segment, View, row_matches, segments_of}
-use Rattle.cat_cached_sets.specs.cache.Cached.{Entry}
+use Rattle.cat_cached_sets.specs.cache.Cached.{CachedSet}
 use Rattle.cat_cached_sets.specs.cache.Warmed.{Warm}
 use Rattle.cat_cached_sets.specs.filters.Filters.{Filters}
 use Rattle.cat_cached_sets.specs.filters.Known.{HasRowsOf, IsBelow, Knows}
@@ -55,7 +55,7 @@ empty_are_right s =
     let f : Filters = record { cached = []; noted = []; warming = None } in
     right_where_known (Knows f) (λ n. IsBelow n f)
     (λ segment. record { cached = All-nil (HasRowsOf segment); warming = tt })
-    (λ n. record { cached = All-nil (λ (e : Entry). e.0.segment < n); warming = tt })
+    (λ n. record { cached = All-nil (λ (e : CachedSet). e.0.segment < n); warming = tt })
     s
 
 -- ---- where segments go on
@@ -63,13 +63,13 @@ empty_are_right s =
 -- a segment that no set's number reaches is known
 beyond_known : (f : Filters) (n : ℕ) (s : Segment) → IsBelow n f → n ≤ s.number → Knows f s
 beyond_known f n s below high = known_any f s.number (record {
-  cached = All-weaker (λ (e : Entry). e.0.segment < n) (λ (e : Entry). e.0.segment ≢ s.number) (λ e less is. absurd (omega (arith, less, is, high))) f.cached below.cached;
+  cached = All-weaker (λ (e : CachedSet). e.0.segment < n) (λ (e : CachedSet). e.0.segment ≢ s.number) (λ e less is. absurd (omega (arith, less, is, high))) f.cached below.cached;
   warming = some_weaker (λ (w : Warm). w.segment.number < n) (λ (w : Warm). w.segment.number ≢ s.number) (λ w less is. absurd (omega (arith, less, is, high))) f.warming below.warming;
 }) s refl
 
 below_more : (f : Filters) (n m : ℕ) → n ≤ m → IsBelow n f → IsBelow m f
 below_more f n m le h = record {
-  cached = All-weaker (λ (e : Entry). e.0.segment < n) (λ (e : Entry). e.0.segment < m) (λ e less. omega (arith, less, le)) f.cached h.cached;
+  cached = All-weaker (λ (e : CachedSet). e.0.segment < n) (λ (e : CachedSet). e.0.segment < m) (λ e less. omega (arith, less, le)) f.cached h.cached;
   warming = some_weaker (λ (w : Warm). w.segment.number < n) (λ (w : Warm). w.segment.number < m) (λ w less. omega (arith, less, le)) f.warming h.warming;
 }
 

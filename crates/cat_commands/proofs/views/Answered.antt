@@ -24,7 +24,7 @@ use Rattle.cat_ledger_laws.specs.shape.Ties.{ToldFiles, TouchesNothing}
 use Rattle.cat_ledger_laws.specs.lines.HoldLaws.{holding}
 use Rattle.cat_ledger_laws.specs.lines.LineLaws.{NothingChanges, line_of, tells}
 use Rattle.cat_ledger_laws.specs.lines.ReadLaws.{TellsSources}
-use Rattle.cat_ledger_laws.specs.lines.RunLaws.{Answers}
+use Rattle.cat_ledger_laws.specs.lines.RunLaws.{AnswersCarried}
 use Rattle.cat_ledger_laws.proofs.lines.HoldAnswers.{gone_opens_answer, opens_answer, opens_newest_answer}
 use Rattle.cat_ledger_laws.proofs.lines.LineAnswers.{memory_answers}
 use Rattle.cat_ledger_laws.proofs.lines.StopAnswers.{nothing_is_left, stopped_gets_answer}
@@ -34,7 +34,7 @@ use Rattle.cat_commands.specs.views.Holding.{said_open}
 module _ (policy : MergePolicy) (told told' : ToldFiles) (s new : Shape) (session : ℕ) where
   -- the command is answered by the refusal
   abbrev Refuses : Command → Refusal → Type 0
-  Refuses c e = Answers policy told s (line_of session c) (Err e) told' new
+  Refuses c e = AnswersCarried policy told s (line_of session c) (Err e) told' new
 
   -- one that is known by name
   named : (c : Command) (e r : Refusal) → e ≡ r → Refuses c r → Refuses c e
@@ -48,13 +48,13 @@ module _ (policy : MergePolicy) (told told' : ToldFiles) (s new : Shape) (sessio
 
   -- an OPEN of what is asked for
   pub opened : (token : Option ℕ) (t : ℕ) → IsAsked s token t → new ≡ holding session t s → TouchesNothing told told'
-      → (c : Command) × IsCommand json s.schema (said_open token) c × Answers policy told s (line_of session c) (tells t) told' new
+      → (c : Command) × IsCommand json s.schema (said_open token) c × AnswersCarried policy told s (line_of session c) (tells t) told' new
   opened None t asked same untouched =
       (Command.open_newest, refl, opens_newest_answer policy told told' s new session t asked same untouched)
   opened (Some u) t asked same untouched = (
     Command.open_at u,
     refl,
-    subst (λ n. Answers policy told s (line_of session (Command.open_at n)) (tells t) told' new) asked.0
+    subst (λ n. AnswersCarried policy told s (line_of session (Command.open_at n)) (tells t) told' new) asked.0
         (opens_answer policy told told' s new session t
         (subst (λ n. list_any (λ (v : View). v.token == n) s.views ≡ true) (sym asked.0) asked.1) same untouched),
   )
@@ -62,7 +62,7 @@ module _ (policy : MergePolicy) (told told' : ToldFiles) (s new : Shape) (sessio
   -- one that the ledger refuses
   pub open_refused : (token : Option ℕ) (e : Refusal) → (e ≡ Gone → (t : ℕ) → IsAsked s token t → ⊥) → NothingChanges told s told' new
       → (e ≡ Gone) ⊎ (e ≡ Memory)
-      → (c : Command) × IsCommand json s.schema (said_open token) c × Answers policy told s (line_of session c) (Err e) told' new
+      → (c : Command) × IsCommand json s.schema (said_open token) c × AnswersCarried policy told s (line_of session c) (Err e) told' new
   open_refused None e gone still (inl is) = absurd (gone is (greatest (tokens_of s.views)) refl)
   open_refused (Some u) e gone still (inl is) = (
     Command.open_at u,

@@ -7,8 +7,8 @@ use Rattle.cat_model.specs.State as state
 use Rattle.cat_model.specs.State.{has_hold, held_in}
 use Rattle.cat_model.specs.View.{View}
 use Rattle.cat_model.proofs.Lists.{list_any-append}
-use Rattle.cat_cached_sets.specs.cat_views.Holds.{Hold}
-use Rattle.cat_ledger.specs.cat_lifetimes.rights.Rights.{PutsIn, TakesOut, is_of, key_of, right_of}
+use Rattle.cat_cached_sets.specs.cat_views.Holds.{HeldView}
+use Rattle.cat_ledger.specs.cat_lifetimes.rights.Rights.{PutsIn, TakesOut, is_of, hold_of_right, right_of}
 use Rattle.cat_ledger_laws.specs.shape.Shapes.{Shape}
 use Rattle.cat_ledger_laws.specs.lines.HoldLaws.{holding, letting_go}
 use Rattle.cat_ledger_laws.specs.lines.ReadLaws.{IsRecordedAs}
@@ -47,23 +47,23 @@ found_passes {X = X} p (y ∷ ys) x e = by (p y) refl (λ f. found_passes p ys x
     by false h more e = more e
 
 -- a right that is found is the session's, to the view of the token
-pub found_session : (rights : List Hold) (s t : ℕ) (h : Hold) → right_of rights s t ≡ Some h → h.session ≡ s
+pub found_session : (rights : List HeldView) (s t : ℕ) (h : HeldView) → right_of rights s t ≡ Some h → h.session ≡ s
 found_session rights s t h e =
     equal_at h.session s (both_true (h.session == s) (h.view.token == t) (found_passes (is_of s t) rights h e)).0
 
-pub found_token : (rights : List Hold) (s t : ℕ) (h : Hold) → right_of rights s t ≡ Some h → h.view.token ≡ t
+pub found_token : (rights : List HeldView) (s t : ℕ) (h : HeldView) → right_of rights s t ≡ Some h → h.view.token ≡ t
 found_token rights s t h e =
     equal_at h.view.token t (both_true (h.session == s) (h.view.token == t) (found_passes (is_of s t) rights h e)).1
 
 -- ---- what a right tells of the ledger
 
 -- who has a right holds its token, and the right is to the view that is recorded under it;
-pub right_held : (s : Shape) (rights : List Hold) → AreRights s rights → (u v : ℕ) (h : Hold) → right_of rights u v ≡ Some h
+pub right_held : (s : Shape) (rights : List HeldView) → AreRights s rights → (u v : ℕ) (h : HeldView) → right_of rights u v ≡ Some h
     → has_hold s.holds u v ≡ true
 right_held s rights are u v h e = are.held u v ∙ ap is_some e
 
 -- who has none doesn't
-pub right_unheld : (s : Shape) (rights : List Hold) → AreRights s rights → (u v : ℕ) → right_of rights u v ≡ None
+pub right_unheld : (s : Shape) (rights : List HeldView) → AreRights s rights → (u v : ℕ) → right_of rights u v ≡ None
     → has_hold s.holds u v ≡ false
 right_unheld s rights are u v e = are.held u v ∙ ap is_some e
 
@@ -73,31 +73,31 @@ none_held : (hs : List state.Hold) (s t : ℕ) → has_hold hs s t ≡ false →
     → cond (has_hold hs s t) hs (hs ++ k ∷ []) ≡ hs ++ k ∷ []
 none_held hs s t none k = ap (λ b. cond b hs (hs ++ k ∷ [])) none
 
-some_either : (b : Bool) (h : Hold) (o : Option Hold) → (is_some o || (b || false)) ≡ is_some (cond b (Some h) o)
+some_either : (b : Bool) (h : HeldView) (o : Option HeldView) → (is_some o || (b || false)) ≡ is_some (cond b (Some h) o)
 some_either true h None = refl
 some_either true h (Some x) = refl
 some_either false h None = refl
 some_either false h (Some x) = refl
 
 -- the rights with one more are those that are counted with one hold more
-pub holding_kept : (s : Shape) (old new : List Hold) (right : Hold) → AreRights s old
+pub holding_kept : (s : Shape) (old new : List HeldView) (right : HeldView) → AreRights s old
     → has_hold s.holds right.session right.view.token ≡ false → IsRecordedAs s.views right.view.token right.view → PutsIn right old new
     → AreRights (holding right.session right.view.token s) new
 holding_kept s old new right are none is put = record {
   held = λ u v.
-      ap (λ hs. has_hold hs u v) (none_held s.holds right.session right.view.token none (key_of right))
-      ∙ list_any-append (held_as u v) s.holds (key_of right ∷ [])
+      ap (λ hs. has_hold hs u v) (none_held s.holds right.session right.view.token none (hold_of_right right))
+      ∙ list_any-append (held_as u v) s.holds (hold_of_right right ∷ [])
       ∙ ap (λ b. b || (is_of u v right || false)) (are.held u v)
       ∙ some_either (is_of u v right) right (right_of old u v)
       ∙ ap is_some (sym (put u v));
   views = λ u v h e. by u v h (is_of u v right) refl (sym (put u v) ∙ e);
 }
   where
-    by : (u v : ℕ) (h : Hold) (b : Bool) → is_of u v right ≡ b → cond b (Some right) (right_of old u v) ≡ Some h
+    by : (u v : ℕ) (h : HeldView) (b : Bool) → is_of u v right ≡ b → cond b (Some right) (right_of old u v) ≡ Some h
         → IsRecordedAs s.views v h.view
     by u v h true own e =
         let named = equal_at right.view.token v (both_true (right.session == u) (right.view.token == v) own).1 in
-        subst (λ (x : Hold). IsRecordedAs s.views v x.view) (some_same right h e) (subst (λ n. IsRecordedAs s.views n right.view) named is)
+        subst (λ (x : HeldView). IsRecordedAs s.views v x.view) (some_same right h e) (subst (λ n. IsRecordedAs s.views n right.view) named is)
     by u v h false own e = are.views u v h e
 
 -- ---- a right that ends
@@ -141,12 +141,12 @@ let_go_held u v s t (h ∷ hs) = by (held_as s t h) refl (let_go_held u v s t hs
         ∙ ap (λ b. cond ((s == u) && (t == v)) false (b || has_hold hs u v)) (sym (held_alike u v s t h own))
     by false other rest = ap (λ b. held_as u v h || b) rest ∙ stays other ((s == u) && (t == v)) refl
 
-none_either : (b : Bool) (o : Option Hold) → cond b false (is_some o) ≡ is_some (cond b None o)
+none_either : (b : Bool) (o : Option HeldView) → cond b false (is_some o) ≡ is_some (cond b None o)
 none_either true o = refl
 none_either false o = refl
 
 -- the rights without one are those that are counted without its hold
-pub letting_go_kept : (s : Shape) (old new : List Hold) (session t : ℕ) → AreRights s old → TakesOut session t old new
+pub letting_go_kept : (s : Shape) (old new : List HeldView) (session t : ℕ) → AreRights s old → TakesOut session t old new
     → AreRights (letting_go session t s) new
 letting_go_kept s old new session t are takes = record {
   held = λ u v.
@@ -157,7 +157,7 @@ letting_go_kept s old new session t are takes = record {
   views = λ u v h e. by u v h ((session == u) && (t == v)) (sym (takes u v) ∙ e);
 }
   where
-    by : (u v : ℕ) (h : Hold) (b : Bool) → cond b None (right_of old u v) ≡ Some h → IsRecordedAs s.views v h.view
+    by : (u v : ℕ) (h : HeldView) (b : Bool) → cond b None (right_of old u v) ≡ Some h → IsRecordedAs s.views v h.view
     by u v h true e = absurd (let no : None ≡ Some h = e in cc)
     by u v h false e = are.views u v h e
 
@@ -192,7 +192,7 @@ hold_counts hs u v held =
     any_weaker (held_as u v) (λ h. h.token == v) (λ h own. (both_true (h.session == u) (h.token == v) own).1) hs held
 
 -- the rights stay where the holds do, and the views of the tokens that are held
-pub rights_kept : (s new : Shape) (rights : List Hold) → new.holds ≡ s.holds
+pub rights_kept : (s new : Shape) (rights : List HeldView) → new.holds ≡ s.holds
     → ((t : ℕ) (view : View) → held_in s.holds t ≡ true → IsRecordedAs s.views t view → IsRecordedAs new.views t view)
     → AreRights s rights → AreRights new rights
 rights_kept s new rights same stay are = record {
@@ -201,5 +201,5 @@ rights_kept s new rights same stay are = record {
 }
 
 -- a shape that is the same has the same rights
-pub rights_at : (s new : Shape) (rights : List Hold) → new ≡ s → AreRights s rights → AreRights new rights
+pub rights_at : (s new : Shape) (rights : List HeldView) → new ≡ s → AreRights s rights → AreRights new rights
 rights_at s new rights same are = subst (λ (s : Shape). AreRights s rights) (sym same) are

@@ -9,8 +9,8 @@ use Rattle.cat_model.specs.View.{Leaf, segments_of}
 use Rattle.cat_directory.specs.Devices.{FileContent, NoMore}
 use Rattle.cat_directory.specs.Names.{name_of}
 use Rattle.cat_directory.specs.declared.name.FileName.{FileName}
-use Rattle.cat_cached_sets.specs.filters.Filters.{Filters, without}
-use Rattle.cat_cached_sets.specs.filters.Steps.{IsStep}
+use Rattle.cat_cached_sets.specs.filters.Filters.{Filters, filters_without}
+use Rattle.cat_cached_sets.specs.filters.Steps.{IsFiltersStep}
 use Rattle.cat_cached_sets.specs.declared.filters.news.WarmNews.{WarmNews}
 use Rattle.cat_ledger_laws.specs.model.Ledger.{IsNew}
 use Rattle.cat_ledger_laws.specs.model.Plans.{MergePolicy}
@@ -19,7 +19,7 @@ use Rattle.cat_ledger_laws.specs.shape.Shapes.{MergingShape, Shape}
 use Rattle.cat_ledger.specs.cat_ledger_state.Cores.{HasRowsLeft}
 use Rattle.cat_ledger.specs.cat_ledger_state.Installs.{IsOfMerge}
 use Rattle.cat_ledger.specs.upkeep.Due.{IsForceDue, IsMergeDue}
-use Rattle.cat_ledger.specs.Ledgers.{Ledger, device_in, shape_in}
+use Rattle.cat_ledger.specs.Ledgers.{LedgerOnDevice, device_in, shape_in}
 use Rattle.cat_ledger.specs.declared.telling.SegmentStat as ledger
 use Rattle.cat_protocol.specs.declared.replies.news.SegmentStat.{SegmentStat}
 use Rattle.cat_commands.specs.declared.ledger.chores.Chore.{Chore}
@@ -59,11 +59,11 @@ stat_in sets s = record {
 
 -- What is told, besides its form: SWEEP tells of all files that nobody needs, and STAT of the ledger as it stands, and of so many cached
 -- sets. What merges tell is said where they are answered.
-abbrev pub Tells : ℕ → Shape → Chore → run.Answer → Type 0
-Tells sets s Merge a = Unit {0}
-Tells sets s Force a = Unit {0}
-Tells sets s Sweep a = a ≡ run.Answer.news (run.News.swept (pending_in s))
-Tells sets s Stat a = a ≡ run.Answer.news (run.News.state (stat_in sets s))
+abbrev pub TellsChore : ℕ → Shape → Chore → run.Answer → Type 0
+TellsChore sets s Merge a = Unit {0}
+TellsChore sets s Force a = Unit {0}
+TellsChore sets s Sweep a = a ≡ run.Answer.news (run.News.swept (pending_in s))
+TellsChore sets s Stat a = a ≡ run.Answer.news (run.News.state (stat_in sets s))
 
 -- what is told of a step of warming
 abbrev pub warm_told : WarmNews → run.News
@@ -76,18 +76,18 @@ warm_told WarmNews.Stored = run.News.stored
 pub record IsWarmTold (s : Shape) (old new : Filters) (a : run.Answer) : Type 0 where
   pub news : WarmNews
   pub told : a ≡ run.Answer.news (warm_told news)
-  pub step : IsStep old (segments_of s.leaves) new news
+  pub step : IsFiltersStep old (segments_of s.leaves) new news
 
 -- ---- what is left of the sets that are kept beside it
 
 -- a segment of the list has the number
-abbrev pub is_listed : Shape → ℕ → Bool
-is_listed s n = list_any (λ l. l.segment.number == n) s.leaves
+abbrev pub is_segment_listed : Shape → ℕ → Bool
+is_segment_listed s n = list_any (λ l. l.segment.number == n) s.leaves
 
 -- A MERGE gives up the set in the making where its segment isn't in the list that is left, as when the merge that took it is done. Other
 -- maintenance leaves the sets as they are.
 abbrev pub sets_left : Chore → Shape → Filters → Filters
-sets_left Merge s f = without (λ n. not (is_listed s n)) f
+sets_left Merge s f = filters_without (λ n. not (is_segment_listed s n)) f
 sets_left _ s f = f
 
 -- ---- when it is refused
@@ -121,7 +121,7 @@ MayRefuse policy s Stat e = e ≡ Memory
 
 -- A crash may leave of each file that somebody needs what it could have left before the call, but of one with a number that was not
 -- taken, and of those of the merge in the making. The first argument says what a crash may leave of a device's files.
-abbrev pub SparesUsed : {D : Type 0} → (D → FileName → FileContent → Type 0) → Ledger D → Ledger D → Type 0
+abbrev pub SparesUsed : {D : Type 0} → (D → FileName → FileContent → Type 0) → LedgerOnDevice D → LedgerOnDevice D → Type 0
 SparesUsed left old new = (q : FileName) → 0 < users_of (shape_in old).users (name_of q)
     → (IsNew (shape_in old).next_segment (shape_in old).next_generation (name_of q) → ⊥)
     → (IsOfMerge (shape_in old).merging q → ⊥) → NoMore (left (device_in old) q) (left (device_in new) q)

@@ -5,16 +5,16 @@ use Rattle.cat_model.specs.Item.{Schema}
 use Rattle.cat_model.specs.Query.{Query}
 use Rattle.cat_model.specs.Text.{Text}
 use Rattle.cat_model.specs.View.{View, segments_of}
-use Rattle.cat_cached_sets.specs.filters.Filters.{Filters, noted_with, used_in}
+use Rattle.cat_cached_sets.specs.filters.Filters.{Filters, noted_with, sets_used_in}
 
 -- the sets of the query were used that stand for the segments of the view, in order, and nothing else changed
 abbrev pub Uses : Query → View → Filters → Filters → Type 0
-Uses q view old new = new ≡ record old { cached = used_in q (segments_of view.leaves) old.cached }
+Uses q view old new = new ≡ record old { cached = sets_used_in q (segments_of view.leaves) old.cached }
 
 -- so they were, and the query was noted
 abbrev pub UsesAndNotes : Query → View → Filters → Filters → Type 0
 UsesAndNotes q view old new =
-    new ≡ record { cached = used_in q (segments_of view.leaves) old.cached; noted = noted_with q old.noted; warming = old.warming }
+    new ≡ record { cached = sets_used_in q (segments_of view.leaves) old.cached; noted = noted_with q old.noted; warming = old.warming }
 
 -- the text spells a query whose sets were used; or nothing changed, as where memory was wanting before they were looked up
 abbrev pub UsesSpelled : Schema → Text → View → Filters → Filters → Type 0

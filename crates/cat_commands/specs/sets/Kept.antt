@@ -6,8 +6,8 @@ use Rattle.cat_ledger_laws.specs.shape.Shapes.{Shape}
 use Rattle.cat_commands.specs.sets.Beside.{IsRightBeside}
 
 -- none of the lists has another segment of this one's number
-abbrev pub KnowsIn : List (List Segment) → Segment → Type 0
-KnowsIn lists s = All (λ segments. All (AgreesWith s) segments) lists
+abbrev pub ListsKnow : List (List Segment) → Segment → Type 0
+ListsKnow lists s = All (λ segments. All (AgreesWith s) segments) lists
 
 -- the numbers of all of their segments are below this
 abbrev pub AreBelow : ℕ → List (List Segment) → Type 0
@@ -19,7 +19,7 @@ HaveNoneOf lists n = All (λ segments. All (λ s. s.number ≢ n) segments) list
 
 -- whatever segment was known is, if none of these is another of its number
 abbrev pub RemembersIn : List Segment → List (List Segment) → List (List Segment) → Type 0
-RemembersIn segments old new = (s : Segment) → All (AgreesWith s) segments → KnowsIn old s → KnowsIn new s
+RemembersIn segments old new = (s : Segment) → All (AgreesWith s) segments → ListsKnow old s → ListsKnow new s
 
 -- numbers stay below what they were below, if those of these are too
 abbrev pub RemembersInBelow : List Segment → List (List Segment) → List (List Segment) → Type 0
@@ -28,4 +28,4 @@ RemembersInBelow segments old new = (n : ℕ) → All (λ s. s.number < n) segme
 -- Each segment of the current list and of the recorded views is known; the numbers of all segments of the lists were taken; and
 -- whatever segment the merge in the making makes is known too.
 abbrev pub HasKept : List (List Segment) → Shape → Type 0
-HasKept lists = IsRightBeside (KnowsIn lists) (λ n. AreBelow n lists)
+HasKept lists = IsRightBeside (ListsKnow lists) (λ n. AreBelow n lists)

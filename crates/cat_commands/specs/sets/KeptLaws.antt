@@ -8,10 +8,10 @@ use Rattle.cat_ledger_laws.specs.model.Stored.{FileBytes}
 use Rattle.cat_ledger_laws.specs.shape.Shapes.{Shape}
 use Rattle.cat_ledger_laws.specs.shape.Ties.{ToldFiles, Carries}
 use Rattle.cat_ledger_laws.specs.lines.ReadLaws.{IsRecordedAs}
-use Rattle.cat_ledger_laws.specs.lines.RunLaws.{Answers}
+use Rattle.cat_ledger_laws.specs.lines.RunLaws.{AnswersCarried}
 use Rattle.cat_commands.specs.sets.Segments.{SegmentsAgree, SegmentsGo, segments_in}
 use Rattle.cat_commands.specs.sets.Beside.{AnyIsKnown}
-use Rattle.cat_commands.specs.sets.Kept.{HasKept, HaveNoneOf, KnowsIn, RemembersIn, RemembersInBelow}
+use Rattle.cat_commands.specs.sets.Kept.{HasKept, HaveNoneOf, ListsKnow, RemembersIn, RemembersInBelow}
 
 -- ---- how they are right
 
@@ -27,11 +27,11 @@ KeptGoOn = (lists : List (List Segment)) (s new : Shape) → SegmentsGo s new �
 abbrev pub KeptStay : Type 0
 KeptStay =
     (policy : MergePolicy) (told told' : ToldFiles) (s new : Shape) (line : Line) (reply : Reply) (l : Ledger) (files : FileBytes) (lists : List (List Segment))
-    → Carries told s l files → Answers policy told s line reply told' new → HasKept lists s → HasKept lists new
+    → Carries told s l files → AnswersCarried policy told s line reply told' new → HasKept lists s → HasKept lists new
 
 -- Any segment of the number is known exactly where no list has one of it.
 abbrev pub UnkeptAreKnown : Type 0
-UnkeptAreKnown = (lists : List (List Segment)) (n : ℕ) → AnyIsKnown (KnowsIn lists) n ↔ HaveNoneOf lists n
+UnkeptAreKnown = (lists : List (List Segment)) (n : ℕ) → AnyIsKnown (ListsKnow lists) n ↔ HaveNoneOf lists n
 
 -- ---- what is done with them
 
@@ -47,7 +47,7 @@ AddedAreRight =
 abbrev pub RecordedAgree : Type 0
 RecordedAgree =
     (lists : List (List Segment)) (s : Shape) (t : ℕ) (view : View)
-    → HasKept lists s → IsRecordedAs s.views t view → All (KnowsIn lists) (segments_of view.leaves)
+    → HasKept lists s → IsRecordedAs s.views t view → All (ListsKnow lists) (segments_of view.leaves)
 
 -- and is among those that the ledger has.
 abbrev pub RecordedAreAmong : Type 0

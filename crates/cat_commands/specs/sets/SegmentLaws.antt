@@ -6,7 +6,7 @@ use Rattle.cat_ledger_laws.specs.model.Plans.{MergePolicy}
 use Rattle.cat_ledger_laws.specs.model.Stored.{FileBytes}
 use Rattle.cat_ledger_laws.specs.shape.Shapes.{Shape}
 use Rattle.cat_ledger_laws.specs.shape.Ties.{ToldFiles, Carries}
-use Rattle.cat_ledger_laws.specs.lines.RunLaws.{Answers}
+use Rattle.cat_ledger_laws.specs.lines.RunLaws.{AnswersCarried}
 use Rattle.cat_model.specs.View.{segments_of}
 use Rattle.cat_commands.specs.sets.Segments.{SegmentsAgree, SegmentsGo, segments_in}
 
@@ -14,7 +14,7 @@ use Rattle.cat_commands.specs.sets.Segments.{SegmentsAgree, SegmentsGo, segments
 abbrev pub SegmentsStay : Type 0
 SegmentsStay =
     (policy : MergePolicy) (told told' : ToldFiles) (s new : Shape) (line : Line) (reply : Reply) (l : Ledger) (files : FileBytes)
-    → Carries told s l files → Answers policy told s line reply told' new → SegmentsGo s new
+    → Carries told s l files → AnswersCarried policy told s line reply told' new → SegmentsGo s new
 
 -- Where a ledger is carried, a number is one segment's.
 abbrev pub SegmentsAreOne : Type 0

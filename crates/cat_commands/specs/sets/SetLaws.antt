@@ -3,14 +3,14 @@ use Rattle.std.specs.Prelude.{◌↔◌, ℕ, List, [], None, All, Contains}
 use Rattle.cat_model.specs.Run.{Line, Reply}
 use Rattle.cat_model.specs.View.{Segment, View, segments_of}
 use Rattle.cat_cached_sets.specs.filters.Filters.{Filters}
-use Rattle.cat_cached_sets.specs.filters.Known.{Knows, Remembers, RemembersBelow, RemembersOf, RemembersOfBelow}
+use Rattle.cat_cached_sets.specs.filters.Known.{Knows, Remembers, RemembersBelow, FiltersRemember, FiltersRememberBelow}
 use Rattle.cat_ledger_laws.specs.model.Ledger.{Ledger}
 use Rattle.cat_ledger_laws.specs.model.Plans.{MergePolicy}
 use Rattle.cat_ledger_laws.specs.model.Stored.{FileBytes}
 use Rattle.cat_ledger_laws.specs.shape.Shapes.{Shape}
 use Rattle.cat_ledger_laws.specs.shape.Ties.{ToldFiles, Carries}
 use Rattle.cat_ledger_laws.specs.lines.ReadLaws.{IsRecordedAs}
-use Rattle.cat_ledger_laws.specs.lines.RunLaws.{Answers}
+use Rattle.cat_ledger_laws.specs.lines.RunLaws.{AnswersCarried}
 use Rattle.cat_commands.specs.sets.Segments.{SegmentsAgree, SegmentsGo, segments_in}
 use Rattle.cat_commands.specs.sets.Sets.{HasNoneOf, HasSets, KnowsAny}
 
@@ -28,7 +28,7 @@ SetsGoOn = (f : Filters) (s new : Shape) → SegmentsGo s new → HasSets f s �
 abbrev pub SetsStay : Type 0
 SetsStay =
     (policy : MergePolicy) (told told' : ToldFiles) (s new : Shape) (line : Line) (reply : Reply) (l : Ledger) (files : FileBytes) (f : Filters)
-    → Carries told s l files → Answers policy told s line reply told' new → HasSets f s → HasSets f new
+    → Carries told s l files → AnswersCarried policy told s line reply told' new → HasSets f s → HasSets f new
 
 -- Any segment of the number is known exactly where the number has no set.
 abbrev pub UnsetAreKnown : Type 0
@@ -44,7 +44,7 @@ RememberedAreRight = (s : Shape) (f after : Filters) → Remembers f after → R
 abbrev pub WarmedAreRight : Type 0
 WarmedAreRight =
     (s : Shape) (segments : List Segment) (f after : Filters) → SegmentsAgree s → All (Contains (segments_in s)) segments
-    → RemembersOf segments f after → RemembersOfBelow segments f after → HasSets f s → HasSets after s
+    → FiltersRemember segments f after → FiltersRememberBelow segments f after → HasSets f s → HasSets after s
 
 -- ---- what they are good for
 

@@ -1,13 +1,13 @@
 -- The law by which the sessions' rights stay those that the ledger counts.
 use Rattle.std.specs.Prelude.{◌≡◌, List, false}
 use Rattle.cat_model.specs.Run.{Line, Reply}
-use Rattle.cat_cached_sets.specs.cat_views.Holds.{Hold}
+use Rattle.cat_cached_sets.specs.cat_views.Holds.{HeldView}
 use Rattle.cat_ledger_laws.specs.model.Ledger.{Ledger}
 use Rattle.cat_ledger_laws.specs.model.Plans.{MergePolicy}
 use Rattle.cat_ledger_laws.specs.model.Stored.{FileBytes}
 use Rattle.cat_ledger_laws.specs.shape.Shapes.{Shape}
 use Rattle.cat_ledger_laws.specs.shape.Ties.{Carries, ToldFiles}
-use Rattle.cat_ledger_laws.specs.lines.RunLaws.{Answers}
+use Rattle.cat_ledger_laws.specs.lines.RunLaws.{AnswersCarried}
 use Rattle.cat_ledger_laws.specs.lines.StayLaws.{changes_holds}
 use Rattle.cat_commands.specs.views.Holding.{AreRights}
 
@@ -15,5 +15,5 @@ use Rattle.cat_commands.specs.views.Holding.{AreRights}
 abbrev pub RightsStay : Type 0
 RightsStay =
     (policy : MergePolicy) (told told' : ToldFiles) (s new : Shape) (line : Line) (reply : Reply) (l : Ledger) (files : FileBytes)
-    (rights : List Hold) → Carries told s l files → Answers policy told s line reply told' new → changes_holds line.command ≡ false
+    (rights : List HeldView) → Carries told s l files → AnswersCarried policy told s line reply told' new → changes_holds line.command ≡ false
     → AreRights s rights → AreRights new rights

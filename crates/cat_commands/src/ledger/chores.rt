@@ -8,11 +8,11 @@ ghost use Rattle.cat_model.specs.Lines.{Said};
 ghost use Rattle.cat_model.specs.Run as run;
 ghost use Rattle.cat_cached_sets.specs.filters.Known.{Remembers, RemembersBelow};
 ghost use Rattle.cat_ledger.specs.cat_ledger_state.Cores.{HasRowsLeft};
-ghost use Rattle.cat_ledger.specs.Answering.{Answers, AnswersSaid};
+ghost use Rattle.cat_ledger.specs.Answering.{AnswersCommand, AnswersSaid};
 ghost use Rattle.cat_ledger.specs.Histories.{Event, Goes};
 ghost use Rattle.cat_ledger.specs.Ledgers.{Spares, device_in, policy_in, shape_in};
 ghost use Rattle.cat_protocol.specs.replies.Reply.{answer_of, reply_of};
-ghost use Rattle.cat_commands.specs.ledger.Chores.{FailsFor, MayRefuse, MayRefuseMerge, SparesUsed, Tells, chore_of, pending_in, sets_left};
+ghost use Rattle.cat_commands.specs.ledger.Chores.{FailsFor, MayRefuse, MayRefuseMerge, SparesUsed, TellsChore, chore_of, pending_in, sets_left};
 
 use crate::ledger::merging::{force, merge_step};
 use crate::ledger::stats::tell_stat;
@@ -41,7 +41,7 @@ fn merge<D: Directory + Shelf>(
     ledger: &mut Ledger<D>,
     filters: &mut Filters,
 ) -> Result<Answer, Refusal>
-    ensures answers { Answers D.bytes 0 (run.Command.chore run.Chore.merge) ledger.old (reply_of result) ledger.new }
+    ensures answers { AnswersCommand D.bytes 0 (run.Command.chore run.Chore.merge) ledger.old (reply_of result) ledger.new }
     ensures refusal { IfErr result (MayRefuseMerge (policy_in ledger.old) (shape_in ledger.old)) }
     ensures device { IfErr result (λ e. e ≡ Device → HasRowsLeft (shape_in ledger.old).merging ⊎ D.can_fail (device_in ledger.old)) }
     ensures counted { IfErr result (λ e. e ≡ Device → CountsOne (D.fault_count (device_in ledger.old)) (D.fault_count (device_in ledger.new))) }
@@ -62,7 +62,7 @@ fn merge<D: Directory + Shelf>(
 
 /// Answers a SWEEP of session 0.
 fn sweep<D: Directory + Shelf>(ledger: &mut Ledger<D>) -> Result<Answer, Refusal>
-    ensures answers { Answers D.bytes 0 (run.Command.chore run.Chore.sweep) ledger.old (reply_of result) ledger.new }
+    ensures answers { AnswersCommand D.bytes 0 (run.Command.chore run.Chore.sweep) ledger.old (reply_of result) ledger.new }
     ensures told { IfOk result (λ a. answer_of a ≡ run.Answer.news (run.News.swept (pending_in (shape_in ledger.old)))) }
     ensures refusal { IfErr result (λ e. (e ≡ Memory) ⊎ (e ≡ Device)) }
     ensures device { IfErr result (λ e. e ≡ Device → D.can_fail (device_in ledger.old)) }
@@ -97,7 +97,7 @@ pub fn maintain<D: Directory + Shelf>(
 ) -> Result<Answer, Refusal>
     ensures answers { AnswersSaid D.bytes session (Said.chore (chore_of chore)) ledger.old (reply_of result) ledger.new }
     ensures foreign { session ≢ 0 → (result ≡ Err NoForm) × (ledger.new ≡ ledger.old) × (filters.new ≡ filters.old) }
-    ensures told { IfOk result (λ a. Tells (length filters.old.cached) (shape_in ledger.old) chore (answer_of a)) }
+    ensures told { IfOk result (λ a. TellsChore (length filters.old.cached) (shape_in ledger.old) chore (answer_of a)) }
     ensures refusal { session ≡ 0 → IfErr result (MayRefuse (policy_in ledger.old) (shape_in ledger.old) chore) }
     ensures device { IfErr result (λ e. e ≡ Device → FailsFor chore (shape_in ledger.old).merging (D.can_fail (device_in ledger.old))) }
     ensures counted { IfErr result (λ e. e ≡ Device → CountsOne (D.fault_count (device_in ledger.old)) (D.fault_count (device_in ledger.new))) }

@@ -7,10 +7,10 @@ ghost use Rattle.cat_base.specs.declared.refusal.Refusal.TheVariants.{Device};
 ghost use Rattle.cat_model.specs.Run as run;
 ghost use Rattle.cat_ledger.specs.cat_ledger_state.Cores.{HasRowsLeft};
 ghost use Rattle.cat_ledger.specs.upkeep.News as merges;
-ghost use Rattle.cat_ledger.specs.Answering.{Answers};
+ghost use Rattle.cat_ledger.specs.Answering.{AnswersCommand};
 ghost use Rattle.cat_ledger.specs.Histories.{Event, Goes};
 ghost use Rattle.cat_ledger.specs.Ledgers.{Spares, device_in, policy_in, shape_in};
-ghost use Rattle.cat_protocol.specs.replies.Reply.{news_of, reply_of};
+ghost use Rattle.cat_protocol.specs.replies.Reply.{news_in_reply, reply_of};
 ghost use Rattle.cat_commands.specs.ledger.Chores.{MayRefuseForce, MayRefuseMerge};
 
 use cat_base::Refusal;
@@ -21,7 +21,7 @@ use cat_protocol::replies::{Answer, News};
 
 /// What a step of a merge tells, as it is answered.
 fn news_told(news: MergeNews) -> News
-    ensures { news_of result ≡ merges.news_of news }
+    ensures { news_in_reply result ≡ merges.news_of news }
 {
     match news {
         MergeNews::Idle => News::Idle,
@@ -34,7 +34,7 @@ fn news_told(news: MergeNews) -> News
 
 /// Answers a MERGE of session 0.
 pub(crate) fn merge_step<D: Directory + Shelf>(ledger: &mut Ledger<D>) -> Result<Answer, Refusal>
-    ensures answers { Answers D.bytes 0 (run.Command.chore run.Chore.merge) ledger.old (reply_of result) ledger.new }
+    ensures answers { AnswersCommand D.bytes 0 (run.Command.chore run.Chore.merge) ledger.old (reply_of result) ledger.new }
     ensures refusal { IfErr result (MayRefuseMerge (policy_in ledger.old) (shape_in ledger.old)) }
     ensures device { IfErr result (λ e. e ≡ Device → HasRowsLeft (shape_in ledger.old).merging ⊎ D.can_fail (device_in ledger.old)) }
     ensures crash { Spares D.may_leave ledger.old ledger.new }
@@ -52,7 +52,7 @@ pub(crate) fn merge_step<D: Directory + Shelf>(ledger: &mut Ledger<D>) -> Result
 
 /// Answers a FORCE of session 0.
 pub(crate) fn force<D: Directory + Shelf>(ledger: &mut Ledger<D>) -> Result<Answer, Refusal>
-    ensures answers { Answers D.bytes 0 (run.Command.chore run.Chore.force) ledger.old (reply_of result) ledger.new }
+    ensures answers { AnswersCommand D.bytes 0 (run.Command.chore run.Chore.force) ledger.old (reply_of result) ledger.new }
     ensures refusal { IfErr result (MayRefuseForce (shape_in ledger.old)) }
     ensures device { IfErr result (λ e. e ≡ Device → D.can_fail (device_in ledger.old)) }
     ensures crash { Spares D.may_leave ledger.old ledger.new }

@@ -4,7 +4,7 @@
 ghost use Rattle.std.specs.Prelude.{◌≡◌, IfOk, IfErr, length, map};
 ghost use Rattle.cat_base.specs.declared.refusal.Refusal.TheVariants.{Memory};
 ghost use Rattle.cat_model.specs.Run as run;
-ghost use Rattle.cat_ledger.specs.Answering.{Answers};
+ghost use Rattle.cat_ledger.specs.Answering.{AnswersCommand};
 ghost use Rattle.cat_ledger.specs.Ledgers.{shape_in};
 ghost use Rattle.cat_protocol.specs.replies.Reply.{answer_of, reply_of, stat_of};
 ghost use Rattle.cat_commands.specs.ledger.Chores.{stat_in, stat_told};
@@ -60,7 +60,7 @@ pub(crate) fn tell_stat<D: Directory + Shelf>(
     ledger: &Ledger<D>,
     filters: &Filters,
 ) -> Result<Answer, Refusal>
-    ensures answers { Answers D.bytes 0 (run.Command.chore run.Chore.stat) ledger.now (reply_of result) ledger.now }
+    ensures answers { AnswersCommand D.bytes 0 (run.Command.chore run.Chore.stat) ledger.now (reply_of result) ledger.now }
     ensures told { IfOk result (λ a. answer_of a ≡ run.Answer.news (run.News.state (stat_in (length filters.now.cached) (shape_in ledger.now)))) }
     ensures refusal { IfErr result (λ e. e ≡ Memory) }
 {

@@ -6,11 +6,11 @@ ghost use Rattle.cat_base.specs.declared.refusal.Refusal.TheVariants.{Line as No
 ghost use Rattle.cat_model.specs.Lines.{Said};
 ghost use Rattle.cat_model.specs.Run as run;
 ghost use Rattle.cat_model.specs.View.{segments_of};
-ghost use Rattle.cat_cached_sets.specs.filters.Known.{RemembersOf, RemembersOfBelow};
-ghost use Rattle.cat_cached_sets.specs.filters.Steps.{IsLeft};
+ghost use Rattle.cat_cached_sets.specs.filters.Known.{FiltersRemember, FiltersRememberBelow};
+ghost use Rattle.cat_cached_sets.specs.filters.Steps.{IsLeftByStep};
 ghost use Rattle.cat_ledger.specs.Answering.{AnswersSaid};
 ghost use Rattle.cat_ledger.specs.Ledgers.{shape_in};
-ghost use Rattle.cat_protocol.specs.replies.Reply.{answer_of, news_of, reply_of};
+ghost use Rattle.cat_protocol.specs.replies.Reply.{answer_of, news_in_reply, reply_of};
 ghost use Rattle.cat_commands.specs.ledger.Chores.{IsWarmTold, warm_told};
 
 use cat_base::{Refusal, SessionNo};
@@ -22,7 +22,7 @@ use std::alloc::AllocError;
 
 /// What a step of warming tells, as it is answered.
 fn news_told(news: WarmNews) -> News
-    ensures { news_of result ≡ warm_told news }
+    ensures { news_in_reply result ≡ warm_told news }
 {
     match news {
         WarmNews::Idle => News::Idle,
@@ -50,9 +50,9 @@ pub fn warm<D: Directory + Shelf>(
     ensures answers { AnswersSaid D.bytes session (Said.chore run.Chore.warm) ledger.now (reply_of result) ledger.now }
     ensures foreign { session ≢ 0 → (result ≡ Err NoForm) × (filters.new ≡ filters.old) }
     ensures told { IfOk result (λ a. IsWarmTold (shape_in ledger.now) filters.old filters.new (answer_of a)) }
-    ensures refusal { session ≡ 0 → IfErr result (λ e. (e ≡ Memory) × IsLeft filters.old filters.new) }
-    ensures known { RemembersOf (segments_of (shape_in ledger.now).leaves) filters.old filters.new }
-    ensures below { RemembersOfBelow (segments_of (shape_in ledger.now).leaves) filters.old filters.new }
+    ensures refusal { session ≡ 0 → IfErr result (λ e. (e ≡ Memory) × IsLeftByStep filters.old filters.new) }
+    ensures known { FiltersRemember (segments_of (shape_in ledger.now).leaves) filters.old filters.new }
+    ensures below { FiltersRememberBelow (segments_of (shape_in ledger.now).leaves) filters.old filters.new }
 {
     if session != 0 {
         return Err(Refusal::Line);

@@ -12,7 +12,7 @@ ghost use Rattle.cat_cached_sets.specs.cat_query.View.{query_of};
 ghost use Rattle.cat_model.specs.View.{segments_of};
 ghost use Rattle.cat_cached_sets.specs.filters.Known.{Knows, Remembers, RemembersBelow};
 ghost use Rattle.cat_protocol.specs.cat_facets.Kept.{KnowsIn, RemembersOf, RemembersOfBelow};
-ghost use Rattle.cat_ledger_laws.specs.lines.ReadLaws.{Finds};
+ghost use Rattle.cat_ledger_laws.specs.lines.ReadLaws.{ReadFinds};
 ghost use Rattle.cat_protocol.specs.replies.Reply.{reply_of};
 ghost use Rattle.cat_commands.specs.searches.Reads.{GivesDue, MayTell};
 ghost use Rattle.cat_commands.specs.searches.Uses.{NotesSpelled, Uses, UsesAndNotes, UsesSpelled};
@@ -36,7 +36,7 @@ fn is_facet(kind: Option<Kind>) -> bool
 
 /// Refuses counts as they are refused whatever their query, without memory: [`Refusal::NotFacet`], then [`Refusal::Count`].
 fn judge(view: &View, dimension: &str, count: u64) -> Result<(), Refusal>
-    ensures err { IfErr result (λ e. (q : model.Query) → Finds view.now (Read.facets dimension.now count (Ok q)) (Err e)) }
+    ensures err { IfErr result (λ e. (q : model.Query) → ReadFinds view.now (Read.facets dimension.now count (Ok q)) (Err e)) }
     ensures due { (q : model.Query) → GivesDue view.now (Read.facets dimension.now count (Ok q)) result }
 {
     if !is_facet(kind_of(view.schema().fields(), dimension)) {
@@ -61,8 +61,8 @@ fn counts_of(
 ) -> Result<Facets, Refusal>
     requires cached { All (Knows filters.old) (segments_of view.now.leaves) }
     requires kept { All (KnowsIn states.old) (segments_of view.now.leaves) }
-    ensures ok { IfOk result (λ f. Finds view.now (Read.facets dimension.now count (Ok (query_of query))) (Ok (Found.facets f))) }
-    ensures err { IfErr result (λ e. e ≢ Memory → Finds view.now (Read.facets dimension.now count (Ok (query_of query))) (Err e)) }
+    ensures ok { IfOk result (λ f. ReadFinds view.now (Read.facets dimension.now count (Ok (query_of query))) (Ok (Found.facets f))) }
+    ensures err { IfErr result (λ e. e ≢ Memory → ReadFinds view.now (Read.facets dimension.now count (Ok (query_of query))) (Err e)) }
     ensures due { (q : model.Query) → GivesDue view.now (Read.facets dimension.now count (Ok q)) result }
     ensures noted { OnOk result (UsesAndNotes (query_of query) view.now filters.old filters.new) }
     ensures used { OnErr result (Uses (query_of query) view.now filters.old filters.new) }

@@ -13,7 +13,7 @@ ghost use Rattle.cat_protocol.specs.cat_search.Asks.{read_of};
 ghost use Rattle.cat_protocol.specs.cat_search.Sorts.{sort_of};
 ghost use Rattle.cat_model.specs.View.{segments_of};
 ghost use Rattle.cat_cached_sets.specs.filters.Known.{Knows, Remembers, RemembersBelow};
-ghost use Rattle.cat_ledger_laws.specs.lines.ReadLaws.{Finds};
+ghost use Rattle.cat_ledger_laws.specs.lines.ReadLaws.{ReadFinds};
 ghost use Rattle.cat_protocol.specs.replies.Reply.{reply_of};
 ghost use Rattle.cat_commands.specs.searches.Reads.{GivesDue, MayTell};
 ghost use Rattle.cat_commands.specs.searches.Uses.{NotesSpelled, Uses, UsesAndNotes, UsesSpelled};
@@ -49,7 +49,7 @@ fn can_sort(schema: &Schema, sort: Sort<'_>) -> bool
 /// Refuses a page as it is refused whatever its query, without memory: [`Refusal::Count`], then [`Refusal::SortField`], then
 /// [`Refusal::Mark`].
 fn judge(view: &View, ask: Ask<'_>) -> Result<(), Refusal>
-    ensures err { IfErr result (λ e. (q : model.Query) → Finds view.now (read_of ask.entry q) (Err e)) }
+    ensures err { IfErr result (λ e. (q : model.Query) → ReadFinds view.now (read_of ask.entry q) (Err e)) }
     ensures due { (q : model.Query) → GivesDue view.now (read_of ask.entry q) result }
 {
     if ask.count > MAX_PAGE as u64 {
@@ -74,8 +74,8 @@ fn page_of(
     query: Query,
 ) -> Result<Page, Refusal>
     requires { All (Knows filters.old) (segments_of view.now.leaves) }
-    ensures ok { IfOk result (λ p. Finds view.now (read_of ask.entry (query_of query)) (Ok (Found.page p))) }
-    ensures err { IfErr result (λ e. e ≢ Memory → Finds view.now (read_of ask.entry (query_of query)) (Err e)) }
+    ensures ok { IfOk result (λ p. ReadFinds view.now (read_of ask.entry (query_of query)) (Ok (Found.page p))) }
+    ensures err { IfErr result (λ e. e ≢ Memory → ReadFinds view.now (read_of ask.entry (query_of query)) (Err e)) }
     ensures due { (q : model.Query) → GivesDue view.now (read_of ask.entry q) result }
     ensures noted { OnOk result (UsesAndNotes (query_of query) view.now filters.old filters.new) }
     ensures used { OnErr result (Uses (query_of query) view.now filters.old filters.new) }

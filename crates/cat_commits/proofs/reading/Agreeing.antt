@@ -9,7 +9,7 @@ use Rattle.cat_model.specs.Layout.{SpellsSegment}
 use Rattle.cat_model.specs.LiveFile.{LiveRows, SpellsLive}
 use Rattle.cat_model.specs.View.{Segment, Leaf}
 use Rattle.cat_ledger_laws.specs.model.Opening.{HasSegment, HasLiveFile, IsLeafOf, AreLeavesOf}
-use Rattle.cat_commits.specs.reading.Leaf.{HasLive}
+use Rattle.cat_commits.specs.reading.Leaf.{HasLiveRows}
 use Rattle.cat_ledger_laws.specs.shape.Ties.{ToldFiles, IsTold}
 use Rattle.cat_ledger_laws.specs.shape.OpeningLaws.{MayHold}
 use Rattle.cat_commits.specs.reading.Told.{Tells}
@@ -37,7 +37,7 @@ live_file_agrees law told x a b may tells =
     ap (λ (r : LiveRows). r.live) (law may.bytes (record { number = x.number; generation = x.file; live = b }) (record { number = x.number; generation = x.file; live = a })
     (subst (λ t. SpellsLive t (record { number = x.number; generation = x.file; live = b })) bytes tells.spelled) may.spelled)
 
-pub live_agrees : LiveLaw → (told : ToldFiles) (x : ListedSegment) (rows : ℕ) (a b : List Bool) → HasLive (MayHold told) x rows a → HasLive (Tells told) x rows b → b ≡ a
+pub live_agrees : LiveLaw → (told : ToldFiles) (x : ListedSegment) (rows : ℕ) (a b : List Bool) → HasLiveRows (MayHold told) x rows a → HasLiveRows (Tells told) x rows b → b ≡ a
 live_agrees law told x rows a b = by (x.file == 0)
   where
     by : (c : Bool) → cond c (a ≡ replicate rows true) (HasLiveFile (MayHold told) x a) → cond c (b ≡ replicate rows true) (HasLiveFile (Tells told) x b) → b ≡ a
@@ -47,7 +47,7 @@ live_agrees law told x rows a b = by (x.file == 0)
 leaf_agrees : SegmentsLaw → LiveLaw → (told : ToldFiles) (schema : Schema) (x : ListedSegment) (a b : Leaf) → IsLeafOf (MayHold told) schema x a → IsLeafOf (Tells told) schema x b → b ≡ a
 leaf_agrees segments lives told schema x a b may tells =
     let same : b.segment ≡ a.segment = segment_agrees segments told a.segment b.segment (tells.number ∙ sym may.number) may.segment tells.segment in
-    let live : b.live ≡ a.live = live_agrees lives told x (length a.segment.rows) a.live b.live may.live (subst (λ (s : Segment). HasLive (Tells told) x (length s.rows) b.live) same tells.live) in
+    let live : b.live ≡ a.live = live_agrees lives told x (length a.segment.rows) a.live b.live may.live (subst (λ (s : Segment). HasLiveRows (Tells told) x (length s.rows) b.live) same tells.live) in
     λ i. record { segment = same i; live = live i }
 
 pub leaves_agree : SegmentsLaw → LiveLaw → (told : ToldFiles) (schema : Schema) (xs : List ListedSegment) (ls ms : List Leaf)

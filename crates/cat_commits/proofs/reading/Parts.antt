@@ -18,7 +18,7 @@ use Rattle.cat_model.specs.View.{Segment, Row, Leaf, IsView, live_rows}
 use Rattle.cat_ledger_laws.specs.model.Portions.{Apart}
 use Rattle.cat_ledger_laws.proofs.model.Commits.{AllPairs-from_Apart}
 use Rattle.cat_ledger_laws.specs.model.Opening.{Restored, HasCommit, HasLiveFile, HasSources, IsLeafOf, AreLeavesOf, IsRestored, IsForeign}
-use Rattle.cat_commits.specs.reading.Leaf.{IsReadAs, HasLive}
+use Rattle.cat_commits.specs.reading.Leaf.{IsSegmentReadAs, HasLiveRows}
 use Rattle.cat_commits.specs.reading.Judged.{AreInOrder, Differ, live_ids}
 use Rattle.cat_ledger_laws.specs.shape.Ties.{ToldFiles, IsTold}
 use Rattle.cat_ledger_laws.specs.shape.OpeningLaws.{MayHold}
@@ -32,22 +32,22 @@ as_one old new same = λ i q. same q i
 
 -- ---- a segment
 
-pub told_there : (told : ToldFiles) (schema : Schema) (number : ℕ) (s : Segment) (r : IsReadAs (Tells told) schema number s) → told (file.Segment number) ≡ Some (Some r.segment.bytes)
+pub told_there : (told : ToldFiles) (schema : Schema) (number : ℕ) (s : Segment) (r : IsSegmentReadAs (Tells told) schema number s) → told (file.Segment number) ≡ Some (Some r.segment.bytes)
 told_there told schema number s r = subst (λ (n : ℕ). told (file.Segment n) ≡ Some (Some r.segment.bytes)) r.numbered r.segment.there
 
-pub spells_told : (told : ToldFiles) (schema : Schema) (number : ℕ) (b : Text) (s : Segment) → IsTold (told (file.Segment number)) (Some b) → IsReadAs (Tells told) schema number s → SpellsSegment b s
+pub spells_told : (told : ToldFiles) (schema : Schema) (number : ℕ) (b : Text) (s : Segment) → IsTold (told (file.Segment number)) (Some b) → IsSegmentReadAs (Tells told) schema number s → SpellsSegment b s
 spells_told told schema number b s may r =
     subst (λ (t : Text). SpellsSegment t s) (one_text (told (file.Segment number)) b r.segment.bytes may (told_there told schema number s r)) r.segment.spelled
 
 -- another segment than was asked for
 pub is_other : SegmentsLaw → (told : ToldFiles) (schema : Schema) (number : ℕ) (b : Text) (read s : Segment) → IsTold (told (file.Segment number)) (Some b) → SpellsSegment b read
-    → ((read.number ≡ number) × (read.schema ≡ schema) → ⊥) → IsReadAs (Tells told) schema number s → ⊥
+    → ((read.number ≡ number) × (read.schema ≡ schema) → ⊥) → IsSegmentReadAs (Tells told) schema number s → ⊥
 is_other law told schema number b read s may spelled not r =
     let same : read ≡ s = law b read s spelled (spells_told told schema number b s may r) in
     not (ap (λ (x : Segment). x.number) same ∙ r.numbered, ap (λ (x : Segment). x.schema) same ∙ r.fields)
 
 pub read_as : (told : ToldFiles) (schema : Schema) (number : ℕ) (b : Text) (s : Segment) → IsTold (told (file.Segment number)) (Some b) → SpellsSegment b s → (s.number ≡ number) × (s.schema ≡ schema)
-    → IsReadAs (MayHold told) schema number s
+    → IsSegmentReadAs (MayHold told) schema number s
 read_as told schema number b s may spelled is = record {
   numbered = is.0;
   fields = is.1;
@@ -80,20 +80,20 @@ module _ (told : ToldFiles) (n d : ℕ) (b : Text) (may : IsTold (told (file.Liv
 
 -- ---- which rows are live
 
-pub live_all : (holds : Name → Text → Type 0) (x : ListedSegment) (rows : ℕ) → 0 ≡ x.file → HasLive holds x rows (replicate rows true)
+pub live_all : (holds : Name → Text → Type 0) (x : ListedSegment) (rows : ℕ) → 0 ≡ x.file → HasLiveRows holds x rows (replicate rows true)
 live_all holds x rows e = subst (λ (f : ℕ). cond (f == 0) (replicate rows true ≡ replicate rows true) (HasLiveFile holds (record { number = x.number; file = f }) (replicate rows true))) e refl
 
-pub live_of : (holds : Name → Text → Type 0) (x : ListedSegment) (rows n d : ℕ) (live : List Bool) → n ≡ x.number → d ≡ x.file → 0 < d → HasLiveFile holds (record { number = n; file = d }) live → HasLive holds x rows live
+pub live_of : (holds : Name → Text → Type 0) (x : ListedSegment) (rows n d : ℕ) (live : List Bool) → n ≡ x.number → d ≡ x.file → 0 < d → HasLiveFile holds (record { number = n; file = d }) live → HasLiveRows holds x rows live
 live_of holds x rows n d live e f some h = by (eqb_tells x.file 0)
   where
     own : HasLiveFile holds x live
     own = subst (λ (y : ListedSegment). HasLiveFile holds y live) (λ i. record { number = e i; file = f i }) h
 
-    by : (((x.file == 0) ≡ true) × (x.file ≡ 0)) ⊎ (((x.file == 0) ≡ false) × (x.file ≢ 0)) → HasLive holds x rows live
+    by : (((x.file == 0) ≡ true) × (x.file ≡ 0)) ⊎ (((x.file == 0) ≡ false) × (x.file ≢ 0)) → HasLiveRows holds x rows live
     by (inl k) = absurd (omega (arith, f, some, k.1))
     by (inr k) = subst (λ (c : Bool). cond c (live ≡ replicate rows true) (HasLiveFile holds x live)) (sym k.0) own
 
-pub of_live : (holds : Name → Text → Type 0) (x : ListedSegment) (rows n d : ℕ) (live : List Bool) → n ≡ x.number → d ≡ x.file → 0 < d → HasLive holds x rows live → HasLiveFile holds (record { number = n; file = d }) live
+pub of_live : (holds : Name → Text → Type 0) (x : ListedSegment) (rows n d : ℕ) (live : List Bool) → n ≡ x.number → d ≡ x.file → 0 < d → HasLiveRows holds x rows live → HasLiveFile holds (record { number = n; file = d }) live
 of_live holds x rows n d live e f some h = by (eqb_tells x.file 0)
   where
     by : (((x.file == 0) ≡ true) × (x.file ≡ 0)) ⊎ (((x.file == 0) ≡ false) × (x.file ≢ 0)) → HasLiveFile holds (record { number = n; file = d }) live
@@ -105,32 +105,32 @@ of_live holds x rows n d live e f some h = by (eqb_tells x.file 0)
 -- ---- a leaf
 
 pub leaf_is : (holds : Name → Text → Type 0) (schema : Schema) (x : ListedSegment) (n rows : ℕ) (s : Segment) (live : List Bool) → n ≡ x.number → rows ≡ length s.rows
-    → IsReadAs holds schema n s → HasLive holds x rows live → length live ≡ rows → HasSources holds s → IsLeafOf holds schema x (record { segment = s; live = live })
+    → IsSegmentReadAs holds schema n s → HasLiveRows holds x rows live → length live ≡ rows → HasSources holds s → IsLeafOf holds schema x (record { segment = s; live = live })
 leaf_is holds schema x n rows s live e long r h count sources = record {
   number = r.numbered ∙ e;
   fields = r.fields;
   segment = r.segment;
-  live = subst (λ (k : ℕ). HasLive holds x k live) long h;
+  live = subst (λ (k : ℕ). HasLiveRows holds x k live) long h;
   rows = count ∙ long;
   sources = sources;
 }
 
-pub leaf_read : (holds : Name → Text → Type 0) (schema : Schema) (x : ListedSegment) (n : ℕ) (leaf : Leaf) → n ≡ x.number → IsLeafOf holds schema x leaf → IsReadAs holds schema n leaf.segment
+pub leaf_read : (holds : Name → Text → Type 0) (schema : Schema) (x : ListedSegment) (n : ℕ) (leaf : Leaf) → n ≡ x.number → IsLeafOf holds schema x leaf → IsSegmentReadAs holds schema n leaf.segment
 leaf_read holds schema x n leaf e is = record { numbered = is.number ∙ sym e; fields = is.fields; segment = is.segment }
 
 -- the segment that was read is the leaf's
-pub leaf_segment : SegmentsLaw → (told : ToldFiles) (schema : Schema) (x : ListedSegment) (n : ℕ) (s : Segment) (leaf : Leaf) → n ≡ x.number → IsReadAs (MayHold told) schema n s
+pub leaf_segment : SegmentsLaw → (told : ToldFiles) (schema : Schema) (x : ListedSegment) (n : ℕ) (s : Segment) (leaf : Leaf) → n ≡ x.number → IsSegmentReadAs (MayHold told) schema n s
     → IsLeafOf (Tells told) schema x leaf → leaf.segment ≡ s
 leaf_segment law told schema x n s leaf e r is = segment_agrees law told s leaf.segment (is.number ∙ sym e ∙ sym r.numbered) r.segment is.segment
 
 module _ (law : SegmentsLaw) (told now : ToldFiles) (schema : Schema) (x : ListedSegment) (n : ℕ) (s : Segment) (leaf : Leaf) (e : n ≡ x.number) (same : now ≡ told)
-    (r : IsReadAs (MayHold told) schema n s) (is : IsLeafOf (Tells told) schema x leaf) where
+    (r : IsSegmentReadAs (MayHold told) schema n s) (is : IsLeafOf (Tells told) schema x leaf) where
   -- the live rows are refused that the leaf has
-  pub live_refuted : (rows : ℕ) → rows ≡ length s.rows → ((live : List Bool) → HasLive (Tells now) x rows live → length live ≡ rows → ⊥) → ⊥
+  pub live_refuted : (rows : ℕ) → rows ≡ length s.rows → ((live : List Bool) → HasLiveRows (Tells now) x rows live → length live ≡ rows → ⊥) → ⊥
   live_refuted rows long refuted =
       let seg : leaf.segment ≡ s = leaf_segment law told schema x n s leaf e r is in
       let count : length leaf.segment.rows ≡ rows = ap (λ (t : Segment). length t.rows) seg ∙ sym long in
-      refuted leaf.live (subst (λ (t : ToldFiles). HasLive (Tells t) x rows leaf.live) (sym same) (subst (λ (k : ℕ). HasLive (Tells told) x k leaf.live) count is.live)) (is.rows ∙ count)
+      refuted leaf.live (subst (λ (t : ToldFiles). HasLiveRows (Tells t) x rows leaf.live) (sym same) (subst (λ (k : ℕ). HasLiveRows (Tells told) x k leaf.live) count is.live)) (is.rows ∙ count)
 
   -- or its sources
   pub sources_refuted : (HasSources (Tells now) s → ⊥) → ⊥
@@ -138,10 +138,10 @@ module _ (law : SegmentsLaw) (told now : ToldFiles) (schema : Schema) (x : Liste
       refuted (subst (λ (t : ToldFiles). HasSources (Tells t) s) (sym same) (subst (λ (t : Segment). HasSources (Tells told) t) (leaf_segment law told schema x n s leaf e r is) is.sources))
 
 pub parts_are : (told now then : ToldFiles) (schema : Schema) (x : ListedSegment) (n rows : ℕ) (s : Segment) (live : List Bool) → n ≡ x.number → now ≡ told → then ≡ told → rows ≡ length s.rows
-    → IsReadAs (MayHold told) schema n s → HasLive (MayHold now) x rows live → length live ≡ rows → HasSources (MayHold then) s
+    → IsSegmentReadAs (MayHold told) schema n s → HasLiveRows (MayHold now) x rows live → length live ≡ rows → HasSources (MayHold then) s
     → IsLeafOf (MayHold told) schema x (record { segment = s; live = live })
 parts_are told now then schema x n rows s live e same again long r h count sources =
-    leaf_is (MayHold told) schema x n rows s live e long r (subst (λ (t : ToldFiles). HasLive (MayHold t) x rows live) same h) count (subst (λ (t : ToldFiles). HasSources (MayHold t) s) again sources)
+    leaf_is (MayHold told) schema x n rows s live e long r (subst (λ (t : ToldFiles). HasLiveRows (MayHold t) x rows live) same h) count (subst (λ (t : ToldFiles). HasSources (MayHold t) s) again sources)
 
 -- ---- leaves
 

@@ -15,7 +15,7 @@ use Rattle.cat_model.proofs.Lists.{list_any-append}
 use Rattle.cat_model.proofs.Places.{EachPair, each_pair, all_pairs}
 use Rattle.cat_directory.specs.declared.name.FileName.{FileName}
 use Rattle.cat_directory.specs.declared.name.FileName.TheVariants as file
-use Rattle.cat_directory.specs.Devices.{Told, told_after, written}
+use Rattle.cat_directory.specs.Devices.{Told, told_after, file_written}
 use Rattle.cat_directory.specs.Names.{name_of}
 use Rattle.cat_ledger_laws.specs.model.Users.{has_name, same_file_name}
 use Rattle.cat_ledger_laws.specs.shape.Shapes.{ListedLive}
@@ -242,7 +242,7 @@ module _ (d : Drafted) (own : NewBytes) (files : List NewBytes) (names : List Na
 
 -- ---- what is told of them
 
-told_written : (bytes : Text) (t t' : Told) → t' ≡ told_after (written bytes) t → IsTold t' (Some bytes)
+told_written : (bytes : Text) (t t' : Told) → t' ≡ told_after (file_written bytes) t → IsTold t' (Some bytes)
 told_written bytes None t' e = subst (λ u. IsTold u (Some bytes)) (sym e) tt
 told_written bytes (Some content) t' e = subst (λ u. IsTold u (Some bytes)) (sym e) refl
 

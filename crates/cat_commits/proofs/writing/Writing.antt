@@ -6,14 +6,14 @@ use Rattle.std.proofs.lemmas.Bool.{both_ways}
 use Rattle.std.proofs.lemmas.List.{get_or_default}
 use Rattle.cat_model.specs.Files.{Name}
 use Rattle.cat_directory.specs.declared.name.FileName.{FileName}
-use Rattle.cat_directory.specs.Devices.{Told, told_after, written, NoMore, IsSettled}
+use Rattle.cat_directory.specs.Devices.{Told, told_after, file_written, NoMore, IsSettled}
 use Rattle.cat_directory.specs.Names.{name_of}
 use Rattle.cat_ledger_laws.specs.model.Users.{has_name, same_file_name}
 use Rattle.cat_ledger_laws.proofs.model.Counted.{same_name_is}
 use Rattle.cat_ledger_laws.specs.shape.Ties.{ToldFiles, TouchesOnly}
 use Rattle.cat_ledger_laws.proofs.shape.Told.{same_again, file_of_name}
 use Rattle.cat_ledger_laws.specs.shape.Ties.{file_of}
-use Rattle.cat_commits.specs.writing.NewFiles.{NewBytes, names_of, IsWritten, MayLeave, NoMoreBut, AreSettled, ComesLast}
+use Rattle.cat_commits.specs.writing.NewFiles.{NewBytes, names_of, IsWritten, CrashLeaves, NoMoreBut, AreSettled, ComesLast}
 
 -- ---- refusals
 
@@ -118,7 +118,7 @@ progress_more files i f a b c apart lt is p here others = record {
     earlier j d before = others (get_or files j d).name (λ e. apart j i d before lt (e ∙ sym (ap (λ (x : NewBytes). x.name) (same_at d)))) ∙ p.done j d before
 
     own : IsWritten a c f
-    own = here ∙ ap (told_after (written f.bytes)) (subst (λ (x : NewBytes). b x.name ≡ a x.name) (sym is) (p.left i f (omega arith) lt))
+    own = here ∙ ap (told_after (file_written f.bytes)) (subst (λ (x : NewBytes). b x.name ≡ a x.name) (sym is) (p.left i f (omega arith) lt))
 
     last : (d : NewBytes) → IsWritten a c (get_or files i d)
     last d = subst (IsWritten a c) (sym (same_at d)) own
@@ -128,7 +128,7 @@ pub others_more : (files : List NewBytes) (i : ℕ) (f : NewBytes) (a b c : Told
     → ((q : FileName) → q ≢ f.name → c q ≡ b q) → TouchesOnly (names_of files) a c
 others_more files i f a b c lt is before others q not = others q (other_name files i f q lt is not) ∙ before q not
 
-pub crash_more : (files : List NewBytes) (i : ℕ) (f : NewBytes) (a b c : MayLeave) → i < length files → f ≡ get_or files i f → NoMoreBut (names_of files) a b
+pub crash_more : (files : List NewBytes) (i : ℕ) (f : NewBytes) (a b c : CrashLeaves) → i < length files → f ≡ get_or files i f → NoMoreBut (names_of files) a b
     → ((q : FileName) → q ≢ f.name → NoMore (b q) (c q)) → NoMoreBut (names_of files) a c
 crash_more files i f a b c lt is before others q not e left = before q not e (others q (other_name files i f q lt is not) e left)
 
@@ -137,11 +137,11 @@ crash_more files i f a b c lt is before others q not e left = before q not e (ot
 pub same_written : (files : List NewBytes) (a b c : ToldFiles) → ((q : FileName) → c q ≡ b q) → All (IsWritten a b) files → All (IsWritten a c) files
 same_written files a b c same all k d lt = same (get_or files k d).name ∙ all k d lt
 
-pub settled : (names : List FileName) (b c : ToldFiles) (left : MayLeave) → ((q : FileName) → c q ≡ b q) → ((q : FileName) → Contains names q → IsSettled (b q) (left q))
+pub settled : (names : List FileName) (b c : ToldFiles) (left : CrashLeaves) → ((q : FileName) → c q ≡ b q) → ((q : FileName) → Contains names q → IsSettled (b q) (left q))
     → AreSettled (map name_of names) c left
 settled names b c left same durable q has now e told leaves = durable q (contained names q has) now e (sym (same q) ∙ told) leaves
 
-not_absent : (bytes : List ℕ) (t : Told) → told_after (written bytes) t ≡ Some None → ⊥
+not_absent : (bytes : List ℕ) (t : Told) → told_after (file_written bytes) t ≡ Some None → ⊥
 not_absent bytes None e = let no : None ≡ Some None = e in cc
 not_absent bytes (Some content) e = let no : Some (Some bytes) ≡ Some None = e in cc
 
@@ -183,7 +183,7 @@ others_with files f a b c before others q not =
     let k = neither (same_file_name (name_of q) (name_of f.name)) (has_name (name_of q) (names_of files)) not in
     others q (other_than q f.name k.0) ∙ before q k.1
 
-pub crash_with : (files : List NewBytes) (f : NewBytes) (a b c : MayLeave) → NoMoreBut (names_of files) a b → ((q : FileName) → q ≢ f.name → NoMore (b q) (c q)) → NoMoreBut (names_of (f ∷ files)) a c
+pub crash_with : (files : List NewBytes) (f : NewBytes) (a b c : CrashLeaves) → NoMoreBut (names_of files) a b → ((q : FileName) → q ≢ f.name → NoMore (b q) (c q)) → NoMoreBut (names_of (f ∷ files)) a c
 crash_with files f a b c before others q not e left =
     let k = neither (same_file_name (name_of q) (name_of f.name)) (has_name (name_of q) (names_of files)) not in
     before q k.1 e (others q (other_than q f.name k.0) e left)
@@ -191,7 +191,7 @@ crash_with files f a b c before others q not e left =
 pub others_wider : (files : List NewBytes) (f : NewBytes) (a b : ToldFiles) → TouchesOnly (names_of files) a b → TouchesOnly (names_of (f ∷ files)) a b
 others_wider files f a b before = others_with files f a b b before (λ q not. refl)
 
-pub crash_wider : (files : List NewBytes) (f : NewBytes) (a b : MayLeave) → NoMoreBut (names_of files) a b → NoMoreBut (names_of (f ∷ files)) a b
+pub crash_wider : (files : List NewBytes) (f : NewBytes) (a b : CrashLeaves) → NoMoreBut (names_of files) a b → NoMoreBut (names_of (f ∷ files)) a b
 crash_wider files f a b before = crash_with files f a b b before (λ q not e left. left)
 
 pub still_written : (files : List NewBytes) (last : FileName) (a b c : ToldFiles) → has_name (name_of last) (names_of files) ≡ false → ((q : FileName) → q ≢ last → c q ≡ b q)
@@ -199,21 +199,21 @@ pub still_written : (files : List NewBytes) (last : FileName) (a b c : ToldFiles
 still_written files last a b c not others all k d lt = others (get_or files k d).name (apart_from last (names_of files) (get_or files k d).name not (named_there files k d lt)) ∙ all k d lt
 
 pub last_written : (files : List NewBytes) (f : NewBytes) (a b c : ToldFiles) → has_name (name_of f.name) (names_of files) ≡ false → TouchesOnly (names_of files) a b → IsWritten b c f → IsWritten a c f
-last_written files f a b c not before here = here ∙ ap (told_after (written f.bytes)) (before f.name not)
+last_written files f a b c not before here = here ∙ ap (told_after (file_written f.bytes)) (before f.name not)
 
 -- what was settled stays so
-pub still_settled : (names : List Name) (last : FileName) (b c : ToldFiles) (l m : MayLeave) → has_name (name_of last) names ≡ false → ((q : FileName) → q ≢ last → c q ≡ b q)
+pub still_settled : (names : List Name) (last : FileName) (b c : ToldFiles) (l m : CrashLeaves) → has_name (name_of last) names ≡ false → ((q : FileName) → q ≢ last → c q ≡ b q)
     → ((q : FileName) → q ≢ last → NoMore (l q) (m q)) → AreSettled names b l → AreSettled names c m
 still_settled names last b c l m not others crash all q has now e told left =
     let other : q ≢ last = apart_from last names q not has in
     all q has now e (sym (others q other) ∙ told) (crash q other e left)
 
-pub last_settled : (names : List Name) (last : FileName) (c : ToldFiles) (m : MayLeave) → AreSettled names c m → IsSettled (c last) (m last) → AreSettled (name_of last ∷ names) c m
+pub last_settled : (names : List Name) (last : FileName) (c : ToldFiles) (m : CrashLeaves) → AreSettled names c m → IsSettled (c last) (m last) → AreSettled (name_of last ∷ names) c m
 last_settled names last c m all own q has = elim (or_either (same_file_name (name_of q) (name_of last)) (has_name (name_of q) names) has) [
   | inl h ↦ subst (λ n. IsSettled (c n) (m n)) (sym (same_file q last h)) own
   | inr h ↦ all q h
 ]
 
-pub untouched : (files : List NewBytes) (last : FileName) (names : List Name) (a b : ToldFiles) (l m : MayLeave) → has_name (name_of last) (names_of files) ≡ false → TouchesOnly (names_of files) a b
+pub untouched : (files : List NewBytes) (last : FileName) (names : List Name) (a b : ToldFiles) (l m : CrashLeaves) → has_name (name_of last) (names_of files) ≡ false → TouchesOnly (names_of files) a b
     → NoMoreBut (names_of files) l m → ComesLast last names a b l m
 untouched files last names a b l m not others crash = inl (record { told_same = others last not; left_same = crash last not })

@@ -8,7 +8,7 @@ use Rattle.cat_model.specs.View.{Leaf}
 use Rattle.cat_ledger_laws.specs.model.Users.{has_name}
 use Rattle.cat_directory.specs.declared.name.FileName.TheVariants as file
 use Rattle.cat_ledger_laws.specs.shape.Shapes.{ListedLive, Shape}
-use Rattle.cat_ledger_laws.specs.shape.Steps.{listed_now, commit_now}
+use Rattle.cat_ledger_laws.specs.shape.Steps.{listed_now, commit_file_now}
 use Rattle.cat_ledger_laws.specs.shape.Ties.{ToldFiles, TouchesOnly, TellsBytes}
 use Rattle.cat_ledger_laws.specs.shape.CommitLaws.{WritesCommit, names_begun}
 use Rattle.cat_commits.specs.declared.writing.heading.Heading.{Heading}
@@ -18,7 +18,7 @@ use Rattle.cat_commits.specs.writing.Drafts.{drafted, HasNewFile}
 -- What is told once a draft of the commit of now is written is what a commit writes.
 abbrev pub DraftsWriteCommits : Type 0
 DraftsWriteCommits = (text : Text) (s : Shape) (told told' : ToldFiles) → TouchesOnly (names_begun s) told told'
-    → TellsBytes told' (file.Commit s.next_generation) (λ bytes. SpellsCommit bytes (commit_now text s))
+    → TellsBytes told' (file.Commit s.next_generation) (λ bytes. SpellsCommit bytes (commit_file_now text s))
     → AllByRecursion (HasNewFile told' s.next_generation) (listed_now s)
     → WritesCommit text s told told'
 

@@ -3,7 +3,7 @@ use Rattle.std.specs.Prelude.{◌≡◌, ◌⊎◌, true, false, List, map}
 use Rattle.cat_model.specs.Text.{Text}
 use Rattle.cat_model.specs.Files.{Name}
 use Rattle.cat_directory.specs.declared.name.FileName.{FileName}
-use Rattle.cat_directory.specs.Devices.{FileContent, NoMore, IsSettled, told_after, written}
+use Rattle.cat_directory.specs.Devices.{FileContent, NoMore, IsSettled, told_after, file_written}
 use Rattle.cat_directory.specs.Names.{name_of}
 use Rattle.cat_ledger_laws.specs.model.Users.{has_name}
 use Rattle.cat_ledger_laws.specs.shape.Ties.{ToldFiles}
@@ -19,25 +19,25 @@ names_of files = map (λ (f : NewBytes). name_of f.name) files
 
 -- the file is told with its bytes, where any is told of it
 abbrev pub IsWritten : ToldFiles → ToldFiles → NewBytes → Type 0
-IsWritten told told' f = told' f.name ≡ told_after (written f.bytes) (told f.name)
+IsWritten told told' f = told' f.name ≡ told_after (file_written f.bytes) (told f.name)
 
 -- what a crash may leave of files
-abbrev pub MayLeave : Type 1
-MayLeave = FileName → FileContent → Type 0
+abbrev pub CrashLeaves : Type 1
+CrashLeaves = FileName → FileContent → Type 0
 
 -- a crash may leave no more of any file but those of these names
-abbrev pub NoMoreBut : List Name → MayLeave → MayLeave → Type 0
+abbrev pub NoMoreBut : List Name → CrashLeaves → CrashLeaves → Type 0
 NoMoreBut names left left' = (q : FileName) → has_name (name_of q) names ≡ false → NoMore (left q) (left' q)
 
 -- the files of these names would outlast a loss of power
-abbrev pub AreSettled : List Name → ToldFiles → MayLeave → Type 0
+abbrev pub AreSettled : List Name → ToldFiles → CrashLeaves → Type 0
 AreSettled names told left = (q : FileName) → has_name (name_of q) names ≡ true → IsSettled (told q) (left q)
 
 -- the file is told as it was, and a crash may leave no more of it
-pub record IsUntouched (q : FileName) (told told' : ToldFiles) (left left' : MayLeave) : Type 0 where
+pub record IsUntouched (q : FileName) (told told' : ToldFiles) (left left' : CrashLeaves) : Type 0 where
   pub told_same : told' q ≡ told q
   pub left_same : NoMore (left q) (left' q)
 
 -- the file is untouched until those of these names would outlast a loss of power
-abbrev pub ComesLast : FileName → List Name → ToldFiles → ToldFiles → MayLeave → MayLeave → Type 0
+abbrev pub ComesLast : FileName → List Name → ToldFiles → ToldFiles → CrashLeaves → CrashLeaves → Type 0
 ComesLast q names told told' left left' = IsUntouched q told told' left left' ⊎ AreSettled names told' left'

@@ -4,7 +4,7 @@ ghost use Rattle.cat_base.specs.declared.refusal.Refusal.TheVariants.{Device, Da
 ghost use Rattle.cat_directory.specs.Devices.{CountsReading, NoMore};
 ghost use Rattle.cat_model.specs.View as model;
 ghost use Rattle.cat_ledger_laws.specs.model.Opening.{HasSources, HasLiveFile, IsLeafOf};
-ghost use Rattle.cat_commits.specs.reading.Leaf.{IsReadAs, HasLive};
+ghost use Rattle.cat_commits.specs.reading.Leaf.{IsSegmentReadAs, HasLiveRows};
 ghost use Rattle.cat_ledger_laws.specs.shape.OpeningLaws.{MayHold};
 ghost use Rattle.cat_commits.specs.reading.Told.{Tells};
 
@@ -42,8 +42,8 @@ fn read_segment<S: Shelf>(
     schema: &Schema,
     number: SegNo,
 ) -> Result<Segment, Refusal>
-    ensures ok { IfOk result (IsReadAs (MayHold (S.bytes shelf.old)) schema.now number) }
-    ensures damaged { IfErr result (λ e. e ≡ Damaged → (s : model.Segment) → IsReadAs (Tells (S.bytes shelf.old)) schema.now number s → ⊥) }
+    ensures ok { IfOk result (IsSegmentReadAs (MayHold (S.bytes shelf.old)) schema.now number) }
+    ensures damaged { IfErr result (λ e. e ≡ Damaged → (s : model.Segment) → IsSegmentReadAs (Tells (S.bytes shelf.old)) schema.now number s → ⊥) }
     ensures device { IfErr result (λ e. e ≡ Device → S.can_fail shelf.old) }
     ensures same { (q : FileName) → S.bytes shelf.new q ≡ S.bytes shelf.old q }
     ensures crash { (q : FileName) → NoMore (S.may_leave shelf.old q) (S.may_leave shelf.new q) }
@@ -102,9 +102,9 @@ fn read_live<S: Shelf>(
     rows: usize,
 ) -> Result<Live, Refusal>
     requires { rows < 2 ^ 32 }
-    ensures ok { IfOk result (λ live. HasLive (MayHold (S.bytes shelf.old)) listed rows live × (length live ≡ rows)) }
+    ensures ok { IfOk result (λ live. HasLiveRows (MayHold (S.bytes shelf.old)) listed rows live × (length live ≡ rows)) }
     ensures damaged { IfErr result (λ e. e ≡ Damaged → (live : List Bool)
-        → HasLive (Tells (S.bytes shelf.old)) listed rows live → length live ≡ rows → ⊥) }
+        → HasLiveRows (Tells (S.bytes shelf.old)) listed rows live → length live ≡ rows → ⊥) }
     ensures device { IfErr result (λ e. e ≡ Device → S.can_fail shelf.old) }
     ensures same { (q : FileName) → S.bytes shelf.new q ≡ S.bytes shelf.old q }
     ensures crash { (q : FileName) → NoMore (S.may_leave shelf.old q) (S.may_leave shelf.new q) }

@@ -16,7 +16,7 @@ use Rattle.cat_model.specs.Forms.{IsWord, IsKeyword, IsLabel, IsSourceLength}
 use Rattle.cat_model.specs.Layout.{WordPostings, Head, kind_byte, spelled_field, spelled_fields, spelled_head, spelled_list, spelled_postings, spelled_number, IsHead, FitU32, IsWordPostings}
 use Rattle.cat_base.specs.declared.refusal.Refusal.{Refusal}
 use Rattle.cat_base.specs.declared.refusal.Refusal.TheVariants.{Damaged}
-use Rattle.cat_items.specs.file_parts.Reading.{Reader, Fails, ◌>>=◌, byte_at, u32_at, u64_at, where_at, counted_at, text_at}
+use Rattle.cat_items.specs.file_parts.Reading.{Reader, Fails, ◌>>=◌, byte_at, u32_at, u64_at, where_at, counted_at, tested_text_at}
 use Rattle.cat_items.specs.file_parts.Layouts.{is_word, is_keyword, is_label, is_schema, is_write_number, is_source_length, kind_at, field_at, fields_at, head_at, list_at, posted_at, cell_at}
 use Rattle.cat_items.proofs.file_parts.Numbers.{Reads, bind_some, bind_at, both_true, at_some, then, reads_u32, reads_u64}
 use Rattle.cat_items.proofs.file_parts.Readers.{reads_where, reads_as, reads_text, both_sound, both_complete, reads_counted}
@@ -80,16 +80,16 @@ reads_kind = record { sound = kind_sound; complete = kind_complete }
 abbrev IsText : Text → Type 0
 IsText t = (length t < 2 ^ 32) × (is_utf8 t ≡ true)
 
-any_text : Reads (text_at (λ t. true)) spelled_bytes IsText
-any_text = reads_as (text_at (λ t. true)) spelled_bytes (λ t. IsText t × (true ≡ true)) IsText (λ t h. h.0) (λ t h. (h, refl)) (reads_text (λ t. true))
+any_text : Reads (tested_text_at (λ t. true)) spelled_bytes IsText
+any_text = reads_as (tested_text_at (λ t. true)) spelled_bytes (λ t. IsText t × (true ≡ true)) IsText (λ t h. h.0) (λ t h. (h, refl)) (reads_text (λ t. true))
 
 reads_field : Reads field_at spelled_field (λ f. IsText f.name)
 unfolding field_at
 reads_field = record {
   sound = λ bytes x e.
-      let b = both_sound (text_at (λ t. true)) (λ name. kind_at) (λ name kind. record { name = name; kind = kind }) spelled_bytes (λ k. kind_byte k ∷ []) IsText (λ name kind. Unit {0}) any_text (λ name. reads_kind) bytes x e in
+      let b = both_sound (tested_text_at (λ t. true)) (λ name. kind_at) (λ name kind. record { name = name; kind = kind }) spelled_bytes (λ k. kind_byte k ∷ []) IsText (λ name kind. Unit {0}) any_text (λ name. reads_kind) bytes x e in
       subst (λ (f : Field). (bytes ≡ spelled_field f ++ x.1) × IsText f.name) b.made (b.spelled, b.holds);
-  complete = λ f rest h. both_complete (text_at (λ t. true)) (λ name. kind_at) (λ name kind. record { name = name; kind = kind }) spelled_bytes (λ k. kind_byte k ∷ []) IsText (λ name kind. Unit {0}) any_text (λ name. reads_kind) f.name f.kind rest h tt;
+  complete = λ f rest h. both_complete (tested_text_at (λ t. true)) (λ name. kind_at) (λ name kind. record { name = name; kind = kind }) spelled_bytes (λ k. kind_byte k ∷ []) IsText (λ name kind. Unit {0}) any_text (λ name. reads_kind) f.name f.kind rest h tt;
 }
 
 -- the names of a schema are texts
@@ -111,8 +111,8 @@ reads_fields =
 reads_number : Reads (where_at is_write_number u64_at) spelled_u64 (λ n. (n < 2 ^ 64) × (is_write_number n ≡ true))
 reads_number = reads_where is_write_number u64_at spelled_u64 (λ n. n < 2 ^ 64) reads_u64
 
-reads_id : Reads (text_at is_id) spelled_bytes (λ t. is_id t ≡ true)
-reads_id = reads_as (text_at is_id) spelled_bytes (λ t. IsText t × (is_id t ≡ true)) (λ t. is_id t ≡ true) (λ t h. h.1) (λ t h. ((id_is_short t h, id_is_utf8 t h), h)) (reads_text is_id)
+reads_id : Reads (tested_text_at is_id) spelled_bytes (λ t. is_id t ≡ true)
+reads_id = reads_as (tested_text_at is_id) spelled_bytes (λ t. IsText t × (is_id t ≡ true)) (λ t. is_id t ≡ true) (λ t h. h.1) (λ t h. ((id_is_short t h, id_is_utf8 t h), h)) (reads_text is_id)
 
 reads_length : Reads (where_at is_source_length u32_at) spelled_u32 IsSourceLength
 reads_length = reads_as (where_at is_source_length u32_at) spelled_u32 (λ n. (n < 2 ^ 32) × (is_source_length n ≡ true)) IsSourceLength
@@ -123,8 +123,8 @@ reads_length = reads_as (where_at is_source_length u32_at) spelled_u32 (λ n. (n
 head_sound : (bytes : List ℕ) (x : Head × List ℕ) → head_at bytes ≡ Some x → (bytes ≡ spelled_head x.0 ++ x.1) × IsHead x.0
 unfolding head_at
 head_sound bytes x e =
-    let a = bind_some (where_at is_write_number u64_at bytes) (λ number. text_at is_id number.1 >>= λ id. where_at is_source_length u32_at id.1 >>= λ long. Some (record { number = number.0; id = id.0; length = long.0 }, long.1)) x e in
-    let b = bind_some (text_at is_id a.0.1) (λ id. where_at is_source_length u32_at id.1 >>= λ long. Some (record { number = a.0.0; id = id.0; length = long.0 }, long.1)) x a.2 in
+    let a = bind_some (where_at is_write_number u64_at bytes) (λ number. tested_text_at is_id number.1 >>= λ id. where_at is_source_length u32_at id.1 >>= λ long. Some (record { number = number.0; id = id.0; length = long.0 }, long.1)) x e in
+    let b = bind_some (tested_text_at is_id a.0.1) (λ id. where_at is_source_length u32_at id.1 >>= λ long. Some (record { number = a.0.0; id = id.0; length = long.0 }, long.1)) x a.2 in
     let c = bind_some (where_at is_source_length u32_at b.0.1) (λ long. Some (record { number = a.0.0; id = b.0.0; length = long.0 }, long.1)) x b.2 in
     let t0 = reads_number.sound bytes a.0 a.1 in
     let t1 = reads_id.sound a.0.1 b.0 b.1 in
@@ -142,7 +142,7 @@ head_complete h rest is =
     let regrouped : spelled_head h ++ rest ≡ spelled_u64 h.number ++ (spelled_bytes h.id ++ (spelled_u32 h.length ++ rest)) = append_assoc (spelled_u64 h.number) (spelled_bytes h.id ++ spelled_u32 h.length) rest ∙ ap (λ (x : List ℕ). spelled_u64 h.number ++ x) (append_assoc (spelled_bytes h.id) (spelled_u32 h.length) rest) in
     ap head_at regrouped
     ∙ bind_at (where_at is_write_number u64_at (spelled_u64 h.number ++ (spelled_bytes h.id ++ (spelled_u32 h.length ++ rest)))) _ _ (reads_number.complete h.number (spelled_bytes h.id ++ (spelled_u32 h.length ++ rest)) (is.fits, le-leb _ _ is.positive))
-    ∙ bind_at (text_at is_id (spelled_bytes h.id ++ (spelled_u32 h.length ++ rest))) _ _ (reads_id.complete h.id (spelled_u32 h.length ++ rest) is.id)
+    ∙ bind_at (tested_text_at is_id (spelled_bytes h.id ++ (spelled_u32 h.length ++ rest))) _ _ (reads_id.complete h.id (spelled_u32 h.length ++ rest) is.id)
     ∙ bind_at (where_at is_source_length u32_at (spelled_u32 h.length ++ rest)) _ _ (reads_length.complete h.length rest is.source)
 
 pub reads_head : Reads head_at spelled_head IsHead
@@ -154,28 +154,28 @@ pub reads_list : Reads list_at spelled_list FitU32
 unfolding list_at
 reads_list = renamed (counted_at u32_at) list_at spelled_list FitU32 (λ bytes. refl) (reads_counted u32_at spelled_u32 (λ n. n < 2 ^ 32) reads_u32)
 
-reads_word : Reads (text_at is_word) spelled_bytes IsWord
-reads_word = reads_as (text_at is_word) spelled_bytes (λ t. IsText t × (is_word t ≡ true)) IsWord
+reads_word : Reads (tested_text_at is_word) spelled_bytes IsWord
+reads_word = reads_as (tested_text_at is_word) spelled_bytes (λ t. IsText t × (is_word t ≡ true)) IsWord
     (λ t h. word_from t (IsUtf8-from_is_utf8 t h.0.1) h.1) (λ t w. ((w.short, is_utf8-from_IsUtf8 t w.utf8), word_to t w)) (reads_text is_word)
 
 keyword_is_text : (t : Text) → IsKeyword t → IsText t
 keyword_is_text t k = (let short : length t ≤ 128 = k.short in omega arith, is_utf8-from_IsUtf8 t k.utf8)
 
-pub reads_keyword : Reads (text_at is_keyword) spelled_bytes IsKeyword
-reads_keyword = reads_as (text_at is_keyword) spelled_bytes (λ t. IsText t × (is_keyword t ≡ true)) IsKeyword
+pub reads_keyword : Reads (tested_text_at is_keyword) spelled_bytes IsKeyword
+reads_keyword = reads_as (tested_text_at is_keyword) spelled_bytes (λ t. IsText t × (is_keyword t ≡ true)) IsKeyword
     (λ t h. keyword_from t (IsUtf8-from_is_utf8 t h.0.1) h.1) (λ t k. (keyword_is_text t k, keyword_to t k)) (reads_text is_keyword)
 
-pub reads_label : Reads (text_at is_label) spelled_bytes IsLabel
-reads_label = reads_as (text_at is_label) spelled_bytes (λ t. IsText t × (is_label t ≡ true)) IsLabel
+pub reads_label : Reads (tested_text_at is_label) spelled_bytes IsLabel
+reads_label = reads_as (tested_text_at is_label) spelled_bytes (λ t. IsText t × (is_label t ≡ true)) IsLabel
     (λ t h. label_from t (IsUtf8-from_is_utf8 t h.0.1) h.1) (λ t l. (keyword_is_text t l.keyword, label_to t l)) (reads_text is_label)
 
 pub reads_posted : Reads posted_at spelled_postings IsWordPostings
 unfolding posted_at
 reads_posted = record {
   sound = λ bytes x e.
-      let b = both_sound (text_at is_word) (λ word. list_at) (λ word rows. record { word = word; rows = rows }) spelled_bytes spelled_list IsWord (λ word rows. FitU32 rows) reads_word (λ word. reads_list) bytes x e in
+      let b = both_sound (tested_text_at is_word) (λ word. list_at) (λ word rows. record { word = word; rows = rows }) spelled_bytes spelled_list IsWord (λ word rows. FitU32 rows) reads_word (λ word. reads_list) bytes x e in
       subst (λ (p : WordPostings). (bytes ≡ spelled_postings p ++ x.1) × IsWordPostings p) b.made (b.spelled, record { word = b.holds; rows = b.both });
-  complete = λ p rest h. both_complete (text_at is_word) (λ word. list_at) (λ word rows. record { word = word; rows = rows }) spelled_bytes spelled_list IsWord (λ word rows. FitU32 rows) reads_word (λ word. reads_list) p.word p.rows rest h.word h.rows;
+  complete = λ p rest h. both_complete (tested_text_at is_word) (λ word. list_at) (λ word rows. record { word = word; rows = rows }) spelled_bytes spelled_list IsWord (λ word rows. FitU32 rows) reads_word (λ word. reads_list) p.word p.rows rest h.word h.rows;
 }
 
 -- ---- numbers of rows

@@ -4,7 +4,7 @@ use Rattle.std.proofs.lemmas.List.{take-append-le, drop-append-le}
 use Rattle.std.proofs.Math.Seq.{drop-append_seam, take-length}
 use Rattle.cat_model.specs.Text.{Text}
 use Rattle.cat_model.specs.Layout.{WordPostings, Head, AreEnds, pieces, paired_postings}
-use Rattle.cat_items.specs.file_parts.Reading.{◌>>=◌, u32_at, many_at, both_at, text_at, with_front}
+use Rattle.cat_items.specs.file_parts.Reading.{◌>>=◌, u32_at, many_at, both_at, tested_text_at, with_front}
 use Rattle.cat_items.specs.file_parts.Layouts.{is_word, list_at, posted_at}
 use Rattle.cat_items.specs.file_parts.Parts.{heads_in}
 use Rattle.cat_items.proofs.file_parts.Numbers.{some_is}
@@ -98,14 +98,14 @@ pub list_not : (front : List ℕ) (old : List ℕ) → u32_at old ≡ None → w
 unfolding list_at both_at
 list_not front old e = rw e refl
 
-pub posted_here : (old mid after : List ℕ) (w : Text) (rows : List ℕ) → text_at is_word old ≡ Some (w, mid) → list_at mid ≡ Some (rows, after) → posted_at old ≡ Some (record { word = w; rows = rows }, after)
+pub posted_here : (old mid after : List ℕ) (w : Text) (rows : List ℕ) → tested_text_at is_word old ≡ Some (w, mid) → list_at mid ≡ Some (rows, after) → posted_at old ≡ Some (record { word = w; rows = rows }, after)
 unfolding posted_at both_at
 posted_here old mid after w rows e f = rw (e, f) refl
 
-pub posted_not_word : (old : List ℕ) → text_at is_word old ≡ None → posted_at old ≡ None
+pub posted_not_word : (old : List ℕ) → tested_text_at is_word old ≡ None → posted_at old ≡ None
 unfolding posted_at both_at
 posted_not_word old e = rw e refl
 
-pub posted_not_list : (old mid : List ℕ) (w : Text) → text_at is_word old ≡ Some (w, mid) → list_at mid ≡ None → posted_at old ≡ None
+pub posted_not_list : (old mid : List ℕ) (w : Text) → tested_text_at is_word old ≡ Some (w, mid) → list_at mid ≡ None → posted_at old ≡ None
 unfolding posted_at both_at
 posted_not_list old mid w e f = rw (e, f) refl

@@ -4,7 +4,7 @@ use Rattle.std.specs.List.{flat_map, All}
 use Rattle.std.proofs.lemmas.List.Concat.{flat_map-cons}
 use Rattle.std.proofs.lemmas.List.Elements.{All-cons, All-nil}
 use Rattle.cat_base.specs.Bytes.{spelled_u32, spelled_bytes}
-use Rattle.cat_items.specs.file_parts.Reading.{Reader, ◌>>=◌, u32_at, string_at, where_at, both_at, many_at, counted_at, text_at}
+use Rattle.cat_items.specs.file_parts.Reading.{Reader, ◌>>=◌, u32_at, string_at, where_at, both_at, many_at, counted_at, tested_text_at}
 use Rattle.std.specs.Str.{is_utf8}
 use Rattle.cat_items.proofs.file_parts.Numbers.{Reads, bind_some, kept, some_is, at_some, then, reads_u32, reads_string}
 
@@ -27,7 +27,7 @@ reads_as one spell P Q to from r = record {
 }
 
 -- a text of the form
-pub reads_text : (passes : List ℕ → Bool) → Reads (text_at passes) spelled_bytes (λ t. ((length t < 2 ^ 32) × (is_utf8 t ≡ true)) × (passes t ≡ true))
+pub reads_text : (passes : List ℕ → Bool) → Reads (tested_text_at passes) spelled_bytes (λ t. ((length t < 2 ^ 32) × (is_utf8 t ≡ true)) × (passes t ≡ true))
 reads_text passes = reads_where passes (where_at is_utf8 string_at) spelled_bytes (λ t. (length t < 2 ^ 32) × (is_utf8 t ≡ true)) (reads_where is_utf8 string_at spelled_bytes (λ t. length t < 2 ^ 32) reads_string)
 
 -- what both parts of a reader read

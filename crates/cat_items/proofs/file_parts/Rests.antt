@@ -6,8 +6,8 @@ use Rattle.cat_model.specs.Item.{Field, Kind, Schema}
 use Rattle.cat_model.specs.Layout.{Laid, Layout, Head}
 use Rattle.cat_model.specs.Limits.{field_limit}
 use Rattle.cat_items.specs.declared.file_parts.cursor.Unreadable.{Unreadable}
-use Rattle.cat_items.specs.file_parts.Reading.{Reader, ◌>>=◌, u32_at, both_at, many_at, counted_at, text_at, rest_of, Passes}
-use Rattle.cat_items.specs.file_parts.Layouts.{is_word, is_keyword, is_label, field_at, list_at, posted_at, cell_at, head_at, column_at, columns_at, start_at, fields_at, layout_at}
+use Rattle.cat_items.specs.file_parts.Reading.{Reader, ◌>>=◌, u32_at, both_at, many_at, counted_at, tested_text_at, rest_of, Passes}
+use Rattle.cat_items.specs.file_parts.Layouts.{is_word, is_keyword, is_label, field_at, list_at, posted_at, cell_at, head_at, column_at, columns_at, segment_start_at, fields_at, layout_at}
 use Rattle.cat_items.proofs.file_parts.Numbers.{bind_some, some_is, not_kept}
 use Rattle.cat_items.proofs.file_parts.Forms.{fields_not_schema, fields_not_each}
 
@@ -118,13 +118,13 @@ pub list_none : (bytes : List ℕ) → u32_at bytes ≡ None → rest_of (list_a
 unfolding list_at
 list_none bytes e = counted_none u32_at bytes e
 
-pub posted_rest : (bytes mid : List ℕ) → rest_of (text_at is_word bytes) ≡ Some mid → rest_of (posted_at bytes) ≡ rest_of (list_at mid)
+pub posted_rest : (bytes mid : List ℕ) → rest_of (tested_text_at is_word bytes) ≡ Some mid → rest_of (posted_at bytes) ≡ rest_of (list_at mid)
 unfolding posted_at
-posted_rest bytes mid e = both_rest (text_at is_word) list_at (λ word rows. record { word = word; rows = rows }) bytes mid e
+posted_rest bytes mid e = both_rest (tested_text_at is_word) list_at (λ word rows. record { word = word; rows = rows }) bytes mid e
 
-pub posted_none : (bytes : List ℕ) → rest_of (text_at is_word bytes) ≡ None → rest_of (posted_at bytes) ≡ None
+pub posted_none : (bytes : List ℕ) → rest_of (tested_text_at is_word bytes) ≡ None → rest_of (posted_at bytes) ≡ None
 unfolding posted_at
-posted_none bytes e = both_none (text_at is_word) list_at (λ word rows. record { word = word; rows = rows }) bytes e
+posted_none bytes e = both_none (tested_text_at is_word) list_at (λ word rows. record { word = word; rows = rows }) bytes e
 
 pub words_rest : (rows : ℕ) (bytes mid : List ℕ) (n : ℕ) → u32_at bytes ≡ Some (n, mid) → rest_of (column_at Kind.text rows bytes) ≡ rest_of (many_at posted_at n mid)
 unfolding column_at
@@ -134,25 +134,25 @@ pub words_none : (rows : ℕ) (bytes : List ℕ) → u32_at bytes ≡ None → r
 unfolding column_at
 words_none rows bytes e = rest_mapped (counted_at posted_at bytes) Laid.words ∙ counted_none posted_at bytes e
 
-pub keywords_rest : (rows : ℕ) (bytes mid after : List ℕ) (n : ℕ) → u32_at bytes ≡ Some (n, mid) → rest_of (many_at (text_at is_keyword) n mid) ≡ Some after → rest_of (column_at Kind.keyword rows bytes) ≡ rest_of (many_at u32_at rows after)
+pub keywords_rest : (rows : ℕ) (bytes mid after : List ℕ) (n : ℕ) → u32_at bytes ≡ Some (n, mid) → rest_of (many_at (tested_text_at is_keyword) n mid) ≡ Some after → rest_of (column_at Kind.keyword rows bytes) ≡ rest_of (many_at u32_at rows after)
 unfolding column_at
-keywords_rest rows bytes mid after n e f = both_rest (counted_at (text_at is_keyword)) (many_at u32_at rows) Laid.keywords bytes after (counted_rest (text_at is_keyword) bytes mid n e ∙ f)
+keywords_rest rows bytes mid after n e f = both_rest (counted_at (tested_text_at is_keyword)) (many_at u32_at rows) Laid.keywords bytes after (counted_rest (tested_text_at is_keyword) bytes mid n e ∙ f)
 
-pub keywords_none : (rows : ℕ) (bytes : List ℕ) → rest_of (counted_at (text_at is_keyword) bytes) ≡ None → rest_of (column_at Kind.keyword rows bytes) ≡ None
+pub keywords_none : (rows : ℕ) (bytes : List ℕ) → rest_of (counted_at (tested_text_at is_keyword) bytes) ≡ None → rest_of (column_at Kind.keyword rows bytes) ≡ None
 unfolding column_at
-keywords_none rows bytes e = both_none (counted_at (text_at is_keyword)) (many_at u32_at rows) Laid.keywords bytes e
+keywords_none rows bytes e = both_none (counted_at (tested_text_at is_keyword)) (many_at u32_at rows) Laid.keywords bytes e
 
 pub integers_rest : (rows : ℕ) (bytes : List ℕ) → rest_of (column_at Kind.number rows bytes) ≡ rest_of (many_at cell_at rows bytes)
 unfolding column_at
 integers_rest rows bytes = rest_mapped (many_at cell_at rows bytes) Laid.numbers
 
-pub labels_rest : (rows : ℕ) (bytes mid after : List ℕ) (n : ℕ) → u32_at bytes ≡ Some (n, mid) → rest_of (many_at (text_at is_label) n mid) ≡ Some after → rest_of (column_at Kind.facet rows bytes) ≡ rest_of (many_at list_at rows after)
+pub labels_rest : (rows : ℕ) (bytes mid after : List ℕ) (n : ℕ) → u32_at bytes ≡ Some (n, mid) → rest_of (many_at (tested_text_at is_label) n mid) ≡ Some after → rest_of (column_at Kind.facet rows bytes) ≡ rest_of (many_at list_at rows after)
 unfolding column_at
-labels_rest rows bytes mid after n e f = both_rest (counted_at (text_at is_label)) (many_at list_at rows) Laid.labels bytes after (counted_rest (text_at is_label) bytes mid n e ∙ f)
+labels_rest rows bytes mid after n e f = both_rest (counted_at (tested_text_at is_label)) (many_at list_at rows) Laid.labels bytes after (counted_rest (tested_text_at is_label) bytes mid n e ∙ f)
 
-pub labels_none : (rows : ℕ) (bytes : List ℕ) → rest_of (counted_at (text_at is_label) bytes) ≡ None → rest_of (column_at Kind.facet rows bytes) ≡ None
+pub labels_none : (rows : ℕ) (bytes : List ℕ) → rest_of (counted_at (tested_text_at is_label) bytes) ≡ None → rest_of (column_at Kind.facet rows bytes) ≡ None
 unfolding column_at
-labels_none rows bytes e = both_none (counted_at (text_at is_label)) (many_at list_at rows) Laid.labels bytes e
+labels_none rows bytes e = both_none (counted_at (tested_text_at is_label)) (many_at list_at rows) Laid.labels bytes e
 
 -- ---- fields
 
@@ -178,12 +178,12 @@ fields_too_many old mid n e many = by (many_at field_at n mid) refl
 abbrev laid_out : ℕ → Schema → List Head → List Laid → Layout
 laid_out number fields heads columns = record { number = number; schema = fields; heads = heads; columns = columns }
 
-layout_is : (bytes b1 b2 b3 b4 : List ℕ) (number rows : ℕ) (fields : Schema) (heads : List Head) (columns : List Laid) → start_at bytes ≡ Some ((number, rows), b1) → fields_at b1 ≡ Some (fields, b2)
+layout_is : (bytes b1 b2 b3 b4 : List ℕ) (number rows : ℕ) (fields : Schema) (heads : List Head) (columns : List Laid) → segment_start_at bytes ≡ Some ((number, rows), b1) → fields_at b1 ≡ Some (fields, b2)
     → many_at head_at rows b2 ≡ Some (heads, b3) → columns_at rows fields b3 ≡ Some (columns, b4) → layout_at bytes ≡ cond (eqb (length b4) 0) (Some (laid_out number fields heads columns)) None
 unfolding layout_at
 layout_is bytes b1 b2 b3 b4 number rows fields heads columns e1 e2 e3 e4 = rw (e1, e2, e3, e4) refl
 
-pub layout_some : (bytes b1 b2 b3 b4 : List ℕ) (number rows : ℕ) (fields : Schema) → start_at bytes ≡ Some ((number, rows), b1) → fields_at b1 ≡ Some (fields, b2)
+pub layout_some : (bytes b1 b2 b3 b4 : List ℕ) (number rows : ℕ) (fields : Schema) → segment_start_at bytes ≡ Some ((number, rows), b1) → fields_at b1 ≡ Some (fields, b2)
     → rest_of (many_at head_at rows b2) ≡ Some b3 → rest_of (columns_at rows fields b3) ≡ Some b4 → b4 ≡ [] → (l : Layout) × (layout_at bytes ≡ Some l)
 layout_some bytes b1 b2 b3 b4 number rows fields e1 e2 e3 e4 nothing =
     let heads = rest_is (many_at head_at rows b2) b3 e3 in
@@ -192,33 +192,33 @@ layout_some bytes b1 b2 b3 b4 number rows fields e1 e2 e3 e4 nothing =
       layout_is bytes b1 b2 b3 b4 number rows fields heads.0 columns.0 e1 e2 heads.1 columns.1 ∙ ap (λ (b : List ℕ). cond (eqb (length b) 0) (Some (laid_out number fields heads.0 columns.0)) None) nothing,
     )
 
-pub layout_none_start : (bytes : List ℕ) → start_at bytes ≡ None → layout_at bytes ≡ None
+pub layout_none_start : (bytes : List ℕ) → segment_start_at bytes ≡ None → layout_at bytes ≡ None
 unfolding layout_at
 layout_none_start bytes e = rw e refl
 
-pub layout_none_fields : (bytes b1 : List ℕ) (s : ℕ × ℕ) → start_at bytes ≡ Some (s, b1) → fields_at b1 ≡ None → layout_at bytes ≡ None
+pub layout_none_fields : (bytes b1 : List ℕ) (s : ℕ × ℕ) → segment_start_at bytes ≡ Some (s, b1) → fields_at b1 ≡ None → layout_at bytes ≡ None
 unfolding layout_at
 layout_none_fields bytes b1 s e1 e2 = rw (e1, e2) refl
 
-heads_missing : (bytes b1 b2 : List ℕ) (number rows : ℕ) (fields : Schema) → start_at bytes ≡ Some ((number, rows), b1) → fields_at b1 ≡ Some (fields, b2) → many_at head_at rows b2 ≡ None → layout_at bytes ≡ None
+heads_missing : (bytes b1 b2 : List ℕ) (number rows : ℕ) (fields : Schema) → segment_start_at bytes ≡ Some ((number, rows), b1) → fields_at b1 ≡ Some (fields, b2) → many_at head_at rows b2 ≡ None → layout_at bytes ≡ None
 unfolding layout_at
 heads_missing bytes b1 b2 number rows fields e1 e2 e3 = rw (e1, e2, e3) refl
 
-pub layout_none_heads : (bytes b1 b2 : List ℕ) (number rows : ℕ) (fields : Schema) → start_at bytes ≡ Some ((number, rows), b1) → fields_at b1 ≡ Some (fields, b2) → rest_of (many_at head_at rows b2) ≡ None → layout_at bytes ≡ None
+pub layout_none_heads : (bytes b1 b2 : List ℕ) (number rows : ℕ) (fields : Schema) → segment_start_at bytes ≡ Some ((number, rows), b1) → fields_at b1 ≡ Some (fields, b2) → rest_of (many_at head_at rows b2) ≡ None → layout_at bytes ≡ None
 layout_none_heads bytes b1 b2 number rows fields e1 e2 e3 = heads_missing bytes b1 b2 number rows fields e1 e2 (rest_is_none (many_at head_at rows b2) e3)
 
-columns_missing : (bytes b1 b2 b3 : List ℕ) (number rows : ℕ) (fields : Schema) (heads : List Head) → start_at bytes ≡ Some ((number, rows), b1) → fields_at b1 ≡ Some (fields, b2) → many_at head_at rows b2 ≡ Some (heads, b3) → columns_at rows fields b3 ≡ None
+columns_missing : (bytes b1 b2 b3 : List ℕ) (number rows : ℕ) (fields : Schema) (heads : List Head) → segment_start_at bytes ≡ Some ((number, rows), b1) → fields_at b1 ≡ Some (fields, b2) → many_at head_at rows b2 ≡ Some (heads, b3) → columns_at rows fields b3 ≡ None
     → layout_at bytes ≡ None
 unfolding layout_at
 columns_missing bytes b1 b2 b3 number rows fields heads e1 e2 e3 e4 = rw (e1, e2, e3, e4) refl
 
-pub layout_none_columns : (bytes b1 b2 b3 : List ℕ) (number rows : ℕ) (fields : Schema) → start_at bytes ≡ Some ((number, rows), b1) → fields_at b1 ≡ Some (fields, b2) → rest_of (many_at head_at rows b2) ≡ Some b3 → rest_of (columns_at rows fields b3) ≡ None
+pub layout_none_columns : (bytes b1 b2 b3 : List ℕ) (number rows : ℕ) (fields : Schema) → segment_start_at bytes ≡ Some ((number, rows), b1) → fields_at b1 ≡ Some (fields, b2) → rest_of (many_at head_at rows b2) ≡ Some b3 → rest_of (columns_at rows fields b3) ≡ None
     → layout_at bytes ≡ None
 layout_none_columns bytes b1 b2 b3 number rows fields e1 e2 e3 e4 =
     let heads = rest_is (many_at head_at rows b2) b3 e3 in
     columns_missing bytes b1 b2 b3 number rows fields heads.0 e1 e2 heads.1 (rest_is_none (columns_at rows fields b3) e4)
 
-pub layout_none_more : (bytes b1 b2 b3 b4 : List ℕ) (number rows : ℕ) (fields : Schema) → start_at bytes ≡ Some ((number, rows), b1) → fields_at b1 ≡ Some (fields, b2) → rest_of (many_at head_at rows b2) ≡ Some b3 → rest_of (columns_at rows fields b3) ≡ Some b4
+pub layout_none_more : (bytes b1 b2 b3 b4 : List ℕ) (number rows : ℕ) (fields : Schema) → segment_start_at bytes ≡ Some ((number, rows), b1) → fields_at b1 ≡ Some (fields, b2) → rest_of (many_at head_at rows b2) ≡ Some b3 → rest_of (columns_at rows fields b3) ≡ Some b4
     → ¬ (b4 ≡ []) → layout_at bytes ≡ None
 layout_none_more bytes b1 b2 b3 b4 number rows fields e1 e2 e3 e4 more =
     let heads = rest_is (many_at head_at rows b2) b3 e3 in

@@ -13,8 +13,8 @@ use Rattle.cat_model.specs.Item.{Kind, Schema}
 use Rattle.cat_model.specs.Forms.{IsKeyword, IsLabel}
 use Rattle.cat_model.specs.Files.{IsFileNumber}
 use Rattle.cat_model.specs.Layout.{WordPostings, Laid, Head, Layout, spelled_fields, spelled_head, spelled_list, spelled_texts, spelled_postings, spelled_number, spelled_column, spelled_layout, IsHead, FitU32, IsWordPostings, IsLaid, AreLaid, IsLayout}
-use Rattle.cat_items.specs.file_parts.Reading.{Reader, Fails, ◌>>=◌, byte_at, u32_at, u64_at, where_at, both_at, many_at, counted_at, text_at}
-use Rattle.cat_items.specs.file_parts.Layouts.{is_keyword, is_label, is_file_number, is_row_count, fields_at, head_at, list_at, posted_at, cell_at, column_at, columns_at, magic, start_at, layout_at}
+use Rattle.cat_items.specs.file_parts.Reading.{Reader, Fails, ◌>>=◌, byte_at, u32_at, u64_at, where_at, both_at, many_at, counted_at, tested_text_at}
+use Rattle.cat_items.specs.file_parts.Layouts.{is_keyword, is_label, is_number_of_file, is_row_count, fields_at, head_at, list_at, posted_at, cell_at, column_at, columns_at, magic, segment_start_at, layout_at}
 use Rattle.cat_items.proofs.file_parts.Numbers.{Reads, bind_some, bind_at, kept, both_true, some_is, at_some, then, reads_byte, reads_u32, reads_u64}
 use Rattle.cat_items.proofs.file_parts.Readers.{reads_where, reads_as, both_sound, both_complete, reads_many, reads_counted}
 use Rattle.cat_items.proofs.file_parts.Forms.{both_hold}
@@ -31,11 +31,11 @@ AreTexts P texts = (length texts < 2 ^ 32) × All P texts
 reads_words : Reads (counted_at posted_at) spelled_words (λ ps. (length ps < 2 ^ 32) × All IsWordPostings ps)
 reads_words = reads_counted posted_at spelled_postings IsWordPostings reads_posted
 
-reads_keywords : Reads (counted_at (text_at is_keyword)) spelled_texts (AreTexts IsKeyword)
-reads_keywords = reads_counted (text_at is_keyword) spelled_bytes IsKeyword reads_keyword
+reads_keywords : Reads (counted_at (tested_text_at is_keyword)) spelled_texts (AreTexts IsKeyword)
+reads_keywords = reads_counted (tested_text_at is_keyword) spelled_bytes IsKeyword reads_keyword
 
-reads_labels : Reads (counted_at (text_at is_label)) spelled_texts (AreTexts IsLabel)
-reads_labels = reads_counted (text_at is_label) spelled_bytes IsLabel reads_label
+reads_labels : Reads (counted_at (tested_text_at is_label)) spelled_texts (AreTexts IsLabel)
+reads_labels = reads_counted (tested_text_at is_label) spelled_bytes IsLabel reads_label
 
 abbrev AreCodes : ℕ → List ℕ → Type 0
 AreCodes rows codes = (length codes ≡ rows) × All (λ n. n < 2 ^ 32) codes
@@ -59,7 +59,7 @@ column_sound Kind.text rows few bytes x e =
     let t = reads_words.sound bytes a.0 a.1 in
     at_some (λ (y : Laid × List ℕ). (bytes ≡ spelled_column y.0 ++ y.1) × IsLaid rows Kind.text y.0) (Laid.words a.0.0, a.0.1) x a.2 t
 column_sound Kind.keyword rows few bytes x e =
-    let b = both_sound (counted_at (text_at is_keyword)) (λ dictionary. many_at u32_at rows) Laid.keywords spelled_texts (flat_map spelled_u32) (AreTexts IsKeyword) (λ dictionary. AreCodes rows) reads_keywords (λ dictionary. reads_codes rows) bytes x e in
+    let b = both_sound (counted_at (tested_text_at is_keyword)) (λ dictionary. many_at u32_at rows) Laid.keywords spelled_texts (flat_map spelled_u32) (AreTexts IsKeyword) (λ dictionary. AreCodes rows) reads_keywords (λ dictionary. reads_codes rows) bytes x e in
     subst (λ (c : Laid). (bytes ≡ spelled_column c ++ x.1) × IsLaid rows Kind.keyword c) b.made
     (b.spelled, (b.holds.0, b.holds.1, b.both.0, (subst (λ (n : ℕ). n < 2 ^ 32) (sym b.both.0) few, b.both.1)))
 column_sound Kind.number rows few bytes x e =
@@ -67,7 +67,7 @@ column_sound Kind.number rows few bytes x e =
     let t = (reads_cells rows).sound bytes a.0 a.1 in
     at_some (λ (y : Laid × List ℕ). (bytes ≡ spelled_column y.0 ++ y.1) × IsLaid rows Kind.number y.0) (Laid.numbers a.0.0, a.0.1) x a.2 t
 column_sound Kind.facet rows few bytes x e =
-    let b = both_sound (counted_at (text_at is_label)) (λ dictionary. many_at list_at rows) Laid.labels spelled_texts (flat_map spelled_list) (AreTexts IsLabel) (λ dictionary. AreOrdinals rows) reads_labels (λ dictionary. reads_ordinals rows) bytes x e in
+    let b = both_sound (counted_at (tested_text_at is_label)) (λ dictionary. many_at list_at rows) Laid.labels spelled_texts (flat_map spelled_list) (AreTexts IsLabel) (λ dictionary. AreOrdinals rows) reads_labels (λ dictionary. reads_ordinals rows) bytes x e in
     subst (λ (c : Laid). (bytes ≡ spelled_column c ++ x.1) × IsLaid rows Kind.facet c) b.made
     (b.spelled, (b.holds.0, b.holds.1, b.both.0, b.both.1))
 
@@ -78,7 +78,7 @@ column_complete Kind.text rows (Laid.keywords dictionary codes) rest h = absurd 
 column_complete Kind.text rows (Laid.numbers zs) rest h = absurd h
 column_complete Kind.text rows (Laid.labels dictionary ordinals) rest h = absurd h
 column_complete Kind.keyword rows (Laid.keywords dictionary codes) rest h =
-    both_complete (counted_at (text_at is_keyword)) (λ dictionary. many_at u32_at rows) Laid.keywords spelled_texts (flat_map spelled_u32) (AreTexts IsKeyword) (λ dictionary. AreCodes rows) reads_keywords (λ dictionary. reads_codes rows) dictionary codes rest (h.0, h.1) (h.2, h.3.1)
+    both_complete (counted_at (tested_text_at is_keyword)) (λ dictionary. many_at u32_at rows) Laid.keywords spelled_texts (flat_map spelled_u32) (AreTexts IsKeyword) (λ dictionary. AreCodes rows) reads_keywords (λ dictionary. reads_codes rows) dictionary codes rest (h.0, h.1) (h.2, h.3.1)
 column_complete Kind.keyword rows (Laid.words ps) rest h = absurd h
 column_complete Kind.keyword rows (Laid.numbers zs) rest h = absurd h
 column_complete Kind.keyword rows (Laid.labels dictionary ordinals) rest h = absurd h
@@ -87,7 +87,7 @@ column_complete Kind.number rows (Laid.words ps) rest h = absurd h
 column_complete Kind.number rows (Laid.keywords dictionary codes) rest h = absurd h
 column_complete Kind.number rows (Laid.labels dictionary ordinals) rest h = absurd h
 column_complete Kind.facet rows (Laid.labels dictionary ordinals) rest h =
-    both_complete (counted_at (text_at is_label)) (λ dictionary. many_at list_at rows) Laid.labels spelled_texts (flat_map spelled_list) (AreTexts IsLabel) (λ dictionary. AreOrdinals rows) reads_labels (λ dictionary. reads_ordinals rows) dictionary ordinals rest (h.0, h.1) (h.2, h.3)
+    both_complete (counted_at (tested_text_at is_label)) (λ dictionary. many_at list_at rows) Laid.labels spelled_texts (flat_map spelled_list) (AreTexts IsLabel) (λ dictionary. AreOrdinals rows) reads_labels (λ dictionary. reads_ordinals rows) dictionary ordinals rest (h.0, h.1) (h.2, h.3)
 column_complete Kind.facet rows (Laid.words ps) rest h = absurd h
 column_complete Kind.facet rows (Laid.keywords dictionary codes) rest h = absurd h
 column_complete Kind.facet rows (Laid.numbers zs) rest h = absurd h
@@ -121,11 +121,11 @@ spelled_start s = spelled_u32 magic ++ (1 ∷ (spelled_u64 s.0 ++ spelled_u32 s.
 abbrev IsStart : ℕ × ℕ → Type 0
 IsStart s = IsFileNumber s.0 × ((1 ≤ s.1) × (s.1 ≤ 262144))
 
-reads_file_number : Reads (where_at is_file_number u64_at) spelled_u64 IsFileNumber
-reads_file_number = reads_as (where_at is_file_number u64_at) spelled_u64 (λ n. (n < 2 ^ 64) × (is_file_number n ≡ true)) IsFileNumber
+reads_file_number : Reads (where_at is_number_of_file u64_at) spelled_u64 IsFileNumber
+reads_file_number = reads_as (where_at is_number_of_file u64_at) spelled_u64 (λ n. (n < 2 ^ 64) × (is_number_of_file n ≡ true)) IsFileNumber
     (λ n h. let k = both_true (ltb 0 n) (ltb n (2 ^ 63)) h.1 in (ltb-true _ _ k.0, ltb-true _ _ k.1))
     (λ n h. (let low : n < 2 ^ 63 = h.1 in omega arith, both_hold (ltb 0 n) (ltb n (2 ^ 63)) (lt-ltb _ _ h.0) (lt-ltb _ _ h.1)))
-    (reads_where is_file_number u64_at spelled_u64 (λ n. n < 2 ^ 64) reads_u64)
+    (reads_where is_number_of_file u64_at spelled_u64 (λ n. n < 2 ^ 64) reads_u64)
 
 abbrev IsRowCount : ℕ → Type 0
 IsRowCount n = (1 ≤ n) × (n ≤ 262144)
@@ -137,10 +137,10 @@ reads_row_count = reads_as (where_at is_row_count u32_at) spelled_u32 (λ n. (n 
     (reads_where is_row_count u32_at spelled_u32 (λ n. n < 2 ^ 32) reads_u32)
 
 abbrev two_numbers : Reader (ℕ × ℕ)
-two_numbers = both_at (where_at is_file_number u64_at) (λ number. where_at is_row_count u32_at) (λ number rows. (number, rows))
+two_numbers = both_at (where_at is_number_of_file u64_at) (λ number. where_at is_row_count u32_at) (λ number rows. (number, rows))
 
-start_sound : (bytes : List ℕ) (x : (ℕ × ℕ) × List ℕ) → start_at bytes ≡ Some x → (bytes ≡ spelled_start x.0 ++ x.1) × IsStart x.0
-unfolding start_at
+start_sound : (bytes : List ℕ) (x : (ℕ × ℕ) × List ℕ) → segment_start_at bytes ≡ Some x → (bytes ≡ spelled_start x.0 ++ x.1) × IsStart x.0
+unfolding segment_start_at
 start_sound bytes x e =
     let a = bind_some (u32_at bytes) (λ word. byte_at word.1 >>= λ version. cond (eqb word.0 magic && eqb version.0 1) (two_numbers version.1) None) x e in
     let b = bind_some (byte_at a.0.1) (λ version. cond (eqb a.0.0 magic && eqb version.0 1) (two_numbers version.1) None) x a.2 in
@@ -148,19 +148,19 @@ start_sound bytes x e =
     let h = both_true (eqb a.0.0 magic) (eqb b.0.0 1) g.0 in
     let t0 = reads_u32.sound bytes a.0 a.1 in
     let t1 = reads_byte.sound a.0.1 b.0 b.1 in
-    let t2 = both_sound (where_at is_file_number u64_at) (λ number. where_at is_row_count u32_at) (λ number rows. (number, rows)) spelled_u64 spelled_u32 IsFileNumber (λ number. IsRowCount) reads_file_number (λ number. reads_row_count) b.0.1 x g.1 in
+    let t2 = both_sound (where_at is_number_of_file u64_at) (λ number. where_at is_row_count u32_at) (λ number rows. (number, rows)) spelled_u64 spelled_u32 IsFileNumber (λ number. IsRowCount) reads_file_number (λ number. reads_row_count) b.0.1 x g.1 in
     let inner : a.0.1 ≡ 1 ∷ ((spelled_u64 t2.first ++ spelled_u32 t2.second) ++ x.1) = t1.0 ∙ ap (λ (c : ℕ). c ∷ b.0.1) (eqb-true _ _ h.1) ∙ ap (λ (w : List ℕ). 1 ∷ w) t2.spelled in
     let whole : bytes ≡ spelled_u32 magic ++ (1 ∷ ((spelled_u64 t2.first ++ spelled_u32 t2.second) ++ x.1)) = t0.0 ∙ ap (λ (k : ℕ). spelled_u32 k ++ a.0.1) (eqb-true _ _ h.0) ∙ ap (λ (w : List ℕ). spelled_u32 magic ++ w) inner in
     subst (λ (s : ℕ × ℕ). (bytes ≡ spelled_start s ++ x.1) × IsStart s) t2.made (whole, (t2.holds, t2.both))
 
-start_complete : (s : ℕ × ℕ) (rest : List ℕ) → IsStart s → start_at (spelled_start s ++ rest) ≡ Some (s, rest)
-unfolding start_at byte_at
+start_complete : (s : ℕ × ℕ) (rest : List ℕ) → IsStart s → segment_start_at (spelled_start s ++ rest) ≡ Some (s, rest)
+unfolding segment_start_at byte_at
 start_complete s rest h =
     let after : List ℕ = (spelled_u64 s.0 ++ spelled_u32 s.1) ++ rest in
-    let read : two_numbers after ≡ Some (s, rest) = both_complete (where_at is_file_number u64_at) (λ number. where_at is_row_count u32_at) (λ number rows. (number, rows)) spelled_u64 spelled_u32 IsFileNumber (λ number. IsRowCount) reads_file_number (λ number. reads_row_count) s.0 s.1 rest h.0 h.1 in
+    let read : two_numbers after ≡ Some (s, rest) = both_complete (where_at is_number_of_file u64_at) (λ number. where_at is_row_count u32_at) (λ number rows. (number, rows)) spelled_u64 spelled_u32 IsFileNumber (λ number. IsRowCount) reads_file_number (λ number. reads_row_count) s.0 s.1 rest h.0 h.1 in
     bind_at (u32_at (spelled_u32 magic ++ (1 ∷ after))) (λ word. byte_at word.1 >>= λ version. cond (eqb word.0 magic && eqb version.0 1) (two_numbers version.1) None) (magic, 1 ∷ after) (reads_u32.complete magic (1 ∷ after) (omega arith)) ∙ read
 
-reads_start : Reads start_at spelled_start IsStart
+reads_start : Reads segment_start_at spelled_start IsStart
 reads_start = record { sound = start_sound; complete = start_complete }
 
 -- ---- the whole
@@ -174,7 +174,7 @@ ended number schema heads columns = cond (eqb (length columns.1) 0) (Some (laid_
 pub layout_sound : (bytes : List ℕ) (l : Layout) → layout_at bytes ≡ Some l → IsLayout l × (bytes ≡ spelled_layout l)
 unfolding layout_at
 layout_sound bytes l e =
-    let a = bind_some (start_at bytes) (λ start. fields_at start.1 >>= λ fields. many_at head_at start.0.1 fields.1 >>= λ heads. columns_at start.0.1 fields.0 heads.1 >>= λ columns. ended start.0.0 fields.0 heads.0 columns) l e in
+    let a = bind_some (segment_start_at bytes) (λ start. fields_at start.1 >>= λ fields. many_at head_at start.0.1 fields.1 >>= λ heads. columns_at start.0.1 fields.0 heads.1 >>= λ columns. ended start.0.0 fields.0 heads.0 columns) l e in
     let b = bind_some (fields_at a.0.1) (λ fields. many_at head_at a.0.0.1 fields.1 >>= λ heads. columns_at a.0.0.1 fields.0 heads.1 >>= λ columns. ended a.0.0.0 fields.0 heads.0 columns) l a.2 in
     let c = bind_some (many_at head_at a.0.0.1 b.0.1) (λ heads. columns_at a.0.0.1 b.0.0 heads.1 >>= λ columns. ended a.0.0.0 b.0.0 heads.0 columns) l b.2 in
     let d = bind_some (columns_at a.0.0.1 b.0.0 c.0.1) (λ columns. ended a.0.0.0 b.0.0 c.0.0 columns) l c.2 in
@@ -211,11 +211,11 @@ layout_complete l is =
     let last : List ℕ = flat_map spelled_column l.columns in
     let third : List ℕ = flat_map spelled_head l.heads ++ last in
     let second : List ℕ = spelled_fields l.schema ++ third in
-    let ea : start_at (spelled_layout l) ≡ Some ((l.number, rows), second) = reads_start.complete (l.number, rows) second (is.number, (is.some, is.few)) in
+    let ea : segment_start_at (spelled_layout l) ≡ Some ((l.number, rows), second) = reads_start.complete (l.number, rows) second (is.number, (is.some, is.few)) in
     let eb : fields_at second ≡ Some (l.schema, third) = reads_fields.complete l.schema third is.schema in
     let ec : many_at head_at rows third ≡ Some (l.heads, last) = (reads_many head_at spelled_head IsHead reads_head rows).complete l.heads last (refl, is.heads) in
     let ed : columns_at rows l.schema last ≡ Some (l.columns, []) = ap (columns_at rows l.schema) (sym (append-nil last)) ∙ columns_complete l.schema rows l.columns [] is.columns in
-    bind_at (start_at (spelled_layout l)) (λ start. fields_at start.1 >>= λ fields. many_at head_at start.0.1 fields.1 >>= λ heads. columns_at start.0.1 fields.0 heads.1 >>= λ columns. ended start.0.0 fields.0 heads.0 columns) ((l.number, rows), second) ea
+    bind_at (segment_start_at (spelled_layout l)) (λ start. fields_at start.1 >>= λ fields. many_at head_at start.0.1 fields.1 >>= λ heads. columns_at start.0.1 fields.0 heads.1 >>= λ columns. ended start.0.0 fields.0 heads.0 columns) ((l.number, rows), second) ea
     ∙ bind_at (fields_at second) (λ fields. many_at head_at rows fields.1 >>= λ heads. columns_at rows fields.0 heads.1 >>= λ columns. ended l.number fields.0 heads.0 columns) (l.schema, third) eb
     ∙ bind_at (many_at head_at rows third) (λ heads. columns_at rows l.schema heads.1 >>= λ columns. ended l.number l.schema heads.0 columns) (l.heads, last) ec
     ∙ bind_at (columns_at rows l.schema last) (λ columns. ended l.number l.schema l.heads columns) (l.columns, []) ed

@@ -11,7 +11,7 @@ use Rattle.cat_model.specs.Limits.{field_limit, keyword_limit, row_limit, source
 use Rattle.cat_model.specs.Layout.{WordPostings, Laid, Head, Layout}
 use Rattle.cat_items.specs.declared.file_parts.lists.Form.{Form}
 use Rattle.cat_items.specs.declared.file_parts.lists.Form.TheVariants as forms
-use Rattle.cat_items.specs.file_parts.Reading.{Reader, ◌>>=◌, byte_at, u32_at, u64_at, where_at, both_at, many_at, counted_at, text_at}
+use Rattle.cat_items.specs.file_parts.Reading.{Reader, ◌>>=◌, byte_at, u32_at, u64_at, where_at, both_at, many_at, counted_at, tested_text_at}
 
 -- ---- forms, as tests of texts
 
@@ -39,8 +39,8 @@ is_rising (t ∷ ts) = list_all (λ u. is_lt (text_cmp t u)) ts && is_rising ts
 abbrev pub is_schema : Schema → Bool
 is_schema fields = nat_le (length fields) field_limit && (is_rising (map (λ f. f.name) fields) && list_all (λ f. is_field_name f.name) fields)
 
-abbrev pub is_file_number : ℕ → Bool
-is_file_number n = nat_lt 0 n && nat_lt n (2 ^ 63)
+abbrev pub is_number_of_file : ℕ → Bool
+is_number_of_file n = nat_lt 0 n && nat_lt n (2 ^ 63)
 
 abbrev pub is_row_count : ℕ → Bool
 is_row_count n = nat_le 1 n && nat_le n row_limit
@@ -64,7 +64,7 @@ kind_at bytes = do
 
 -- a name of any form: the names are judged together
 unfoldable pub field_at : Reader Field
-field_at bytes = both_at (text_at (λ t. true)) (λ name. kind_at) (λ name kind. record { name = name; kind = kind }) bytes
+field_at bytes = both_at (tested_text_at (λ t. true)) (λ name. kind_at) (λ name kind. record { name = name; kind = kind }) bytes
 
 unfoldable pub fields_at : Reader Schema
 fields_at bytes = where_at is_schema (counted_at field_at) bytes
@@ -74,7 +74,7 @@ fields_at bytes = where_at is_schema (counted_at field_at) bytes
 unfoldable pub head_at : Reader Head
 head_at bytes = do
   number ← where_at is_write_number u64_at bytes
-  id ← text_at is_id number.1
+  id ← tested_text_at is_id number.1
   long ← where_at is_source_length u32_at id.1
   Some (record { number = number.0; id = id.0; length = long.0 }, long.1)
 
@@ -82,7 +82,7 @@ unfoldable pub list_at : Reader (List ℕ)
 list_at bytes = counted_at u32_at bytes
 
 unfoldable pub posted_at : Reader WordPostings
-posted_at bytes = both_at (text_at is_word) (λ word. list_at) (λ word rows. record { word = word; rows = rows }) bytes
+posted_at bytes = both_at (tested_text_at is_word) (λ word. list_at) (λ word rows. record { word = word; rows = rows }) bytes
 
 unfoldable pub cell_at : Reader (Option ℤ)
 cell_at bytes = do
@@ -91,9 +91,9 @@ cell_at bytes = do
 
 unfoldable pub column_at : Kind → ℕ → Reader Laid
 column_at Kind.text rows bytes = counted_at posted_at bytes >>= λ words. Some (Laid.words words.0, words.1)
-column_at Kind.keyword rows bytes = both_at (counted_at (text_at is_keyword)) (λ dictionary. many_at u32_at rows) Laid.keywords bytes
+column_at Kind.keyword rows bytes = both_at (counted_at (tested_text_at is_keyword)) (λ dictionary. many_at u32_at rows) Laid.keywords bytes
 column_at Kind.number rows bytes = many_at cell_at rows bytes >>= λ cells. Some (Laid.numbers cells.0, cells.1)
-column_at Kind.facet rows bytes = both_at (counted_at (text_at is_label)) (λ dictionary. many_at list_at rows) Laid.labels bytes
+column_at Kind.facet rows bytes = both_at (counted_at (tested_text_at is_label)) (λ dictionary. many_at list_at rows) Laid.labels bytes
 
 unfoldable pub columns_at : ℕ → Schema → Reader (List Laid)
 columns_at rows [] bytes = Some ([], bytes)
@@ -109,17 +109,17 @@ abbrev pub magic : ℕ
 magic = 1129530695
 
 -- the magic word, the version 1, the number and the number of rows
-unfoldable pub start_at : Reader (ℕ × ℕ)
-start_at bytes = do
+unfoldable pub segment_start_at : Reader (ℕ × ℕ)
+segment_start_at bytes = do
   word ← u32_at bytes
   version ← byte_at word.1
   if word.0 == magic && version.0 == 1
-      then both_at (where_at is_file_number u64_at) (λ number. where_at is_row_count u32_at) (λ number rows. (number, rows)) version.1
+      then both_at (where_at is_number_of_file u64_at) (λ number. where_at is_row_count u32_at) (λ number rows. (number, rows)) version.1
       else None
 
 unfoldable pub layout_at : List ℕ → Option Layout
 layout_at bytes = do
-  start ← start_at bytes
+  start ← segment_start_at bytes
   fields ← fields_at start.1
   heads ← many_at head_at start.0.1 fields.1
   columns ← columns_at start.0.1 fields.0 heads.1

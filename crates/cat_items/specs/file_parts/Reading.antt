@@ -102,5 +102,5 @@ abbrev pub with_front : {A : Type 0} → List A → Option (List A × List ℕ) 
 with_front front read = read >>= λ x. Some (front ++ x.0, x.1)
 
 -- a text, which passes the test
-abbrev pub text_at : (List ℕ → Bool) → Reader (List ℕ)
-text_at passes = where_at passes (where_at is_utf8 string_at)
+abbrev pub tested_text_at : (List ℕ → Bool) → Reader (List ℕ)
+tested_text_at passes = where_at passes (where_at is_utf8 string_at)

@@ -1,6 +1,6 @@
 //! Texts of the forms, and lists of texts and of numbers, read.
 ghost use Rattle.std.specs.Prelude.{◌≡◌};
-ghost use Rattle.cat_items.specs.file_parts.Reading.{Finds, Gives, u32_at, many_at, text_at, with_front};
+ghost use Rattle.cat_items.specs.file_parts.Reading.{Finds, Gives, u32_at, many_at, tested_text_at, with_front};
 ghost use Rattle.cat_items.specs.file_parts.Layouts.{fits, list_at};
 
 use crate::file_parts::cursor::{Unreadable, take_str, take_u32};
@@ -34,7 +34,7 @@ impl Form {
 /// The next byte string, where it is a text of the form.
 #[tactic(auto, unfolding(crate::specs::file_parts::Reading::where_at))]
 pub(crate) fn take_text<'a>(form: Form, cursor: &mut Cursor<'a>) -> Result<&'a str, Unreadable>
-    ensures { Finds (λ t. (t.now, cursor.new)) result (text_at (fits form) cursor.old) }
+    ensures { Finds (λ t. (t.now, cursor.new)) result (tested_text_at (fits form) cursor.old) }
 {
     let text = take_str(cursor)?;
     if !form.fits(text) {
@@ -44,7 +44,7 @@ pub(crate) fn take_text<'a>(form: Form, cursor: &mut Cursor<'a>) -> Result<&'a s
 }
 
 pub(crate) fn read_text(alloc: Global, form: Form, cursor: &mut Cursor<'_>) -> Result<Text, Refusal>
-    ensures { Gives (λ t. (t, cursor.new)) result (text_at (fits form) cursor.old) }
+    ensures { Gives (λ t. (t, cursor.new)) result (tested_text_at (fits form) cursor.old) }
 {
     let text = take_text(form, cursor)?;
     Ok(Text::from_str(alloc, text)?)
@@ -56,7 +56,7 @@ pub(crate) fn read_texts(
     count: u32,
     cursor: &mut Cursor<'_>,
 ) -> Result<Vec<Text>, Refusal>
-    ensures { Gives (λ v. (v.items, cursor.new)) result (many_at (text_at (fits form)) count cursor.old) }
+    ensures { Gives (λ v. (v.items, cursor.new)) result (many_at (tested_text_at (fits form)) count cursor.old) }
 {
     let mut out = Vec::new(alloc);
     for _ in 0..count {

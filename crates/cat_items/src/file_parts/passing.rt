@@ -2,7 +2,7 @@
 ghost use Rattle.std.specs.Prelude.{ℕ};
 ghost use Rattle.cat_model.specs.Item as model;
 ghost use Rattle.cat_items.specs.Kinds.{field_kind_of};
-ghost use Rattle.cat_items.specs.file_parts.Reading.{Passes, u32_at, many_at, text_at};
+ghost use Rattle.cat_items.specs.file_parts.Reading.{Passes, u32_at, many_at, tested_text_at};
 ghost use Rattle.cat_items.specs.file_parts.Layouts.{fits, list_at, posted_at, cell_at, column_at, columns_at, head_at};
 
 use crate::Kind;
@@ -14,7 +14,7 @@ use crate::file_parts::lists::{Form, take_text};
 use cat_base::Cursor;
 
 fn pass_texts(form: Form, count: u32, cursor: &mut Cursor<'_>) -> Result<(), Unreadable>
-    ensures { Passes cursor.new result (many_at (text_at (fits form)) count cursor.old) }
+    ensures { Passes cursor.new result (many_at (tested_text_at (fits form)) count cursor.old) }
 {
     for _ in 0..count {
         take_text(form, cursor)?;

@@ -3,7 +3,7 @@ ghost use Rattle.std.specs.Prelude.{◌≡◌, ◌≢◌, ◌⊎◌, Some, None,
 ghost use Rattle.cat_base.specs.declared.refusal.Refusal.TheVariants.{Memory, Damaged};
 ghost use Rattle.cat_model.specs.Layout.{Layout, IsLayout, spelled_layout};
 ghost use Rattle.cat_items.specs.file_parts.Reading.{Finds, Gives, where_at};
-ghost use Rattle.cat_items.specs.file_parts.Layouts.{start_at, layout_at};
+ghost use Rattle.cat_items.specs.file_parts.Layouts.{segment_start_at, layout_at};
 ghost use Rattle.cat_items.specs.file_parts.Parts.{layout_in, IsParts};
 
 use crate::file_parts::columns::read_columns;
@@ -21,9 +21,9 @@ pub(crate) const MAGIC: u32 = 0x4353_4547;
 /// The version of the layout, the fifth byte.
 pub(crate) const VERSION: u8 = 1;
 
-#[tactic(auto, unfolding(crate::specs::file_parts::Layouts::start_at, crate::specs::file_parts::Reading::both_at, crate::specs::file_parts::Reading::where_at))]
+#[tactic(auto, unfolding(crate::specs::file_parts::Layouts::segment_start_at, crate::specs::file_parts::Reading::both_at, crate::specs::file_parts::Reading::where_at))]
 fn read_start(cursor: &mut Cursor<'_>) -> Result<(SegNo, u32), Unreadable>
-    ensures { Finds (λ s. ((s.0, s.1), cursor.new)) result (start_at cursor.old) }
+    ensures { Finds (λ s. ((s.0, s.1), cursor.new)) result (segment_start_at cursor.old) }
 {
     let magic = take_u32(cursor)?;
     let version = take_u8(cursor)?;

@@ -28,7 +28,7 @@ use Rattle.cat_ledger_laws.proofs.model.Shown.{All-map, all-shown, whole_are_vie
 use Rattle.cat_ledger_laws.proofs.model.Sourced.{portions_are_read}
 use Rattle.cat_ledger_laws.proofs.model.Views.{length-map}
 use Rattle.cat_ledger_laws.specs.shape.Shapes.{Shape, shape_of}
-use Rattle.cat_ledger_laws.specs.shape.Ties.{ToldFiles, IsTold, Agrees, Carries, file_of}
+use Rattle.cat_ledger_laws.specs.shape.Ties.{ToldFiles, IsTold, FilesAgree, Carries, file_of}
 use Rattle.cat_ledger_laws.proofs.shape.Leaves.{any_map}
 use Rattle.cat_ledger_laws.specs.lines.HeldLaws.{PromisedAreHeld}
 use Rattle.cat_ledger_laws.specs.lines.RunLaws.{Stands}
@@ -54,7 +54,7 @@ all_replicate : (bs : List Bool) → AllByRecursion (λ b. b ≡ true) bs → bs
 all_replicate [] a = refl
 all_replicate (b ∷ bs) a = ap₂ (λ (c : Bool) (cs : List Bool). c ∷ cs) a.0 (all_replicate bs a.1)
 
-module _ (told : ToldFiles) (files : FileBytes) (agrees : Agrees told files) where
+module _ (told : ToldFiles) (files : FileBytes) (agrees : FilesAgree told files) where
   abbrev pub by_name : ToldByName
   by_name = λ q. told (file_of q)
 
@@ -171,7 +171,7 @@ and_second : (a b : Bool) → (a && b) ≡ true → b ≡ true
 and_second true b h = h
 and_second false b h = absurd (let no : false ≡ true = h in cc)
 
-module _ (told : ToldFiles) (from : Opened) (run : Run) (l : Ledger) (files : FileBytes) (agrees : Agrees told files) (ok : IsLedger l)
+module _ (told : ToldFiles) (from : Opened) (run : Run) (l : Ledger) (files : FileBytes) (agrees : FilesAgree told files) (ok : IsLedger l)
     (all_stored : AreStored files l) (stands : StandsFor from run (state_of l)) (fields : l.schema ≡ from.start.schema) where
   -- what is so of each recorded view
   record IsViewOf (v : RecordedView) : Type 0 where

@@ -7,7 +7,7 @@ use Rattle.cat_model.specs.Limits.{view_limit, last_number, buffer_limit}
 use Rattle.cat_model.specs.Run.{Chore, News, Command, Line, Answer, Reply}
 use Rattle.cat_model.specs.State.{refuses_refresh, has_hold, held_in, snapshots_in}
 use Rattle.cat_model.specs.View.{View}
-use Rattle.cat_ledger_laws.specs.model.Calls.{tokens_in, has_recorded, stays_recorded, stays_full, stays_pruned, views_that, view_now, Flushes, Flushed, RecordsNow, Pruned}
+use Rattle.cat_ledger_laws.specs.model.Calls.{tokens_in, has_recorded, stays_recorded, stays_full, stays_pruned, views_that, recorded_view_now, Flushes, Flushed, RecordsNow, Pruned}
 use Rattle.cat_ledger_laws.specs.model.Ledger.{Ledger, RecordedView, state_of}
 use Rattle.cat_ledger_laws.specs.model.Plans.{MergePolicy}
 use Rattle.cat_ledger_laws.specs.model.Replies.{Maintains, SnapsBy, CarriesOut, IsLeft, FindsNone, Calls}
@@ -82,7 +82,7 @@ records_keep l new false k = record {
   views = λ t own held e.
       let stays : ℕ → Bool = stays_recorded (held_in l.holds) (tokens_in l.views) in
       let here : stays t ≡ true = or_second (ltb (length (tokens_in l.views)) view_limit) (stays_full (held_in l.holds) (tokens_in l.views) t) (or_first (held_in l.holds t) (list_any (λ u. not (held_in l.holds u) && ltb u t) (tokens_in l.views)) held) in
-      ap (λ (x : Ledger). view_under t x.views) k.rest ∙ find_kept stays t own (view_now l ∷ []) l.views here e;
+      ap (λ (x : Ledger). view_under t x.views) k.rest ∙ find_kept stays t own (recorded_view_now l ∷ []) l.views here e;
 }
 
 pruned_keeps : (n : ℕ) (l new : Ledger) → Pruned n l new → Keeps false l new

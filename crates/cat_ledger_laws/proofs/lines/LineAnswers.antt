@@ -18,7 +18,7 @@ use Rattle.cat_ledger_laws.specs.model.Replies.{IsLeft, MayStop, Calls}
 use Rattle.cat_ledger_laws.specs.shape.Shapes.{Shape, shape_of, recorded_view}
 use Rattle.cat_ledger_laws.specs.shape.Steps.{tokens_of}
 use Rattle.cat_ledger_laws.specs.shape.Ties.{ToldFiles, Makes, TouchesNothing}
-use Rattle.cat_ledger_laws.specs.lines.RunLaws.{Answers, ReplyLike}
+use Rattle.cat_ledger_laws.specs.lines.RunLaws.{AnswersCarried, ReplyLike}
 use Rattle.cat_ledger_laws.specs.lines.LineLaws.{line_of, tells, NothingChanges, CallsAnswer, Puts, PutsAnswer, DeletesAnswer, QueryDeletesAnswer, MayRefresh, Refreshes, RefreshesAnswer, PrunesAnswer, Commits, CommitsAnswer, SnapsAnswer, UnsnapsAnswer, MemoryAnswers, StoppedPutsAnswer, StoppedRefreshesAnswer}
 use Rattle.cat_ledger_laws.specs.model.Stored.{FileBytes, AreStored}
 use Rattle.cat_ledger_laws.proofs.model.Replies.{calls_are_steps}
@@ -40,14 +40,14 @@ pub calls_answer : CallsAnswer
 calls_answer policy told told' s new line reply made l files c = let x = made l files c in (x.0, x.1, reply, record { alike = alike_self reply; same = λ h. refl }, x.2, x.3)
 
 pub answers_by : (policy : MergePolicy) (told told' : ToldFiles) (s new : Shape) (line : Line) (reply : Reply) (call : Ledger → Ledger → Type 0) → ((l l' : Ledger) → shape_of l ≡ s → call l l' → Calls policy l line reply l')
-    → Makes call told s told' new → Answers policy told s line reply told' new
+    → Makes call told s told' new → AnswersCarried policy told s line reply told' new
 answers_by policy told told' s new line reply call f m = calls_answer policy told told' s new line reply (makes_of call (λ l l'. Calls policy l line reply l') told told' s new f m)
 
 -- Where nothing of the device is touched, it is enough to say what the calls make of each ledger of the shape, that it needs no other
 -- file, and what shape that has.
 pub answers_untouched : (policy : MergePolicy) (told told' : ToldFiles) (s new : Shape) (line : Line) (reply : Reply) → TouchesNothing told told'
     → ((l : Ledger) → shape_of l ≡ s → (l' : Ledger) × (shape_of l' ≡ new) × Calls policy l line reply l' × ((files : FileBytes) → AreStored files l → AreStored files l'))
-    → Answers policy told s line reply told' new
+    → AnswersCarried policy told s line reply told' new
 answers_untouched policy told told' s new line reply same f l files c =
     let x = f l c.shape in (
       x.0,
@@ -60,7 +60,7 @@ answers_untouched policy told told' s new line reply same f l files c =
 
 -- where nothing changes, the calls have to leave each ledger of the shape as it is
 pub answers_still : (policy : MergePolicy) (told told' : ToldFiles) (s new : Shape) (line : Line) (reply : Reply) → NothingChanges told s told' new
-    → ((l : Ledger) → shape_of l ≡ s → Calls policy l line reply l) → Answers policy told s line reply told' new
+    → ((l : Ledger) → shape_of l ≡ s → Calls policy l line reply l) → AnswersCarried policy told s line reply told' new
 answers_still policy told told' s new line reply same f = calls_answer policy told told' s new line reply (makes_still (λ l l'. Calls policy l line reply l') told told' s new same.0 same.1 f)
 
 pub given : {A : Type 0} (B : Type 0) (b : Bool) → b ≡ true → A → cond b A B

@@ -23,10 +23,10 @@ use Rattle.cat_ledger_laws.proofs.model.Shown.{All-map}
 use Rattle.cat_ledger_laws.proofs.model.Stored.{each_used}
 use Rattle.cat_ledger_laws.proofs.model.Users.{All-split, Four, All-four}
 use Rattle.cat_ledger_laws.specs.shape.Shapes.{Shape, recorded_view, names_of_views, names_of_commits}
-use Rattle.cat_ledger_laws.specs.shape.Ties.{ToldFiles, IsTold, Agrees, Carries}
+use Rattle.cat_ledger_laws.specs.shape.Ties.{ToldFiles, IsTold, FilesAgree, Carries}
 use Rattle.cat_ledger_laws.proofs.shape.Committed.{commits_named}
 use Rattle.cat_ledger_laws.proofs.shape.Leaves.{any_map, views_named}
-use Rattle.cat_ledger_laws.specs.lines.NeededLaws.{IsThere, SegmentStands, LiveStands, ViewStands, CommitStands, NeededFilesStand, IsKept, NeededNamesStand, TokenStands, GenerationStands, PromisedStand, PromisedFilesStand}
+use Rattle.cat_ledger_laws.specs.lines.NeededLaws.{IsThere, SegmentStands, LiveStands, ViewStands, CommitStands, NeededFilesStand, IsFileKept, NeededNamesStand, TokenStands, GenerationStands, PromisedStand, PromisedFilesStand}
 use Rattle.cat_ledger_laws.proofs.lines.Found.{some_that, any_weaker, All-unmap, All-and}
 
 -- ---- what stands for a ledger
@@ -50,7 +50,7 @@ AreLong c = AllByRecursion IsLong (portions_in c)
 all_long : (l : Ledger) → IsLedger l → AllByRecursion AreLong l.commits
 all_long l ok = All-weaken (IsWholeCommit l.schema l.count) AreLong (λ c w. w.1.portions.lengths) l.commits ok.commits
 
-module _ (told : ToldFiles) (l : Ledger) (files : FileBytes) (agrees : Agrees told files) where
+module _ (told : ToldFiles) (l : Ledger) (files : FileBytes) (agrees : FilesAgree told files) where
   there : (q : Name) (is_so : Text → Type 0) (bytes : Text) → Used l q → files q ≡ Some bytes → is_so bytes → IsThere told l.users q is_so
   there q is_so bytes used stands so = record { used = used; there = λ content e. (bytes, subst (λ t. IsTold t (files q)) e (agrees q) ∙ stands, so) }
 
@@ -109,43 +109,43 @@ module _ (told : ToldFiles) (l : Ledger) (files : FileBytes) (agrees : Agrees to
 
   -- ---- by names
 
-  named : (q : Name) (is_so : Text → Type 0) → IsThere told l.users q is_so → IsKept told l.users q
+  named : (q : Name) (is_so : Text → Type 0) → IsThere told l.users q is_so → IsFileKept told l.users q
   named q is_so h = record { used = h.used; there = λ content e. let x = h.there content e in (x.0, x.1, tt) }
 
-  segments_named : (ps : List Portion) → AllByRecursion (SegmentStands told l.users l.schema) ps → AllByRecursion (IsKept told l.users) (flat_map names_of_portion ps)
+  segments_named : (ps : List Portion) → AllByRecursion (SegmentStands told l.users l.schema) ps → AllByRecursion (IsFileKept told l.users) (flat_map names_of_portion ps)
   segments_named [] h = tt
   segments_named (p ∷ ps) h = (
     named (Name.segment p.number) (λ bytes. SpellsSegment bytes (segment_of l.schema p)) h.0.segment,
     (named (Name.source p.number) (λ bytes. bytes ≡ joined_sources p.records) h.0.source, segments_named ps h.1),
   )
 
-  listed_named : (xs : List Listed) → AllByRecursion (λ (x : Listed). SegmentStands told l.users l.schema x.portion) xs → AllByRecursion (LiveStands told l.users) xs → AllByRecursion (IsKept told l.users) (flat_map names_of_listed xs)
+  listed_named : (xs : List Listed) → AllByRecursion (λ (x : Listed). SegmentStands told l.users l.schema x.portion) xs → AllByRecursion (LiveStands told l.users) xs → AllByRecursion (IsFileKept told l.users) (flat_map names_of_listed xs)
   listed_named [] h k = tt
   listed_named (x ∷ xs) h k =
-      All-both (IsKept told l.users) (names_of_listed x) (flat_map names_of_listed xs)
+      All-both (IsFileKept told l.users) (names_of_listed x) (flat_map names_of_listed xs)
       (named (Name.segment x.portion.number) (λ bytes. SpellsSegment bytes (segment_of l.schema x.portion)) h.0.segment, (named (Name.source x.portion.number) (λ bytes. bytes ≡ joined_sources x.portion.records) h.0.source, live_named (x.file == 0) k.0))
       (listed_named xs h.1 k.1)
     where
       live_named : (b : Bool)
           → cond b (AllByRecursion (λ c. c ≡ true) x.portion.live) (IsThere told l.users (Name.live x.portion.number x.file) (λ bytes. SpellsLive bytes (record { number = x.portion.number; generation = x.file; live = x.portion.live })))
-          → AllByRecursion (IsKept told l.users) (cond b [] (Name.live x.portion.number x.file ∷ []))
+          → AllByRecursion (IsFileKept told l.users) (cond b [] (Name.live x.portion.number x.file ∷ []))
       live_named true h = tt
       live_named false h = (named (Name.live x.portion.number x.file) (λ bytes. SpellsLive bytes (record { number = x.portion.number; generation = x.file; live = x.portion.live })) h, tt)
 
   views_kept : (vs : List RecordedView) → AllByRecursion (Used l) (flat_map names_of_view vs) → AllByRecursion (λ (v : RecordedView). AllByRecursion (IsStored files l.schema) v.portions) vs
-      → AllByRecursion (IsKept told l.users) (flat_map names_of_view vs)
+      → AllByRecursion (IsFileKept told l.users) (flat_map names_of_view vs)
   views_kept [] used h = tt
   views_kept (v ∷ vs) used h =
       let r = All-split (Used l) (names_of_view v) (flat_map names_of_view vs) used in
-      All-both (IsKept told l.users) (names_of_view v) (flat_map names_of_view vs) (segments_named v.portions (segments v.portions r.0 h.0)) (views_kept vs r.1 h.1)
+      All-both (IsFileKept told l.users) (names_of_view v) (flat_map names_of_view vs) (segments_named v.portions (segments v.portions r.0 h.0)) (views_kept vs r.1 h.1)
 
   commits_kept : (cs : List LedgerCommit) → AllByRecursion AreLong cs → AllByRecursion (Used l) (flat_map names_of_commit cs) → AllByRecursion (IsCommitStored files l.schema) cs
-      → AllByRecursion (IsKept told l.users) (flat_map names_of_commit cs)
+      → AllByRecursion (IsFileKept told l.users) (flat_map names_of_commit cs)
   commits_kept [] long used h = tt
   commits_kept (c ∷ cs) long used h =
       let r = All-split (Used l) (names_of_commit c) (flat_map names_of_commit cs) used in
       let k = commit c long.0 r.0 h.0 in
-      All-both (IsKept told l.users) (names_of_commit c) (flat_map names_of_commit cs)
+      All-both (IsFileKept told l.users) (names_of_commit c) (flat_map names_of_commit cs)
       (named (Name.commit c.generation) (λ bytes. SpellsCommit bytes (commit_file l.schema c)) k.file, listed_named c.listed (listed c.listed r.0.1 h.0.portions) (lives c.listed r.0.1 h.0.live))
       (commits_kept cs long.1 r.1 h.1)
 
@@ -168,11 +168,11 @@ needed_files_stand told s l files c =
 pub needed_names_stand : NeededNamesStand
 needed_names_stand told s l files c =
     let four = names_have_users l c.sound in
-    subst (λ (s : Shape). All (IsKept told s.users) (names_of_views s.views) × All (IsKept told s.users) (names_of_commits s.commits)) c.shape (
-      All-from_recursion (IsKept told l.users) (names_of_views (map (recorded_view l.schema) l.views))
-          (subst (λ ns. AllByRecursion (IsKept told l.users) ns) (sym (views_named l.schema l.views)) (views_kept told l files c.agrees l.views four.views c.stored.views)),
-      All-from_recursion (IsKept told l.users) (names_of_commits (map (commit_file l.schema) l.commits))
-          (subst (λ ns. AllByRecursion (IsKept told l.users) ns) (sym (commits_named l.schema l.commits)) (commits_kept told l files c.agrees l.commits (all_long l c.sound) four.commits c.stored.commits)),
+    subst (λ (s : Shape). All (IsFileKept told s.users) (names_of_views s.views) × All (IsFileKept told s.users) (names_of_commits s.commits)) c.shape (
+      All-from_recursion (IsFileKept told l.users) (names_of_views (map (recorded_view l.schema) l.views))
+          (subst (λ ns. AllByRecursion (IsFileKept told l.users) ns) (sym (views_named l.schema l.views)) (views_kept told l files c.agrees l.views four.views c.stored.views)),
+      All-from_recursion (IsFileKept told l.users) (names_of_commits (map (commit_file l.schema) l.commits))
+          (subst (λ ns. AllByRecursion (IsFileKept told l.users) ns) (sym (commits_named l.schema l.commits)) (commits_kept told l files c.agrees l.commits (all_long l c.sound) four.commits c.stored.commits)),
     )
 
 -- ---- of a run
@@ -184,7 +184,7 @@ and_second : (a b : Bool) → (a && b) ≡ true → b ≡ true
 and_second true b h = h
 and_second false b h = absurd (let no : false ≡ true = h in cc)
 
-module _ (told : ToldFiles) (from : Opened) (run : Run) (l : Ledger) (files : FileBytes) (agrees : Agrees told files) (ok : IsLedger l) (stored : AreStored files l) (stands : StandsFor from run (state_of l)) where
+module _ (told : ToldFiles) (from : Opened) (run : Run) (l : Ledger) (files : FileBytes) (agrees : FilesAgree told files) (ok : IsLedger l) (stored : AreStored files l) (stands : StandsFor from run (state_of l)) where
   -- the table of each view is the run's
   tables : AllByRecursion (λ (v : RecordedView). records_of v.portions ≡ table from.start (writes run) v.token) l.views
   tables =

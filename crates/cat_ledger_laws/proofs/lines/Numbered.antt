@@ -10,7 +10,7 @@ use Rattle.cat_ledger_laws.specs.model.Ledger.{Ledger, state_of}
 use Rattle.cat_ledger_laws.specs.model.Plans.{MergePolicy}
 use Rattle.cat_ledger_laws.specs.model.Replies.{Maintains, SnapsBy, CarriesOut, IsLeft, FindsNone, Calls}
 use Rattle.cat_ledger_laws.specs.shape.Shapes.{Shape}
-use Rattle.cat_ledger_laws.specs.lines.StayLaws.{IsOneMoreAtMost, NumbersRise}
+use Rattle.cat_ledger_laws.specs.lines.StayLaws.{IsOneMoreAtMost, NumbersRiseByOne}
 use Rattle.cat_ledger_laws.proofs.lines.StopAnswers.{takes_one}
 
 -- the numbers of a ledger that come next, each the same or one more
@@ -154,7 +154,7 @@ calls_rise policy l new line r (inr (inr m)) = none_rises l line.session r new l
 both : (a b a' b' : ℕ) → a ≡ b → a' ≡ b' → IsOneMoreAtMost a a' → IsOneMoreAtMost b b'
 both a b a' b' e f k = (let x = k.0 in omega (arith, e, f, x), let y = k.1 in omega (arith, e, f, y))
 
-pub numbers_rise : NumbersRise
+pub numbers_rise : NumbersRiseByOne
 numbers_rise policy told told' s new line reply l files c answers =
     let x = answers l files c in
     let k = calls_rise policy l x.0 line x.2 x.4 in (

@@ -11,7 +11,7 @@ use Rattle.cat_model.specs.View.{Leaf, row_of}
 use Rattle.cat_model.specs.Window.{IsMergeable, IsWindow}
 use Rattle.cat_ledger_laws.specs.model.Portions.{Portion, leaf_of, Merging, all_records}
 use Rattle.cat_ledger_laws.specs.model.Ledger.{Ledger}
-use Rattle.cat_ledger_laws.specs.model.Calls.{Begun, Copied, Installed}
+use Rattle.cat_ledger_laws.specs.model.Calls.{MergeBegun, Copied, Installed}
 use Rattle.cat_ledger_laws.specs.model.Plans.{MergePolicy, MayBeForced, sizes_of, live_sets_of}
 use Rattle.cat_ledger_laws.specs.model.Replies.{Maintains, Calls}
 use Rattle.cat_ledger_laws.specs.shape.Shapes.{MergingShape, Shape, shape_of, merging_shape, merging_of}
@@ -50,7 +50,7 @@ idle_of s l is e = no_merge l.schema l.merging (ap (λ (s : Shape). s.merging) i
 
 pub merges_begin : MergesBegin
 merges_begin policy index s new told told' w =
-    makes_of (Begun index policy.factor) (Maintains policy Chore.merge (News.begun_merge policy.factor)) told told' s new (λ l l' is call. (refl, index, window_of policy (Some index) s l is w, call))
+    makes_of (MergeBegun index policy.factor) (Maintains policy Chore.merge (News.begun_merge policy.factor)) told told' s new (λ l l' is call. (refl, index, window_of policy (Some index) s l is w, call))
 
 pub merges_rest : MergesRest
 merges_rest policy s told told' idle w touches =
@@ -68,7 +68,7 @@ merges_are_done policy m s new told told' = makes_of (OfMerge m Installed) (Main
 
 pub forces_begin : ForcesBegin
 forces_begin policy s new told told' may =
-    makes_of (Begun 0 (length s.leaves)) (Maintains policy Chore.force (News.begun_merge (length s.leaves))) told told' s new (λ l l' is call. (
+    makes_of (MergeBegun 0 (length s.leaves)) (Maintains policy Chore.force (News.begun_merge (length s.leaves))) told told' s new (λ l l' is call. (
       ap (λ (s : Shape). length s.leaves) (sym is) ∙ length_map (leaf_of l.schema) l.portions,
       subst (λ A. A) (forced_of l) (subst (λ (s : Shape). MayBeForced (sizes_in s.leaves) (live_sets_in s.leaves)) (sym is) may),
       call,

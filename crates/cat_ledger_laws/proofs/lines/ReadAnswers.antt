@@ -30,7 +30,7 @@ use Rattle.cat_ledger_laws.proofs.shape.Told.{carries_still}
 use Rattle.cat_ledger_laws.proofs.shape.Leaves.{any_map, map_twice}
 use Rattle.cat_ledger_laws.specs.lines.RunLaws.{ReplyLike}
 use Rattle.cat_ledger_laws.specs.lines.LineLaws.{line_of}
-use Rattle.cat_ledger_laws.specs.lines.ReadLaws.{IsRecordedAs, Finds, ReadsAnswer, UnheldReadsAnswer, TellsSources, length_shown, IsTextOf, GetsAnswer, SourcesAreWhole, FilesAnswer, UnheldFilesAnswer, kept_under, CommitFilesAnswer, UnkeptFilesAnswer, TextsAnswer, UnkeptTextsAnswer}
+use Rattle.cat_ledger_laws.specs.lines.ReadLaws.{IsRecordedAs, ReadFinds, ReadsAnswer, UnheldReadsAnswer, TellsSources, length_shown, IsTextOf, GetsAnswer, SourcesAreWhole, FilesAnswer, UnheldFilesAnswer, kept_under, CommitFilesAnswer, UnkeptFilesAnswer, TextsAnswer, UnkeptTextsAnswer}
 use Rattle.cat_ledger_laws.proofs.lines.LineAnswers.{answers_still, given, denied}
 use Rattle.cat_ledger_laws.proofs.lines.HoldAnswers.{held_as}
 use Rattle.cat_ledger_laws.proofs.lines.Found.{find_map, found_in, any_found, holds_found, All-unmap, All-and}
@@ -63,7 +63,7 @@ reads_under l session t view asked u held =
 pub reads_answer : ReadsAnswer
 reads_answer policy told told' s new session t asked view found held is finds still = answers_still policy told told' s new (line_of session (Command.read t asked)) (found_reply found) still (λ l e.
     let u = under s l e t view is in
-    let here : Finds (recorded_view l.schema u.own) asked found = subst (λ v. Finds v asked found) (sym u.seen) finds in
+    let here : ReadFinds (recorded_view l.schema u.own) asked found = subst (λ v. ReadFinds v asked found) (sym u.seen) finds in
     let same : answer l.schema (records_of u.own.portions) asked ≡ found = here (records_of u.own.portions) (rows-shown l.schema u.own.portions) in
     inl (sym (reads_under l session t view asked u (held_as s l e session t true held) ∙ ap found_reply same), refl))
 

@@ -18,7 +18,7 @@ use Rattle.cat_ledger_laws.specs.model.Portions.{Portion, records_of, all_record
 use Rattle.cat_ledger_laws.specs.model.Users.{times}
 use Rattle.cat_model.specs.CommitFile.{live_names}
 use Rattle.cat_ledger_laws.specs.model.Ledger.{Listed, LedgerCommit, IsPutRecord, AreWhole, IsLedger, IsWholeView, IsWholeCommit, portions_in, state_of, table_of, names_used, names_of_portion, names_of_view, names_of_listed, names_of_commit, names_of_merging, IsPast, NotOf, IsAlone, view_shown, commit_shown}
-use Rattle.cat_ledger_laws.specs.model.Calls.{all_alive, same_live, file_in, file_for, listed_in, newest_listed, commit_of, commits_that, commits_not, newest_in}
+use Rattle.cat_ledger_laws.specs.model.Calls.{all_alive, same_live, portion_file_in, portion_file_for, listed_in, newest_listed, commit_of, commits_that, commits_not, newest_in}
 use Rattle.cat_ledger_laws.specs.model.Laws.{CommitsAreKept, SnapshotsAreTaken, SnapshotsAreGiven, OpenedAreFresh}
 use Rattle.cat_ledger_laws.proofs.model.Alone.{nobody_alone}
 use Rattle.cat_ledger_laws.proofs.model.Marked.{All-marked, Apart-marked, Apart-kept, records-marked}
@@ -52,13 +52,13 @@ newest_all P o (c ∷ cs) h a = let r = All-split P (names_of_commit c) (flat_ma
 
 module _ (xs : List Listed) (g : ℕ) where
   listed : Portion → Listed
-  listed p = record { portion = p; file = file_for xs g p }
+  listed p = record { portion = p; file = portion_file_for xs g p }
 
-  pub portions_listed : (ps : List Portion) → map (λ (x : Listed). x.portion) (map (λ p. record { portion = p; file = file_for xs g p }) ps) ≡ ps
+  pub portions_listed : (ps : List Portion) → map (λ (x : Listed). x.portion) (map (λ p. record { portion = p; file = portion_file_for xs g p }) ps) ≡ ps
   portions_listed [] = refl
   portions_listed (p ∷ ps) = ap (λ l. p ∷ l) (portions_listed ps)
 
-file_past : (n g : ℕ) (xs : List Listed) (p : Portion) → AllByRecursion (IsPast n g) (flat_map names_of_listed xs) → file_in xs p < g + 1
+file_past : (n g : ℕ) (xs : List Listed) (p : Portion) → AllByRecursion (IsPast n g) (flat_map names_of_listed xs) → portion_file_in xs p < g + 1
 file_past n g [] p a = omega arith
 file_past n g (x ∷ xs) p a =
     let r = All-split (IsPast n g) (names_of_listed x) (flat_map names_of_listed xs) a in
@@ -68,14 +68,14 @@ file_past n g (x ∷ xs) p a =
     own b (inl e) h = omega (arith, e.1)
     own b (inr e) h = let k : AllByRecursion (IsPast n g) (cond false [] (Name.live x.portion.number x.file ∷ [])) = subst (λ c. AllByRecursion (IsPast n g) (cond c [] (Name.live x.portion.number x.file ∷ []))) e.0 h in let less : x.file < g = k.0.1.1 in omega arith
 
-    by : (b : Bool) → x.file < g + 1 → file_in xs p < g + 1 → cond b x.file (file_in xs p) < g + 1
+    by : (b : Bool) → x.file < g + 1 → portion_file_in xs p < g + 1 → cond b x.file (portion_file_in xs p) < g + 1
     by true h k = h
     by false h k = k
 
-pub file_for_past : (n g : ℕ) (xs : List Listed) (p : Portion) → AllByRecursion (IsPast n g) (flat_map names_of_listed xs) → file_for xs g p < g + 1
-file_for_past n g xs p a = by (all_alive p.live) (file_in xs p == 0) (file_past n g xs p a)
+pub file_for_past : (n g : ℕ) (xs : List Listed) (p : Portion) → AllByRecursion (IsPast n g) (flat_map names_of_listed xs) → portion_file_for xs g p < g + 1
+file_for_past n g xs p a = by (all_alive p.live) (portion_file_in xs p == 0) (file_past n g xs p a)
   where
-    by : (b c : Bool) → file_in xs p < g + 1 → cond b 0 (cond c g (file_in xs p)) < g + 1
+    by : (b c : Bool) → portion_file_in xs p < g + 1 → cond b 0 (cond c g (portion_file_in xs p)) < g + 1
     by true c h = omega arith
     by false true h = omega arith
     by false false h = h
@@ -85,14 +85,14 @@ some_file zero some = absurd (some refl)
 some_file (suc f) some = omega arith
 
 names_listed : (n g : ℕ) (xs : List Listed) (ps : List Portion) → AllByRecursion (IsPast n g) (flat_map names_of_listed xs) → AllByRecursion (IsPast n g) (flat_map names_of_portion ps)
-    → AllByRecursion (IsPast n (g + 1)) (flat_map names_of_listed (map (λ p. record { portion = p; file = file_for xs g p }) ps))
+    → AllByRecursion (IsPast n (g + 1)) (flat_map names_of_listed (map (λ p. record { portion = p; file = portion_file_for xs g p }) ps))
 names_listed n g xs [] a h = tt
-names_listed n g xs (p ∷ ps) a h = (h.0, (h.1.0, All-both (IsPast n (g + 1)) (live_names p.number (file_for xs g p)) _ (own (file_for xs g p == 0) (eqb_tells (file_for xs g p) 0)) (names_listed n g xs ps a h.1.1)))
+names_listed n g xs (p ∷ ps) a h = (h.0, (h.1.0, All-both (IsPast n (g + 1)) (live_names p.number (portion_file_for xs g p)) _ (own (portion_file_for xs g p == 0) (eqb_tells (portion_file_for xs g p) 0)) (names_listed n g xs ps a h.1.1)))
   where
-    own : (b : Bool) → ((b ≡ true) × (file_for xs g p ≡ 0)) ⊎ ((b ≡ false) × (file_for xs g p ≢ 0)) → AllByRecursion (IsPast n (g + 1)) (cond b [] (Name.live p.number (file_for xs g p) ∷ []))
+    own : (b : Bool) → ((b ≡ true) × (portion_file_for xs g p ≡ 0)) ⊎ ((b ≡ false) × (portion_file_for xs g p ≢ 0)) → AllByRecursion (IsPast n (g + 1)) (cond b [] (Name.live p.number (portion_file_for xs g p) ∷ []))
     own true e = tt
     own false (inl e) = absurd (let no : false ≡ true = e.0 in cc)
-    own false (inr e) = ((h.0, (some_file (file_for xs g p) e.1, file_for_past n g xs p a)), tt)
+    own false (inr e) = ((h.0, (some_file (portion_file_for xs g p) e.1, file_for_past n g xs p a)), tt)
 
 commit_apart : (o : Option Merging) (g : ℕ) → NotOf o (Name.commit g)
 commit_apart None g = tt
@@ -103,13 +103,13 @@ live_apart None n d h = tt
 live_apart (Some m) n d h = h
 
 listed_apart : (o : Option Merging) (xs : List Listed) (g : ℕ) (ps : List Portion) → AllByRecursion (NotOf o) (flat_map names_of_portion ps)
-    → AllByRecursion (NotOf o) (flat_map names_of_listed (map (λ p. record { portion = p; file = file_for xs g p }) ps))
+    → AllByRecursion (NotOf o) (flat_map names_of_listed (map (λ p. record { portion = p; file = portion_file_for xs g p }) ps))
 listed_apart o xs g [] h = tt
-listed_apart o xs g (p ∷ ps) h = (h.0, (h.1.0, All-both (NotOf o) (live_names p.number (file_for xs g p)) _ (own (file_for xs g p == 0)) (listed_apart o xs g ps h.1.1)))
+listed_apart o xs g (p ∷ ps) h = (h.0, (h.1.0, All-both (NotOf o) (live_names p.number (portion_file_for xs g p)) _ (own (portion_file_for xs g p == 0)) (listed_apart o xs g ps h.1.1)))
   where
-    own : (b : Bool) → AllByRecursion (NotOf o) (cond b [] (Name.live p.number (file_for xs g p) ∷ []))
+    own : (b : Bool) → AllByRecursion (NotOf o) (cond b [] (Name.live p.number (portion_file_for xs g p) ∷ []))
     own true = tt
-    own false = (live_apart o p.number (file_for xs g p) h.0, tt)
+    own false = (live_apart o p.number (portion_file_for xs g p) h.0, tt)
 
 -- ---- COMMIT
 

@@ -10,7 +10,7 @@ use Rattle.cat_model.specs.Write.{Write, removes}
 use Rattle.cat_model.specs.Table.{without, put_last, after}
 use Rattle.cat_model.specs.Files.{Name}
 use Rattle.cat_model.proofs.Lists.{All-weaken, All-both, All-kept}
-use Rattle.cat_ledger_laws.specs.model.Portions.{Portion, live_records, records_of, all_records, Apart, ArePortions, all_live, live_after, portions_after, Reduced, Merging, window_now, IsMergingOf, IsMerging}
+use Rattle.cat_ledger_laws.specs.model.Portions.{Portion, live_records, records_of, all_records, Apart, ArePortions, all_live, live_after, portions_after, Reduced, Merging, portion_window_now, IsMergingOf, IsMerging}
 use Rattle.cat_ledger_laws.specs.model.Users.{times, AreUsed}
 use Rattle.cat_ledger_laws.specs.model.Ledger.{Ledger, IsPutRecord, IsLedger, IsWholeView, IsWholeCommit, state_of, table_of, names_used, names_of_portion, names_of_view, names_of_commit, names_of_merging, IsPast, NotOf, view_shown, commit_shown}
 use Rattle.cat_ledger_laws.specs.model.Calls.{Flushed, wrote}
@@ -60,9 +60,9 @@ module _ (n : ℕ) (rs : List Record) (ps : List Portion) where
   }
 
 -- the window stays where portions come after it
-pub window_stays : (m : Merging) (ps qs : List Portion) → IsMergingOf ps m → window_now m (ps ++ qs) ≡ window_now m ps
+pub window_stays : (m : Merging) (ps qs : List Portion) → IsMergingOf ps m → portion_window_now m (ps ++ qs) ≡ portion_window_now m ps
 window_stays m ps qs ok =
-    let whole : length (take (length m.inputs) (drop m.index ps)) ≡ length m.inputs = Reduced-length m.inputs (window_now m ps) ok.stand in
+    let whole : length (take (length m.inputs) (drop m.index ps)) ≡ length m.inputs = Reduced-length m.inputs (portion_window_now m ps) ok.stand in
     let left : length m.inputs ≤ length (drop m.index ps) = omega (arith, whole, length-take (length m.inputs) (drop m.index ps)) in
     let within : m.index ≤ length ps = omega (arith, left, ok.some, length-drop m.index ps) in
     ap (take (length m.inputs)) (drop-append-le m.index ps qs within) ∙ take-append-le (length m.inputs) (drop m.index ps) qs left
@@ -213,7 +213,7 @@ merging_written : (w : Write) (ps : List Portion) (o : Option Merging) → IsMer
 merging_written w ps None ok = tt
 merging_written w ps (Some m) ok = record {
   some = ok.some;
-  stand = Reduced-then m.inputs (window_now m ps) (window_now m (portions_after w ps)) ok.stand (Reduced-take (length m.inputs) _ _ (Reduced-drop m.index ps (portions_after w ps) (portions_less w ps)));
+  stand = Reduced-then m.inputs (portion_window_now m ps) (portion_window_now m (portions_after w ps)) ok.stand (Reduced-take (length m.inputs) _ _ (Reduced-drop m.index ps (portions_after w ps) (portions_less w ps)));
   lengths = ok.lengths;
   within = ok.within;
   kept = ok.kept;

@@ -6,7 +6,7 @@ use Rattle.std.proofs.lemmas.Grind.{flat_map-append}
 use Rattle.cat_model.specs.Item.{Record}
 use Rattle.cat_model.specs.View.{selected}
 use Rattle.cat_model.proofs.Lists.{All-weaken, All-both}
-use Rattle.cat_ledger_laws.specs.model.Portions.{Portion, live_records, records_of, all_records, lives_of, Apart, ArePortions, Merging, window_now, IsMergingOf, IsMerging, settled, merged, installed}
+use Rattle.cat_ledger_laws.specs.model.Portions.{Portion, live_records, records_of, all_records, lives_of, Apart, ArePortions, Merging, portion_window_now, IsMergingOf, IsMerging, settled, merged, installed}
 use Rattle.cat_model.specs.Files.{Name}
 use Rattle.cat_ledger_laws.specs.model.Users.{times}
 use Rattle.cat_ledger_laws.specs.model.Ledger.{IsPutRecord, IsLedger, state_of, names_used, names_of_portion, names_of_view, names_of_commit, names_of_merging, IsPast, view_shown, commit_shown}
@@ -35,7 +35,7 @@ module _ (m : Merging) (ps : List Portion) (ok : IsMergingOf ps m) (full : Full 
   later = drop (m.index + length m.inputs) ps
 
   abbrev now : List Portion
-  now = window_now m ps
+  now = portion_window_now m ps
 
   parts : ps ≡ before ++ (now ++ later)
   parts = three ps m.index (length m.inputs)
@@ -186,14 +186,14 @@ merges_change_no_state m l new ok call =
     let past : Four P (flat_map names_of_portion l.portions) views commits (names_of_merging l.merging) = All-four P _ _ _ _ ok.fresh in
     let its : AllByRecursion P (Name.source m.number ∷ []) = subst (λ o. AllByRecursion P (names_of_merging o)) call.making past.merging in
     let taken : List Name = flat_map names_of_portion (merged m.kept (settled m l.portions)) in
-    let given : List Name = flat_map names_of_portion (window_now m l.portions) ++ Name.source m.number ∷ [] in
+    let given : List Name = flat_map names_of_portion (portion_window_now m l.portions) ++ Name.source m.number ∷ [] in
     let balance : (q : Name) → times q (flat_map names_of_portion next ++ (views ++ (commits ++ []))) + times q given ≡ times q (names_used l) + times q taken = λ q. omega (
       arith,
       installed_times m l.portions making full call.all q,
       ap (λ o. times q (names_of_merging o)) call.making,
       times-four q (flat_map names_of_portion next) views commits [],
       times-four q (flat_map names_of_portion l.portions) views commits (names_of_merging l.merging),
-      times-append q (flat_map names_of_portion (window_now m l.portions)) (Name.source m.number ∷ []),
+      times-append q (flat_map names_of_portion (portion_window_now m l.portions)) (Name.source m.number ∷ []),
     ) in (
       subst IsLedger (sym call.rest) (record {
         portions = installed_portions m l.portions making full call.all ok.portions.numbers;

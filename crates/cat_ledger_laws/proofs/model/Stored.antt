@@ -11,8 +11,8 @@ use Rattle.cat_ledger_laws.specs.model.Portions.{Portion, all_live, portions_aft
 use Rattle.cat_ledger_laws.specs.model.Users.{same_file_name, has_name, times}
 use Rattle.cat_model.specs.CommitFile.{live_names}
 use Rattle.cat_ledger_laws.specs.model.Ledger.{Ledger, RecordedView, Listed, LedgerCommit, IsLedger, names_used, names_of_portion, names_of_view, names_of_listed, names_of_commit, names_of_merging, IsPast, IsNew, IsOther, IsAlone}
-use Rattle.cat_ledger_laws.specs.model.Stored.{FileBytes, joined_sources, IsStored, IsSegmentStored, IsLiveStored, HasLive, IsCommitStored, IsMergeStored, AreStored, Spares, ChangesOnly}
-use Rattle.cat_ledger_laws.specs.model.Calls.{all_alive, same_live, file_in, file_for, listed_in, newest_listed, commit_of, view_now, files_begun}
+use Rattle.cat_ledger_laws.specs.model.Stored.{FileBytes, joined_sources, IsStored, IsSegmentStored, IsLiveStored, HasLive, IsCommitStored, IsMergeStored, AreStored, SparesFiles, ChangesOnly}
+use Rattle.cat_ledger_laws.specs.model.Calls.{all_alive, same_live, portion_file_in, portion_file_for, listed_in, newest_listed, commit_of, recorded_view_now, files_begun}
 use Rattle.cat_ledger_laws.specs.model.Laws.{FilesStay, WritesStore, FlushesStore, RecordsStore, PrunesStore, CommitsStore, UnsnapsStore, BegunStore, CopiesStore, MergesStore, EndsStore, RefusalsStore, SweepsSpare}
 use Rattle.cat_ledger_laws.proofs.model.Users.{All-split, times-append, Four, All-four}
 use Rattle.cat_ledger_laws.proofs.model.Merges.{three}
@@ -23,24 +23,24 @@ module _ (fs gs : FileBytes) where
   Same : Name → Type 0
   Same q = gs q ≡ fs q
 
-  stored_stay : (schema : Schema) (p : Portion) → Spares (names_of_portion p) fs gs → IsStored fs schema p → IsStored gs schema p
+  stored_stay : (schema : Schema) (p : Portion) → SparesFiles (names_of_portion p) fs gs → IsStored fs schema p → IsStored gs schema p
   stored_stay schema p s ok = record { segment = record { bytes = ok.segment.bytes; there = s.0 ∙ ok.segment.there; spelled = ok.segment.spelled }; source = s.1.0 ∙ ok.source }
 
-  portions_stay : (schema : Schema) (ps : List Portion) → Spares (flat_map names_of_portion ps) fs gs → AllByRecursion (IsStored fs schema) ps → AllByRecursion (IsStored gs schema) ps
+  portions_stay : (schema : Schema) (ps : List Portion) → SparesFiles (flat_map names_of_portion ps) fs gs → AllByRecursion (IsStored fs schema) ps → AllByRecursion (IsStored gs schema) ps
   portions_stay schema [] s a = tt
   portions_stay schema (p ∷ ps) s a = (stored_stay schema p (s.0, (s.1.0, tt)) a.0, portions_stay schema ps s.1.1 a.1)
 
-  views_stay : (schema : Schema) (vs : List RecordedView) → Spares (flat_map names_of_view vs) fs gs → AllByRecursion (λ v. AllByRecursion (IsStored fs schema) v.portions) vs → AllByRecursion (λ v. AllByRecursion (IsStored gs schema) v.portions) vs
+  views_stay : (schema : Schema) (vs : List RecordedView) → SparesFiles (flat_map names_of_view vs) fs gs → AllByRecursion (λ v. AllByRecursion (IsStored fs schema) v.portions) vs → AllByRecursion (λ v. AllByRecursion (IsStored gs schema) v.portions) vs
   views_stay schema [] s a = tt
   views_stay schema (v ∷ vs) s a =
       let r = All-split (λ q. gs q ≡ fs q) (names_of_view v) (flat_map names_of_view vs) s in
       (portions_stay schema v.portions r.0 a.0, views_stay schema vs r.1 a.1)
 
-  live_stay : (x : Listed) (b : Bool) → Spares (cond b [] (Name.live x.portion.number x.file ∷ [])) fs gs → cond b (AllByRecursion (λ b. b ≡ true) x.portion.live) (IsLiveStored fs x) → cond b (AllByRecursion (λ b. b ≡ true) x.portion.live) (IsLiveStored gs x)
+  live_stay : (x : Listed) (b : Bool) → SparesFiles (cond b [] (Name.live x.portion.number x.file ∷ [])) fs gs → cond b (AllByRecursion (λ b. b ≡ true) x.portion.live) (IsLiveStored fs x) → cond b (AllByRecursion (λ b. b ≡ true) x.portion.live) (IsLiveStored gs x)
   live_stay x true s a = a
   live_stay x false s a = record { bytes = a.bytes; there = s.0 ∙ a.there; spelled = a.spelled }
 
-  listed_stay : (schema : Schema) (xs : List Listed) → Spares (flat_map names_of_listed xs) fs gs → AllByRecursion (λ x. IsStored fs schema x.portion) xs → AllByRecursion (HasLive fs) xs
+  listed_stay : (schema : Schema) (xs : List Listed) → SparesFiles (flat_map names_of_listed xs) fs gs → AllByRecursion (λ x. IsStored fs schema x.portion) xs → AllByRecursion (HasLive fs) xs
       → AllByRecursion (λ x. IsStored gs schema x.portion) xs × AllByRecursion (HasLive gs) xs
   listed_stay schema [] s a h = (tt, tt)
   listed_stay schema (x ∷ xs) s a h =
@@ -48,17 +48,17 @@ module _ (fs gs : FileBytes) where
       let rest = listed_stay schema xs r.1 a.1 h.1 in
       ((stored_stay schema x.portion (s.0, (s.1.0, tt)) a.0, rest.0), (live_stay x (x.file == 0) r.0 h.0, rest.1))
     where
-      s_rest : Spares (names_of_listed x ++ flat_map names_of_listed xs) fs gs → Spares (live_names x.portion.number x.file ++ flat_map names_of_listed xs) fs gs
+      s_rest : SparesFiles (names_of_listed x ++ flat_map names_of_listed xs) fs gs → SparesFiles (live_names x.portion.number x.file ++ flat_map names_of_listed xs) fs gs
       s_rest s = s.1.1
 
-  commits_stay : (schema : Schema) (cs : List LedgerCommit) → Spares (flat_map names_of_commit cs) fs gs → AllByRecursion (IsCommitStored fs schema) cs → AllByRecursion (IsCommitStored gs schema) cs
+  commits_stay : (schema : Schema) (cs : List LedgerCommit) → SparesFiles (flat_map names_of_commit cs) fs gs → AllByRecursion (IsCommitStored fs schema) cs → AllByRecursion (IsCommitStored gs schema) cs
   commits_stay schema [] s a = tt
   commits_stay schema (c ∷ cs) s a =
       let r = All-split (λ q. gs q ≡ fs q) (names_of_commit c) (flat_map names_of_commit cs) s in
       let x = listed_stay schema c.listed r.0.1 a.0.portions a.0.live in
       (record { commit = record { bytes = a.0.commit.bytes; there = r.0.0 ∙ a.0.commit.there; spelled = a.0.commit.spelled }; portions = x.0; live = x.1 }, commits_stay schema cs r.1 a.1)
 
-  merge_stays : (o : Option Merging) → Spares (names_of_merging o) fs gs → IsMergeStored fs o → IsMergeStored gs o
+  merge_stays : (o : Option Merging) → SparesFiles (names_of_merging o) fs gs → IsMergeStored fs o → IsMergeStored gs o
   merge_stays None s a = tt
   merge_stays (Some m) s a = s.0 ∙ a
 
@@ -121,7 +121,7 @@ new_commit n g ps (Name.source m) p = new_live n g ps (Name.source m) p
 new_commit n g ps (Name.live m d) p = new_live n g ps (Name.live m d) p
 new_commit n g ps (Name.commit d) p = rw (less_differs d g p.1) (new_live n g ps (Name.commit d) p)
 
-spared : (P : Name → Type 0) (but names : List Name) (fs gs : FileBytes) → ChangesOnly but fs gs → ((q : Name) → P q → has_name q but ≡ false) → AllByRecursion P names → Spares names fs gs
+spared : (P : Name → Type 0) (but names : List Name) (fs gs : FileBytes) → ChangesOnly but fs gs → ((q : Name) → P q → has_name q but ≡ false) → AllByRecursion P names → SparesFiles names fs gs
 spared P but names fs gs leaves new a = All-weaken P (λ q. gs q ≡ fs q) (λ q p. leaves q (new q p)) names a
 
 past_new : (n g : ℕ) (q b : Name) → IsPast n g q → IsNew n g b → same_file_name q b ≡ false
@@ -173,7 +173,7 @@ flushes_store l new fs gs sound ok call leaves there =
 pub records_store : RecordsStore
 records_store l new fs ok call = subst (AreStored fs) (sym call.rest) (record {
   portions = ok.portions;
-  views = All-both (λ v. AllByRecursion (IsStored fs l.schema) v.portions) _ (view_now l ∷ []) (All-kept (λ v. AllByRecursion (IsStored fs l.schema) v.portions) _ l.views ok.views) (ok.portions, tt);
+  views = All-both (λ v. AllByRecursion (IsStored fs l.schema) v.portions) _ (recorded_view_now l ∷ []) (All-kept (λ v. AllByRecursion (IsStored fs l.schema) v.portions) _ l.views ok.views) (ok.portions, tt);
   commits = ok.commits;
   merging = ok.merging;
 })
@@ -204,7 +204,7 @@ module _ (m : Merging) (l : Ledger) (fs gs : FileBytes) (but : List Name) (sound
   alone : IsAlone (Some m) l.portions l.views l.commits
   alone = subst (λ o. IsAlone o l.portions l.views l.commits) making sound.alone
 
-  spare_portions : Spares (flat_map names_of_portion l.portions) fs gs
+  spare_portions : SparesFiles (flat_map names_of_portion l.portions) fs gs
   spare_portions = spared (IsOther m.number) but _ fs gs leaves new alone.portions
 
   others_portions : AllByRecursion (IsStored gs l.schema) l.portions
@@ -301,28 +301,28 @@ module _ (gs : FileBytes) (p : Portion) where
   }
 
   -- a live set that some commit has is in the file of it
-  found : (xs : List Listed) → AllByRecursion (HasLive gs) xs → (file_in xs p == 0) ≡ false → IsLiveStored gs (record { portion = p; file = file_in xs p })
+  found : (xs : List Listed) → AllByRecursion (HasLive gs) xs → (portion_file_in xs p == 0) ≡ false → IsLiveStored gs (record { portion = p; file = portion_file_in xs p })
   found [] a e = absurd (let no : true ≡ false = e in cc)
   found (x ∷ xs) a e = by ((x.portion.number == p.number) && same_live x.portion.live p.live) refl (found xs a.1) e
     where
-      by : (b : Bool) → ((x.portion.number == p.number) && same_live x.portion.live p.live) ≡ b → ((file_in xs p == 0) ≡ false → IsLiveStored gs (record { portion = p; file = file_in xs p }))
-          → (cond b x.file (file_in xs p) == 0) ≡ false → IsLiveStored gs (record { portion = p; file = cond b x.file (file_in xs p) })
+      by : (b : Bool) → ((x.portion.number == p.number) && same_live x.portion.live p.live) ≡ b → ((portion_file_in xs p == 0) ≡ false → IsLiveStored gs (record { portion = p; file = portion_file_in xs p }))
+          → (cond b x.file (portion_file_in xs p) == 0) ≡ false → IsLiveStored gs (record { portion = p; file = cond b x.file (portion_file_in xs p) })
       by true h rest e =
           let k = and_both (x.portion.number == p.number) (same_live x.portion.live p.live) h in
           moved x (same_number x.portion.number p.number k.0) (same_live_is x.portion.live p.live k.1) (subst (λ c. cond c (AllByRecursion (λ b. b ≡ true) x.portion.live) (IsLiveStored gs x)) e a.0)
       by false h rest e = rest e
 
-  has_live : (xs : List Listed) (g : ℕ) → 0 < g → AllByRecursion (HasLive gs) xs → (file_for xs g p ≡ g → IsLiveStored gs (record { portion = p; file = g })) → HasLive gs (record { portion = p; file = file_for xs g p })
-  has_live xs g some a own = by (all_alive p.live) refl (file_in xs p == 0) refl own
+  has_live : (xs : List Listed) (g : ℕ) → 0 < g → AllByRecursion (HasLive gs) xs → (portion_file_for xs g p ≡ g → IsLiveStored gs (record { portion = p; file = g })) → HasLive gs (record { portion = p; file = portion_file_for xs g p })
+  has_live xs g some a own = by (all_alive p.live) refl (portion_file_in xs p == 0) refl own
     where
       has_own : IsLiveStored gs (record { portion = p; file = g }) → HasLive gs (record { portion = p; file = g })
       has_own h = subst (λ c. cond c (AllByRecursion (λ b. b ≡ true) p.live) (IsLiveStored gs (record { portion = p; file = g }))) (sym (differs g 0 (λ e. omega (arith, some, e)))) h
 
-      by : (b : Bool) → all_alive p.live ≡ b → (c : Bool) → (file_in xs p == 0) ≡ c → (cond b 0 (cond c g (file_in xs p)) ≡ g → IsLiveStored gs (record { portion = p; file = g }))
-          → HasLive gs (record { portion = p; file = cond b 0 (cond c g (file_in xs p)) })
+      by : (b : Bool) → all_alive p.live ≡ b → (c : Bool) → (portion_file_in xs p == 0) ≡ c → (cond b 0 (cond c g (portion_file_in xs p)) ≡ g → IsLiveStored gs (record { portion = p; file = g }))
+          → HasLive gs (record { portion = p; file = cond b 0 (cond c g (portion_file_in xs p)) })
       by true e c k h = all_true p.live e
       by false e true k h = has_own (h refl)
-      by false e false k h = subst (λ c. cond c (AllByRecursion (λ b. b ≡ true) p.live) (IsLiveStored gs (record { portion = p; file = file_in xs p }))) (sym k) (found xs a k)
+      by false e false k h = subst (λ c. cond c (AllByRecursion (λ b. b ≡ true) p.live) (IsLiveStored gs (record { portion = p; file = portion_file_in xs p }))) (sym k) (found xs a k)
 
 newest_live : (gs : FileBytes) (schema : Schema) (o : Option LedgerCommit) (cs : List LedgerCommit) → AllByRecursion (HasLive gs) (listed_in o) → AllByRecursion (IsCommitStored gs schema) cs → AllByRecursion (HasLive gs) (listed_in (last_or o cs))
 newest_live gs schema o [] h a = h
@@ -342,12 +342,12 @@ commits_store text l new fs gs sound ok call leaves there own =
       merging = stays.merging;
     })
   where
-    segments : (ps : List Portion) → AllByRecursion (IsStored gs l.schema) ps → AllByRecursion {X = Listed} (λ x. IsStored gs l.schema x.portion) (map (λ p. record { portion = p; file = file_for (newest_listed l.commits) l.next_generation p }) ps)
+    segments : (ps : List Portion) → AllByRecursion (IsStored gs l.schema) ps → AllByRecursion {X = Listed} (λ x. IsStored gs l.schema x.portion) (map (λ p. record { portion = p; file = portion_file_for (newest_listed l.commits) l.next_generation p }) ps)
     segments [] a = tt
     segments (p ∷ ps) a = (a.0, segments ps a.1)
 
-    lives : (ps : List Portion) → AllByRecursion (λ p. file_for (newest_listed l.commits) l.next_generation p ≡ l.next_generation → IsLiveStored gs (record { portion = p; file = l.next_generation })) ps → AllByRecursion (HasLive gs) (newest_listed l.commits)
-        → AllByRecursion (HasLive gs) (map (λ p. record { portion = p; file = file_for (newest_listed l.commits) l.next_generation p }) ps)
+    lives : (ps : List Portion) → AllByRecursion (λ p. portion_file_for (newest_listed l.commits) l.next_generation p ≡ l.next_generation → IsLiveStored gs (record { portion = p; file = l.next_generation })) ps → AllByRecursion (HasLive gs) (newest_listed l.commits)
+        → AllByRecursion (HasLive gs) (map (λ p. record { portion = p; file = portion_file_for (newest_listed l.commits) l.next_generation p }) ps)
     lives [] a r = tt
     lives (p ∷ ps) a r = (has_live gs p (newest_listed l.commits) l.next_generation sound.numbers.1 r a.0, lives ps a.1 r)
 

@@ -14,7 +14,7 @@ use Rattle.cat_model.proofs.Runs.{pruned_has, has_some}
 use Rattle.cat_ledger_laws.specs.model.Portions.{records_of, all_records, Apart}
 use Rattle.cat_ledger_laws.specs.model.Users.{times}
 use Rattle.cat_ledger_laws.specs.model.Ledger.{Ledger, RecordedView, IsPutRecord, AreWhole, IsLedger, IsWholeView, state_of, table_of, names_used, names_of_portion, names_of_view, names_of_commit, names_of_merging, IsPast, NotOf, view_shown, commit_shown}
-use Rattle.cat_ledger_laws.specs.model.Calls.{tokens_in, has_recorded, stays_full, stays_pruned, stays_recorded, views_that, views_not, view_now, RecordsNow}
+use Rattle.cat_ledger_laws.specs.model.Calls.{tokens_in, has_recorded, stays_full, stays_pruned, stays_recorded, views_that, views_not, recorded_view_now, RecordsNow}
 use Rattle.cat_ledger_laws.specs.model.Laws.{ViewsAreRecorded, ViewsArePruned}
 use Rattle.cat_ledger_laws.proofs.model.Users.{All-split, All-flat, times-append, times-flat, times-four, Four, All-four, All-of_four, recounted}
 
@@ -111,14 +111,14 @@ recorded_room held vs true = ap (map view_shown) (filter-true vs)
 recorded_room held vs false = sym (full_shown held vs)
 
 recorded_shown : (l : Ledger) → has_recorded l.views l.count ≡ false
-    → map view_shown (views_that (stays_recorded (held_in l.holds) (tokens_in l.views)) l.views ++ view_now l ∷ []) ≡ views_recorded (held_in l.holds) (map view_shown l.views) (record { token = l.count; table = records_of l.portions })
+    → map view_shown (views_that (stays_recorded (held_in l.holds) (tokens_in l.views)) l.views ++ recorded_view_now l ∷ []) ≡ views_recorded (held_in l.holds) (map view_shown l.views) (record { token = l.count; table = records_of l.portions })
 recorded_shown l none =
     let held : ℕ → Bool = held_in l.holds in
     let vs : List RecordedTable = map view_shown l.views in
     let few : ltb (length (tokens_in l.views)) view_limit ≡ ltb (length vs) view_limit = ap (λ n. ltb n view_limit) (length-map (λ (v : RecordedView). v.token) l.views ∙ sym (length-map view_shown l.views)) in
-    map-append view_shown (views_that (stays_recorded held (tokens_in l.views)) l.views) (view_now l ∷ [])
-    ∙ ap (λ us. us ++ view_shown (view_now l) ∷ []) (recorded_room held l.views (ltb (length (tokens_in l.views)) view_limit) ∙ ap (λ b. cond b vs (views_without_least_free held vs)) few)
-    ∙ sym (ap (λ b. cond b vs (cond (ltb (length vs) view_limit) vs (views_without_least_free held vs) ++ view_shown (view_now l) ∷ [])) (has-shown l.views l.count ∙ none))
+    map-append view_shown (views_that (stays_recorded held (tokens_in l.views)) l.views) (recorded_view_now l ∷ [])
+    ∙ ap (λ us. us ++ view_shown (recorded_view_now l) ∷ []) (recorded_room held l.views (ltb (length (tokens_in l.views)) view_limit) ∙ ap (λ b. cond b vs (views_without_least_free held vs)) few)
+    ∙ sym (ap (λ b. cond b vs (cond (ltb (length vs) view_limit) vs (views_without_least_free held vs) ++ view_shown (recorded_view_now l) ∷ [])) (has-shown l.views l.count ∙ none))
 
 recorded_already : (l : Ledger) (v : RecordedTable) → v.token ≡ l.count → has_recorded l.views l.count ≡ true → map view_shown l.views ≡ views_recorded (held_in l.holds) (map view_shown l.views) v
 recorded_already l v e some =
@@ -129,17 +129,17 @@ records_now : (l new : Ledger) → IsLedger l → l.buffered ≡ [] → has_reco
 records_now l new ok empty none call =
     let P : Name → Type 0 = IsPast l.next_segment l.next_generation in
     let stays : ℕ → Bool = stays_recorded (held_in l.holds) (tokens_in l.views) in
-    let vs : List RecordedView = views_that stays l.views ++ view_now l ∷ [] in
+    let vs : List RecordedView = views_that stays l.views ++ recorded_view_now l ∷ [] in
     let portions : List Name = flat_map names_of_portion l.portions in
     let commits : List Name = flat_map names_of_commit l.commits in
     let making : List Name = names_of_merging l.merging in
     let past : Four P portions (flat_map names_of_view l.views) commits making = All-four P _ _ _ _ ok.fresh in
     let given : List Name = flat_map names_of_view (views_not stays l.views) in
-    let balance : (q : Name) → times q (portions ++ (flat_map names_of_view vs ++ (commits ++ making))) + times q given ≡ times q (names_used l) + times q (names_of_view (view_now l)) = λ q. omega (
+    let balance : (q : Name) → times q (portions ++ (flat_map names_of_view vs ++ (commits ++ making))) + times q given ≡ times q (names_used l) + times q (names_of_view (recorded_view_now l)) = λ q. omega (
       arith,
       times-parted q names_of_view (λ v. stays v.token) l.views,
-      times-flat q names_of_view (views_that stays l.views) (view_now l ∷ []),
-      times-append q (names_of_view (view_now l)) [],
+      times-flat q names_of_view (views_that stays l.views) (recorded_view_now l ∷ []),
+      times-append q (names_of_view (recorded_view_now l)) [],
       times-four q portions (flat_map names_of_view vs) commits making,
       times-four q portions (flat_map names_of_view l.views) commits making,
     ) in
@@ -148,28 +148,28 @@ records_now l new ok empty none call =
     recorded_shown l none ∙ ap (λ rs. views_recorded (held_in l.holds) (map view_shown l.views) (record { token = l.count; table = rs })) (sym table) in (
       subst IsLedger (sym call.rest) (record {
         portions = ok.portions;
-        views = All-both (IsWholeView l.schema l.count) (views_that stays l.views) (view_now l ∷ []) (All-kept (IsWholeView l.schema l.count) _ l.views ok.views) ((omega arith, whole_now l ok empty), tt);
+        views = All-both (IsWholeView l.schema l.count) (views_that stays l.views) (recorded_view_now l ∷ []) (All-kept (IsWholeView l.schema l.count) _ l.views ok.views) ((omega arith, whole_now l ok empty), tt);
         commits = ok.commits;
         generations = ok.generations;
         rows = ok.rows;
         rising = ok.rising;
         ids = ok.ids;
         sound = record {
-          some_view = omega (arith, length-map view_shown vs, length-append (views_that stays l.views) (view_now l ∷ []));
-          held = λ t h. has-shown vs t ∙ list_any-append (λ v. v.token == t) (views_that stays l.views) (view_now l ∷ []) ∙ or_left _ _ (held_stay stays l.views l.holds ok.sound (λ u k. or_any (ltb (length (tokens_in l.views)) view_limit) _ (or_left _ _ k)) t h);
+          some_view = omega (arith, length-map view_shown vs, length-append (views_that stays l.views) (recorded_view_now l ∷ []));
+          held = λ t h. has-shown vs t ∙ list_any-append (λ v. v.token == t) (views_that stays l.views) (recorded_view_now l ∷ []) ∙ or_left _ _ (held_stay stays l.views l.holds ok.sound (λ u k. or_any (ltb (length (tokens_in l.views)) view_limit) _ (or_left _ _ k)) t h);
         };
         merging = ok.merging;
         alone = record {
           portions = ok.alone.portions;
-          views = subst (AllByRecursion (NotOf l.merging)) (sym (flat_map-append names_of_view (views_that stays l.views) (view_now l ∷ []) ∙ ap (λ ns. flat_map names_of_view (views_that stays l.views) ++ ns) (append-nil (names_of_view (view_now l)))))
-              (All-both (NotOf l.merging) (flat_map names_of_view (views_that stays l.views)) (names_of_view (view_now l)) (All-flat_kept (NotOf l.merging) names_of_view (λ v. stays v.token) l.views ok.alone.views) ok.alone.portions);
+          views = subst (AllByRecursion (NotOf l.merging)) (sym (flat_map-append names_of_view (views_that stays l.views) (recorded_view_now l ∷ []) ∙ ap (λ ns. flat_map names_of_view (views_that stays l.views) ++ ns) (append-nil (names_of_view (recorded_view_now l)))))
+              (All-both (NotOf l.merging) (flat_map names_of_view (views_that stays l.views)) (names_of_view (recorded_view_now l)) (All-flat_kept (NotOf l.merging) names_of_view (λ v. stays v.token) l.views ok.alone.views) ok.alone.portions);
           commits = ok.alone.commits;
         };
-        users = recounted (names_used l) (portions ++ (flat_map names_of_view vs ++ (commits ++ making))) (names_of_view (view_now l)) given l.users new.users ok.users call.users balance;
+        users = recounted (names_used l) (portions ++ (flat_map names_of_view vs ++ (commits ++ making))) (names_of_view (recorded_view_now l)) given l.users new.users ok.users call.users balance;
         fresh = All-of_four P portions (flat_map names_of_view vs) commits making (record {
           portions = past.portions;
-          views = subst (AllByRecursion P) (sym (flat_map-append names_of_view (views_that stays l.views) (view_now l ∷ []) ∙ ap (λ ns. flat_map names_of_view (views_that stays l.views) ++ ns) (append-nil (names_of_view (view_now l)))))
-              (All-both P (flat_map names_of_view (views_that stays l.views)) (names_of_view (view_now l)) (All-flat_kept P names_of_view (λ v. stays v.token) l.views past.views) past.portions);
+          views = subst (AllByRecursion P) (sym (flat_map-append names_of_view (views_that stays l.views) (recorded_view_now l ∷ []) ∙ ap (λ ns. flat_map names_of_view (views_that stays l.views) ++ ns) (append-nil (names_of_view (recorded_view_now l)))))
+              (All-both P (flat_map names_of_view (views_that stays l.views)) (names_of_view (recorded_view_now l)) (All-flat_kept P names_of_view (λ v. stays v.token) l.views past.views) past.portions);
           commits = past.commits;
           merging = past.merging;
         });

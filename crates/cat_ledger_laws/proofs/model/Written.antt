@@ -10,9 +10,9 @@ use Rattle.cat_model.specs.CommitFile.{ListedSegment, IsListed, listed_names}
 use Rattle.cat_model.specs.Limits.{last_number}
 use Rattle.cat_model.specs.Merged.{AreDeletedFrom, live_of_all}
 use Rattle.cat_model.proofs.Lists.{All-weaken}
-use Rattle.cat_ledger_laws.specs.model.Portions.{Portion, lives_of, leaf_of, Reduced, IsMergingOf, IsMerging, window_now}
+use Rattle.cat_ledger_laws.specs.model.Portions.{Portion, lives_of, leaf_of, Reduced, IsMergingOf, IsMerging, portion_window_now}
 use Rattle.cat_ledger_laws.specs.model.Ledger.{Listed, IsPast, listed_segment, names_of_portion, names_of_view, names_of_listed, names_of_commit, names_of_merging, names_used}
-use Rattle.cat_ledger_laws.specs.model.Calls.{file_for, newest_listed}
+use Rattle.cat_ledger_laws.specs.model.Calls.{portion_file_for, newest_listed}
 use Rattle.cat_ledger_laws.specs.model.Laws.{CommitsNeedTheirNames, UsedMayBeNamed, CommitsMayBeWritten, SettledAreMerged}
 use Rattle.cat_ledger_laws.proofs.model.Users.{Four, All-four}
 use Rattle.cat_ledger_laws.proofs.model.Marked.{records-marked}
@@ -41,13 +41,13 @@ used_may_be_named l ok = All-weaken (IsPast l.next_segment l.next_generation) Is
 -- ---- the commit of now
 
 abbrev listed_now : List Listed → ℕ → Portion → Listed
-listed_now xs g p = record { portion = p; file = file_for xs g p }
+listed_now xs g p = record { portion = p; file = portion_file_for xs g p }
 
 listed_fit : (n g : ℕ) (xs : List Listed) (ps : List Portion) → AllByRecursion (IsPast n g) (flat_map names_of_portion ps)
     → AllByRecursion (IsPast n g) (flat_map names_of_listed xs) → AllByRecursion (IsListed g n) (map listed_segment (map (listed_now xs g) ps))
 listed_fit n g xs [] h k = tt
 listed_fit n g xs (p ∷ ps) h k =
-    let low : file_for xs g p < g + 1 = file_for_past n g xs p k in
+    let low : portion_file_for xs g p < g + 1 = file_for_past n g xs p k in
     (record { positive = omega (arith, h.0.0); past = h.0.1; file = omega (arith, low) }, listed_fit n g xs ps h.1.1 k)
 
 pub commits_may_be_written : CommitsMayBeWritten
@@ -90,5 +90,5 @@ settled_are_merged m l ok making done =
     let making_of : IsMergingOf l.portions m = subst (IsMerging l.portions) making ok.merging in
     let kept = kept_all m l.portions making_of ok.portions.lengths done in
     let rows : map row_of m.kept ≡ flat_map live_rows (map (leaf_of l.schema) m.inputs) = ap (map row_of) (kept ∙ records-marked m.inputs making_of.lengths) ∙ rows-shown l.schema m.inputs in
-    let live = ap₂ (λ (a b : List Bool). selected a b) (lives_shown l.schema m.inputs) (lives_shown l.schema (window_now m l.portions)) in
-    (λ i. record { segment = record { number = m.number; schema = l.schema; rows = rows i }; live = live i }, deleted_shown l.schema m.inputs (window_now m l.portions) making_of.stand)
+    let live = ap₂ (λ (a b : List Bool). selected a b) (lives_shown l.schema m.inputs) (lives_shown l.schema (portion_window_now m l.portions)) in
+    (λ i. record { segment = record { number = m.number; schema = l.schema; rows = rows i }; live = live i }, deleted_shown l.schema m.inputs (portion_window_now m l.portions) making_of.stand)

@@ -30,9 +30,9 @@ use Rattle.cat_ledger_laws.proofs.model.Counted.{users_are_counted, portions_onc
 use Rattle.cat_ledger_laws.proofs.model.Stored.{commits_store, unsnaps_store}
 use Rattle.cat_ledger_laws.proofs.model.Written.{commits_need_their_names, commits_may_be_written}
 use Rattle.cat_ledger_laws.specs.shape.Shapes.{ListedLive, Shape, shape_of, recorded_view, listed_live, names_of_commits, view_now}
-use Rattle.cat_ledger_laws.specs.shape.Steps.{file_in, file_for, listed_now, commit_now, IsCommitted, newest_generation, IsSnapped, IsUnsnapped}
+use Rattle.cat_ledger_laws.specs.shape.Steps.{file_in, file_for, listed_now, commit_file_now, IsCommitted, newest_generation, IsSnapped, IsUnsnapped}
 use Rattle.cat_ledger_laws.specs.shape.Ties.{ToldFiles, IsTold, Carries, TouchesOnly, TellsBytes}
-use Rattle.cat_ledger_laws.specs.shape.CommitLaws.{files_begun, HasNewLive, WritesCommit, CommitsMake, CommitsKeep, SnapsMake, SnapsKeep, UnsnapsMake, UnsnapsKeep, CommitsMayBeSaid, CommitsAreCounted, UsersFit, NamesComeOnce}
+use Rattle.cat_ledger_laws.specs.shape.CommitLaws.{shape_files_begun, HasNewLive, WritesCommit, CommitsMake, CommitsKeep, SnapsMake, SnapsKeep, UnsnapsMake, UnsnapsKeep, CommitsMayBeSaid, CommitsAreCounted, UsersFit, NamesComeOnce}
 use Rattle.cat_ledger_laws.proofs.shape.Told.{same_again, as_told, with_files, with_files_in, with_files_out, changes_as_told, there_as_told, Lifts, KeepsSound, keeps, makes, makes_untouched}
 use Rattle.cat_ledger_laws.proofs.shape.Leaves.{leaves_named, map_filter, map_twice, length_map}
 
@@ -42,16 +42,16 @@ pub commits_named : (schema : Schema) (cs : List LedgerCommit) → names_of_comm
 commits_named schema [] = refl
 commits_named schema (c ∷ cs) = ap₂ (λ (a b : List Name). a ++ b) (sym (commits_need_their_names schema c)) (commits_named schema cs)
 
-file_in_shown : (schema : Schema) (p : Portion) (xs : List Listed) → file_in (map listed_live xs) (leaf_of schema p) ≡ model.file_in xs p
+file_in_shown : (schema : Schema) (p : Portion) (xs : List Listed) → file_in (map listed_live xs) (leaf_of schema p) ≡ model.portion_file_in xs p
 file_in_shown schema p [] = refl
 file_in_shown schema p (x ∷ xs) = ap (cond ((x.portion.number == p.number) && same_live x.portion.live p.live) x.file) (file_in_shown schema p xs)
 
-file_for_shown : (schema : Schema) (g : ℕ) (p : Portion) (xs : List Listed) → file_for (map listed_live xs) g (leaf_of schema p) ≡ model.file_for xs g p
+file_for_shown : (schema : Schema) (g : ℕ) (p : Portion) (xs : List Listed) → file_for (map listed_live xs) g (leaf_of schema p) ≡ model.portion_file_for xs g p
 file_for_shown schema g p xs = ap (λ n. cond (all_alive p.live) 0 (cond (n == 0) g n)) (file_in_shown schema p xs)
 
 -- a portion as a commit of the generation lists it
 abbrev listed_as : List Listed → ℕ → Portion → Listed
-listed_as xs g p = record { portion = p; file = model.file_for xs g p }
+listed_as xs g p = record { portion = p; file = model.portion_file_for xs g p }
 
 -- a leaf, likewise
 abbrev listed_leaf : List ListedLive → ℕ → Leaf → ListedLive
@@ -69,7 +69,7 @@ abbrev segment_listed : ListedLive → ListedSegment
 segment_listed x = record { number = x.number; file = x.file }
 
 -- and what its file says
-pub now_said : (text : Text) (l : Ledger) → commit_now text (shape_of l) ≡ commit_file l.schema (commit_of text l)
+pub now_said : (text : Text) (l : Ledger) → commit_file_now text (shape_of l) ≡ commit_file l.schema (commit_of text l)
 now_said text l = λ i. record (commit_file l.schema (commit_of text l)) { segments = (ap (map segment_listed) (now_listed text l) ∙ map_twice listed_live segment_listed (commit_of text l).listed) i }
 
 newest_pushed : (cs : List LedgerCommit) (c : LedgerCommit) → newest_listed (cs ++ c ∷ []) ≡ c.listed
@@ -91,16 +91,16 @@ commit_lifts text s new call l ok e = lifted (subst (λ s. IsCommitted text s ne
         let c : LedgerCommit = commit_of text l in
         let kept : List LedgerCommit = commits_that stays l.commits in
         let l' : Ledger = record l { commits = kept ++ c ∷ []; users = new.users; next_generation = g + 1 } in
-        let commits : map (commit_file l.schema) (kept ++ c ∷ []) ≡ filter (λ c. stays c.generation) (map (commit_file l.schema) l.commits) ++ commit_now text (shape_of l) ∷ [] =
+        let commits : map (commit_file l.schema) (kept ++ c ∷ []) ≡ filter (λ c. stays c.generation) (map (commit_file l.schema) l.commits) ++ commit_file_now text (shape_of l) ∷ [] =
         map_push (commit_file l.schema) kept c ∙ ap₂ (λ (cs : List CommitFile) (c : CommitFile). cs ++ c ∷ []) (map_filter (commit_file l.schema) (λ c. stays c.generation) l.commits) (sym (now_said text l)) in
         let listed : map listed_live (newest_listed (kept ++ c ∷ [])) ≡ listed_now (shape_of l) = ap (map listed_live) (newest_pushed kept c) ∙ sym (now_listed text l) in
-        let named : commit_needs (commit_now text (shape_of l)) ≡ names_of_commit c = ap commit_needs (now_said text l) ∙ sym (commits_need_their_names l.schema c) in (
+        let named : commit_needs (commit_file_now text (shape_of l)) ≡ names_of_commit c = ap commit_needs (now_said text l) ∙ sym (commits_need_their_names l.schema c) in (
           l',
           (λ i. record (shape_of l') { commits = commits i; listed = listed i }) ∙ sym k.rest,
           record {
             left = k.left;
             users = subst (λ ns. Changes ns (flat_map names_of_commit (commits_not stays l.commits)) l.users new.users) named
-                (subst (λ ns. Changes (commit_needs (commit_now text (shape_of l))) ns l.users new.users) (given_named l.schema stays l.commits) k.users);
+                (subst (λ ns. Changes (commit_needs (commit_file_now text (shape_of l))) ns l.users new.users) (given_named l.schema stays l.commits) k.users);
             rest = refl;
           },
         )
@@ -118,7 +118,7 @@ live_name g p = Name.live p.number g
 
 -- where a portion gets a new live file, it is thought of, and told
 abbrev IsThought : ToldFiles → FileBytes → List Listed → ℕ → Portion → Type 0
-IsThought told' thought xs g p = model.file_for xs g p ≡ g
+IsThought told' thought xs g p = model.portion_file_for xs g p ≡ g
     → (bytes : Text) × IsTold (told' (file.Live p.number g)) (Some bytes) × (thought (Name.live p.number g) ≡ Some bytes) × SpellsLive bytes (record { number = p.number; generation = g; live = p.live })
 
 or_false : (a b : Bool) → (a || b) ≡ false → (a ≡ false) × (b ≡ false)
@@ -143,12 +143,12 @@ module _ (told' : ToldFiles) (xs : List Listed) (g : ℕ) where
 
   -- there are files with all that is told of new live files, and none but these are others
   live_thought : (files : FileBytes) (ps : List Portion) → Apart (λ p q. p.number ≢ q.number) ps
-      → AllByRecursion (λ p. model.file_for xs g p ≡ g → TellsBytes told' (file.Live p.number g) (λ bytes. SpellsLive bytes (record { number = p.number; generation = g; live = p.live }))) ps
+      → AllByRecursion (λ p. model.portion_file_for xs g p ≡ g → TellsBytes told' (file.Live p.number g) (λ bytes. SpellsLive bytes (record { number = p.number; generation = g; live = p.live }))) ps
       → (thought : FileBytes) × ChangesOnly (map (live_name g) ps) files thought × AllByRecursion (IsThought told' thought xs g) ps
   live_thought files [] d a = (files, (λ q h. refl), tt)
   live_thought files (p ∷ ps) d a =
       let rest = live_thought files ps d.1 a.1 in
-      elim (eqb_tells (model.file_for xs g p) g) [
+      elim (eqb_tells (model.portion_file_for xs g p) g) [
         | inl e ↦
             let own = a.0 e.1 in (
               with_files (Name.live p.number g ∷ []) (λ q. Some own.0) rest.0,
@@ -164,11 +164,11 @@ module _ (told' : ToldFiles) (xs : List Listed) (g : ℕ) where
       ]
 
 new_live : (told' : ToldFiles) (l : Ledger) (ps : List Portion) → AllByRecursion (HasNewLive told' (shape_of l)) (map (leaf_of l.schema) ps)
-    → AllByRecursion (λ p. model.file_for (newest_listed l.commits) l.next_generation p ≡ l.next_generation → TellsBytes told' (file.Live p.number l.next_generation) (λ bytes. SpellsLive bytes (record { number = p.number; generation = l.next_generation; live = p.live }))) ps
+    → AllByRecursion (λ p. model.portion_file_for (newest_listed l.commits) l.next_generation p ≡ l.next_generation → TellsBytes told' (file.Live p.number l.next_generation) (λ bytes. SpellsLive bytes (record { number = p.number; generation = l.next_generation; live = p.live }))) ps
 new_live told' l [] a = tt
 new_live told' l (p ∷ ps) a = ((λ e. a.0 (file_for_shown l.schema l.next_generation p (newest_listed l.commits) ∙ e)), new_live told' l ps a.1)
 
-begun_shown : (l : Ledger) → files_begun (shape_of l) ≡ model.files_begun l
+begun_shown : (l : Ledger) → shape_files_begun (shape_of l) ≡ model.files_begun l
 begun_shown l = ap (λ ns. Name.commit l.next_generation ∷ ns) (map_twice (leaf_of l.schema) (λ (leaf : Leaf). Name.live leaf.segment.number l.next_generation) l.portions)
 
 commit_stores : (text : Text) (told told' : ToldFiles) (l l' : Ledger) (files : FileBytes) → WritesCommit text (shape_of l) told told' → Carries told (shape_of l) l files → Committed text l l' → (thought : FileBytes) × AreStored (as_told told' thought) l'
@@ -193,7 +193,7 @@ commit_stores text told told' l l' files w c call =
     )
   where
     stored : (thought : FileBytes) (ps : List Portion) → AllByRecursion (IsThought told' thought (newest_listed l.commits) l.next_generation) ps
-        → AllByRecursion (λ p. model.file_for (newest_listed l.commits) l.next_generation p ≡ l.next_generation → IsLiveStored (as_told told' thought) (record { portion = p; file = l.next_generation })) ps
+        → AllByRecursion (λ p. model.portion_file_for (newest_listed l.commits) l.next_generation p ≡ l.next_generation → IsLiveStored (as_told told' thought) (record { portion = p; file = l.next_generation })) ps
     stored thought [] a = tt
     stored thought (p ∷ ps) a = ((λ e. let t = a.0 e in record { bytes = t.0; there = there_as_told told' thought (Name.live p.number l.next_generation) (Some t.0) t.1 t.2; spelled = t.3 }), stored thought ps a.1)
 
@@ -274,7 +274,7 @@ unsnaps_keep g s new call its = keeps (Unsnapped g) s new (unsnap_lifts g s new 
 -- ---- what a shape gives
 
 pub commits_may_be_said : CommitsMayBeSaid
-commits_may_be_said text s its = subst (λ s. IsSchema s.schema → IsCommitText text → length s.leaves ≤ segment_limit → s.next_generation ≤ last_number → IsCommitFile (commit_now text s)) its.1 (λ schema form few left.
+commits_may_be_said text s its = subst (λ s. IsSchema s.schema → IsCommitText text → length s.leaves ≤ segment_limit → s.next_generation ≤ last_number → IsCommitFile (commit_file_now text s)) its.1 (λ schema form few left.
     subst IsCommitFile (sym (now_said text its.0)) (commits_may_be_written text its.0 its.2 schema form (omega (arith, few, length_map (leaf_of its.0.schema) its.0.portions)) left))
 
 pub commits_are_counted : CommitsAreCounted
@@ -313,7 +313,7 @@ users_fit s q its few =
 pub names_come_once : NamesComeOnce
 names_come_once text s q its =
     let l : Ledger = its.0 in
-    subst (λ s. (times q (commit_needs (commit_now text s)) ≤ 1) × (times q (needs (view_now s)) ≤ 1)) its.1 (
+    subst (λ s. (times q (commit_needs (commit_file_now text s)) ≤ 1) × (times q (needs (view_now s)) ≤ 1)) its.1 (
       omega (
         arith,
         ap (λ c. times q (commit_needs c)) (now_said text l),

@@ -9,7 +9,7 @@ use Rattle.cat_model.specs.Merged.{records_of_all, records_kept}
 use Rattle.cat_model.proofs.Lists.{All-weaken}
 use Rattle.cat_directory.specs.declared.name.FileName.TheVariants as file
 use Rattle.cat_directory.specs.Devices.{Told, told_after, extended}
-use Rattle.cat_ledger_laws.specs.model.Portions.{Portion, all_records, leaf_of, Reduced, Merging, window_now, kept_by, IsMergingOf, IsMerging}
+use Rattle.cat_ledger_laws.specs.model.Portions.{Portion, all_records, leaf_of, Reduced, Merging, portion_window_now, kept_by, IsMergingOf, IsMerging}
 use Rattle.cat_ledger_laws.specs.model.Ledger.{Ledger}
 use Rattle.cat_ledger_laws.specs.model.Stored.{FileBytes, joined_sources, portion_in, IsStored, IsMergeStored, AreStored}
 use Rattle.cat_ledger_laws.specs.model.Calls as model
@@ -20,7 +20,7 @@ use Rattle.cat_ledger_laws.proofs.model.Stored.{copies_store}
 use Rattle.cat_ledger_laws.proofs.model.Sourced.{portions_are_read}
 use Rattle.cat_ledger_laws.specs.shape.Shapes.{MergingShape, merging_of}
 use Rattle.cat_ledger_laws.specs.shape.Steps.{passed_on}
-use Rattle.cat_ledger_laws.specs.shape.Ties.{file_of, ToldFiles, IsTold, Agrees, Carries}
+use Rattle.cat_ledger_laws.specs.shape.Ties.{file_of, ToldFiles, IsTold, FilesAgree, Carries}
 use Rattle.cat_ledger_laws.specs.shape.MergeLaws.{OfMerge, TellsInputs, CopiesOn, CopiesMake}
 use Rattle.cat_ledger_laws.proofs.shape.Told.{as_told, with_files, changes_with_files, there_with_files, makes}
 use Rattle.cat_ledger_laws.proofs.shape.MergeShapes.{lives_shown, passed_shown}
@@ -57,7 +57,7 @@ inputs_stored : (files : FileBytes) (schema : Schema) (m : Merging) (ps : List P
 inputs_stored files schema m ps ok stored =
     let all : AllByRecursion (HasSource files) ps = All-weaken (IsStored files schema) (HasSource files) (λ p h. h.source) ps stored in
     let one = All-split (HasSource files) (take m.index ps) _ (subst (AllByRecursion (HasSource files)) (three ps m.index (length m.inputs)) all) in
-    sources_before files m.inputs (window_now m ps) ok.stand (All-split (HasSource files) (window_now m ps) _ one.1).0
+    sources_before files m.inputs (portion_window_now m ps) ok.stand (All-split (HasSource files) (portion_window_now m ps) _ one.1).0
 
 -- the inputs' records are their rows with the bytes of these files
 all_read : (files : FileBytes) (schema : Schema) (ps : List Portion) → AllByRecursion (HasSource files) ps → records_of_all (sources_in files) (map (leaf_of schema) ps) ≡ all_records ps
@@ -70,7 +70,7 @@ kept_read : (files : FileBytes) (schema : Schema) (ps : List Portion) (n : ℕ) 
 kept_read files schema ps n a = ap₂ (λ (bs : List Bool) (rs : List Record). selected (take n bs) (take n rs)) (lives_shown schema ps) (all_read files schema ps a)
 
 -- a device that tells of every file tells these
-tells_inputs : (told : ToldFiles) (files : FileBytes) (schema : Schema) (ps : List Portion) → Agrees told files → ((q : Name) → told (file_of q) ≢ None) → AllByRecursion (HasSource files) ps
+tells_inputs : (told : ToldFiles) (files : FileBytes) (schema : Schema) (ps : List Portion) → FilesAgree told files → ((q : Name) → told (file_of q) ≢ None) → AllByRecursion (HasSource files) ps
     → TellsInputs told (sources_in files) (map (leaf_of schema) ps)
 tells_inputs told files schema [] agrees all a = tt
 tells_inputs told files schema (p ∷ ps) agrees all a =
@@ -80,15 +80,15 @@ tells_inputs told files schema (p ∷ ps) agrees all a =
 -- ---- the step
 
 -- what is told of the merge's own file is that it holds the sources of what the step has kept
-copied_told : (x : Merging) (l : Ledger) (told told' : ToldFiles) (files : FileBytes) → CopiesOn (merging_of l.schema x) told told' → Agrees told files → AllByRecursion (HasSource files) x.inputs
-    → files (Name.source x.number) ≡ Some (joined_sources x.kept) → x.kept ≡ kept_by x.inputs x.passed → IsTold (told' (file.Source x.number)) (Some (joined_sources (model.passed_on x).kept))
+copied_told : (x : Merging) (l : Ledger) (told told' : ToldFiles) (files : FileBytes) → CopiesOn (merging_of l.schema x) told told' → FilesAgree told files → AllByRecursion (HasSource files) x.inputs
+    → files (Name.source x.number) ≡ Some (joined_sources x.kept) → x.kept ≡ kept_by x.inputs x.passed → IsTold (told' (file.Source x.number)) (Some (joined_sources (model.records_passed_on x).kept))
 copied_told x l told told' files on agrees stored there kept = elim on.alike [
   | inl none ↦
       let nothing : told' (file.Source x.number) ≡ None = on.extends ∙ ap (told_after (extended on.bytes)) (none (file.Source x.number)) in
-      subst (λ t. IsTold t (Some (joined_sources (model.passed_on x).kept))) (sym nothing) tt
+      subst (λ t. IsTold t (Some (joined_sources (model.records_passed_on x).kept))) (sym nothing) tt
   | inr all ↦
       let q : Name = Name.source x.number in
-      let more : Merging = model.passed_on x in
+      let more : Merging = model.records_passed_on x in
       let now : told (file.Source x.number) ≡ Some (Some (joined_sources x.kept)) = told_there (told (file_of q)) (files q) (all (file_of q)) (agrees q) ∙ ap Some there in
       let copied : joined_sources (records_kept (sources_in files) (map (leaf_of l.schema) x.inputs) x.passed) ++ on.bytes
       ≡ joined_sources (records_kept (sources_in files) (map (leaf_of l.schema) x.inputs) (passed_on (merging_of l.schema x)).passed) =
@@ -113,10 +113,10 @@ copies_make m s new told told' c on = makes (OfMerge m Copied) told told' s new 
         let now : CopiesOn (merging_of l.schema x) told told' = subst (λ m. CopiesOn m told told') (sym call.1) on in
         let merging : IsMergingOf l.portions x = subst (IsMerging l.portions) call.2.making h.sound.merging in
         let there : files its ≡ Some (joined_sources x.kept) = subst (IsMergeStored files) call.2.making h.stored.merging in
-        let kept : FileBytes = λ q. Some (joined_sources (model.passed_on x).kept) in
+        let kept : FileBytes = λ q. Some (joined_sources (model.records_passed_on x).kept) in
         let told_kept = copied_told x l told told' files now h.agrees (inputs_stored files l.schema x l.portions merging h.stored.portions) there merging.kept in (
           with_files (its ∷ []) kept files,
           copies_store x l l' files (as_told told' (with_files (its ∷ []) kept files)) h.sound h.stored call.2
               (changes_with_files (its ∷ []) told told' files kept h.agrees now.others)
-              (there_with_files (its ∷ []) told' files kept its (Some (joined_sources (model.passed_on x).kept)) (alone its) told_kept refl),
+              (there_with_files (its ∷ []) told' files kept its (Some (joined_sources (model.records_passed_on x).kept)) (alone its) told_kept refl),
         )

@@ -22,7 +22,7 @@ use Rattle.cat_ledger_laws.proofs.model.Merges.{kept_all, merges_change_no_state
 use Rattle.cat_ledger_laws.proofs.model.Shown.{rows-shown}
 use Rattle.cat_ledger_laws.proofs.model.Stored.{merges_store}
 use Rattle.cat_ledger_laws.specs.shape.Shapes.{MergingShape, Shape, shape_of, merging_of, names_of_leaves}
-use Rattle.cat_ledger_laws.specs.shape.Steps.{IsInstalled, window_now, merged}
+use Rattle.cat_ledger_laws.specs.shape.Steps.{IsInstalled, window_now, merged_or_none}
 use Rattle.cat_ledger_laws.specs.shape.Ties.{ToldFiles, Carries, TouchesOnly, TellsBytes}
 use Rattle.cat_ledger_laws.specs.shape.MergeLaws.{OfMerge, InstallsMake, InstallsKeep}
 use Rattle.cat_ledger_laws.proofs.shape.Told.{as_told, with_files, changes_with_files, changes_untold, there_with_files, Lifts, KeepsSound, keeps, makes}
@@ -46,25 +46,25 @@ if_kept schema p (r ∷ rs) e =
 
 -- ---- what is installed
 
-pub window_shown : (schema : Schema) (x : Merging) (ps : List Portion) → map (leaf_of schema) (model.window_now x ps) ≡ window_now (merging_of schema x) (map (leaf_of schema) ps)
+pub window_shown : (schema : Schema) (x : Merging) (ps : List Portion) → map (leaf_of schema) (model.portion_window_now x ps) ≡ window_now (merging_of schema x) (map (leaf_of schema) ps)
 window_shown schema x ps = cut schema x.index (length x.inputs) ps ∙ ap (λ n. take n (drop x.index (map (leaf_of schema) ps))) (sym (length_map (leaf_of schema) x.inputs))
 
 -- a merge that has passed all rows
 module _ (l : Ledger) (x : Merging) (ok : IsMergingOf l.portions x) (full : Full l.portions) (done : x.passed ≡ length (all_records x.inputs)) where
-  leaf_settled : leaf_of l.schema (settled x l.portions) ≡ merged_leaf x.number l.schema (map (leaf_of l.schema) x.inputs) (map (leaf_of l.schema) (model.window_now x l.portions))
+  leaf_settled : leaf_of l.schema (settled x l.portions) ≡ merged_leaf x.number l.schema (map (leaf_of l.schema) x.inputs) (map (leaf_of l.schema) (model.portion_window_now x l.portions))
   leaf_settled =
       let rows : map row_of x.kept ≡ flat_map live_rows (map (leaf_of l.schema) x.inputs) = ap (map row_of) (kept_all x l.portions ok full done ∙ records-marked x.inputs ok.lengths) ∙ rows-shown l.schema x.inputs in
-      let live = ap₂ (λ (a b : List Bool). selected a b) (sym (lives_shown l.schema x.inputs)) (sym (lives_shown l.schema (model.window_now x l.portions))) in
+      let live = ap₂ (λ (a b : List Bool). selected a b) (sym (lives_shown l.schema x.inputs)) (sym (lives_shown l.schema (model.portion_window_now x l.portions))) in
       λ i. record { segment = record { number = x.number; schema = l.schema; rows = rows i }; live = live i }
 
-  pub merged_shown : map (leaf_of l.schema) (model.merged x.kept (settled x l.portions)) ≡ merged (merging_of l.schema x) (shape_of l)
+  pub merged_shown : map (leaf_of l.schema) (model.merged x.kept (settled x l.portions)) ≡ merged_or_none (merging_of l.schema x) (shape_of l)
   merged_shown =
       if_kept l.schema (settled x l.portions) x.kept refl
       ∙ ap (λ leaf. filter has_rows (leaf ∷ [])) (leaf_settled ∙ ap (merged_leaf x.number l.schema (map (leaf_of l.schema) x.inputs)) (window_shown l.schema x l.portions))
 
   pub installed_shown : map (leaf_of l.schema) (installed x l.portions)
       ≡ take x.index (map (leaf_of l.schema) l.portions)
-      ++ (merged (merging_of l.schema x) (shape_of l) ++ drop (x.index + length (map (leaf_of l.schema) x.inputs)) (map (leaf_of l.schema) l.portions))
+      ++ (merged_or_none (merging_of l.schema x) (shape_of l) ++ drop (x.index + length (map (leaf_of l.schema) x.inputs)) (map (leaf_of l.schema) l.portions))
   installed_shown =
       let f : Portion → Leaf = leaf_of l.schema in
       let late : List Portion = drop (x.index + length x.inputs) l.portions in
@@ -75,17 +75,17 @@ module _ (l : Ledger) (x : Merging) (ok : IsMergingOf l.portions x) (full : Full
 
   installed_over : (new : Shape) → l.merging ≡ Some x → IsInstalled (merging_of l.schema x) (shape_of l) new → (l' : Ledger) × (shape_of l' ≡ new) × Installed x l l'
   installed_over new making c =
-      let taken : names_of_leaves (merged (merging_of l.schema x) (shape_of l)) ≡ flat_map names_of_portion (model.merged x.kept (settled x l.portions)) =
+      let taken : names_of_leaves (merged_or_none (merging_of l.schema x) (shape_of l)) ≡ flat_map names_of_portion (model.merged x.kept (settled x l.portions)) =
       ap names_of_leaves (sym merged_shown) ∙ leaves_named l.schema (model.merged x.kept (settled x l.portions)) in
-      let given : names_of_leaves (window_now (merging_of l.schema x) (map (leaf_of l.schema) l.portions)) ≡ flat_map names_of_portion (model.window_now x l.portions) =
-      ap names_of_leaves (sym (window_shown l.schema x l.portions)) ∙ leaves_named l.schema (model.window_now x l.portions) in (
+      let given : names_of_leaves (window_now (merging_of l.schema x) (map (leaf_of l.schema) l.portions)) ≡ flat_map names_of_portion (model.portion_window_now x l.portions) =
+      ap names_of_leaves (sym (window_shown l.schema x l.portions)) ∙ leaves_named l.schema (model.portion_window_now x l.portions) in (
         record l { portions = installed x l.portions; merging = None; users = new.users },
         ap (λ leaves. record (shape_of l) { leaves = leaves; merging = None; users = new.users }) installed_shown ∙ sym c.rest,
         record {
           making = making;
           all = done;
-          users = subst (λ ns. Changes ns (flat_map names_of_portion (model.window_now x l.portions) ++ Name.source x.number ∷ []) l.users new.users) taken
-              (subst (λ ns. Changes (names_of_leaves (merged (merging_of l.schema x) (shape_of l))) (ns ++ Name.source x.number ∷ []) l.users new.users) given c.users);
+          users = subst (λ ns. Changes ns (flat_map names_of_portion (model.portion_window_now x l.portions) ++ Name.source x.number ∷ []) l.users new.users) taken
+              (subst (λ ns. Changes (names_of_leaves (merged_or_none (merging_of l.schema x) (shape_of l))) (ns ++ Name.source x.number ∷ []) l.users new.users) given c.users);
           rest = refl;
         },
       )
@@ -130,9 +130,9 @@ installs_make m s new told told' c touches written = makes (OfMerge m Installed)
     stores l l' files h call =
         let x : Merging = call.0 in
         let merging : IsMergingOf l.portions x = subst (IsMerging l.portions) call.2.making h.sound.merging in
-        let now : AllByRecursion (IsWritten told' m.number) (merged m (shape_of l)) = subst (λ s. AllByRecursion (IsWritten told' m.number) (merged m s)) (sym h.shape) written in
-        let its : AllByRecursion (IsWritten told' x.number) (merged (merging_of l.schema x) (shape_of l)) =
-        subst (λ (m : MergingShape). AllByRecursion (IsWritten told' m.number) (merged m (shape_of l))) (sym call.1) now in
+        let now : AllByRecursion (IsWritten told' m.number) (merged_or_none m (shape_of l)) = subst (λ s. AllByRecursion (IsWritten told' m.number) (merged_or_none m s)) (sym h.shape) written in
+        let its : AllByRecursion (IsWritten told' x.number) (merged_or_none (merging_of l.schema x) (shape_of l)) =
+        subst (λ (m : MergingShape). AllByRecursion (IsWritten told' m.number) (merged_or_none m (shape_of l))) (sym call.1) now in
         let leaves : AllByRecursion (IsWritten told' x.number) (map (leaf_of l.schema) (model.merged x.kept (settled x l.portions))) =
         subst (AllByRecursion (IsWritten told' x.number)) (sym (merged_shown l x merging h.sound.portions.lengths call.2.all)) its in
         let touches_its : TouchesOnly (Name.segment x.number ∷ []) told told' = subst (λ (m : MergingShape). TouchesOnly (Name.segment m.number ∷ []) told told') (sym call.1) touches in

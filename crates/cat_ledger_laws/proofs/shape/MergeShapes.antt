@@ -52,5 +52,5 @@ deleted_shown schema (p ∷ ps) (q ∷ qs) h = (λ i. record { number = h.0 i; s
 
 -- ---- one step more
 
-pub passed_shown : (schema : Schema) (m : Merging) → merging_of schema (model.passed_on m) ≡ passed_on (merging_of schema m)
+pub passed_shown : (schema : Schema) (m : Merging) → merging_of schema (model.records_passed_on m) ≡ passed_on (merging_of schema m)
 passed_shown schema m = λ i. record (merging_of schema m) { passed = m.passed + min step_limit (sym (many_shown schema m.inputs) i - m.passed) }

@@ -8,7 +8,7 @@ use Rattle.cat_ledger_laws.specs.model.Users.{has_name, Changes}
 use Rattle.cat_ledger_laws.specs.model.Ledger.{Ledger}
 use Rattle.cat_ledger_laws.specs.model.Stored.{FileBytes, AreStored}
 use Rattle.cat_ledger_laws.specs.model.Calls as model
-use Rattle.cat_ledger_laws.specs.model.Calls.{Begun, Copied, Ended}
+use Rattle.cat_ledger_laws.specs.model.Calls.{MergeBegun, Copied, Ended}
 use Rattle.cat_ledger_laws.proofs.model.Begins.{begun_change_no_state, copies_change_no_state, ends_change_no_state}
 use Rattle.cat_ledger_laws.proofs.model.Stored.{begun_store, ends_store}
 use Rattle.cat_ledger_laws.specs.shape.Shapes.{MergingShape, Shape, shape_of}
@@ -25,7 +25,7 @@ alone q = rw (same_again q) refl
 
 -- ---- the beginning
 
-begun_over : (index k : ℕ) (l : Ledger) (new : Shape) → IsBegun index k (shape_of l) new → (l' : Ledger) × (shape_of l' ≡ new) × Begun index k l l'
+begun_over : (index k : ℕ) (l : Ledger) (new : Shape) → IsBegun index k (shape_of l) new → (l' : Ledger) × (shape_of l' ≡ new) × MergeBegun index k l l'
 begun_over index k l new c = (
   record l {
     merging = Some (record { number = l.next_segment; index = index; inputs = take k (drop index l.portions); passed = 0; kept = [] });
@@ -47,20 +47,20 @@ begun_over index k l new c = (
   },
 )
 
-begun_lifts : (index k : ℕ) (s new : Shape) → IsBegun index k s new → Lifts (Begun index k) s new
+begun_lifts : (index k : ℕ) (s new : Shape) → IsBegun index k s new → Lifts (MergeBegun index k) s new
 begun_lifts index k s new c l ok is = begun_over index k l new (subst (λ s. IsBegun index k s new) (sym is) c)
 
-begun_sound : (index k : ℕ) (l : Ledger) → KeepsSound (Begun index k) l
+begun_sound : (index k : ℕ) (l : Ledger) → KeepsSound (MergeBegun index k) l
 begun_sound index k l new ok call = (begun_change_no_state index k l new ok call).0
 
 pub begun_keep : BegunKeep
-begun_keep index k s new c = keeps (Begun index k) s new (begun_lifts index k s new c) (λ l is. begun_sound index k l)
+begun_keep index k s new c = keeps (MergeBegun index k) s new (begun_lifts index k s new c) (λ l is. begun_sound index k l)
 
 pub begun_make : BegunMake
 begun_make index k s new told told' c touches empty =
-    makes (Begun index k) told told' s new (begun_lifts index k s new c) (λ l is. begun_sound index k l) stores
+    makes (MergeBegun index k) told told' s new (begun_lifts index k s new c) (λ l is. begun_sound index k l) stores
   where
-    stores : (l l' : Ledger) (files : FileBytes) → Carries told s l files → Begun index k l l' → (thought : FileBytes) × AreStored (as_told told' thought) l'
+    stores : (l l' : Ledger) (files : FileBytes) → Carries told s l files → MergeBegun index k l l' → (thought : FileBytes) × AreStored (as_told told' thought) l'
     stores l l' files h call =
         let its : Name = Name.source l.next_segment in
         let next : s.next_segment ≡ l.next_segment = ap (λ (s : Shape). s.next_segment) (sym h.shape) in
@@ -77,7 +77,7 @@ copied_over : (m : MergingShape) (l : Ledger) (new : Shape) → IsCopied m (shap
 copied_over m l new c =
     let x : MergeOf l.schema l.merging m = the_merge l.schema l.merging m c.making in
     let left : x.merge.passed < length (rows_of_all (map (leaf_of l.schema) x.merge.inputs)) = subst (λ (m : MergingShape). m.passed < length (rows_of_all m.inputs)) (sym x.shape) c.left in (
-      record l { merging = Some (model.passed_on x.merge) },
+      record l { merging = Some (model.records_passed_on x.merge) },
       ap (λ m. record (shape_of l) { merging = Some m }) (passed_shown l.schema x.merge ∙ ap passed_on x.shape) ∙ sym c.rest,
       (x.merge, x.shape, record { making = x.is; left = omega (arith, left, many_shown l.schema x.merge.inputs); rest = refl }),
     )

@@ -23,7 +23,7 @@ use Rattle.cat_ledger_laws.proofs.model.Shown.{rows-shown, All-map, Apart-map}
 use Rattle.cat_ledger_laws.proofs.model.Commits.{AllPairs-from_Apart}
 use Rattle.cat_ledger_laws.proofs.model.Written.{used_may_be_named}
 use Rattle.cat_ledger_laws.specs.shape.Shapes.{Shape, shape_of, merging_of, names_of_leaves}
-use Rattle.cat_ledger_laws.specs.shape.Steps.{window_now, merged}
+use Rattle.cat_ledger_laws.specs.shape.Steps.{window_now, merged_or_none}
 use Rattle.cat_ledger_laws.specs.shape.MergeLaws.{MayBeMerged, WindowsMayBeMerged, FindsWindow, MergesFindTheirWindow}
 use Rattle.cat_ledger_laws.proofs.shape.Leaves.{leaves_named, length_map}
 use Rattle.cat_ledger_laws.proofs.shape.MergeShapes.{MergeOf, the_merge, cut, rows_shown, deleted_shown}
@@ -89,7 +89,7 @@ module _ (l : Ledger) (x : Merging) (sound : IsLedger l) (making : l.merging ≡
   ok = subst (IsMerging l.portions) making sound.merging
 
   window_there : x.index + length x.inputs ≤ length l.portions
-  window_there = omega (arith, ok.some, Reduced-length x.inputs (model.window_now x l.portions) ok.stand, length-take (length x.inputs) (drop x.index l.portions), length-drop x.index l.portions)
+  window_there = omega (arith, ok.some, Reduced-length x.inputs (model.portion_window_now x l.portions) ok.stand, length-take (length x.inputs) (drop x.index l.portions), length-drop x.index l.portions)
 
   number_named : IsFileNumber x.number
   number_named =
@@ -97,9 +97,9 @@ module _ (l : Ledger) (x : Merging) (sound : IsLedger l) (making : l.merging ≡
       (subst (λ o. AllByRecursion IsFileName (names_of_merging o)) making all.merging).0
 
   deleted : AreDeletedFrom (map (leaf_of l.schema) x.inputs) (window_now (merging_of l.schema x) (map (leaf_of l.schema) l.portions))
-  deleted = subst (AreDeletedFrom (map (leaf_of l.schema) x.inputs)) (window_shown l.schema x l.portions) (deleted_shown l.schema x.inputs (model.window_now x l.portions) ok.stand)
+  deleted = subst (AreDeletedFrom (map (leaf_of l.schema) x.inputs)) (window_shown l.schema x l.portions) (deleted_shown l.schema x.inputs (model.portion_window_now x l.portions) ok.stand)
 
-  shows_now : flat_map live_rows (merged (merging_of l.schema x) (shape_of l)) ≡ flat_map live_rows (window_now (merging_of l.schema x) (map (leaf_of l.schema) l.portions))
+  shows_now : flat_map live_rows (merged_or_none (merging_of l.schema x) (shape_of l)) ≡ flat_map live_rows (window_now (merging_of l.schema x) (map (leaf_of l.schema) l.portions))
   shows_now =
       let inputs : List Leaf = map (leaf_of l.schema) x.inputs in
       let now : List Leaf = window_now (merging_of l.schema x) (map (leaf_of l.schema) l.portions) in
@@ -111,7 +111,7 @@ module _ (l : Ledger) (x : Merging) (sound : IsLedger l) (making : l.merging ≡
       deleted
 
   may_stand : AreLeaves (take x.index (map (leaf_of l.schema) l.portions)
-      ++ (merged (merging_of l.schema x) (shape_of l) ++ drop (x.index + length (map (leaf_of l.schema) x.inputs)) (map (leaf_of l.schema) l.portions)))
+      ++ (merged_or_none (merging_of l.schema x) (shape_of l) ++ drop (x.index + length (map (leaf_of l.schema) x.inputs)) (map (leaf_of l.schema) l.portions)))
   may_stand =
       let y : Merging = whole x in
       let next : List Portion = installed y l.portions in
@@ -127,7 +127,7 @@ module _ (l : Ledger) (x : Merging) (sound : IsLedger l) (making : l.merging ≡
 
   are_users : (q : Name) → times q (names_of_leaves (window_now (merging_of l.schema x) (map (leaf_of l.schema) l.portions)) ++ Name.source x.number ∷ []) ≤ users_of l.users q
   are_users q =
-      let now : List Portion = model.window_now x l.portions in
+      let now : List Portion = model.portion_window_now x l.portions in
       let before : List Portion = take x.index l.portions in
       let later : List Portion = drop (x.index + length x.inputs) l.portions in
       let N : List Portion → ℕ = λ ps. times q (flat_map names_of_portion ps) in

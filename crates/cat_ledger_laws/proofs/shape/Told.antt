@@ -12,7 +12,7 @@ use Rattle.cat_ledger_laws.specs.model.Users.{same_file_name, has_name}
 use Rattle.cat_ledger_laws.specs.model.Ledger.{Ledger, IsLedger}
 use Rattle.cat_ledger_laws.specs.model.Stored.{FileBytes, AreStored, ChangesOnly}
 use Rattle.cat_ledger_laws.specs.shape.Shapes.{Shape, shape_of, IsShape}
-use Rattle.cat_ledger_laws.specs.shape.Ties.{file_of, ToldFiles, IsTold, Agrees, Carries, Makes, TouchesOnly, TouchesNothing}
+use Rattle.cat_ledger_laws.specs.shape.Ties.{file_of, ToldFiles, IsTold, FilesAgree, Carries, Makes, TouchesOnly, TouchesNothing}
 
 -- ---- names
 
@@ -59,7 +59,7 @@ pub told_same : (t : Told) (content : Option Text) → IsTold t content → or_t
 told_same None content h = refl
 told_same (Some told) content h = h
 
-pub agrees_as_told : (told : ToldFiles) (files : FileBytes) → Agrees told (as_told told files)
+pub agrees_as_told : (told : ToldFiles) (files : FileBytes) → FilesAgree told (as_told told files)
 agrees_as_told told files q = told_is (told (file_of q)) (files q)
 
 -- a file that is told, or thought, to hold the bytes holds them
@@ -73,17 +73,17 @@ pub with_files_out : (names : List Name) (thought files : FileBytes) (q : Name) 
 with_files_out names thought files q h = ap (λ b. cond b (thought q) (files q)) h
 
 -- where a call touches the files of some names alone, so does what its device tells of what is thought of them
-pub changes_as_told : (names : List Name) (told told' : ToldFiles) (files thought : FileBytes) → Agrees told files → TouchesOnly names told told' → ChangesOnly names files thought → ChangesOnly names files (as_told told' thought)
+pub changes_as_told : (names : List Name) (told told' : ToldFiles) (files thought : FileBytes) → FilesAgree told files → TouchesOnly names told told' → ChangesOnly names files thought → ChangesOnly names files (as_told told' thought)
 changes_as_told names told told' files thought a touches changes q h =
     let same : told' (file_of q) ≡ told (file_of q) = touches (file_of q) (subst (λ n. has_name n names ≡ false) (sym (name_of_file q)) h) in
     ap (λ t. or_told t (thought q)) same ∙ ap (or_told (told (file_of q))) (changes q h) ∙ told_same (told (file_of q)) (files q) (a q)
 
 -- so with the bytes that are thought of for these names
-pub changes_with_files : (names : List Name) (told told' : ToldFiles) (files thought : FileBytes) → Agrees told files → TouchesOnly names told told' → ChangesOnly names files (as_told told' (with_files names thought files))
+pub changes_with_files : (names : List Name) (told told' : ToldFiles) (files thought : FileBytes) → FilesAgree told files → TouchesOnly names told told' → ChangesOnly names files (as_told told' (with_files names thought files))
 changes_with_files names told told' files thought a touches = changes_as_told names told told' files (with_files names thought files) a touches (λ q h. with_files_out names thought files q h)
 
 -- and with none thought of
-pub changes_untold : (names : List Name) (told told' : ToldFiles) (files : FileBytes) → Agrees told files → TouchesOnly names told told' → ChangesOnly names files (as_told told' files)
+pub changes_untold : (names : List Name) (told told' : ToldFiles) (files : FileBytes) → FilesAgree told files → TouchesOnly names told told' → ChangesOnly names files (as_told told' files)
 changes_untold names told told' files a touches = changes_as_told names told told' files files a touches (λ q h. refl)
 
 -- one of the files that are thought of
@@ -117,7 +117,7 @@ makes call told told' s new lifts sound stores l files c =
     (m.0, as_told told' f.0, m.2, record { shape = m.1; sound = sound l c.shape m.0 c.sound m.2; stored = f.1; agrees = agrees_as_told told' f.0 })
 
 -- what agrees with what is told still does where nothing is touched
-pub agrees_still : (told told' : ToldFiles) (files : FileBytes) → TouchesNothing told told' → Agrees told files → Agrees told' files
+pub agrees_still : (told told' : ToldFiles) (files : FileBytes) → TouchesNothing told told' → FilesAgree told files → FilesAgree told' files
 agrees_still told told' files same a q = subst (λ t. IsTold t (files q)) (sym (same (file_of q))) (a q)
 
 -- a ledger is carried still where nothing is touched

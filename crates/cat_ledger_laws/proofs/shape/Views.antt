@@ -21,8 +21,8 @@ use Rattle.cat_ledger_laws.proofs.model.Begins.{holds_are_apart}
 use Rattle.cat_ledger_laws.proofs.model.Stored.{records_store, prunes_store}
 use Rattle.cat_ledger_laws.proofs.model.Shown.{whole_are_views, All-map}
 use Rattle.cat_ledger_laws.specs.shape.Shapes.{Shape, shape_of, recorded_view, names_of_views, view_now}
-use Rattle.cat_ledger_laws.specs.shape.Steps.{tokens_of, RecordsNow, IsPruned}
-use Rattle.cat_ledger_laws.specs.shape.ViewLaws.{has_view, RecordsMake, RecordsKeep, PrunesMake, PrunesKeep, HoldsMake, HoldsKeep, ShapesAreViews, ViewsAreCounted}
+use Rattle.cat_ledger_laws.specs.shape.Steps.{tokens_of, ShapeRecordsNow, IsPruned}
+use Rattle.cat_ledger_laws.specs.shape.ViewLaws.{is_view_recorded, RecordsMake, RecordsKeep, PrunesMake, PrunesKeep, HoldsMake, HoldsKeep, ShapesAreViews, ViewsAreCounted}
 use Rattle.cat_ledger_laws.proofs.shape.Told.{Lifts, KeepsSound, keeps, makes_untouched, makes_of}
 use Rattle.cat_ledger_laws.proofs.shape.Leaves.{leaves_named, views_named, map_filter, any_map, map_twice}
 
@@ -45,16 +45,16 @@ module _ (schema : Schema) (stays : List ℕ → ℕ → Bool) (vs : List Record
 
 -- ---- a view of now
 
-records_lift : (s new : Shape) → RecordsNow s new → Lifts model.RecordsNow s new
-records_lift s new call l ok e = lifted (subst (λ s. RecordsNow s new) (sym e) call)
+records_lift : (s new : Shape) → ShapeRecordsNow s new → Lifts model.RecordsNow s new
+records_lift s new call l ok e = lifted (subst (λ s. ShapeRecordsNow s new) (sym e) call)
   where
-    lifted : RecordsNow (shape_of l) new → (l' : Ledger) × (shape_of l' ≡ new) × model.RecordsNow l l'
+    lifted : ShapeRecordsNow (shape_of l) new → (l' : Ledger) × (shape_of l' ≡ new) × model.RecordsNow l l'
     lifted c =
         let stays : List ℕ → ℕ → Bool = stays_recorded (held_in l.holds) in
         let kept : List RecordedView = views_that (stays (tokens_in l.views)) l.views in
-        let l' : Ledger = record l { views = kept ++ model.view_now l ∷ []; users = new.users } in
-        let views : map (recorded_view l.schema) (kept ++ model.view_now l ∷ []) ≡ filter (λ (v : View). stays (tokens_of (shape_of l).views) v.token) (shape_of l).views ++ view_now (shape_of l) ∷ [] =
-        map_push (recorded_view l.schema) kept (model.view_now l) ∙ ap (λ vs. vs ++ view_now (shape_of l) ∷ []) (kept_are l.schema stays l.views) in (
+        let l' : Ledger = record l { views = kept ++ model.recorded_view_now l ∷ []; users = new.users } in
+        let views : map (recorded_view l.schema) (kept ++ model.recorded_view_now l ∷ []) ≡ filter (λ (v : View). stays (tokens_of (shape_of l).views) v.token) (shape_of l).views ++ view_now (shape_of l) ∷ [] =
+        map_push (recorded_view l.schema) kept (model.recorded_view_now l) ∙ ap (λ vs. vs ++ view_now (shape_of l) ∷ []) (kept_are l.schema stays l.views) in (
           l',
           (λ i. record (shape_of l') { views = views i }) ∙ sym c.rest,
           record {
@@ -111,7 +111,7 @@ abbrev HoldsOnly : List Hold → Ledger → Ledger → Type 0
 HoldsOnly hs l l' = l' ≡ record l { holds = hs }
 
 abbrev HaveViews : Shape → List Hold → Type 0
-HaveViews s hs = (t : ℕ) → held_in hs t ≡ true → has_view s.views t
+HaveViews s hs = (t : ℕ) → held_in hs t ≡ true → is_view_recorded s.views t
 
 holds_lift : (s : Shape) (hs : List Hold) → Lifts (HoldsOnly hs) s (record s { holds = hs })
 holds_lift s hs l ok e = (record l { holds = hs }, ap (λ (s : Shape). record s { holds = hs }) e, refl)

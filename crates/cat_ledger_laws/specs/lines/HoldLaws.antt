@@ -8,7 +8,7 @@ use Rattle.cat_ledger_laws.specs.model.Plans.{MergePolicy}
 use Rattle.cat_ledger_laws.specs.shape.Shapes.{Shape}
 use Rattle.cat_ledger_laws.specs.shape.Steps.{tokens_of}
 use Rattle.cat_ledger_laws.specs.shape.Ties.{ToldFiles, TouchesNothing}
-use Rattle.cat_ledger_laws.specs.lines.RunLaws.{Answers}
+use Rattle.cat_ledger_laws.specs.lines.RunLaws.{AnswersCarried}
 use Rattle.cat_ledger_laws.specs.lines.LineLaws.{line_of, tells, NothingChanges}
 
 -- with a hold of the session, where it has none of the token
@@ -23,24 +23,24 @@ letting_go session t s = record s { holds = filter (λ h. not ((h.session == ses
 -- an OPEN holds the newest view, and there is one,
 abbrev pub OpensNewestAnswer : Type 0
 OpensNewestAnswer = (policy : MergePolicy) (told told' : ToldFiles) (s new : Shape) (session t : ℕ) → t ≡ greatest (tokens_of s.views)
-    → new ≡ holding session t s → TouchesNothing told told' → Answers policy told s (line_of session Command.open_newest) (tells t) told' new
+    → new ≡ holding session t s → TouchesNothing told told' → AnswersCarried policy told s (line_of session Command.open_newest) (tells t) told' new
 
 -- or that of a token, where one is recorded,
 abbrev pub OpensAnswer : Type 0
 OpensAnswer = (policy : MergePolicy) (told told' : ToldFiles) (s new : Shape) (session t : ℕ) → list_any (λ v. v.token == t) s.views ≡ true
-    → new ≡ holding session t s → TouchesNothing told told' → Answers policy told s (line_of session (Command.open_at t)) (tells t) told' new
+    → new ≡ holding session t s → TouchesNothing told told' → AnswersCarried policy told s (line_of session (Command.open_at t)) (tells t) told' new
 
 -- and is refused where none is;
 abbrev pub GoneOpensAnswer : Type 0
 GoneOpensAnswer = (policy : MergePolicy) (told told' : ToldFiles) (s new : Shape) (session t : ℕ) → list_any (λ v. v.token == t) s.views ≡ false
-    → NothingChanges told s told' new → Answers policy told s (line_of session (Command.open_at t)) (Err Gone) told' new
+    → NothingChanges told s told' new → AnswersCarried policy told s (line_of session (Command.open_at t)) (Err Gone) told' new
 
 -- a CLOSE lets go of a token that the session holds,
 abbrev pub ClosesAnswer : Type 0
 ClosesAnswer = (policy : MergePolicy) (told told' : ToldFiles) (s new : Shape) (session t : ℕ) → has_hold s.holds session t ≡ true
-    → new ≡ letting_go session t s → TouchesNothing told told' → Answers policy told s (line_of session (Command.close t)) (tells t) told' new
+    → new ≡ letting_go session t s → TouchesNothing told told' → AnswersCarried policy told s (line_of session (Command.close t)) (tells t) told' new
 
 -- and is refused where it doesn't.
 abbrev pub UnheldClosesAnswer : Type 0
 UnheldClosesAnswer = (policy : MergePolicy) (told told' : ToldFiles) (s new : Shape) (session t : ℕ) → has_hold s.holds session t ≡ false
-    → NothingChanges told s told' new → Answers policy told s (line_of session (Command.close t)) (Err NotHeld) told' new
+    → NothingChanges told s told' new → AnswersCarried policy told s (line_of session (Command.close t)) (Err NotHeld) told' new

@@ -67,14 +67,14 @@ NeededFilesStand =
     × All (λ commit. (rs : List Record) × CommitStands told s.users commit rs) s.commits
 
 -- the file has a user, and is there where the device tells of it
-abbrev pub IsKept : ToldFiles → List Used → Name → Type 0
-IsKept told users q = IsThere told users q (λ bytes. Unit {0})
+abbrev pub IsFileKept : ToldFiles → List Used → Name → Type 0
+IsFileKept told users q = IsThere told users q (λ bytes. Unit {0})
 
 -- so with each name that one of them needs
 abbrev pub NeededNamesStand : Type 0
 NeededNamesStand =
     (told : ToldFiles) (s : Shape) (l : Ledger) (files : FileBytes) → Carries told s l files
-    → All (IsKept told s.users) (names_of_views s.views) × All (IsKept told s.users) (names_of_commits s.commits)
+    → All (IsFileKept told s.users) (names_of_views s.views) × All (IsFileKept told s.users) (names_of_commits s.commits)
 
 -- ---- of a run
 

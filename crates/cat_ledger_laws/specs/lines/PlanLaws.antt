@@ -5,7 +5,7 @@ use Rattle.cat_model.specs.Merged.{rows_of_all}
 use Rattle.cat_model.specs.Run.{Answer, Chore, Command, News}
 use Rattle.cat_model.specs.View.{Leaf}
 use Rattle.cat_model.specs.Window.{IsWindow}
-use Rattle.cat_ledger_laws.specs.model.Calls.{Begun, Copied, Installed}
+use Rattle.cat_ledger_laws.specs.model.Calls.{MergeBegun, Copied, Installed}
 use Rattle.cat_ledger_laws.specs.model.Ledger.{Ledger}
 use Rattle.cat_ledger_laws.specs.model.Plans.{MergePolicy, MayBeForced}
 use Rattle.cat_ledger_laws.specs.model.Replies.{Maintains}
@@ -15,7 +15,7 @@ use Rattle.cat_ledger_laws.specs.shape.Steps.{passed_on}
 use Rattle.cat_ledger_laws.specs.shape.Ties.{Carries, ToldFiles, Makes, TouchesNothing}
 use Rattle.cat_ledger_laws.specs.shape.MergeLaws.{OfMerge}
 use Rattle.cat_ledger_laws.specs.lines.LineLaws.{line_of}
-use Rattle.cat_ledger_laws.specs.lines.RunLaws.{Answers}
+use Rattle.cat_ledger_laws.specs.lines.RunLaws.{AnswersCarried}
 
 -- how many rows each leaf has, deleted ones counted, and which of them are live
 abbrev pub sizes_in : List Leaf → List ℕ
@@ -28,7 +28,7 @@ live_sets_in leaves = map (λ leaf. leaf.live) leaves
 abbrev pub MergesBegin : Type 0
 MergesBegin =
     (policy : MergePolicy) (index : ℕ) (s new : Shape) (told told' : ToldFiles)
-    → IsWindow policy.factor policy.least (sizes_in s.leaves) (Some index) → Makes (Begun index policy.factor) told s told' new
+    → IsWindow policy.factor policy.least (sizes_in s.leaves) (Some index) → Makes (MergeBegun index policy.factor) told s told' new
     → Makes (Maintains policy Chore.merge (News.begun_merge policy.factor)) told s told' new
 
 -- and has nothing to do where there is none, and no merge is in the making;
@@ -54,7 +54,7 @@ MergesAreDone =
 abbrev pub ForcesBegin : Type 0
 ForcesBegin =
     (policy : MergePolicy) (s new : Shape) (told told' : ToldFiles) → MayBeForced (sizes_in s.leaves) (live_sets_in s.leaves)
-    → Makes (Begun 0 (length s.leaves)) told s told' new → Makes (Maintains policy Chore.force (News.begun_merge (length s.leaves))) told s told' new
+    → Makes (MergeBegun 0 (length s.leaves)) told s told' new → Makes (Maintains policy Chore.force (News.begun_merge (length s.leaves))) told s told' new
 
 -- has nothing to do where it isn't, and no merge is in the making,
 abbrev pub ForcesRest : Type 0
@@ -104,5 +104,5 @@ TellsForce s n = ⊥
 abbrev pub MergesTell : Type 0
 MergesTell =
     (policy : MergePolicy) (told told' : ToldFiles) (s new : Shape) (n : News) (l : Ledger) (files : FileBytes) → Carries told s l files
-    → (Answers policy told s (line_of 0 (Command.chore Chore.merge)) (Ok (Answer.news n)) told' new → TellsMerge policy s n)
-    × (Answers policy told s (line_of 0 (Command.chore Chore.force)) (Ok (Answer.news n)) told' new → TellsForce s n)
+    → (AnswersCarried policy told s (line_of 0 (Command.chore Chore.merge)) (Ok (Answer.news n)) told' new → TellsMerge policy s n)
+    × (AnswersCarried policy told s (line_of 0 (Command.chore Chore.force)) (Ok (Answer.news n)) told' new → TellsForce s n)

@@ -15,7 +15,7 @@ use Rattle.cat_ledger_laws.specs.model.Plans.{MergePolicy}
 use Rattle.cat_ledger_laws.specs.model.Stored.{FileBytes}
 use Rattle.cat_ledger_laws.specs.shape.Shapes.{Shape}
 use Rattle.cat_ledger_laws.specs.shape.Ties.{ToldFiles, Carries}
-use Rattle.cat_ledger_laws.specs.lines.RunLaws.{Answers}
+use Rattle.cat_ledger_laws.specs.lines.RunLaws.{AnswersCarried}
 use Rattle.cat_ledger_laws.specs.lines.LineLaws.{line_of, NothingChanges}
 
 -- ---- reads under a token
@@ -25,22 +25,22 @@ abbrev pub IsRecordedAs : List View → ℕ → View → Type 0
 IsRecordedAs views t view = find (λ v. v.token == t) views ≡ Some view
 
 -- the read finds this in the view, whatever records the view shows
-abbrev pub Finds : View → Read → Result Found Refusal → Type 0
-Finds view asked found = (rs : List Record) → Shows view rs → answer view.schema rs asked ≡ found
+abbrev pub ReadFinds : View → Read → Result Found Refusal → Type 0
+ReadFinds view asked found = (rs : List Record) → Shows view rs → answer view.schema rs asked ≡ found
 
 -- what a read finds in the view of a token that the session holds answers it
 abbrev pub ReadsAnswer : Type 0
 ReadsAnswer =
     (policy : MergePolicy) (told told' : ToldFiles) (s new : Shape) (session t : ℕ) (asked : Read) (view : View) (found : Result Found Refusal)
-    → has_hold s.holds session t ≡ true → IsRecordedAs s.views t view → Finds view asked found → NothingChanges told s told' new
-    → Answers policy told s (line_of session (Command.read t asked)) (found_reply found) told' new
+    → has_hold s.holds session t ≡ true → IsRecordedAs s.views t view → ReadFinds view asked found → NothingChanges told s told' new
+    → AnswersCarried policy told s (line_of session (Command.read t asked)) (found_reply found) told' new
 
 -- else the fault of its text is told, or that it is not held
 abbrev pub UnheldReadsAnswer : Type 0
 UnheldReadsAnswer =
     (policy : MergePolicy) (told told' : ToldFiles) (s new : Shape) (session t : ℕ) (asked : Read)
     → has_hold s.holds session t ≡ false → NothingChanges told s told' new
-    → Answers policy told s (line_of session (Command.read t asked)) (or_not_held (query_refusal asked)) told' new
+    → AnswersCarried policy told s (line_of session (Command.read t asked)) (or_not_held (query_refusal asked)) told' new
 
 -- ---- the text of an item
 
@@ -63,7 +63,7 @@ abbrev pub GetsAnswer : Type 0
 GetsAnswer =
     (policy : MergePolicy) (told told' : ToldFiles) (s new : Shape) (session t : ℕ) (id : Text) (view : View) (found : Option Text)
     → has_hold s.holds session t ≡ true → IsRecordedAs s.views t view → IsTextOf told view id found → NothingChanges told s told' new
-    → Answers policy told s (line_of session (Command.read t (Read.get (Ok id)))) (Ok (Answer.found (Found.source found))) told' new
+    → AnswersCarried policy told s (line_of session (Command.read t (Read.get (Ok id)))) (Ok (Answer.found (Found.source found))) told' new
 
 -- Where the device tells the sources of a recorded view, each is as long as its row says: so no GET finds a file that is too short.
 abbrev pub SourcesAreWhole : Type 0
@@ -79,13 +79,13 @@ abbrev pub FilesAnswer : Type 0
 FilesAnswer =
     (policy : MergePolicy) (told told' : ToldFiles) (s new : Shape) (session t : ℕ) (names : List Text)
     → has_hold s.holds session t ≡ true → NothingChanges told s told' new
-    → Answers policy told s (line_of session (Command.files_of_token t)) (Ok (Answer.names names)) told' new
+    → AnswersCarried policy told s (line_of session (Command.files_of_token t)) (Ok (Answer.names names)) told' new
 
 -- and is refused for one that isn't;
 abbrev pub UnheldFilesAnswer : Type 0
 UnheldFilesAnswer = (policy : MergePolicy) (told told' : ToldFiles) (s new : Shape) (session t : ℕ)
     → has_hold s.holds session t ≡ false → NothingChanges told s told' new
-    → Answers policy told s (line_of session (Command.files_of_token t)) (Err NotHeld) told' new
+    → AnswersCarried policy told s (line_of session (Command.files_of_token t)) (Err NotHeld) told' new
 
 -- the kept commit of the generation, if there is one
 abbrev pub kept_under : List CommitFile → ℕ → Option CommitFile
@@ -96,22 +96,22 @@ abbrev pub CommitFilesAnswer : Type 0
 CommitFilesAnswer =
     (policy : MergePolicy) (told told' : ToldFiles) (s new : Shape) (session g : ℕ) (c : CommitFile) (names : List Text)
     → kept_under s.commits g ≡ Some c → NothingChanges told s told' new
-    → Answers policy told s (line_of session (Command.files_of_commit g)) (Ok (Answer.names names)) told' new
+    → AnswersCarried policy told s (line_of session (Command.files_of_commit g)) (Ok (Answer.names names)) told' new
 
 -- and is refused for one that isn't;
 abbrev pub UnkeptFilesAnswer : Type 0
 UnkeptFilesAnswer = (policy : MergePolicy) (told told' : ToldFiles) (s new : Shape) (session g : ℕ)
     → kept_under s.commits g ≡ None → NothingChanges told s told' new
-    → Answers policy told s (line_of session (Command.files_of_commit g)) (Err NoCommit) told' new
+    → AnswersCarried policy told s (line_of session (Command.files_of_commit g)) (Err NoCommit) told' new
 
 -- NOTE tells the text of a commit that is kept,
 abbrev pub TextsAnswer : Type 0
 TextsAnswer = (policy : MergePolicy) (told told' : ToldFiles) (s new : Shape) (session g : ℕ) (c : CommitFile)
     → kept_under s.commits g ≡ Some c → NothingChanges told s told' new
-    → Answers policy told s (line_of session (Command.text_of_commit g)) (Ok (Answer.commit_text c.text)) told' new
+    → AnswersCarried policy told s (line_of session (Command.text_of_commit g)) (Ok (Answer.commit_text c.text)) told' new
 
 -- and is refused for one that isn't.
 abbrev pub UnkeptTextsAnswer : Type 0
 UnkeptTextsAnswer = (policy : MergePolicy) (told told' : ToldFiles) (s new : Shape) (session g : ℕ)
     → kept_under s.commits g ≡ None → NothingChanges told s told' new
-    → Answers policy told s (line_of session (Command.text_of_commit g)) (Err NoCommit) told' new
+    → AnswersCarried policy told s (line_of session (Command.text_of_commit g)) (Err NoCommit) told' new

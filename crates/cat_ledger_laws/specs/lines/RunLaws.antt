@@ -24,8 +24,8 @@ pub record IsShown (told : ToldFiles) (reply fitting : Reply) : Type 0 where
   pub same : ((q : FileName) → told q ≢ None) → reply ≡ fitting
 
 -- Whatever ledger is carried, the line makes of it what is carried afterwards, with a reply that is shown so.
-abbrev pub Answers : MergePolicy → ToldFiles → Shape → Line → Reply → ToldFiles → Shape → Type 0
-Answers policy told old line reply told' new =
+abbrev pub AnswersCarried : MergePolicy → ToldFiles → Shape → Line → Reply → ToldFiles → Shape → Type 0
+AnswersCarried policy told old line reply told' new =
     (l : Ledger) (files : FileBytes) → Carries told old l files
     → (l' : Ledger) × (files' : FileBytes) × (fitting : Reply) × IsShown told reply fitting × Calls policy l line fitting l'
     × Carries told' new l' files'
@@ -48,7 +48,7 @@ IsStep told old line reply told' new =
 abbrev pub AnswersAreSteps : Type 0
 AnswersAreSteps =
     (policy : MergePolicy) (told told' : ToldFiles) (old new : Shape) (line : Line) (reply : Reply)
-    → Answers policy told old line reply told' new → IsStep told old line reply told' new
+    → AnswersCarried policy told old line reply told' new → IsStep told old line reply told' new
 
 -- Memory that was opened at a commit stands for a run that begins at that commit.
 abbrev pub OpenedStand : Type 0

@@ -13,7 +13,7 @@ use Rattle.cat_ledger_laws.specs.model.Replies.{MakesRoom, Maintains, IsLeft}
 use Rattle.cat_ledger_laws.specs.shape.MergeLaws.{OfMerge}
 use Rattle.cat_ledger_laws.specs.shape.Shapes.{MergingShape, Shape}
 use Rattle.cat_ledger_laws.specs.shape.Ties.{ToldFiles, Makes}
-use Rattle.cat_ledger_laws.specs.lines.RunLaws.{Answers}
+use Rattle.cat_ledger_laws.specs.lines.RunLaws.{AnswersCarried}
 use Rattle.cat_ledger_laws.specs.lines.LineLaws.{line_of, NothingChanges}
 use Rattle.cat_ledger_laws.specs.model.Users.{has_name}
 
@@ -22,7 +22,7 @@ use Rattle.cat_ledger_laws.specs.model.Users.{has_name}
 -- What maintenance makes for session 0, and tells, answers its line.
 abbrev pub ChoresAnswer : Type 0
 ChoresAnswer = (policy : MergePolicy) (told told' : ToldFiles) (s new : Shape) (c : Chore) (n : News)
-    → Makes (Maintains policy c n) told s told' new → Answers policy told s (line_of 0 (Command.chore c)) (Ok (Answer.news n)) told' new
+    → Makes (Maintains policy c n) told s told' new → AnswersCarried policy told s (line_of 0 (Command.chore c)) (Ok (Answer.news n)) told' new
 
 -- SWEEP tells how many files went,
 abbrev pub SweepsTell : Type 0
@@ -45,19 +45,19 @@ StatsTell = (policy : MergePolicy) (told told' : ToldFiles) (s new : Shape) (sta
 abbrev pub StoppedCommitsAnswer : Type 0
 StoppedCommitsAnswer = (policy : MergePolicy) (told told' : ToldFiles) (s new : Shape) (session : ℕ) (text : Text) (e : Refusal)
     → s.next_generation ≤ last_number → IsTrue (may_refuse (Command.commit (Ok text)) e)
-    → Makes IsLeft told s told' new → Answers policy told s (line_of session (Command.commit (Ok text))) (Err e) told' new
+    → Makes IsLeft told s told' new → AnswersCarried policy told s (line_of session (Command.commit (Ok text))) (Err e) told' new
 
 -- maintenance of session 0 in each case,
 abbrev pub StoppedChoresAnswer : Type 0
 StoppedChoresAnswer = (policy : MergePolicy) (told told' : ToldFiles) (s new : Shape) (c : Chore) (e : Refusal)
     → IsTrue (may_refuse (Command.chore c) e)
-    → Makes IsLeft told s told' new → Answers policy told s (line_of 0 (Command.chore c)) (Err e) told' new
+    → Makes IsLeft told s told' new → AnswersCarried policy told s (line_of 0 (Command.chore c)) (Err e) told' new
 
 -- and a GET where its token is held.
 abbrev pub StoppedGetsAnswer : Type 0
 StoppedGetsAnswer = (policy : MergePolicy) (told told' : ToldFiles) (s new : Shape) (session t : ℕ) (id : Text) (e : Refusal)
     → has_hold s.holds session t ≡ true → IsTrue (may_refuse (Command.read t (Read.get (Ok id))) e)
-    → Makes IsLeft told s told' new → Answers policy told s (line_of session (Command.read t (Read.get (Ok id)))) (Err e) told' new
+    → Makes IsLeft told s told' new → AnswersCarried policy told s (line_of session (Command.read t (Read.get (Ok id)))) (Err e) told' new
 
 -- ---- what a stopped line leaves
 

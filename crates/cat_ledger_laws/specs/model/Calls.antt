@@ -9,7 +9,7 @@ use Rattle.cat_model.specs.Limits.{view_limit, step_limit, last_number}
 use Rattle.cat_model.specs.Files.{Name}
 use Rattle.cat_model.specs.CommitFile.{Version}
 use Rattle.cat_model.specs.State.{held_in, snapshots_in, stays_kept, newest_of}
-use Rattle.cat_ledger_laws.specs.model.Portions.{Portion, all_records, all_live, portions_after, Merging, kept_by, window_now, settled, merged, installed}
+use Rattle.cat_ledger_laws.specs.model.Portions.{Portion, all_records, all_live, portions_after, Merging, kept_by, portion_window_now, settled, merged, installed}
 use Rattle.cat_ledger_laws.specs.model.Users.{users_of, is_known, has_name, Changes}
 use Rattle.cat_ledger_laws.specs.model.Ledger.{RecordedView, Listed, LedgerCommit, Ledger, portions_in, commit_shown, names_of_portion, names_of_view, names_of_commit}
 
@@ -67,16 +67,16 @@ abbrev pub views_not : (ℕ → Bool) → List RecordedView → List RecordedVie
 views_not stays vs = filter (λ v. not (stays v.token)) vs
 
 -- the view of now
-abbrev pub view_now : Ledger → RecordedView
-view_now l = record { token = l.count; portions = l.portions }
+abbrev pub recorded_view_now : Ledger → RecordedView
+recorded_view_now l = record { token = l.count; portions = l.portions }
 
 -- after a flush, a view of now is recorded where none stands: its names are taken, those of the one that goes are given
 pub record RecordsNow (l new : Ledger) : Type 0 where
-  pub users : Changes (names_of_view (view_now l))
+  pub users : Changes (names_of_view (recorded_view_now l))
       (flat_map names_of_view (views_not (stays_recorded (held_in l.holds) (tokens_in l.views)) l.views))
       l.users new.users
   pub rest : new
-      ≡ record l { views = views_that (stays_recorded (held_in l.holds) (tokens_in l.views)) l.views ++ view_now l ∷ []; users = new.users }
+      ≡ record l { views = views_that (stays_recorded (held_in l.holds) (tokens_in l.views)) l.views ++ recorded_view_now l ∷ []; users = new.users }
 
 -- after a flush, a view of now is recorded, or stands already
 abbrev pub RecordsView : Ledger → Ledger → Type 0
@@ -91,7 +91,7 @@ pub record Pruned (n : ℕ) (l new : Ledger) : Type 0 where
 -- ---- a merge
 
 -- a merge of k portions from the one of this index on is begun
-pub record Begun (index k : ℕ) (l new : Ledger) : Type 0 where
+pub record MergeBegun (index k : ℕ) (l new : Ledger) : Type 0 where
   pub idle : l.merging ≡ None
   pub left : l.next_segment ≤ last_number
   pub some : 0 < k
@@ -105,8 +105,8 @@ pub record Begun (index k : ℕ) (l new : Ledger) : Type 0 where
       }
 
 -- with as many records more passed as one step passes, or all
-abbrev pub passed_on : Merging → Merging
-passed_on m =
+abbrev pub records_passed_on : Merging → Merging
+records_passed_on m =
     record m {
       passed = m.passed + min step_limit (length (all_records m.inputs) - m.passed);
       kept = kept_by m.inputs (m.passed + min step_limit (length (all_records m.inputs) - m.passed));
@@ -116,14 +116,14 @@ passed_on m =
 pub record Copied (m : Merging) (l new : Ledger) : Type 0 where
   pub making : l.merging ≡ Some m
   pub left : m.passed < length (all_records m.inputs)
-  pub rest : new ≡ record l { merging = Some (passed_on m) }
+  pub rest : new ≡ record l { merging = Some (records_passed_on m) }
 
 -- the new segment stands in the place of the inputs
 pub record Installed (m : Merging) (l new : Ledger) : Type 0 where
   pub making : l.merging ≡ Some m
   pub all : m.passed ≡ length (all_records m.inputs)
   pub users : Changes (flat_map names_of_portion (merged m.kept (settled m l.portions)))
-      (flat_map names_of_portion (window_now m l.portions) ++ Name.source m.number ∷ [])
+      (flat_map names_of_portion (portion_window_now m l.portions) ++ Name.source m.number ∷ [])
       l.users new.users
   pub rest : new ≡ record l { portions = installed m l.portions; merging = None; users = new.users }
 
@@ -137,17 +137,17 @@ same_live (b ∷ bs) [] = false
 same_live (b ∷ bs) (c ∷ cs) = cond b c (not c) && same_live bs cs
 
 -- the file that a list has for a portion's live set: 0 where it has none
-abbrev pub file_in : List Listed → Portion → ℕ
-file_in [] p = 0
-file_in (x ∷ xs) p = cond ((x.portion.number == p.number) && same_live x.portion.live p.live) x.file (file_in xs p)
+abbrev pub portion_file_in : List Listed → Portion → ℕ
+portion_file_in [] p = 0
+portion_file_in (x ∷ xs) p = cond ((x.portion.number == p.number) && same_live x.portion.live p.live) x.file (portion_file_in xs p)
 
 -- no row is dead
 abbrev pub all_alive : List Bool → Bool
 all_alive live = list_all (λ b. b) live
 
 -- none where all is live; else the one that has the live set, or a new one
-abbrev pub file_for : List Listed → ℕ → Portion → ℕ
-file_for xs g p = cond (all_alive p.live) 0 (cond (file_in xs p == 0) g (file_in xs p))
+abbrev pub portion_file_for : List Listed → ℕ → Portion → ℕ
+portion_file_for xs g p = cond (all_alive p.live) 0 (cond (portion_file_in xs p == 0) g (portion_file_in xs p))
 
 -- the portions of a commit, with their live files, if there is a commit
 abbrev pub listed_in : Option LedgerCommit → List Listed
@@ -167,7 +167,7 @@ commit_of text l =
       text = text;
       token = l.count;
       next = l.next_segment;
-      listed = map (λ p. record { portion = p; file = file_for (newest_listed l.commits) l.next_generation p }) l.portions;
+      listed = map (λ p. record { portion = p; file = portion_file_for (newest_listed l.commits) l.next_generation p }) l.portions;
     }
 
 -- the commits whose generations pass the test
@@ -245,7 +245,7 @@ pub record IsOpened (c : LedgerCommit) (l : Ledger) : Type 0 where
   pub portions : l.portions ≡ portions_in c
   pub buffered : l.buffered ≡ []
   pub count : l.count ≡ c.token
-  pub views : l.views ≡ view_now l ∷ []
+  pub views : l.views ≡ recorded_view_now l ∷ []
   pub holds : l.holds ≡ []
   pub commits : l.commits ≡ c ∷ []
   pub taken : l.taken ≡ []
@@ -256,7 +256,7 @@ pub record IsEmpty (l : Ledger) : Type 0 where
   pub portions : l.portions ≡ []
   pub buffered : l.buffered ≡ []
   pub count : l.count ≡ 0
-  pub views : l.views ≡ view_now l ∷ []
+  pub views : l.views ≡ recorded_view_now l ∷ []
   pub holds : l.holds ≡ []
   pub commits : l.commits ≡ []
   pub taken : l.taken ≡ []

@@ -16,11 +16,11 @@ use Rattle.cat_model.specs.Table.{Opened}
 use Rattle.cat_ledger_laws.specs.model.Plans.{MergePolicy}
 use Rattle.cat_ledger_laws.specs.model.Replies.{Calls}
 use Rattle.cat_model.specs.State.{StandsFor, Step, Hold, IsSound, held_in, written, refreshed, views_pruned, committed, is_below, newest_of, TakesSnapshot, GivesSnapshot, IsFresh}
-use Rattle.cat_ledger_laws.specs.model.Portions.{Portion, Apart, all_records, leaf_of, view_of, records_of, Merging, all_live, window_now, settled, merged}
+use Rattle.cat_ledger_laws.specs.model.Portions.{Portion, Apart, all_records, leaf_of, view_of, records_of, Merging, all_live, portion_window_now, settled, merged}
 use Rattle.cat_ledger_laws.specs.model.Ledger.{users, commit_shown, commit_file, Ledger, LedgerCommit, names_of_portion, names_of_commit, AreWhole, IsLedger, FitNumbers, IsPast, IsNew, portions_in, names_used, table_of, state_of}
 use Rattle.cat_ledger_laws.specs.model.Users.{AreUsed, users_of, has_name}
-use Rattle.cat_ledger_laws.specs.model.Stored.{FileBytes, portion_in, IsCommitWritten, IsCommitStored, AreStored, IsStored, IsSegmentStored, IsLiveStored, joined_sources, Spares, ChangesOnly}
-use Rattle.cat_ledger_laws.specs.model.Calls.{files_begun, commit_of, file_for, newest_listed, passed_on, RecordsNow, wrote, Ended, MayLeave, RecordsView, Pruned, Committed, Snaps, Unsnapped, IsOpened, IsEmpty, Flushes, Flushed, Installed, Begun, Copied}
+use Rattle.cat_ledger_laws.specs.model.Stored.{FileBytes, portion_in, IsCommitWritten, IsCommitStored, AreStored, IsStored, IsSegmentStored, IsLiveStored, joined_sources, SparesFiles, ChangesOnly}
+use Rattle.cat_ledger_laws.specs.model.Calls.{files_begun, commit_of, portion_file_for, newest_listed, records_passed_on, RecordsNow, wrote, Ended, MayLeave, RecordsView, Pruned, Committed, Snaps, Unsnapped, IsOpened, IsEmpty, Flushes, Flushed, Installed, MergeBegun, Copied}
 
 -- A merge that is installed, whatever was deleted since its beginning, leaves the ledger sound and its state as it was.
 abbrev pub MergesChangeNoState : Type 0
@@ -87,7 +87,7 @@ OpenedAreFresh = (c : LedgerCommit) (l : Ledger) → IsOpened c l → AreWhole l
 -- A merge that is begun changes no state.
 abbrev pub BegunChangeNoState : Type 0
 BegunChangeNoState =
-    (index k : ℕ) (l new : Ledger) → IsLedger l → Begun index k l new → IsLedger new × (state_of new ≡ state_of l)
+    (index k : ℕ) (l new : Ledger) → IsLedger l → MergeBegun index k l new → IsLedger new × (state_of new ≡ state_of l)
 
 -- Nor does a step of it.
 abbrev pub CopiesChangeNoState : Type 0
@@ -113,7 +113,7 @@ HoldsAreApart =
 
 -- Where each name that is used keeps its file, every file that is needed is there.
 abbrev pub FilesStay : Type 0
-FilesStay = (l : Ledger) (fs gs : FileBytes) → AreStored fs l → Spares (names_used l) fs gs → AreStored gs l
+FilesStay = (l : Ledger) (fs gs : FileBytes) → AreStored fs l → SparesFiles (names_used l) fs gs → AreStored gs l
 
 -- A write touches no file.
 abbrev pub WritesStore : Type 0
@@ -139,7 +139,7 @@ CommitsStore =
     (text : Text) (l new : Ledger) (fs gs : FileBytes) → IsLedger l → AreStored fs l → Committed text l new
     → ChangesOnly (files_begun l) fs gs
     → IsCommitWritten gs l.schema (commit_of text l)
-    → AllByRecursion (λ p. file_for (newest_listed l.commits) l.next_generation p ≡ l.next_generation
+    → AllByRecursion (λ p. portion_file_for (newest_listed l.commits) l.next_generation p ≡ l.next_generation
     → IsLiveStored gs (record { portion = p; file = l.next_generation })) l.portions
     → AreStored gs new
 
@@ -150,7 +150,7 @@ UnsnapsStore = (g : ℕ) (l new : Ledger) (fs : FileBytes) → AreStored fs l �
 -- A merge that is begun touches its own sources alone, and leaves them empty.
 abbrev pub BegunStore : Type 0
 BegunStore =
-    (index k : ℕ) (l new : Ledger) (fs gs : FileBytes) → IsLedger l → AreStored fs l → Begun index k l new
+    (index k : ℕ) (l new : Ledger) (fs gs : FileBytes) → IsLedger l → AreStored fs l → MergeBegun index k l new
     → ChangesOnly (Name.source l.next_segment ∷ []) fs gs → gs (Name.source l.next_segment) ≡ Some []
     → AreStored gs new
 
@@ -159,7 +159,7 @@ abbrev pub CopiesStore : Type 0
 CopiesStore =
     (m : Merging) (l new : Ledger) (fs gs : FileBytes) → IsLedger l → AreStored fs l → Copied m l new
     → ChangesOnly (Name.source m.number ∷ []) fs gs
-    → gs (Name.source m.number) ≡ Some (joined_sources (passed_on m).kept) → AreStored gs new
+    → gs (Name.source m.number) ≡ Some (joined_sources (records_passed_on m).kept) → AreStored gs new
 
 -- A merge that is installed touches its own segment alone, and leaves it in its file.
 abbrev pub MergesStore : Type 0
@@ -184,7 +184,7 @@ RefusalsStore = (begun : List Name) (l new : Ledger) (fs gs : FileBytes) → IsL
 abbrev pub SweepsSpare : Type 0
 SweepsSpare =
     (l : Ledger) (fs gs : FileBytes) → IsLedger l → ((q : Name) → 0 < users_of l.users q → gs q ≡ fs q)
-    → Spares (names_used l) fs gs
+    → SparesFiles (names_used l) fs gs
 
 -- ---- lines
 
@@ -233,8 +233,8 @@ abbrev pub SettledAreMerged : Type 0
 SettledAreMerged =
     (m : Merging) (l : Ledger) → IsLedger l → l.merging ≡ Some m → m.passed ≡ length (all_records m.inputs)
     → (leaf_of l.schema (settled m l.portions)
-    ≡ merged_leaf m.number l.schema (map (leaf_of l.schema) m.inputs) (map (leaf_of l.schema) (window_now m l.portions)))
-    × AreDeletedFrom (map (leaf_of l.schema) m.inputs) (map (leaf_of l.schema) (window_now m l.portions))
+    ≡ merged_leaf m.number l.schema (map (leaf_of l.schema) m.inputs) (map (leaf_of l.schema) (portion_window_now m l.portions)))
+    × AreDeletedFrom (map (leaf_of l.schema) m.inputs) (map (leaf_of l.schema) (portion_window_now m l.portions))
 
 -- Each user has a name at most once, so that the count of a name is the number of users that have it.
 abbrev pub UsersAreCounted : Type 0

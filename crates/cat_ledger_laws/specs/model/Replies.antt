@@ -12,7 +12,7 @@ use Rattle.cat_model.specs.State.{told_by, has_hold, has_commit, snapshots_in, t
 use Rattle.cat_model.specs.Window.{IsWindow}
 use Rattle.cat_ledger_laws.specs.model.Portions.{Merging}
 use Rattle.cat_ledger_laws.specs.model.Ledger.{Ledger, state_of}
-use Rattle.cat_ledger_laws.specs.model.Calls.{tokens_in, has_recorded, newest_in, wrote, Flushes, Flushed, RecordsView, Pruned, Begun, Copied, passed_on, Installed, Committed, Snaps, Unsnapped, MayLeave, Ended}
+use Rattle.cat_ledger_laws.specs.model.Calls.{tokens_in, has_recorded, newest_in, wrote, Flushes, Flushed, RecordsView, Pruned, MergeBegun, Copied, records_passed_on, Installed, Committed, Snaps, Unsnapped, MayLeave, Ended}
 use Rattle.cat_ledger_laws.specs.model.Plans.{MergePolicy, sizes_of, live_sets_of, MayBeForced}
 
 -- a PUT that finds the buffer full flushes first
@@ -24,14 +24,14 @@ MakesRoom l mid = cond (ltb (length l.buffered) buffer_limit) (mid ≡ l) (Flush
 abbrev pub Maintains : MergePolicy → Chore → News → Ledger → Ledger → Type 0
 Maintains policy Chore.merge News.idle l new = (l.merging ≡ None) × IsWindow policy.factor policy.least (sizes_of l.portions) None × (new ≡ l)
 Maintains policy Chore.merge (News.begun_merge k) l new =
-    (k ≡ policy.factor) × (index : ℕ) × IsWindow policy.factor policy.least (sizes_of l.portions) (Some index) × Begun index k l new
-Maintains policy Chore.merge (News.copied n) l new = (m : Merging) × Copied m l new × (n ≡ (passed_on m).passed)
+    (k ≡ policy.factor) × (index : ℕ) × IsWindow policy.factor policy.least (sizes_of l.portions) (Some index) × MergeBegun index k l new
+Maintains policy Chore.merge (News.copied n) l new = (m : Merging) × Copied m l new × (n ≡ (records_passed_on m).passed)
 Maintains policy Chore.merge News.done l new = (m : Merging) × Installed m l new
 Maintains policy Chore.force News.idle l new =
     (l.merging ≡ None) × (MayBeForced (sizes_of l.portions) (live_sets_of l.portions) → ⊥) × (new ≡ l)
 Maintains policy Chore.force News.busy l new = (l.merging ≢ None) × (new ≡ l)
 Maintains policy Chore.force (News.begun_merge k) l new =
-    (k ≡ length l.portions) × MayBeForced (sizes_of l.portions) (live_sets_of l.portions) × Begun 0 k l new
+    (k ≡ length l.portions) × MayBeForced (sizes_of l.portions) (live_sets_of l.portions) × MergeBegun 0 k l new
 Maintains policy Chore.sweep (News.swept n) l new = MayLeave [] l new
 Maintains policy c n l new = IsTrue (may_tell c n) × (new ≡ l)
 

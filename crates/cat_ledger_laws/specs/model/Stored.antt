@@ -67,8 +67,8 @@ pub record AreStored (files : FileBytes) (l : Ledger) : Type 0 where
   pub merging : IsMergeStored files l.merging
 
 -- these names' files stay as they are
-abbrev pub Spares : List Name → FileBytes → FileBytes → Type 0
-Spares names old new = AllByRecursion (λ q. new q ≡ old q) names
+abbrev pub SparesFiles : List Name → FileBytes → FileBytes → Type 0
+SparesFiles names old new = AllByRecursion (λ q. new q ≡ old q) names
 
 -- all files stay as they are but those of these names
 abbrev pub ChangesOnly : List Name → FileBytes → FileBytes → Type 0

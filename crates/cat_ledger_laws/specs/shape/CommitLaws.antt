@@ -14,12 +14,12 @@ use Rattle.cat_ledger_laws.specs.model.Calls.{Committed, Snaps, Unsnapped}
 use Rattle.cat_ledger_laws.specs.model.Ledger.{IsNew}
 use Rattle.cat_ledger_laws.specs.model.Users.{users_of, times, has_name}
 use Rattle.cat_ledger_laws.specs.shape.Shapes.{ListedLive, Shape, IsShape, names_of_commits, view_now}
-use Rattle.cat_ledger_laws.specs.shape.Steps.{listed_now, commit_now, file_for, IsCommitted, IsSnapped, IsUnsnapped}
+use Rattle.cat_ledger_laws.specs.shape.Steps.{listed_now, commit_file_now, file_for, IsCommitted, IsSnapped, IsUnsnapped}
 use Rattle.cat_ledger_laws.specs.shape.Ties.{ToldFiles, Makes, TouchesOnly, TouchesNothing, TellsBytes}
 
 -- the files that a commit may begin
-abbrev pub files_begun : Shape → List Name
-files_begun s = Name.commit s.next_generation ∷ map (λ (leaf : Leaf). Name.live leaf.segment.number s.next_generation) s.leaves
+abbrev pub shape_files_begun : Shape → List Name
+shape_files_begun s = Name.commit s.next_generation ∷ map (λ (leaf : Leaf). Name.live leaf.segment.number s.next_generation) s.leaves
 
 -- the live rows that stand in a new live file of the commit, where the leaf gets one
 abbrev pub HasNewLive : ToldFiles → Shape → Leaf → Type 0
@@ -29,8 +29,8 @@ HasNewLive told' s leaf = file_for s.listed s.next_generation leaf ≡ s.next_ge
 
 -- the commit's own file and each new live file are written, and no other has changed
 pub record WritesCommit (text : Text) (s : Shape) (told told' : ToldFiles) : Type 0 where
-  pub others : TouchesOnly (files_begun s) told told'
-  pub commit : TellsBytes told' (file.Commit s.next_generation) (λ bytes. SpellsCommit bytes (commit_now text s))
+  pub others : TouchesOnly (shape_files_begun s) told told'
+  pub commit : TellsBytes told' (file.Commit s.next_generation) (λ bytes. SpellsCommit bytes (commit_file_now text s))
   pub live : AllByRecursion (HasNewLive told' s) s.leaves
 
 abbrev pub CommitsMake : Type 0
@@ -57,7 +57,7 @@ UnsnapsKeep = (g : ℕ) (s new : Shape) → IsUnsnapped g s new → IsShape s �
 -- a commit of now can be said in a file, and each live set that isn't whole in one of its own
 abbrev pub CommitsMayBeSaid : Type 0
 CommitsMayBeSaid = (text : Text) (s : Shape) → IsShape s → IsSchema s.schema → IsCommitText text → length s.leaves ≤ segment_limit
-    → s.next_generation ≤ last_number → IsCommitFile (commit_now text s)
+    → s.next_generation ≤ last_number → IsCommitFile (commit_file_now text s)
 
 -- each name has as many users at least as the commits have it
 abbrev pub CommitsAreCounted : Type 0
@@ -70,7 +70,7 @@ UsersFit = (s : Shape) (q : Name) → IsShape s → length s.views ≤ view_limi
 -- a commit of now, a view of now and a new segment name each file once
 abbrev pub NamesComeOnce : Type 0
 NamesComeOnce = (text : Text) (s : Shape) (q : Name) → IsShape s
-    → (times q (commit_needs (commit_now text s)) ≤ 1) × (times q (needs (view_now s)) ≤ 1)
+    → (times q (commit_needs (commit_file_now text s)) ≤ 1) × (times q (needs (view_now s)) ≤ 1)
 
 -- the numbers of the segments that the newest commit lists differ
 abbrev pub ListedDiffer : Type 0
@@ -95,7 +95,7 @@ names_begun s = Name.commit s.next_generation
 -- They have a number that was not taken, and the commit uses each of them.
 pub record AreBegun (text : Text) (s : Shape) : Type 0 where
   pub new : AllByRecursion (IsNew s.next_segment s.next_generation) (names_begun s)
-  pub used : (q : Name) → has_name q (names_begun s) ≡ true → has_name q (commit_needs (commit_now text s)) ≡ true
+  pub used : (q : Name) → has_name q (names_begun s) ≡ true → has_name q (commit_needs (commit_file_now text s)) ≡ true
 
 abbrev pub NamesAreBegun : Type 0
 NamesAreBegun = (text : Text) (s : Shape) → IsShape s → AreBegun text s

@@ -13,9 +13,9 @@ use Rattle.cat_ledger_laws.specs.model.Ledger.{Ledger}
 use Rattle.cat_ledger_laws.specs.model.Leaves.{AreLeaves}
 use Rattle.cat_ledger_laws.specs.model.Stored.{joined_sources}
 use Rattle.cat_ledger_laws.specs.model.Users.{users_of, times}
-use Rattle.cat_ledger_laws.specs.model.Calls.{Begun, Copied, Installed, Ended}
+use Rattle.cat_ledger_laws.specs.model.Calls.{MergeBegun, Copied, Installed, Ended}
 use Rattle.cat_ledger_laws.specs.shape.Shapes.{MergingShape, Shape, IsShape, merging_of, names_of_leaves}
-use Rattle.cat_ledger_laws.specs.shape.Steps.{IsBegun, IsCopied, IsInstalled, IsEnded, passed_on, window_now, merged}
+use Rattle.cat_ledger_laws.specs.shape.Steps.{IsBegun, IsCopied, IsInstalled, IsEnded, passed_on, window_now, merged_or_none}
 use Rattle.cat_ledger_laws.specs.shape.Ties.{ToldFiles, Makes, TouchesOnly, IsTold, TellsBytes}
 
 -- a merge of the model that memory has so
@@ -28,7 +28,7 @@ OfMerge m call l l' = (mm : Merging) × (merging_of l.schema mm ≡ m) × call m
 abbrev pub BegunMake : Type 0
 BegunMake = (index k : ℕ) (s new : Shape) (told told' : ToldFiles) → IsBegun index k s new
     → TouchesOnly (Name.source s.next_segment ∷ []) told told' → IsTold (told' (file.Source s.next_segment)) (Some [])
-    → Makes (Begun index k) told s told' new
+    → Makes (MergeBegun index k) told s told' new
 
 abbrev pub BegunKeep : Type 0
 BegunKeep = (index k : ℕ) (s new : Shape) → IsBegun index k s new → IsShape s → IsShape new
@@ -59,7 +59,7 @@ CopiesKeep = (m : MergingShape) (s new : Shape) → IsCopied m s new → IsShape
 abbrev pub InstallsMake : Type 0
 InstallsMake = (m : MergingShape) (s new : Shape) (told told' : ToldFiles) → IsInstalled m s new
     → TouchesOnly (Name.segment m.number ∷ []) told told'
-    → AllByRecursion (λ leaf. TellsBytes told' (file.Segment m.number) (λ bytes. SpellsSegment bytes leaf.segment)) (merged m s)
+    → AllByRecursion (λ leaf. TellsBytes told' (file.Segment m.number) (λ bytes. SpellsSegment bytes leaf.segment)) (merged_or_none m s)
     → Makes (OfMerge m Installed) told s told' new
 
 abbrev pub InstallsKeep : Type 0
@@ -92,8 +92,8 @@ pub record FindsWindow (m : MergingShape) (s : Shape) : Type 0 where
   pub deleted : AreDeletedFrom m.inputs (window_now m s.leaves)
   pub number : IsFileNumber m.number
   pub fresh : All (λ leaf. leaf.segment.number ≢ m.number) s.leaves
-  pub live : flat_map live_rows (merged m s) ≡ flat_map live_rows (window_now m s.leaves)
-  pub stands : AreLeaves (take m.index s.leaves ++ (merged m s ++ drop (m.index + length m.inputs) s.leaves))
+  pub live : flat_map live_rows (merged_or_none m s) ≡ flat_map live_rows (window_now m s.leaves)
+  pub stands : AreLeaves (take m.index s.leaves ++ (merged_or_none m s ++ drop (m.index + length m.inputs) s.leaves))
   pub users : (q : Name) → times q (names_of_leaves (window_now m s.leaves) ++ Name.source m.number ∷ []) ≤ users_of s.users q
 
 abbrev pub MergesFindTheirWindow : Type 0

@@ -35,8 +35,8 @@ pub record IsFlushed (s new : Shape) : Type 0 where
       }
 
 -- where none wait, nothing changes
-abbrev pub Flushes : Shape → Shape → Type 0
-Flushes s new = ((s.buffered ≡ []) × (new ≡ s)) ⊎ IsFlushed s new
+abbrev pub ShapeFlushes : Shape → Shape → Type 0
+ShapeFlushes s new = ((s.buffered ≡ []) × (new ≡ s)) ⊎ IsFlushed s new
 
 -- ---- views and holds
 
@@ -44,7 +44,7 @@ abbrev pub tokens_of : List View → List ℕ
 tokens_of views = map (λ v. v.token) views
 
 -- a view of now is recorded: its names are taken, those of the one that goes are given
-pub record RecordsNow (s new : Shape) : Type 0 where
+pub record ShapeRecordsNow (s new : Shape) : Type 0 where
   pub users : Changes (needs (view_now s))
       (names_of_views (filter (λ v. not (stays_recorded (held_in s.holds) (tokens_of s.views) v.token)) s.views))
       s.users new.users
@@ -93,17 +93,17 @@ abbrev pub window_now : MergingShape → List Leaf → List Leaf
 window_now m leaves = take (length m.inputs) (drop m.index leaves)
 
 -- the merged segment, or none where no row was kept
-abbrev pub merged : MergingShape → Shape → List Leaf
-merged m s = filter (λ leaf. not (length leaf.segment.rows == 0)) (merged_leaf m.number s.schema m.inputs (window_now m s.leaves) ∷ [])
+abbrev pub merged_or_none : MergingShape → Shape → List Leaf
+merged_or_none m s = filter (λ leaf. not (length leaf.segment.rows == 0)) (merged_leaf m.number s.schema m.inputs (window_now m s.leaves) ∷ [])
 
 -- the merged segment stands in the place of the inputs
 pub record IsInstalled (m : MergingShape) (s new : Shape) : Type 0 where
   pub making : s.merging ≡ Some m
   pub all : m.passed ≡ length (rows_of_all m.inputs)
-  pub users : Changes (names_of_leaves (merged m s)) (names_of_leaves (window_now m s.leaves) ++ Name.source m.number ∷ []) s.users new.users
+  pub users : Changes (names_of_leaves (merged_or_none m s)) (names_of_leaves (window_now m s.leaves) ++ Name.source m.number ∷ []) s.users new.users
   pub rest : new
       ≡ record s {
-        leaves = take m.index s.leaves ++ (merged m s ++ drop (m.index + length m.inputs) s.leaves);
+        leaves = take m.index s.leaves ++ (merged_or_none m s ++ drop (m.index + length m.inputs) s.leaves);
         merging = None;
         users = new.users;
       }
@@ -131,8 +131,8 @@ listed_now s =
     map (λ (leaf : Leaf). record { number = leaf.segment.number; live = leaf.live; file = file_for s.listed s.next_generation leaf }) s.leaves
 
 -- the commit of now with this text, after a flush
-abbrev pub commit_now : Text → Shape → CommitFile
-commit_now text s = record {
+abbrev pub commit_file_now : Text → Shape → CommitFile
+commit_file_now text s = record {
   version = Version.second;
   generation = s.next_generation;
   token = s.count;
@@ -145,12 +145,12 @@ commit_now text s = record {
 -- a commit of now is kept: its names are taken, those of the commits that go are given
 pub record IsCommitted (text : Text) (s new : Shape) : Type 0 where
   pub left : s.next_generation ≤ last_number
-  pub users : Changes (commit_needs (commit_now text s))
+  pub users : Changes (commit_needs (commit_file_now text s))
       (names_of_commits (filter (λ c. not (stays_kept s.taken (Some s.next_generation) c.generation)) s.commits))
       s.users new.users
   pub rest : new
       ≡ record s {
-        commits = filter (λ c. stays_kept s.taken (Some s.next_generation) c.generation) s.commits ++ commit_now text s ∷ [];
+        commits = filter (λ c. stays_kept s.taken (Some s.next_generation) c.generation) s.commits ++ commit_file_now text s ∷ [];
         listed = listed_now s;
         users = new.users;
         next_generation = s.next_generation + 1;

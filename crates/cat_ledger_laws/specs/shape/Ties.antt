@@ -18,8 +18,8 @@ abbrev pub ToldFiles : Type 0
 ToldFiles = FileName → Told
 
 -- the files hold what the device tells of them
-abbrev pub Agrees : ToldFiles → FileBytes → Type 0
-Agrees told files = (q : Name) → IsTold (told (file_of q)) (files q)
+abbrev pub FilesAgree : ToldFiles → FileBytes → Type 0
+FilesAgree told files = (q : Name) → IsTold (told (file_of q)) (files q)
 
 -- The shape, with a device that tells this, carries the ledger over the files: memory has all of it but the sources of its segments,
 -- which stand in these files; and the files are what the device tells, where it tells.
@@ -27,7 +27,7 @@ pub record Carries (told : ToldFiles) (s : Shape) (l : Ledger) (files : FileByte
   pub shape : shape_of l ≡ s
   pub sound : IsLedger l
   pub stored : AreStored files l
-  pub agrees : Agrees told files
+  pub agrees : FilesAgree told files
 
 -- whatever ledger is carried, what the call makes of it is carried afterwards
 abbrev pub Makes : (Ledger → Ledger → Type 0) → ToldFiles → Shape → ToldFiles → Shape → Type 0

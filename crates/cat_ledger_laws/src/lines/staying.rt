@@ -1,5 +1,5 @@
 //! What an answered line leaves as it was.
-ghost use Rattle.cat_ledger_laws.specs.lines.StayLaws.{SchemaStays, HoldsStay, HeldViewsStay, NumbersRise};
+ghost use Rattle.cat_ledger_laws.specs.lines.StayLaws.{SchemaStays, HoldsStay, HeldViewsStay, NumbersRiseByOne};
 
 /// No line changes the fields.
 ///
@@ -26,5 +26,5 @@ pub fn held_views_stay()
 ///
 /// Lucene's `SegmentInfos.counter` and `generation`.
 pub fn numbers_rise()
-    ensures { NumbersRise }
+    ensures { NumbersRiseByOne }
 {}

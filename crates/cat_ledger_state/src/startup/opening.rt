@@ -16,7 +16,7 @@ ghost use Rattle.cat_commits.specs.reading.Refused.{CountsOpening};
 ghost use Rattle.cat_commits.specs.reading.Told.{Tells};
 ghost use Rattle.cat_ledger_laws.specs.shape.Ties.{ToldFiles};
 ghost use Rattle.cat_ledger_state.specs.startup.Opened.{HasOpened, IsRestoredAt, IsStateAt};
-ghost use Rattle.cat_ledger_state.specs.startup.Refused.{IsLost, IsNewestDamaged, IsNewestForeign};
+ghost use Rattle.cat_ledger_state.specs.startup.Refused.{IsLostUnder, IsNewestDamaged, IsNewestForeign};
 
 use crate::{Core, known_names};
 use cat_base::{Generation, Refusal, SegNo};
@@ -38,7 +38,7 @@ fn read_synced<D: Directory + Shelf>(
         → IsSettled (D.bytes device.old q) (D.may_leave device.new q)) }
     ensures gone { OnOk result ((q : FileName) → D.bytes device.old q ≡ Some None
         → IsSettled (D.bytes device.old q) (D.may_leave device.new q)) }
-    ensures damaged { IfErr result (λ e. e ≡ Damaged → IsLost (D.bytes device.old) schema.now generation) }
+    ensures damaged { IfErr result (λ e. e ≡ Damaged → IsLostUnder (D.bytes device.old) schema.now generation) }
     ensures own { IfErr result (λ e. e ≡ Damaged → IsForeign (Tells (D.bytes device.old)) schema.now generation → ⊥) }
     ensures foreign { IfErr result (λ e. e ≡ Kind → IsForeign (MayHold (D.bytes device.old)) schema.now generation) }
     ensures device { IfErr result (λ e. e ≡ Device → D.can_fail device.old) }
@@ -93,7 +93,7 @@ fn open_at<D: Directory + Shelf>(
         → IsSettled (D.bytes device.old q) (D.may_leave device.new q)) }
     ensures gone { OnOk result ((q : FileName) → D.bytes device.old q ≡ Some None
         → IsSettled (D.bytes device.old q) (D.may_leave device.new q)) }
-    ensures damaged { IfErr result (λ e. e ≡ Damaged → IsLost (D.bytes device.old) schema generation) }
+    ensures damaged { IfErr result (λ e. e ≡ Damaged → IsLostUnder (D.bytes device.old) schema generation) }
     ensures own { IfErr result (λ e. e ≡ Damaged → IsForeign (Tells (D.bytes device.old)) schema generation → ⊥) }
     ensures foreign { IfErr result (λ e. e ≡ Kind → IsForeign (MayHold (D.bytes device.old)) schema generation) }
     ensures device { IfErr result (λ e. e ≡ Device → D.can_fail device.old) }

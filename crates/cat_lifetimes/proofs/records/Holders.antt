@@ -6,7 +6,7 @@ use Rattle.std.specs.Set.{remove_key}
 use Rattle.std.proofs.lemmas.Bool.Decides.{nat_tests, eqb_tells}
 use Rattle.std.proofs.lemmas.List.Sums.{sum_by-append}
 use Rattle.cat_model.specs.State.{Hold, has_hold, held_in}
-use Rattle.cat_lifetimes.specs.records.Counts.{AreCounted, TokensRise, token_of, one_more, views_of}
+use Rattle.cat_lifetimes.specs.records.Counts.{AreCounted, TokensRise, recorded_token, one_more, views_of}
 use Rattle.cat_lifetimes.specs.records.Records.{holders_of}
 use Rattle.cat_lifetimes.specs.declared.records.recorded.Recorded.{Recorded}
 
@@ -32,16 +32,16 @@ held_is_counted (h ∷ hs) t = by (held_is_counted hs t) (h.token == t) ∙ sym 
     by rest false = rest ∙ ap (ltb 0) (omega arith)
 
 -- so it is where its view has holders
-pub held_by_holders : (rs : List Recorded) (hs : List Hold) → AreCounted rs hs → AllByRecursion (λ r. ltb 0 r.holders ≡ held_in hs (token_of r)) rs
+pub held_by_holders : (rs : List Recorded) (hs : List Hold) → AreCounted rs hs → AllByRecursion (λ r. ltb 0 r.holders ≡ held_in hs (recorded_token r)) rs
 held_by_holders [] hs a = tt
-held_by_holders (r ∷ rs) hs a = (ap (ltb 0) a.0 ∙ sym (held_is_counted hs (token_of r)), held_by_holders rs hs a.1)
+held_by_holders (r ∷ rs) hs a = (ap (ltb 0) a.0 ∙ sym (held_is_counted hs (recorded_token r)), held_by_holders rs hs a.1)
 
 -- ---- one hold more
 
 pub counted_more : (rs : List Recorded) (hs : List Hold) (s t : ℕ) → AreCounted rs hs → AreCounted (map (one_more t) rs) (hs ++ record { session = s; token = t } ∷ [])
 counted_more [] hs s t a = tt
 counted_more (r ∷ rs) hs s t a =
-    (ap (λ n. n + cond (token_of r == t) 1 0) a.0 ∙ ap (λ b. holders_of hs (token_of r) + cond b 1 0) (equal_either (token_of r) t) ∙ sym (count_by-push (λ h. h.token == token_of r) hs (record { session = s; token = t })), counted_more rs hs s t a.1)
+    (ap (λ n. n + cond (recorded_token r == t) 1 0) a.0 ∙ ap (λ b. holders_of hs (recorded_token r) + cond b 1 0) (equal_either (recorded_token r) t) ∙ sym (count_by-push (λ h. h.token == recorded_token r) hs (record { session = s; token = t })), counted_more rs hs s t a.1)
 
 pub views-more : (rs : List Recorded) (t : ℕ) → views_of (map (one_more t) rs) ≡ views_of rs
 views-more [] t = refl
@@ -51,26 +51,26 @@ pub length-more : (rs : List Recorded) (t : ℕ) → length (map (one_more t) rs
 length-more [] t = refl
 length-more (r ∷ rs) t = ap suc (length-more rs t)
 
-all-more : (t u : ℕ) (rs : List Recorded) → AllByRecursion (λ s. u < token_of s) rs → AllByRecursion (λ s. u < token_of s) (map (one_more t) rs)
+all-more : (t u : ℕ) (rs : List Recorded) → AllByRecursion (λ s. u < recorded_token s) rs → AllByRecursion (λ s. u < recorded_token s) (map (one_more t) rs)
 all-more t u [] a = tt
 all-more t u (r ∷ rs) a = (a.0, all-more t u rs a.1)
 
 pub rise-more : (rs : List Recorded) (t : ℕ) → TokensRise rs → TokensRise (map (one_more t) rs)
 rise-more [] t up = tt
-rise-more (r ∷ rs) t up = (all-more t (token_of r) rs up.0, rise-more rs t up.1)
+rise-more (r ∷ rs) t up = (all-more t (recorded_token r) rs up.0, rise-more rs t up.1)
 
-all-less : (t u : ℕ) (rs : List Recorded) → AllByRecursion (λ s. u < token_of s) (map (one_more t) rs) → AllByRecursion (λ s. u < token_of s) rs
+all-less : (t u : ℕ) (rs : List Recorded) → AllByRecursion (λ s. u < recorded_token s) (map (one_more t) rs) → AllByRecursion (λ s. u < recorded_token s) rs
 all-less t u [] a = tt
 all-less t u (r ∷ rs) a = (a.0, all-less t u rs a.1)
 
 pub rise-less : (rs : List Recorded) (t : ℕ) → TokensRise (map (one_more t) rs) → TokensRise rs
 rise-less [] t up = tt
-rise-less (r ∷ rs) t up = (all-less t (token_of r) rs up.0, rise-less rs t up.1)
+rise-less (r ∷ rs) t up = (all-less t (recorded_token r) rs up.0, rise-less rs t up.1)
 
 pub counted_less : (rs : List Recorded) (hs left : List Hold) (t : ℕ) → ((u : ℕ) → holders_of hs u ≡ holders_of left u + cond (u == t) 1 0) → AreCounted (map (one_more t) rs) hs → AreCounted rs left
 counted_less [] hs left t e a = tt
 counted_less (r ∷ rs) hs left t e a =
-    (let one : r.holders + cond (token_of r == t) 1 0 ≡ holders_of left (token_of r) + cond (token_of r == t) 1 0 = a.0 ∙ e (token_of r) in omega (arith, one), counted_less rs hs left t e a.1)
+    (let one : r.holders + cond (recorded_token r == t) 1 0 ≡ holders_of left (recorded_token r) + cond (recorded_token r == t) 1 0 = a.0 ∙ e (recorded_token r) in omega (arith, one), counted_less rs hs left t e a.1)
 
 -- the view of a held token stays
 pub held-push : (hs : List Hold) (s t u : ℕ) → held_in (hs ++ record { session = s; token = t } ∷ []) u ≡ (held_in hs u || (t == u))

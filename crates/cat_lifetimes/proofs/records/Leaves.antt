@@ -7,7 +7,7 @@ use Rattle.std.proofs.lemmas.List.Quantifiers.{position-Some}
 use Rattle.std.proofs.lemmas.List.Sums.{fails_before_first}
 use Rattle.cat_model.proofs.Lists.{filter_alike, filter_none, All-each}
 use Rattle.cat_ledger_laws.specs.model.Calls.{stays_full}
-use Rattle.cat_lifetimes.specs.records.Counts.{TokensRise, token_of}
+use Rattle.cat_lifetimes.specs.records.Counts.{TokensRise, recorded_token}
 use Rattle.cat_lifetimes.specs.declared.records.recorded.Recorded.{Recorded}
 
 -- ---- the first that passes a test
@@ -37,15 +37,15 @@ none_first p xs e = all_fail p xs (λ k d lt. fails_before_first p xs k d (grind
 
 -- the tokens
 abbrev pub tokens : List Recorded → List ℕ
-tokens rs = map token_of rs
+tokens rs = map recorded_token rs
 
 -- it is not held
 abbrev pub is_free : (ℕ → Bool) → Recorded → Bool
-is_free held r = not (held (token_of r))
+is_free held r = not (held (recorded_token r))
 
 -- it stays as one more is recorded where all places are taken
 abbrev pub stays : (ℕ → Bool) → List ℕ → Recorded → Bool
-stays held ts r = stays_full held ts (token_of r)
+stays held ts r = stays_full held ts (recorded_token r)
 
 not_less : (a b : ℕ) → b ≤ a → ltb a b ≡ false
 not_less a b le = grind (arith, nat_tests)
@@ -54,11 +54,11 @@ less : (a b : ℕ) → a < b → ltb a b ≡ true
 less a b lt = grind (arith, nat_tests)
 
 -- none of those behind has a lesser token
-none_less : (held : ℕ → Bool) (t : ℕ) (rs : List Recorded) → AllByRecursion (λ s. t < token_of s) rs → list_any (λ u. not (held u) && ltb u t) (tokens rs) ≡ false
+none_less : (held : ℕ → Bool) (t : ℕ) (rs : List Recorded) → AllByRecursion (λ s. t < recorded_token s) rs → list_any (λ u. not (held u) && ltb u t) (tokens rs) ≡ false
 none_less held t [] a = refl
 none_less held t (r ∷ rs) a =
-    let e : ltb (token_of r) t ≡ false = not_less (token_of r) t (let l = a.0 in omega (arith, l)) in
-    ap (λ b. (not (held (token_of r)) && b) || list_any (λ u. not (held u) && ltb u t) (tokens rs)) e ∙ by (not (held (token_of r))) ∙ none_less held t rs a.1
+    let e : ltb (recorded_token r) t ≡ false = not_less (recorded_token r) t (let l = a.0 in omega (arith, l)) in
+    ap (λ b. (not (held (recorded_token r)) && b) || list_any (λ u. not (held u) && ltb u t) (tokens rs)) e ∙ by (not (held (recorded_token r))) ∙ none_less held t rs a.1
   where
     by : (b : Bool) → ((b && false) || list_any (λ u. not (held u) && ltb u t) (tokens rs)) ≡ list_any (λ u. not (held u) && ltb u t) (tokens rs)
     by true = refl
@@ -69,10 +69,10 @@ or_true true = refl
 or_true false = refl
 
 -- behind one that is free all stay
-all_stay : (held : ℕ → Bool) (r : Recorded) (ts : List ℕ) (rs : List Recorded) → held (token_of r) ≡ false → AllByRecursion (λ s. token_of r < token_of s) rs → AllByRecursion (λ s. stays held (token_of r ∷ ts) s ≡ true) rs
+all_stay : (held : ℕ → Bool) (r : Recorded) (ts : List ℕ) (rs : List Recorded) → held (recorded_token r) ≡ false → AllByRecursion (λ s. recorded_token r < recorded_token s) rs → AllByRecursion (λ s. stays held (recorded_token r ∷ ts) s ≡ true) rs
 all_stay held r ts [] f a = tt
 all_stay held r ts (s ∷ rs) f a =
-    ((λ i. held (token_of s) || ((not (f i) && less (token_of r) (token_of s) a.0 i) || list_any (λ u. not (held u) && ltb u (token_of s)) ts)) ∙ or_true (held (token_of s)), all_stay held r ts rs f a.1)
+    ((λ i. held (recorded_token s) || ((not (f i) && less (recorded_token r) (recorded_token s) a.0 i) || list_any (λ u. not (held u) && ltb u (recorded_token s)) ts)) ∙ or_true (held (recorded_token s)), all_stay held r ts rs f a.1)
 
 pub filter_all : {X : Type 0} (p : X → Bool) (xs : List X) → AllByRecursion (λ x. p x ≡ true) xs → filter p xs ≡ xs
 filter_all p [] a = refl
@@ -82,32 +82,32 @@ falses : {X : Type 0} (p : X → Bool) (xs : List X) → AllByRecursion (λ x. p
 falses p [] a = tt
 falses p (x ∷ xs) a = (ap not a.0, falses p xs a.1)
 
-free_is : (held : ℕ → Bool) (r : Recorded) → is_free held r ≡ true → held (token_of r) ≡ false
-free_is held r e = by (held (token_of r)) e
+free_is : (held : ℕ → Bool) (r : Recorded) → is_free held r ≡ true → held (recorded_token r) ≡ false
+free_is held r e = by (held (recorded_token r)) e
   where
     by : (b : Bool) → not b ≡ true → b ≡ false
     by true k = absurd (let no : false ≡ true = k in cc)
     by false k = refl
 
-held_is : (held : ℕ → Bool) (r : Recorded) → is_free held r ≡ false → held (token_of r) ≡ true
-held_is held r e = by (held (token_of r)) e
+held_is : (held : ℕ → Bool) (r : Recorded) → is_free held r ≡ false → held (recorded_token r) ≡ true
+held_is held r e = by (held (recorded_token r)) e
   where
     by : (b : Bool) → not b ≡ false → b ≡ true
     by true k = refl
     by false k = absurd (let no : true ≡ false = k in cc)
 
 -- a held one before changes nothing for those behind
-past_held : (held : ℕ → Bool) (r : Recorded) (ts : List ℕ) (s : Recorded) → held (token_of r) ≡ true → stays held (token_of r ∷ ts) s ≡ stays held ts s
-past_held held r ts s e = λ i. held (token_of s) || ((not (e i) && ltb (token_of r) (token_of s)) || list_any (λ u. not (held u) && ltb u (token_of s)) ts)
+past_held : (held : ℕ → Bool) (r : Recorded) (ts : List ℕ) (s : Recorded) → held (recorded_token r) ≡ true → stays held (recorded_token r ∷ ts) s ≡ stays held ts s
+past_held held r ts s e = λ i. held (recorded_token s) || ((not (e i) && ltb (recorded_token r) (recorded_token s)) || list_any (λ u. not (held u) && ltb u (recorded_token s)) ts)
 
 -- the free one with no free one before it goes
-itself_goes : (held : ℕ → Bool) (r : Recorded) (rs : List Recorded) → held (token_of r) ≡ false → AllByRecursion (λ s. token_of r < token_of s) rs → stays held (tokens (r ∷ rs)) r ≡ false
+itself_goes : (held : ℕ → Bool) (r : Recorded) (rs : List Recorded) → held (recorded_token r) ≡ false → AllByRecursion (λ s. recorded_token r < recorded_token s) rs → stays held (tokens (r ∷ rs)) r ≡ false
 itself_goes held r rs f a =
-    (λ i. f i || ((not (f i) && not_less (token_of r) (token_of r) (omega arith) i) || none_less held (token_of r) rs a i))
+    (λ i. f i || ((not (f i) && not_less (recorded_token r) (recorded_token r) (omega arith) i) || none_less held (recorded_token r) rs a i))
 
 -- a held one stays
-itself_stays : (held : ℕ → Bool) (r : Recorded) (ts : List ℕ) → held (token_of r) ≡ true → stays held ts r ≡ true
-itself_stays held r ts e = λ i. e i || list_any (λ u. not (held u) && ltb u (token_of r)) ts
+itself_stays : (held : ℕ → Bool) (r : Recorded) (ts : List ℕ) → held (recorded_token r) ≡ true → stays held ts r ≡ true
+itself_stays held r ts e = λ i. e i || list_any (λ u. not (held u) && ltb u (recorded_token r)) ts
 
 -- all but the first free one stay
 pub stays_but : (held : ℕ → Bool) (rs : List Recorded) (i : ℕ) → TokensRise rs → FirstAt (is_free held) rs i → filter (stays held (tokens rs)) rs ≡ remove rs i
@@ -151,11 +151,11 @@ some_free held (r ∷ rs) zero f = ap (λ b. b && list_all held (tokens rs)) (fr
 some_free held (r ∷ rs) (suc i) f = ap (λ b. b && list_all held (tokens rs)) (held_is held r f.0) ∙ some_free held rs i f.1
 
 -- the first without holders is the first that is free
-pub first_alike : (held : ℕ → Bool) (rs : List Recorded) (i : ℕ) → AllByRecursion (λ r. ltb 0 r.holders ≡ held (token_of r)) rs → FirstAt (λ r. not (ltb 0 r.holders)) rs i → FirstAt (is_free held) rs i
+pub first_alike : (held : ℕ → Bool) (rs : List Recorded) (i : ℕ) → AllByRecursion (λ r. ltb 0 r.holders ≡ held (recorded_token r)) rs → FirstAt (λ r. not (ltb 0 r.holders)) rs i → FirstAt (is_free held) rs i
 first_alike held [] i a f = f
 first_alike held (r ∷ rs) zero a f = sym (ap not a.0) ∙ f
 first_alike held (r ∷ rs) (suc i) a f = (sym (ap not a.0) ∙ f.0, first_alike held rs i a.1 f.1)
 
-pub none_alike : (held : ℕ → Bool) (rs : List Recorded) → AllByRecursion (λ r. ltb 0 r.holders ≡ held (token_of r)) rs → AllByRecursion (λ r. not (ltb 0 r.holders) ≡ false) rs → AllByRecursion (λ r. is_free held r ≡ false) rs
+pub none_alike : (held : ℕ → Bool) (rs : List Recorded) → AllByRecursion (λ r. ltb 0 r.holders ≡ held (recorded_token r)) rs → AllByRecursion (λ r. not (ltb 0 r.holders) ≡ false) rs → AllByRecursion (λ r. is_free held r ≡ false) rs
 none_alike held [] a f = tt
 none_alike held (r ∷ rs) a f = (sym (ap not a.0) ∙ f.0, none_alike held rs a.1 f.1)

@@ -9,7 +9,7 @@ use Rattle.std.specs.Ordering.{MatchOrdering, ordering_index}
 use Rattle.std.specs.Result.{result_ok}
 use Rattle.std.proofs.lemmas.Bool.{cases_lt}
 use Rattle.std.proofs.lemmas.Bool.Decides.{eqb_tells}
-use Rattle.cat_lifetimes.specs.records.Counts.{TokensRise, token_of, one_more}
+use Rattle.cat_lifetimes.specs.records.Counts.{TokensRise, recorded_token, one_more}
 use Rattle.cat_lifetimes.specs.declared.records.recorded.Recorded.{Recorded}
 
 -- ---- what holds of each element, by its index
@@ -38,10 +38,10 @@ any_some p (x ∷ xs) (suc i) d lt e = or_some (p x) (list_any p xs) (any_some p
 
 -- ---- tokens that rise
 
-pub rise_at : (rs : List Recorded) (i j : ℕ) (d : Recorded) → TokensRise rs → i ≤ j → j < length rs → token_of (get_or rs i d) ≤ token_of (get_or rs j d)
+pub rise_at : (rs : List Recorded) (i j : ℕ) (d : Recorded) → TokensRise rs → i ≤ j → j < length rs → recorded_token (get_or rs i d) ≤ recorded_token (get_or rs j d)
 rise_at [] i j d up le lt = absurd (omega arith)
 rise_at (r ∷ rs) zero zero d up le lt = omega arith
-rise_at (r ∷ rs) zero (suc j) d up le lt = let a = all_at (λ s. token_of r < token_of s) rs j d up.0 (omega arith) in omega (arith, a)
+rise_at (r ∷ rs) zero (suc j) d up le lt = let a = all_at (λ s. recorded_token r < recorded_token s) rs j d up.0 (omega arith) in omega (arith, a)
 rise_at (r ∷ rs) (suc i) zero d up le lt = absurd (omega arith)
 rise_at (r ∷ rs) (suc i) (suc j) d up le lt = rise_at rs i j d up.1 (omega arith) (omega arith)
 
@@ -69,82 +69,82 @@ pub equals : (a t : ℕ) → a ≡ t → (a == t) ≡ true
 equals a t h = elim (eqb_tells a t) [ inl e ↦ e.0 | inr e ↦ absurd (e.1 h) ]
 
 -- what a binary search for the token answers
-pub searched_some : (rs : List Recorded) (t : ℕ) (found : Result ℕ ℕ) → IsSearchInRange found (length rs) → IsBinarySearchResult (λ r. nat_cmp (token_of r) t) rs found
-    → IfSome (result_ok found) (λ i. (i < length rs) × HoldsAt (λ r. token_of r ≡ t) rs i)
-searched_some rs t (Ok i) within h = (within, λ d. tells (token_of (get_or rs i d)) t Equal (h d))
+pub searched_some : (rs : List Recorded) (t : ℕ) (found : Result ℕ ℕ) → IsSearchInRange found (length rs) → IsBinarySearchResult (λ r. nat_cmp (recorded_token r) t) rs found
+    → IfSome (result_ok found) (λ i. (i < length rs) × HoldsAt (λ r. recorded_token r ≡ t) rs i)
+searched_some rs t (Ok i) within h = (within, λ d. tells (recorded_token (get_or rs i d)) t Equal (h d))
 searched_some rs t (Err i) within h = tt
 
-pub searched_none : (rs : List Recorded) (t : ℕ) (found : Result ℕ ℕ) → TokensRise rs → IsSearchInRange found (length rs) → IsBinarySearchResult (λ r. nat_cmp (token_of r) t) rs found
-    → is_some (result_ok found) ≡ list_any (λ r. token_of r == t) rs
+pub searched_none : (rs : List Recorded) (t : ℕ) (found : Result ℕ ℕ) → TokensRise rs → IsSearchInRange found (length rs) → IsBinarySearchResult (λ r. nat_cmp (recorded_token r) t) rs found
+    → is_some (result_ok found) ≡ list_any (λ r. recorded_token r == t) rs
 searched_none [] t (Ok i) up within h = absurd (omega arith)
-searched_none (r ∷ rs) t (Ok i) up within h = sym (any_some (λ s. token_of s == t) (r ∷ rs) i r within (equals _ _ (tells (token_of (get_or (r ∷ rs) i r)) t Equal (h r))))
+searched_none (r ∷ rs) t (Ok i) up within h = sym (any_some (λ s. recorded_token s == t) (r ∷ rs) i r within (equals _ _ (tells (recorded_token (get_or (r ∷ rs) i r)) t Equal (h r))))
 searched_none rs t (Err i) up within h =
-    let parted = h (λ a b d le lt. higher t (token_of (get_or rs a d)) (token_of (get_or rs b d)) (rise_at rs a b d up le lt)) in
-    sym (any_none (λ s. token_of s == t) rs (λ k d lt. differs (token_of (get_or rs k d)) t (elim (cases_lt k i) [
-      | inl below ↦ λ e. let less : token_of (get_or rs k d) < t = tells (token_of (get_or rs k d)) t Less (parted.0 k d (omega arith) below) in omega arith
-      | inr above ↦ λ e. let more : t < token_of (get_or rs k d) = tells (token_of (get_or rs k d)) t Greater (parted.1 k d above lt) in omega arith
+    let parted = h (λ a b d le lt. higher t (recorded_token (get_or rs a d)) (recorded_token (get_or rs b d)) (rise_at rs a b d up le lt)) in
+    sym (any_none (λ s. recorded_token s == t) rs (λ k d lt. differs (recorded_token (get_or rs k d)) t (elim (cases_lt k i) [
+      | inl below ↦ λ e. let less : recorded_token (get_or rs k d) < t = tells (recorded_token (get_or rs k d)) t Less (parted.0 k d (omega arith) below) in omega arith
+      | inr above ↦ λ e. let more : t < recorded_token (get_or rs k d) = tells (recorded_token (get_or rs k d)) t Greater (parted.1 k d above lt) in omega arith
     ])))
 
 -- ---- one holder more, or less
 
-same_count : (r : Recorded) (t : ℕ) → (token_of r == t) ≡ false → one_more t r ≡ r
-same_count r t e = let n : r.holders + cond (token_of r == t) 1 0 ≡ r.holders = ap (λ b. r.holders + cond b 1 0) e ∙ omega arith in λ i. record r { holders = n i }
+same_count : (r : Recorded) (t : ℕ) → (recorded_token r == t) ≡ false → one_more t r ≡ r
+same_count r t e = let n : r.holders + cond (recorded_token r == t) 1 0 ≡ r.holders = ap (λ b. r.holders + cond b 1 0) e ∙ omega arith in λ i. record r { holders = n i }
 
-pub none_more : (rs : List Recorded) (t : ℕ) → list_any (λ r. token_of r == t) rs ≡ false → map (one_more t) rs ≡ rs
+pub none_more : (rs : List Recorded) (t : ℕ) → list_any (λ r. recorded_token r == t) rs ≡ false → map (one_more t) rs ≡ rs
 none_more [] t e = refl
-none_more (r ∷ rs) t e = by (none_more rs t) (token_of r == t) refl
+none_more (r ∷ rs) t e = by (none_more rs t) (recorded_token r == t) refl
   where
-    by : (list_any (λ r. token_of r == t) rs ≡ false → map (one_more t) rs ≡ rs) → (b : Bool) → (token_of r == t) ≡ b → map (one_more t) (r ∷ rs) ≡ r ∷ rs
-    by more true is = absurd (let no : true ≡ false = sym (ap (λ b. b || list_any (λ r. token_of r == t) rs) is) ∙ e in cc)
-    by more false is = let tail = more (sym (ap (λ b. b || list_any (λ r. token_of r == t) rs) is) ∙ e) in λ i. same_count r t is i ∷ tail i
+    by : (list_any (λ r. recorded_token r == t) rs ≡ false → map (one_more t) rs ≡ rs) → (b : Bool) → (recorded_token r == t) ≡ b → map (one_more t) (r ∷ rs) ≡ r ∷ rs
+    by more true is = absurd (let no : true ≡ false = sym (ap (λ b. b || list_any (λ r. recorded_token r == t) rs) is) ∙ e in cc)
+    by more false is = let tail = more (sym (ap (λ b. b || list_any (λ r. recorded_token r == t) rs) is) ∙ e) in λ i. same_count r t is i ∷ tail i
 
 -- none behind has the token of one that is less than all of them
-none_above : (rs : List Recorded) (t : ℕ) → AllByRecursion (λ s. t < token_of s) rs → map (one_more t) rs ≡ rs
+none_above : (rs : List Recorded) (t : ℕ) → AllByRecursion (λ s. t < recorded_token s) rs → map (one_more t) rs ≡ rs
 none_above [] t a = refl
 none_above (r ∷ rs) t a =
     let tail = none_above rs t a.1 in
     let below = a.0 in
-    let e : (token_of r == t) ≡ false = differs (token_of r) t (λ same. omega (arith, below, same)) in
+    let e : (recorded_token r == t) ≡ false = differs (recorded_token r) t (λ same. omega (arith, below, same)) in
     λ i. same_count r t e i ∷ tail i
 
 -- the holders of this one become so many
 abbrev pub with_holders : ℕ → Recorded → Recorded
 with_holders n r = record r { holders = n }
 
-pub more_at : (rs : List Recorded) (t i : ℕ) (d : Recorded) → TokensRise rs → i < length rs → token_of (get_or rs i d) ≡ t
+pub more_at : (rs : List Recorded) (t i : ℕ) (d : Recorded) → TokensRise rs → i < length rs → recorded_token (get_or rs i d) ≡ t
     → set rs i (with_holders ((get_or rs i d).holders + 1) (get_or rs i d)) ≡ map (one_more t) rs
 more_at [] t i d up lt e = absurd (omega arith)
 more_at (r ∷ rs) t zero d up lt e =
-    let head : r.holders + 1 ≡ r.holders + cond (token_of r == t) 1 0 = ap (λ b. r.holders + cond b 1 0) (sym (equals (token_of r) t e)) in
-    let tail = none_above rs t (subst (λ u. AllByRecursion (λ s. u < token_of s) rs) e up.0) in
+    let head : r.holders + 1 ≡ r.holders + cond (recorded_token r == t) 1 0 = ap (λ b. r.holders + cond b 1 0) (sym (equals (recorded_token r) t e)) in
+    let tail = none_above rs t (subst (λ u. AllByRecursion (λ s. u < recorded_token s) rs) e up.0) in
     λ i. record r { holders = head i } ∷ sym tail i
 more_at (r ∷ rs) t (suc i) d up lt e =
-    let a = all_at (λ s. token_of r < token_of s) rs i d up.0 (omega arith) in
-    let other : (token_of r == t) ≡ false = differs (token_of r) t (λ k. omega (arith, a, e)) in
+    let a = all_at (λ s. recorded_token r < recorded_token s) rs i d up.0 (omega arith) in
+    let other : (recorded_token r == t) ≡ false = differs (recorded_token r) t (λ k. omega (arith, a, e)) in
     let tail = more_at rs t i d up.1 (omega arith) e in
     λ j. sym (same_count r t other) j ∷ tail j
 
-pub less_at : (rs : List Recorded) (t i : ℕ) (d : Recorded) → TokensRise rs → i < length rs → token_of (get_or rs i d) ≡ t → 0 < (get_or rs i d).holders
+pub less_at : (rs : List Recorded) (t i : ℕ) (d : Recorded) → TokensRise rs → i < length rs → recorded_token (get_or rs i d) ≡ t → 0 < (get_or rs i d).holders
     → rs ≡ map (one_more t) (set rs i (with_holders ((get_or rs i d).holders - 1) (get_or rs i d)))
 less_at [] t i d up lt e some = absurd (omega arith)
 less_at (r ∷ rs) t zero d up lt e some =
-    let head : r.holders ≡ r.holders - 1 + cond (token_of r == t) 1 0 = let back : r.holders ≡ r.holders - 1 + 1 = omega arith in back ∙ ap (λ b. r.holders - 1 + cond b 1 0) (sym (equals (token_of r) t e)) in
-    let tail = none_above rs t (subst (λ u. AllByRecursion (λ s. u < token_of s) rs) e up.0) in
+    let head : r.holders ≡ r.holders - 1 + cond (recorded_token r == t) 1 0 = let back : r.holders ≡ r.holders - 1 + 1 = omega arith in back ∙ ap (λ b. r.holders - 1 + cond b 1 0) (sym (equals (recorded_token r) t e)) in
+    let tail = none_above rs t (subst (λ u. AllByRecursion (λ s. u < recorded_token s) rs) e up.0) in
     λ i. record r { holders = head i } ∷ sym tail i
 less_at (r ∷ rs) t (suc i) d up lt e some =
-    let a = all_at (λ s. token_of r < token_of s) rs i d up.0 (omega arith) in
-    let other : (token_of r == t) ≡ false = differs (token_of r) t (λ k. omega (arith, a, e)) in
+    let a = all_at (λ s. recorded_token r < recorded_token s) rs i d up.0 (omega arith) in
+    let other : (recorded_token r == t) ≡ false = differs (recorded_token r) t (λ k. omega (arith, a, e)) in
     let tail = less_at rs t i d up.1 (omega arith) e some in
     λ j. sym (same_count r t other) j ∷ tail j
 
 -- the same where what is read twice is told apart
-pub more_there : (rs : List Recorded) (t i : ℕ) (a b : Recorded) → TokensRise rs → i < length rs → token_of (get_or rs i b) ≡ t
+pub more_there : (rs : List Recorded) (t i : ℕ) (a b : Recorded) → TokensRise rs → i < length rs → recorded_token (get_or rs i b) ≡ t
     → set rs i (record { view = (get_or rs i a).view; holders = (get_or rs i b).holders + 1 }) ≡ map (one_more t) rs
 more_there rs t i a b up lt e =
     let same : get_or rs i a ≡ get_or rs i b = get_or_default rs i a b lt in
     ap (λ (r : Recorded). set rs i (record { view = r.view; holders = (get_or rs i b).holders + 1 })) same ∙ more_at rs t i b up lt e
 
-pub less_there : (rs : List Recorded) (t i : ℕ) (a b : Recorded) → TokensRise rs → i < length rs → token_of (get_or rs i b) ≡ t → 0 < (get_or rs i b).holders
+pub less_there : (rs : List Recorded) (t i : ℕ) (a b : Recorded) → TokensRise rs → i < length rs → recorded_token (get_or rs i b) ≡ t → 0 < (get_or rs i b).holders
     → rs ≡ map (one_more t) (set rs i (record { view = (get_or rs i a).view; holders = (get_or rs i b).holders - 1 }))
 less_there rs t i a b up lt e some =
     let same : get_or rs i b ≡ get_or rs i a = get_or_default rs i b a lt in
@@ -168,9 +168,9 @@ nowhere p (x ∷ xs) e = by (nowhere p xs) (p x) refl
     by more true is = absurd (let no : None ≡ Some x = e ∙ ap (λ b. cond b (Some x) (find p xs)) is in cc)
     by more false is = more (e ∙ ap (λ b. cond b (Some x) (find p xs)) is)
 
-pub found_at : (rs : List Recorded) (t i : ℕ) (d : Recorded) → TokensRise rs → i < length rs → token_of (get_or rs i d) ≡ t → find (λ r. token_of r == t) rs ≡ Some (get_or rs i d)
+pub found_at : (rs : List Recorded) (t i : ℕ) (d : Recorded) → TokensRise rs → i < length rs → recorded_token (get_or rs i d) ≡ t → find (λ r. recorded_token r == t) rs ≡ Some (get_or rs i d)
 found_at [] t i d up lt e = absurd (omega arith)
-found_at (r ∷ rs) t zero d up lt e = ap (λ b. cond b (Some r) (find (λ r. token_of r == t) rs)) (equals (token_of r) t e)
+found_at (r ∷ rs) t zero d up lt e = ap (λ b. cond b (Some r) (find (λ r. recorded_token r == t) rs)) (equals (recorded_token r) t e)
 found_at (r ∷ rs) t (suc i) d up lt e =
-    let a = all_at (λ s. token_of r < token_of s) rs i d up.0 (omega arith) in
-    ap (λ b. cond b (Some r) (find (λ r. token_of r == t) rs)) (differs (token_of r) t (λ k. omega (arith, a, e))) ∙ found_at rs t i d up.1 (omega arith) e
+    let a = all_at (λ s. recorded_token r < recorded_token s) rs i d up.0 (omega arith) in
+    ap (λ b. cond b (Some r) (find (λ r. recorded_token r == t) rs)) (differs (recorded_token r) t (λ k. omega (arith, a, e))) ∙ found_at rs t i d up.1 (omega arith) e

@@ -14,8 +14,9 @@ use Rattle.cat_model.specs.State.{Hold, has_hold, held_in}
 use Rattle.cat_model.specs.View.{View}
 use Rattle.cat_ledger_laws.proofs.model.Views.{map-filter}
 use Rattle.cat_ledger_laws.specs.model.Calls.{stays_full}
-use Rattle.cat_lifetimes.specs.records.Counts.{AreCounted, AreKept, KeepsFrom, TokensRise, is_kept_from, token_of, views_of, one_more}
-use Rattle.cat_lifetimes.specs.records.Records.{Records, AreRecords, acquired, has_token, holders_of, pruned_to, released, stays_by, stays_in, tokens_of, with_view}
+use Rattle.cat_lifetimes.specs.records.Counts.{AreCounted, AreKept, KeepsFrom, TokensRise, is_kept_from, recorded_token, views_of, one_more}
+use Rattle.cat_lifetimes.specs.records.Records.{Records, AreRecords, acquired, has_token, holders_of, pruned_to, released, stays_by, stays_in, records_with_view}
+use Rattle.cat_ledger_laws.specs.shape.Steps.{tokens_of}
 use Rattle.cat_lifetimes.specs.declared.records.recorded.Recorded.{Recorded}
 use Rattle.cat_lifetimes.proofs.records.Searched.{all_at, any_some, equals}
 use Rattle.cat_lifetimes.proofs.records.Holders.{count_by-cons, equal_either, held_by_holders, removed_is_filtered, held_is_counted, counted_more, counted_less, views-more, length-more, rise-more, rise-less, held-push, held-filtered, holders-removed, is_of, equal_at}
@@ -52,26 +53,26 @@ pub find-map : {X Y : Type 0} (f : X → Y) (p : Y → Bool) (xs : List X) → f
 find-map f p [] = refl
 find-map f p (x ∷ xs) = elim (p (f x)) as (λ b. cond b (Some (f x)) (find p (map f xs)) ≡ option_map f (cond b (Some x) (find (λ x. p (f x)) xs))) [ true ↦ refl | false ↦ find-map f p xs ]
 
-pub any-views : (rs : List Recorded) (t : ℕ) → list_any (λ r. token_of r == t) rs ≡ has_token (views_of rs) t
+pub any-views : (rs : List Recorded) (t : ℕ) → list_any (λ r. recorded_token r == t) rs ≡ has_token (views_of rs) t
 any-views [] t = refl
-any-views (r ∷ rs) t = ap (λ b. (token_of r == t) || b) (any-views rs t)
+any-views (r ∷ rs) t = ap (λ b. (recorded_token r == t) || b) (any-views rs t)
 
 -- ---- the greatest token
 
-above_all : (rs : List Recorded) (t : ℕ) → AllByRecursion (λ s. t < token_of s) rs → (i : ℕ) (d : Recorded) → i < length rs → t < token_of (get_or rs i d)
+above_all : (rs : List Recorded) (t : ℕ) → AllByRecursion (λ s. t < recorded_token s) rs → (i : ℕ) (d : Recorded) → i < length rs → t < recorded_token (get_or rs i d)
 above_all [] t a i d lt = absurd (omega arith)
 above_all (r ∷ rs) t a zero d lt = a.0
 above_all (r ∷ rs) t a (suc i) d lt = above_all rs t a.1 i d (omega arith)
 
 -- the last has the greatest
-pub last_is_greatest : (rs : List Recorded) (d : Recorded) → TokensRise rs → 0 < length rs → token_of (get_or rs (length rs - 1) d) ≡ greatest (tokens rs)
+pub last_is_greatest : (rs : List Recorded) (d : Recorded) → TokensRise rs → 0 < length rs → recorded_token (get_or rs (length rs - 1) d) ≡ greatest (tokens rs)
 last_is_greatest [] d up some = absurd (omega arith)
 last_is_greatest (r ∷ []) d up some = omega arith
 last_is_greatest (r ∷ s ∷ rs) d up some =
     let at : length (r ∷ s ∷ rs) - 1 ≡ suc (length (s ∷ rs) - 1) = omega arith in
     let rest = last_is_greatest (s ∷ rs) d up.1 (omega arith) in
-    let more = above_all (s ∷ rs) (token_of r) up.0 (length (s ∷ rs) - 1) d (omega arith) in
-    ap (λ n. token_of (get_or (r ∷ s ∷ rs) n d)) at ∙ omega (arith, rest, more)
+    let more = above_all (s ∷ rs) (recorded_token r) up.0 (length (s ∷ rs) - 1) d (omega arith) in
+    ap (λ n. recorded_token (get_or (r ∷ s ∷ rs) n d)) at ∙ omega (arith, rest, more)
 
 -- ---- what always holds
 
@@ -110,7 +111,7 @@ rise-kept : (p : Recorded → Bool) (rs : List Recorded) → TokensRise rs → T
 rise-kept p [] up = tt
 rise-kept p (r ∷ rs) up =
     elim (p r) as (λ b. TokensRise (cond b (r ∷ filter p rs) (filter p rs))) [
-      | true ↦ (All-kept (λ s. token_of r < token_of s) p rs up.0, rise-kept p rs up.1)
+      | true ↦ (All-kept (λ s. recorded_token r < recorded_token s) p rs up.0, rise-kept p rs up.1)
       | false ↦ rise-kept p rs up.1
     ]
 
@@ -119,49 +120,49 @@ or_any true b e = refl
 or_any false b e = e
 
 -- a token whose view stays is still there
-there-kept : (p : Recorded → Bool) (rs : List Recorded) (t : ℕ) → AllByRecursion (λ r. token_of r ≡ t → p r ≡ true) rs → has_token (views_of rs) t ≡ true → has_token (views_of (filter p rs)) t ≡ true
+there-kept : (p : Recorded → Bool) (rs : List Recorded) (t : ℕ) → AllByRecursion (λ r. recorded_token r ≡ t → p r ≡ true) rs → has_token (views_of rs) t ≡ true → has_token (views_of (filter p rs)) t ≡ true
 there-kept p [] t a e = e
-there-kept p (r ∷ rs) t a e = elim (eqb_tells (token_of r) t) [
+there-kept p (r ∷ rs) t a e = elim (eqb_tells (recorded_token r) t) [
   | inl is ↦ ap (λ b. has_token (views_of (cond b (r ∷ filter p rs) (filter p rs))) t) (a.0 is.1) ∙ ap (λ b. b || has_token (views_of (filter p rs)) t) is.0
   | inr other ↦
       let rest = there-kept p rs t a.1 (sym (ap (λ b. b || has_token (views_of rs) t) other.0) ∙ e) in
-      elim (p r) as (λ b. has_token (views_of (cond b (r ∷ filter p rs) (filter p rs))) t ≡ true) [ true ↦ or_any (token_of r == t) (has_token (views_of (filter p rs)) t) rest | false ↦ rest ]
+      elim (p r) as (λ b. has_token (views_of (cond b (r ∷ filter p rs) (filter p rs))) t ≡ true) [ true ↦ or_any (recorded_token r == t) (has_token (views_of (filter p rs)) t) rest | false ↦ rest ]
 ]
 
-held_there : (hs : List Hold) (p : Recorded → Bool) (rs : List Recorded) (t : ℕ) → held_in hs t ≡ true → AllByRecursion (λ r. held_in hs (token_of r) ≡ true → p r ≡ true) rs → AllByRecursion (λ r. token_of r ≡ t → p r ≡ true) rs
+held_there : (hs : List Hold) (p : Recorded → Bool) (rs : List Recorded) (t : ℕ) → held_in hs t ≡ true → AllByRecursion (λ r. held_in hs (recorded_token r) ≡ true → p r ≡ true) rs → AllByRecursion (λ r. recorded_token r ≡ t → p r ≡ true) rs
 held_there hs p [] t h a = tt
 held_there hs p (r ∷ rs) t h a = (λ e. a.0 (ap (held_in hs) e ∙ h), held_there hs p rs t h a.1)
 
 -- some views go, and none that is held
-pub kept_filtered : (p : Recorded → Bool) (rs : List Recorded) (hs : List Hold) → AreKept rs hs → AllByRecursion (λ r. held_in hs (token_of r) ≡ true → p r ≡ true) rs → 1 ≤ length (filter p rs) → AreKept (filter p rs) hs
+pub kept_filtered : (p : Recorded → Bool) (rs : List Recorded) (hs : List Hold) → AreKept rs hs → AllByRecursion (λ r. held_in hs (recorded_token r) ≡ true → p r ≡ true) rs → 1 ≤ length (filter p rs) → AreKept (filter p rs) hs
 kept_filtered p rs hs k stay some = record {
   some = some;
   few = let less = length-filter p rs in let most = k.few in omega (arith, less, most);
   rising = rise-kept p rs k.rising;
   held = λ t e. there-kept p rs t (held_there hs p rs t e stay) (k.held t e);
-  counted = All-kept (λ r. r.holders ≡ holders_of hs (token_of r)) p rs k.counted;
+  counted = All-kept (λ r. r.holders ≡ holders_of hs (recorded_token r)) p rs k.counted;
 }
 
 -- ---- one view more
 
-rise-push : (rs : List Recorded) (r : Recorded) → TokensRise rs → AllByRecursion (λ s. token_of s < token_of r) rs → TokensRise (rs ++ r ∷ [])
+rise-push : (rs : List Recorded) (r : Recorded) → TokensRise rs → AllByRecursion (λ s. recorded_token s < recorded_token r) rs → TokensRise (rs ++ r ∷ [])
 rise-push [] r up below = (tt, tt)
-rise-push (s ∷ rs) r up below = (All-both (λ u. token_of s < token_of u) rs (r ∷ []) up.0 (below.0, tt), rise-push rs r up.1 below.1)
+rise-push (s ∷ rs) r up below = (All-both (λ u. recorded_token s < recorded_token u) rs (r ∷ []) up.0 (below.0, tt), rise-push rs r up.1 below.1)
 
 length-push : {X : Type 0} (xs : List X) (x : X) → length (xs ++ x ∷ []) ≡ length xs + 1
 length-push [] x = refl
 length-push (y ∷ xs) x = let rest = length-push xs x in omega (arith, rest)
 
-none_of : (rs : List Recorded) (t : ℕ) → AllByRecursion (λ s. token_of s < t) rs → has_token (views_of rs) t ≡ false
+none_of : (rs : List Recorded) (t : ℕ) → AllByRecursion (λ s. recorded_token s < t) rs → has_token (views_of rs) t ≡ false
 none_of [] t a = refl
 none_of (r ∷ rs) t a =
     let lt = a.0 in
-    let e : (token_of r == t) ≡ false = elim (eqb_tells (token_of r) t) [ inl is ↦ absurd (let same = is.1 in omega (arith, same, lt)) | inr other ↦ other.0 ] in
+    let e : (recorded_token r == t) ≡ false = elim (eqb_tells (recorded_token r) t) [ inl is ↦ absurd (let same = is.1 in omega (arith, same, lt)) | inr other ↦ other.0 ] in
     ap (λ b. b || has_token (views_of rs) t) e ∙ none_of rs t a.1
 
 pub there-push : (rs : List Recorded) (r : Recorded) (t : ℕ) → has_token (views_of rs) t ≡ true → has_token (views_of (rs ++ r ∷ [])) t ≡ true
 there-push [] r t e = absurd (let no : false ≡ true = e in cc)
-there-push (s ∷ rs) r t e = by (there-push rs r t) (token_of s == t) e
+there-push (s ∷ rs) r t e = by (there-push rs r t) (recorded_token s == t) e
   where
     by : (has_token (views_of rs) t ≡ true → has_token (views_of (rs ++ r ∷ [])) t ≡ true) → (b : Bool) → (b || has_token (views_of rs) t) ≡ true → (b || has_token (views_of (rs ++ r ∷ [])) t) ≡ true
     by more true k = refl
@@ -182,7 +183,7 @@ unheld rs hs t held none = by (held_in hs t) refl
 no_holders : (hs : List Hold) (t : ℕ) → held_in hs t ≡ false → 0 ≡ holders_of hs t
 no_holders hs t e = let zero : ltb 0 (holders_of hs t) ≡ false = sym (held_is_counted hs t) ∙ e in grind (arith, nat_tests)
 
-pub kept_pushed : (rs : List Recorded) (hs : List Hold) (v : View) → length rs < view_limit → TokensRise rs → AllByRecursion (λ s. token_of s < v.token) rs → ((t : ℕ) → held_in hs t ≡ true → has_token (views_of rs) t ≡ true) → AreCounted rs hs
+pub kept_pushed : (rs : List Recorded) (hs : List Hold) (v : View) → length rs < view_limit → TokensRise rs → AllByRecursion (λ s. recorded_token s < v.token) rs → ((t : ℕ) → held_in hs t ≡ true → has_token (views_of rs) t ≡ true) → AreCounted rs hs
     → AreKept (rs ++ record { view = v; holders = 0 } ∷ []) hs
 kept_pushed rs hs v room up below held counted =
     let r : Recorded = record { view = v; holders = 0 } in
@@ -191,7 +192,7 @@ kept_pushed rs hs v room up below held counted =
       few = omega (arith, length-push rs r, room);
       rising = rise-push rs r up below;
       held = λ t e. there-push rs r t (held t e);
-      counted = All-both (λ s. s.holders ≡ holders_of hs (token_of s)) rs (r ∷ []) counted (no_holders hs v.token (unheld rs hs v.token held (none_of rs v.token below)), tt);
+      counted = All-both (λ s. s.holders ≡ holders_of hs (recorded_token s)) rs (r ∷ []) counted (no_holders hs v.token (unheld rs hs v.token held (none_of rs v.token below)), tt);
     }
 
 -- ---- what stays as one more is recorded
@@ -253,7 +254,7 @@ held_go_not rs hs le a =
     ∙ ap views_of (filter_none (λ r. not (stays (held_in hs) (tokens rs) r)) rs (nots (stays (held_in hs) (tokens rs)) rs (held_stay (held_in hs) (tokens rs) rs a)))
 
 -- what stays there, as it is kept
-pub kept_others : (rs : List Recorded) (hs : List Hold) (i : ℕ) (v : View) → AreKept rs hs → FirstAt (is_free (held_in hs)) rs i → AllByRecursion (λ s. token_of s < v.token) rs → AreKept (remove rs i ++ record { view = v; holders = 0 } ∷ []) hs
+pub kept_others : (rs : List Recorded) (hs : List Hold) (i : ℕ) (v : View) → AreKept rs hs → FirstAt (is_free (held_in hs)) rs i → AllByRecursion (λ s. recorded_token s < v.token) rs → AreKept (remove rs i ++ record { view = v; holders = 0 } ∷ []) hs
 kept_others rs hs i v k f below =
     let p : Recorded → Bool = stays (held_in hs) (tokens rs) in
     let rest : filter p rs ≡ remove rs i = stays_but (held_in hs) rs i k.rising f in
@@ -261,41 +262,41 @@ kept_others rs hs i v k f below =
     subst P rest (kept_pushed (filter p rs) hs v
     (subst (λ ss. length ss < view_limit) (sym rest) (let fewer = shorter rs i f in let most = k.few in omega (arith, fewer, most)))
     (rise-kept p rs k.rising)
-    (All-kept (λ s. token_of s < v.token) p rs below)
+    (All-kept (λ s. recorded_token s < v.token) p rs below)
     (λ t e. there-kept p rs t (held_there hs p rs t e (stay rs)) (k.held t e))
-    (All-kept (λ r. r.holders ≡ holders_of hs (token_of r)) p rs k.counted))
+    (All-kept (λ r. r.holders ≡ holders_of hs (recorded_token r)) p rs k.counted))
   where
     shorter : (ss : List Recorded) (j : ℕ) → FirstAt (is_free (held_in hs)) ss j → length (remove ss j) + 1 ≡ length ss
     shorter [] j f = absurd f
     shorter (s ∷ ss) zero f = omega arith
     shorter (s ∷ ss) (suc j) f = let rest = shorter ss j f.1 in omega (arith, rest)
 
-    stay : (ss : List Recorded) → AllByRecursion (λ r. held_in hs (token_of r) ≡ true → stays (held_in hs) (tokens rs) r ≡ true) ss
+    stay : (ss : List Recorded) → AllByRecursion (λ r. held_in hs (recorded_token r) ≡ true → stays (held_in hs) (tokens rs) r ≡ true) ss
     stay [] = tt
-    stay (s ∷ ss) = (λ e. ap (λ b. b || list_any (λ u. not (held_in hs u) && ltb u (token_of s)) (tokens rs)) e, stay ss)
+    stay (s ∷ ss) = (λ e. ap (λ b. b || list_any (λ u. not (held_in hs u) && ltb u (recorded_token s)) (tokens rs)) e, stay ss)
 
 -- ---- whether one may be recorded
 
 pub full_is : (rs : List Recorded) (hs : List Hold) (b : Bool) → list_all (held_in hs) (tokens rs) ≡ b → view_limit ≤ length rs → is_full (held_in hs) (tokens_of (views_of rs)) ≡ b
 full_is rs hs b e le =
     ap (is_full (held_in hs)) (tokens-views rs)
-    ∙ ap (λ c. not c && list_all (held_in hs) (tokens rs)) (ap (λ n. ltb n view_limit) (length-map token_of rs) ∙ no_room (length rs) le) ∙ e
+    ∙ ap (λ c. not c && list_all (held_in hs) (tokens rs)) (ap (λ n. ltb n view_limit) (length-map recorded_token rs) ∙ no_room (length rs) le) ∙ e
 
 pub not_full : (rs : List Recorded) (hs : List Hold) → length rs < view_limit → is_full (held_in hs) (tokens_of (views_of rs)) ≡ false
 not_full rs hs lt =
     ap (is_full (held_in hs)) (tokens-views rs)
-    ∙ ap (λ c. not c && list_all (held_in hs) (tokens rs)) (ap (λ n. ltb n view_limit) (length-map token_of rs) ∙ has_room (length rs) lt)
+    ∙ ap (λ c. not c && list_all (held_in hs) (tokens rs)) (ap (λ n. ltb n view_limit) (length-map recorded_token rs) ∙ has_room (length rs) lt)
 
 -- ---- what is held
 
-pub held_found : (rs : List Recorded) (hs : List Hold) (t : ℕ) → AreKept rs hs → IfSome (find (λ r. token_of r == t) rs) (λ r. ltb 0 r.holders ≡ held_in hs t)
-held_found rs hs t k = by (find (λ r. token_of r == t) rs) (found_has (λ r. token_of r == t) (λ r. r.holders ≡ holders_of hs (token_of r)) rs k.counted)
+pub held_found : (rs : List Recorded) (hs : List Hold) (t : ℕ) → AreKept rs hs → IfSome (find (λ r. recorded_token r == t) rs) (λ r. ltb 0 r.holders ≡ held_in hs t)
+held_found rs hs t k = by (find (λ r. recorded_token r == t) rs) (found_has (λ r. recorded_token r == t) (λ r. r.holders ≡ holders_of hs (recorded_token r)) rs k.counted)
   where
-    by : (o : Option Recorded) → IfSome o (λ r. ((token_of r == t) ≡ true) × (r.holders ≡ holders_of hs (token_of r))) → IfSome o (λ r. ltb 0 r.holders ≡ held_in hs t)
+    by : (o : Option Recorded) → IfSome o (λ r. ((recorded_token r == t) ≡ true) × (r.holders ≡ holders_of hs (recorded_token r))) → IfSome o (λ r. ltb 0 r.holders ≡ held_in hs t)
     by None h = tt
-    by (Some r) h = ap (ltb 0) (h.1 ∙ ap (holders_of hs) (equal_at (token_of r) t h.0)) ∙ sym (held_is_counted hs t)
+    by (Some r) h = ap (ltb 0) (h.1 ∙ ap (holders_of hs) (equal_at (recorded_token r) t h.0)) ∙ sym (held_is_counted hs t)
 
-pub held_nowhere : (rs : List Recorded) (hs : List Hold) (t : ℕ) → AreKept rs hs → list_any (λ r. token_of r == t) rs ≡ false → false ≡ held_in hs t
+pub held_nowhere : (rs : List Recorded) (hs : List Hold) (t : ℕ) → AreKept rs hs → list_any (λ r. recorded_token r == t) rs ≡ false → false ≡ held_in hs t
 held_nowhere rs hs t k none = sym (unheld rs hs t k.held (sym (any-views rs t) ∙ none))
 
 -- ---- the public word
@@ -304,7 +305,7 @@ all_of : {X : Type 0} (P : X → Type 0) (xs : List X) → AllByRecursion P xs �
 all_of P [] a = All-nil P
 all_of P (x ∷ xs) a = All-cons P x xs a.0 (all_of P xs a.1)
 
-views_above : (t : ℕ) (rs : List Recorded) → AllByRecursion (λ s. t < token_of s) rs → AllByRecursion (λ v. t < v.token) (views_of rs)
+views_above : (t : ℕ) (rs : List Recorded) → AllByRecursion (λ s. t < recorded_token s) rs → AllByRecursion (λ v. t < v.token) (views_of rs)
 views_above t [] a = tt
 views_above t (r ∷ rs) a = (a.0, views_above t rs a.1)
 
@@ -313,7 +314,7 @@ no_pairs R i j d before within = absurd (omega (arith, within))
 
 rising_views : (rs : List Recorded) → TokensRise rs → AllPairs (λ u v. u.token < v.token) (views_of rs)
 rising_views [] up = no_pairs (λ u v. u.token < v.token)
-rising_views (r ∷ rs) up = AllPairs-cons (λ u v. u.token < v.token) r.view (views_of rs) (all_of (λ v. token_of r < v.token) (views_of rs) (views_above (token_of r) rs up.0)) (rising_views rs up.1)
+rising_views (r ∷ rs) up = AllPairs-cons (λ u v. u.token < v.token) r.view (views_of rs) (all_of (λ v. recorded_token r < v.token) (views_of rs) (views_above (recorded_token r) rs up.0)) (rising_views rs up.1)
 
 itself : (s t : ℕ) (h : Hold) → h ≡ record { session = s; token = t } → is_of s t h ≡ true
 itself s t h e = ap (is_of s t) e ∙ (λ i. same s i && same t i)
@@ -341,10 +342,10 @@ are_records same rs hs k d alike = record {
 
 -- ---- the answers of calls
 
-pub view_found : (rs : List Recorded) (t : ℕ) (o : Option Recorded) → o ≡ find (λ r. token_of r == t) rs → option_map (λ r. r.view) o ≡ find (λ v. v.token == t) (views_of rs)
+pub view_found : (rs : List Recorded) (t : ℕ) (o : Option Recorded) → o ≡ find (λ r. recorded_token r == t) rs → option_map (λ r. r.view) o ≡ find (λ v. v.token == t) (views_of rs)
 view_found rs t o e = ap (option_map (λ (r : Recorded). r.view)) e ∙ sym (find-map (λ (r : Recorded). r.view) (λ v. v.token == t) rs)
 
-pub held_at : (rs : List Recorded) (hs : List Hold) (t : ℕ) (r : Recorded) → AreKept rs hs → Some r ≡ find (λ r. token_of r == t) rs → ltb 0 r.holders ≡ held_in hs t
+pub held_at : (rs : List Recorded) (hs : List Hold) (t : ℕ) (r : Recorded) → AreKept rs hs → Some r ≡ find (λ r. recorded_token r == t) rs → ltb 0 r.holders ≡ held_in hs t
 held_at rs hs t r k e = subst (λ o. IfSome o (λ r. ltb 0 r.holders ≡ held_in hs t)) (sym e) (held_found rs hs t k)
 
 -- an index of the first that nobody holds, or none
@@ -379,8 +380,8 @@ holders-le (h ∷ hs) t =
 pub space_for : (rs ss : List Recorded) (hs : List Hold) → ss ≡ rs → AreKept rs hs → length hs < 2 ^ 63 → (i : ℕ) (d : Recorded) → i < length ss → (get_or ss i d).holders + 1 < 2 ^ 64
 space_for rs ss hs e k small i d lt =
     let here : AreCounted ss hs = subst (λ l. AreCounted l hs) (sym e) k.counted in
-    let is = all_at (λ r. r.holders ≡ holders_of hs (token_of r)) ss i d here lt in
-    let le = holders-le hs (token_of (get_or ss i d)) in
+    let is = all_at (λ r. r.holders ≡ holders_of hs (recorded_token r)) ss i d here lt in
+    let le = holders-le hs (recorded_token (get_or ss i d)) in
     omega (arith, is, le, small)
 
 held_by : (hs : List Hold) (s t : ℕ) → has_hold hs s t ≡ true → held_in hs t ≡ true
@@ -392,10 +393,10 @@ held_by (h ∷ hs) s t e = by (held_by hs s t) (h.session == s) (h.token == t) e
     by more true false k = more k
     by more false false k = more k
 
-pub some_holders : (rs ss : List Recorded) (hs : List Hold) (s t : ℕ) → ss ≡ rs → AreKept rs hs → has_hold hs s t ≡ true → (i : ℕ) (d : Recorded) → i < length ss → token_of (get_or ss i d) ≡ t → 0 < (get_or ss i d).holders
+pub some_holders : (rs ss : List Recorded) (hs : List Hold) (s t : ℕ) → ss ≡ rs → AreKept rs hs → has_hold hs s t ≡ true → (i : ℕ) (d : Recorded) → i < length ss → recorded_token (get_or ss i d) ≡ t → 0 < (get_or ss i d).holders
 some_holders rs ss hs s t e k has i d lt at =
     let here : AreCounted ss hs = subst (λ l. AreCounted l hs) (sym e) k.counted in
-    let is = all_at (λ r. r.holders ≡ holders_of hs (token_of r)) ss i d here lt in
+    let is = all_at (λ r. r.holders ≡ holders_of hs (recorded_token r)) ss i d here lt in
     let same : (get_or ss i d).holders ≡ holders_of hs t = is ∙ ap (holders_of hs) at in
     let yes : ltb 0 (holders_of hs t) ≡ true = sym (held_is_counted hs t) ∙ held_by hs s t has in
     let above : 0 < holders_of hs t = grind (arith, nat_tests) in
@@ -460,22 +461,22 @@ kept_released rs new hs s t k e d has =
 
 -- ---- what a prune leaves
 
-pub token_there : (rs : List Recorded) (i : ℕ) (d : Recorded) → i < length rs → has_token (views_of rs) (token_of (get_or rs i d)) ≡ true
-token_there rs i d lt = sym (any-views rs (token_of (get_or rs i d))) ∙ any_some (λ r. token_of r == token_of (get_or rs i d)) rs i d lt (equals (token_of (get_or rs i d)) (token_of (get_or rs i d)) refl)
+pub token_there : (rs : List Recorded) (i : ℕ) (d : Recorded) → i < length rs → has_token (views_of rs) (recorded_token (get_or rs i d)) ≡ true
+token_there rs i d lt = sym (any-views rs (recorded_token (get_or rs i d))) ∙ any_some (λ r. recorded_token r == recorded_token (get_or rs i d)) rs i d lt (equals (recorded_token (get_or rs i d)) (recorded_token (get_or rs i d)) refl)
 
-pub stay_kept : (rs ss : List Recorded) (hs : List Hold) (t : ℕ) → AreCounted ss hs → AllByRecursion (λ r. held_in hs (token_of r) ≡ true → is_kept_from t r ≡ true) ss
+pub stay_kept : (rs ss : List Recorded) (hs : List Hold) (t : ℕ) → AreCounted ss hs → AllByRecursion (λ r. held_in hs (recorded_token r) ≡ true → is_kept_from t r ≡ true) ss
 stay_kept rs [] hs t a = tt
 stay_kept rs (s ∷ ss) hs t a =
-    (λ e. ap (λ b. b || leb t (token_of s)) (ap (ltb 0) a.0 ∙ sym (held_is_counted hs (token_of s)) ∙ e), stay_kept rs ss hs t a.1)
+    (λ e. ap (λ b. b || leb t (recorded_token s)) (ap (ltb 0) a.0 ∙ sym (held_is_counted hs (recorded_token s)) ∙ e), stay_kept rs ss hs t a.1)
 
 at_least : (t u : ℕ) → u ≡ t → leb t u ≡ true
 at_least t u e = grind (arith, nat_tests)
 
 pub some_from : (rs : List Recorded) (t : ℕ) → has_token (views_of rs) t ≡ true → 1 ≤ length (filter (is_kept_from t) rs)
 some_from [] t e = absurd (let no : false ≡ true = e in cc)
-some_from (r ∷ rs) t e = elim (eqb_tells (token_of r) t) [
+some_from (r ∷ rs) t e = elim (eqb_tells (recorded_token r) t) [
   | inl is ↦
-      let kept : is_kept_from t r ≡ true = or_any (ltb 0 r.holders) (leb t (token_of r)) (at_least t (token_of r) is.1) in
+      let kept : is_kept_from t r ≡ true = or_any (ltb 0 r.holders) (leb t (recorded_token r)) (at_least t (recorded_token r) is.1) in
       subst (λ b. 1 ≤ length (cond b (r ∷ filter (is_kept_from t) rs) (filter (is_kept_from t) rs))) (sym kept) (omega arith)
   | inr other ↦
       let rest = some_from rs t (sym (ap (λ b. b || has_token (views_of rs) t) other.0) ∙ e) in
@@ -502,13 +503,13 @@ dropped_is rs hs n t counted keeps =
 
 -- ---- one view more
 
-pub recorded_is : (rs : List Recorded) (hs : List Hold) (v : View) → length rs < view_limit → shown (rs ++ record { view = v; holders = 0 } ∷ []) hs ≡ with_view (shown rs hs) v
+pub recorded_is : (rs : List Recorded) (hs : List Hold) (v : View) → length rs < view_limit → shown (rs ++ record { view = v; holders = 0 } ∷ []) hs ≡ records_with_view (shown rs hs) v
 recorded_is rs hs v lt = λ i. record {
   views = (views-push rs (record { view = v; holders = 0 }) ∙ ap (λ vs. vs ++ v ∷ []) (sym (all_stay rs hs lt))) i;
   holds = hs;
 }
 
-pub recorded_for : (rs : List Recorded) (hs : List Hold) (j : ℕ) (v : View) → view_limit ≤ length rs → TokensRise rs → FirstAt (is_free (held_in hs)) rs j → shown (remove rs j ++ record { view = v; holders = 0 } ∷ []) hs ≡ with_view (shown rs hs) v
+pub recorded_for : (rs : List Recorded) (hs : List Hold) (j : ℕ) (v : View) → view_limit ≤ length rs → TokensRise rs → FirstAt (is_free (held_in hs)) rs j → shown (remove rs j ++ record { view = v; holders = 0 } ∷ []) hs ≡ records_with_view (shown rs hs) v
 recorded_for rs hs j v le up f = λ i. record {
   views = (views-push (remove rs j) (record { view = v; holders = 0 }) ∙ ap (λ vs. vs ++ v ∷ []) (sym (others_stay rs hs j le up f))) i;
   holds = hs;
@@ -528,9 +529,9 @@ up_to_greatest (r ∷ rs) = (omega arith, weaken_le (views_of rs) (greatest (tok
 pub most : (rs : List Recorded) (t : ℕ) → t ≡ greatest (tokens rs) → All (λ v. v.token ≤ t) (views_of rs)
 most rs t e = all_of (λ v. v.token ≤ t) (views_of rs) (subst (λ n. AllByRecursion (λ v. v.token ≤ n) (views_of rs)) (sym e) (up_to_greatest rs))
 
-below_views : (rs : List Recorded) (t : ℕ) → AllByRecursion (λ v. v.token < t) (views_of rs) → AllByRecursion (λ r. token_of r < t) rs
+below_views : (rs : List Recorded) (t : ℕ) → AllByRecursion (λ v. v.token < t) (views_of rs) → AllByRecursion (λ r. recorded_token r < t) rs
 below_views [] t a = tt
 below_views (r ∷ rs) t a = (a.0, below_views rs t a.1)
 
-pub below_all : (rs : List Recorded) (t : ℕ) → All (λ v. v.token < t) (views_of rs) → AllByRecursion (λ r. token_of r < t) rs
+pub below_all : (rs : List Recorded) (t : ℕ) → All (λ v. v.token < t) (views_of rs) → AllByRecursion (λ r. recorded_token r < t) rs
 below_all rs t a = below_views rs t (recursion_from_All (λ (v : View). v.token < t) (views_of rs) a)

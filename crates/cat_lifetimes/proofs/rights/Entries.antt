@@ -9,8 +9,8 @@ use Rattle.std.proofs.lemmas.List.Folds.{find-append}
 use Rattle.std.proofs.lemmas.List.Elements.{All-nil, All-cons}
 use Rattle.std.proofs.lemmas.List.Kept.{AllPairs-cons}
 use Rattle.cat_model.specs.State as state
-use Rattle.cat_views.specs.Holds.{Hold}
-use Rattle.cat_lifetimes.specs.rights.Rights.{AreApart, AreKeyed, is_of, key_of, right_of}
+use Rattle.cat_views.specs.Holds.{HeldView}
+use Rattle.cat_lifetimes.specs.rights.Rights.{AreRightsApart, AreRightsKeyed, is_of, hold_of_right, right_of}
 use Rattle.indexmap.specs.IndexMap.{swap_remove_entry}
 
 -- ---- keys
@@ -36,54 +36,54 @@ equal_at : (a b : ℕ) → (a == b) ≡ true → a ≡ b
 equal_at a b e = elim (eqb_tells a b) [ inl y ↦ y.1 | inr n ↦ absurd (let no : true ≡ false = sym e ∙ n.0 in cc) ]
 
 -- a key finds the right that stands under it
-pub same_is_of : (s t : ℕ) (h : Hold) → same_as (key s t) (key_of h) ≡ is_of s t h
+pub same_is_of : (s t : ℕ) (h : HeldView) → same_as (key s t) (hold_of_right h) ≡ is_of s t h
 same_is_of s t h = λ i. equal_either s h.session i && equal_either t h.view.token i
 
-pub is_own : (h : Hold) → is_of h.session h.view.token h ≡ true
+pub is_own : (h : HeldView) → is_of h.session h.view.token h ≡ true
 is_own h = λ i. itself h.session i && itself h.view.token i
 
 -- ---- what is found
 
 -- by its key a right is found in the map as in the list
-pub shown : (es : List (state.Hold × Hold)) → AreKeyed es → (s t : ℕ) → lookup (same_as (key s t)) es ≡ right_of (values_of es) s t
+pub shown : (es : List (state.Hold × HeldView)) → AreRightsKeyed es → (s t : ℕ) → lookup (same_as (key s t)) es ≡ right_of (values_of es) s t
 shown [] k s t = refl
 shown (e ∷ es) k s t =
     let here : same_as (key s t) e.0 ≡ is_of s t e.1 = ap (same_as (key s t)) k.0 ∙ same_is_of s t e.1 in
     let rest = shown es k.1 s t in
     λ i. cond (here i) (Some e.1) (rest i)
 
-pub none_is_own : (rs : List Hold) (h : Hold) (s t : ℕ) → is_of s t h ≡ true → right_of rs h.session h.view.token ≡ None → right_of rs s t ≡ None
+pub none_is_own : (rs : List HeldView) (h : HeldView) (s t : ℕ) → is_of s t h ≡ true → right_of rs h.session h.view.token ≡ None → right_of rs s t ≡ None
 none_is_own rs h s t is none =
     let parts = both_true (h.session == s) (h.view.token == t) is in
     (λ i. right_of rs (sym (equal_at h.session s parts.0) i) (sym (equal_at h.view.token t parts.1) i)) ∙ none
 
 -- a right that goes last is found by its own key, and all others as before
-pub found_last : (rs : List Hold) (h : Hold) → right_of rs h.session h.view.token ≡ None → (s t : ℕ) → right_of (rs ++ h ∷ []) s t ≡ cond (is_of s t h) (Some h) (right_of rs s t)
+pub found_last : (rs : List HeldView) (h : HeldView) → right_of rs h.session h.view.token ≡ None → (s t : ℕ) → right_of (rs ++ h ∷ []) s t ≡ cond (is_of s t h) (Some h) (right_of rs s t)
 found_last rs h none s t = find-append (is_of s t) rs (h ∷ []) ∙ by (is_of s t h) refl
   where
-    last : (r : Option Hold) → option_or r None ≡ r
+    last : (r : Option HeldView) → option_or r None ≡ r
     last None = refl
     last (Some x) = refl
 
     by : (b : Bool) → is_of s t h ≡ b → option_or (right_of rs s t) (cond b (Some h) None) ≡ cond b (Some h) (right_of rs s t)
-    by true is = ap (λ (r : Option Hold). option_or r (Some h)) (none_is_own rs h s t is none)
+    by true is = ap (λ (r : Option HeldView). option_or r (Some h)) (none_is_own rs h s t is none)
     by false is = last (right_of rs s t)
 
 -- so the map has none where the list has none
-pub absent : (es : List (state.Hold × Hold)) (k : state.Hold) (h : Hold) → AreKeyed es → k ≡ key_of h → right_of (values_of es) h.session h.view.token ≡ None → lookup (same_as k) es ≡ None
+pub absent : (es : List (state.Hold × HeldView)) (k : state.Hold) (h : HeldView) → AreRightsKeyed es → k ≡ hold_of_right h → right_of (values_of es) h.session h.view.token ≡ None → lookup (same_as k) es ≡ None
 absent es k h a is none = ap (λ (l : state.Hold). lookup (same_as l) es) is ∙ shown es a h.session h.view.token ∙ none
 
 -- ---- entries that stand under their keys
 
-pub values-push : (es : List (state.Hold × Hold)) (k : state.Hold) (h : Hold) → values_of (es ++ (k, h) ∷ []) ≡ values_of es ++ h ∷ []
+pub values-push : (es : List (state.Hold × HeldView)) (k : state.Hold) (h : HeldView) → values_of (es ++ (k, h) ∷ []) ≡ values_of es ++ h ∷ []
 values-push [] k h = refl
 values-push (e ∷ es) k h = ap (λ rs. e.1 ∷ rs) (values-push es k h)
 
-pub keyed-push : (es : List (state.Hold × Hold)) (k : state.Hold) (h : Hold) → AreKeyed es → k ≡ key_of h → AreKeyed (es ++ (k, h) ∷ [])
+pub keyed-push : (es : List (state.Hold × HeldView)) (k : state.Hold) (h : HeldView) → AreRightsKeyed es → k ≡ hold_of_right h → AreRightsKeyed (es ++ (k, h) ∷ [])
 keyed-push [] k h a is = (is, tt)
 keyed-push (e ∷ es) k h a is = (a.0, keyed-push es k h a.1 is)
 
-pub keyed-front : (es : List (state.Hold × Hold)) (k : state.Hold) (h : Hold) → AreKeyed (es ++ (k, h) ∷ []) → AreKeyed es × (k ≡ key_of h)
+pub keyed-front : (es : List (state.Hold × HeldView)) (k : state.Hold) (h : HeldView) → AreRightsKeyed (es ++ (k, h) ∷ []) → AreRightsKeyed es × (k ≡ hold_of_right h)
 keyed-front [] k h a = (tt, a.0)
 keyed-front (e ∷ es) k h a = let rest = keyed-front es k h a.1 in ((a.0, rest.0), rest.1)
 
@@ -105,14 +105,14 @@ module _ {X : Type 0} (P : X → Type 0) where
   all_taken (suc n) [] a = tt
   all_taken (suc n) (x ∷ xs) a = (a.0, all_taken n xs a.1)
 
-abbrev Stands : state.Hold × Hold → Type 0
-Stands e = e.0 ≡ key_of e.1
+abbrev Stands : state.Hold × HeldView → Type 0
+Stands e = e.0 ≡ hold_of_right e.1
 
-pub keyed-removed : (test : state.Hold → Bool) (es : List (state.Hold × Hold)) → AreKeyed es → AreKeyed (swap_remove_entry test es)
+pub keyed-removed : (test : state.Hold → Bool) (es : List (state.Hold × HeldView)) → AreRightsKeyed es → AreRightsKeyed (swap_remove_entry test es)
 keyed-removed test [] a = tt
 keyed-removed test (e ∷ es) a = by (position test (keys_of (e ∷ es)))
   where
-    by : (found : Option ℕ) → AreKeyed (option_map_or (λ i. swap_remove (e ∷ es) i e) found (e ∷ es))
+    by : (found : Option ℕ) → AreRightsKeyed (option_map_or (λ i. swap_remove (e ∷ es) i e) found (e ∷ es))
     by None = a
     by (Some i) =
         let last = all_at Stands (e ∷ es) (length (e ∷ es) - 1) e a.0 a in
@@ -120,7 +120,7 @@ keyed-removed test (e ∷ es) a = by (position test (keys_of (e ∷ es)))
 
 -- ---- keys that differ
 
-apart_from : (h : Hold) (k : state.Hold) (es : List (state.Hold × Hold)) → k ≡ key_of h → AreKeyed es → AllByRecursion (λ l. same_as k l ≡ false) (keys_of es)
+apart_from : (h : HeldView) (k : state.Hold) (es : List (state.Hold × HeldView)) → k ≡ hold_of_right h → AreRightsKeyed es → AllByRecursion (λ l. same_as k l ≡ false) (keys_of es)
     → AllByRecursion (λ g. is_of h.session h.view.token g ≡ false) (values_of es)
 apart_from h k [] is a d = tt
 apart_from h k (e ∷ es) is a d =
@@ -135,7 +135,7 @@ module _ {X : Type 0} where
   no_pairs : (R : X → X → Type 0) → AllPairs R []
   no_pairs R i j d lt below = absurd (omega (arith, below))
 
-pub apart : (es : List (state.Hold × Hold)) → AreKeyed es → IsDistinct same_as (keys_of es) → AreApart (values_of es)
+pub apart : (es : List (state.Hold × HeldView)) → AreRightsKeyed es → IsDistinct same_as (keys_of es) → AreRightsApart (values_of es)
 unfolding IsDistinct
 apart [] a d = no_pairs (λ g h. is_of g.session g.view.token h ≡ false)
 apart (e ∷ es) a d =

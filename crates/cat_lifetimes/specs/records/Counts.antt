@@ -13,25 +13,25 @@ abbrev pub views_of : List Recorded → List View
 views_of rs = map (λ r. r.view) rs
 
 -- the token of the view
-abbrev pub token_of : Recorded → ℕ
-token_of r = r.view.token
+abbrev pub recorded_token : Recorded → ℕ
+recorded_token r = r.view.token
 
 -- each token is less than those behind it
 abbrev pub TokensRise : List Recorded → Type 0
 TokensRise [] = Unit {0}
-TokensRise (r ∷ rs) = AllByRecursion (λ s. token_of r < token_of s) rs × TokensRise rs
+TokensRise (r ∷ rs) = AllByRecursion (λ s. recorded_token r < recorded_token s) rs × TokensRise rs
 
 -- each view has as many holders as there are holds of its token
 abbrev pub AreCounted : List Recorded → List Hold → Type 0
-AreCounted rs hs = AllByRecursion (λ r. r.holders ≡ holders_of hs (token_of r)) rs
+AreCounted rs hs = AllByRecursion (λ r. r.holders ≡ holders_of hs (recorded_token r)) rs
 
 -- with one holder more of this token
 abbrev pub one_more : ℕ → Recorded → Recorded
-one_more t r = record r { holders = r.holders + cond (token_of r == t) 1 0 }
+one_more t r = record r { holders = r.holders + cond (recorded_token r == t) 1 0 }
 
 -- the view is held, or its token is at least this
 abbrev pub is_kept_from : ℕ → Recorded → Bool
-is_kept_from t r = ltb 0 r.holders || leb t (token_of r)
+is_kept_from t r = ltb 0 r.holders || leb t (recorded_token r)
 
 -- what always holds of views as they are kept, and of the holds
 pub record AreKept (rs : List Recorded) (hs : List Hold) : Type 0 where

@@ -1,19 +1,16 @@
 -- The recorded views and the sessions' holds of them, and what each call makes of them.
-use Rattle.std.specs.Prelude.{◌≡◌, ◌≢◌, ℕ, ◌<◌, ◌≤◌, ◌==◌, ◌&&◌, not, Bool, true, List, [], ◌∷◌, ◌++◌, length, map, filter, cond, count_by, AllPairs}
+use Rattle.std.specs.Prelude.{◌≡◌, ◌≢◌, ℕ, ◌<◌, ◌≤◌, ◌==◌, ◌&&◌, not, Bool, true, List, [], ◌∷◌, ◌++◌, length, filter, cond, count_by, AllPairs}
 use Rattle.std.specs.List.{list_any}
 use Rattle.cat_model.specs.Limits.{view_limit}
 use Rattle.cat_model.specs.State.{Hold, has_hold, held_in}
 use Rattle.cat_model.specs.View.{View}
 use Rattle.cat_ledger_laws.specs.model.Calls.{stays_pruned, stays_recorded}
+use Rattle.cat_ledger_laws.specs.shape.Steps.{tokens_of}
 
 -- the recorded views in rising order of token, and the holds in the order in which they began
 pub record Records : Type 0 where
   pub views : List View
   pub holds : List Hold
-
--- the tokens of views
-abbrev pub tokens_of : List View → List ℕ
-tokens_of views = map (λ v. v.token) views
 
 -- one of the views has the token
 abbrev pub has_token : List View → ℕ → Bool
@@ -41,8 +38,8 @@ abbrev pub stays_in : Records → ℕ → View → Bool
 stays_in r n v = stays_pruned (held_in r.holds) n (tokens_of r.views) v.token
 
 -- with one view more
-abbrev pub with_view : Records → View → Records
-with_view r v = record r { views = filter (stays_by r) r.views ++ v ∷ [] }
+abbrev pub records_with_view : Records → View → Records
+records_with_view r v = record r { views = filter (stays_by r) r.views ++ v ∷ [] }
 
 -- without the views that a PRUNE n takes out
 abbrev pub pruned_to : Records → ℕ → Records

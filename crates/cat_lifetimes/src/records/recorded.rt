@@ -2,7 +2,7 @@
 ghost use Rattle.std.specs.Prelude.{◌≡◌, ◌+◌, ◌<◌, ◌^◌, ◌==◌, find, length, ltb, map, not, option_map, position, All, IfOk, IfSome, is_some};
 ghost use Rattle.std.specs.List.{list_any, HoldsAt};
 ghost use Rattle.cat_directory.specs.Names.{name_of};
-ghost use Rattle.cat_lifetimes.specs.records.Counts.{TokensRise, files_dropped, is_kept_from, one_more, token_of};
+ghost use Rattle.cat_lifetimes.specs.records.Counts.{TokensRise, files_dropped, is_kept_from, one_more, recorded_token};
 
 use cat_base::Token;
 use cat_directory::FileName;
@@ -37,8 +37,8 @@ impl Recorded {
 /// The index of the view of the token, by binary search.
 pub(crate) fn index_of(recorded: &[Recorded], token: Token) -> Option<usize>
     requires { TokensRise recorded.now }
-    ensures some { IfSome result (λ i. (i < length recorded.now) × HoldsAt (λ r. token_of r ≡ token) recorded.now i) }
-    ensures none { is_some result ≡ list_any (λ r. token_of r == token) recorded.now }
+    ensures some { IfSome result (λ i. (i < length recorded.now) × HoldsAt (λ r. recorded_token r ≡ token) recorded.now i) }
+    ensures none { is_some result ≡ list_any (λ r. recorded_token r == token) recorded.now }
 {
     recorded
         .binary_search_by_key(&token, |each| each.view.token())
@@ -48,7 +48,7 @@ pub(crate) fn index_of(recorded: &[Recorded], token: Token) -> Option<usize>
 /// The view of the token, with its holders.
 pub(crate) fn recorded_under(recorded: &[Recorded], token: Token) -> Option<&Recorded>
     requires { TokensRise recorded.now }
-    ensures { option_map (λ r. r.now) result ≡ find (λ r. token_of r == token) recorded.now }
+    ensures { option_map (λ r. r.now) result ≡ find (λ r. recorded_token r == token) recorded.now }
 {
     let index = index_of(recorded, token)?;
     Some(&recorded[index])
@@ -75,7 +75,7 @@ pub(crate) fn count_hold(recorded: &mut [Recorded], token: Token)
 /// Counts one holder less of the token, which has some.
 pub(crate) fn count_release(recorded: &mut [Recorded], token: Token)
     requires rising { TokensRise recorded.old }
-    requires some { All (λ r. token_of r ≡ token → 0 < r.holders) recorded.old }
+    requires some { All (λ r. recorded_token r ≡ token → 0 < r.holders) recorded.old }
     ensures { recorded.old ≡ map (one_more token) recorded.new }
 {
     if let Some(index) = index_of(recorded, token) {

@@ -8,8 +8,9 @@ ghost use Rattle.cat_model.specs.State.{has_hold, held_in};
 ghost use Rattle.cat_model.specs.View.{needs};
 ghost use Rattle.cat_directory.specs.Names.{name_of};
 ghost use Rattle.cat_lifetimes.specs.records.Counts.{KeepsFrom};
-ghost use Rattle.cat_lifetimes.specs.records.Records.{AreRecords, has_token, holders_of, stays_by, stays_in, tokens_of};
-ghost use Rattle.cat_lifetimes.specs.records.Records.{acquired, pruned_to, released, with_view};
+ghost use Rattle.cat_lifetimes.specs.records.Records.{AreRecords, has_token, holders_of, stays_by, stays_in};
+ghost use Rattle.cat_ledger_laws.specs.shape.Steps.{tokens_of};
+ghost use Rattle.cat_lifetimes.specs.records.Records.{acquired, pruned_to, released, records_with_view};
 
 use crate::records::held::HeldToken;
 use crate::records::recorded::{
@@ -155,7 +156,7 @@ impl Records {
     pub fn record(&mut self, view: View)
         requires space { is_full (held_in self.old.holds) (tokens_of self.old.views) ≡ false }
         requires newest { All (λ v. v.token < view.token) self.old.views }
-        ensures { self.new ≡ with_view self.old view }
+        ensures { self.new ≡ records_with_view self.old view }
     {
         let recorded = Recorded { view, holders: 0 };
         if self.recorded.len() < MAX_RECORDS {

@@ -1,7 +1,7 @@
 //! The sessions' rights, by session and token.
 ghost use Rattle.std.specs.Prelude.{◌≡◌, ◌+◌, ◌<◌, ◌^◌, ◌++◌, [], ◌∷◌, eqb, if◌then◌else◌, is_some, length, option_map};
 ghost use Rattle.std.specs.Prelude.{None, Some, IfErr, IfNone, IfSome, OnErr, OnOk};
-ghost use Rattle.cat_lifetimes.specs.rights.Rights.{AreApart, PutsIn, TakesOut, right_of};
+ghost use Rattle.cat_lifetimes.specs.rights.Rights.{AreRightsApart, PutsIn, TakesOut, right_of};
 
 use crate::rights::key::RightKey;
 use cat_base::{SessionNo, Token};
@@ -40,13 +40,13 @@ impl Model for Rights {
     ghost use Rattle.std.specs.Prelude.{List};
     ghost use Rattle.indexmap.specs.IndexMap.{values};
     ghost use Rattle.cat_views.specs.Holds as model;
-    ghost use Rattle.cat_lifetimes.specs.rights.Rights.{AreKeyed};
+    ghost use Rattle.cat_lifetimes.specs.rights.Rights.{AreRightsKeyed};
 
-    ghost Value = { List model.Hold };
+    ghost Value = { List model.HeldView };
 
     ghost view = { λ r. values r.holds };
 
-    ghost invariant = { λ r. AreKeyed r.holds.entries };
+    ghost invariant = { λ r. AreRightsKeyed r.holds.entries };
 }
 
 impl Rights {
@@ -63,7 +63,7 @@ impl Rights {
     pub fn len(&self) -> usize
         ensures len { result ≡ length self.now }
         ensures small { result < 2 ^ 63 }
-        ensures apart { AreApart self.now }
+        ensures apart { AreRightsApart self.now }
     {
         self.holds.len()
     }

@@ -10,7 +10,7 @@ use Rattle.cat_model.specs.Text.{Text, same_text}
 use Rattle.cat_model.specs.Item.{Record}
 use Rattle.cat_model.specs.Table.{without}
 use Rattle.cat_model.specs.Write.{Write}
-use Rattle.cat_live_table.specs.buffer.Buffered.{AreKeyed, has_id}
+use Rattle.cat_live_table.specs.buffer.Buffered.{AreKeyed, some_has_id}
 
 module _ {K X : Type 0} (test : K → Bool) where
   -- no key passes
@@ -56,7 +56,7 @@ module _ {A : Type 0} (id : Text) where
   found (e ∷ es) keyed = let rest = found es keyed.1 in rw keyed.0 (ap (cond (bytes_eq id e.1.item.id) (Some e.1)) rest)
 
   -- some value is under the id exactly where some record has it
-  pub is_there : (es : List (String A × Record)) → AreKeyed es → is_some (lookup is_key es) ≡ has_id id (values_of es)
+  pub is_there : (es : List (String A × Record)) → AreKeyed es → is_some (lookup is_key es) ≡ some_has_id id (values_of es)
   is_there [] keyed = refl
   is_there (e ∷ es) keyed =
       let rest = is_there es keyed.1 in

@@ -5,13 +5,13 @@ use Rattle.std.proofs.lemmas.Simd.{map-map}
 use Rattle.std.proofs.lemmas.List.Elements.{All-map}
 use Rattle.cat_model.specs.Item.{Record, AreFields}
 use Rattle.cat_model.specs.View.{Row, row_of, AreRows}
-use Rattle.cat_views.specs.cat_segment.Fields.{record_of}
+use Rattle.cat_views.specs.cat_segment.Fields.{row_record}
 use Rattle.cat_views.specs.cat_segment.declared.segment.Row as given
 use Rattle.cat_live_table.specs.buffer.Buffered.{Buffered, IsBuffered}
 
 -- the rows that a segment is made of, where they are made of the records
-pub rows-made : (rows items : List given.Row) (records : List Record) → rows ≡ items → map record_of items ≡ records → map (λ r. row_of (record_of r)) rows ≡ map row_of records
-rows-made rows items records same made = ap (map (λ r. row_of (record_of r))) same ∙ sym (map-map row_of record_of items) ∙ ap (map row_of) made
+pub rows-made : (rows items : List given.Row) (records : List Record) → rows ≡ items → map row_record items ≡ records → map (λ r. row_of (row_record r)) rows ≡ map row_of records
+rows-made rows items records same made = ap (map (λ r. row_of (row_record r))) same ∙ sym (map-map row_of row_record items) ∙ ap (map row_of) made
 
 -- pairs of rows are pairs of records
 pairs-rows : (R : Row → Row → Type 0) (rs : List Record) → AllPairs (λ r s. R (row_of r) (row_of s)) rs → AllPairs R (map row_of rs)

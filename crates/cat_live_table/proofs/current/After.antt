@@ -9,14 +9,14 @@ use Rattle.cat_model.specs.Write.{Write, removes}
 use Rattle.cat_model.specs.View.{Row, Leaf, item_in, live_rows, selected}
 use Rattle.cat_model.proofs.Places.{EachPair, each_pair, all_pairs}
 use Rattle.cat_ledger_laws.specs.model.Leaves.{live_rows_after, leaf_after, leaves_after, AreLeaves}
-use Rattle.cat_live_table.specs.current.Places.{Standing, standing_from, standing_in, standing}
+use Rattle.cat_live_table.specs.current.Places.{PlacedRow, standing_from, standing_in, standing}
 use Rattle.cat_live_table.specs.current.Indices.{index_in}
 
 module _ (w : Write) where
   abbrev pub row_stays : Row → Bool
   row_stays r = not (removes w (item_in r))
 
-  abbrev pub stays : Standing → Bool
+  abbrev pub stays : PlacedRow → Bool
   stays s = not (removes w (item_in s.row))
 
   kept_from : (n i : ℕ) (live : List Bool) (rows : List Row) → selected (live_rows_after w live rows) (standing_from n i rows) ≡ filter stays (selected live (standing_from n i rows))
@@ -32,7 +32,7 @@ module _ (w : Write) where
   pub standing_after : (leaves : List Leaf) → standing (leaves_after w leaves) ≡ filter stays (standing leaves)
   standing_after [] = refl
   standing_after (l ∷ ls) =
-      ap₂ (λ (a b : List Standing). a ++ b) (kept_from l.segment.number 0 l.live l.segment.rows) (standing_after ls)
+      ap₂ (λ (a b : List PlacedRow). a ++ b) (kept_from l.segment.number 0 l.live l.segment.rows) (standing_after ls)
       ∙ sym (filter-append stays (standing_in l) (standing ls))
 
   kept_rows : (live : List Bool) (rows : List Row) → selected (live_rows_after w live rows) rows ≡ filter row_stays (selected live rows)

@@ -11,7 +11,7 @@ use Rattle.cat_model.proofs.Places.{EachPair, each_pair, all_pairs}
 use Rattle.cat_views.proofs.Selected.{Pairs-left}
 use Rattle.cat_ledger_laws.specs.model.Leaves.{AreLeaves, has_live_id, leaves_after}
 use Rattle.cat_live_table.specs.declared.current.places.Place.{Place}
-use Rattle.cat_live_table.specs.current.Places.{key_of, standing_in, standing, place_in, placed}
+use Rattle.cat_live_table.specs.current.Places.{placed_id_of, standing_in, standing, place_in, placed_in_turn}
 use Rattle.cat_live_table.specs.current.Indices.{index_in}
 use Rattle.cat_live_table.specs.current.Currents.{IsCurrent}
 use Rattle.cat_live_table.proofs.current.Standing.{IdsDiffer, ids_differ, place_there, rows_standing, earlier}
@@ -121,13 +121,13 @@ module _ (place_of : Text → Option Place) (index_of : ℕ → Option ℕ) (cou
   }
 
   pub pushed : (leaf : Leaf) (place_after : Text → Option Place) (index_then : ℕ → Option ℕ) (more : ℕ) → AreLeaves (leaves ++ leaf ∷ [])
-      → ((q : Text) → place_after q ≡ placed (map key_of (standing_in leaf)) q (place_of q))
+      → ((q : Text) → place_after q ≡ placed_in_turn (map placed_id_of (standing_in leaf)) q (place_of q))
       → ((n : ℕ) → index_then n ≡ cond (eqb leaf.segment.number n) (Some (length leaves)) (index_of n))
       → more ≡ count + 1 → IsCurrent place_after index_then more (leaves ++ leaf ∷ [])
   pushed leaf place_after index_then more apart places indices one = record {
     apart = apart;
     placed = λ q.
-        places q ∙ ap (placed (map key_of (standing_in leaf)) q) (c.placed q)
+        places q ∙ ap (placed_in_turn (map placed_id_of (standing_in leaf)) q) (c.placed q)
         ∙ all_placed (standing leaves) (standing_in leaf) q (subst IdsDiffer (standing-push leaves leaf) (ids_differ (leaves ++ leaf ∷ []) apart.ids))
         ∙ ap (λ ss. place_in ss q) (sym (standing-push leaves leaf));
     indexed = λ n. indices n ∙ ap (cond (eqb leaf.segment.number n) (Some (length leaves))) (c.indexed n)

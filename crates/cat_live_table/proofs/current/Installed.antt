@@ -9,7 +9,7 @@ use Rattle.cat_model.proofs.Places.{EachPair, each_pair}
 use Rattle.cat_views.proofs.Selected.{Pairs-left}
 use Rattle.cat_ledger_laws.specs.model.Leaves.{AreLeaves}
 use Rattle.cat_live_table.specs.declared.current.places.Place.{Place}
-use Rattle.cat_live_table.specs.current.Places.{key_of, standing_in, standing, place_in, moved}
+use Rattle.cat_live_table.specs.current.Places.{placed_id_of, standing_in, standing, place_in, moved_in_turn}
 use Rattle.cat_live_table.specs.current.Indices.{index_in}
 use Rattle.cat_live_table.specs.current.Currents.{IsCurrent}
 use Rattle.cat_live_table.proofs.current.Standing.{the_rows, rows_standing}
@@ -45,12 +45,12 @@ rows_apart xs ts zs a =
 
 pub installed : (place_of place_after : Text → Option Place) (index_of index_then : ℕ → Option ℕ) (count after : ℕ) (xs ws ts zs : List Leaf)
     → IsCurrent place_of index_of count (xs ++ (ws ++ zs)) → AreLeaves (xs ++ (ts ++ zs)) → flat_map live_rows ts ≡ flat_map live_rows ws
-    → ((q : Text) → place_after q ≡ moved (map key_of (standing ts)) q (place_of q))
+    → ((q : Text) → place_after q ≡ moved_in_turn (map placed_id_of (standing ts)) q (place_of q))
     → ((n : ℕ) → index_then n ≡ index_in n (xs ++ (ts ++ zs))) → after ≡ length (xs ++ (ts ++ zs)) → IsCurrent place_after index_then after (xs ++ (ts ++ zs))
 installed place_of place_after index_of index_then count after xs ws ts zs c apart same places indices long = record {
   apart = apart;
   placed = λ q.
-      places q ∙ ap (moved (map key_of (standing ts)) q) (c.placed q ∙ ap (λ ss. place_in ss q) (standing-parts xs ws zs))
+      places q ∙ ap (moved_in_turn (map placed_id_of (standing ts)) q) (c.placed q ∙ ap (λ ss. place_in ss q) (standing-parts xs ws zs))
       ∙ all_moved (standing xs) (standing ws) (standing ts) (standing zs) q (rows_standing ws ∙ sym same ∙ sym (rows_standing ts)) (rows_apart xs ts zs apart)
       ∙ ap (λ ss. place_in ss q) (sym (standing-parts xs ts zs));
   indexed = indices;

@@ -11,7 +11,7 @@ use Rattle.cat_model.proofs.Places.{EachPair}
 use Rattle.cat_views.proofs.Selected.{All-left, All-right, Pairs-left, Pairs-right}
 use Rattle.cat_ledger_laws.specs.model.Leaves.{live_rows_after, leaves_after}
 use Rattle.cat_live_table.specs.declared.current.places.Place.{Place}
-use Rattle.cat_live_table.specs.current.Places.{Standing, standing_from, standing_in, standing, place_in}
+use Rattle.cat_live_table.specs.current.Places.{PlacedRow, standing_from, standing_in, standing, place_in}
 use Rattle.cat_live_table.specs.current.Indices.{index_in}
 use Rattle.cat_live_table.proofs.current.Standing.{is_same, differ_text, the_rows, rows_in, missing, place-append, All-to_map}
 
@@ -36,7 +36,7 @@ module _ (id : Text) where
       (unmarked l.live l.segment.rows (All-left NotId (live_rows l) (flat_map live_rows ls) a))
       (unchanged ls (All-right NotId (live_rows l) (flat_map live_rows ls) a))
 
-  pub not_found : (ss : List Standing) → place_in ss id ≡ None → AllByRecursion NotId (the_rows ss)
+  pub not_found : (ss : List PlacedRow) → place_in ss id ≡ None → AllByRecursion NotId (the_rows ss)
   not_found ss e = All-to_map (λ s. s.row) NotId ss (missing ss id e)
 
   -- the rows that differ from one of the id don't have it
@@ -106,7 +106,7 @@ module _ (id : Text) where
         ≡ leaves_after (Write.delete id) leaves
 
   -- the rows behind one of the id don't have it
-  rest_lacks : (ss : List Standing) (rs : List Row) (p : Place) → place_in ss id ≡ Some p → EachPair Apart (the_rows ss ++ rs) → AllByRecursion NotId rs
+  rest_lacks : (ss : List PlacedRow) (rs : List Row) (p : Place) → place_in ss id ≡ Some p → EachPair Apart (the_rows ss ++ rs) → AllByRecursion NotId rs
   rest_lacks [] rs p e d = let no : None ≡ Some p = e in cc
   rest_lacks (s ∷ ss) rs p e d = elim (cases_Bool (same_text id s.row.id)) [
     | inl t ↦ others s.row rs t (All-right (Apart s.row) (the_rows ss) rs d.0)

@@ -7,15 +7,15 @@ use Rattle.cat_model.specs.View.{Row}
 use Rattle.cat_model.proofs.Lists.{All-kept}
 use Rattle.cat_views.proofs.Selected.{All-right}
 use Rattle.cat_live_table.specs.declared.current.places.Place.{Place}
-use Rattle.cat_live_table.specs.current.Places.{Standing, place_in, key_of, placed, forgotten}
+use Rattle.cat_live_table.specs.current.Places.{PlacedRow, place_in, placed_id_of, placed_in_turn, forgotten}
 use Rattle.cat_live_table.proofs.current.Standing.{is_same, differ_text, same_sym, the_rows, IdsDiffer, absent}
 
-abbrev Apart : Standing → Standing → Type 0
+abbrev Apart : PlacedRow → PlacedRow → Type 0
 Apart a b = a.row.id ≢ b.row.id
 
 -- ---- a segment comes last
 
-one_placed : (ss : List Standing) (t : Standing) (id : Text) → AllByRecursion (λ s. s.row.id ≢ t.row.id) ss
+one_placed : (ss : List PlacedRow) (t : PlacedRow) (id : Text) → AllByRecursion (λ s. s.row.id ≢ t.row.id) ss
     → cond (same_text t.row.id id) (Some t.place) (place_in ss id) ≡ place_in (ss ++ t ∷ []) id
 one_placed [] t id a = rw (same_sym t.row.id id) (elim (cases_Bool (same_text id t.row.id)) [
   | inl e ↦ rw e refl
@@ -28,15 +28,15 @@ one_placed (s ∷ ss) t id a = elim (cases_Bool (same_text id s.row.id)) [
   | inr f ↦ rw f (one_placed ss t id a.1)
 ]
 
-before : (ss : List Standing) (t : Standing) (ts : List Standing) → IdsDiffer (ss ++ t ∷ ts) → AllByRecursion (λ s. s.row.id ≢ t.row.id) ss
+before : (ss : List PlacedRow) (t : PlacedRow) (ts : List PlacedRow) → IdsDiffer (ss ++ t ∷ ts) → AllByRecursion (λ s. s.row.id ≢ t.row.id) ss
 before [] t ts d = tt
 before (s ∷ ss) t ts d = ((All-right (Apart s) ss (t ∷ ts) d.0).0, before ss t ts d.1)
 
-pub all_placed : (ss ts : List Standing) (id : Text) → IdsDiffer (ss ++ ts) → placed (map key_of ts) id (place_in ss id) ≡ place_in (ss ++ ts) id
+pub all_placed : (ss ts : List PlacedRow) (id : Text) → IdsDiffer (ss ++ ts) → placed_in_turn (map placed_id_of ts) id (place_in ss id) ≡ place_in (ss ++ ts) id
 all_placed ss [] id d = ap (λ l. place_in l id) (sym (append-nil ss))
 all_placed ss (t ∷ ts) id d =
     let assoc : (ss ++ t ∷ []) ++ ts ≡ ss ++ (t ∷ ts) = append_assoc ss (t ∷ []) ts in
-    ap (placed (map key_of ts) id) (one_placed ss t id (before ss t ts d)) ∙ all_placed (ss ++ t ∷ []) ts id (subst IdsDiffer (sym assoc) d)
+    ap (placed_in_turn (map placed_id_of ts) id) (one_placed ss t id (before ss t ts d)) ∙ all_placed (ss ++ t ∷ []) ts id (subst IdsDiffer (sym assoc) d)
     ∙ ap (λ l. place_in l id) assoc
 
 -- ---- rows go
@@ -69,13 +69,13 @@ forgotten-append (r ∷ rs) ss id old = elim (cases_Bool (same_text r.id id)) [
     nothing false o e = e
 
 -- none of these rows has the id
-none_has : (id : Text) (s : Standing) (ts : List Standing) → same_text id s.row.id ≡ true → AllByRecursion (Apart s) ts → list_any (λ r. same_text r.id id) (the_rows ts) ≡ false
+none_has : (id : Text) (s : PlacedRow) (ts : List PlacedRow) → same_text id s.row.id ≡ true → AllByRecursion (Apart s) ts → list_any (λ r. same_text r.id id) (the_rows ts) ≡ false
 none_has id s [] e a = refl
 none_has id s (t ∷ ts) e a =
     let other : same_text t.row.id id ≡ false = differ_text t.row.id id (λ q. a.0 (sym (is_same id s.row.id e) ∙ sym q)) in
     rw other (none_has id s ts e a.1)
 
-none_found : (id : Text) (ts : List Standing) → list_any (λ r. same_text r.id id) (the_rows ts) ≡ false → place_in ts id ≡ None
+none_found : (id : Text) (ts : List PlacedRow) → list_any (λ r. same_text r.id id) (the_rows ts) ≡ false → place_in ts id ≡ None
 none_found id [] e = refl
 none_found id (t ∷ ts) e = elim (cases_Bool (same_text t.row.id id)) [
   | inl k ↦ let no : true ≡ false = rw k at e in cc
@@ -83,7 +83,7 @@ none_found id (t ∷ ts) e = elim (cases_Bool (same_text t.row.id id)) [
 ]
 
 -- the last of them
-pub all_forgotten : (ss ts : List Standing) (id : Text) → IdsDiffer (ss ++ ts) → forgotten (the_rows ts) id (place_in (ss ++ ts) id) ≡ place_in ss id
+pub all_forgotten : (ss ts : List PlacedRow) (id : Text) → IdsDiffer (ss ++ ts) → forgotten (the_rows ts) id (place_in (ss ++ ts) id) ≡ place_in ss id
 all_forgotten [] ts id d = elim (cases_Bool (list_any (λ r. same_text r.id id) (the_rows ts))) [
   | inl t ↦ rw t refl
   | inr f ↦ rw f (none_found id ts f)
@@ -94,7 +94,7 @@ all_forgotten (s ∷ ss) ts id d = elim (cases_Bool (same_text id s.row.id)) [
 ]
 
 -- those of one id
-pub one_forgotten : (id : Text) (ss : List Standing) (q : Text) → cond (same_text id q) None (place_in ss q) ≡ place_in (filter (λ s. not (same_text id s.row.id)) ss) q
+pub one_forgotten : (id : Text) (ss : List PlacedRow) (q : Text) → cond (same_text id q) None (place_in ss q) ≡ place_in (filter (λ s. not (same_text id s.row.id)) ss) q
 one_forgotten id [] q = elim (cases_Bool (same_text id q)) [
   | inl t ↦ rw t refl
   | inr f ↦ rw f refl
@@ -123,7 +123,7 @@ one_forgotten id (s ∷ ss) q = elim (cases_Bool (same_text id s.row.id)) [
     ]
 
 -- those that pass
-pub some_forgotten : (p : Row → Bool) (ss : List Standing) (id : Text) → IdsDiffer ss
+pub some_forgotten : (p : Row → Bool) (ss : List PlacedRow) (id : Text) → IdsDiffer ss
     → forgotten (filter p (the_rows ss)) id (place_in ss id) ≡ place_in (filter (λ s. not (p s.row)) ss) id
 some_forgotten p [] id d = refl
 some_forgotten p (s ∷ ss) id d = elim (cases_Bool (p s.row)) [
@@ -142,11 +142,11 @@ some_forgotten p (s ∷ ss) id d = elim (cases_Bool (p s.row)) [
   ])
 ]
   where
-    turned : (id : Text) → id ≡ s.row.id → (ts : List Standing) → AllByRecursion (Apart s) ts → AllByRecursion (λ x. x.row.id ≢ id) ts
+    turned : (id : Text) → id ≡ s.row.id → (ts : List PlacedRow) → AllByRecursion (Apart s) ts → AllByRecursion (λ x. x.row.id ≢ id) ts
     turned id id_is [] a = tt
     turned id id_is (t ∷ ts) a = (λ q. a.0 (sym id_is ∙ sym q), turned id id_is ts a.1)
 
-    kept_none : (ts : List Standing) → same_text id s.row.id ≡ true → AllByRecursion (Apart s) ts → list_any (λ r. same_text r.id id) (filter p (the_rows ts)) ≡ false
+    kept_none : (ts : List PlacedRow) → same_text id s.row.id ≡ true → AllByRecursion (Apart s) ts → list_any (λ r. same_text r.id id) (filter p (the_rows ts)) ≡ false
     kept_none [] e a = refl
     kept_none (t ∷ ts) e a =
         let other : same_text t.row.id id ≡ false = differ_text t.row.id id (λ q. a.0 (sym (is_same id s.row.id e) ∙ sym q)) in

@@ -10,20 +10,20 @@ pub record Buffered : Type 0 where
   pub records : List Record
 
 -- how many items wait at most (MAX_BUFFERED_ITEMS)
-abbrev pub buffer_limit : ℕ
-buffer_limit = 1024
+abbrev pub most_buffered : ℕ
+most_buffered = 1024
 
 -- items of the schema, at most so many as may wait; their numbers are at least 1 and rise, and their ids differ
 pub record IsBuffered (b : Buffered) : Type 0 where
-  pub few : length b.records ≤ buffer_limit
+  pub few : length b.records ≤ most_buffered
   pub items : All (λ r. IsItem b.schema r.item) b.records
   pub positive : All (λ r. 1 ≤ r.number) b.records
   pub rising : AllPairs (λ r s. r.number < s.number) b.records
   pub distinct : AllPairs (λ r s. r.item.id ≢ s.item.id) b.records
 
 -- some record has the id
-abbrev pub has_id : Text → List Record → Bool
-has_id id records = list_any (λ r. same_text id r.item.id) records
+abbrev pub some_has_id : Text → List Record → Bool
+some_has_id id records = list_any (λ r. same_text id r.item.id) records
 
 -- the texts that the items came as, one after the other
 abbrev pub sources_of : List Record → Text

@@ -6,48 +6,48 @@ use Rattle.cat_model.specs.View.{Row, Leaf, selected}
 use Rattle.cat_live_table.specs.declared.current.places.Place.{Place}
 
 -- a row, and where it stands
-pub record Standing : Type 0 where
+pub record PlacedRow : Type 0 where
   pub row : Row
   pub place : Place
 
 -- the rows of the segment of this number, from the one of this index on
-abbrev pub standing_from : ℕ → ℕ → List Row → List Standing
+abbrev pub standing_from : ℕ → ℕ → List Row → List PlacedRow
 standing_from n i [] = []
 standing_from n i (r ∷ rs) = record { row = r; place = record { segment = n; row = i } } ∷ standing_from n (suc i) rs
 
 -- the live rows of a leaf, each with where it stands
-abbrev pub standing_in : Leaf → List Standing
+abbrev pub standing_in : Leaf → List PlacedRow
 standing_in leaf = selected leaf.live (standing_from leaf.segment.number 0 leaf.segment.rows)
 
 -- those of all leaves
-abbrev pub standing : List Leaf → List Standing
+abbrev pub standing : List Leaf → List PlacedRow
 standing leaves = flat_map standing_in leaves
 
 -- where the row of the id stands
-abbrev pub place_in : List Standing → Text → Option Place
+abbrev pub place_in : List PlacedRow → Text → Option Place
 place_in ss id = option_map (λ s. s.place) (find (λ s. same_text id s.row.id) ss)
 
 -- an id, and where its row stands
-pub record Key : Type 0 where
+pub record PlacedId : Type 0 where
   pub id : Text
   pub place : Place
 
-abbrev pub key_of : Standing → Key
-key_of s = record { id = s.row.id; place = s.place }
+abbrev pub placed_id_of : PlacedRow → PlacedId
+placed_id_of s = record { id = s.row.id; place = s.place }
 
 -- the place of the id, which was `old`, once these are noted in turn
-abbrev pub placed : List Key → Text → Option Place → Option Place
-placed [] id old = old
-placed (k ∷ ks) id old = placed ks id (cond (same_text k.id id) (Some k.place) old)
+abbrev pub placed_in_turn : List PlacedId → Text → Option Place → Option Place
+placed_in_turn [] id old = old
+placed_in_turn (k ∷ ks) id old = placed_in_turn ks id (cond (same_text k.id id) (Some k.place) old)
 
 -- the place of the id, which was `old`, once this one is written over the one that its id has
-abbrev pub moved_at : Key → Text → Option Place → Option Place
+abbrev pub moved_at : PlacedId → Text → Option Place → Option Place
 moved_at k id old = cond (same_text k.id id) (option_map (λ p. k.place) old) old
 
 -- the same of several in turn
-abbrev pub moved : List Key → Text → Option Place → Option Place
-moved [] id old = old
-moved (k ∷ ks) id old = moved ks id (moved_at k id old)
+abbrev pub moved_in_turn : List PlacedId → Text → Option Place → Option Place
+moved_in_turn [] id old = old
+moved_in_turn (k ∷ ks) id old = moved_in_turn ks id (moved_at k id old)
 
 -- the place of the id, which was `old`, once those of these rows are forgotten
 abbrev pub forgotten : List Row → Text → Option Place → Option Place

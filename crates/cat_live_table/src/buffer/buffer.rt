@@ -8,9 +8,9 @@ ghost use Rattle.cat_model.specs.Query.{matches};
 ghost use Rattle.cat_model.specs.Write as write;
 ghost use Rattle.cat_model.specs.Table.{without, after};
 ghost use Rattle.cat_model.specs.View.{row_of};
-ghost use Rattle.cat_views.specs.cat_segment.Fields.{record_of};
+ghost use Rattle.cat_views.specs.cat_segment.Fields.{row_record};
 ghost use Rattle.cat_query.specs.View.{query_of};
-ghost use Rattle.cat_live_table.specs.buffer.Buffered.{IsBuffered, buffer_limit, has_id, sources_of};
+ghost use Rattle.cat_live_table.specs.buffer.Buffered.{IsBuffered, most_buffered, some_has_id, sources_of};
 
 use crate::buffer::record::Record;
 use cat_base::{MAX_BUFFERED_ITEMS, SegNo, WriteNo};
@@ -102,7 +102,7 @@ impl Buffer {
     /// Whether as many items wait as may, so that a flush is due (Lucene: `FlushByRamOrCountsPolicy` by
     /// `maxBufferedDocs`).
     pub fn is_full(&self) -> bool
-        ensures { IsTrue result ↔ (buffer_limit ≤ length self.now.records) }
+        ensures { IsTrue result ↔ (most_buffered ≤ length self.now.records) }
     {
         self.entries.len() >= MAX_BUFFERED_ITEMS
     }
@@ -117,7 +117,7 @@ impl Buffer {
     /// Puts the item last, and takes the one of its id out, if there is one (Lucene: `IndexWriter.updateDocument`). An
     /// error changes nothing.
     pub fn put(&mut self, number: WriteNo, item: Item) -> Result<(), AllocError>
-        requires space { length self.old.records < buffer_limit }
+        requires space { length self.old.records < most_buffered }
         requires positive { 1 ≤ number }
         requires newest { All (λ r. r.number < number) self.old.records }
         requires item { IsItem self.old.schema item }
@@ -133,7 +133,7 @@ impl Buffer {
     /// no memory.
     pub fn delete(&mut self, id: &str) -> bool
         ensures removed { self.new ≡ record { schema = self.old.schema; records = without self.old.records (write.Write.delete id.now) } }
-        ensures found { result ≡ has_id id.now self.old.records }
+        ensures found { result ≡ some_has_id id.now self.old.records }
     {
         self.entries.shift_remove(id).is_some()
     }
@@ -204,7 +204,7 @@ fn rows_in<'a>(
     alloc: Global,
     entries: &'a IndexMap<String, Record>,
 ) -> Result<Vec<Row<'a>>, AllocError>
-    ensures ok { IfOk result (λ rows. map record_of rows.items ≡ values entries.now) }
+    ensures ok { IfOk result (λ rows. map row_record rows.items ≡ values entries.now) }
 {
     let mut rows = Vec::with_capacity(alloc, entries.len())?;
     for record in entries.values() {

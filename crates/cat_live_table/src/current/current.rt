@@ -7,7 +7,7 @@ ghost use Rattle.cat_model.specs.View.{live_rows};
 ghost use Rattle.cat_model.specs.Write as write;
 ghost use Rattle.cat_ledger_laws.specs.model.Leaves.{AreLeaves, has_live_id, leaves_after};
 ghost use Rattle.cat_query.specs.View.{query_of};
-ghost use Rattle.cat_live_table.specs.current.Places.{key_of, standing, moved};
+ghost use Rattle.cat_live_table.specs.current.Places.{placed_id_of, standing, moved_in_turn};
 
 use crate::current::indices::index_all;
 use crate::current::places::{Place, forget, move_all, place_all, placings_of};
@@ -189,7 +189,7 @@ impl Current {
 /// Notes where the live rows of the leaf stand, if there is a leaf, over the places that their ids have.
 fn move_any(places: &mut HashMap<String, Place>, leaf: &Option<Leaf>)
     ensures { (id : Text) → get_by_text places.new id
-        ≡ moved (map key_of (standing (option_to_list leaf.now))) id (get_by_text places.old id) }
+        ≡ moved_in_turn (map placed_id_of (standing (option_to_list leaf.now))) id (get_by_text places.old id) }
 {
     if let Some(leaf) = leaf {
         move_all(places, leaf);

@@ -4,7 +4,7 @@ ghost use Rattle.std.specs.List.{HoldsAt};
 ghost use Rattle.std.specs.HashMap.{get_by_text, spare};
 ghost use Rattle.cat_model.specs.Text.{Text};
 ghost use Rattle.cat_model.specs.View.{selected};
-ghost use Rattle.cat_live_table.specs.current.Places.{Key, key_of, standing_in, placed, moved_at, moved, forgotten};
+ghost use Rattle.cat_live_table.specs.current.Places.{PlacedId, placed_id_of, standing_in, placed_in_turn, moved_at, moved_in_turn, forgotten};
 
 use cat_base::SegNo;
 use cat_columns::RowSet;
@@ -32,14 +32,14 @@ impl Model for Placing {
     ghost use Rattle.std.specs.Prelude.{string_bytes};
     ghost use Rattle.cat_live_table.specs.current.Places as places;
 
-    ghost Value = { places.Key };
+    ghost Value = { places.PlacedId };
 
     ghost view = { λ p. record { id = string_bytes p.id; place = p.place } };
 }
 
 /// The ids of the leaf's live rows, each with where its row stands.
 pub(crate) fn placings_of(alloc: Global, leaf: &Leaf) -> Result<Vec<Placing>, AllocError>
-    ensures ok { IfOk result (λ ps. ps.items ≡ map key_of (standing_in leaf.now)) }
+    ensures ok { IfOk result (λ ps. ps.items ≡ map placed_id_of (standing_in leaf.now)) }
 {
     let rows = leaf.live().rows();
     let mut placings = Vec::with_capacity(alloc, rows.count())?;
@@ -77,7 +77,7 @@ fn place_at(leaf: &Leaf, row: usize) -> Place
 /// Notes where the rows stand, one after the other. There is room for them.
 pub(crate) fn place_all(places: &mut HashMap<String, Place>, placings: Vec<Placing>)
     requires { length placings.items ≤ spare places.old }
-    ensures { (id : Text) → get_by_text places.new id ≡ placed placings.items id (get_by_text places.old id) }
+    ensures { (id : Text) → get_by_text places.new id ≡ placed_in_turn placings.items id (get_by_text places.old id) }
 {
     for placing in placings {
         let Placing { id, place } = placing;
@@ -88,7 +88,7 @@ pub(crate) fn place_all(places: &mut HashMap<String, Place>, placings: Vec<Placi
 
 /// Notes where the live rows of the leaf stand, over the places that their ids have.
 pub(crate) fn move_all(places: &mut HashMap<String, Place>, leaf: &Leaf)
-    ensures { (id : Text) → get_by_text places.new id ≡ moved (map key_of (standing_in leaf.now)) id (get_by_text places.old id) }
+    ensures { (id : Text) → get_by_text places.new id ≡ moved_in_turn (map placed_id_of (standing_in leaf.now)) id (get_by_text places.old id) }
 {
     for row in leaf.live().rows().iter() {
         let place = place_at(leaf, row);

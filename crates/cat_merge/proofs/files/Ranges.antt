@@ -16,8 +16,9 @@ use Rattle.cat_ledger_laws.specs.shape.Shapes.{MergingShape}
 use Rattle.cat_ledger_laws.specs.shape.Steps.{passed_on}
 use Rattle.cat_ledger_laws.specs.shape.Ties.{ToldFiles, TouchesOnly}
 use Rattle.cat_ledger_laws.proofs.shape.MergeSteps.{alone}
-use Rattle.cat_merge.specs.Copied.{bytes_in, joined_sources}
-use Rattle.cat_merge.specs.Merging.{Merging}
+use Rattle.cat_merge.specs.Copied.{bytes_in}
+use Rattle.cat_ledger_laws.specs.model.Stored.{joined_sources}
+use Rattle.cat_merge.specs.Merging.{MergeUnderWay}
 use Rattle.cat_merge.specs.Ranges.{IsWithin, AreWithin}
 use Rattle.cat_merge.specs.declared.sources.SourceRange.{SourceRange}
 use Rattle.cat_merge.proofs.Passed.{flat_more}
@@ -160,14 +161,14 @@ touches_one told told' own same q other =
     same q (λ e. let never : true ≡ false = sym (alone (name_of own)) ∙ ap (λ (x : FileName). has_name (name_of x) (name_of own ∷ [])) (sym e) ∙ other in cc)
 
 -- the ranges that a step names
-pub names_on : (merge new : Merging) (rs lent : List SourceRange) → lent ≡ rs
+pub names_on : (merge new : MergeUnderWay) (rs lent : List SourceRange) → lent ≡ rs
     → new ≡ record merge { passed = merge.passed + min step_limit (length (rows_of_all merge.inputs) - merge.passed) }
     → ((files : ℕ → Text) → joined_sources (records_kept files merge.inputs merge.passed) ++ flat_map (bytes_in files) rs ≡ joined_sources (records_kept files new.inputs new.passed))
     → Names merge.inputs merge.passed (merge.passed + min step_limit (length (rows_of_all merge.inputs) - merge.passed)) lent
 names_on merge new rs lent value is named files =
     ap (λ (xs : List SourceRange). joined_sources (records_kept files merge.inputs merge.passed) ++ flat_map (bytes_in files) xs) value
     ∙ named files
-    ∙ ap (λ (x : Merging). joined_sources (records_kept files x.inputs x.passed)) is
+    ∙ ap (λ (x : MergeUnderWay). joined_sources (records_kept files x.inputs x.passed)) is
 
 -- what a step copies
 pub copies_on : (m : MergingShape) (told told' : ToldFiles) (rs : List SourceRange) → TellsAlike told → TouchesOnly (Name.source m.number ∷ []) told told' → AreAppended rs (file.Source m.number) told told'

@@ -4,7 +4,7 @@ use Rattle.cat_model.specs.Files.{IsFileNumber}
 use Rattle.cat_model.specs.Item.{Schema}
 use Rattle.cat_model.specs.Merged.{merged_leaf}
 use Rattle.cat_model.specs.View.{Leaf}
-use Rattle.cat_merge.specs.Merging.{Merging}
+use Rattle.cat_merge.specs.Merging.{MergeUnderWay}
 use Rattle.cat_ledger_laws.specs.shape.Shapes.{MergingShape}
 
 -- the schema of the segments that it takes, and what the ledger's shape has of it
@@ -13,7 +13,7 @@ pub record InMaking : Type 0 where
   pub shape : MergingShape
 
 -- the number and the count are those of the merge, and files may have the number
-pub record AreOneMerge (number count : ℕ) (merge : Merging) : Type 0 where
+pub record AreOneMerge (number count : ℕ) (merge : MergeUnderWay) : Type 0 where
   pub same : number ≡ merge.number
   pub many : count ≡ length merge.inputs
   pub numbered : IsFileNumber number

@@ -8,7 +8,8 @@ use Rattle.cat_directory.specs.Devices.{Told, told_after, extended}
 use Rattle.cat_ledger_laws.specs.shape.Ties.{ToldFiles}
 use Rattle.cat_ledger_laws.specs.shape.Shapes.{MergingShape}
 use Rattle.cat_ledger_laws.specs.shape.Steps.{passed_on}
-use Rattle.cat_merge.specs.Copied.{bytes_in, joined_sources}
+use Rattle.cat_merge.specs.Copied.{bytes_in}
+use Rattle.cat_ledger_laws.specs.model.Stored.{joined_sources}
 use Rattle.cat_merge.specs.declared.sources.SourceRange.{SourceRange}
 use Rattle.cat_model.specs.Merged.{records_kept}
 use Rattle.cat_model.specs.View.{Leaf}

@@ -13,7 +13,7 @@ use Rattle.cat_model.specs.Run as run
 use Rattle.cat_directory.specs.Names.{file_text}
 use Rattle.cat_directory.specs.declared.name.FileName.{FileName}
 use Rattle.cat_protocol.proofs.sending.Written.{flat_map-map}
-use Rattle.cat_protocol.specs.replies.Reply.{segment_of, stat_of}
+use Rattle.cat_protocol.specs.replies.Reply.{segment_stat_of, stat_of}
 use Rattle.cat_protocol.specs.declared.replies.news.Stat.{Stat}
 use Rattle.cat_protocol.specs.declared.replies.news.SegmentStat.{SegmentStat}
 use Rattle.cat_protocol.proofs.replies.Pieces.{entry_line, counted_line, name_line, segment_line}
@@ -51,6 +51,6 @@ pub stat_listed : (session : ℕ) (s : Stat) (segments : List SegmentStat) → s
     → reply_text session (Ok (run.Answer.news (run.News.state (stat_of s)))) ≡ stat_line session s (length segments) ++ flat_map (segment_line session) segments
 stat_listed session s segments e =
     rw e
-    (ap (λ n. stat_line session s n ++ flat_map (session_line session) (map segment_words (map segment_of s.segments.items))) (length-map s.segments.items segment_of)
+    (ap (λ n. stat_line session s n ++ flat_map (session_line session) (map segment_words (map segment_stat_of s.segments.items))) (length-map s.segments.items segment_stat_of)
     ∙ ap (λ l. stat_line session s (length s.segments.items) ++ l)
-    (flat_map-map (session_line session) segment_words (map segment_of s.segments.items) ∙ flat_map-map (λ p. session_line session (segment_words p)) segment_of s.segments.items))
+    (flat_map-map (session_line session) segment_words (map segment_stat_of s.segments.items) ∙ flat_map-map (λ p. session_line session (segment_words p)) segment_stat_of s.segments.items))

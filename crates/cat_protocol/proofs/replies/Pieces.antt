@@ -14,7 +14,7 @@ use Rattle.cat_directory.specs.declared.name.FileName.{FileName}
 use Rattle.cat_directory.specs.declared.name.FileName.TheVariants.{Live}
 use Rattle.cat_protocol.specs.sending.Out.{PassesOn}
 use Rattle.cat_protocol.proofs.sending.Written.{front_before, front_behind, flat_map_more, flat_map_split, gathered_before, gathered_front, both_taken}
-use Rattle.cat_protocol.specs.replies.Reply.{segment_of}
+use Rattle.cat_protocol.specs.replies.Reply.{segment_stat_of}
 use Rattle.cat_protocol.specs.declared.replies.news.SegmentStat.{SegmentStat}
 use Rattle.cat_protocol.specs.replies.Words.{word_text, behind_space}
 use Rattle.cat_protocol.specs.declared.replies.words.Word.{Word}
@@ -65,7 +65,7 @@ abbrev pub name_line : ℕ → FileName → Text
 name_line session name = line_text (decimal session ∷ file_text name ∷ [])
 
 abbrev pub segment_line : ℕ → SegmentStat → Text
-segment_line session segment = line_text (decimal session ∷ segment_words (segment_of segment))
+segment_line session segment = line_text (decimal session ∷ segment_words (segment_stat_of segment))
 
 -- ---- the lines of a hit and of a label, by their words
 

@@ -11,7 +11,7 @@ use Rattle.cat_model.specs.Served.{Outcome, Ending, outcome_text, refused_text, 
 use Rattle.cat_model.specs.Input.{HaveCome, ended_lines, lines_of}
 use Rattle.cat_protocol.specs.declared.sending.pieces.WriteFault.{WriteFault}
 use Rattle.cat_protocol.proofs.sending.Written.{front_whole}
-use Rattle.cat_protocol.specs.serving.Machine.{short_line, opened_text, Steps, IsAnswered}
+use Rattle.cat_protocol.specs.serving.Machine.{short_line, opened_text, Steps, IsAnsweredByMachine}
 use Rattle.cat_protocol.specs.serving.Serving.{Says, SaysAll, SaysUpTo, LinesEnd, ServesLines, IsRefusedAs, IsRefused, LeadsTo, RefusedAt, EndsBy, StandsFrom, ended_as, ended_of}
 use Rattle.cat_protocol.specs.declared.serving.machine.Stage.{Stage}
 use Rattle.cat_protocol.specs.declared.serving.machine.Stage.TheVariants.{Waiting, Refused, Open}
@@ -194,7 +194,7 @@ module _ {M S : Type 0} (opens : S → Option Text → Result M (Unopened S) →
 
   -- ---- the same, whatever the stage
 
-  some_answer : (s : S) (b : Stage M S) (lines : List Text) (t : Text) → leads_to s b lines t → Answered (IsAnswered (opens s) step token) lines t
+  some_answer : (s : S) (b : Stage M S) (lines : List Text) (t : Text) → leads_to s b lines t → Answered (IsAnsweredByMachine (opens s) step token) lines t
   some_answer s b [] t so = so.1
   some_answer s b (first ∷ lines) t so = so.0
 
@@ -202,13 +202,13 @@ module _ {M S : Type 0} (opens : S → Option Text → Result M (Unopened S) →
   some_refusal s b [] e so = so.1
   some_refusal s b (first ∷ lines) e so = inr (so.0, so.1)
 
-  some_due : (s : S) (b : Stage M S) (lines : List Text) (t : Text) → is_due s b lines t → IsDue (IsAnswered (opens s) step token) (IsRefused (opens s)) lines t
+  some_due : (s : S) (b : Stage M S) (lines : List Text) (t : Text) → is_due s b lines t → IsDue (IsAnsweredByMachine (opens s) step token) (IsRefused (opens s)) lines t
   some_due s b lines t (inl so) = inl (so.0, so.1, so.2, some_answer s b so.0 t so.3)
   some_due s b lines t (inr so) = inr (so.0, some_refusal s b lines so.0 so.1, so.2)
 
   -- what ends at a stage serves
   pub serves_at : (s : S) (b : Stage M S) (input left o p : Option Text) (r : Result (Unit {0}) Ending) → EndsBy (leads_to s b) (RefusedAt opens s b) input left o p r
-      → ServesBy (IsAnswered (opens s) step token) (IsRefused (opens s)) input left o p r
+      → ServesBy (IsAnsweredByMachine (opens s) step token) (IsRefused (opens s)) input left o p r
   serves_at s b input left o p (Ok u) so = (so.0, so.1, so.2, so.3, some_answer s b (lines_of so.0) so.3 so.4, so.5)
   serves_at s b input left o p (Err Ending.schema) so = (so.0, so.1, so.2, so.3, so.4, some_refusal s b so.2 so.4 so.5, so.6)
   serves_at s b input left o p (Err Ending.read) so = (so.0, so.1, so.2, some_answer s b (ended_lines so.0) so.2 so.3, so.4)

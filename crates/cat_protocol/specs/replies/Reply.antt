@@ -12,8 +12,8 @@ use Rattle.cat_protocol.specs.declared.replies.news.Stat.{Stat}
 use Rattle.cat_protocol.specs.declared.replies.news.SegmentStat.{SegmentStat}
 
 -- how a segment stands
-abbrev pub segment_of : SegmentStat → run.SegmentStat
-segment_of s = record { number = s.number; rows = s.rows; live = s.live }
+abbrev pub segment_stat_of : SegmentStat → run.SegmentStat
+segment_stat_of s = record { number = s.number; rows = s.rows; live = s.live }
 
 -- how the service stands
 abbrev pub stat_of : Stat → run.Stat
@@ -23,21 +23,21 @@ stat_of s = record {
   views = s.views;
   cached = s.cached;
   pending = s.pending;
-  segments = map segment_of s.segments.items;
+  segments = map segment_stat_of s.segments.items;
 }
 
 -- what maintenance tells
-abbrev pub news_of : News → run.News
-news_of Idle = run.News.idle
-news_of Busy = run.News.busy
-news_of (BegunMerge k) = run.News.begun_merge k
-news_of (Copied r) = run.News.copied r
-news_of Done = run.News.done
-news_of BegunWarming = run.News.begun_warming
-news_of (Warmed r) = run.News.warmed r
-news_of Stored = run.News.stored
-news_of (Swept n) = run.News.swept n
-news_of (State stat) = run.News.state (stat_of stat)
+abbrev pub news_in_reply : News → run.News
+news_in_reply Idle = run.News.idle
+news_in_reply Busy = run.News.busy
+news_in_reply (BegunMerge k) = run.News.begun_merge k
+news_in_reply (Copied r) = run.News.copied r
+news_in_reply Done = run.News.done
+news_in_reply BegunWarming = run.News.begun_warming
+news_in_reply (Warmed r) = run.News.warmed r
+news_in_reply Stored = run.News.stored
+news_in_reply (Swept n) = run.News.swept n
+news_in_reply (State stat) = run.News.state (stat_of stat)
 
 -- what stands behind OK
 abbrev pub answer_of : Answer → run.Answer
@@ -47,7 +47,7 @@ answer_of (Counts facets) = run.Answer.found (model.Found.facets facets)
 answer_of (Source bytes) = run.Answer.found (model.Found.source (option_map (λ b. b.items) bytes))
 answer_of (Names names) = run.Answer.names (map file_text names.items)
 answer_of (CommitText text) = run.Answer.commit_text text
-answer_of (Tells news) = run.Answer.news (news_of news)
+answer_of (Tells news) = run.Answer.news (news_in_reply news)
 
 -- an answer, or a refusal
 abbrev pub reply_of : Result Answer Refusal → run.Reply

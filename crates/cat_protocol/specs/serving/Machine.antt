@@ -33,7 +33,7 @@ abbrev pub opened_text : ℕ → Text
 opened_text token = line_text (codes "OK" ∷ decimal token ∷ [])
 
 -- The text answers the first line, which opened the machine at a token, and the lines behind it, one step each.
-pub record IsAnswered {M E : Type 0} (opens : Option Text → Result M E → Type 0)
+pub record IsAnsweredByMachine {M E : Type 0} (opens : Option Text → Result M E → Type 0)
     (step : M → Option Text → Outcome → M → Type 0) (token : M → ℕ)
     (first : Text) (lines : List Text) (text : Text) : Type 0 where
   pub opened : M

@@ -7,7 +7,7 @@ use Rattle.cat_model.specs.Text.{Text}
 use Rattle.cat_model.specs.Input.{ended_lines, last_line, lines_of, HaveCome}
 use Rattle.cat_model.specs.Served.{Outcome, outcome_text, refused_text, AppendsFront, Ending}
 use Rattle.cat_protocol.specs.declared.sending.pieces.WriteFault.{WriteFault}
-use Rattle.cat_protocol.specs.serving.Machine.{short_line, opened_text, IsAnswered, Steps}
+use Rattle.cat_protocol.specs.serving.Machine.{short_line, opened_text, IsAnsweredByMachine, Steps}
 use Rattle.cat_protocol.specs.declared.serving.machine.Stage.{Stage}
 use Rattle.cat_protocol.specs.declared.serving.machine.Stage.TheVariants.{Waiting, Refused, Open}
 use Rattle.cat_protocol.specs.declared.serving.machine.Unopened.{Unopened}
@@ -138,7 +138,7 @@ abbrev pub LeadsTo : {M S : Type 0} → (S → Option Text → Result M (Unopene
     → (M → Option Text → Outcome → M → Type 0) → (M → ℕ) → S → Stage M S → List Text → Text → Type 0
 LeadsTo opens step token seed stage [] text = (stage ≡ Waiting seed) × (text ≡ [])
 LeadsTo opens step token seed stage (first ∷ lines) text =
-    (so : IsAnswered (opens seed) step token first lines text) × (stage ≡ Open so.left)
+    (so : IsAnsweredByMachine (opens seed) step token first lines text) × (stage ≡ Open so.left)
 
 -- The first line is refused, and the stage has the seed that opening gave back. Where none has come, memory to read one
 -- is wanting, and the seed waits as it was.

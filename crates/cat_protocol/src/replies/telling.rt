@@ -5,7 +5,7 @@ ghost use Rattle.std.specs.List.{flat_map};
 ghost use Rattle.cat_model.specs.Lines.{line_text, reply_text, segment_words};
 ghost use Rattle.cat_model.specs.Run as run;
 ghost use Rattle.cat_protocol.specs.sending.Out.{Sent};
-ghost use Rattle.cat_protocol.specs.replies.Reply.{news_of, segment_of, stat_of};
+ghost use Rattle.cat_protocol.specs.replies.Reply.{news_in_reply, segment_stat_of, stat_of};
 
 use crate::replies::news::{News, SegmentStat, Stat};
 use crate::replies::words::{Word, send_line};
@@ -20,7 +20,7 @@ pub(crate) fn send_news<W: Write>(
     to: &mut W,
 ) -> Result<(), WriteFault>
     ensures { Sent (W.contents to.old) (W.contents to.new) result
-        (reply_text session (Ok (run.Answer.news (news_of news.now)))) }
+        (reply_text session (Ok (run.Answer.news (news_in_reply news.now)))) }
 {
     match news {
         News::Idle => send_told(session, b"idle", to),
@@ -82,7 +82,7 @@ fn send_segments<W: Write>(
     to: &mut W,
 ) -> Result<(), WriteFault>
     ensures { Sent (W.contents to.old) (W.contents to.new) result
-        (flat_map (λ s. line_text (decimal session ∷ segment_words (segment_of s))) segments.now) }
+        (flat_map (λ s. line_text (decimal session ∷ segment_words (segment_stat_of s))) segments.now) }
 {
     for segment in segments {
         send_segment(session, segment, to)?;
@@ -97,7 +97,7 @@ fn send_segment<W: Write>(
     to: &mut W,
 ) -> Result<(), WriteFault>
     ensures { Sent (W.contents to.old) (W.contents to.new) result
-        (line_text (decimal session ∷ segment_words (segment_of segment.now))) }
+        (line_text (decimal session ∷ segment_words (segment_stat_of segment.now))) }
 {
     let number = Word::Number(segment.number);
     let rows = Word::Number(segment.rows as u64);

@@ -3,7 +3,7 @@ ghost use Rattle.std.specs.Prelude.{◌≡◌, ◌<◌, ◌≤◌, true, [], ◌
 ghost use Rattle.cat_model.specs.Input.{ended_after, rest_after};
 ghost use Rattle.cat_model.specs.Served.{refused_text, ServesBy};
 ghost use Rattle.cat_protocol.specs.declared.serving.machine.Stage.TheVariants.{Waiting, Open};
-ghost use Rattle.cat_protocol.specs.serving.Machine.{short_line, stands_open, IsAnswered};
+ghost use Rattle.cat_protocol.specs.serving.Machine.{short_line, stands_open, IsAnsweredByMachine};
 ghost use Rattle.cat_protocol.specs.serving.Serving.{Comes, IsReady, IsRefusedAs, Says, ServesLines, ended_as, ended_of, last_lines};
 ghost use Rattle.cat_protocol.specs.serving.Serving.{EndsBy, IsRefused, LeadsTo, RefusedAt, StandsFrom};
 
@@ -354,7 +354,7 @@ pub fn serve_machine<M: Machine, R: Read, W: Write>(
     reader: &mut R,
     writer: &mut W,
 ) -> Served<M, M::Seed>
-    ensures served { ServesBy (IsAnswered (M.opens seed) M.step M.token) (IsRefused (M.opens seed))
+    ensures served { ServesBy (IsAnsweredByMachine (M.opens seed) M.step M.token) (IsRefused (M.opens seed))
         (R.remaining reader.old) (R.remaining reader.new) (W.contents writer.old) (W.contents writer.new)
         (ended_as result.ended) }
     ensures ends { EndsBy (LeadsTo M.opens M.step M.token seed result.stage) (RefusedAt M.opens seed result.stage)

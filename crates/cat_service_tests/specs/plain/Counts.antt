@@ -7,8 +7,8 @@ use Rattle.cat_service_tests.specs.declared.plain.counts.Counts.{Counts}
 use Rattle.cat_service_tests.specs.declared.plain.counts.LabelCount.{LabelCount}
 
 -- the order of labels with their counts, which is derived
-abbrev pub comes_first : LabelCount → LabelCount → Bool
-comes_first = less by_count.ghosts.cmp
+abbrev pub count_comes_first : LabelCount → LabelCount → Bool
+count_comes_first = less by_count.ghosts.cmp
 
 -- a label with its count
 abbrev pub counted_of : LabelCount → model.Counted

@@ -18,18 +18,19 @@ use Rattle.cat_search.specs.Sorts.{sort_of}
 use Rattle.cat_protocol.specs.declared.lines.line.Line.{Line}
 use Rattle.cat_service_tests.specs.declared.plain.reply.Reply.{Reply}
 use Rattle.cat_service_tests.specs.plain.Line.{plain_of}
-use Rattle.cat_service_tests.specs.plain.Reply.{reply_of}
-use Rattle.cat_service_tests.specs.plain.Plain.{Service, IsCommandOf, Does}
+use Rattle.cat_service_tests.specs.plain.Reply.{plain_reply}
+use Rattle.cat_service_tests.specs.plain.Plain.{PlainService, DoesPlainly}
+use Rattle.cat_service.specs.Lines.{IsCommandOf}
 
 -- From old, a service in memory may give this reply to the line and go on to new.
 abbrev pub DoesLine : Schema → State → Line → run.Reply → State → Type 0
-DoesLine schema old line r new = (c : run.Command) × IsCommandOf schema (plain_of line.command) c × Does schema old line.session c r new
+DoesLine schema old line r new = (c : run.Command) × IsCommandOf schema (plain_of line.command) c × DoesPlainly schema old line.session c r new
 
 -- the exchange is of this line, with its item, id or query looked at under the schema, and of this reply
 pub record IsExchangeOf (schema : Schema) (line : Line) (answered : Reply) (e : run.Exchange) : Type 0 where
   pub session : e.line.session ≡ line.session
   pub command : IsCommandOf schema (plain_of line.command) e.line.command
-  pub reply : e.reply ≡ reply_of answered.answer
+  pub reply : e.reply ≡ plain_reply answered.answer
 
 -- the run is of these lines with their replies, in turn
 abbrev pub AreExchanges : Schema → List Line → List Reply → run.Run → Type 0
@@ -62,17 +63,17 @@ page_reply (Ok p) = Ok (run.Answer.found (Found.page p))
 page_reply (Err e) = Err e
 
 -- The service may reply so to a FIND of the session, whose text is a query or has a fault. It changes nothing.
-abbrev pub DoesFind : Service → ℕ → ℕ → Ask → Text → run.Reply → Type 0
+abbrev pub DoesFind : PlainService → ℕ → ℕ → Ask → Text → run.Reply → Type 0
 DoesFind w s t ask text r =
-    (q : Result Query Refusal) × IsQueryOf w.schema text q × Does w.schema w.state s (run.Command.read t (find_of ask q)) r w.state
+    (q : Result Query Refusal) × IsQueryOf w.schema text q × DoesPlainly w.schema w.state s (run.Command.read t (find_of ask q)) r w.state
 
 -- The service may reply so to a DELW of a session, whose text is a query or has a fault, and go on to new.
-abbrev pub DoesDeleteWhere : Service → ℕ → Text → run.Reply → State → Type 0
+abbrev pub DoesDeleteWhere : PlainService → ℕ → Text → run.Reply → State → Type 0
 DoesDeleteWhere w s text r new =
-    (q : Result Query Refusal) × IsQueryOf w.schema text q × Does w.schema w.state s (run.Command.delete_where q) r new
+    (q : Result Query Refusal) × IsQueryOf w.schema text q × DoesPlainly w.schema w.state s (run.Command.delete_where q) r new
 
 -- The service may reply so to a FACETS of the session, whose text is a query or has a fault. It changes nothing.
-abbrev pub DoesFacets : Service → ℕ → ℕ → Text → ℕ → Text → run.Reply → Type 0
+abbrev pub DoesFacets : PlainService → ℕ → ℕ → Text → ℕ → Text → run.Reply → Type 0
 DoesFacets w s t dim n text r =
     (q : Result Query Refusal) × IsQueryOf w.schema text q
-    × Does w.schema w.state s (run.Command.read t (Read.facets dim n q)) r w.state
+    × DoesPlainly w.schema w.state s (run.Command.read t (Read.facets dim n q)) r w.state

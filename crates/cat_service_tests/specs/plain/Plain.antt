@@ -8,37 +8,28 @@ use Rattle.cat_model.specs.Item.{Schema}
 use Rattle.cat_model.specs.Table.{Opened}
 use Rattle.cat_model.specs.Run.{Answer, Command, Reply, greatest}
 use Rattle.cat_model.specs.State.{State, Moves, IsFresh, opened_as, has_hold, has_view, tokens}
-use Rattle.cat_model.specs.Lines.{Said, IsReadable}
-use Rattle.cat_model.specs.Heard.{IsCommand}
-use Rattle.cat_model.specs.Served.{Begins, OpensEmpty, SpellsSchema}
+use Rattle.cat_model.specs.Lines.{Said}
+use Rattle.cat_model.specs.Served.{Begins, OpensEmpty}
 use Rattle.cat_search.specs.cat_items.Reading.{json, source_fault}
+use Rattle.cat_service.specs.Opening.{HasSchemaText}
 
 -- a service, and the schema that it was opened under
-pub record Service : Type 0 where
+pub record PlainService : Type 0 where
   pub schema : Schema
   pub state : State
 
 -- how a service is opened that begins as this one is
-abbrev pub beginning_of : Service → Opened
+abbrev pub beginning_of : PlainService → Opened
 beginning_of w = opened_as w.schema w.state
 
 -- ---- the schema line
 
--- the line can be read, and has the form of a schema line: the text of its schema is looked at, which takes memory
-abbrev pub HasSchemaText : Text → Type 0
-HasSchemaText line = IsReadable line × (factor least : ℕ) × (text : Text) × SpellsSchema line factor least text
-
 -- what opening by the text of a line may give
-abbrev pub OpensPlain : Text → Result Service Refusal → Type 0
+abbrev pub OpensPlain : Text → Result PlainService Refusal → Type 0
 OpensPlain line (Ok w) = Begins json OpensEmpty line (Ok (beginning_of w)) × IsFresh w.state
 OpensPlain line (Err e) = ((e ≡ Memory) × HasSchemaText line) ⊎ Begins json OpensEmpty line (Err e)
 
 -- ---- commands
-
--- a line without a form, or that says this, is this command under the schema
-abbrev pub IsCommandOf : Schema → Option Said → Command → Type 0
-IsCommandOf schema None c = c ≡ Command.formless
-IsCommandOf schema (Some said) c = IsCommand json schema said c
 
 -- what is wrong with the text of a PUT before it is read as JSON: there is too much of it, or none
 abbrev pub put_fault : Option Said → Option Refusal
@@ -63,16 +54,16 @@ open_command None = Command.open_newest
 open_command (Some t) = Command.open_at t
 
 -- an OK is due
-abbrev pub IsOkDue : Schema → State → ℕ → Command → Type 0
-IsOkDue schema st s c = (a : Answer) × (mid : State) × Moves schema st s c (Ok a) mid
+abbrev pub IsOkDuePlainly : Schema → State → ℕ → Command → Type 0
+IsOkDuePlainly schema st s c = (a : Answer) × (mid : State) × Moves schema st s c (Ok a) mid
 
 -- Want of memory may be told: where the command takes some, and nothing but an OK is due. What is due to a PUT is known only
 -- once its text was read, which takes memory.
-abbrev pub MayWant : Schema → State → ℕ → Command → Type 0
-MayWant schema st s (Command.put item) = Unit {0}
-MayWant schema st s c = IsTrue (may_grow st s c) × IsOkDue schema st s c
+abbrev pub MayWantPlainly : Schema → State → ℕ → Command → Type 0
+MayWantPlainly schema st s (Command.put item) = Unit {0}
+MayWantPlainly schema st s c = IsTrue (may_grow st s c) × IsOkDuePlainly schema st s c
 
 -- From old, a service in memory may reply so to the session's command and go on to new. It has no device and no files, so
 -- nothing but want of memory stops a line, and what is stopped changes nothing.
-abbrev pub Does : Schema → State → ℕ → Command → Reply → State → Type 0
-Does schema old s c r new = Moves schema old s c r new ⊎ ((r ≡ Err Memory) × MayWant schema old s c × (new ≡ old))
+abbrev pub DoesPlainly : Schema → State → ℕ → Command → Reply → State → Type 0
+DoesPlainly schema old s c r new = Moves schema old s c r new ⊎ ((r ≡ Err Memory) × MayWantPlainly schema old s c × (new ≡ old))

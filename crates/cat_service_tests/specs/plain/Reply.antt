@@ -7,12 +7,12 @@ use Rattle.cat_service_tests.specs.plain.Counts.{facets_told}
 use Rattle.cat_service_tests.specs.declared.plain.reply.Answer.{Answer}
 use Rattle.cat_service_tests.specs.declared.plain.reply.Answer.TheVariants.{Number, Found, Counts, Source}
 
-abbrev pub answer_of : Answer → run.Answer
-answer_of (Number n) = run.Answer.number n
-answer_of (Found page) = run.Answer.found (model.Found.page page)
-answer_of (Counts counts) = run.Answer.found (model.Found.facets (facets_told counts))
-answer_of (Source bytes) = run.Answer.found (model.Found.source (option_map (λ b. b.items) bytes))
+abbrev pub plain_answer : Answer → run.Answer
+plain_answer (Number n) = run.Answer.number n
+plain_answer (Found page) = run.Answer.found (model.Found.page page)
+plain_answer (Counts counts) = run.Answer.found (model.Found.facets (facets_told counts))
+plain_answer (Source bytes) = run.Answer.found (model.Found.source (option_map (λ b. b.items) bytes))
 
-abbrev pub reply_of : Result Answer Refusal → run.Reply
-reply_of (Ok a) = Ok (answer_of a)
-reply_of (Err e) = Err e
+abbrev pub plain_reply : Result Answer Refusal → run.Reply
+plain_reply (Ok a) = Ok (plain_answer a)
+plain_reply (Err e) = Err e

@@ -6,7 +6,7 @@ ghost use Rattle.cat_model.specs.Table.{Opened};
 ghost use Rattle.cat_service_tests.specs.plain.Exchange.{AreExchanges, DoesLine, IsExchangeOf};
 ghost use Rattle.cat_service_tests.specs.plain.Line.{plain_of};
 ghost use Rattle.cat_service_tests.specs.plain.Plain.{OpensPlain, beginning_of, put_fault};
-ghost use Rattle.cat_service_tests.specs.plain.Reply.{reply_of};
+ghost use Rattle.cat_service_tests.specs.plain.Reply.{plain_reply};
 
 mod asking;
 mod faceting;
@@ -52,10 +52,10 @@ pub struct Plain {
 impl Model for Plain {
     ghost use Rattle.cat_model.specs.State.{IsSound};
     ghost use Rattle.std.specs.Prelude.{[]};
-    ghost use Rattle.cat_service_tests.specs.plain.Plain.{Service};
+    ghost use Rattle.cat_service_tests.specs.plain.Plain.{PlainService};
     ghost use Rattle.cat_service_tests.specs.plain.Tables.{AreItems, AreViews, IsTable};
 
-    ghost Value = { Service };
+    ghost Value = { PlainService };
 
     ghost view = { λ w. record {
       schema = w.schema;
@@ -114,7 +114,7 @@ impl Plain {
     /// others are answered as a line without a form is.
     fn answer(&mut self, line: &Line) -> Result<Answer, Refusal>
         ensures schema { self.new.schema ≡ self.old.schema }
-        ensures does { DoesLine self.old.schema self.old.state line.now (reply_of result) self.new.state }
+        ensures does { DoesLine self.old.schema self.old.state line.now (plain_reply result) self.new.state }
         ensures due { IfSome (put_fault (plain_of line.now.command)) (λ e. result ≡ Err e) }
         ensures refused { OnErr result (self.new ≡ self.old) }
     {
@@ -164,7 +164,7 @@ impl Plain {
     pub fn step(&mut self, line: &Line) -> Reply
         ensures session { result.session ≡ line.now.session }
         ensures schema { self.new.schema ≡ self.old.schema }
-        ensures does { DoesLine self.old.schema self.old.state line.now (reply_of result.answer) self.new.state }
+        ensures does { DoesLine self.old.schema self.old.state line.now (plain_reply result.answer) self.new.state }
         ensures due { IfSome (put_fault (plain_of line.now.command)) (λ e. result.answer ≡ Err e) }
         ensures refused { OnErr result.answer (self.new ≡ self.old) }
         ensures run { (from : Opened) (past : Run) → from.start.schema ≡ self.old.schema → IsRun from past

@@ -7,8 +7,8 @@ ghost use Rattle.cat_model.specs.Lines.{counted_words, entry_words, key_text, li
 ghost use Rattle.cat_model.specs.Answer.{Found};
 ghost use Rattle.cat_model.specs.Run as run;
 ghost use Rattle.cat_service_tests.specs.plain.Counts.{counted_of, facets_told};
-ghost use Rattle.cat_service_tests.specs.plain.Out.{Sent};
-ghost use Rattle.cat_service_tests.specs.plain.Reply.{answer_of, reply_of};
+ghost use Rattle.cat_protocol.specs.sending.Out.{Sent};
+ghost use Rattle.cat_service_tests.specs.plain.Reply.{plain_answer, plain_reply};
 ghost use Rattle.cat_search.specs.Keys.{key_of};
 
 use crate::plain::counts::{Counts, LabelCount};
@@ -26,7 +26,7 @@ pub(crate) struct WriteFault;
 impl Reply {
     /// The lines of the reply, each with its line feed: the first, and one for each entry of a page and each count.
     pub fn text(&self, alloc: Global) -> Result<Vec<u8>, AllocError>
-        ensures ok { IfOk result (λ t. t.items ≡ reply_text self.now.session (reply_of self.now.answer)) }
+        ensures ok { IfOk result (λ t. t.items ≡ reply_text self.now.session (plain_reply self.now.answer)) }
     {
         let mut text = Vec::new(alloc);
         match send_reply(self, &mut text) {
@@ -90,7 +90,7 @@ fn send_reason<W: Write>(refusal: Refusal, to: &mut W) -> Result<(), WriteFault>
 /// Answers a line of a session.
 pub(crate) fn send_reply<W: Write>(reply: &Reply, to: &mut W) -> Result<(), WriteFault>
     ensures { Sent (W.contents to.old) (W.contents to.new) result
-        (reply_text reply.now.session (reply_of reply.now.answer)) }
+        (reply_text reply.now.session (plain_reply reply.now.answer)) }
 {
     match &reply.answer {
         Ok(answer) => send_answer(reply.session, answer, to),
@@ -103,7 +103,7 @@ pub(crate) fn send_reply<W: Write>(reply: &Reply, to: &mut W) -> Result<(), Writ
 
 fn send_answer<W: Write>(session: SessionNo, answer: &Answer, to: &mut W) -> Result<(), WriteFault>
     ensures { Sent (W.contents to.old) (W.contents to.new) result
-        (reply_text session (Ok (answer_of answer.now))) }
+        (reply_text session (Ok (plain_answer answer.now))) }
 {
     match answer {
         Answer::Number(number) => {

@@ -7,25 +7,25 @@ use mathlib.Core.List.{IsPrefix}
 use lib.ListN.{get_elem?}
 use Rattle.crossbeam_utils.specs.Register.{Turns, Forks, Merges}
 use Rattle.atomic_table.proofs.Lists.{at_set}
-use Rattle.cat_threads.specs.history.Entries.{Entry, writes_of, has}
-use Rattle.cat_threads.specs.history.Rules.{Old, Sight, scribe, caller, nobody, forget, under, noted, recorded, left_part, right_part, Each, OldFits, Fits, Kept, Compared, Checked, Noted, Recorded, longer, greater, note_of, level, seating, seat_for}
+use Rattle.cat_threads.specs.history.Entries.{LogEntry, writes_of, has_session}
+use Rattle.cat_threads.specs.history.Rules.{Old, Sight, scribe, caller, nobody, forget, under, noted, recorded, left_part, right_part, Each, OldFits, PassFits, Kept, Compared, Checked, Noted, Recorded, longer, greater, note_of, level, seating, seat_for}
 use Rattle.cat_threads.proofs.history.Lists.{prefix_self, prefix_none, prefix_more, each_set, each_snoc, length_set, prefix_shorter, writes_of-other, writes_of-between, handed, handed-here, handed-else, seated_at, seated_at-here, seated_at-else}
 
 off : {A : Type 0} → false ≡ true → A
 off e = absurd (true≢false (sym e))
 
 -- a pass that knows nothing fits anything
-fits_nobody : (seat : ℕ) (log : List Entry) (t : ℕ) (seated : List ℕ) (owner : ℕ → ℕ) (by : ℕ) → Fits seat log t seated owner by nobody
+fits_nobody : (seat : ℕ) (log : List LogEntry) (t : ℕ) (seated : List ℕ) (owner : ℕ → ℕ) (by : ℕ) → PassFits seat log t seated owner by nobody
 fits_nobody seat log t seated owner by = record { begins = prefix_none log; below = zero-le; whole = (λ c. off c); mine = (λ s c. off c); before = tt }
 
 pub begins : Kept (0 ∷ 0 ∷ []) (scribe [] 0 [] [] ∷ [])
 begins = record { seat = 0; log = []; seated = []; owner = (λ s. 0); counted = refl; strangers = (λ s c. refl); each = one }
   where
-    first : Fits 0 [] 0 [] (λ s. 0) 0 (scribe [] 0 [] [])
+    first : PassFits 0 [] 0 [] (λ s. 0) 0 (scribe [] 0 [] [])
     first = record { begins = prefix_none []; below = zero-le; whole = (λ c. (refl, refl, refl, refl)); mine = (λ s c. off c); before = tt }
 
-    one : (by : ℕ) (v : Sight) → get_elem? (scribe [] 0 [] [] ∷ []) by ≡ some v → Fits 0 [] 0 [] (λ s. 0) by v
-    one zero v e = subst (Fits 0 [] 0 [] (λ s. 0) 0) (some-injective _ _ e) first
+    one : (by : ℕ) (v : Sight) → get_elem? (scribe [] 0 [] [] ∷ []) by ≡ some v → PassFits 0 [] 0 [] (λ s. 0) by v
+    one zero v e = subst (PassFits 0 [] 0 [] (λ s. 0) 0) (some-injective _ _ e) first
     one (suc by) v e = absurd (some-ne-none v (sym e))
 
 -- a fact of each in a list gives another
@@ -33,13 +33,13 @@ each_map : {A : Type 0} {P Q : A → Type 0} → ((x : A) → P x → Q x) → (
 each_map f [] h = tt
 each_map f (x ∷ xs) h = (f x h.0, each_map f xs h.1)
 
-compared : (log : List Entry) (v : Sight) → ((s : ℕ) → has s v.own ≡ true → writes_of s log ≡ writes_of s v.list) → (o : Old) → OldFits log v o → Compared v o
+compared : (log : List LogEntry) (v : Sight) → ((s : ℕ) → has_session s v.own ≡ true → writes_of s log ≡ writes_of s v.list) → (o : Old) → OldFits log v o → Compared v o
 compared log v mine o h = record { begins = h.begins; below = h.below; mine = (λ s c. let m = h.mine s c in sym (mine s m.0) ∙ m.1) }
 
 pub checks : (by : ℕ) (v : Sight) → Turns Kept by v (λ x. x) Checked
 checks by v words views h at =
     let f = h.each by v at in
-    let fits : Fits h.seat h.log (slice_index words 1) h.seated h.owner by (forget v) = record { begins = f.begins; below = f.below; whole = f.whole; mine = f.mine; before = tt } in (
+    let fits : PassFits h.seat h.log (slice_index words 1) h.seated h.owner by (forget v) = record { begins = f.begins; below = f.below; whole = f.whole; mine = f.mine; before = tt } in (
       forget v,
       record {
         seat = h.seat;
@@ -48,18 +48,18 @@ checks by v words views h at =
         owner = h.owner;
         counted = h.counted;
         strangers = h.strangers;
-        each = each_set (Fits h.seat h.log (slice_index words 1) h.seated h.owner) views by (forget v) (λ j u apart e. h.each j u e) fits;
+        each = each_set (PassFits h.seat h.log (slice_index words 1) h.seated h.owner) views by (forget v) (λ j u apart e. h.each j u e) fits;
       },
-      (refl, each_map (compared h.log v (λ s c. (f.mine s c).2)) v.olds f.before, (λ whole. let k = f.whole whole in λ s c. ap (writes_of s) k.1 ∙ h.strangers s (ap (λ (l : List ℕ). has s l) (sym k.3) ∙ c))),
+      (refl, each_map (compared h.log v (λ s c. (f.mine s c).2)) v.olds f.before, (λ whole. let k = f.whole whole in λ s c. ap (writes_of s) k.1 ∙ h.strangers s (ap (λ (l : List ℕ). has_session s l) (sym k.3) ∙ c))),
     )
 
 -- the number of the session is the entry's, so another pass's session isn't
-apart_session : (owner : ℕ → ℕ) (by j s : ℕ) (e : Entry) → j ≢ by → owner e.session ≡ by → owner s ≡ j → (b : Bool) → (e.session == s) ≡ b → b ≡ false
+apart_session : (owner : ℕ → ℕ) (by j s : ℕ) (e : LogEntry) → j ≢ by → owner e.session ≡ by → owner s ≡ j → (b : Bool) → (e.session == s) ≡ b → b ≡ false
 apart_session owner by j s e apart mine theirs false is = refl
 apart_session owner by j s e apart mine theirs true is = let same : e.session ≡ s = grind (arith, is) in absurd (apart (sym theirs ∙ (ap owner (sym same) ∙ mine)))
 
-pub notes : (by : ℕ) (list : List Entry) (t : ℕ) (seated own : List ℕ) (e : Entry) (new : List ℕ)
-    → has e.session own ≡ true → slice_index new 0 ≡ suc (length list) → slice_index new 1 ≡ t
+pub notes : (by : ℕ) (list : List LogEntry) (t : ℕ) (seated own : List ℕ) (e : LogEntry) (new : List ℕ)
+    → has_session e.session own ≡ true → slice_index new 0 ≡ suc (length list) → slice_index new 1 ≡ t
     → Turns Kept by (scribe list t seated own) (λ _. new) (Noted e)
 notes by list t seated own e new mine count same words views h at =
     let v = scribe list t seated own in
@@ -79,7 +79,7 @@ notes by list t seated own e new mine count same words views h at =
         owner = h.owner;
         counted = count ∙ (ap (λ l. suc (length l)) known.1 ∙ omega (arith, length-append h.log (e ∷ [])));
         strangers = (λ s c. writes_of-other s h.log e (stranger h.seated e s owned.1 c (e.session == s) refl) ∙ h.strangers s c);
-        each = each_set (Fits h.seat log (slice_index new 1) h.seated h.owner) views by w
+        each = each_set (PassFits h.seat log (slice_index new 1) h.seated h.owner) views by w
             (λ j u apart at'. let g = h.each j u at' in record {
               begins = prefix_more u.list h.log (e ∷ []) g.begins;
               below = subst (λ (n : ℕ). u.token ≤ n) (sym was ∙ top) g.below;
@@ -98,11 +98,11 @@ notes by list t seated own e new mine count same words views h at =
       refl,
     )
   where
-    stranger : (seated : List ℕ) (e : Entry) (s : ℕ) → has e.session seated ≡ true → has s seated ≡ false → (b : Bool) → (e.session == s) ≡ b → b ≡ false
+    stranger : (seated : List ℕ) (e : LogEntry) (s : ℕ) → has_session e.session seated ≡ true → has_session s seated ≡ false → (b : Bool) → (e.session == s) ≡ b → b ≡ false
     stranger seated e s p q false is = refl
-    stranger seated e s p q true is = let same : e.session ≡ s = grind (arith, is) in off (sym q ∙ (ap (λ n. has n seated) (sym same) ∙ p))
+    stranger seated e s p q true is = let same : e.session ≡ s = grind (arith, is) in off (sym q ∙ (ap (λ n. has_session n seated) (sym same) ∙ p))
 
-pub records : (by : ℕ) (list : List Entry) (t : ℕ) (seated own : List ℕ) (new : List ℕ)
+pub records : (by : ℕ) (list : List LogEntry) (t : ℕ) (seated own : List ℕ) (new : List ℕ)
     → slice_index new 0 ≡ length list → t ≤ slice_index new 1
     → Turns Kept by (scribe list t seated own) (λ _. new) Recorded
 records by list t seated own new count rises words views h at =
@@ -118,7 +118,7 @@ records by list t seated own new count rises words views h at =
         owner = h.owner;
         counted = count ∙ ap length known.1;
         strangers = h.strangers;
-        each = each_set (Fits h.seat h.log (slice_index new 1) h.seated h.owner) views by w
+        each = each_set (PassFits h.seat h.log (slice_index new 1) h.seated h.owner) views by w
             (λ j u apart at'. let g = h.each j u at' in record {
               begins = g.begins;
               below = le_trans g.below (subst (λ (n : ℕ). n ≤ slice_index new 1) known.2 rises);
@@ -132,7 +132,7 @@ records by list t seated own new count rises words views h at =
     )
 
 -- a pass's sessions go to a new pass: other passes stay as they are
-fits_handed : (seat : ℕ) (log : List Entry) (t : ℕ) (seated : List ℕ) (owner : ℕ → ℕ) (from to j : ℕ) (u : Sight) → j ≢ from → Fits seat log t seated owner j u → Fits seat log t seated (handed owner from to) j u
+fits_handed : (seat : ℕ) (log : List LogEntry) (t : ℕ) (seated : List ℕ) (owner : ℕ → ℕ) (from to j : ℕ) (u : Sight) → j ≢ from → PassFits seat log t seated owner j u → PassFits seat log t seated (handed owner from to) j u
 fits_handed seat log t seated owner from to j u apart f = record { begins = f.begins; below = f.below; whole = f.whole; mine = (λ s c. let m = f.mine s c in (handed-else owner from to s j apart m.0, m.1, m.2)); before = f.before }
 
 -- a caller's pass as a whole
@@ -141,7 +141,7 @@ takes_whole by v plain words views h at =
     let f = h.each by v at in
     let n = length views in
     let owner = handed h.owner by n in
-    let P = Fits h.seat h.log (slice_index words 1) h.seated owner in
+    let P = PassFits h.seat h.log (slice_index words 1) h.seated owner in
     record {
       seat = h.seat;
       log = h.log;
@@ -160,7 +160,7 @@ parts by v words views h at =
     let f = h.each by v at in
     let n = length views in
     let owner = handed h.owner by n in
-    let P = Fits h.seat h.log (slice_index words 1) h.seated owner in
+    let P = PassFits h.seat h.log (slice_index words 1) h.seated owner in
     record {
       seat = h.seat;
       log = h.log;
@@ -176,7 +176,7 @@ parts by v words views h at =
     }
 
 -- a caller's pass goes into the scribe's
-pub goes_under : (by : ℕ) (list : List Entry) (t : ℕ) (seated : List ℕ) (other : ℕ) (w : Sight) → Merges Kept by (scribe list t seated []) other w (under (scribe list t seated []) w) nobody
+pub goes_under : (by : ℕ) (list : List LogEntry) (t : ℕ) (seated : List ℕ) (other : ℕ) (w : Sight) → Merges Kept by (scribe list t seated []) other w (under (scribe list t seated []) w) nobody
 goes_under by list t seated other w words views h at apart there =
     let v = scribe list t seated [] in
     let both = under v w in
@@ -184,7 +184,7 @@ goes_under by list t seated other w words views h at apart there =
     let known = f.whole refl in
     let g = ⊎_elim (λ (x : (other ≡ by) × (both ≡ w)). absurd (apart x.0)) (λ (x : (other ≢ by) × (get_elem? views other ≡ some w)). h.each other w x.1) (at_set views by other both w there) in
     let owner = handed h.owner other by in
-    let P = Fits h.seat h.log (slice_index words 1) h.seated owner in
+    let P = PassFits h.seat h.log (slice_index words 1) h.seated owner in
     let fits : P by both = record {
       begins = f.begins;
       below = f.below;
@@ -215,7 +215,7 @@ pub gives_note : (by : ℕ) (v : Sight) → Forks Kept by v v (note_of v)
 gives_note by v words views h at =
     let f = h.each by v at in
     let n = length views in
-    let P = Fits h.seat h.log (slice_index words 1) h.seated h.owner in
+    let P = PassFits h.seat h.log (slice_index words 1) h.seated h.owner in
     record {
       seat = h.seat;
       log = h.log;
@@ -229,25 +229,25 @@ gives_note by v words views h at =
     }
 
 -- whether a session is the new one
-other_session : (s new : ℕ) (seated : List ℕ) → has new seated ≡ false → has s seated ≡ true → (b : Bool) → (new == s) ≡ b → b ≡ false
+other_session : (s new : ℕ) (seated : List ℕ) → has_session new seated ≡ false → has_session s seated ≡ true → (b : Bool) → (new == s) ≡ b → b ≡ false
 other_session s new seated free there false e = refl
-other_session s new seated free there true e = let same : new ≡ s = grind (arith, e) in off (sym free ∙ (ap (λ n. has n seated) same ∙ there))
+other_session s new seated free there true e = let same : new ≡ s = grind (arith, e) in off (sym free ∙ (ap (λ n. has_session n seated) same ∙ there))
 
-has_more : (s new : ℕ) (seated : List ℕ) → has s seated ≡ true → has s (new ∷ seated) ≡ true
+has_more : (s new : ℕ) (seated : List ℕ) → has_session s seated ≡ true → has_session s (new ∷ seated) ≡ true
 has_more s new seated there = go (new == s)
   where
-    go : (b : Bool) → (b || has s seated) ≡ true
+    go : (b : Bool) → (b || has_session s seated) ≡ true
     go true = refl
     go false = there
 
-has_fewer : (s new : ℕ) (seated : List ℕ) → has s (new ∷ seated) ≡ false → has s seated ≡ false
+has_fewer : (s new : ℕ) (seated : List ℕ) → has_session s (new ∷ seated) ≡ false → has_session s seated ≡ false
 has_fewer s new seated none = go (new == s) none
   where
-    go : (b : Bool) → (b || has s seated) ≡ false → has s seated ≡ false
+    go : (b : Bool) → (b || has_session s seated) ≡ false → has_session s seated ≡ false
     go true e = off (sym e)
     go false e = e
 
-has_one : (s new : ℕ) → has s (new ∷ []) ≡ true → (new == s) ≡ true
+has_one : (s new : ℕ) → has_session s (new ∷ []) ≡ true → (new == s) ≡ true
 has_one s new there = go (new == s) there
   where
     go : (b : Bool) → (b || false) ≡ true → b ≡ true
@@ -255,7 +255,7 @@ has_one s new there = go (new == s) there
     go false e = e
 
 -- a session without a pass gets one
-seats_one : (by : ℕ) (list : List Entry) (t : ℕ) (seated own : List ℕ) (new : ℕ) → has new seated ≡ false
+seats_one : (by : ℕ) (list : List LogEntry) (t : ℕ) (seated own : List ℕ) (new : ℕ) → has_session new seated ≡ false
     → Forks Kept by (scribe list t seated own) (seating new (scribe list t seated own)) (seat_for new (scribe list t seated own))
 seats_one by list t seated own new free words views h at =
     let v = scribe list t seated own in
@@ -266,45 +266,45 @@ seats_one by list t seated own new free words views h at =
     let now = new ∷ seated in
     let left = seating new v in
     let right = seat_for new v in
-    let P = Fits h.seat h.log (slice_index words 1) now owner in
-    let free' : has new h.seated ≡ false = ap (has new) (sym known.3) ∙ free in
-    let other = λ (s : ℕ) (there : has s h.seated ≡ true). other_session s new h.seated free' there (new == s) refl in
+    let P = PassFits h.seat h.log (slice_index words 1) now owner in
+    let free' : has_session new h.seated ≡ false = ap (has_session new) (sym known.3) ∙ free in
+    let other = λ (s : ℕ) (there : has_session s h.seated ≡ true). other_session s new h.seated free' there (new == s) refl in
     record {
       seat = h.seat;
       log = h.log;
       seated = now;
       owner = owner;
       counted = h.counted;
-      strangers = (λ s c. h.strangers s (ap (has s) (sym known.3) ∙ has_fewer s new seated c));
+      strangers = (λ s c. h.strangers s (ap (has_session s) (sym known.3) ∙ has_fewer s new seated c));
       each = each_snoc P (set views by left) n right (sym (length_set views by left))
           (λ j u lt e. each_set P views by left
           (λ i y apart at'. let g = h.each i y at' in record {
             begins = g.begins;
             below = g.below;
             whole = (λ c. absurd (apart ((g.whole c).0 ∙ sym known.0)));
-            mine = (λ s c. let m = g.mine s c in (seated_at-else h.owner new n s i (other s m.1) m.0, has_more s new seated (ap (has s) known.3 ∙ m.1), m.2));
+            mine = (λ s c. let m = g.mine s c in (seated_at-else h.owner new n s i (other s m.1) m.0, has_more s new seated (ap (has_session s) known.3 ∙ m.1), m.2));
             before = g.before;
           })
           record {
             begins = f.begins;
             below = f.below;
             whole = (λ c. (known.0, known.1, known.2, refl));
-            mine = (λ s c. let m = f.mine s c in (seated_at-else h.owner new n s by (other s m.1) m.0, has_more s new seated (ap (has s) known.3 ∙ m.1), m.2));
+            mine = (λ s c. let m = f.mine s c in (seated_at-else h.owner new n s by (other s m.1) m.0, has_more s new seated (ap (has_session s) known.3 ∙ m.1), m.2));
             before = tt;
           } j u e)
           record {
             begins = f.begins;
             below = f.below;
             whole = (λ c. off c);
-            mine = (λ s c. let is = has_one s new c in (seated_at-here h.owner new n s (new == s) refl is, ap (λ (b : Bool). b || has s seated) is, ap (writes_of s) (sym known.1)));
+            mine = (λ s c. let is = has_one s new c in (seated_at-here h.owner new n s (new == s) refl is, ap (λ (b : Bool). b || has_session s seated) is, ap (writes_of s) (sym known.1)));
             before = tt;
           };
     }
 
-pub seats : (by : ℕ) (v : Sight) (new : ℕ) → v ≡ scribe v.list v.token v.seated v.own → has new v.seated ≡ false → Forks Kept by v (seating new v) (seat_for new v)
+pub seats : (by : ℕ) (v : Sight) (new : ℕ) → v ≡ scribe v.list v.token v.seated v.own → has_session new v.seated ≡ false → Forks Kept by v (seating new v) (seat_for new v)
 seats by v new is free = subst (λ (u : Sight). Forks Kept by u (seating new u) (seat_for new u)) (sym is) (seats_one by v.list v.token v.seated v.own new free)
 
-longer_self : (xs ys zs : List Entry) → IsPrefix xs zs → IsPrefix ys zs → IsPrefix xs (longer xs ys) × IsPrefix ys (longer xs ys) × IsPrefix (longer xs ys) zs
+longer_self : (xs ys zs : List LogEntry) → IsPrefix xs zs → IsPrefix ys zs → IsPrefix xs (longer xs ys) × IsPrefix ys (longer xs ys) × IsPrefix (longer xs ys) zs
 longer_self xs ys zs p q = go (nat_le (length xs) (length ys)) refl
   where
     go : (b : Bool) → nat_le (length xs) (length ys) ≡ b → IsPrefix xs (if b then ys else xs) × IsPrefix ys (if b then ys else xs) × IsPrefix (if b then ys else xs) zs
@@ -326,7 +326,7 @@ levels by v other w plain empty words views h at apart there =
     let g = ⊎_elim (λ (x : (other ≡ by) × (both ≡ w)). absurd (apart x.0)) (λ (x : (other ≢ by) × (get_elem? views other ≡ some w)). h.each other w x.1) (at_set views by other both w there) in
     let l = longer_self v.list w.list h.log f.begins g.begins in
     let k = greater_both v.token w.token (slice_index words 1) f.below g.below in
-    let P = Fits h.seat h.log (slice_index words 1) h.seated h.owner in
+    let P = PassFits h.seat h.log (slice_index words 1) h.seated h.owner in
     let fits : P by both = record {
       begins = l.2;
       below = k.2;
@@ -334,7 +334,7 @@ levels by v other w plain empty words views h at apart there =
       mine = (λ s c. let m = f.mine s c in (m.0, m.1, writes_of-between s v.list (longer v.list w.list) h.log l.0 l.2 m.2));
       before = (
         record { begins = l.0; below = k.0; mine = (λ s c. (c, (f.mine s c).2)) },
-        (record { begins = l.1; below = k.1; mine = (λ s c. off (ap (λ (x : List ℕ). has s x) (sym empty) ∙ c)) }, tt),
+        (record { begins = l.1; below = k.1; mine = (λ s c. off (ap (λ (x : List ℕ). has_session s x) (sym empty) ∙ c)) }, tt),
       );
     } in
     record {
@@ -350,8 +350,8 @@ levels by v other w plain empty words views h at apart there =
     }
 
 -- the steps at a view that is known
-pub notes_as : (by : ℕ) (v : Sight) (e : Entry) (new : List ℕ) → v ≡ scribe v.list v.token v.seated v.own
-    → has e.session v.own ≡ true → slice_index new 0 ≡ suc (length v.list) → slice_index new 1 ≡ v.token
+pub notes_as : (by : ℕ) (v : Sight) (e : LogEntry) (new : List ℕ) → v ≡ scribe v.list v.token v.seated v.own
+    → has_session e.session v.own ≡ true → slice_index new 0 ≡ suc (length v.list) → slice_index new 1 ≡ v.token
     → Turns Kept by v (λ _. new) (Noted e)
 notes_as by v e new is mine count same = subst (λ (u : Sight). Turns Kept by u (λ _. new) (Noted e)) (sym is) (notes by v.list v.token v.seated v.own e new mine count same)
 

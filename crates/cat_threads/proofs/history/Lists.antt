@@ -5,7 +5,7 @@ use mathlib.Core.List.{IsPrefix}
 use lib.ListN.{get_elem?}
 use Rattle.atomic_table.proofs.Lists.{at_set}
 use Rattle.cat_model.specs.Write.{Write}
-use Rattle.cat_threads.specs.history.Entries.{Entry, writes_of}
+use Rattle.cat_threads.specs.history.Entries.{LogEntry, writes_of}
 
 module _ {A : Type 0} where
   pub prefix_self : (xs : List A) → IsPrefix xs xs
@@ -76,7 +76,7 @@ module _ {A : Type 0} where
   length_set (x ∷ xs) zero a = refl
   length_set (x ∷ xs) (suc j) a = ap suc (length_set xs j a)
 
-pub writes_of-append : (s : ℕ) (xs ys : List Entry) → writes_of s (xs ++ ys) ≡ writes_of s xs ++ writes_of s ys
+pub writes_of-append : (s : ℕ) (xs ys : List LogEntry) → writes_of s (xs ++ ys) ≡ writes_of s xs ++ writes_of s ys
 writes_of-append s [] ys = refl
 writes_of-append s (x ∷ xs) ys = go (x.session == s) (writes_of-append s xs ys)
   where
@@ -86,17 +86,17 @@ writes_of-append s (x ∷ xs) ys = go (x.session == s) (writes_of-append s xs ys
     go false rest = rest
 
 -- another session's write
-pub writes_of-other : (s : ℕ) (xs : List Entry) (e : Entry) → (e.session == s) ≡ false → writes_of s (xs ++ e ∷ []) ≡ writes_of s xs
+pub writes_of-other : (s : ℕ) (xs : List LogEntry) (e : LogEntry) → (e.session == s) ≡ false → writes_of s (xs ++ e ∷ []) ≡ writes_of s xs
 writes_of-other s xs e is = writes_of-append s xs (e ∷ []) ∙ (ap (λ (b : Bool). writes_of s xs ++ (if b then e.write ∷ [] else [])) is ∙ append-nil (writes_of s xs))
 
-pub writes_of-own : (s : ℕ) (xs : List Entry) (e : Entry) → (e.session == s) ≡ true → writes_of s (xs ++ e ∷ []) ≡ writes_of s xs ++ e.write ∷ []
+pub writes_of-own : (s : ℕ) (xs : List LogEntry) (e : LogEntry) → (e.session == s) ≡ true → writes_of s (xs ++ e ∷ []) ≡ writes_of s xs ++ e.write ∷ []
 writes_of-own s xs e is = writes_of-append s xs (e ∷ []) ∙ ap (λ (b : Bool). writes_of s xs ++ (if b then e.write ∷ [] else [])) is
 
-pub writes_of-prefix : (s : ℕ) (xs ys : List Entry) → IsPrefix xs ys → IsPrefix (writes_of s xs) (writes_of s ys)
+pub writes_of-prefix : (s : ℕ) (xs ys : List LogEntry) → IsPrefix xs ys → IsPrefix (writes_of s xs) (writes_of s ys)
 writes_of-prefix s xs ys p = (writes_of s p.0, sym (writes_of-append s xs p.0) ∙ ap (writes_of s) p.1)
 
 -- between two lists with the same writes of a session stand none of its
-pub writes_of-between : (s : ℕ) (xs ys zs : List Entry) → IsPrefix xs ys → IsPrefix ys zs → writes_of s zs ≡ writes_of s xs → writes_of s zs ≡ writes_of s ys
+pub writes_of-between : (s : ℕ) (xs ys zs : List LogEntry) → IsPrefix xs ys → IsPrefix ys zs → writes_of s zs ≡ writes_of s xs → writes_of s zs ≡ writes_of s ys
 writes_of-between s xs ys zs p q is =
     let a = writes_of-prefix s xs ys p in
     let b = writes_of-prefix s ys zs q in

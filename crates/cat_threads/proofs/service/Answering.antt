@@ -12,13 +12,13 @@ use Rattle.cat_model.specs.State.{has_hold}
 use Rattle.cat_model.specs.Text.{Text}
 use Rattle.cat_model.specs.View.{View}
 use Rattle.cat_model.specs.Write.{Write}
-use Rattle.cat_ledger.specs.cat_ledger_state.cat_views.Holds.{Hold}
+use Rattle.cat_ledger.specs.cat_ledger_state.cat_views.Holds.{HeldView}
 use Rattle.cat_ledger_laws.specs.model.Calls.{wrote}
 use Rattle.cat_ledger_laws.specs.model.Replies.{IsLeft}
 use Rattle.cat_ledger_laws.specs.shape.Ties.{ToldFiles}
-use Rattle.cat_ledger.specs.Answering.{Answers}
+use Rattle.cat_ledger.specs.Answering.{AnswersCommand}
 use Rattle.cat_ledger.specs.Grants.{IsAsked, token_granted}
-use Rattle.cat_ledger.specs.Ledgers.{Does, Ledger, device_in, policy_in, shape_in}
+use Rattle.cat_ledger.specs.Ledgers.{DoesCall, LedgerOnDevice, device_in, policy_in, shape_in}
 use Rattle.cat_ledger.specs.declared.views.Grant.{Grant}
 use Rattle.cat_ledger.specs.declared.views.Released.{Released}
 use Rattle.cat_ledger_laws.specs.lines.HoldLaws.{holding, letting_go}
@@ -55,41 +55,41 @@ open_still t r fitting e = (refl, λ held ts. refl)
 close_still : (t : ℕ) (r : Reply) → IsStill (Command.close t) r
 close_still t r fitting e = (refl, λ held ts. refl)
 
-module _ {D : Type 0} (bytes : D → ToldFiles) (old new : Ledger D) where
+module _ {D : Type 0} (bytes : D → ToldFiles) (old new : LedgerOnDevice D) where
   -- ---- writes
 
   pub put_answers : (i : Item) (r : Result ℕ Refusal) → IfOk r (λ n. n ≡ (shape_in old).count + 1) → OnOk r (IsItem (shape_in old).schema i)
-      → OnOk r ((shape_in old).count < last_number) → OnOk r (Does bytes (Puts i) old new)
-      → IfOk r (λ n. (session : ℕ) → Answers bytes session (Command.put (Ok i)) old (tells n) new)
+      → OnOk r ((shape_in old).count < last_number) → OnOk r (DoesCall bytes (Puts i) old new)
+      → IfOk r (λ n. (session : ℕ) → AnswersCommand bytes session (Command.put (Ok i)) old (tells n) new)
   put_answers i (Ok n) is item left does = λ session.
-      subst (λ m. Answers bytes session (Command.put (Ok i)) old (tells m) new) (sym is)
+      subst (λ m. AnswersCommand bytes session (Command.put (Ok i)) old (tells m) new) (sym is)
       (puts_answer (policy_in old) (bytes (device_in old)) (bytes (device_in new)) (shape_in old) (shape_in new) session i left item does)
   put_answers i (Err e) is item left does = is
 
   pub delete_answers : (id : Text) (r : Result ℕ Refusal) → IfOk r (λ n. n ≡ (shape_in old).count + 1)
-      → OnOk r ((shape_in old).count < last_number) → OnOk r (Does bytes (λ l l'. l' ≡ wrote l (Write.delete id)) old new)
-      → IfOk r (λ n. (session : ℕ) → Answers bytes session (Command.delete (Ok id)) old (tells n) new)
+      → OnOk r ((shape_in old).count < last_number) → OnOk r (DoesCall bytes (λ l l'. l' ≡ wrote l (Write.delete id)) old new)
+      → IfOk r (λ n. (session : ℕ) → AnswersCommand bytes session (Command.delete (Ok id)) old (tells n) new)
   delete_answers id (Ok n) is left does = λ session.
-      subst (λ m. Answers bytes session (Command.delete (Ok id)) old (tells m) new) (sym is)
+      subst (λ m. AnswersCommand bytes session (Command.delete (Ok id)) old (tells m) new) (sym is)
       (deletes_answer (policy_in old) (bytes (device_in old)) (bytes (device_in new)) (shape_in old) (shape_in new) session id left does)
   delete_answers id (Err e) is left does = is
 
   pub delete_where_answers : (q : Query) (r : Result ℕ Refusal) → IfOk r (λ n. n ≡ (shape_in old).count + 1)
-      → OnOk r ((shape_in old).count < last_number) → OnOk r (Does bytes (λ l l'. l' ≡ wrote l (Write.delete_where q)) old new)
-      → IfOk r (λ n. (session : ℕ) → Answers bytes session (Command.delete_where (Ok q)) old (tells n) new)
+      → OnOk r ((shape_in old).count < last_number) → OnOk r (DoesCall bytes (λ l l'. l' ≡ wrote l (Write.delete_where q)) old new)
+      → IfOk r (λ n. (session : ℕ) → AnswersCommand bytes session (Command.delete_where (Ok q)) old (tells n) new)
   delete_where_answers q (Ok n) is left does = λ session.
-      subst (λ m. Answers bytes session (Command.delete_where (Ok q)) old (tells m) new) (sym is)
+      subst (λ m. AnswersCommand bytes session (Command.delete_where (Ok q)) old (tells m) new) (sym is)
       (query_deletes_answer (policy_in old) (bytes (device_in old)) (bytes (device_in new)) (shape_in old) (shape_in new) session q left does)
   delete_where_answers q (Err e) is left does = is
 
-  pub left_refused : (w : Write) (r : Result ℕ Refusal) → OnErr r (Does bytes IsLeft old new)
-      → OnErr r ((session : ℕ) → Answers bytes session (command_of w) old (Err Memory) new)
+  pub left_refused : (w : Write) (r : Result ℕ Refusal) → OnErr r (DoesCall bytes IsLeft old new)
+      → OnErr r ((session : ℕ) → AnswersCommand bytes session (command_of w) old (Err Memory) new)
   left_refused w (Ok n) left = left
   left_refused w (Err e) left = λ session.
       memory_answers (policy_in old) (bytes (device_in old)) (bytes (device_in new)) (shape_in old) (shape_in new) (line_of session (command_of w)) (looked w session) left
 
   pub same_refused : (w : Write) (r : Result ℕ Refusal) → OnErr r (new ≡ old)
-      → OnErr r ((session : ℕ) → Answers bytes session (command_of w) old (Err Memory) new)
+      → OnErr r ((session : ℕ) → AnswersCommand bytes session (command_of w) old (Err Memory) new)
   same_refused w (Ok n) same = same
   same_refused w (Err e) same = λ session.
       memory_answers (policy_in old) (bytes (device_in old)) (bytes (device_in new)) (shape_in old) (shape_in new) (line_of session (command_of w)) (looked w session)
@@ -104,14 +104,14 @@ module _ {D : Type 0} (bytes : D → ToldFiles) (old new : Ledger D) where
     abbrev After : Type 0
     After = Shares (bytes (device_in new)) (shape_in new) from sessions w
 
-    pub refreshed : (session t : ℕ) → Before → t ≡ (shape_in old).count → MayRefresh (shape_in old) → Does bytes Refreshes old new
+    pub refreshed : (session t : ℕ) → Before → t ≡ (shape_in old).count → MayRefresh (shape_in old) → DoesCall bytes Refreshes old new
         → w ≡ scribe v.list (t - from.start.token) sessions [] → After
     refreshed session t a is may does same =
         recorded_share (policy_in old) (bytes (device_in old)) (bytes (device_in new)) (shape_in old) (shape_in new) from sessions v w session a t is
-        (subst (λ m. Answers bytes session Command.refresh old (tells m) new) (sym is)
+        (subst (λ m. AnswersCommand bytes session Command.refresh old (tells m) new) (sym is)
         (refreshes_answer (policy_in old) (bytes (device_in old)) (bytes (device_in new)) (shape_in old) (shape_in new) session may does)) same
 
-    pub refresh_left : (session : ℕ) → Before → Does bytes IsLeft old new → w ≡ scribe v.list v.token sessions [] → After
+    pub refresh_left : (session : ℕ) → Before → DoesCall bytes IsLeft old new → w ≡ scribe v.list v.token sessions [] → After
     refresh_left session a left same =
         still_share (policy_in old) (bytes (device_in old)) (bytes (device_in new)) (shape_in old) (shape_in new) from sessions v w session a Command.refresh (Err Memory) refresh_still
         (memory_answers (policy_in old) (bytes (device_in old)) (bytes (device_in new)) (shape_in old) (shape_in new) (line_of session Command.refresh) refl left) same
@@ -138,7 +138,7 @@ module _ {D : Type 0} (bytes : D → ToldFiles) (old new : Ledger D) where
     acquired session asked (Ok grant) a named held err same is = opened session asked (token_granted grant) a named held same is
     acquired session asked (Err e) a named held err same is = unchanged a err is
 
-    pub released : (session t : ℕ) (r : Result Released Hold) → Before
+    pub released : (session t : ℕ) (r : Result Released HeldView) → Before
         → OnOk r (has_hold (shape_in old).holds session t ≡ true) → OnOk r (shape_in new ≡ letting_go session t (shape_in old))
         → OnErr r (new ≡ old) → device_in new ≡ device_in old → w ≡ scribe v.list v.token sessions [] → After
     released session t (Ok x) a had held err same is =

@@ -6,7 +6,7 @@ use Rattle.cat_base.specs.declared.refusal.Refusal.TheVariants.{Memory}
 use Rattle.cat_model.specs.Table.{table}
 use Rattle.cat_model.specs.View.{Shows}
 use Rattle.cat_model.specs.Write.{Write}
-use Rattle.cat_ledger.specs.cat_ledger_state.cat_views.Holds.{Hold}
+use Rattle.cat_ledger.specs.cat_ledger_state.cat_views.Holds.{HeldView}
 use Rattle.cat_ledger_laws.specs.shape.Shapes.{Shape}
 use Rattle.cat_ledger_laws.specs.shape.Ties.{ToldFiles}
 use Rattle.cat_ledger.specs.Grants.{IsAsked, IsGrant, token_granted}
@@ -20,7 +20,7 @@ use Rattle.cat_threads.proofs.sharing.Sharing.{newest_share, views_share}
 use Rattle.cat_threads.specs.service.Passes.{Granted, IfNew, IsLater, Seen}
 use Rattle.cat_threads.proofs.service.Passed.{seen}
 
-granted : (told : ToldFiles) (s : Shape) (from : Ground) (sessions : List ℕ) (v : Sight) (session : ℕ) (old joined now : Sight) (before : Seen) (asked : Option ℕ) (h : Hold)
+granted : (told : ToldFiles) (s : Shape) (from : Ground) (sessions : List ℕ) (v : Sight) (session : ℕ) (old joined now : Sight) (before : Seen) (asked : Option ℕ) (h : HeldView)
     → Shares told s from sessions v → seen from.start.token session old ≡ before → Compared joined (old_of old) → joined.token ≡ v.token → now.list ≡ v.list
     → IsAsked s asked h.view.token → IsGrant s session (Grant.New h) → Granted from asked before (seen from.start.token session now) h
 granted told s from sessions v session old joined now before asked h a is k top list named grant =
@@ -64,7 +64,7 @@ apart_again v joined now sessions own whole j p =
     p ∙ ap (λ (u : Sight). scribe u.list u.token u.seated []) j ∙ ap (λ (s : List ℕ). scribe v.list v.token s []) (ap (λ (u : Sight). u.seated) whole)
 
 -- the same where it got a write, or a new token, in between
-pub apart_noted : (v joined noted now : Sight) (sessions own : List ℕ) (e : Rattle.cat_threads.specs.history.Entries.Entry) → v ≡ scribe v.list v.token sessions [] → joined ≡ scribe v.list v.token v.seated own
+pub apart_noted : (v joined noted now : Sight) (sessions own : List ℕ) (e : Rattle.cat_threads.specs.history.Entries.LogEntry) → v ≡ scribe v.list v.token sessions [] → joined ≡ scribe v.list v.token v.seated own
     → noted ≡ Rattle.cat_threads.specs.history.Rules.noted e joined → now ≡ scribe noted.list noted.token noted.seated [] → now ≡ scribe (v.list ++ e ∷ []) v.token sessions []
 apart_noted v joined noted now sessions own e whole j n p =
     p ∙ ap (λ (u : Sight). scribe u.list u.token u.seated []) n ∙ ap (λ (u : Sight). scribe (u.list ++ e ∷ []) u.token u.seated []) j

@@ -25,14 +25,14 @@ use Rattle.cat_ledger_laws.proofs.shape.Leaves.{length_map, map_twice}
 use Rattle.cat_ledger_laws.specs.lines.LineLaws.{line_of, tells}
 use Rattle.cat_ledger_laws.specs.lines.ReadLaws.{IsRecordedAs}
 use Rattle.cat_ledger_laws.specs.lines.RefusalLaws.{command_of}
-use Rattle.cat_ledger_laws.specs.lines.RunLaws.{Answers, AreAlike, Stands}
+use Rattle.cat_ledger_laws.specs.lines.RunLaws.{AnswersCarried, AreAlike, Stands}
 use Rattle.cat_ledger_laws.proofs.lines.Answered.{answers_are_steps}
 use Rattle.cat_ledger_laws.proofs.lines.Found.{find_map, found_in, holds_found}
 use Rattle.cat_ledger_laws.proofs.lines.KeptCalls.{schema_stays}
-use Rattle.cat_threads.specs.history.Entries.{Entry, entry, writes_in}
+use Rattle.cat_threads.specs.history.Entries.{LogEntry, entry, writes_in}
 use Rattle.cat_threads.specs.history.Rules.{Sight, scribe}
 use Rattle.cat_threads.specs.sharing.Agrees.{Agrees}
-use Rattle.cat_threads.specs.sharing.Laws.{CountsAgree, FreshAgree, IsOfList, IsStill, NewestAgree, NotedAgree, PrunedAgree, RecordedAgree, StillAgree, ViewsAgree}
+use Rattle.cat_threads.specs.sharing.Laws.{CountsAgree, FreshAgree, IsOfList, IsStill, NewestAgree, NotedAgree, PrunedAgree, RefreshAgrees, StillAgree, ViewsAgree}
 
 -- ---- tokens
 
@@ -116,7 +116,7 @@ record GoesOn (told' : ToldFiles) (new : Shape) (from : Opened) (run : Run) (e :
   fields : from.start.schema ≡ new.schema
 
 goes_on : (policy : MergePolicy) (told told' : ToldFiles) (s new : Shape) (from : Opened) (sessions : List ℕ) (v : Sight) (session : ℕ) (c : Command) (r : Reply)
-    → (a : Agrees told s from sessions v) → Answers policy told s (line_of session c) r told' new
+    → (a : Agrees told s from sessions v) → AnswersCarried policy told s (line_of session c) r told' new
     → (fitting : Reply) × AreAlike r fitting × GoesOn told' new from a.run (record { line = line_of session c; reply = fitting })
 goes_on policy told told' s new from sessions v session c r a answers =
     let step = answers_are_steps policy told told' s new (line_of session c) r answers from a.run a.fields a.fits a.stands in (
@@ -132,14 +132,14 @@ goes_on policy told told' s new from sessions v session c r a answers =
 
 -- where the reply is a number, it is the one that fits
 goes_on_told : (policy : MergePolicy) (told told' : ToldFiles) (s new : Shape) (from : Opened) (sessions : List ℕ) (v : Sight) (session : ℕ) (c : Command) (n : ℕ)
-    → (a : Agrees told s from sessions v) → Answers policy told s (line_of session c) (tells n) told' new
+    → (a : Agrees told s from sessions v) → AnswersCarried policy told s (line_of session c) (tells n) told' new
     → GoesOn told' new from a.run (record { line = line_of session c; reply = tells n })
 goes_on_told policy told told' s new from sessions v session c n a answers =
     let k = goes_on policy told told' s new from sessions v session c (tells n) a answers in
     subst (λ r. GoesOn told' new from a.run (record { line = line_of session c; reply = r })) (sym k.1) k.2
 
-length_writes : (list : List Entry) → length (writes_in list) ≡ length list
-length_writes list = length_map (λ (e : Entry). e.write) list
+length_writes : (list : List LogEntry) → length (writes_in list) ≡ length list
+length_writes list = length_map (λ (e : LogEntry). e.write) list
 
 -- ---- the laws
 
@@ -210,12 +210,12 @@ noted_agree policy told told' s new from sessions v w session n write a answers 
       stands = k.stands;
       written =
           writes-push a.run e ∙ ap (λ o. writes a.run ++ cons_option o []) (accepts write n) ∙ ap (λ ws. ws ++ write ∷ []) a.written
-          ∙ sym (map-append (λ (x : Entry). x.write) v.list (entry session write ∷ [])) ∙ ap writes_in (sym list);
+          ∙ sym (map-append (λ (x : LogEntry). x.write) v.list (entry session write ∷ [])) ∙ ap writes_in (sym list);
       newest = ap greatest views ∙ a.newest ∙ ap (λ t. from.start.token + t) (sym token);
       lowest = subst (AllByRecursion (λ t. from.start.token ≤ t)) (sym views) a.lowest;
     }
 
-pub recorded_agree : RecordedAgree
+pub recorded_agree : RefreshAgrees
 recorded_agree policy told told' s new from sessions v w session n a all answers is =
     let k = goes_on_told policy told told' s new from sessions v session Command.refresh n a answers in
     let e : Exchange = record { line = line_of session Command.refresh; reply = tells n } in

@@ -22,13 +22,13 @@ use Rattle.cat_ledger_laws.proofs.shape.Leaves.{map_filter, removes_alike}
 use Rattle.cat_ledger_laws.specs.lines.LineLaws.{line_of, tells}
 use Rattle.cat_ledger_laws.specs.lines.ReadLaws.{IsRecordedAs}
 use Rattle.cat_ledger_laws.specs.lines.RefusalLaws.{command_of}
-use Rattle.cat_ledger_laws.specs.lines.RunLaws.{Answers, Stands}
+use Rattle.cat_ledger_laws.specs.lines.RunLaws.{AnswersCarried, Stands}
 use Rattle.cat_threads.specs.history.Entries.{entry, writes_in}
 use Rattle.cat_threads.specs.history.Rules.{Sight, scribe}
 use Rattle.cat_threads.specs.sharing.Agrees.{Agrees}
 use Rattle.cat_threads.specs.sharing.Grounds.{Ground, IsOn, Shares, ground_of}
 use Rattle.cat_threads.specs.sharing.Laws.{IsStill}
-use Rattle.cat_threads.specs.sharing.ShareLaws.{FreshShare, IsHistoryOf, IsOfList, ViewsShare}
+use Rattle.cat_threads.specs.sharing.ShareLaws.{FreshShare, IsHistoryOf, IsOfGroundList, ViewsShare}
 use Rattle.cat_threads.proofs.sharing.Agreeing as agreeing
 
 -- ---- the rows of a table
@@ -124,11 +124,11 @@ newest_share told s ground sessions v a =
     (k.0 ∙ ap (λ n. n + v.token) a.begins.token, k.1)
 
 module _ (policy : MergePolicy) (told told' : ToldFiles) (s new : Shape) (ground : Ground) (sessions : List ℕ) (v w : Sight) (session : ℕ) (a : Shares told s ground sessions v) where
-  pub noted_share : (n : ℕ) (write : Write) → Answers policy told s (line_of session (command_of write)) (tells n) told' new
+  pub noted_share : (n : ℕ) (write : Write) → AnswersCarried policy told s (line_of session (command_of write)) (tells n) told' new
       → w ≡ scribe (v.list ++ entry session write ∷ []) v.token sessions [] → Shares told' new ground sessions w
   noted_share n write answers is = record { from = a.from; begins = a.begins; agrees = agreeing.noted_agree policy told told' s new a.from sessions v w session n write a.agrees answers is }
 
-  pub recorded_share : (n : ℕ) → n ≡ s.count → Answers policy told s (line_of session Command.refresh) (tells n) told' new
+  pub recorded_share : (n : ℕ) → n ≡ s.count → AnswersCarried policy told s (line_of session Command.refresh) (tells n) told' new
       → w ≡ scribe v.list (n - ground.start.token) sessions [] → Shares told' new ground sessions w
   recorded_share n all answers is = record {
     from = a.from;
@@ -136,11 +136,11 @@ module _ (policy : MergePolicy) (told told' : ToldFiles) (s new : Shape) (ground
     agrees = agreeing.recorded_agree policy told told' s new a.from sessions v w session n a.agrees all answers (is ∙ ap (λ k. scribe v.list (n - k) sessions []) (sym a.begins.token));
   }
 
-  pub pruned_share : (n : ℕ) (r : Reply) → Answers policy told s (line_of session (Command.prune n)) r told' new
+  pub pruned_share : (n : ℕ) (r : Reply) → AnswersCarried policy told s (line_of session (Command.prune n)) r told' new
       → w ≡ scribe v.list v.token sessions [] → Shares told' new ground sessions w
   pruned_share n r answers is = record { from = a.from; begins = a.begins; agrees = agreeing.pruned_agree policy told told' s new a.from sessions v w session n r a.agrees answers is }
 
-  pub still_share : (c : Command) (r : Reply) → IsStill c r → Answers policy told s (line_of session c) r told' new
+  pub still_share : (c : Command) (r : Reply) → IsStill c r → AnswersCarried policy told s (line_of session c) r told' new
       → w ≡ scribe v.list v.token sessions [] → Shares told' new ground sessions w
   still_share c r still answers is = record { from = a.from; begins = a.begins; agrees = agreeing.still_agree policy told told' s new a.from sessions v w session c r a.agrees still answers is }
 

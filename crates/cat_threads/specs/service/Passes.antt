@@ -4,20 +4,20 @@ use mathlib.Core.List.{IsPrefix}
 use Rattle.cat_model.specs.Table.{Start, table}
 use Rattle.cat_model.specs.View.{Shows}
 use Rattle.cat_model.specs.Write.{Write}
-use Rattle.cat_ledger.specs.cat_ledger_state.cat_views.Holds.{Hold}
+use Rattle.cat_ledger.specs.cat_ledger_state.cat_views.Holds.{HeldView}
 use Rattle.cat_ledger.specs.declared.views.Grant.{Grant}
 use Rattle.cat_threads.specs.sharing.Grounds.{Ground, IsOn}
-use Rattle.cat_threads.specs.history.Entries.{Entry, entry, has, writes_in, writes_of}
+use Rattle.cat_threads.specs.history.Entries.{LogEntry, entry, has_session, writes_in, writes_of}
 
 -- what a caller's pass is seen as
 pub record Seen : Type 0 where
   pub session : ℕ
-  pub list : List Entry
+  pub list : List LogEntry
   pub token : ℕ
 
 -- what lies under the lock is seen as
 pub record Shared : Type 0 where
-  pub list : List Entry
+  pub list : List LogEntry
   pub token : ℕ
 
 -- a caller has seen no less
@@ -48,13 +48,13 @@ abbrev pub IsLater : Option ℕ → ℕ → ℕ → Type 0
 IsLater None least t = least ≤ t
 IsLater (Some asked) least t = t ≡ asked
 
-abbrev pub IfNew : Grant → (Hold → Type 0) → Type 0
+abbrev pub IfNew : Grant → (HeldView → Type 0) → Type 0
 IfNew (Grant.New h) P = P h
 IfNew (Grant.Already t) P = Unit {0}
 
 -- what a caller is told of a view that it has the right to: it shows the table of the list at its token, whatever start has the rows that the
 -- service began with
-pub record Granted (from : Ground) (asked : Option ℕ) (v w : Seen) (h : Hold) : Type 0 where
+pub record Granted (from : Ground) (asked : Option ℕ) (v w : Seen) (h : HeldView) : Type 0 where
   pub own : h.session ≡ v.session
   pub low : from.start.token ≤ h.view.token
   pub upto : h.view.token ≤ from.start.token + length w.list
@@ -62,7 +62,7 @@ pub record Granted (from : Ground) (asked : Option ℕ) (v w : Seen) (h : Hold) 
   pub later : IsLater asked v.token h.view.token
 
 -- of two lists one begins the other
-abbrev pub AreOne : List Entry → List Entry → Type 0
+abbrev pub AreOne : List LogEntry → List LogEntry → Type 0
 AreOne xs ys = IsPrefix xs ys ⊎ IsPrefix ys xs
 
 -- the sessions that have a pass, the last first
@@ -72,13 +72,13 @@ seated_by seated (x ∷ xs) = seated_by (x ∷ seated) xs
 
 abbrev pub all_different : List ℕ → Bool
 all_different [] = true
-all_different (x ∷ xs) = not (has x xs) && all_different xs
+all_different (x ∷ xs) = not (has_session x xs) && all_different xs
 
 -- a session that has seen nothing yet
 abbrev pub newcomer : ℕ → ℕ → Seen
 newcomer start session = record { session = session; list = []; token = start }
 
 -- the list begins with what a pass has seen, and has just its session's writes
-pub record Ends (list : List Entry) (v : Seen) : Type 0 where
+pub record Ends (list : List LogEntry) (v : Seen) : Type 0 where
   pub begins : IsPrefix v.list list
   pub mine : writes_of v.session list ≡ writes_of v.session v.list

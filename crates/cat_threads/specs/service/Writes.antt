@@ -11,7 +11,7 @@ write_of (Write.Delete id) = model.Write.delete id
 write_of (Write.DeleteWhere query) = model.Write.delete_where (query_of query)
 
 -- it puts an item of another schema
-abbrev pub IsForeign : Schema → model.Write → Type 0
-IsForeign schema (model.Write.put item) = IsItem schema item → ⊥
-IsForeign schema (model.Write.delete id) = ⊥
-IsForeign schema (model.Write.delete_where query) = ⊥
+abbrev pub PutsForeign : Schema → model.Write → Type 0
+PutsForeign schema (model.Write.put item) = IsItem schema item → ⊥
+PutsForeign schema (model.Write.delete id) = ⊥
+PutsForeign schema (model.Write.delete_where query) = ⊥

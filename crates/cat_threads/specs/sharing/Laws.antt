@@ -11,7 +11,7 @@ use Rattle.cat_ledger_laws.specs.shape.Ties.{ToldFiles}
 use Rattle.cat_ledger_laws.specs.lines.LineLaws.{line_of, tells}
 use Rattle.cat_ledger_laws.specs.lines.ReadLaws.{IsRecordedAs}
 use Rattle.cat_ledger_laws.specs.lines.RefusalLaws.{command_of}
-use Rattle.cat_ledger_laws.specs.lines.RunLaws.{Answers, AreAlike, Stands}
+use Rattle.cat_ledger_laws.specs.lines.RunLaws.{AnswersCarried, AreAlike, Stands}
 use Rattle.cat_threads.specs.history.Entries.{entry, writes_in}
 use Rattle.cat_threads.specs.history.Rules.{Sight, scribe}
 use Rattle.cat_threads.specs.sharing.Agrees.{Agrees}
@@ -44,19 +44,19 @@ ViewsAgree = (told : ToldFiles) (s : Shape) (from : Opened) (sessions : List ℕ
 -- A write that is answered a number is one more of the list.
 abbrev pub NotedAgree : Type 0
 NotedAgree = (policy : MergePolicy) (told told' : ToldFiles) (s new : Shape) (from : Opened) (sessions : List ℕ) (v w : Sight) (session n : ℕ) (write : Write)
-    → Agrees told s from sessions v → Answers policy told s (line_of session (command_of write)) (tells n) told' new
+    → Agrees told s from sessions v → AnswersCarried policy told s (line_of session (command_of write)) (tells n) told' new
     → w ≡ scribe (v.list ++ entry session write ∷ []) v.token sessions [] → Agrees told' new from sessions w
 
 -- A REFRESH that is answered makes the number of writes the newest token.
-abbrev pub RecordedAgree : Type 0
-RecordedAgree = (policy : MergePolicy) (told told' : ToldFiles) (s new : Shape) (from : Opened) (sessions : List ℕ) (v w : Sight) (session n : ℕ)
-    → Agrees told s from sessions v → n ≡ s.count → Answers policy told s (line_of session Command.refresh) (tells n) told' new
+abbrev pub RefreshAgrees : Type 0
+RefreshAgrees = (policy : MergePolicy) (told told' : ToldFiles) (s new : Shape) (from : Opened) (sessions : List ℕ) (v w : Sight) (session n : ℕ)
+    → Agrees told s from sessions v → n ≡ s.count → AnswersCarried policy told s (line_of session Command.refresh) (tells n) told' new
     → w ≡ scribe v.list (n - from.start.token) sessions [] → Agrees told' new from sessions w
 
 -- A PRUNE leaves the newest view, whatever is replied to it.
 abbrev pub PrunedAgree : Type 0
 PrunedAgree = (policy : MergePolicy) (told told' : ToldFiles) (s new : Shape) (from : Opened) (sessions : List ℕ) (v w : Sight) (session n : ℕ) (r : Reply)
-    → Agrees told s from sessions v → Answers policy told s (line_of session (Command.prune n)) r told' new
+    → Agrees told s from sessions v → AnswersCarried policy told s (line_of session (Command.prune n)) r told' new
     → w ≡ scribe v.list v.token sessions [] → Agrees told' new from sessions w
 
 -- whatever reply is shown so: the exchange has no write, and leaves the views
@@ -67,5 +67,5 @@ IsStill c r = (fitting : Reply) → AreAlike r fitting
 -- What else is answered changes neither the list nor the token.
 abbrev pub StillAgree : Type 0
 StillAgree = (policy : MergePolicy) (told told' : ToldFiles) (s new : Shape) (from : Opened) (sessions : List ℕ) (v w : Sight) (session : ℕ) (c : Command) (r : Reply)
-    → Agrees told s from sessions v → IsStill c r → Answers policy told s (line_of session c) r told' new
+    → Agrees told s from sessions v → IsStill c r → AnswersCarried policy told s (line_of session c) r told' new
     → w ≡ scribe v.list v.token sessions [] → Agrees told' new from sessions w

@@ -33,9 +33,9 @@ impl Outcome<[u64; 2], Sight> for Checks {
 
 /// The write that a step notes. Each call picks it.
 pub trait Noting {
-    ghost use Rattle.cat_threads.specs.history.Entries.{Entry};
+    ghost use Rattle.cat_threads.specs.history.Entries.{LogEntry};
 
-    ghost entry: { Entry };
+    ghost entry: { LogEntry };
 }
 
 impl Noting for Brand {

@@ -1,7 +1,7 @@
 //! The steps of a call on the passes.
 ghost use Rattle.std.specs.Prelude.{◌≡◌, ℕ, suc, ◌≤◌, true, false, [], ◌∷◌, length};
 ghost use Rattle.crossbeam_utils.specs.Seq.{cell_view};
-ghost use Rattle.cat_threads.specs.history.Entries.{has};
+ghost use Rattle.cat_threads.specs.history.Entries.{has_session};
 ghost use Rattle.cat_threads.specs.history.Rules.{scribe, caller, old_of, noted, recorded, Compared, NoStrangers, longer, greater, note_of, seating, seat_for};
 
 use crate::history::cell::{
@@ -36,7 +36,7 @@ pub fn part(cell: &Cell, desk: &mut Seat) -> Seat
 pub fn note<W: Noting, R: Wait>(rt: &R, cell: &Cell, desk: &mut Seat, count: u64, token: u64)
     requires desk { (desk.old.table_id ≡ cell.now.table.shared.table_id) × (cell_view desk.old ≡ scribe (cell_view desk.old).list (cell_view desk.old).token (cell_view desk.old).seated (cell_view desk.old).own) }
     requires words { (count ≡ suc (length (cell_view desk.old).list)) × (token ≡ (cell_view desk.old).token) }
-    requires own { has (W.entry).session (cell_view desk.old).own ≡ true }
+    requires own { has_session (W.entry).session (cell_view desk.old).own ≡ true }
     ensures { (desk.new.table_id ≡ desk.old.table_id) × (cell_view desk.new ≡ noted W.entry (cell_view desk.old)) }
 {
     cell.swap_as::<Notes<W>, R>(rt, desk, [count, token]);
@@ -80,7 +80,7 @@ fn tell<R: Wait>(rt: &R, cell: &Cell, one: &mut Seat, two: &mut Seat)
 fn seat_as<S: Seating>(cell: &Cell, desk: &mut Seat, session: u32) -> Seat
     requires session { session ≡ S.session }
     requires desk { (desk.old.table_id ≡ cell.now.table.shared.table_id) × (cell_view desk.old ≡ scribe (cell_view desk.old).list (cell_view desk.old).token (cell_view desk.old).seated (cell_view desk.old).own) }
-    requires free { has session (cell_view desk.old).seated ≡ false }
+    requires free { has_session session (cell_view desk.old).seated ≡ false }
     ensures desk { (desk.new.table_id ≡ desk.old.table_id) × (cell_view desk.new ≡ seating session (cell_view desk.old)) }
     ensures mine { (result.table_id ≡ desk.old.table_id) × (cell_view result ≡ seat_for session (cell_view desk.old)) }
 {
@@ -90,7 +90,7 @@ fn seat_as<S: Seating>(cell: &Cell, desk: &mut Seat, session: u32) -> Seat
 /// A pass for a session that has none.
 pub fn seat(cell: &Cell, desk: &mut Seat, session: u32) -> Seat
     requires desk { (desk.old.table_id ≡ cell.now.table.shared.table_id) × (cell_view desk.old ≡ scribe (cell_view desk.old).list (cell_view desk.old).token (cell_view desk.old).seated (cell_view desk.old).own) }
-    requires free { has session (cell_view desk.old).seated ≡ false }
+    requires free { has_session session (cell_view desk.old).seated ≡ false }
     ensures desk { (desk.new.table_id ≡ desk.old.table_id) × (cell_view desk.new ≡ seating session (cell_view desk.old)) }
     ensures mine { (result.table_id ≡ desk.old.table_id) × (cell_view result ≡ seat_for session (cell_view desk.old)) }
 {

@@ -5,7 +5,7 @@ ghost use Rattle.cat_directory.specs.declared.name.FileName.{FileName};
 ghost use Rattle.cat_ledger.specs.Ledgers.{device_in, policy_in, shape_in};
 ghost use Rattle.cat_ledger.specs.Openings.{IsOpenedLedger};
 ghost use Rattle.cat_ledger.specs.cat_ledger_state.startup.Refused.{IsNewestDamaged, IsNewestForeign};
-ghost use Rattle.cat_threads.specs.service.Begins.{Begins};
+ghost use Rattle.cat_threads.specs.service.Begins.{IsJustOpened};
 
 use crate::history::{self, Cell, Seat};
 use cat_base::Refusal;
@@ -39,7 +39,7 @@ impl<D: Directory + Shelf> Model for Begun<D> {
     ghost view = { λ b. record { table = b.cell.table.shared.table_id; ledger = b.ledger } };
 
     ghost invariant = { λ b. (b.scribe.table_id ≡ b.cell.table.shared.table_id) × (cell_view b.scribe ≡ rules.scribe [] 0 [] [])
-        × begins.Begins (D.bytes (device_in b.ledger)) (shape_in b.ledger) };
+        × begins.IsJustOpened (D.bytes (device_in b.ledger)) (shape_in b.ledger) };
 }
 
 impl<D: Directory + Shelf> Begun<D> {

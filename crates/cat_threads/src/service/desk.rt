@@ -9,9 +9,9 @@ ghost use Rattle.cat_threads.specs.history.Rules.{NoStrangers, scribe as scribe_
 ghost use Rattle.cat_threads.specs.service.Passes.{Ends, Follows, Granted, Idle, IfNew, Refreshed, Wrote};
 ghost use Rattle.cat_threads.specs.sharing.Grounds.{ground_of};
 ghost use Rattle.cat_threads.specs.sharing.ShareLaws.{IsHistoryOf};
-ghost use Rattle.cat_threads.specs.service.Begins.{Begins};
+ghost use Rattle.cat_threads.specs.service.Begins.{IsJustOpened};
 ghost use Rattle.cat_threads.specs.service.Chores.{chore_done};
-ghost use Rattle.cat_threads.specs.service.Writes.{IsForeign, write_of};
+ghost use Rattle.cat_threads.specs.service.Writes.{PutsForeign, write_of};
 
 use crate::history::{self, Cell, Noting, Seat};
 use crate::running::Gate;
@@ -41,14 +41,14 @@ impl<D: Directory + Shelf, J: Naming> Model for Desk<D, J> {
     ghost use Rattle.std.specs.Prelude.{◌≡◌, ◌+◌};
     ghost use Rattle.std.specs.Coded.{codes};
     ghost use Rattle.crossbeam_utils.specs.Seq.{cell_view};
-    ghost use Rattle.cat_threads.specs.history.Coding.{query_code};
+    ghost use Rattle.cat_threads.specs.history.Coding.{plain_query_code};
     ghost use Rattle.cat_ledger.specs.Ledgers.{device_in, shape_in};
     ghost use Rattle.cat_threads.specs.sharing.Grounds.{Shares};
     ghost use Rattle.cat_threads.specs.service.Passes.{Shared};
 
     ghost Value = { Shared };
 
-    ghost coded = { Prim.hlevel (codes, query_code) };
+    ghost coded = { Prim.hlevel (codes, plain_query_code) };
 
     ghost view = { λ d. record { list = (cell_view d.scribe).list; token = J.from.start.token + (cell_view d.scribe).token } };
 
@@ -74,7 +74,7 @@ impl<D: Directory + Shelf, J: Naming> Desk<D, J> {
         ensures seen { Follows me.old me.new }
         ensures wrote { IfOk result (λ n. Wrote J.from.start.token n (write_of write) me.old me.new) }
         ensures idle { OnErr result (Idle me.old me.new) }
-        ensures kind { IfErr result (λ e. e ≡ Kind → IsForeign J.from.start.schema (write_of write)) }
+        ensures kind { IfErr result (λ e. e ≡ Kind → PutsForeign J.from.start.schema (write_of write)) }
         ensures refusal { IfErr result (λ e. (e ≡ Kind) ⊎ (e ≡ Memory) ⊎ (e ≡ Device) ⊎ (e ≡ Spent)) }
     {
         self.write_as::<Brand, R>(rt, cell, me, write)
@@ -98,7 +98,7 @@ impl<D: Directory + Shelf, J: Naming> Desk<D, J> {
         ensures seen { Follows me.old me.new }
         ensures wrote { IfOk result (λ n. Wrote J.from.start.token n (write_of write) me.old me.new) }
         ensures idle { OnErr result (Idle me.old me.new) }
-        ensures kind { IfErr result (λ e. e ≡ Kind → IsForeign J.from.start.schema (write_of write)) }
+        ensures kind { IfErr result (λ e. e ≡ Kind → PutsForeign J.from.start.schema (write_of write)) }
         ensures refusal { IfErr result (λ e. (e ≡ Kind) ⊎ (e ≡ Memory) ⊎ (e ≡ Device) ⊎ (e ≡ Spent)) }
     {
         history::join(rt, cell, &mut self.scribe, &mut me.seat);
@@ -207,7 +207,7 @@ impl<D: Directory + Shelf, J: Naming> Desk<D, J> {
     pub(crate) fn new(ledger: Ledger<D>, scribe: Seat) -> Desk<D, J>
         requires names { (scribe.table_id ≡ J.table) × (cell_view scribe ≡ scribe_sight [] 0 J.sessions []) }
         requires ground { J.from ≡ ground_of (shape_in ledger) }
-        requires fresh { Begins (D.bytes (device_in ledger)) (shape_in ledger) }
+        requires fresh { IsJustOpened (D.bytes (device_in ledger)) (shape_in ledger) }
         ensures { (result.list ≡ []) × (result.token ≡ J.from.start.token) }
     {
         let start = ledger.count();

@@ -9,7 +9,7 @@ ghost use Rattle.cat_threads.specs.sharing.Grounds.{ground_of};
 ghost use Rattle.cat_threads.specs.service.Begins.{OneHistory};
 ghost use Rattle.cat_threads.specs.service.Passes.{AreOne, Ends, Follows, Granted, Idle, IfNew, Refreshed, Wrote, all_different, newcomer, seated_by};
 ghost use Rattle.cat_threads.specs.service.Chores.{chore_done};
-ghost use Rattle.cat_threads.specs.service.Writes.{IsForeign, write_of};
+ghost use Rattle.cat_threads.specs.service.Writes.{PutsForeign, write_of};
 
 use crate::history::{self, Cell, Seat};
 use crate::running::Gate;
@@ -49,7 +49,7 @@ impl<D: Directory + Shelf, J: Naming> Service<D, J> {
         ensures seen { Follows me.old me.new }
         ensures wrote { IfOk result (λ n. Wrote J.from.start.token n (write_of write) me.old me.new) }
         ensures idle { OnErr result (Idle me.old me.new) }
-        ensures kind { IfErr result (λ e. e ≡ Kind → IsForeign J.from.start.schema (write_of write)) }
+        ensures kind { IfErr result (λ e. e ≡ Kind → PutsForeign J.from.start.schema (write_of write)) }
         ensures refusal { IfErr result (λ e. (e ≡ Kind) ⊎ (e ≡ Memory) ⊎ (e ≡ Device) ⊎ (e ≡ Spent)) }
     {
         self.desk.lock(rt).write(rt, &self.cell, me, write)

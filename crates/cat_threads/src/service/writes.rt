@@ -1,11 +1,11 @@
 //! Writes, and what a ledger makes of one.
 ghost use Rattle.std.specs.Prelude.{◌≡◌, ◌⊎◌, ℕ, ◌+◌, IfOk, IfErr, OnErr, Err};
 ghost use Rattle.cat_base.specs.declared.refusal.Refusal.TheVariants.{Device, Kind, Memory, Spent};
-ghost use Rattle.cat_ledger.specs.Answering.{Answers};
+ghost use Rattle.cat_ledger.specs.Answering.{AnswersCommand};
 ghost use Rattle.cat_ledger.specs.Ledgers.{shape_in};
 ghost use Rattle.cat_ledger_laws.specs.lines.LineLaws.{tells};
 ghost use Rattle.cat_ledger_laws.specs.lines.RefusalLaws.{command_of};
-ghost use Rattle.cat_threads.specs.service.Writes.{IsForeign, write_of};
+ghost use Rattle.cat_threads.specs.service.Writes.{PutsForeign, write_of};
 
 use cat_base::{Refusal, Text, WriteNo};
 use cat_directory::{Directory, Shelf};
@@ -30,9 +30,9 @@ pub(crate) fn accept<D: Directory + Shelf>(
     write: Write,
 ) -> Result<WriteNo, Refusal>
     ensures number { IfOk result (λ n. n ≡ (shape_in ledger.old).count + 1) }
-    ensures answers { IfOk result (λ n. (session : ℕ) → Answers D.bytes session (command_of (write_of write)) ledger.old (tells n) ledger.new) }
-    ensures refused { OnErr result ((session : ℕ) → Answers D.bytes session (command_of (write_of write)) ledger.old (Err Memory) ledger.new) }
-    ensures kind { IfErr result (λ e. e ≡ Kind → IsForeign (shape_in ledger.old).schema (write_of write)) }
+    ensures answers { IfOk result (λ n. (session : ℕ) → AnswersCommand D.bytes session (command_of (write_of write)) ledger.old (tells n) ledger.new) }
+    ensures refused { OnErr result ((session : ℕ) → AnswersCommand D.bytes session (command_of (write_of write)) ledger.old (Err Memory) ledger.new) }
+    ensures kind { IfErr result (λ e. e ≡ Kind → PutsForeign (shape_in ledger.old).schema (write_of write)) }
     ensures refusal { IfErr result (λ e. (e ≡ Kind) ⊎ (e ≡ Memory) ⊎ (e ≡ Device) ⊎ (e ≡ Spent)) }
 {
     match write {

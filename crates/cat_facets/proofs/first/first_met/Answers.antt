@@ -5,7 +5,7 @@ use Rattle.cat_model.specs.Ranks.{AreApart}
 use Rattle.cat_model.proofs.Places.{all_pairs}
 use Rattle.cat_search.specs.BestItems.{IsBestOf}
 use Rattle.cat_facets.specs.declared.first.Ranked.{Ranked}
-use Rattle.cat_facets.specs.Met.{comes_first, met_from}
+use Rattle.cat_facets.specs.Met.{label_comes_first, met_from}
 use Rattle.cat_facets.proofs.Firsts.{length_more, met_few, none_more, some_more}
 use Rattle.cat_facets.proofs.Ranking.{met_apart}
 use Rattle.cat_facets.proofs.first.first_met.Goals as goal
@@ -16,7 +16,7 @@ loop-ordinal-preserved-then-total-eq0 c =
     record {
       met = c.loop-ordinal.invariant.met ∙ ap length (sym same);
       limit = c.loop-ordinal.invariant.limit;
-      best = subst (λ (xs : List Ranked). IsBestOf comes_first c.loop-ordinal.best xs) (sym same) c.loop-ordinal.invariant.best;
+      best = subst (λ (xs : List Ranked). IsBestOf label_comes_first c.loop-ordinal.best xs) (sym same) c.loop-ordinal.invariant.best;
     }
 
 pub overflow_add-met : goal.overflow_add-met
@@ -36,13 +36,13 @@ loop-ordinal-preserved c =
     record {
       met = ap (λ n. n + 1) c.loop-ordinal.invariant.met ∙ sym (length_more met (record { count = record { 0 = get_or ts i 0 }; ordinal = i })) ∙ ap length (sym more);
       limit = c.in_ok-offer.ensures.limit ∙ c.loop-ordinal.invariant.limit;
-      best = subst (λ (xs : List Ranked). IsBestOf comes_first c.offer.new.self xs) (sym more) (c.in_ok-offer.ensures.best met c.loop-ordinal.invariant.best);
+      best = subst (λ (xs : List Ranked). IsBestOf label_comes_first c.offer.new.self xs) (sym more) (c.in_ok-offer.ensures.best met c.loop-ordinal.invariant.best);
     }
 
 pub returns-clause-first : goal.returns-clause-first
 returns-clause-first c =
     let ts = c.args.totals.now in
     let seen = take c.loop-ordinal.ordinal ts in
-    c.in_ok-into_items.ensures.ranked (met_from 0 seen) c.loop-ordinal.invariant.best (all_pairs (AreApart comes_first) (met_from 0 seen) (met_apart 0 seen))
-    ∙ ap (first_ranked comes_first (met_from 0 seen)) c.loop-ordinal.invariant.limit
-    ∙ ap (λ xs. first_ranked comes_first (met_from 0 xs) c.args.n) (take_all c.loop-ordinal.ordinal ts (omega arith))
+    c.in_ok-into_items.ensures.ranked (met_from 0 seen) c.loop-ordinal.invariant.best (all_pairs (AreApart label_comes_first) (met_from 0 seen) (met_apart 0 seen))
+    ∙ ap (first_ranked label_comes_first (met_from 0 seen)) c.loop-ordinal.invariant.limit
+    ∙ ap (λ xs. first_ranked label_comes_first (met_from 0 xs) c.args.n) (take_all c.loop-ordinal.ordinal ts (omega arith))

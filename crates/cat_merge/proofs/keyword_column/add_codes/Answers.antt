@@ -1,7 +1,7 @@
 use Rattle.std.proofs.Common.{◌++◌, ◌∷◌, [], ℕ, get_or, None, sym, ap, ◌∙◌, arith}
 use Rattle.cat_model.specs.Layout.{code_in}
 use Rattle.cat_merge.specs.Coded.{moved_code}
-use Rattle.cat_columns.specs.Columns.{HasText}
+use Rattle.cat_columns.specs.Columns.{DictionaryHas}
 use Rattle.cat_columns.proofs.Laid.{keywords_there}
 use Rattle.cat_merge.proofs.Read.{row_kept, row_left, selected_at}
 use Rattle.cat_merge.proofs.Recoded.{code_within, code_moved, code_there}
@@ -29,7 +29,7 @@ loop-row-preserved c = elim c.if-is_live.branch [
       (w.moved_code.ensures ∙ ap (moved_code c.args.ordinals.now) there.1
       ∙ code_moved c.args.words.now c.args.values.now c.args.ordinals.now c.requires.ordinals (get_or c.args.values.now c.loop-row.row None)
       (keywords_there c.args.values.now c.loop-row.row None there.0)
-      (selected_at (HasText c.args.words.now) c.args.live.now c.args.values.now c.loop-row.row None c.requires.there there.0 (sym c.is_live.ensures ∙ w.if-is_live.true))))
+      (selected_at (DictionaryHas c.args.words.now) c.args.live.now c.args.values.now c.loop-row.row None c.requires.there there.0 (sym c.is_live.ensures ∙ w.if-is_live.true))))
   | else-is_live w ↦
       let there = code_there c.args.values.now c.codes-code-items.result.now c.loop-row.row c.codes-code-items.ensures (omega arith) in
       row_left (code_in c.args.words.now) c.args.live.now c.args.values.now c.args.codes.now.items c.loop-row.codes.items c.if-is_live.codes.items c.loop-row.row None c.requires.long there.0

@@ -1,7 +1,7 @@
 use Rattle.std.proofs.Common.{◌≡◌, ◌++◌, map, refl, sym, ap, ap₂, ◌∙◌, subst}
 use Rattle.std.specs.Prelude.{All}
 use Rattle.cat_model.specs.Layout.{code_in}
-use Rattle.cat_columns.specs.Columns.{HasText}
+use Rattle.cat_columns.specs.Columns.{DictionaryHas}
 use Rattle.cat_model.specs.Item.{Content, keyword_in}
 use Rattle.cat_model.specs.View.{selected}
 use Rattle.cat_views.specs.cat_segment.Contents.{contents_of}
@@ -15,7 +15,7 @@ add_codes-requires-clause-there c =
     let told = values_told Content.keyword keyword_in (λ n. refl) c.args.index c.args.input.now.segment.rows c.in-Keyword.keywords (ap contents_of (sym c.in-Keyword.is) ∙ c.column.ensures.contents) in
     let same : selected c.live.result.now c.values-values.result.now ≡ selected c.args.input.now.live (keywords_under c.args.index c.args.input.now.segment.rows)
     = ap₂ selected c.live.ensures.value (c.values-values.ensures ∙ told) in
-    subst (λ l. All (HasText c.args.words.now) l) (sym same) c.requires.there
+    subst (λ l. All (DictionaryHas c.args.words.now) l) (sym same) c.requires.there
 
 pub returns : goal.returns
 returns c =

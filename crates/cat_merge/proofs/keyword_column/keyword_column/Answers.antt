@@ -8,7 +8,7 @@ use Rattle.cat_model.specs.Ordinals.{dictionary_of}
 use Rattle.cat_model.specs.Text.{Text}
 use Rattle.cat_model.specs.View.{Leaf, selected}
 use Rattle.cat_views.specs.cat_segment.Laid.{content_under}
-use Rattle.cat_columns.specs.Columns.{HasText}
+use Rattle.cat_columns.specs.Columns.{DictionaryHas}
 use Rattle.cat_columns.proofs.Laid.{keywords_there}
 use Rattle.cat_merge.specs.Fields.{keywords_under, kept_rows}
 use Rattle.cat_merge.proofs.Read.{all_of_flat, keyword_texts, input_more, kept_values, read_seen}
@@ -21,11 +21,11 @@ pub add_input-requires-clause-there : goal.add_input-requires-clause-there
 add_input-requires-clause-there c =
     let values : List (Option Text) = keywords_under c.args.index (kept_rows c.args.inputs.now) in
     let words : c.words-words.result.now ≡ keywords_of values = c.words-words.ensures.value ∙ ap dictionary_of (c.requires.terms ∙ keyword_texts c.args.index (kept_rows c.args.inputs.now)) in
-    let all : All (HasText (keywords_of values)) (flat_map (part c.args.index) c.args.inputs.now)
-    = subst (λ l. All (HasText (keywords_of values)) l) (sym (kept_values (λ r. keyword_in (Some (content_under c.args.index r))) c.args.inputs.now)) (keywords_there values) in
-    subst (λ w. All (HasText w) (part c.args.index c.input-item.result)) (sym words)
-    (subst (λ (l : Leaf). All (HasText (keywords_of values)) (part c.args.index l)) (sym c.input-item.is)
-    (all_of_flat (HasText (keywords_of values)) (part c.args.index) c.args.inputs.now c.loop-input.input-index c.input-item.result all c.loop-input-test.true))
+    let all : All (DictionaryHas (keywords_of values)) (flat_map (part c.args.index) c.args.inputs.now)
+    = subst (λ l. All (DictionaryHas (keywords_of values)) l) (sym (kept_values (λ r. keyword_in (Some (content_under c.args.index r))) c.args.inputs.now)) (keywords_there values) in
+    subst (λ w. All (DictionaryHas w) (part c.args.index c.input-item.result)) (sym words)
+    (subst (λ (l : Leaf). All (DictionaryHas (keywords_of values)) (part c.args.index l)) (sym c.input-item.is)
+    (all_of_flat (DictionaryHas (keywords_of values)) (part c.args.index) c.args.inputs.now c.loop-input.input-index c.input-item.result all c.loop-input-test.true))
 
 pub loop-input-preserved : goal.loop-input-preserved
 loop-input-preserved c =

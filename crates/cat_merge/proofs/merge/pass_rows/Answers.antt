@@ -5,9 +5,10 @@ use Rattle.std.proofs.lemmas.List.{append-nil, take_all}
 use Rattle.std.proofs.lemmas.List.Elements.{All-nil}
 use Rattle.cat_model.specs.Layout.{head_of}
 use Rattle.cat_model.specs.Merged.{rows_kept, records_kept}
-use Rattle.cat_merge.specs.Copied.{bytes_in, joined_sources}
+use Rattle.cat_merge.specs.Copied.{bytes_in}
+use Rattle.cat_ledger_laws.specs.model.Stored.{joined_sources}
 use Rattle.cat_merge.specs.Places.{passed_at, IsRowPlace}
-use Rattle.cat_merge.specs.Ranges.{AreApart, AreWithin, IsWithin}
+use Rattle.cat_merge.specs.Ranges.{AreRangesApart, AreWithin, IsWithin}
 use Rattle.cat_merge.proofs.Passed.{row_place, fronts, heads_more, sources_more}
 use Rattle.cat_merge.proofs.merge.pass_rows.Goals as goal
 
@@ -18,7 +19,7 @@ loop-init c = record {
   kept = c.requires.kept;
   ranges = λ files. let start : List ℕ = joined_sources (records_kept files c.args.inputs.now (passed_at c.args.inputs.now c.args.from)) in
       ap (λ l. start ++ flat_map (bytes_in files) l) c.new-ranges.ensures.items ∙ append-nil start;
-  apart = subst AreApart (sym c.new-ranges.ensures.items) tt;
+  apart = subst AreRangesApart (sym c.new-ranges.ensures.items) tt;
   within = subst (AreWithin c.args.inputs.now) (sym c.new-ranges.ensures.items) (All-nil (λ r. Any (IsWithin r) c.args.inputs.now));
   front = take_all (length c.args.kept.now.items) c.args.kept.now.items (omega arith);
 }

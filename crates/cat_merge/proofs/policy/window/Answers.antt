@@ -1,7 +1,7 @@
 use Rattle.std.proofs.Common.{◌≡◌, ℕ, ◌+◌, ◌-◌, ◌≤◌, List, arith, subst, sym, ap, ◌∙◌, Option, Some}
 use Rattle.std.specs.Prelude.{option_map}
 use Rattle.cat_model.specs.Window.{IsWindow}
-use Rattle.cat_merge.specs.Runs.{IsRun, IsFirstFrom}
+use Rattle.cat_merge.specs.Runs.{IsMergeRun, IsFirstFrom}
 use Rattle.std.proofs.Math.Seq.{drop-length}
 use Rattle.cat_merge.specs.declared.policy.Candidate.{Candidate}
 use Rattle.cat_merge.proofs.Runs.{no_run, window_first}
@@ -9,7 +9,7 @@ use Rattle.cat_merge.proofs.policy.window.Goals as goal
 
 pub loop-index-init : goal.loop-index-init
 loop-index-init c = record {
-  run = subst (λ l. IsRun c.args.factor c.args.minimum l (record { level = 0; count = 0; rows = 0 })) (sym (drop-length c.args.sizes.now)) (no_run c.args.factor c.args.minimum);
+  run = subst (λ l. IsMergeRun c.args.factor c.args.minimum l (record { level = 0; count = 0; rows = 0 })) (sym (drop-length c.args.sizes.now)) (no_run c.args.factor c.args.minimum);
   first = λ level index le m. omega (arith, le, m.within, c.requires.some);
 }
 

@@ -3,11 +3,11 @@ use Rattle.cat_model.specs.View.{row_matches}
 use Rattle.cat_query.specs.View.{query_of}
 use Rattle.cat_search.specs.declared.sort.Order.TheVariants.{Added}
 use Rattle.cat_search.specs.Candidates.{mark_standing}
-use Rattle.cat_search.specs.Hits.{rows_of}
+use Rattle.cat_search.specs.Hits.{hit_rows}
 use Rattle.cat_search.specs.Pages.{behind}
 use Rattle.cat_search.specs.Rows.{hits_in, row_standing}
 use Rattle.cat_views.specs.Sets.{set_at}
-use Rattle.cat_search.specs.Standings.{Standing, entry_shown}
+use Rattle.cat_search.specs.Standings.{HitStanding, entry_shown}
 use Rattle.cat_search.proofs.Gathered.{looked_at, total_more, standings_more}
 use Rattle.cat_search.proofs.gathering.added_entries.Goals as goal
 
@@ -19,12 +19,12 @@ loop-index-preserved c =
     let i = c.loop-index.index in
     let standings = behind mark (map (row_standing Added) (hits_in (take i leaves) q)) in
     let segment = c.segment.result.now in
-    let rows = rows_of c.in_ok-hits.hits in
+    let rows = hit_rows c.in_ok-hits.hits in
     record {
       total =
           total_more q leaves i c.index-leaves-index.result c.index-leaves-index.is c.loop-index-test.true rows c.in_ok-hits.ensures.ok c.in_ok-hits.ensures.long c.loop-index.total c.in_ok-total.total c.loop-index.invariant.total c.in_ok-total.ensures.ok;
       shown = c.in_ok-show_behind.ensures.shown standings c.loop-index.invariant.shown
-          ∙ ap (λ (l : List Standing). take c.args.wanted.now.count (map entry_shown l)) (standings_more q leaves i c.index-leaves-index.result c.index-leaves-index.is c.loop-index-test.true rows c.in_ok-hits.ensures.ok mark Added segment (map (row_standing Added) segment.rows) c.segment.ensures refl);
+          ∙ ap (λ (l : List HitStanding). take c.args.wanted.now.count (map entry_shown l)) (standings_more q leaves i c.index-leaves-index.result c.index-leaves-index.is c.loop-index-test.true rows c.in_ok-hits.ensures.ok mark Added segment (map (row_standing Added) segment.rows) c.segment.ensures refl);
     }
 
 pub hits_of-requires : goal.hits_of-requires

@@ -3,7 +3,7 @@ use Rattle.std.specs.Prelude.{slice_index_or}
 use Rattle.cat_model.specs.RowSets.{indices}
 use Rattle.cat_search.specs.Bars.{HaveRanksOf, IsLeftOut}
 use Rattle.cat_search.specs.Candidates.{IsBestAt, mark_standing}
-use Rattle.cat_search.specs.Standings.{Standing}
+use Rattle.cat_search.specs.Standings.{HitStanding}
 use Rattle.cat_search.proofs.Gathered.{standings_at}
 use Rattle.cat_search.proofs.offers.offer_by.Given as goal
 
@@ -16,5 +16,5 @@ invariant-loop-row g l = record {
   sound : g.B.Bar.is_sound l.bar;
   ranked : HaveRanksOf (g.B.Bar.order l.bar) (g.B.Bar.keys l.bar) l.ranks;
   out : (row : ℕ) → g.B.Bar.keeps_out l.bar row → IsLeftOut (g.B.Bar.order l.bar) (mark_standing l.mark) l.best (slice_index_or (g.B.Bar.keys l.bar) row None);
-  best : (ps : List Standing) → IsBestAt l.initial.best ps → IsBestAt l.best (ps ++ standings_at (mark_standing l.mark) l.ranks l.yielded);
+  best : (ps : List HitStanding) → IsBestAt l.initial.best ps → IsBestAt l.best (ps ++ standings_at (mark_standing l.mark) l.ranks l.yielded);
 }

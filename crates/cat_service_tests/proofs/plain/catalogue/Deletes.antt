@@ -12,9 +12,9 @@ use Rattle.cat_model.specs.Run.{Answer}
 use Rattle.cat_model.specs.State.{written}
 use Rattle.cat_model.specs.Write.{Write}
 use Rattle.cat_service_tests.specs.plain.Exchange.{DoesDeleteWhere}
-use Rattle.cat_service_tests.specs.plain.Plain.{Service}
+use Rattle.cat_service_tests.specs.plain.Plain.{PlainService}
 
-module _ (w : Service) (s : ℕ) (text : Text) where
+module _ (w : PlainService) (s : ℕ) (text : Text) where
   -- the text is no query
   pub delete_fault : (place : ℕ) → Fault w.schema text place → DoesDeleteWhere w s text (Err (NoQuery place)) w.state
   delete_fault place fault = (Err (NoQuery place), IsQueryOf.faulty place fault, inl (refl, refl))

@@ -16,10 +16,10 @@ use Rattle.cat_model.specs.Run as run
 use Rattle.cat_model.specs.Run.{found_reply}
 use Rattle.cat_model.specs.State.{has_hold, table_under}
 use Rattle.cat_service_tests.specs.plain.Exchange.{DoesFacets}
-use Rattle.cat_service_tests.specs.plain.Plain.{Service}
+use Rattle.cat_service_tests.specs.plain.Plain.{PlainService}
 use Rattle.cat_service_tests.proofs.plain.catalogue.Finds.{either_way}
 
-module _ (w : Service) (s t : ℕ) (dim : Text) (n : ℕ) (text : Text) where
+module _ (w : PlainService) (s t : ℕ) (dim : Text) (n : ℕ) (text : Text) where
   -- the text is no query
   pub facets_fault : (place : ℕ) → Fault w.schema text place → DoesFacets w s t dim n text (Err (NoQuery place))
   facets_fault place fault = (Err (NoQuery place), IsQueryOf.faulty place fault, inl (sym (either_way (has_hold w.state.holds s t) (NoQuery place)), refl))

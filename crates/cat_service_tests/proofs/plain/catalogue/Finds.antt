@@ -21,7 +21,7 @@ use Rattle.cat_search.specs.Pages.{answer_where, as_found, page_where}
 use Rattle.cat_search.proofs.Finds.{pages_answer_finds}
 use Rattle.cat_search.specs.Sorts.{sort_of}
 use Rattle.cat_service_tests.specs.plain.Exchange.{DoesFind, IsReadQuery, TellsFound, find_of, page_reply, refusal_told}
-use Rattle.cat_service_tests.specs.plain.Plain.{Service}
+use Rattle.cat_service_tests.specs.plain.Plain.{PlainService}
 use Rattle.cat_search.specs.declared.ask.Ask.{Ask}
 use Rattle.cat_service_tests.proofs.plain.catalogue.Openings.{is_memory}
 
@@ -130,7 +130,7 @@ pub either_way : (b : Bool) (e : Refusal) → cond {A = run.Reply} b (Err e) (Er
 either_way true e = refl
 either_way false e = refl
 
-module _ (w : Service) (s t : ℕ) (ask : Ask) (text : Text) where
+module _ (w : PlainService) (s t : ℕ) (ask : Ask) (text : Text) where
   -- the text is no query
   pub does_fault : (place : ℕ) → Fault w.schema text place → DoesFind w s t ask text (Err (NoQuery place))
   does_fault place fault =

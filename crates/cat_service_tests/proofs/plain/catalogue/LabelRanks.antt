@@ -14,7 +14,7 @@ use Rattle.cat_model.specs.Page.{first_ranked, ranked}
 use Rattle.cat_model.specs.Ranks.{AreApart}
 use Rattle.cat_model.specs.Text.{Text, text_cmp}
 use Rattle.cat_search.proofs.Marks.{find-map}
-use Rattle.cat_service_tests.specs.plain.Counts.{comes_first, count_from, counted_of}
+use Rattle.cat_service_tests.specs.plain.Counts.{count_comes_first, count_from, counted_of}
 use Rattle.cat_service_tests.specs.declared.plain.counts.LabelCount.{LabelCount}
 
 -- ---- ranks go through what keeps the order
@@ -51,7 +51,7 @@ one_way Less t x y e l = inl refl
 one_way Equal t x y e l = inl (ap is_lt l)
 one_way Greater t x y e l = inr (ap (λ o. is_lt (ordering_then o y)) e)
 
-apart : (a b : LabelCount) → text_cmp a.label b.label ≡ Less → AreApart comes_first a b
+apart : (a b : LabelCount) → text_cmp a.label b.label ≡ Less → AreApart count_comes_first a b
 apart a b l =
     one_way (nat_cmp b.count.0 a.count.0) (nat_cmp a.count.0 b.count.0) (text_cmp a.label b.label) (text_cmp b.label a.label)
     (nat_cmp_total.antisymm a.count.0 b.count.0) l
@@ -61,14 +61,14 @@ module _ (dim : Text) (hs : List Record) where
   abbrev pub ranked_label : Text → LabelCount
   ranked_label l = count_from (counted dim hs l)
 
-  pub labels_apart : (ls : List Text) → IsTextSet ls → AllPairs (AreApart comes_first) (map ranked_label ls)
+  pub labels_apart : (ls : List Text) → IsTextSet ls → AllPairs (AreApart count_comes_first) (map ranked_label ls)
   labels_apart ls set i j d before within =
       let lj : j < length ls = omega (arith, within, length-map ls ranked_label) in
       let a : get_or (map ranked_label ls) i d ≡ ranked_label (get_or ls i []) = get_or-map ranked_label ls i [] d (omega (arith, before, lj)) in
       let b : get_or (map ranked_label ls) j d ≡ ranked_label (get_or ls j []) = get_or-map ranked_label ls j [] d lj in
       let l : text_cmp (get_or ls i []) (get_or ls j []) ≡ Less = Less-from_sorted text_cmp ls i j [] set before lj in
-      subst (λ x. AreApart comes_first x (get_or (map ranked_label ls) j d)) (sym a)
-      (subst (λ y. AreApart comes_first (ranked_label (get_or ls i [])) y) (sym b) (apart (ranked_label (get_or ls i [])) (ranked_label (get_or ls j [])) l))
+      subst (λ x. AreApart count_comes_first x (get_or (map ranked_label ls) j d)) (sym a)
+      (subst (λ y. AreApart count_comes_first (ranked_label (get_or ls i [])) y) (sym b) (apart (ranked_label (get_or ls i [])) (ranked_label (get_or ls j [])) l))
 
   -- one label more
   pub labels_more : (ls : List Text) (i : ℕ) (d : Text) → i < length ls → map ranked_label (take (i + 1) ls) ≡ map ranked_label (take i ls) ++ ranked_label (get_or ls i d) ∷ []
@@ -79,6 +79,6 @@ module _ (dim : Text) (hs : List Record) where
   map_told (l ∷ ls) = ap (λ cs. counted dim hs l ∷ cs) (map_told ls)
 
   -- the first by the order that is derived are the first by the model's
-  pub first_told : (ls : List Text) (n : ℕ) → map counted_of (first_ranked comes_first (map ranked_label ls) n) ≡ first_ranked more (map (counted dim hs) ls) n
+  pub first_told : (ls : List Text) (n : ℕ) → map counted_of (first_ranked count_comes_first (map ranked_label ls) n) ≡ first_ranked more (map (counted dim hs) ls) n
   first_told ls n =
-      sym (first_map counted_of comes_first more (λ a b. refl) (map ranked_label ls) n) ∙ ap (λ cs. first_ranked more cs n) (map_told ls)
+      sym (first_map counted_of count_comes_first more (λ a b. refl) (map ranked_label ls) n) ∙ ap (λ cs. first_ranked more cs n) (map_told ls)

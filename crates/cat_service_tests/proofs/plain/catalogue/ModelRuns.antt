@@ -9,7 +9,7 @@ use Rattle.cat_model.specs.State.{State, Step, StandsFor, IsFresh, opened_as}
 use Rattle.cat_model.proofs.Opening.{fresh_begins}
 use Rattle.cat_model.proofs.Runs.{runs_go_on}
 use Rattle.cat_model.proofs.States.{steps_keep_runs}
-use Rattle.cat_service_tests.specs.plain.Plain.{Does, MayWant}
+use Rattle.cat_service_tests.specs.plain.Plain.{DoesPlainly, MayWantPlainly}
 use Rattle.cat_service_tests.specs.plain.Exchange.{IsExchangeOf, AreExchanges}
 use Rattle.cat_protocol.specs.declared.lines.line.Line as said
 use Rattle.cat_service_tests.specs.declared.plain.reply.Reply as answered
@@ -24,7 +24,7 @@ pub IsRun-push : (from : Opened) (past : Run) (e : Exchange) → IsRun from past
 IsRun-push = runs_go_on
 
 -- only a line that is looked at wants memory
-looked_at : (schema : Schema) (st : State) (s : ℕ) (c : Command) → MayWant schema st s c → IsTrue (is_looked_at s c)
+looked_at : (schema : Schema) (st : State) (s : ℕ) (c : Command) → MayWantPlainly schema st s c → IsTrue (is_looked_at s c)
 looked_at schema st s (Command.put item) w = refl
 looked_at schema st s Command.refresh w = refl
 looked_at schema st s Command.open_newest w = refl
@@ -44,13 +44,13 @@ looked_at schema st s (Command.text_of_commit g) w = refl
 looked_at schema st s (Command.chore c) w = absurd (let h : false ≡ true = w.0 in cc)
 
 -- what a service in memory does is a step of a service
-does_step : (schema : Schema) (old new : State) (line : Line) (reply : Reply) → Does schema old line.session line.command reply new → Step schema old line reply new
+does_step : (schema : Schema) (old new : State) (line : Line) (reply : Reply) → DoesPlainly schema old line.session line.command reply new → Step schema old line reply new
 does_step schema old new line reply (inl moves) = inl moves
 does_step schema old new line reply (inr stopped) = inr (inl (stopped.0, looked_at schema old line.session line.command stopped.1), stopped.2)
 
 -- `steps_keep_runs` at a step under a schema that is the run's
 pub Step-keeps : (schema : Schema) (from : Opened) (past : Run) (old new : State) (line : Line) (reply : Reply)
-    → from.start.schema ≡ schema → IsRun from past → StandsFor from past old → Does schema old line.session line.command reply new
+    → from.start.schema ≡ schema → IsRun from past → StandsFor from past old → DoesPlainly schema old line.session line.command reply new
     → Fits from past (record { line = line; reply = reply }) × StandsFor from (past ++ record { line = line; reply = reply } ∷ []) new
 Step-keeps schema from past old new line reply same is_run stands step =
     steps_keep_runs from past old new line reply is_run stands (subst (λ s. Step s old line reply new) (sym same) (does_step schema old new line reply step))
@@ -62,7 +62,7 @@ pub record Reaches (from : Opened) (past : Run) (st : State) : Type 0 where
 
 -- a step makes the run longer by its exchange
 pub Reaches-push : (from : Opened) (past : Run) (old new : State) (line : Line) (reply : Reply)
-    → Reaches from past old → Does from.start.schema old line.session line.command reply new → Reaches from (past ++ record { line = line; reply = reply } ∷ []) new
+    → Reaches from past old → DoesPlainly from.start.schema old line.session line.command reply new → Reaches from (past ++ record { line = line; reply = reply } ∷ []) new
 Reaches-push from past old new line reply reached step =
     let kept = steps_keep_runs from past old new line reply reached.is_run reached.stands_for (does_step from.start.schema old new line reply step) in
     record { is_run = IsRun-push from past (record { line = line; reply = reply }) reached.is_run kept.0; stands_for = kept.1 }

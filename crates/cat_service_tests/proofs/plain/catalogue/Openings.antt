@@ -9,7 +9,7 @@ use Rattle.cat_model.specs.State.{IsFresh, newest_told}
 use Rattle.cat_model.specs.Lines.{IsReadable}
 use Rattle.cat_model.specs.Served.{SpellsSchema, Begins}
 use Rattle.cat_search.specs.cat_items.Reading.{schema_of}
-use Rattle.cat_service_tests.specs.plain.Plain.{Service, beginning_of, OpensPlain}
+use Rattle.cat_service_tests.specs.plain.Plain.{PlainService, beginning_of, OpensPlain}
 
 -- a refusal is want of memory or another
 pub is_memory : (e : Refusal) → (e ≡ Memory) ⊎ (e ≢ Memory)
@@ -44,20 +44,20 @@ refused_by line factor least text e spelled refused readable =
     elim (is_memory e) [ inl memory ↦ inl (memory, (readable, factor, least, text, spelled)) | inr other ↦ inr (Begins.no_schema factor least text e readable spelled (refused other)) ]
 
 -- the schema is refused, and its refusal is handed on
-pub refused_schema : (line : Text) (factor least : ℕ) (text : Text) (e : Refusal) (r : Result Service Refusal) → IsErrAnd r (λ x. x ≡ e) → SpellsSchema line factor least text
+pub refused_schema : (line : Text) (factor least : ℕ) (text : Text) (e : Refusal) (r : Result PlainService Refusal) → IsErrAnd r (λ x. x ≡ e) → SpellsSchema line factor least text
     → (e ≢ Memory → schema_of text ≡ Err e) → IsReadable line → OpensPlain line r
 refused_schema line factor least text e (Ok w) same spelled refused readable = absurd same
 refused_schema line factor least text e (Err x) same spelled refused readable = subst (λ y. OpensPlain line (Err y)) (sym same) (refused_by line factor least text e spelled refused readable)
 
 -- memory is wanting for a service under the schema
-pub unopened_plain : (line : Text) (factor least : ℕ) (text : Text) (schema : Schema) (r : Result Service Refusal) → IsErrAnd r (λ x. x ≡ Memory) → SpellsSchema line factor least text
+pub unopened_plain : (line : Text) (factor least : ℕ) (text : Text) (schema : Schema) (r : Result PlainService Refusal) → IsErrAnd r (λ x. x ≡ Memory) → SpellsSchema line factor least text
     → schema_of text ≡ Ok schema → IsReadable line → OpensPlain line r
 unopened_plain line factor least text schema (Ok w) same spelled read readable = absurd same
 unopened_plain line factor least text schema (Err x) same spelled read readable =
     subst (λ y. OpensPlain line (Err y)) (sym same) (inr (Begins.opened factor least text schema (Err Memory) readable spelled read refl))
 
 -- a service that is opened under the schema
-pub opened_plain : (line : Text) (factor least : ℕ) (text : Text) (schema : Schema) (w : Service) → SpellsSchema line factor least text → schema_of text ≡ Ok schema
+pub opened_plain : (line : Text) (factor least : ℕ) (text : Text) (schema : Schema) (w : PlainService) → SpellsSchema line factor least text → schema_of text ≡ Ok schema
     → IsFresh w.state → (w.schema ≡ schema) × (w.state.table ≡ []) × (w.state.count ≡ 0) × (w.state.commits ≡ []) → IsReadable line → OpensPlain line (Ok w)
 opened_plain line factor least text schema w spelled read fresh empty readable =
     let from : beginning_of w ≡ record { start = record { schema = schema; records = []; token = 0 }; commit = None } =

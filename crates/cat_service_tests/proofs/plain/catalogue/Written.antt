@@ -19,10 +19,10 @@ use Rattle.cat_model.specs.Answer.{Found}
 use Rattle.cat_model.specs.Run as run
 use Rattle.cat_model.specs.Served.{AppendsFront}
 use Rattle.cat_service_tests.specs.plain.Counts.{counted_of, facets_told}
-use Rattle.cat_service_tests.specs.plain.Out.{Sent}
+use Rattle.cat_protocol.specs.sending.Out.{Sent}
 use Rattle.cat_service_tests.specs.declared.plain.counts.Counts.{Counts}
 use Rattle.cat_service_tests.specs.declared.plain.counts.LabelCount.{LabelCount}
-use Rattle.cat_service_tests.specs.plain.Reply.{answer_of, reply_of}
+use Rattle.cat_service_tests.specs.plain.Reply.{plain_answer, plain_reply}
 use Rattle.cat_service_tests.specs.declared.plain.reply.Answer.{Answer}
 use Rattle.cat_service_tests.specs.declared.plain.reply.Answer.TheVariants.{Number}
 
@@ -95,7 +95,7 @@ flat_map_split f xs i d h =
 -- ---- the lines of replies in pieces, where a number has the bytes behind it
 
 pub answered_in_pieces : (session : ℕ) (answer : Answer) (number : ℕ) → answer ≡ Number number
-    → reply_text session (Ok (answer_of answer)) ≡ (decimal session ++ codes " OK ") ++ (decimal number ++ codes "\n")
+    → reply_text session (Ok (plain_answer answer)) ≡ (decimal session ++ codes " OK ") ++ (decimal number ++ codes "\n")
 answered_in_pieces session answer number is = rw is (simp append_assoc)
 
 refusal_behind : (session : Text) (e : Refusal) → line_text (session ∷ codes "NO" ∷ refusal_words e) ≡ (session ++ codes " NO ") ++ line_text (refusal_words e)
@@ -103,7 +103,7 @@ refusal_behind session (Query place) = simp append_assoc
 refusal_behind session e = simp append_assoc
 
 pub refused_in_pieces : (session : ℕ) (answer : Result Answer Refusal) (e : Refusal) → answer ≡ Err e
-    → reply_text session (reply_of answer) ≡ (decimal session ++ codes " NO ") ++ line_text (refusal_words e)
+    → reply_text session (plain_reply answer) ≡ (decimal session ++ codes " NO ") ++ line_text (refusal_words e)
 refused_in_pieces session answer e is = rw is (refusal_behind (decimal session) e)
 
 pub no_query_in_pieces : (e : Refusal) (number place : ℕ) → e ≡ Query place → number ≡ number_of e

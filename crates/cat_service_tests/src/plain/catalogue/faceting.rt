@@ -5,7 +5,7 @@ ghost use Rattle.cat_model.specs.Item.{Record, kind_of};
 ghost use Rattle.cat_model.specs.Limits.{page_limit};
 ghost use Rattle.cat_model.specs.Query as model;
 ghost use Rattle.cat_service_tests.specs.plain.Exchange.{DoesFacets};
-ghost use Rattle.cat_service_tests.specs.plain.Reply.{reply_of};
+ghost use Rattle.cat_service_tests.specs.plain.Reply.{plain_reply};
 ghost use Rattle.cat_search.specs.cat_items.Kinds.{field_kind_of};
 
 use crate::plain::catalogue::Plain;
@@ -52,7 +52,7 @@ impl Plain {
         count: u64,
         text: &str,
     ) -> Result<Answer, Refusal>
-        ensures { DoesFacets self.now session token dim.now count text.now (reply_of result) }
+        ensures { DoesFacets self.now session token dim.now count text.now (plain_reply result) }
     {
         let query = self.query(text)?;
         if !self.is_holding(session, token) {

@@ -2,8 +2,8 @@
 ghost use Rattle.cat_model.specs.Answer.{Read};
 ghost use Rattle.cat_model.specs.Heard.{id_of};
 ghost use Rattle.cat_model.specs.Run.{Command};
-ghost use Rattle.cat_service_tests.specs.plain.Plain.{Does};
-ghost use Rattle.cat_service_tests.specs.plain.Reply.{reply_of};
+ghost use Rattle.cat_service_tests.specs.plain.Plain.{DoesPlainly};
+ghost use Rattle.cat_service_tests.specs.plain.Reply.{plain_reply};
 
 use crate::plain::catalogue::Plain;
 use crate::plain::reply::Answer;
@@ -22,7 +22,7 @@ impl Plain {
         token: Token,
         id: &str,
     ) -> Result<Answer, Refusal>
-        ensures { Does self.now.schema self.now.state session (Command.read token (Read.get (id_of id.now))) (reply_of result)
+        ensures { DoesPlainly self.now.schema self.now.state session (Command.read token (Read.get (id_of id.now))) (plain_reply result)
             self.now.state }
     {
         if !id_ok(id) {

@@ -3,8 +3,8 @@ ghost use Rattle.std.specs.Prelude.{◌≡◌, ◌⊎◌, ◌-◌, ℕ, Option, 
 ghost use Rattle.cat_base.specs.declared.refusal.Refusal.TheVariants.{Full, Memory};
 ghost use Rattle.cat_model.specs.Run.{Command, greatest};
 ghost use Rattle.cat_model.specs.State.{has_hold, has_view, held_in, refreshed, refuses_refresh, tokens, views_pruned, with_hold, without_hold};
-ghost use Rattle.cat_service_tests.specs.plain.Plain.{Does, open_command};
-ghost use Rattle.cat_service_tests.specs.plain.Reply.{reply_of};
+ghost use Rattle.cat_service_tests.specs.plain.Plain.{DoesPlainly, open_command};
+ghost use Rattle.cat_service_tests.specs.plain.Reply.{plain_reply};
 
 use crate::plain::catalogue::Plain;
 use crate::plain::holds::{Hold, is_holding, remove_hold};
@@ -92,7 +92,7 @@ impl Plain {
     /// Answers a PRUNE.
     pub(super) fn answer_prune(&mut self, count: u64) -> Result<Answer, Refusal>
         ensures schema { self.new.schema ≡ self.old.schema }
-        ensures does { (s : ℕ) → Does self.old.schema self.old.state s (Command.prune count) (reply_of result) self.new.state }
+        ensures does { (s : ℕ) → DoesPlainly self.old.schema self.old.state s (Command.prune count) (plain_reply result) self.new.state }
         ensures refused { OnErr result (self.new ≡ self.old) }
     {
         match self.prune(count) {
@@ -104,7 +104,7 @@ impl Plain {
     /// Answers a REFRESH.
     pub(super) fn answer_refresh(&mut self) -> Result<Answer, Refusal>
         ensures schema { self.new.schema ≡ self.old.schema }
-        ensures does { (s : ℕ) → Does self.old.schema self.old.state s Command.refresh (reply_of result) self.new.state }
+        ensures does { (s : ℕ) → DoesPlainly self.old.schema self.old.state s Command.refresh (plain_reply result) self.new.state }
         ensures refused { OnErr result (self.new ≡ self.old) }
     {
         Ok(Answer::Number(self.refresh()?))
@@ -117,7 +117,7 @@ impl Plain {
         token: Option<Token>,
     ) -> Result<Answer, Refusal>
         ensures schema { self.new.schema ≡ self.old.schema }
-        ensures does { Does self.old.schema self.old.state session (open_command token) (reply_of result) self.new.state }
+        ensures does { DoesPlainly self.old.schema self.old.state session (open_command token) (plain_reply result) self.new.state }
         ensures refused { OnErr result (self.new ≡ self.old) }
     {
         let token = match token {
@@ -136,7 +136,7 @@ impl Plain {
         token: Token,
     ) -> Result<Answer, Refusal>
         ensures schema { self.new.schema ≡ self.old.schema }
-        ensures does { Does self.old.schema self.old.state session (Command.close token) (reply_of result) self.new.state }
+        ensures does { DoesPlainly self.old.schema self.old.state session (Command.close token) (plain_reply result) self.new.state }
         ensures refused { OnErr result (self.new ≡ self.old) }
     {
         if !self.is_holding(session, token) {

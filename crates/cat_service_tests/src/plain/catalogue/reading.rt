@@ -4,7 +4,7 @@ ghost use Rattle.cat_base.specs.declared.refusal.Refusal.TheVariants.{Query as N
 ghost use Rattle.cat_model.specs.Faults.{Fault};
 ghost use Rattle.cat_model.specs.State.{table_under};
 ghost use Rattle.cat_service_tests.specs.plain.Exchange.{DoesFind, IsReadQuery, page_reply};
-ghost use Rattle.cat_service_tests.specs.plain.Reply.{reply_of};
+ghost use Rattle.cat_service_tests.specs.plain.Reply.{plain_reply};
 ghost use Rattle.cat_service_tests.specs.plain.Tables.{AreItems, NumbersRise};
 
 use crate::plain::catalogue::Plain;
@@ -69,7 +69,7 @@ impl Plain {
         ask: Ask,
         text: &str,
     ) -> Result<Answer, Refusal>
-        ensures { DoesFind self.now session token ask.entry text.now (reply_of result) }
+        ensures { DoesFind self.now session token ask.entry text.now (plain_reply result) }
     {
         Ok(Answer::Found(self.find(session, token, ask, text)?))
     }

@@ -8,8 +8,8 @@ ghost use Rattle.cat_model.specs.Run.{Command};
 ghost use Rattle.cat_model.specs.State.{written};
 ghost use Rattle.cat_model.specs.Write.{Write};
 ghost use Rattle.cat_service_tests.specs.plain.Exchange.{DoesDeleteWhere};
-ghost use Rattle.cat_service_tests.specs.plain.Plain.{Does};
-ghost use Rattle.cat_service_tests.specs.plain.Reply.{reply_of};
+ghost use Rattle.cat_service_tests.specs.plain.Plain.{DoesPlainly};
+ghost use Rattle.cat_service_tests.specs.plain.Reply.{plain_reply};
 ghost use Rattle.cat_search.specs.cat_query.View.{query_of};
 ghost use Rattle.cat_search.specs.cat_items.Reading.{item_of, source_fault};
 
@@ -110,8 +110,8 @@ impl Plain {
     /// Answers a PUT.
     pub(super) fn answer_put(&mut self, text: &str) -> Result<Answer, Refusal>
         ensures schema { self.new.schema ≡ self.old.schema }
-        ensures does { (s : ℕ) → Does self.old.schema self.old.state s (Command.put (item_of self.old.schema text.now))
-            (reply_of result) self.new.state }
+        ensures does { (s : ℕ) → DoesPlainly self.old.schema self.old.state s (Command.put (item_of self.old.schema text.now))
+            (plain_reply result) self.new.state }
         ensures due { IfSome (source_fault text.now) (λ e. result ≡ Err e) }
         ensures refused { OnErr result (self.new ≡ self.old) }
     {
@@ -122,7 +122,7 @@ impl Plain {
     /// Answers a DEL.
     pub(super) fn answer_delete(&mut self, id: &str) -> Result<Answer, Refusal>
         ensures schema { self.new.schema ≡ self.old.schema }
-        ensures does { (s : ℕ) → Does self.old.schema self.old.state s (Command.delete (id_of id.now)) (reply_of result)
+        ensures does { (s : ℕ) → DoesPlainly self.old.schema self.old.state s (Command.delete (id_of id.now)) (plain_reply result)
             self.new.state }
         ensures refused { OnErr result (self.new ≡ self.old) }
     {
@@ -137,7 +137,7 @@ impl Plain {
     /// A text that is no query is refused first, then a write that no number is left for. Want of memory comes last.
     pub(super) fn answer_delete_where(&mut self, text: &str) -> Result<Answer, Refusal>
         ensures schema { self.new.schema ≡ self.old.schema }
-        ensures does { (s : ℕ) → DoesDeleteWhere self.old s text.now (reply_of result) self.new.state }
+        ensures does { (s : ℕ) → DoesDeleteWhere self.old s text.now (plain_reply result) self.new.state }
         ensures refused { OnErr result (self.new ≡ self.old) }
     {
         match self.query(text)? {

@@ -6,7 +6,7 @@ use Rattle.cat_base.specs.Texts.{IsTextSet}
 use Rattle.cat_model.specs.Text.{Text, same_text}
 use Rattle.cat_model.specs.Ordinals.{dictionary_of, text_at, postings_of}
 use Rattle.cat_columns.specs.Merged.{moved}
-use Rattle.cat_columns.specs.inverted.Gathered.{list_at}
+use Rattle.cat_columns.specs.inverted.Gathered.{list_of_ordinal}
 use Rattle.cat_columns.proofs.inverted.Merging.{part_more, part_whole}
 use Rattle.cat_columns.proofs.inverted.merge.add_input.Goals as goal
 
@@ -25,7 +25,7 @@ loop-word-preserved c =
     let added = c.in_ok-add_moved.ensures.ok ∙ ap (λ (rows : List ℕ). c.index_mut-list.result.now.items ++ moved codes rows) c.postings_at.ensures.value in
     record {
       count = length-set lists o c.add_moved.new.list ∙ c.loop-word.invariant.count;
-      lists = λ q lt. part_more words texts codes ordinals c.requires.sorted rising same (λ (v : SmallVec ℕ). v.items) lists (list_at c.args.lists.now) j c.add_moved.new.list c.index_mut-list.result.now c.loop-word-test.true within (c.loop-word.invariant.count ∙ c.requires.count) c.index_mut-list.ensures.value added q lt (c.loop-word.invariant.lists q lt);
+      lists = λ q lt. part_more words texts codes ordinals c.requires.sorted rising same (λ (v : SmallVec ℕ). v.items) lists (list_of_ordinal c.args.lists.now) j c.add_moved.new.list c.index_mut-list.result.now c.loop-word-test.true within (c.loop-word.invariant.count ∙ c.requires.count) c.index_mut-list.ensures.value added q lt (c.loop-word.invariant.lists q lt);
     }
 
 pub returns-clause-lists : goal.returns-clause-lists
@@ -37,5 +37,5 @@ returns-clause-lists c = λ q lt.
     let same = ap (map (text_at words)) c.deref-ordinal-items.ensures.value ∙ c.in_ok-ordinals.ensures.texts ∙ c.words.ensures.value in
     let long = sym (length-map ordinals (text_at words)) ∙ ap length same in
     c.loop-word.invariant.lists q lt
-    ∙ ap (λ (ws : List Text). list_at c.args.lists.now q ++ (if list_any (same_text (text_at words q)) ws then moved c.args.input.now.row_map.now (postings_of (text_at words q) texts) else [])) (take_all c.loop-word.word (dictionary_of texts) (omega (arith, c.loop-word-test.false, long)))
-    ∙ ap (λ (l : List ℕ). list_at c.args.lists.now q ++ l) (part_whole words texts c.args.input.now.row_map.now ordinals c.requires.sorted rising same (text_at words q))
+    ∙ ap (λ (ws : List Text). list_of_ordinal c.args.lists.now q ++ (if list_any (same_text (text_at words q)) ws then moved c.args.input.now.row_map.now (postings_of (text_at words q) texts) else [])) (take_all c.loop-word.word (dictionary_of texts) (omega (arith, c.loop-word-test.false, long)))
+    ∙ ap (λ (l : List ℕ). list_of_ordinal c.args.lists.now q ++ l) (part_whole words texts c.args.input.now.row_map.now ordinals c.requires.sorted rising same (text_at words q))

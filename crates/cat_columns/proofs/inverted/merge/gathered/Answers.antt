@@ -4,7 +4,7 @@ use Rattle.std.specs.Prelude.{All, Contains}
 use Rattle.cat_base.specs.Texts.{IsTextSet}
 use Rattle.cat_model.specs.Ordinals.{dictionary_of, text_at, postings_of}
 use Rattle.cat_columns.specs.Merged.{moved}
-use Rattle.cat_columns.specs.inverted.Gathered.{list_at}
+use Rattle.cat_columns.specs.inverted.Gathered.{list_of_ordinal}
 use Rattle.cat_columns.specs.declared.inverted.merge.MergeInput as declared
 use Rattle.cat_columns.proofs.inverted.ByOrdinal.{none_listed}
 use Rattle.cat_columns.proofs.inverted.Merging.{gathered_more, all_more}
@@ -29,7 +29,7 @@ loop-input-preserved c =
     record {
       count = c.add_input.ensures.count ∙ c.loop-input.invariant.count;
       lists = λ o lt. gathered_more (λ p. p.row_map.now) (λ p. p.terms.now) inputs i p c.loop-input-test.true c.requires.fits c.requires.numbered (text_at c.args.words.now o) _ _ (c.loop-input.invariant.lists o lt)
-          (c.in_ok-add_input.ensures.lists o lt ∙ ap (λ (q : declared.MergeInput). list_at c.loop-input.lists o ++ moved q.row_map.now (postings_of (text_at c.args.words.now o) q.terms.now)) c.input-item.is);
+          (c.in_ok-add_input.ensures.lists o lt ∙ ap (λ (q : declared.MergeInput). list_of_ordinal c.loop-input.lists o ++ moved q.row_map.now (postings_of (text_at c.args.words.now o) q.terms.now)) c.input-item.is);
       sets = all_more (λ p. All IsTextSet p.terms.now) inputs i p c.loop-input-test.true c.input-item.is c.loop-input.invariant.sets c.in_ok-add_input.ensures.sets;
     }
 

@@ -2,10 +2,10 @@ use Rattle.std.proofs.Common.{◌∙◌, List, ap}
 use Rattle.std.specs.Prelude.{◌==◌, not}
 use Rattle.std.specs.List.{list_any}
 use Rattle.cat_model.specs.View.{Leaf}
-use Rattle.cat_cached_sets.specs.filters.Filters.{without}
+use Rattle.cat_cached_sets.specs.filters.Filters.{filters_without}
 use Rattle.cat_commands.proofs.ledger.chores.merge.Goals as goal
 
 pub returns-clause-sets : goal.returns-clause-sets
 returns-clause-sets g c =
     c.keep_among.ensures.value
-    ∙ ap (λ (ls : List Leaf). without (λ n. not (list_any (λ l. l.segment.number == n) ls)) c.args.filters.now) c.leaves.ensures
+    ∙ ap (λ (ls : List Leaf). filters_without (λ n. not (list_any (λ l. l.segment.number == n) ls)) c.args.filters.now) c.leaves.ensures

@@ -4,7 +4,7 @@ use Rattle.cat_model.specs.Run.{Answer, Chore, Command}
 use Rattle.cat_ledger.specs.upkeep.News.{news_of}
 use Rattle.cat_ledger.specs.Ledgers.{device_in, policy_in, shape_in}
 use Rattle.cat_ledger_laws.specs.lines.LineLaws.{line_of}
-use Rattle.cat_ledger_laws.specs.lines.RunLaws.{Answers}
+use Rattle.cat_ledger_laws.specs.lines.RunLaws.{AnswersCarried}
 use Rattle.cat_ledger_laws.proofs.lines.StopAnswers.{chores_answer}
 use Rattle.cat_commands.proofs.ledger.Answered.{force_refused}
 use Rattle.cat_commands.proofs.ledger.merging.force.Goals as goal
@@ -15,7 +15,7 @@ returns-in-Ok-clause-answers g c =
     let new = c.force.new.self in
     let told = g.D.Holder.bytes (device_in old) in
     let told' = g.D.Holder.bytes (device_in new) in
-    subst (λ n. Answers (policy_in old) told (shape_in old) (line_of 0 (Command.chore Chore.force)) (Ok (Answer.news n)) told' (shape_in new))
+    subst (λ n. AnswersCarried (policy_in old) told (shape_in old) (line_of 0 (Command.chore Chore.force)) (Ok (Answer.news n)) told' (shape_in new))
     (sym c.news_told.ensures)
     (chores_answer (policy_in old) told told' (shape_in old) (shape_in new) Chore.force (news_of c.in-Ok.news) c.in-Ok.ensures.ok)
 

@@ -4,7 +4,7 @@ use Rattle.cat_base.specs.declared.refusal.Refusal.TheVariants.{NoCommit}
 use Rattle.cat_model.specs.Run.{Answer, Command}
 use Rattle.cat_ledger.specs.Ledgers.{device_in, policy_in, shape_in}
 use Rattle.cat_ledger_laws.specs.lines.LineLaws.{line_of}
-use Rattle.cat_ledger_laws.specs.lines.RunLaws.{Answers}
+use Rattle.cat_ledger_laws.specs.lines.RunLaws.{AnswersCarried}
 use Rattle.cat_ledger_laws.proofs.lines.ReadAnswers.{texts_answer, unkept_texts_answer}
 use Rattle.cat_commands.proofs.ledger.Answered.{memory_refused, named}
 use Rattle.cat_commands.proofs.ledger.telling.text_of_commit.Goals as goal
@@ -29,7 +29,7 @@ returns-in-Ok-from_str-clause-answers g c = λ session.
     let kept = c.in-Ok.ensures.ok in (
       Command.text_of_commit c.args.generation,
       refl,
-      subst (λ text. Answers (policy_in ledger) told s (line_of session (Command.text_of_commit c.args.generation)) (Ok (Answer.commit_text text)) told s)
+      subst (λ text. AnswersCarried (policy_in ledger) told s (line_of session (Command.text_of_commit c.args.generation)) (Ok (Answer.commit_text text)) told s)
           (sym (c.in-Ok-from_str.ensures.ok ∙ kept.2))
           (texts_answer (policy_in ledger) told told s s session c.args.generation kept.0 kept.1 (refl, λ q. refl)),
     )

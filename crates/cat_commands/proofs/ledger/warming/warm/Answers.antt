@@ -5,7 +5,7 @@ use Rattle.cat_model.specs.Run.{Answer, Chore, Command, may_tell}
 use Rattle.cat_ledger.specs.Ledgers.{device_in, policy_in, shape_in}
 use Rattle.cat_ledger_laws.proofs.lines.RefusalAnswers.{foreign_chores_answer}
 use Rattle.cat_ledger_laws.proofs.lines.StopAnswers.{chores_answer, warms_tell}
-use Rattle.cat_protocol.specs.replies.Reply.{news_of}
+use Rattle.cat_protocol.specs.replies.Reply.{news_in_reply}
 use Rattle.cat_commands.proofs.ledger.Answered.{at_zero, memory_refused}
 use Rattle.cat_commands.proofs.ledger.Warmed.{warms_may_tell}
 use Rattle.cat_commands.proofs.ledger.warming.warm.Goals as goal
@@ -25,7 +25,7 @@ returns-in-Ok-clause-answers g c =
     let ledger = c.args.ledger.now in
     let told = g.D.Holder.bytes (device_in ledger) in
     let s = shape_in ledger in
-    let news = news_of c.news_told.result in
+    let news = news_in_reply c.news_told.result in
     let may : IsTrue (may_tell Chore.warm news) = subst (λ n. IsTrue (may_tell Chore.warm n)) (sym c.news_told.ensures) (warms_may_tell c.in-Ok.news) in (
       Command.chore Chore.warm,
       refl,

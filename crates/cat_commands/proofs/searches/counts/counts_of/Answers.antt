@@ -6,14 +6,14 @@ use Rattle.cat_model.specs.View.{segments_of}
 use Rattle.cat_cached_sets.specs.cat_query.View.{query_of}
 use Rattle.cat_protocol.specs.cat_search.Views.{Prepared}
 use Rattle.cat_protocol.specs.cat_facets.Kept.{RemembersOf, RemembersOfBelow}
-use Rattle.cat_protocol.specs.cat_facets.States.{IsAnswerTo}
+use Rattle.cat_protocol.specs.cat_facets.States.{IsFacetsAnswer}
 use Rattle.cat_commands.proofs.searches.Cached.{noted_after, prepared_is}
 use Rattle.cat_commands.proofs.searches.counts.counts_of.Goals as goal
 
 pub returns-clause-ok : goal.returns-clause-ok
 returns-clause-ok c =
     let is = prepared_is c.prepare-prepared.result c.in_ok-prepared.prepared (c.branch-prepared.ensures ∙ ap result_from_control_flow c.in_ok-prepared.is) c.args.view.now c.args.query c.prepare-prepared.ensures.ok in
-    subst (λ (p : Prepared). IsAnswerTo p.view c.args.dimension.now p.query c.args.count (Ok (Found.facets c.in_ok-facets.facets))) is
+    subst (λ (p : Prepared). IsFacetsAnswer p.view c.args.dimension.now p.query c.args.count (Ok (Found.facets c.in_ok-facets.facets))) is
     c.in_ok-facets.ensures.ok
 
 pub returns-clause-noted : goal.returns-clause-noted

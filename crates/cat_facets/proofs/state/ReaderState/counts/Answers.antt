@@ -10,7 +10,7 @@ use Rattle.cat_search.specs.cat_query.View.{query_of}
 use Rattle.cat_search.proofs.columns_laws.Ordinals.{dictionary_rises}
 use Rattle.cat_model.specs.GlobalOrdinals.{leaf_dictionary}
 use Rattle.cat_facets.specs.declared.segments.SegmentLabels.{SegmentLabels}
-use Rattle.cat_facets.specs.States.{ReaderState, answer_over, as_leaves, union_in, AreKnown, IsKept, IsState}
+use Rattle.cat_facets.specs.States.{ReaderState, facets_answer_over, as_leaves, union_in, AreKnown, IsDimensionKept, IsState}
 use Rattle.cat_facets.specs.Tallies.{hit_labels, labelled_count, AreCounts}
 use Rattle.cat_facets.proofs.Answered.{counted_facets, due_refused, found, refused}
 use Rattle.cat_facets.proofs.Ranking.{first_within}
@@ -23,7 +23,7 @@ labels_rise dimension leaves labels is = subst (λ (ls : List Text). IsTextSet l
 
 -- what is kept of the state is kept of leaves of its segments
 kept_of : (state : ReaderState) (leaves : List Leaf) (labels : List Text) (segments : List SegmentLabels) → segments_of leaves ≡ state.segments
-    → IsState state labels segments → IsKept state.dimension leaves labels segments
+    → IsState state labels segments → IsDimensionKept state.dimension leaves labels segments
 kept_of state leaves labels segments same is =
     kept_alike state.dimension (as_leaves state.segments) leaves (segments-as_leaves state.segments ∙ sym same) labels segments is
 
@@ -52,7 +52,7 @@ returns-then-n-clause-err c = λ other rs shown.
 pub returns-then-n-clause-due : goal.returns-then-n-clause-due
 returns-then-n-clause-due c = λ rs shown.
     let view = c.args.prepared.now.view in
-    due_refused (Err Count) Count (answer_over view c.args.self.now.dimension c.args.prepared.now.query c.args.n rs)
+    due_refused (Err Count) Count (facets_answer_over view c.args.self.now.dimension c.args.prepared.now.query c.args.n rs)
     (refused view c.args.self.now.dimension c.args.prepared.now.query c.args.n rs c.requires.facet c.if-n.true) refl
 
 pub totals_of-requires : goal.totals_of-requires

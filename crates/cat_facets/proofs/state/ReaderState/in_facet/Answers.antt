@@ -2,7 +2,7 @@ use Rattle.std.proofs.Common.{◌≡◌, ◌∙◌, List, All, sym, ap, subst}
 use Rattle.cat_model.specs.Text.{Text}
 use Rattle.cat_model.specs.View.{Leaf, View, segments_of}
 use Rattle.cat_facets.specs.declared.segments.SegmentLabels.{SegmentLabels}
-use Rattle.cat_facets.specs.States.{as_leaves, union_in, AreKnown, HasLabels, IsKept}
+use Rattle.cat_facets.specs.States.{as_leaves, union_in, AreKnown, HasLabels, IsDimensionKept}
 use Rattle.cat_facets.proofs.SameSegments.{kept_alike, segments-as_leaves}
 use Rattle.cat_facets.proofs.state.ReaderState.in_facet.Goals as goal
 
@@ -10,15 +10,15 @@ use Rattle.cat_facets.proofs.state.ReaderState.in_facet.Goals as goal
 of_view : (dimension name : Text) (view seen : View) (first second : List Leaf) (labels : List Text) (known : List SegmentLabels)
     → name ≡ dimension → seen ≡ view → first ≡ view.leaves → second ≡ view.leaves
     → labels ≡ union_in dimension first → All (HasLabels dimension) first → AreKnown dimension labels second known
-    → IsKept name (as_leaves (segments_of seen.leaves)) labels known
+    → IsDimensionKept name (as_leaves (segments_of seen.leaves)) labels known
 of_view dimension name view seen first second labels known named same one two is texts are =
-    let whole : IsKept dimension view.leaves labels known = record {
+    let whole : IsDimensionKept dimension view.leaves labels known = record {
       texts = subst (All (HasLabels dimension)) one texts;
       labels = is ∙ ap (union_in dimension) one;
       known = subst (λ ls. AreKnown dimension labels ls known) two are;
     } in
-    subst (λ d. IsKept d (as_leaves (segments_of seen.leaves)) labels known) (sym named)
-    (subst (λ (v : View). IsKept dimension (as_leaves (segments_of v.leaves)) labels known) (sym same)
+    subst (λ d. IsDimensionKept d (as_leaves (segments_of seen.leaves)) labels known) (sym named)
+    (subst (λ (v : View). IsDimensionKept dimension (as_leaves (segments_of v.leaves)) labels known) (sym same)
     (kept_alike dimension view.leaves (as_leaves (segments_of view.leaves)) (sym (segments-as_leaves (segments_of view.leaves))) labels known whole))
 
 pub invariant_of-result : goal.invariant_of-result

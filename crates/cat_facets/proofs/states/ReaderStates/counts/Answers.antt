@@ -1,20 +1,20 @@
 use Rattle.std.proofs.Common.{◌≡◌, ◌∙◌, List, [], ◌∷◌, ◌++◌, sym, ap, subst}
 use Rattle.cat_model.specs.Text.{Text}
 use Rattle.cat_model.specs.View.{View, segments_of}
-use Rattle.cat_facets.specs.Kept.{last_kept, numbers_of, others, used_in, RemembersOf, RemembersOfBelow}
+use Rattle.cat_facets.specs.Kept.{last_kept, segment_numbers, others, state_used_in, RemembersOf, RemembersOfBelow}
 use Rattle.cat_facets.specs.States.{ReaderState}
 use Rattle.cat_facets.proofs.Kept.{used_below, used_remembers}
 use Rattle.cat_facets.proofs.states.ReaderStates.counts.Goals as goal
 
 -- the state that was taken, and then kept, was used
 used : (view seen : View) (dimension : Text) (k : ReaderState) (old rest new : List ReaderState) → seen ≡ view
-    → k ≡ record { segments = segments_of seen.leaves; dimension = dimension } → rest ≡ others (numbers_of (segments_of seen.leaves)) dimension old
-    → new ≡ last_kept (rest ++ k ∷ []) → new ≡ used_in (record { segments = segments_of view.leaves; dimension = dimension }) old
+    → k ≡ record { segments = segments_of seen.leaves; dimension = dimension } → rest ≡ others (segment_numbers (segments_of seen.leaves)) dimension old
+    → new ≡ last_kept (rest ++ k ∷ []) → new ≡ state_used_in (record { segments = segments_of view.leaves; dimension = dimension }) old
 used view seen dimension k old rest new same is taken kept =
     kept
     ∙ ap (λ (ks : List ReaderState). last_kept (ks ++ k ∷ [])) taken
-    ∙ ap (λ (j : ReaderState). last_kept (others (numbers_of (segments_of seen.leaves)) dimension old ++ j ∷ [])) is
-    ∙ ap (λ (v : View). used_in (record { segments = segments_of v.leaves; dimension = dimension }) old) same
+    ∙ ap (λ (j : ReaderState). last_kept (others (segment_numbers (segments_of seen.leaves)) dimension old ++ j ∷ [])) is
+    ∙ ap (λ (v : View). state_used_in (record { segments = segments_of v.leaves; dimension = dimension }) old) same
 
 pub returns-clause-known : goal.returns-clause-known
 returns-clause-known c =

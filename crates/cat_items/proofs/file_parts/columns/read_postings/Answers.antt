@@ -1,7 +1,7 @@
 use Rattle.std.proofs.Common.{◌≡◌, ◌≤◌, ◌∷◌, [], length, ap, ◌∙◌, arith, length-append}
 use Rattle.std.proofs.lemmas.Result.{err_from_is_err_and}
 use Rattle.cat_model.specs.Layout.{pieces, paired_postings}
-use Rattle.cat_items.specs.file_parts.Reading.{many_at, text_at, with_front}
+use Rattle.cat_items.specs.file_parts.Reading.{many_at, tested_text_at, with_front}
 use Rattle.cat_items.specs.file_parts.Layouts.{is_word, list_at, posted_at}
 use Rattle.cat_items.proofs.file_parts.Loop.{fails_none, goes_on, ends, is_done}
 use Rattle.cat_items.proofs.file_parts.Pieces.{front_none, read_behind, posted_here, posted_not_word, posted_not_list, postings_push, ends_push}
@@ -11,7 +11,7 @@ pub returns-in_err-word-clause-gives : goal.returns-in_err-word-clause-gives
 returns-in_err-word-clause-gives c =
     let p = err_from_is_err_and c.from_residual.result c.from_residual.ensures.1 in
     rw (p.1, p.2) (ends posted_at c.in_err-word.field-0.0 (paired_postings c.loop.words.items (pieces 0 c.loop.ends.items c.loop.rows.items)) c.args.count c.loop.counter c.loop.cursor (many_at posted_at c.args.count c.args.cursor.now) c.loop-test.true
-    (fails_none c.in_err-word.field-0.0 (text_at is_word c.loop.cursor) (posted_at c.loop.cursor) c.in_err-word.ensures (posted_not_word c.loop.cursor)) c.loop.invariant.read)
+    (fails_none c.in_err-word.field-0.0 (tested_text_at is_word c.loop.cursor) (posted_at c.loop.cursor) c.in_err-word.ensures (posted_not_word c.loop.cursor)) c.loop.invariant.read)
 
 pub returns-in_err-read_list-clause-gives : goal.returns-in_err-read_list-clause-gives
 returns-in_err-read_list-clause-gives c =

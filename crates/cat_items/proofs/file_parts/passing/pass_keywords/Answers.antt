@@ -2,19 +2,19 @@ use Rattle.std.proofs.Common.{◌∙◌}
 use Rattle.std.proofs.lemmas.Result.{err_from_is_err_and}
 use Rattle.cat_model.specs.Item.{Kind}
 use Rattle.cat_items.specs.file_parts.Layouts.{column_at, is_keyword}
-use Rattle.cat_items.specs.file_parts.Reading.{many_at, text_at, u32_at}
+use Rattle.cat_items.specs.file_parts.Reading.{many_at, tested_text_at, u32_at}
 use Rattle.cat_items.proofs.file_parts.Rests.{pass_as, counted_rest, counted_none, keywords_rest, keywords_none}
 use Rattle.cat_items.proofs.file_parts.passing.pass_keywords.Goals as goal
 
 pub returns-in_err-count : goal.returns-in_err-count
 returns-in_err-count c =
     let p = err_from_is_err_and c.from_residual.result c.from_residual.ensures.1 in
-    rw p.1 (keywords_none c.args.rows c.args.cursor.now (counted_none (text_at is_keyword) c.args.cursor.now c.in_err-count.ensures))
+    rw p.1 (keywords_none c.args.rows c.args.cursor.now (counted_none (tested_text_at is_keyword) c.args.cursor.now c.in_err-count.ensures))
 
 pub returns-in_err-pass_texts : goal.returns-in_err-pass_texts
 returns-in_err-pass_texts c =
     let p = err_from_is_err_and c.from_residual-in_err-pass_texts.result c.from_residual-in_err-pass_texts.ensures.1 in
-    rw p.1 (keywords_none c.args.rows c.args.cursor.now (counted_rest (text_at is_keyword) c.args.cursor.now c.take_u32.new.cursor c.in_ok-count.count c.in_ok-count.ensures ∙ c.in_err-pass_texts.ensures))
+    rw p.1 (keywords_none c.args.rows c.args.cursor.now (counted_rest (tested_text_at is_keyword) c.args.cursor.now c.take_u32.new.cursor c.in_ok-count.count c.in_ok-count.ensures ∙ c.in_err-pass_texts.ensures))
 
 pub returns : goal.returns
 returns c =

@@ -5,31 +5,31 @@ use Rattle.cat_model.specs.Merged.{rows_of_all}
 use Rattle.cat_ledger_laws.proofs.shape.MergeSteps.{begun_keep}
 use Rattle.cat_ledger_laws.proofs.shape.Writes.{refusals_keep}
 use Rattle.cat_ledger_laws.specs.shape.Ties.{TouchesOnly}
-use Rattle.cat_ledger_state.specs.Cores.{HasGivenUp, StayKnown, shape_in}
+use Rattle.cat_ledger_state.specs.Cores.{HasGivenUp, StayKnown, shape_of_core}
 use Rattle.cat_ledger_state.proofs.Counting.{known_still}
 use Rattle.cat_ledger_state.proofs.Merging.{run_is, may_merge, one_fits, begun_is, begun_left}
 use Rattle.cat_ledger_state.proofs.state.Core.begin_merge.Goals as goal
 
 pub of-requires : goal.of-requires
 of-requires g c =
-    may_merge (shape_in c.self.inside) c.args.index c.args.count _ c.self.invariant.shape c.if-number-gt-LAST_NUMBER.false
+    may_merge (shape_of_core c.self.inside) c.args.index c.args.count _ c.self.invariant.shape c.if-number-gt-LAST_NUMBER.false
     (subst (λ s. c.args.index + c.args.count ≤ length s.leaves) (sym c.self.view_is) c.requires.within)
     (subst (λ s. length (rows_of_all (take c.args.count (drop c.args.index s.leaves))) ≤ row_limit) (sym c.self.view_is) c.requires.few)
     (run_is c.self.inside.current c.leaves.result.now c.args.index c.args.count c.leaves.ensures.value)
 
 pub take_source-requires : goal.take_source-requires
 take_source-requires g c =
-    λ q. one_fits (shape_in c.self.inside) c.len.result (Name.source c.self.inside.next_segment) q c.self.invariant.shape c.len.ensures.len c.len.ensures.few
+    λ q. one_fits (shape_of_core c.self.inside) c.len.result (Name.source c.self.inside.next_segment) q c.self.invariant.shape c.len.ensures.len c.len.ensures.few
 
 pub invariant_of-self-in-Ok : goal.invariant_of-self-in-Ok
 invariant_of-self-in-Ok g c =
-    let begun = begun_is (shape_in c.self.inside) c.args.index c.args.count c.in_ok-merge.merge _ c.take_source.new.refs
+    let begun = begun_is (shape_of_core c.self.inside) c.args.index c.args.count c.in_ok-merge.merge _ c.take_source.new.refs
     (subst (λ s. s.merging ≡ None) (sym c.self.view_is) c.requires.idle) c.if-number-gt-LAST_NUMBER.false c.requires.some
     (subst (λ s. c.args.index + c.args.count ≤ length s.leaves) (sym c.self.view_is) c.requires.within)
     (run_is c.self.inside.current c.leaves.result.now c.args.index c.args.count c.leaves.ensures.value) c.in_ok-merge.ensures.ok
     c.in_ok-take_source.ensures.ok in
     record {
-      shape = begun_keep c.args.index c.args.count (shape_in c.self.inside) _ begun c.self.invariant.shape;
+      shape = begun_keep c.args.index c.args.count (shape_of_core c.self.inside) _ begun c.self.invariant.shape;
       waits = c.self.invariant.waits;
       few = c.self.invariant.few;
       merges = ap (λ m. m.schema) c.in_ok-merge.ensures.ok;
@@ -37,10 +37,10 @@ invariant_of-self-in-Ok g c =
 
 pub invariant_of-self-in-Err-1 : goal.invariant_of-self-in-Err-1
 invariant_of-self-in-Err-1 g c =
-    let left = begun_left (shape_in c.self.inside) c.take_source.new.refs c.give_source.new.refs c.self.invariant.shape c.if-number-gt-LAST_NUMBER.false
+    let left = begun_left (shape_of_core c.self.inside) c.take_source.new.refs c.give_source.new.refs c.self.invariant.shape c.if-number-gt-LAST_NUMBER.false
     c.in_ok-take_source.ensures.ok c.give_source.ensures in
     record {
-      shape = refusals_keep (Name.source c.self.inside.next_segment ∷ []) (shape_in c.self.inside) _ left c.self.invariant.shape;
+      shape = refusals_keep (Name.source c.self.inside.next_segment ∷ []) (shape_of_core c.self.inside) _ left c.self.invariant.shape;
       waits = c.self.invariant.waits;
       few = c.self.invariant.few;
       merges = c.self.invariant.merges;
@@ -48,12 +48,12 @@ invariant_of-self-in-Err-1 g c =
 
 pub returns-in-Err-clause-err : goal.returns-in-Err-clause-err
 returns-in-Err-clause-err g c =
-    let left = begun_left (shape_in c.self.inside) c.take_source.new.refs c.give_source.new.refs c.self.invariant.shape c.if-number-gt-LAST_NUMBER.false
+    let left = begun_left (shape_of_core c.self.inside) c.take_source.new.refs c.give_source.new.refs c.self.invariant.shape c.if-number-gt-LAST_NUMBER.false
     c.in_ok-take_source.ensures.ok c.give_source.ensures in
     let told = g.D.Holder.bytes c.args.device.now in
     let told' = g.D.Holder.bytes c.begin_file.new.device in
     let touched = subst (λ n. TouchesOnly (Name.source n ∷ []) told told') (ap (λ m. m.shape.number) c.in_ok-merge.ensures.ok) c.in-Err.ensures.others in
-    let new = record (shape_in c.self.inside) { users = c.give_source.new.refs; next_segment = c.self.inside.next_segment + 1 } in
+    let new = record (shape_of_core c.self.inside) { users = c.give_source.new.refs; next_segment = c.self.inside.next_segment + 1 } in
     subst (λ s. HasGivenUp (Name.source s.next_segment ∷ []) told s told' new) c.self.view_is (inr (left, touched))
 
 pub returns-in-Err-clause-known : goal.returns-in-Err-clause-known

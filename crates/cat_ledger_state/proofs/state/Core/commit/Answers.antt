@@ -16,7 +16,7 @@ use Rattle.cat_ledger_laws.proofs.shape.Writes.{refusals_keep}
 use Rattle.cat_commits.specs.writing.NewFiles.{AreSettled, ComesLast, NoMoreBut}
 use Rattle.cat_commits.specs.writing.Unsynced.{begun}
 use Rattle.cat_ledger_state.specs.Commits.{HasCommitted, draft_now}
-use Rattle.cat_ledger_state.specs.Cores.{HasGivenUp, StayKnown, shape_in}
+use Rattle.cat_ledger_state.specs.Cores.{HasGivenUp, StayKnown, shape_of_core}
 use Rattle.cat_ledger_state.proofs.Counting.{known_still}
 use Rattle.cat_ledger_state.proofs.Committing.{needs_fit, leaving_fit_after, committed_is, commit_writes, commit_left}
 use Rattle.cat_ledger_state.proofs.state.Core.commit.Goals as goal
@@ -25,7 +25,7 @@ pub take-requires : goal.take-requires
 take-requires g c =
     let text = c.args.text.now in
     let draft = c.in_ok-draft.ensures ∙ ap (draft_now text) (sym c.self.view_is) in
-    needs_fit text (shape_in c.self.inside) c.len.result (map name_of c.names.result.now) c.self.invariant.shape c.len.ensures.len c.len.ensures.few
+    needs_fit text (shape_of_core c.self.inside) c.len.result (map name_of c.names.result.now) c.self.invariant.shape c.len.ensures.len c.len.ensures.few
     (c.names.ensures ∙ ap (λ d. commit_needs d.commit) draft)
 
 pub give-requires : goal.give-requires
@@ -33,7 +33,7 @@ give-requires g c =
     let given = ap (map name_of) c.deref-in-Ok.ensures.value ∙ c.in_ok-given.ensures
     ∙ ap (λ (cs : List CommitFile). names_of_commits (filter (λ (d : CommitFile). not (stays_kept c.self.inside.snapshots (Some c.self.inside.next_generation) d.generation)) cs))
     c.deref.ensures.value in
-    leaving_fit_after (shape_in c.self.inside) (λ n. not (stays_kept c.self.inside.snapshots (Some c.self.inside.next_generation) n)) (map name_of c.names.result.now)
+    leaving_fit_after (shape_of_core c.self.inside) (λ n. not (stays_kept c.self.inside.snapshots (Some c.self.inside.next_generation) n)) (map name_of c.names.result.now)
     (map name_of c.deref-in-Ok.result.now) c.take.new.self c.self.invariant.shape c.in_ok-take.ensures.ok given
 
 pub invariant_of-self-in-Ok-1 : goal.invariant_of-self-in-Ok-1
@@ -44,12 +44,12 @@ invariant_of-self-in-Ok-1 g c =
     ∙ ap (λ (cs : List CommitFile). names_of_commits (filter (λ (d : CommitFile). not (stays_kept c.self.inside.snapshots (Some c.self.inside.next_generation) d.generation)) cs))
     c.deref.ensures.value in
     let flushed = subst (λ s. s.buffered ≡ []) (sym c.self.view_is) c.requires.flushed in
-    let committed = committed_is text (shape_in c.self.inside) c.into_parts-commit.result.0 c.reserve.new.self.items c.keep.new.commits.items c.into_parts-commit.result.1
+    let committed = committed_is text (shape_of_core c.self.inside) c.into_parts-commit.result.0 c.reserve.new.self.items c.keep.new.commits.items c.into_parts-commit.result.1
     (map name_of c.names.result.now) (map name_of c.deref-in-Ok.result.now) c.take.new.self c.give.new.self c.if-generation-gt-LAST_NUMBER.false
     (c.into_parts-commit.ensures.parts.0 ∙ ap (λ d. d.commit) draft) (c.into_parts-commit.ensures.parts.1 ∙ ap (λ d. d.listing) draft)
     c.in_ok-reserve.ensures.items c.keep.ensures (c.names.ensures ∙ ap (λ d. commit_needs d.commit) draft) given c.in_ok-take.ensures.ok c.give.ensures in
     record {
-      shape = commits_keep text (shape_in c.self.inside) _ flushed committed c.self.invariant.shape;
+      shape = commits_keep text (shape_of_core c.self.inside) _ flushed committed c.self.invariant.shape;
       waits = c.self.invariant.waits;
       few = c.self.invariant.few;
       merges = c.self.invariant.merges;
@@ -59,11 +59,11 @@ pub invariant_of-self-in-Err-1 : goal.invariant_of-self-in-Err-1
 invariant_of-self-in-Err-1 g c =
     let text = c.args.text.now in
     let draft = c.in_ok-draft.ensures ∙ ap (draft_now text) (sym c.self.view_is) in
-    let left = commit_left text (shape_in c.self.inside) c.reserve.new.self.items (map name_of c.names.result.now) (map name_of c.names-in-Err.result.now) c.take.new.self
+    let left = commit_left text (shape_of_core c.self.inside) c.reserve.new.self.items (map name_of c.names.result.now) (map name_of c.names-in-Err.result.now) c.take.new.self
     c.give-in-Err.new.self c.self.invariant.shape c.if-generation-gt-LAST_NUMBER.false c.in_ok-reserve.ensures.items (c.names.ensures ∙ ap (λ d. commit_needs d.commit) draft)
     (c.names-in-Err.ensures ∙ ap (λ d. commit_needs d.commit) draft) c.in_ok-take.ensures.ok c.give-in-Err.ensures in
     record {
-      shape = refusals_keep (names_begun (shape_in c.self.inside)) (shape_in c.self.inside) _ left c.self.invariant.shape;
+      shape = refusals_keep (names_begun (shape_of_core c.self.inside)) (shape_of_core c.self.inside) _ left c.self.invariant.shape;
       waits = c.self.invariant.waits;
       few = c.self.invariant.few;
       merges = c.self.invariant.merges;
@@ -76,13 +76,13 @@ returns-in-Ok-clause-ok g c =
     let given = ap (map name_of) c.deref-in-Ok.ensures.value ∙ c.in_ok-given.ensures
     ∙ ap (λ (cs : List CommitFile). names_of_commits (filter (λ (d : CommitFile). not (stays_kept c.self.inside.snapshots (Some c.self.inside.next_generation) d.generation)) cs))
     c.deref.ensures.value in
-    let committed = committed_is text (shape_in c.self.inside) c.into_parts-commit.result.0 c.reserve.new.self.items c.keep.new.commits.items c.into_parts-commit.result.1
+    let committed = committed_is text (shape_of_core c.self.inside) c.into_parts-commit.result.0 c.reserve.new.self.items c.keep.new.commits.items c.into_parts-commit.result.1
     (map name_of c.names.result.now) (map name_of c.deref-in-Ok.result.now) c.take.new.self c.give.new.self c.if-generation-gt-LAST_NUMBER.false
     (c.into_parts-commit.ensures.parts.0 ∙ ap (λ d. d.commit) draft) (c.into_parts-commit.ensures.parts.1 ∙ ap (λ d. d.listing) draft)
     c.in_ok-reserve.ensures.items c.keep.ensures (c.names.ensures ∙ ap (λ d. commit_needs d.commit) draft) given c.in_ok-take.ensures.ok c.give.ensures in
-    let written = commit_writes text (shape_in c.self.inside) c.in_ok-draft.draft (g.D.Holder.bytes c.args.device.now) (g.D.Holder.bytes c.write.new.device) c.drafts_write_commits.ensures draft
+    let written = commit_writes text (shape_of_core c.self.inside) c.in_ok-draft.draft (g.D.Holder.bytes c.args.device.now) (g.D.Holder.bytes c.write.new.device) c.drafts_write_commits.ensures draft
     c.in-Ok.ensures.others c.in-Ok.ensures.own c.in-Ok.ensures.live in
-    let new = record (shape_in c.self.inside) {
+    let new = record (shape_of_core c.self.inside) {
       commits = c.keep.new.commits.items;
       listed = c.into_parts-commit.result.1;
       users = c.give.new.self;
@@ -107,11 +107,11 @@ pub returns-in-Err-clause-err : goal.returns-in-Err-clause-err
 returns-in-Err-clause-err g c =
     let text = c.args.text.now in
     let draft = c.in_ok-draft.ensures ∙ ap (draft_now text) (sym c.self.view_is) in
-    let left = commit_left text (shape_in c.self.inside) c.reserve.new.self.items (map name_of c.names.result.now) (map name_of c.names-in-Err.result.now) c.take.new.self
+    let left = commit_left text (shape_of_core c.self.inside) c.reserve.new.self.items (map name_of c.names.result.now) (map name_of c.names-in-Err.result.now) c.take.new.self
     c.give-in-Err.new.self c.self.invariant.shape c.if-generation-gt-LAST_NUMBER.false c.in_ok-reserve.ensures.items (c.names.ensures ∙ ap (λ d. commit_needs d.commit) draft)
     (c.names-in-Err.ensures ∙ ap (λ d. commit_needs d.commit) draft) c.in_ok-take.ensures.ok c.give-in-Err.ensures in
     let touched = subst (λ d. TouchesOnly (begun d.commit.generation d.listing) (g.D.Holder.bytes c.args.device.now) (g.D.Holder.bytes c.write.new.device)) draft c.in-Err.ensures.others in
-    let new = record (shape_in c.self.inside) {
+    let new = record (shape_of_core c.self.inside) {
       commits = c.reserve.new.self.items;
       users = c.give-in-Err.new.self;
       next_generation = c.self.inside.next_generation + 1;

@@ -1,16 +1,16 @@
 use Rattle.std.proofs.Common.{◌∙◌, refl, sym, ap, subst}
 use Rattle.cat_ledger_laws.proofs.shape.MergeSteps.{copies_keep, ends_keep}
-use Rattle.cat_ledger_state.specs.Cores.{shape_in, HasRowsLeft}
+use Rattle.cat_ledger_state.specs.Cores.{shape_of_core, HasRowsLeft}
 use Rattle.cat_ledger_state.proofs.Merging.{copied_is, ended_is, still_under, none_under}
 use Rattle.cat_ledger_state.proofs.state.Core.copy_rows.Goals as goal
 
 pub invariant_of-self : goal.invariant_of-self
 invariant_of-self g c =
     let some = sym c.take.ensures.value ∙ c.in-Some.is in
-    let copied = copied_is (shape_in c.self.inside) c.self.inside.merging c.in-Some.merge c.copy_step.new.self refl some
+    let copied = copied_is (shape_of_core c.self.inside) c.self.inside.merging c.in-Some.merge c.copy_step.new.self refl some
     (subst (λ s. HasRowsLeft s.merging) (sym c.self.view_is) c.requires) c.in-Ok.ensures.ok in
     record {
-      shape = copies_keep c.in-Some.merge.shape (shape_in c.self.inside) _ copied c.self.invariant.shape;
+      shape = copies_keep c.in-Some.merge.shape (shape_of_core c.self.inside) _ copied c.self.invariant.shape;
       waits = c.self.invariant.waits;
       few = c.self.invariant.few;
       merges = ap (λ m. m.schema) c.in-Ok.ensures.ok ∙ still_under c.self.inside.schema c.self.inside.merging c.in-Some.merge some c.self.invariant.merges;
@@ -20,10 +20,10 @@ pub invariant_of-self-in-Err-1 : goal.invariant_of-self-in-Err-1
 invariant_of-self-in-Err-1 g c =
     let some = sym c.take.ensures.value ∙ c.in-Some.is in
     let number = c.number.ensures ∙ ap (λ m. m.shape.number) c.in-Err.ensures.err in
-    let ended = ended_is (shape_in c.self.inside) c.self.inside.merging c.take.new.self c.in-Some.merge c.give_source.new.refs c.number.result refl some
+    let ended = ended_is (shape_of_core c.self.inside) c.self.inside.merging c.take.new.self c.in-Some.merge c.give_source.new.refs c.number.result refl some
     c.take.ensures.after number c.give_source.ensures in
     record {
-      shape = ends_keep c.in-Some.merge.shape (shape_in c.self.inside) _ ended c.self.invariant.shape;
+      shape = ends_keep c.in-Some.merge.shape (shape_of_core c.self.inside) _ ended c.self.invariant.shape;
       waits = c.self.invariant.waits;
       few = c.self.invariant.few;
       merges = none_under c.self.inside.schema c.take.new.self c.take.ensures.after;

@@ -4,16 +4,16 @@ use Rattle.cat_model.specs.Write.{Write}
 use Rattle.cat_live_table.specs.cat_query.View.{query_of}
 use Rattle.cat_ledger_laws.specs.shape.Shapes.{IsShape}
 use Rattle.cat_ledger_laws.proofs.shape.Writes.{writes_keep}
-use Rattle.cat_ledger_state.specs.Cores.{shape_in}
+use Rattle.cat_ledger_state.specs.Cores.{shape_of_core}
 use Rattle.cat_ledger_state.proofs.Writing.{delete_is, leaves_few}
 use Rattle.cat_ledger_state.proofs.state.Core.delete_where.Goals as goal
 
 pub invariant_of-self-2 : goal.invariant_of-self-2
 invariant_of-self-2 c =
     let left = subst (λ s. s.count < last_number) (sym c.self.view_is) c.requires.left in
-    let is = delete_is (shape_in c.self.inside) (Write.delete_where (query_of c.args.query.now)) c.delete_where.new.self c.delete_where-2.new.self.records c.in_ok-delete_where.ensures.ok (ap (λ b. b.records) c.delete_where-2.ensures) refl in
+    let is = delete_is (shape_of_core c.self.inside) (Write.delete_where (query_of c.args.query.now)) c.delete_where.new.self c.delete_where-2.new.self.records c.in_ok-delete_where.ensures.ok (ap (λ b. b.records) c.delete_where-2.ensures) refl in
     record {
-      shape = subst IsShape (sym is) (writes_keep (shape_in c.self.inside) (Write.delete_where (query_of c.args.query.now)) left tt c.self.invariant.shape);
+      shape = subst IsShape (sym is) (writes_keep (shape_of_core c.self.inside) (Write.delete_where (query_of c.args.query.now)) left tt c.self.invariant.shape);
       waits = ap (λ b. b.schema) c.delete_where-2.ensures ∙ c.self.invariant.waits;
       few = subst (λ ls. length ls ≤ segment_limit) (sym c.in_ok-delete_where.ensures.ok) (leaves_few (Write.delete_where (query_of c.args.query.now)) c.self.inside.current segment_limit c.self.invariant.few);
       merges = c.self.invariant.merges;

@@ -4,7 +4,7 @@ use Rattle.cat_model.specs.Files.{Name}
 use Rattle.cat_model.specs.Limits.{segment_limit}
 use Rattle.cat_ledger_laws.specs.model.Users.{Changes}
 use Rattle.cat_ledger_laws.proofs.shape.MergeInstalls.{installs_keep}
-use Rattle.cat_ledger_state.specs.Cores.{StayKnown, shape_in}
+use Rattle.cat_ledger_state.specs.Cores.{StayKnown, shape_of_core}
 use Rattle.cat_ledger_state.proofs.Counting.{known_after}
 use Rattle.cat_ledger_state.specs.Installs.{HasAllPassed, HasFailed, HasInstalled}
 use Rattle.cat_ledger_state.proofs.Merging.{still_under, none_under}
@@ -15,7 +15,7 @@ pub install_merged-done-requires : goal.install_merged-done-requires
 install_merged-done-requires g c =
     let some = sym c.take.ensures.value ∙ c.in-Some.is in
     let given = subst (λ n. Changes [] (Name.source n ∷ []) c.self.inside.refs c.give_source.new.refs) c.number.ensures c.give_source.ensures in
-    may_install (shape_in c.self.inside) c.in-Some.merge c.len.result c.give_source.new.refs c.self.invariant.shape (ap (option_map (λ m. m.shape)) some)
+    may_install (shape_of_core c.self.inside) c.in-Some.merge c.len.result c.give_source.new.refs c.self.invariant.shape (ap (option_map (λ m. m.shape)) some)
     (still_under c.self.inside.schema c.self.inside.merging c.in-Some.merge some c.self.invariant.merges)
     (subst (λ s. HasAllPassed s.merging) (sym c.self.view_is) c.requires) c.len.ensures.len c.len.ensures.few given
 
@@ -23,10 +23,10 @@ pub invariant_of-self : goal.invariant_of-self
 invariant_of-self g c =
     let some = sym c.take.ensures.value ∙ c.in-Some.is in
     let given = subst (λ n. Changes [] (Name.source n ∷ []) c.self.inside.refs c.give_source.new.refs) c.number.ensures c.give_source.ensures in
-    let f = fails (shape_in c.self.inside) c.in-Some.merge c.give_source.new.refs c.install_merged-done.new.refs c.install_merged-done.new.current c.take.new.self
+    let f = fails (shape_of_core c.self.inside) c.in-Some.merge c.give_source.new.refs c.install_merged-done.new.refs c.install_merged-done.new.current c.take.new.self
     c.self.invariant.shape (ap (option_map (λ m. m.shape)) some) given c.in-Err.ensures.err c.take.ensures.after c.in-Err.ensures.same in
     record {
-      shape = fails_keep (shape_in c.self.inside) c.in-Some.merge.shape _ f c.self.invariant.shape;
+      shape = fails_keep (shape_of_core c.self.inside) c.in-Some.merge.shape _ f c.self.invariant.shape;
       waits = c.self.invariant.waits;
       few = subst (λ ls. length ls ≤ segment_limit) (sym c.in-Err.ensures.err) c.self.invariant.few;
       merges = none_under c.self.inside.schema c.take.new.self c.take.ensures.after;
@@ -36,9 +36,9 @@ pub returns-in-Err-clause-err : goal.returns-in-Err-clause-err
 returns-in-Err-clause-err g c =
     let some = sym c.take.ensures.value ∙ c.in-Some.is in
     let given = subst (λ n. Changes [] (Name.source n ∷ []) c.self.inside.refs c.give_source.new.refs) c.number.ensures c.give_source.ensures in
-    let f = fails (shape_in c.self.inside) c.in-Some.merge c.give_source.new.refs c.install_merged-done.new.refs c.install_merged-done.new.current c.take.new.self
+    let f = fails (shape_of_core c.self.inside) c.in-Some.merge c.give_source.new.refs c.install_merged-done.new.refs c.install_merged-done.new.current c.take.new.self
     c.self.invariant.shape (ap (option_map (λ m. m.shape)) some) given c.in-Err.ensures.err c.take.ensures.after c.in-Err.ensures.same in
-    let new = record (shape_in c.self.inside) {
+    let new = record (shape_of_core c.self.inside) {
       leaves = c.install_merged-done.new.current;
       merging = option_map (λ m. m.shape) c.take.new.self;
       users = c.install_merged-done.new.refs;
@@ -46,20 +46,20 @@ returns-in-Err-clause-err g c =
     let told = g.D.Holder.bytes c.args.device.now in
     let told' = g.D.Holder.bytes c.install_merged-done.new.device in
     subst (λ s. HasFailed told s told' new) c.self.view_is
-    (failed_has (shape_in c.self.inside) new c.in-Some.merge told told' f c.in-Err.ensures.others)
+    (failed_has (shape_of_core c.self.inside) new c.in-Some.merge told told' f c.in-Err.ensures.others)
 
 pub invariant_of-self-2 : goal.invariant_of-self-2
 invariant_of-self-2 g c =
     let some = sym c.take.ensures.value ∙ c.in-Some.is in
     let making = ap (option_map (λ m. m.shape)) some in
     let given = subst (λ n. Changes [] (Name.source n ∷ []) c.self.inside.refs c.give_source.new.refs) c.number.ensures c.give_source.ensures in
-    let is = installs (shape_in c.self.inside) c.in-Some.merge c.give_source.new.refs c.install_merged-done.new.refs c.install_merged-done.new.current c.take.new.self
+    let is = installs (shape_of_core c.self.inside) c.in-Some.merge c.give_source.new.refs c.install_merged-done.new.refs c.install_merged-done.new.current c.take.new.self
     making (still_under c.self.inside.schema c.self.inside.merging c.in-Some.merge some c.self.invariant.merges)
     (subst (λ s. HasAllPassed s.merging) (sym c.self.view_is) c.requires) given c.in_default-done.ensures.users c.in_default-done.ensures.ok c.take.ensures.after in
     record {
-      shape = installs_keep c.in-Some.merge.shape (shape_in c.self.inside) _ is c.self.invariant.shape;
+      shape = installs_keep c.in-Some.merge.shape (shape_of_core c.self.inside) _ is c.self.invariant.shape;
       waits = c.self.invariant.waits;
-      few = no_longer (shape_in c.self.inside) c.in-Some.merge c.install_merged-done.new.current segment_limit c.self.invariant.shape making c.self.invariant.few
+      few = no_longer (shape_of_core c.self.inside) c.in-Some.merge c.install_merged-done.new.current segment_limit c.self.invariant.shape making c.self.invariant.few
           c.in_default-done.ensures.ok;
       merges = none_under c.self.inside.schema c.take.new.self c.take.ensures.after;
     }
@@ -69,10 +69,10 @@ returns-clause-ok g c =
     let some = sym c.take.ensures.value ∙ c.in-Some.is in
     let under = still_under c.self.inside.schema c.self.inside.merging c.in-Some.merge some c.self.invariant.merges in
     let given = subst (λ n. Changes [] (Name.source n ∷ []) c.self.inside.refs c.give_source.new.refs) c.number.ensures c.give_source.ensures in
-    let is = installs (shape_in c.self.inside) c.in-Some.merge c.give_source.new.refs c.install_merged-done.new.refs c.install_merged-done.new.current c.take.new.self
+    let is = installs (shape_of_core c.self.inside) c.in-Some.merge c.give_source.new.refs c.install_merged-done.new.refs c.install_merged-done.new.current c.take.new.self
     (ap (option_map (λ m. m.shape)) some) under
     (subst (λ s. HasAllPassed s.merging) (sym c.self.view_is) c.requires) given c.in_default-done.ensures.users c.in_default-done.ensures.ok c.take.ensures.after in
-    let new = record (shape_in c.self.inside) {
+    let new = record (shape_of_core c.self.inside) {
       leaves = c.install_merged-done.new.current;
       merging = option_map (λ m. m.shape) c.take.new.self;
       users = c.install_merged-done.new.refs;
@@ -80,7 +80,7 @@ returns-clause-ok g c =
     let told = g.D.Holder.bytes c.args.device.now in
     let told' = g.D.Holder.bytes c.install_merged-done.new.device in
     subst (λ s. HasInstalled told s told' new) c.self.view_is
-    (installed_has (shape_in c.self.inside) new c.in-Some.merge told told' is under c.in_default-done.ensures.others c.in_default-done.ensures.written)
+    (installed_has (shape_of_core c.self.inside) new c.in-Some.merge told told' is under c.in_default-done.ensures.others c.in_default-done.ensures.written)
 
 pub returns-in-Err-clause-known : goal.returns-in-Err-clause-known
 returns-in-Err-clause-known g c =

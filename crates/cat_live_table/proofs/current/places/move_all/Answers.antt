@@ -1,7 +1,7 @@
 use Rattle.std.proofs.Common.{◌≡◌, ◌<◌, ◌++◌, ◌∷◌, [], List, length, map, sym, ap, ◌∙◌, arith, append_assoc}
 use Rattle.std.specs.HashMap.{get_by_text}
 use Rattle.cat_model.specs.RowSets.{indices}
-use Rattle.cat_live_table.specs.current.Places.{Key, moved, moved_at}
+use Rattle.cat_live_table.specs.current.Places.{PlacedId, moved_in_turn, moved_at}
 use Rattle.cat_live_table.proofs.current.Standing.{row_within, key_at, key_is, keys_at}
 use Rattle.cat_live_table.proofs.current.places.move_all.Goals as goal
 
@@ -15,7 +15,7 @@ loop-row-init c =
       finite = tt;
       rows = all;
       rest = λ id.
-          ap (λ (ks : List Key). moved ks id (get_by_text c.args.places.now id)) (ap (map (key_at leaf)) all ∙ keys_at leaf c.live.ensures.long);
+          ap (λ (ks : List PlacedId). moved_in_turn ks id (get_by_text c.args.places.now id)) (ap (map (key_at leaf)) all ∙ keys_at leaf c.live.ensures.long);
     }
 
 pub place_at-place-requires : goal.place_at-place-requires
@@ -43,7 +43,7 @@ loop-row-preserved c =
       finite = tt;
       rows = append_assoc c.loop-row.yielded (c.in-Some.row ∷ []) c.next.new.self ∙ whole;
       rest = λ id.
-          ap (moved (map (key_at leaf) c.next.new.self) id) (c.move_to.ensures id ∙ ap (λ (k : Key). moved_at k id (get_by_text c.loop-row.places id)) (sym key))
+          ap (moved_in_turn (map (key_at leaf) c.next.new.self) id) (c.move_to.ensures id ∙ ap (λ (k : PlacedId). moved_at k id (get_by_text c.loop-row.places id)) (sym key))
           ∙ rw steps at (c.loop-row.invariant.rest id);
     }
 

@@ -1,13 +1,13 @@
 use Rattle.std.proofs.Common.{rules, Some, sym, ap}
 use Rattle.std.specs.HashMap.{get_by_text}
 use Rattle.std.proofs.lemmas.Map.Text.{hash_map_updates_text}
-use Rattle.cat_live_table.specs.current.Places.{Key}
+use Rattle.cat_live_table.specs.current.Places.{PlacedId}
 use Rattle.cat_live_table.proofs.current.Moved.{written_over}
 use Rattle.cat_live_table.proofs.current.places.move_to.Goals as goal
 
 pub returns-in-Some : goal.returns-in-Some
 returns-in-Some c = λ q.
-    let k : Key = record { id = c.args.id.now; place = c.args.place } in
+    let k : PlacedId = record { id = c.args.id.now; place = c.args.place } in
     let old = c.args.places.now in
     let new = c.get_mut.follows.lender c.args.place in
     let writes = hash_map_updates_text c.args.id.now old new (Some c.args.place) ((c.get_mut.follows.holds c.args.place).3 (search rules)) q in

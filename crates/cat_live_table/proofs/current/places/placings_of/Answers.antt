@@ -1,7 +1,7 @@
 use Rattle.std.proofs.Common.{◌≡◌, ◌<◌, ◌++◌, ◌∷◌, [], length, map, sym, ap, ap₂, ◌∙◌, arith, append_assoc, append-nil, List}
 use Rattle.std.proofs.lemmas.List.{map_push}
 use Rattle.cat_model.specs.RowSets.{indices}
-use Rattle.cat_live_table.specs.current.Places.{Key}
+use Rattle.cat_live_table.specs.current.Places.{PlacedId}
 use Rattle.cat_live_table.proofs.current.Standing.{row_within, key_at, key_at_is, keys_at}
 use Rattle.cat_live_table.proofs.current.places.placings_of.Goals as goal
 
@@ -21,7 +21,7 @@ loop-row-preserved c =
       can = tt;
       finite = tt;
       rows = append_assoc c.loop-row.yielded (c.in-Some.row ∷ []) c.next.new.self ∙ rest;
-      made = c.in_ok-push.ensures.items ∙ ap₂ (λ (ks : List Key) (k : Key). ks ++ k ∷ []) c.loop-row.invariant.made made
+      made = c.in_ok-push.ensures.items ∙ ap₂ (λ (ks : List PlacedId) (k : PlacedId). ks ++ k ∷ []) c.loop-row.invariant.made made
           ∙ sym (map_push (key_at c.args.leaf.now) c.loop-row.yielded c.in-Some.row);
     }
 

@@ -3,7 +3,7 @@ use Rattle.std.specs.Prelude.{All}
 use Rattle.std.specs.List.{range_with_len}
 use Rattle.cat_model.specs.Text.{Text}
 use Rattle.cat_model.specs.View.{row_of, IsFormedRow, words_of_field}
-use Rattle.cat_segment.specs.Fields.{contents_in, record_of}
+use Rattle.cat_segment.specs.Fields.{contents_of_rows, row_record}
 use Rattle.cat_segment.proofs.Made.{fields_right, rows_formed, rows_words, IsMade, rows_in_body, IsBody-made}
 use Rattle.cat_segment.proofs.segment.Segment.of.Goals as goal
 
@@ -16,13 +16,13 @@ made c = record {
   numbers = c.in_ok-write_numbers.ensures.ok;
   ids = c.in_ok-ids.ensures.ok;
   lengths = c.in_ok-sources.ensures.ok;
-  columns = c.in_ok-columns_of.ensures.ok ∙ ap (λ fs. map (λ k. contents_in k c.args.rows.now) (range_with_len 0 (length fs))) c.fields.ensures.value;
+  columns = c.in_ok-columns_of.ensures.ok ∙ ap (λ fs. map (λ k. contents_of_rows k c.args.rows.now) (range_with_len 0 (length fs))) c.fields.ensures.value;
 }
 
-formed : (c : goal.In_ok-columns_of) → All IsFormedRow (map (λ r. row_of (record_of r)) c.args.rows.now)
+formed : (c : goal.In_ok-columns_of) → All IsFormedRow (map (λ r. row_of (row_record r)) c.args.rows.now)
 formed c = rows_formed c.args.schema.now c.args.rows.now c.requires.rows c.fields.ensures.valid c.in_ok-write_numbers.ensures.fit c.in_ok-ids.ensures.forms c.in_ok-sources.ensures.sizes (rw (← c.fields.ensures.value) c.in_ok-columns_of.ensures.fitting)
 
-words : (c : goal.In_ok-columns_of) → (name : Text) → length (words_of_field (map (λ r. row_of (record_of r)) c.args.rows.now) name) < 2 ^ 32
+words : (c : goal.In_ok-columns_of) → (name : Text) → length (words_of_field (map (λ r. row_of (row_record r)) c.args.rows.now) name) < 2 ^ 32
 words c = rows_words c.args.schema.now c.args.rows.now c.requires.rows c.fields.ensures.valid c.in_ok-write_numbers.ensures.fit c.in_ok-ids.ensures.forms c.in_ok-sources.ensures.sizes (rw (← c.fields.ensures.value) c.in_ok-columns_of.ensures.fitting)
 
 pub invariant_of-result : goal.invariant_of-result

@@ -4,7 +4,7 @@ use Rattle.cat_base.specs.declared.refusal.Refusal.TheVariants.{Line as NoForm, 
 use Rattle.cat_model.specs.Run.{Command, Reply}
 use Rattle.cat_ledger_laws.proofs.lines.RefusalAnswers.{faults_answer}
 use Rattle.cat_commands.proofs.ledger_laws.Histories.{nothing_goes}
-use Rattle.cat_service.specs.Worlds.{device_of, policy_of, shape_of}
+use Rattle.cat_service.specs.Worlds.{device_of, policy_of, shape_of_service}
 use Rattle.cat_service.proofs.Hearing.{open_says}
 use Rattle.cat_service.proofs.Names.{refused}
 use Rattle.cat_service.proofs.world.World.answer.Goals as goal
@@ -16,7 +16,7 @@ returns-in-NoForm-clause-does g c = rw c.in-NoForm.is (record {
     refl,
     let w = c.args.self.now in
         let told = g.D.Holder.bytes (device_of w) in
-        faults_answer (policy_of w) told told (shape_of w) (shape_of w) c.args.line.now.session Command.formless NoForm refl (refl, λ q. refl),
+        faults_answer (policy_of w) told told (shape_of_service w) (shape_of_service w) c.args.line.now.session Command.formless NoForm refl (refl, λ q. refl),
   );
   told = refused NoForm;
   names = tt;

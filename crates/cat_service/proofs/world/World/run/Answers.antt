@@ -5,7 +5,7 @@ use Rattle.cat_protocol.specs.declared.lines.command.Command.TheVariants.{NoForm
 use Rattle.cat_ledger_laws.proofs.lines.NeededFiles.{promised_files_stand}
 use Rattle.cat_service.specs.Histories.{RunsHistory}
 use Rattle.cat_service.specs.Running.{RunsLines}
-use Rattle.cat_service.specs.Worlds.{device_of, shape_of}
+use Rattle.cat_service.specs.Worlds.{device_of, shape_of_service}
 use Rattle.cat_service.proofs.Histories.{none_spoken, one_spoken}
 use Rattle.cat_service.proofs.Ran.{maps_more, none_runs, one_more}
 use Rattle.cat_service.proofs.world.World.run.Goals as goal
@@ -55,8 +55,8 @@ returns-clause-history g c =
 
 pub returns-clause-promised : goal.returns-clause-promised
 returns-clause-promised g c from run stands =
-    promised_files_stand (g.D.Holder.bytes (device_of c.loop-line.self)) (shape_of c.loop-line.self) from run stands
+    promised_files_stand (g.D.Holder.bytes (device_of c.loop-line.self)) (shape_of_service c.loop-line.self) from run stands
 
 pub returns-in_err-replies-clause-promised : goal.returns-in_err-replies-clause-promised
 returns-in_err-replies-clause-promised g c from run stands =
-    promised_files_stand (g.D.Holder.bytes (device_of c.args.self.now)) (shape_of c.args.self.now) from run stands
+    promised_files_stand (g.D.Holder.bytes (device_of c.args.self.now)) (shape_of_service c.args.self.now) from run stands

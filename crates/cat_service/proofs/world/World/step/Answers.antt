@@ -2,7 +2,7 @@ use Rattle.cat_protocol.specs.replies.Reply.{reply_of}
 use Rattle.cat_ledger_laws.proofs.lines.Answered.{answers_are_steps}
 use Rattle.cat_ledger_laws.proofs.lines.NeededFiles.{promised_files_stand}
 use Rattle.cat_ledger_laws.specs.lines.LineLaws.{line_of}
-use Rattle.cat_service.specs.Worlds.{device_of, policy_of, shape_of}
+use Rattle.cat_service.specs.Worlds.{device_of, policy_of, shape_of_service}
 use Rattle.cat_service.proofs.Outlasted.{newest_outlasts}
 use Rattle.cat_service.proofs.world.World.step.Goals as goal
 
@@ -13,7 +13,7 @@ returns-clause-run g c =
     let does = c.answer-answer.ensures.does in (
       does.answers.0,
       does.answers.1,
-      answers_are_steps (policy_of old) (g.D.Holder.bytes (device_of old)) (g.D.Holder.bytes (device_of new)) (shape_of old) (shape_of new)
+      answers_are_steps (policy_of old) (g.D.Holder.bytes (device_of old)) (g.D.Holder.bytes (device_of new)) (shape_of_service old) (shape_of_service new)
           (line_of c.args.line.now.session does.answers.0) (reply_of c.answer-answer.result) does.answers.2,
       does.wanting,
       does.answers.2,
@@ -24,9 +24,9 @@ returns-clause-history g c = c.answer-answer.ensures.history
 
 pub returns-clause-promised : goal.returns-clause-promised
 returns-clause-promised g c from run stands =
-    promised_files_stand (g.D.Holder.bytes (device_of c.answer-answer.new.self)) (shape_of c.answer-answer.new.self) from run stands
+    promised_files_stand (g.D.Holder.bytes (device_of c.answer-answer.new.self)) (shape_of_service c.answer-answer.new.self) from run stands
 
 pub returns-clause-outlasts : goal.returns-clause-outlasts
 returns-clause-outlasts g c tells from run stands =
-    newest_outlasts (g.D.Holder.bytes (device_of c.answer-answer.new.self)) (g.D.Holder.may_leave (device_of c.answer-answer.new.self)) (shape_of c.answer-answer.new.self)
+    newest_outlasts (g.D.Holder.bytes (device_of c.answer-answer.new.self)) (g.D.Holder.may_leave (device_of c.answer-answer.new.self)) (shape_of_service c.answer-answer.new.self)
     from run (tells (device_of c.answer-answer.new.self)) (c.newest_lasts.ensures tells) stands

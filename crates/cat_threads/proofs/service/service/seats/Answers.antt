@@ -2,7 +2,7 @@ use Rattle.std.proofs.Common.{◌≡◌, ◌+◌, [], ◌∷◌, ◌++◌, map, 
 use Rattle.std.specs.Prelude.{slice_index_or}
 use Rattle.std.proofs.lemmas.List.{take_more}
 use Rattle.cat_threads.specs.history.Rules.{Sight}
-use Rattle.cat_threads.specs.history.Entries.{has}
+use Rattle.cat_threads.specs.history.Entries.{has_session}
 use Rattle.cat_threads.specs.history.Rules.{scribe, seating}
 use Rattle.cat_threads.specs.service.Passes.{Seen, newcomer, seated_by}
 use Rattle.cat_threads.proofs.service.Passed.{is_free, seated_by-snoc, map-snoc}
@@ -11,7 +11,7 @@ use Rattle.cat_threads.proofs.service.service.seats.Goals as goal
 pub seat-seat-requires-clause-free : goal.seat-seat-requires-clause-free
 seat-seat-requires-clause-free g c =
     let i = c.loop-session.invariant in
-    ap (λ (v : Sight). has (slice_index_or c.args.sessions.now c.loop-session.session-index 0) v.seated) i.1
+    ap (λ (v : Sight). has_session (slice_index_or c.args.sessions.now c.loop-session.session-index 0) v.seated) i.1
     ∙ is_free [] c.args.sessions.now c.loop-session.session-index 0 c.requires.different (λ s there. refl) (omega arith)
 
 pub loop-session-preserved : goal.loop-session-preserved

@@ -1,6 +1,6 @@
 use Rattle.std.proofs.Common.{◌≡◌, List, ap, map, subst, sym}
 use Rattle.cat_model.specs.View.{segments_of}
-use Rattle.cat_cached_sets.specs.cache.Cached.{Entry}
+use Rattle.cat_cached_sets.specs.cache.Cached.{CachedSet}
 use Rattle.cat_query.specs.View.{query_of}
 use Rattle.cat_cached_sets.specs.filters.Filters.{Filters}
 use Rattle.cat_cached_sets.specs.filters.Known.{Remembers, RemembersBelow}
@@ -18,7 +18,7 @@ returns-clause-known c =
     let ss = segments_of c.args.leaves.now in
     let old : Filters = record { cached = c.self.inside.cache; noted = map query_of c.self.inside.noted.items; warming = c.self.inside.warming } in
     subst (λ (f : Filters). Remembers f (record old { cached = c.sets_under.new.cache })) c.self.view_is
-    (subst (λ (es : List Entry). Remembers old (record old { cached = es })) (sym c.sets_under.ensures.used) (used_remembers q ss old))
+    (subst (λ (es : List CachedSet). Remembers old (record old { cached = es })) (sym c.sets_under.ensures.used) (used_remembers q ss old))
 
 pub returns-clause-below : goal.returns-clause-below
 returns-clause-below c =
@@ -26,4 +26,4 @@ returns-clause-below c =
     let ss = segments_of c.args.leaves.now in
     let old : Filters = record { cached = c.self.inside.cache; noted = map query_of c.self.inside.noted.items; warming = c.self.inside.warming } in
     subst (λ (f : Filters). RemembersBelow f (record old { cached = c.sets_under.new.cache })) c.self.view_is
-    (subst (λ (es : List Entry). RemembersBelow old (record old { cached = es })) (sym c.sets_under.ensures.used) (used_below q ss old))
+    (subst (λ (es : List CachedSet). RemembersBelow old (record old { cached = es })) (sym c.sets_under.ensures.used) (used_below q ss old))

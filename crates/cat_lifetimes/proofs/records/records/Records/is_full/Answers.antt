@@ -3,7 +3,8 @@ use Rattle.std.specs.Prelude.{ltb}
 use Rattle.std.specs.List.{position}
 use Rattle.cat_model.specs.Run.{is_full}
 use Rattle.cat_model.specs.State.{held_in}
-use Rattle.cat_lifetimes.specs.records.Records.{Records, tokens_of}
+use Rattle.cat_lifetimes.specs.records.Records.{Records}
+use Rattle.cat_ledger_laws.specs.shape.Steps.{tokens_of}
 use Rattle.cat_lifetimes.proofs.records.Shown.{full_by}
 use Rattle.cat_lifetimes.proofs.records.records.Records.is_full.Goals as goal
 

@@ -2,7 +2,7 @@ use Rattle.std.proofs.Common.{◌≡◌, ap, ◌∙◌, is_some, not, filter}
 use Rattle.std.specs.Map.{values_of}
 use Rattle.cat_model.specs.Write.{Write}
 use Rattle.cat_model.specs.Table.{without}
-use Rattle.cat_live_table.specs.buffer.Buffered.{has_id}
+use Rattle.cat_live_table.specs.buffer.Buffered.{some_has_id}
 use Rattle.cat_live_table.proofs.buffer.Entries.{is_key, taken_out, values_without, is_there, keyed-filter}
 use Rattle.cat_live_table.proofs.buffer.Kept.{IsBuffered-without}
 use Rattle.cat_live_table.proofs.buffer.buffer.Buffer.delete.Goals as goal
@@ -28,4 +28,4 @@ returns-clause-removed c =
 
 pub returns-clause-found : goal.returns-clause-found
 returns-clause-found c =
-    c.is_some.ensures ∙ ap is_some c.shift_remove.ensures.value ∙ is_there c.args.id.now c.self.inside.entries.entries c.self.invariant.1 ∙ ap (λ b. has_id c.args.id.now b.records) c.self.view_is
+    c.is_some.ensures ∙ ap is_some c.shift_remove.ensures.value ∙ is_there c.args.id.now c.self.inside.entries.entries c.self.invariant.1 ∙ ap (λ b. some_has_id c.args.id.now b.records) c.self.view_is

@@ -1,7 +1,7 @@
 use Rattle.std.proofs.Common.{◌≡◌, ℕ, ◌+◌, ◌++◌, ◌∷◌, [], length, map, Some, None, cond, eqb, hash_map_len, nat_eq, sym, ap, ap₂, ◌∙◌, subst, arith}
 use Rattle.std.specs.HashMap.{get, get_by_text}
 use Rattle.cat_ledger_laws.specs.model.Leaves.{AreLeaves}
-use Rattle.cat_live_table.specs.current.Places.{key_of, standing_in, placed}
+use Rattle.cat_live_table.specs.current.Places.{placed_id_of, standing_in, placed_in_turn}
 use Rattle.cat_live_table.proofs.current.Texts.{reordered_text}
 use Rattle.cat_live_table.proofs.current.Currents.{renoted, pushed, is_new}
 use Rattle.cat_live_table.proofs.current.current.Current.push.Goals as goal
@@ -32,8 +32,8 @@ invariant_of-self-2 c =
     let more : hash_map_len c.insert-indexed.new.self ≡ hash_map_len c.self.inside.indices + 1 = rw none at grown ∙ ap (λ (n : ℕ). n + 1) c.reserve-2.ensures.entries.1 in
     rw (items, same_items)
     (pushed _ _ _ _ c.self.invariant c.args.leaf _ _ _ apart
-    (λ q. c.place_all.ensures q ∙ ap (λ ks. placed ks q (get_by_text c.reserve.new.self q)) c.in_ok-placings.ensures.ok
-    ∙ ap (placed (map key_of (standing_in c.args.leaf)) q) (reordered_text c.self.inside.places c.reserve.new.self c.reserve.ensures.entries.2 q))
+    (λ q. c.place_all.ensures q ∙ ap (λ ks. placed_in_turn ks q (get_by_text c.reserve.new.self q)) c.in_ok-placings.ensures.ok
+    ∙ ap (placed_in_turn (map placed_id_of (standing_in c.args.leaf)) q) (reordered_text c.self.inside.places c.reserve.new.self c.reserve.ensures.entries.2 q))
     (λ n. updates.0 n ∙ ap₂ (λ (m k : ℕ). cond (eqb m n) (Some k) (get nat_eq c.reserve-2.new.self n)) number long
     ∙ ap (cond (eqb c.args.leaf.segment.number n) (Some (length c.self.inside.leaves.items))) (c.reserve-2.ensures.entries.2 n))
     more)

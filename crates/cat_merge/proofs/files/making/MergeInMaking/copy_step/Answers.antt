@@ -6,7 +6,7 @@ use Rattle.cat_directory.specs.declared.name.FileName.TheVariants as file
 use Rattle.cat_ledger_laws.specs.shape.MergeLaws.{CopiesOn}
 use Rattle.cat_ledger_laws.specs.shape.Shapes.{MergingShape}
 use Rattle.cat_ledger_laws.specs.shape.Ties.{ToldFiles, TouchesOnly}
-use Rattle.cat_merge.specs.Merging.{Merging}
+use Rattle.cat_merge.specs.Merging.{MergeUnderWay}
 use Rattle.cat_merge.specs.Ranges.{AreWithin}
 use Rattle.cat_model.specs.Files.{Name}
 use Rattle.cat_merge.specs.files.Making.{InMaking}
@@ -18,7 +18,7 @@ pub returns-clause-copied : goal.returns-clause-copied
 returns-clause-copied g c =
     let told : ToldFiles = g.D.Holder.bytes c.args.device.now in
     let told' : ToldFiles = g.D.Holder.bytes c.append_ranges.new.device in
-    let merge : Merging = c.self.inside.merge in
+    let merge : MergeUnderWay = c.self.inside.merge in
     let m : MergingShape = record { number = merge.number; index = c.self.inside.index; inputs = merge.inputs; passed = merge.passed } in
     let appended : AreAppended c.deref.result.now (file.Source merge.number) told told' =
     subst (λ (n : ℕ). AreAppended c.deref.result.now (file.Source n) told told') c.self.invariant.same c.in_ok-append_ranges.ensures.ok in
@@ -30,7 +30,7 @@ returns-clause-copied g c =
 pub returns-in_err-append_ranges-clause-damaged : goal.returns-in_err-append_ranges-clause-damaged
 returns-in_err-append_ranges-clause-damaged g c =
     let told : ToldFiles = g.D.Holder.bytes c.args.device.now in
-    let merge : Merging = c.self.inside.merge in
+    let merge : MergeUnderWay = c.self.inside.merge in
     let m : MergingShape = record { number = merge.number; index = c.self.inside.index; inputs = merge.inputs; passed = merge.passed } in
     passed (λ (e : Refusal). e ≡ Damaged → LacksSources c.args.self.now.shape told) _ _ c.from_residual-in_err-append_ranges.ensures
     (λ is. subst (λ (x : MergingShape). LacksSources x told) (ap (λ (x : InMaking). x.shape) c.self.view_is)
@@ -43,7 +43,7 @@ returns-in_err-append_ranges-clause-damaged g c =
 pub returns-in_err-append_ranges-clause-short : goal.returns-in_err-append_ranges-clause-short
 returns-in_err-append_ranges-clause-short g c =
     let told : ToldFiles = g.D.Holder.bytes c.args.device.now in
-    let merge : Merging = c.self.inside.merge in
+    let merge : MergeUnderWay = c.self.inside.merge in
     let within : AreWithin merge.inputs c.deref.result.now = subst (AreWithin merge.inputs) (sym c.deref.ensures.value) c.in_ok-ranges.ensures.within in
     passed (λ (e : Refusal). e ≡ Damaged → Any (LacksBytes told) c.args.self.now.shape.inputs) _ _ c.from_residual-in_err-append_ranges.ensures
     (λ is. subst (λ (x : MergingShape). Any (LacksBytes told) x.inputs) (ap (λ (x : InMaking). x.shape) c.self.view_is)

@@ -4,7 +4,7 @@ use Rattle.cat_model.specs.Run.{Exchange}
 use Rattle.cat_protocol.specs.declared.lines.line.Line.{Line}
 use Rattle.cat_protocol.specs.declared.lines.command.Command.TheVariants.{NoForm}
 use Rattle.cat_service_tests.specs.plain.Exchange.{AreExchanges}
-use Rattle.cat_service_tests.specs.plain.Reply.{reply_of}
+use Rattle.cat_service_tests.specs.plain.Reply.{plain_reply}
 use Rattle.cat_service_tests.specs.plain.Plain.{beginning_of}
 use Rattle.cat_service_tests.proofs.plain.catalogue.ModelRuns.{Reaches-start, Reaches-push, exchanges-more, maps-more}
 use Rattle.cat_service_tests.proofs.plain.catalogue.Plain.run.Goals as goal
@@ -32,7 +32,7 @@ loop-line-preserved c = record {
       let before = c.loop-line.invariant.reached in
       let does = rw c.loop-line.invariant.schema at c.step.ensures.does in
       let line = get_or c.args.lines.now c.loop-line.line-index no_line in
-      let e : Exchange = record { line = record { session = line.session; command = does.0 }; reply = reply_of c.step.result.answer } in (
+      let e : Exchange = record { line = record { session = line.session; command = does.0 }; reply = plain_reply c.step.result.answer } in (
         before.0 ++ e ∷ [],
         rw c.in-Ok.ensures.items (exchanges-more c.args.self.now.schema c.args.lines.now c.loop-line.line-index no_line c.loop-line.replies.items c.step.result before.0 e c.loop-line-test.true before.1 (record { session = refl; command = does.1; reply = refl })),
         Reaches-push (beginning_of c.args.self.now) before.0 _ _ e.line e.reply before.2 does.2,

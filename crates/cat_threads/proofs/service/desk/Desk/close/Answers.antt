@@ -1,11 +1,11 @@
 use Rattle.crossbeam_utils.specs.Seq.{cell_view}
 use Rattle.std.specs.Prelude.{OnOk, Result, Ok, Err, ◌≡◌}
-use Rattle.cat_ledger.specs.cat_ledger_state.cat_views.Holds.{Hold}
+use Rattle.cat_ledger.specs.cat_ledger_state.cat_views.Holds.{HeldView}
 use Rattle.cat_ledger.specs.declared.views.Released.{Released}
 use Rattle.cat_threads.proofs.service.Answering.{released}
 use Rattle.cat_threads.proofs.service.desk.Desk.close.Goals as goal
 
-second : (A B : Type 0) (r : Result Released Hold) → OnOk r (A × B) → OnOk r B
+second : (A B : Type 0) (r : Result Released HeldView) → OnOk r (A × B) → OnOk r B
 second A B (Ok x) h = h.1
 second A B (Err e) h = h
 

@@ -2,13 +2,13 @@ use Rattle.std.proofs.Common.{◌≡◌, ℕ, ◌+◌, [], ◌∷◌, ◌++◌, 
 use Rattle.std.specs.Prelude.{Err}
 use Rattle.crossbeam_utils.specs.Seq.{cell_view}
 use Rattle.cat_base.specs.declared.refusal.Refusal.TheVariants.{Memory}
-use Rattle.cat_threads.specs.history.Entries.{Entry, entry, has}
+use Rattle.cat_threads.specs.history.Entries.{LogEntry, entry, has_session}
 use Rattle.cat_threads.specs.history.Rules.{Sight, scribe}
 use Rattle.cat_ledger.specs.Ledgers.{device_in, policy_in, shape_in}
 use Rattle.cat_ledger_laws.specs.lines.RefusalLaws.{command_of}
 use Rattle.cat_threads.proofs.sharing.Sharing.{counts_share, noted_share, still_share}
 use Rattle.cat_threads.specs.service.Passes.{Seen}
-use Rattle.cat_threads.specs.service.Writes.{IsForeign, write_of}
+use Rattle.cat_threads.specs.service.Writes.{PutsForeign, write_of}
 use Rattle.cat_threads.proofs.service.Passed.{follows_noted, wrote_noted, has_self}
 use Rattle.cat_threads.proofs.service.Granting.{apart_again, apart_noted, refused_still}
 use Rattle.cat_threads.proofs.service.Refusing.{fields_share}
@@ -32,7 +32,7 @@ invariant_of-self g c =
     let write = write_of c.args.write in
     let is : w ≡ scribe (v.list ++ entry session write ∷ []) v.token sessions [] =
     apart_noted v (cell_view c.join.new.desk) (cell_view c.note.new.desk) w sessions (cell_view c.me.inside.seat).own g.W.Noting.entry a.agrees.whole j.1 n.1 p.1
-    ∙ ap (λ (e : Entry). scribe (v.list ++ e ∷ []) v.token sessions []) c.requires.named in (
+    ∙ ap (λ (e : LogEntry). scribe (v.list ++ e ∷ []) v.token sessions []) c.requires.named in (
       p.0 ∙ (n.0 ∙ (j.0 ∙ i.0)),
       i.1,
       i.2 ∙ ap (λ (k : ℕ). from.start.token + k) (sym (ap (λ (x : Sight). x.token) is)),
@@ -88,12 +88,12 @@ returns-in-Ok-clause-wrote g c =
     let long : length joined.list ≡ length v.list = ap (λ (x : Sight). length x.list) j.desk.1 in
     let number = c.in-Ok.ensures.number in
     wrote_noted start session c.in-Ok.number write (cell_view c.me.inside.seat) joined (cell_view c.part.result) c.args.me.now c.me.view_is j.seen
-    (ap (λ (x : Sight). has session x.own) c.me.invariant.1 ∙ has_self session)
+    (ap (λ (x : Sight). has_session session x.own) c.me.invariant.1 ∙ has_self session)
     (omega arith)
-    (ap (λ (x : Sight). x.list) p.1 ∙ ap (λ (x : Sight). x.list) n.1 ∙ ap (λ (e : Entry). joined.list ++ e ∷ []) named)
+    (ap (λ (x : Sight). x.list) p.1 ∙ ap (λ (x : Sight). x.list) n.1 ∙ ap (λ (e : LogEntry). joined.list ++ e ∷ []) named)
 
 pub returns-in-Err-clause-kind : goal.returns-in-Err-clause-kind
 returns-in-Err-clause-kind g c =
     let old = c.self.inside.ledger in
     let same = fields_share (g.D.Holder.bytes (device_in old)) (shape_in old) g.J.Naming.from g.J.Naming.sessions (cell_view c.self.inside.scribe) c.self.invariant.3 in
-    λ is. subst (λ s. IsForeign s (write_of c.args.write)) same (c.in-Err.ensures.kind is)
+    λ is. subst (λ s. PutsForeign s (write_of c.args.write)) same (c.in-Err.ensures.kind is)
