@@ -12,6 +12,7 @@ pub mod LiveFiles
 pub mod Made
 pub mod Ordered
 pub mod Placed
+pub mod Ranged
 pub mod Spelled
 pub mod Steps
 pub mod Through

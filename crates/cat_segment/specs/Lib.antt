@@ -7,6 +7,7 @@ pub mod LiveStart
 pub mod Parts
 pub mod Sources
 pub mod Orders
+pub mod Ranges
 pub mod RowParts
 pub mod Valued
 pub use Rattle.cat_items.specs as cat_items
