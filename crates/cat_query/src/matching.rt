@@ -11,9 +11,9 @@ ghost use Rattle.cat_query.specs.Tests.{passes};
 use crate::doc_set::DocSet;
 use crate::query::{Clause, Primary, Query, Sign, Test};
 use cat_base::Text;
+use cat_segment::cat_columns::RowSet;
 use cat_segment::cat_columns::inverted::Terms;
-use cat_segment::cat_columns::{NumberColumn, RowSet};
-use cat_segment::{Column, Keywords, Labels, Segment};
+use cat_segment::{Column, Keywords, Labels, Numbers, Segment};
 use std::alloc::{AllocError, Global};
 
 impl Query {
@@ -33,7 +33,7 @@ impl Query {
 
 /// The primary of one clause without a sign, as most queries are: its rows are the query's, and no set is joined with
 /// another (`BooleanQuery.rewrite` of one clause).
-fn sole_primary(clauses: &[Clause]) -> Option<&Primary>
+pub(crate) fn sole_primary(clauses: &[Clause]) -> Option<&Primary>
     ensures { IfSome result (λ p. clauses_of clauses.now ≡ sole (primary_of p.now)) }
 {
     match clauses {
@@ -125,7 +125,7 @@ fn column_set(alloc: Global, test: &Test, column: &Column) -> Result<RowSet, All
     match column {
         Column::Text(terms) => words_set(alloc, test, terms),
         Column::Keyword(keywords) => keywords_set(alloc, test, keywords),
-        Column::Number(numbers) => numbers_set(alloc, test, numbers.values()),
+        Column::Number(numbers) => numbers_set(alloc, test, numbers),
         Column::Facet(labels) => labels_set(alloc, test, labels),
     }
 }
@@ -151,13 +151,13 @@ fn keywords_set(alloc: Global, test: &Test, keywords: &Keywords) -> Result<RowSe
     }
 }
 
-fn numbers_set(alloc: Global, test: &Test, numbers: &NumberColumn) -> Result<RowSet, AllocError>
+fn numbers_set(alloc: Global, test: &Test, numbers: &Numbers) -> Result<RowSet, AllocError>
     ensures { IfOk result (λ s. s ≡ map (λ n. passes test.now (Some (model.Content.number n))) numbers.now) }
 {
     match test {
-        Test::Number(wanted) => numbers.between(Some(*wanted), Some(*wanted)),
-        Test::NumberRange(low, high) => numbers.between(*low, *high),
-        _ => RowSet::none(alloc, numbers.len()),
+        Test::Number(wanted) => numbers.between(alloc, Some(*wanted), Some(*wanted)),
+        Test::NumberRange(low, high) => numbers.between(alloc, *low, *high),
+        _ => RowSet::none(alloc, numbers.values().len()),
     }
 }
 

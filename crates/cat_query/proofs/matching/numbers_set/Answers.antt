@@ -1,4 +1,4 @@
-use Rattle.std.proofs.Common.{false}
+use Rattle.std.proofs.Common.{ap, false, length, ◌∙◌}
 use Rattle.std.specs.Prelude.{Some}
 use Rattle.cat_model.specs.Item as model
 use Rattle.cat_query.specs.Tests.{passes}
@@ -6,4 +6,4 @@ use Rattle.cat_query.proofs.RowTests.{retold, all_say, only_numbers}
 use Rattle.cat_query.proofs.matching.numbers_set.Goals as goal
 
 pub returns-in_default : goal.returns-in_default
-returns-in_default c = retold c.none.result (all_say false (λ x. passes c.args.test.now (Some (model.Content.number x))) (only_numbers c.args.test.now c.in_default.not-Number c.in_default.not-NumberRange) c.args.numbers.now c.len.result c.len.ensures.value) c.none.ensures.ok
+returns-in_default c = retold c.none.result (all_say false (λ x. passes c.args.test.now (Some (model.Content.number x))) (only_numbers c.args.test.now c.in_default.not-Number c.in_default.not-NumberRange) c.args.numbers.now c.len.result (c.len.ensures.value ∙ ap length c.values.ensures)) c.none.ensures.ok
