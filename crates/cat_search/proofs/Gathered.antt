@@ -1,6 +1,6 @@
 -- The hits of a segment that are passed one after another.
 use Rattle.std.proofs.Common.{◌≡◌, ℕ, ◌+◌, ◌<◌, ◌≤◌, min, List, [], ◌∷◌, ◌++◌, length, map, filter, take, get_or, AllPairs, ltb, Bor, Option, Some, None, option_map, IfSome, Result, Ok, Err, IfOk, Bool, false, true, cond, refl, sym, ◌∙◌, ap, subst, arith, append-nil, append_assoc, length-append}
-use Rattle.std.specs.Prelude.{count_by}
+use Rattle.std.specs.Prelude.{OnOk, count_by}
 use Rattle.std.specs.List.{AllByRecursion, flat_map}
 use Rattle.std.proofs.lemmas.Bool.Decides.{nat_tests}
 use Rattle.std.proofs.lemmas.List.{map-append, length-take, take-append-le, take_all, take_more, flat_map_more}
@@ -94,6 +94,37 @@ module _ (q : Query) (ls : List Leaf) (i : ℕ) (leaf : Leaf) (at : leaf ≡ get
       ∙ ap (filter (beyond mark)) (sym (map-append (row_standing o) old (selected hits leaf.segment.rows)))
       ∙ ap (λ rs. filter (beyond mark) (map (row_standing o) rs)) (sym hits_more)
 
+-- ---- one leaf more
+
+module _ (q : Query) (ls : List Leaf) (i : ℕ) (leaf : Leaf) (at : leaf ≡ get_or ls i leaf) (h : i < length ls) where
+  abbrev hits_to : ℕ → List Row
+  hits_to n = filter (row_matches q) (flat_map live_rows (take n ls))
+
+  abbrev hits_here : List Row
+  hits_here = filter (row_matches q) (live_rows leaf)
+
+  hits_next : hits_to (i + 1) ≡ hits_to i ++ hits_here
+  hits_next =
+      ap (filter (row_matches q)) (ap (flat_map live_rows) (take_more ls i leaf h ∙ ap (λ l. take i ls ++ l ∷ []) (sym at)) ∙ sym (flat_map_more live_rows [] (take i ls) leaf))
+      ∙ filter-append (row_matches q) (flat_map live_rows (take i ls)) (live_rows leaf)
+
+  pub leaf_total : (old found new : ℕ) → old ≡ length (hits_to i) → found ≡ length hits_here → new ≡ old + found → new ≡ length (hits_to (i + 1))
+  leaf_total old found new e f s =
+      let sum = length-append (hits_to i) hits_here in
+      omega (arith, e, f, s, sum) ∙ sym (ap length hits_next)
+
+  pub leaf_standings : (mark : Option HitStanding) (o : Order) → filter (beyond mark) (map (row_standing o) (hits_to i)) ++ filter (beyond mark) (map (row_standing o) hits_here) ≡ filter (beyond mark) (map (row_standing o) (hits_to (i + 1)))
+  leaf_standings mark o =
+      sym (filter-append (beyond mark) (map (row_standing o) (hits_to i)) (map (row_standing o) hits_here))
+      ∙ ap (filter (beyond mark)) (sym (map-append (row_standing o) (hits_to i) hits_here))
+      ∙ ap (λ rs. filter (beyond mark) (map (row_standing o) rs)) (sym hits_next)
+
+-- the standings of the hits of a leaf are those of its set
+pub hits_standings : (q : Query) (leaf : Leaf) (o : Order) (segment : Segment) (ranks : List HitStanding) (hits : List Bool) → segment ≡ leaf.segment → ranks ≡ map (row_standing o) segment.rows
+    → selected hits leaf.segment.rows ≡ filter (row_matches q) (live_rows leaf) → selected hits ranks ≡ map (row_standing o) (filter (row_matches q) (live_rows leaf))
+hits_standings q leaf o segment ranks hits same e is =
+    ap (selected hits) (e ∙ ap (λ t. map (row_standing o) t.rows) same) ∙ selected-map (row_standing o) hits leaf.segment.rows ∙ ap (map (row_standing o)) is
+
 -- ---- in order of addition
 
 cross : {X : Type 0} (R : X → X → Type 0) (ys : List X) (x : X) (xs : List X) → EachPair R (ys ++ x ∷ xs) → AllByRecursion (λ y. R y x) ys
@@ -136,6 +167,10 @@ first_added mark o p rows n is rises =
 pub if_ok : {A E : Type 0} (P Q : A → Type 0) → ((x : A) → P x → Q x) → (r : Result A E) → IfOk r P → IfOk r Q
 if_ok P Q f (Ok x) h = f x h
 if_ok P Q f (Err e) h = tt
+
+pub on_ok : {A E : Type 0} (P Q : Type 0) → (P → Q) → (r : Result A E) → OnOk r P → OnOk r Q
+on_ok P Q f (Ok x) h = f h
+on_ok P Q f (Err e) h = tt
 
 -- a query that matches every item matches every row
 pub everything : (q : Query) → ((i : Item) → matches q i ≡ true) → (rows : List Row) → filter (row_matches q) rows ≡ rows

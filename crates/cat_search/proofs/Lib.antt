@@ -20,5 +20,6 @@ pub mod Arranged
 pub mod Walked
 pub mod Stepped
 pub mod Ordered
+pub mod InRange
 pub use Rattle.cat_query.proofs.columns_laws as columns_laws
 pub use Rattle.cat_views.proofs as views_laws

@@ -1,8 +1,7 @@
 -- The rows of a walk that come one after another, and those at its head that the mark doesn't come before.
-use Rattle.std.proofs.Common.{◌≡◌, ℕ, ◌+◌, ◌-◌, ◌<◌, ◌≤◌, List, [], ◌∷◌, ◌++◌, length, filter, take, drop, get_or, Option, Bool, true, false, cond, refl, sym, ◌∙◌, ap, subst, arith, append-nil, append_assoc, length-append}
+use Rattle.std.proofs.Common.{◌≡◌, ℕ, ◌+◌, ◌-◌, ◌<◌, ◌≤◌, List, [], ◌∷◌, ◌++◌, length, filter, take, drop, get_or, Option, Bool, true, false, cond, sym, ◌∙◌, ap, subst, arith, append-nil, append_assoc}
 use Rattle.std.specs.List.{All, AllByRecursion, flat_map}
-use Rattle.std.proofs.Math.Seq.{get_or-append_seam}
-use Rattle.std.proofs.lemmas.List.{drop_more, drop_all, take_more, take-append-drop, take_at, flat_map_more}
+use Rattle.std.proofs.lemmas.List.{drop_more, drop_all, take_more, take-append-drop, flat_map_more}
 use Rattle.std.proofs.lemmas.Grind.{flat_map-append}
 use Rattle.std.proofs.lemmas.List.Elements.{All-append, All-from_recursion, filter-append, recursion_from_All}
 use Rattle.cat_model.specs.RowSets.{has_row}
@@ -21,7 +20,7 @@ use Rattle.cat_search.specs.Steps.{rows_of_parts_before, rows_of_parts_from}
 use Rattle.cat_search.specs.Walks.{EndsPassed, IsRestOfWalk, IsOrderedRun, IsWalk, standing_at}
 use Rattle.cat_search.specs.declared.standings.Candidate.{Candidate}
 use Rattle.cat_search.proofs.Gathered.{none, standings_at, standings_at-append, standings_at-more}
-use Rattle.cat_search.proofs.Walked.{Passed, ends_early, none_offered, stays_passed, walk_within, walked_all}
+use Rattle.cat_search.proofs.Walked.{Passed, none_before, none_offered, rest_left_out, stays_passed, walk_within, walked_all}
 
 -- ---- parts
 
@@ -130,49 +129,57 @@ module _ (mark : Option HitStanding) (ranks : List HitStanding) where
       let all = recursion_from_All (λ r. r < length ranks) (is.passed ++ left) (walk_within ranks (is.passed ++ left) is.walk) in
       subst (λ m. All (λ r. r < m) left) (sym long) (All-from_recursion (λ r. r < length ranks) left (All-right (λ r. r < length ranks) is.passed left all))
 
+  -- what is left stands in the order of the walk
+  pub left_runs : (left : List ℕ) → IsRestOfWalk mark ranks left → IsOrderedRun ranks left
+  left_runs left is = run_within is.passed left [] (subst (λ l. IsWalk ranks (is.passed ++ l)) (sym (append-nil left)) is.walk)
+
   -- ---- the steps
 
-  module _ (hits : List Bool) (left : List ℕ) (is : IsRestOfWalk mark ranks left) where
+  module _ (hits : List Bool) where
     abbrev pub taken : List ℕ → List HitStanding
     taken rows = standings_at mark ranks (filter (has_row hits) rows)
 
-    -- what the mark doesn't come before is nothing to a page
-    none_taken : (rows : List ℕ) → taken (is.passed ++ rows) ≡ taken rows
-    none_taken rows =
-        ap (standings_at mark ranks) (filter-append (has_row hits) is.passed rows) ∙ standings_at-append mark ranks (filter (has_row hits) is.passed) (filter (has_row hits) rows)
-        ∙ ap (λ l. l ++ taken rows)
-        (none_offered mark ranks (filter (has_row hits) is.passed) (All-kept (Passed mark ranks) (has_row hits) is.passed (recursion_from_All (Passed mark ranks) is.passed is.out)))
+    pub hit_taken : (done : List ℕ) (row : ℕ) → has_row hits row ≡ true → (p : HitStanding) → p ≡ get_or ranks row none → taken (done ++ row ∷ []) ≡ taken done ++ cond (beyond mark p) (p ∷ []) []
+    hit_taken done row e p at =
+        ap (standings_at mark ranks) (filter-append (has_row hits) done (row ∷ []) ∙ ap (λ b. filter (has_row hits) done ++ cond b (row ∷ []) []) e)
+        ∙ standings_at-more mark ranks (filter (has_row hits) done) row p at
 
-    module _ (done : List ℕ) (row : ℕ) (rest : List ℕ) (cut : done ++ row ∷ rest ≡ left) where
-      whole : is.passed ++ left ≡ (is.passed ++ done) ++ row ∷ rest
-      whole = ap (λ l. is.passed ++ l) (sym cut) ∙ sym (append_assoc is.passed done (row ∷ rest))
+    pub other_taken : (done : List ℕ) (row : ℕ) → has_row hits row ≡ false → taken (done ++ row ∷ []) ≡ taken done
+    other_taken done row e =
+        ap (standings_at mark ranks)
+        (filter-append (has_row hits) done (row ∷ []) ∙ ap (λ b. filter (has_row hits) done ++ cond b (row ∷ []) []) e ∙ append-nil (filter (has_row hits) done))
 
+    -- rows that the mark doesn't come before are nothing to a page
+    pub taken_behind : (rows : List ℕ) (n : ℕ) → All (Passed mark ranks) (take n rows) → taken (drop n rows) ≡ taken rows
+    taken_behind rows n out = sym (
+        ap taken (sym (take-append-drop n rows)) ∙ ap (standings_at mark ranks) (filter-append (has_row hits) (take n rows) (drop n rows))
+        ∙ standings_at-append mark ranks (filter (has_row hits) (take n rows)) (filter (has_row hits) (drop n rows))
+        ∙ ap (λ l. l ++ taken (drop n rows)) (none_offered mark ranks (filter (has_row hits) (take n rows)) (All-kept (Passed mark ranks) (has_row hits) (take n rows) (recursion_from_All (Passed mark ranks) (take n rows) out)))
+        )
+
+    module _ (rows : List ℕ) (is : IsOrderedRun ranks rows) (done : List ℕ) (row : ℕ) (rest : List ℕ) (cut : done ++ row ∷ rest ≡ rows) where
       pub row_within : row < length ranks
-      row_within =
-          (All-right (λ r. r < length ranks) (is.passed ++ done) (row ∷ rest)
-          (subst (AllByRecursion (λ r. r < length ranks)) whole (recursion_from_All (λ r. r < length ranks) (is.passed ++ left) (walk_within ranks (is.passed ++ left) is.walk)))).0
-
-      pub hit_taken : has_row hits row ≡ true → (p : HitStanding) → p ≡ get_or ranks row none → taken (done ++ row ∷ []) ≡ taken done ++ cond (beyond mark p) (p ∷ []) []
-      hit_taken e p at =
-          ap (standings_at mark ranks) (filter-append (has_row hits) done (row ∷ []) ∙ ap (λ b. filter (has_row hits) done ++ cond b (row ∷ []) []) e)
-          ∙ standings_at-more mark ranks (filter (has_row hits) done) row p at
-
-      pub other_taken : has_row hits row ≡ false → taken (done ++ row ∷ []) ≡ taken done
-      other_taken e =
-          ap (standings_at mark ranks)
-          (filter-append (has_row hits) done (row ∷ []) ∙ ap (λ b. filter (has_row hits) done ++ cond b (row ∷ []) []) e ∙ append-nil (filter (has_row hits) done))
+      row_within = (All-right (λ r. r < length ranks) done (row ∷ rest) (subst (AllByRecursion (λ r. r < length ranks)) (sym cut) (recursion_from_All (λ r. r < length ranks) rows is.within))).0
 
       -- where a full page leaves out the row, what is taken is as good as all
-      pub taken_early : length hits ≡ length ranks → (kept : BestItems Candidate) → IsFullBy kept (get_or ranks row none) → (ss : List HitStanding) → IsBestAt kept (ss ++ taken done)
-          → IsBestAt kept (ss ++ behind mark (selected hits ranks))
-      taken_early long kept full ss best =
-          let front = is.passed ++ done in
-          let walk = front ++ row ∷ rest in
-          let there : get_or walk (length front) 0 ≡ row = get_or-append_seam front row rest 0 in
-          let before : taken done ≡ taken (take (length front) walk) = sym (none_taken done) ∙ ap taken (sym (take_at front (row ∷ rest) (length front) refl)) in
-          ends_early ranks walk hits mark (subst (IsWalk ranks) whole is.walk) long kept (length front) 0 (omega (arith, length-append front (row ∷ rest)))
-          (subst (λ r. IsFullBy kept (get_or ranks r none)) (sym there) full) ss (subst (λ l. IsBestAt kept (ss ++ l)) before best)
+      pub taken_early : (kept : BestItems Candidate) → IsFullBy kept (get_or ranks row none) → (ss : List HitStanding) → IsBestAt kept (ss ++ taken done) → IsBestAt kept (ss ++ taken rows)
+      taken_early kept full ss best =
+          let tail = filter (has_row hits) (row ∷ rest) in
+          let follow = (Pairs-right Follows done (row ∷ rest) (subst (EachPair Follows) (sym cut) (each_pair Follows rows is.rising))).0 in
+          let late = All-kept (λ r. standing_before (get_or ranks r none) (get_or ranks row none) ≡ false) (has_row hits) (row ∷ rest) (none_before ranks row rest follow) in
+          let more = rest_left_out mark ranks kept (get_or ranks row none) full tail late (ss ++ taken done) best in
+          let all : taken rows ≡ taken done ++ standings_at mark ranks tail =
+          ap taken (sym cut) ∙ ap (standings_at mark ranks) (filter-append (has_row hits) done (row ∷ rest)) ∙ standings_at-append mark ranks (filter (has_row hits) done) tail in
+          subst (IsBestAt kept) (append_assoc ss (taken done) (standings_at mark ranks tail) ∙ ap (λ l. ss ++ l) (sym all)) more
 
-    -- where all are taken
-    pub taken_all : length hits ≡ length ranks → (kept : BestItems Candidate) (ss : List HitStanding) → IsBestAt kept (ss ++ taken left) → IsBestAt kept (ss ++ behind mark (selected hits ranks))
-    taken_all long kept ss best = walked_all ranks (is.passed ++ left) hits long is.walk mark kept ss (subst (λ l. IsBestAt kept (ss ++ l)) (sym (none_taken left)) best)
+    module _ (left : List ℕ) (is : IsRestOfWalk mark ranks left) where
+      -- what the mark doesn't come before is nothing to a page
+      none_taken : (rows : List ℕ) → taken (is.passed ++ rows) ≡ taken rows
+      none_taken rows =
+          ap (standings_at mark ranks) (filter-append (has_row hits) is.passed rows) ∙ standings_at-append mark ranks (filter (has_row hits) is.passed) (filter (has_row hits) rows)
+          ∙ ap (λ l. l ++ taken rows)
+          (none_offered mark ranks (filter (has_row hits) is.passed) (All-kept (Passed mark ranks) (has_row hits) is.passed (recursion_from_All (Passed mark ranks) is.passed is.out)))
+
+      -- where all are taken that are left
+      pub taken_all : length hits ≡ length ranks → (kept : BestItems Candidate) (ss : List HitStanding) → IsBestAt kept (ss ++ taken left) → IsBestAt kept (ss ++ behind mark (selected hits ranks))
+      taken_all long kept ss best = walked_all ranks (is.passed ++ left) hits long is.walk mark kept ss (subst (λ l. IsBestAt kept (ss ++ l)) (sym (none_taken left)) best)

@@ -2,15 +2,14 @@
 use Rattle.std.proofs.Common.{◌≡◌, ℕ, ◌+◌, ◌<◌, ◌≤◌, List, [], ◌∷◌, ◌++◌, length, map, filter, take, drop, get_or, cond, set, IsPermutation, Option, Bool, true, false, refl, sym, ◌∙◌, ap, subst, arith, inl, inr, append-nil, append_assoc, ◌&&◌, not, ltb, None, Some}
 use Rattle.std.specs.List.{AllByRecursion, range_with_len, swap}
 use Rattle.std.proofs.lemmas.Bool.{true≢false, lt-ltb, cases_order}
-use Rattle.std.proofs.lemmas.List.{drop_more, map-append, map-set, get_or-map, take-append-drop, take_at, drop_at, length-map, take-map, drop-map, get_or-take, length-take-le}
-use Rattle.std.proofs.lemmas.List.Elements.{filter-append}
+use Rattle.std.proofs.lemmas.List.{map-append, map-set, get_or-map, take-append-drop, take_at, drop_at, length-map, take-map, drop-map, get_or-take, length-take-le}
 use Rattle.std.proofs.lemmas.List.Sorted.{IsPermutation-map, IsPermutation-sym, IsPermutation-refl, IsPermutation-trans, IsPermutation-swap, IsPermutation-keeps, ranks_by}
 use Rattle.cat_model.specs.Page.{Key}
 use Rattle.cat_model.specs.Ranks.{AreApart, IsStrictOrder, sorted}
 use Rattle.cat_model.specs.RowSets.{has_row, indices}
 use Rattle.cat_model.specs.View.{selected}
 use Rattle.cat_model.proofs.Insert.{strict_from_weak, which, one_way}
-use Rattle.cat_model.proofs.Places.{AllApart, EachPair, each_pair}
+use Rattle.cat_model.proofs.Places.{AllApart, each_pair}
 use Rattle.cat_search.specs.Bars.{IsFullBy}
 use Rattle.cat_search.specs.BestItems.{BestItems}
 use Rattle.std.specs.Cmp.{IsStrictWeakOrder}
@@ -32,9 +31,8 @@ use Rattle.cat_search.specs.contracts.standings.CandidateOrd.TheImpl.Laws.{total
 use Rattle.cat_search.proofs.Arranged.{may_be_arranged, IsPermutation-filter}
 use Rattle.cat_search.proofs.Candidates.{comes_first-is}
 use Rattle.cat_search.proofs.Defined.{each_pair-filter, each_pair-map}
-use Rattle.cat_model.proofs.Lists.{All-weaken, All-kept}
-use Rattle.cat_search.proofs.Gathered.{none, standings_at, standings_at-all, standings_at-append}
-use Rattle.cat_views.proofs.Selected.{Pairs-right}
+use Rattle.cat_model.proofs.Lists.{All-weaken}
+use Rattle.cat_search.proofs.Gathered.{none, standings_at, standings_at-all}
 
 -- ---- elements with given images, in another order
 
@@ -149,7 +147,7 @@ module _ (ranks : List HitStanding) (walk : List ℕ) (hits : List Bool) (long :
   abbrev walked : List ℕ
   walked = filter (has_row hits) walk
 
-  same_rows : IsPermutation walked (indices hits)
+  pub same_rows : IsPermutation walked (indices hits)
   same_rows =
       IsPermutation-filter (has_row hits) walk (range_with_len 0 (length hits))
       (subst (λ n. IsPermutation walk (range_with_len 0 n)) (sym long) (IsPermutation-sym (range_with_len 0 (length ranks)) walk is.rows))
@@ -171,17 +169,18 @@ module _ (ranks : List HitStanding) (walk : List ℕ) (hits : List Bool) (long :
   pub walked_all : (kept : BestItems Candidate) (ss : List HitStanding) → IsBestAt kept (ss ++ standings_at mark ranks walked) → IsBestAt kept (ss ++ behind mark (selected hits ranks))
   walked_all kept ss h = best_arranged kept ss (standings_at mark ranks walked) (behind mark (selected hits ranks)) apart_standings same_standings h
 
-  -- what stands behind one that a full page leaves out is left out
-  pub rest_left_out : (kept : BestItems Candidate) (p : HitStanding) → IsFullBy kept p → (rows : List ℕ) → AllByRecursion (λ r. standing_before (get_or ranks r none) p ≡ false) rows → TakesIn kept kept (standings_at mark ranks rows)
-  rest_left_out kept p full [] a = λ ss h. subst (IsBestAt kept) (sym (append-nil ss)) h
-  rest_left_out kept p full (r ∷ rows) a = λ ss h.
-      let s = get_or ranks r none in
-      let rest = rest_left_out kept p full rows a.1 in
-      elim (which (beyond mark s)) [
-        | inl e ↦ subst (λ b. IsBestAt kept (ss ++ cond b (s ∷ standings_at mark ranks rows) (standings_at mark ranks rows))) (sym e)
-            (subst (IsBestAt kept) (append_assoc ss (s ∷ []) (standings_at mark ranks rows)) (rest (ss ++ s ∷ []) (full s a.0 ss h)))
-        | inr e ↦ subst (λ b. IsBestAt kept (ss ++ cond b (s ∷ standings_at mark ranks rows) (standings_at mark ranks rows))) (sym e) (rest ss h)
-      ]
+-- what stands behind one that a full page leaves out is left out
+pub rest_left_out : (mark : Option HitStanding) (ranks : List HitStanding) (kept : BestItems Candidate) (p : HitStanding) → IsFullBy kept p → (rows : List ℕ) → AllByRecursion (λ r. standing_before (get_or ranks r none) p ≡ false) rows
+    → TakesIn kept kept (standings_at mark ranks rows)
+rest_left_out mark ranks kept p full [] a = λ ss h. subst (IsBestAt kept) (sym (append-nil ss)) h
+rest_left_out mark ranks kept p full (r ∷ rows) a = λ ss h.
+    let s = get_or ranks r none in
+    let rest = rest_left_out mark ranks kept p full rows a.1 in
+    elim (which (beyond mark s)) [
+      | inl e ↦ subst (λ b. IsBestAt kept (ss ++ cond b (s ∷ standings_at mark ranks rows) (standings_at mark ranks rows))) (sym e)
+          (subst (IsBestAt kept) (append_assoc ss (s ∷ []) (standings_at mark ranks rows)) (rest (ss ++ s ∷ []) (full s a.0 ss h)))
+      | inr e ↦ subst (λ b. IsBestAt kept (ss ++ cond b (s ∷ standings_at mark ranks rows) (standings_at mark ranks rows))) (sym e) (rest ss h)
+    ]
 
 -- each row of a walk is one of the segment
 pub walk_within : (ranks : List HitStanding) (walk : List ℕ) → IsWalk ranks walk → All (λ r. r < length ranks) walk
@@ -194,45 +193,14 @@ walk_within ranks walk is = All-permutation (λ r. r < length ranks) (range_with
         let at = get_or-range_with_len 0 (length ranks) k d within in
         omega (arith, within, at)
 
--- ---- the steps of a walk
-
-module _ (ranks : List HitStanding) (walk : List ℕ) (hits : List Bool) (mark : Option HitStanding) where
-  -- the hits among the first rows of the walk
-  abbrev pub first_hits : ℕ → List ℕ
-  first_hits i = filter (has_row hits) (take i walk)
-
-  abbrev pub passed : ℕ → List HitStanding
-  passed i = standings_at mark ranks (first_hits i)
-
-  module _ (is : IsWalk ranks walk) where
-    abbrev Follows : ℕ → ℕ → Type 0
-    Follows a b = standing_before (standing_at ranks a) (standing_at ranks b) ≡ true
-
-    -- the rows from this index on don't come before the row that stands there
-    none_before : (i d : ℕ) → i < length walk → AllByRecursion (λ r. standing_before (get_or ranks r none) (get_or ranks (get_or walk i d) none) ≡ false) (filter (has_row hits) (drop i walk))
-    none_before i d h =
-        let row = get_or walk i d in
-        let here : drop i walk ≡ row ∷ drop (i + 1) walk = drop_more walk i d h in
-        let pairs : EachPair Follows (drop i walk) = Pairs-right Follows (take i walk) (drop i walk) (subst (EachPair Follows) (sym (take-append-drop i walk)) (each_pair Follows walk is.rising)) in
-        let after : EachPair Follows (row ∷ drop (i + 1) walk) = subst (EachPair Follows) here pairs in
-        let late : AllByRecursion (λ r. standing_before (get_or ranks r none) (get_or ranks row none) ≡ false) (row ∷ drop (i + 1) walk) = (
-          standing_strict.irreflexive (get_or ranks row none),
-          All-weaken (Follows row) (λ r. standing_before (get_or ranks r none) (get_or ranks row none) ≡ false)
-              (λ r e. one_way standing_before standing_strict (get_or ranks row none) (get_or ranks r none) e) (drop (i + 1) walk) after.0,
-        ) in
-        All-kept (λ r. standing_before (get_or ranks r none) (get_or ranks row none) ≡ false) (has_row hits) (drop i walk)
-        (subst (AllByRecursion (λ r. standing_before (get_or ranks r none) (get_or ranks row none) ≡ false)) (sym here) late)
-
-    -- where a full page leaves out the row at this index, the first hits are as good as all
-    pub ends_early : (long : length hits ≡ length ranks) (kept : BestItems Candidate) (i d : ℕ) → i < length walk → IsFullBy kept (get_or ranks (get_or walk i d) none)
-        → (ss : List HitStanding) → IsBestAt kept (ss ++ passed i) → IsBestAt kept (ss ++ behind mark (selected hits ranks))
-    ends_early long kept i d h full ss best =
-        let rest = filter (has_row hits) (drop i walk) in
-        let cut : filter (has_row hits) walk ≡ first_hits i ++ rest = ap (filter (has_row hits)) (sym (take-append-drop i walk)) ∙ filter-append (has_row hits) (take i walk) (drop i walk) in
-        let more : IsBestAt kept ((ss ++ passed i) ++ standings_at mark ranks rest) =
-        rest_left_out ranks walk hits long is mark kept (get_or ranks (get_or walk i d) none) full rest (none_before i d h) (ss ++ passed i) best in
-        walked_all ranks walk hits long is mark kept ss
-        (subst (IsBestAt kept) (append_assoc ss (passed i) (standings_at mark ranks rest) ∙ ap (λ l. ss ++ l) (sym (ap (standings_at mark ranks) cut ∙ standings_at-append mark ranks (first_hits i) rest))) more)
+-- neither a row nor one that it comes before comes before it
+pub none_before : (ranks : List HitStanding) (row : ℕ) (rest : List ℕ) → AllByRecursion (λ r. standing_before (standing_at ranks row) (standing_at ranks r) ≡ true) rest
+    → AllByRecursion (λ r. standing_before (standing_at ranks r) (standing_at ranks row) ≡ false) (row ∷ rest)
+none_before ranks row rest follow = (
+  standing_strict.irreflexive (standing_at ranks row),
+  All-weaken (λ r. standing_before (standing_at ranks row) (standing_at ranks r) ≡ true) (λ r. standing_before (standing_at ranks r) (standing_at ranks row) ≡ false)
+      (λ r e. one_way standing_before standing_strict (standing_at ranks row) (standing_at ranks r) e) rest follow,
+)
 
 -- ---- a walk that begins behind a mark
 

@@ -50,3 +50,9 @@ HasIndex schema (order.Falling field) = IsIndexed schema field
 pub record IsOrderOf (schema : Schema) (s : model.Sort) (o : Order) : Type 0 where
   pub sort : sort_in o ≡ s
   pub index : HasIndex schema o
+
+-- the order goes by the field of this name
+abbrev pub GoesBy : Order → Text → Type 0
+GoesBy order.Added name = ⊥
+GoesBy (order.Rising field) name = field.name.now ≡ name
+GoesBy (order.Falling field) name = field.name.now ≡ name

@@ -1,8 +1,12 @@
 -- The rows of a segment in the order of a page.
-use Rattle.std.specs.Prelude.{◌≡◌, ◌<◌, ◌-◌, ◌++◌, ◌&&◌, not, ltb, ℕ, Bool, true, false, List, [], length, Option, All, AllPairs, IsPermutation, slice_index_or}
+use Rattle.std.specs.Prelude.{◌≡◌, ◌<◌, ◌-◌, ◌++◌, ◌&&◌, not, ltb, ℕ, ℤ, Bool, true, false, List, [], filter, length, map, Option, All, AllPairs, IsPermutation, slice_index_or}
 use Rattle.std.specs.List.{range_with_len}
+use Rattle.cat_model.specs.Query.{Query}
+use Rattle.cat_model.specs.RowSets.{has_row}
+use Rattle.cat_model.specs.View.{Row, row_matches}
+use Rattle.cat_search.specs.Bars.{number_of_key}
 use Rattle.cat_search.specs.Pages.{beyond}
-use Rattle.cat_search.specs.Standings.{Rank, HitStanding, standing_before}
+use Rattle.cat_search.specs.Standings.{Rank, HitStanding, key_shown, standing_before}
 
 -- the standing of the row of this index, and any past the last one
 abbrev pub standing_at : List HitStanding → ℕ → HitStanding
@@ -17,6 +21,22 @@ pub record IsWalk (standings : List HitStanding) (walk : List ℕ) : Type 0 wher
 pub record IsOrderedRun (standings : List HitStanding) (rows : List ℕ) : Type 0 where
   pub within : All (λ row. row < length standings) rows
   pub rising : AllPairs (λ a b. standing_before (standing_at standings a) (standing_at standings b) ≡ true) rows
+
+-- the rows whose standings pass the test, as they stand in a walk
+pub record IsWalkWhere (test : HitStanding → Bool) (standings : List HitStanding) (rows : List ℕ) : Type 0 where
+  pub walk : List ℕ
+  pub all : IsWalk standings walk
+  pub passed : rows ≡ filter (λ row. test (standing_at standings row)) walk
+
+-- the number that the rank goes by, if it goes by one
+abbrev pub ranked_number : Rank → Option ℤ
+ranked_number rank = number_of_key (key_shown rank)
+
+-- the rows that the query matches, live or dead, as they stand in a walk
+pub record AreMatchedRows (q : Query) (segment_rows : List Row) (standings : List HitStanding) (rows : List ℕ) : Type 0 where
+  pub walk : List ℕ
+  pub all : IsWalk standings walk
+  pub matched : rows ≡ filter (has_row (map (row_matches q) segment_rows)) walk
 
 -- what is left of a walk behind rows that the mark doesn't come before
 pub record IsRestOfWalk (mark : Option HitStanding) (standings : List HitStanding) (left : List ℕ) : Type 0 where

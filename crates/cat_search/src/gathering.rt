@@ -1,12 +1,12 @@
 //! The pass over the segments of a view.
-ghost use Rattle.std.specs.Prelude.{◌≡◌, ◌<◌, ◌≤◌, ◌+◌, ◌++◌, Bool, false, List, count_by, drop, length, replicate, take, map, option_map, AllPairs, IfOk, IfSome, OnOk};
+ghost use Rattle.std.specs.Prelude.{◌≡◌, ◌<◌, ◌≤◌, ◌+◌, ◌++◌, Bool, false, List, count_by, drop, length, replicate, take, map, option_map, AllPairs, IfOk, IfSome, MatchOption, OnOk};
 ghost use Rattle.std.specs.List.{flat_map};
 ghost use Rattle.cat_model.specs.RowSets.{joined, both};
 ghost use Rattle.cat_model.specs.View.{live_rows, row_matches, selected};
 ghost use Rattle.cat_query.specs.View.{query_of};
 ghost use Rattle.cat_search.specs.declared.sort.Order.TheVariants.{Added};
 ghost use Rattle.cat_search.specs.Asks.{first_shown, first_wanted};
-ghost use Rattle.cat_search.specs.Candidates.{mark_standing, standing_of};
+ghost use Rattle.cat_search.specs.Candidates.{TakesIn, mark_standing, standing_of};
 ghost use Rattle.cat_search.specs.Hits.{hit_rows};
 ghost use Rattle.cat_search.specs.Pages.{behind};
 ghost use Rattle.cat_search.specs.Rows.{hits_in, leaf_hits, row_standing};
@@ -19,6 +19,7 @@ use crate::entries::{Entry, entries_of, push_entry};
 use crate::hits::Hits;
 use crate::leaf_ranks::LeafRanks;
 use crate::offers::{is_beyond, offer_rows};
+use crate::ranges::{count_live, offer_range, rows_in_order};
 use crate::sort::Order;
 use crate::standings::{Candidate, Rank};
 use crate::walk::Reach;
@@ -182,6 +183,82 @@ fn show_behind(
     show_rows(alloc, shown, wanted.count, &ranks, &left, &wanted.mark)
 }
 
+/// Offers the hits of a leaf to the page, as far as the mark comes before them, from the set of those that the query matches;
+/// how many hits the leaf has.
+fn offer_matched<'a>(
+    alloc: Global,
+    best: &mut Best<Candidate<'a>>,
+    leaf: &'a Leaf,
+    query: &Query,
+    set: Option<&DocSet>,
+    wanted: &Wanted<'a>,
+) -> Result<usize, AllocError>
+    requires { IfSome set (λ s. s.now ≡ map (row_matches (query_of query.now)) leaf.now.segment.rows) }
+    ensures total { IfOk result (λ n. n ≡ length (leaf_hits leaf.now (query_of query.now))) }
+    ensures limit { best.new.limit ≡ best.old.limit }
+    ensures best { OnOk result (TakesIn best.old best.new (behind (mark_standing wanted.now.mark)
+        (map (row_standing wanted.now.order) (leaf_hits leaf.now (query_of query.now))))) }
+{
+    let hits = hits_of(alloc, query, set, leaf)?;
+    let total = hits.count();
+    let ranks = LeafRanks::of(leaf.segment(), wanted.order);
+    let reach = Reach::of(total, ranks.len(), wanted.count);
+    offer_rows(best, &ranks, hits.rows(), &wanted.mark, reach)?;
+    Ok(total)
+}
+
+/// Offers the hits of a leaf to the page, as far as the mark comes before them, without a set of them: where the query is one
+/// range of the numbers of the field that the page goes by. How many hits the leaf has; none where the query is no such range,
+/// and nothing was offered.
+fn offer_in_order<'a>(
+    best: &mut Best<Candidate<'a>>,
+    leaf: &'a Leaf,
+    query: &Query,
+    wanted: &Wanted<'a>,
+) -> Result<Option<usize>, AllocError>
+    ensures total { IfOk result (λ o. IfSome o (λ n. n ≡ length (leaf_hits leaf.now (query_of query.now)))) }
+    ensures limit { best.new.limit ≡ best.old.limit }
+    ensures best { IfOk result (λ o. MatchOption o (best.new ≡ best.old) (λ n. TakesIn best.old best.new (behind (mark_standing wanted.now.mark)
+        (map (row_standing wanted.now.order) (leaf_hits leaf.now (query_of query.now)))))) }
+{
+    let live = leaf.live().rows();
+    let ranks = LeafRanks::of(leaf.segment(), wanted.order);
+    let Some(rows) = rows_in_order(query, &ranks, wanted.order) else {
+        return Ok(None);
+    };
+    let total = count_live(leaf, rows);
+    offer_range(best, &ranks, rows, live, &wanted.mark)?;
+    Ok(Some(total))
+}
+
+/// Offers the hits of a leaf to the page, as far as the mark comes before them; how many hits the leaf has.
+fn offer_leaf<'a>(
+    alloc: Global,
+    best: &mut Best<Candidate<'a>>,
+    leaf: &'a Leaf,
+    query: &Query,
+    set: Option<&DocSet>,
+    wanted: &Wanted<'a>,
+) -> Result<usize, AllocError>
+    requires { IfSome set (λ s. s.now ≡ map (row_matches (query_of query.now)) leaf.now.segment.rows) }
+    ensures total { IfOk result (λ n. n ≡ length (leaf_hits leaf.now (query_of query.now))) }
+    ensures limit { best.new.limit ≡ best.old.limit }
+    ensures best { OnOk result (TakesIn best.old best.new (behind (mark_standing wanted.now.mark)
+        (map (row_standing wanted.now.order) (leaf_hits leaf.now (query_of query.now))))) }
+{
+    match offer_in_order(best, leaf, query, wanted)? {
+        Some(total) => Ok(total),
+        None => offer_matched(alloc, best, leaf, query, set, wanted),
+    }
+}
+
+/// So many hits more. What a `usize` can't count doesn't fit in memory either.
+fn more_hits(total: usize, found: usize) -> Result<usize, AllocError>
+    ensures ok { IfOk result (λ n. n ≡ total + found) }
+{
+    total.checked_add(found).ok_or(AllocError)
+}
+
 /// How many hits the leaves have, and the first that are wanted by the order's field.
 fn best_hits<'a>(
     alloc: Global,
@@ -198,13 +275,8 @@ fn best_hits<'a>(
     let mut total = 0;
     let mut best = Best::new(alloc, wanted.count);
     for (index, leaf) in leaves.iter().enumerate() {
-        let hits = hits_of(alloc, query, set_at(sets, index), leaf)?;
-        let before = total;
-        total = counted(total, &hits)?;
-        let rows = hits.rows();
-        let ranks = LeafRanks::of(leaf.segment(), wanted.order);
-        let reach = Reach::of(total - before, ranks.len(), wanted.count);
-        offer_rows(&mut best, &ranks, rows, &wanted.mark, reach)?;
+        let found = offer_leaf(alloc, &mut best, leaf, query, set_at(sets, index), wanted)?;
+        total = more_hits(total, found)?;
     }
     let first = best.into_items()?;
     Ok((total, first))

@@ -3,13 +3,14 @@ ghost use Rattle.std.specs.Prelude.{◌≡◌, ◌<◌, length, map, option_map,
 ghost use Rattle.std.specs.List.{HoldsAt};
 ghost use Rattle.cat_model.specs.Page.{Key, key, key_in};
 ghost use Rattle.cat_views.specs.cat_segment.Contents.{contents_of};
+ghost use Rattle.cat_views.specs.cat_segment.Ranges.{lies_between};
 ghost use Rattle.cat_views.specs.cat_segment.RowParts.{rows_of_parts};
 ghost use Rattle.cat_search.specs.Bars.{HaveRanks};
 ghost use Rattle.cat_search.specs.Candidates.{standing_of};
 ghost use Rattle.cat_search.specs.Keys.{key_ref_of};
 ghost use Rattle.cat_search.specs.Rows.{bare_record, keys_by, row_standing};
 ghost use Rattle.cat_search.specs.Sorts.{sort_in};
-ghost use Rattle.cat_search.specs.Walks.{IsWalk};
+ghost use Rattle.cat_search.specs.Walks.{IsWalk, IsWalkWhere, ranked_number};
 
 use crate::keys::KeyRef;
 use crate::sort::{Order, rank_with};
@@ -130,6 +131,23 @@ impl<'a> LeafRanks<'a> {
             Order::Added => None,
             Order::Rising(_) => Some(RowParts::Whole(numbers.rising())),
             Order::Falling(_) => Some(RowParts::Whole(numbers.falling())),
+        }
+    }
+
+    /// The rows whose number lies between the two, both included, where an absent end is open, live or dead: in the order of
+    /// the page, where the sort is by a number field.
+    pub(crate) fn range(&self, low: Option<i64>, high: Option<i64>) -> Option<&'a [u32]>
+        ensures { IfSome result (λ rows. IsWalkWhere (λ standing. lies_between low high (ranked_number standing.rank)) self.now rows.now) }
+    {
+        let Column::Number(numbers) = self.column? else {
+            return None;
+        };
+        // Its contract says that the numbers of the rows rise.
+        let _rows = self.segment.len();
+        match self.order {
+            Order::Added => None,
+            Order::Rising(_) => Some(numbers.rising_between(low, high)),
+            Order::Falling(_) => Some(numbers.falling_between(low, high)),
         }
     }
 

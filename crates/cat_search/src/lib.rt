@@ -18,6 +18,7 @@ mod offers;
 mod ordinal_bar;
 mod pages;
 mod prepared;
+mod ranges;
 mod sort;
 mod standings;
 mod steps;

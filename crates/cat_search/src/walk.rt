@@ -1,7 +1,7 @@
 //! Hits that are offered to a page in its own order.
-ghost use Rattle.std.specs.Prelude.{◌≡◌, ◌<◌, ◌≤◌, false, length, take, All, OnOk, IsTrue};
+ghost use Rattle.std.specs.Prelude.{◌≡◌, ◌<◌, ◌≤◌, false, filter, length, map, take, All, OnOk, IsTrue};
 ghost use Rattle.cat_views.specs.cat_segment.RowParts.{parts_of, rows_of_parts};
-ghost use Rattle.cat_model.specs.View.{selected};
+ghost use Rattle.cat_model.specs.RowSets.{has_row};
 ghost use Rattle.cat_search.specs.Bars.{IsFullBy};
 ghost use Rattle.cat_search.specs.Candidates.{TakesIn, mark_standing, standing_of};
 ghost use Rattle.cat_search.specs.Pages.{behind, beyond};
@@ -79,11 +79,18 @@ fn is_passed<'a>(ranks: &LeafRanks<'a>, row: u32, mark: &Option<Candidate<'a>>) 
 }
 
 /// How many of these rows, which stand in the order of the page, the mark doesn't come before.
-fn rows_passed<'a>(ranks: &LeafRanks<'a>, rows: &[u32], mark: &Option<Candidate<'a>>) -> usize
+pub(crate) fn rows_passed<'a>(
+    ranks: &LeafRanks<'a>,
+    rows: &[u32],
+    mark: &Option<Candidate<'a>>,
+) -> usize
     requires { IsOrderedRun ranks.now rows.now }
     ensures bound { result ≤ length rows.now }
     ensures passed { All (λ row. beyond (mark_standing mark.now) (standing_at ranks.now row) ≡ false) (take result rows.now) }
 {
+    if mark.is_none() {
+        return 0;
+    }
     rows.partition_point(|row| is_passed(ranks, *row, mark))
 }
 
@@ -170,9 +177,8 @@ fn is_left_out<'a>(best: &Best<Candidate<'a>>, candidate: &Candidate<'a>) -> boo
     }
 }
 
-/// Offers the hits of a segment to the page, as far as the mark comes before them, in the order in which a page shows them,
-/// but for the first rows of that order, which the mark doesn't come before. It ends at the first that a full page leaves
-/// out, and looks at no row behind it.
+/// Offers the hits among these rows to the page, as far as the mark comes before them. The rows stand in the order in which a
+/// page shows them, so it ends at the first hit that a full page leaves out, and looks at no row behind it.
 pub(crate) fn offer_walk<'a>(
     best: &mut Best<Candidate<'a>>,
     ranks: &LeafRanks<'a>,
@@ -181,9 +187,10 @@ pub(crate) fn offer_walk<'a>(
     mark: &Option<Candidate<'a>>,
 ) -> Result<(), AllocError>
     requires long { length hits.now ≡ length ranks.now }
-    requires left { IsRestOfWalk (mark_standing mark.now) ranks.now walk }
+    requires run { IsOrderedRun ranks.now walk }
     ensures limit { best.new.limit ≡ best.old.limit }
-    ensures best { OnOk result (TakesIn best.old best.new (behind (mark_standing mark.now) (selected hits.now ranks.now))) }
+    ensures best { OnOk result (TakesIn best.old best.new (behind (mark_standing mark.now)
+        (map (standing_at ranks.now) (filter (has_row hits.now) walk.entry)))) }
 {
     for row in walk {
         if hits.contains(row) {

@@ -1,7 +1,7 @@
-use Rattle.std.proofs.Common.{◌≡◌, ◌+◌, count_by, sym, IfSome, ◌∙◌, List, length, map, take, ap, subst}
+use Rattle.std.proofs.Common.{◌≡◌, sym, IfSome, ◌∙◌, List, map, take, ap, subst}
 use Rattle.std.proofs.lemmas.List.{take_all}
 use Rattle.cat_model.specs.Ranks.{sorted}
-use Rattle.cat_model.specs.View.{Leaf, row_matches, selected}
+use Rattle.cat_model.specs.View.{Leaf, row_matches}
 use Rattle.cat_query.specs.View.{query_of}
 use Rattle.cat_search.specs.Candidates.{IsBestAt, mark_standing}
 use Rattle.cat_search.specs.Pages.{behind}
@@ -9,7 +9,7 @@ use Rattle.cat_search.specs.Rows.{hits_in, row_standing}
 use Rattle.cat_views.specs.Sets.{set_at}
 use Rattle.cat_search.specs.Standings.{standing_before}
 use Rattle.cat_search.proofs.Candidates.{best_standings}
-use Rattle.cat_search.proofs.Gathered.{looked_at, total_more, standings_more}
+use Rattle.cat_search.proofs.Gathered.{looked_at, leaf_total, leaf_standings}
 use Rattle.cat_search.proofs.gathering.best_hits.Goals as goal
 
 pub loop-index-preserved : goal.loop-index-preserved
@@ -19,16 +19,12 @@ loop-index-preserved c =
     let mark = mark_standing c.args.wanted.now.mark in
     let leaves = c.args.leaves.now in
     let i = c.loop-index.index in
+    let leaf = c.index-leaves-index.result in
     let standings = behind mark (map (row_standing o) (hits_in (take i leaves) q)) in
-    let rows = c.rows-rows.result.now in
-    let is = ap (λ s. selected s c.index-leaves-index.result.segment.rows) c.rows-rows.ensures ∙ c.in_ok-hits.ensures.ok in
     record {
-      total = total_more q leaves i c.index-leaves-index.result c.index-leaves-index.is c.loop-index-test.true rows is (ap length c.rows-rows.ensures ∙ c.in_ok-hits.ensures.long) c.loop-index.total c.in_ok-total.total c.loop-index.invariant.total
-          (c.in_ok-total.ensures.ok ∙ ap (λ s. c.loop-index.total + count_by (λ b. b) s) (sym c.rows-rows.ensures));
-      limit = c.in_ok-offer_rows.ensures.limit ∙ c.loop-index.invariant.limit;
-      best = subst (IsBestAt c.offer_rows.new.best)
-          (standings_more q leaves i c.index-leaves-index.result c.index-leaves-index.is c.loop-index-test.true rows is mark o c.segment.result.now c.of-ranks.result c.segment.ensures c.of-ranks.ensures)
-          (c.in_ok-offer_rows.ensures.best standings c.loop-index.invariant.best);
+      total = leaf_total q leaves i leaf c.index-leaves-index.is c.loop-index-test.true c.loop-index.total c.in_ok-found.found c.in_ok-total.total c.loop-index.invariant.total c.in_ok-found.ensures.total c.in_ok-total.ensures.ok;
+      limit = c.in_ok-found.ensures.limit ∙ c.loop-index.invariant.limit;
+      best = subst (IsBestAt c.offer_leaf.new.best) (leaf_standings q leaves i leaf c.index-leaves-index.is c.loop-index-test.true mark o) (c.in_ok-found.ensures.best standings c.loop-index.invariant.best);
     }
 
 pub returns-clause-best : goal.returns-clause-best
@@ -39,8 +35,8 @@ returns-clause-best c =
     ∙ ap (λ n. take n (sorted standing_before (standings (take c.loop-index.index c.args.leaves.now)))) c.loop-index.invariant.limit
     ∙ ap (λ ls. take wanted.count (sorted standing_before (standings ls))) (take_all c.loop-index.index c.args.leaves.now c.loop-index-test.false)
 
-pub hits_of-requires : goal.hits_of-requires
-hits_of-requires c =
+pub offer_leaf-requires : goal.offer_leaf-requires
+offer_leaf-requires c =
     let rows = row_matches (query_of c.args.query.now) in
     let leaf = c.index-leaves-index.result in
     let leaves = c.args.leaves.now in

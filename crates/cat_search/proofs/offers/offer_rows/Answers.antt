@@ -3,7 +3,8 @@ use Rattle.cat_model.specs.Page.{Key}
 use Rattle.cat_search.proofs.Bars.{keyed_ranks, renewed_ranks}
 use Rattle.cat_search.specs.Candidates.{mark_standing}
 use Rattle.cat_search.specs.Walks.{IsRestOfWalk}
-use Rattle.cat_search.proofs.Stepped.{left_rows}
+use Rattle.cat_search.proofs.Gathered.{on_ok}
+use Rattle.cat_search.proofs.Stepped.{left_rows, left_runs, taken_all}
 use Rattle.cat_search.proofs.offers.offer_rows.Goals as goal
 
 pub offer_by-requires : goal.offer_by-requires
@@ -26,3 +27,15 @@ covers-requires c =
     let mark = mark_standing c.args.mark.now in
     let ranks = c.args.ranks.now in
     left_rows mark ranks c.again.result (length c.args.hits.now) (subst (IsRestOfWalk mark ranks) (sym c.again.ensures) c.steps_behind-left.ensures) c.requires
+
+pub offer_walk-requires-clause-run : goal.offer_walk-requires-clause-run
+offer_walk-requires-clause-run c = left_runs (mark_standing c.args.mark.now) c.args.ranks.now c.steps_behind-left.result c.steps_behind-left.ensures
+
+pub returns-then-covers : goal.returns-then-covers
+returns-then-covers c =
+    let mark = mark_standing c.args.mark.now in
+    let ranks = c.args.ranks.now in
+    record {
+      limit = c.offer_walk.ensures.limit;
+      best = on_ok _ _ (λ took ps h. taken_all mark ranks c.args.hits.now c.steps_behind-left.result c.steps_behind-left.ensures c.requires c.offer_walk.new.best ps (took ps h)) c.offer_walk.result c.offer_walk.ensures.best;
+    }

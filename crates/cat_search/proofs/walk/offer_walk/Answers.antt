@@ -3,20 +3,19 @@ use Rattle.cat_search.specs.Bars.{IsFullBy}
 use Rattle.cat_search.specs.Candidates.{IsBestAt, mark_standing, standing_of}
 use Rattle.cat_search.specs.Pages.{if_behind}
 use Rattle.cat_search.proofs.Gathered.{none}
-use Rattle.cat_search.proofs.Stepped.{row_within, taken, hit_taken, other_taken, taken_early, taken_all}
+use Rattle.cat_search.proofs.Stepped.{row_within, taken, hit_taken, other_taken, taken_early}
 use Rattle.cat_search.proofs.walk.offer_walk.Goals as goal
 
 pub contains-requires : goal.contains-requires
 contains-requires c =
     let rest : c.loop-row.yielded ++ c.in-Some.row ∷ c.next.new.self ≡ c.args.walk = rw c.in-Some.ensures.steps at c.loop-row.invariant.rows in
-    omega (arith, row_within (mark_standing c.args.mark.now) c.args.ranks.now c.args.hits.now c.args.walk c.requires.left c.loop-row.yielded c.in-Some.row c.next.new.self rest, c.requires.long)
+    omega (arith, row_within (mark_standing c.args.mark.now) c.args.ranks.now c.args.hits.now c.args.walk c.requires.run c.loop-row.yielded c.in-Some.row c.next.new.self rest, c.requires.long)
 
 pub returns-then-is_left_out-clause-best : goal.returns-then-is_left_out-clause-best
 returns-then-is_left_out-clause-best c = λ ps h.
     let rest : c.loop-row.yielded ++ c.in-Some.row ∷ c.next.new.self ≡ c.args.walk = rw c.in-Some.ensures.steps at c.loop-row.invariant.rows in
     let full = subst (IsFullBy c.loop-row.best) (c.at-candidate.ensures none) (c.is_left_out.ensures c.if-is_left_out.true) in
-    taken_early (mark_standing c.args.mark.now) c.args.ranks.now c.args.hits.now c.args.walk c.requires.left c.loop-row.yielded c.in-Some.row c.next.new.self rest c.requires.long c.loop-row.best full ps
-    (c.loop-row.invariant.best ps h)
+    taken_early (mark_standing c.args.mark.now) c.args.ranks.now c.args.hits.now c.args.walk c.requires.run c.loop-row.yielded c.in-Some.row c.next.new.self rest c.loop-row.best full ps (c.loop-row.invariant.best ps h)
 
 pub loop-row-preserved-in-Continue-1 : goal.loop-row-preserved-in-Continue-1
 loop-row-preserved-in-Continue-1 c =
@@ -25,19 +24,18 @@ loop-row-preserved-in-Continue-1 c =
     let mark = mark_standing c.args.mark.now in
     let done = c.loop-row.yielded in
     let row = c.in-Some.row in
-    let left = c.requires.left in
     let rest : done ++ row ∷ c.next.new.self ≡ c.args.walk = rw c.in-Some.ensures.steps at c.loop-row.invariant.rows in
     let p = standing_of c.at-candidate.result in
     let hit = sym c.contains.ensures ∙ c.if-contains.true in
-    let more = hit_taken mark ranks hits c.args.walk left done row c.next.new.self rest hit p (c.at-candidate.ensures none) in
+    let more = hit_taken mark ranks hits done row hit p (c.at-candidate.ensures none) in
     record {
       can = tt;
       finite = tt;
       rows = append_assoc done (row ∷ []) c.next.new.self ∙ rest;
       limit = c.in_ok-offer_hit.ensures.limit ∙ c.loop-row.invariant.limit;
       best = λ ps h. subst (IsBestAt c.offer_hit.new.best)
-          (append_assoc ps (taken mark ranks hits c.args.walk left done) (if_behind mark p) ∙ ap (λ l. ps ++ l) (sym more))
-          (c.in_ok-offer_hit.ensures.best (ps ++ taken mark ranks hits c.args.walk left done) (c.loop-row.invariant.best ps h));
+          (append_assoc ps (taken mark ranks hits done) (if_behind mark p) ∙ ap (λ l. ps ++ l) (sym more))
+          (c.in_ok-offer_hit.ensures.best (ps ++ taken mark ranks hits done) (c.loop-row.invariant.best ps h));
     }
 
 pub loop-row-preserved : goal.loop-row-preserved
@@ -47,9 +45,8 @@ loop-row-preserved c =
     let mark = mark_standing c.args.mark.now in
     let done = c.loop-row.yielded in
     let row = c.in-Some.row in
-    let left = c.requires.left in
     let rest : done ++ row ∷ c.next.new.self ≡ c.args.walk = rw c.in-Some.ensures.steps at c.loop-row.invariant.rows in
-    let same = other_taken mark ranks hits c.args.walk left done row c.next.new.self rest (sym c.contains.ensures ∙ c.if-contains.false) in
+    let same = other_taken mark ranks hits done row (sym c.contains.ensures ∙ c.if-contains.false) in
     record {
       can = tt;
       finite = tt;
@@ -63,5 +60,4 @@ returns-clause-best c = λ ps h.
     let mark = mark_standing c.args.mark.now in
     let ended : c.loop-row.row-iterator ≡ [] = c.in-None.ensures.steps.0 in
     let all : c.loop-row.yielded ≡ c.args.walk = sym (append-nil c.loop-row.yielded) ∙ rw ended at c.loop-row.invariant.rows in
-    taken_all mark c.args.ranks.now c.args.hits.now c.args.walk c.requires.left c.requires.long c.loop-row.best ps
-    (subst (λ l. IsBestAt c.loop-row.best (ps ++ taken mark c.args.ranks.now c.args.hits.now c.args.walk c.requires.left l)) all (c.loop-row.invariant.best ps h))
+    subst (λ l. IsBestAt c.loop-row.best (ps ++ taken mark c.args.ranks.now c.args.hits.now l)) all (c.loop-row.invariant.best ps h)

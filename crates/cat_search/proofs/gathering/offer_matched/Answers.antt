@@ -1,0 +1,23 @@
+use Rattle.std.proofs.Common.{◌++◌, ap, length, subst, ◌∙◌}
+use Rattle.cat_model.specs.View.{selected}
+use Rattle.cat_query.specs.View.{query_of}
+use Rattle.cat_views.proofs.Selected.{count-selected}
+use Rattle.cat_search.specs.Candidates.{IsBestAt, mark_standing}
+use Rattle.cat_search.specs.Hits.{hit_rows}
+use Rattle.cat_search.specs.Pages.{behind}
+use Rattle.cat_search.proofs.Gathered.{hits_standings}
+use Rattle.cat_search.proofs.gathering.offer_matched.Goals as goal
+
+pub returns-clause-total : goal.returns-clause-total
+returns-clause-total c =
+    c.count-total.ensures ∙ count-selected (hit_rows c.in_ok-hits.hits) c.args.leaf.now.segment.rows c.in_ok-hits.ensures.long ∙ ap length c.in_ok-hits.ensures.ok
+
+pub returns-clause-best : goal.returns-clause-best
+returns-clause-best c = λ ps h.
+    let leaf = c.args.leaf.now in
+    let wanted = c.args.wanted.now in
+    let rows = c.rows.result.now in
+    let is = ap (λ s. selected s leaf.segment.rows) c.rows.ensures ∙ c.in_ok-hits.ensures.ok in
+    subst (λ l. IsBestAt c.offer_rows.new.best (ps ++ behind (mark_standing wanted.mark) l))
+    (hits_standings (query_of c.args.query.now) leaf wanted.order c.segment.result.now c.of-ranks.result rows c.segment.ensures c.of-ranks.ensures is)
+    (c.in_ok-offer_rows.ensures.best ps h)

@@ -1,0 +1,94 @@
+//! Pages of a query that is one range of numbers, in the order of its field: its rows stand side by side in that order, so no
+//! set of them is made.
+ghost use Rattle.std.specs.Prelude.{◌≡◌, ◌<◌, All, IfSome, IsTrue, List, OnOk, count_by, filter, length, map};
+ghost use Rattle.cat_model.specs.RowSets.{has_row};
+ghost use Rattle.cat_model.specs.View.{Row};
+ghost use Rattle.cat_query.specs.View.{query_of};
+ghost use Rattle.cat_search.specs.Candidates.{TakesIn, mark_standing};
+ghost use Rattle.cat_search.specs.Pages.{behind};
+ghost use Rattle.cat_search.specs.Rows.{row_standing};
+ghost use Rattle.cat_search.specs.Sorts.{GoesBy};
+ghost use Rattle.cat_search.specs.Walks.{AreMatchedRows, IsOrderedRun, standing_at};
+
+use crate::best::Best;
+use crate::leaf_ranks::LeafRanks;
+use crate::sort::Order;
+use crate::standings::Candidate;
+use crate::steps::Steps;
+use crate::walk::{offer_walk, rows_passed};
+use cat_query::Query;
+use cat_query::cat_columns::RowSet;
+use cat_views::Leaf;
+use cat_views::cat_segment::RowParts;
+use std::alloc::AllocError;
+
+/// Whether the order goes by the field of this name.
+fn goes_by(order: Order, name: &str) -> bool
+    ensures { IsTrue result → GoesBy order.entry name.now }
+{
+    match order {
+        Order::Added => false,
+        Order::Rising(field) | Order::Falling(field) => field.name == name,
+    }
+}
+
+/// The rows that the query matches, live or dead, in the order of the page: where the query is one range of the numbers of the
+/// field that the page goes by.
+pub(crate) fn rows_in_order<'a>(
+    query: &Query,
+    ranks: &LeafRanks<'a>,
+    order: Order,
+) -> Option<&'a [u32]>
+    ensures { IfSome result (λ rows. (rs : List Row) → ranks.now ≡ map (row_standing order.entry) rs
+        → AreMatchedRows (query_of query.now) rs ranks.now rows.now) }
+{
+    let range = query.number_range()?;
+    if !goes_by(order, range.field) {
+        return None;
+    }
+    ranks.range(range.low, range.high)
+}
+
+/// How many of the rows are in the set.
+fn count_among(set: &RowSet, rows: &[u32]) -> usize
+    requires { All (λ row. row < length set.now) rows.now }
+    ensures { result ≡ count_by (has_row set.now) rows.now }
+{
+    let mut count = 0;
+    for row in rows {
+        if set.contains(*row as usize) {
+            count += 1;
+        }
+    }
+    count
+}
+
+/// How many of the rows are live. They are looked at only where some row of the leaf is dead.
+pub(crate) fn count_live(leaf: &Leaf, rows: &[u32]) -> usize
+    requires { All (λ row. row < length leaf.now.live) rows.now }
+    ensures { result ≡ count_by (has_row leaf.now.live) rows.now }
+{
+    let live = leaf.live().rows();
+    if leaf.live_count() == live.len() {
+        return rows.len();
+    }
+    count_among(live, rows)
+}
+
+/// Offers the live ones of these rows, which stand in the order of the page, as far as the mark comes before them.
+pub(crate) fn offer_range<'a>(
+    best: &mut Best<Candidate<'a>>,
+    ranks: &LeafRanks<'a>,
+    rows: &'a [u32],
+    live: &RowSet,
+    mark: &Option<Candidate<'a>>,
+) -> Result<(), AllocError>
+    requires long { length live.now ≡ length ranks.now }
+    requires run { IsOrderedRun ranks.now rows.now }
+    ensures limit { best.new.limit ≡ best.old.limit }
+    ensures best { OnOk result (TakesIn best.old best.new (behind (mark_standing mark.now)
+        (map (standing_at ranks.now) (filter (has_row live.now) rows.now)))) }
+{
+    let (_, left) = rows.split_at(rows_passed(ranks, rows, mark));
+    offer_walk(best, ranks, Steps::of(RowParts::Whole(left)), live, mark)
+}
