@@ -11,7 +11,7 @@ use cat_base::{Refusal, WriteNo};
 use cat_cached_sets::View;
 use cat_facets::cat_search::{Ask, Sort};
 use cat_items::Schema;
-use std::alloc::Global;
+use std::alloc::{AllocError, Global};
 use std::test::Fail;
 
 /// How many rows there are, in three segments.
@@ -46,13 +46,15 @@ enum Rows {
     Thinned,
     /// Five prices and brands and none, and all are dead.
     Dead,
+    /// The row's number as its price, no brand, and every third row is dead.
+    Apart,
 }
 
-/// The text of the price and the brand of the row, and nothing for none. Of two rows with brands the one with the greater price
+/// The text of the price and the brand of the row where they aren't its number, and nothing for none. Of two rows with brands the one with the greater price
 /// has the greater brand.
 fn values_of(rows: Rows, number: WriteNo) -> &'static str {
     match (rows, number % 6) {
-        (Rows::Missing, _) => "",
+        (Rows::Missing | Rows::Apart, _) => "",
         (Rows::Tied, _) => r#","price":7,"brand":"acme""#,
         (Rows::AtTheEnds, 0 | 3) => r#","price":-9223372036854775808,"brand":"a""#,
         (Rows::AtTheEnds, 1 | 4) => r#","price":9223372036854775807,"brand":"zzz""#,
@@ -70,8 +72,19 @@ fn values_of(rows: Rows, number: WriteNo) -> &'static str {
 fn is_live(rows: Rows, number: WriteNo) -> bool {
     match rows {
         Rows::Tied | Rows::AtTheEnds | Rows::Missing => true,
-        Rows::Thinned => number % 3 != 0,
+        Rows::Thinned | Rows::Apart => number % 3 != 0,
         Rows::Dead => false,
+    }
+}
+
+/// The text of the item of the row.
+fn text_of(alloc: Global, rows: Rows, number: WriteNo) -> Result<String, AllocError> {
+    match rows {
+        Rows::Apart => format!(in alloc; r#"{{"id":"i{number}","price":{number}}}"#),
+        _ => {
+            let values = values_of(rows, number);
+            format!(in alloc; r#"{{"id":"i{number}"{values}}}"#)
+        }
     }
 }
 
@@ -79,8 +92,7 @@ fn is_live(rows: Rows, number: WriteNo) -> bool {
 fn put_of(alloc: Global, schema: &Schema, rows: Rows, number: WriteNo) -> Result<Put, Refusal>
     ensures { IfOk result (λ p. IsItem schema.now p.item) }
 {
-    let values = values_of(rows, number);
-    let text = format!(in alloc; r#"{{"id":"i{number}"{values}}}"#)?;
+    let text = text_of(alloc, rows, number)?;
     read_put(
         alloc,
         schema,
@@ -170,6 +182,13 @@ const FINDS: &[(u64, &str)] = &[
     (0, "*:*"),
     (1, "price:[0 TO *]"),
     (1, "price:[* TO 7]"),
+    (0, "price:[0 TO *]"),
+    (3, "price:[64 TO 66]"),
+    (2, "price:70"),
+    (2, "price:[9 TO 3]"),
+    (2, "price:[-9223372036854775808 TO -1]"),
+    (2, "price:[1 TO 9223372036854775807]"),
+    (2, "price:[-9223372036854775807 TO 9223372036854775806]"),
     (1, "brand:[b TO *]"),
 ];
 
@@ -222,4 +241,9 @@ fn dead_rows_are_passed_and_are_no_marks(rt: HostRuntime) -> Result<(), Fail> {
 #[test]
 fn of_dead_rows_alone_none_is_shown(rt: HostRuntime) -> Result<(), Fail> {
     expect_yes(walks_agree(rt.alloc(), Rows::Dead))
+}
+
+#[test]
+fn a_range_has_few_of_the_rows_or_none(rt: HostRuntime) -> Result<(), Fail> {
+    expect_yes(walks_agree(rt.alloc(), Rows::Apart))
 }
