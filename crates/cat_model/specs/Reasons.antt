@@ -3,7 +3,8 @@ use Rattle.std.specs.Prelude.{◌≡◌, ◌≢◌, ◌⊎◌, ℕ, ◌<◌, ◌
 use Rattle.std.specs.List.{AllByRecursion}
 use Rattle.cat_model.specs.Text.{Text}
 use Rattle.cat_model.specs.Item.{Schema}
-use Rattle.cat_model.specs.Run.{SegmentStat}
+use Rattle.cat_model.specs.Run.{Run, SegmentStat, newest_commit}
+use Rattle.cat_model.specs.Table.{Opened}
 use Rattle.cat_model.specs.Heard.{Json}
 use Rattle.cat_model.specs.Files.{IsFileName, Name}
 use Rattle.cat_model.specs.Served.{Ending, ServesBy, SpellsSchema, exchange}
@@ -60,8 +61,9 @@ BeginsWithout told first s = TellsNoCommit told × (s.stat.segments ≡ []) × (
 abbrev pub HasCountedFirst : (fails : Type 0) → (failures : ℕ) → Standing → Type 0
 HasCountedFirst fails failures s = (s.failures ≡ failures) ⊎ (fails × CountsOne failures s.failures × (0 < s.stat.pending))
 
--- How it stands before the first line: nothing waits, no merge is in the making, the numbers that come next are the least that are above
--- those in the names of the directory's files, and failures are counted as above. The second argument says whether the directory can fail.
+-- How it stands before the first line: nothing waits, no merge is in the making, no generation was tried, the numbers that come next are the
+-- least that are above those in the names of the directory's files, and failures are counted as above. The second argument says whether the
+-- directory can fail.
 pub record StandsFirst (told : ToldByName) (fails : Type 0) (failures : ℕ) (schema : Schema) (s : Standing) : Type 0 where
   pub names : List Name
   pub listed : AreNamesIn told names
@@ -71,13 +73,15 @@ pub record StandsFirst (told : ToldByName) (fails : Type 0) (failures : ℕ) (sc
   pub waits : s.stat.buffered ≡ 0
   pub idle : s.merging ≡ None
   pub counted : HasCountedFirst fails failures s
+  pub untried : s.tried ≡ []
 
 -- ---- the whole
 
--- Whatever commit a crash leaves as the newest, also one of a COMMIT that was refused, its generation has been taken: it is below the one
--- that comes next, so that no later COMMIT is told it.
-abbrev pub HasTakenAll : LeftByName → Standing → Type 0
-HasTakenAll may_leave s = (image : Name → FileContent) (g : ℕ) → MayBeLeft may_leave image → IsNewestTold (told_of image) g → g < s.next_generation
+-- Whatever commit a crash leaves as the newest, it is the run's newest, or a COMMIT that was refused tried it and took its generation. So that
+-- has been taken: it is below the one that comes next, and no later COMMIT is told it.
+abbrev pub HasTakenAll : LeftByName → Opened → Run → Standing → Type 0
+HasTakenAll may_leave from run s = (image : Name → FileContent) (g : ℕ) → MayBeLeft may_leave image → IsNewestTold (told_of image) g
+    → (g < s.next_generation) × ((newest_commit from run ≡ Some g) ⊎ Contains s.tried g)
 
 -- The text answers the lines as it is served, and each reply has its cause: between the lines the service stands somehow, from the first
 -- one on; and at the end the directory that is left has counted as many failures, and the generations of its commits are taken.
@@ -93,7 +97,7 @@ pub record IsCausedIn (json : Json) {D : Type 0} (kind : DirectoryKind D) (devic
   pub last : Standing
   pub reasons : HaveReasons (TellsAlways kind) factor least served.from [] opened (filter_map exchange served.fitting) last
   pub failures : last.failures ≡ kind.failures left
-  pub taken : TellsAlways kind → HasTakenAll (kind.may_leave left) last
+  pub taken : TellsAlways kind → HasTakenAll (kind.may_leave left) served.from (filter_map exchange served.fitting) last
 
 -- What is written answers the lines that were read, and each reply has its cause.
 abbrev pub CausesIn : Json → {D : Type 0} → DirectoryKind D → (device left : D) → (input rest before after : Option Text)

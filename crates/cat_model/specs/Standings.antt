@@ -1,10 +1,12 @@
--- How a service stands between two lines: what a STAT would tell, how far a merge is, which numbers come next, and how many failures its
--- directory has counted. By it each refusal that stands in place of an OK has its cause, and what maintenance tells is so.
-use Rattle.std.specs.Prelude.{◌≡◌, ◌⊎◌, ℕ, ◌+◌, ◌-◌, ◌<◌, ◌≤◌, min, List, [], ◌∷◌, ◌++◌, length, map, sum, option_to_list, Option, Some, None, Ok, Err}
+-- How a service stands between two lines: what a STAT would tell, how far a merge is, which numbers come next, how many failures its
+-- directory has counted, and which generations were tried. By it each refusal that stands in place of an OK has its cause, and what
+-- maintenance tells is so.
+use Rattle.std.specs.Prelude.{◌≡◌, ◌⊎◌, ℕ, ◌+◌, ◌-◌, ◌<◌, ◌≤◌, min, true, List, [], ◌∷◌, ◌++◌, length, map, sum, option_to_list, Option, Some, None, Ok, Err}
 use Rattle.cat_base.specs.declared.refusal.Refusal.TheVariants.{Damaged, Device, Spent}
 use Rattle.cat_model.specs.Answer.{HasNoLineFeed, Read, stored}
 use Rattle.cat_model.specs.Limits.{buffer_limit, last_number, row_limit, segment_limit, step_limit}
 use Rattle.cat_model.specs.Run.{Answer, Chore, Command, Exchange, News, Reply, Run, Stat, accepted_by, now, view_tokens, writes}
+use Rattle.cat_model.specs.Promised.{refuses_commit}
 use Rattle.cat_model.specs.Table.{Opened, table}
 use Rattle.cat_model.specs.Window.{IsWindow}
 use Rattle.cat_model.specs.Told.{CountsOne}
@@ -14,14 +16,15 @@ pub record Progress : Type 0 where
   pub passed : ℕ
   pub rows : ℕ
 
--- What a STAT would tell, with no cached set; the merge in the making; the numbers of the next segment and of the next commit; and the
--- failures that the directory has counted.
+-- What a STAT would tell, with no cached set; the merge in the making; the numbers of the next segment and of the next commit; the failures
+-- that the directory has counted; and the generations that COMMITs tried which were refused.
 pub record Standing : Type 0 where
   pub stat : Stat
   pub merging : Option Progress
   pub next_segment : ℕ
   pub next_generation : ℕ
   pub failures : ℕ
+  pub tried : List ℕ
 
 -- how many rows each of its segments has, deleted ones counted
 abbrev pub segment_rows : Standing → List ℕ
@@ -115,7 +118,8 @@ IsTakenBy (Command.commit text) (Ok a) next new = new ≡ next + 1
 IsTakenBy c reply next new = Unit {0}
 
 -- What a line makes of it, whatever it is told: it takes one number of each kind at most, and makes one segment at most; nothing waits more
--- than before but an item that was accepted; a merge comes only where that was told; and no failure is forgotten.
+-- than before but an item that was accepted; a merge comes only where that was told; no failure is forgotten; and a COMMIT that was refused,
+-- but not for its text, takes the generation that it tried.
 pub record MovesOn (s : Standing) (c : Command) (reply : Reply) (new : Standing) : Type 0 where
   pub segment : (s.next_segment ≤ new.next_segment) × (new.next_segment ≤ s.next_segment + 1)
   pub generation : (s.next_generation ≤ new.next_generation) × (new.next_generation ≤ s.next_generation + 1)
@@ -124,6 +128,8 @@ pub record MovesOn (s : Standing) (c : Command) (reply : Reply) (new : Standing)
   pub waits : new.stat.buffered ≤ s.stat.buffered + writes_by c reply
   pub merges : s.merging ≡ None → (new.merging ≡ None) ⊎ ((k : ℕ) × (reply ≡ Ok (Answer.news (News.begun_merge k))))
   pub failures : s.failures ≤ new.failures
+  pub tried : (new.tried ≡ s.tried) ⊎ ((refuses_commit c reply ≡ true)
+      × (new.tried ≡ s.next_generation ∷ s.tried) × (s.next_generation < new.next_generation))
 
 -- Behind its past, the exchange leads from one standing to the next: its reply has its cause and tells what is so, and the numbers of writes
 -- and of recorded views are those of the run.

@@ -9,6 +9,7 @@ use Rattle.cat_model.specs.Heard.{commit_text_of}
 use Rattle.cat_model.specs.Item.{Record, Schema, is_id}
 use Rattle.cat_model.specs.Limits.{row_limit, segment_limit}
 use Rattle.cat_model.specs.Lines.{Said}
+use Rattle.cat_model.specs.Promised.{refuses_commit}
 use Rattle.cat_model.specs.Run.{Answer, Chore, Command, Exchange, Fits, News, Reply, Run, SegmentStat, view_tokens}
 use Rattle.cat_model.specs.Served.{Outcome}
 use Rattle.cat_model.specs.State.{RecordedTable, table_recorded}
@@ -99,12 +100,12 @@ some_passes : (m : Option MergingShape) → m ≢ None → (p : Progress) × (op
 some_passes None some = absurd (some refl)
 some_passes (Some m) some = (progress_of m, refl)
 
-module _ {D : Type 0} (bytes : D → ToldFiles) (can_fail : D → Type 0) (faults : D → ℕ) (old : Service D) where
+module _ {D : Type 0} (bytes : D → ToldFiles) (can_fail : D → Type 0) (faults : D → ℕ) (old : Service D) (tried : List ℕ) where
   abbrev s : Shape
   s = shape_of_service old
 
   abbrev st : Standing
-  st = standing_of_service faults old
+  st = standing_of_service faults tried old
 
   sizes : segment_rows st ≡ sizes_in s.leaves
   sizes = sizes_told s.leaves
@@ -130,8 +131,8 @@ module _ {D : Type 0} (bytes : D → ToldFiles) (can_fail : D → Type 0) (fault
   abbrev SpentFor : Command → Type 0
   SpentFor c = IsSpentFor (policy_of old).factor (policy_of old).least st c
 
-  abbrev CountedFor : Service D → Command → Type 0
-  CountedFor new c = IsCountedFor st c (standing_of_service faults new)
+  abbrev CountedFor : Service D → List ℕ → Command → Type 0
+  CountedFor new after c = IsCountedFor st c (standing_of_service faults after new)
 
   abbrev DamagedFor : Opened → Run → Command → Type 0
   DamagedFor from past c = IsDamagedFor (AlwaysTells bytes) from past st c
@@ -169,34 +170,34 @@ module _ {D : Type 0} (bytes : D → ToldFiles) (can_fail : D → Type 0) (fault
       by (Some (Said.chore Chore.sweep)) is m = subst SpentFor (sym is) tt
       by (Some (Said.chore Chore.stat)) is m = subst SpentFor (sym is) tt
 
-  counted_for : (new : Service D) (schema : Schema) (said : Option Said) (c : Command) → IsCommandOf schema said c
-      → IsCountedTo (CountsOne (faults (device_of old)) (faults (device_of new))) said → IsCountedFor st c (standing_of_service faults new)
-  counted_for new schema said c is m = by said is m
+  counted_for : (new : Service D) (after : List ℕ) (schema : Schema) (said : Option Said) (c : Command) → IsCommandOf schema said c
+      → IsCountedTo (CountsOne (faults (device_of old)) (faults (device_of new))) said → IsCountedFor st c (standing_of_service faults after new)
+  counted_for new after schema said c is m = by said is m
     where
-      by : (said : Option Said) → IsCommandOf schema said c → IsCountedTo (CountsOne (faults (device_of old)) (faults (device_of new))) said → CountedFor new c
-      by None is m = subst (CountedFor new) (sym is) tt
-      by (Some (Said.put text)) is m = subst (CountedFor new) (sym is) m
-      by (Some (Said.delete text)) is m = subst (CountedFor new) (sym is) tt
-      by (Some (Said.delete_where text)) is m = subst (CountedFor new) (sym is.2) tt
-      by (Some Said.refresh) is m = subst (CountedFor new) (sym is) m
-      by (Some Said.open_newest) is m = subst (CountedFor new) (sym is) tt
-      by (Some (Said.open_at t)) is m = subst (CountedFor new) (sym is) tt
-      by (Some (Said.close t)) is m = subst (CountedFor new) (sym is) tt
-      by (Some (Said.find t n sort mark text)) is m = subst (CountedFor new) (sym is.2) tt
-      by (Some (Said.facets t dim n text)) is m = subst (CountedFor new) (sym is.2) tt
-      by (Some (Said.get t text)) is m = subst (CountedFor new) (sym is) m
-      by (Some (Said.files_of_token t)) is m = subst (CountedFor new) (sym is) tt
-      by (Some (Said.files_of_commit g)) is m = subst (CountedFor new) (sym is) tt
-      by (Some (Said.commit text)) is m = subst (CountedFor new) (sym is) m
-      by (Some (Said.text_of_commit g)) is m = subst (CountedFor new) (sym is) tt
-      by (Some Said.snapshot) is m = subst (CountedFor new) (sym is) tt
-      by (Some (Said.release_snapshot g)) is m = subst (CountedFor new) (sym is) tt
-      by (Some (Said.prune n)) is m = subst (CountedFor new) (sym is) tt
-      by (Some (Said.chore Chore.merge)) is m = subst (CountedFor new) (sym is) m
-      by (Some (Said.chore Chore.force)) is m = subst (CountedFor new) (sym is) m
-      by (Some (Said.chore Chore.warm)) is m = subst (CountedFor new) (sym is) tt
-      by (Some (Said.chore Chore.sweep)) is m = subst (CountedFor new) (sym is) m
-      by (Some (Said.chore Chore.stat)) is m = subst (CountedFor new) (sym is) tt
+      by : (said : Option Said) → IsCommandOf schema said c → IsCountedTo (CountsOne (faults (device_of old)) (faults (device_of new))) said → CountedFor new after c
+      by None is m = subst (CountedFor new after) (sym is) tt
+      by (Some (Said.put text)) is m = subst (CountedFor new after) (sym is) m
+      by (Some (Said.delete text)) is m = subst (CountedFor new after) (sym is) tt
+      by (Some (Said.delete_where text)) is m = subst (CountedFor new after) (sym is.2) tt
+      by (Some Said.refresh) is m = subst (CountedFor new after) (sym is) m
+      by (Some Said.open_newest) is m = subst (CountedFor new after) (sym is) tt
+      by (Some (Said.open_at t)) is m = subst (CountedFor new after) (sym is) tt
+      by (Some (Said.close t)) is m = subst (CountedFor new after) (sym is) tt
+      by (Some (Said.find t n sort mark text)) is m = subst (CountedFor new after) (sym is.2) tt
+      by (Some (Said.facets t dim n text)) is m = subst (CountedFor new after) (sym is.2) tt
+      by (Some (Said.get t text)) is m = subst (CountedFor new after) (sym is) m
+      by (Some (Said.files_of_token t)) is m = subst (CountedFor new after) (sym is) tt
+      by (Some (Said.files_of_commit g)) is m = subst (CountedFor new after) (sym is) tt
+      by (Some (Said.commit text)) is m = subst (CountedFor new after) (sym is) m
+      by (Some (Said.text_of_commit g)) is m = subst (CountedFor new after) (sym is) tt
+      by (Some Said.snapshot) is m = subst (CountedFor new after) (sym is) tt
+      by (Some (Said.release_snapshot g)) is m = subst (CountedFor new after) (sym is) tt
+      by (Some (Said.prune n)) is m = subst (CountedFor new after) (sym is) tt
+      by (Some (Said.chore Chore.merge)) is m = subst (CountedFor new after) (sym is) m
+      by (Some (Said.chore Chore.force)) is m = subst (CountedFor new after) (sym is) m
+      by (Some (Said.chore Chore.warm)) is m = subst (CountedFor new after) (sym is) tt
+      by (Some (Said.chore Chore.sweep)) is m = subst (CountedFor new after) (sym is) m
+      by (Some (Said.chore Chore.stat)) is m = subst (CountedFor new after) (sym is) tt
 
   -- ---- what is told
 
@@ -422,11 +423,23 @@ merging_told schema (Some m) x e none =
 merging_gone : (schema : Schema) (m : Option Merging) (x : Option MergingShape) → merging_shape schema m ≡ x → m ≡ None → option_map progress_of x ≡ None
 merging_gone schema m x e none = sym (ap (option_map progress_of) e) ∙ ap (λ o. option_map progress_of (merging_shape schema o)) none
 
-module _ {D : Type 0} (bytes : D → ToldFiles) (can_fail : D → Type 0) (faults : D → ℕ) where
+-- what a refused COMMIT tries: a generation that it takes
+abbrev pub Tries : {D : Type 0} → (tried after : List ℕ) → Service D → Service D → Command → Reply → Type 0
+Tries tried after old new c r =
+    (after ≡ tried) ⊎ ((refuses_commit c r ≡ true)
+    × (after ≡ (shape_of_service old).next_generation ∷ tried) × ((shape_of_service old).next_generation < (shape_of_service new).next_generation))
+
+-- one that is told what is found isn't refused
+found_no_refusal : (c : Command) (f : Found) → refuses_commit c (Ok (Answer.found f)) ≡ true → ⊥
+found_no_refusal (Command.commit (Ok text)) f m = absurd (cc m)
+found_no_refusal _ f m = absurd (cc m)
+
+module _ {D : Type 0} (bytes : D → ToldFiles) (can_fail : D → Type 0) (faults : D → ℕ) (tried after : List ℕ) where
   -- what a call made of a ledger is made of the standing that memory has of it
   moves_on : (old new : Service D) (c : Command) (r : Reply) (l l' : Ledger) → shape_of_ledger l ≡ shape_of_service old → shape_of_ledger l' ≡ shape_of_service new
-      → TakesNumbers (shape_of_service old) (shape_of_service new) → faults (device_of old) ≤ faults (device_of new) → Moved c r l l' → MovesOn (standing_of_service faults old) c r (standing_of_service faults new)
-  moves_on old new c r l l' is is' numbers rises m = record {
+      → TakesNumbers (shape_of_service old) (shape_of_service new) → faults (device_of old) ≤ faults (device_of new) → Moved c r l l' → Tries tried after old new c r
+      → MovesOn (standing_of_service faults tried old) c r (standing_of_service faults after new)
+  moves_on old new c r l l' is is' numbers rises m tries = record {
     segment = numbers.segment;
     generation = numbers.generation;
     taken =
@@ -449,15 +462,23 @@ module _ {D : Type 0} (bytes : D → ToldFiles) (can_fail : D → Type 0) (fault
       | inr begun ↦ inr begun
     ];
     failures = rises;
+    tried = tries;
   }
+
+  -- so whichever source is told
+  sources_try : (c : Command) (old new : Service D) (a b : Text) → Tries tried after old new c (Ok (Answer.found (Found.source (Some a))))
+      → Tries tried after old new c (Ok (Answer.found (Found.source (Some b))))
+  sources_try c old new a b (inl same) = inl same
+  sources_try c old new a b (inr h) = absurd (found_no_refusal c (Found.source (Some a)) h.0)
 
   -- The reply that fits has its cause, where the one that was told has it.
   pub reasoned : (from : Opened) (past : Run) (old new : Service D) (e : Exchange) (fitting : Reply)
       → Stands (bytes (device_of old)) (shape_of_service old) from past → Fits from past (record { line = e.line; reply = fitting })
       → IsShown (bytes (device_of old)) e.reply fitting → IsCausedBy bytes can_fail faults old (Outcome.replied e) new
-      → HasReason (AlwaysTells bytes) (policy_of old).factor (policy_of old).least from past (standing_of_service faults old)
-      (record { line = e.line; reply = fitting }) (standing_of_service faults new)
-  reasoned from past old new e fitting stands fits shown (said, is, cause, numbers, answers, same) =
+      → Tries tried after old new e.line.command e.reply
+      → HasReason (AlwaysTells bytes) (policy_of old).factor (policy_of old).least from past (standing_of_service faults tried old)
+      (record { line = e.line; reply = fitting }) (standing_of_service faults after new)
+  reasoned from past old new e fitting stands fits shown (said, is, cause, numbers, answers, same) tries =
       let c = e.line.command in
       let schema = (shape_of_service old).schema in
       let l = stands.ledger in
@@ -466,14 +487,14 @@ module _ {D : Type 0} (bytes : D → ToldFiles) (can_fail : D → Type 0) (fault
       let told_moved : Moved c e.reply l made.0 =
       (alike_on (λ r. Moved c r l made.0) (sources_move c l made.0) e.reply made.2 made.3.alike).1 moved in
       let fit_moved : Moved c fitting l made.0 = (alike_on (λ r. Moved c r l made.0) (sources_move c l made.0) e.reply fitting shown.alike).0 told_moved in record {
-        spent = λ k. spent_for bytes can_fail faults old schema said c is (cause.spent (refused_alike Spent e.reply fitting shown.alike k));
-        counted = λ k. counted_for bytes can_fail faults old new schema said c is (cause.counted (refused_alike Device e.reply fitting shown.alike k));
+        spent = λ k. spent_for bytes can_fail faults old tried schema said c is (cause.spent (refused_alike Spent e.reply fitting shown.alike k));
+        counted = λ k. counted_for bytes can_fail faults old tried new after schema said c is (cause.counted (refused_alike Device e.reply fitting shown.alike k));
         damaged = λ k.
-            damaged_for bytes can_fail faults old from past e.line.session schema said c is stands (subst (λ r. Fits from past (record { line = e.line; reply = r })) k fits)
+            damaged_for bytes can_fail faults old tried from past e.line.session schema said c is stands (subst (λ r. Fits from past (record { line = e.line; reply = r })) k fits)
             (cause.damaged (refused_alike Damaged e.reply fitting shown.alike k));
         told =
-            (alike_on (λ r. IsToldOf (policy_of old).factor (policy_of old).least (standing_of_service faults old) c r)
-            (λ a b h. found_told bytes can_fail faults old c (Found.source (Some b))) e.reply fitting shown.alike).0 (told_for bytes can_fail faults old schema said c e.reply is cause.told);
+            (alike_on (λ r. IsToldOf (policy_of old).factor (policy_of old).least (standing_of_service faults tried old) c r)
+            (λ a b h. found_told bytes can_fail faults old tried c (Found.source (Some b))) e.reply fitting shown.alike).0 (told_for bytes can_fail faults old tried schema said c e.reply is cause.told);
         writes = ap (λ (x : Shape). x.count) (sym stands.carries.shape) ∙ stands.stands.shows.count_now;
         views =
             (let a = ap (λ (x : Shape). length x.views) stands.carries.shape in
@@ -481,5 +502,7 @@ module _ {D : Type 0} (bytes : D → ToldFiles) (can_fail : D → Type 0) (fault
             let d = length-map l.views view_shown in
             let f = ap (λ (vs : List RecordedTable). length vs) stands.stands.shows.views_now in
             let g = length-map (view_tokens from.start past) (table_recorded from.start past) in omega (arith, a, b, d, f, g));
-        moves = moves_on old new c fitting l made.0 stands.carries.shape made.5.shape numbers cause.rises fit_moved;
+        moves =
+            moves_on old new c fitting l made.0 stands.carries.shape made.5.shape numbers cause.rises fit_moved
+            ((alike_on (Tries tried after old new c) (λ a b h. sources_try c old new a b h) e.reply fitting shown.alike).0 tries);
       }

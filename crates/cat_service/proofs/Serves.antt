@@ -1,7 +1,7 @@
 -- A world that answers as its machine does serves its input as is promised.
 use Rattle.std.proofs.Common.{inl, inr, ◌≡◌, ℕ, List, [], ◌∷◌, ◌++◌, length, map, Bool, true, false, refl, sym, ◌∙◌, ap, ap₂, subst, arith, append-nil, append_assoc}
 use Rattle.std.specs.List.{flat_map, AllByRecursion}
-use Rattle.std.specs.Prelude.{◌⊎◌, ◌<◌, Option, None, Some, Result, Ok, Err, nat_lt, if◌then◌else◌, filter_map}
+use Rattle.std.specs.Prelude.{◌⊎◌, ◌<◌, Contains, Option, None, Some, Result, Ok, Err, nat_lt, if◌then◌else◌, filter_map}
 use Rattle.std.proofs.lemmas.Bool.{cases_lt}
 use Rattle.std.proofs.lemmas.Bool.Decides.{nat_tests}
 use Rattle.cat_base.specs.declared.refusal.Refusal.{Refusal}
@@ -26,7 +26,7 @@ use Rattle.cat_directory.specs.Devices.{FileContent, Told}
 use Rattle.cat_directory.specs.Names.{by_names, file_of, name_of}
 use Rattle.cat_directory.specs.declared.name.FileName.{FileName}
 use Rattle.cat_directory.specs.declared.name.FileName.TheVariants as file
-use Rattle.cat_commands.specs.cat_ledger.Histories.{LeavesNoneAhead, events_of, image_tells}
+use Rattle.cat_commands.specs.cat_ledger.Histories.{Call, Event, IsHistory, LeavesNoneAhead, events_of, image_tells}
 use Rattle.cat_commands.specs.cat_ledger.Lasting.{AlwaysTells}
 use Rattle.cat_commands.specs.cat_ledger_state.startup.Newest.{IsNewestCommit}
 use Rattle.cat_ledger_laws.specs.model.Plans.{MergePolicy}
@@ -47,7 +47,7 @@ use Rattle.cat_service.proofs.Standing.{stands_first}
 use Rattle.cat_service.proofs.Opens.{begins_from}
 use Rattle.cat_service.proofs.Outlasted.{newest_number}
 use Rattle.cat_service.proofs.Settled.{newest_settled, own_left}
-use Rattle.cat_service.proofs.Survived.{survives, taken_all}
+use Rattle.cat_service.proofs.Survived.{HasRefused, found_so, survives, tried_by, tried_more, tried_refused, tries_so}
 use Rattle.cat_service.proofs.Caused.{failing_on}
 use Rattle.cat_service.specs.Opening.{BeginsIn, OpensWorld}
 use Rattle.cat_service.specs.Promises.{WorldLasts}
@@ -148,12 +148,14 @@ module _ {D : Type 0} (bytes : D → ToldFiles) (may_leave : D → FileName → 
   refusal_if_short device line u false long o = elim o.0.0 [ inl stopped ↦ inl stopped.0 | inr begins ↦ inr begins ]
 
   -- the exchanges of the rest of a run have their causes, from how the one world stands to how the other does
-  abbrev pub Reasons : Opened → Run → Service D → Run → Service D → Type 0
-  Reasons from past old rest new =
-      HaveReasons (TellsAlways kind) (policy_of old).factor (policy_of old).least from past (standing_of_service faults old) rest (standing_of_service faults new)
+  abbrev pub Reasons : Opened → Run → List ℕ → Service D → Run → List ℕ → Service D → Type 0
+  Reasons from past tried old rest last new =
+      HaveReasons (TellsAlways kind) (policy_of old).factor (policy_of old).least from past (standing_of_service faults tried old) rest
+      (standing_of_service faults last new)
 
-  -- what comes of lines behind a past run: what was told, what fits, and what is promised of the device that is left
-  pub record Goes (fails : Type 0) (from : Opened) (past : Run) (old : Service D) (lines : List Text) (outcomes : List Outcome) (new : Service D) : Type 0 where
+  -- what comes of lines behind a past run: what was told, what fits, what is promised of the device that is left, and what was tried
+  pub record Goes (fails : Type 0) (from : Opened) (past : Run) (tried : List ℕ) (old : Service D) (lines : List Text) (outcomes : List Outcome)
+      (new : Service D) : Type 0 where
     pub fitting : List Outcome
     pub heard_all : HeardAll json from.start.schema lines outcomes
     pub is_run : IsRun from (past ++ filter_map exchange fitting)
@@ -164,7 +166,11 @@ module _ {D : Type 0} (bytes : D → ToldFiles) (may_leave : D → FileName → 
     pub failing : AllByRecursion (FailsRightly fails) outcomes
     pub promised : LeavesPromised kind (device_of new) from (past ++ filter_map exchange fitting)
     pub newest : newest_generation (shape_of_service new).commits ≡ newest_commit from (past ++ filter_map exchange fitting)
-    pub reasons : Reasons from past old (filter_map exchange fitting) new
+    pub last : List ℕ
+    pub reasons : Reasons from past tried old (filter_map exchange fitting) last new
+    pub calls : List (Call D)
+    pub history : IsHistory may_leave old.ledger calls new.ledger
+    pub refused : (g : ℕ) → HasRefused (events_of calls) g ⊎ Contains tried g → Contains last g
 
   -- what is promised is held
   promise : (w : Service D) (from : Opened) (run : Run) → (shape_of_service w).schema ≡ from.start.schema → WorldLasts bytes may_leave w
@@ -177,10 +183,10 @@ module _ {D : Type 0} (bytes : D → ToldFiles) (may_leave : D → FileName → 
   }
 
   -- the lines that the machine steps through are heard, and their exchanges go on with the run so far
-  steps_go : (fails : Type 0) (from : Opened) (past : Run) (old new : Service D) (lines : List Text) (outcomes : List Outcome)
+  steps_go : (fails : Type 0) (from : Opened) (past : Run) (tried : List ℕ) (old new : Service D) (lines : List Text) (outcomes : List Outcome)
       → WorldLasts bytes may_leave new → (can_fail (device_of old) → fails) → (shape_of_service old).schema ≡ from.start.schema → IsRun from past → Stands (bytes (device_of old)) (shape_of_service old) from past
-      → Steps (StepsCaused bytes may_leave can_fail faults) old (map short_line lines) outcomes new → Goes fails from past old lines outcomes new
-  steps_go fails from past old new [] [] lasts can fields run stands s = record {
+      → Steps (StepsCaused bytes may_leave can_fail faults) old (map short_line lines) outcomes new → Goes fails from past tried old lines outcomes new
+  steps_go fails from past tried old new [] [] lasts can fields run stands s = record {
     fitting = [];
     heard_all = tt;
     is_run = subst (IsRun from) (sym (append-nil past)) run;
@@ -195,13 +201,17 @@ module _ {D : Type 0} (bytes : D → ToldFiles) (may_leave : D → FileName → 
         ap (λ w. newest_generation (shape_of_service w).commits) s
         ∙ newest_number (bytes (device_of old)) (shape_of_service old) from past stands
         ∙ ap (newest_commit from) (sym (append-nil past));
-    reasons = ap (standing_of_service faults) s;
+    last = tried;
+    reasons = ap (standing_of_service faults tried) s;
+    calls = [];
+    history = ap (λ (w : Service D). w.ledger) s;
+    refused = λ g has. elim has [ inl none ↦ absurd none | inr there ↦ there ];
   }
-  steps_go fails from past old new [] (told ∷ outcomes) lasts can fields run stands s = absurd s
-  steps_go fails from past old new (line ∷ lines) [] lasts can fields run stands s = absurd s
-  steps_go fails from past old new (line ∷ lines) (Outcome.unreadable ∷ outcomes) lasts can fields run stands (mid, step, steps) =
+  steps_go fails from past tried old new [] (told ∷ outcomes) lasts can fields run stands s = absurd s
+  steps_go fails from past tried old new (line ∷ lines) [] lasts can fields run stands s = absurd s
+  steps_go fails from past tried old new (line ∷ lines) (Outcome.unreadable ∷ outcomes) lasts can fields run stands (mid, step, steps) =
       let here = line_if_short old mid line Outcome.unreadable (nat_lt 10000 (length line)) refl step.0 in
-      let rest = steps_go fails from past mid new lines outcomes lasts (subst (λ w. can_fail (device_of w) → fails) (sym here.1) can) (ap (λ w. (shape_of_service w).schema) here.1 ∙ fields) run
+      let rest = steps_go fails from past tried mid new lines outcomes lasts (subst (λ w. can_fail (device_of w) → fails) (sym here.1) can) (ap (λ w. (shape_of_service w).schema) here.1 ∙ fields) run
       (subst (λ w. Stands (bytes (device_of w)) (shape_of_service w) from past) (sym here.1) stands) steps in record {
         fitting = Outcome.unreadable ∷ rest.fitting;
         heard_all = (subst (λ schema. Hears json schema line Heard.unreadable) fields here.0, rest.heard_all);
@@ -213,13 +223,20 @@ module _ {D : Type 0} (bytes : D → ToldFiles) (may_leave : D → FileName → 
         failing = (tt, rest.failing);
         promised = rest.promised;
         newest = rest.newest;
-        reasons = subst (λ w. Reasons from past w (filter_map exchange rest.fitting) new) here.1 rest.reasons;
+        last = rest.last;
+        reasons = subst (λ w. Reasons from past tried w (filter_map exchange rest.fitting) rest.last new) here.1 rest.reasons;
+        calls = rest.calls;
+        history = subst (λ (w : Service D). IsHistory may_leave w.ledger rest.calls new.ledger) here.1 rest.history;
+        refused = rest.refused;
       }
-  steps_go fails from past old new (line ∷ lines) (Outcome.replied e ∷ outcomes) lasts can fields run stands (mid, step, steps) =
+  steps_go fails from past tried old new (line ∷ lines) (Outcome.replied e ∷ outcomes) lasts can fields run stands (mid, step, steps) =
       let here = line_if_short old mid line (Outcome.replied e) (nat_lt 10000 (length line)) refl step.0 in
       let next = here.1.2 from past (sym fields) run stands in
       let fit : Exchange = record { line = e.line; reply = next.0 } in
-      let rest = steps_go fails from (past ++ fit ∷ []) mid new lines outcomes lasts (λ k. can (here.1.6 k)) (here.1.0 ∙ fields) (runs_go_on from past fit run next.2) next.3 steps in record {
+      let event : Event = here.1.4.0 in
+      let after : List ℕ = tried_by event ++ tried in
+      let call : Call D = record { event = event; after = mid.ledger } in
+      let rest = steps_go fails from (past ++ fit ∷ []) after mid new lines outcomes lasts (λ k. can (here.1.6 k)) (here.1.0 ∙ fields) (runs_go_on from past fit run next.2) next.3 steps in record {
         fitting = Outcome.replied fit ∷ rest.fitting;
         heard_all = (subst (λ schema. Hears json schema line (Heard.a_line e.line)) fields here.0, rest.heard_all);
         is_run = subst (IsRun from) (append_assoc past (fit ∷ []) (filter_map exchange rest.fitting)) rest.is_run;
@@ -233,13 +250,18 @@ module _ {D : Type 0} (bytes : D → ToldFiles) (may_leave : D → FileName → 
         promised =
             subst (LeavesPromised kind (device_of new) from) (append_assoc past (fit ∷ []) (filter_map exchange rest.fitting)) rest.promised;
         newest = rest.newest ∙ ap (newest_commit from) (append_assoc past (fit ∷ []) (filter_map exchange rest.fitting));
+        last = rest.last;
         reasons = (
-          standing_of_service faults mid,
-          reason_by (AlwaysTells bytes) (TellsAlways kind) always_tells (policy_of old).factor (policy_of old).least from past (standing_of_service faults old) fit (standing_of_service faults mid)
-              (reasoned bytes can_fail faults from past old mid e next.0 stands next.2 next.1 step.1),
-          subst (λ (p : MergePolicy). HaveReasons (TellsAlways kind) p.factor p.least from (past ++ fit ∷ []) (standing_of_service faults mid) (filter_map exchange rest.fitting) (standing_of_service faults new))
+          standing_of_service faults after mid,
+          reason_by (AlwaysTells bytes) (TellsAlways kind) always_tells (policy_of old).factor (policy_of old).least from past (standing_of_service faults tried old) fit (standing_of_service faults after mid)
+              (reasoned bytes can_fail faults tried after from past old mid e next.0 stands next.2 next.1 step.1
+              (tries_so may_leave event e.line.command e.reply old mid tried here.1.4.1 here.1.4.2)),
+          subst (λ (p : MergePolicy). HaveReasons (TellsAlways kind) p.factor p.least from (past ++ fit ∷ []) (standing_of_service faults after mid) (filter_map exchange rest.fitting) (standing_of_service faults rest.last new))
               step.1.5 rest.reasons,
         );
+        calls = call ∷ rest.calls;
+        history = (here.1.4.2, rest.history);
+        refused = tried_more event (events_of rest.calls) tried rest.last rest.refused;
       }
 
   -- what each line was told is still so without its cause
@@ -284,14 +306,20 @@ module _ {D : Type 0} (bytes : D → ToldFiles) (may_leave : D → FileName → 
       newest_of_mended g mended own.0 (kept ∙ own.1) gone)
 
   -- the generations of commits that a crash leaves are taken
-  taken_so : (opened last : Service D) (lines : List Text) (outcomes : List Outcome)
-      → Steps (StepsIfShort bytes may_leave can_fail) opened (map short_line lines) outcomes last → (tells : TellsAlways kind)
-      → LeavesNoneAhead may_leave opened.ledger → StageOutlives bytes may_leave (Open last)
-      → HasTakenAll (kind.may_leave (device_of last)) (standing_of_service faults last)
-  taken_so opened last lines outcomes steps tells none laws =
-      let calls = tolds_are_calls may_leave bytes can_fail opened last (map short_line lines) outcomes steps in
-      taken_all (may_leave (device_of last)) (shape_of_service last).next_generation
-      (λ image g crashed is. laws.2 opened.ledger calls.0 (always_tells tells) none calls.2 image g crashed is)
+  taken_so : (opened last : Service D) (from : Opened) (run : Run) (tried : List ℕ) (calls : List (Call D)) → IsHistory may_leave opened.ledger calls last.ledger
+      → (tells : TellsAlways kind) → LeavesNoneAhead may_leave opened.ledger → StageOutlives bytes may_leave (Open last)
+      → newest_generation (shape_of_service last).commits ≡ newest_commit from run
+      → ((g : ℕ) → HasRefused (events_of calls) g ⊎ Contains [] g → Contains tried g)
+      → HasTakenAll (kind.may_leave (device_of last)) from run (standing_of_service faults tried last)
+  taken_so opened last from run tried calls history tells none laws newest refused =
+      found_so (λ g. (g < (shape_of_service last).next_generation) × ((newest_commit from run ≡ Some g) ⊎ Contains tried g)) (may_leave (device_of last))
+      (λ image g crashed is. (
+        laws.2 opened.ledger calls (always_tells tells) none history image g crashed is,
+        elim (laws.0 opened.ledger calls (always_tells tells) none history image g crashed is) [
+          | inl own ↦ inl (sym newest ∙ own)
+          | inr was ↦ inr (refused g (inl (tried_refused (events_of calls) g was)))
+        ],
+      ))
 
   -- ---- the world serves
 
@@ -303,7 +331,7 @@ module _ {D : Type 0} (bytes : D → ToldFiles) (may_leave : D → FileName → 
       let opened = opening_if_short device first a.opened long (opening_less device (if long then None else Some first) (Ok a.opened) a.begins) in
       let so = opening_so device first a.opened long a.begins in
       let opening = opened.0 in
-      let goes = steps_go (can_fail device) opening.0 [] a.opened a.left lines a.outcomes lasts opened.2 opening.2 tt opening.3 a.steps in record {
+      let goes = steps_go (can_fail device) opening.0 [] [] a.opened a.left lines a.outcomes lasts opened.2 opening.2 tt opening.3 a.steps in record {
         served = record {
           from = opening.0;
           begins = begins_from (bytes device) first (Ok opening.0) opening.1;
@@ -326,14 +354,14 @@ module _ {D : Type 0} (bytes : D → ToldFiles) (may_leave : D → FileName → 
         least = (policy_of a.opened).least;
         fields = so.2;
         policy = so.3;
-        opened = standing_of_service faults a.opened;
+        opened = standing_of_service faults [] a.opened;
         begins = stands_first bytes can_fail faults device opening.0.start.schema a.opened opening.2 so.0 so.1;
-        last = standing_of_service faults a.left;
+        last = standing_of_service faults goes.last a.left;
         reasons = goes.reasons;
         failures = refl;
         taken = λ tells.
-            taken_so a.opened a.left lines a.outcomes (steps_less a.opened a.left (map short_line lines) a.outcomes a.steps) tells
-            (opened.1 (always_tells tells)) laws;
+            taken_so a.opened a.left opening.0 (filter_map exchange goes.fitting) goes.last goes.calls goes.history tells (opened.1 (always_tells tells)) laws
+            goes.newest goes.refused;
       }
 
   refused_in : (device : D) (first : Text) (e : Refusal) → IsRefused (OpensCaused bytes may_leave can_fail faults device) first e

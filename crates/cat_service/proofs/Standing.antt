@@ -122,7 +122,7 @@ counted_first fails before now s (inr (can, one, (q, waits))) = inr (can, one, s
 
 module _ {D : Type 0} (bytes : D → ToldFiles) (can_fail : D → Type 0) (faults : D → ℕ) (device : D) where
   abbrev Begins : Schema → Service D → Type 0
-  Begins schema w = StandsFirst (named (bytes device)) (can_fail device) (faults device) schema (standing_of_service faults w)
+  Begins schema w = StandsFirst (named (bytes device)) (can_fail device) (faults device) schema (standing_of_service faults [] w)
 
   opened_so : (schema : Schema) (w : Service D) (mid : Shape) → HasOpened (bytes device) schema (bytes device) mid → Leaves [] mid (shape_of_service w)
       → CountsSwept (can_fail device) (faults device) (shape_of_service w) (faults (device_of w)) → Begins schema w
@@ -148,6 +148,7 @@ module _ {D : Type 0} (bytes : D → ToldFiles) (can_fail : D → Type 0) (fault
         waits = ap (λ (x : Shape). length x.buffered) swept.rest ∙ ap (λ (x : Shape). length x.buffered) c.memory;
         idle = ap (λ (x : Shape). option_map progress_of x.merging) swept.rest ∙ ap (λ (x : Shape). option_map progress_of x.merging) c.memory;
         counted = counted_first (can_fail device) (faults device) (faults (device_of w)) s counted;
+        untried = refl;
       }
   opened_so schema w mid (inr c) swept counted =
       let s = shape_of_service w in
@@ -168,6 +169,7 @@ module _ {D : Type 0} (bytes : D → ToldFiles) (can_fail : D → Type 0) (fault
         waits = ap (λ (x : Shape). length x.buffered) swept.rest ∙ ap (λ (x : Shape). length x.buffered) c.memory;
         idle = ap (λ (x : Shape). option_map progress_of x.merging) swept.rest ∙ ap (λ (x : Shape). option_map progress_of x.merging) c.memory;
         counted = counted_first (can_fail device) (faults device) (faults (device_of w)) s counted;
+        untried = refl;
       }
 
   -- It stands as it was opened.

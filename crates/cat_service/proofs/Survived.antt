@@ -14,15 +14,17 @@ use Rattle.cat_directory.specs.Devices.{FileContent}
 use Rattle.cat_directory.specs.Names.{file_of, name_of}
 use Rattle.cat_directory.specs.declared.name.FileName.{FileName}
 use Rattle.cat_directory.specs.declared.name.FileName.TheVariants as file
-use Rattle.cat_commands.specs.cat_ledger.Histories.{Event, IsCrashed, IsTried, IsUnanswered, image_tells}
+use Rattle.cat_commands.specs.cat_ledger.Histories.{Event, Goes, IsCrashed, IsTried, IsUnanswered, image_tells}
 use Rattle.cat_commands.specs.cat_ledger_state.startup.Newest.{HasNoCommit, IsNewestCommit}
 use Rattle.cat_ledger_laws.proofs.shape.Told.{file_of_name}
+use Rattle.cat_service.proofs.Reasoned.{Tries}
 use Rattle.cat_service.specs.Histories.{MakeTold, MakesEvent}
+use Rattle.cat_service.specs.Worlds.{Service, shape_of_service}
 
 -- ---- what was tried
 
 -- the generation that a refused COMMIT may have begun
-abbrev tried_by : Event → List ℕ
+abbrev pub tried_by : Event → List ℕ
 tried_by (Event.Refused g) = g ∷ []
 tried_by Event.Other = []
 tried_by (Event.Answered g) = []
@@ -46,6 +48,35 @@ counted_more x xs = omega (arith, sum_by-cons (λ y. cond (refuses y) 1 0) x xs)
 
 counted_one : (x : Exchange) (xs : Run) → refuses x ≡ true → count_by refuses (x ∷ xs) ≡ 1 + count_by refuses xs
 counted_one x xs is = sum_by-cons (λ y. cond (refuses y) 1 0) x xs ∙ ap (λ b. cond b 1 0 + count_by refuses xs) is
+
+-- what a refused COMMIT tries it takes
+pub tries_so : {D : Type 0} (left : D → FileName → FileContent → Type 0) (event : Event) (c : Command) (r : Reply) (old new : Service D) (tried : List ℕ)
+    → MakesEvent c r event → Goes left event old.ledger new.ledger → Tries tried (tried_by event ++ tried) old new c r
+tries_so left Event.Other c r old new tried m goes = inl refl
+tries_so left (Event.Answered g) c r old new tried m goes = inl refl
+tries_so left (Event.Refused g) c r old new tried m goes =
+    let next : g ≡ (shape_of_service old).next_generation = (goes.asked g refl).0 in
+    inr (refused_so c r g m, ap (λ n. n ∷ tried) next, subst (λ n. n < (shape_of_service new).next_generation) next (goes.taken g refl))
+
+-- a commit of the generation was refused
+abbrev pub HasRefused : List Event → ℕ → Type 0
+HasRefused [] g = ⊥
+HasRefused (event ∷ events) g = (event ≡ Event.Refused g) ⊎ HasRefused events g
+
+refused_behind : (before since : List Event) (g : ℕ) → HasRefused (before ++ Event.Refused g ∷ since) g
+refused_behind [] since g = inl refl
+refused_behind (e ∷ before) since g = inr (refused_behind before since g)
+
+pub tried_refused : (events : List Event) (g : ℕ) → IsTried events g → HasRefused events g
+tried_refused events g t = subst (λ es. HasRefused es g) (sym t.split) (refused_behind t.before t.since g)
+
+-- one more is among those that were tried
+pub tried_more : (event : Event) (events : List Event) (tried last : List ℕ)
+    → ((g : ℕ) → HasRefused events g ⊎ Contains (tried_by event ++ tried) g → Contains last g)
+    → (g : ℕ) → HasRefused (event ∷ events) g ⊎ Contains tried g → Contains last g
+tried_more event events tried last f g (inl (inl e)) = f g (inr (subst (λ x. Contains (tried_by x ++ tried) g) (sym e) (0, omega arith, refl)))
+tried_more event events tried last f g (inl (inr more)) = f g (inl more)
+tried_more event events tried last f g (inr c) = f g (inr (Contains-append_right (tried_by event) tried g c))
 
 -- each refused COMMIT tried one generation at most
 few_tried : (tolds : List Outcome) (events : List Event) → MakeTold tolds events → length (tried_in events) ≤ count_by refuses (filter_map exchange tolds)
@@ -177,11 +208,11 @@ by_file image q = image (name_of q)
 crashed_so : (left : FileName → FileContent → Type 0) (image : Name → FileContent) → MayBeLeft (λ q. left (file_of q)) image → IsCrashed left (by_file image)
 crashed_so left image may q = subst (λ f. left f (image (name_of q))) (file_of_name q) (may (name_of q))
 
--- The generation of whatever commit a crash leaves is below a number, where that is so by the code's names.
-pub taken_all : (left : FileName → FileContent → Type 0) (next : ℕ)
-    → ((image : FileName → FileContent) (g : ℕ) → IsCrashed left image → IsNewestCommit (image_tells image) g → g < next)
-    → (image : Name → FileContent) (g : ℕ) → MayBeLeft (λ q. left (file_of q)) image → IsNewestTold (told_of image) g → g < next
-taken_all left next found image g may is = found (by_file image) g (crashed_so left image may) (record { there = is.there; greatest = is.greatest })
+-- What is so of the generation of whatever commit a crash leaves, where it is so by the code's names.
+pub found_so : (P : ℕ → Type 0) (left : FileName → FileContent → Type 0)
+    → ((image : FileName → FileContent) (g : ℕ) → IsCrashed left image → IsNewestCommit (image_tells image) g → P g)
+    → (image : Name → FileContent) (g : ℕ) → MayBeLeft (λ q. left (file_of q)) image → IsNewestTold (told_of image) g → P g
+found_so P left found image g may is = found (by_file image) g (crashed_so left image may) (record { there = is.there; greatest = is.greatest })
 
 -- What is found after a crash, by what the lines had to do with commits, is so in the model's words.
 pub survives : (left : FileName → FileContent → Type 0) (from : Opened) (run : Run) (tolds : List Outcome) (events : List Event) → filter_map exchange tolds ≡ run

@@ -1,5 +1,5 @@
 -- Why each line was told what it was told, as a world is served.
-use Rattle.std.specs.Prelude.{◌≡◌, ℕ, option_map, Option, None, Some, Result, length, IfOk}
+use Rattle.std.specs.Prelude.{◌≡◌, ℕ, List, option_map, Option, None, Some, Result, length, IfOk}
 use Rattle.cat_model.specs.Lines.{Said}
 use Rattle.cat_model.specs.Merged.{rows_of_all}
 use Rattle.cat_model.specs.Served.{Outcome, SpellsSchema}
@@ -23,14 +23,15 @@ use Rattle.cat_service.specs.Worlds.{Service, device_of, policy_of, shape_of_ser
 abbrev pub progress_of : MergingShape → Progress
 progress_of m = record { passed = m.passed; rows = length (rows_of_all m.inputs) }
 
--- how a world stands, by how many failures a device has counted
-abbrev pub standing_of_service : {D : Type 0} → (D → ℕ) → Service D → Standing
-standing_of_service faults w = record {
+-- how a world stands, by how many failures a device has counted, and which generations were tried by COMMITs that were refused
+abbrev pub standing_of_service : {D : Type 0} → (D → ℕ) → List ℕ → Service D → Standing
+standing_of_service faults tried w = record {
   stat = stat_in 0 (shape_of_service w);
   merging = option_map progress_of (shape_of_service w).merging;
   next_segment = (shape_of_service w).next_segment;
   next_generation = (shape_of_service w).next_generation;
   failures = faults (device_of w);
+  tried = tried;
 }
 
 -- ---- as a machine

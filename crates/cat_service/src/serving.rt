@@ -56,8 +56,9 @@ fn device_left<D: Directory + Shelf>(stage: Stage<World<D>, D>) -> D
 /// line. That a number or a limit is spent is told only where one is; that the device failed, only where the directory counts
 /// one failure more at that line, and no failure is forgotten; that a file is damaged, to a MERGE only where it has rows to
 /// copy, and to a GET, where such directories always tell of their files, only where the text has a line feed. A COMMIT tells
-/// the generation that comes next, and takes it; SWEEP, STAT, MERGE and FORCE tell what is so. Where such directories always
-/// tell of their files, whatever commit a crash leaves as the newest has a generation below the one that comes next.
+/// the generation that comes next, and takes it; SWEEP, STAT, MERGE and FORCE tell what is so. A COMMIT that is refused, but
+/// not for its text, takes the generation that it tried, so that no later line is told it: where such directories always tell
+/// of their files, whatever commit a crash leaves as the newest is the last that was answered or opened, or was tried so.
 ///
 /// It flushes before each read, so that a client which waits for a reply has it. Its two buffers are taken before the first
 /// line is read, and replies are written without taking memory. The reader is called at most 4,294,967,295 times.
