@@ -1,6 +1,6 @@
 -- The causes of replies, as those who answer tell them.
 use Rattle.std.proofs.Common.{◌≡◌, ◌≢◌, ℕ, ◌<◌, ◌≤◌, List, Bool, true, false, cond, ltb, length, refl, sym, ◌∙◌, ap, subst, inl, inr}
-use Rattle.std.specs.Prelude.{◌⊎◌, Option, None, Some, Result, Ok, Err, IfErr, IfOk}
+use Rattle.std.specs.Prelude.{◌⊎◌, Option, None, Some, Result, Ok, Err, IfErr, IfOk, OnErr}
 use Rattle.std.specs.List.{list_all}
 use Rattle.std.proofs.lemmas.Bool.Decides.{eqb_tells}
 use Rattle.cat_base.specs.declared.refusal.Refusal.{Refusal}
@@ -18,12 +18,13 @@ use Rattle.cat_model.specs.View.{View}
 use Rattle.cat_directory.specs.Devices.{CountsOne, FileContent}
 use Rattle.cat_directory.specs.declared.name.FileName.{FileName}
 use Rattle.cat_commands.specs.views.Holding.{said_open}
-use Rattle.cat_commands.specs.ledger.Chores.{FailsFor, MayRefuse, MayRefuseForce, MayRefuseMerge, TellsChore, chore_of}
+use Rattle.cat_commands.specs.ledger.Chores.{FailsFor, KeepsBehind, MayRefuse, MayRefuseForce, MayRefuseMerge, TellsChore, chore_of}
 use Rattle.cat_commands.specs.declared.ledger.chores.Chore as code_chore
 use Rattle.cat_commands.specs.declared.ledger.chores.Chore.TheVariants.{Force, Merge, Stat, Sweep}
 use Rattle.cat_commands.specs.cat_ledger.Answering.{AnswersSaid}
 use Rattle.cat_commands.specs.cat_ledger.Histories.{GoesBy}
 use Rattle.cat_commands.specs.cat_ledger.Ledgers.{LedgerOnDevice, device_in, policy_in, shape_in}
+use Rattle.cat_commands.specs.cat_ledger.Refusals.{KeepsMerge}
 use Rattle.cat_commands.specs.cat_ledger_state.Cores.{HasRowsLeft, MayNotFlush}
 use Rattle.cat_ledger_laws.specs.lines.LineLaws.{line_of}
 use Rattle.cat_ledger_laws.specs.lines.ReadLaws.{IsRecordedAs}
@@ -35,7 +36,7 @@ use Rattle.cat_protocol.specs.replies.Reply.{answer_of, reply_of}
 use Rattle.cat_protocol.specs.declared.replies.answer.Answer as code
 use Rattle.cat_protocol.specs.cat_views.Holds.{HeldView}
 use Rattle.cat_protocol.specs.cat_views.Sources.{HoldsSource, TellsSource}
-use Rattle.cat_service.specs.Causes.{HasCause, IsDamagedTo, IsSpentTo, MayFailTo, TellsSo}
+use Rattle.cat_service.specs.Causes.{HasCause, IsDamagedTo, IsSpentTo, KeepsIfRefused, MayFailTo, TellsSo}
 use Rattle.cat_service.specs.Lines.{IsCommandOf}
 use Rattle.cat_service.specs.Worlds.{Service}
 use Rattle.cat_commands.specs.cat_ledger.Lasting.{IsCarried}
@@ -58,6 +59,12 @@ given_so A x result e h same is = refused_so (λ y. y ≡ x → A) result e h is
 not_told : (result : Result code.Answer Refusal) (x : Refusal) (reply : Reply) → (Err x ≢ reply) → result ≡ Err x → reply_of result ≡ reply → ⊥
 not_told result x reply differs given is = differs (sym (ap reply_of given) ∙ is)
 
+-- what is kept behind a refusal, as it is told
+kept_so : (A : Type 0) (P : Reply → Type 0) → ((a : Answer) → P (Ok a)) → ((e : Refusal) → A → P (Err e)) → (result : Result code.Answer Refusal) → OnErr result A
+    → P (reply_of result)
+kept_so A P ok err (Ok a) h = ok (answer_of a)
+kept_so A P ok err (Err e) h = err e h
+
 module _ {D : Type 0} (bytes : D → ToldFiles) (can_fail : D → Type 0) (faults : D → ℕ) (old : LedgerOnDevice D) (rights : List HeldView) (result : Result code.Answer Refusal)
     (left : LedgerOnDevice D) (rights' : List HeldView) where
   abbrev world : Service D
@@ -73,13 +80,21 @@ module _ {D : Type 0} (bytes : D → ToldFiles) (can_fail : D → Type 0) (fault
   abbrev Rises : Type 0
   Rises = faults (device_in old) ≤ faults (device_in left)
 
+  abbrev KeepsMaking : Type 0
+  KeepsMaking = KeepsMerge (shape_in old) (shape_in left)
+
+  -- what the line keeps that is refused
+  abbrev Keeps : Said → Reply → Type 0
+  Keeps said reply = KeepsIfRefused (Some said) reply (shape_in old) (shape_in left)
+
   abbrev Causes : Said → Type 0
   Causes said = HasCause bytes can_fail faults world (Some said) (reply_of result) after
 
   pub put_caused : (text : Text)
       → IfErr result (λ e. e ≡ Spent → (last_number ≤ (shape_in old).count) ⊎ ((buffer_limit ≤ length (shape_in old).buffered) × MayNotFlush (shape_in old)))
-      → IfErr result (λ e. e ≡ Device → can_fail (device_in old)) → IfErr result (λ e. e ≡ Device → Counted) → Rises → Causes (Said.put text)
-  put_caused text spent device counted rises = record {
+      → IfErr result (λ e. e ≡ Device → can_fail (device_in old)) → IfErr result (λ e. e ≡ Device → Counted) → Rises → OnErr result KeepsMaking
+      → Causes (Said.put text)
+  put_caused text spent device counted rises stays = record {
     spent = given_so (IsSpentTo (policy_in old) (shape_in old) (Some (Said.put text))) Spent result Spent spent refl;
     device = given_so (can_fail (device_in old)) Device result Device device refl;
     counted = given_so Counted Device result Device counted refl;
@@ -87,11 +102,12 @@ module _ {D : Type 0} (bytes : D → ToldFiles) (can_fail : D → Type 0) (fault
     told = tt;
     rises = rises;
     stays = tt;
+    keeps = kept_so KeepsMaking (Keeps (Said.put text)) (λ a. tt) (λ e kept. kept) result stays;
   }
 
   pub refresh_caused : IfErr result (λ e. e ≡ Spent → MayNotFlush (shape_in old)) → IfErr result (λ e. e ≡ Device → can_fail (device_in old))
-      → IfErr result (λ e. e ≡ Device → Counted) → Rises → Causes Said.refresh
-  refresh_caused spent device counted rises = record {
+      → IfErr result (λ e. e ≡ Device → Counted) → Rises → OnErr result KeepsMaking → Causes Said.refresh
+  refresh_caused spent device counted rises stays = record {
     spent = given_so (MayNotFlush (shape_in old)) Spent result Spent spent refl;
     device = given_so (can_fail (device_in old)) Device result Device device refl;
     counted = given_so Counted Device result Device counted refl;
@@ -99,6 +115,7 @@ module _ {D : Type 0} (bytes : D → ToldFiles) (can_fail : D → Type 0) (fault
     told = tt;
     rises = rises;
     stays = tt;
+    keeps = kept_so KeepsMaking (Keeps Said.refresh) (λ a. tt) (λ e kept. kept) result stays;
   }
 
   pub get_caused : (t : ℕ) (id : Text)
@@ -113,12 +130,13 @@ module _ {D : Type 0} (bytes : D → ToldFiles) (can_fail : D → Type 0) (fault
     told = tt;
     rises = rises;
     stays = tt;
+    keeps = tt;
   }
 
   -- an OPEN, of which the run says what it is told
   pub open_caused : (token : Option ℕ) → Rises → Causes (said_open token)
-  open_caused None rises = record { spent = λ k. tt; device = λ k. tt; counted = λ k. tt; damaged = λ k. tt; told = tt; rises = rises; stays = tt }
-  open_caused (Some t) rises = record { spent = λ k. tt; device = λ k. tt; counted = λ k. tt; damaged = λ k. tt; told = tt; rises = rises; stays = tt }
+  open_caused None rises = record { spent = λ k. tt; device = λ k. tt; counted = λ k. tt; damaged = λ k. tt; told = tt; rises = rises; stays = tt; keeps = tt }
+  open_caused (Some t) rises = record { spent = λ k. tt; device = λ k. tt; counted = λ k. tt; damaged = λ k. tt; told = tt; rises = rises; stays = tt; keeps = tt }
 
   -- ---- COMMIT
 
@@ -158,8 +176,8 @@ module _ {D : Type 0} (bytes : D → ToldFiles) (can_fail : D → Type 0) (fault
       → (commit_text_of text ≡ Ok text → IfErr result (λ e. e ≡ Spent → (last_number < (shape_in old).next_generation) ⊎ MayNotFlush (shape_in old)))
       → (commit_text_of text ≡ Ok text → IfErr result (λ e. e ≡ Device → can_fail (device_in old)))
       → (commit_text_of text ≡ Ok text → IfErr result (λ e. e ≡ Device → Counted))
-      → GoesBy may (Some (Said.commit text)) (reply_of result) old left → Rises → Causes (Said.commit text)
-  commit_caused may text wrong spent device counted goes rises = record {
+      → GoesBy may (Some (Said.commit text)) (reply_of result) old left → Rises → OnErr result KeepsMaking → Causes (Said.commit text)
+  commit_caused may text wrong spent device counted goes rises stays = record {
     spent = λ k.
         given_so ((last_number < (shape_in old).next_generation) ⊎ MayNotFlush (shape_in old)) Spent result Spent
         (spent (right_text (left ≡ old) text Spent (λ e. cc e) (λ e. cc e) wrong k)) refl k;
@@ -169,6 +187,7 @@ module _ {D : Type 0} (bytes : D → ToldFiles) (can_fail : D → Type 0) (fault
     told = commit_told may text (reply_of result) left goes;
     rises = rises;
     stays = if_wrong (left ≡ old) (commit_text_of text) wrong;
+    keeps = kept_so KeepsMaking (Keeps (Said.commit text)) (λ a. tt) (λ e kept. kept) result stays;
   }
 
   -- ---- maintenance
@@ -251,8 +270,9 @@ module _ {D : Type 0} (bytes : D → ToldFiles) (can_fail : D → Type 0) (fault
 
       refuses : (chore : code_chore.Chore) → (session ≡ 0 → IfErr result (MayRefuse (policy_in old) (shape_in old) chore))
           → IfErr result (λ e. e ≡ Device → FailsFor chore (shape_in old).merging (can_fail (device_in old))) → IfErr result (λ e. e ≡ Device → Counted)
-          → TellsSo (policy_in old) (shape_in old) (Some (Said.chore (chore_of chore))) (reply_of result) → Rises → Causes (Said.chore (chore_of chore))
-      refuses Merge may device counted told rises = record {
+          → TellsSo (policy_in old) (shape_in old) (Some (Said.chore (chore_of chore))) (reply_of result) → Rises
+          → OnErr result (KeepsBehind chore (shape_in old) (shape_in left)) → Causes (Said.chore (chore_of chore))
+      refuses Merge may device counted told rises keeps = record {
         spent = λ k. (merge_may may Spent (λ e. cc e) k).spent refl;
         device = given_so (HasRowsLeft (shape_in old).merging ⊎ can_fail (device_in old)) Device result Device device refl;
         counted = given_so Counted Device result Device counted refl;
@@ -260,8 +280,9 @@ module _ {D : Type 0} (bytes : D → ToldFiles) (can_fail : D → Type 0) (fault
         told = told;
         rises = rises;
         stays = tt;
+        keeps = kept_so (KeepsBehind Merge (shape_in old) (shape_in left)) (Keeps (Said.chore Chore.merge)) (λ a. tt) (λ e kept. kept) result keeps;
       }
-      refuses Force may device counted told rises = record {
+      refuses Force may device counted told rises keeps = record {
         spent = λ k. let m = force_may may Spent (λ e. cc e) k in (m.due, m.spent refl);
         device = given_so (can_fail (device_in old)) Device result Device device refl;
         counted = given_so Counted Device result Device counted refl;
@@ -269,16 +290,19 @@ module _ {D : Type 0} (bytes : D → ToldFiles) (can_fail : D → Type 0) (fault
         told = told;
         rises = rises;
         stays = tt;
+        keeps = kept_so (KeepsBehind Force (shape_in old) (shape_in left)) (Keeps (Said.chore Chore.force)) (λ a. tt) (λ e kept. kept) result keeps;
       }
-      refuses Sweep may device counted told rises =
-          record { spent = λ k. tt; device = given_so (can_fail (device_in old)) Device result Device device refl; counted = given_so Counted Device result Device counted refl; damaged = λ k. tt; told = told; rises = rises; stays = tt }
-      refuses Stat may device counted told rises =
-          record { spent = λ k. tt; device = λ k. tt; counted = λ k. tt; damaged = λ k. tt; told = told; rises = rises; stays = tt }
+      refuses Sweep may device counted told rises keeps =
+          record { spent = λ k. tt; device = given_so (can_fail (device_in old)) Device result Device device refl; counted = given_so Counted Device result Device counted refl; damaged = λ k. tt; told = told; rises = rises; stays = tt; keeps = tt }
+      refuses Stat may device counted told rises keeps =
+          record { spent = λ k. tt; device = λ k. tt; counted = λ k. tt; damaged = λ k. tt; told = told; rises = rises; stays = tt; keeps = tt }
 
       pub chore_caused : (sets : ℕ) (chore : code_chore.Chore) → AnswersSaid bytes session (Said.chore (chore_of chore)) old (reply_of result) left
           → IfOk result (λ a. TellsChore sets (shape_in old) chore (answer_of a)) → (session ≡ 0 → IfErr result (MayRefuse (policy_in old) (shape_in old) chore))
-          → IfErr result (λ e. e ≡ Device → FailsFor chore (shape_in old).merging (can_fail (device_in old))) → IfErr result (λ e. e ≡ Device → Counted) → Rises → Causes (Said.chore (chore_of chore))
-      chore_caused sets chore answers told may device counted rises = refuses chore may device counted (maintain_told sets chore result (λ k. (foreign k).0) answers told) rises
+          → IfErr result (λ e. e ≡ Device → FailsFor chore (shape_in old).merging (can_fail (device_in old))) → IfErr result (λ e. e ≡ Device → Counted) → Rises
+          → OnErr result (KeepsBehind chore (shape_in old) (shape_in left)) → Causes (Said.chore (chore_of chore))
+      chore_caused sets chore answers told may device counted rises keeps =
+          refuses chore may device counted (maintain_told sets chore result (λ k. (foreign k).0) answers told) rises keeps
 
 -- ---- of commands
 

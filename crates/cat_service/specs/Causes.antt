@@ -10,6 +10,7 @@ use Rattle.cat_model.specs.View.{View}
 use Rattle.cat_directory.specs.Devices.{CountsOne}
 use Rattle.cat_commands.specs.ledger.Chores.{pending_in, stat_in}
 use Rattle.cat_commands.specs.cat_ledger.Ledgers.{LedgerOnDevice}
+use Rattle.cat_commands.specs.cat_ledger.Refusals.{KeepsMerge, KeepsSegments}
 use Rattle.cat_commands.specs.cat_ledger_state.Cores.{HasRowsLeft, MayNotFlush}
 use Rattle.cat_ledger_laws.specs.lines.PlanLaws.{TellsForce, TellsMerge}
 use Rattle.cat_ledger_laws.specs.lines.ReadLaws.{IsRecordedAs}
@@ -84,9 +85,19 @@ abbrev pub StaysIfWrong : {D : Type 0} → Option Said → LedgerOnDevice D → 
 StaysIfWrong (Some (Said.commit text)) old new = IfErr (commit_text_of text) (λ e. new ≡ old)
 StaysIfWrong said old new = Unit {0}
 
+-- What a refused line keeps: a PUT, a REFRESH, a COMMIT and a FORCE the merge in the making, with what it has passed; a MERGE and a FORCE the
+-- segments, with the rows that are live in them, and what waits; and each of them every name that a sweep is to delete.
+abbrev pub KeepsIfRefused : Option Said → Reply → Shape → Shape → Type 0
+KeepsIfRefused (Some (Said.put text)) (Err e) s new = KeepsMerge s new
+KeepsIfRefused (Some Said.refresh) (Err e) s new = KeepsMerge s new
+KeepsIfRefused (Some (Said.commit text)) (Err e) s new = KeepsMerge s new
+KeepsIfRefused (Some (Said.chore Chore.merge)) (Err e) s new = KeepsSegments s new
+KeepsIfRefused (Some (Said.chore Chore.force)) (Err e) s new = KeepsMerge s new × KeepsSegments s new
+KeepsIfRefused said reply s new = Unit {0}
+
 -- The reply has its cause in the world: 16 where a number or a limit is spent, 30 where the device can fail and its count of failures rose, 31
--- where a file is damaged, and the news as they are. No failure is forgotten, whatever is told; and a COMMIT that is refused for its text
--- changes nothing. The first three arguments say what a device tells of its files, whether it can fail, and how many failures it has counted.
+-- where a file is damaged, and the news as they are. No failure is forgotten, whatever is told; a COMMIT that is refused for its text changes
+-- nothing; and what another refused line keeps is kept. The first three arguments say what a device tells of its files, whether it can fail, and how many failures it has counted.
 pub record HasCause {D : Type 0} (bytes : D → ToldFiles) (can_fail : D → Type 0) (faults : D → ℕ) (old : Service D) (said : Option Said)
     (reply : Reply) (new : Service D) : Type 0 where
   pub spent : reply ≡ Err Spent → IsSpentTo (policy_of old) (shape_of_service old) said
@@ -96,6 +107,7 @@ pub record HasCause {D : Type 0} (bytes : D → ToldFiles) (can_fail : D → Typ
   pub told : TellsSo (policy_of old) (shape_of_service old) said reply
   pub rises : faults (device_of old) ≤ faults (device_of new)
   pub stays : StaysIfWrong said old.ledger new.ledger
+  pub keeps : KeepsIfRefused said reply (shape_of_service old) (shape_of_service new)
 
 -- a line takes the number of one segment at most, and one generation
 pub record TakesNumbers (old new : Shape) : Type 0 where

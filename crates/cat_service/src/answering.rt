@@ -59,10 +59,12 @@ impl<D: Directory + Shelf> World<D> {
     /// UTF-8, and of a DELW as far as its query. A refusal that stands in place of an OK has its cause: [`Refusal::Spent`] that
     /// a number or a limit is spent, [`Refusal::Device`] that the directory can fail and counted one failure more,
     /// [`Refusal::Damaged`] that a file is damaged; but a MERGE that copies rows may be told these two also where a file is
-    /// gone. No line has the directory forget a failure, and a COMMIT that is refused for its text changes nothing. COMMIT
-    /// tells the generation that comes next, and maintenance what is so. A line takes one number of a segment and one
-    /// generation at most. What the line makes of commits is known by its reply, from which
-    /// [`histories_last`](World::histories_last) tells what a crash leaves.
+    /// gone. No line has the directory forget a failure, and a COMMIT that is refused for its text changes nothing. Behind a
+    /// PUT, REFRESH, COMMIT or FORCE that is refused a merge in the making goes on, behind a MERGE or FORCE the same segments
+    /// stand and what waited still waits, and behind none of these a file is forgotten that a SWEEP is to delete. COMMIT tells
+    /// the generation that comes next, and maintenance what is so. A line takes one number of a segment and one generation at
+    /// most. What the line makes of commits is known by its reply, from which [`histories_last`](World::histories_last) tells
+    /// what a crash leaves.
     pub fn step(&mut self, line: &Line) -> Reply
         ensures session { result.session ≡ line.now.session }
         ensures run { StepsLine D.bytes line.now.session (said_of line.now.command) self.old (reply_of result.answer) self.new }

@@ -1,11 +1,19 @@
 -- What a call leaves of a ledger that it doesn't change.
-use Rattle.std.proofs.Common.{◌≡◌, ap, arith, inl, refl, subst}
+use Rattle.std.proofs.Common.{◌≡◌, ap, arith, inl, refl, subst, sym}
+use Rattle.std.specs.Prelude.{Err, Ok, OnErr, Result}
+use Rattle.cat_base.specs.declared.refusal.Refusal.{Refusal}
 use Rattle.cat_directory.specs.Devices.{FileContent}
 use Rattle.cat_directory.specs.declared.name.FileName.{FileName}
+use Rattle.cat_ledger_laws.specs.shape.Shapes.{Shape}
 use Rattle.cat_ledger_laws.specs.shape.Ties.{ToldFiles}
 use Rattle.cat_ledger_laws.specs.lines.LineLaws.{NothingChanges}
 use Rattle.cat_ledger.specs.Histories.{Event, Goes}
 use Rattle.cat_ledger.specs.Ledgers.{LedgerOnDevice, Spares, device_in, shape_in}
+use Rattle.cat_ledger.specs.Refusals.{KeepsMerge, KeepsSegments}
+use Rattle.cat_protocol.specs.declared.replies.answer.Answer.{Answer}
+use Rattle.cat_commands.specs.declared.ledger.chores.Chore.{Chore}
+use Rattle.cat_commands.specs.declared.ledger.chores.Chore.TheVariants.{Force, Merge, Stat, Sweep}
+use Rattle.cat_commands.specs.ledger.Chores.{KeepsBehind}
 
 pub unchanged : {D : Type 0} (bytes : D → ToldFiles) (old new : LedgerOnDevice D) → new ≡ old
     → NothingChanges (bytes (device_in old)) (shape_in old) (bytes (device_in new)) (shape_in new)
@@ -17,3 +25,29 @@ spares_same left old new same q fresh merging e might = subst (λ d. left d q e)
 
 pub goes_same : {D : Type 0} (left : D → FileName → FileContent → Type 0) (l : LedgerOnDevice D) → Goes left Event.Other l l
 goes_same left l = record { newest = refl; next = omega arith; asked = λ g no. absurd no; taken = λ g no. absurd no; files = λ g other e after. inl after }
+
+-- ---- behind a refusal
+
+pub merge_same : (s : Shape) → KeepsMerge s s
+merge_same s = record { merging = refl; known = λ q there. there }
+
+segments_same : (s : Shape) → KeepsSegments s s
+segments_same s = record { leaves = refl; buffered = refl; known = λ q there. there }
+
+pub behind_same : (chore : Chore) (s : Shape) → KeepsBehind chore s s
+behind_same Merge s = segments_same s
+behind_same Force s = (merge_same s, segments_same s)
+behind_same Sweep s = tt
+behind_same Stat s = tt
+
+-- what is said of maintenance by what it is
+pub behind_so : (chore is : Chore) (s new : Shape) (r : Result Answer Refusal) → chore ≡ is → OnErr r (KeepsBehind is s new) → OnErr r (KeepsBehind chore s new)
+behind_so chore is s new r same kept = subst (λ c. OnErr r (KeepsBehind c s new)) (sym same) kept
+
+pub behind_force : (s new : Shape) (r : Result Answer Refusal) → OnErr r (KeepsMerge s new) → OnErr r (KeepsSegments s new) → OnErr r (KeepsBehind Force s new)
+behind_force s new (Ok a) merge segments = tt
+behind_force s new (Err e) merge segments = (merge, segments)
+
+pub behind_none : (chore : Chore) (s new : Shape) (r : Result Answer Refusal) → KeepsBehind chore s new → OnErr r (KeepsBehind chore s new)
+behind_none chore s new (Ok a) kept = tt
+behind_none chore s new (Err e) kept = kept

@@ -19,6 +19,7 @@ use Rattle.cat_ledger_laws.specs.shape.Shapes.{MergingShape, Shape}
 use Rattle.cat_ledger.specs.cat_ledger_state.Cores.{HasRowsLeft}
 use Rattle.cat_ledger.specs.cat_ledger_state.Installs.{IsOfMerge}
 use Rattle.cat_ledger.specs.upkeep.Due.{IsForceDue, IsMergeDue}
+use Rattle.cat_ledger.specs.Refusals.{KeepsMerge, KeepsSegments}
 use Rattle.cat_ledger.specs.Ledgers.{LedgerOnDevice, device_in, shape_in}
 use Rattle.cat_ledger.specs.declared.telling.SegmentStat as ledger
 use Rattle.cat_protocol.specs.declared.replies.news.SegmentStat.{SegmentStat}
@@ -116,6 +117,12 @@ MayRefuse policy s Merge e = MayRefuseMerge policy s e
 MayRefuse policy s Force e = MayRefuseForce s e
 MayRefuse policy s Sweep e = (e ≡ Memory) ⊎ (e ≡ Device)
 MayRefuse policy s Stat e = e ≡ Memory
+
+-- What maintenance keeps that is refused: a MERGE and a FORCE the segments and what waits, and a FORCE the merge in the making.
+abbrev pub KeepsBehind : Chore → Shape → Shape → Type 0
+KeepsBehind Merge s new = KeepsSegments s new
+KeepsBehind Force s new = KeepsMerge s new × KeepsSegments s new
+KeepsBehind chore s new = Unit {0}
 
 -- ---- what a crash may leave
 

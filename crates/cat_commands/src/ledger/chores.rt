@@ -2,7 +2,7 @@
 //!
 //! Lucene's `IndexWriter.maybeMerge`, `forceMerge(1)` and `deleteUnusedFiles`, and what `getDocStats` tells.
 ghost use Rattle.cat_directory.specs.Devices.{CountsOne};
-ghost use Rattle.std.specs.Prelude.{◌≡◌, ◌≢◌, ◌⊎◌, IfOk, IfErr, Err, length, ◌≤◌};
+ghost use Rattle.std.specs.Prelude.{◌≡◌, ◌≢◌, ◌⊎◌, IfOk, IfErr, OnErr, Err, length, ◌≤◌};
 ghost use Rattle.cat_base.specs.declared.refusal.Refusal.TheVariants.{Device, Line as NoForm, Memory};
 ghost use Rattle.cat_model.specs.Lines.{Said};
 ghost use Rattle.cat_model.specs.Run as run;
@@ -11,8 +11,9 @@ ghost use Rattle.cat_ledger.specs.cat_ledger_state.Cores.{HasRowsLeft};
 ghost use Rattle.cat_ledger.specs.Answering.{AnswersCommand, AnswersSaid};
 ghost use Rattle.cat_ledger.specs.Histories.{Event, Goes};
 ghost use Rattle.cat_ledger.specs.Ledgers.{Spares, device_in, policy_in, shape_in};
+ghost use Rattle.cat_ledger.specs.Refusals.{KeepsSegments};
 ghost use Rattle.cat_protocol.specs.replies.Reply.{answer_of, reply_of};
-ghost use Rattle.cat_commands.specs.ledger.Chores.{FailsFor, MayRefuse, MayRefuseMerge, SparesUsed, TellsChore, chore_of, pending_in, sets_left};
+ghost use Rattle.cat_commands.specs.ledger.Chores.{FailsFor, KeepsBehind, MayRefuse, MayRefuseMerge, SparesUsed, TellsChore, chore_of, pending_in, sets_left};
 
 use crate::ledger::merging::{force, merge_step};
 use crate::ledger::stats::tell_stat;
@@ -49,6 +50,7 @@ fn merge<D: Directory + Shelf>(
     ensures can { D.can_fail (device_in ledger.new) → D.can_fail (device_in ledger.old) }
     ensures rises { D.fault_count (device_in ledger.old) ≤ D.fault_count (device_in ledger.new) }
     ensures history { Goes D.may_leave Event.Other ledger.old ledger.new }
+    ensures segments { OnErr result (KeepsSegments (shape_in ledger.old) (shape_in ledger.new)) }
     ensures policy { policy_in ledger.new ≡ policy_in ledger.old }
     ensures sets { filters.new ≡ sets_left Chore.Merge (shape_in ledger.new) filters.old }
     ensures known { Remembers filters.old filters.new }
@@ -85,6 +87,8 @@ fn sweep<D: Directory + Shelf>(ledger: &mut Ledger<D>) -> Result<Answer, Refusal
 ///
 /// - A MERGE is refused as [`Ledger::merge_step`] is, and a FORCE as [`Ledger::force`] is. Once a merge is done, the set in
 ///   the making over a segment that it took is given up: its segment is in the list no more. Nothing else changes these sets.
+///   Behind a refusal of either the same segments stand, and what waited still waits; behind one of FORCE a merge in the
+///   making goes on.
 /// - A SWEEP is refused with [`Refusal::Device`] where the directory fails: the file that it failed at and those behind it
 ///   still wait; or with [`Refusal::Memory`], with nothing done.
 /// - A STAT, which tells of these cached sets, is refused with [`Refusal::Memory`] alone.
@@ -105,6 +109,7 @@ pub fn maintain<D: Directory + Shelf>(
     ensures can { D.can_fail (device_in ledger.new) → D.can_fail (device_in ledger.old) }
     ensures rises { D.fault_count (device_in ledger.old) ≤ D.fault_count (device_in ledger.new) }
     ensures history { Goes D.may_leave Event.Other ledger.old ledger.new }
+    ensures keeps { OnErr result (KeepsBehind chore (shape_in ledger.old) (shape_in ledger.new)) }
     ensures policy { policy_in ledger.new ≡ policy_in ledger.old }
     ensures sets { session ≡ 0 → filters.new ≡ sets_left chore (shape_in ledger.new) filters.old }
     ensures known { Remembers filters.old filters.new }

@@ -13,6 +13,7 @@ ghost use Rattle.cat_ledger.specs.cat_ledger_state.Cores.{MayNotFlush};
 ghost use Rattle.cat_ledger.specs.Answering.{AnswersSaid};
 ghost use Rattle.cat_ledger.specs.Histories.{Event, Goes, GoesBy};
 ghost use Rattle.cat_ledger.specs.Ledgers.{Spares, device_in, policy_in, shape_in};
+ghost use Rattle.cat_ledger.specs.Refusals.{KeepsMerge};
 ghost use Rattle.cat_protocol.specs.replies.Reply.{reply_of};
 
 use cat_base::{Generation, Refusal};
@@ -26,7 +27,7 @@ use cat_protocol::replies::Answer;
 /// The first of these that is so is the refusal: [`Refusal::Large`] where the text has more than 256 bytes, [`Refusal::Kind`]
 /// where it has a control character; [`Refusal::Spent`] where no generation is left, and nothing is done then;
 /// [`Refusal::Spent`] where no number is left for the segment of what waits, or as many stand as may; else
-/// [`Refusal::Device`] where the directory fails, or [`Refusal::Memory`].
+/// [`Refusal::Device`] where the directory fails, or [`Refusal::Memory`]. A merge in the making goes on, also behind a refusal.
 pub fn commit<D: Directory + Shelf>(ledger: &mut Ledger<D>, text: &str) -> Result<Answer, Refusal>
     ensures answers { (session : ℕ) → AnswersSaid D.bytes session (Said.commit text.now) ledger.old (reply_of result) ledger.new }
     ensures wrong { IfErr (commit_text_of text.now) (λ e. (result ≡ Err e) × (ledger.new ≡ ledger.old)) }
@@ -40,6 +41,7 @@ pub fn commit<D: Directory + Shelf>(ledger: &mut Ledger<D>, text: &str) -> Resul
     ensures can { D.can_fail (device_in ledger.new) → D.can_fail (device_in ledger.old) }
     ensures rises { D.fault_count (device_in ledger.old) ≤ D.fault_count (device_in ledger.new) }
     ensures history { GoesBy D.may_leave (Some (Said.commit text.now)) (reply_of result) ledger.old ledger.new }
+    ensures stays { OnErr result (KeepsMerge (shape_in ledger.old) (shape_in ledger.new)) }
     ensures policy { policy_in ledger.new ≡ policy_in ledger.old }
 {
     match ledger.commit(text) {

@@ -2,7 +2,7 @@
 //!
 //! Lucene's `IndexWriter.maybeMerge` and `forceMerge(1)`.
 ghost use Rattle.cat_directory.specs.Devices.{CountsOne};
-ghost use Rattle.std.specs.Prelude.{◌≡◌, ◌⊎◌, IfErr, ◌≤◌};
+ghost use Rattle.std.specs.Prelude.{◌≡◌, ◌⊎◌, IfErr, OnErr, ◌≤◌};
 ghost use Rattle.cat_base.specs.declared.refusal.Refusal.TheVariants.{Device};
 ghost use Rattle.cat_model.specs.Run as run;
 ghost use Rattle.cat_ledger.specs.cat_ledger_state.Cores.{HasRowsLeft};
@@ -10,6 +10,7 @@ ghost use Rattle.cat_ledger.specs.upkeep.News as merges;
 ghost use Rattle.cat_ledger.specs.Answering.{AnswersCommand};
 ghost use Rattle.cat_ledger.specs.Histories.{Event, Goes};
 ghost use Rattle.cat_ledger.specs.Ledgers.{Spares, device_in, policy_in, shape_in};
+ghost use Rattle.cat_ledger.specs.Refusals.{KeepsMerge, KeepsSegments};
 ghost use Rattle.cat_protocol.specs.replies.Reply.{news_in_reply, reply_of};
 ghost use Rattle.cat_commands.specs.ledger.Chores.{MayRefuseForce, MayRefuseMerge};
 
@@ -42,6 +43,7 @@ pub(crate) fn merge_step<D: Directory + Shelf>(ledger: &mut Ledger<D>) -> Result
     ensures can { D.can_fail (device_in ledger.new) → D.can_fail (device_in ledger.old) }
     ensures rises { D.fault_count (device_in ledger.old) ≤ D.fault_count (device_in ledger.new) }
     ensures history { Goes D.may_leave Event.Other ledger.old ledger.new }
+    ensures segments { OnErr result (KeepsSegments (shape_in ledger.old) (shape_in ledger.new)) }
     ensures policy { policy_in ledger.new ≡ policy_in ledger.old }
 {
     match ledger.merge_step() {
@@ -60,6 +62,8 @@ pub(crate) fn force<D: Directory + Shelf>(ledger: &mut Ledger<D>) -> Result<Answ
     ensures can { D.can_fail (device_in ledger.new) → D.can_fail (device_in ledger.old) }
     ensures rises { D.fault_count (device_in ledger.old) ≤ D.fault_count (device_in ledger.new) }
     ensures history { Goes D.may_leave Event.Other ledger.old ledger.new }
+    ensures stays { OnErr result (KeepsMerge (shape_in ledger.old) (shape_in ledger.new)) }
+    ensures segments { OnErr result (KeepsSegments (shape_in ledger.old) (shape_in ledger.new)) }
     ensures policy { policy_in ledger.new ≡ policy_in ledger.old }
 {
     match ledger.force() {

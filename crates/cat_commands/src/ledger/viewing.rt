@@ -10,6 +10,7 @@ ghost use Rattle.cat_ledger_laws.specs.lines.LineLaws.{MayRefresh};
 ghost use Rattle.cat_ledger.specs.Answering.{AnswersSaid};
 ghost use Rattle.cat_ledger.specs.Histories.{Event, Goes};
 ghost use Rattle.cat_ledger.specs.Ledgers.{Spares, device_in, policy_in, shape_in};
+ghost use Rattle.cat_ledger.specs.Refusals.{KeepsMerge};
 ghost use Rattle.cat_protocol.specs.replies.Reply.{reply_of};
 
 use cat_base::Refusal;
@@ -23,7 +24,7 @@ use std::alloc::AllocError;
 ///
 /// [`Refusal::Full`] where no view of now is recorded, and each of 64 is held, which comes first and changes nothing;
 /// [`Refusal::Spent`] where no number is left for the segment of what waits, or as many stand as may; else
-/// [`Refusal::Device`] where the flush fails, or [`Refusal::Memory`].
+/// [`Refusal::Device`] where the flush fails, or [`Refusal::Memory`]. A merge in the making goes on, also behind a refusal.
 pub fn refresh<D: Directory + Shelf>(ledger: &mut Ledger<D>) -> Result<Answer, Refusal>
     ensures answers { (session : ℕ) → AnswersSaid D.bytes session Said.refresh ledger.old (reply_of result) ledger.new }
     ensures full { (MayRefresh (shape_in ledger.old) → ⊥) → (result ≡ Err Full) × (ledger.new ≡ ledger.old) }
@@ -35,6 +36,7 @@ pub fn refresh<D: Directory + Shelf>(ledger: &mut Ledger<D>) -> Result<Answer, R
     ensures can { D.can_fail (device_in ledger.new) → D.can_fail (device_in ledger.old) }
     ensures rises { D.fault_count (device_in ledger.old) ≤ D.fault_count (device_in ledger.new) }
     ensures history { Goes D.may_leave Event.Other ledger.old ledger.new }
+    ensures stays { OnErr result (KeepsMerge (shape_in ledger.old) (shape_in ledger.new)) }
     ensures policy { policy_in ledger.new ≡ policy_in ledger.old }
 {
     match ledger.refresh() {

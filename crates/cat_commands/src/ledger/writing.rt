@@ -17,6 +17,7 @@ ghost use Rattle.cat_ledger.specs.cat_ledger_state.Cores.{MayNotFlush};
 ghost use Rattle.cat_ledger.specs.Answering.{AnswersSaid};
 ghost use Rattle.cat_ledger.specs.Histories.{Event, Goes};
 ghost use Rattle.cat_ledger.specs.Ledgers.{Spares, device_in, policy_in, shape_in};
+ghost use Rattle.cat_ledger.specs.Refusals.{KeepsMerge};
 ghost use Rattle.cat_protocol.specs.replies.Reply.{reply_of};
 
 use cat_base::Refusal;
@@ -60,7 +61,8 @@ fn read_query<D: Directory + Shelf>(
 ///
 /// A fault of the text comes first, as [`Schema::item`](cat_items::Schema::item) tells it; then [`Refusal::Spent`] where no
 /// number is left for the write, or none for the segment that a flush makes; else [`Refusal::Device`] where the flush fails.
-/// [`Refusal::Memory`] may come once it is known that the text has 1 to 8,192 bytes, and that they are UTF-8.
+/// [`Refusal::Memory`] may come once it is known that the text has 1 to 8,192 bytes, and that they are UTF-8. A merge in the
+/// making goes on, also behind a refusal.
 pub fn put<D: Directory + Shelf>(
     alloc: Global,
     ledger: &mut Ledger<D>,
@@ -76,6 +78,7 @@ pub fn put<D: Directory + Shelf>(
     ensures can { D.can_fail (device_in ledger.new) → D.can_fail (device_in ledger.old) }
     ensures rises { D.fault_count (device_in ledger.old) ≤ D.fault_count (device_in ledger.new) }
     ensures history { Goes D.may_leave Event.Other ledger.old ledger.new }
+    ensures stays { OnErr result (KeepsMerge (shape_in ledger.old) (shape_in ledger.new)) }
     ensures policy { policy_in ledger.new ≡ policy_in ledger.old }
 {
     let item = match read_item(alloc, ledger, text) {

@@ -3,9 +3,10 @@ use Rattle.cat_model.specs.Run.{Chore, Command}
 use Rattle.cat_ledger.specs.Ledgers.{device_in, policy_in, shape_in}
 use Rattle.cat_ledger_laws.proofs.lines.RefusalAnswers.{foreign_chores_answer}
 use Rattle.cat_protocol.specs.replies.Reply.{reply_of}
+use Rattle.cat_commands.specs.declared.ledger.chores.Chore.TheVariants.{Force, Merge, Stat, Sweep}
 use Rattle.cat_commands.specs.ledger.Chores.{chore_of}
 use Rattle.cat_commands.proofs.ledger.Answered.{at_zero}
-use Rattle.cat_commands.proofs.ledger.Kept.{goes_same}
+use Rattle.cat_commands.proofs.ledger.Kept.{behind_force, behind_none, behind_same, behind_so, goes_same}
 use Rattle.cat_commands.proofs.ledger.chores.maintain.Goals as goal
 
 pub returns-then-session-ne0-clause-answers : goal.returns-then-session-ne0-clause-answers
@@ -64,3 +65,27 @@ returns-then-session-ne0-clause-history g c = goes_same g.D.Holder.may_leave c.a
 
 pub returns-in-Stat-clause-history : goal.returns-in-Stat-clause-history
 returns-in-Stat-clause-history g c = goes_same g.D.Holder.may_leave c.args.ledger.now
+
+pub returns-then-session-ne0-clause-keeps : goal.returns-then-session-ne0-clause-keeps
+returns-then-session-ne0-clause-keeps g c = behind_same c.args.chore (shape_in c.args.ledger.now)
+
+pub returns-in-Merge-clause-keeps : goal.returns-in-Merge-clause-keeps
+returns-in-Merge-clause-keeps g c =
+    behind_so c.args.chore Merge (shape_in c.args.ledger.now) (shape_in c.merge.new.ledger) c.merge.result c.in-Merge.is c.merge.ensures.segments
+
+pub returns-in-Force-clause-keeps : goal.returns-in-Force-clause-keeps
+returns-in-Force-clause-keeps g c =
+    let old = shape_in c.args.ledger.now in
+    let new = shape_in c.force.new.ledger in
+    behind_so c.args.chore Force old new c.force.result c.in-Force.is (behind_force old new c.force.result c.force.ensures.stays c.force.ensures.segments)
+
+pub returns-in-Sweep-clause-keeps : goal.returns-in-Sweep-clause-keeps
+returns-in-Sweep-clause-keeps g c =
+    let old = shape_in c.args.ledger.now in
+    let new = shape_in c.sweep.new.ledger in
+    behind_so c.args.chore Sweep old new c.sweep.result c.in-Sweep.is (behind_none Sweep old new c.sweep.result tt)
+
+pub returns-in-Stat-clause-keeps : goal.returns-in-Stat-clause-keeps
+returns-in-Stat-clause-keeps g c =
+    let s = shape_in c.args.ledger.now in
+    behind_so c.args.chore Stat s s c.tell_stat.result c.in-Stat.is (behind_none Stat s s c.tell_stat.result tt)
