@@ -9,7 +9,7 @@ ghost use Rattle.cat_ledger.specs.Refusals.{KeepsMerge};
 ghost use Rattle.cat_ledger.specs.upkeep.Spared.{SparesCommits};
 ghost use Rattle.std.specs.Prelude.{Err, IfErr, IfNone, IfOk, IfSome, List, None, Ok, OnErr, OnOk, [], false, length, not, option_map, true, ℕ, ◌&&◌, ◌-◌, ◌==◌, ◌≡◌, ◌≢◌, ◌⊎◌, Some, find, ◌≤◌};
 ghost use Rattle.cat_directory.specs.declared.name.FileName.{FileName};
-ghost use Rattle.cat_ledger_state.specs.cat_views.Sources.{HoldsSource, TellsSource, stored_length};
+ghost use Rattle.cat_ledger_state.specs.cat_views.Sources.{HoldsSource, MayReachSource, TellsSource, stored_length};
 ghost use Rattle.cat_ledger.specs.Grants.{IsAsked, IsGrant, released_session, released_token, token_granted};
 ghost use Rattle.cat_ledger_laws.specs.model.Replies.{IsLeft};
 ghost use Rattle.cat_ledger_laws.specs.model.Ledger.{IsNew};
@@ -275,7 +275,8 @@ impl<D: Directory + Shelf> Ledger<D> {
     /// a crash.
     ///
     /// [`Refusal::Damaged`] if the file with the text is absent, ends before the text does, or has a line feed in it.
-    /// [`Refusal::Device`] if the directory fails; else [`Refusal::Memory`].
+    /// [`Refusal::Device`] if the directory fails; else [`Refusal::Memory`], which never hides that the file is absent or ends
+    /// too soon.
     pub fn source(&mut self, hold: &Hold, id: &str) -> Result<Option<Vec<u8>>, Refusal>
         ensures ok { IfOk result (λ found. (files : ℕ → List ℕ) → TellsSource (D.bytes (device_in self.old)) files hold.now.view id.now
             → option_map (λ bytes. bytes.items) found ≡ stored (records_in files hold.now.view) id.now) }
@@ -284,6 +285,7 @@ impl<D: Directory + Shelf> Ledger<D> {
         ensures none { stored_length hold.now.view id.now ≡ None → result ≡ Ok None }
         ensures damaged { IfErr result (λ e. e ≡ Damaged → (files : ℕ → List ℕ)
             → TellsSource (D.bytes (device_in self.old)) files hold.now.view id.now → HoldsSource files hold.now.view id.now → ⊥) }
+        ensures due { IfErr result (λ e. e ≡ Memory → MayReachSource (D.bytes (device_in self.old)) hold.now.view id.now) }
         ensures shape { shape_in self.new ≡ shape_in self.old }
         ensures same { (q : FileName) → D.bytes (device_in self.new) q ≡ D.bytes (device_in self.old) q }
         ensures crash { (q : FileName) → NoMore (D.may_leave (device_in self.old) q) (D.may_leave (device_in self.new) q) }

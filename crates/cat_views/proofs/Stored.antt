@@ -13,11 +13,14 @@ use Rattle.cat_model.specs.Answer.{HasNoLineFeed, stored}
 use Rattle.cat_model.specs.Item.{Record}
 use Rattle.cat_model.specs.RowSets.{has_row}
 use Rattle.cat_model.specs.Text.{Text, IsOneLine, same_text}
-use Rattle.cat_model.specs.View.{Row, Leaf, Segment, IsFormedRow, selected, live_rows, sourced}
+use Rattle.cat_directory.specs.Devices.{Told}
+use Rattle.cat_directory.specs.declared.name.FileName.{FileName}
+use Rattle.cat_directory.specs.declared.name.FileName.TheVariants as file
+use Rattle.cat_model.specs.View.{Row, Leaf, Segment, View, IsFormedRow, selected, live_rows, sourced}
 use Rattle.cat_model.proofs.Insert.{which}
 use Rattle.cat_model.proofs.Lists.{list_any-append, list_any_none, All-weaken}
 use Rattle.cat_segment.specs.Sources.{source_offset}
-use Rattle.cat_views.specs.Sources.{IsLiveIn, IsLiveRowOf, has_id, length_at, length_in, source_of_row, stored_in}
+use Rattle.cat_views.specs.Sources.{IsLiveIn, IsLiveRowOf, MayReachSource, has_id, length_at, length_in, source_of_row, stored_in}
 use Rattle.cat_views.proofs.Selected.{All-selected}
 use Rattle.cat_views.proofs.Found.{any-is_some, before_or_at}
 
@@ -274,6 +277,21 @@ not_cut files leaf s row offset len is h some p l whole short =
     let rest : length (drop (source_offset rows row) bytes) ≡ length bytes - source_offset rows row = length-drop (source_offset rows row) bytes in
     let taken : length (source_of_row files leaf row) ≡ min (length_at leaf row) (length (drop (source_offset rows row) bytes)) = length-take (length_at leaf row) (drop (source_offset rows row) bytes) in
     omega (arith, some, long, at, rest, taken, whole, short)
+
+-- a file that has so many bytes has the source
+pub may_reach : (told : FileName → Told) (view : View) (id : Text) (leaf : Leaf) (s : Segment) (n row offset len : ℕ) → s ≡ leaf.segment → n ≡ leaf.segment.number
+    → IsLiveRowOf id view.leaves leaf row → offset ≡ source_offset s.rows row → HoldsAt (λ r. r.length ≡ len) s.rows row
+    → (told (file.Source n) ≢ Some None) × ((bytes : Text) → told (file.Source n) ≡ Some (Some bytes) → offset + len ≤ length bytes) → MayReachSource told view id
+may_reach told view id leaf s n row offset len is number live p l due =
+    let long : length_at leaf row ≡ len = length-at leaf.segment.rows row len live.within (subst (λ t. HoldsAt (λ r. r.length ≡ len) t.rows row) is l) in
+    let at : offset ≡ source_offset leaf.segment.rows row = p ∙ ap (λ t. source_offset t.rows row) is in
+    record {
+      leaf = leaf;
+      row = row;
+      live = live;
+      there = λ gone. due.0 (ap (λ k. told (file.Source k)) number ∙ gone);
+      whole = λ bytes e. omega (arith, long, at, due.1 bytes (ap (λ k. told (file.Source k)) number ∙ e));
+    }
 
 -- the file that the device tells of holds the source, where it isn't cut off
 pub is_whole : (files : ℕ → List ℕ) (id : Text) (ls : List Leaf) (leaf : Leaf) (row : ℕ) → IsLiveRowOf id ls leaf row

@@ -1,5 +1,5 @@
 -- The stored sources of the rows of a view.
-use Rattle.std.specs.Prelude.{◌≡◌, ◌≤◌, ◌<◌, ℕ, Bool, true, List, length, map, take, drop, slice_index, Option, Some, option_map, find, All, Contains}
+use Rattle.std.specs.Prelude.{◌≡◌, ◌≢◌, ◌+◌, ◌≤◌, ◌<◌, ℕ, Bool, true, List, length, map, take, drop, slice_index, Option, Some, None, option_map, find, All, Contains}
 use Rattle.std.specs.List.{flat_map, list_any, HoldsAt}
 use Rattle.cat_model.specs.Answer.{HasNoLineFeed, stored}
 use Rattle.cat_model.specs.RowSets.{has_row}
@@ -62,3 +62,12 @@ TellsSource told files view id =
 pub record HoldsSource (files : ℕ → List ℕ) (view : View) (id : Text) : Type 0 where
   pub whole : option_map (λ text. length text) (stored (records_in files view) id) ≡ stored_length view id
   pub one_line : HasNoLineFeed (stored (records_in files view) id)
+
+-- The file with the source of the live row of the id isn't told to be absent, nor to end before the source does.
+pub record MayReachSource (told : FileName → Told) (view : View) (id : Text) : Type 0 where
+  pub leaf : Leaf
+  pub row : ℕ
+  pub live : IsLiveRowOf id view.leaves leaf row
+  pub there : told (file.Source leaf.segment.number) ≢ Some None
+  pub whole : (bytes : Text) → told (file.Source leaf.segment.number) ≡ Some (Some bytes)
+      → source_offset leaf.segment.rows row + length_at leaf row ≤ length bytes

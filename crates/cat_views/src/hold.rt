@@ -1,11 +1,11 @@
 //! A session's right to a view.
 ghost use Rattle.std.specs.Prelude.{◌≡◌, ℕ, List, length, map, option_map, Ok, None, IfOk, IfErr};
-ghost use Rattle.cat_base.specs.declared.refusal.Refusal.TheVariants.{Damaged, Device};
+ghost use Rattle.cat_base.specs.declared.refusal.Refusal.TheVariants.{Damaged, Device, Memory};
 ghost use Rattle.cat_model.specs.Answer.{HasNoLineFeed, stored};
 ghost use Rattle.cat_model.specs.View.{needs, records_in};
 ghost use Rattle.cat_directory.specs.Devices.{CountsReading, NoMore};
 ghost use Rattle.cat_directory.specs.Names.{name_of};
-ghost use Rattle.cat_views.specs.Sources.{HoldsSource, TellsSource, stored_length};
+ghost use Rattle.cat_views.specs.Sources.{HoldsSource, MayReachSource, TellsSource, stored_length};
 
 use crate::view::View;
 use cat_base::{Refusal, SessionNo, Token};
@@ -65,7 +65,8 @@ impl Hold {
     /// id, and then no file is read (Lucene: `StoredFields.document`).
     ///
     /// [`Refusal::Damaged`] if the file with the text is absent, ends before the text does, or has a line feed in it.
-    /// [`Refusal::Device`] if the shelf fails; else [`Refusal::Memory`].
+    /// [`Refusal::Device`] if the shelf fails; else [`Refusal::Memory`], which never hides that the file is absent or ends too
+    /// soon.
     pub fn get<S: Shelf>(
         &self,
         alloc: Global,
@@ -79,6 +80,7 @@ impl Hold {
         ensures none { stored_length self.now.view id.now ≡ None → (result ≡ Ok None) × (S.fault_count shelf.new ≡ S.fault_count shelf.old) }
         ensures damaged { IfErr result (λ e. e ≡ Damaged → (files : ℕ → List ℕ) → TellsSource (S.bytes shelf.old) files self.now.view id.now
             → HoldsSource files self.now.view id.now → ⊥) }
+        ensures due { IfErr result (λ e. e ≡ Memory → MayReachSource (S.bytes shelf.old) self.now.view id.now) }
         ensures device { IfErr result (λ e. e ≡ Device → S.can_fail shelf.old) }
         ensures same { (q : FileName) → S.bytes shelf.new q ≡ S.bytes shelf.old q }
         ensures crash { (q : FileName) → NoMore (S.may_leave shelf.old q) (S.may_leave shelf.new q) }

@@ -2,13 +2,13 @@
 ghost use Rattle.std.specs.Prelude.{◌≡◌, ◌<◌, ℕ, false, List, count_by, length, map, option_map, slice_set, Ok, None, IfOk, IfErr, OnOk, OnErr};
 ghost use Rattle.std.specs.Arc.{arc_value};
 ghost use Rattle.std.specs.List.{flat_map};
-ghost use Rattle.cat_base.specs.declared.refusal.Refusal.TheVariants.{Device, Damaged};
+ghost use Rattle.cat_base.specs.declared.refusal.Refusal.TheVariants.{Damaged, Device, Memory};
 ghost use Rattle.cat_model.specs.Answer.{HasNoLineFeed, stored};
 ghost use Rattle.cat_model.specs.View.{IsView, needs, records_in};
 ghost use Rattle.cat_directory.specs.Devices.{CountsReading, NoMore};
 ghost use Rattle.cat_directory.specs.Names.{name_of};
 ghost use Rattle.cat_views.specs.Rows.{first_in};
-ghost use Rattle.cat_views.specs.Sources.{HoldsSource, TellsSource, stored_length};
+ghost use Rattle.cat_views.specs.Sources.{HoldsSource, MayReachSource, TellsSource, stored_length};
 ghost use Rattle.cat_views.specs.Views.{leaf_names};
 
 use crate::lines::is_one_line;
@@ -231,7 +231,8 @@ impl View {
     /// line. A crash may leave no more of the files than before.
     ///
     /// [`Refusal::Damaged`] if that file is absent, ends before the text does, or has a line feed in it; what other files hold
-    /// is not looked at. [`Refusal::Device`] if the shelf fails; else [`Refusal::Memory`].
+    /// is not looked at. [`Refusal::Device`] if the shelf fails; else [`Refusal::Memory`], which never hides that the file is
+    /// absent or ends too soon.
     pub fn get<S: Shelf>(
         &self,
         alloc: Global,
@@ -245,6 +246,7 @@ impl View {
         ensures none { stored_length self.now id.now ≡ None → (result ≡ Ok None) × (S.fault_count shelf.new ≡ S.fault_count shelf.old) }
         ensures damaged { IfErr result (λ e. e ≡ Damaged → (files : ℕ → List ℕ) → TellsSource (S.bytes shelf.old) files self.now id.now
             → HoldsSource files self.now id.now → ⊥) }
+        ensures due { IfErr result (λ e. e ≡ Memory → MayReachSource (S.bytes shelf.old) self.now id.now) }
         ensures device { IfErr result (λ e. e ≡ Device → S.can_fail shelf.old) }
         ensures same { (q : FileName) → S.bytes shelf.new q ≡ S.bytes shelf.old q }
         ensures crash { (q : FileName) → NoMore (S.may_leave shelf.old q) (S.may_leave shelf.new q) }

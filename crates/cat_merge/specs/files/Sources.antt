@@ -1,5 +1,5 @@
 -- Ranges of files with sources, and what a device tells of them.
-use Rattle.std.specs.Prelude.{◌≡◌, ◌≢◌, ◌+◌, ◌++◌, ◌<◌, ℕ, List, [], length, map, sum, Some, None, Any}
+use Rattle.std.specs.Prelude.{◌≡◌, ◌≢◌, ◌+◌, ◌++◌, ◌<◌, ◌≤◌, ℕ, List, [], length, map, sum, Some, None, Any}
 use Rattle.std.specs.List.{flat_map}
 use Rattle.cat_model.specs.Text.{Text}
 use Rattle.cat_directory.specs.declared.name.FileName.{FileName}
@@ -31,6 +31,11 @@ TellsAll told = (q : FileName) → told q ≢ None
 -- no file that is told has all bytes of the range
 abbrev pub IsCutOff : ToldFiles → SourceRange → Type 0
 IsCutOff told range = (bytes : Text) → told (file.Source range.segment) ≡ Some (Some bytes) → length bytes < range.offset + range.len
+
+-- the file isn't told to be absent, nor to end before the range does
+abbrev pub MayReachRange : ToldFiles → SourceRange → Type 0
+MayReachRange told range = (told (file.Source range.segment) ≢ Some None)
+    × ((bytes : Text) → told (file.Source range.segment) ≡ Some (Some bytes) → range.offset + range.len ≤ length bytes)
 
 -- the file with the sources of the leaf's segment, if it is told, hasn't as many bytes as all of its rows' items came as
 abbrev pub LacksBytes : ToldFiles → Leaf → Type 0

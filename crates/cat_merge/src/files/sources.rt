@@ -1,10 +1,10 @@
 //! The sources of kept rows, read from the files of a merge's inputs and put behind those that its own file has.
 ghost use Rattle.std.specs.Prelude.{◌≡◌, ◌≢◌, ◌⊎◌, Some, None, length, map, sum, OnOk, IfOk, IfErr, Any};
 ghost use Rattle.std.specs.List.{flat_map};
-ghost use Rattle.cat_base.specs.declared.refusal.Refusal.TheVariants.{Device, Damaged};
+ghost use Rattle.cat_base.specs.declared.refusal.Refusal.TheVariants.{Damaged, Device, Memory};
 ghost use Rattle.cat_directory.specs.Devices.{CountsReading, NoMore};
 ghost use Rattle.cat_merge.specs.Copied.{bytes_in};
-ghost use Rattle.cat_merge.specs.files.Sources.{AreAppended, IsCutOff, TellsAll, sources_told};
+ghost use Rattle.cat_merge.specs.files.Sources.{AreAppended, IsCutOff, MayReachRange, TellsAll, sources_told};
 
 use crate::SourceRange;
 use cat_base::Refusal;
@@ -20,6 +20,7 @@ fn read_range<S: Shelf>(
     ensures ok { IfOk result (λ v. TellsAll (S.bytes shelf.old) → v.items ≡ bytes_in (sources_told (S.bytes shelf.old)) range.now) }
     ensures len { IfOk result (λ v. length v.items ≡ range.now.len) }
     ensures damaged { IfErr result (λ e. e ≡ Damaged → IsCutOff (S.bytes shelf.old) range.now) }
+    ensures due { IfErr result (λ e. e ≡ Memory → MayReachRange (S.bytes shelf.old) range.now) }
     ensures device { IfErr result (λ e. e ≡ Device → S.can_fail shelf.old) }
     ensures same { (q : FileName) → S.bytes shelf.new q ≡ S.bytes shelf.old q }
     ensures crash { (q : FileName) → NoMore (S.may_leave shelf.old q) (S.may_leave shelf.new q) }

@@ -6,7 +6,7 @@ use Rattle.cat_model.specs.Text.{IsOneLine}
 use Rattle.cat_model.specs.View.{live_rows}
 use Rattle.cat_directory.specs.declared.name.FileName.TheVariants as file
 use Rattle.cat_views.specs.Sources.{IsLiveRowOf, has_id, has_live}
-use Rattle.cat_views.proofs.Stored.{none_stored, none_long, read_is, length-at, is_whole, not_cut, one_line_read}
+use Rattle.cat_views.proofs.Stored.{none_stored, none_long, read_is, length-at, is_whole, may_reach, not_cut, one_line_read}
 use Rattle.cat_views.proofs.view.View.get.Goals as goal
 
 pub returns-in_default-clause-ok : goal.returns-in_default-clause-ok
@@ -52,6 +52,18 @@ returns-in_err-text-clause-damaged g c =
     let short = c.in_err-text.ensures.damaged e (files leaf.segment.number) (ap (λ n. told (file.Source n)) number ∙ tell) in
     not_cut files leaf c.segment-segment.result.now c.in-Some.row c.source_offset-offset.result c.source_length.result c.segment-segment.ensures is.within is.some c.source_offset-offset.ensures c.source_length.ensures
     (is_whole files c.args.id.now c.args.self.now.leaves leaf c.in-Some.row is holds.whole) short)
+
+pub returns-in_err-text-clause-due : goal.returns-in_err-text-clause-due
+returns-in_err-text-clause-due g c =
+    let p = err_from_is_err_and c.from_residual.result c.from_residual.ensures.1 in
+    rw (p.1, p.2) (λ e.
+    let told = g.S.Holder.bytes c.args.shelf.now in
+    let leaf = c.in-Some.leaf.now in
+    let leaves = c.deref-2.ensures.value ∙ ap (λ v. v.items) c.deref.ensures ∙ ap (λ v. v.leaves) c.self.view_is in
+    let is = subst (λ ls. IsLiveRowOf c.args.id.now ls leaf c.in-Some.row) leaves c.in-Some.ensures in
+    let number = c.number.ensures ∙ ap (λ s. s.number) c.segment-segment.ensures in
+    may_reach told c.args.self.now c.args.id.now leaf c.segment-segment.result.now c.number.result c.in-Some.row c.source_offset-offset.result c.source_length.result
+    c.segment-segment.ensures number is c.source_offset-offset.ensures c.source_length.ensures (c.in_err-text.ensures.due e))
 
 pub returns-clause-one_line : goal.returns-clause-one_line
 returns-clause-one_line g c = subst IsOneLine c.deref-3.ensures.value (c.is_one_line.ensures.0 (search rules))
