@@ -4,7 +4,7 @@ use Rattle.std.specs.Prelude.{◌⊎◌, Option, None, Some, Result, Ok, Err, If
 use Rattle.std.specs.List.{list_all}
 use Rattle.std.proofs.lemmas.Bool.Decides.{eqb_tells}
 use Rattle.cat_base.specs.declared.refusal.Refusal.{Refusal}
-use Rattle.cat_base.specs.declared.refusal.Refusal.TheVariants.{Damaged, Device, Kind as WrongKind, Large, Line as NoForm, Spent}
+use Rattle.cat_base.specs.declared.refusal.Refusal.TheVariants.{Damaged, Device, Kind as WrongKind, Large, Line as NoForm, Memory, Spent}
 use Rattle.cat_model.specs.Forms.{is_plain_byte}
 use Rattle.cat_model.specs.Answer.{Read}
 use Rattle.cat_model.specs.Heard.{commit_text_of}
@@ -35,8 +35,8 @@ use Rattle.cat_ledger_laws.specs.shape.Ties.{ToldFiles}
 use Rattle.cat_protocol.specs.replies.Reply.{answer_of, reply_of}
 use Rattle.cat_protocol.specs.declared.replies.answer.Answer as code
 use Rattle.cat_protocol.specs.cat_views.Holds.{HeldView}
-use Rattle.cat_protocol.specs.cat_views.Sources.{HoldsSource, TellsSource}
-use Rattle.cat_service.specs.Causes.{HasCause, IsDamagedTo, IsSpentTo, KeepsIfRefused, MayFailTo, TellsSo}
+use Rattle.cat_protocol.specs.cat_views.Sources.{HoldsSource, MayReachSource, TellsSource}
+use Rattle.cat_service.specs.Causes.{HasCause, IsDamagedTo, IsSpentTo, KeepsIfRefused, MayFailTo, MayReachTo, TellsSo}
 use Rattle.cat_service.specs.Lines.{IsCommandOf}
 use Rattle.cat_service.specs.Worlds.{Service}
 use Rattle.cat_commands.specs.cat_ledger.Lasting.{IsCarried}
@@ -99,6 +99,7 @@ module _ {D : Type 0} (bytes : D → ToldFiles) (can_fail : D → Type 0) (fault
     device = given_so (can_fail (device_in old)) Device result Device device refl;
     counted = given_so Counted Device result Device counted refl;
     damaged = λ k. tt;
+    reached = λ k. tt;
     told = tt;
     rises = rises;
     stays = tt;
@@ -112,6 +113,7 @@ module _ {D : Type 0} (bytes : D → ToldFiles) (can_fail : D → Type 0) (fault
     device = given_so (can_fail (device_in old)) Device result Device device refl;
     counted = given_so Counted Device result Device counted refl;
     damaged = λ k. tt;
+    reached = λ k. tt;
     told = tt;
     rises = rises;
     stays = tt;
@@ -121,12 +123,14 @@ module _ {D : Type 0} (bytes : D → ToldFiles) (can_fail : D → Type 0) (fault
   pub get_caused : (t : ℕ) (id : Text)
       → IfErr result (λ e. e ≡ Damaged → (view : View) → IsRecordedAs (shape_in old).views t view → (files : ℕ → List ℕ)
       → TellsSource (bytes (device_in old)) files view id → HoldsSource files view id → ⊥)
+      → IfErr result (λ e. e ≡ Memory → (view : View) → IsRecordedAs (shape_in old).views t view → MayReachSource (bytes (device_in old)) view id)
       → IfErr result (λ e. e ≡ Device → can_fail (device_in old)) → IfErr result (λ e. e ≡ Device → Counted) → Rises → Causes (Said.get t id)
-  get_caused t id damaged device counted rises = record {
+  get_caused t id damaged reach device counted rises = record {
     spent = λ k. tt;
     device = given_so (can_fail (device_in old)) Device result Device device refl;
     counted = given_so Counted Device result Device counted refl;
     damaged = given_so (IsDamagedTo (bytes (device_in old)) (shape_in old) (Some (Said.get t id))) Damaged result Damaged damaged refl;
+    reached = given_so (MayReachTo (bytes (device_in old)) (shape_in old) (Some (Said.get t id))) Memory result Memory reach refl;
     told = tt;
     rises = rises;
     stays = tt;
@@ -135,8 +139,8 @@ module _ {D : Type 0} (bytes : D → ToldFiles) (can_fail : D → Type 0) (fault
 
   -- an OPEN, of which the run says what it is told
   pub open_caused : (token : Option ℕ) → Rises → Causes (said_open token)
-  open_caused None rises = record { spent = λ k. tt; device = λ k. tt; counted = λ k. tt; damaged = λ k. tt; told = tt; rises = rises; stays = tt; keeps = tt }
-  open_caused (Some t) rises = record { spent = λ k. tt; device = λ k. tt; counted = λ k. tt; damaged = λ k. tt; told = tt; rises = rises; stays = tt; keeps = tt }
+  open_caused None rises = record { spent = λ k. tt; device = λ k. tt; counted = λ k. tt; damaged = λ k. tt; reached = λ k. tt; told = tt; rises = rises; stays = tt; keeps = tt }
+  open_caused (Some t) rises = record { spent = λ k. tt; device = λ k. tt; counted = λ k. tt; damaged = λ k. tt; reached = λ k. tt; told = tt; rises = rises; stays = tt; keeps = tt }
 
   -- ---- COMMIT
 
@@ -184,6 +188,7 @@ module _ {D : Type 0} (bytes : D → ToldFiles) (can_fail : D → Type 0) (fault
     device = λ k. given_so (can_fail (device_in old)) Device result Device (device (right_text (left ≡ old) text Device (λ e. cc e) (λ e. cc e) wrong k)) refl k;
     counted = λ k. given_so Counted Device result Device (counted (right_text (left ≡ old) text Device (λ e. cc e) (λ e. cc e) wrong k)) refl k;
     damaged = λ k. tt;
+    reached = λ k. tt;
     told = commit_told may text (reply_of result) left goes;
     rises = rises;
     stays = if_wrong (left ≡ old) (commit_text_of text) wrong;
@@ -277,6 +282,7 @@ module _ {D : Type 0} (bytes : D → ToldFiles) (can_fail : D → Type 0) (fault
         device = given_so (HasRowsLeft (shape_in old).merging ⊎ can_fail (device_in old)) Device result Device device refl;
         counted = given_so Counted Device result Device counted refl;
         damaged = λ k. (merge_may may Damaged (λ e. cc e) k).damaged refl;
+        reached = λ k. tt;
         told = told;
         rises = rises;
         stays = tt;
@@ -287,15 +293,16 @@ module _ {D : Type 0} (bytes : D → ToldFiles) (can_fail : D → Type 0) (fault
         device = given_so (can_fail (device_in old)) Device result Device device refl;
         counted = given_so Counted Device result Device counted refl;
         damaged = λ k. tt;
+        reached = λ k. tt;
         told = told;
         rises = rises;
         stays = tt;
         keeps = kept_so (KeepsBehind Force (shape_in old) (shape_in left)) (Keeps (Said.chore Chore.force)) (λ a. tt) (λ e kept. kept) result keeps;
       }
       refuses Sweep may device counted told rises keeps =
-          record { spent = λ k. tt; device = given_so (can_fail (device_in old)) Device result Device device refl; counted = given_so Counted Device result Device counted refl; damaged = λ k. tt; told = told; rises = rises; stays = tt; keeps = tt }
+          record { spent = λ k. tt; device = given_so (can_fail (device_in old)) Device result Device device refl; counted = given_so Counted Device result Device counted refl; damaged = λ k. tt; reached = λ k. tt; told = told; rises = rises; stays = tt; keeps = tt }
       refuses Stat may device counted told rises keeps =
-          record { spent = λ k. tt; device = λ k. tt; counted = λ k. tt; damaged = λ k. tt; told = told; rises = rises; stays = tt; keeps = tt }
+          record { spent = λ k. tt; device = λ k. tt; counted = λ k. tt; damaged = λ k. tt; reached = λ k. tt; told = told; rises = rises; stays = tt; keeps = tt }
 
       pub chore_caused : (sets : ℕ) (chore : code_chore.Chore) → AnswersSaid bytes session (Said.chore (chore_of chore)) old (reply_of result) left
           → IfOk result (λ a. TellsChore sets (shape_in old) chore (answer_of a)) → (session ≡ 0 → IfErr result (MayRefuse (policy_in old) (shape_in old) chore))

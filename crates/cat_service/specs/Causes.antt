@@ -1,6 +1,6 @@
 -- Why a line is refused where an OK would fit, and what COMMIT and maintenance tell, by what memory has.
 use Rattle.std.specs.Prelude.{◌≡◌, ◌⊎◌, ℕ, ◌<◌, ◌≤◌, Option, Some, Ok, Err, IfErr, length}
-use Rattle.cat_base.specs.declared.refusal.Refusal.TheVariants.{Damaged, Device, Spent}
+use Rattle.cat_base.specs.declared.refusal.Refusal.TheVariants.{Damaged, Device, Memory, Spent}
 use Rattle.cat_model.specs.Heard.{commit_text_of}
 use Rattle.cat_model.specs.Limits.{buffer_limit, last_number}
 use Rattle.cat_model.specs.Lines.{Said}
@@ -18,7 +18,7 @@ use Rattle.cat_ledger_laws.specs.lines.StayLaws.{IsOneMoreAtMost}
 use Rattle.cat_ledger_laws.specs.model.Plans.{MergePolicy}
 use Rattle.cat_ledger_laws.specs.shape.Shapes.{Shape}
 use Rattle.cat_ledger_laws.specs.shape.Ties.{ToldFiles}
-use Rattle.cat_protocol.specs.cat_views.Sources.{HoldsSource, TellsSource}
+use Rattle.cat_protocol.specs.cat_views.Sources.{HoldsSource, MayReachSource, TellsSource}
 use Rattle.cat_commands.specs.cat_ledger.upkeep.Due.{IsForceDue, IsMergeDue}
 use Rattle.cat_service.specs.Worlds.{Service, device_of, policy_of, shape_of_service}
 
@@ -66,6 +66,12 @@ IsDamagedTo told s (Some (Said.get t id)) =
 IsDamagedTo told s (Some (Said.chore Chore.merge)) = HasRowsLeft s.merging
 IsDamagedTo told s said = Unit {0}
 
+-- To a GET, that memory was wanting: the device doesn't tell that the file with the source of the item's live row is absent, nor that it ends
+-- before the source does.
+abbrev pub MayReachTo : ToldFiles → Shape → Option Said → Type 0
+MayReachTo told s (Some (Said.get t id)) = (view : View) → IsRecordedAs s.views t view → MayReachSource told view id
+MayReachTo told s said = Unit {0}
+
 -- ---- answers
 
 -- A COMMIT tells the generation that comes next; a SWEEP how many files nobody needs; a STAT how the ledger stands, with some number of
@@ -96,7 +102,7 @@ KeepsIfRefused (Some (Said.chore Chore.force)) (Err e) s new = KeepsMerge s new 
 KeepsIfRefused said reply s new = Unit {0}
 
 -- The reply has its cause in the world: 16 where a number or a limit is spent, 30 where the device can fail and its count of failures rose, 31
--- where a file is damaged, and the news as they are. No failure is forgotten, whatever is told; a COMMIT that is refused for its text changes
+-- where a file is damaged, 40 to a GET where none is gone or short, and the news as they are. No failure is forgotten, whatever is told; a COMMIT that is refused for its text changes
 -- nothing; and what another refused line keeps is kept. The first three arguments say what a device tells of its files, whether it can fail, and how many failures it has counted.
 pub record HasCause {D : Type 0} (bytes : D → ToldFiles) (can_fail : D → Type 0) (faults : D → ℕ) (old : Service D) (said : Option Said)
     (reply : Reply) (new : Service D) : Type 0 where
@@ -104,6 +110,7 @@ pub record HasCause {D : Type 0} (bytes : D → ToldFiles) (can_fail : D → Typ
   pub device : reply ≡ Err Device → MayFailTo can_fail (device_of old) (shape_of_service old) said
   pub counted : reply ≡ Err Device → IsCountedTo (CountsOne (faults (device_of old)) (faults (device_of new))) said
   pub damaged : reply ≡ Err Damaged → IsDamagedTo (bytes (device_of old)) (shape_of_service old) said
+  pub reached : reply ≡ Err Memory → MayReachTo (bytes (device_of old)) (shape_of_service old) said
   pub told : TellsSo (policy_of old) (shape_of_service old) said reply
   pub rises : faults (device_of old) ≤ faults (device_of new)
   pub stays : StaysIfWrong said old.ledger new.ledger

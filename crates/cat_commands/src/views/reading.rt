@@ -12,7 +12,7 @@ ghost use Rattle.cat_model.specs.State.{has_hold};
 ghost use Rattle.cat_model.specs.Text.{Text};
 ghost use Rattle.cat_model.specs.View.{View};
 ghost use Rattle.cat_directory.specs.declared.name.FileName.{FileName};
-ghost use Rattle.cat_cached_sets.specs.cat_views.Sources.{HoldsSource, TellsSource};
+ghost use Rattle.cat_cached_sets.specs.cat_views.Sources.{HoldsSource, MayReachSource, TellsSource};
 ghost use Rattle.cat_ledger_laws.specs.lines.ReadLaws.{IsRecordedAs};
 ghost use Rattle.cat_ledger.specs.Answering.{AnswersSaid};
 ghost use Rattle.cat_ledger.specs.Histories.{Event, Goes};
@@ -32,8 +32,8 @@ use cat_protocol::replies::Answer;
 ///
 /// The first of these that is so is the refusal: [`Refusal::Id`] where the id has the wrong form, [`Refusal::NotHeld`] where
 /// the session doesn't hold the token; [`Refusal::Damaged`] where the file with the bytes is absent, ends before they do, or
-/// has a line feed in them; [`Refusal::Device`] where the directory fails; else [`Refusal::Memory`]. So no bytes that are told
-/// go beyond their line. The ledger stays as it is in each case.
+/// has a line feed in them; [`Refusal::Device`] where the directory fails; else [`Refusal::Memory`], which never hides that the
+/// file is absent or ends too soon. So no bytes that are told go beyond their line. The ledger stays as it is in each case.
 pub fn get<D: Directory + Shelf>(
     ledger: &mut Ledger<D>,
     rights: &Rights,
@@ -51,6 +51,8 @@ pub fn get<D: Directory + Shelf>(
     ensures counted { IfErr result (λ e. e ≡ Device → CountsOne (D.fault_count (device_in ledger.old)) (D.fault_count (device_in ledger.new))) }
     ensures damaged { IfErr result (λ e. e ≡ Damaged → (view : View) → IsRecordedAs (shape_in ledger.old).views token view
         → (files : ℕ → List ℕ) → TellsSource (D.bytes (device_in ledger.old)) files view id.now → HoldsSource files view id.now → ⊥) }
+    ensures reach { IfErr result (λ e. e ≡ Memory → (view : View) → IsRecordedAs (shape_in ledger.old).views token view
+        → MayReachSource (D.bytes (device_in ledger.old)) view id.now) }
     ensures device { IfErr result (λ e. e ≡ Device → D.can_fail (device_in ledger.old)) }
     ensures shape { shape_in ledger.new ≡ shape_in ledger.old }
     ensures same { (q : FileName) → D.bytes (device_in ledger.new) q ≡ D.bytes (device_in ledger.old) q }

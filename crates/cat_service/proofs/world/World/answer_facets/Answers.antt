@@ -45,7 +45,7 @@ returns-clause-does g c = rw (← c.self.view_is) (
     let ledger = c.self.inside.ledger in
     let o = option_map (λ h. h.now.view) c.get-right.result in
     does g.D.Holder.bytes g.D.Holder.can_fail g.D.Holder.fault_count c.args.session (Said.facets facets.token facets.dimension.now facets.count facets.query.now)
-    ledger (reply_of c.count_facets.result) ledger c.self.inside.rights c.self.inside.rights c.self.invariant (record { spent = λ k. tt; device = λ k. tt; counted = λ k. tt; damaged = λ k. tt; told = tt; rises = omega arith; stays = tt; keeps = tt })
+    ledger (reply_of c.count_facets.result) ledger c.self.inside.rights c.self.inside.rights c.self.invariant (record { spent = λ k. tt; device = λ k. tt; counted = λ k. tt; damaged = λ k. tt; reached = λ k. tt; told = tt; rises = omega arith; stays = tt; keeps = tt })
     (facets_answers (policy_in ledger) (g.D.Holder.bytes (device_in ledger)) (shape_in ledger) c.args.session facets.token c.self.inside.rights
     c.self.invariant.counted facets.dimension.now facets.count facets.query.now (reply_of c.count_facets.result) o
     (sym (option_map_twice (λ h. h.now) (λ h. h.view) c.get-right.result) ∙ ap (option_map (λ h. h.view)) c.get-right.ensures)

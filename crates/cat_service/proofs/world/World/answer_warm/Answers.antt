@@ -27,7 +27,7 @@ invariant_of-self g c =
 pub returns-clause-does : goal.returns-clause-does
 returns-clause-does g c = rw (← c.self.view_is) (
     does g.D.Holder.bytes g.D.Holder.can_fail g.D.Holder.fault_count c.args.session (Said.chore Chore.warm) c.self.inside.ledger (reply_of c.warm.result) c.self.inside.ledger
-    c.self.inside.rights c.self.inside.rights c.self.invariant (record { spent = λ k. tt; device = λ k. tt; counted = λ k. tt; damaged = λ k. tt; told = tt; rises = omega arith; stays = tt; keeps = tt }) c.warm.ensures.answers (λ x. x) refl refl
+    c.self.inside.rights c.self.inside.rights c.self.invariant (record { spent = λ k. tt; device = λ k. tt; counted = λ k. tt; damaged = λ k. tt; reached = λ k. tt; told = tt; rises = omega arith; stays = tt; keeps = tt }) c.warm.ensures.answers (λ x. x) refl refl
     (λ k. warm_wants (g.D.Holder.bytes (device_in c.self.inside.ledger)) (shape_in c.self.inside.ledger) c.args.session c.warm.result (stopped c.warm.result k) c.warm.ensures.foreign))
 
 pub returns-clause-history : goal.returns-clause-history
