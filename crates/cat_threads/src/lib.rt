@@ -7,4 +7,5 @@ pub mod running;
 pub mod service;
 pub mod sharing;
 
-pub use service::{Begun, Chore, Naming, News, Outcome, Pass, Service, Write};
+pub use cat_commands;
+pub use service::{Begun, Chore, Naming, Noted, Outcome, Pass, Service, Write};

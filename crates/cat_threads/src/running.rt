@@ -1,4 +1,4 @@
-//! Sessions in threads of their own over one service, and a worker beside them that merges.
+//! Sessions in threads of their own over one service, and workers beside them: one merges, and one makes cached sets.
 ghost use Rattle.std.specs.Prelude.{◌≡◌, IfOk, map};
 ghost use Rattle.cat_threads.specs.running.Sessions.{sessions_back, sessions_of};
 
@@ -18,6 +18,10 @@ pub trait Gate: Drop {
 
     /// Called with the lock held, before the turn's chore.
     fn inside(&mut self);
+
+    /// Called without the lock, where the turn did nothing: there was nothing to do, or it was refused. So the next
+    /// [`go_on`](Gate::go_on) may sleep.
+    fn idle(&mut self) {}
 }
 
 /// What a session does in its thread.
@@ -56,8 +60,31 @@ pub fn merger<D: Directory + Shelf, J: Naming, R: Wait, G: Gate>(
         if ended.load(Ordering::SeqCst) != 0 || !gate.go_on() {
             return;
         }
-        if service.turn(rt, &mut gate, Chore::Merge).is_merged() {
+        let outcome = service.turn(rt, &mut gate, Chore::Merge);
+        if outcome.is_merged() {
             let _swept = service.turn(rt, &mut gate, Chore::Sweep);
+        }
+        if outcome.is_idle() {
+            gate.idle();
+        }
+        thread::yield_now();
+    }
+}
+
+/// Makes sets of rows for the queries that were noted, step by step, until the gate says no or the flag isn't 0. (Lucene makes a
+/// set while a query runs: `LRUQueryCache.cacheImpl`.)
+pub fn warmer<D: Directory + Shelf, J: Naming, R: Wait, G: Gate>(
+    rt: &R,
+    service: &Service<D, J>,
+    ended: &AtomicU64,
+    mut gate: G,
+) {
+    for _ in rt.forever() {
+        if ended.load(Ordering::SeqCst) != 0 || !gate.go_on() {
+            return;
+        }
+        if service.turn(rt, &mut gate, Chore::Warm).is_idle() {
+            gate.idle();
         }
         thread::yield_now();
     }
@@ -89,20 +116,22 @@ fn joined<J: Naming, R: Threads>(
     }
 }
 
-/// Runs each session in a thread of its own, and a merger beside them, which ends once the sessions have. The passes come back
-/// in their order.
+/// Runs each session in a thread of its own, and a merger and a warmer beside them, which end once the sessions have. The passes
+/// come back in their order.
 pub fn run_threads<
     D: Directory + Shelf + Drop + Send,
     J: Naming + Send + Sync,
     C: Caller<D, J, R> + Send,
     G: Gate + Send,
+    W: Gate + Send,
     R: Threads + Wait + Sync,
 >(
     rt: &R,
     alloc: Global,
     service: &Service<D, J>,
     sessions: Vec<(Pass<J>, C)>,
-    gate: G,
+    merging: G,
+    warming: W,
 ) -> Result<Vec<Pass<J>>, NotRun>
     ensures sessions { IfOk result (λ v. sessions_back v.items ≡ sessions_of sessions.items) }
 {
@@ -114,7 +143,11 @@ pub fn run_threads<
         move |scope| -> Result<Vec<Pass<J>>, NotRun>
             ensures { IfOk result (λ v. sessions_back v.items ≡ sessions_of sessions.items) }
         {
-            let Ok(_merger) = scope.spawn(move || merger(rt, service, flag, gate)) else {
+            let Ok(_merger) = scope.spawn(move || merger(rt, service, flag, merging)) else {
+                return Err(NotRun::Thread);
+            };
+            let Ok(_warmer) = scope.spawn(move || warmer(rt, service, flag, warming)) else {
+                flag.store(1, Ordering::SeqCst);
                 return Err(NotRun::Thread);
             };
             let mut handles = Vec::new(alloc);

@@ -4,13 +4,15 @@
 mod begun;
 mod chores;
 mod desk;
+mod keeper;
 mod naming;
 mod pass;
 mod service;
 mod writes;
 
 pub use begun::Begun;
-pub use chores::{Chore, News, Outcome};
+pub use chores::{Chore, Outcome};
+pub use keeper::{Keeper, Noted};
 pub use naming::Naming;
 pub use pass::Pass;
 pub use service::Service;

@@ -1,27 +1,30 @@
 -- What serves all sessions leaves the one list as it is.
-use Rattle.std.proofs.Common.{◌≡◌, ℕ, ◌-◌, ◌<◌, [], refl}
-use Rattle.std.specs.Prelude.{Ok}
-use Rattle.cat_model.specs.Limits.{snapshot_limit}
-use Rattle.cat_model.specs.Run.{Answer, Chore, Command, News, Reply}
-use Rattle.cat_model.specs.State.{snapshots_in}
-use Rattle.cat_model.specs.Text.{Text}
-use Rattle.cat_ledger_laws.specs.model.Calls.{MayLeave, Pruned, Snaps, Unsnapped}
-use Rattle.cat_ledger_laws.specs.model.Replies.{IsLeft, Maintains}
+use Rattle.std.proofs.Common.{◌≡◌, ℕ, List, [], refl, sym, subst, ap}
+use Rattle.cat_model.specs.Item.{Schema}
+use Rattle.cat_model.specs.Lines.{Said}
+use Rattle.cat_model.specs.Run.{Command, Reply}
+use Rattle.cat_model.specs.Heard.{IsCommand, commit_text_of}
+use Rattle.cat_items.specs.Reading.{json}
+use Rattle.cat_commands.specs.cat_ledger.Answering.{AnswersCommand, AnswersSaid}
+use Rattle.cat_commands.specs.cat_ledger.Ledgers.{LedgerOnDevice, device_in, policy_in, shape_in}
+use Rattle.cat_commands.specs.cat_protocol.replies.Reply.{reply_of}
 use Rattle.cat_ledger_laws.specs.shape.Ties.{ToldFiles}
-use Rattle.cat_ledger_laws.specs.lines.LineLaws.{Commits, tells}
-use Rattle.cat_ledger_laws.proofs.lines.LineAnswers.{commits_answer, prunes_answer, snaps_answer, unsnaps_answer}
-use Rattle.cat_ledger_laws.proofs.lines.StopAnswers.{chores_answer, sweeps_tell}
-use Rattle.cat_ledger.specs.Ledgers.{DoesCall, LedgerOnDevice, device_in, policy_in, shape_in}
+use Rattle.cat_threads.specs.history.Rules.{Sight}
+use Rattle.cat_threads.specs.sharing.Grounds.{Ground, Shares}
 use Rattle.cat_threads.specs.sharing.Laws.{IsStill}
-use Rattle.cat_threads.specs.service.Chores.{KeepsShares}
-use Rattle.cat_threads.proofs.sharing.Sharing.{pruned_share, still_share}
-use Rattle.cat_threads.proofs.service.Answering.{refresh_left, unchanged}
+use Rattle.cat_threads.specs.service.Chores.{AnswersChore, IsToldOver, answer_told, chore_done, said_by}
+use Rattle.cat_threads.specs.declared.service.chores.Chore.{Chore}
+use Rattle.cat_threads.specs.declared.service.chores.Outcome.{Outcome}
+use Rattle.cat_threads.proofs.sharing.Sharing.{history, pruned_share, still_share}
 
-chore_still : (c : Chore) (r : Reply) → IsStill (Command.chore c) r
+chore_still : (c : Rattle.cat_model.specs.Run.Chore) (r : Reply) → IsStill (Command.chore c) r
 chore_still c r fitting e = (refl, λ held ts. refl)
 
-commit_still : (text : Text) (r : Reply) → IsStill (Command.commit (Ok text)) r
+commit_still : (text : Rattle.std.specs.Prelude.Result Rattle.cat_model.specs.Text.Text Rattle.cat_base.specs.declared.refusal.Refusal.Refusal) (r : Reply) → IsStill (Command.commit text) r
 commit_still text r fitting e = (refl, λ held ts. refl)
+
+note_still : (g : ℕ) (r : Reply) → IsStill (Command.text_of_commit g) r
+note_still g r fitting e = (refl, λ held ts. refl)
 
 snap_still : (r : Reply) → IsStill Command.snapshot r
 snap_still r fitting e = (refl, λ held ts. refl)
@@ -29,40 +32,49 @@ snap_still r fitting e = (refl, λ held ts. refl)
 unsnap_still : (g : ℕ) (r : Reply) → IsStill (Command.release_snapshot g) r
 unsnap_still g r fitting e = (refl, λ held ts. refl)
 
-module _ {D : Type 0} (bytes : D → ToldFiles) (old new : LedgerOnDevice D) where
-  pub by_chore : (c : Chore) (n : News) → DoesCall bytes (Maintains (policy_in old) c n) old new → KeepsShares bytes old new
-  by_chore c n does = λ from sessions v a.
-      still_share (policy_in old) (bytes (device_in old)) (bytes (device_in new)) (shape_in old) (shape_in new) from sessions v v 0 a (Command.chore c) (Ok (Answer.news n))
-      (chore_still c (Ok (Answer.news n))) (chores_answer (policy_in old) (bytes (device_in old)) (bytes (device_in new)) (shape_in old) (shape_in new) c n does) a.agrees.whole
+files_still : (g : ℕ) (r : Reply) → IsStill (Command.files_of_commit g) r
+files_still g r fitting e = (refl, λ held ts. refl)
 
-  pub by_sweep : DoesCall bytes (MayLeave []) old new → KeepsShares bytes old new
-  by_sweep does =
-      by_chore Chore.sweep (News.swept 0) (sweeps_tell (policy_in old) (bytes (device_in old)) (bytes (device_in new)) (shape_in old) (shape_in new) 0 does)
+module _ {D : Type 0} (bytes : D → ToldFiles) (old new : LedgerOnDevice D) (from : Ground) (sessions : List ℕ) (v : Sight) (r : Reply) where
+  abbrev Before : Type 0
+  Before = Shares (bytes (device_in old)) (shape_in old) from sessions v
 
-  pub by_commit : (text : Text) → DoesCall bytes (Commits text) old new → KeepsShares bytes old new
-  by_commit text does = λ from sessions v a.
-      still_share (policy_in old) (bytes (device_in old)) (bytes (device_in new)) (shape_in old) (shape_in new) from sessions v v 0 a (Command.commit (Ok text)) (tells (shape_in old).next_generation)
-      (commit_still text (tells (shape_in old).next_generation))
-      (commits_answer (policy_in old) (bytes (device_in old)) (bytes (device_in new)) (shape_in old) (shape_in new) 0 text does) a.agrees.whole
+  abbrev After : Type 0
+  After = Shares (bytes (device_in new)) (shape_in new) from sessions v
 
-  pub by_snap : (g : ℕ) → snapshots_in (shape_in old).taken g < snapshot_limit → DoesCall bytes (Snaps g) old new → KeepsShares bytes old new
-  by_snap g room does = λ from sessions v a.
-      still_share (policy_in old) (bytes (device_in old)) (bytes (device_in new)) (shape_in old) (shape_in new) from sessions v v 0 a Command.snapshot (tells g)
-      (snap_still (tells g)) (snaps_answer (policy_in old) (bytes (device_in old)) (bytes (device_in new)) (shape_in old) (shape_in new) 0 g room does) a.agrees.whole
+  by_still : (c : Command) → IsStill c r → AnswersCommand bytes 0 c old r new → Before → After
+  by_still c still answers a =
+      still_share (policy_in old) (bytes (device_in old)) (bytes (device_in new)) (shape_in old) (shape_in new) from sessions v v 0 a c r still answers a.agrees.whole
 
-  pub by_unsnap : (g : ℕ) → 0 < snapshots_in (shape_in old).taken g → DoesCall bytes (Unsnapped g) old new → KeepsShares bytes old new
-  by_unsnap g some does = λ from sessions v a.
-      still_share (policy_in old) (bytes (device_in old)) (bytes (device_in new)) (shape_in old) (shape_in new) from sessions v v 0 a (Command.release_snapshot g)
-      (tells (snapshots_in (shape_in old).taken g - 1)) (unsnap_still g (tells (snapshots_in (shape_in old).taken g - 1)))
-      (unsnaps_answer (policy_in old) (bytes (device_in old)) (bytes (device_in new)) (shape_in old) (shape_in new) 0 g some does) a.agrees.whole
+  -- the command that was heard is this one
+  by_heard : (c d : Command) → c ≡ d → IsStill d r → AnswersCommand bytes 0 c old r new → Before → After
+  by_heard c d is still answers a = by_still d still (subst (λ x. AnswersCommand bytes 0 x old r new) is answers) a
 
-  pub by_prune : (n : ℕ) → DoesCall bytes (Pruned n) old new → KeepsShares bytes old new
-  by_prune n does = λ from sessions v a.
-      pruned_share (policy_in old) (bytes (device_in old)) (bytes (device_in new)) (shape_in old) (shape_in new) from sessions v v 0 a n _
-      (prunes_answer (policy_in old) (bytes (device_in old)) (bytes (device_in new)) (shape_in old) (shape_in new) 0 n does) a.agrees.whole
+  by_prune : (n : ℕ) → AnswersCommand bytes 0 (Command.prune n) old r new → Before → After
+  by_prune n answers a =
+      pruned_share (policy_in old) (bytes (device_in old)) (bytes (device_in new)) (shape_in old) (shape_in new) from sessions v v 0 a n r answers a.agrees.whole
 
-  pub by_left : DoesCall bytes IsLeft old new → KeepsShares bytes old new
-  by_left left = λ from sessions v a. refresh_left bytes old new from sessions v v 0 a left a.agrees.whole
+  pub chores_share : (chore : Chore) → AnswersSaid bytes 0 (said_by chore) old r new → Before → After
+  chores_share Chore.Merge x a = by_heard x.0 (Command.chore Rattle.cat_model.specs.Run.Chore.merge) x.1 (chore_still Rattle.cat_model.specs.Run.Chore.merge r) x.2 a
+  chores_share Chore.Force x a = by_heard x.0 (Command.chore Rattle.cat_model.specs.Run.Chore.force) x.1 (chore_still Rattle.cat_model.specs.Run.Chore.force r) x.2 a
+  chores_share Chore.Warm x a = by_heard x.0 (Command.chore Rattle.cat_model.specs.Run.Chore.warm) x.1 (chore_still Rattle.cat_model.specs.Run.Chore.warm r) x.2 a
+  chores_share Chore.Sweep x a = by_heard x.0 (Command.chore Rattle.cat_model.specs.Run.Chore.sweep) x.1 (chore_still Rattle.cat_model.specs.Run.Chore.sweep r) x.2 a
+  chores_share Chore.Stat x a = by_heard x.0 (Command.chore Rattle.cat_model.specs.Run.Chore.stat) x.1 (chore_still Rattle.cat_model.specs.Run.Chore.stat r) x.2 a
+  chores_share (Chore.Commit text) x a = by_heard x.0 (Command.commit (commit_text_of text)) x.1 (commit_still (commit_text_of text) r) x.2 a
+  chores_share (Chore.Note g) x a = by_heard x.0 (Command.text_of_commit g) x.1 (note_still g r) x.2 a
+  chores_share Chore.Snap x a = by_heard x.0 Command.snapshot x.1 (snap_still r) x.2 a
+  chores_share (Chore.Unsnap g) x a = by_heard x.0 (Command.release_snapshot g) x.1 (unsnap_still g r) x.2 a
+  chores_share (Chore.Prune n) x a = by_prune n (subst (λ c. AnswersCommand bytes 0 c old r new) x.1 x.2) a
+  chores_share (Chore.Files g) x a = by_heard x.0 (Command.files_of_commit g) x.1 (files_still g r) x.2 a
 
-  pub by_same : new ≡ old → KeepsShares bytes old new
-  by_same same = λ from sessions v a. unchanged bytes old new from sessions v v a same a.agrees.whole
+-- so an outcome tells what a ledger with the list's writes answered
+pub told_over : {D : Type 0} (bytes : D → ToldFiles) (old new : LedgerOnDevice D) (from : Ground) (sessions : List ℕ) (v : Sight) (chore : Chore) (outcome : Outcome)
+    → AnswersChore bytes chore old outcome new → Shares (bytes (device_in old)) (shape_in old) from sessions v → IsToldOver bytes from v.list outcome
+told_over bytes old new from sessions v chore outcome its a =
+    let r = reply_of (answer_told outcome) in record {
+      old = old;
+      new = new;
+      before = history (bytes (device_in old)) (shape_in old) from sessions v a;
+      answers = subst (λ c. AnswersSaid bytes 0 (said_by c) old r new) (sym its.same) its.answers;
+      after = history (bytes (device_in new)) (shape_in new) from sessions v (chores_share bytes old new from sessions v r chore its.answers a);
+    }

@@ -107,6 +107,14 @@ module _ (told : ToldFiles) (s : Shape) (from : Opened) (run : Run) (st : Stands
         subst (λ v. Shows v (table from.start (writes run) t)) seen (subst (λ rs. Shows (recorded_view l.schema own) rs) rows (rows-shown l.schema own.portions)),
       )
 
+  -- and its fields are the ledger's
+  fielded : (view : View) → IsRecordedAs s.views view.token view → view.schema ≡ s.schema
+  fielded view is =
+      let t = view.token in
+      let l = st.ledger in
+      let x = found_in (recorded_view l.schema) (λ (v : View). v.token == t) l.views view (ap (λ (y : Shape). find (λ (v : View). v.token == t) y.views) st.carries.shape ∙ is) in
+      sym (ap (λ (v : View). v.schema) x.1) ∙ ap (λ (y : Shape). y.schema) st.carries.shape
+
 -- ---- one more exchange
 
 record GoesOn (told' : ToldFiles) (new : Shape) (from : Opened) (run : Run) (e : Exchange) : Type 0 where
@@ -179,6 +187,7 @@ views_agree told s from sessions v view a is =
     let all = counts_agree told s from sessions v a in
     let most = high.0 in
     record {
+      fields = fielded told s from a.run a.stands view is ∙ sym a.fields;
       low = low.0;
       upto = omega arith;
       table = subst (λ ws. Shows view (table from.start ws view.token)) a.written low.1;

@@ -109,6 +109,7 @@ views_share told s ground sessions v view a is =
     let low = k.low in
     let most = k.upto in
     record {
+      fields = k.fields ∙ a.begins.fields;
       low = omega arith;
       upto = omega arith;
       table_is = λ start its. same_rows start a.from.start (writes_in v.list) view.token (its.rows ∙ sym a.begins.rows) (its.token ∙ sym a.begins.token) ∙ k.table;

@@ -2,7 +2,7 @@
 use Rattle.std.specs.Prelude.{◌≡◌, ℕ, List, []}
 use Rattle.cat_model.specs.Table.{Opened}
 use Rattle.atomic_table.specs.Seated.{TableId}
-use Rattle.cat_ledger.specs.Ledgers.{LedgerOnDevice}
+use Rattle.cat_commands.specs.cat_ledger.Ledgers.{LedgerOnDevice}
 use Rattle.cat_ledger_laws.specs.shape.Shapes.{Shape}
 use Rattle.cat_ledger_laws.specs.shape.Ties.{ToldFiles}
 use Rattle.cat_ledger_laws.specs.lines.RunLaws.{Stands}

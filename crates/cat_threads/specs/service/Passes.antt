@@ -4,8 +4,8 @@ use mathlib.Core.List.{IsPrefix}
 use Rattle.cat_model.specs.Table.{Start, table}
 use Rattle.cat_model.specs.View.{Shows}
 use Rattle.cat_model.specs.Write.{Write}
-use Rattle.cat_ledger.specs.cat_ledger_state.cat_views.Holds.{HeldView}
-use Rattle.cat_ledger.specs.declared.views.Grant.{Grant}
+use Rattle.cat_commands.specs.cat_ledger.cat_ledger_state.cat_views.Holds.{HeldView}
+use Rattle.cat_commands.specs.cat_ledger.declared.views.Grant.{Grant}
 use Rattle.cat_threads.specs.sharing.Grounds.{Ground, IsOn}
 use Rattle.cat_threads.specs.history.Entries.{LogEntry, entry, has_session, writes_in, writes_of}
 
@@ -52,10 +52,11 @@ abbrev pub IfNew : Grant → (HeldView → Type 0) → Type 0
 IfNew (Grant.New h) P = P h
 IfNew (Grant.Already t) P = Unit {0}
 
--- what a caller is told of a view that it has the right to: it shows the table of the list at its token, whatever start has the rows that the
--- service began with
+-- what a caller is told of a view that it has the right to: it has the service's fields, and shows the table of the list at its token,
+-- whatever start has the rows that the service began with
 pub record Granted (from : Ground) (asked : Option ℕ) (v w : Seen) (h : HeldView) : Type 0 where
   pub own : h.session ≡ v.session
+  pub fields : h.view.schema ≡ from.start.schema
   pub low : from.start.token ≤ h.view.token
   pub upto : h.view.token ≤ from.start.token + length w.list
   pub table_is : (start : Start) → IsOn from start → Shows h.view (table start (writes_in w.list) h.view.token)

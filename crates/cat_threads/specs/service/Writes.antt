@@ -1,7 +1,7 @@
 -- Writes as code has them.
 use Rattle.cat_model.specs.Item.{IsItem, Schema}
 use Rattle.cat_model.specs.Write as model
-use Rattle.cat_ledger.specs.cat_ledger_state.cat_query.View.{query_of}
+use Rattle.cat_commands.specs.cat_ledger.cat_ledger_state.cat_query.View.{query_of}
 use Rattle.cat_threads.specs.declared.service.writes.Write.{Write}
 
 -- the write that is meant

@@ -31,8 +31,10 @@ abbrev pub NewestAgree : Type 0
 NewestAgree = (told : ToldFiles) (s : Shape) (from : Opened) (sessions : List ℕ) (v : Sight)
     → Agrees told s from sessions v → (greatest (tokens_of s.views) ≡ from.start.token + v.token) × (v.token ≤ length v.list)
 
--- The view that is recorded under a token shows the list's table at it, and the token lies between the start's and that of now.
+-- The view that is recorded under a token has the start's fields, and shows the list's table at the token, which lies between the start's
+-- and that of now.
 pub record IsOfList (from : Opened) (v : Sight) (view : View) : Type 0 where
+  pub fields : view.schema ≡ from.start.schema
   pub low : from.start.token ≤ view.token
   pub upto : view.token ≤ from.start.token + length v.list
   pub table : Shows view (table from.start (writes_in v.list) view.token)

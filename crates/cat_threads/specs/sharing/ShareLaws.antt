@@ -21,8 +21,10 @@ abbrev pub FreshShare : Type 0
 FreshShare = (told : ToldFiles) (s : Shape) (from : Opened) (sessions : List ℕ) (v : Sight)
     → from.start.schema ≡ s.schema → Stands told s from [] → v ≡ scribe [] 0 sessions [] → Shares told s (ground_of s) sessions v
 
--- The view shows the list's table at its token, whatever start has the rows; and the token lies between the start's and that of now.
+-- The view has the service's fields, and shows the list's table at its token, whatever start has the rows; and the token lies between the
+-- start's and that of now.
 pub record IsOfGroundList (ground : Ground) (list : List LogEntry) (view : View) : Type 0 where
+  pub fields : view.schema ≡ ground.start.schema
   pub low : ground.start.token ≤ view.token
   pub upto : view.token ≤ ground.start.token + length list
   pub table_is : (start : Start) → IsOn ground start → Shows view (table start (writes_in list) view.token)

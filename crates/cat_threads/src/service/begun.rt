@@ -2,17 +2,17 @@
 ghost use Rattle.std.specs.Prelude.{◌≡◌, ◌⊎◌, ℕ, IfOk, IfErr};
 ghost use Rattle.cat_base.specs.declared.refusal.Refusal.TheVariants.{Damaged, Device, Kind, Memory};
 ghost use Rattle.cat_directory.specs.declared.name.FileName.{FileName};
-ghost use Rattle.cat_ledger.specs.Ledgers.{device_in, policy_in, shape_in};
-ghost use Rattle.cat_ledger.specs.Openings.{IsOpenedLedger};
-ghost use Rattle.cat_ledger.specs.cat_ledger_state.startup.Refused.{IsNewestDamaged, IsNewestForeign};
+ghost use Rattle.cat_commands.specs.cat_ledger.Ledgers.{device_in, policy_in, shape_in};
+ghost use Rattle.cat_commands.specs.cat_ledger.Openings.{IsOpenedLedger};
+ghost use Rattle.cat_commands.specs.cat_ledger.cat_ledger_state.startup.Refused.{IsNewestDamaged, IsNewestForeign};
 ghost use Rattle.cat_threads.specs.service.Begins.{IsJustOpened};
 
 use crate::history::{self, Cell, Seat};
-use cat_base::Refusal;
+use cat_base::{Refusal, WriteNo};
+use cat_commands::cat_ledger::upkeep::MergePolicy;
+use cat_commands::cat_ledger::{Ledger, NotOpened};
 use cat_directory::{Directory, Shelf};
 use cat_items::Schema;
-use cat_ledger::upkeep::MergePolicy;
-use cat_ledger::{Ledger, NotOpened};
 use std::alloc::Global;
 use std::marker::Model;
 
@@ -31,7 +31,7 @@ impl<D: Directory + Shelf> Model for Begun<D> {
     ghost use Rattle.std.specs.Prelude.{◌≡◌, []};
     ghost use Rattle.crossbeam_utils.specs.Seq.{cell_view};
     ghost use Rattle.cat_threads.specs.history.Rules as rules;
-    ghost use Rattle.cat_ledger.specs.Ledgers.{device_in, shape_in};
+    ghost use Rattle.cat_commands.specs.cat_ledger.Ledgers.{device_in, shape_in};
     ghost use Rattle.cat_threads.specs.service.Begins as begins;
 
     ghost Value = { begins.Begun D };
@@ -74,5 +74,12 @@ impl<D: Directory + Shelf> Begun<D> {
             }),
             Err(not) => Err(not),
         }
+    }
+
+    /// How many writes were accepted before, which is the token of the view that is recorded.
+    pub fn count(&self) -> WriteNo
+        ensures { result ≡ (shape_in self.now.ledger).count }
+    {
+        self.ledger.count()
     }
 }

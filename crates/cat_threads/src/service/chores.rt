@@ -1,69 +1,64 @@
-//! Calls that serve all sessions.
-ghost use Rattle.std.specs.Prelude.{◌≡◌};
-ghost use Rattle.cat_threads.specs.service.Chores.{KeepsShares, chore_done};
+//! Calls that serve all sessions, and what they are answered.
+ghost use Rattle.std.specs.Prelude.{◌≡◌, ◌⊎◌};
+ghost use Rattle.cat_model.specs.Lines.{Said};
+ghost use Rattle.cat_model.specs.Run as run;
+ghost use Rattle.cat_model.specs.View.{segments_of};
+ghost use Rattle.cat_commands.specs.cat_cached_sets.filters.Known.{Remembers, RemembersBelow, FiltersRemember, FiltersRememberBelow};
+ghost use Rattle.cat_commands.specs.cat_ledger.Answering.{AnswersSaid};
+ghost use Rattle.cat_commands.specs.cat_ledger.Ledgers.{shape_in};
+ghost use Rattle.cat_commands.specs.cat_protocol.replies.Reply.{reply_of};
+ghost use Rattle.cat_threads.specs.service.Chores.{answer_told, chore_done, said_by};
 
 use cat_base::{Generation, Refusal, Text};
-use cat_directory::{Directory, FileName, Shelf};
-use cat_ledger::upkeep::MergeNews;
-use cat_ledger::{Ledger, Stat};
-use std::alloc::AllocError;
+use cat_commands::cat_cached_sets::filters::Filters;
+use cat_commands::cat_ledger::Ledger;
+use cat_commands::cat_protocol::replies::{Answer, News};
+use cat_commands::ledger as commands;
+use cat_directory::{Directory, Shelf};
+use std::alloc::Global;
 
-/// A call that serves all sessions.
+/// A call that serves all sessions: what session 0 may say in a line, which needs no right to a view.
 #[derive(Drop)]
 pub enum Chore {
-    /// A step of the merge that the policy picks: [`Ledger::merge_step`]. (Lucene: `IndexWriter.maybeMerge`.)
+    /// MERGE: a step of the merge that the policy picks. (Lucene: `IndexWriter.maybeMerge`.)
     Merge,
-    /// A merge of all segments is begun: [`Ledger::force`]. (Lucene: `IndexWriter.forceMerge(1)`.)
+    /// FORCE: a merge of all segments is begun. (Lucene: `IndexWriter.forceMerge(1)`.)
     Force,
-    /// The files go that nobody needs: [`Ledger::sweep`]. (Lucene: `IndexWriter.deleteUnusedFiles`.)
+    /// WARM: a step of the set that is made for the cache. (Lucene: `LRUQueryCache.cacheImpl`, in one go.)
+    Warm,
+    /// SWEEP: the files go that nobody needs. (Lucene: `IndexWriter.deleteUnusedFiles`.)
     Sweep,
-    /// How the ledger stands: [`Ledger::stat`]. (Lucene: `IndexWriter.getDocStats`.)
+    /// STAT: how the ledger stands. (Lucene: `IndexWriter.getDocStats`.)
     Stat,
-    /// A commit of now with this text: [`Ledger::commit`]. (Lucene: `IndexWriter.commit`.)
+    /// COMMIT: a commit of now with this text. (Lucene: `IndexWriter.commit`.)
     Commit(Text),
-    /// A snapshot of the newest commit: [`Ledger::snapshot`]. (Lucene: `SnapshotDeletionPolicy.snapshot`.)
+    /// NOTE: the text of this commit. (Lucene: `IndexCommit.getUserData`.)
+    Note(Generation),
+    /// SNAP: a snapshot of the newest commit. (Lucene: `SnapshotDeletionPolicy.snapshot`.)
     Snap,
-    /// A snapshot of this commit is given back: [`Ledger::unsnapshot`]. (Lucene: `SnapshotDeletionPolicy.release`.)
+    /// UNSNAP: a snapshot of this commit is given back. (Lucene: `SnapshotDeletionPolicy.release`.)
     Unsnap(Generation),
-    /// Views go that nobody holds, but so many of the newest: [`Ledger::prune`]. (Lucene: `SearcherLifetimeManager.prune`.)
+    /// PRUNE: views go that nobody holds, but so many of the newest. (Lucene: `SearcherLifetimeManager.prune`.)
     Prune(u64),
-    /// The files that this commit needs: [`Ledger::commit_files`]. (Lucene: `IndexCommit.getFileNames`.)
+    /// FILES of a commit: the names of the files that it needs. (Lucene: `IndexCommit.getFileNames`.)
     Files(Generation),
 }
 
-/// What a chore tells.
-#[derive(Drop)]
-pub enum News {
-    /// What a merge did, or a forced one.
-    Merged(MergeNews),
-    /// How many files went.
-    Swept(u64),
-    /// How the ledger stands.
-    State(Stat),
-    /// The generation of the commit that was made, or that a snapshot was taken of.
-    Generation(Generation),
-    /// How many snapshots the commit has left.
-    Left(u32),
-    /// How many views went.
-    Pruned(u64),
-    /// The names of the files, the commit's own first.
-    Files(Vec<FileName>),
-}
-
-/// A chore, and what it told, or why it was refused. [`Service::maintain`](crate::Service::maintain) alone makes one, and it
-/// can't be copied.
+/// A chore, and what it was answered. [`Service::maintain`](crate::Service::maintain) alone makes one, and it can't be copied, so
+/// who has it is sure that the chore was done.
 #[derive(Drop)]
 pub struct Outcome {
     chore: Chore,
-    news: Result<News, Refusal>,
+    answer: Result<Answer, Refusal>,
 }
 
 impl Outcome {
     /// What the chore was answered.
-    pub(crate) fn of(chore: Chore, news: Result<News, Refusal>) -> Outcome
-        ensures { chore_done result ≡ chore }
+    pub(crate) fn of(chore: Chore, answer: Result<Answer, Refusal>) -> Outcome
+        ensures chore { chore_done result ≡ chore }
+        ensures answer { answer_told result ≡ answer }
     {
-        Outcome { chore, news }
+        Outcome { chore, answer }
     }
 
     /// The chore.
@@ -73,116 +68,106 @@ impl Outcome {
         &self.chore
     }
 
+    /// What the line of the chore is answered, where session 0 says it: an answer, or the number of a refusal.
+    pub fn answer(&self) -> &Result<Answer, Refusal>
+        ensures { result.now ≡ answer_told self.now }
+    {
+        &self.answer
+    }
+
+    /// The answer alone, of which there is no copy.
+    pub fn into_answer(self) -> Result<Answer, Refusal>
+        ensures { result ≡ answer_told self }
+    {
+        self.answer
+    }
+
     /// Whether it says that a merge is done, whose segment stands in the place of those that it took.
     pub fn is_merged(&self) -> bool {
-        matches!(self.news, Ok(News::Merged(MergeNews::Done)))
+        matches!(self.answer, Ok(Answer::News(News::Done)))
     }
 
-    /// What it told, or the refusal of the ledger's call.
-    pub fn news(&self) -> &Result<News, Refusal> {
-        &self.news
-    }
-}
-
-fn merge<D: Directory + Shelf>(ledger: &mut Ledger<D>) -> Result<News, Refusal>
-    ensures { KeepsShares D.bytes ledger.old ledger.new }
-{
-    match ledger.merge_step() {
-        Ok(news) => Ok(News::Merged(news)),
-        Err(refusal) => Err(refusal),
+    /// Whether nothing was done: nothing was to be done, or it was refused.
+    pub fn is_idle(&self) -> bool {
+        matches!(self.answer, Ok(Answer::News(News::Idle)) | Err(_))
     }
 }
 
-fn force<D: Directory + Shelf>(ledger: &mut Ledger<D>) -> Result<News, Refusal>
-    ensures { KeepsShares D.bytes ledger.old ledger.new }
-{
-    match ledger.force() {
-        Ok(news) => Ok(News::Merged(news)),
-        Err(refusal) => Err(refusal),
-    }
-}
-
-fn sweep<D: Directory + Shelf>(ledger: &mut Ledger<D>) -> Result<News, Refusal>
-    ensures { KeepsShares D.bytes ledger.old ledger.new }
-{
-    match ledger.sweep() {
-        Ok(files) => Ok(News::Swept(files)),
-        Err(refusal) => Err(refusal),
-    }
-}
-
-fn commit<D: Directory + Shelf>(ledger: &mut Ledger<D>, text: &str) -> Result<News, Refusal>
-    ensures { KeepsShares D.bytes ledger.old ledger.new }
-{
-    match ledger.commit(text) {
-        Ok(generation) => Ok(News::Generation(generation)),
-        Err(refusal) => Err(refusal),
-    }
-}
-
-fn snap<D: Directory + Shelf>(ledger: &mut Ledger<D>) -> Result<News, Refusal>
-    ensures { KeepsShares D.bytes ledger.old ledger.new }
-{
-    match ledger.snapshot() {
-        Ok(generation) => Ok(News::Generation(generation)),
-        Err(refusal) => Err(refusal),
-    }
-}
-
-fn unsnap<D: Directory + Shelf>(
+/// A step of the merge that the policy picks.
+fn merge<D: Directory + Shelf>(
+    alloc: Global,
     ledger: &mut Ledger<D>,
-    generation: Generation,
-) -> Result<News, Refusal>
-    ensures { KeepsShares D.bytes ledger.old ledger.new }
+    filters: &mut Filters,
+) -> Result<Answer, Refusal>
+    ensures answers { AnswersSaid D.bytes 0 (Said.chore run.Chore.merge) ledger.old (reply_of result) ledger.new }
+    ensures known { Remembers filters.old filters.new }
+    ensures below { RemembersBelow filters.old filters.new }
 {
-    match ledger.unsnapshot(generation) {
-        Ok(left) => Ok(News::Left(left)),
-        Err(refusal) => Err(refusal),
-    }
+    commands::maintain(alloc, ledger, filters, 0, commands::Chore::Merge)
 }
 
-fn prune<D: Directory + Shelf>(ledger: &mut Ledger<D>, count: u64) -> Result<News, Refusal>
-    ensures { KeepsShares D.bytes ledger.old ledger.new }
-{
-    match ledger.prune(count) {
-        Ok(went) => Ok(News::Pruned(went)),
-        Err(AllocError) => Err(Refusal::Memory),
-    }
-}
-
-fn stat<D: Directory + Shelf>(ledger: &Ledger<D>) -> Result<News, Refusal> {
-    match ledger.stat() {
-        Ok(stat) => Ok(News::State(stat)),
-        Err(AllocError) => Err(Refusal::Memory),
-    }
-}
-
-fn files<D: Directory + Shelf>(
-    ledger: &Ledger<D>,
-    generation: Generation,
-) -> Result<News, Refusal> {
-    match ledger.commit_files(generation) {
-        Ok(names) => Ok(News::Files(names)),
-        Err(refusal) => Err(refusal),
-    }
-}
-
-/// Does the chore by the ledger's call for it.
-pub(crate) fn tell<D: Directory + Shelf>(
+/// A merge of all segments is begun.
+fn force<D: Directory + Shelf>(
+    alloc: Global,
     ledger: &mut Ledger<D>,
+    filters: &mut Filters,
+) -> Result<Answer, Refusal>
+    ensures answers { AnswersSaid D.bytes 0 (Said.chore run.Chore.force) ledger.old (reply_of result) ledger.new }
+    ensures known { Remembers filters.old filters.new }
+    ensures below { RemembersBelow filters.old filters.new }
+{
+    commands::maintain(alloc, ledger, filters, 0, commands::Chore::Force)
+}
+
+/// The files go that nobody needs.
+fn sweep<D: Directory + Shelf>(
+    alloc: Global,
+    ledger: &mut Ledger<D>,
+    filters: &mut Filters,
+) -> Result<Answer, Refusal>
+    ensures answers { AnswersSaid D.bytes 0 (Said.chore run.Chore.sweep) ledger.old (reply_of result) ledger.new }
+    ensures known { Remembers filters.old filters.new }
+    ensures below { RemembersBelow filters.old filters.new }
+{
+    commands::maintain(alloc, ledger, filters, 0, commands::Chore::Sweep)
+}
+
+/// How the ledger stands.
+fn stat<D: Directory + Shelf>(
+    alloc: Global,
+    ledger: &mut Ledger<D>,
+    filters: &mut Filters,
+) -> Result<Answer, Refusal>
+    ensures answers { AnswersSaid D.bytes 0 (Said.chore run.Chore.stat) ledger.old (reply_of result) ledger.new }
+    ensures known { Remembers filters.old filters.new }
+    ensures below { RemembersBelow filters.old filters.new }
+{
+    commands::maintain(alloc, ledger, filters, 0, commands::Chore::Stat)
+}
+
+/// Does the chore, by the call for the line that session 0 would say.
+pub(crate) fn answer<D: Directory + Shelf>(
+    alloc: Global,
+    ledger: &mut Ledger<D>,
+    filters: &mut Filters,
     chore: &Chore,
-) -> Result<News, Refusal>
-    ensures { KeepsShares D.bytes ledger.old ledger.new }
+) -> Result<Answer, Refusal>
+    ensures answers { AnswersSaid D.bytes 0 (said_by chore.now) ledger.old (reply_of result) ledger.new }
+    ensures sets { (Remembers filters.old filters.new × RemembersBelow filters.old filters.new)
+        ⊎ ((ledger.new ≡ ledger.old) × FiltersRemember (segments_of (shape_in ledger.old).leaves) filters.old filters.new
+        × FiltersRememberBelow (segments_of (shape_in ledger.old).leaves) filters.old filters.new) }
 {
     match chore {
-        Chore::Merge => merge(ledger),
-        Chore::Force => force(ledger),
-        Chore::Sweep => sweep(ledger),
-        Chore::Stat => stat(ledger),
-        Chore::Commit(text) => commit(ledger, text.as_str()),
-        Chore::Snap => snap(ledger),
-        Chore::Unsnap(generation) => unsnap(ledger, *generation),
-        Chore::Prune(count) => prune(ledger, *count),
-        Chore::Files(generation) => files(ledger, *generation),
+        Chore::Merge => merge(alloc, ledger, filters),
+        Chore::Force => force(alloc, ledger, filters),
+        Chore::Sweep => sweep(alloc, ledger, filters),
+        Chore::Stat => stat(alloc, ledger, filters),
+        Chore::Warm => commands::warm(ledger, filters, 0),
+        Chore::Commit(text) => commands::commit(ledger, text.as_str()),
+        Chore::Note(generation) => commands::text_of_commit(alloc, ledger, *generation),
+        Chore::Snap => commands::snapshot(ledger),
+        Chore::Unsnap(generation) => commands::release_snapshot(ledger, *generation),
+        Chore::Prune(count) => commands::prune(ledger, *count),
+        Chore::Files(generation) => commands::files_of_commit(ledger, *generation),
     }
 }

@@ -1,35 +1,40 @@
 //! What lies under the lock.
-ghost use Rattle.std.specs.Prelude.{◌≡◌, ◌≢◌, ◌⊎◌, ◌+◌, [], ◌∷◌, ◌++◌, length, IfOk, OnErr, OnOk, IfErr, None};
+ghost use Rattle.std.specs.Prelude.{◌≡◌, ◌≢◌, ◌⊎◌, ◌+◌, [], ◌∷◌, ◌++◌, length, option_map, IfOk, OnErr, OnOk, IfErr, Ok, None};
 ghost use Rattle.crossbeam_utils.specs.Seq.{cell_view};
-ghost use Rattle.cat_base.specs.declared.refusal.Refusal.TheVariants.{Device, Full, Gone, Kind, Memory, Spent};
-ghost use Rattle.cat_ledger.specs.Grants.{released_session, released_token};
-ghost use Rattle.cat_ledger.specs.Ledgers.{device_in, shape_in};
+ghost use Rattle.cat_base.specs.declared.refusal.Refusal.TheVariants.{Device, Full, Gone, Kind, Memory, NotHeld, Spent};
+ghost use Rattle.cat_model.specs.Answer.{HasNoLineFeed};
+ghost use Rattle.cat_commands.specs.cat_ledger_state.cat_views.Sources.{stored_length};
+ghost use Rattle.cat_commands.specs.cat_ledger.Grants.{released_session, released_token};
+ghost use Rattle.cat_commands.specs.cat_ledger.Ledgers.{device_in, shape_in};
 ghost use Rattle.cat_threads.specs.history.Entries.{entry};
 ghost use Rattle.cat_threads.specs.history.Rules.{NoStrangers, scribe as scribe_sight};
 ghost use Rattle.cat_threads.specs.service.Passes.{Ends, Follows, Granted, Idle, IfNew, Refreshed, Wrote};
 ghost use Rattle.cat_threads.specs.sharing.Grounds.{ground_of};
-ghost use Rattle.cat_threads.specs.sharing.ShareLaws.{IsHistoryOf};
+ghost use Rattle.cat_threads.specs.sharing.ShareLaws.{IsHistoryOf, IsOfGroundList};
 ghost use Rattle.cat_threads.specs.service.Begins.{IsJustOpened};
-ghost use Rattle.cat_threads.specs.service.Chores.{chore_done};
+ghost use Rattle.cat_threads.specs.service.Chores.{IsToldOver, chore_done};
 ghost use Rattle.cat_threads.specs.service.Writes.{PutsForeign, write_of};
 
 use crate::history::{self, Cell, Noting, Seat};
 use crate::running::Gate;
-use crate::service::chores::{Chore, Outcome, tell};
+use crate::service::chores::{Chore, Outcome};
+use crate::service::keeper::{Keeper, Noted};
 use crate::service::naming::Naming;
 use crate::service::pass::Pass;
-use crate::service::writes::{Write, accept};
+use crate::service::writes::Write;
 use cat_base::{Refusal, SessionNo, Token, WriteNo};
+use cat_commands::cat_cached_sets::Query;
+use cat_commands::cat_ledger::cat_ledger_state::Hold;
+use cat_commands::cat_ledger::{Grant, Ledger, Released};
+use cat_commands::cat_protocol::Prepared;
 use cat_directory::{Directory, Shelf};
-use cat_ledger::cat_ledger_state::Hold;
-use cat_ledger::{Grant, Ledger, Released};
 use std::marker::{Brand, Model, PhantomData};
 use std::sync::Wait;
 
-/// The ledger, with the pass that knows its whole list.
+/// The ledger with its cached sets, and the pass that knows its whole list.
 #[derive(Drop)]
 pub(crate) struct Desk<D: Directory + Shelf, J: Naming> {
-    ledger: Ledger<D>,
+    keeper: Keeper<D>,
     start: WriteNo,
     // The token of the newest view.
     newest: Token,
@@ -41,19 +46,19 @@ impl<D: Directory + Shelf, J: Naming> Model for Desk<D, J> {
     ghost use Rattle.std.specs.Prelude.{◌≡◌, ◌+◌};
     ghost use Rattle.std.specs.Coded.{codes};
     ghost use Rattle.crossbeam_utils.specs.Seq.{cell_view};
-    ghost use Rattle.cat_threads.specs.history.Coding.{plain_query_code};
-    ghost use Rattle.cat_ledger.specs.Ledgers.{device_in, shape_in};
+    ghost use Rattle.cat_commands.specs.cat_cached_sets.cache.Coding.{query_code};
+    ghost use Rattle.cat_commands.specs.cat_ledger.Ledgers.{device_in, shape_in};
     ghost use Rattle.cat_threads.specs.sharing.Grounds.{Shares};
     ghost use Rattle.cat_threads.specs.service.Passes.{Shared};
 
     ghost Value = { Shared };
 
-    ghost coded = { Prim.hlevel (codes, plain_query_code) };
+    ghost coded = { Prim.hlevel (codes, query_code) };
 
     ghost view = { λ d. record { list = (cell_view d.scribe).list; token = J.from.start.token + (cell_view d.scribe).token } };
 
     ghost invariant = { λ d. (d.scribe.table_id ≡ J.table) × (d.start ≡ J.from.start.token) × (d.newest ≡ J.from.start.token + (cell_view d.scribe).token)
-        × Shares (D.bytes (device_in d.ledger)) (shape_in d.ledger) J.from J.sessions (cell_view d.scribe) };
+        × Shares (D.bytes (device_in d.keeper)) (shape_in d.keeper) J.from J.sessions (cell_view d.scribe) };
 }
 
 impl<D: Directory + Shelf, J: Naming> Desk<D, J> {
@@ -102,7 +107,7 @@ impl<D: Directory + Shelf, J: Naming> Desk<D, J> {
         ensures refusal { IfErr result (λ e. (e ≡ Kind) ⊎ (e ≡ Memory) ⊎ (e ≡ Device) ⊎ (e ≡ Spent)) }
     {
         history::join(rt, cell, &mut self.scribe, &mut me.seat);
-        match accept(&mut self.ledger, write) {
+        match self.keeper.accept(write) {
             Ok(number) => {
                 let count = number - self.start;
                 let token = self.newest - self.start;
@@ -134,7 +139,7 @@ impl<D: Directory + Shelf, J: Naming> Desk<D, J> {
         ensures refusal { IfErr result (λ e. (e ≡ Full) ⊎ (e ≡ Memory) ⊎ (e ≡ Device) ⊎ (e ≡ Spent)) }
     {
         history::join(rt, cell, &mut self.scribe, &mut me.seat);
-        match self.ledger.refresh() {
+        match self.keeper.refresh() {
             Ok(token) => {
                 let relative = token - self.start;
                 history::record(rt, cell, &mut self.scribe, relative, relative);
@@ -168,7 +173,31 @@ impl<D: Directory + Shelf, J: Naming> Desk<D, J> {
     {
         let session = me.session;
         history::join(rt, cell, &mut self.scribe, &mut me.seat);
-        let result = self.ledger.acquire(session, token);
+        let result = self.keeper.acquire(session, token);
+        me.seat = history::part(cell, &mut self.scribe);
+        result
+    }
+
+    /// The query, made ready for the view that the caller's session has a right to under the token.
+    pub(crate) fn prepare<R: Wait>(
+        &mut self,
+        rt: &R,
+        cell: &Cell,
+        me: &mut Pass<J>,
+        token: Token,
+        query: Query,
+    ) -> Result<Prepared, Refusal>
+        requires { cell.now.table.shared.table_id ≡ J.table }
+        ensures told { (me.new.list ≡ self.new.list) × (me.new.token ≡ self.new.token) }
+        ensures same { (self.new.list ≡ self.old.list) × (self.new.token ≡ self.old.token) }
+        ensures seen { Follows me.old me.new }
+        ensures idle { Idle me.old me.new }
+        ensures query { IfOk result (λ p. p.query ≡ query) }
+        ensures shown { IfOk result (λ p. (p.view.token ≡ token) × IsOfGroundList J.from me.new.list p.view) }
+        ensures refusal { IfErr result (λ e. (e ≡ NotHeld) ⊎ (e ≡ Memory)) }
+    {
+        history::join(rt, cell, &mut self.scribe, &mut me.seat);
+        let result = self.keeper.prepare(me.session, token, query);
         me.seat = history::part(cell, &mut self.scribe);
         result
     }
@@ -180,16 +209,33 @@ impl<D: Directory + Shelf, J: Naming> Desk<D, J> {
         ensures right { OnOk result (hold.session ≡ session) }
         ensures back { IfErr result (λ h. h ≡ hold) }
     {
-        self.ledger.release(session, hold)
+        self.keeper.release(session, hold)
+    }
+
+    /// The text that the item of this id came as, in the held view.
+    pub(crate) fn source(&mut self, hold: &Hold, id: &str) -> Result<Option<Vec<u8>>, Refusal>
+        ensures same { self.new ≡ self.old }
+        ensures whole { IfOk result (λ found. option_map (λ bytes. length bytes.items) found ≡ stored_length hold.now.view id.now) }
+        ensures one_line { IfOk result (λ found. HasNoLineFeed (option_map (λ bytes. bytes.items) found)) }
+        ensures none { stored_length hold.now.view id.now ≡ None → result ≡ Ok None }
+    {
+        self.keeper.source(hold, id)
+    }
+
+    /// Notes that the query was asked.
+    pub(crate) fn note(&mut self, query: Query) -> Noted
+        ensures same { self.new ≡ self.old }
+    {
+        self.keeper.note(query)
     }
 
     /// Does a chore.
     pub(crate) fn maintain(&mut self, chore: Chore) -> Outcome
         ensures same { self.new ≡ self.old }
         ensures chore { chore_done result ≡ chore }
+        ensures answered { IsToldOver D.bytes J.from self.old.list result }
     {
-        let news = tell(&mut self.ledger, &chore);
-        Outcome::of(chore, news)
+        self.keeper.maintain(chore)
     }
 
     /// Does a chore, once the gate was told that the lock is held.
@@ -204,15 +250,15 @@ impl<D: Directory + Shelf, J: Naming> Desk<D, J> {
 
 impl<D: Directory + Shelf, J: Naming> Desk<D, J> {
     /// A ledger as it is opened, beside the scribe's pass.
-    pub(crate) fn new(ledger: Ledger<D>, scribe: Seat) -> Desk<D, J>
+    pub(crate) fn new(keeper: Keeper<D>, scribe: Seat) -> Desk<D, J>
         requires names { (scribe.table_id ≡ J.table) × (cell_view scribe ≡ scribe_sight [] 0 J.sessions []) }
-        requires ground { J.from ≡ ground_of (shape_in ledger) }
-        requires fresh { IsJustOpened (D.bytes (device_in ledger)) (shape_in ledger) }
+        requires ground { J.from ≡ ground_of (shape_in keeper) }
+        requires fresh { IsJustOpened (D.bytes (device_in keeper)) (shape_in keeper) }
         ensures { (result.list ≡ []) × (result.token ≡ J.from.start.token) }
     {
-        let start = ledger.count();
+        let start = keeper.count();
         Desk {
-            ledger,
+            keeper,
             start,
             newest: start,
             scribe,
@@ -238,13 +284,13 @@ impl<D: Directory + Shelf, J: Naming> Desk<D, J> {
         ensures others { NoStrangers J.sessions self.list }
     {
         let Desk {
-            ledger,
+            keeper,
             start: _,
             newest: _,
             mut scribe,
             of: _,
         } = self;
         history::look(rt, cell, &mut scribe);
-        ledger
+        keeper.into_ledger()
     }
 }

@@ -23,13 +23,13 @@ impl<J: Naming> Model for Pass<J> {
     ghost use Rattle.std.specs.Prelude.{◌≡◌, ◌+◌, [], ◌∷◌};
     ghost use Rattle.std.specs.Coded.{codes};
     ghost use Rattle.crossbeam_utils.specs.Seq.{cell_view};
-    ghost use Rattle.cat_threads.specs.history.Coding.{plain_query_code};
+    ghost use Rattle.cat_commands.specs.cat_cached_sets.cache.Coding.{query_code};
     ghost use Rattle.cat_threads.specs.history.Rules.{caller};
     ghost use Rattle.cat_threads.specs.service.Passes.{Seen};
 
     ghost Value = { Seen };
 
-    ghost coded = { Prim.hlevel (codes, plain_query_code) };
+    ghost coded = { Prim.hlevel (codes, query_code) };
 
     ghost view = { λ p. record { session = p.session; list = (cell_view p.seat).list; token = J.from.start.token + (cell_view p.seat).token } };
 

@@ -1,14 +1,18 @@
 //! The service: the ledger under a lock, beside the words that its callers share.
-ghost use Rattle.std.specs.Prelude.{◌≡◌, ◌≢◌, ◌⊎◌, IfOk, OnErr, OnOk, IfErr, None, [], map, true};
+ghost use Rattle.std.specs.Prelude.{◌≡◌, ◌≢◌, ◌⊎◌, List, IfOk, OnErr, OnOk, IfErr, Ok, None, [], length, map, option_map, true};
 ghost use Rattle.crossbeam_utils.specs.Seq.{cell_view};
-ghost use Rattle.cat_base.specs.declared.refusal.Refusal.TheVariants.{Device, Full, Gone, Kind, Memory, Spent};
-ghost use Rattle.cat_ledger.specs.Grants.{released_session, released_token};
-ghost use Rattle.cat_ledger.specs.Ledgers.{device_in, shape_in};
+ghost use Rattle.cat_base.specs.declared.refusal.Refusal.TheVariants.{Device, Full, Gone, Kind, Memory, NotHeld, Spent};
+ghost use Rattle.cat_model.specs.Answer.{HasNoLineFeed};
+ghost use Rattle.cat_commands.specs.cat_ledger_state.cat_views.Sources.{stored_length};
+ghost use Rattle.cat_commands.specs.cat_ledger.Grants.{released_session, released_token};
+ghost use Rattle.cat_commands.specs.cat_ledger.Ledgers.{device_in, shape_in};
 ghost use Rattle.cat_threads.specs.history.Rules.{Each, scribe as scribe_sight};
+ghost use Rattle.cat_threads.specs.history.Entries.{LogEntry};
 ghost use Rattle.cat_threads.specs.sharing.Grounds.{ground_of};
+ghost use Rattle.cat_threads.specs.sharing.ShareLaws.{IsOfGroundList};
 ghost use Rattle.cat_threads.specs.service.Begins.{OneHistory};
 ghost use Rattle.cat_threads.specs.service.Passes.{AreOne, Ends, Follows, Granted, Idle, IfNew, Refreshed, Wrote, all_different, newcomer, seated_by};
-ghost use Rattle.cat_threads.specs.service.Chores.{chore_done};
+ghost use Rattle.cat_threads.specs.service.Chores.{IsToldOver, chore_done};
 ghost use Rattle.cat_threads.specs.service.Writes.{PutsForeign, write_of};
 
 use crate::history::{self, Cell, Seat};
@@ -16,13 +20,16 @@ use crate::running::Gate;
 use crate::service::begun::Begun;
 use crate::service::chores::{Chore, Outcome};
 use crate::service::desk::Desk;
+use crate::service::keeper::{Keeper, Noted};
 use crate::service::naming::Naming;
 use crate::service::pass::Pass;
 use crate::service::writes::Write;
 use cat_base::{Refusal, SessionNo, Token, WriteNo};
+use cat_commands::cat_cached_sets::Query;
+use cat_commands::cat_ledger::cat_ledger_state::Hold;
+use cat_commands::cat_ledger::{Grant, Ledger, Released};
+use cat_commands::cat_protocol::Prepared;
 use cat_directory::{Directory, Shelf};
-use cat_ledger::cat_ledger_state::Hold;
-use cat_ledger::{Grant, Ledger, Released};
 use std::alloc::{AllocError, Global};
 use std::sync::{Mutex, Wait};
 
@@ -88,6 +95,46 @@ impl<D: Directory + Shelf, J: Naming> Service<D, J> {
         self.desk.lock(rt).open(rt, &self.cell, me, token)
     }
 
+    /// The query, made ready for the view that the caller's session has a right to under the token, with the sets of rows that
+    /// are cached for it. It shows the table of the list at the token; what is asked of it needs no lock. (Lucene: an
+    /// `IndexSearcher` of the reader that is held, with its `LRUQueryCache`.)
+    ///
+    /// [`Refusal::NotHeld`] where the session doesn't hold the token; else [`Refusal::Memory`].
+    pub fn prepare<R: Wait>(
+        &self,
+        rt: &R,
+        me: &mut Pass<J>,
+        token: Token,
+        query: Query,
+    ) -> Result<Prepared, Refusal>
+        ensures seen { Follows me.old me.new }
+        ensures idle { Idle me.old me.new }
+        ensures query { IfOk result (λ p. p.query ≡ query) }
+        ensures shown { IfOk result (λ p. (p.view.token ≡ token) × IsOfGroundList J.from me.new.list p.view) }
+        ensures refusal { IfErr result (λ e. (e ≡ NotHeld) ⊎ (e ≡ Memory)) }
+    {
+        self.desk.lock(rt).prepare(rt, &self.cell, me, token, query)
+    }
+
+    /// The text that the item of this id came as, in the held view; none where no live row has the id. It is read from the
+    /// ledger's own directory, so it needs the lock: a session with a shelf of its own asks [`Hold::get`], which needs none.
+    /// (Lucene: `StoredFields.document`.)
+    ///
+    /// The refusals are those of [`Ledger::source`].
+    pub fn source<R: Wait>(&self, rt: &R, hold: &Hold, id: &str) -> Result<Option<Vec<u8>>, Refusal>
+        ensures whole { IfOk result (λ found. option_map (λ bytes. length bytes.items) found ≡ stored_length hold.now.view id.now) }
+        ensures one_line { IfOk result (λ found. HasNoLineFeed (option_map (λ bytes. bytes.items) found)) }
+        ensures none { stored_length hold.now.view id.now ≡ None → result ≡ Ok None }
+    {
+        self.desk.lock(rt).source(hold, id)
+    }
+
+    /// Notes that the query was asked, so that a [`warmer`](crate::running::warmer) makes sets for it. It takes no memory:
+    /// [`Prepared::into_query`] gives a query back once its answer is made. (Lucene: `UsageTrackingQueryCachingPolicy.onUse`.)
+    pub fn note_query<R: Wait>(&self, rt: &R, query: Query) -> Noted {
+        self.desk.lock(rt).note(query)
+    }
+
     /// Ends the right, after which its view may go. One that is another session's, or that the ledger doesn't count, is handed
     /// back. (Lucene: `SearcherLifetimeManager.release`.)
     pub fn close<R: Wait>(&self, rt: &R, me: &Pass<J>, hold: Hold) -> Result<Released, Hold>
@@ -98,10 +145,11 @@ impl<D: Directory + Shelf, J: Naming> Service<D, J> {
         self.desk.lock(rt).close(me.session, hold)
     }
 
-    /// Does a chore, which leaves the list and what callers have seen of it as they are. The outcome has the chore, and what
-    /// the ledger's call told.
+    /// Does a chore, which leaves the list and what callers have seen of it as they are. The outcome has the chore, and what a
+    /// ledger with some list's writes answers to its line, where session 0 says it.
     pub fn maintain<R: Wait>(&self, rt: &R, chore: Chore) -> Outcome
-        ensures { chore_done result ≡ chore }
+        ensures chore { chore_done result ≡ chore }
+        ensures answered { (list : List LogEntry) × IsToldOver D.bytes J.from list result }
     {
         self.desk.lock(rt).maintain(chore)
     }
@@ -148,7 +196,11 @@ impl<D: Directory + Shelf, J: Naming> Service<D, J> {
         let Ok(passes) = seats(alloc, &cell, &mut scribe, sessions) else {
             return Err(ledger);
         };
-        let desk = Mutex::new(Desk::new(ledger, scribe));
+        let keeper = match Keeper::new(alloc, ledger) {
+            Ok(keeper) => keeper,
+            Err(ledger) => return Err(ledger),
+        };
+        let desk = Mutex::new(Desk::new(keeper, scribe));
         Ok((Service { cell, desk }, passes))
     }
 

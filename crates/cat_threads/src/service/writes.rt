@@ -1,17 +1,17 @@
 //! Writes, and what a ledger makes of one.
 ghost use Rattle.std.specs.Prelude.{◌≡◌, ◌⊎◌, ℕ, ◌+◌, IfOk, IfErr, OnErr, Err};
 ghost use Rattle.cat_base.specs.declared.refusal.Refusal.TheVariants.{Device, Kind, Memory, Spent};
-ghost use Rattle.cat_ledger.specs.Answering.{AnswersCommand};
-ghost use Rattle.cat_ledger.specs.Ledgers.{shape_in};
+ghost use Rattle.cat_commands.specs.cat_ledger.Answering.{AnswersCommand};
+ghost use Rattle.cat_commands.specs.cat_ledger.Ledgers.{shape_in};
 ghost use Rattle.cat_ledger_laws.specs.lines.LineLaws.{tells};
 ghost use Rattle.cat_ledger_laws.specs.lines.RefusalLaws.{command_of};
 ghost use Rattle.cat_threads.specs.service.Writes.{PutsForeign, write_of};
 
 use cat_base::{Refusal, Text, WriteNo};
+use cat_commands::cat_ledger::Ledger;
+use cat_commands::cat_ledger::cat_ledger_state::Query;
 use cat_directory::{Directory, Shelf};
 use cat_items::Item;
-use cat_ledger::Ledger;
-use cat_ledger::cat_ledger_state::Query;
 
 /// A write. (Lucene: what `IndexWriter.updateDocument` and `deleteDocuments` are given.)
 #[derive(Drop)]

@@ -10,8 +10,8 @@ use cat_items::Schema;
 use cat_live_table::Query;
 use cat_live_table::current::Current;
 use cat_search_tests::views::{Put, PutText, read_puts, segment_of};
-use cat_segment::Live;
 use cat_views::Leaf;
+use cat_views::cat_segment::Live;
 use std::alloc::Global;
 use std::sync::Arc;
 

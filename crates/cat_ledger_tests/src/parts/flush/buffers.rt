@@ -6,7 +6,7 @@ use cat_base::{Refusal, SegNo, WriteNo};
 use cat_items::Schema;
 use cat_live_table::Query;
 use cat_live_table::buffer::{Buffer, Sealed};
-use cat_segment::Segment;
+use cat_views::cat_segment::Segment;
 use std::alloc::{AllocError, Global};
 use std::fmt::Write;
 use std::test::Fail;

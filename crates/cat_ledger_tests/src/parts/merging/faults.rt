@@ -12,8 +12,8 @@ use crate::verdict::expect_yes;
 use cat_base::Refusal;
 use cat_directory::{Directory, Faults, Faulty, FileName, Holder, MemoryDirectory, Shelf};
 use cat_search_tests::views::Put;
-use cat_segment::Segment;
 use cat_views::View;
+use cat_views::cat_segment::Segment;
 use std::alloc::Global;
 use std::test::Fail;
 

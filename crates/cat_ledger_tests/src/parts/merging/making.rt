@@ -7,7 +7,7 @@ ghost use Rattle.cat_model.specs.Merged.{AreDeletedFrom, LessLive, rows_of_all};
 use cat_base::{MAX_ROWS, Refusal, SegNo, WriteNo};
 use cat_items::Schema;
 use cat_search_tests::views::{Put, are_in_order, read_put, segment_of, view_of};
-use cat_segment::Segment;
+use cat_views::cat_segment::Segment;
 use cat_views::{Leaf, View};
 use std::alloc::{AllocError, Global};
 

@@ -9,7 +9,7 @@ use cat_base::Refusal;
 use cat_directory::{FileName, MemoryDirectory};
 use cat_merge::files::MergeInMaking;
 use cat_search_tests::views::Put;
-use cat_segment::{Segment, encode_seg};
+use cat_views::cat_segment::{Segment, encode_seg};
 use cat_views::{Leaf, View};
 use std::alloc::{AllocError, Global};
 use std::test::Fail;

@@ -6,7 +6,7 @@ use crate::parts::merging::making::{Every, fit_one, later_leaves};
 use cat_base::{Refusal, SegNo};
 use cat_directory::{Directory, Shelf};
 use cat_merge::files::{MergeInMaking, write_segment};
-use cat_segment::Segment;
+use cat_views::cat_segment::Segment;
 use cat_views::{Leaf, View};
 use std::alloc::Global;
 

@@ -2,9 +2,9 @@ use Rattle.std.proofs.Common.{◌≡◌, ℕ, sym, subst}
 use Rattle.std.specs.Prelude.{IfOk, IfErr}
 use Rattle.cat_base.specs.declared.refusal.Refusal.TheVariants.{Kind}
 use Rattle.cat_model.specs.Write as model
-use Rattle.cat_ledger.specs.cat_ledger_state.cat_query.View.{query_of}
-use Rattle.cat_ledger.specs.Answering.{AnswersCommand}
-use Rattle.cat_ledger.specs.Ledgers.{shape_in}
+use Rattle.cat_commands.specs.cat_ledger.cat_ledger_state.cat_query.View.{query_of}
+use Rattle.cat_commands.specs.cat_ledger.Answering.{AnswersCommand}
+use Rattle.cat_commands.specs.cat_ledger.Ledgers.{shape_in}
 use Rattle.cat_ledger_laws.specs.lines.LineLaws.{tells}
 use Rattle.cat_ledger_laws.specs.lines.RefusalLaws.{command_of}
 use Rattle.cat_threads.specs.service.Writes.{PutsForeign, write_of}

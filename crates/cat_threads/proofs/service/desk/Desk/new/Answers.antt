@@ -1,7 +1,7 @@
 use Rattle.std.proofs.Common.{◌≡◌, ◌+◌, length, sym, subst, ap, ◌∙◌, arith}
 use Rattle.crossbeam_utils.specs.Seq.{cell_view}
 use Rattle.cat_threads.specs.history.Rules.{Sight}
-use Rattle.cat_ledger.specs.Ledgers.{device_in, shape_in}
+use Rattle.cat_commands.specs.cat_ledger.Ledgers.{device_in, shape_in}
 use Rattle.cat_threads.specs.sharing.Grounds.{Ground, Shares}
 use Rattle.cat_threads.proofs.sharing.Sharing.{counts_share, fresh_share}
 use Rattle.cat_threads.proofs.service.desk.Desk.new.Goals as goal
@@ -9,7 +9,7 @@ use Rattle.cat_threads.proofs.service.desk.Desk.new.Goals as goal
 pub invariant_of-result : goal.invariant_of-result
 invariant_of-result g c =
     let n = c.requires.names in
-    let l = c.args.ledger in
+    let l = c.args.keeper in
     let told = g.D.Holder.bytes (device_in l) in
     let b = c.requires.fresh in
     let v = cell_view c.args.scribe in

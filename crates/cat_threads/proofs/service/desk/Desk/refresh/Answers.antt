@@ -1,7 +1,7 @@
 use Rattle.std.proofs.Common.{◌≡◌, ℕ, ◌+◌, ◌-◌, ◌≤◌, [], length, sym, ap, ◌∙◌, arith}
 use Rattle.crossbeam_utils.specs.Seq.{cell_view}
 use Rattle.cat_threads.specs.history.Rules.{Sight, scribe}
-use Rattle.cat_ledger.specs.Ledgers.{device_in, shape_in}
+use Rattle.cat_commands.specs.cat_ledger.Ledgers.{device_in, shape_in}
 use Rattle.cat_threads.proofs.sharing.Sharing.{counts_share, newest_share}
 use Rattle.cat_threads.proofs.service.Answering.{refresh_left, refreshed}
 use Rattle.cat_threads.proofs.service.Passed.{follows_told}
@@ -11,7 +11,7 @@ use Rattle.cat_threads.proofs.service.desk.Desk.refresh.Goals as goal
 pub record-requires-clause-words : goal.record-requires-clause-words
 record-requires-clause-words g c =
     let i = c.self.invariant in
-    let old = c.self.inside.ledger in
+    let old = c.self.inside.keeper in
     let v = cell_view c.self.inside.scribe in
     let told = g.D.Holder.bytes (device_in old) in
     let j = c.join.ensures.desk in
@@ -32,7 +32,7 @@ invariant_of-self g c =
     let p = c.part.ensures.desk in
     let v = cell_view c.self.inside.scribe in
     let w = cell_view c.part.new.desk in
-    let old = c.self.inside.ledger in
+    let old = c.self.inside.keeper in
     let new = c.refresh.new.self in
     let bytes = g.D.Holder.bytes in
     let from = g.J.Naming.from in
@@ -65,7 +65,7 @@ invariant_of-self-in-Err g c =
       p.0 ∙ (j.0 ∙ i.0),
       i.1,
       i.2 ∙ ap (λ (k : ℕ). from.start.token + k) (sym (ap (λ (x : Sight). x.token) is)),
-      refresh_left g.D.Holder.bytes c.self.inside.ledger c.refresh.new.self from sessions v w c.args.me.now.session a c.in-Err.ensures.err is,
+      refresh_left g.D.Holder.bytes c.self.inside.keeper c.refresh.new.self from sessions v w c.args.me.now.session a c.in-Err.ensures.err is,
     )
 
 pub returns-in-Ok-clause-seen : goal.returns-in-Ok-clause-seen
@@ -74,7 +74,7 @@ returns-in-Ok-clause-seen g c =
     let n = c.record.ensures in
     let p = c.part.ensures.mine in
     let v = cell_view c.self.inside.scribe in
-    let old = c.self.inside.ledger in
+    let old = c.self.inside.keeper in
     let i = c.self.invariant in
     let told = g.D.Holder.bytes (device_in old) in
     let all = counts_share told (shape_in old) g.J.Naming.from g.J.Naming.sessions v i.3 in

@@ -4,7 +4,7 @@ use Rattle.crossbeam_utils.specs.Seq.{cell_view}
 use Rattle.cat_base.specs.declared.refusal.Refusal.TheVariants.{Memory}
 use Rattle.cat_threads.specs.history.Entries.{LogEntry, entry, has_session}
 use Rattle.cat_threads.specs.history.Rules.{Sight, scribe}
-use Rattle.cat_ledger.specs.Ledgers.{device_in, policy_in, shape_in}
+use Rattle.cat_commands.specs.cat_ledger.Ledgers.{device_in, policy_in, shape_in}
 use Rattle.cat_ledger_laws.specs.lines.RefusalLaws.{command_of}
 use Rattle.cat_threads.proofs.sharing.Sharing.{counts_share, noted_share, still_share}
 use Rattle.cat_threads.specs.service.Passes.{Seen}
@@ -23,8 +23,8 @@ invariant_of-self g c =
     let p = c.part.ensures.desk in
     let v = cell_view c.self.inside.scribe in
     let w = cell_view c.part.new.desk in
-    let old = c.self.inside.ledger in
-    let new = c.accept.new.ledger in
+    let old = c.self.inside.keeper in
+    let new = c.accept.new.self in
     let bytes = g.D.Holder.bytes in
     let from = g.J.Naming.from in
     let sessions = g.J.Naming.sessions in
@@ -48,8 +48,8 @@ invariant_of-self-in-Err g c =
     let p = c.part-in-Err.ensures.desk in
     let v = cell_view c.self.inside.scribe in
     let w = cell_view c.part-in-Err.new.desk in
-    let old = c.self.inside.ledger in
-    let new = c.accept.new.ledger in
+    let old = c.self.inside.keeper in
+    let new = c.accept.new.self in
     let bytes = g.D.Holder.bytes in
     let from = g.J.Naming.from in
     let sessions = g.J.Naming.sessions in
@@ -80,7 +80,7 @@ returns-in-Ok-clause-wrote g c =
     let start = g.J.Naming.from.start.token in
     let session = c.me.inside.session in
     let write = write_of c.args.write in
-    let old = c.self.inside.ledger in
+    let old = c.self.inside.keeper in
     let v = cell_view c.self.inside.scribe in
     let joined = cell_view c.join.new.desk in
     let named : g.W.Noting.entry ≡ entry session write = c.requires.named ∙ ap (λ (s : ℕ). entry s write) (sym (ap (λ (x : Seen). x.session) c.me.view_is)) in
@@ -94,6 +94,6 @@ returns-in-Ok-clause-wrote g c =
 
 pub returns-in-Err-clause-kind : goal.returns-in-Err-clause-kind
 returns-in-Err-clause-kind g c =
-    let old = c.self.inside.ledger in
+    let old = c.self.inside.keeper in
     let same = fields_share (g.D.Holder.bytes (device_in old)) (shape_in old) g.J.Naming.from g.J.Naming.sessions (cell_view c.self.inside.scribe) c.self.invariant.3 in
     λ is. subst (λ s. PutsForeign s (write_of c.args.write)) same (c.in-Err.ensures.kind is)

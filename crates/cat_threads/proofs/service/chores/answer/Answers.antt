@@ -1,0 +1,83 @@
+use Rattle.std.proofs.Common.{refl, sym, subst, inl, inr}
+use Rattle.cat_model.specs.Lines.{Said}
+use Rattle.cat_commands.specs.cat_ledger.Answering.{AnswersSaid}
+use Rattle.cat_commands.specs.cat_protocol.replies.Reply.{reply_of}
+use Rattle.cat_threads.specs.service.Chores.{said_by}
+use Rattle.cat_threads.proofs.service.chores.answer.Goals as goal
+
+pub returns-in-Merge-clause-answers : goal.returns-in-Merge-clause-answers
+returns-in-Merge-clause-answers g c =
+    subst (λ k. AnswersSaid g.D.Holder.bytes 0 (said_by k) c.args.ledger.now (reply_of c.merge.result) c.merge.new.ledger) (sym c.in-Merge.is) c.merge.ensures.answers
+
+pub returns-in-Merge-clause-sets : goal.returns-in-Merge-clause-sets
+returns-in-Merge-clause-sets g c = inl (c.merge.ensures.known, c.merge.ensures.below)
+
+pub returns-in-Force-clause-answers : goal.returns-in-Force-clause-answers
+returns-in-Force-clause-answers g c =
+    subst (λ k. AnswersSaid g.D.Holder.bytes 0 (said_by k) c.args.ledger.now (reply_of c.force.result) c.force.new.ledger) (sym c.in-Force.is) c.force.ensures.answers
+
+pub returns-in-Force-clause-sets : goal.returns-in-Force-clause-sets
+returns-in-Force-clause-sets g c = inl (c.force.ensures.known, c.force.ensures.below)
+
+pub returns-in-Sweep-clause-answers : goal.returns-in-Sweep-clause-answers
+returns-in-Sweep-clause-answers g c =
+    subst (λ k. AnswersSaid g.D.Holder.bytes 0 (said_by k) c.args.ledger.now (reply_of c.sweep.result) c.sweep.new.ledger) (sym c.in-Sweep.is) c.sweep.ensures.answers
+
+pub returns-in-Sweep-clause-sets : goal.returns-in-Sweep-clause-sets
+returns-in-Sweep-clause-sets g c = inl (c.sweep.ensures.known, c.sweep.ensures.below)
+
+pub returns-in-Stat-clause-answers : goal.returns-in-Stat-clause-answers
+returns-in-Stat-clause-answers g c =
+    subst (λ k. AnswersSaid g.D.Holder.bytes 0 (said_by k) c.args.ledger.now (reply_of c.stat.result) c.stat.new.ledger) (sym c.in-Stat.is) c.stat.ensures.answers
+
+pub returns-in-Stat-clause-sets : goal.returns-in-Stat-clause-sets
+returns-in-Stat-clause-sets g c = inl (c.stat.ensures.known, c.stat.ensures.below)
+
+pub returns-in-Warm-clause-answers : goal.returns-in-Warm-clause-answers
+returns-in-Warm-clause-answers g c =
+    subst (λ k. AnswersSaid g.D.Holder.bytes 0 (said_by k) c.args.ledger.now (reply_of c.warm.result) c.args.ledger.now) (sym c.in-Warm.is) c.warm.ensures.answers
+
+pub returns-in-Warm-clause-sets : goal.returns-in-Warm-clause-sets
+returns-in-Warm-clause-sets g c = inr (refl, c.warm.ensures.known, c.warm.ensures.below)
+
+pub returns-in-Commit-clause-answers : goal.returns-in-Commit-clause-answers
+returns-in-Commit-clause-answers g c =
+    subst (λ k. AnswersSaid g.D.Holder.bytes 0 (said_by k) c.args.ledger.now (reply_of c.commit.result) c.commit.new.ledger) (sym c.in-Commit.is) (subst (λ t. AnswersSaid g.D.Holder.bytes 0 (Said.commit t) c.args.ledger.now (reply_of c.commit.result) c.commit.new.ledger) c.as_str.ensures (c.commit.ensures.answers 0))
+
+pub returns-in-Commit-clause-sets : goal.returns-in-Commit-clause-sets
+returns-in-Commit-clause-sets g c = inl (λ s k. k, λ n b. b)
+
+pub returns-in-Note-clause-answers : goal.returns-in-Note-clause-answers
+returns-in-Note-clause-answers g c =
+    subst (λ k. AnswersSaid g.D.Holder.bytes 0 (said_by k) c.args.ledger.now (reply_of c.text_of_commit.result) c.args.ledger.now) (sym c.in-Note.is) (c.text_of_commit.ensures.answers 0)
+
+pub returns-in-Note-clause-sets : goal.returns-in-Note-clause-sets
+returns-in-Note-clause-sets g c = inl (λ s k. k, λ n b. b)
+
+pub returns-in-Snap-clause-answers : goal.returns-in-Snap-clause-answers
+returns-in-Snap-clause-answers g c =
+    subst (λ k. AnswersSaid g.D.Holder.bytes 0 (said_by k) c.args.ledger.now (reply_of c.snapshot.result) c.snapshot.new.ledger) (sym c.in-Snap.is) (c.snapshot.ensures.answers 0)
+
+pub returns-in-Snap-clause-sets : goal.returns-in-Snap-clause-sets
+returns-in-Snap-clause-sets g c = inl (λ s k. k, λ n b. b)
+
+pub returns-in-Unsnap-clause-answers : goal.returns-in-Unsnap-clause-answers
+returns-in-Unsnap-clause-answers g c =
+    subst (λ k. AnswersSaid g.D.Holder.bytes 0 (said_by k) c.args.ledger.now (reply_of c.release_snapshot.result) c.release_snapshot.new.ledger) (sym c.in-Unsnap.is) (c.release_snapshot.ensures.answers 0)
+
+pub returns-in-Unsnap-clause-sets : goal.returns-in-Unsnap-clause-sets
+returns-in-Unsnap-clause-sets g c = inl (λ s k. k, λ n b. b)
+
+pub returns-in-Prune-clause-answers : goal.returns-in-Prune-clause-answers
+returns-in-Prune-clause-answers g c =
+    subst (λ k. AnswersSaid g.D.Holder.bytes 0 (said_by k) c.args.ledger.now (reply_of c.prune.result) c.prune.new.ledger) (sym c.in-Prune.is) (c.prune.ensures.answers 0)
+
+pub returns-in-Prune-clause-sets : goal.returns-in-Prune-clause-sets
+returns-in-Prune-clause-sets g c = inl (λ s k. k, λ n b. b)
+
+pub returns-in-Files-clause-answers : goal.returns-in-Files-clause-answers
+returns-in-Files-clause-answers g c =
+    subst (λ k. AnswersSaid g.D.Holder.bytes 0 (said_by k) c.args.ledger.now (reply_of c.files_of_commit.result) c.args.ledger.now) (sym c.in-Files.is) (c.files_of_commit.ensures.answers 0)
+
+pub returns-in-Files-clause-sets : goal.returns-in-Files-clause-sets
+returns-in-Files-clause-sets g c = inl (λ s k. k, λ n b. b)

@@ -1,0 +1,33 @@
+use Rattle.std.proofs.Common.{◌≡◌, ℕ, ◌+◌, [], sym, ap, ◌∙◌}
+use Rattle.crossbeam_utils.specs.Seq.{cell_view}
+use Rattle.cat_threads.specs.history.Rules.{Sight, scribe}
+use Rattle.cat_commands.specs.cat_ledger.Ledgers.{device_in, shape_in}
+use Rattle.cat_threads.proofs.service.Answering.{unchanged}
+use Rattle.cat_threads.proofs.service.Granting.{apart_again, prepared_all}
+use Rattle.cat_threads.proofs.service.desk.Desk.prepare.Goals as goal
+
+pub invariant_of-self : goal.invariant_of-self
+invariant_of-self g c =
+    let i = c.self.invariant in
+    let a = i.3 in
+    let j = c.join.ensures.desk in
+    let p = c.part.ensures.desk in
+    let v = cell_view c.self.inside.scribe in
+    let w = cell_view c.part.new.desk in
+    let from = g.J.Naming.from in
+    let sessions = g.J.Naming.sessions in
+    let is : w ≡ scribe v.list v.token sessions [] =
+    apart_again v (cell_view c.join.new.desk) w sessions (cell_view c.me.inside.seat).own a.agrees.whole j.1 p.1 in (
+      p.0 ∙ (j.0 ∙ i.0),
+      i.1,
+      i.2 ∙ ap (λ (k : ℕ). from.start.token + k) (sym (ap (λ (x : Sight). x.token) is)),
+      unchanged g.D.Holder.bytes c.self.inside.keeper c.prepare-result.new.self from sessions v w a c.prepare-result.ensures.same is,
+    )
+
+pub returns-clause-shown : goal.returns-clause-shown
+returns-clause-shown g c =
+    let j = c.join.ensures in
+    let p = c.part.ensures.mine in
+    let old = c.self.inside.keeper in
+    prepared_all (g.D.Holder.bytes (device_in old)) (shape_in old) g.J.Naming.from g.J.Naming.sessions (cell_view c.self.inside.scribe) (cell_view c.part.result) c.args.token
+    c.prepare-result.result c.self.invariant.3 (ap (λ (x : Sight). x.list) p.1 ∙ ap (λ (x : Sight). x.list) j.desk.1) c.prepare-result.ensures.view
