@@ -287,6 +287,12 @@ class Ends(support.FileTest):
         return server
 
     def kept(self):
+        """The ids that the folder has. A program that was killed lets go of it once the system has ended it."""
+        for _ in range(100):
+            try:
+                return sorted(item["id"] for item in self.items())
+            except jasminedome.FolderInUse:
+                time.sleep(0.05)
         return sorted(item["id"] for item in self.items())
 
     def test_a_told_end_commits_and_a_kill_keeps_what_was_committed(self):
