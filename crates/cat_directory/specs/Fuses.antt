@@ -1,7 +1,7 @@
 -- When a device that fails where it is told to fails.
 use Rattle.std.specs.Prelude.{◌≡◌, ℕ, zero, Result, Err}
-use Rattle.cat_base.specs.declared.refusal.Refusal.{Refusal}
-use Rattle.cat_base.specs.declared.refusal.Refusal.TheVariants.{Device}
+use Rattle.cat_model.specs.cat_base.declared.refusal.Refusal.{Refusal}
+use Rattle.cat_model.specs.cat_base.declared.refusal.Refusal.TheVariants.{Device}
 use Rattle.cat_directory.specs.declared.faulty.Faults.{Faults}
 use Rattle.cat_directory.specs.declared.faulty.Faults.TheVariants as faults
 use Rattle.cat_directory.specs.Devices.{CountsOne}

@@ -1,11 +1,11 @@
 //! A device around another, which fails where it is told to: by it is tested what a failure leaves, and a crash.
 ghost use Rattle.std.specs.Prelude.{◌≡◌, ◌-◌, ◌↔◌, IfErr, IsErr};
-ghost use Rattle.cat_base.specs.declared.refusal.Refusal.TheVariants.{Device};
+ghost use Rattle.cat_model.specs.cat_base.declared.refusal.Refusal.TheVariants.{Device};
 ghost use Rattle.cat_directory.specs.Devices.{CountsWriting};
 ghost use Rattle.cat_directory.specs.Fuses.{IsArmed, IsFaultDue, Notes};
 
 use crate::{Directory, FileName, Holder, Shelf};
-use cat_base::Refusal;
+use cat_model::cat_base::Refusal;
 use std::alloc::Global;
 
 /// Which calls of a [`Faulty`] device fail.

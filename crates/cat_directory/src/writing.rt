@@ -1,12 +1,12 @@
 //! Whole files, written: so that they are there, or so that they last.
 ghost use Rattle.std.specs.Prelude.{◌≡◌, ◌≢◌, ◌⊎◌, Some, None, OnOk, IfErr};
-ghost use Rattle.cat_base.specs.declared.refusal.Refusal.TheVariants.{Memory, Device};
+ghost use Rattle.cat_model.specs.cat_base.declared.refusal.Refusal.TheVariants.{Memory, Device};
 ghost use Rattle.cat_model.specs.Files.{IsFileName};
 ghost use Rattle.cat_directory.specs.Names.{name_of};
 ghost use Rattle.cat_directory.specs.Devices.{CountsWriting, IsSettled, NoMore, emptied, told_after, file_written};
 
 use crate::{Directory, FileName};
-use cat_base::Refusal;
+use cat_model::cat_base::Refusal;
 use std::alloc::Global;
 
 /// Makes the file of the name, with these bytes, also where it was there. (Lucene: `Directory.createOutput` and what is

@@ -52,3 +52,5 @@ pub mod Laws
 pub mod TalkSample
 pub mod ViewLaws
 pub mod SegmentLaws
+-- ---- The specifications below, for crates that stand on this one alone.
+pub use Rattle.cat_base.specs as cat_base

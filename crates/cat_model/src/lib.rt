@@ -10,6 +10,8 @@ ghost use Rattle.cat_model.specs.ViewLaws.{SourcesAreShown};
 ghost use Rattle.cat_model.specs.SegmentLaws.{CommitsAreToldByTheirBytes, LevelsAreOne, WindowsAreOne, MergedShowTheEnd, KeptAreSourced, OrdinalMapsAreOne};
 ghost use Rattle.cat_model.specs.RankLaws.{RanksFollowOrder, AddedStandFirst, SortsOrderRecords};
 
+pub use cat_base;
+
 /// One more write makes of the table the table after it: the item of its id goes, and an item that
 /// is put comes last.
 ///

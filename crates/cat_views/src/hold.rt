@@ -1,6 +1,6 @@
 //! A session's right to a view.
 ghost use Rattle.std.specs.Prelude.{◌≡◌, ℕ, List, length, map, option_map, Ok, None, IfOk, IfErr};
-ghost use Rattle.cat_base.specs.declared.refusal.Refusal.TheVariants.{Damaged, Device, Memory};
+ghost use Rattle.cat_model.specs.cat_base.declared.refusal.Refusal.TheVariants.{Damaged, Device, Memory};
 ghost use Rattle.cat_model.specs.Answer.{HasNoLineFeed, stored};
 ghost use Rattle.cat_model.specs.View.{needs, records_in};
 ghost use Rattle.cat_directory.specs.Devices.{CountsReading, NoMore};
@@ -8,8 +8,8 @@ ghost use Rattle.cat_directory.specs.Names.{name_of};
 ghost use Rattle.cat_views.specs.Sources.{HoldsSource, MayReachSource, TellsSource, stored_length};
 
 use crate::view::View;
-use cat_base::{Refusal, SessionNo, Token};
 use cat_directory::{FileName, Shelf};
+use cat_model::cat_base::{Refusal, SessionNo, Token};
 use std::alloc::{AllocError, Global};
 use std::marker::Model;
 

@@ -2,7 +2,7 @@
 ghost use Rattle.std.specs.Prelude.{◌≡◌, ◌<◌, ℕ, false, List, count_by, length, map, option_map, slice_set, Ok, None, IfOk, IfErr, OnOk, OnErr};
 ghost use Rattle.std.specs.Arc.{arc_value};
 ghost use Rattle.std.specs.List.{flat_map};
-ghost use Rattle.cat_base.specs.declared.refusal.Refusal.TheVariants.{Damaged, Device, Memory};
+ghost use Rattle.cat_model.specs.cat_base.declared.refusal.Refusal.TheVariants.{Damaged, Device, Memory};
 ghost use Rattle.cat_model.specs.Answer.{HasNoLineFeed, stored};
 ghost use Rattle.cat_model.specs.View.{IsView, needs, records_in};
 ghost use Rattle.cat_directory.specs.Devices.{CountsReading, NoMore};
@@ -13,8 +13,8 @@ ghost use Rattle.cat_views.specs.Views.{leaf_names};
 
 use crate::lines::is_one_line;
 use crate::lookup::live_row_with;
-use cat_base::{Refusal, Token, WriteNo};
 use cat_directory::{FileName, Shelf};
+use cat_model::cat_base::{Refusal, Token, WriteNo};
 use cat_segment::cat_items::Schema;
 use cat_segment::{Live, Segment};
 use std::alloc::{AllocError, Global};

@@ -2,7 +2,7 @@
 use Rattle.std.proofs.Common.{◌≡◌, ℕ, List, Bool, true, false, refl, sym, ◌∙◌, ap, inl}
 use Rattle.std.specs.Prelude.{◌==◌, Err}
 use Rattle.std.specs.List.{list_any}
-use Rattle.cat_base.specs.declared.refusal.Refusal.TheVariants.{Gone, NotHeld}
+use Rattle.cat_model.specs.cat_base.declared.refusal.Refusal.TheVariants.{Gone, NotHeld}
 use Rattle.cat_model.specs.Run.{Command, Reply, greatest}
 use Rattle.cat_model.specs.State.{Hold, has_hold, with_hold, without_hold}
 use Rattle.cat_model.specs.View.{View}

@@ -4,7 +4,7 @@ use Rattle.std.specs.Prelude.{◌==◌, Ok, Err}
 use Rattle.cat_model.specs.Item.{IsItem}
 use Rattle.std.specs.List.{list_any}
 use Rattle.std.proofs.lemmas.Bool.Decides.{nat_tests}
-use Rattle.cat_base.specs.declared.refusal.Refusal.TheVariants.{Full, Spent, NoSnapshot, Memory}
+use Rattle.cat_model.specs.cat_base.declared.refusal.Refusal.TheVariants.{Full, Spent, NoSnapshot, Memory}
 use Rattle.cat_model.specs.Answer.{Found}
 use Rattle.cat_model.specs.Write.{Write}
 use Rattle.cat_model.specs.Limits.{last_number, snapshot_limit}

@@ -22,8 +22,8 @@ use Rattle.cat_ledger_laws.proofs.shape.Told.{makes_of, makes_still}
 use Rattle.cat_ledger_laws.proofs.shape.Leaves.{length_map}
 use Rattle.cat_ledger_laws.proofs.shape.MergeShapes.{no_merge, passed_shown, many_shown}
 use Rattle.std.specs.Prelude.{Ok, Err}
-use Rattle.cat_base.specs.declared.refusal.Refusal.{Refusal}
-use Rattle.cat_base.specs.declared.refusal.Refusal.TheVariants.{Memory}
+use Rattle.cat_model.specs.cat_base.declared.refusal.Refusal.{Refusal}
+use Rattle.cat_model.specs.cat_base.declared.refusal.Refusal.TheVariants.{Memory}
 use Rattle.cat_ledger_laws.specs.lines.LineLaws.{line_of}
 
 -- ---- sizes and live sets

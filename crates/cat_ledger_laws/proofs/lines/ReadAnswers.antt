@@ -4,7 +4,7 @@ use Rattle.std.specs.Prelude.{◌==◌, Ok, Err, option_map, is_some}
 use Rattle.std.specs.List.{find, AllByRecursion}
 use Rattle.std.proofs.lemmas.Bool.Decides.{nat_tests}
 use Rattle.std.proofs.lemmas.List.Elements.{All-from_recursion, recursion_from_All}
-use Rattle.cat_base.specs.declared.refusal.Refusal.TheVariants.{NotHeld, NoCommit}
+use Rattle.cat_model.specs.cat_base.declared.refusal.Refusal.TheVariants.{NotHeld, NoCommit}
 use Rattle.cat_model.specs.Answer.{Read, Found, answer, stored, query_refusal}
 use Rattle.cat_model.specs.CommitFile.{CommitFile}
 use Rattle.cat_model.specs.Files.{Name}

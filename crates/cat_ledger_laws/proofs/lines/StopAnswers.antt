@@ -3,7 +3,7 @@ use Rattle.std.proofs.Common.{◌≡◌, ℕ, ◌<◌, ◌≤◌, List, [], ◌�
 use Rattle.std.specs.Prelude.{◌⊎◌, Ok, Err, IsTrue}
 use Rattle.std.specs.List.{flat_map, last_or, AllByRecursion}
 use Rattle.std.proofs.lemmas.Bool.Decides.{nat_tests}
-use Rattle.cat_base.specs.declared.refusal.Refusal.TheVariants.{Spent}
+use Rattle.cat_model.specs.cat_base.declared.refusal.Refusal.TheVariants.{Spent}
 use Rattle.cat_model.specs.Answer.{Read, Found, stored}
 use Rattle.cat_model.specs.Limits.{last_number, buffer_limit}
 use Rattle.cat_model.specs.Run.{Chore, News, Command, Answer, Reply, may_tell, read_reply}

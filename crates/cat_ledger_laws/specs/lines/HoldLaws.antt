@@ -1,7 +1,7 @@
 -- The laws of the replies to OPEN and CLOSE.
 use Rattle.std.specs.Prelude.{◌≡◌, ℕ, ◌&&◌, ◌==◌, not, true, false, [], ◌∷◌, ◌++◌, filter, cond, Err}
 use Rattle.std.specs.List.{list_any}
-use Rattle.cat_base.specs.declared.refusal.Refusal.TheVariants.{Gone, NotHeld}
+use Rattle.cat_model.specs.cat_base.declared.refusal.Refusal.TheVariants.{Gone, NotHeld}
 use Rattle.cat_model.specs.Run.{Command, greatest}
 use Rattle.cat_model.specs.State.{has_hold}
 use Rattle.cat_ledger_laws.specs.model.Plans.{MergePolicy}

@@ -1,8 +1,8 @@
 -- The laws that tie what memory and its device carry to the replies to lines, command by command.
 use Rattle.std.specs.Prelude.{◌≡◌, ℕ, ◌+◌, ◌-◌, ◌<◌, ◌&&◌, ◌==◌, not, false, length, Ok, Err, IsTrue}
 use Rattle.std.specs.List.{list_any}
-use Rattle.cat_base.specs.declared.refusal.Refusal.{Refusal}
-use Rattle.cat_base.specs.declared.refusal.Refusal.TheVariants.{Memory}
+use Rattle.cat_model.specs.cat_base.declared.refusal.Refusal.{Refusal}
+use Rattle.cat_model.specs.cat_base.declared.refusal.Refusal.TheVariants.{Memory}
 use Rattle.cat_model.specs.Text.{Text}
 use Rattle.cat_model.specs.Item.{Item, IsItem}
 use Rattle.cat_model.specs.Query.{Query}

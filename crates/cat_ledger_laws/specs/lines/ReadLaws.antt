@@ -1,7 +1,7 @@
 -- The laws of the replies to reads, of what FILES tells, and of the texts of commits.
 use Rattle.std.specs.Prelude.{◌≡◌, ℕ, ◌==◌, true, false, List, length, find, Option, Some, None, option_map, Result, Ok, Err, All}
-use Rattle.cat_base.specs.declared.refusal.Refusal.{Refusal}
-use Rattle.cat_base.specs.declared.refusal.Refusal.TheVariants.{NotHeld, NoCommit}
+use Rattle.cat_model.specs.cat_base.declared.refusal.Refusal.{Refusal}
+use Rattle.cat_model.specs.cat_base.declared.refusal.Refusal.TheVariants.{NotHeld, NoCommit}
 use Rattle.cat_model.specs.Answer.{Read, Found, answer, stored, query_refusal}
 use Rattle.cat_model.specs.CommitFile.{CommitFile}
 use Rattle.cat_model.specs.Item.{Record}

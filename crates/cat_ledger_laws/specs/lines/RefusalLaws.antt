@@ -1,7 +1,7 @@
 -- The laws of refusals that change nothing: they come before anything is done.
 use Rattle.std.specs.Prelude.{◌≡◌, ◌≢◌, ℕ, ◌<◌, ◌≤◌, Option, Some, None, Ok, Err}
-use Rattle.cat_base.specs.declared.refusal.Refusal.{Refusal}
-use Rattle.cat_base.specs.declared.refusal.Refusal.TheVariants.{Line as NoForm, Spent, Full, NoCommit, NoSnapshot}
+use Rattle.cat_model.specs.cat_base.declared.refusal.Refusal.{Refusal}
+use Rattle.cat_model.specs.cat_base.declared.refusal.Refusal.TheVariants.{Line as NoForm, Spent, Full, NoCommit, NoSnapshot}
 use Rattle.cat_model.specs.Answer.{query_refusal}
 use Rattle.cat_model.specs.Limits.{last_number, snapshot_limit}
 use Rattle.cat_model.specs.Run.{Chore, Command}

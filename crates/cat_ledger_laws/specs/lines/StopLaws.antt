@@ -1,6 +1,6 @@
 -- The laws of maintenance, of lines that are stopped, and of what these leave.
 use Rattle.std.specs.Prelude.{◌≡◌, ℕ, ◌≤◌, true, List, [], Ok, Err, IsTrue, false}
-use Rattle.cat_base.specs.declared.refusal.Refusal.{Refusal}
+use Rattle.cat_model.specs.cat_base.declared.refusal.Refusal.{Refusal}
 use Rattle.cat_model.specs.Answer.{Read}
 use Rattle.cat_model.specs.Files.{Name}
 use Rattle.cat_model.specs.Limits.{last_number}

@@ -1,7 +1,7 @@
 -- What the ledger's calls make of it for each command, and the reply to it. Not to be believed: the laws tie it to the steps
 -- of the service, and by it the calls in code are proved.
 use Rattle.std.specs.Prelude.{◌≡◌, ◌≢◌, ◌⊎◌, ℕ, ◌+◌, ◌-◌, ◌<◌, ◌≤◌, ◌==◌, ltb, List, [], length, map, cond, Some, None, Ok, Err, IsTrue}
-use Rattle.cat_base.specs.declared.refusal.Refusal.TheVariants.{Line as NoForm, Spent, Full, Gone, NotHeld, NoCommit, NoSnapshot, Memory}
+use Rattle.cat_model.specs.cat_base.declared.refusal.Refusal.TheVariants.{Line as NoForm, Spent, Full, Gone, NotHeld, NoCommit, NoSnapshot, Memory}
 use Rattle.cat_model.specs.Text.{Text}
 use Rattle.cat_model.specs.Item.{IsItem}
 use Rattle.cat_model.specs.Write.{Write}
