@@ -3,11 +3,11 @@ use Rattle.std.proofs.Common.{◌≡◌, ℕ, ◌<◌, List, [], sym, subst}
 use Rattle.std.specs.Prelude.{Option, None, Some, All, IfSome, MatchOption, option_map}
 use Rattle.std.proofs.lemmas.List.Elements.{All-weaker}
 use Rattle.cat_model.specs.View.{Segment, View, AgreesWith, segments_of}
-use Rattle.cat_protocol.specs.cat_facets.States.{ReaderState}
-use Rattle.cat_protocol.specs.cat_facets.Kept as facets
+use Rattle.cat_commands.specs.cat_protocol.cat_facets.States.{ReaderState}
+use Rattle.cat_commands.specs.cat_protocol.cat_facets.Kept as facets
 use Rattle.cat_commands.specs.cat_cached_sets.filters.Filters.{Filters}
 use Rattle.cat_commands.specs.cat_cached_sets.filters.Known.{Knows}
-use Rattle.cat_protocol.specs.cat_views.Holds.{HeldView}
+use Rattle.cat_commands.specs.cat_protocol.cat_views.Holds.{HeldView}
 use Rattle.cat_commands.specs.cat_lifetimes.rights.Rights.{right_of}
 use Rattle.cat_ledger_laws.specs.lines.ReadLaws.{IsRecordedAs}
 use Rattle.cat_ledger_laws.specs.shape.Shapes.{Shape}

@@ -32,10 +32,10 @@ use Rattle.cat_ledger_laws.specs.lines.RunLaws as lines
 use Rattle.cat_ledger_laws.proofs.lines.Planned.{merges_tell}
 use Rattle.cat_ledger_laws.specs.shape.Shapes.{Shape}
 use Rattle.cat_ledger_laws.specs.shape.Ties.{ToldFiles}
-use Rattle.cat_protocol.specs.replies.Reply.{answer_of, reply_of}
-use Rattle.cat_protocol.specs.declared.replies.answer.Answer as code
-use Rattle.cat_protocol.specs.cat_views.Holds.{HeldView}
-use Rattle.cat_protocol.specs.cat_views.Sources.{HoldsSource, MayReachSource, TellsSource}
+use Rattle.cat_commands.specs.cat_protocol.replies.Reply.{answer_of, reply_of}
+use Rattle.cat_commands.specs.cat_protocol.declared.replies.answer.Answer as code
+use Rattle.cat_commands.specs.cat_protocol.cat_views.Holds.{HeldView}
+use Rattle.cat_commands.specs.cat_protocol.cat_views.Sources.{HoldsSource, MayReachSource, TellsSource}
 use Rattle.cat_service.specs.Causes.{HasCause, IsDamagedTo, IsSpentTo, KeepsIfRefused, MayFailTo, MayReachTo, TellsSo}
 use Rattle.cat_service.specs.Lines.{IsCommandOf}
 use Rattle.cat_service.specs.Worlds.{Service}

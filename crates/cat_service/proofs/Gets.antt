@@ -29,7 +29,7 @@ use Rattle.cat_ledger_laws.proofs.lines.ReadAnswers.{sources_are_whole}
 use Rattle.cat_ledger_laws.proofs.model.Shown.{All-map}
 use Rattle.cat_ledger_laws.proofs.model.Sourced.{portions_are_read, views_are_read}
 use Rattle.cat_ledger_laws.proofs.shape.Leaves.{any_map}
-use Rattle.cat_protocol.specs.cat_views.Sources.{HoldsSource, TellsSource}
+use Rattle.cat_commands.specs.cat_protocol.cat_views.Sources.{HoldsSource, TellsSource}
 use Rattle.cat_commands.proofs.views.Answered.{sources_told}
 
 -- ---- what is found

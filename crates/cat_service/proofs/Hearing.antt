@@ -7,8 +7,8 @@ use Rattle.cat_model.specs.Run.{Command, Reply}
 use Rattle.cat_model.specs.Served.{NamesFiles, Outcome}
 use Rattle.cat_model.specs.Text.{Text}
 use Rattle.cat_items.specs.Reading.{json}
-use Rattle.cat_protocol.specs.lines.Line.{SpellsOrShows, said_of}
-use Rattle.cat_protocol.specs.declared.lines.command.Command.TheVariants as command
+use Rattle.cat_commands.specs.cat_protocol.lines.Line.{SpellsOrShows, said_of}
+use Rattle.cat_commands.specs.cat_protocol.declared.lines.command.Command.TheVariants as command
 use Rattle.cat_commands.specs.views.Holding.{said_open}
 use Rattle.cat_directory.specs.Devices.{FileContent}
 use Rattle.cat_directory.specs.declared.name.FileName.{FileName}

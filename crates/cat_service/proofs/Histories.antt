@@ -15,11 +15,11 @@ use Rattle.cat_commands.specs.views.Holding.{said_open}
 use Rattle.cat_commands.specs.cat_ledger.Histories.{Call, Event, Goes, GoesBy, IsHistory, events_of}
 use Rattle.cat_commands.specs.cat_ledger.Ledgers.{LedgerOnDevice}
 use Rattle.cat_ledger_laws.specs.shape.Ties.{ToldFiles}
-use Rattle.cat_protocol.specs.lines.Line.{said_of}
-use Rattle.cat_protocol.specs.declared.lines.line.Line.{Line}
-use Rattle.cat_protocol.specs.replies.Reply.{reply_of}
-use Rattle.cat_protocol.specs.declared.replies.reply.Reply as code
-use Rattle.cat_protocol.specs.serving.Machine.{Steps}
+use Rattle.cat_commands.specs.cat_protocol.lines.Line.{said_of}
+use Rattle.cat_commands.specs.cat_protocol.declared.lines.line.Line.{Line}
+use Rattle.cat_commands.specs.cat_protocol.replies.Reply.{reply_of}
+use Rattle.cat_commands.specs.cat_protocol.declared.replies.reply.Reply as code
+use Rattle.cat_commands.specs.cat_protocol.serving.Machine.{Steps}
 use Rattle.cat_service.specs.Histories.{AreSpoken, GoesTold, HaveCauses, IsEventOf, IsSpoken, LinesAreCalls, MakeTold, MakesEvent, MakesTold, RunsHistory, Spoken}
 use Rattle.cat_service.specs.Causes.{HasCause, StaysIfWrong}
 use Rattle.cat_service.specs.Lines.{IsCommandOf}

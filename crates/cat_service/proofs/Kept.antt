@@ -7,8 +7,8 @@ use Rattle.cat_model.specs.Item.{Schema}
 use Rattle.cat_model.specs.Lines.{Said}
 use Rattle.cat_model.specs.Run.{Command, Reply}
 use Rattle.cat_items.specs.Reading.{json}
-use Rattle.cat_protocol.specs.cat_views.Holds.{HeldView}
-use Rattle.cat_protocol.specs.cat_facets.States.{ReaderState}
+use Rattle.cat_commands.specs.cat_protocol.cat_views.Holds.{HeldView}
+use Rattle.cat_commands.specs.cat_protocol.cat_facets.States.{ReaderState}
 use Rattle.cat_commands.specs.cat_cached_sets.filters.Filters.{Filters}
 use Rattle.cat_ledger_laws.specs.shape.Ties.{ToldFiles}
 use Rattle.cat_ledger_laws.specs.lines.LineLaws.{line_of}

@@ -40,8 +40,8 @@ use Rattle.cat_ledger_laws.specs.lines.LineLaws.{line_of}
 use Rattle.cat_ledger_laws.proofs.lines.Found.{All-unmap, holds_found}
 use Rattle.cat_ledger_laws.specs.lines.ReadLaws.{IsRecordedAs, kept_under}
 use Rattle.cat_ledger_laws.specs.lines.RunLaws.{AnswersCarried, ReplyLike}
-use Rattle.cat_protocol.specs.replies.Reply.{answer_of, reply_of}
-use Rattle.cat_protocol.specs.declared.replies.answer.Answer as code
+use Rattle.cat_commands.specs.cat_protocol.replies.Reply.{answer_of, reply_of}
+use Rattle.cat_commands.specs.cat_protocol.declared.replies.answer.Answer as code
 use Rattle.cat_commands.specs.views.Holding.{said_open}
 use Rattle.cat_service.specs.Named.{TellsNeeded, TellsNone}
 

@@ -4,13 +4,13 @@ use Rattle.std.proofs.lemmas.List.{take_more, map-append}
 use Rattle.cat_model.specs.Item.{Schema}
 use Rattle.cat_model.specs.Run.{Command, Exchange, IsRun, Run}
 use Rattle.cat_model.proofs.Runs.{runs_go_on}
-use Rattle.cat_protocol.specs.lines.Line.{said_of}
-use Rattle.cat_protocol.specs.declared.lines.line.Line.{Line}
+use Rattle.cat_commands.specs.cat_protocol.lines.Line.{said_of}
+use Rattle.cat_commands.specs.cat_protocol.declared.lines.line.Line.{Line}
 use Rattle.cat_ledger_laws.specs.lines.LineLaws.{line_of}
 use Rattle.cat_ledger_laws.specs.lines.RunLaws.{Stands}
 use Rattle.cat_ledger_laws.specs.shape.Ties.{ToldFiles}
-use Rattle.cat_protocol.specs.replies.Reply.{reply_of}
-use Rattle.cat_protocol.specs.declared.replies.reply.Reply.{Reply}
+use Rattle.cat_commands.specs.cat_protocol.replies.Reply.{reply_of}
+use Rattle.cat_commands.specs.cat_protocol.declared.replies.reply.Reply.{Reply}
 use Rattle.cat_service.specs.Lines.{StepsLine}
 use Rattle.cat_service.specs.Running.{AreAnsweredLines, IsAnsweredLine, RunsLines}
 use Rattle.cat_service.specs.Worlds.{Service, device_of, shape_of_service}

@@ -12,7 +12,7 @@ use Rattle.cat_model.specs.Run.{Command, Reply}
 use Rattle.cat_model.specs.Text.{Text}
 use Rattle.cat_model.specs.View.{View}
 use Rattle.cat_items.specs.Reading.{json}
-use Rattle.cat_protocol.specs.cat_views.Holds.{HeldView}
+use Rattle.cat_commands.specs.cat_protocol.cat_views.Holds.{HeldView}
 use Rattle.cat_commands.specs.cat_lifetimes.rights.Rights.{right_of}
 use Rattle.cat_commands.specs.searches.Reads.{MayTell}
 use Rattle.cat_ledger_laws.specs.model.Plans.{MergePolicy}

@@ -36,11 +36,11 @@ use Rattle.cat_ledger_laws.specs.shape.Ties.{ToldFiles}
 use Rattle.cat_ledger_laws.specs.lines.RunLaws.{Stands}
 use Rattle.cat_ledger_laws.proofs.lines.Held.{promised_are_held}
 use Rattle.cat_ledger_laws.proofs.shape.Told.{file_of_name}
-use Rattle.cat_protocol.specs.serving.Machine.{IsAnsweredByMachine, Steps, opened_text, short_line}
-use Rattle.cat_protocol.specs.serving.Serving.{EndsBy, IsRefused, LeadsTo, RefusedAt}
-use Rattle.cat_protocol.specs.declared.serving.machine.Stage.{Stage}
-use Rattle.cat_protocol.specs.declared.serving.machine.Stage.TheVariants.{Open}
-use Rattle.cat_protocol.specs.declared.serving.machine.Unopened.{Unopened}
+use Rattle.cat_commands.specs.cat_protocol.serving.Machine.{IsAnsweredByMachine, Steps, opened_text, short_line}
+use Rattle.cat_commands.specs.cat_protocol.serving.Serving.{EndsBy, IsRefused, LeadsTo, RefusedAt}
+use Rattle.cat_commands.specs.cat_protocol.declared.serving.machine.Stage.{Stage}
+use Rattle.cat_commands.specs.cat_protocol.declared.serving.machine.Stage.TheVariants.{Open}
+use Rattle.cat_commands.specs.cat_protocol.declared.serving.machine.Unopened.{Unopened}
 use Rattle.cat_service.proofs.Histories.{tolds_are_calls}
 use Rattle.cat_service.proofs.Reasoned.{reasoned}
 use Rattle.cat_service.proofs.Standing.{stands_first}

@@ -23,7 +23,7 @@ use Rattle.cat_model.specs.Table.{Opened, Start}
 use Rattle.cat_model.specs.Text.{Text}
 use Rattle.cat_model.specs.View.{View}
 use Rattle.cat_items.specs.Reading.{json, source_fault, text_fault}
-use Rattle.cat_protocol.specs.cat_views.Holds.{HeldView}
+use Rattle.cat_commands.specs.cat_protocol.cat_views.Holds.{HeldView}
 use Rattle.cat_commands.specs.cat_lifetimes.rights.Rights.{right_of}
 use Rattle.cat_commands.specs.cat_ledger_state.Cores.{MayNotFlush}
 use Rattle.cat_ledger_laws.specs.lines.LineLaws.{MayRefresh}
@@ -35,8 +35,8 @@ use Rattle.cat_ledger_laws.specs.shape.Shapes.{Shape, recorded_view}
 use Rattle.cat_ledger_laws.specs.shape.Steps.{newest_generation, tokens_of}
 use Rattle.cat_ledger_laws.specs.shape.Ties.{ToldFiles}
 use Rattle.cat_ledger_laws.proofs.shape.Leaves.{map_twice}
-use Rattle.cat_protocol.specs.replies.Reply.{answer_of, reply_of}
-use Rattle.cat_protocol.specs.declared.replies.answer.Answer as code
+use Rattle.cat_commands.specs.cat_protocol.replies.Reply.{answer_of, reply_of}
+use Rattle.cat_commands.specs.cat_protocol.declared.replies.answer.Answer as code
 use Rattle.cat_commands.specs.ledger.Chores.{MayRefuse, MayRefuseForce, chore_of}
 use Rattle.cat_commands.specs.declared.ledger.chores.Chore as code_chore
 use Rattle.cat_commands.specs.declared.ledger.chores.Chore.TheVariants.{Force, Merge, Stat, Sweep}

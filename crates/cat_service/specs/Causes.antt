@@ -18,7 +18,7 @@ use Rattle.cat_ledger_laws.specs.lines.StayLaws.{IsOneMoreAtMost}
 use Rattle.cat_ledger_laws.specs.model.Plans.{MergePolicy}
 use Rattle.cat_ledger_laws.specs.shape.Shapes.{Shape}
 use Rattle.cat_ledger_laws.specs.shape.Ties.{ToldFiles}
-use Rattle.cat_protocol.specs.cat_views.Sources.{HoldsSource, MayReachSource, TellsSource}
+use Rattle.cat_commands.specs.cat_protocol.cat_views.Sources.{HoldsSource, MayReachSource, TellsSource}
 use Rattle.cat_commands.specs.cat_ledger.upkeep.Due.{IsForceDue, IsMergeDue}
 use Rattle.cat_service.specs.Worlds.{Service, device_of, policy_of, shape_of_service}
 

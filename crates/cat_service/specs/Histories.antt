@@ -6,12 +6,12 @@ use Rattle.cat_model.specs.Run.{Answer, Command, Reply}
 use Rattle.cat_model.specs.Served.{Outcome}
 use Rattle.cat_directory.specs.Devices.{FileContent}
 use Rattle.cat_directory.specs.declared.name.FileName.{FileName}
-use Rattle.cat_protocol.specs.lines.Line.{said_of}
-use Rattle.cat_protocol.specs.declared.lines.line.Line.{Line}
+use Rattle.cat_commands.specs.cat_protocol.lines.Line.{said_of}
+use Rattle.cat_commands.specs.cat_protocol.declared.lines.line.Line.{Line}
 use Rattle.cat_commands.specs.cat_ledger.Histories.{Call, Event, Goes, GoesBy, IsHistory, events_of}
 use Rattle.cat_ledger_laws.specs.shape.Ties.{ToldFiles}
-use Rattle.cat_protocol.specs.replies.Reply.{reply_of}
-use Rattle.cat_protocol.specs.declared.replies.reply.Reply as code
+use Rattle.cat_commands.specs.cat_protocol.replies.Reply.{reply_of}
+use Rattle.cat_commands.specs.cat_protocol.declared.replies.reply.Reply as code
 use Rattle.cat_service.specs.Causes.{HasCause, StaysIfWrong}
 use Rattle.cat_service.specs.Worlds.{Service}
 

@@ -13,3 +13,4 @@ pub mod Copies
 pub mod Running
 pub mod theorem
 pub mod replicas
+pub use Rattle.cat_commands.specs.cat_protocol as cat_protocol

@@ -19,7 +19,7 @@ use Rattle.cat_ledger_laws.specs.shape.Ties.{FilesAgree, ToldFiles}
 use Rattle.cat_ledger_laws.specs.lines.RunLaws.{Stands}
 use Rattle.cat_commands.specs.cat_ledger_state.startup.Newest.{HasNoCommit, IsNewestCommit}
 use Rattle.cat_commands.specs.cat_ledger_state.startup.Refused.{IsNewestDamaged, IsNewestForeign}
-use Rattle.cat_protocol.specs.declared.serving.machine.Unopened.{Unopened}
+use Rattle.cat_commands.specs.cat_protocol.declared.serving.machine.Unopened.{Unopened}
 use Rattle.cat_service.specs.Worlds.{Service, device_of, shape_of_service}
 
 -- The commit's files hold the records: they are the live ones of its segments, with the rows that were read and the sources that stand

@@ -11,7 +11,7 @@ use Rattle.cat_commands.specs.ledger.Chores.{stat_in}
 use Rattle.cat_ledger_laws.specs.lines.RunLaws.{AnswersCarried}
 use Rattle.cat_ledger_laws.specs.shape.Shapes.{MergingShape}
 use Rattle.cat_ledger_laws.specs.shape.Ties.{ToldFiles}
-use Rattle.cat_protocol.specs.declared.serving.machine.Unopened.{Unopened}
+use Rattle.cat_commands.specs.cat_protocol.declared.serving.machine.Unopened.{Unopened}
 use Rattle.cat_service.specs.Causes.{HasCause, TakesNumbers}
 use Rattle.cat_service.specs.Lines.{IsCommandOf}
 use Rattle.cat_service.specs.Serving.{OpensIfShort, StepsIfShort}

@@ -3,13 +3,13 @@ use Rattle.std.specs.Prelude.{◌≡◌, List, [], ◌∷◌, ◌++◌}
 use Rattle.cat_model.specs.Item.{Schema}
 use Rattle.cat_model.specs.Run as run
 use Rattle.cat_model.specs.Table.{Opened}
-use Rattle.cat_protocol.specs.lines.Line.{said_of}
-use Rattle.cat_protocol.specs.declared.lines.line.Line.{Line}
+use Rattle.cat_commands.specs.cat_protocol.lines.Line.{said_of}
+use Rattle.cat_commands.specs.cat_protocol.declared.lines.line.Line.{Line}
 use Rattle.cat_commands.specs.cat_ledger.Lasting.{AlwaysTells}
 use Rattle.cat_ledger_laws.specs.lines.RunLaws.{ReplyLike, Stands}
 use Rattle.cat_ledger_laws.specs.shape.Ties.{ToldFiles}
-use Rattle.cat_protocol.specs.replies.Reply.{reply_of}
-use Rattle.cat_protocol.specs.declared.replies.reply.Reply.{Reply}
+use Rattle.cat_commands.specs.cat_protocol.replies.Reply.{reply_of}
+use Rattle.cat_commands.specs.cat_protocol.declared.replies.reply.Reply.{Reply}
 use Rattle.cat_service.specs.Lines.{IsCommandOf}
 use Rattle.cat_service.specs.Worlds.{Service, device_of, shape_of_service}
 

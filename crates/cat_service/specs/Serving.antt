@@ -11,9 +11,9 @@ use Rattle.cat_commands.specs.cat_ledger.Histories.{FoundIsTaken, FoundIsTried, 
 use Rattle.cat_commands.specs.cat_ledger.Lasting.{AlwaysTells}
 use Rattle.cat_ledger_laws.specs.shape.Ties.{ToldFiles}
 use Rattle.cat_ledger_laws.specs.lines.RunLaws.{IsStep}
-use Rattle.cat_protocol.specs.declared.serving.machine.Stage.{Stage}
-use Rattle.cat_protocol.specs.declared.serving.machine.Stage.TheVariants.{Waiting, Refused, Open}
-use Rattle.cat_protocol.specs.declared.serving.machine.Unopened.{Unopened}
+use Rattle.cat_commands.specs.cat_protocol.declared.serving.machine.Stage.{Stage}
+use Rattle.cat_commands.specs.cat_protocol.declared.serving.machine.Stage.TheVariants.{Waiting, Refused, Open}
+use Rattle.cat_commands.specs.cat_protocol.declared.serving.machine.Unopened.{Unopened}
 use Rattle.cat_model.specs.Serving.{FailsRightly}
 use Rattle.cat_service.specs.Histories.{GoesTold}
 use Rattle.cat_service.specs.Opening.{OpensWorld}

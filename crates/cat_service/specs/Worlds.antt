@@ -1,9 +1,9 @@
 -- What a world of sessions means: a ledger, the rights that its sessions have, and what is kept beside it.
 use Rattle.std.specs.Prelude.{List, map}
 use Rattle.cat_model.specs.View.{Segment}
-use Rattle.cat_protocol.specs.cat_facets.States.{ReaderState}
+use Rattle.cat_commands.specs.cat_protocol.cat_facets.States.{ReaderState}
 use Rattle.cat_commands.specs.cat_cached_sets.filters.Filters.{Filters}
-use Rattle.cat_protocol.specs.cat_views.Holds.{HeldView}
+use Rattle.cat_commands.specs.cat_protocol.cat_views.Holds.{HeldView}
 use Rattle.cat_ledger_laws.specs.model.Ledger as model
 use Rattle.cat_ledger_laws.specs.model.Plans.{MergePolicy}
 use Rattle.cat_ledger_laws.specs.shape.Shapes.{Shape}

@@ -2,8 +2,8 @@
 ghost use Rattle.std.specs.Prelude.{◌≡◌};
 ghost use Rattle.cat_model.specs.Served.{NamesFiles};
 ghost use Rattle.cat_commands.specs.cat_ledger.Histories.{GoesBy};
-ghost use Rattle.cat_protocol.specs.lines.Line.{said_of};
-ghost use Rattle.cat_protocol.specs.replies.Reply.{reply_of};
+ghost use Rattle.cat_commands.specs.cat_protocol.lines.Line.{said_of};
+ghost use Rattle.cat_commands.specs.cat_protocol.replies.Reply.{reply_of};
 ghost use Rattle.cat_service.specs.Causes.{HasCause, TakesNumbers};
 ghost use Rattle.cat_service.specs.Lines.{Does, StepsLine};
 ghost use Rattle.cat_service.specs.Named.{TellsNeeded};
@@ -13,10 +13,10 @@ ghost use Rattle.cat_service.specs.Worlds.{device_of, policy_of, shape_of_servic
 
 use crate::world::World;
 use cat_base::Refusal;
+use cat_commands::cat_protocol::lines::{Command, Line};
+use cat_commands::cat_protocol::replies::{Answer, Reply};
 use cat_commands::ledger::Chore;
 use cat_directory::{Directory, Shelf};
-use cat_protocol::lines::{Command, Line};
-use cat_protocol::replies::{Answer, Reply};
 
 impl<D: Directory + Shelf> World<D> {
     /// Answers a line, whose session stands in the reply.

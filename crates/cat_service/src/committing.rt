@@ -1,14 +1,14 @@
 //! Lines that keep commits, let them go, and tell of them.
 ghost use Rattle.std.specs.Prelude.{ℕ, Some};
 ghost use Rattle.cat_model.specs.Lines.{Said};
-ghost use Rattle.cat_protocol.specs.replies.Reply.{reply_of};
+ghost use Rattle.cat_commands.specs.cat_protocol.replies.Reply.{reply_of};
 ghost use Rattle.cat_commands.specs.cat_ledger.Histories.{GoesBy};
 ghost use Rattle.cat_service.specs.Lines.{Does};
 
 use crate::world::World;
 use cat_base::{Generation, Refusal};
+use cat_commands::cat_protocol::replies::Answer;
 use cat_directory::{Directory, Shelf};
-use cat_protocol::replies::Answer;
 
 impl<D: Directory + Shelf> World<D> {
     /// Answers a COMMIT.

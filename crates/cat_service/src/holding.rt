@@ -1,15 +1,15 @@
 //! Lines that give a session a right to a view, end it, or tell by it what the view needs.
 ghost use Rattle.std.specs.Prelude.{Some};
 ghost use Rattle.cat_model.specs.Lines.{Said};
-ghost use Rattle.cat_protocol.specs.replies.Reply.{reply_of};
+ghost use Rattle.cat_commands.specs.cat_protocol.replies.Reply.{reply_of};
 ghost use Rattle.cat_commands.specs.views.Holding.{said_open};
 ghost use Rattle.cat_commands.specs.cat_ledger.Histories.{GoesBy};
 ghost use Rattle.cat_service.specs.Lines.{Does};
 
 use crate::world::World;
 use cat_base::{Refusal, SessionNo, Token};
+use cat_commands::cat_protocol::replies::Answer;
 use cat_directory::{Directory, Shelf};
-use cat_protocol::replies::Answer;
 
 impl<D: Directory + Shelf> World<D> {
     /// Answers an OPEN.

@@ -17,7 +17,7 @@ pub mod theorem;
 mod world;
 mod writing;
 
-pub use cat_protocol;
+pub use cat_commands::cat_protocol;
 pub use copying::copies_open_alike;
 pub use serving::{Left, serve};
 pub use world::World;

@@ -1,11 +1,11 @@
 //! The world of sessions as a machine: its first line opens it, and each line behind it is one step.
 use crate::world::World;
 use cat_base::Refusal;
+use cat_commands::cat_protocol::lines::Line;
+use cat_commands::cat_protocol::replies::send_reply;
+use cat_commands::cat_protocol::sending::{WriteFault, send_unreadable};
+use cat_commands::cat_protocol::serving::{Machine, Unopened, text_of};
 use cat_directory::{Directory, Shelf};
-use cat_protocol::lines::Line;
-use cat_protocol::replies::send_reply;
-use cat_protocol::sending::{WriteFault, send_unreadable};
-use cat_protocol::serving::{Machine, Unopened, text_of};
 use std::alloc::Global;
 use std::io::Write;
 

@@ -16,11 +16,11 @@ use cat_commands::cat_cached_sets::filters::Filters;
 use cat_commands::cat_ledger::upkeep::MergePolicy;
 use cat_commands::cat_ledger::{Ledger, NotOpened};
 use cat_commands::cat_lifetimes::rights::Rights;
+use cat_commands::cat_protocol::ReaderStates;
+use cat_commands::cat_protocol::lines::SchemaLine;
+use cat_commands::cat_protocol::serving::Unopened;
 use cat_directory::{Directory, Shelf};
 use cat_items::Schema;
-use cat_protocol::ReaderStates;
-use cat_protocol::lines::SchemaLine;
-use cat_protocol::serving::Unopened;
 use std::alloc::{AllocError, Global};
 
 /// The policy of the numbers that a schema line gives.

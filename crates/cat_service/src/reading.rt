@@ -1,28 +1,28 @@
 //! Lines that look for items, over a session's right to a view.
 ghost use Rattle.std.specs.Prelude.{◌≡◌, Some};
 ghost use Rattle.cat_model.specs.Lines.{Said};
-ghost use Rattle.cat_protocol.specs.lines.Line.{sort_said};
+ghost use Rattle.cat_commands.specs.cat_protocol.lines.Line.{sort_said};
 ghost use Rattle.cat_commands.specs.cat_search.Sorts.{sort_of};
-ghost use Rattle.cat_protocol.specs.replies.Reply.{reply_of};
+ghost use Rattle.cat_commands.specs.cat_protocol.replies.Reply.{reply_of};
 ghost use Rattle.cat_commands.specs.cat_ledger.Histories.{GoesBy};
 ghost use Rattle.cat_service.specs.Lines.{Does};
 
 use crate::world::World;
 use cat_base::{Refusal, SessionNo};
+use cat_commands::cat_protocol::lines::{Facets, Find};
+use cat_commands::cat_protocol::replies::Answer;
 use cat_commands::sets::segments_are_one;
 use cat_commands::{Ask, Sort};
 use cat_directory::{Directory, Shelf};
-use cat_protocol::lines::{Facets, Find};
-use cat_protocol::replies::Answer;
 
 /// The sort that a line says.
-fn sort_asked(sort: cat_protocol::lines::Sort<'_>) -> Sort<'_>
+fn sort_asked(sort: cat_commands::cat_protocol::lines::Sort<'_>) -> Sort<'_>
     ensures { sort_of result ≡ sort_said sort.entry }
 {
     match sort {
-        cat_protocol::lines::Sort::Added => Sort::Added,
-        cat_protocol::lines::Sort::Rising(name) => Sort::Rising(name),
-        cat_protocol::lines::Sort::Falling(name) => Sort::Falling(name),
+        cat_commands::cat_protocol::lines::Sort::Added => Sort::Added,
+        cat_commands::cat_protocol::lines::Sort::Rising(name) => Sort::Rising(name),
+        cat_commands::cat_protocol::lines::Sort::Falling(name) => Sort::Falling(name),
     }
 }
 

@@ -6,9 +6,9 @@ ghost use Rattle.cat_service.specs.Running.{RunsLines};
 ghost use Rattle.cat_service.specs.Worlds.{device_of, policy_of, shape_of_service};
 
 use crate::world::World;
+use cat_commands::cat_protocol::lines::Line;
+use cat_commands::cat_protocol::replies::Reply;
 use cat_directory::{Directory, Shelf};
-use cat_protocol::lines::Line;
-use cat_protocol::replies::Reply;
 use std::alloc::AllocError;
 
 impl<D: Directory + Shelf> World<D> {

@@ -4,12 +4,12 @@ ghost use Rattle.cat_model.specs.Reasons.{CausesIn};
 ghost use Rattle.cat_model.specs.Serving.{ServesIn, SparesUnserved};
 ghost use Rattle.cat_items.specs.Reading.{json};
 ghost use Rattle.cat_directory.specs.Names.{by_names};
-ghost use Rattle.cat_protocol.specs.serving.Serving.{ended_as};
+ghost use Rattle.cat_commands.specs.cat_protocol.serving.Serving.{ended_as};
 ghost use Rattle.cat_service.specs.Serving.{StageLasts, StageOutlives, device_at};
 
 use crate::world::World;
+use cat_commands::cat_protocol::serving::{ServeFault, Stage, serve_machine};
 use cat_directory::{Directory, Shelf};
-use cat_protocol::serving::{ServeFault, Stage, serve_machine};
 use std::alloc::Global;
 use std::io::{Read, Write};
 

@@ -6,10 +6,10 @@ ghost use Rattle.cat_items.specs.Reading.{json};
 ghost use Rattle.cat_directory.specs.Names.{by_names};
 ghost use Rattle.cat_service.specs.theorem.Openings.{DirectoriesOpenOneWay};
 
-use cat_directory::{Directory, Shelf};
-use cat_protocol::cat_segment::{
+use cat_commands::cat_protocol::cat_segment::{
     live_rows_are_told_by_their_bytes, segments_are_told_by_their_bytes,
 };
+use cat_directory::{Directory, Shelf};
 
 /// The catalogue holds. Take what any two calls of `serve` read and wrote, each over a directory of any kind.
 ///

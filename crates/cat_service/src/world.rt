@@ -7,9 +7,9 @@ use cat_base::WriteNo;
 use cat_commands::cat_cached_sets::filters::Filters;
 use cat_commands::cat_ledger::Ledger;
 use cat_commands::cat_lifetimes::rights::Rights;
+use cat_commands::cat_protocol::ReaderStates;
 use cat_directory::{Directory, Shelf};
 use cat_items::Schema;
-use cat_protocol::ReaderStates;
 use std::alloc::Global;
 use std::marker::Model;
 

@@ -1,7 +1,7 @@
 -- How the program ends, with which exit status, and what it says of a fault.
 use Rattle.std.specs.Prelude.{◌≡◌, ◌≢◌, ◌⊎◌, ℕ, List, codes, Result, Ok, Err}
-use Rattle.cat_protocol.specs.declared.serving.serving.ServeFault.{ServeFault}
-use Rattle.cat_protocol.specs.declared.serving.serving.ServeFault.TheVariants as fault
+use Rattle.cat_service.specs.cat_protocol.declared.serving.serving.ServeFault.{ServeFault}
+use Rattle.cat_service.specs.cat_protocol.declared.serving.serving.ServeFault.TheVariants as fault
 use Rattle.catalogue.specs.declared.arguments.Task.{Task}
 use Rattle.catalogue.specs.declared.arguments.Task.TheVariants as task
 use Rattle.catalogue.specs.declared.endings.RunFault.{RunFault}

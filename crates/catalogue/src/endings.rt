@@ -3,7 +3,7 @@ ghost use Rattle.std.specs.Prelude.{◌≡◌, ◌≢◌};
 ghost use Rattle.catalogue.specs.declared.endings.Ending.TheVariants.{WrongArguments};
 ghost use Rattle.catalogue.specs.Ended.{ending_of, in_use_fault, message_of, status_of};
 
-use cat_protocol::serving::ServeFault;
+use cat_service::cat_protocol::serving::ServeFault;
 
 /// What ends serving early.
 #[derive(Clone, Copy, Debug, PartialEq, Eq)]

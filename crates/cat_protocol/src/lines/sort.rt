@@ -6,7 +6,7 @@ ghost use Rattle.cat_model.specs.Lines.{IsSort, sort_text};
 ghost use Rattle.cat_protocol.specs.lines.Line.{sort_said};
 
 use crate::lines::words::split_word;
-use cat_items::has_name_form;
+use cat_facets::cat_search::cat_items::has_name_form;
 
 /// A sort by a name that has the form of a field's; whether the schema has the field isn't looked at.
 #[derive(Clone, Copy, Debug, PartialEq, Eq)]

@@ -1,4 +1,4 @@
-use Rattle.cat_protocol.specs.serving.Serving.{ended_as}
+use Rattle.cat_commands.specs.cat_protocol.serving.Serving.{ended_as}
 use Rattle.cat_service.proofs.Serves.{caused_in, served_in, spared_in}
 use Rattle.cat_service.proofs.serving.serve.Goals as goal
 

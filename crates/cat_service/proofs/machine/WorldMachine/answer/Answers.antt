@@ -1,9 +1,9 @@
 use Rattle.std.proofs.Common.{subst, sym}
 use Rattle.cat_model.specs.Lines.{ShowsSession, reply_text}
 use Rattle.cat_model.specs.Served.{Outcome}
-use Rattle.cat_protocol.specs.lines.Line.{said_of}
-use Rattle.cat_protocol.specs.replies.Reply.{reply_of}
-use Rattle.cat_protocol.specs.sending.Out.{Sent}
+use Rattle.cat_commands.specs.cat_protocol.lines.Line.{said_of}
+use Rattle.cat_commands.specs.cat_protocol.replies.Reply.{reply_of}
+use Rattle.cat_commands.specs.cat_protocol.sending.Out.{Sent}
 use Rattle.cat_service.proofs.Hearing.{heard_as, told_to, unheard}
 use Rattle.cat_service.proofs.machine.WorldMachine.answer.Goals as goal
 

@@ -1,6 +1,6 @@
 use Rattle.std.proofs.Common.{length, refl}
 use Rattle.cat_model.specs.Lines.{Said}
-use Rattle.cat_protocol.specs.replies.Reply.{reply_of}
+use Rattle.cat_commands.specs.cat_protocol.replies.Reply.{reply_of}
 use Rattle.cat_commands.specs.ledger.Chores.{chore_of}
 use Rattle.cat_commands.proofs.sets.Right.{remembered_are_right}
 use Rattle.cat_service.specs.Worlds.{IsWorld}

@@ -1,6 +1,6 @@
 use Rattle.std.proofs.Common.{ap, arith, refl, subst}
 use Rattle.cat_model.specs.Lines.{Said}
-use Rattle.cat_protocol.specs.replies.Reply.{reply_of}
+use Rattle.cat_commands.specs.cat_protocol.replies.Reply.{reply_of}
 use Rattle.cat_commands.specs.cat_ledger.Ledgers.{device_in, shape_in}
 use Rattle.cat_service.proofs.Kept.{carried_on, does, sets_on, states_on}
 use Rattle.cat_service.proofs.Wanted.{stopped, close_wants}

@@ -1,7 +1,7 @@
 use Rattle.std.proofs.Common.{refl, sym, ◌∙◌, ap, arith}
 use Rattle.std.specs.Prelude.{option_map}
 use Rattle.cat_model.specs.Lines.{Said}
-use Rattle.cat_protocol.specs.replies.Reply.{reply_of}
+use Rattle.cat_commands.specs.cat_protocol.replies.Reply.{reply_of}
 use Rattle.cat_commands.proofs.ledger_laws.Histories.{nothing_goes}
 use Rattle.cat_commands.specs.cat_ledger.Ledgers.{device_in, policy_in, shape_in}
 use Rattle.cat_commands.proofs.views.Answered.{option_map_twice}

@@ -1,6 +1,6 @@
 use Rattle.std.proofs.Common.{refl}
 use Rattle.cat_model.specs.Lines.{Said}
-use Rattle.cat_protocol.specs.replies.Reply.{reply_of}
+use Rattle.cat_commands.specs.cat_protocol.replies.Reply.{reply_of}
 use Rattle.cat_service.proofs.Kept.{does_telling, world_stays}
 use Rattle.cat_service.proofs.Names.{source_told}
 use Rattle.cat_service.proofs.Caused.{get_caused}

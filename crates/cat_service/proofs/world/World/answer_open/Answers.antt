@@ -1,5 +1,5 @@
 use Rattle.std.proofs.Common.{ap, arith, subst}
-use Rattle.cat_protocol.specs.replies.Reply.{reply_of}
+use Rattle.cat_commands.specs.cat_protocol.replies.Reply.{reply_of}
 use Rattle.cat_commands.specs.views.Holding.{said_open}
 use Rattle.cat_commands.specs.cat_ledger.Ledgers.{device_in, shape_in}
 use Rattle.cat_service.proofs.Caused.{open_caused}

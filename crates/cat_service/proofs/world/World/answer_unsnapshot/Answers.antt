@@ -1,6 +1,6 @@
 use Rattle.std.proofs.Common.{refl}
 use Rattle.cat_model.specs.Lines.{Said}
-use Rattle.cat_protocol.specs.replies.Reply.{reply_of}
+use Rattle.cat_commands.specs.cat_protocol.replies.Reply.{reply_of}
 use Rattle.cat_service.proofs.Kept.{does, world_stays}
 use Rattle.cat_commands.specs.cat_ledger.Ledgers.{device_in, shape_in}
 use Rattle.cat_service.proofs.Wanted.{stopped, unsnap_wants}

@@ -1,7 +1,7 @@
 use Rattle.std.proofs.Common.{[], map, ap, sym, ◌∙◌, refl, subst, arith}
 use Rattle.std.proofs.lemmas.List.{take_all}
-use Rattle.cat_protocol.specs.declared.lines.line.Line.{Line}
-use Rattle.cat_protocol.specs.declared.lines.command.Command.TheVariants.{NoForm}
+use Rattle.cat_commands.specs.cat_protocol.declared.lines.line.Line.{Line}
+use Rattle.cat_commands.specs.cat_protocol.declared.lines.command.Command.TheVariants.{NoForm}
 use Rattle.cat_ledger_laws.proofs.lines.NeededFiles.{promised_files_stand}
 use Rattle.cat_service.specs.Histories.{RunsHistory}
 use Rattle.cat_service.specs.Running.{RunsLines}

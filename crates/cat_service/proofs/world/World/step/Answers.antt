@@ -1,4 +1,4 @@
-use Rattle.cat_protocol.specs.replies.Reply.{reply_of}
+use Rattle.cat_commands.specs.cat_protocol.replies.Reply.{reply_of}
 use Rattle.cat_ledger_laws.proofs.lines.Answered.{answers_are_steps}
 use Rattle.cat_ledger_laws.proofs.lines.NeededFiles.{promised_files_stand}
 use Rattle.cat_ledger_laws.specs.lines.LineLaws.{line_of}
