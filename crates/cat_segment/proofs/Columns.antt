@@ -96,3 +96,8 @@ pub row_named : (rows : List Row) (id : Text) (found : Option ℕ) → MatchOpti
     → IfSome found (λ row. row < length rows) → MatchOption found (All (λ r. r.id ≢ id) rows) (λ row. HoldsAt (λ r. r.id ≡ id) rows row)
 row_named rows id None absent within = λ k d lt same. absent k [] (omega (arith, length-map rows (λ r. r.id))) (get_or-map (λ r. r.id) rows k d [] lt ∙ same)
 row_named rows id (Some row) here within = λ d. sym (get_or-map (λ r. r.id) rows row d [] within) ∙ here []
+
+-- no row has an id that leads to this number, where no id does
+pub none_hashed : (rows : List Row) (hash_of : Text → ℕ) (hash : ℕ) → All (λ i. hash_of i ≢ hash) (map (λ r. r.id) rows) → All (λ r. hash_of r.id ≢ hash) rows
+none_hashed rows hash_of hash absent = λ k d lt same.
+    absent k [] (omega (arith, length-map rows (λ r. r.id))) (ap hash_of (get_or-map (λ r. r.id) rows k d [] lt) ∙ same)

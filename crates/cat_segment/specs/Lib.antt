@@ -1,6 +1,7 @@
 pub mod Body
 pub mod Contents
 pub mod Fields
+pub mod Filter
 pub mod Index
 pub mod Laid
 pub mod LiveStart

@@ -1,13 +1,16 @@
 //! The ids of the rows of a segment, and the index by which the row of an id is found.
-ghost use Rattle.std.specs.Prelude.{◌≡◌, ◌≢◌, ◌↔◌, ◌⊎◌, ◌<◌, ◌^◌, length, All, IfOk, IfErr, IfSome, IsTrue, MatchOption};
+ghost use Rattle.std.specs.Prelude.{◌≡◌, ◌≢◌, ◌↔◌, ◌⊎◌, ◌<◌, ◌^◌, length, All, IfOk, IfErr, IfSome, IsTrue, MatchOption, false};
 ghost use Rattle.std.specs.List.{AllPairs, HoldsAt, range_with_len};
 ghost use Rattle.cat_base.specs.declared.refusal.Refusal.TheVariants.{Damaged, Memory};
 ghost use Rattle.std.specs.List.Sorted.{IsSortedByKey};
 ghost use Rattle.cat_model.specs.Ordinals.{text_at};
 ghost use Rattle.cat_model.specs.Text.{text_cmp};
+ghost use Rattle.cat_segment.specs.Filter.{id_hash, IsFilter};
 ghost use Rattle.cat_segment.specs.Index.{AreAllRows, IsIndex};
 
+use crate::filter::{filter_of, may_have};
 use cat_base::{Refusal, Text};
+use cat_columns::RowSet;
 use std::alloc::{AllocError, Global};
 use std::marker::Model;
 
@@ -20,18 +23,21 @@ pub(crate) struct Ids {
     ids: Vec<Text>,
     // The rows in byte order of their ids.
     by_id: Vec<u32>,
+    // Which hashes the ids have, by a few bits.
+    filter: RowSet,
 }
 
 impl Model for Ids {
     ghost use Rattle.std.specs.Prelude.{List};
     ghost use Rattle.cat_model.specs.Text.{Text};
+    ghost use Rattle.cat_segment.specs.Filter.{IsFilter};
     ghost use Rattle.cat_segment.specs.Index.{IsIndex};
 
     ghost Value = { List Text };
 
     ghost view = { λ i. i.ids.items };
 
-    ghost invariant = { λ i. IsIndex i.ids.items i.by_id.items };
+    ghost invariant = { λ i. IsIndex i.ids.items i.by_id.items × IsFilter i.ids.items i.filter };
 }
 
 /// The id of the row, and the empty text where there is no such row.
@@ -86,6 +92,21 @@ fn rows_by_id(alloc: Global, ids: &[Text], runs: Option<Vec<u32>>) -> Result<Vec
     }
 }
 
+/// The rows in byte order of their ids, as [`rows_by_id`] gives them, and the filter of the ids.
+fn indexed(
+    alloc: Global,
+    ids: &[Text],
+    runs: Option<Vec<u32>>,
+) -> Result<(Vec<u32>, RowSet), AllocError>
+    requires few { length ids.now < 2 ^ 32 }
+    requires runs { IfSome runs (λ rows. AreAllRows (length ids.now) rows.items) }
+    ensures index { IfOk result (λ v. IsIndex ids.now v.0.items) }
+    ensures filter { IfOk result (λ v. IsFilter ids.now v.1) }
+{
+    let by_id = rows_by_id(alloc, ids, runs)?;
+    Ok((by_id, filter_of(alloc, ids)?))
+}
+
 /// What is told where no memory is left for the index of the ids: damage where two rows have one, else want of memory. It
 /// takes no memory.
 fn without_index(mut ids: Vec<Text>) -> Refusal
@@ -107,8 +128,8 @@ impl Ids {
         requires { length ids.items < 2 ^ 32 }
         ensures ok { IfOk result (λ i. i ≡ ids.items) }
     {
-        let by_id = sorted_rows(alloc, &ids)?;
-        Ok(Ids { ids, by_id })
+        let (by_id, filter) = indexed(alloc, &ids, None)?;
+        Ok(Ids { ids, by_id, filter })
     }
 
     /// The ids of the rows, in the rows' order, where no two rows have one id; [`Refusal::Damaged`] where two have, also
@@ -126,8 +147,8 @@ impl Ids {
         ensures due { IfErr result (λ e. e ≡ Memory → AllPairs (λ a b. a ≢ b) ids.items) }
         ensures refusal { IfErr result (λ e. (e ≡ Damaged) ⊎ (e ≡ Memory)) }
     {
-        match rows_by_id(alloc, &ids, runs) {
-            Ok(by_id) => Ids { ids, by_id }.distinct(),
+        match indexed(alloc, &ids, runs) {
+            Ok((by_id, filter)) => Ids { ids, by_id, filter }.distinct(),
             Err(_) => Err(without_index(ids)),
         }
     }
@@ -168,6 +189,13 @@ impl Ids {
             Ok(rank) => Some(self.by_id[rank] as usize),
             Err(_) => None,
         }
+    }
+
+    /// Whether a row may have an id of this hash; where none may, none has.
+    pub(crate) fn may_have(&self, hash: u64) -> bool
+        ensures { result ≡ false → All (λ i. id_hash i ≢ hash) self.now }
+    {
+        may_have(&self.filter, hash)
     }
 
     /// Whether no two rows have one id: neighbours in the ids' order would.

@@ -1,5 +1,5 @@
 //! Immutable segments.
-ghost use Rattle.std.specs.Prelude.{◌≡◌, ◌≢◌, ◌<◌, ◌≤◌, map, length, replicate, None, MatchOption, IfSome, IfOk, All, AllPairs};
+ghost use Rattle.std.specs.Prelude.{◌≡◌, ◌≢◌, ◌<◌, ◌≤◌, map, length, replicate, false, None, MatchOption, IfSome, IfOk, All, AllPairs};
 ghost use Rattle.std.specs.List.{HoldsAt};
 ghost use Rattle.std.specs.List.Sorted.{IsPartitionPoint, IsSortedByKey};
 ghost use Rattle.cat_model.specs.Layout.{column_of};
@@ -8,6 +8,7 @@ ghost use Rattle.cat_model.specs.Text.{text_cmp};
 ghost use Rattle.cat_model.specs.View.{AreRows, IsSegment};
 ghost use Rattle.cat_segment.specs.Contents.{contents_told, contents_under_name};
 ghost use Rattle.cat_segment.specs.Fields.{rows_made};
+ghost use Rattle.cat_segment.specs.Filter.{id_hash};
 ghost use Rattle.cat_segment.specs.Index.{AreAllRows};
 ghost use Rattle.cat_segment.specs.Laid.{column_kind, laid_in};
 ghost use Rattle.cat_segment.specs.Body.{body_with, rows_of, IsBody};
@@ -165,6 +166,15 @@ impl Segment {
         ensures bound { IfSome result (λ row. row < length self.now.rows) }
     {
         self.ids.row_of(id)
+    }
+
+    /// Whether a row may have an id of this hash ([`id_hash`](crate::id_hash)). Where none may, none has; where one may,
+    /// [`Segment::row_with`] knows. No id is looked at. (Lucene: `FuzzySet.contains`, as `BloomFilteringPostingsFormat` asks
+    /// it of each segment before a primary key is looked for.)
+    pub fn may_have(&self, hash: u64) -> bool
+        ensures { result ≡ false → All (λ r. id_hash r.id ≢ hash) self.now.rows }
+    {
+        self.ids.may_have(hash)
     }
 
     /// All rows, in byte order of their ids (Lucene: the order of the terms in a primary key's field).

@@ -17,4 +17,4 @@ returns c =
     let ids = c.self.inside.ids.items in
     let by_id = c.self.inside.by_id.items in
     let answer = c.is_sorted_by.ensures.cases (rank ids) (always_returns_same _ _ _ (λ a r f' k. search rules)) in
-    rw (← c.self.view_is) (told ids by_id c.self.invariant c.is_sorted_by.result (rw c.deref.ensures.value at answer))
+    rw (← c.self.view_is) (told ids by_id c.self.invariant.0 c.is_sorted_by.result (rw c.deref.ensures.value at answer))

@@ -15,7 +15,7 @@ row_within c =
     let by_id = c.self.inside.by_id.items in
     let inside : c.in-Ok.rank < length by_id = omega (arith, c.in-Ok.ensures.bound, ap length c.deref.ensures.value) in
     let here = get_or_read by_id c.in-Ok.rank c.index.result.now inside c.index.ensures 0 in
-    omega (arith, here, rows_within c.self.inside.ids.items by_id c.self.invariant.rows c.in-Ok.rank 0 inside)
+    omega (arith, here, rows_within c.self.inside.ids.items by_id c.self.invariant.0.rows c.in-Ok.rank 0 inside)
 
 pub returns-in-Ok-clause-lookup : goal.returns-in-Ok-clause-lookup
 returns-in-Ok-clause-lookup c = λ d.
@@ -35,4 +35,4 @@ returns-in-Err-clause-lookup c =
     let ids = c.self.inside.ids.items in
     let by_id = c.self.inside.by_id.items in
     let parted = c.in-Err.ensures.position (λ row. text_cmp (text_at ids row) c.args.id.now) (always_returns_same _ _ _ (λ a r f' k. search rules)) in
-    rw (← c.self.view_is) (id_absent ids by_id c.self.invariant c.args.id.now c.in-Err.field-0 (rw c.deref.ensures.value at parted))
+    rw (← c.self.view_is) (id_absent ids by_id c.self.invariant.0 c.args.id.now c.in-Err.field-0 (rw c.deref.ensures.value at parted))
