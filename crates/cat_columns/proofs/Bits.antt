@@ -233,7 +233,7 @@ row_cleared blocks row lt =
     (λ i within apart. bit_at_clear_other w64 w (row % 64) (omega arith) i within apart)
 
 -- A slice of a whole `Vec` is written back as it is.
-pub written_back : (n : ℕ) (new old : List ℕ) → length new ≡ length old → n ≡ length old → take n (new ++ drop (length new) old) ≡ new
+pub written_back : {X : Type 0} (n : ℕ) (new old : List X) → length new ≡ length old → n ≡ length old → take n (new ++ drop (length new) old) ≡ new
 written_back n new old long len =
     ap (λ l. take n (new ++ l)) (ap (λ k. drop k old) long ∙ drop_all (length old) old (omega arith)) ∙ ap (take n) (append-nil new) ∙ take_all n new (omega arith)
 

@@ -6,6 +6,7 @@ pub mod Counts
 pub mod Cuts
 pub mod Fills
 pub mod Fulls
+pub mod Hinted
 pub mod Laid
 pub mod Marks
 pub mod Members

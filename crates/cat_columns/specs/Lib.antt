@@ -2,3 +2,4 @@ pub mod Bits
 pub mod Columns
 pub mod Merged
 pub mod inverted
+pub mod Hints

@@ -1,8 +1,9 @@
 //! A dictionary: the texts of a field in byte order, each found by its ordinal, and each ordinal by its text.
-ghost use Rattle.std.specs.Prelude.{◌≡◌, ◌<◌, ◌^◌, length, map, All, Contains, IfOk, IfSome};
+ghost use Rattle.std.specs.Prelude.{◌≡◌, ◌≢◌, ◌<◌, ◌^◌, length, map, All, Contains, None, IfOk, IfSome};
 ghost use Rattle.cat_base.specs.Texts.{sorted_set, IsTextSet};
 ghost use Rattle.cat_model.specs.Ordinals.{dictionary_of, text_at, IsOrdinal};
 
+use crate::hints::{Hint, hint_of, hints_of, text_hash};
 use crate::union::united;
 use cat_base::{Text, TextSet};
 use std::alloc::{AllocError, Global};
@@ -16,18 +17,21 @@ use std::sync::Arc;
 #[derive(Debug, Drop)]
 pub struct Dictionary {
     texts: Arc<TextSet>,
+    // Where a text can be, by its hash. There are none where the dictionary is seldom asked.
+    hints: Arc<Vec<Hint>>,
 }
 
 impl Model for Dictionary {
     ghost use Rattle.std.specs.Prelude.{ℕ, List};
     ghost use Rattle.std.specs.Arc.{arc_value};
     ghost use Rattle.cat_base.specs.Texts.{IsTextSet};
+    ghost use Rattle.cat_columns.specs.Hints.{AreHints};
 
     ghost Value = { List (List ℕ) };
 
     ghost view = { λ d. arc_value d.texts };
 
-    ghost invariant = { λ d. IsTextSet (arc_value d.texts) };
+    ghost invariant = { λ d. IsTextSet (arc_value d.texts) × AreHints (arc_value d.texts) (arc_value d.hints).items };
 }
 
 /// Copies of the texts.
@@ -57,14 +61,34 @@ fn near(texts: &[Text], from: usize, text: &Text) -> Option<usize>
 }
 
 impl Dictionary {
+    /// The dictionary of the texts, with their hints.
+    fn hinted(alloc: Global, texts: TextSet) -> Result<Self, AllocError>
+        requires { IsTextSet texts }
+        ensures ok { IfOk result (λ d. d ≡ texts) }
+    {
+        let hints = hints_of(alloc, texts.as_slice())?;
+        Ok(Dictionary {
+            texts: Arc::new(alloc, texts)?,
+            hints: Arc::new(alloc, hints)?,
+        })
+    }
+
+    /// The dictionary of the texts, without hints: it costs less to make, and more to ask.
+    fn unhinted(alloc: Global, texts: Vec<Text>) -> Result<Self, AllocError>
+        ensures ok { IfOk result (λ d. d ≡ sorted_set texts.items) }
+    {
+        Ok(Dictionary {
+            texts: Arc::new(alloc, TextSet::of(texts))?,
+            hints: Arc::new(alloc, Vec::new(alloc))?,
+        })
+    }
+
     /// The dictionary of the texts, which may come in any order and more than once. The time is linear where they rise, and
     /// the texts are taken over.
     pub fn of(alloc: Global, texts: Vec<Text>) -> Result<Self, AllocError>
         ensures ok { IfOk result (λ d. d ≡ sorted_set texts.items) }
     {
-        Ok(Dictionary {
-            texts: Arc::new(alloc, TextSet::of(texts))?,
-        })
+        Dictionary::hinted(alloc, TextSet::of(texts))
     }
 
     /// The dictionary of texts that rise by bytes, each once, as a file has them (see [`rises`](cat_base::rises)). They are
@@ -73,9 +97,7 @@ impl Dictionary {
         requires { IsTextSet texts.items }
         ensures ok { IfOk result (λ d. d ≡ texts.items) }
     {
-        Ok(Dictionary {
-            texts: Arc::new(alloc, TextSet::from_sorted(texts))?,
-        })
+        Dictionary::hinted(alloc, TextSet::from_sorted(texts))
     }
 
     /// The dictionary of the texts of all the sets, as Lucene's `OrdinalMap` has it. The texts of each set are in byte order,
@@ -83,7 +105,7 @@ impl Dictionary {
     pub fn union(alloc: Global, sets: &[&[Text]]) -> Result<Self, AllocError>
         ensures ok { IfOk result (λ d. d ≡ dictionary_of (map (λ s. s.now) sets.now)) }
     {
-        Dictionary::of(alloc, copied(alloc, &united(alloc, sets)?)?)
+        Dictionary::unhinted(alloc, copied(alloc, &united(alloc, sets)?)?)
     }
 
     /// The same dictionary once more; the texts are shared and not copied.
@@ -92,6 +114,7 @@ impl Dictionary {
     {
         Ok(Dictionary {
             texts: Arc::try_clone(&self.texts)?,
+            hints: Arc::try_clone(&self.hints)?,
         })
     }
 
@@ -148,13 +171,38 @@ impl Dictionary {
         &self.texts.as_slice()[ordinal]
     }
 
-    /// The ordinal of the text, by binary search (`SortedDocValues.lookupTerm`); none where the dictionary lacks it.
-    pub fn ordinal(&self, text: &str) -> Option<usize>
+    /// The ordinal of the text, by binary search; none where the dictionary lacks it.
+    fn search(&self, text: &str) -> Option<usize>
         ensures { IsOrdinal self.now text.now result }
     {
         self.texts
             .as_slice()
             .binary_search_by(|other| other.as_str().cmp(text))
             .ok()
+    }
+
+    /// This ordinal, if it is that of the text.
+    fn ordinal_if(&self, ordinal: usize, text: &str) -> Option<usize>
+        ensures some { IfSome result (λ o. (o < length self.now) × (text_at self.now o ≡ text.now)) }
+        ensures none { result ≡ None → ordinal < length self.now → text_at self.now ordinal ≢ text.now }
+    {
+        let other = self.texts.as_slice().get(ordinal)?;
+        if other.as_str() == text {
+            Some(ordinal)
+        } else {
+            None
+        }
+    }
+
+    /// The ordinal of the text (`SortedDocValues.lookupTerm`); none where the dictionary lacks it. Most texts are found, or
+    /// missed, by their hash; a binary search finds the others.
+    pub fn ordinal(&self, text: &str) -> Option<usize>
+        ensures { IsOrdinal self.now text.now result }
+    {
+        match hint_of(&self.hints, text_hash(text)) {
+            Hint::Empty => None,
+            Hint::One(ordinal) => self.ordinal_if(ordinal as usize, text),
+            Hint::Crowded => self.search(text),
+        }
     }
 }

@@ -6,6 +6,7 @@ mod blocks;
 mod covering;
 mod dictionary;
 mod gathering;
+mod hints;
 pub mod inverted;
 mod keywords;
 mod laws;
