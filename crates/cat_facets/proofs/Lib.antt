@@ -8,6 +8,7 @@ pub mod Globals
 pub mod Kept
 pub mod Learnt
 pub mod Leaves
+pub mod LiveTotals
 pub mod Ranking
 pub mod SameSegments
 pub mod Told

@@ -1,4 +1,5 @@
 pub mod Kept
+pub mod LiveTotals
 pub mod Met
 pub mod States
 pub mod Tallies

@@ -1,9 +1,10 @@
 //! The first labels by falling count.
 ghost use Rattle.std.specs.Prelude.{◌≡◌, ◌<◌, length, map, All, IfOk};
+ghost use Rattle.cat_base.specs.Texts.{IsTextSet};
 ghost use Rattle.cat_model.specs.Page.{first_ranked};
-ghost use Rattle.cat_facets.specs.Met.{label_comes_first, met_from, label_told};
+ghost use Rattle.cat_facets.specs.Met.{facets_by, label_comes_first, met_from, label_told};
 
-use crate::facets::FacetCount;
+use crate::facets::{FacetCount, Facets};
 use cat_search::Best;
 use cat_search::cat_columns::Dictionary;
 use std::alloc::{AllocError, Global};
@@ -17,11 +18,7 @@ pub(crate) struct Ranked {
 }
 
 /// How many labels are met, and the first n of them (Lucene: `TopOrdAndIntQueue` over the counts).
-pub(crate) fn first_met(
-    alloc: Global,
-    totals: &[usize],
-    n: usize,
-) -> Result<(usize, Vec<Ranked>), AllocError>
+fn first_met(alloc: Global, totals: &[usize], n: usize) -> Result<(usize, Vec<Ranked>), AllocError>
     ensures met { IfOk result (λ r. r.0 ≡ length (met_from 0 totals.now)) }
     ensures first { IfOk result (λ r. r.1.items ≡ first_ranked label_comes_first (met_from 0 totals.now) n) }
 {
@@ -41,7 +38,7 @@ pub(crate) fn first_met(
 }
 
 /// The labels of the dictionary with their counts.
-pub(crate) fn counts_told(
+fn counts_told(
     alloc: Global,
     labels: &Dictionary,
     ranked: &[Ranked],
@@ -55,4 +52,21 @@ pub(crate) fn counts_told(
         counts.push(FacetCount::new(each.count.0, label))?;
     }
     Ok(counts)
+}
+
+/// How many labels are met, and the first n counts, beside how many hits have a label.
+pub(crate) fn facets_told(
+    alloc: Global,
+    labels: &Dictionary,
+    labelled: usize,
+    totals: &[usize],
+    n: usize,
+) -> Result<Facets, AllocError>
+    requires rise { IsTextSet labels.now }
+    requires long { length totals.now ≡ length labels.now }
+    ensures ok { IfOk result (λ f. f ≡ facets_by labels.now labelled totals.now n) }
+{
+    let (met, ranked) = first_met(alloc, totals, n)?;
+    let counts = counts_told(alloc, labels, &ranked)?;
+    Ok(Facets::new(labelled, met, counts))
 }

@@ -7,6 +7,7 @@ mod facets;
 mod first;
 mod leaf;
 mod limits;
+mod live;
 mod segments;
 mod state;
 mod states;

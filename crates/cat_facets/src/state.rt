@@ -11,7 +11,8 @@ ghost use Rattle.cat_model.specs.GlobalOrdinals.{leaf_dictionary};
 ghost use Rattle.cat_facets.specs.States.{facets_answer_over, as_leaves, union_in, IsFacetsAnswer, IsDimensionOf};
 
 use crate::facets::Facets;
-use crate::first::{counts_told, first_met};
+use crate::first::facets_told;
+use crate::live::{LiveCounts, count_live};
 use crate::segments::{SegmentLabels, all_known, union_of};
 use crate::totals::totals_of;
 use cat_base::{MAX_PAGE, Refusal, Text};
@@ -40,18 +41,21 @@ pub struct ReaderState {
     labels: Dictionary,
     /// One for each segment.
     segments: Vec<SegmentLabels>,
+    /// The counts over all live rows of the view that was counted last by a query for everything.
+    live: LiveCounts,
 }
 
 impl Model for ReaderState {
     ghost use Rattle.cat_model.specs.View.{segments_of};
+    ghost use Rattle.cat_facets.specs.LiveTotals.{AreLiveCounts};
     ghost use Rattle.cat_facets.specs.States as model;
 
     ghost Value = { model.ReaderState };
 
     ghost view = { λ s. record { segments = segments_of s.made_of.value.leaves; dimension = s.dimension } };
 
-    ghost invariant = { λ s. model.IsState (record { segments = segments_of s.made_of.value.leaves; dimension = s.dimension })
-        s.labels s.segments.items };
+    ghost invariant = { λ s. (model.IsState (record { segments = segments_of s.made_of.value.leaves; dimension = s.dimension })
+        s.labels s.segments.items) × (AreLiveCounts s.dimension s.labels (segments_of s.made_of.value.leaves) s.live) };
 }
 
 /// Whether one counts over fields of the kind.
@@ -89,11 +93,13 @@ impl ReaderState {
     {
         let labels = union_of(alloc, view.leaves(), dimension)?;
         let segments = all_known(alloc, &labels, view.leaves(), dimension)?;
+        let live = LiveCounts::none(alloc, labels.len())?;
         Ok(ReaderState {
             made_of: Snapshot::of(view),
             dimension: Text::from_str(alloc, dimension)?,
             labels,
             segments,
+            live,
         })
     }
 
@@ -127,7 +133,8 @@ impl ReaderState {
     /// The counts over the hits of the query, of which the first n are told (Lucene:
     /// `SortedSetDocValuesFacetCounts.getTopChildren`). The query's view is one of the state's segments, whichever of their rows
     /// are live in it. [`Refusal::Count`] if n is above [`MAX_PAGE`]; else [`Refusal::Memory`]. The state stays as it is; how many
-    /// rows of a segment have a label is counted where most of them are hits, and kept for the next counts.
+    /// rows of a segment have a label is counted where most of them are hits, and kept for the next counts, as are the counts
+    /// over everything.
     pub fn counts(&mut self, alloc: Global, prepared: &Prepared, n: u64) -> Result<Facets, Refusal>
         requires segments { segments_of prepared.now.view.leaves ≡ self.old.segments }
         requires facet { IsDimensionOf prepared.now.view self.old.dimension }
@@ -141,6 +148,18 @@ impl ReaderState {
         if n > MAX_PAGE as u64 {
             return Err(Refusal::Count);
         }
+        if prepared.query().is_everything() {
+            count_live(
+                alloc,
+                prepared,
+                dimension,
+                &self.labels,
+                &mut self.segments,
+                &mut self.live,
+            )?;
+            let live = &self.live;
+            return Ok(facets_told(alloc, &self.labels, live.labelled, &live.totals, n as usize)?);
+        }
         let (labelled, totals) = totals_of(
             alloc,
             prepared,
@@ -148,8 +167,6 @@ impl ReaderState {
             &self.labels,
             &mut self.segments,
         )?;
-        let (met, ranked) = first_met(alloc, &totals, n as usize)?;
-        let counts = counts_told(alloc, &self.labels, &ranked)?;
-        Ok(Facets::new(labelled, met, counts))
+        Ok(facets_told(alloc, &self.labels, labelled, &totals, n as usize)?)
     }
 }

@@ -1,19 +1,25 @@
-use Rattle.std.proofs.Common.{◌≡◌, ℕ, ◌<◌, ◌≤◌, ◌++◌, List, Err, length, map, take, drop, sym, ap, ◌∙◌, arith, refl, subst}
+use Rattle.std.proofs.Common.{◌≡◌, ℕ, ◌≤◌, ◌++◌, List, Ok, Err, length, map, take, drop, sym, ap, ◌∙◌, arith, refl, subst}
 use Rattle.std.proofs.lemmas.List.{append-nil, drop_all, take_all}
-use Rattle.std.proofs.lemmas.List.Elements.{All-from_recursion}
 use Rattle.std.specs.List.{flat_map}
 use Rattle.cat_base.specs.Texts.{IsTextSet}
 use Rattle.cat_base.specs.declared.refusal.Refusal.TheVariants.{Count}
+use Rattle.cat_model.specs.Answer.{Found}
+use Rattle.cat_model.specs.Facets.{Facets}
+use Rattle.cat_model.specs.Item.{Record}
+use Rattle.cat_model.specs.Limits.{page_limit}
+use Rattle.cat_model.specs.Page.{first_ranked}
 use Rattle.cat_model.specs.Text.{Text}
-use Rattle.cat_model.specs.View.{Leaf, segments_of}
+use Rattle.cat_model.specs.View.{Leaf, Shows, View, segments_of}
+use Rattle.cat_search.specs.cat_query.declared.query.Query.{Query}
 use Rattle.cat_search.specs.cat_query.View.{query_of}
 use Rattle.cat_search.proofs.columns_laws.Ordinals.{dictionary_rises}
 use Rattle.cat_model.specs.GlobalOrdinals.{leaf_dictionary}
 use Rattle.cat_facets.specs.declared.segments.SegmentLabels.{SegmentLabels}
-use Rattle.cat_facets.specs.States.{ReaderState, facets_answer_over, as_leaves, union_in, AreKnown, IsDimensionKept, IsState}
+use Rattle.cat_facets.specs.Met.{facets_by, label_comes_first, label_told, met_from}
+use Rattle.cat_facets.specs.States.{ReaderState, facets_answer_over, as_leaves, union_in, AreKnown, IsDimensionKept, IsDimensionOf, IsState}
 use Rattle.cat_facets.specs.Tallies.{hit_labels, labelled_count, AreCounts}
 use Rattle.cat_facets.proofs.Answered.{counted_facets, due_refused, found, refused}
-use Rattle.cat_facets.proofs.Ranking.{first_within}
+use Rattle.cat_facets.proofs.LiveTotals.{live_alike}
 use Rattle.cat_facets.proofs.SameSegments.{kept_alike, known_alike, segments-as_leaves}
 use Rattle.cat_facets.proofs.state.ReaderState.counts.Goals as goal
 
@@ -45,6 +51,27 @@ still_kept state dimension d own leaves labels old new len some mine same was na
       (subst (λ x. AreKnown x labels leaves new) named are));
 }
 
+-- the answer that is told of counts over leaves of the state's segments
+told : (state : ReaderState) (view : View) (q : Query) (n labelled : ℕ) (labels : List Text) (segments : List SegmentLabels) (totals : List ℕ) (d : Text) (f : Facets) (rs : List Record)
+    → segments_of view.leaves ≡ state.segments → IsDimensionOf view state.dimension → n ≤ page_limit → IsState state labels segments → d ≡ state.dimension → Shows view rs
+    → AreCounts labels (flat_map (hit_labels (query_of q) d) view.leaves) totals → labelled ≡ labelled_count (flat_map (hit_labels (query_of q) d) view.leaves)
+    → f ≡ facets_by labels labelled totals n → facets_answer_over view state.dimension q n rs ≡ Ok (Found.facets f)
+told state view q n labelled labels segments totals d f rs same facet few is named shown are l due =
+    let kept = kept_of state view.leaves labels segments same is in
+    let rows = λ (x : Text). flat_map (hit_labels (query_of q) x) view.leaves in
+    found view state.dimension q n rs f facet few
+    (due
+    ∙ counted_facets view q state.dimension n labelled (length (met_from 0 totals)) labels totals (first_ranked label_comes_first (met_from 0 totals) n)
+    (map (label_told labels) (first_ranked label_comes_first (met_from 0 totals) n)) rs shown (labels_rise state.dimension view.leaves labels kept.labels) kept.texts kept.labels
+    (subst (λ x. AreCounts labels (rows x) totals) named are) (l ∙ ap (λ x. labelled_count (rows x)) named) refl refl refl)
+
+-- what is known of the state's segments is known of leaves of them
+known_of : (state own : ReaderState) (leaves : List Leaf) (labels : List Text) (segments seen : List SegmentLabels) (d : Text) → own ≡ state → segments_of leaves ≡ state.segments
+    → IsState own labels segments → d ≡ own.dimension → seen ≡ segments → AreKnown d labels leaves seen
+known_of state own leaves labels segments seen d mine same is named all =
+    let kept = kept_of state leaves labels segments same (subst (λ s. IsState s labels segments) mine is) in
+    subst (λ x. AreKnown x labels leaves seen) (sym (named ∙ ap (λ s. s.dimension) mine)) (subst (λ (ks : List SegmentLabels). AreKnown state.dimension labels leaves ks) (sym all) kept.known)
+
 pub returns-then-n-clause-err : goal.returns-then-n-clause-err
 returns-then-n-clause-err c = λ other rs shown.
     refused c.args.prepared.now.view c.args.self.now.dimension c.args.prepared.now.query c.args.n rs c.requires.facet c.if-n.true
@@ -55,64 +82,95 @@ returns-then-n-clause-due c = λ rs shown.
     due_refused (Err Count) Count (facets_answer_over view c.args.self.now.dimension c.args.prepared.now.query c.args.n rs)
     (refused view c.args.self.now.dimension c.args.prepared.now.query c.args.n rs c.requires.facet c.if-n.true) refl
 
+pub count_live-requires-clause-known : goal.count_live-requires-clause-known
+count_live-requires-clause-known c =
+    known_of c.args.self.now (record { segments = segments_of c.self.inside.made_of.value.leaves; dimension = c.self.inside.dimension }) c.args.prepared.now.view.leaves c.self.inside.labels
+    c.self.inside.segments.items c.deref_mut.result.now c.as_str-dimension.result.now c.self.view_is c.requires.segments c.self.invariant.0 c.as_str-dimension.ensures c.deref_mut.ensures.value
+
+pub facets_told-requires-clause-rise : goal.facets_told-requires-clause-rise
+facets_told-requires-clause-rise c =
+    labels_rise c.self.inside.dimension (as_leaves (segments_of c.self.inside.made_of.value.leaves)) c.self.inside.labels c.self.invariant.0.labels
+
 pub totals_of-requires : goal.totals_of-requires
 totals_of-requires c =
-    let state = c.args.self.now in
-    let leaves = c.args.prepared.now.view.leaves in
-    let inv = subst (λ s. IsState s c.self.inside.labels c.self.inside.segments.items) c.self.view_is c.self.invariant in
-    let labels = c.self.inside.labels in
-    let kept = kept_of state leaves labels c.self.inside.segments.items c.requires.segments inv in
-    let named : c.as_str-dimension.result.now ≡ state.dimension = c.as_str-dimension.ensures ∙ ap (λ s. s.dimension) c.self.view_is in
-    subst (λ d. AreKnown d labels leaves c.deref_mut.result.now) (sym named)
-    (subst (λ (ks : List SegmentLabels). AreKnown state.dimension labels leaves ks) (sym c.deref_mut.ensures.value) kept.known)
+    known_of c.args.self.now (record { segments = segments_of c.self.inside.made_of.value.leaves; dimension = c.self.inside.dimension }) c.args.prepared.now.view.leaves c.self.inside.labels
+    c.self.inside.segments.items c.deref_mut-2.result.now c.as_str-dimension.result.now c.self.view_is c.requires.segments c.self.invariant.0 c.as_str-dimension.ensures c.deref_mut-2.ensures.value
 
-pub counts_told-requires : goal.counts_told-requires
-counts_told-requires c =
+pub facets_told-requires-2-clause-rise : goal.facets_told-requires-2-clause-rise
+facets_told-requires-2-clause-rise c =
+    labels_rise c.self.inside.dimension (as_leaves (segments_of c.self.inside.made_of.value.leaves)) c.self.inside.labels c.self.invariant.0.labels
+
+pub returns-then-is_everything-clause-ok : goal.returns-then-is_everything-clause-ok
+returns-then-is_everything-clause-ok c = λ rs shown.
     let state = c.args.self.now in
+    let prepared = c.args.prepared.now in
     let labels = c.self.inside.labels in
-    let inv = subst (λ s. IsState s labels c.self.inside.segments.items) c.self.view_is c.self.invariant in
-    let totals = c.deref.result.now in
-    let long : length totals ≡ length labels = ap length c.deref.ensures.value ∙ c.in_ok-labelled.ensures.counts.long in
-    All-from_recursion (λ r. r.ordinal < length labels) c.deref-2.result.now
-    (first_within labels totals c.args.n (labels_rise state.dimension (as_leaves state.segments) labels inv.labels) long c.deref-2.result.now (c.deref-2.ensures.value ∙ c.in_ok-met.ensures.first))
+    let inv = subst (λ s. IsState s labels c.self.inside.segments.items) c.self.view_is c.self.invariant.0 in
+    let named : c.as_str-dimension.result.now ≡ state.dimension = c.as_str-dimension.ensures ∙ ap (λ s. s.dimension) c.self.view_is in
+    let are =
+    subst (λ ts. AreCounts labels (flat_map (hit_labels (query_of prepared.query) c.as_str-dimension.result.now) prepared.view.leaves) ts) (sym c.deref.ensures.value) c.in_ok-count_live.ensures.counts in
+    told state prepared.view prepared.query c.args.n c.count_live.new.kept.labelled labels c.self.inside.segments.items c.deref.result.now c.as_str-dimension.result.now c.in_ok-facets_told.field-0 rs
+    c.requires.segments c.requires.facet (omega arith) inv named shown are c.in_ok-count_live.ensures.labelled c.in_ok-facets_told.ensures.ok
 
 pub returns-clause-ok : goal.returns-clause-ok
 returns-clause-ok c = λ rs shown.
     let state = c.args.self.now in
     let prepared = c.args.prepared.now in
     let labels = c.self.inside.labels in
-    let inv = subst (λ s. IsState s labels c.self.inside.segments.items) c.self.view_is c.self.invariant in
-    let kept = kept_of state prepared.view.leaves labels c.self.inside.segments.items c.requires.segments inv in
+    let inv = subst (λ s. IsState s labels c.self.inside.segments.items) c.self.view_is c.self.invariant.0 in
     let named : c.as_str-dimension.result.now ≡ state.dimension = c.as_str-dimension.ensures ∙ ap (λ s. s.dimension) c.self.view_is in
-    let rows = λ (d : Text). flat_map (hit_labels (query_of prepared.query) d) prepared.view.leaves in
-    let are = subst (λ d. AreCounts labels (rows d) c.deref.result.now) named
-    (subst (λ ts. AreCounts labels (rows c.as_str-dimension.result.now) ts) (sym c.deref.ensures.value) c.in_ok-labelled.ensures.counts) in
-    found prepared.view state.dimension prepared.query c.args.n rs c.new.result c.requires.facet (omega arith)
-    (c.new.ensures ∙ counted_facets prepared.view prepared.query state.dimension c.args.n c.in_ok-labelled.labelled c.in_ok-met.met labels c.deref.result.now c.deref-2.result.now c.in_ok-counts.counts.items rs
-    shown (labels_rise state.dimension prepared.view.leaves labels kept.labels) kept.texts kept.labels
-    are (c.in_ok-labelled.ensures.labelled ∙ ap (λ d. labelled_count (rows d)) named)
-    c.in_ok-met.ensures.met (c.deref-2.ensures.value ∙ c.in_ok-met.ensures.first) c.in_ok-counts.ensures.ok)
+    let are =
+    subst (λ ts. AreCounts labels (flat_map (hit_labels (query_of prepared.query) c.as_str-dimension.result.now) prepared.view.leaves) ts) (sym c.deref-2.ensures.value) c.in_ok-labelled.ensures.counts in
+    told state prepared.view prepared.query c.args.n c.in_ok-labelled.labelled labels c.self.inside.segments.items c.deref-2.result.now c.as_str-dimension.result.now c.in_ok-facets_told-2.field-0 rs
+    c.requires.segments c.requires.facet (omega arith) inv named shown are c.in_ok-labelled.ensures.labelled c.in_ok-facets_told-2.ensures.ok
 
 pub invariant_of-self : goal.invariant_of-self
-invariant_of-self c =
-    still_kept c.args.self.now c.self.inside.dimension c.as_str-dimension.result.now c.self.inside.made_of.value.leaves c.args.prepared.now.view.leaves c.self.inside.labels
-    c.self.inside.segments.items c.totals_of.new.known c.self.inside.segments.len (omega (arith, c.self.inside.segments.ok.0))
-    (ap (λ s. s.segments) c.self.view_is) c.requires.segments c.self.invariant c.as_str-dimension.ensures (c.totals_of.auto.known ∙ ap length c.deref_mut.ensures.value) c.totals_of.ensures.known
+invariant_of-self c = (
+  still_kept c.args.self.now c.self.inside.dimension c.as_str-dimension.result.now c.self.inside.made_of.value.leaves c.args.prepared.now.view.leaves c.self.inside.labels
+      c.self.inside.segments.items c.count_live.new.known c.self.inside.segments.len (omega (arith, c.self.inside.segments.ok.0))
+      (ap (λ s. s.segments) c.self.view_is) c.requires.segments c.self.invariant.0 c.as_str-dimension.ensures (c.count_live.auto.known ∙ ap length c.deref_mut.ensures.value) c.count_live.ensures.known,
+  live_alike c.self.inside.dimension c.as_str-dimension.result.now c.self.inside.labels (segments_of c.self.inside.made_of.value.leaves) (segments_of c.args.prepared.now.view.leaves)
+      c.count_live.new.kept c.as_str-dimension.ensures (c.requires.segments ∙ sym (ap (λ s. s.segments) c.self.view_is)) c.count_live.ensures.kept,
+)
 
-pub invariant_of-self-in_err-met : goal.invariant_of-self-in_err-met
-invariant_of-self-in_err-met c =
-    still_kept c.args.self.now c.self.inside.dimension c.as_str-dimension.result.now c.self.inside.made_of.value.leaves c.args.prepared.now.view.leaves c.self.inside.labels
-    c.self.inside.segments.items c.totals_of.new.known c.self.inside.segments.len (omega (arith, c.self.inside.segments.ok.0))
-    (ap (λ s. s.segments) c.self.view_is) c.requires.segments c.self.invariant c.as_str-dimension.ensures (c.totals_of.auto.known ∙ ap length c.deref_mut.ensures.value) c.totals_of.ensures.known
+pub invariant_of-self-in_err-facets_told : goal.invariant_of-self-in_err-facets_told
+invariant_of-self-in_err-facets_told c = (
+  still_kept c.args.self.now c.self.inside.dimension c.as_str-dimension.result.now c.self.inside.made_of.value.leaves c.args.prepared.now.view.leaves c.self.inside.labels
+      c.self.inside.segments.items c.count_live.new.known c.self.inside.segments.len (omega (arith, c.self.inside.segments.ok.0))
+      (ap (λ s. s.segments) c.self.view_is) c.requires.segments c.self.invariant.0 c.as_str-dimension.ensures (c.count_live.auto.known ∙ ap length c.deref_mut.ensures.value) c.count_live.ensures.known,
+  live_alike c.self.inside.dimension c.as_str-dimension.result.now c.self.inside.labels (segments_of c.self.inside.made_of.value.leaves) (segments_of c.args.prepared.now.view.leaves)
+      c.count_live.new.kept c.as_str-dimension.ensures (c.requires.segments ∙ sym (ap (λ s. s.segments) c.self.view_is)) c.count_live.ensures.kept,
+)
 
-pub invariant_of-self-in_err-counts : goal.invariant_of-self-in_err-counts
-invariant_of-self-in_err-counts c =
-    still_kept c.args.self.now c.self.inside.dimension c.as_str-dimension.result.now c.self.inside.made_of.value.leaves c.args.prepared.now.view.leaves c.self.inside.labels
-    c.self.inside.segments.items c.totals_of.new.known c.self.inside.segments.len (omega (arith, c.self.inside.segments.ok.0))
-    (ap (λ s. s.segments) c.self.view_is) c.requires.segments c.self.invariant c.as_str-dimension.ensures (c.totals_of.auto.known ∙ ap length c.deref_mut.ensures.value) c.totals_of.ensures.known
+pub invariant_of-self-then-is_everything : goal.invariant_of-self-then-is_everything
+invariant_of-self-then-is_everything c = (
+  still_kept c.args.self.now c.self.inside.dimension c.as_str-dimension.result.now c.self.inside.made_of.value.leaves c.args.prepared.now.view.leaves c.self.inside.labels
+      c.self.inside.segments.items c.count_live.new.known c.self.inside.segments.len (omega (arith, c.self.inside.segments.ok.0))
+      (ap (λ s. s.segments) c.self.view_is) c.requires.segments c.self.invariant.0 c.as_str-dimension.ensures (c.count_live.auto.known ∙ ap length c.deref_mut.ensures.value) c.count_live.ensures.known,
+  live_alike c.self.inside.dimension c.as_str-dimension.result.now c.self.inside.labels (segments_of c.self.inside.made_of.value.leaves) (segments_of c.args.prepared.now.view.leaves)
+      c.count_live.new.kept c.as_str-dimension.ensures (c.requires.segments ∙ sym (ap (λ s. s.segments) c.self.view_is)) c.count_live.ensures.kept,
+)
+
+pub invariant_of-self-in_err-labelled : goal.invariant_of-self-in_err-labelled
+invariant_of-self-in_err-labelled c = (
+  still_kept c.args.self.now c.self.inside.dimension c.as_str-dimension.result.now c.self.inside.made_of.value.leaves c.args.prepared.now.view.leaves c.self.inside.labels
+      c.self.inside.segments.items c.totals_of.new.known c.self.inside.segments.len (omega (arith, c.self.inside.segments.ok.0))
+      (ap (λ s. s.segments) c.self.view_is) c.requires.segments c.self.invariant.0 c.as_str-dimension.ensures (c.totals_of.auto.known ∙ ap length c.deref_mut-2.ensures.value) c.totals_of.ensures.known,
+  c.self.invariant.1,
+)
+
+pub invariant_of-self-in_err-facets_told-2 : goal.invariant_of-self-in_err-facets_told-2
+invariant_of-self-in_err-facets_told-2 c = (
+  still_kept c.args.self.now c.self.inside.dimension c.as_str-dimension.result.now c.self.inside.made_of.value.leaves c.args.prepared.now.view.leaves c.self.inside.labels
+      c.self.inside.segments.items c.totals_of.new.known c.self.inside.segments.len (omega (arith, c.self.inside.segments.ok.0))
+      (ap (λ s. s.segments) c.self.view_is) c.requires.segments c.self.invariant.0 c.as_str-dimension.ensures (c.totals_of.auto.known ∙ ap length c.deref_mut-2.ensures.value) c.totals_of.ensures.known,
+  c.self.invariant.1,
+)
 
 pub invariant_of-self-2 : goal.invariant_of-self-2
-invariant_of-self-2 c =
-    still_kept c.args.self.now c.self.inside.dimension c.as_str-dimension.result.now c.self.inside.made_of.value.leaves c.args.prepared.now.view.leaves c.self.inside.labels
-    c.self.inside.segments.items c.totals_of.new.known c.self.inside.segments.len (omega (arith, c.self.inside.segments.ok.0))
-    (ap (λ s. s.segments) c.self.view_is) c.requires.segments c.self.invariant c.as_str-dimension.ensures (c.totals_of.auto.known ∙ ap length c.deref_mut.ensures.value) c.totals_of.ensures.known
+invariant_of-self-2 c = (
+  still_kept c.args.self.now c.self.inside.dimension c.as_str-dimension.result.now c.self.inside.made_of.value.leaves c.args.prepared.now.view.leaves c.self.inside.labels
+      c.self.inside.segments.items c.totals_of.new.known c.self.inside.segments.len (omega (arith, c.self.inside.segments.ok.0))
+      (ap (λ s. s.segments) c.self.view_is) c.requires.segments c.self.invariant.0 c.as_str-dimension.ensures (c.totals_of.auto.known ∙ ap length c.deref_mut-2.ensures.value) c.totals_of.ensures.known,
+  c.self.invariant.1,
+)

@@ -15,7 +15,7 @@ pub index-requires-2 : goal.index-requires-2
 index-requires-2 c =
     let state = c.args.self.now in
     let segments = c.self.inside.segments.items in
-    let inv = subst (λ s. IsState s c.self.inside.labels segments) c.self.view_is c.self.invariant in
+    let inv = subst (λ s. IsState s c.self.inside.labels segments) c.self.view_is c.self.invariant.0 in
     let within : c.args.segment < length (as_leaves state.segments) = let n = length-map state.segments as_leaf in let m = c.requires.segment in omega (arith, n, m) in
     let known = subst (λ k. IsKnown c.self.inside.labels (leaf_labels state.dimension (get_or (as_leaves state.segments) c.args.segment no_leaf)) k) (sym c.index.ensures)
     (inv.known.each c.args.segment no_leaf c.index.result.now within) in
@@ -30,7 +30,7 @@ returns c = λ d.
     let state = c.args.self.now in
     let all = c.self.inside.labels in
     let segments = c.self.inside.segments.items in
-    let inv = subst (λ s. IsState s all segments) c.self.view_is c.self.invariant in
+    let inv = subst (λ s. IsState s all segments) c.self.view_is c.self.invariant.0 in
     let within : c.args.segment < length (as_leaves state.segments) = let n = length-map state.segments as_leaf in let m = c.requires.segment in omega (arith, n, m) in
     let known = subst (λ k. IsKnown all (leaf_labels state.dimension (get_or (as_leaves state.segments) c.args.segment d)) k) (sym c.index.ensures)
     (inv.known.each c.args.segment d c.index.result.now within) in
