@@ -288,6 +288,35 @@ fn most_rows_and_few_rows_are_counted_alike(rt: HostRuntime) -> Result<(), Fail>
     expect_yes(are_counts_by(rt.alloc(), MOSTLY_RED, ENDS, COUNTS))
 }
 
+/// Nine items: the first two are dead, of the next three one is, and of the last four all but one. Some have two colors, some
+/// have none.
+const MOSTLY_DEAD: &[PutText<'static>] = &[
+    (1, false, r#"{"id":"a","color":["red","blue"]}"#),
+    (2, false, r#"{"id":"b"}"#),
+    (3, true, r#"{"id":"c","color":["red","blue"]}"#),
+    (4, false, r#"{"id":"d","color":["blue","green"]}"#),
+    (5, true, r#"{"id":"e"}"#),
+    (6, false, r#"{"id":"f","color":["red"]}"#),
+    (7, true, r#"{"id":"g","color":["red","white"]}"#),
+    (8, false, r#"{"id":"h","color":["white","green"]}"#),
+    (9, false, r#"{"id":"i"}"#),
+];
+
+#[test]
+fn everything_is_counted_alike_when_it_is_asked_again(rt: HostRuntime) -> Result<(), Fail> {
+    const COUNTS: &[CountText<'static>] = &[
+        (9, "color", "*:*", "2 3: 2 red, 1 blue, 1 white"),
+        (9, "color", "*:*", "2 3: 2 red, 1 blue, 1 white"),
+        (9, "color", "color:blue", "1 2: 1 blue, 1 red"),
+        (1, "color", "+*:*", "2 3: 2 red"),
+        (9, "color", "*:* -color:blue", "1 2: 1 red, 1 white"),
+        (0, "color", "*:*", "2 3"),
+        (9, "color", "-*:*", "0 0"),
+    ];
+    const ENDS: &[&[usize]] = &[&[9], &[2, 5, 9], &[1, 2, 3, 4, 5, 6, 7, 8, 9]];
+    expect_yes(are_counts_by(rt.alloc(), MOSTLY_DEAD, ENDS, COUNTS))
+}
+
 /// The text of an item with 60 colors, which are the numbers from this one on.
 fn sixty_colors(alloc: Global, id: u64, first: u64) -> Result<String, AllocError>
     requires { first < 3000 }
