@@ -35,7 +35,7 @@ if_some P Q f None h = tt
 
 -- ---- the number of a row
 
-at_mapped : {X Y : Type 0} (f : X → Y) (xs : List X) (i : ℕ) (d : X) → get_or (map f xs) i (f d) ≡ f (get_or xs i d)
+pub at_mapped : {X Y : Type 0} (f : X → Y) (xs : List X) (i : ℕ) (d : X) → get_or (map f xs) i (f d) ≡ f (get_or xs i d)
 at_mapped f [] i d = refl
 at_mapped f (x ∷ xs) zero d = refl
 at_mapped f (x ∷ xs) (suc i) d = at_mapped f xs i d
@@ -112,7 +112,7 @@ module _ (q : Query) (o : Order) (name : Text) (low high : Option ℤ) (by : Goe
 
 -- ---- the live ones of them
 
-filter-twice : {X : Type 0} (p q r : X → Bool) → ((x : X) → r x ≡ (p x && q x)) → (xs : List X) → filter q (filter p xs) ≡ filter r xs
+pub filter-twice : {X : Type 0} (p q r : X → Bool) → ((x : X) → r x ≡ (p x && q x)) → (xs : List X) → filter q (filter p xs) ≡ filter r xs
 filter-twice {X} p q r h [] = refl
 filter-twice {X} p q r h (x ∷ xs) = step (p x) (q x) (filter-twice p q r h xs) (h x) refl
   where
@@ -127,7 +127,7 @@ filter-twice {X} p q r h (x ∷ xs) = step (p x) (q x) (filter-twice p q r h xs)
         ap (λ c. cond c (x ∷ filter q front) (filter q front)) f ∙ ap (λ l. cond b (x ∷ l) l) rest ∙ sym (ap (λ c. cond c (x ∷ all) all) e)
     step false b rest e f = rest ∙ sym (ap (λ c. cond c (x ∷ all) all) e)
 
-has_row-both : (m l : List Bool) (row : ℕ) → has_row (joined both m l) row ≡ (has_row m row && has_row l row)
+pub has_row-both : (m l : List Bool) (row : ℕ) → has_row (joined both m l) row ≡ (has_row m row && has_row l row)
 has_row-both [] l row = refl
 has_row-both (x ∷ m) [] row = sym (never (has_row (x ∷ m) row))
   where

@@ -21,5 +21,6 @@ pub mod Walked
 pub mod Stepped
 pub mod Ordered
 pub mod InRange
+pub mod Tested
 pub use Rattle.cat_query.proofs.columns_laws as columns_laws
 pub use Rattle.cat_views.proofs as views_laws

@@ -1,5 +1,5 @@
 //! The pass over the segments of a view.
-ghost use Rattle.std.specs.Prelude.{◌≡◌, ◌<◌, ◌≤◌, ◌+◌, ◌++◌, Bool, false, List, count_by, drop, length, replicate, take, map, option_map, AllPairs, IfOk, IfSome, MatchOption, OnOk};
+ghost use Rattle.std.specs.Prelude.{◌≡◌, ◌<◌, ◌≤◌, ◌+◌, ◌++◌, Bool, false, List, drop, length, replicate, take, map, option_map, AllPairs, IfOk, IfSome, MatchOption, OnOk};
 ghost use Rattle.std.specs.List.{flat_map};
 ghost use Rattle.cat_model.specs.RowSets.{joined, both};
 ghost use Rattle.cat_model.specs.View.{live_rows, row_matches, selected};
@@ -17,8 +17,9 @@ use crate::ask::Wanted;
 use crate::best::Best;
 use crate::entries::{Entry, entries_of, push_entry};
 use crate::hits::Hits;
+use crate::in_range::InRange;
 use crate::leaf_ranks::LeafRanks;
-use crate::offers::{is_beyond, offer_rows};
+use crate::offers::{is_beyond, offer_hits};
 use crate::ranges::{count_live, offer_range, rows_in_order};
 use crate::sort::Order;
 use crate::standings::{Candidate, Rank};
@@ -97,15 +98,13 @@ pub(crate) fn hits_of<'a>(
     if query.is_everything() {
         return Ok(Hits::live_in(leaf));
     }
+    if set.is_none()
+        && let Some(hits) = InRange::of(query, leaf)
+    {
+        return Ok(Hits::InRange(hits));
+    }
     let rows = matched_rows(alloc, query, set, leaf)?;
     Ok(Hits::Matched(rows))
-}
-
-/// As many hits more. What a `usize` can't count doesn't fit in memory either.
-fn counted(total: usize, hits: &Hits) -> Result<usize, AllocError>
-    ensures ok { IfOk result (λ n. n ≡ total + count_by (λ b. b) (hit_rows hits.now)) }
-{
-    total.checked_add(hits.count()).ok_or(AllocError)
 }
 
 /// How many rows at the head of the segment stand before every page behind the mark, in order of addition.
@@ -149,6 +148,37 @@ fn show_rows<'a>(
     Ok(())
 }
 
+/// Shows the hits among the rows from this one on in their order, as far as the mark comes before them, until as many are shown
+/// as are wanted.
+fn show_tested<'a>(
+    alloc: Global,
+    shown: &mut Vec<Entry>,
+    wanted: usize,
+    ranks: &LeafRanks<'a>,
+    hits: &Hits<'_>,
+    from: usize,
+    mark: &Option<Candidate<'a>>,
+) -> Result<(), AllocError>
+    requires long { length (hit_rows hits.now) ≡ length ranks.now }
+    requires within { from ≤ length ranks.now }
+    ensures shown { OnOk result ((standings : List HitStanding) → shown.old.items ≡ take wanted (map entry_shown standings)
+        → shown.new.items ≡ take wanted (map entry_shown (standings
+        ++ behind (mark_standing mark.now) (selected (replicate from false ++ drop from (hit_rows hits.now)) ranks.now)))) }
+{
+    for row in from..ranks.len() {
+        if shown.len() >= wanted {
+            return Ok(());
+        }
+        if hits.contains(row) {
+            let candidate = ranks.at(row);
+            if is_beyond(mark, &candidate) {
+                push_entry(alloc, shown, &candidate)?;
+            }
+        }
+    }
+    Ok(())
+}
+
 /// Shows the hits of a segment in order of addition, as far as the mark comes before them, until as many are shown as are
 /// wanted. The rows that earlier pages had are passed without a look at each, and a segment that has no others is left out.
 fn show_behind(
@@ -157,28 +187,33 @@ fn show_behind(
     wanted: &Wanted<'_>,
     segment: &Segment,
     hits: Hits<'_>,
+    found: usize,
 ) -> Result<(), AllocError>
     requires long { length (hit_rows hits) ≡ length segment.now.rows }
     ensures shown { OnOk result ((standings : List HitStanding) → shown.old.items ≡ take wanted.now.count (map entry_shown standings)
         → shown.new.items ≡ take wanted.now.count (map entry_shown (standings
         ++ behind (mark_standing wanted.now.mark) (selected (hit_rows hits.entry) (map (row_standing Added) segment.now.rows))))) }
 {
+    if shown.len() >= wanted.count {
+        return Ok(());
+    }
     let passed = rows_passed(segment, &wanted.mark);
     if passed == segment.len() {
         return Ok(());
     }
     let ranks = LeafRanks::of(segment, Order::Added);
-    if passed == 0 {
-        return show_rows(
+    if hits.are_met_sooner(found, segment.len(), wanted.count) {
+        return show_tested(
             alloc,
             shown,
             wanted.count,
             &ranks,
-            hits.rows(),
+            &hits,
+            passed,
             &wanted.mark,
         );
     }
-    let mut left = hits.into_rows()?;
+    let mut left = hits.into_rows(alloc)?;
     left.remove_below(passed);
     show_rows(alloc, shown, wanted.count, &ranks, &left, &wanted.mark)
 }
@@ -203,7 +238,7 @@ fn offer_matched<'a>(
     let total = hits.count();
     let ranks = LeafRanks::of(leaf.segment(), wanted.order);
     let reach = Reach::of(total, ranks.len(), wanted.count);
-    offer_rows(best, &ranks, hits.rows(), &wanted.mark, reach)?;
+    offer_hits(alloc, best, &ranks, hits, &wanted.mark, reach)?;
     Ok(total)
 }
 
@@ -221,13 +256,13 @@ fn offer_in_order<'a>(
     ensures best { IfOk result (λ o. MatchOption o (best.new ≡ best.old) (λ n. TakesIn best.old best.new (behind (mark_standing wanted.now.mark)
         (map (row_standing wanted.now.order) (leaf_hits leaf.now (query_of query.now)))))) }
 {
-    let live = leaf.live().rows();
+    let live = Hits::live_in(leaf);
     let ranks = LeafRanks::of(leaf.segment(), wanted.order);
     let Some(rows) = rows_in_order(query, &ranks, wanted.order) else {
         return Ok(None);
     };
     let total = count_live(leaf, rows);
-    offer_range(best, &ranks, rows, live, &wanted.mark)?;
+    offer_range(best, &ranks, rows, &live, &wanted.mark)?;
     Ok(Some(total))
 }
 
@@ -319,8 +354,9 @@ fn added_entries(
     for (index, leaf) in leaves.iter().enumerate() {
         let set = set_at(sets, index);
         let hits = hits_of(alloc, query, set, leaf)?;
-        total = counted(total, &hits)?;
-        show_behind(alloc, &mut shown, wanted, leaf.segment(), hits)?;
+        let found = hits.count();
+        total = more_hits(total, found)?;
+        show_behind(alloc, &mut shown, wanted, leaf.segment(), hits, found)?;
     }
     Ok((total, shown))
 }

@@ -1,16 +1,20 @@
-//! The hits of a leaf: its own live set, lent, or a set that was made of what a query matches.
-ghost use Rattle.std.specs.Prelude.{◌≡◌, IfOk, count_by, length};
+//! The hits of a leaf: its own live set, lent, a test of its rows, or a set that was made of what a query matches.
+ghost use Rattle.std.specs.Prelude.{◌≡◌, ◌<◌, IfOk, count_by, length};
+ghost use Rattle.cat_model.specs.RowSets.{has_row};
 ghost use Rattle.cat_search.specs.Hits.{hit_rows};
 
+use crate::in_range::InRange;
 use cat_query::cat_columns::RowSet;
 use cat_views::Leaf;
-use std::alloc::AllocError;
+use std::alloc::{AllocError, Global};
 
 /// Which rows of a leaf are hits.
 #[derive(Drop)]
 pub(crate) enum Hits<'a> {
     /// All that are live: the live set of the leaf, lent.
     Live(&'a Leaf),
+    /// The live rows whose numbers lie in a range.
+    InRange(InRange<'a>),
     /// Those of the set.
     Matched(RowSet),
 }
@@ -31,26 +35,41 @@ impl<'a> Hits<'a> {
     {
         match self {
             Hits::Live(leaf) => leaf.live_count(),
+            Hits::InRange(hits) => hits.count(),
             Hits::Matched(rows) => rows.count(),
         }
     }
 
-    /// The rows, borrowed.
-    pub(crate) fn rows(&self) -> &RowSet
-        ensures { result.now ≡ hit_rows self.now }
+    /// Whether the row is a hit.
+    pub(crate) fn contains(&self, row: usize) -> bool
+        requires { row < length (hit_rows self.now) }
+        ensures { result ≡ has_row (hit_rows self.now) row }
     {
         match self {
-            Hits::Live(leaf) => leaf.live().rows(),
-            Hits::Matched(rows) => rows,
+            Hits::Live(leaf) => leaf.live().is_live(row),
+            Hits::InRange(hits) => hits.contains(row),
+            Hits::Matched(rows) => rows.contains(row),
+        }
+    }
+
+    /// Whether so many of these hits, which are so many in all, are met sooner by a look at each of the rows than by a look at
+    /// a set that has to be made first: it takes `rows / found` steps to meet one, if they lie anywhere among the rows.
+    pub(crate) fn are_met_sooner(&self, found: usize, rows: usize, wanted: usize) -> bool {
+        match self {
+            Hits::Live(_) | Hits::InRange(_) => {
+                wanted.saturating_mul(rows) <= found.saturating_mul(found)
+            }
+            Hits::Matched(_) => false,
         }
     }
 
     /// The rows as a set that may be changed. Only what is lent is copied.
-    pub(crate) fn into_rows(self) -> Result<RowSet, AllocError>
+    pub(crate) fn into_rows(self, alloc: Global) -> Result<RowSet, AllocError>
         ensures ok { IfOk result (λ s. s ≡ hit_rows self.entry) }
     {
         match self {
             Hits::Live(leaf) => leaf.live().rows().copy(),
+            Hits::InRange(hits) => hits.into_rows(alloc),
             Hits::Matched(rows) => Ok(rows),
         }
     }

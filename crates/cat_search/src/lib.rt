@@ -10,6 +10,7 @@ mod entries;
 mod gathering;
 mod hits;
 mod ids;
+mod in_range;
 mod keys;
 mod leaf_ranks;
 mod mark_rows;

@@ -2,18 +2,20 @@
 ghost use Rattle.std.specs.Prelude.{◌≡◌, length, OnOk};
 ghost use Rattle.cat_model.specs.View.{selected};
 ghost use Rattle.cat_search.specs.Bars.{HaveRanksOf};
+ghost use Rattle.cat_search.specs.Hits.{hit_rows};
 ghost use Rattle.cat_search.specs.Pages.{behind, beyond, if_behind};
 ghost use Rattle.cat_search.specs.Candidates.{TakesIn, mark_standing, standing_of};
 
 use crate::bar::Bar;
 use crate::best::Best;
+use crate::hits::Hits;
 use crate::leaf_ranks::LeafRanks;
 use crate::number_bar::NumberRows;
 use crate::ordinal_bar::KeywordRows;
 use crate::standings::Candidate;
 use crate::walk::{Reach, offer_walk, steps_behind};
 use cat_query::cat_columns::RowSet;
-use std::alloc::AllocError;
+use std::alloc::{AllocError, Global};
 
 /// Whether the mark comes before the hit; so it is where there is no mark.
 pub(crate) fn is_beyond(mark: &Option<Candidate>, candidate: &Candidate) -> bool
@@ -82,27 +84,17 @@ fn offer_by<'a, B: Bar<'a>>(
     Ok(())
 }
 
-/// Offers the hits of a segment to the page, as far as the mark comes before them: in the order of the page as far as it takes
-/// them, where the reach covers that, and else with a look at each hit.
-pub(crate) fn offer_rows<'a>(
+/// Offers the hits of a segment to the page, as far as the mark comes before them, with a look at each of them.
+fn offer_rows<'a>(
     best: &mut Best<Candidate<'a>>,
     ranks: &LeafRanks<'a>,
     hits: &RowSet,
     mark: &Option<Candidate<'a>>,
-    reach: Option<Reach>,
 ) -> Result<(), AllocError>
     requires { length hits.now ≡ length ranks.now }
     ensures limit { best.new.limit ≡ best.old.limit }
     ensures best { OnOk result (TakesIn best.old best.new (behind (mark_standing mark.now) (selected hits.now ranks.now))) }
 {
-    if let Some(reach) = reach
-        && let Some(walk) = ranks.walk()
-    {
-        let left = steps_behind(ranks, walk, mark);
-        if reach.covers(left.again(), hits) {
-            return offer_walk(best, ranks, left, hits, mark);
-        }
-    }
     if let Some((numbers, order)) = ranks.numbers() {
         return offer_by(
             best,
@@ -122,4 +114,33 @@ pub(crate) fn offer_rows<'a>(
         );
     }
     offer_each(best, ranks, hits, mark)
+}
+
+/// Offers the hits of a segment to the page, as far as the mark comes before them: in the order of the page as far as it takes
+/// them, where the reach covers that, and else with a look at each hit.
+pub(crate) fn offer_hits<'a>(
+    alloc: Global,
+    best: &mut Best<Candidate<'a>>,
+    ranks: &LeafRanks<'a>,
+    hits: Hits<'_>,
+    mark: &Option<Candidate<'a>>,
+    reach: Option<Reach>,
+) -> Result<(), AllocError>
+    requires { length (hit_rows hits) ≡ length ranks.now }
+    ensures limit { best.new.limit ≡ best.old.limit }
+    ensures best { OnOk result (TakesIn best.old best.new (behind (mark_standing mark.now) (selected (hit_rows hits.entry) ranks.now))) }
+{
+    if let Some(reach) = reach
+        && let Some(walk) = ranks.walk()
+    {
+        let left = steps_behind(ranks, walk, mark);
+        if reach.covers(left.again(), &hits) {
+            return offer_walk(best, ranks, left, &hits, mark);
+        }
+    }
+    if let Hits::Live(leaf) = &hits {
+        return offer_rows(best, ranks, leaf.live().rows(), mark);
+    }
+    let rows = hits.into_rows(alloc)?;
+    offer_rows(best, ranks, &rows, mark)
 }

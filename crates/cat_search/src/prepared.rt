@@ -115,7 +115,7 @@ impl Prepared {
     {
         let leaf = &self.view.leaves()[index];
         let hits = hits_of(alloc, &self.query, set_at(sets_of(&self.sets), index), leaf)?;
-        hits.into_rows()
+        hits.into_rows(alloc)
     }
 
     /// The page that is asked for of the live rows of the view that the query matches: the first of them behind the mark,

@@ -5,12 +5,14 @@ ghost use Rattle.cat_model.specs.RowSets.{has_row};
 ghost use Rattle.cat_model.specs.View.{Row};
 ghost use Rattle.cat_query.specs.View.{query_of};
 ghost use Rattle.cat_search.specs.Candidates.{TakesIn, mark_standing};
+ghost use Rattle.cat_search.specs.Hits.{hit_rows};
 ghost use Rattle.cat_search.specs.Pages.{behind};
 ghost use Rattle.cat_search.specs.Rows.{row_standing};
 ghost use Rattle.cat_search.specs.Sorts.{GoesBy};
 ghost use Rattle.cat_search.specs.Walks.{AreMatchedRows, IsOrderedRun, standing_at};
 
 use crate::best::Best;
+use crate::hits::Hits;
 use crate::leaf_ranks::LeafRanks;
 use crate::sort::Order;
 use crate::standings::Candidate;
@@ -80,14 +82,14 @@ pub(crate) fn offer_range<'a>(
     best: &mut Best<Candidate<'a>>,
     ranks: &LeafRanks<'a>,
     rows: &'a [u32],
-    live: &RowSet,
+    live: &Hits<'_>,
     mark: &Option<Candidate<'a>>,
 ) -> Result<(), AllocError>
-    requires long { length live.now ≡ length ranks.now }
+    requires long { length (hit_rows live.now) ≡ length ranks.now }
     requires run { IsOrderedRun ranks.now rows.now }
     ensures limit { best.new.limit ≡ best.old.limit }
     ensures best { OnOk result (TakesIn best.old best.new (behind (mark_standing mark.now)
-        (map (standing_at ranks.now) (filter (has_row live.now) rows.now)))) }
+        (map (standing_at ranks.now) (filter (has_row (hit_rows live.now)) rows.now)))) }
 {
     let (_, left) = rows.split_at(rows_passed(ranks, rows, mark));
     offer_walk(best, ranks, Steps::of(RowParts::Whole(left)), live, mark)

@@ -4,16 +4,17 @@ ghost use Rattle.cat_views.specs.cat_segment.RowParts.{parts_of, rows_of_parts};
 ghost use Rattle.cat_model.specs.RowSets.{has_row};
 ghost use Rattle.cat_search.specs.Bars.{IsFullBy};
 ghost use Rattle.cat_search.specs.Candidates.{TakesIn, mark_standing, standing_of};
+ghost use Rattle.cat_search.specs.Hits.{hit_rows};
 ghost use Rattle.cat_search.specs.Pages.{behind, beyond};
 ghost use Rattle.cat_search.specs.Steps.{rows_of_parts_before};
 ghost use Rattle.cat_search.specs.Walks.{EndsPassed, IsRestOfWalk, IsOrderedRun, IsWalk, is_passed, standing_at};
 
 use crate::best::{Best, LEAST_SPARE};
+use crate::hits::Hits;
 use crate::leaf_ranks::LeafRanks;
 use crate::offers::{is_beyond, offer_hit};
 use crate::standings::Candidate;
 use crate::steps::Steps;
-use cat_query::cat_columns::RowSet;
 use cat_views::cat_segment::RowParts;
 use std::alloc::AllocError;
 
@@ -49,8 +50,8 @@ impl Reach {
 
     /// Whether the first steps of the walk meet these hits, or end it. Hits may lie far behind, as those of a range of greater
     /// numbers do.
-    pub(crate) fn covers(&self, steps: Steps<'_>, hits: &RowSet) -> bool
-        requires { All (λ row. row < length hits.now) steps }
+    pub(crate) fn covers(&self, steps: Steps<'_>, hits: &Hits<'_>) -> bool
+        requires { All (λ row. row < length (hit_rows hits.now)) steps }
     {
         let mut left = self.hits;
         let mut more = self.steps;
@@ -183,14 +184,14 @@ pub(crate) fn offer_walk<'a>(
     best: &mut Best<Candidate<'a>>,
     ranks: &LeafRanks<'a>,
     walk: Steps<'_>,
-    hits: &RowSet,
+    hits: &Hits<'_>,
     mark: &Option<Candidate<'a>>,
 ) -> Result<(), AllocError>
-    requires long { length hits.now ≡ length ranks.now }
+    requires long { length (hit_rows hits.now) ≡ length ranks.now }
     requires run { IsOrderedRun ranks.now walk }
     ensures limit { best.new.limit ≡ best.old.limit }
     ensures best { OnOk result (TakesIn best.old best.new (behind (mark_standing mark.now)
-        (map (standing_at ranks.now) (filter (has_row hits.now) walk.entry)))) }
+        (map (standing_at ranks.now) (filter (has_row (hit_rows hits.now)) walk.entry)))) }
 {
     for row in walk {
         if hits.contains(row) {

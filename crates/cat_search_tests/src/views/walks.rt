@@ -1,5 +1,5 @@
-//! Pages by a number or keyword field over segments are the pages over the records that their live rows show, where many rows
-//! tie, stand at an end of the integers, have no value, or are dead, and behind each mark.
+//! Pages by a number or keyword field, and in order of addition, over segments are the pages over the records that their live
+//! rows show, where many rows tie, stand at an end of the integers, have no value, or are dead, and behind each mark.
 ghost use Rattle.std.specs.Prelude.{◌≡◌, ◌≢◌, ◌<◌, true, IfOk, All, AllPairs};
 ghost use Rattle.cat_model.specs.Item.{IsItem};
 
@@ -207,7 +207,20 @@ fn sorts_agree(alloc: Global, view: &View, records: &[Put], field: &str) -> Resu
     Ok(true)
 }
 
-/// Whether all pages by price and by brand are those over the records.
+/// Whether all pages in order of addition are those over the records.
+fn added_agree(alloc: Global, view: &View, records: &[Put]) -> Result<bool, Refusal>
+    requires rising { AllPairs (λ a b. a.number < b.number) records.now }
+    requires items { All (λ p. IsItem view.now.schema p.item) records.now }
+{
+    for &(count, query) in FINDS {
+        if !pages_agree(alloc, view, records, query, Sort::Added, count)? {
+            return Ok(false);
+        }
+    }
+    Ok(true)
+}
+
+/// Whether all pages by price, by brand and in order of addition are those over the records.
 fn walks_agree(alloc: Global, rows: Rows) -> Result<bool, Refusal> {
     let schema = Schema::read(alloc, FIELDS)?;
     let puts = puts_in_order(alloc, &schema, rows, false)?;
@@ -215,7 +228,8 @@ fn walks_agree(alloc: Global, rows: Rows) -> Result<bool, Refusal> {
     let records = puts_in_order(alloc, &schema, rows, true)?;
     let by_price = sorts_agree(alloc, &view, &records, "price")?;
     let by_brand = sorts_agree(alloc, &view, &records, "brand")?;
-    Ok(by_price && by_brand)
+    let added = added_agree(alloc, &view, &records)?;
+    Ok(by_price && by_brand && added)
 }
 
 #[test]

@@ -1,4 +1,4 @@
-use Rattle.std.proofs.Common.{List, subst, ◌≡◌, refl, sym, IfSome, ◌∙◌, map, take, ap}
+use Rattle.std.proofs.Common.{List, subst, ◌≡◌, ◌+◌, refl, sym, IfSome, ◌∙◌, map, take, ap}
 use Rattle.cat_model.specs.View.{row_matches}
 use Rattle.cat_query.specs.View.{query_of}
 use Rattle.cat_search.specs.declared.sort.Order.TheVariants.{Added}
@@ -22,7 +22,7 @@ loop-index-preserved c =
     let rows = hit_rows c.in_ok-hits.hits in
     record {
       total =
-          total_more q leaves i c.index-leaves-index.result c.index-leaves-index.is c.loop-index-test.true rows c.in_ok-hits.ensures.ok c.in_ok-hits.ensures.long c.loop-index.total c.in_ok-total.total c.loop-index.invariant.total c.in_ok-total.ensures.ok;
+          total_more q leaves i c.index-leaves-index.result c.index-leaves-index.is c.loop-index-test.true rows c.in_ok-hits.ensures.ok c.in_ok-hits.ensures.long c.loop-index.total c.in_ok-total.total c.loop-index.invariant.total (c.in_ok-total.ensures.ok ∙ ap (λ n. c.loop-index.total + n) c.count-found.ensures);
       shown = c.in_ok-show_behind.ensures.shown standings c.loop-index.invariant.shown
           ∙ ap (λ (l : List HitStanding). take c.args.wanted.now.count (map entry_shown l)) (standings_more q leaves i c.index-leaves-index.result c.index-leaves-index.is c.loop-index-test.true rows c.in_ok-hits.ensures.ok mark Added segment (map (row_standing Added) segment.rows) c.segment.ensures refl);
     }

@@ -1,5 +1,4 @@
 use Rattle.std.proofs.Common.{◌++◌, ap, length, subst, ◌∙◌}
-use Rattle.cat_model.specs.View.{selected}
 use Rattle.cat_query.specs.View.{query_of}
 use Rattle.cat_views.proofs.Selected.{count-selected}
 use Rattle.cat_search.specs.Candidates.{IsBestAt, mark_standing}
@@ -16,8 +15,6 @@ pub returns-clause-best : goal.returns-clause-best
 returns-clause-best c = λ ps h.
     let leaf = c.args.leaf.now in
     let wanted = c.args.wanted.now in
-    let rows = c.rows.result.now in
-    let is = ap (λ s. selected s leaf.segment.rows) c.rows.ensures ∙ c.in_ok-hits.ensures.ok in
-    subst (λ l. IsBestAt c.offer_rows.new.best (ps ++ behind (mark_standing wanted.mark) l))
-    (hits_standings (query_of c.args.query.now) leaf wanted.order c.segment.result.now c.of-ranks.result rows c.segment.ensures c.of-ranks.ensures is)
-    (c.in_ok-offer_rows.ensures.best ps h)
+    subst (λ l. IsBestAt c.offer_hits.new.best (ps ++ behind (mark_standing wanted.mark) l))
+    (hits_standings (query_of c.args.query.now) leaf wanted.order c.segment.result.now c.of-ranks.result (hit_rows c.in_ok-hits.hits) c.segment.ensures c.of-ranks.ensures c.in_ok-hits.ensures.ok)
+    (c.in_ok-offer_hits.ensures.best ps h)

@@ -1,4 +1,5 @@
-use Rattle.std.proofs.Common.{◌∙◌, ◌++◌, List, take, map, ap, sym, arith, append-nil}
+use Rattle.std.proofs.Common.{◌≤◌, ◌∙◌, ◌++◌, List, length, take, map, ap, sym, arith, append-nil}
+use Rattle.std.proofs.lemmas.List.{map-append}
 use Rattle.std.proofs.lemmas.Result.{on_ok_weaker}
 use Rattle.cat_model.specs.View.{selected}
 use Rattle.cat_search.specs.declared.sort.Order.TheVariants.{Added}
@@ -7,7 +8,9 @@ use Rattle.cat_search.specs.Hits.{hit_rows}
 use Rattle.cat_search.specs.Pages.{behind}
 use Rattle.cat_search.specs.Rows.{row_standing}
 use Rattle.cat_search.specs.Standings.{HitStanding, entry_shown}
+use Rattle.cat_search.proofs.Gathered.{full}
 use Rattle.cat_search.proofs.Passed.{all_passed}
+use Rattle.cat_search.proofs.Tested.{cleared}
 use Rattle.cat_search.proofs.gathering.show_behind.Goals as goal
 
 pub returns-then-passed-len : goal.returns-then-passed-len
@@ -15,17 +18,27 @@ returns-then-passed-len c = record {
   shown = λ standings h.
       let mark = mark_standing c.args.wanted.now.mark in
       let hits = hit_rows c.args.hits in
-      let none = all_passed mark c.rows_passed-passed.result hits (map (row_standing Added) c.args.segment.now.rows) (omega (arith, c.requires.long, c.len.ensures.rows, c.if-passed-len.true)) (c.rows_passed-passed.ensures.passed hits c.requires.long) in
+      let none = all_passed mark c.rows_passed-passed.result hits (map (row_standing Added) c.args.segment.now.rows) (omega (arith, c.requires.long, c.len-2.ensures.rows, c.if-passed-len.true)) (c.rows_passed-passed.ensures.passed hits c.requires.long) in
       h ∙ ap (λ (l : List HitStanding). take c.args.wanted.now.count (map entry_shown l)) (sym (append-nil standings) ∙ ap (λ (l : List HitStanding). standings ++ l) (sym none));
 }
 
-pub returns-then-passed-eq0 : goal.returns-then-passed-eq0
-returns-then-passed-eq0 c = record {
+pub returns-then-are_met_sooner : goal.returns-then-are_met_sooner
+returns-then-are_met_sooner c = record {
   shown =
-      on_ok_weaker c.show_rows.result (λ given standings h.
-      given standings h
-      ∙ ap (λ (l : List HitStanding). take c.args.wanted.now.count (map entry_shown (standings ++ l))) (
+      on_ok_weaker c.show_tested.result (λ given standings h.
       let mark = mark_standing c.args.wanted.now.mark in
-      ap (λ s. behind mark (selected s c.of-ranks.result)) c.rows.ensures ∙ ap (λ r. behind mark (selected (hit_rows c.args.hits) r)) c.of-ranks.ensures
-      )) c.show_rows.ensures.shown;
+      let hits = hit_rows c.args.hits in
+      let passed = c.rows_passed-passed.result in
+      given standings h
+      ∙ ap (λ (l : List HitStanding). take c.args.wanted.now.count (map entry_shown (standings ++ l)))
+      (ap (λ r. behind mark (selected (cleared passed hits) r)) c.of-ranks.ensures ∙ c.rows_passed-passed.ensures.passed hits c.requires.long)) c.show_tested.ensures.shown;
+}
+
+pub returns-then-len-wanted : goal.returns-then-len-wanted
+returns-then-len-wanted c = record {
+  shown = λ standings h.
+      let l = behind (mark_standing c.args.wanted.now.mark) (selected (hit_rows c.args.hits) (map (row_standing Added) c.args.segment.now.rows)) in
+      let many : c.args.wanted.now.count ≤ length c.args.shown.now.items = omega (arith, c.len.ensures, c.if-len-wanted.true, c.args.shown.now.ok.0) in
+      full c.args.wanted.now.count c.args.shown.now.items (map entry_shown standings) (map entry_shown l) h many
+      ∙ ap (take c.args.wanted.now.count) (sym (map-append entry_shown standings l));
 }

@@ -1,6 +1,7 @@
 use Rattle.std.proofs.Common.{◌≡◌, ◌++◌, ◌∷◌, [], sym, ap, subst, ◌∙◌, arith, append_assoc, append-nil}
 use Rattle.cat_search.specs.Bars.{IsFullBy}
 use Rattle.cat_search.specs.Candidates.{IsBestAt, mark_standing, standing_of}
+use Rattle.cat_search.specs.Hits.{hit_rows}
 use Rattle.cat_search.specs.Pages.{if_behind}
 use Rattle.cat_search.proofs.Gathered.{none}
 use Rattle.cat_search.proofs.Stepped.{row_within, taken, hit_taken, other_taken, taken_early}
@@ -9,18 +10,18 @@ use Rattle.cat_search.proofs.walk.offer_walk.Goals as goal
 pub contains-requires : goal.contains-requires
 contains-requires c =
     let rest : c.loop-row.yielded ++ c.in-Some.row ∷ c.next.new.self ≡ c.args.walk = rw c.in-Some.ensures.steps at c.loop-row.invariant.rows in
-    omega (arith, row_within (mark_standing c.args.mark.now) c.args.ranks.now c.args.hits.now c.args.walk c.requires.run c.loop-row.yielded c.in-Some.row c.next.new.self rest, c.requires.long)
+    omega (arith, row_within (mark_standing c.args.mark.now) c.args.ranks.now (hit_rows c.args.hits.now) c.args.walk c.requires.run c.loop-row.yielded c.in-Some.row c.next.new.self rest, c.requires.long)
 
 pub returns-then-is_left_out-clause-best : goal.returns-then-is_left_out-clause-best
 returns-then-is_left_out-clause-best c = λ ps h.
     let rest : c.loop-row.yielded ++ c.in-Some.row ∷ c.next.new.self ≡ c.args.walk = rw c.in-Some.ensures.steps at c.loop-row.invariant.rows in
     let full = subst (IsFullBy c.loop-row.best) (c.at-candidate.ensures none) (c.is_left_out.ensures c.if-is_left_out.true) in
-    taken_early (mark_standing c.args.mark.now) c.args.ranks.now c.args.hits.now c.args.walk c.requires.run c.loop-row.yielded c.in-Some.row c.next.new.self rest c.loop-row.best full ps (c.loop-row.invariant.best ps h)
+    taken_early (mark_standing c.args.mark.now) c.args.ranks.now (hit_rows c.args.hits.now) c.args.walk c.requires.run c.loop-row.yielded c.in-Some.row c.next.new.self rest c.loop-row.best full ps (c.loop-row.invariant.best ps h)
 
 pub loop-row-preserved-in-Continue-1 : goal.loop-row-preserved-in-Continue-1
 loop-row-preserved-in-Continue-1 c =
     let ranks = c.args.ranks.now in
-    let hits = c.args.hits.now in
+    let hits = hit_rows c.args.hits.now in
     let mark = mark_standing c.args.mark.now in
     let done = c.loop-row.yielded in
     let row = c.in-Some.row in
@@ -41,7 +42,7 @@ loop-row-preserved-in-Continue-1 c =
 pub loop-row-preserved : goal.loop-row-preserved
 loop-row-preserved c =
     let ranks = c.args.ranks.now in
-    let hits = c.args.hits.now in
+    let hits = hit_rows c.args.hits.now in
     let mark = mark_standing c.args.mark.now in
     let done = c.loop-row.yielded in
     let row = c.in-Some.row in
@@ -60,4 +61,4 @@ returns-clause-best c = λ ps h.
     let mark = mark_standing c.args.mark.now in
     let ended : c.loop-row.row-iterator ≡ [] = c.in-None.ensures.steps.0 in
     let all : c.loop-row.yielded ≡ c.args.walk = sym (append-nil c.loop-row.yielded) ∙ rw ended at c.loop-row.invariant.rows in
-    subst (λ l. IsBestAt c.loop-row.best (ps ++ taken mark c.args.ranks.now c.args.hits.now l)) all (c.loop-row.invariant.best ps h)
+    subst (λ l. IsBestAt c.loop-row.best (ps ++ taken mark c.args.ranks.now (hit_rows c.args.hits.now) l)) all (c.loop-row.invariant.best ps h)

@@ -2,11 +2,12 @@ use Rattle.std.proofs.Common.{◌≡◌, ◌<◌, ◌++◌, ◌∷◌, [], ◌�
 use Rattle.std.specs.List.{AllByRecursion}
 use Rattle.std.proofs.lemmas.List.Elements.{recursion_from_All}
 use Rattle.cat_views.proofs.Selected.{All-right}
+use Rattle.cat_search.specs.Hits.{hit_rows}
 use Rattle.cat_search.proofs.walk.Reach.covers.Goals as goal
 
 pub contains-requires : goal.contains-requires
 contains-requires c =
-    let n = length c.args.hits.now in
+    let n = length (hit_rows c.args.hits.now) in
     let rest : c.loop-row.yielded ++ c.in-Some.row ∷ c.next.new.self ≡ c.args.steps = rw c.in-Some.ensures.steps at c.loop-row.invariant.rows in
     (All-right (λ r. r < n) c.loop-row.yielded (c.in-Some.row ∷ c.next.new.self) (subst (AllByRecursion (λ r. r < n)) (sym rest) (recursion_from_All (λ r. r < n) c.args.steps c.requires))).0
 
