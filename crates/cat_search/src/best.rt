@@ -7,7 +7,7 @@ use std::alloc::{AllocError, Global};
 use std::marker::Model;
 
 /// By how many items more than the limit a short page gathers at least, before they are put in order.
-pub(crate) const LEAST_SPARE: usize = 16;
+const LEAST_SPARE: usize = 16;
 
 /// The least items, in the order of `T`, of all that were offered, at most as many as its limit; of equal items those
 /// that were offered first.
@@ -81,6 +81,24 @@ impl<T: Ord + Drop> Best<T> {
         self.items.sort()?;
         self.items.truncate(self.limit);
         self.ready = self.items.len();
+        Ok(())
+    }
+
+    /// Whether as many are gathered as are wanted, and it isn't known which of them comes last.
+    fn is_open(&self) -> bool {
+        self.items.len() >= self.limit && self.ready < self.limit
+    }
+
+    /// Has it known which of the items that are wanted comes last, where as many are gathered: what is offered in the order of
+    /// `T` needs no more of them.
+    pub(crate) fn close(&mut self) -> Result<(), AllocError>
+        ensures limit { self.new.limit ≡ self.old.limit }
+        ensures best { OnOk result ((offered : List T) → IsBestOf (less T.cmp) self.old offered → IsBestOf (less T.cmp) self.new offered) }
+    {
+        if !self.is_open() {
+            return Ok(());
+        }
+        self.cut()?;
         Ok(())
     }
 

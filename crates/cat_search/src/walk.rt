@@ -9,7 +9,7 @@ ghost use Rattle.cat_search.specs.Pages.{behind, beyond};
 ghost use Rattle.cat_search.specs.Steps.{rows_of_parts_before};
 ghost use Rattle.cat_search.specs.Walks.{EndsPassed, IsRestOfWalk, IsOrderedRun, IsWalk, is_passed, standing_at};
 
-use crate::best::{Best, LEAST_SPARE};
+use crate::best::Best;
 use crate::hits::Hits;
 use crate::leaf_ranks::LeafRanks;
 use crate::offers::{is_beyond, offer_hit};
@@ -29,23 +29,21 @@ pub(crate) struct Reach {
 }
 
 impl Reach {
-    /// For so many hits among the rows, of which so many are wanted: the page is full once it has gathered some more. If the
-    /// hits lie anywhere in the order, it takes `rows / hits` steps to meet one; where that makes more steps than there are
-    /// hits, a look at each hit takes less time, and so it does where none is wanted.
+    /// For so many hits among the rows, of which so many are wanted. If the hits lie anywhere in the order, it takes
+    /// `rows / hits` steps to meet one; where that makes more steps than there are hits, a look at each hit takes less time, and
+    /// so it does where none is wanted.
     pub(crate) fn of(hits: usize, rows: usize, wanted: usize) -> Option<Reach> {
         if wanted == 0 {
             return None;
         }
-        let gathered = wanted.saturating_add(LEAST_SPARE);
-        let all = gathered.saturating_mul(rows);
+        let all = wanted.saturating_mul(rows);
         if all > hits.saturating_mul(hits) {
             return None;
         }
         let steps = all.saturating_mul(MOST_STEPS).checked_div(hits)?;
-        Some(Reach {
-            hits: gathered,
-            steps,
-        })
+        // Where each row is a hit, nothing has to be looked at to know that.
+        let hits = if hits == rows { 0 } else { wanted };
+        Some(Reach { hits, steps })
     }
 
     /// Whether the first steps of the walk meet these hits, or end it. Hits may lie far behind, as those of a range of greater
@@ -196,6 +194,7 @@ pub(crate) fn offer_walk<'a>(
     for row in walk {
         if hits.contains(row) {
             let candidate = ranks.at(row);
+            best.close()?;
             if is_left_out(best, &candidate) {
                 return Ok(());
             }

@@ -15,11 +15,12 @@ contains-requires c =
 pub returns-then-is_left_out-clause-best : goal.returns-then-is_left_out-clause-best
 returns-then-is_left_out-clause-best c = λ ps h.
     let rest : c.loop-row.yielded ++ c.in-Some.row ∷ c.next.new.self ≡ c.args.walk = rw c.in-Some.ensures.steps at c.loop-row.invariant.rows in
-    let full = subst (IsFullBy c.loop-row.best) (c.at-candidate.ensures none) (c.is_left_out.ensures c.if-is_left_out.true) in
-    taken_early (mark_standing c.args.mark.now) c.args.ranks.now (hit_rows c.args.hits.now) c.args.walk c.requires.run c.loop-row.yielded c.in-Some.row c.next.new.self rest c.loop-row.best full ps (c.loop-row.invariant.best ps h)
+    let kept = c.loop-row.invariant.best ps h in
+    let full = subst (IsFullBy c.close.new.self) (c.at-candidate.ensures none) (c.is_left_out.ensures c.if-is_left_out.true) in
+    taken_early (mark_standing c.args.mark.now) c.args.ranks.now (hit_rows c.args.hits.now) c.args.walk c.requires.run c.loop-row.yielded c.in-Some.row c.next.new.self rest c.close.new.self full ps (kept.0, kept.1, c.in_ok-close.ensures.best kept.0 kept.2)
 
-pub loop-row-preserved-in-Continue-1 : goal.loop-row-preserved-in-Continue-1
-loop-row-preserved-in-Continue-1 c =
+pub loop-row-preserved-in-Continue-branch-2 : goal.loop-row-preserved-in-Continue-branch-2
+loop-row-preserved-in-Continue-branch-2 c =
     let ranks = c.args.ranks.now in
     let hits = hit_rows c.args.hits.now in
     let mark = mark_standing c.args.mark.now in
@@ -33,10 +34,12 @@ loop-row-preserved-in-Continue-1 c =
       can = tt;
       finite = tt;
       rows = append_assoc done (row ∷ []) c.next.new.self ∙ rest;
-      limit = c.in_ok-offer_hit.ensures.limit ∙ c.loop-row.invariant.limit;
-      best = λ ps h. subst (IsBestAt c.offer_hit.new.best)
+      limit = c.in_ok-offer_hit.ensures.limit ∙ c.in_ok-close.ensures.limit ∙ c.loop-row.invariant.limit;
+      best = λ ps h.
+          let kept = c.loop-row.invariant.best ps h in
+          subst (IsBestAt c.offer_hit.new.best)
           (append_assoc ps (taken mark ranks hits done) (if_behind mark p) ∙ ap (λ l. ps ++ l) (sym more))
-          (c.in_ok-offer_hit.ensures.best (ps ++ taken mark ranks hits done) (c.loop-row.invariant.best ps h));
+          (c.in_ok-offer_hit.ensures.best (ps ++ taken mark ranks hits done) (kept.0, kept.1, c.in_ok-close.ensures.best kept.0 kept.2));
     }
 
 pub loop-row-preserved : goal.loop-row-preserved
