@@ -83,8 +83,8 @@ fn matched_rows(
 }
 
 /// The live rows of the leaf that the query matches (Lucene: `BulkScorer.score` with the leaf's `liveDocs`). Where it
-/// matches everything they are all the live rows, of which no set is made; where a set of the matching rows is at hand, no
-/// postings are looked at either.
+/// matches everything they are all the live rows, of which no set is made, and none is where it is one range of numbers; where
+/// a set of the matching rows is at hand, no postings are looked at either.
 pub(crate) fn hits_of<'a>(
     alloc: Global,
     query: &Query,
