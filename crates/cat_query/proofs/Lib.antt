@@ -10,5 +10,6 @@ pub mod Judging
 pub mod Sets
 pub mod SameLists
 pub mod RowTests
+pub mod Listing
 pub mod Everything
 pub use Rattle.cat_segment.proofs.columns_laws as columns_laws

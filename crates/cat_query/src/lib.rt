@@ -11,6 +11,7 @@ mod hashing;
 mod matching;
 mod meaning;
 mod parsing;
+mod postings;
 mod query;
 mod ranges;
 mod reading;
