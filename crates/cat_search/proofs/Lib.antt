@@ -22,5 +22,6 @@ pub mod Stepped
 pub mod Ordered
 pub mod InRange
 pub mod Tested
+pub mod ListedRows
 pub use Rattle.cat_query.proofs.columns_laws as columns_laws
 pub use Rattle.cat_views.proofs as views_laws

@@ -105,18 +105,18 @@ module _ (q : Query) (name : Text) (low high : Option ℤ) (says : (row : Row) �
 abbrev pub cleared : ℕ → List Bool → List Bool
 cleared from hits = replicate from false ++ drop from hits
 
-cleared_low : (from k : ℕ) (rest : List Bool) → k < from → get_or (replicate from false ++ rest) k false ≡ false
+pub cleared_low : (from k : ℕ) (rest : List Bool) → k < from → get_or (replicate from false ++ rest) k false ≡ false
 cleared_low zero k rest h = absurd (omega (arith, h))
 cleared_low (suc from) zero rest h = refl
 cleared_low (suc from) (suc k) rest h = cleared_low from k rest (omega (arith, h))
 
-cleared_high : (from k : ℕ) (hits : List Bool) → from ≤ k → from ≤ length hits → get_or (cleared from hits) k false ≡ get_or hits k false
+pub cleared_high : (from k : ℕ) (hits : List Bool) → from ≤ k → from ≤ length hits → get_or (cleared from hits) k false ≡ get_or hits k false
 cleared_high zero k hits h long = refl
 cleared_high (suc from) k [] h long = absurd (omega (arith, long))
 cleared_high (suc from) zero (b ∷ bs) h long = absurd (omega (arith, h))
 cleared_high (suc from) (suc k) (b ∷ bs) h long = cleared_high from k bs (omega (arith, h)) (omega (arith, long))
 
-cleared_long : (from : ℕ) (hits : List Bool) → from ≤ length hits → length (cleared from hits) ≡ length hits
+pub cleared_long : (from : ℕ) (hits : List Bool) → from ≤ length hits → length (cleared from hits) ≡ length hits
 cleared_long zero hits h = refl
 cleared_long (suc from) [] h = absurd (omega (arith, h))
 cleared_long (suc from) (b ∷ bs) h = let rest = cleared_long from bs (omega (arith, h)) in omega (arith, rest)

@@ -1,7 +1,7 @@
 //! The pass over the segments of a view.
-ghost use Rattle.std.specs.Prelude.{◌≡◌, ◌<◌, ◌≤◌, ◌+◌, ◌++◌, Bool, false, List, drop, length, replicate, take, map, option_map, AllPairs, IfOk, IfSome, MatchOption, OnOk};
+ghost use Rattle.std.specs.Prelude.{◌≡◌, ◌<◌, ◌≤◌, ◌+◌, ◌++◌, All, Bool, filter, false, List, drop, length, replicate, take, map, option_map, AllPairs, IfOk, IfSome, MatchOption, OnOk};
 ghost use Rattle.std.specs.List.{flat_map};
-ghost use Rattle.cat_model.specs.RowSets.{joined, both};
+ghost use Rattle.cat_model.specs.RowSets.{has_row, joined, both};
 ghost use Rattle.cat_model.specs.View.{live_rows, row_matches, selected};
 ghost use Rattle.cat_query.specs.View.{query_of};
 ghost use Rattle.cat_search.specs.declared.sort.Order.TheVariants.{Added};
@@ -12,6 +12,7 @@ ghost use Rattle.cat_search.specs.Pages.{behind};
 ghost use Rattle.cat_search.specs.Rows.{hits_in, leaf_hits, row_standing};
 ghost use Rattle.cat_views.specs.Sets.{AreSets, set_at};
 ghost use Rattle.cat_search.specs.Standings.{HitStanding, entry_shown};
+ghost use Rattle.cat_search.specs.Walks.{standing_at};
 
 use crate::ask::Wanted;
 use crate::best::Best;
@@ -19,6 +20,7 @@ use crate::entries::{Entry, entries_of, push_entry};
 use crate::hits::Hits;
 use crate::in_range::InRange;
 use crate::leaf_ranks::LeafRanks;
+use crate::listed::Listed;
 use crate::offers::{is_beyond, offer_hits};
 use crate::ranges::{count_live, offer_range, rows_in_order};
 use crate::sort::Order;
@@ -83,11 +85,11 @@ fn matched_rows(
 }
 
 /// The live rows of the leaf that the query matches (Lucene: `BulkScorer.score` with the leaf's `liveDocs`). Where it
-/// matches everything they are all the live rows, of which no set is made, and none is where it is one range of numbers; where
-/// a set of the matching rows is at hand, no postings are looked at either.
+/// matches everything they are all the live rows, of which no set is made, and none is where it is one range of numbers or one
+/// word; where a set of the matching rows is at hand, no postings are looked at either.
 pub(crate) fn hits_of<'a>(
     alloc: Global,
-    query: &Query,
+    query: &'a Query,
     set: Option<&DocSet>,
     leaf: &'a Leaf,
 ) -> Result<Hits<'a>, AllocError>
@@ -102,6 +104,11 @@ pub(crate) fn hits_of<'a>(
         && let Some(hits) = InRange::of(query, leaf)
     {
         return Ok(Hits::InRange(hits));
+    }
+    if set.is_none()
+        && let Some(hits) = Listed::of(query, leaf)
+    {
+        return Ok(Hits::Listed(hits));
     }
     let rows = matched_rows(alloc, query, set, leaf)?;
     Ok(Hits::Matched(rows))
@@ -179,6 +186,37 @@ fn show_tested<'a>(
     Ok(())
 }
 
+/// Shows the live ones of these rows in their order, as far as the mark comes before them, until as many are shown as are wanted.
+fn show_listed<'a>(
+    alloc: Global,
+    shown: &mut Vec<Entry>,
+    wanted: usize,
+    ranks: &LeafRanks<'a>,
+    rows: &[u32],
+    live: &Live,
+    mark: &Option<Candidate<'a>>,
+) -> Result<(), AllocError>
+    requires long { length live.now ≡ length ranks.now }
+    requires within { All (λ row. row < length ranks.now) rows.now }
+    ensures shown { OnOk result ((standings : List HitStanding) → shown.old.items ≡ take wanted (map entry_shown standings)
+        → shown.new.items ≡ take wanted (map entry_shown (standings
+        ++ behind (mark_standing mark.now) (map (standing_at ranks.now) (filter (has_row live.now) rows.now))))) }
+{
+    for listed in rows {
+        if shown.len() >= wanted {
+            return Ok(());
+        }
+        let row = *listed as usize;
+        if live.is_live(row) {
+            let candidate = ranks.at(row);
+            if is_beyond(mark, &candidate) {
+                push_entry(alloc, shown, &candidate)?;
+            }
+        }
+    }
+    Ok(())
+}
+
 /// Shows the hits of a segment in order of addition, as far as the mark comes before them, until as many are shown as are
 /// wanted. The rows that earlier pages had are passed without a look at each, and a segment that has no others is left out.
 fn show_behind(
@@ -202,6 +240,10 @@ fn show_behind(
         return Ok(());
     }
     let ranks = LeafRanks::of(segment, Order::Added);
+    if let Hits::Listed(listed) = &hits {
+        let (rows, live) = listed.parts_from(passed);
+        return show_listed(alloc, shown, wanted.count, &ranks, rows, live, &wanted.mark);
+    }
     if hits.are_met_sooner(found, segment.len(), wanted.count) {
         return show_tested(
             alloc,
@@ -237,7 +279,7 @@ fn offer_matched<'a>(
     let hits = hits_of(alloc, query, set, leaf)?;
     let total = hits.count();
     let ranks = LeafRanks::of(leaf.segment(), wanted.order);
-    let reach = Reach::of(total, ranks.len(), wanted.count);
+    let reach = Reach::of(total, ranks.len(), wanted.count, hits.test_cost());
     offer_hits(alloc, best, &ranks, hits, &wanted.mark, reach)?;
     Ok(total)
 }

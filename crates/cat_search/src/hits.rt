@@ -4,9 +4,13 @@ ghost use Rattle.cat_model.specs.RowSets.{has_row};
 ghost use Rattle.cat_search.specs.Hits.{hit_rows};
 
 use crate::in_range::InRange;
+use crate::listed::Listed;
 use cat_query::cat_columns::RowSet;
 use cat_views::Leaf;
 use std::alloc::{AllocError, Global};
+
+/// How many hits of a list are looked at in the time of one binary search in it.
+const SEARCH_COST: usize = 16;
 
 /// Which rows of a leaf are hits.
 #[derive(Drop)]
@@ -15,6 +19,8 @@ pub(crate) enum Hits<'a> {
     Live(&'a Leaf),
     /// The live rows whose numbers lie in a range.
     InRange(InRange<'a>),
+    /// The live rows among those that the segment lists.
+    Listed(Listed<'a>),
     /// Those of the set.
     Matched(RowSet),
 }
@@ -36,6 +42,7 @@ impl<'a> Hits<'a> {
         match self {
             Hits::Live(leaf) => leaf.live_count(),
             Hits::InRange(hits) => hits.count(),
+            Hits::Listed(hits) => hits.count(),
             Hits::Matched(rows) => rows.count(),
         }
     }
@@ -48,7 +55,16 @@ impl<'a> Hits<'a> {
         match self {
             Hits::Live(leaf) => leaf.live().is_live(row),
             Hits::InRange(hits) => hits.contains(row),
+            Hits::Listed(hits) => hits.contains(row),
             Hits::Matched(rows) => rows.contains(row),
+        }
+    }
+
+    /// How many hits are looked at one after another in the time of one test of a row.
+    pub(crate) fn test_cost(&self) -> usize {
+        match self {
+            Hits::Listed(_) => SEARCH_COST,
+            Hits::Live(_) | Hits::InRange(_) | Hits::Matched(_) => 1,
         }
     }
 
@@ -59,7 +75,8 @@ impl<'a> Hits<'a> {
             Hits::Live(_) | Hits::InRange(_) => {
                 wanted.saturating_mul(rows) <= found.saturating_mul(found)
             }
-            Hits::Matched(_) => false,
+            // What is listed stands in order of addition, so it is met by a look at each of the list.
+            Hits::Listed(_) | Hits::Matched(_) => false,
         }
     }
 
@@ -70,6 +87,7 @@ impl<'a> Hits<'a> {
         match self {
             Hits::Live(leaf) => leaf.live().rows().copy(),
             Hits::InRange(hits) => hits.into_rows(alloc),
+            Hits::Listed(hits) => hits.to_set(alloc),
             Hits::Matched(rows) => Ok(rows),
         }
     }

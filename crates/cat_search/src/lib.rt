@@ -13,6 +13,7 @@ mod ids;
 mod in_range;
 mod keys;
 mod leaf_ranks;
+mod listed;
 mod mark_rows;
 mod number_bar;
 mod offers;

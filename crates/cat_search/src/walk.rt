@@ -29,15 +29,15 @@ pub(crate) struct Reach {
 }
 
 impl Reach {
-    /// For so many hits among the rows, of which so many are wanted. If the hits lie anywhere in the order, it takes
-    /// `rows / hits` steps to meet one; where that makes more steps than there are hits, a look at each hit takes less time, and
-    /// so it does where none is wanted.
-    pub(crate) fn of(hits: usize, rows: usize, wanted: usize) -> Option<Reach> {
+    /// For so many hits among the rows, of which so many are wanted, where to test a row takes as long as a look at `cost` hits.
+    /// If the hits lie anywhere in the order, it takes `rows / hits` steps to meet one; where these steps take longer than all
+    /// hits do, a look at each hit takes less time, and so it does where none is wanted.
+    pub(crate) fn of(hits: usize, rows: usize, wanted: usize, cost: usize) -> Option<Reach> {
         if wanted == 0 {
             return None;
         }
         let all = wanted.saturating_mul(rows);
-        if all > hits.saturating_mul(hits) {
+        if all.saturating_mul(cost) > hits.saturating_mul(hits) {
             return None;
         }
         let steps = all.saturating_mul(MOST_STEPS).checked_div(hits)?;

@@ -48,6 +48,9 @@ enum Rows {
     Dead,
     /// The row's number as its price, no brand, and every third row is dead.
     Apart,
+    /// Five prices and brands and none; a title, which most rows have alike, and a label that few have. Every third row of the
+    /// first segment is dead, all of the second are, and none of the third.
+    Worded,
 }
 
 /// The text of the price and the brand of the row where they aren't its number, and nothing for none. Of two rows with brands the one with the greater price
@@ -59,6 +62,12 @@ fn values_of(rows: Rows, number: WriteNo) -> &'static str {
         (Rows::AtTheEnds, 0 | 3) => r#","price":-9223372036854775808,"brand":"a""#,
         (Rows::AtTheEnds, 1 | 4) => r#","price":9223372036854775807,"brand":"zzz""#,
         (Rows::AtTheEnds, _) => "",
+        (Rows::Worded, 0) => r#","title":"cap""#,
+        (Rows::Worded, 1) => r#","title":"Red cap","price":5,"brand":"cord""#,
+        (Rows::Worded, 2) => r#","title":"a red hat","price":-1,"brand":"acme""#,
+        (Rows::Worded, 3) => r#","title":"red","price":0,"color":["blue","red"]"#,
+        (Rows::Worded, 4) => r#","title":"red, red","price":44,"brand":"acme""#,
+        (Rows::Worded, _) => r#","title":"redder","price":43,"brand":"dune""#,
         (_, 0) => "",
         (_, 1) => r#","price":5,"brand":"cord""#,
         (_, 2) => r#","price":-1,"brand":"acme""#,
@@ -74,6 +83,7 @@ fn is_live(rows: Rows, number: WriteNo) -> bool {
         Rows::Tied | Rows::AtTheEnds | Rows::Missing => true,
         Rows::Thinned | Rows::Apart => number % 3 != 0,
         Rows::Dead => false,
+        Rows::Worded => number > 140 || (number <= 70 && number % 3 != 0),
     }
 }
 
@@ -190,6 +200,11 @@ const FINDS: &[(u64, &str)] = &[
     (2, "price:[1 TO 9223372036854775807]"),
     (2, "price:[-9223372036854775807 TO 9223372036854775806]"),
     (1, "brand:[b TO *]"),
+    (1, "brand:acme"),
+    (3, "title:red"),
+    (60, "title:cap"),
+    (2, "color:blue"),
+    (1, "title:blue"),
 ];
 
 /// Whether all pages by the field, rising and falling, are those over the records.
@@ -260,4 +275,9 @@ fn of_dead_rows_alone_none_is_shown(rt: HostRuntime) -> Result<(), Fail> {
 #[test]
 fn a_range_has_few_of_the_rows_or_none(rt: HostRuntime) -> Result<(), Fail> {
     expect_yes(walks_agree(rt.alloc(), Rows::Apart))
+}
+
+#[test]
+fn the_rows_of_a_word_are_shown_where_they_live(rt: HostRuntime) -> Result<(), Fail> {
+    expect_yes(walks_agree(rt.alloc(), Rows::Worded))
 }

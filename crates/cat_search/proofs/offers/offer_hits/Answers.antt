@@ -29,6 +29,15 @@ returns-in-Live-clause-best c =
     let same = c.rows.ensures ∙ c.live.ensures.value ∙ sym (ap hit_rows c.in-Live.is) in
     on_ok _ _ (λ took ps h. subst (λ s. IsBestAt c.offer_rows.new.best (ps ++ behind mark (selected s c.args.ranks.now))) same (took ps h)) c.offer_rows.result c.offer_rows.ensures.best
 
+pub offer_listed-requires : goal.offer_listed-requires
+offer_listed-requires c = sym (ap (λ h. length (hit_rows h)) c.in-Listed.is) ∙ c.requires
+
+pub returns-in-Listed-clause-best : goal.returns-in-Listed-clause-best
+returns-in-Listed-clause-best c =
+    let mark = mark_standing c.args.mark.now in
+    let same = sym (ap hit_rows c.in-Listed.is) in
+    on_ok _ _ (λ took ps h. subst (λ s. IsBestAt c.offer_listed.new.best (ps ++ behind mark (selected s c.args.ranks.now))) same (took ps h)) c.offer_listed.result c.offer_listed.ensures.best
+
 pub returns : goal.returns
 returns c =
     let mark = mark_standing c.args.mark.now in
