@@ -116,6 +116,30 @@ impl<D: Directory + Shelf, J: Naming> Service<D, J> {
         self.desk.lock(rt).prepare(rt, &self.cell, me, token, query)
     }
 
+    /// As [`Service::prepare`], where the lock is free: it doesn't wait. The query comes back where somebody else has the lock.
+    pub fn prepare_if_free<R: Wait>(
+        &self,
+        rt: &R,
+        me: &mut Pass<J>,
+        token: Token,
+        query: Query,
+    ) -> Result<Result<Prepared, Refusal>, Query>
+        ensures seen { Follows me.old me.new }
+        ensures idle { Idle me.old me.new }
+        ensures query { IfOk result (λ told. IfOk told (λ p. p.query ≡ query)) }
+        ensures shown { IfOk result (λ told. IfOk told (λ p. (p.view.token ≡ token) × IsOfGroundList J.from me.new.list p.view)) }
+        ensures refusal { IfOk result (λ told. IfErr told (λ e. (e ≡ NotHeld) ⊎ (e ≡ Memory))) }
+        ensures back { IfErr result (λ q. q ≡ query) }
+    {
+        match self.desk.try_lock() {
+            Some(desk) => {
+                let mut desk = desk;
+                Ok(desk.prepare(rt, &self.cell, me, token, query))
+            }
+            None => Err(query),
+        }
+    }
+
     /// The text that the item of this id came as, in the held view; none where no live row has the id. It is read from the
     /// ledger's own directory, so it needs the lock: a session with a shelf of its own asks [`Hold::get`], which needs none.
     /// (Lucene: `StoredFields.document`.)
@@ -133,6 +157,17 @@ impl<D: Directory + Shelf, J: Naming> Service<D, J> {
     /// [`Prepared::into_query`] gives a query back once its answer is made. (Lucene: `UsageTrackingQueryCachingPolicy.onUse`.)
     pub fn note_query<R: Wait>(&self, rt: &R, query: Query) -> Noted {
         self.desk.lock(rt).note(query)
+    }
+
+    /// As [`Service::note_query`], where the lock is free: it doesn't wait. None where somebody else has the lock.
+    pub fn note_if_free(&self, query: Query) -> Option<Noted> {
+        match self.desk.try_lock() {
+            Some(desk) => {
+                let mut desk = desk;
+                Some(desk.note(query))
+            }
+            None => None,
+        }
     }
 
     /// Ends the right, after which its view may go. One that is another session's, or that the ledger doesn't count, is handed
