@@ -1,0 +1,5 @@
+pub mod Held
+pub mod Telling
+pub mod Counted
+pub mod Differing
+mod Crossings

@@ -1,0 +1,276 @@
+//! A stream of lines, answered by several threads as they come.
+ghost use Rattle.std.specs.Prelude.{◌≡◌, [], true};
+ghost use Rattle.cat_threads.specs.cat_commands.cat_ledger.Ledgers.{shape_in};
+ghost use Rattle.cat_threads.specs.service.Passes.{all_different, seated_by};
+ghost use Rattle.cat_threads.specs.sharing.Grounds.{ground_of};
+
+use crate::answerers::answer_stream;
+use crate::asked::Asked;
+use crate::front::Front;
+use crate::input::{Lines, Next};
+use crate::numbers::rise;
+use crate::opening::begin;
+use crate::output::Output;
+use crate::queues::{Sending, Taking, ends};
+use crate::threads::{Fault, Resting, refuse};
+use cat_base::{LAST_SESSION, Refusal, SessionNo};
+use cat_directory::{Directory, Shelf};
+use cat_items::Schema;
+use cat_threads::cat_commands::cat_protocol::lines::Line;
+use cat_threads::cat_commands::cat_protocol::sending::{flush, send_opened};
+use cat_threads::cat_commands::cat_protocol::serving::text_of;
+use cat_threads::running::{merger, warmer};
+use cat_threads::{Begun, Naming, Pass, Service};
+use std::alloc::{AllocError, Global};
+use std::io::{Read, Write};
+use std::marker::Brand;
+use std::sync::atomic::{AtomicU64, Ordering};
+use std::sync::{Mutex, Wait};
+use std::thread;
+use std::thread::Threads;
+use std::time::Clock;
+
+/// The numbers of all sessions, rising.
+fn all_numbers(alloc: Global) -> Result<Vec<SessionNo>, AllocError> {
+    let mut numbers = Vec::with_capacity(alloc, LAST_SESSION as usize + 1)?;
+    for number in 0..=LAST_SESSION {
+        numbers.push(number)?;
+    }
+    Ok(numbers)
+}
+
+/// The passes in so many heaps, one to each in turn.
+fn dealt<J: Naming>(
+    alloc: Global,
+    passes: Vec<Pass<J>>,
+    heaps: usize,
+) -> Result<Vec<Vec<Pass<J>>>, AllocError> {
+    let mut dealt = Vec::with_capacity(alloc, heaps)?;
+    for _ in 0..heaps {
+        dealt.push(Vec::new(alloc))?;
+    }
+    let mut place: usize = 0;
+    for pass in passes {
+        if let Some(heap) = dealt.get_mut(place) {
+            heap.push(pass)?;
+        }
+        place = if place.saturating_add(1) < heaps {
+            place.saturating_add(1)
+        } else {
+            0
+        };
+    }
+    Ok(dealt)
+}
+
+/// The thread that answers the line: its session's, and the first for a line that can't be read.
+fn place_of(line: &[u8], threads: usize) -> usize {
+    if threads < 2 {
+        return 0;
+    }
+    let Some(text) = text_of(line) else {
+        return 0;
+    };
+    match Line::read(text) {
+        Ok(line) => (line.session as usize).checked_rem(threads).unwrap_or(0),
+        Err(_) => 0,
+    }
+}
+
+/// Lets go what waits for each thread.
+fn let_all_go<R: Wait>(rt: &R, sendings: &mut [Sending]) -> bool {
+    let mut all = true;
+    for sending in sendings {
+        all = sending.let_go(rt) && all;
+    }
+    all
+}
+
+/// Hands the lines of the reader to the threads, up to its end, or until a write has failed.
+fn hand_out<I: Read, W: Write + Drop, R: Wait>(
+    rt: &R,
+    lines: &mut Lines,
+    reader: &mut I,
+    sendings: &mut [Sending],
+    output: &Mutex<Output<W>>,
+) -> Result<(), Fault> {
+    let threads = sendings.len();
+    for _ in rt.forever() {
+        if !lines.is_ready() {
+            if !let_all_go(rt, sendings) {
+                return Err(Fault::Thread);
+            }
+            if output.lock(rt).has_failed() {
+                return Err(Fault::Write);
+            }
+        }
+        match lines.next(reader) {
+            Next::Line => {
+                let place = place_of(lines.line(), threads);
+                if let Some(sending) = sendings.get_mut(place) {
+                    if !sending.add(rt, lines.line()) {
+                        return Err(Fault::Thread);
+                    }
+                }
+            }
+            Next::End => {
+                let_all_go(rt, sendings);
+                return Ok(());
+            }
+            Next::Fault => {
+                let_all_go(rt, sendings);
+                return Err(Fault::Read);
+            }
+        }
+    }
+    unreachable!()
+}
+
+/// Starts a thread for each heap of passes, a merger and a warmer beside them, and hands out the lines.
+fn run_stream<
+    J: Naming + Send + Sync,
+    D: Directory + Shelf + Drop + Send,
+    S: Shelf + Drop + Send,
+    R: Threads + Wait + Clock + Sync,
+    I: Read,
+    W: Write + Drop + Send,
+>(
+    front: &Front<'_, D, J, R>,
+    heaps: Vec<Vec<Pass<J>>>,
+    shelves: Vec<S>,
+    lines: &mut Lines,
+    reader: &mut I,
+    output: &Mutex<Output<W>>,
+) -> Result<(), Fault> {
+    let rt = front.rt;
+    let alloc = front.alloc;
+    let ended = AtomicU64::new(0);
+    let flag = &ended;
+    let apart = heaps.len();
+    thread::scope(thread::scope_env(), rt, move |scope| -> Result<(), Fault> {
+        let job = move || merger(rt, front.service, flag, Resting::new(rt));
+        let Ok(_merger) = scope.spawn(job) else {
+            return Err(Fault::Thread);
+        };
+        let job = move || warmer(rt, front.service, flag, Resting::new(rt));
+        let Ok(_warmer) = scope.spawn(job) else {
+            flag.store(1, Ordering::SeqCst);
+            return Err(Fault::Thread);
+        };
+        let mut shelves = shelves;
+        let mut sendings = Vec::new(alloc);
+        for heap in heaps {
+            let (Ok((sending, taking)), Some(shelf)) = (ends(rt, alloc), shelves.pop()) else {
+                flag.store(1, Ordering::SeqCst);
+                return Err(Fault::Thread);
+            };
+            let job = move || answer_stream(front, heap, apart, shelf, taking, output);
+            let Ok(_answerer) = scope.spawn(job) else {
+                flag.store(1, Ordering::SeqCst);
+                return Err(Fault::Thread);
+            };
+            let Ok(()) = sendings.push(sending) else {
+                flag.store(1, Ordering::SeqCst);
+                return Err(Fault::Thread);
+            };
+        }
+        let handed = hand_out(rt, lines, reader, sendings.as_mut_slice(), output);
+        flag.store(1, Ordering::SeqCst);
+        handed
+    })
+}
+
+/// Runs the service, whose sessions have these numbers, over the stream.
+fn serve_opened<
+    J: Naming + Send + Sync,
+    D: Directory + Shelf + Drop + Send,
+    S: Shelf + Drop + Send,
+    R: Threads + Wait + Clock + Sync,
+    I: Read,
+    W: Write + Drop + Send,
+>(
+    rt: &R,
+    alloc: Global,
+    begun: Begun<D>,
+    schema: &Schema,
+    asked: &Asked,
+    numbers: &[SessionNo],
+    shelves: Vec<S>,
+    lines: &mut Lines,
+    reader: &mut I,
+    output: &Mutex<Output<W>>,
+) -> Result<(), Fault>
+    requires names { (begun.table ≡ J.table) × (J.from ≡ ground_of (shape_in begun.ledger)) × (J.sessions ≡ seated_by [] numbers.now) }
+    requires different { all_different numbers.now ≡ true }
+    requires fields { schema.now ≡ J.from.start.schema }
+{
+    let Ok((service, passes)) = Service::<D, J>::new(alloc, begun, numbers) else {
+        return Err(Fault::Thread);
+    };
+    let Ok(heaps) = dealt(alloc, passes, shelves.len()) else {
+        return Err(Fault::Thread);
+    };
+    let front = Front::new(rt, alloc, &service, schema, asked);
+    run_stream(&front, heaps, shelves, lines, reader, output)
+}
+
+/// Answers each line of the reader as it comes: the first opens the newest commit of the directory, or an empty catalogue where
+/// there is none, and the others are answered by as many threads as there are shelves, with a merger and a warmer beside them. The lines of a
+/// session are answered in their order, and their replies come in it; those of sessions whose numbers leave different remainders
+/// by the number of threads are answered side by side. Replies are whole. What was read is answered, unless a write fails.
+///
+/// (Lucene: an `IndexWriter` with a `ConcurrentMergeScheduler`, and threads that index and search.)
+pub fn serve_stream<
+    D: Directory + Shelf + Drop + Send,
+    S: Shelf + Drop + Send,
+    R: Threads + Wait + Clock + Sync,
+    I: Read,
+    W: Write + Drop + Send,
+>(
+    rt: &R,
+    alloc: Global,
+    device: D,
+    shelves: Vec<S>,
+    reader: &mut I,
+    writer: W,
+) -> Result<(), Fault> {
+    let mut writer = writer;
+    let (Ok(mut lines), Ok(numbers), Ok(asked)) = (
+        Lines::new(alloc),
+        all_numbers(alloc),
+        Asked::new(alloc),
+    ) else {
+        return Err(refuse(Refusal::Memory, &mut writer));
+    };
+    if lines.next(reader) == Next::Fault {
+        return Err(Fault::Read);
+    }
+    let (begun, schema) = match begin(alloc, device, lines.line()) {
+        Ok(opened) => opened,
+        Err(refusal) => return Err(refuse(refusal, &mut writer)),
+    };
+    if send_opened(begun.count(), &mut writer).is_err() || flush(&mut writer).is_err() {
+        return Err(Fault::Write);
+    }
+    // They rise, as they were made.
+    if !rise(numbers.as_slice()) {
+        return Err(Fault::Thread);
+    }
+    let output = Mutex::new(Output::new(writer));
+    serve_opened::<Brand, D, S, R, I, W>(
+        rt,
+        alloc,
+        begun,
+        &schema,
+        &asked,
+        numbers.as_slice(),
+        shelves,
+        &mut lines,
+        reader,
+        &output,
+    )?;
+    if output.into_inner().has_failed() {
+        return Err(Fault::Write);
+    }
+    Ok(())
+}

@@ -1,0 +1,138 @@
+//! A session whose lines are all there, in a thread of its own.
+ghost use Rattle.std.specs.Prelude.{◌≡◌};
+ghost use Rattle.cat_threads.specs.service.Passes.{Follows};
+ghost use Rattle.cat_callers.specs.Sessions.{AreRightsTo};
+
+use crate::asked::Asked;
+use crate::front::Front;
+use crate::holdings::Holdings;
+use cat_directory::{Directory, Shelf};
+use cat_items::Schema;
+use cat_threads::cat_commands::cat_protocol::lines::Line;
+use cat_threads::cat_commands::cat_protocol::replies::{Reply, send_reply};
+use cat_threads::cat_commands::cat_protocol::sending::{WriteFault, send_unreadable};
+use cat_threads::cat_commands::cat_protocol::serving::{split_line, text_of};
+use cat_threads::running::Caller;
+use cat_threads::{Naming, Pass, Service};
+use std::alloc::Global;
+use std::io::Write;
+use std::marker::PhantomData;
+use std::sync::{Mutex, Wait};
+
+/// What a session is told.
+#[derive(Drop)]
+pub(crate) struct Told {
+    pub(crate) text: Vec<u8>,
+    /// Whether that is all. Memory may have been wanting.
+    pub(crate) whole: bool,
+}
+
+/// What a session says, and where it keeps what it is told.
+#[derive(Drop)]
+pub(crate) struct Talk<'a, J: Naming, S: Shelf + Drop> {
+    pub(crate) alloc: Global,
+    pub(crate) schema: &'a Schema,
+    pub(crate) asked: &'a Asked,
+    pub(crate) said: &'a [u8],
+    pub(crate) shelf: S,
+    pub(crate) told: &'a Mutex<Told>,
+    pub(crate) of: PhantomData<J>,
+    ghost fields: { schema.now ≡ J.from.start.schema },
+}
+
+impl<'a, J: Naming, S: Shelf + Drop> Talk<'a, J, S> {
+    pub(crate) fn new(
+        alloc: Global,
+        schema: &'a Schema,
+        asked: &'a Asked,
+        said: &'a [u8],
+        shelf: S,
+        told: &'a Mutex<Told>,
+    ) -> Talk<'a, J, S>
+        requires { schema.now ≡ J.from.start.schema }
+    {
+        Talk {
+            alloc,
+            schema,
+            asked,
+            said,
+            shelf,
+            told,
+            of: PhantomData,
+        }
+    }
+}
+
+impl<'a, D: Directory + Shelf, J: Naming, R: Wait> Front<'a, D, J, R> {
+    /// Answers a line of the session, and writes the reply.
+    fn reply_to<S: Shelf, W: Write>(
+        &self,
+        me: &mut Pass<J>,
+        holdings: &mut Holdings,
+        shelf: &mut S,
+        line: &[u8],
+        to: &mut W,
+    ) -> Result<(), WriteFault>
+        requires own { holdings.old.session ≡ me.old.session }
+        requires rights { AreRightsTo J.from me.old holdings.old.rights }
+        ensures own { holdings.new.session ≡ me.new.session }
+        ensures rights { AreRightsTo J.from me.new holdings.new.rights }
+        ensures seen { Follows me.old me.new }
+    {
+        let Some(text) = text_of(line) else {
+            return send_unreadable(to);
+        };
+        let Ok(line) = Line::read(text) else {
+            return send_unreadable(to);
+        };
+        let answer = self.tell(me, holdings, shelf, line.command);
+        let session = line.session;
+        send_reply(&Reply { session, answer }, to)
+    }
+
+    /// Answers all lines of the session, one behind another.
+    fn reply_to_all<S: Shelf, W: Write>(
+        &self,
+        me: &mut Pass<J>,
+        holdings: &mut Holdings,
+        shelf: &mut S,
+        said: &[u8],
+        to: &mut W,
+    ) -> Result<(), WriteFault>
+        requires own { holdings.old.session ≡ me.old.session }
+        requires rights { AreRightsTo J.from me.old holdings.old.rights }
+        ensures own { holdings.new.session ≡ me.new.session }
+        ensures rights { AreRightsTo J.from me.new holdings.new.rights }
+        ensures same { me.new.session ≡ me.old.session }
+    {
+        let mut rest = said;
+        'lines: while let Some((line, more)) = split_line(rest) {
+            self.reply_to(me, holdings, shelf, line, to)?;
+            rest = more;
+        }
+        Ok(())
+    }
+}
+
+impl<'a, D: Directory + Shelf, J: Naming, S: Shelf + Drop, R: Wait> Caller<D, J, R>
+    for Talk<'a, J, S> {
+    fn call(self, rt: &R, service: &Service<D, J>, me: &mut Pass<J>) {
+        let Talk {
+            alloc,
+            schema,
+            asked,
+            said,
+            mut shelf,
+            told,
+            of: _,
+        } = self;
+        let front = Front::new(rt, alloc, service, schema, asked);
+        let mut holdings = Holdings::new(alloc, me.session());
+        let mut text = Vec::new(alloc);
+        let whole = front
+            .reply_to_all(me, &mut holdings, &mut shelf, said, &mut text)
+            .is_ok();
+        front.end_holdings(me, holdings);
+        *told.lock(rt) = Told { text, whole };
+    }
+}

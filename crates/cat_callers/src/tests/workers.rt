@@ -1,0 +1,252 @@
+//! Sessions in threads, with a merger and a warmer beside them.
+ghost use Rattle.std.specs.Prelude.{◌≡◌, [], true};
+ghost use Rattle.cat_threads.specs.cat_commands.cat_ledger.Ledgers.{shape_in};
+ghost use Rattle.cat_threads.specs.service.Passes.{all_different, seated_by};
+ghost use Rattle.cat_threads.specs.sharing.Grounds.{ground_of};
+
+use crate::tests::{FIELDS, begin_in_memory, item_text, shown_in};
+use cat_base::{Refusal, SessionNo};
+use cat_directory::MemoryDirectory;
+use cat_items::Schema;
+use cat_threads::cat_commands::cat_ledger::Grant;
+use cat_threads::running::{Caller, Gate, run_threads};
+use cat_threads::{Begun, Naming, Pass, Service, Write};
+use std::alloc::Global;
+use std::marker::Brand;
+use std::process::Abort;
+use std::sync::Wait;
+use std::sync::atomic::{AtomicU64, Ordering};
+use std::test::*;
+use std::thread;
+use std::thread::Threads;
+use std::time::{Clock, Duration};
+
+/// How often a thread looks for what it waits for, a millisecond apart.
+const LOOKS: u64 = 10_000;
+
+/// Two sessions, a merger and a warmer.
+const ALL: u64 = 4;
+
+/// Waits until the number is no less, and says whether it came to that.
+fn reaches<R: Clock>(rt: &R, number: &AtomicU64, least: u64) -> bool {
+    for _ in 0..LOOKS {
+        if number.load(Ordering::SeqCst) >= least {
+            return true;
+        }
+        thread::sleep(rt, Duration::from_millis(1));
+    }
+    false
+}
+
+/// What two sessions, a merger and a warmer tell each other.
+#[derive(Drop)]
+struct Board {
+    /// How many of them have come.
+    come: AtomicU64,
+    /// How many sessions hold a view.
+    held: AtomicU64,
+    /// How many are inside a locked section that waits for the pages.
+    inside: AtomicU64,
+    /// How many pages were made.
+    pages: AtomicU64,
+    /// How much went as it should.
+    right: AtomicU64,
+}
+
+impl Board {
+    fn new() -> Board {
+        Board {
+            come: AtomicU64::new(0),
+            held: AtomicU64::new(0),
+            inside: AtomicU64::new(0),
+            pages: AtomicU64::new(0),
+            right: AtomicU64::new(0),
+        }
+    }
+
+    /// Comes, and waits for all of them.
+    fn meets<R: Clock>(&self, rt: &R) {
+        self.come.fetch_add(1, Ordering::SeqCst);
+        if reaches(rt, &self.come, ALL) {
+            self.right.fetch_add(1, Ordering::SeqCst);
+        }
+    }
+}
+
+/// The merger's gate: its first locked section lasts until both sessions have their pages.
+#[derive(Drop)]
+struct Merging<'a, R> {
+    rt: &'a R,
+    board: &'a Board,
+    has_come: bool,
+    was_inside: bool,
+}
+
+impl<'a, R: Clock> Gate for Merging<'a, R> {
+    fn go_on(&mut self) -> bool {
+        if !self.has_come {
+            self.has_come = true;
+            self.board.meets(self.rt);
+            // The sessions hold their views before the lock is held long.
+            let _held = reaches(self.rt, &self.board.held, 2);
+        }
+        true
+    }
+
+    fn inside(&mut self) {
+        if !self.was_inside {
+            self.was_inside = true;
+            self.board.inside.store(1, Ordering::SeqCst);
+            if reaches(self.rt, &self.board.pages, 2) {
+                self.board.right.fetch_add(1, Ordering::SeqCst);
+            }
+        }
+    }
+}
+
+/// The warmer's gate: it comes once, and sleeps where there is nothing to warm.
+#[derive(Drop)]
+struct Warming<'a, R> {
+    rt: &'a R,
+    board: &'a Board,
+    has_come: bool,
+    is_idle: bool,
+}
+
+impl<'a, R: Clock> Gate for Warming<'a, R> {
+    fn go_on(&mut self) -> bool {
+        if !self.has_come {
+            self.has_come = true;
+            self.board.meets(self.rt);
+        }
+        if self.is_idle {
+            self.is_idle = false;
+            thread::sleep(self.rt, Duration::from_millis(1));
+        }
+        true
+    }
+
+    fn inside(&mut self) {}
+
+    fn idle(&mut self) {
+        self.is_idle = true;
+    }
+}
+
+/// A session that opens a view, and asks for a page of it while the merger has the lock.
+#[derive(Drop)]
+struct Reading<'a> {
+    alloc: Global,
+    schema: &'a Schema,
+    board: &'a Board,
+}
+
+impl<'a, J: Naming, R: Wait + Clock + Abort> Caller<MemoryDirectory, J, R> for Reading<'a> {
+    fn call(self, rt: &R, service: &Service<MemoryDirectory, J>, me: &mut Pass<J>) {
+        self.board.meets(rt);
+        if reads(rt, self.alloc, self.schema, self.board, service, me).is_ok() {
+            self.board.right.fetch_add(1, Ordering::SeqCst);
+        }
+    }
+}
+
+/// Writes an item, opens a view of it, and asks for a page of the view while the lock is held by the merger.
+fn reads<J: Naming, R: Wait + Clock + Abort>(
+    rt: &R,
+    alloc: Global,
+    schema: &Schema,
+    board: &Board,
+    service: &Service<MemoryDirectory, J>,
+    me: &mut Pass<J>,
+) -> Result<(), Refusal>
+    ensures { me.new.session ≡ me.old.session }
+{
+    let text = item_text(alloc, "a")?;
+    let item = schema.item(alloc, text.as_bytes())?;
+    let _number = service.write(rt, me, Write::Put(item))?;
+    let _token = service.refresh(rt, me)?;
+    match service.open(rt, me, None)? {
+        Grant::New(hold) => {
+            board.held.fetch_add(1, Ordering::SeqCst);
+            let is_locked = reaches(rt, &board.inside, 1);
+            let shown = shown_in(alloc, schema, hold.view());
+            board.pages.fetch_add(1, Ordering::SeqCst);
+            assert!(rt; is_locked, "the lock");
+            assert!(rt; shown == Ok(1), "the page");
+            if let Err(hold) = service.close(rt, me, hold) {
+                hold.give_up();
+                assert!(rt; false, "the close");
+            }
+        }
+        Grant::Already(_) => assert!(rt; false, "the right"),
+    }
+    Ok(())
+}
+
+#[test]
+fn all_at_once_and_pages_while_the_merger_has_the_lock(rt: HostRuntime) -> Result<(), Fail> {
+    let alloc = rt.alloc();
+    let schema = Schema::read(alloc, FIELDS)?;
+    let mine = schema.copy()?;
+    let begun = begin_in_memory(alloc, schema)?;
+    run_all::<Brand, _>(&rt, alloc, &mine, begun, [1, 2])
+}
+
+fn run_all<J: Naming + Send + Sync, R: Threads + Wait + Clock + Abort + Sync>(
+    rt: &R,
+    alloc: Global,
+    schema: &Schema,
+    begun: Begun<MemoryDirectory>,
+    sessions: [SessionNo; 2],
+) -> Result<(), Fail>
+    requires names { (begun.table ≡ J.table) × (J.from ≡ ground_of (shape_in begun.ledger)) × (J.sessions ≡ seated_by [] sessions) }
+    requires different { all_different sessions ≡ true }
+{
+    let board = Board::new();
+    let Ok((service, passes)) = Service::<MemoryDirectory, J>::new(alloc, begun, &sessions) else {
+        return Err("memory".into());
+    };
+    let passes = side_by_side(rt, alloc, schema, &board, &service, passes)?;
+    assert_eq!(rt; passes.len(), 2);
+    let ledger = service.finish(rt, passes);
+    assert_eq!(rt; ledger.count(), 2);
+    // All four met, both sessions came to their ends, and the merger saw both pages.
+    assert_eq!(rt; board.right.load(Ordering::SeqCst), ALL + 3);
+    Ok(())
+}
+
+/// Runs the sessions, each of which asks for a page, with the workers beside them.
+fn side_by_side<J: Naming + Send + Sync, R: Threads + Wait + Clock + Abort + Sync>(
+    rt: &R,
+    alloc: Global,
+    schema: &Schema,
+    board: &Board,
+    service: &Service<MemoryDirectory, J>,
+    passes: Vec<Pass<J>>,
+) -> Result<Vec<Pass<J>>, Fail> {
+    let mut jobs = Vec::new(alloc);
+    for pass in passes {
+        let reading = Reading {
+            alloc,
+            schema,
+            board,
+        };
+        jobs.push((pass, reading))?;
+    }
+    let merging = Merging {
+        rt,
+        board,
+        has_come: false,
+        was_inside: false,
+    };
+    let warming = Warming {
+        rt,
+        board,
+        has_come: false,
+        is_idle: false,
+    };
+    match run_threads(rt, alloc, service, jobs, merging, warming) {
+        Ok(passes) => Ok(passes),
+        Err(_) => Err("threads".into()),
+    }
+}

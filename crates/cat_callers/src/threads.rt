@@ -1,0 +1,344 @@
+//! All lines of an input, each session's in a thread of its own.
+ghost use Rattle.std.specs.Prelude.{◌≡◌, [], true, IfOk};
+ghost use Rattle.cat_threads.specs.cat_commands.cat_ledger.Ledgers.{shape_in};
+ghost use Rattle.cat_threads.specs.service.Passes.{all_different, seated_by};
+ghost use Rattle.cat_threads.specs.sharing.Grounds.{ground_of};
+
+use crate::asked::Asked;
+use crate::heard::{Heard, MAX_THREADS, Spoken, hear_all};
+use crate::input::{Lines, Next};
+use crate::numbers::rise;
+use crate::opening::begin;
+use crate::talking::{Talk, Told};
+use cat_base::{Refusal, SessionNo, WriteNo};
+use cat_directory::{Directory, Shelf};
+use cat_items::Schema;
+use cat_threads::cat_commands::cat_protocol::sending::{
+    WriteFault, flush, send, send_number, send_opened, send_refused, send_unreadable,
+};
+use cat_threads::running::{Gate, run_threads};
+use cat_threads::{Begun, Naming, Pass, Service};
+use std::alloc::{AllocError, Global};
+use std::io::{Read, Write};
+use std::marker::Brand;
+use std::sync::{Mutex, Wait};
+use std::thread;
+use std::thread::Threads;
+use std::time::{Clock, Duration};
+
+/// Why an input isn't answered to its end.
+#[derive(Clone, Copy, Debug, PartialEq, Eq)]
+pub enum Fault {
+    /// The first line was refused, and that is all that was said.
+    Schema,
+    /// A read failed, or memory for the lines was wanting.
+    Read,
+    /// A thread couldn't be started.
+    Thread,
+    /// A write failed, or memory for the replies was wanting.
+    Write,
+}
+
+/// The gate of a worker that rests where there was nothing to do.
+#[derive(Drop)]
+pub(crate) struct Resting<'a, R> {
+    rt: &'a R,
+    is_idle: bool,
+}
+
+impl<'a, R> Resting<'a, R> {
+    pub(crate) fn new(rt: &'a R) -> Resting<'a, R> {
+        Resting { rt, is_idle: true }
+    }
+}
+
+impl<'a, R: Clock> Gate for Resting<'a, R> {
+    fn go_on(&mut self) -> bool {
+        if self.is_idle {
+            thread::sleep(self.rt, Duration::from_millis(1));
+        }
+        self.is_idle = false;
+        true
+    }
+
+    fn inside(&mut self) {}
+
+    fn idle(&mut self) {
+        self.is_idle = true;
+    }
+}
+
+/// The numbers of the sessions that run, as these stand.
+fn running_numbers(alloc: Global, spoken: &[Spoken]) -> Result<Vec<SessionNo>, AllocError> {
+    let mut numbers = Vec::with_capacity(alloc, spoken.len())?;
+    for each in spoken {
+        if each.runs {
+            numbers.push(each.number)?;
+        }
+    }
+    Ok(numbers)
+}
+
+/// Nothing is told yet, to as many sessions.
+fn nothing_told(alloc: Global, count: usize) -> Result<Vec<Mutex<Told>>, AllocError> {
+    let mut told = Vec::with_capacity(alloc, count)?;
+    for _ in 0..count {
+        let text = Vec::new(alloc);
+        told.push(Mutex::new(Told { text, whole: false }))?;
+    }
+    Ok(told)
+}
+
+/// The sessions that run, and where each session is told what it is told.
+#[derive(Drop)]
+struct Seats {
+    /// The numbers of those that run.
+    numbers: Vec<SessionNo>,
+    /// For each session, also for those that don't run.
+    told: Vec<Mutex<Told>>,
+}
+
+impl Seats {
+    /// Those of the sessions, nothing told yet.
+    fn of(alloc: Global, spoken: &[Spoken]) -> Result<Seats, Fault>
+        ensures { IfOk result (λ s. all_different s.numbers.items ≡ true) }
+    {
+        let Ok(numbers) = running_numbers(alloc, spoken) else {
+            return Err(Fault::Thread);
+        };
+        let Ok(told) = nothing_told(alloc, spoken.len()) else {
+            return Err(Fault::Thread);
+        };
+        // They were sorted, and each session was heard once.
+        if !rise(numbers.as_slice()) {
+            return Err(Fault::Thread);
+        }
+        Ok(Seats { numbers, told })
+    }
+}
+
+/// What is heard once the reply to the first line has gone out: all lines, and the seats of those who say them.
+fn hear<I: Read, W: Write>(
+    alloc: Global,
+    opened: WriteNo,
+    lines: &mut Lines,
+    reader: &mut I,
+    writer: &mut W,
+) -> Result<(Heard, Seats), Fault>
+    ensures { IfOk result (λ r. all_different r.1.numbers.items ≡ true) }
+{
+    if send_opened(opened, writer).is_err() || flush(writer).is_err() {
+        return Err(Fault::Write);
+    }
+    let Some(heard) = hear_all(alloc, lines, reader) else {
+        return Err(Fault::Read);
+    };
+    let seats = Seats::of(alloc, heard.spoken.as_slice())?;
+    Ok((heard, seats))
+}
+
+/// What the sessions of the passes say, each with a shelf and with where it is told. Fewer where there are too few of these.
+fn seated<'a, J: Naming, S: Shelf + Drop>(
+    alloc: Global,
+    schema: &'a Schema,
+    asked: &'a Asked,
+    passes: Vec<Pass<J>>,
+    spoken: &'a [Spoken],
+    told: &'a [Mutex<Told>],
+    shelves: Vec<S>,
+) -> Option<Vec<(Pass<J>, Talk<'a, J, S>)>>
+    requires { schema.now ≡ J.from.start.schema }
+{
+    let mut shelves = shelves;
+    let mut sessions = Vec::new(alloc);
+    let mut seats = spoken.iter().zip(told.iter()).filter(|seat| seat.0.runs);
+    for pass in passes {
+        let (Some((spoken, told)), Some(shelf)) = (seats.next(), shelves.pop()) else {
+            return None;
+        };
+        let talk = Talk::new(alloc, schema, asked, spoken.lines.as_slice(), shelf, told);
+        let Ok(()) = sessions.push((pass, talk)) else {
+            return None;
+        };
+    }
+    Some(sessions)
+}
+
+/// Runs the sessions of the passes over the service.
+fn run_seated<
+    J: Naming + Send + Sync,
+    D: Directory + Shelf + Drop + Send,
+    S: Shelf + Drop + Send,
+    R: Threads + Wait + Clock + Sync,
+>(
+    rt: &R,
+    alloc: Global,
+    service: &Service<D, J>,
+    passes: Vec<Pass<J>>,
+    schema: &Schema,
+    spoken: &[Spoken],
+    shelves: Vec<S>,
+    told: &[Mutex<Told>],
+) -> Result<(), Fault>
+    requires { schema.now ≡ J.from.start.schema }
+{
+    let Ok(asked) = Asked::new(alloc) else {
+        return Err(Fault::Thread);
+    };
+    let Some(sessions) = seated(alloc, schema, &asked, passes, spoken, told, shelves) else {
+        return Err(Fault::Thread);
+    };
+    let merging = Resting::new(rt);
+    match run_threads(rt, alloc, service, sessions, merging, Resting::new(rt)) {
+        Ok(_passes) => Ok(()),
+        Err(_) => Err(Fault::Thread),
+    }
+}
+
+/// Runs the sessions, whose numbers these are. What each is told stands at its place afterwards.
+fn run_sessions<
+    J: Naming + Send + Sync,
+    D: Directory + Shelf + Drop + Send,
+    S: Shelf + Drop + Send,
+    R: Threads + Wait + Clock + Sync,
+>(
+    rt: &R,
+    alloc: Global,
+    begun: Begun<D>,
+    schema: &Schema,
+    numbers: &[SessionNo],
+    spoken: &[Spoken],
+    shelves: Vec<S>,
+    told: &[Mutex<Told>],
+) -> Result<(), Fault>
+    requires names { (begun.table ≡ J.table) × (J.from ≡ ground_of (shape_in begun.ledger)) × (J.sessions ≡ seated_by [] numbers.now) }
+    requires different { all_different numbers.now ≡ true }
+    requires fields { schema.now ≡ J.from.start.schema }
+{
+    let Ok((service, passes)) = Service::<D, J>::new(alloc, begun, numbers) else {
+        return Err(Fault::Thread);
+    };
+    run_seated(rt, alloc, &service, passes, schema, spoken, shelves, told)
+}
+
+/// Writes what each session was told, and that those which didn't run have no command.
+fn send_told<W: Write>(
+    spoken: &[Spoken],
+    told: Vec<Mutex<Told>>,
+    to: &mut W,
+) -> Result<(), WriteFault> {
+    let mut seats = spoken.iter();
+    for told in told {
+        let Some(spoken) = seats.next() else {
+            return Ok(());
+        };
+        if spoken.runs {
+            let told = told.into_inner();
+            send(told.text.as_slice(), to)?;
+            if !told.whole {
+                return Err(WriteFault);
+            }
+        } else {
+            for _ in 0..spoken.count {
+                send_number(spoken.number as u64, b" NO 10\n", to)?;
+            }
+        }
+    }
+    Ok(())
+}
+
+/// Writes the replies: to the lines that can't be read, and then each session's, by rising number.
+fn send_replies<W: Write>(
+    heard: &Heard,
+    told: Vec<Mutex<Told>>,
+    to: &mut W,
+) -> Result<(), WriteFault> {
+    for _ in 0..heard.unreadable {
+        send_unreadable(to)?;
+    }
+    send_told(heard.spoken.as_slice(), told, to)?;
+    flush(to)
+}
+
+/// Hears the lines behind the first, runs all sessions, and writes what they are told.
+fn answer_all<
+    D: Directory + Shelf + Drop + Send,
+    S: Shelf + Drop + Send,
+    R: Threads + Wait + Clock + Sync,
+    I: Read,
+    W: Write,
+>(
+    rt: &R,
+    alloc: Global,
+    begun: Begun<D>,
+    schema: &Schema,
+    shelves: Vec<S>,
+    lines: &mut Lines,
+    reader: &mut I,
+    writer: &mut W,
+) -> Result<(), Fault>
+    requires fields { (shape_in begun.ledger).schema ≡ schema.now }
+{
+    let (heard, seats) = hear(alloc, begun.count(), lines, reader, writer)?;
+    let Seats { numbers, told } = seats;
+    run_sessions::<Brand, D, S, R>(
+        rt,
+        alloc,
+        begun,
+        schema,
+        numbers.as_slice(),
+        heard.spoken.as_slice(),
+        shelves,
+        told.as_slice(),
+    )?;
+    match send_replies(&heard, told, writer) {
+        Ok(()) => Ok(()),
+        Err(WriteFault) => Err(Fault::Write),
+    }
+}
+
+/// Says why nothing is opened.
+pub(crate) fn refuse<W: Write>(refusal: Refusal, to: &mut W) -> Fault {
+    if send_refused(refusal, to).is_err() || flush(to).is_err() {
+        Fault::Write
+    } else {
+        Fault::Schema
+    }
+}
+
+/// Answers the lines of the reader, up to [`MAX_LINES`](crate::MAX_LINES) behind the first, which opens the newest commit of the
+/// directory, or an empty catalogue where there is none. Once all have come, each of the first [`MAX_THREADS`] sessions runs in a
+/// thread of its own, its lines in order, with a merger and a warmer beside them; it reads stored texts from one of the shelves, of
+/// which there are as many. Lines of other sessions are refused with [`Refusal::Line`]. What is written is the reply to the first line, the
+/// replies to lines that can't be read, and then those of each session, by rising number.
+///
+/// (Lucene: an `IndexWriter` with a `ConcurrentMergeScheduler`, and threads that index and search.)
+pub fn serve_threads<
+    D: Directory + Shelf + Drop + Send,
+    S: Shelf + Drop + Send,
+    R: Threads + Wait + Clock + Sync,
+    I: Read,
+    W: Write,
+>(
+    rt: &R,
+    alloc: Global,
+    device: D,
+    shelves: Vec<S>,
+    reader: &mut I,
+    writer: &mut W,
+) -> Result<(), Fault> {
+    let Ok(mut lines) = Lines::new(alloc) else {
+        return Err(refuse(Refusal::Memory, writer));
+    };
+    // An input of no bytes has one line, which is empty.
+    if lines.next(reader) == Next::Fault {
+        return Err(Fault::Read);
+    }
+    let (begun, schema) = match begin(alloc, device, lines.line()) {
+        Ok(opened) => opened,
+        Err(refusal) => return Err(refuse(refusal, writer)),
+    };
+    answer_all(
+        rt, alloc, begun, &schema, shelves, &mut lines, reader, writer,
+    )
+}
