@@ -2,12 +2,14 @@
 use Rattle.std.specs.Prelude.{◌≡◌, ◌≢◌, ◌⊎◌, ℕ, List, codes, Result, Ok, Err}
 use Rattle.cat_service.specs.cat_protocol.declared.serving.serving.ServeFault.{ServeFault}
 use Rattle.cat_service.specs.cat_protocol.declared.serving.serving.ServeFault.TheVariants as fault
+use Rattle.cat_callers.specs.declared.threads.Fault.{Fault as ThreadsFault}
+use Rattle.cat_callers.specs.declared.threads.Fault.TheVariants as threads
 use Rattle.catalogue.specs.declared.arguments.Task.{Task}
 use Rattle.catalogue.specs.declared.arguments.Task.TheVariants as task
 use Rattle.catalogue.specs.declared.endings.RunFault.{RunFault}
-use Rattle.catalogue.specs.declared.endings.RunFault.TheVariants.{InUse, Serving}
+use Rattle.catalogue.specs.declared.endings.RunFault.TheVariants.{InUse, Serving, NotStarted}
 use Rattle.catalogue.specs.declared.endings.Ending.{Ending}
-use Rattle.catalogue.specs.declared.endings.Ending.TheVariants.{EndOfInput, WrongArguments, SchemaRefused, Fault}
+use Rattle.catalogue.specs.declared.endings.Ending.TheVariants.{EndOfInput, WrongArguments, SchemaRefused, Fault, Unstarted}
 
 -- what ended serving where the folder is in use, by how it ended: a read or a write that failed, and else that
 abbrev pub in_use_fault : Result (Unit {0}) ServeFault → RunFault
@@ -15,6 +17,13 @@ in_use_fault (Ok u) = InUse
 in_use_fault (Err fault.Schema) = InUse
 in_use_fault (Err fault.Read) = Serving fault.Read
 in_use_fault (Err fault.Write) = Serving fault.Write
+
+-- what ended sessions in threads
+abbrev pub threads_fault : ThreadsFault → RunFault
+threads_fault threads.Schema = Serving fault.Schema
+threads_fault threads.Read = Serving fault.Read
+threads_fault threads.Thread = NotStarted
+threads_fault threads.Write = Serving fault.Write
 
 -- what ended serving where the folder isn't in use
 abbrev pub serving_told : Result (Unit {0}) ServeFault → Result (Unit {0}) RunFault
@@ -28,12 +37,16 @@ ending_of (Err InUse) = SchemaRefused
 ending_of (Err (Serving fault.Schema)) = SchemaRefused
 ending_of (Err (Serving fault.Read)) = Fault
 ending_of (Err (Serving fault.Write)) = Fault
+ending_of (Err NotStarted) = Unstarted
 
 -- How a task may end. What asks for nothing that the program does ends so, and nothing else does; a version is said, unless it can't
 -- be written.
 abbrev pub TaskEndsBy : Task → Ending → Type 0
 TaskEndsBy task.InMemory ending = ending ≢ WrongArguments
 TaskEndsBy (task.InFolder path) ending = ending ≢ WrongArguments
+TaskEndsBy (task.InThreads path) ending = ending ≢ WrongArguments
+TaskEndsBy (task.StreamedInMemory count) ending = ending ≢ WrongArguments
+TaskEndsBy (task.StreamedInFolder count path) ending = ending ≢ WrongArguments
 TaskEndsBy task.Version ending = (ending ≡ EndOfInput) ⊎ (ending ≡ Fault)
 TaskEndsBy task.Usage ending = ending ≡ WrongArguments
 
@@ -43,6 +56,7 @@ status_of EndOfInput = 0
 status_of WrongArguments = 1
 status_of SchemaRefused = 2
 status_of Fault = 3
+status_of Unstarted = 4
 
 -- what is said on standard error
 abbrev pub message_of : RunFault → List ℕ
@@ -50,3 +64,4 @@ message_of InUse = codes "folder in use"
 message_of (Serving fault.Schema) = codes "schema refused"
 message_of (Serving fault.Read) = codes "read fault"
 message_of (Serving fault.Write) = codes "write fault"
+message_of NotStarted = codes "thread not started"

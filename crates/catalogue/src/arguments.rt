@@ -1,9 +1,13 @@
 //! What the program is asked to do.
 ghost use Rattle.std.specs.Prelude.{◌≡◌, map, string_bytes};
-ghost use Rattle.catalogue.specs.Asked.{asked_of, task_told};
+ghost use Rattle.catalogue.specs.Asked.{asked_of, count_spelled, task_told};
+
+use cat_base::parse_number;
+use cat_callers::MAX_THREADS;
 
 /// How the program is called, on standard error where the arguments ask for nothing that it does.
-pub(crate) const USAGE: &str = "usage: catalogue [run [FOLDER] | --version]";
+pub(crate) const USAGE: &str =
+    "usage: catalogue [run [--threads N] [FOLDER] | threads FOLDER | --version]";
 
 /// What the program calls itself: the version is that of the file VERSION, and of the client that is released with it.
 pub(crate) const VERSION: &str = "jasminedome 0.1.0";
@@ -15,15 +19,32 @@ pub(crate) enum Task<'a> {
     InMemory,
     /// Serve standard input to standard output over the folder at the path, which is taken as given.
     InFolder(&'a str),
+    /// Serve standard input to standard output over the folder at the path, each session in a thread of its own.
+    InThreads(&'a str),
+    /// Serve standard input to standard output in memory, by so many threads.
+    StreamedInMemory(usize),
+    /// Serve standard input to standard output over the folder at the path, by so many threads.
+    StreamedInFolder(usize, &'a str),
     /// Say the version.
     Version,
     /// Say how the program is called.
     Usage,
 }
 
+/// The number of threads that the word spells, 1 to [`MAX_THREADS`].
+fn thread_count(word: &str) -> Option<usize>
+    ensures { result ≡ count_spelled word.now }
+{
+    match parse_number(word) {
+        Some(count) if 0 < count && count <= MAX_THREADS as u64 => Some(count as usize),
+        _ => None,
+    }
+}
+
 impl<'a> Task<'a> {
     /// The task that the words behind the program's name ask for: to serve in memory is no word, or `run` alone; `run` with one
-    /// word behind it is to serve over the folder of that path; `--version` alone is to say the version.
+    /// word behind it is to serve over the folder of that path, and `threads` with one is to do so in threads; `--threads` and
+    /// a number behind `run` are to serve so by that many threads; `--version` alone is to say the version.
     pub(crate) fn asked_by(words: &'a [String]) -> Task<'a>
         ensures { task_told result ≡ asked_of (map string_bytes words.now) }
     {
@@ -32,6 +53,20 @@ impl<'a> Task<'a> {
             [word] if word.as_str() == "run" => Task::InMemory,
             [word] if word.as_str() == "--version" => Task::Version,
             [word, path] if word.as_str() == "run" => Task::InFolder(path.as_str()),
+            [word, path] if word.as_str() == "threads" => Task::InThreads(path.as_str()),
+            [word, option, count] if word.as_str() == "run" && option.as_str() == "--threads" => {
+                match thread_count(count.as_str()) {
+                    Some(count) => Task::StreamedInMemory(count),
+                    None => Task::Usage,
+                }
+            }
+            [word, option, count, path]
+                if word.as_str() == "run" && option.as_str() == "--threads" => {
+                match thread_count(count.as_str()) {
+                    Some(count) => Task::StreamedInFolder(count, path.as_str()),
+                    None => Task::Usage,
+                }
+            }
             _ => Task::Usage,
         }
     }

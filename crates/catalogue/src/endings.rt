@@ -1,8 +1,9 @@
 //! How the program ends.
 ghost use Rattle.std.specs.Prelude.{◌≡◌, ◌≢◌};
 ghost use Rattle.catalogue.specs.declared.endings.Ending.TheVariants.{WrongArguments};
-ghost use Rattle.catalogue.specs.Ended.{ending_of, in_use_fault, message_of, status_of};
+ghost use Rattle.catalogue.specs.Ended.{ending_of, in_use_fault, message_of, status_of, threads_fault};
 
+use cat_callers::Fault;
 use cat_service::cat_protocol::serving::ServeFault;
 
 /// What ends serving early.
@@ -12,6 +13,8 @@ pub(crate) enum RunFault {
     InUse,
     /// Serving ended so.
     Serving(ServeFault),
+    /// A thread couldn't be started.
+    NotStarted,
 }
 
 impl RunFault {
@@ -25,6 +28,18 @@ impl RunFault {
             Ok(()) | Err(ServeFault::Schema) => RunFault::InUse,
         }
     }
+
+    /// What ended sessions in threads.
+    pub(crate) fn of_threads(fault: Fault) -> RunFault
+        ensures { result ≡ threads_fault fault }
+    {
+        match fault {
+            Fault::Schema => RunFault::Serving(ServeFault::Schema),
+            Fault::Read => RunFault::Serving(ServeFault::Read),
+            Fault::Write => RunFault::Serving(ServeFault::Write),
+            Fault::Thread => RunFault::NotStarted,
+        }
+    }
 }
 
 /// The ways in which the program ends.
@@ -35,6 +50,8 @@ pub(crate) enum Ending {
     SchemaRefused,
     /// A read or a write failed.
     Fault,
+    /// A thread couldn't be started.
+    Unstarted,
 }
 
 impl Ending {
@@ -46,6 +63,7 @@ impl Ending {
             Ok(()) => Ending::EndOfInput,
             Err(RunFault::InUse | RunFault::Serving(ServeFault::Schema)) => Ending::SchemaRefused,
             Err(RunFault::Serving(ServeFault::Read | ServeFault::Write)) => Ending::Fault,
+            Err(RunFault::NotStarted) => Ending::Unstarted,
         }
     }
 
@@ -58,6 +76,7 @@ impl Ending {
             Ending::WrongArguments => 1,
             Ending::SchemaRefused => 2,
             Ending::Fault => 3,
+            Ending::Unstarted => 4,
         }
     }
 }
@@ -71,5 +90,6 @@ pub(crate) fn message(fault: RunFault) -> &'static str
         RunFault::Serving(ServeFault::Schema) => "schema refused",
         RunFault::Serving(ServeFault::Read) => "read fault",
         RunFault::Serving(ServeFault::Write) => "write fault",
+        RunFault::NotStarted => "thread not started",
     }
 }

@@ -4,6 +4,7 @@
 mod arguments;
 mod endings;
 mod running;
+mod threading;
 
 use std::process::ExitCode;
 

@@ -6,6 +6,7 @@ ghost use Rattle.catalogue.specs.Ended.{TaskEndsBy, ending_of, serving_told, sta
 
 use crate::arguments::{Task, USAGE, VERSION};
 use crate::endings::{Ending, RunFault, message};
+use crate::threading::{Threading, stream_in_memory, thread_folder};
 use cat_base::Refusal;
 use cat_directory::{Directory, Folder, FolderLock, LockRefusal, MemoryDirectory, Shelf};
 use cat_service::cat_protocol::sending::send_refused;
@@ -18,10 +19,13 @@ use std::fs::{File, Files};
 use std::io::BufWriter;
 use std::process::ExitCode;
 use std::rt::Env;
+use std::sync::Wait;
+use std::thread::Threads;
+use std::time::Clock;
 use std::{env, io};
 
 /// Replies are gathered up to so many bytes before they go out in one write.
-const GATHERED: usize = 65_536;
+pub(crate) const GATHERED: usize = 65_536;
 
 /// The words behind the program's name.
 fn words<R: Env + AllocGlobal>(rt: &R) -> io::Result<Vec<String>> {
@@ -42,7 +46,7 @@ fn serve_streams<R: AllocGlobal + Input + Print, D: Directory + Shelf + Drop>(
 }
 
 /// The folder at the path. It isn't touched yet.
-fn folder_at<R: AllocGlobal + Files + Clone + Drop>(
+pub(crate) fn folder_at<R: AllocGlobal + Files + Clone + Drop>(
     rt: &R,
     path: &str,
 ) -> Result<Folder<R>, AllocError> {
@@ -50,7 +54,7 @@ fn folder_at<R: AllocGlobal + Files + Clone + Drop>(
 }
 
 /// Says that memory is wanting before a line is read, as `serve` does.
-fn refuse_for_memory<R: Print>(rt: &R) -> ServeFault {
+pub(crate) fn refuse_for_memory<R: Print>(rt: &R) -> ServeFault {
     match send_refused(Refusal::Memory, &mut io::writer(rt)) {
         Ok(()) => ServeFault::Schema,
         Err(_) => ServeFault::Write,
@@ -69,7 +73,7 @@ fn serve_at<R: AllocGlobal + Input + Print + Files + Clone + Drop>(
 }
 
 /// Serves standard input to standard output over no folder: the schema line is told what it is over one that can't be listed.
-fn serve_nowhere<R: AllocGlobal + Input + Print + Files + Clone + Drop>(
+pub(crate) fn serve_nowhere<R: AllocGlobal + Input + Print + Files + Clone + Drop>(
     rt: &R,
 ) -> Result<(), ServeFault> {
     serve_at(rt, "")
@@ -85,7 +89,7 @@ fn serve_locked<R: AllocGlobal + Input + Print + Files + Clone + Drop, F: Drop>(
 }
 
 /// What ended serving, where the folder isn't in use.
-fn told(served: Result<(), ServeFault>) -> Result<(), RunFault>
+pub(crate) fn told(served: Result<(), ServeFault>) -> Result<(), RunFault>
     ensures { result ≡ serving_told served }
 {
     match served {
@@ -126,10 +130,20 @@ fn ending_after<R: Eprint>(rt: &R, served: Result<(), RunFault>) -> Ending
 }
 
 /// Does what the words ask for.
-fn do_task<R: AllocGlobal + Input + Print + Eprint + Files<File = File> + Clone + Drop>(
-    rt: &R,
-    task: Task<'_>,
-) -> Ending
+fn do_task<
+    R: AllocGlobal
+        + Input
+        + Print
+        + Eprint
+        + Files<File = File, Dir: Send>
+        + Clone
+        + Drop
+        + Send
+        + Sync
+        + Threads
+        + Wait
+        + Clock,
+>(rt: &R, task: Task<'_>) -> Ending
     ensures { TaskEndsBy task.entry result }
 {
     match task {
@@ -138,6 +152,11 @@ fn do_task<R: AllocGlobal + Input + Print + Eprint + Files<File = File> + Clone 
             ending_after(rt, told(served))
         }
         Task::InFolder(path) => ending_after(rt, serve_folder(rt, path)),
+        Task::InThreads(path) => ending_after(rt, thread_folder(rt, path, Threading::Each)),
+        Task::StreamedInMemory(count) => ending_after(rt, stream_in_memory(rt, count)),
+        Task::StreamedInFolder(count, path) => {
+            ending_after(rt, thread_folder(rt, path, Threading::By(count)))
+        }
         Task::Version => match rt.println(VERSION) {
             Ok(()) => Ending::EndOfInput,
             Err(_) => ending_after(rt, Err(RunFault::Serving(ServeFault::Write))),
@@ -150,9 +169,21 @@ fn do_task<R: AllocGlobal + Input + Print + Eprint + Files<File = File> + Clone 
 }
 
 /// Does what the arguments ask for. Words that can't be read ask for nothing that the program does.
-fn do_asked<R: Env + AllocGlobal + Input + Print + Eprint + Files<File = File> + Clone + Drop>(
-    rt: &R,
-) -> Ending {
+fn do_asked<
+    R: Env
+        + AllocGlobal
+        + Input
+        + Print
+        + Eprint
+        + Files<File = File, Dir: Send>
+        + Clone
+        + Drop
+        + Send
+        + Sync
+        + Threads
+        + Wait
+        + Clock,
+>(rt: &R) -> Ending {
     match words(rt) {
         Ok(words) => do_task(rt, Task::asked_by(words.as_slice())),
         Err(_) => do_task(rt, Task::Usage),
@@ -167,10 +198,22 @@ fn exit(ending: Ending) -> ExitCode
 }
 
 /// Runs the program, and says the exit status: 0 at the end of input, 1 where the arguments ask for nothing that it does, 2
-/// where the schema line is refused, as it is where another program works over the folder, 3 where a read or a write failed. A
-/// folder is closed without a commit.
-pub fn run<R: Env + AllocGlobal + Input + Print + Eprint + Files<File = File> + Clone + Drop>(
-    rt: &R,
-) -> ExitCode {
+/// where the schema line is refused, as it is where another program works over the folder, 3 where a read or a write failed, 4
+/// where a thread couldn't be started. A folder is closed without a commit.
+pub fn run<
+    R: Env
+        + AllocGlobal
+        + Input
+        + Print
+        + Eprint
+        + Files<File = File, Dir: Send>
+        + Clone
+        + Drop
+        + Send
+        + Sync
+        + Threads
+        + Wait
+        + Clock,
+>(rt: &R) -> ExitCode {
     exit(do_asked(rt))
 }
