@@ -19,7 +19,7 @@ from .putting import AHEAD, BATCH, Item, Load, Numbered, PutMany, Told, explaine
 from .query import Query, query_text
 from .replies import NEVER, Limit, Replies, Reply, Together
 from .sessions import UPKEEP, Sessions
-from .starting import Command, Folder, command_for, folder_path, schema_line
+from .starting import Command, Folder, command_for, folder_path, schema_line, threads_of
 from .starting import explained as explained_opening
 from .stats import Snapshot, Stat, most_segments, read_stat
 from .view import View
@@ -40,7 +40,9 @@ class Catalogue(Closing):
     rows) say when segments are merged: with 1,024 or more a full buffer's segment is of the lowest level, as those of a
     REFRESH are, so that merges go on. `program` is the program's path, or a command with arguments; without it the
     environment variable JASMINEDOME_PROGRAM is asked, and then `catalogue` on the PATH. `timeout` is how many seconds a
-    call waits for its reply; None waits for ever.
+    call waits for its reply; None waits for ever. `threads`, 1 to 64, has as many threads of the program answer the
+    calls, so that calls of different threads and views go on side by side; such a program merges, sweeps and makes
+    cached sets by itself.
 
     Any thread may call: each speaks under a session of its own, and so does each open view, 9,999 in all. A call
     raises the Refusal that the program answers (those that it names), ProgramEnded where the program is gone, Timeout,
@@ -56,6 +58,7 @@ class Catalogue(Closing):
         least: int = 1024,
         program: Optional[Command] = None,
         timeout: Optional[float] = None,
+        threads: Optional[int] = None,
     ) -> None:
         """Starts the program. Raises WrongKind for wrong fields, or ones that aren't the folder's; BadLine for a factor
         or least out of range; DeviceFailed and Damaged for a folder that can't be opened, FolderInUse for one that
@@ -66,7 +69,9 @@ class Catalogue(Closing):
         self.fields = dict(fields)
         self._factor, self._least = factor, least
         self.timeout = timeout
-        self._program = Program(command_for(program, self.folder))
+        self.threads = threads_of(threads)
+        command = command_for(program, self.folder, self.threads)
+        self._program = Program(command, is_threaded=self.threads is not None)
         self._sessions = Sessions()
         self._left: Deque[Tuple[int, int]] = deque()
         self._leave = weakref.finalize(self, self._program.leave)
@@ -153,7 +158,7 @@ class Catalogue(Closing):
                 break
             data, sent = load.lines(batch)
             if sent:
-                replies = Replies(len(sent))
+                replies = Replies(len(sent), load.session)
                 self.close_left()
                 self._program.send(data, replies, self._limit())
                 waiting.append((replies, sent))
@@ -176,7 +181,7 @@ class Catalogue(Closing):
         self.close_left()
         for start in range(0, len(said), BATCH):
             batch = said[start : start + BATCH]
-            replies = Replies(len(batch))
+            replies = Replies(len(batch), session)
             self._program.send(b"".join(batch), replies, self._limit())
             waiting.append(replies)
             if len(waiting) >= AHEAD:

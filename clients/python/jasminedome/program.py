@@ -1,4 +1,4 @@
-"""The program as a child: lines go to it, and a thread takes its replies apart in the order of the lines."""
+"""The program as a child: lines go to it, and a thread takes its replies apart, each for the call that waits for it."""
 
 from __future__ import annotations
 
@@ -14,8 +14,9 @@ import time
 import weakref
 from collections import deque
 from dataclasses import dataclass, field
-from typing import Callable, Deque, List, Optional, Sequence
+from typing import Callable, Deque, List, Optional, Sequence, Union
 
+from .awaiting import BySession, InOrder
 from .errors import BadReply, JasminedomeError, ProgramEnded, UsageError, fresh
 from .lines import line
 from .replies import NEVER, Awaited, Limit, Reply
@@ -50,11 +51,12 @@ class _Outgoing:
 class Program:
     """A running program. Any thread may ask; lines go out one after another, and replies come in their order.
 
+    A program that answers sessions side by side (`is_threaded`) keeps to this order for each session by itself.
     An interrupt may come at any step of a call: what it leaves unsent goes out with the next call, so that lines stay
     whole and each reply goes to its own.
     """
 
-    def __init__(self, command: Sequence[str]) -> None:
+    def __init__(self, command: Sequence[str], is_threaded: bool = False) -> None:
         """Starts the command. Raises ProgramEnded where it can't be started."""
         self._said = tempfile.TemporaryFile()
         try:
@@ -70,7 +72,7 @@ class Program:
         self._output = self._child.stdout
         self._open_pipe()
         self._outgoing: Deque[_Outgoing] = deque()
-        self._awaited: Deque[Awaited] = deque()
+        self._awaited: Union[InOrder, BySession] = BySession() if is_threaded else InOrder()
         self._sending = threading.RLock()  # a finalizer may call `leave` in a thread that has it
         self._is_broken = False  # the program reads no more, and the thread that reads its replies meets the end
         self._end: Optional[JasminedomeError] = None
@@ -157,8 +159,8 @@ class Program:
         while self._outgoing and not self._is_broken and not self._input.closed:
             first = self._outgoing[0]
             sent = first.sent
-            if not sent and not (self._awaited and self._awaited[-1] is first.reply):
-                self._awaited.append(first.reply)
+            if not sent and not self._awaited.is_last(first.reply):
+                self._awaited.add(first.reply)
             if sent == len(first.data):
                 self._outgoing.popleft()
                 continue
@@ -176,8 +178,7 @@ class Program:
         with self._sending:
             if outgoing.sent or outgoing not in self._outgoing:
                 return False
-            if self._awaited and self._awaited[-1] is outgoing.reply:
-                self._awaited.pop()
+            self._awaited.take_back(outgoing.reply)
             self._outgoing.remove(outgoing)
             return True
 
@@ -210,12 +211,12 @@ class Program:
             rest = lines.pop()
             at = 0
             while at < len(lines):
-                if not self._awaited:
+                reply = self._awaited.reply_of(lines[at])
+                if reply is None:
                     raise BadReply(f"a reply that nobody asked for: {lines[at][:200]!r}")
-                reply = self._awaited[0]
-                at = reply.take(lines, at)
+                at = self._awaited.hand(reply, lines, at)
                 if reply.is_whole:
-                    self._awaited.popleft()
+                    self._awaited.came(reply)
 
     def _child_ended(self, error: Optional[JasminedomeError]) -> None:
         # Without its output the program is of no use, and who waits in `send` is to be let go.

@@ -48,6 +48,7 @@ class Load:
     """The items of one `put_many`: what goes out, what came back, and what was refused."""
 
     def __init__(self, session: int, fields: Mapping[str, str], progress: Optional[Callable[[int], object]] = None) -> None:
+        self.session = session
         self._fields = fields
         self._head = f"{session} PUT "
         self._ok = b"%d OK " % session

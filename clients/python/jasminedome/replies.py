@@ -32,9 +32,13 @@ NEVER = Limit(None)
 
 
 class Awaited:
-    """Lines of replies that somebody waits for: so many as are wanted, or an error."""
+    """Lines of replies that somebody waits for: so many as are wanted, or an error.
 
-    def __init__(self, wanted: int) -> None:
+    `session` is the one that all of them are told to; None where they are told to none.
+    """
+
+    def __init__(self, wanted: int, session: Optional[int]) -> None:
+        self.session = session
         self._wanted = wanted
         self._lines: List[bytes] = []
         self._error: Optional[JasminedomeError] = None
@@ -97,7 +101,7 @@ class Reply(Awaited):
     """The reply that one line waits for: its first line, and as many more as `more` says for what follows OK."""
 
     def __init__(self, session: Optional[int], more: Callable[[str], int]) -> None:
-        super().__init__(1)
+        super().__init__(1, session)
         self._head = b"" if session is None else b"%d " % session
         self._more = more
 
@@ -148,10 +152,10 @@ class Replies(Awaited):
 
 
 class Together(Awaited):
-    """The replies that lines wait for which go out in one piece. Each is waited for by itself."""
+    """The replies that lines of one session wait for which go out in one piece. Each is waited for by itself."""
 
     def __init__(self, replies: Sequence[Awaited]) -> None:
-        super().__init__(0)
+        super().__init__(0, replies[0].session if replies else None)
         self._rest = deque(replies)
 
     def take(self, lines: Sequence[bytes], start: int) -> int:

@@ -20,6 +20,9 @@ PROGRAM = "JASMINEDOME_PROGRAM"
 BUNDLED = Path(__file__).with_name("bin") / "catalogue"
 """Where a wheel for Linux on x86-64 puts the program."""
 
+MOST_THREADS = 64
+"""How many threads may answer lines."""
+
 _IN_USE = "folder in use"  # what the program says of a folder that another one has
 
 
@@ -43,9 +46,24 @@ def folder_path(folder: object) -> Optional[str]:
     return path
 
 
-def command_for(program: object, folder: Optional[str]) -> List[str]:
-    """The command that starts the program over the folder. Raises UsageError for what is no command."""
-    return _command(program) + ([] if folder is None else ["run", folder])
+def threads_of(threads: object) -> Optional[int]:
+    """How many threads answer lines, 1 to 64; None where the program answers one line after another.
+
+    Raises UsageError for another number.
+    """
+    if threads is None:
+        return None
+    count = number(threads, "the number of threads")
+    if not 1 <= count <= MOST_THREADS:
+        raise UsageError(f"{count} threads: 1 to {MOST_THREADS} may answer lines")
+    return count
+
+
+def command_for(program: object, folder: Optional[str], threads: Optional[int] = None) -> List[str]:
+    """The command that starts the program over the folder, or in memory. Raises UsageError for what is no command."""
+    counted = [] if threads is None else ["--threads", str(threads)]
+    words = [*counted, *([] if folder is None else [folder])]
+    return _command(program) + (["run", *words] if words else [])
 
 
 def explained(refusal: Refusal, folder: Optional[str], fields: Mapping[str, str], last_words: str) -> Refusal:

@@ -1,6 +1,6 @@
 """A plain stand-in for the program: the whole line protocol over lists in memory, merges and files only as far as replies go.
 
-With the arguments `run FOLDER` a commit is kept there: a file with the head of a commit's, and beside it one in JSON that
+With the arguments `run [--threads N] [FOLDER]` a commit is kept there: a file with the head of a commit's, and beside it one in JSON that
 no other program reads. With the argument `swift` every line behind the first is answered as an accepted PUT, without
 being read: for speed.
 """
@@ -385,11 +385,18 @@ def answer_swiftly():
         count += lines
 
 
+def folder_of(words):
+    """The folder of `run [--threads N] [FOLDER]`; None where there is none."""
+    left = words[words.index("run") + 1 :] if "run" in words else []
+    left = left[2:] if left[:1] == ["--threads"] else left
+    return left[0] if left else None
+
+
 def main():
     source = sys.stdin.buffer if "swift" not in sys.argv else open(0, "rb", buffering=0, closefd=False)
     out = sys.stdout.buffer
     try:
-        folder = sys.argv[sys.argv.index("run") + 1] if "run" in sys.argv[:-1] else None
+        folder = folder_of(sys.argv)
         fake = Fake(read_schema(source.readline().decode().rstrip("\n")), folder)
     except No as no:
         out.write(b"NO %d\n" % no.args[0])

@@ -87,7 +87,7 @@ class Refused(support.ShopTest):
     def test_numbers_that_are_used_up(self):
         self.shop.commit()
         session = self.shop._sessions.own()
-        replies = Replies(SNAPSHOTS)
+        replies = Replies(SNAPSHOTS, session)
         self.shop._program.send(b"%d SNAP\n" % session * SNAPSHOTS, replies)
         self.assertEqual(set(replies.wait()), {b"%d OK 1" % session})
         with self.assertRaises(jasminedome.NumberSpent):

@@ -33,6 +33,17 @@ class Opened(support.FileTest):
             self.assertEqual(catalogue.timeout, 30.0)
         self.assertTrue(self.folder.is_dir())
 
+    def test_threads_of_the_program_answer(self):
+        for where in ([], ["--folder", self.folder]):
+            catalogue = self.opened("--field", FIELDS[0], "--threads", "2", *where)
+            self.assertEqual(catalogue.threads, 2)
+            self.assertEqual(catalogue.put({"id": "a"}), 1)
+            catalogue.refresh()
+            with catalogue.open() as view:
+                self.assertEqual(view.find().total, 1)
+            catalogue.close()
+        self.assertRaises(UsageError, self.opened, "--field", FIELDS[0], "--threads", "65")
+
     def test_a_folder_says_its_own_fields(self):
         with self.opened("--folder", self.folder, "--field", FIELDS[0]) as catalogue:
             catalogue.commit()

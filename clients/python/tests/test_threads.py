@@ -2,6 +2,8 @@
 
 import json
 import random
+import sys
+import tempfile
 import threading
 import unittest
 
@@ -204,9 +206,21 @@ class Worker:
 
 class Operations(support.ShopTest):
     def test_10_000_operations_of_eight_threads(self):
+        self.operate(OPERATIONS)
+
+    def test_replies_of_sessions_that_are_answered_side_by_side(self):
+        with tempfile.TemporaryDirectory() as folder:
+            program = [sys.executable, str(support.HERE / "side_by_side.py"), *support.PROGRAM]
+            self.shop.close()
+            self.shop = support.shop(program, folder=folder, threads=4)
+            self.addCleanup(self.shop.close)
+            self.operate(2_000)
+            self.shop.close()
+
+    def operate(self, operations):
         told = Told()
         workers = [Worker(self.shop, told, seed) for seed in range(THREADS)]
-        threads = [threading.Thread(target=worker.run, args=(OPERATIONS // THREADS,)) for worker in workers]
+        threads = [threading.Thread(target=worker.run, args=(operations // THREADS,)) for worker in workers]
         for thread in threads:
             thread.start()
         for thread in threads:
@@ -215,10 +229,10 @@ class Operations(support.ShopTest):
         self.assertEqual(told.kinds, {operation.__name__ for operation in workers[0].operations})
         self.assertEqual(sorted(told.writes), list(range(1, len(told.writes) + 1)))
         self.assertEqual(self.shop.refresh(), len(told.writes))
-        self.assertGreater(len(told.reads), OPERATIONS // 4)
-        self.compare(told)
+        self.assertGreater(len(told.reads), operations // 4)
+        self.compare(told, operations)
 
-    def compare(self, told):
+    def compare(self, told, operations):
         model = fake_catalogue.Fake(support.FIELDS)
         tokens = {token for token, *_ in told.reads}
         for number in range(len(told.writes) + 1):
@@ -236,7 +250,8 @@ class Operations(support.ShopTest):
                 wanted = (no.args[0], no.args[1] if len(no.args) > 1 else None)
                 seen.add(no.args[0])
             self.assertEqual(reply, wanted, (what, arguments))
-        self.assertEqual(seen, {23, 24, 25, 28, 29})
+        if operations == OPERATIONS:
+            self.assertEqual(seen, {23, 24, 25, 28, 29})
 
 
 if __name__ == "__main__":

@@ -16,6 +16,7 @@ from ..errors import FolderInUse, UsageError
 from ..folders import fields_of
 from ..journal import Journal
 from ..plans import KINDS
+from ..starting import MOST_THREADS
 from . import MISSING, Folding, Keys, Service, Settings, make_app
 from .calls import CatalogueCalls, ReaderCalls
 
@@ -50,6 +51,8 @@ def add_arguments(parser: argparse.ArgumentParser) -> None:
     )  # fmt: skip
     about = "a folder for a journal: what was answered outlives a kill, commit or not"
     parser.add_argument("--journal", metavar="F", help=about)
+    about = f"how many threads of the program answer, 1 to {MOST_THREADS}; else one line after another"
+    parser.add_argument("--threads", type=int, metavar="N", help=about)
     numbers = {
         "--show-every": (plain.show_every, "S", "least seconds between two views"),
         "--commit-every": (plain.commit_every, "S", "seconds in which a write is committed"),
@@ -104,8 +107,8 @@ def _catalogue(asked: argparse.Namespace, stack: contextlib.ExitStack) -> Reader
     """What is served. Raises UsageError for arguments that don't fit together, and _NotThere."""
     if asked.log is None and asked.replicas is None:
         return _opened(asked, stack)
-    if asked.folder is not None or asked.journal is not None or asked.field:
-        raise UsageError("replicas have folders and fields of their own: leave --folder, --journal and --field out")
+    if asked.folder is not None or asked.journal is not None or asked.threads is not None or asked.field:
+        raise UsageError("replicas have folders, threads and fields of their own: leave --folder, --journal, --threads and --field out")
     try:
         from ..replicas import Log, LoggedCatalogue, LogUnreachable, NoReplica, Shelves
     except ImportError as error:
@@ -154,7 +157,7 @@ def _started(fields: Dict[str, str], asked: argparse.Namespace) -> Catalogue:
     end = time.monotonic() + _PATIENCE
     while True:
         try:
-            return Catalogue(fields, asked.folder, program=asked.program, timeout=asked.timeout)
+            return Catalogue(fields, asked.folder, program=asked.program, timeout=asked.timeout, threads=asked.threads)
         except FolderInUse:
             if time.monotonic() > end:
                 raise
