@@ -12,6 +12,8 @@ MARK = b"9999 CLOSE 9\n"
 MARK_REPLY = b"9999 NO 20\n"
 SET_PIPE_SIZE = 1031
 PIPE_SIZE = 1 << 20
+# Linux counts a stretch of another process's work once it ends, just behind the reply: so long is waited before the clock is read.
+SETTLES = 0.003
 
 
 class Refused(Exception):
@@ -32,11 +34,17 @@ class Child:
         # Linux: the clock of the processor's time of all threads of another process.
         self.clock = (~self.process.pid << 3) | 2
         self.token = int(self.ask(schema).split(" ")[1])
-        self.opening = self.cpu(), time.perf_counter() - begun
+        wall = time.perf_counter() - begun
+        self.opening = self.cpu_at_rest(), wall
 
     def cpu(self):
         """The processor's time that the program has used, user and system, in seconds."""
         return time.clock_gettime(self.clock)
+
+    def cpu_at_rest(self):
+        """As `cpu`, once the program has come to rest behind its last reply."""
+        time.sleep(SETTLES)
+        return self.cpu()
 
     def memory(self):
         """The greatest resident memory so far, and that of now, in megabytes of 2^20 bytes."""
@@ -58,11 +66,13 @@ class Child:
             raise Refused(f"'{line}' was answered '{text}'")
         return text
 
-    def timed(self, line):
-        """As `ask`; and the processor's time that it took, and the wall's."""
+    def timed(self, line, least=0.0):
+        """As `ask`; and the processor's time that it took, and the wall's. A line that takes less than `least` isn't waited
+        for, so what it took may be counted with the next one."""
         cpu, begun = self.cpu(), time.perf_counter()
         reply = self.ask(line)
-        return reply, self.cpu() - cpu, time.perf_counter() - begun
+        wall = time.perf_counter() - begun
+        return reply, (self.cpu_at_rest() if wall >= least else self.cpu()) - cpu, wall
 
     def batch(self, lines):
         """Sends all lines at once; the replies, and the processor's time that they took. None may be refused."""
@@ -71,7 +81,7 @@ class Child:
         writer = threading.Thread(target=self.write, args=(data,))
         writer.start()
         replies = self.read_to_mark()
-        cpu = self.cpu() - cpu
+        cpu = self.cpu_at_rest() - cpu
         writer.join()
         for reply in replies:
             if " NO " in reply[:9]:

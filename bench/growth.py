@@ -30,6 +30,8 @@ CHUNK = 1024
 MERGE_EVERY = 64
 TIDY_EVERY = 16 * CHUNK
 PAGE = 20
+# Of a load line by line, the lines that may be the longest: seconds by the wall.
+LONG = 0.0005
 
 
 def say(text):
@@ -105,14 +107,17 @@ def check_pages(count):
 
 
 def measure_reads(child, rng, count, rounds):
-    """GET, pages in order of addition, and two reads that look at more, under a view of all items."""
+    """GET, pages in three orders, and counts, the first time and again, under a view of all items."""
     token = child.ask("1 OPEN").split(" ")[2]
     pages = check_pages(count)
+    first = child.timed(f"1 FACETS {token} color 10 *:*")[1]
     rows = {
         "GET": fastest(child, rounds, lambda: f"1 GET {token} {name(rng.randrange(count))}", 3000, check_gets),
         "FIND .": fastest(child, rounds, lambda: f"1 FIND {token} {PAGE} . . *:*", 300, pages),
-        "FIND +price": fastest(child, rounds, lambda: f"1 FIND {token} {PAGE} +price . *:*", 20, pages),
-        "FACETS color": fastest(child, rounds, lambda: f"1 FACETS {token} color 10 *:*", 20),
+        "FIND +price": fastest(child, rounds, lambda: f"1 FIND {token} {PAGE} +price . *:*", 300, pages),
+        "FIND +brand": fastest(child, rounds, lambda: f"1 FIND {token} {PAGE} +brand . *:*", 300, pages),
+        "FACETS first": first,
+        "FACETS color": fastest(child, rounds, lambda: f"1 FACETS {token} color 10 *:*", 300),
     }
     child.ask(f"1 CLOSE {token}")
     return rows
@@ -177,7 +182,7 @@ def measure_longest(program, folder, seed, count):
     child, shop, longest = Child(program, folder, SCHEMA_LINE), Shop(seed), Longest()
 
     def ask(line):
-        reply, cpu, wall = child.timed(line)
+        reply, cpu, wall = child.timed(line, LONG)
         kind = line.split(" ", 2)[1]
         if kind == "MERGE":
             kind += " " + reply.split(" ")[2]
@@ -242,7 +247,9 @@ ROWS = (
     ("FIND `.` of everything, 20 shown, µs", "FIND .", MICRO),
     ("PUT, REFRESH, OPEN, FIND `.`, CLOSE together, µs", "cycle", MICRO),
     ("FIND `+price` of everything, 20 shown, µs", "FIND +price", MICRO),
-    ("FACETS of 40 colors over everything, µs", "FACETS color", MICRO),
+    ("FIND `+brand` of everything, 20 shown, µs", "FIND +brand", MICRO),
+    ("FACETS of 40 colors over everything, the first, µs", "FACETS first", MICRO),
+    ("FACETS of 40 colors over everything, again, µs", "FACETS color", MICRO),
     ("the first COMMIT, ms", "COMMIT", MILLI),
     ("the first COMMIT, ms by the wall", "COMMIT wall", MILLI),
     ("opening the folder, ms", "opening", MILLI),

@@ -5,7 +5,7 @@ import math
 PANEL_WIDTH, HEIGHT, GAP = 300, 300, 190
 LEFT, TOP = 60, 56
 LABEL_SPACE = 15
-COLORS = ("#1f5fa8", "#c2521b", "#2c7a3f", "#8a3fa0", "#b0892a", "#444444", "#0f8a8a")
+COLORS = ("#1f5fa8", "#c2521b", "#2c7a3f", "#8a3fa0", "#b0892a", "#444444", "#0f8a8a", "#c03060", "#6b8e23")
 FONT = 'font-family="sans-serif" font-size="12"'
 
 
@@ -27,7 +27,9 @@ PANELS = (
             ("FIND .", row("FIND .", 1e6)),
             ("PUT to CLOSE", row("cycle", 1e6)),
             ("FIND +price", row("FIND +price", 1e6)),
-            ("FACETS", row("FACETS color", 1e6)),
+            ("FIND +brand", row("FIND +brand", 1e6)),
+            ("FACETS, the first", row("FACETS first", 1e6)),
+            ("FACETS again", row("FACETS color", 1e6)),
         ),
     ),
     (
