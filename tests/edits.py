@@ -312,9 +312,14 @@ def check(crate, edits, words):
         return {edit: judged(edit, found, ran) for edit, found in units.items()}
 
 
+def messages(text):
+    """The messages of a check, each on one line: the prover breaks long ones, and begins each further line with a space."""
+    return re.sub(r"\n +", " ", text).split("\n")
+
+
 def judged(edit, units, ran):
     """What the check says of the edit, and by which words."""
-    lines = ran.stdout.split("\n")
+    lines = messages(ran.stdout)
     if edit.compiler is not None and ran.returncode == 1:
         refused = next((it for it in lines if re.search(r"\berror\b", it) and edit.compiler in it), None)
         if refused:
