@@ -22,6 +22,9 @@ else
   named=$(printf %q "$program")
   begin 'tests/believed.py' tests/believed.py
   begin 'tests/days.py' tests/days.py "$program" "$check"
+  begin 'tests/commits.py' tests/commits.py "$program" "$check"
+  begin 'tests/ledgers.py' tests/ledgers.py "$program"
+  begin 'tests/merges.py' tests/merges.py "$program"
   begin 'tests/chores.py' tests/chores.py "$program"
   if [ -x tests/limits.py ]; then begin 'tests/limits.py' tests/limits.py "$program"; fi
   begin 'tests/large.py' tests/large.py "$program"

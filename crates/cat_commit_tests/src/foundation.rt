@@ -1,7 +1,5 @@
-//! Tests of what the ledger stands on: users of files, commits, windows and merges.
+//! Tests of what commits rest on: users of files, and merges in memory.
 
-#[cfg(test)]
-mod commits;
 #[cfg(test)]
 mod merge;
 #[cfg(test)]

@@ -1,10 +1,10 @@
-//! Tests of commits that are written, of what opening finds of them, and of the check of folders.
+//! Tests of openings and checks of a commit on a device whose calls fail.
 
 #[cfg(test)]
-mod check;
+mod checks;
 #[cfg(test)]
 mod files;
 #[cfg(test)]
-mod listing;
+mod openings;
 #[cfg(test)]
-mod opening;
+mod told;

@@ -19,8 +19,3 @@ pub(crate) fn expect_yes<E: Debug + Drop>(answer: Result<bool, E>) -> Result<(),
         Err(error) => Err(Fail::from(error)),
     }
 }
-
-/// The same of an answer whose error is a test's own.
-pub(crate) fn expect_done(answer: Result<bool, Fail>) -> Result<(), Fail> {
-    expect(answer?)
-}

@@ -1,8 +1,6 @@
-//! Tests of the ledger: in memory by each of its calls, its upkeep, and whole days over folders.
+//! Tests of the ledger by its calls, and of what memory has of it, with its upkeep.
 
 #[cfg(test)]
 mod ledger;
 #[cfg(test)]
 mod ledger_core;
-#[cfg(test)]
-mod upkeep;

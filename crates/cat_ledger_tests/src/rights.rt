@@ -1,8 +1,6 @@
 //! Tests of the sessions' rights to views.
 
 #[cfg(test)]
-mod finding;
-#[cfg(test)]
 mod making;
 #[cfg(test)]
 mod taking;

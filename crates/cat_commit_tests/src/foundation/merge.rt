@@ -1,9 +1,4 @@
-//! Tests of merges: which segments are merged next, and what comes of a merge.
+//! Tests of merges: which segments are merged next, and how the new one is written.
 
-mod full;
-mod making;
-mod merges;
-mod rising;
-mod running;
-mod thrown;
 mod windows;
+mod writing;

@@ -1,8 +1,10 @@
-//! Tests of what memory has of a ledger: its writes, flushes, views, commits, snapshots and openings, and each call of a device failing.
+//! Tests of what memory has of a ledger: its writes, flushes, merges, views, commits, snapshots and openings, and each call of a
+//! device failing.
 
 mod calling;
 mod committing;
 mod flushing;
+mod merging;
 mod reopening;
 mod steps;
 mod telling;

@@ -1,88 +1,139 @@
-//! Which rights are taken out, and which stay.
+//! Whose rights are found, which are taken out, and which stay.
 use crate::rights::making::{add, end, has, take};
-use crate::verdict::expect_yes;
+use crate::verdict::{expect, expect_yes};
 use cat_base::{Refusal, SessionNo, Token};
 use cat_ledger::cat_lifetimes::rights::Rights;
 use std::alloc::Global;
 use std::test::Fail;
 
-/// Sessions with the tokens of their views.
-const TAKEN: &[(SessionNo, Token)] = &[(1, 4), (2, 4), (2, 6), (1, 6), (0, u64::MAX)];
+/// A call about the session's right to the view of the token, and whether it is answered yes; or how many rights there are.
+#[derive(Clone, Copy)]
+enum Row {
+    /// Adds it, unless it is there.
+    Add(SessionNo, Token, bool),
+    /// Whether it is there.
+    Has(SessionNo, Token, bool),
+    /// Takes it out.
+    Take(SessionNo, Token, bool),
+    Len(usize),
+}
 
-/// Adds them all, of which none is there.
-fn add_all(alloc: Global, rights: &mut Rights) -> Result<bool, Refusal> {
-    for &(session, token) in TAKEN {
-        if !add(alloc, rights, session, token)? {
+/// Makes the call, and answers whether it is answered so.
+fn is_so(alloc: Global, rights: &mut Rights, row: Row) -> Result<bool, Refusal> {
+    match row {
+        Row::Add(session, token, want) => Ok(add(alloc, rights, session, token)? == want),
+        Row::Has(session, token, want) => Ok(has(rights, session, token) == want),
+        Row::Take(session, token, want) => Ok(take(rights, session, token) == want),
+        Row::Len(want) => Ok(rights.len() == want && rights.is_empty() == (want == 0)),
+    }
+}
+
+/// Makes the calls in turn, and answers whether each is answered so.
+fn are_so(alloc: Global, rights: &mut Rights, rows: &[Row]) -> Result<bool, Refusal> {
+    for row in rows {
+        if !is_so(alloc, rights, *row)? {
             return Ok(false);
         }
     }
-    Ok(rights.len() == 5)
+    Ok(true)
 }
 
-/// Takes a right out, which is there once.
-fn take_once(rights: &mut Rights, session: SessionNo, token: Token) -> bool {
-    take(rights, session, token) && !take(rights, session, token)
-}
-
-/// Whether those behind the one of this index are left, and no others.
-fn are_left_behind(rights: &Rights, gone: usize) -> bool {
-    for (index, &(session, token)) in TAKEN.iter().enumerate() {
-        if has(rights, session, token) != (index > gone) {
-            return false;
-        }
-    }
-    true
-}
-
-/// Takes them out one after the other, the first first.
-fn take_each(rights: &mut Rights) -> bool {
-    for (gone, &(session, token)) in TAKEN.iter().enumerate() {
-        if !take_once(rights, session, token) || !are_left_behind(rights, gone) {
-            return false;
-        }
-    }
-    rights.is_empty()
-}
-
-/// Adds them all, and takes out what isn't there and what is.
-fn add_and_take(alloc: Global, rights: &mut Rights) -> Result<bool, Refusal> {
-    let are_added = add_all(alloc, rights)?;
-    Ok(are_added && !take(rights, 3, 4) && !take(rights, 1, 5) && take_each(rights))
-}
-
-/// The same of rights that are ended then.
-fn takes_its_own(alloc: Global) -> Result<bool, Refusal> {
+/// The same where there is none before, and whether so many are left and come out at the end, each once.
+fn leave(alloc: Global, rows: &[Row], left: usize) -> Result<bool, Refusal> {
     let mut rights = Rights::new(alloc);
-    let are_taken = add_and_take(alloc, &mut rights);
-    end(rights);
-    are_taken
+    let are_so = are_so(alloc, &mut rights, rows);
+    let count = end(rights);
+    Ok(are_so? && count == left)
 }
+
+/// Two sessions have the view at 4, and one of them that at 6 too. A session has a view once.
+const FOUND: &[Row] = &[
+    Row::Len(0),
+    Row::Has(0, 0, false),
+    Row::Add(1, 4, true),
+    Row::Add(1, 4, false),
+    Row::Has(1, 4, true),
+    Row::Len(1),
+    Row::Add(2, 4, true),
+    Row::Add(2, 6, true),
+    Row::Has(1, 4, true),
+    Row::Has(2, 4, true),
+    Row::Has(2, 6, true),
+    Row::Has(1, 6, false),
+    Row::Has(3, 4, false),
+    Row::Has(4, 1, false),
+    Row::Len(3),
+];
+
+#[test]
+fn sessions_find_their_own(rt: HostRuntime) -> Result<(), Fail> {
+    expect_yes(leave(rt.alloc(), FOUND, 3))
+}
+
+/// What isn't there isn't taken out, and what is, is there once: one after the other goes, and those behind it stay.
+const TAKEN: &[Row] = &[
+    Row::Add(1, 4, true),
+    Row::Add(2, 4, true),
+    Row::Add(2, 6, true),
+    Row::Add(1, 6, true),
+    Row::Add(0, u64::MAX, true),
+    Row::Len(5),
+    Row::Take(3, 4, false),
+    Row::Take(1, 5, false),
+    Row::Take(1, 4, true),
+    Row::Take(1, 4, false),
+    Row::Has(1, 4, false),
+    Row::Has(2, 4, true),
+    Row::Has(2, 6, true),
+    Row::Has(1, 6, true),
+    Row::Has(0, u64::MAX, true),
+    Row::Take(2, 4, true),
+    Row::Take(2, 4, false),
+    Row::Has(1, 4, false),
+    Row::Has(2, 4, false),
+    Row::Has(2, 6, true),
+    Row::Has(1, 6, true),
+    Row::Has(0, u64::MAX, true),
+    Row::Take(2, 6, true),
+    Row::Take(2, 6, false),
+    Row::Has(2, 4, false),
+    Row::Has(2, 6, false),
+    Row::Has(1, 6, true),
+    Row::Has(0, u64::MAX, true),
+    Row::Take(1, 6, true),
+    Row::Take(1, 6, false),
+    Row::Has(1, 6, false),
+    Row::Has(0, u64::MAX, true),
+    Row::Take(0, u64::MAX, true),
+    Row::Take(0, u64::MAX, false),
+    Row::Has(0, u64::MAX, false),
+    Row::Len(0),
+];
 
 #[test]
 fn what_is_taken_out_is_the_sessions(rt: HostRuntime) -> Result<(), Fail> {
-    expect_yes(takes_its_own(rt.alloc()))
+    expect_yes(leave(rt.alloc(), TAKEN, 0))
 }
 
-/// Takes one out, and gives it to its session once more.
-fn take_and_add(alloc: Global, rights: &mut Rights) -> Result<bool, Refusal> {
-    let is_taken = add_all(alloc, rights)? && take(rights, 2, 4) && !has(rights, 2, 4);
-    Ok(is_taken && add(alloc, rights, 2, 4)? && has(rights, 2, 4))
-}
-
-/// The same of rights that are ended then, of which each is taken out.
-fn end_all(alloc: Global) -> Result<bool, Refusal> {
-    let mut rights = Rights::new(alloc);
-    let is_added = take_and_add(alloc, &mut rights);
-    let count = end(rights);
-    Ok(is_added? && count == 5)
-}
+/// One is taken out, and given to its session once more.
+const GIVEN_AGAIN: &[Row] = &[
+    Row::Add(1, 4, true),
+    Row::Add(2, 4, true),
+    Row::Add(2, 6, true),
+    Row::Add(1, 6, true),
+    Row::Add(0, u64::MAX, true),
+    Row::Take(2, 4, true),
+    Row::Has(2, 4, false),
+    Row::Add(2, 4, true),
+    Row::Has(2, 4, true),
+];
 
 #[test]
 fn each_right_is_taken_out_at_the_end(rt: HostRuntime) -> Result<(), Fail> {
-    expect_yes(end_all(rt.alloc()))
+    expect_yes(leave(rt.alloc(), GIVEN_AGAIN, 5))
 }
 
 #[test]
-fn where_none_is_left_none_comes(rt: HostRuntime) {
-    assert!(&rt; end(Rights::new(rt.alloc())) == 0);
+fn where_none_is_left_none_comes(rt: HostRuntime) -> Result<(), Fail> {
+    expect(end(Rights::new(rt.alloc())) == 0)
 }

@@ -1,10 +1,8 @@
 //! Calls of a ledger, and what each has to be answered.
-use crate::ledger::ledger::maintaining::{
-    files_of, force, merge, note, snapshot, stat, step, sweep, unsnapshot,
-};
-use crate::ledger::ledger::viewing::{acquire, held_view, page, prune, refresh, release, source};
-use crate::ledger::ledger::writing::{commit, delete, delete_where, put, put_under};
-use cat_base::{Generation, Refusal, SessionNo, Token};
+use crate::ledger::ledger::maintaining::{merge, sweep};
+use crate::ledger::ledger::viewing::{acquire, page, prune, refresh, release, source};
+use crate::ledger::ledger::writing::{commit, delete, put, put_under};
+use cat_base::{Refusal, SessionNo, Token};
 use cat_directory::{Directory, Shelf};
 use cat_items::Schema;
 use cat_ledger::cat_lifetimes::rights::Rights;
@@ -13,7 +11,7 @@ use cat_ledger::{Ledger, NotOpened};
 use std::alloc::Global;
 
 /// The fields of the items.
-pub(crate) const FIELDS: &[u8] = br#"{"name":"text","price":"number"}"#;
+const FIELDS: &[u8] = br#"{"name":"text","price":"number"}"#;
 
 /// A call, and what it is answered.
 pub(crate) type Row<'a> = (Call<'a>, &'a str);
@@ -25,54 +23,19 @@ pub(crate) enum Call<'a> {
     /// `put` of an item that was read under these fields.
     PutUnder(&'a str, &'a str),
     Delete(&'a str),
-    DeleteWhere(&'a str),
     Refresh,
     Acquire(SessionNo, Option<Token>),
     /// `release` by the first session of a right that the second was granted.
     Release(SessionNo, SessionNo, Token),
-    /// `held_view` of the session under the token.
-    HeldView(SessionNo, Token),
     Prune(u64),
     /// `source` of the id in the view that the session holds.
     Source(SessionNo, Token, &'a str),
     /// The page by price of what the query matches in the view that the session holds.
     Page(SessionNo, Token, &'a str),
     Commit(&'a str),
-    Note(Generation),
-    Files(Generation),
-    Snapshot,
-    Unsnapshot(Generation),
-    Step,
     /// Steps until one finds nothing to do.
     Merge,
-    Force,
     Sweep,
-    Stat,
-}
-
-/// What a call that writes or asks for a view is answered, as text.
-fn answer_writes<D: Directory + Shelf>(
-    alloc: Global,
-    ledger: &mut Ledger<D>,
-    rights: &mut Rights,
-    call: Call<'_>,
-) -> Result<String, Refusal> {
-    match call {
-        Call::Put(item) => put(alloc, ledger, item),
-        Call::PutUnder(fields, item) => put_under(alloc, ledger, fields, item),
-        Call::Delete(id) => delete(alloc, ledger, id),
-        Call::DeleteWhere(query) => delete_where(alloc, ledger, query),
-        Call::Refresh => refresh(alloc, ledger),
-        Call::Acquire(session, token) => acquire(alloc, ledger, rights, session, token),
-        Call::Release(session, owner, token) => {
-            release(alloc, ledger, rights, (session, owner), token)
-        }
-        Call::HeldView(session, token) => held_view(alloc, ledger, session, token),
-        Call::Prune(count) => prune(alloc, ledger, count),
-        Call::Source(session, token, id) => source(alloc, ledger, rights, (session, token), id),
-        Call::Page(session, token, query) => page(alloc, ledger, rights, (session, token), query),
-        _ => Err(Refusal::Line),
-    }
 }
 
 /// What a call is answered, as text.
@@ -83,22 +46,25 @@ pub(crate) fn answer<D: Directory + Shelf>(
     call: Call<'_>,
 ) -> Result<String, Refusal> {
     match call {
+        Call::Put(item) => put(alloc, ledger, item),
+        Call::PutUnder(fields, item) => put_under(alloc, ledger, fields, item),
+        Call::Delete(id) => delete(alloc, ledger, id),
+        Call::Refresh => refresh(alloc, ledger),
+        Call::Acquire(session, token) => acquire(alloc, ledger, rights, session, token),
+        Call::Release(session, owner, token) => {
+            release(alloc, ledger, rights, (session, owner), token)
+        }
+        Call::Prune(count) => prune(alloc, ledger, count),
+        Call::Source(session, token, id) => source(alloc, ledger, rights, (session, token), id),
+        Call::Page(session, token, query) => page(alloc, ledger, rights, (session, token), query),
         Call::Commit(text) => commit(alloc, ledger, text),
-        Call::Note(generation) => note(alloc, ledger, generation),
-        Call::Files(generation) => files_of(alloc, ledger, generation),
-        Call::Snapshot => snapshot(alloc, ledger),
-        Call::Unsnapshot(generation) => unsnapshot(alloc, ledger, generation),
-        Call::Step => step(alloc, ledger),
         Call::Merge => merge(alloc, ledger),
-        Call::Force => force(alloc, ledger),
         Call::Sweep => sweep(alloc, ledger),
-        Call::Stat => stat(alloc, ledger),
-        _ => answer_writes(alloc, ledger, rights, call),
     }
 }
 
 /// Makes the call of the row. Answers whether it is answered so.
-pub(crate) fn is_answered<D: Directory + Shelf>(
+fn is_answered<D: Directory + Shelf>(
     alloc: Global,
     ledger: &mut Ledger<D>,
     rights: &mut Rights,
@@ -124,29 +90,12 @@ pub(crate) fn are_answered<D: Directory + Shelf>(
     Ok(true)
 }
 
-/// Makes the calls of each table in turn.
-fn are_all_answered<D: Directory + Shelf>(
-    alloc: Global,
-    ledger: &mut Ledger<D>,
-    rights: &mut Rights,
-    tables: &[&[Row<'_>]],
-) -> Result<bool, Refusal> {
-    for rows in tables {
-        if !are_answered(alloc, ledger, rights, rows)? {
-            return Ok(false);
-        }
-    }
-    Ok(true)
-}
-
-/// The ledger of the directory under these fields, which merges two segments at once, of up to ten rows on the lowest level; or why
-/// there is none.
+/// The ledger of the directory, which merges two segments at once, of up to ten rows on the lowest level; or why there is none.
 pub(crate) fn try_open<D: Directory + Shelf + Drop>(
     alloc: Global,
     device: D,
-    fields: &[u8],
 ) -> Result<Result<Ledger<D>, NotOpened<D>>, Refusal> {
-    let schema = Schema::read(alloc, fields)?;
+    let schema = Schema::read(alloc, FIELDS)?;
     match MergePolicy::of(2, 10) {
         Some(policy) => Ok(Ledger::open(alloc, device, schema, policy)),
         None => Err(Refusal::Count),
@@ -158,7 +107,7 @@ pub(crate) fn open<D: Directory + Shelf + Drop>(
     alloc: Global,
     device: D,
 ) -> Result<Ledger<D>, Refusal> {
-    match try_open(alloc, device, FIELDS)? {
+    match try_open(alloc, device)? {
         Ok(ledger) => Ok(ledger),
         Err(refused) => Err(refused.refusal),
     }
@@ -182,11 +131,11 @@ pub(crate) fn close<D: Directory + Shelf + Drop>(ledger: Ledger<D>) {
 pub(crate) fn run<D: Directory + Shelf + Drop>(
     alloc: Global,
     device: D,
-    tables: &[&[Row<'_>]],
+    rows: &[Row<'_>],
 ) -> Result<(bool, D), Refusal> {
     let mut ledger = open(alloc, device)?;
     let mut rights = Rights::new(alloc);
-    let are_answered = are_all_answered(alloc, &mut ledger, &mut rights, tables);
+    let are_answered = are_answered(alloc, &mut ledger, &mut rights, rows);
     end(rights);
     let device = ledger.into_directory();
     Ok((are_answered?, device))

@@ -1,6 +1,6 @@
 //! Each call of a device failing in turn: once, after which the ledger goes on, and from some one on, as a crash leaves it.
 use crate::ledger::ledger::calling::{
-    Call, FIELDS, Row, answer, are_answered, close, end, open, run, try_open,
+    Call, Row, answer, are_answered, close, end, open, run, try_open,
 };
 use crate::ledger::ledger::maintaining::standing_of;
 use crate::verdict::expect_yes;
@@ -102,7 +102,7 @@ fn are_retried<D: Directory + Shelf>(
 /// The ledger of a directory without a file, of whose calls the one behind so many fails, at the first try or the second.
 fn open_retried(alloc: Global, passes: u64) -> Result<Ledger<Faulty<MemoryDirectory>>, Refusal> {
     let device = Faulty::new(MemoryDirectory::new(alloc), Faults::One(passes));
-    match try_open(alloc, device, FIELDS)? {
+    match try_open(alloc, device)? {
         Ok(ledger) => Ok(ledger),
         Err(refused) => match refused.refusal {
             Refusal::Device => open(alloc, refused.device),
@@ -142,7 +142,7 @@ fn has_8_files(alloc: Global, device: &mut MemoryDirectory) -> Result<bool, Refu
 fn is_left(alloc: Global, device: MemoryDirectory) -> Result<bool, Refusal> {
     let mut device = device;
     let has_files = has_8_files(alloc, &mut device)?;
-    let (is_answered, _device) = run(alloc, device, &[LEFT])?;
+    let (is_answered, _device) = run(alloc, device, LEFT)?;
     Ok(has_files && is_answered)
 }
 
@@ -278,7 +278,7 @@ fn delete_newest(alloc: Global, device: &mut MemoryDirectory) -> Result<(), Refu
 /// The ledger of what a crash left. Where the newest commit was cut off in the middle of its own file it is damaged, and the one
 /// before opens once that file is gone.
 fn reopen(alloc: Global, device: MemoryDirectory) -> Result<Ledger<MemoryDirectory>, Refusal> {
-    match try_open(alloc, device, FIELDS)? {
+    match try_open(alloc, device)? {
         Ok(ledger) => Ok(ledger),
         Err(refused) => match refused.refusal {
             Refusal::Damaged => open_before_newest(alloc, refused.device),
@@ -311,7 +311,7 @@ fn is_kept(alloc: Global, device: MemoryDirectory, kept: WriteNo) -> Result<bool
 /// is left.
 fn crash(alloc: Global, passes: u64) -> Result<(WriteNo, MemoryDirectory), Refusal> {
     let device = Faulty::new(MemoryDirectory::new(alloc), Faults::All(passes));
-    let (kept, device) = match try_open(alloc, device, FIELDS)? {
+    let (kept, device) = match try_open(alloc, device)? {
         Ok(ledger) => left_of(alloc, ledger)?,
         Err(refused) => (0, refused.device),
     };

@@ -1,56 +1,12 @@
-//! Kept commits, snapshots, merges and sweeps, and what a ledger tells of itself, each call answered as text.
-use crate::ledger::ledger::telling::{files, news, number, refused, standing};
-use cat_base::{Generation, Refusal};
+//! Merges and sweeps, and what a ledger tells of itself, each call answered as text.
+use crate::ledger::ledger::telling::{news, number, standing};
+use cat_base::Refusal;
 use cat_directory::{Directory, Shelf};
 use cat_ledger::Ledger;
 use std::alloc::Global;
 
-/// The text of a kept commit, in quotes.
-pub(crate) fn note<D: Directory + Shelf>(
-    alloc: Global,
-    ledger: &Ledger<D>,
-    generation: Generation,
-) -> Result<String, Refusal> {
-    match ledger.commit_note(generation) {
-        Ok(text) => Ok(format!(in alloc; "'{text}'")?),
-        Err(refusal) => refused(alloc, refusal),
-    }
-}
-
-/// The names of the files that a kept commit needs.
-pub(crate) fn files_of<D: Directory + Shelf>(
-    alloc: Global,
-    ledger: &Ledger<D>,
-    generation: Generation,
-) -> Result<String, Refusal> {
-    files(alloc, ledger.commit_files(generation))
-}
-
-/// Takes a snapshot of the newest commit.
-pub(crate) fn snapshot<D: Directory + Shelf>(
-    alloc: Global,
-    ledger: &mut Ledger<D>,
-) -> Result<String, Refusal> {
-    number(alloc, ledger.snapshot())
-}
-
-/// Gives a snapshot back.
-pub(crate) fn unsnapshot<D: Directory + Shelf>(
-    alloc: Global,
-    ledger: &mut Ledger<D>,
-    generation: Generation,
-) -> Result<String, Refusal> {
-    match ledger.unsnapshot(generation) {
-        Ok(left) => Ok(format!(in alloc; "{left}")?),
-        Err(refusal) => refused(alloc, refusal),
-    }
-}
-
 /// Takes a step of maintenance.
-pub(crate) fn step<D: Directory + Shelf>(
-    alloc: Global,
-    ledger: &mut Ledger<D>,
-) -> Result<String, Refusal> {
+fn step<D: Directory + Shelf>(alloc: Global, ledger: &mut Ledger<D>) -> Result<String, Refusal> {
     news(alloc, ledger.merge_step())
 }
 
@@ -68,14 +24,6 @@ pub(crate) fn merge<D: Directory + Shelf>(
     Ok(String::from_str(alloc, "busy")?)
 }
 
-/// Begins a merge of all segments.
-pub(crate) fn force<D: Directory + Shelf>(
-    alloc: Global,
-    ledger: &mut Ledger<D>,
-) -> Result<String, Refusal> {
-    news(alloc, ledger.force())
-}
-
 /// Deletes the files that nobody needs.
 pub(crate) fn sweep<D: Directory + Shelf>(
     alloc: Global,
@@ -84,19 +32,7 @@ pub(crate) fn sweep<D: Directory + Shelf>(
     number(alloc, ledger.sweep())
 }
 
-/// How many writes there were, items wait and views are recorded, the segments, and how many files are pending.
-pub(crate) fn stat<D: Directory + Shelf>(
-    alloc: Global,
-    ledger: &Ledger<D>,
-) -> Result<String, Refusal> {
-    let stat = ledger.stat()?;
-    let standing = standing(alloc, &stat)?;
-    let standing = standing.as_str();
-    let pending = stat.pending;
-    Ok(format!(in alloc; "{standing}; {pending}")?)
-}
-
-/// The same without the files.
+/// How many writes there were, items wait and views are recorded, and the segments.
 pub(crate) fn standing_of<D: Directory + Shelf>(
     alloc: Global,
     ledger: &Ledger<D>,

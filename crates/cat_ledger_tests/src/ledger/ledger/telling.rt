@@ -1,6 +1,5 @@
 //! Answers as texts: the refusal's number, or what came.
 use cat_base::Refusal;
-use cat_directory::FileName;
 use cat_ledger::upkeep::MergeNews;
 use cat_ledger::{SegmentStat, Stat};
 use cat_search::Page;
@@ -55,26 +54,6 @@ fn shown(alloc: Global, page: &Page) -> Result<String, AllocError> {
 pub(crate) fn page(alloc: Global, answer: Result<Page, Refusal>) -> Result<String, Refusal> {
     match answer {
         Ok(page) => Ok(shown(alloc, &page)?),
-        Err(refusal) => refused(alloc, refusal),
-    }
-}
-
-/// Each name behind a space.
-fn listed(alloc: Global, names: &[FileName]) -> Result<String, AllocError> {
-    let mut text = String::new(alloc);
-    for name in names {
-        write!(text, " {name}")?;
-    }
-    Ok(text)
-}
-
-/// Names of files.
-pub(crate) fn files(
-    alloc: Global,
-    answer: Result<Vec<FileName>, Refusal>,
-) -> Result<String, Refusal> {
-    match answer {
-        Ok(names) => Ok(listed(alloc, &names)?),
         Err(refusal) => refused(alloc, refusal),
     }
 }

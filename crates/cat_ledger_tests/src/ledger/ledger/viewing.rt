@@ -109,23 +109,6 @@ pub(crate) fn source<D: Directory + Shelf>(
     }
 }
 
-/// The token of the view that the session has a right to under this one, and how many segments it has; `none` where it has no such
-/// right.
-pub(crate) fn held_view<D: Directory + Shelf>(
-    alloc: Global,
-    ledger: &Ledger<D>,
-    session: SessionNo,
-    token: Token,
-) -> Result<String, Refusal> {
-    match ledger.held_view(session, token) {
-        Some(view) => {
-            let (token, segments) = (view.token(), view.leaves().len());
-            Ok(format!(in alloc; "{token}: {segments}")?)
-        }
-        None => Ok(String::from_str(alloc, "none")?),
-    }
-}
-
 /// The first ten hits by price.
 fn found(alloc: Global, hold: &Hold, query: Query) -> Result<String, Refusal> {
     let ask = Ask {

@@ -1,10 +1,9 @@
 //! Writes and commits, each answered as text.
-use crate::ledger::ledger::telling::{number, refused};
+use crate::ledger::ledger::telling::number;
 use cat_base::Refusal;
 use cat_directory::{Directory, Shelf};
 use cat_items::{Item, Schema};
 use cat_ledger::Ledger;
-use cat_live_table::Query;
 use std::alloc::Global;
 
 /// Puts the item.
@@ -50,18 +49,6 @@ pub(crate) fn delete<D: Directory + Shelf>(
     id: &str,
 ) -> Result<String, Refusal> {
     number(alloc, ledger.delete(id))
-}
-
-/// Deletes what the query matches.
-pub(crate) fn delete_where<D: Directory + Shelf>(
-    alloc: Global,
-    ledger: &mut Ledger<D>,
-    text: &str,
-) -> Result<String, Refusal> {
-    match Query::parse(ledger.schema(), alloc, text) {
-        Ok(query) => number(alloc, ledger.delete_where(&query)),
-        Err(refusal) => refused(alloc, refusal),
-    }
 }
 
 /// Keeps a commit with this text.

@@ -4,6 +4,7 @@ use cat_directory::{Faulty, MemoryDirectory};
 use cat_items::Schema;
 use cat_ledger::cat_ledger_state::cat_commits::commit_text_ok;
 use cat_ledger::cat_ledger_state::{Core, known_names};
+use cat_ledger::upkeep::{MergeNews, MergePolicy, force, merge_step};
 use cat_live_table::Query;
 use std::alloc::Global;
 
@@ -66,7 +67,7 @@ pub(crate) fn delete_where(core: &mut Core, alloc: Global, text: &str) -> Result
 }
 
 /// Records a view of now, where nothing waits, none of now is recorded and there is room.
-fn record(core: &mut Core) -> Result<(), Refusal> {
+pub(crate) fn record(core: &mut Core) -> Result<(), Refusal> {
     if !core.is_flushed() || core.is_recorded(core.count()) || core.is_full() {
         return Err(Refusal::Full);
     }
@@ -104,6 +105,14 @@ pub(crate) fn put_all_viewed(
     Ok(())
 }
 
+/// Lets the session hold each of so many tokens from 0 on.
+pub(crate) fn hold_all(core: &mut Core, session: SessionNo, count: u64) -> Result<(), Refusal> {
+    for token in 0..count {
+        hold(core, session, token)?;
+    }
+    Ok(())
+}
+
 /// Lets the session hold the token, where a view is recorded under it.
 pub(crate) fn hold(core: &mut Core, session: SessionNo, token: Token) -> Result<(), Refusal> {
     if !core.is_recorded(token) {
@@ -128,4 +137,37 @@ pub(crate) fn commit(
 ) -> Result<Generation, Refusal> {
     flush(core, device)?;
     commit_flushed(core, device, text)
+}
+
+/// A step of maintenance that merges two segments at once, of one row on the lowest level.
+pub(crate) fn merge(
+    core: &mut Core,
+    alloc: Global,
+    device: &mut Device,
+) -> Result<MergeNews, Refusal> {
+    match MergePolicy::of(2, 1) {
+        Some(policy) => merge_step(core, device, alloc, policy),
+        None => Err(Refusal::Line),
+    }
+}
+
+/// Begins a merge of all segments.
+pub(crate) fn force_all(core: &mut Core, device: &mut Device) -> Result<MergeNews, Refusal> {
+    force(core, device)
+}
+
+/// Merges all segments, in steps until one copies no row, three at most; answers what the last one did.
+pub(crate) fn merge_all(
+    core: &mut Core,
+    alloc: Global,
+    device: &mut Device,
+) -> Result<MergeNews, Refusal> {
+    let mut news = force_all(core, device)?;
+    for _ in 0..3 {
+        news = merge(core, alloc, device)?;
+        if !matches!(news, MergeNews::Copied(_)) {
+            return Ok(news);
+        }
+    }
+    Ok(news)
 }

@@ -2,7 +2,7 @@
 use crate::ledger::ledger_core::steps::{Case, Row, Step, run_each, run_failing};
 use crate::verdict::expect_yes;
 use cat_base::LAST_NUMBER;
-use cat_directory::FileName;
+use cat_directory::{Faults, FileName};
 use std::test::Fail;
 
 /// The files of the first segment, its live file of the second commit, and the own files of two commits.
@@ -60,6 +60,147 @@ const ONE_DELETED: &[Row<'static>] = &[
 #[test]
 fn a_refused_commit_is_none(rt: HostRuntime) -> Result<(), Fail> {
     expect_yes(run_failing(rt.alloc(), ONE_DELETED, 6, SECOND_FAILS))
+}
+
+/// The own file of the first commit, and the file of live rows and the own file of the second.
+const FIRST: &[u8] = b"CSGM\x02\0\0\0\0\0\0\0\x01\0\0\0\0\0\0\0\x02\0\0\0\0\0\0\0\x02\0\0\0\x03one\
+\0\0\0\x01\0\0\0\x05price\x03\0\0\0\x01\0\0\0\0\0\0\0\x01\0\0\0\0\0\0\0\0";
+
+const LIVE: &[u8] = b"CLIV\x01\0\0\0\0\0\0\0\x01\0\0\0\0\0\0\0\x02\0\0\0\x02\x02";
+
+const SECOND: &[u8] = b"CSGM\x02\0\0\0\0\0\0\0\x02\0\0\0\0\0\0\0\x03\0\0\0\0\0\0\0\x02\0\0\0\x03two\
+\0\0\0\x01\0\0\0\x05price\x03\0\0\0\x01\0\0\0\0\0\0\0\x01\0\0\0\0\0\0\0\x02";
+
+/// The first commit stands once no call fails.
+const FIRST_STANDS: &[Row<'static>] = &[
+    (Step::Fail(Faults::Never), "ok"),
+    (Step::File(FileName::Commit(1), FIRST), "same"),
+];
+
+/// Of the second there is nothing; its live file, which is empty or whole; and its own file, which is empty or whole.
+const NOTHING: &[Row<'static>] = &[
+    (Step::File(FileName::Live(1, 2), LIVE), "absent"),
+    (Step::File(FileName::Commit(2), SECOND), "absent"),
+];
+
+const LIVE_BEGUN: &[Row<'static>] = &[
+    (Step::File(FileName::Live(1, 2), LIVE), "empty"),
+    (Step::File(FileName::Commit(2), SECOND), "absent"),
+];
+
+const LIVE_WRITTEN: &[Row<'static>] = &[
+    (Step::File(FileName::Live(1, 2), LIVE), "same"),
+    (Step::File(FileName::Commit(2), SECOND), "absent"),
+];
+
+const OWN_BEGUN: &[Row<'static>] = &[
+    (Step::File(FileName::Live(1, 2), LIVE), "same"),
+    (Step::File(FileName::Commit(2), SECOND), "empty"),
+];
+
+const OWN_WRITTEN: &[Row<'static>] = &[
+    (Step::File(FileName::Live(1, 2), LIVE), "same"),
+    (Step::File(FileName::Commit(2), SECOND), "same"),
+];
+
+/// From one call of the second commit on all fail. Eight calls were made before: four of a flush and four of the first commit.
+const FAILING: &[Case<'static>] = &[
+    (
+        (1, 1),
+        &[
+            ONE_DELETED,
+            &[
+                (Step::Fail(Faults::All(0)), "ok"),
+                (Step::Commit("two"), "NO 30"),
+                (Step::Calls, "9"),
+            ],
+            FIRST_STANDS,
+            NOTHING,
+        ],
+    ),
+    (
+        (1, 1),
+        &[
+            ONE_DELETED,
+            &[
+                (Step::Fail(Faults::All(1)), "ok"),
+                (Step::Commit("two"), "NO 30"),
+                (Step::Calls, "10"),
+            ],
+            FIRST_STANDS,
+            LIVE_BEGUN,
+        ],
+    ),
+    (
+        (1, 1),
+        &[
+            ONE_DELETED,
+            &[
+                (Step::Fail(Faults::All(2)), "ok"),
+                (Step::Commit("two"), "NO 30"),
+                (Step::Calls, "11"),
+            ],
+            FIRST_STANDS,
+            LIVE_WRITTEN,
+        ],
+    ),
+    (
+        (1, 1),
+        &[
+            ONE_DELETED,
+            &[
+                (Step::Fail(Faults::All(3)), "ok"),
+                (Step::Commit("two"), "NO 30"),
+                (Step::Calls, "12"),
+            ],
+            FIRST_STANDS,
+            LIVE_WRITTEN,
+        ],
+    ),
+    (
+        (1, 1),
+        &[
+            ONE_DELETED,
+            &[
+                (Step::Fail(Faults::All(4)), "ok"),
+                (Step::Commit("two"), "NO 30"),
+                (Step::Calls, "13"),
+            ],
+            FIRST_STANDS,
+            OWN_BEGUN,
+        ],
+    ),
+    (
+        (1, 1),
+        &[
+            ONE_DELETED,
+            &[
+                (Step::Fail(Faults::All(5)), "ok"),
+                (Step::Commit("two"), "NO 30"),
+                (Step::Calls, "14"),
+            ],
+            FIRST_STANDS,
+            OWN_WRITTEN,
+        ],
+    ),
+    (
+        (1, 1),
+        &[
+            ONE_DELETED,
+            &[
+                (Step::Fail(Faults::All(6)), "ok"),
+                (Step::Commit("two"), "2"),
+                (Step::Calls, "14"),
+            ],
+            FIRST_STANDS,
+            OWN_WRITTEN,
+        ],
+    ),
+];
+
+#[test]
+fn the_own_file_comes_last(rt: HostRuntime) -> Result<(), Fail> {
+    expect_yes(run_each(rt.alloc(), FAILING))
 }
 
 /// There is nothing to take a snapshot of.

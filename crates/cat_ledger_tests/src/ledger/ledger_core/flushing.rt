@@ -1,5 +1,6 @@
 //! Flushes, at their limits and on devices that fail.
 use crate::ledger::ledger_core::steps::{Case, Row, Step, run_each, run_failing};
+use crate::ledger::ledger_core::writing::THREE;
 use crate::verdict::expect_yes;
 use cat_base::LAST_NUMBER;
 use cat_directory::{Faults, FileName};
@@ -24,10 +25,24 @@ const FLUSH_FAILS: &[Row<'static>] = &[
     (Step::Standing, "2: a b;"),
 ];
 
+/// What stands stays as it was, without what was put last.
+const FLUSH_BEHIND_FAILS: &[Row<'static>] = &[
+    (Step::Put(r#"{"id":"f","price":1}"#), "ok"),
+    (Step::Flush, "NO 30"),
+    (Step::Standing, "1: a b c;2: d e;3: -f g;"),
+    (Step::Flush, "ok"),
+    (Step::Standing, "1: a b c;2: d e;3: -f g;5: f;"),
+];
+
 /// Two files are made and written.
 #[test]
 fn each_call_of_a_flush_fails(rt: HostRuntime) -> Result<(), Fail> {
     expect_yes(run_failing(rt.alloc(), &[], 4, FLUSH_FAILS))
+}
+
+#[test]
+fn a_flush_that_fails_leaves_what_stands(rt: HostRuntime) -> Result<(), Fail> {
+    expect_yes(run_failing(rt.alloc(), THREE, 4, FLUSH_BEHIND_FAILS))
 }
 
 /// Nothing waits, and the device isn't called.
@@ -57,8 +72,13 @@ const FULL_BUFFER: &[Row<'static>] = &[
     (Step::Flush, "ok"),
     (Step::IsDue, "no"),
     (Step::PutMany(1023), "ok"),
+    (Step::Put(r#"{"id":"last","price":0}"#), "ok"),
+    (Step::IsDue, "yes"),
+    (Step::Delete("item512"), "ok"),
+    (Step::IsDue, "no"),
+    (Step::Delete("last"), "ok"),
     (Step::Flush, "ok"),
-    (Step::Told(NAMES), "2047 0 2: 1 1 1 1; 0"),
+    (Step::Told(NAMES), "2050 0 2: 1 1 1 1; 0"),
 ];
 
 /// Each in a ledger of its own.

@@ -1,13 +1,14 @@
 //! Steps of a ledger and its device, and what each has to be answered.
 use crate::ledger::ledger_core::calling::{
-    Device, commit, delete, delete_where, empty_at, flush, hold, put, put_all_viewed, put_many,
+    Device, commit, delete, delete_where, empty_at, flush, force_all, hold, hold_all, merge,
+    merge_all, put, put_all_viewed, put_many, record,
 };
 use crate::ledger::ledger_core::telling::{
-    tell_commit, tell_counts, tell_done, tell_files, tell_newest, tell_number, tell_standing,
-    tell_whether,
+    tell_commit, tell_counts, tell_done, tell_file, tell_files, tell_leaves, tell_newest,
+    tell_news, tell_number, tell_view, tell_whether,
 };
 use cat_base::{Generation, Refusal, SegNo, SessionNo, Token};
-use cat_directory::{Faults, Faulty, FileName, MemoryDirectory};
+use cat_directory::{Faults, Faulty, FileName, Holder, MemoryDirectory};
 use cat_ledger::cat_ledger_state::Core;
 use std::alloc::Global;
 
@@ -28,7 +29,11 @@ pub(crate) enum Step<'a> {
     Flush,
     /// Puts so many items, each in a segment of its own, and records a view behind each.
     PutViewed(u64),
+    /// Records a view.
+    Record,
     Hold(SessionNo, Token),
+    /// Lets the session hold each of so many tokens from 0 on.
+    HoldAll(SessionNo, u64),
     LetGo(SessionNo, Token),
     Prune(u64),
     /// Flushes, and keeps a commit with this text.
@@ -36,17 +41,33 @@ pub(crate) enum Step<'a> {
     Snapshot,
     Unsnapshot(Generation),
     Sweep,
+    /// A step of maintenance.
+    Merge,
+    /// Begins a merge of all segments.
+    Force,
+    /// Begins it, and takes steps until one copies no row.
+    MergeAll,
     /// From now on these calls of the device fail.
     Fail(Faults),
     /// How many calls the device had.
     Calls,
+    /// How many of them failed.
+    Failures,
     /// The names of the device's files.
     Names,
+    /// Whether the file has these bytes: `same`, `other`, `empty` or `absent`.
+    File(FileName, &'a [u8]),
     Standing,
+    /// The segments of the view that is recorded under the token.
+    View(Token),
     /// Counts, and the users of these names.
     Told(&'a [FileName]),
     IsDue,
     IsRecorded(Token),
+    /// How many views are recorded.
+    Recorded,
+    IsFull,
+    IsHeldBy(SessionNo, Token),
     IsMerging,
     Newest,
     CommitText(Generation),
@@ -56,10 +77,14 @@ pub(crate) enum Step<'a> {
 /// Tells what a step is answered that asks.
 fn tell_asked(text: &mut String, core: &Core, step: Step<'_>) -> Result<(), Refusal> {
     match step {
-        Step::Standing => tell_standing(text, core),
+        Step::Standing => tell_leaves(text, core.leaves()),
+        Step::View(token) => tell_view(text, core, token),
         Step::Told(names) => tell_counts(text, core, names),
         Step::IsDue => tell_whether(text, core.is_due()),
         Step::IsRecorded(token) => tell_whether(text, core.is_recorded(token)),
+        Step::Recorded => tell_number(text, Ok(core.recorded() as u64)),
+        Step::IsFull => tell_whether(text, core.is_full()),
+        Step::IsHeldBy(session, token) => tell_whether(text, core.is_held_by(session, token)),
         Step::IsMerging => tell_whether(text, core.is_merging()),
         Step::Newest => tell_newest(text, core),
         Step::CommitText(generation) => tell_commit(text, core, generation),
@@ -98,7 +123,9 @@ fn tell_changed(
         Step::PutMany(count) => tell_done(text, put_many(core, alloc, count)),
         Step::Delete(id) => tell_done(text, delete(core, id)),
         Step::DeleteWhere(query) => tell_done(text, delete_where(core, alloc, query)),
+        Step::Record => tell_done(text, record(core)),
         Step::Hold(session, token) => tell_done(text, hold(core, session, token)),
+        Step::HoldAll(session, count) => tell_done(text, hold_all(core, session, count)),
         Step::LetGo(session, token) => tell_whether(text, core.let_go(session, token)),
         Step::Prune(count) => tell_number(text, prune(core, count)),
         Step::Snapshot => tell_number(text, snapshot(core)),
@@ -117,6 +144,26 @@ fn set_faults(device: &mut Device, faults: Faults) {
     device.set_faults(faults);
 }
 
+/// Tells what a step is answered that is about the device alone.
+fn tell_device(
+    text: &mut String,
+    alloc: Global,
+    device: &mut Device,
+    step: Step<'_>,
+) -> Result<(), Refusal> {
+    match step {
+        Step::Fail(faults) => {
+            set_faults(device, faults);
+            tell_done(text, Ok(()))
+        }
+        Step::Calls => tell_number(text, Ok(device.calls())),
+        Step::Failures => tell_number(text, Ok(device.failures())),
+        Step::Names => tell_files(text, alloc, device),
+        Step::File(name, said) => tell_file(text, alloc, device, name, said),
+        _ => Err(Refusal::Line),
+    }
+}
+
 /// Tells what a step is answered.
 fn tell(
     text: &mut String,
@@ -130,12 +177,12 @@ fn tell(
         Step::PutViewed(count) => tell_done(text, put_all_viewed(core, alloc, device, count)),
         Step::Commit(said) => tell_number(text, commit(core, device, said)),
         Step::Sweep => tell_number(text, sweep(core, device)),
-        Step::Fail(faults) => {
-            set_faults(device, faults);
-            tell_done(text, Ok(()))
+        Step::Merge => tell_news(text, alloc, merge(core, alloc, device)),
+        Step::Force => tell_news(text, alloc, force_all(core, device)),
+        Step::MergeAll => tell_news(text, alloc, merge_all(core, alloc, device)),
+        Step::Fail(_) | Step::Calls | Step::Failures | Step::Names | Step::File(_, _) => {
+            tell_device(text, alloc, device, step)
         }
-        Step::Calls => tell_number(text, Ok(device.calls())),
-        Step::Names => tell_files(text, alloc, device),
         _ => tell_changed(text, alloc, core, step),
     }
 }

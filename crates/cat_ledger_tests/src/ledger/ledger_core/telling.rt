@@ -1,8 +1,10 @@
 //! Answers as texts: the refusal's number, or what came; and what is told of a ledger.
+use crate::ledger::ledger::telling::news;
 use crate::ledger::ledger_core::calling::Device;
-use cat_base::Refusal;
-use cat_directory::{Directory, FileName};
+use cat_base::{Refusal, Token};
+use cat_directory::{Directory, FileName, Shelf};
 use cat_ledger::cat_ledger_state::Core;
+use cat_ledger::upkeep::MergeNews;
 use cat_views::Leaf;
 use std::alloc::{AllocError, Global};
 use std::fmt::Write;
@@ -61,11 +63,29 @@ fn tell_leaf(text: &mut String, leaf: &Leaf) -> Result<(), AllocError> {
 }
 
 /// Tells the segments in order.
-pub(crate) fn tell_standing(text: &mut String, core: &Core) -> Result<(), Refusal> {
-    for leaf in core.leaves() {
+pub(crate) fn tell_leaves(text: &mut String, leaves: &[Leaf]) -> Result<(), Refusal> {
+    for leaf in leaves {
         tell_leaf(text, leaf)?;
     }
     Ok(())
+}
+
+/// Tells the segments of the view that is recorded under the token; `none` where there is none.
+pub(crate) fn tell_view(text: &mut String, core: &Core, token: Token) -> Result<(), Refusal> {
+    match core.view_at(token) {
+        Some(view) => tell_leaves(text, view.leaves()),
+        None => Ok(text.push_str("none")?),
+    }
+}
+
+/// Tells what a step did with merges.
+pub(crate) fn tell_news(
+    text: &mut String,
+    alloc: Global,
+    answer: Result<MergeNews, Refusal>,
+) -> Result<(), Refusal> {
+    let news = news(alloc, answer)?;
+    Ok(text.push_str(news.as_str())?)
 }
 
 /// Tells how many writes there were, items wait and segments stand; the users of these names; and how many are pending.
@@ -98,6 +118,36 @@ pub(crate) fn tell_files(
 ) -> Result<(), Refusal> {
     let names = device.names(alloc)?;
     tell_names(text, &names)
+}
+
+/// The bytes of the file, and `None` where it is absent.
+fn bytes_of(
+    alloc: Global,
+    device: &mut Device,
+    name: FileName,
+) -> Result<Option<Vec<u8>>, Refusal> {
+    match device.size(name) {
+        Ok(size) => Ok(Some(device.read(alloc, name, 0, size.min(1_000) as u32)?)),
+        Err(Refusal::Damaged) => Ok(None),
+        Err(refusal) => Err(refusal),
+    }
+}
+
+/// Tells whether the file has these bytes: `same`, `other`, `empty` or `absent`.
+pub(crate) fn tell_file(
+    text: &mut String,
+    alloc: Global,
+    device: &mut Device,
+    name: FileName,
+    said: &[u8],
+) -> Result<(), Refusal> {
+    let told = match bytes_of(alloc, device, name)? {
+        Some(bytes) if bytes.is_empty() => "empty",
+        Some(bytes) if bytes.as_slice() == said => "same",
+        Some(_) => "other",
+        None => "absent",
+    };
+    Ok(text.push_str(told)?)
 }
 
 /// Tells the text of the commit, and the names of the files that it needs; `none` where there is no such commit.

@@ -1,0 +1,83 @@
+//! Openings on a device whose calls fail, and without memory.
+use crate::opening::files::{Device, WHOLE_TOLD, device_with, is_whole};
+use crate::opening::told::{FIELDS, is_told};
+use crate::verdict::{expect, expect_yes};
+use cat_base::Refusal;
+use cat_check::cat_commits::reading::read_commit;
+use cat_directory::{Faults, Holder, MemoryDirectory};
+use cat_items::Schema;
+use std::alloc::Global;
+use std::test::Fail;
+
+/// How many calls an opening makes: two for each file that is read, one for each of stored texts.
+const CALLS: u64 = 15;
+
+/// Whether the whole commit is read once no call fails, and its files stay as they are.
+pub(crate) fn is_read(alloc: Global, device: &mut Device) -> Result<bool, Refusal> {
+    device.set_faults(Faults::Never);
+    Ok(is_told(alloc, device, WHOLE_TOLD)? && is_whole(alloc, device)?)
+}
+
+/// Whether this is told, by so many calls of which so many fail, and the files are as they were then.
+fn is_met(
+    alloc: Global,
+    faults: Faults,
+    want: &str,
+    calls: u64,
+    failures: u64,
+) -> Result<bool, Refusal> {
+    let mut device = device_with(alloc, &[], faults)?;
+    let is_told = is_told(alloc, &mut device, want)?;
+    let is_counted = device.calls() == calls && device.failures() == failures;
+    Ok(is_told && is_counted && is_read(alloc, &mut device)?)
+}
+
+#[test]
+fn each_file_is_read_once(rt: HostRuntime) -> Result<(), Fail> {
+    expect_yes(is_met(rt.alloc(), Faults::Never, WHOLE_TOLD, CALLS, 0))
+}
+
+/// Whether an opening is refused by the device at each call that fails alone or with all behind it, which counts one failure, and
+/// another one reads the files as they were.
+fn are_refused(alloc: Global) -> Result<bool, Refusal> {
+    for passes in 0..CALLS {
+        let calls = passes + 1;
+        if !is_met(alloc, Faults::One(passes), "NO 30", calls, 1)?
+            || !is_met(alloc, Faults::All(passes), "NO 30", calls, 1)?
+        {
+            return Ok(false);
+        }
+    }
+    Ok(true)
+}
+
+#[test]
+fn the_first_call_that_fails_ends_an_opening(rt: HostRuntime) -> Result<(), Fail> {
+    expect_yes(are_refused(rt.alloc()))
+}
+
+/// Whether the commit is read, or memory is wanting.
+fn is_read_or_memory(alloc: Global, device: &mut Device, schema: &Schema) -> bool {
+    match read_commit(alloc, device, schema, 3) {
+        Ok(_) => true,
+        Err(refusal) => refusal == Refusal::Memory,
+    }
+}
+
+#[test]
+fn an_opening_without_memory_changes_nothing(rt: HostRuntime) -> Result<(), Fail> {
+    let alloc = rt.alloc();
+    let schema = Schema::read(alloc, FIELDS)?;
+    let mut device = device_with(alloc, &[], Faults::Never)?;
+    let is_one_of_both = is_read_or_memory(alloc, &mut device, &schema);
+    expect(is_one_of_both && is_read(alloc, &mut device)?)
+}
+
+#[test]
+fn an_absent_commit_is_damage_without_memory(rt: HostRuntime) -> Result<(), Fail> {
+    let alloc = rt.alloc();
+    let schema = Schema::read(alloc, FIELDS)?;
+    let mut directory = MemoryDirectory::new(alloc);
+    let refused = read_commit(alloc, &mut directory, &schema, 3);
+    expect(matches!(refused, Err(Refusal::Damaged)))
+}

@@ -1,5 +1,0 @@
-use Rattle.std.proofs.Common.{arith}
-use Rattle.cat_ledger_tests.proofs.parts.merging.running.write_merged.Goals as goal
-
-pub write_segment-requires : goal.write_segment-requires
-write_segment-requires g c = (omega (arith, c.number.ensures), omega (arith, c.number.ensures))

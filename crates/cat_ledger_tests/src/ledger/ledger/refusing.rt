@@ -1,0 +1,40 @@
+//! Refusals that no line can ask for, none of which changes anything.
+use crate::ledger::ledger::calling::{Call, Row, run};
+use crate::verdict::expect_yes;
+use cat_base::Refusal;
+use cat_directory::MemoryDirectory;
+use std::alloc::Global;
+use std::test::Fail;
+
+/// The right is another session's, the item is of other fields, and the text is of two lines.
+const ROWS: &[Row<'static>] = &[
+    (Call::Acquire(1, None), "new 0"),
+    (Call::Put(r#"{"id":"a","name":"apple","price":1}"#), "1"),
+    (Call::Release(2, 1, 0), "NO 20"),
+    (
+        Call::PutUnder(r#"{"weight":"number"}"#, r#"{"id":"a","weight":1}"#),
+        "NO 13",
+    ),
+    (Call::Commit("two\nlines"), "NO 13"),
+    (Call::Release(1, 1, 0), "1 0"),
+    (Call::Commit("one line"), "1"),
+    (Call::Acquire(1, Some(0)), "new 0"),
+    (Call::Refresh, "1"),
+    (Call::Acquire(2, None), "new 1"),
+    (Call::Page(2, 1, "*:*"), "1: a#1"),
+    (
+        Call::Source(2, 1, "a"),
+        r#"{"id":"a","name":"apple","price":1}"#,
+    ),
+];
+
+/// Whether that is so of a ledger of a directory without a file.
+fn refuses_without_change(alloc: Global) -> Result<bool, Refusal> {
+    let (are_answered, _device) = run(alloc, MemoryDirectory::new(alloc), ROWS)?;
+    Ok(are_answered)
+}
+
+#[test]
+fn a_refusal_changes_nothing(rt: HostRuntime) -> Result<(), Fail> {
+    expect_yes(refuses_without_change(rt.alloc()))
+}

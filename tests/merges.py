@@ -1,0 +1,323 @@
+#!/usr/bin/env python3
+"""Merges segments by the program, and holds their files against those of segments that the kept rows make without a merge, or that
+are spelled here byte by byte.
+
+usage: tests/merges.py PROGRAM
+
+The last line is `N passed, M failed`.
+"""
+
+import json
+import sys
+import tempfile
+from pathlib import Path
+
+import commits
+from limits import MAX_ROWS, SCHEMA_FIELDS, Broken, Child, Item, segment_bytes, write_commit, write_segment
+
+MAX_STEP_ROWS = 256
+# A field of each kind.
+FIELDS = '{"brand":"keyword","color":"facet","price":"number","title":"text"}'
+# What an item may have in each.
+VALUES = (
+    ("", ',"brand":"ac"', ',"brand":"acme"', ',"brand":"zed"'),
+    ("", ',"color":[]', ',"color":["red","blue"]', ',"color":["blue","blue"]', ',"color":["rose","black","red"]'),
+    ("", ',"price":-3', ',"price":0', ',"price":9223372036854775807'),
+    ("", ',"title":""', ',"title":"Garden shovel"', ',"title":"gar gar"', ',"title":"shoe, garden; shoe"'),
+)
+
+
+class Wrong(Exception):
+    """Something isn't as it has to be."""
+
+
+def expect(what, got, wanted):
+    if got != wanted:
+        raise Wrong(f"{what}: {got!r}, wanted {wanted!r}")
+
+
+def text_of(number):
+    """An item of values that look thrown, the same at each run: no two numbers below 7,919 give one id, and the ids don't rise. Each
+    tenth has a brand, a label and a word of its own."""
+    id = number * 3_571 % 7_919
+    if number % 10 == 0:
+        return f'{{"id":"i{id:04}","brand":"b{number}","color":["c{number}","red"],"title":"w{id} red"}}'
+    thrown, values = number, ""
+    for texts in VALUES:
+        thrown = (thrown * 6_364_136_223_846_793_005 + 1_442_695_040_888_963_407) % 2**64
+        values += texts[(thrown >> 33) % len(texts)]
+    return f'{{"id":"i{id:04}"{values}}}'
+
+
+def every(step):
+    return lambda number: number % step == 0
+
+
+def through(last):
+    return lambda number: number <= last
+
+
+def none(number):
+    return False
+
+
+def state(folder):
+    return {it.name: it.read_bytes() for it in folder.iterdir()}
+
+
+class Try:
+    """The program, and a room for folders."""
+
+    def __init__(self, program, room):
+        self.program, self.room, self.count = program, room, 0
+
+    def folder(self):
+        self.count += 1
+        folder = self.room / str(self.count)
+        folder.mkdir()
+        return folder
+
+    def open(self, folder, wanted, fields=FIELDS):
+        """The program over the folder, once it has answered the schema line."""
+        child = Child(self.program, "run", str(folder))
+        expect("the opening", child.ask(f"SCHEMA 2 10 {fields}"), wanted)
+        return child
+
+
+class Rows:
+    """Texts of items, put by the writes from 1 on, in segments that end at these: which are dead when a merge begins, and which die
+    meanwhile."""
+
+    def __init__(self, texts, ends, dead, killed, fields=FIELDS):
+        self.texts, self.ends, self.fields = texts, ends, fields
+        self.ids = [json.loads(text)["id"] for text in texts]
+        self.numbers = range(1, len(texts) + 1)
+        # An item that is put again takes the place of the one before it.
+        self.dead = {it for it in self.numbers if dead(it) or self.ids[it - 1] in self.ids[it:]}
+        self.killed = {it for it in self.numbers if killed(it)} - self.dead
+
+    def put(self, child, ends, left_out=frozenset()):
+        """Puts them; in the place of those that are left out stands a write that changes nothing."""
+        lines = []
+        for number in self.numbers:
+            lines.append("1 DEL none" if number in left_out else f"1 PUT {self.texts[number - 1]}")
+            if number in ends:
+                lines.append("1 REFRESH")
+        child.say(lines)
+
+    def delete(self, child, numbers):
+        replies = child.say([f"1 DEL {self.ids[number - 1]}" for number in sorted(numbers) if self.ids[number - 1] not in self.ids[number:]])
+        expect("deletes", [it for it in replies if not it.startswith("OK")], [])
+
+    def merged(self, try_):
+        """Merges them, and answers the files and the writes of the rows that live then."""
+        folder, count, made = try_.folder(), len(self.texts), len(self.ends) + 1
+        child = try_.open(folder, "OK 0", self.fields)
+        try:
+            self.put(child, self.ends)
+            self.delete(child, self.dead)
+            before = state(folder)
+            expect("a merge", child.ask("0 FORCE"), f"OK begun {len(self.ends)}")
+            # Each step passes 256 rows, dead or live.
+            steps = [min(passed + MAX_STEP_ROWS, count) for passed in range(0, count, MAX_STEP_ROWS)]
+            expect("its steps", [child.ask("0 MERGE") for _ in steps], [f"OK copied {passed}" for passed in steps])
+            # Until it is done it has no file but that of its texts.
+            expect("the files so far", {name: it for name, it in state(folder).items() if name != f"_{made}.sto"}, before)
+            self.delete(child, self.killed)
+            expect("its end", child.ask("0 MERGE"), "OK done")
+            token = child.ask("1 REFRESH").partition(" ")[2]
+            found = child.say(["1 OPEN", f"1 FIND {token} 1000 . . *:*"])[1].split("\n")[1:]
+            living = [int(line.split(" ")[0]) for line in found]
+            texts = child.say([f"1 GET {token} {self.ids[number - 1]}" for number in living])
+            expect("the texts that are found by ids", texts, [f"OK {self.texts[number - 1]}" for number in living])
+            files = state(folder)
+            expect("the other files", {name: it for name, it in files.items() if name in before}, before)
+            return files, living
+        finally:
+            child.kill()
+
+    def alone(self, try_, made):
+        """The files of the segment of this number that the rows make that aren't dead, without a merge."""
+        folder = try_.folder()
+        (folder / f"_{made - 1}.seg").write_bytes(b"")
+        child = try_.open(folder, "OK 0", self.fields)
+        try:
+            self.put(child, {len(self.texts)}, self.dead)
+            return state(folder)
+        finally:
+            child.kill()
+
+    def expect_merged(self, try_):
+        files, living = self.merged(try_)
+        made = len(self.ends) + 1
+        wanted = self.alone(try_, made)
+        what = f"of {len(self.texts)} rows, {len(self.dead)} dead, up to {self.ends}"
+        for end in ("seg", "sto"):
+            name = f"_{made}.{end}"
+            if len(self.dead) == len(self.texts):
+                # No segment is written where no row is kept.
+                expect(f"{name} {what}", files.get(name, b""), b"")
+            else:
+                expect(f"{name} {what}", files[name], wanted[name])
+        expect(f"the rows that live {what}", living, [it for it in self.numbers if it not in self.dead and it not in self.killed])
+
+
+# How many rows the segments have, where each ends, which rows are dead when the merge begins, and which die meanwhile.
+PLANS = (
+    (3, (1, 2, 3), none, none),
+    (40, (10, 30, 40), every(3), none),
+    (40, (10, 30, 40), none, every(3)),
+    (40, (10, 30, 40), every(3), every(4)),
+    (40, (10, 30, 40), every(2), none),
+    (40, (1, 2, 39, 40), every(4), every(6)),
+    (40, (7, 20, 40), every(2), every(2)),
+    # All rows with brands, labels and words of their own are dead.
+    (60, (30, 60), every(10), none),
+    # One segment loses its dead rows.
+    (20, (20,), every(3), every(5)),
+    # No row is kept.
+    (1, (1,), every(1), none),
+    (30, (10, 20, 30), every(1), every(1)),
+    # The first two segments are dead, and then all rows but the last.
+    (30, (10, 20, 30), through(20), none),
+    (30, (10, 20, 30), through(29), none),
+    # Rows that all die meanwhile are kept dead.
+    (30, (10, 20, 30), none, every(1)),
+    (30, (10, 20, 30), every(4), every(1)),
+    (30, (10, 20, 30), every(2), through(29)),
+    # A step passes 256 rows, dead or live.
+    (255, (200, 255), every(2), none),
+    (256, (255, 256), none, every(256)),
+    (257, (256, 257), every(256), none),
+    (300, (100, 300), every(2), none),
+    (600, (200, 511, 600), every(2), every(7)),
+    (600, (256, 511, 600), through(300), every(7)),
+    # A hundred segments.
+    (900, tuple(range(9, 901, 9)), every(9), every(11)),
+)
+
+
+def several_segments_become_one(try_):
+    for count, ends, dead, killed in PLANS:
+        Rows([text_of(number) for number in range(1, count + 1)], ends, dead, killed).expect_merged(try_)
+
+
+def an_id_that_was_put_again_is_kept_once(try_):
+    texts = (
+        '{"id":"a","price":2,"title":"old words"}',
+        '{"id":"z","color":["red"]}',
+        '{"id":"c","price":1,"brand":"gone"}',
+        '{"id":"b","brand":"acme"}',
+        '{"id":"a","color":["blue","red"],"title":"new words"}',
+        '{"id":"c","price":-7}',
+    )
+    for ends in ((2, 3, 5, 6), (1, 3, 6)):
+        Rows(texts, ends, none, every(2)).expect_merged(try_)
+
+
+def fields_may_be_many_of_a_kind_or_none(try_):
+    many = '{"a":"facet","b":"facet","c":"keyword","d":"keyword","e":"text","f":"text"}'
+    bare = ('{"id":"b"}', '{"id":"a"}', '{"id":"c"}')
+    filled = (
+        '{"id":"b","a":["x"],"b":["y","x"],"c":"k","d":"l","e":"one two","f":"two three"}',
+        '{"id":"a","b":["z"],"d":"k","f":"one"}',
+        '{"id":"d","b":["dead"],"d":"dead","f":"dead"}',
+        '{"id":"c","a":["y"],"c":"l","e":"three"}',
+    )
+    Rows(bare, (2, 3), every(2), none, "{}").expect_merged(try_)
+    Rows(bare, (1, 3), every(2), none, many).expect_merged(try_)
+    Rows(filled, (1, 2, 4), every(3), every(4), many).expect_merged(try_)
+
+
+def numbers_of_writes_may_be_large(try_):
+    last = 9_000_000_000
+    files = {"segments_3": commits.commit(token=last), "_3.seg": commits.segment(3, ((7, b"e", 10), (last, b"d", 10)))}
+    folder = try_.folder()
+    for name, said in {**commits.WHOLE, **files}.items():
+        (folder / name).write_bytes(said)
+    child = try_.open(folder, f"OK {last}", commits.SCHEMA)
+    try:
+        told = [child.ask(line) for line in ("0 FORCE", "0 MERGE", "0 MERGE")]
+        expect("a merge", told, ["OK begun 3", "OK copied 6", "OK done"])
+    finally:
+        child.kill()
+    rows = ((2, b"b", 21), (4, b"a", 10), (5, b"c", 11), (last, b"d", 10))
+    expect("its segment", (folder / "_4.seg").read_bytes(), commits.segment(4, rows))
+
+
+def damaged_sources_end_a_merge(try_):
+    """A file of sources is cut off or absent, and then no segment is written; or the file is gone that a step appends to."""
+    rows = Rows([text_of(number) for number in range(1, 41)], (10, 30, 40), every(3), none)
+    for hurt, wanted in (("_1.sto", "NO 31"), ("_3.sto", "NO 31"), ("_4.sto", "NO 30")):
+        folder = try_.folder()
+        child = try_.open(folder, "OK 0")
+        try:
+            rows.put(child, rows.ends)
+            rows.delete(child, rows.dead)
+            expect("a merge", child.ask("0 FORCE"), "OK begun 3")
+            if hurt == "_1.sto":
+                (folder / hurt).write_bytes((folder / hurt).read_bytes()[:-1])
+            else:
+                (folder / hurt).unlink()
+            expect(f"a step where {hurt} is hurt", child.ask("0 MERGE"), wanted)
+            expect("a merged segment", (folder / "_4.seg").exists(), False)
+        finally:
+            child.kill()
+
+
+def a_full_segment_is_merged_of_64(try_):
+    """All rows that a segment may have, of which each third dies meanwhile."""
+    folder, each = try_.folder(), MAX_ROWS // 64
+    items = [Item(number) for number in range(1, MAX_ROWS + 1)]
+    for number in range(1, 65):
+        write_segment(folder, number, items[(number - 1) * each : number * each])
+    write_commit(folder, MAX_ROWS, 64)
+    child = try_.open(folder, f"OK {MAX_ROWS}", json.dumps(SCHEMA_FIELDS))
+    try:
+        expect("a merge", child.ask("0 FORCE"), "OK begun 64")
+        steps = range(MAX_STEP_ROWS, MAX_ROWS + 1, MAX_STEP_ROWS)
+        expect("its steps", child.say(["0 MERGE"] * len(steps)) == [f"OK copied {passed}" for passed in steps], True)
+        deleted = [item for item in items if item.number % 3 == 0]
+        token = child.say([f"1 DEL {item.id}" for item in deleted])[-1].partition(" ")[2]
+        expect("its end", child.ask("0 MERGE"), "OK done")
+        expect("what stands", child.ask("0 STAT").split("\n")[1:], [f"65 {MAX_ROWS} {MAX_ROWS - len(deleted)}"])
+        expect("its segment", (folder / "_65.seg").read_bytes() == segment_bytes(65, items), True)
+        expect("its texts", (folder / "_65.sto").read_bytes() == "".join(item.text for item in items).encode(), True)
+        # Each row is found by its id.
+        child.say(["1 REFRESH", "1 OPEN"])
+        texts = child.say([f"1 GET {token} {item.id}" for item in items])
+        expect("the items", texts == [f"OK {'.' if item.number % 3 == 0 else item.text}" for item in items], True)
+    finally:
+        child.kill()
+
+
+TESTS = (
+    several_segments_become_one,
+    an_id_that_was_put_again_is_kept_once,
+    fields_may_be_many_of_a_kind_or_none,
+    numbers_of_writes_may_be_large,
+    damaged_sources_end_a_merge,
+    a_full_segment_is_merged_of_64,
+)
+
+
+def main():
+    if len(sys.argv) != 2:
+        print(__doc__, file=sys.stderr)
+        return 2
+    program = str(Path(sys.argv[1]).resolve())
+    passed = failed = 0
+    for test in TESTS:
+        with tempfile.TemporaryDirectory(prefix="merges-") as room:
+            try:
+                test(Try(program, Path(room)))
+                passed += 1
+            except (Wrong, Broken, OSError) as wrong:
+                failed += 1
+                print(f"merges: {test.__name__.replace('_', ' ')} FAILED: {str(wrong)[:600]}")
+    print(f"{passed} passed, {failed} failed")
+    return 1 if failed else 0
+
+
+if __name__ == "__main__":
+    sys.exit(main())
