@@ -9,10 +9,9 @@ Each try has a folder of its own. The last line is `N passed, M failed`.
 
 import subprocess
 import sys
-import tempfile
-from pathlib import Path
 
-from limits import Broken, Child, counted, u32, u64
+from limits import Child, counted, u32, u64
+from tries import expect, run, state
 
 LAST = 9_223_372_036_854_775_807
 SECONDS = 120
@@ -67,30 +66,11 @@ SCHEMA = '{"color":"facet"}'
 OLDER = commit(2, 5, 3, ((1, 2), (2, 0)))
 
 
-class Wrong(Exception):
-    """Something isn't as it has to be."""
-
-
-def expect(what, got, wanted):
-    if got != wanted:
-        raise Wrong(f"{what}: {got!r}, wanted {wanted!r}")
-
-
 class Try:
     """The programs, and a room for folders."""
 
-    def __init__(self, program, check, room):
-        self.program, self.checker, self.room, self.count = program, check, room, 0
-
-    def folder(self, files):
-        """A folder with these files, but for those that are absent."""
-        self.count += 1
-        folder = self.room / str(self.count)
-        folder.mkdir()
-        for name, said in files.items():
-            if said is not ABSENT:
-                (folder / name).write_bytes(said)
-        return folder
+    def __init__(self, room, program, check):
+        self.program, self.checker, self.folder = program, check, room.folder
 
     def whole_but(self, others):
         """The files of the commit, but for those that say something else."""
@@ -136,10 +116,6 @@ def verdict_of(told):
     return "; ".join(faults)
 
 
-def state(folder):
-    return {it.name: it.read_bytes() for it in folder.iterdir()}
-
-
 def told_lines(generation, token, ids):
     """Lines that ask for all that a commit says."""
     return ["1 OPEN", "1 SNAP", f"1 NOTE {generation}", f"1 FIND {token} 1000 . . *:*", "0 STAT", *(f"1 GET {token} {id}" for id in ids)]
@@ -168,8 +144,10 @@ def a_whole_commit_is_read(try_):
     folder = try_.whole_but({})
     wanted = told_replies(3, 9, (LEFT, MIDDLE, RIGHT), TEXTS)
     expect("what is read", try_.replies(folder, told_lines(3, 9, IDS)), wanted)
-    expect("what is read in memory and then of a shelf", try_.replies(folder, ["1 OPEN", "1 GET 9 b"], words=("run", "--threads", "2"))[1:], ["1 OK 9", "1 OK " + TEXTS[1]])
     expect("the files", state(folder), WHOLE)
+    # Threads read texts by shelves of their own.
+    told = try_.replies(folder, ["1 OPEN", *(f"1 GET 9 {id}" for id in IDS)], words=("run", "--threads", "2"))
+    expect("what is read of a shelf", told, ["OK 9", "1 OK 9", *(f"1 OK {it}" for it in TEXTS)])
 
 
 def what_fits_is_read(try_):
@@ -330,7 +308,7 @@ BOTH_FIELDS = '{"color":"facet","price":"number"}'
 
 def both_versions_are_read_and_the_second_is_written(try_):
     expect("the sizes", (len(FIRST), len(SECOND), len(THIRD)), (73, 83, 77))
-    folder = try_.folder({})
+    folder = try_.folder()
     told = try_.replies(folder, ['1 PUT {"id":"a","price":5,"color":["red"]}', "1 COMMIT spring", "1 FILES g 1", "1 SNAP"], BOTH_FIELDS)
     expect("a commit", told[2:], ["1 OK 1", "1 OK 3", "1 _1.seg", "1 _1.sto", "1 segments_1", "1 OK 1"])
     expect("its file", state(folder)["segments_1"], SECOND)
@@ -407,7 +385,7 @@ def numbers_and_texts_fit(try_):
 
 def texts_of_commits_are_judged(try_):
     texts = ("spring", "spring é ~", "a\tb", "a\x7f", "x" * 256, "x" * 257)
-    told = try_.replies(try_.folder({}), ["1 COMMIT", *(f"1 COMMIT {text}" for text in texts), "1 NOTE 4"])
+    told = try_.replies(try_.folder(), ["1 COMMIT", *(f"1 COMMIT {text}" for text in texts), "1 NOTE 4"])
     expect("texts", told[1:], ["1 OK 1", "1 OK 2", "1 OK 3", "1 NO 13", "1 NO 13", "1 OK 4", "1 NO 15", "1 OK =" + "x" * 256])
 
 
@@ -479,7 +457,7 @@ def put(id, price):
 
 
 def live_files_are_new_or_kept(try_):
-    folder = try_.folder({})
+    folder = try_.folder()
     schema = '{"price":"number"}'
     lines = [put("a", 1), put("b", 2), put("c", 3), "1 REFRESH", put("d", 4), put("e", 5), "1 COMMIT one", "1 FILES g 1", "1 SNAP"]
     lines += ["1 DEL b", "1 COMMIT", "1 SNAP", "1 DEL d", "1 COMMIT", "1 SNAP"]
@@ -511,7 +489,7 @@ def live_files_are_new_or_kept(try_):
 
 
 def a_commit_without_a_segments_file_is_none(try_):
-    folder = try_.folder({})
+    folder = try_.folder()
     child = Child(try_.program, "run", str(folder))
     try:
         told = child.say(['SCHEMA 2 1 {"price":"number"}', put("a", 1), "1 REFRESH"])
@@ -524,7 +502,7 @@ def a_commit_without_a_segments_file_is_none(try_):
 
 
 def a_thousand_segments_keep_their_files(try_):
-    folder = try_.folder({})
+    folder = try_.folder()
     child = Child(try_.program, "run", str(folder))
     try:
         lines = [line for at in range(1_000) for line in (put(f"a{at}", 1), put(f"b{at}", 2), "1 REFRESH")]
@@ -547,7 +525,7 @@ def snapshots_are_counted_and_their_commits_kept(try_):
     lines = ["1 SNAP", "1 UNSNAP 1", "1 COMMIT", "1 COMMIT", "1 NOTE 1", "1 NOTE 2", "1 SNAP", "1 SNAP", "1 COMMIT", "1 SNAP", "1 COMMIT", "1 COMMIT"]
     # Commits 2 and 3 have snapshots, and commit 5 is the newest.
     lines += ["1 NOTE 2", "1 NOTE 3", "1 NOTE 4", "1 NOTE 5", "1 UNSNAP 2", "1 NOTE 2", "1 UNSNAP 2", "1 NOTE 2", "1 UNSNAP 2", "1 NOTE 3", "0 SWEEP"]
-    folder = try_.folder({})
+    folder = try_.folder()
     told = try_.replies(folder, lines)[1:]
     wanted = ["1 NO 26", "1 NO 27", "1 OK 1", "1 OK 2", "1 NO 26", "1 OK =", "1 OK 2", "1 OK 2", "1 OK 3", "1 OK 3", "1 OK 4", "1 OK 5"]
     wanted += ["1 OK =", "1 OK =", "1 NO 26", "1 OK =", "1 OK 1", "1 OK =", "1 OK 0", "1 NO 26", "1 NO 27", "1 OK =", "0 OK 3"]
@@ -558,7 +536,7 @@ def snapshots_are_counted_and_their_commits_kept(try_):
 def a_commit_has_65535_snapshots_at_most(try_):
     most = 65_535
     lines = ["1 COMMIT", *["1 SNAP"] * most, "1 SNAP", "1 COMMIT", "1 SNAP", "1 UNSNAP 1"]
-    told = try_.replies(try_.folder({}), lines)[1:]
+    told = try_.replies(try_.folder(), lines)[1:]
     expect("snapshots", told, ["1 OK 1", *["1 OK 1"] * most, "1 NO 16", "1 OK 2", "1 OK 2", f"1 OK {most - 1}"])
 
 
@@ -584,23 +562,5 @@ TESTS = (
 )
 
 
-def main():
-    if len(sys.argv) != 3:
-        print(__doc__, file=sys.stderr)
-        return 2
-    program, check = (str(Path(it).resolve()) for it in sys.argv[1:])
-    passed = failed = 0
-    for test in TESTS:
-        with tempfile.TemporaryDirectory(prefix="commits-") as room:
-            try:
-                test(Try(program, check, Path(room)))
-                passed += 1
-            except (Wrong, Broken, OSError, subprocess.TimeoutExpired) as wrong:
-                failed += 1
-                print(f"commits: {test.__name__.replace('_', ' ')} FAILED: {str(wrong)[:600]}")
-    print(f"{passed} passed, {failed} failed")
-    return 1 if failed else 0
-
-
 if __name__ == "__main__":
-    sys.exit(main())
+    sys.exit(run("commits", "usage: tests/commits.py PROGRAM CHECK", Try, TESTS))

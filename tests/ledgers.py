@@ -8,38 +8,18 @@ The last line is `N passed, M failed`.
 
 import subprocess
 import sys
-import tempfile
-from pathlib import Path
 
-from limits import Broken, Child
+from limits import Child
+from tries import expect, run, state
 
 FIELDS = '{"name":"text","price":"number"}'
-
-
-class Wrong(Exception):
-    """Something isn't as it has to be."""
-
-
-def expect(what, got, wanted):
-    if got != wanted:
-        raise Wrong(f"{what}: {got!r}, wanted {wanted!r}")
-
-
-def state(folder):
-    return {it.name: it.read_bytes() for it in folder.iterdir()}
 
 
 class Try:
     """The program, and a room for folders."""
 
-    def __init__(self, program, room):
-        self.program, self.room, self.count = program, room, 0
-
-    def folder(self):
-        self.count += 1
-        folder = self.room / str(self.count)
-        folder.mkdir()
-        return folder
+    def __init__(self, room, program):
+        self.program, self.folder = program, room.folder
 
     def pass_over(self, folder, wanted, *tables):
         """Opens the folder, or a catalogue in memory where there is none, and says the lines of the tables in turn, each of which has
@@ -270,23 +250,5 @@ TESTS = (
 )
 
 
-def main():
-    if len(sys.argv) != 2:
-        print(__doc__, file=sys.stderr)
-        return 2
-    program = str(Path(sys.argv[1]).resolve())
-    passed = failed = 0
-    for test in TESTS:
-        with tempfile.TemporaryDirectory(prefix="ledgers-") as room:
-            try:
-                test(Try(program, Path(room)))
-                passed += 1
-            except (Wrong, Broken, OSError, subprocess.TimeoutExpired) as wrong:
-                failed += 1
-                print(f"ledgers: {test.__name__.replace('_', ' ')} FAILED: {str(wrong)[:600]}")
-    print(f"{passed} passed, {failed} failed")
-    return 1 if failed else 0
-
-
 if __name__ == "__main__":
-    sys.exit(main())
+    sys.exit(run("ledgers", "usage: tests/ledgers.py PROGRAM", Try, TESTS))

@@ -9,11 +9,10 @@ The last line is `N passed, M failed`.
 
 import json
 import sys
-import tempfile
-from pathlib import Path
 
 import commits
-from limits import MAX_ROWS, SCHEMA_FIELDS, Broken, Child, Item, segment_bytes, write_commit, write_segment
+from limits import MAX_ROWS, SCHEMA_FIELDS, Child, Item, segment_bytes, write_commit, write_segment
+from tries import expect, run, state
 
 MAX_STEP_ROWS = 256
 # A field of each kind.
@@ -25,15 +24,6 @@ VALUES = (
     ("", ',"price":-3', ',"price":0', ',"price":9223372036854775807'),
     ("", ',"title":""', ',"title":"Garden shovel"', ',"title":"gar gar"', ',"title":"shoe, garden; shoe"'),
 )
-
-
-class Wrong(Exception):
-    """Something isn't as it has to be."""
-
-
-def expect(what, got, wanted):
-    if got != wanted:
-        raise Wrong(f"{what}: {got!r}, wanted {wanted!r}")
 
 
 def text_of(number):
@@ -61,21 +51,11 @@ def none(number):
     return False
 
 
-def state(folder):
-    return {it.name: it.read_bytes() for it in folder.iterdir()}
-
-
 class Try:
     """The program, and a room for folders."""
 
-    def __init__(self, program, room):
-        self.program, self.room, self.count = program, room, 0
-
-    def folder(self):
-        self.count += 1
-        folder = self.room / str(self.count)
-        folder.mkdir()
-        return folder
+    def __init__(self, room, program):
+        self.program, self.folder = program, room.folder
 
     def open(self, folder, wanted, fields=FIELDS):
         """The program over the folder, once it has answered the schema line."""
@@ -138,8 +118,7 @@ class Rows:
 
     def alone(self, try_, made):
         """The files of the segment of this number that the rows make that aren't dead, without a merge."""
-        folder = try_.folder()
-        (folder / f"_{made - 1}.seg").write_bytes(b"")
+        folder = try_.folder({f"_{made - 1}.seg": b""})
         child = try_.open(folder, "OK 0", self.fields)
         try:
             self.put(child, {len(self.texts)}, self.dead)
@@ -232,9 +211,7 @@ def fields_may_be_many_of_a_kind_or_none(try_):
 def numbers_of_writes_may_be_large(try_):
     last = 9_000_000_000
     files = {"segments_3": commits.commit(token=last), "_3.seg": commits.segment(3, ((7, b"e", 10), (last, b"d", 10)))}
-    folder = try_.folder()
-    for name, said in {**commits.WHOLE, **files}.items():
-        (folder / name).write_bytes(said)
+    folder = try_.folder({**commits.WHOLE, **files})
     child = try_.open(folder, f"OK {last}", commits.SCHEMA)
     try:
         told = [child.ask(line) for line in ("0 FORCE", "0 MERGE", "0 MERGE")]
@@ -301,23 +278,5 @@ TESTS = (
 )
 
 
-def main():
-    if len(sys.argv) != 2:
-        print(__doc__, file=sys.stderr)
-        return 2
-    program = str(Path(sys.argv[1]).resolve())
-    passed = failed = 0
-    for test in TESTS:
-        with tempfile.TemporaryDirectory(prefix="merges-") as room:
-            try:
-                test(Try(program, Path(room)))
-                passed += 1
-            except (Wrong, Broken, OSError) as wrong:
-                failed += 1
-                print(f"merges: {test.__name__.replace('_', ' ')} FAILED: {str(wrong)[:600]}")
-    print(f"{passed} passed, {failed} failed")
-    return 1 if failed else 0
-
-
 if __name__ == "__main__":
-    sys.exit(main())
+    sys.exit(run("merges", "usage: tests/merges.py PROGRAM", Try, TESTS))

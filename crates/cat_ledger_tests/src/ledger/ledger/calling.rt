@@ -1,6 +1,6 @@
 //! Calls of a ledger, and what each has to be answered.
 use crate::ledger::ledger::maintaining::{merge, sweep};
-use crate::ledger::ledger::viewing::{acquire, page, prune, refresh, release, source};
+use crate::ledger::ledger::viewing::{acquire, prune, refresh, release, source};
 use crate::ledger::ledger::writing::{commit, delete, put, put_under};
 use cat_base::{Refusal, SessionNo, Token};
 use cat_directory::{Directory, Shelf};
@@ -30,8 +30,6 @@ pub(crate) enum Call<'a> {
     Prune(u64),
     /// `source` of the id in the view that the session holds.
     Source(SessionNo, Token, &'a str),
-    /// The page by price of what the query matches in the view that the session holds.
-    Page(SessionNo, Token, &'a str),
     Commit(&'a str),
     /// Steps until one finds nothing to do.
     Merge,
@@ -56,7 +54,6 @@ pub(crate) fn answer<D: Directory + Shelf>(
         }
         Call::Prune(count) => prune(alloc, ledger, count),
         Call::Source(session, token, id) => source(alloc, ledger, rights, (session, token), id),
-        Call::Page(session, token, query) => page(alloc, ledger, rights, (session, token), query),
         Call::Commit(text) => commit(alloc, ledger, text),
         Call::Merge => merge(alloc, ledger),
         Call::Sweep => sweep(alloc, ledger),

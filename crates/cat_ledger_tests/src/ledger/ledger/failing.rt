@@ -31,15 +31,18 @@ const SHIFT: &[Row<'static>] = &[
     (Call::Merge, "idle"),
     (Call::Delete("b"), "4"),
     (Call::Commit("four"), ""),
-    (Call::Page(1, 2, "*:*"), "2: a#1 b#2"),
+    (
+        Call::Source(1, 2, "b"),
+        r#"{"id":"b","name":"blue bowl","price":5}"#,
+    ),
     (Call::Release(1, 1, 2), "1 2"),
     (Call::Prune(1), "2"),
     (Call::Sweep, ""),
 ];
 
 /// How many calls these make of a directory without a file: two to open it, four for each of two flushes, six for each of two
-/// commits and for the merge, one for a stored text, and one for each of two files that a sweep deletes.
-const CALLS: u64 = 31;
+/// commits and for the merge, one for each of two stored texts, and one for each of two files that a sweep deletes.
+const CALLS: u64 = 32;
 
 /// Whether the answer is this one, or any number where this one is empty.
 fn is_so(got: &str, want: &str) -> bool {
@@ -125,11 +128,11 @@ fn work(alloc: Global, passes: u64) -> Result<(bool, Faulty<MemoryDirectory>), R
 /// The table at the end, behind an opening.
 const LEFT: &[Row<'static>] = &[
     (Call::Acquire(2, None), "new 4"),
-    (Call::Page(2, 4, "*:*"), "1: a#3"),
     (
         Call::Source(2, 4, "a"),
         r#"{"id":"a","name":"green apple","price":6}"#,
     ),
+    (Call::Source(2, 4, "b"), "none"),
 ];
 
 /// Whether the files at the end are those of the last commit, four, and of the two segments of the last view.
@@ -218,21 +221,33 @@ const TABLES: &[(WriteNo, &[Row<'static>])] = &[
         0,
         &[
             (Call::Acquire(1, Some(0)), "new 0"),
-            (Call::Page(1, 0, "*:*"), "0:"),
+            (Call::Source(1, 0, "a"), "none"),
+            (Call::Source(1, 0, "b"), "none"),
         ],
     ),
     (
         3,
         &[
             (Call::Acquire(1, Some(3)), "new 3"),
-            (Call::Page(1, 3, "*:*"), "2: b#2 a#3"),
+            (
+                Call::Source(1, 3, "a"),
+                r#"{"id":"a","name":"green apple","price":6}"#,
+            ),
+            (
+                Call::Source(1, 3, "b"),
+                r#"{"id":"b","name":"blue bowl","price":5}"#,
+            ),
         ],
     ),
     (
         4,
         &[
             (Call::Acquire(1, Some(4)), "new 4"),
-            (Call::Page(1, 4, "*:*"), "1: a#3"),
+            (
+                Call::Source(1, 4, "a"),
+                r#"{"id":"a","name":"green apple","price":6}"#,
+            ),
+            (Call::Source(1, 4, "b"), "none"),
         ],
     ),
 ];

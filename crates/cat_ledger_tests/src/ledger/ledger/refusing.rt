@@ -21,7 +21,6 @@ const ROWS: &[Row<'static>] = &[
     (Call::Acquire(1, Some(0)), "new 0"),
     (Call::Refresh, "1"),
     (Call::Acquire(2, None), "new 1"),
-    (Call::Page(2, 1, "*:*"), "1: a#1"),
     (
         Call::Source(2, 1, "a"),
         r#"{"id":"a","name":"apple","price":1}"#,

@@ -2,7 +2,6 @@
 use cat_base::Refusal;
 use cat_ledger::upkeep::MergeNews;
 use cat_ledger::{SegmentStat, Stat};
-use cat_search::Page;
 use std::alloc::{AllocError, Global};
 use std::fmt::Write;
 
@@ -34,26 +33,6 @@ pub(crate) fn source(
             Err(_) => Err(Refusal::Json),
         },
         Ok(None) => Ok(String::from_str(alloc, "none")?),
-        Err(refusal) => refused(alloc, refusal),
-    }
-}
-
-/// How many hits there are, and the ids that are shown, each with the number of its write.
-fn shown(alloc: Global, page: &Page) -> Result<String, AllocError> {
-    let total = page.total();
-    let mut text = format!(in alloc; "{total}:")?;
-    for entry in page.entries() {
-        let id = entry.id();
-        let number = entry.number();
-        write!(text, " {id}#{number}")?;
-    }
-    Ok(text)
-}
-
-/// A page.
-pub(crate) fn page(alloc: Global, answer: Result<Page, Refusal>) -> Result<String, Refusal> {
-    match answer {
-        Ok(page) => Ok(shown(alloc, &page)?),
         Err(refusal) => refused(alloc, refusal),
     }
 }

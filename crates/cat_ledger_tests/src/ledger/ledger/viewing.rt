@@ -4,8 +4,6 @@ use cat_base::{Refusal, SessionNo, Token};
 use cat_directory::{Directory, Shelf};
 use cat_ledger::cat_lifetimes::rights::Rights;
 use cat_ledger::{Grant, Ledger};
-use cat_live_table::Query;
-use cat_search::{Ask, Prepared, Sort};
 use cat_views::Hold;
 use std::alloc::Global;
 
@@ -105,33 +103,6 @@ pub(crate) fn source<D: Directory + Shelf>(
     let (session, token) = right;
     match rights.get(session, token) {
         Some(hold) => telling::source(alloc, ledger.source(hold, id)),
-        None => refused(alloc, Refusal::NotHeld),
-    }
-}
-
-/// The first ten hits by price.
-fn found(alloc: Global, hold: &Hold, query: Query) -> Result<String, Refusal> {
-    let ask = Ask {
-        sort: Sort::Rising("price"),
-        after: None,
-        count: 10,
-    };
-    let prepared = Prepared::of(hold.view(), query)?;
-    telling::page(alloc, prepared.page(alloc, ask))
-}
-
-/// The page by price of what the query matches in the view that the session holds.
-pub(crate) fn page<D: Directory + Shelf>(
-    alloc: Global,
-    ledger: &Ledger<D>,
-    rights: &Rights,
-    right: (SessionNo, Token),
-    text: &str,
-) -> Result<String, Refusal> {
-    let (session, token) = right;
-    let query = Query::parse(ledger.schema(), alloc, text)?;
-    match rights.get(session, token) {
-        Some(hold) => found(alloc, hold, query),
         None => refused(alloc, Refusal::NotHeld),
     }
 }

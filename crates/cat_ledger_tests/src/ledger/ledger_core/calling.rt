@@ -8,6 +8,9 @@ use cat_ledger::upkeep::{MergeNews, MergePolicy, force, merge_step};
 use cat_live_table::Query;
 use std::alloc::Global;
 
+/// The fields of the items.
+pub(crate) const FIELDS: &[u8] = br#"{"price":"number"}"#;
+
 /// A device in memory whose calls may fail.
 pub(crate) type Device = Faulty<MemoryDirectory>;
 
@@ -23,7 +26,7 @@ pub(crate) fn empty_at(
     if next_generation == 0 || next_generation > LAST_NUMBER + 1 {
         return Err(Refusal::Line);
     }
-    let schema = Schema::read(alloc, br#"{"price":"number"}"#)?;
+    let schema = Schema::read(alloc, FIELDS)?;
     let refs = known_names(alloc, &[])?;
     Ok(Core::empty(alloc, schema, refs, next_segment, next_generation)?)
 }

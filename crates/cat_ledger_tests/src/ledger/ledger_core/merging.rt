@@ -104,7 +104,7 @@ fn windows_and_all_segments_are_merged(rt: HostRuntime) -> Result<(), Fail> {
     expect_yes(run_each(rt.alloc(), CASES))
 }
 
-/// Four segments, of which the second and the third are merged.
+/// Four segments.
 const FOUR: &[Row<'static>] = &[
     (Step::Put(r#"{"id":"a","price":1}"#), "ok"),
     (Step::Flush, "ok"),
@@ -117,6 +117,11 @@ const FOUR: &[Row<'static>] = &[
     (Step::Put(r#"{"id":"f","price":3}"#), "ok"),
     (Step::Put(r#"{"id":"g","price":7}"#), "ok"),
     (Step::Flush, "ok"),
+    (Step::Standing, "1: a;2: b c;3: d e;4: f g;"),
+];
+
+/// The second and the third are merged, all of whose rows are copied.
+const COPIED: &[Row<'static>] = &[
     (Step::Merge, "begun 2"),
     (Step::Merge, "copied 4"),
     (Step::Standing, "1: a;2: b c;3: d e;4: f g;"),
@@ -152,11 +157,24 @@ const ALL_DIE: &[Row<'static>] = &[
     (Step::Standing, "1: a;5: -b -c -d -e;4: -f -g;"),
 ];
 
+/// Nothing comes in the place of two segments whose rows are all dead when the merge begins.
+const ALL_DEAD: &[Row<'static>] = &[
+    (Step::DeleteWhere("price:[2 TO 5]"), "ok"),
+    (Step::Standing, "1: a;2: -b -c;3: -d -e;4: -f g;"),
+    (Step::Merge, "begun 2"),
+    (Step::Merge, "copied 4"),
+    (Step::Merge, "done"),
+    (Step::Standing, "1: a;4: -f g;"),
+    (Step::Delete("g"), "ok"),
+    (Step::Standing, "1: a;4: -f -g;"),
+];
+
 /// Each in a ledger of its own.
 const MEANWHILE: &[Case<'static>] = &[
-    ((1, 1), &[FOUR, IDS_MOVE]),
-    ((1, 1), &[FOUR, ROWS_DIE]),
-    ((1, 1), &[FOUR, ALL_DIE]),
+    ((1, 1), &[FOUR, COPIED, IDS_MOVE]),
+    ((1, 1), &[FOUR, COPIED, ROWS_DIE]),
+    ((1, 1), &[FOUR, COPIED, ALL_DIE]),
+    ((1, 1), &[FOUR, ALL_DEAD]),
 ];
 
 #[test]
@@ -216,7 +234,6 @@ const MERGE_FAILS: &[Row<'static>] = &[
     (Step::Failures, "1"),
     (Step::IsMerging, "no"),
     (Step::Standing, "1: a -b;2: c d;3: -e f;"),
-    (Step::Told(&[]), "8 0 3:; 2"),
     (
         Step::File(
             FileName::Source(1),
@@ -256,16 +273,24 @@ fn each_call_of_a_merge_fails(rt: HostRuntime) -> Result<(), Fail> {
     expect_yes(run_failing(rt.alloc(), TWO_DEAD, 7, MERGE_FAILS))
 }
 
-/// There is no file of the merged segment before all is copied.
+/// Its file of sources is pending, and behind the copies that of the segment too, of which there is none before.
+const NO_SOURCES: &[Row<'static>] = &[
+    (Step::Fail(Faults::One(0)), "ok"),
+    (Step::MergeAll, "NO 30"),
+    (Step::Told(&[]), "8 0 3:; 1"),
+];
+
 const NOT_BEGUN: &[Row<'static>] = &[
     (Step::Fail(Faults::One(5)), "ok"),
     (Step::MergeAll, "NO 30"),
+    (Step::Told(&[]), "8 0 3:; 2"),
     (Step::File(FileName::Segment(4), b""), "absent"),
 ];
 
 const NOT_WRITTEN: &[Row<'static>] = &[
     (Step::Fail(Faults::One(6)), "ok"),
     (Step::MergeAll, "NO 30"),
+    (Step::Told(&[]), "8 0 3:; 2"),
     (Step::File(FileName::Segment(4), b""), "empty"),
 ];
 
@@ -297,6 +322,7 @@ const RANGES: &[Row<'static>] = &[
 
 /// Each in a ledger of its own.
 const OVER_FILES: &[Case<'static>] = &[
+    ((1, 1), &[TWO_DEAD, NO_SOURCES, SOURCES_STAY]),
     ((1, 1), &[TWO_DEAD, NOT_BEGUN, SOURCES_STAY]),
     ((1, 1), &[TWO_DEAD, NOT_WRITTEN, SOURCES_STAY]),
     ((1, 1), &[TWO_DEAD, NO_OTHER, SOURCES_STAY]),

@@ -1,19 +1,12 @@
 //! A state that was committed, and is opened again from its directory.
-ghost use Rattle.std.specs.Prelude.{◌≡◌, true, All, IfOk};
-ghost use Rattle.cat_directory.specs.Names.{name_of};
-ghost use Rattle.cat_ledger_laws.specs.model.Ledger.{IsPast};
-ghost use Rattle.cat_model.specs.CommitFile.{commit_needs};
-
-use crate::ledger::ledger_core::calling::Device;
+use crate::ledger::ledger_core::calling::{Device, FIELDS};
 use crate::ledger::ledger_core::steps::{Row, Step, new_device, run_in, run_on};
 use crate::verdict::expect_yes;
-use cat_base::{Generation, Refusal, SegNo};
+use cat_base::Refusal;
 use cat_directory::FileName;
 use cat_items::Schema;
-use cat_ledger::cat_ledger_state::cat_commits::Commit;
-use cat_ledger::cat_ledger_state::cat_commits::reading::read_commit;
-use cat_ledger::cat_ledger_state::{Core, known_names};
-use std::alloc::{AllocError, Global};
+use cat_ledger::cat_ledger_state::startup::open;
+use std::alloc::Global;
 use std::test::Fail;
 
 /// The rows of two segments, the live file of the first, and the own files of two commits.
@@ -24,50 +17,6 @@ const NAMES: &[FileName] = &[
     FileName::Commit(1),
     FileName::Commit(2),
 ];
-
-/// Whether the numbers of the name are those of a file, and these are above them.
-fn is_past(name: FileName, segment: SegNo, generation: Generation) -> bool
-    ensures { result ≡ true → IsPast segment generation (name_of name) }
-{
-    match name {
-        FileName::Segment(number) | FileName::Source(number) => 0 < number && number < segment,
-        FileName::Live(number, made) => {
-            0 < number && number < segment && 0 < made && made < generation
-        }
-        FileName::Commit(made) => 0 < made && made < generation,
-    }
-}
-
-/// Whether that is so of each of the names.
-fn are_past(names: &[FileName], segment: SegNo, generation: Generation) -> bool
-    ensures { result ≡ true → All (λ q. IsPast segment generation (name_of q)) names.now }
-{
-    for name in names {
-        if !is_past(*name, segment, generation) {
-            return false;
-        }
-    }
-    true
-}
-
-/// Whether that is so of each file that the commit needs.
-fn is_behind(commit: &Commit, segment: SegNo, generation: Generation) -> Result<bool, AllocError>
-    ensures { IfOk result (λ past. past ≡ true → All (IsPast segment generation) (commit_needs commit.now)) }
-{
-    let names = commit.names()?;
-    Ok(are_past(&names, segment, generation))
-}
-
-/// The state at the second commit of the directory, where the file of the first is still there.
-fn open_second(alloc: Global, device: &mut Device) -> Result<Core, Refusal> {
-    let schema = Schema::read(alloc, br#"{"price":"number"}"#)?;
-    let restored = read_commit(alloc, device, &schema, 2)?;
-    if !is_behind(&restored.commit, 3, 3)? {
-        return Err(Refusal::Damaged);
-    }
-    let refs = known_names(alloc, &[FileName::Commit(1)])?;
-    Ok(Core::opened(alloc, schema, restored, refs, 3, 3)?)
-}
 
 /// Makes two commits: a row of the first segment dies between, and a second segment comes. What is put behind is lost.
 const TWO_COMMITS: &[Row<'static>] = &[
@@ -80,9 +29,10 @@ const TWO_COMMITS: &[Row<'static>] = &[
     (Step::Put(r#"{"id":"d","price":4}"#), "ok"),
 ];
 
-/// Takes the steps in the state at the second commit of the device.
+/// Takes the steps in the state at the newest commit of the device.
 fn reopen(alloc: Global, device: &mut Device, tables: &[&[Row<'_>]]) -> Result<bool, Refusal> {
-    let core = open_second(alloc, device)?;
+    let schema = Schema::read(alloc, FIELDS)?;
+    let core = open(alloc, device, schema)?;
     run_in(alloc, core, device, tables)
 }
 

@@ -133,7 +133,17 @@ fn bytes_of(
     }
 }
 
-/// Tells whether the file has these bytes: `same`, `other`, `empty` or `absent`.
+/// Whether these are the bytes: `same`, `other`, `empty` or `absent`.
+fn compared(bytes: &Option<Vec<u8>>, said: &[u8]) -> &'static str {
+    match bytes {
+        Some(bytes) if bytes.is_empty() => "empty",
+        Some(bytes) if bytes.as_slice() == said => "same",
+        Some(_bytes) => "other",
+        None => "absent",
+    }
+}
+
+/// Tells whether the file has these bytes.
 pub(crate) fn tell_file(
     text: &mut String,
     alloc: Global,
@@ -141,13 +151,8 @@ pub(crate) fn tell_file(
     name: FileName,
     said: &[u8],
 ) -> Result<(), Refusal> {
-    let told = match bytes_of(alloc, device, name)? {
-        Some(bytes) if bytes.is_empty() => "empty",
-        Some(bytes) if bytes.as_slice() == said => "same",
-        Some(_) => "other",
-        None => "absent",
-    };
-    Ok(text.push_str(told)?)
+    let bytes = bytes_of(alloc, device, name)?;
+    Ok(text.push_str(compared(&bytes, said))?)
 }
 
 /// Tells the text of the commit, and the names of the files that it needs; `none` where there is no such commit.
