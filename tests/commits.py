@@ -166,8 +166,8 @@ def what_fits_is_read(try_):
         # A dead row may have the id of a live one.
         ({"_3.seg": segment(3, ((7, b"a", 10), (9, b"d", 10)))}, told_replies(3, 9, (LEFT, MIDDLE, (3, ((7, "a", False), (9, "d", True)))), TEXTS)),
     ):
-        token = 9 if len(wanted) > 11 else 0
         folder = try_.whole_but(others)
+        token = wanted[0].partition(" ")[2]
         expect(f"what is read with {others}", try_.replies(folder, told_lines(3, token, IDS)), wanted)
         expect(f"what is found with {others}", try_.found(folder), "whole")
 
