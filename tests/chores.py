@@ -1,5 +1,5 @@
 #!/usr/bin/env python3
-"""Puts a line of upkeep behind every line of the tests' days, one at a time: no read, no write and no right to a view may be
+"""Puts a line of upkeep behind every line of the days of tests/days, one at a time: no read, no write and no right to a view may be
 answered otherwise for it.
 
 usage: tests/chores.py PROGRAM        (the catalogue)
@@ -16,27 +16,29 @@ import sys
 from concurrent.futures import ThreadPoolExecutor
 from pathlib import Path
 
-from days import SECONDS, days
+from days import SECONDS
+from daytexts import days
 
 UPKEEP = ("MERGE", "FORCE", "WARM", "SWEEP", "COMMIT")
 # What is told of the table, of a write, or of a right: the words of lines whose replies may not change.
-COMPARED = re.compile(r"\d+ (FIND|FACETS|GET|PUT|DEL|DELW|REFRESH|OPEN|CLOSE)\b")
+COMPARED = re.compile(rb"\d+ (FIND|FACETS|GET|PUT|DEL|DELW|REFRESH|OPEN|CLOSE)\b")
 # A line with a session and no command is answered so and changes nothing: it stands between replies, whose lines it counts off.
-BETWEEN, TOLD = "9876 NOTHING", b"9876 NO 10\n"
-# Longer days are of limits: hundreds of lines that are alike.
+BETWEEN, TOLD = b"9876 NOTHING\n", b"9876 NO 10\n"
+# Longer days are of limits: hundreds of lines that are alike, or lines of many bytes.
 MOST_LINES = 60
+MOST_BYTES = 10_000
 
 
 def replies(program, lines):
     """What each of the lines is answered, the first of which is a schema line."""
-    text = "".join(f"{line}\n{BETWEEN}\n" for line in lines).encode()
+    text = b"".join(line + BETWEEN for line in lines)
     ran = subprocess.run([program], input=text, stdout=subprocess.PIPE, stderr=subprocess.PIPE, timeout=SECONDS)
     return ran.stdout.split(TOLD)[:-1]
 
 
 def changed(program, lines, wanted, at, upkeep):
     """The first line that is answered otherwise where the line of upkeep stands behind the one at this place, or None."""
-    told = replies(program, [*lines[: at + 1], f"0 {upkeep}", *lines[at + 1 :]])
+    told = replies(program, [*lines[: at + 1], b"0 %s\n" % upkeep.encode(), *lines[at + 1 :]])
     del told[at + 1 : at + 2]
     if len(told) != len(wanted):
         return "some line, whose reply is missing"
@@ -57,12 +59,22 @@ def is_kept(program, what, lines, upkeep):
     return True
 
 
+def given():
+    """Of each day that is served in memory: what it shows, and its lines."""
+    for day in days():
+        for start in day.starts:
+            lines = start.lines
+            is_short = 1 < len(lines) <= MOST_LINES and sum(map(len, lines)) <= MOST_BYTES
+            if start.words is None and is_short and not start.is_refused() and lines[-1].endswith(b"\n"):
+                yield f"{day.place} {day.title}", lines
+
+
 def main():
     if len(sys.argv) != 2:
         print(__doc__, file=sys.stderr)
         return 2
     program = str(Path(sys.argv[1]).resolve())
-    tried = [(what, lines, upkeep) for what, lines, _ in days() if 1 < len(lines) <= MOST_LINES for upkeep in UPKEEP]
+    tried = [(what, lines, upkeep) for what, lines in given() for upkeep in UPKEEP]
     with ThreadPoolExecutor(2) as lanes:
         kept = list(lanes.map(lambda it: is_kept(program, *it), tried))
     if not tried:

@@ -1,11 +1,14 @@
-//! Tests of lines, of serving, and of whole inputs, served: of days of lines, and of inputs as they come, cut anywhere, by
-//! readers and writers that fail, and where memory is wanting.
+//! Tests of lines, of replies, of serving, and of whole inputs, served: as they come, in any pieces, by readers and writers that
+//! fail, and where memory is wanting. What lines are answered is compared with a catalogue in plain lists.
 #![tactic(auto)]
 
-pub mod days;
+#[cfg(test)]
+mod compared;
 pub mod inputs;
 pub mod lines;
 pub mod plain;
+#[cfg(test)]
+mod replies;
 pub mod serving;
 #[cfg(test)]
 mod verdict;

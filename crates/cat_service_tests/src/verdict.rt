@@ -1,10 +1,21 @@
-//! The assertion that a test comes down to whose work may find no memory.
-use std::alloc::AllocError;
-use std::process::Abort;
+//! What a test comes down to: whether it is so. Nothing here ends the process, so tests that end in these are proved sooner than
+//! ones that assert.
+use std::fmt::Debug;
 use std::test::Fail;
 
-/// Fails unless the answer is yes.
-pub(crate) fn assert_yes(rt: &impl Abort, answer: Result<bool, AllocError>) -> Result<(), Fail> {
-    assert!(rt; answer?);
-    Ok(())
+/// Fails unless it is so.
+pub(crate) fn expect(is_so: bool) -> Result<(), Fail> {
+    if is_so {
+        Ok(())
+    } else {
+        Err(Fail::new("it isn't so"))
+    }
+}
+
+/// Fails unless the answer is yes. An error is told as it is.
+pub(crate) fn expect_yes<E: Debug + Drop>(answer: Result<bool, E>) -> Result<(), Fail> {
+    match answer {
+        Ok(is_so) => expect(is_so),
+        Err(error) => Err(Fail::from(error)),
+    }
 }

@@ -2,7 +2,7 @@
 use crate::inputs::readers::{Broken, Interrupted, Waiting};
 use crate::inputs::traffic::{REPLIES, TRAFFIC, WHOLE, ends_so, is_answered, serve_in_memory};
 use crate::inputs::writers::{Filling, Holding, Stubborn, Stuck, Trickling};
-use crate::verdict::assert_yes;
+use crate::verdict::{expect, expect_yes};
 use cat_service::cat_protocol::serving::ServeFault;
 use std::alloc::{AllocError, Global};
 use std::cell::Cell;
@@ -42,7 +42,7 @@ fn is_answered_up_to_each(alloc: Global) -> Result<bool, AllocError> {
 
 #[test]
 fn a_broken_reader_leaves_whole_lines_answered(rt: HostRuntime) -> Result<(), Fail> {
-    assert_yes(&rt, is_answered_up_to_each(rt.alloc()))
+    expect_yes(is_answered_up_to_each(rt.alloc()))
 }
 
 /// Whether the traffic is answered where reader and writer are interrupted before each byte.
@@ -60,8 +60,8 @@ fn is_answered_interrupted(alloc: Global) -> bool {
 }
 
 #[test]
-fn who_is_interrupted_is_called_again(rt: HostRuntime) {
-    assert!(&rt; is_answered_interrupted(rt.alloc()));
+fn who_is_interrupted_is_called_again(rt: HostRuntime) -> Result<(), Fail> {
+    expect(is_answered_interrupted(rt.alloc()))
 }
 
 const INTERRUPTS: &[u32] = &[1, 101, 5_000];
@@ -89,8 +89,8 @@ fn are_taken(alloc: Global, interrupts: &[u32]) -> bool {
 
 /// Each piece of a reply goes out at last.
 #[test]
-fn a_writer_may_be_interrupted_thousands_of_times(rt: HostRuntime) {
-    assert!(&rt; are_taken(rt.alloc(), INTERRUPTS));
+fn a_writer_may_be_interrupted_thousands_of_times(rt: HostRuntime) -> Result<(), Fail> {
+    expect(are_taken(rt.alloc(), INTERRUPTS))
 }
 
 /// Serves an input to a writer that has room for just this front of what is said. Answers whether it gets it, and serving ends so.
@@ -127,18 +127,18 @@ fn has_all_fronts(alloc: Global, silent: bool) -> bool {
 }
 
 #[test]
-fn a_broken_writer_has_a_front(rt: HostRuntime) {
-    assert!(&rt; has_all_fronts(rt.alloc(), false));
+fn a_broken_writer_has_a_front(rt: HostRuntime) -> Result<(), Fail> {
+    expect(has_all_fronts(rt.alloc(), false))
 }
 
 #[test]
-fn a_writer_that_takes_nothing_has_a_front(rt: HostRuntime) {
-    assert!(&rt; has_all_fronts(rt.alloc(), true));
+fn a_writer_that_takes_nothing_has_a_front(rt: HostRuntime) -> Result<(), Fail> {
+    expect(has_all_fronts(rt.alloc(), true))
 }
 
 #[test]
-fn a_refusal_may_go_out_in_part(rt: HostRuntime) {
-    assert!(&rt; has_fronts(rt.alloc(), b"\n", b"NO 10\n", false));
+fn a_refusal_may_go_out_in_part(rt: HostRuntime) -> Result<(), Fail> {
+    expect(has_fronts(rt.alloc(), b"\n", b"NO 10\n", false))
 }
 
 /// Whether nothing is read or passed on where the writer can't flush.
@@ -152,8 +152,8 @@ fn is_stuck(alloc: Global) -> bool {
 }
 
 #[test]
-fn a_writer_that_cannot_flush_ends_it(rt: HostRuntime) {
-    assert!(&rt; is_stuck(rt.alloc()));
+fn a_writer_that_cannot_flush_ends_it(rt: HostRuntime) -> Result<(), Fail> {
+    expect(is_stuck(rt.alloc()))
 }
 
 /// Serves an input of which each byte comes only once all that was said has gone out. Answers whether that is so to the last reply,
@@ -173,12 +173,12 @@ fn is_flushed(alloc: Global, input: &[u8], wanted: &[u8], end: Result<(), ServeF
 }
 
 #[test]
-fn replies_go_out_before_each_read(rt: HostRuntime) {
-    assert!(&rt; is_flushed(rt.alloc(), TRAFFIC, WHOLE.as_bytes(), Ok(())));
+fn replies_go_out_before_each_read(rt: HostRuntime) -> Result<(), Fail> {
+    expect(is_flushed(rt.alloc(), TRAFFIC, WHOLE.as_bytes(), Ok(())))
 }
 
 #[test]
-fn a_refusal_goes_out(rt: HostRuntime) {
+fn a_refusal_goes_out(rt: HostRuntime) -> Result<(), Fail> {
     let end = Err(ServeFault::Schema);
-    assert!(&rt; is_flushed(rt.alloc(), b"\n", b"NO 10\n", end));
+    expect(is_flushed(rt.alloc(), b"\n", b"NO 10\n", end))
 }

@@ -4,7 +4,7 @@
 //! tests fail then. The one below has to pass at every N from 3 on, and shows this: one line at most is refused for want of
 //! memory, and that line changes nothing. Its first two allocations are its own.
 use crate::inputs::traffic::serve_in_memory;
-use crate::verdict::assert_yes;
+use crate::verdict::expect_yes;
 use cat_service::cat_protocol::serving::ServeFault;
 use std::alloc::{AllocError, Global};
 use std::test::Fail;
@@ -45,19 +45,34 @@ fn push_lines(input: &mut String, lines: &[&str]) -> Result<(), AllocError> {
     Ok(())
 }
 
-/// What is written to the shop's schema line and these lines, and how serving ends.
-fn written(
-    alloc: Global,
-    first: &[&str],
-    others: &[&str],
-) -> Result<(Vec<u8>, Result<(), ServeFault>), AllocError> {
+/// The shop's schema line, and these lines behind it.
+fn input_of(alloc: Global, first: &[&str], others: &[&str]) -> Result<String, AllocError> {
     let mut input = String::with_capacity(alloc, ROOM)?;
-    let mut output = Vec::with_capacity(alloc, ROOM)?;
     input.push_str(SHOP)?;
     push_lines(&mut input, first)?;
     push_lines(&mut input, others)?;
+    Ok(input)
+}
+
+/// What is written to an input, and how serving ends.
+type Written = (Vec<u8>, Result<(), ServeFault>);
+
+/// Serves an input.
+fn served(alloc: Global, input: &str) -> Result<Written, AllocError> {
+    let mut output = Vec::with_capacity(alloc, ROOM)?;
     let end = serve_in_memory(alloc, &mut input.as_bytes(), &mut output);
     Ok((output, end))
+}
+
+/// What is written to the shop's schema line and these lines, and how serving ends.
+fn written(alloc: Global, first: &[&str], others: &[&str]) -> Result<Written, AllocError> {
+    let input = input_of(alloc, first, others)?;
+    served(alloc, input.as_str())
+}
+
+/// What the output has behind the front, and behind one refusal for want of memory there.
+fn behind_refusal<'a>(output: &'a [u8], front: &[u8]) -> Option<&'a [u8]> {
+    output.strip_prefix(front)?.strip_prefix(b"1 NO 40\n")
 }
 
 /// Whether the output is that of the first and the other lines, with one refusal for want of memory between.
@@ -68,13 +83,10 @@ fn refuses_between(
     others: &[&str],
 ) -> Result<bool, AllocError> {
     let (before, _) = written(alloc, first, &[])?;
+    let Some(rest) = behind_refusal(output, &before) else {
+        return Ok(false);
+    };
     let (ample, _) = written(alloc, first, others)?;
-    let Some(rest) = output.strip_prefix(before.as_slice()) else {
-        return Ok(false);
-    };
-    let Some(rest) = rest.strip_prefix(b"1 NO 40\n") else {
-        return Ok(false);
-    };
     Ok(ample.as_slice().strip_prefix(before.as_slice()) == Some(rest))
 }
 
@@ -113,5 +125,5 @@ fn are_lines_spared(alloc: Global) -> Result<bool, AllocError> {
 
 #[test]
 fn a_line_that_finds_no_memory_changes_nothing(rt: HostRuntime) -> Result<(), Fail> {
-    assert_yes(&rt, are_lines_spared(rt.alloc()))
+    expect_yes(are_lines_spared(rt.alloc()))
 }

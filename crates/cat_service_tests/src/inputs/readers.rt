@@ -62,30 +62,6 @@ impl Read for Interrupted<'_> {
     }
 }
 
-/// A text, a byte many times over, and a text behind it.
-#[derive(Drop)]
-pub(crate) struct Long<'a> {
-    pub(crate) front: &'a [u8],
-    pub(crate) byte: u8,
-    pub(crate) count: usize,
-    pub(crate) behind: &'a [u8],
-}
-
-impl Read for Long<'_> {
-    fn read(&mut self, buf: &mut [u8]) -> io::Result<usize> {
-        if !self.front.is_empty() {
-            return self.front.read(buf);
-        }
-        let n = self.count.min(buf.len());
-        if n == 0 {
-            return self.behind.read(buf);
-        }
-        buf[..n].fill(self.byte);
-        self.count -= n;
-        Ok(n)
-    }
-}
-
 /// A client that sends a byte only once what was written to it has come.
 #[derive(Drop)]
 pub(crate) struct Waiting<'a> {

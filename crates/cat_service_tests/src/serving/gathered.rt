@@ -1,6 +1,6 @@
 //! Pieces that are gathered before they go to a writer.
 use crate::serving::ends::Filling;
-use crate::verdict::assert_yes;
+use crate::verdict::{expect, expect_yes};
 use cat_service::cat_protocol::sending::{Gathered, WriteFault};
 use std::alloc::{AllocError, Global};
 use std::io::Write;
@@ -69,7 +69,7 @@ fn all_go_out(alloc: Global, texts: &[&[&[u8]]]) -> Result<bool, AllocError> {
 
 #[test]
 fn pieces_go_out_in_order(rt: HostRuntime) -> Result<(), Fail> {
-    assert_yes(&rt, all_go_out(rt.alloc(), TEXTS))
+    expect_yes(all_go_out(rt.alloc(), TEXTS))
 }
 
 /// How many bytes writers take before they fail.
@@ -109,7 +109,7 @@ fn have_each_front(alloc: Global, texts: &[&[&[u8]]]) -> Result<bool, AllocError
 
 #[test]
 fn a_front_goes_out_to_a_writer_that_fails(rt: HostRuntime) -> Result<(), Fail> {
-    assert_yes(&rt, have_each_front(rt.alloc(), TEXTS))
+    expect_yes(have_each_front(rt.alloc(), TEXTS))
 }
 
 /// Puts numbers without a sign, with a space behind each.
@@ -149,6 +149,6 @@ fn says_numbers(alloc: Global) -> bool {
 }
 
 #[test]
-fn numbers_are_decimal(rt: HostRuntime) {
-    assert!(&rt; says_numbers(rt.alloc()));
+fn numbers_are_decimal(rt: HostRuntime) -> Result<(), Fail> {
+    expect(says_numbers(rt.alloc()))
 }

@@ -1,7 +1,7 @@
 //! Inputs served by a machine that counts its lines, and the stage that is left.
 use crate::serving::ends::{Failing, Filling};
 use crate::serving::tally::Tally;
-use crate::verdict::assert_yes;
+use crate::verdict::{expect, expect_yes};
 use cat_service::cat_protocol::serving::{ServeFault, Served, Stage, serve_machine};
 use std::alloc::{AllocError, Global};
 use std::io::BufWriter;
@@ -69,8 +69,8 @@ fn are_served(alloc: Global, rows: &[(&[u8], Wanted<'_>)]) -> bool {
 }
 
 #[test]
-fn a_seed_or_a_machine_comes_back(rt: HostRuntime) {
-    assert!(&rt; are_served(rt.alloc(), INPUTS));
+fn a_seed_or_a_machine_comes_back(rt: HostRuntime) -> Result<(), Fail> {
+    expect(are_served(rt.alloc(), INPUTS))
 }
 
 /// An input of an opening and three lines, and what is said to it.
@@ -121,8 +121,8 @@ fn end_with_readers(alloc: Global, rows: &[(usize, &[u8], Left)]) -> bool {
 }
 
 #[test]
-fn a_reader_that_fails_leaves_what_was_answered(rt: HostRuntime) {
-    assert!(&rt; end_with_readers(rt.alloc(), READ_FAULTS));
+fn a_reader_that_fails_leaves_what_was_answered(rt: HostRuntime) -> Result<(), Fail> {
+    expect(end_with_readers(rt.alloc(), READ_FAULTS))
 }
 
 /// How many bytes the writer takes until it fails, and the stage.
@@ -160,8 +160,8 @@ fn end_with_writers(alloc: Global, rows: &[(usize, Left)]) -> bool {
 }
 
 #[test]
-fn a_writer_that_fails_leaves_the_line_answered(rt: HostRuntime) {
-    assert!(&rt; end_with_writers(rt.alloc(), WRITE_FAULTS));
+fn a_writer_that_fails_leaves_the_line_answered(rt: HostRuntime) -> Result<(), Fail> {
+    expect(end_with_writers(rt.alloc(), WRITE_FAULTS))
 }
 
 /// Whether a first line of so many bytes is refused.
@@ -190,7 +190,7 @@ fn are_long_refused(alloc: Global, lengths: &[usize]) -> Result<bool, AllocError
 
 #[test]
 fn a_long_first_line_is_refused(rt: HostRuntime) -> Result<(), Fail> {
-    assert_yes(&rt, are_long_refused(rt.alloc(), LENGTHS))
+    expect_yes(are_long_refused(rt.alloc(), LENGTHS))
 }
 
 /// Serves the lines to a writer that has room for so many bytes, through a buffer of this capacity. Answers whether serving ends so,
@@ -227,7 +227,7 @@ fn go_out_whole(alloc: Global) -> Result<bool, AllocError> {
 
 #[test]
 fn replies_longer_than_the_buffer_go_out_whole(rt: HostRuntime) -> Result<(), Fail> {
-    assert_yes(&rt, go_out_whole(rt.alloc()))
+    expect_yes(go_out_whole(rt.alloc()))
 }
 
 /// Whether a front is said through a buffer of this capacity, wherever the writer fails.
@@ -255,7 +255,7 @@ fn go_out_up_to_each(alloc: Global, capacities: &[usize]) -> Result<bool, AllocE
 
 #[test]
 fn a_front_goes_out_through_a_buffer_to_a_writer_that_fails(rt: HostRuntime) -> Result<(), Fail> {
-    assert_yes(&rt, go_out_up_to_each(rt.alloc(), CAPACITIES))
+    expect_yes(go_out_up_to_each(rt.alloc(), CAPACITIES))
 }
 
 /// Whether the lines are answered, or refused for want of memory, where nothing is read.
@@ -276,5 +276,5 @@ fn is_served_or_waits(alloc: Global) -> Result<bool, AllocError> {
 /// first allocation is its own.
 #[test]
 fn a_seed_waits_where_memory_is_wanting(rt: HostRuntime) -> Result<(), Fail> {
-    assert_yes(&rt, is_served_or_waits(rt.alloc()))
+    expect_yes(is_served_or_waits(rt.alloc()))
 }
