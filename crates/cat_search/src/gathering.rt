@@ -260,8 +260,20 @@ fn show_behind(
     show_rows(alloc, shown, wanted.count, &ranks, &left, &wanted.mark)
 }
 
+/// How many of the hits of a leaf are expected to come into a page of so many, where the leaves before it have so many hits, and
+/// any hit stands anywhere in the order.
+fn share_of(wanted: usize, found: usize, before: usize) -> usize {
+    match wanted
+        .saturating_mul(found)
+        .checked_div(found.saturating_add(before))
+    {
+        Some(share) => wanted.min(share.saturating_add(1)),
+        None => 0,
+    }
+}
+
 /// Offers the hits of a leaf to the page, as far as the mark comes before them, from the set of those that the query matches;
-/// how many hits the leaf has.
+/// how many hits the leaf has. The leaves before it have so many.
 fn offer_matched<'a>(
     alloc: Global,
     best: &mut Best<Candidate<'a>>,
@@ -269,6 +281,7 @@ fn offer_matched<'a>(
     query: &Query,
     set: Option<&DocSet>,
     wanted: &Wanted<'a>,
+    before: usize,
 ) -> Result<usize, AllocError>
     requires { IfSome set (λ s. s.now ≡ map (row_matches (query_of query.now)) leaf.now.segment.rows) }
     ensures total { IfOk result (λ n. n ≡ length (leaf_hits leaf.now (query_of query.now))) }
@@ -279,7 +292,8 @@ fn offer_matched<'a>(
     let hits = hits_of(alloc, query, set, leaf)?;
     let total = hits.count();
     let ranks = LeafRanks::of(leaf.segment(), wanted.order);
-    let reach = Reach::of(total, ranks.len(), wanted.count, hits.test_cost());
+    let taken = share_of(wanted.count, total, before);
+    let reach = Reach::of(total, ranks.len(), taken, hits.test_cost());
     offer_hits(alloc, best, &ranks, hits, &wanted.mark, reach)?;
     Ok(total)
 }
@@ -298,6 +312,9 @@ fn offer_in_order<'a>(
     ensures best { IfOk result (λ o. MatchOption o (best.new ≡ best.old) (λ n. TakesIn best.old best.new (behind (mark_standing wanted.now.mark)
         (map (row_standing wanted.now.order) (leaf_hits leaf.now (query_of query.now)))))) }
 {
+    if query.number_range().is_none() {
+        return Ok(None);
+    }
     let live = Hits::live_in(leaf);
     let ranks = LeafRanks::of(leaf.segment(), wanted.order);
     let Some(rows) = rows_in_order(query, &ranks, wanted.order) else {
@@ -308,7 +325,8 @@ fn offer_in_order<'a>(
     Ok(Some(total))
 }
 
-/// Offers the hits of a leaf to the page, as far as the mark comes before them; how many hits the leaf has.
+/// Offers the hits of a leaf to the page, as far as the mark comes before them; how many hits the leaf has. The leaves before it
+/// have so many.
 fn offer_leaf<'a>(
     alloc: Global,
     best: &mut Best<Candidate<'a>>,
@@ -316,6 +334,7 @@ fn offer_leaf<'a>(
     query: &Query,
     set: Option<&DocSet>,
     wanted: &Wanted<'a>,
+    before: usize,
 ) -> Result<usize, AllocError>
     requires { IfSome set (λ s. s.now ≡ map (row_matches (query_of query.now)) leaf.now.segment.rows) }
     ensures total { IfOk result (λ n. n ≡ length (leaf_hits leaf.now (query_of query.now))) }
@@ -325,7 +344,7 @@ fn offer_leaf<'a>(
 {
     match offer_in_order(best, leaf, query, wanted)? {
         Some(total) => Ok(total),
-        None => offer_matched(alloc, best, leaf, query, set, wanted),
+        None => offer_matched(alloc, best, leaf, query, set, wanted, before),
     }
 }
 
@@ -352,7 +371,8 @@ fn best_hits<'a>(
     let mut total = 0;
     let mut best = Best::new(alloc, wanted.count);
     for (index, leaf) in leaves.iter().enumerate() {
-        let found = offer_leaf(alloc, &mut best, leaf, query, set_at(sets, index), wanted)?;
+        let set = set_at(sets, index);
+        let found = offer_leaf(alloc, &mut best, leaf, query, set, wanted, total)?;
         total = more_hits(total, found)?;
     }
     let first = best.into_items()?;
@@ -417,6 +437,10 @@ pub(crate) fn first_entries(
     ensures first { IfOk result (λ r. r.1.items
         ≡ first_shown wanted.now (map (row_standing wanted.now.order) (hits_in leaves.now (query_of query.now)))) }
 {
+    // A page of no hits is the same in each order. They are counted, as in order of addition, and none is offered.
+    if wanted.count == 0 {
+        return added_entries(alloc, leaves, query, sets, wanted);
+    }
     match wanted.order {
         Order::Added => added_entries(alloc, leaves, query, sets, wanted),
         _ => best_entries(alloc, leaves, query, sets, wanted),

@@ -1,8 +1,8 @@
 //! The rows of a segment as hits of a sort.
-ghost use Rattle.std.specs.Prelude.{◌≡◌, ◌<◌, length, map, option_map, slice_get, IfSome};
+ghost use Rattle.std.specs.Prelude.{◌≡◌, ◌<◌, None, length, map, option_map, replicate, slice_get, IfSome, IsTrue, MatchOption};
 ghost use Rattle.std.specs.List.{HoldsAt};
 ghost use Rattle.cat_model.specs.Page.{Key, key, key_in};
-ghost use Rattle.cat_views.specs.cat_segment.Contents.{contents_of};
+ghost use Rattle.cat_views.specs.cat_segment.Contents.{contents_of, contents_told, contents_under_name};
 ghost use Rattle.cat_views.specs.cat_segment.Ranges.{lies_between};
 ghost use Rattle.cat_views.specs.cat_segment.RowParts.{rows_of_parts};
 ghost use Rattle.cat_search.specs.Bars.{HaveRanks};
@@ -13,9 +13,10 @@ ghost use Rattle.cat_search.specs.Sorts.{sort_in};
 ghost use Rattle.cat_search.specs.Walks.{IsWalk, IsWalkWhere, ranked_number};
 
 use crate::keys::KeyRef;
-use crate::sort::{Order, rank_with};
+use crate::sort::{Order, OrderField, rank_with};
 use crate::standings::Candidate;
 use cat_query::cat_columns::{KeywordColumn, NumberColumn};
+use cat_query::cat_items::Schema;
 use cat_views::cat_segment::{Column, RowParts, Segment};
 use std::marker::Model;
 
@@ -43,14 +44,38 @@ impl<'a> Model for LeafRanks<'a> {
     ghost invariant = { λ r. length (keys_by r.column (length r.segment.now.rows)) ≡ length r.segment.now.rows };
 }
 
+/// Whether the schema has the field at its place.
+fn has_field(schema: &Schema, field: OrderField) -> bool
+    ensures within { IsTrue result → field.entry.index < length schema.now }
+    ensures name { IsTrue result → HoldsAt (λ f. f.name ≡ field.entry.name.now) schema.now field.entry.index }
+{
+    match schema.fields().get(field.index) {
+        Some(found) => found.name() == field.name,
+        None => false,
+    }
+}
+
+/// The column of the field's name, if the segment has one. Where the segment's schema has the field at its place, no name is
+/// searched.
+fn column_of<'a>(field: OrderField, segment: &'a Segment) -> Option<&'a Column>
+    ensures { MatchOption result
+        (contents_under_name field.entry.name.now segment.now.rows ≡ replicate (length segment.now.rows) None)
+        (λ c. contents_told c.now ≡ contents_under_name field.entry.name.now segment.now.rows) }
+{
+    if has_field(segment.schema(), field) {
+        return Some(segment.column_at(field.index));
+    }
+    segment.column(field.name)
+}
+
 /// The column of the order's field: none in order of addition, and none where the segment has no field of the name.
 fn column_by<'a>(order: Order, segment: &'a Segment) -> Option<&'a Column>
     ensures { keys_by result (length segment.now.rows) ≡ map (λ r. key (sort_in order.entry) (bare_record r)) segment.now.rows }
 {
     match order {
         Order::Added => None,
-        Order::Rising(field) => segment.column(field.name),
-        Order::Falling(field) => segment.column(field.name),
+        Order::Rising(field) => column_of(field, segment),
+        Order::Falling(field) => column_of(field, segment),
     }
 }
 

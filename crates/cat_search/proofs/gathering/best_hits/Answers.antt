@@ -41,5 +41,5 @@ offer_leaf-requires c =
     let leaf = c.index-leaves-index.result in
     let leaves = c.args.leaves.now in
     let hand = c.requires c.loop-index.index leaf c.loop-index-test.true in
-    looked_at (λ s. s ≡ map rows leaf.segment.rows) c.set_at.result (set_at c.args.sets.now c.loop-index.index) c.set_at.ensures
+    looked_at (λ s. s ≡ map rows leaf.segment.rows) c.set_at-set.result (set_at c.args.sets.now c.loop-index.index) c.set_at-set.ensures
     (subst (λ l. IfSome (set_at c.args.sets.now c.loop-index.index) (λ s. s ≡ map rows l.segment.rows)) (sym c.index-leaves-index.is) hand)

@@ -21,4 +21,4 @@ returns-in-Added-clause-first c =
     h
     ∙ sym (map-take entry_shown wanted.count (behind mark (map (row_standing Added) (filter matched rows))))
     ∙ ap (map entry_shown) (first_added mark wanted.order matched rows wanted.count c.in-Added.is c.requires.rising))
-    c.added_entries.result c.added_entries.ensures.first
+    c.added_entries-in-Added.result c.added_entries-in-Added.ensures.first

@@ -13,9 +13,9 @@ returns-in-Added c =
 pub returns-in-Rising : goal.returns-in-Rising
 returns-in-Rising c =
     let rows = c.args.segment.now.rows in
-    column_keys c.in-Rising.field.name.now rows c.column.result c.column.ensures ∙ ap (λ o. map (λ r. key (sort_in o) (bare_record r)) rows) (sym c.in-Rising.is)
+    column_keys c.in-Rising.field.name.now rows c.column_of.result c.column_of.ensures ∙ ap (λ o. map (λ r. key (sort_in o) (bare_record r)) rows) (sym c.in-Rising.is)
 
 pub returns-in-Falling : goal.returns-in-Falling
 returns-in-Falling c =
     let rows = c.args.segment.now.rows in
-    column_keys c.in-Falling.field.name.now rows c.column-in-Falling.result c.column-in-Falling.ensures ∙ ap (λ o. map (λ r. key (sort_in o) (bare_record r)) rows) (sym c.in-Falling.is)
+    column_keys c.in-Falling.field.name.now rows c.column_of-in-Falling.result c.column_of-in-Falling.ensures ∙ ap (λ o. map (λ r. key (sort_in o) (bare_record r)) rows) (sym c.in-Falling.is)
