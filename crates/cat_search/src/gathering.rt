@@ -186,11 +186,11 @@ fn show_tested<'a>(
     Ok(())
 }
 
-/// Shows the live ones of these rows in their order, as far as the mark comes before them, until as many are shown as are wanted.
+/// Shows the live ones of these rows in their order, as far as the mark comes before them, until so many are shown.
 fn show_listed<'a>(
     alloc: Global,
     shown: &mut Vec<Entry>,
-    wanted: usize,
+    most: usize,
     ranks: &LeafRanks<'a>,
     rows: &[u32],
     live: &Live,
@@ -198,12 +198,12 @@ fn show_listed<'a>(
 ) -> Result<(), AllocError>
     requires long { length live.now ≡ length ranks.now }
     requires within { All (λ row. row < length ranks.now) rows.now }
-    ensures shown { OnOk result ((standings : List HitStanding) → shown.old.items ≡ take wanted (map entry_shown standings)
-        → shown.new.items ≡ take wanted (map entry_shown (standings
+    ensures shown { OnOk result ((standings : List HitStanding) → shown.old.items ≡ take most (map entry_shown standings)
+        → shown.new.items ≡ take most (map entry_shown (standings
         ++ behind (mark_standing mark.now) (map (standing_at ranks.now) (filter (has_row live.now) rows.now))))) }
 {
     for listed in rows {
-        if shown.len() >= wanted {
+        if shown.len() >= most {
             return Ok(());
         }
         let row = *listed as usize;

@@ -15,13 +15,13 @@ pub at-candidate-requires : goal.at-candidate-requires
 at-candidate-requires c = c.requires.within c.loop-listed.listed-index 0 c.loop-listed-test.true
 
 pub loop-listed-init : goal.loop-listed-init
-loop-listed-init c = λ ps h. h ∙ ap (λ qs. take c.args.wanted (map entry_shown qs)) (sym (append-nil ps))
+loop-listed-init c = λ ps h. h ∙ ap (λ qs. take c.args.most (map entry_shown qs)) (sym (append-nil ps))
 
-pub returns-then-len-wanted : goal.returns-then-len-wanted
-returns-then-len-wanted c =
-    let many : c.args.wanted ≤ length c.loop-listed.shown.items = omega (arith, c.len.ensures, c.if-len-wanted.true, c.loop-listed.shown.ok.0) in
+pub returns-then-len-most : goal.returns-then-len-most
+returns-then-len-most c =
+    let many : c.args.most ≤ length c.loop-listed.shown.items = omega (arith, c.len.ensures, c.if-len-most.true, c.loop-listed.shown.ok.0) in
     record {
-      shown = λ ps h. listed_full (mark_standing c.args.mark.now) c.args.ranks.now c.args.live.now c.args.rows.now c.args.wanted c.loop-listed.shown.items ps c.loop-listed.listed-index
+      shown = λ ps h. listed_full (mark_standing c.args.mark.now) c.args.ranks.now c.args.live.now c.args.rows.now c.args.most c.loop-listed.shown.items ps c.loop-listed.listed-index
           (c.loop-listed.invariant ps h) many;
     }
 
@@ -31,13 +31,13 @@ loop-listed-preserved c = λ ps h.
     let ranks = c.args.ranks.now in
     let live = c.args.live.now in
     let rows = c.args.rows.now in
-    let n = c.args.wanted in
+    let n = c.args.most in
     let ts = c.loop-listed.shown.items in
     let i = c.loop-listed.listed-index in
     let row = get_or rows i 0 in
     let more = c.loop-listed-test.true in
     let before = c.loop-listed.invariant ps h in
-    let fits : length ts < n = omega (arith, c.len.ensures, c.if-len-wanted.false, c.loop-listed.shown.ok.0) in
+    let fits : length ts < n = omega (arith, c.len.ensures, c.if-len-most.false, c.loop-listed.shown.ok.0) in
     elim c.if-is_live.branch [
       | then-is_live+then-is_beyond+in_ok-push_entry w ↦
           ap (λ v. v.items) w.shown-is ∙ w.in_ok-push_entry.ensures.ok
@@ -56,6 +56,6 @@ pub returns : goal.returns
 returns c = record {
   shown = λ ps h.
       c.loop-listed.invariant ps h
-      ∙ ap (λ qs. take c.args.wanted (map entry_shown (ps ++ qs)))
+      ∙ ap (λ qs. take c.args.most (map entry_shown (ps ++ qs)))
       (listed_end (mark_standing c.args.mark.now) c.args.ranks.now c.args.live.now c.args.rows.now c.loop-listed.listed-index c.loop-listed-test.false);
 }

@@ -5,5 +5,5 @@ use Rattle.cat_search.proofs.ListedRows.{listed_to}
 use Rattle.cat_search.proofs.gathering.show_listed.Given as goal
 
 abbrev pub invariant-loop-listed : goal.invariant-loop-listed
-invariant-loop-listed l = (ps : List HitStanding) → l.initial.shown.items ≡ take l.wanted (map entry_shown ps)
-    → l.shown.items ≡ take l.wanted (map entry_shown (ps ++ listed_to (mark_standing l.mark) l.ranks l.live l.rows l.listed-index))
+invariant-loop-listed l = (ps : List HitStanding) → l.initial.shown.items ≡ take l.most (map entry_shown ps)
+    → l.shown.items ≡ take l.most (map entry_shown (ps ++ listed_to (mark_standing l.mark) l.ranks l.live l.rows l.listed-index))
