@@ -1,9 +1,6 @@
-//! Tests of query texts: tables of the items that queries accept, at their limits too, and of the places where texts are
-//! no queries.
+//! Tests of query texts: tables of what queries say of items, at their limits too.
+//!
+//! Which texts are no queries, and where each goes wrong, are days of lines: `tests/days/queries.txt`.
 
 #[cfg(test)]
 mod accepted;
-#[cfg(test)]
-mod faults;
-#[cfg(test)]
-mod limits;

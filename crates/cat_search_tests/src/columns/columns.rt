@@ -9,6 +9,8 @@ use cat_columns::{Dictionary, KeywordColumn, RowSet, SetColumn};
 use std::alloc::{AllocError, Global};
 use std::test::Fail;
 
+const BLUE_AND_RED: &[&str] = &["blue", "red"];
+
 fn keywords(alloc: Global, words: &[&str], codes: &[u32]) -> Result<KeywordColumn, Refusal>
     requires { length codes.now < 2 ^ 32 }
 {
@@ -41,7 +43,7 @@ fn are_keywords(column: &KeywordColumn, texts: &[&str]) -> bool {
 fn keywords_are_made_of_codes(rt: HostRuntime) -> Result<(), Fail> {
     const CODES: &[u32] = &[2, 0, 1, 2];
     const TEXTS: &[&str] = &["red", "missing", "blue", "red"];
-    let column = keywords(rt.alloc(), &["blue", "red"], CODES)?;
+    let column = keywords(rt.alloc(), BLUE_AND_RED, CODES)?;
     expect(are_keywords(&column, TEXTS) && column.codes() == CODES)
 }
 
@@ -54,11 +56,16 @@ fn are_no_keywords(alloc: Global, words: &[&str], codes: &[u32]) -> bool
 
 #[test]
 fn codes_of_no_keywords_are_damaged(rt: HostRuntime) {
+    const BLUE: &[&str] = &["blue"];
+    const FALLING: &[&str] = &["red", "blue"];
+    // No row is red.
+    const BLUE_ALONE: &[u32] = &[1, 0, 1];
+    const EACH: &[u32] = &[1, 2];
     let alloc = rt.alloc();
-    // No row is red; there is no second text; the texts fall.
-    let are_damaged = are_no_keywords(alloc, &["blue", "red"], &[1, 0, 1])
-        && are_no_keywords(alloc, &["blue"], &[1, 2])
-        && are_no_keywords(alloc, &["red", "blue"], &[1, 2]);
+    // There is no second text; the texts fall.
+    let are_damaged = are_no_keywords(alloc, BLUE_AND_RED, BLUE_ALONE)
+        && are_no_keywords(alloc, BLUE, EACH)
+        && are_no_keywords(alloc, FALLING, EACH);
     assert!(rt; are_damaged);
 }
 
@@ -102,9 +109,11 @@ fn are_labels(column: &SetColumn, words: &[&str], rows: &[&[u32]]) -> bool {
 
 #[test]
 fn labels_are_made_of_ordinals(rt: HostRuntime) -> Result<(), Fail> {
+    const ENDS: &[u32] = &[1, 1, 3];
+    const ORDINALS: &[u32] = &[1, 0, 1];
     const ROWS: &[&[u32]] = &[&[1], &[], &[0, 1]];
-    let column = labels(rt.alloc(), &["blue", "red"], &[1, 1, 3], &[1, 0, 1])?;
-    expect(are_labels(&column, &["blue", "red"], ROWS))
+    let column = labels(rt.alloc(), BLUE_AND_RED, ENDS, ORDINALS)?;
+    expect(are_labels(&column, BLUE_AND_RED, ROWS))
 }
 
 /// Whether the ordinals are damaged.
@@ -117,10 +126,16 @@ fn are_no_labels(alloc: Global, words: &[&str], ends: &[u32], ordinals: &[u32]) 
 
 #[test]
 fn ordinals_of_no_labels_are_damaged(rt: HostRuntime) {
+    const EACH: &[u32] = &[1, 2];
+    // No row is blue.
+    const RED: &[u32] = &[1, 1];
+    const BLUE: &[&str] = &["blue"];
+    const BOTH: &[u32] = &[2];
+    // A row has a label twice.
+    const TWICE: &[u32] = &[0, 0];
     let alloc = rt.alloc();
-    // No row is blue; a row has a label twice.
-    let are_damaged = are_no_labels(alloc, &["blue", "red"], &[1, 2], &[1, 1])
-        && are_no_labels(alloc, &["blue"], &[2], &[0, 0]);
+    let are_damaged = are_no_labels(alloc, BLUE_AND_RED, EACH, RED)
+        && are_no_labels(alloc, BLUE, BOTH, TWICE);
     assert!(rt; are_damaged);
 }
 
@@ -212,14 +227,25 @@ fn are_left(alloc: Global, len: u8, rows: &[u8]) -> Result<bool, AllocError> {
     Ok(true)
 }
 
+/// The same of each set.
+fn are_all_left(alloc: Global, sets: &[(u8, &[u8])]) -> Result<bool, AllocError> {
+    for (len, rows) in sets {
+        if !are_left(alloc, *len, rows)? {
+            return Ok(false);
+        }
+    }
+    Ok(true)
+}
+
 #[test]
 fn rows_below_one_are_removed(rt: HostRuntime) -> Result<(), Fail> {
-    let alloc = rt.alloc();
-    let are_removed = are_left(alloc, 1, &[0, 1])?
-        && are_left(alloc, 64, &[0, 1, 63, 64])?
-        && are_left(alloc, 65, &[0, 1, 63, 64, 65])?
-        && are_left(alloc, 200, &[0, 1, 63, 64, 65, 130, 200])?;
-    expect(are_removed)
+    const SETS: &[(u8, &[u8])] = &[
+        (1, &[0, 1]),
+        (64, &[0, 1, 63, 64]),
+        (65, &[0, 1, 63, 64, 65]),
+        (200, &[0, 1, 63, 64, 65, 130, 200]),
+    ];
+    expect_yes(are_all_left(rt.alloc(), SETS))
 }
 
 /// The set of the first and the last of so many rows.

@@ -159,14 +159,7 @@ fn ranges_lead_to_rows(rt: HostRuntime) -> Result<(), Fail> {
         (Some("bluf"), Some("redder"), &[0, 2]),
         (Some("redder"), Some("red"), &[]),
         (Some("redder"), Some("z"), &[0, 2, 3]),
-    ];
-    let terms = terms(rt.alloc())?;
-    expect_yes(are_ranges(rt.alloc(), &terms, ROWS))
-}
-
-#[test]
-fn open_ends_bound_nothing(rt: HostRuntime) -> Result<(), Fail> {
-    const ROWS: &[Range<'static>] = &[
+        // Open ends bound nothing.
         (None, Some("red"), &[0, 2]),
         (Some("red"), None, &[0, 2, 3]),
     ];
@@ -202,11 +195,14 @@ fn second_postings(terms: &Terms) -> &[u32] {
 
 #[test]
 fn postings_make_terms(rt: HostRuntime) -> Result<(), Fail> {
+    const WORDS: &[&str] = &["blue", "red"];
+    const ENDS: &[u32] = &[1, 3];
+    const POSTINGS: &[u32] = &[2, 0, 2];
+    const SECOND: &[u32] = &[0, 2];
     const ROWS: Rows<'static> = &[("blue", &[2]), ("red", &[0, 2])];
     let alloc = rt.alloc();
-    let terms = read(alloc, 3, &["blue", "red"], &[1, 3], &[2, 0, 2])?;
-    let is_made = is_of(&terms, 3, &["blue", "red"])
-        && second_postings(&terms) == [0, 2].as_slice();
+    let terms = read(alloc, 3, WORDS, ENDS, POSTINGS)?;
+    let is_made = is_of(&terms, 3, WORDS) && second_postings(&terms) == SECOND;
     expect(is_made && are_postings(alloc, &terms, ROWS)?)
 }
 
@@ -220,21 +216,32 @@ fn are_no_terms(alloc: Global, words: &[&str], ends: &[u32], rows: &[u32]) -> bo
 
 #[test]
 fn postings_of_no_words_are_damaged(rt: HostRuntime) {
+    const FALLING: &[&str] = &["red", "blue"];
+    const TWICE: &[&str] = &["red", "red"];
+    const EACH: &[u32] = &[1, 2];
+    const ROWS: &[u32] = &[0, 1];
+    const BOTH: &[&str] = &["blue", "red"];
+    // The second has no row.
+    const FIRST: &[u32] = &[1, 1];
+    const ROW: &[u32] = &[0];
     let alloc = rt.alloc();
-    // Words that fall, one that comes twice, and one without rows.
-    let are_damaged = are_no_terms(alloc, &["red", "blue"], &[1, 2], &[0, 1])
-        && are_no_terms(alloc, &["red", "red"], &[1, 2], &[0, 1])
-        && are_no_terms(alloc, &["blue", "red"], &[1, 1], &[0]);
+    let are_damaged = are_no_terms(alloc, FALLING, EACH, ROWS)
+        && are_no_terms(alloc, TWICE, EACH, ROWS)
+        && are_no_terms(alloc, BOTH, FIRST, ROW);
     assert!(rt; are_damaged);
 }
 
 #[test]
 fn postings_of_no_rows_are_damaged(rt: HostRuntime) {
+    const WORD: &[&str] = &["red"];
+    const ENDS: &[u32] = &[2];
+    const FALLING: &[u32] = &[1, 0];
+    const TWICE: &[u32] = &[1, 1];
+    const PAST: &[u32] = &[1, 3];
     let alloc = rt.alloc();
-    // Rows that fall, one that comes twice, and one past the last.
-    let are_damaged = are_no_terms(alloc, &["red"], &[2], &[1, 0])
-        && are_no_terms(alloc, &["red"], &[2], &[1, 1])
-        && are_no_terms(alloc, &["red"], &[2], &[1, 3]);
+    let are_damaged = are_no_terms(alloc, WORD, ENDS, FALLING)
+        && are_no_terms(alloc, WORD, ENDS, TWICE)
+        && are_no_terms(alloc, WORD, ENDS, PAST);
     assert!(rt; are_damaged);
 }
 

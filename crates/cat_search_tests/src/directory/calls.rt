@@ -2,6 +2,7 @@
 use cat_base::Refusal;
 use cat_directory::{Directory, FileName, Shelf, write_file, write_lasting};
 use std::alloc::{AllocError, Global};
+use std::fmt::Write;
 use std::fs;
 use std::fs::Files;
 use std::test::Fail;
@@ -88,18 +89,22 @@ fn read(alloc: Global, answer: Result<Vec<u8>, Refusal>) -> Result<String, Refus
 /// Each name with a space behind it.
 fn listed(alloc: Global, answer: Result<Vec<FileName>, Refusal>) -> Result<String, Refusal> {
     match answer {
-        Ok(names) => Ok(texts(alloc, &names)?),
+        Ok(names) => Ok(texts(alloc, names)?),
         Err(refusal) => refused(alloc, refusal),
     }
 }
 
-fn texts(alloc: Global, names: &[FileName]) -> Result<String, AllocError> {
+fn texts(alloc: Global, names: Vec<FileName>) -> Result<String, AllocError> {
     let mut texts = String::new(alloc);
-    for name in names {
-        texts.push_str(name.text(alloc)?.as_str())?;
-        texts.push(' ')?;
-    }
+    write_names(&mut texts, &names)?;
     Ok(texts)
+}
+
+fn write_names(texts: &mut String, names: &[FileName]) -> Result<(), AllocError> {
+    for name in names {
+        write!(texts, "{name} ")?;
+    }
+    Ok(())
 }
 
 /// Whether the call is answered so.

@@ -189,36 +189,6 @@ fn holds_in_folder<R: Files + AllocGlobal + Clone + Drop>(
     Ok(holds)
 }
 
-/// Whether each call that fails in memory does nothing.
-fn each_fails_in_memory(alloc: Global) -> Result<bool, Refusal> {
-    for passes in 0..ROWS.len() {
-        if !holds_in_memory(alloc, Trial::One(passes))? {
-            return Ok(false);
-        }
-    }
-    Ok(true)
-}
-
-#[test]
-fn a_call_that_fails_does_nothing(rt: HostRuntime) -> Result<(), Fail> {
-    expect_yes(each_fails_in_memory(rt.alloc()))
-}
-
-/// Whether each call that fails in a folder does nothing.
-fn each_fails_in_folder<R: Files + AllocGlobal + Clone + Drop>(rt: &R) -> Result<bool, Fail> {
-    for passes in 0..ROWS.len() {
-        if !holds_in_folder(rt, "faulty_test", Trial::One(passes))? {
-            return Ok(false);
-        }
-    }
-    Ok(true)
-}
-
-#[test]
-fn a_folder_that_fails_does_nothing(rt: HostRuntime) -> Result<(), Fail> {
-    expect_done(each_fails_in_folder(&rt))
-}
-
 /// Which names are there behind so many of the rows: from the first number to before the second.
 const NAMES: &[(usize, usize, &str)] = &[
     (0, 7, ""),
@@ -232,20 +202,44 @@ const NAMES: &[(usize, usize, &str)] = &[
     (29, ROWS.len(), "_10.sto _2.sto _2_1.liv segments_3 "),
 ];
 
-/// Whether these names are there behind each number of rows between the two.
-fn are_names_between(alloc: Global, from: usize, to: usize, names: &str) -> Result<bool, Refusal> {
-    for passes in from..to {
-        if !holds_in_memory(alloc, Trial::All(passes, names))? {
+/// Whether it holds on a device of memory and in a folder at the path.
+fn holds_on_both<R: Files + AllocGlobal + Clone + Drop>(
+    rt: &R,
+    path: &str,
+    trial: Trial<'_>,
+) -> Result<bool, Fail> {
+    Ok(holds_in_memory(rt.alloc(), trial)? && holds_in_folder(rt, path, trial)?)
+}
+
+/// Whether each call that fails does nothing.
+fn each_does_nothing<R: Files + AllocGlobal + Clone + Drop>(rt: &R) -> Result<bool, Fail> {
+    for passes in 0..ROWS.len() {
+        if !holds_on_both(rt, "faulty_test", Trial::One(passes))? {
             return Ok(false);
         }
     }
     Ok(true)
 }
 
-/// The same of each of the numbers.
-fn are_names_left(alloc: Global) -> Result<bool, Refusal> {
+#[test]
+fn a_call_that_fails_does_nothing(rt: HostRuntime) -> Result<(), Fail> {
+    expect_done(each_does_nothing(&rt))
+}
+
+/// The names that are there behind so many of the rows.
+fn names_behind(passes: usize) -> &'static str {
     for &(from, to, names) in NAMES {
-        if !are_names_between(alloc, from, to, names)? {
+        if from <= passes && passes < to {
+            return names;
+        }
+    }
+    "no such number"
+}
+
+/// Whether just the names of those calls are there that passed, where all behind so many fail.
+fn are_names_left(alloc: Global) -> Result<bool, Refusal> {
+    for passes in 0..ROWS.len() {
+        if !holds_in_memory(alloc, Trial::All(passes, names_behind(passes)))? {
             return Ok(false);
         }
     }
@@ -257,10 +251,10 @@ fn calls_behind_a_fault_do_nothing(rt: HostRuntime) -> Result<(), Fail> {
     expect_yes(are_names_left(rt.alloc()))
 }
 
-/// Whether a file of memory is written as far as no call fails.
-fn are_written_in_memory(alloc: Global) -> Result<bool, Refusal> {
+/// Whether a file is written as far as no call fails.
+fn are_written<R: Files + AllocGlobal + Clone + Drop>(rt: &R) -> Result<bool, Fail> {
     for &(passes, rows) in WRITINGS {
-        if !holds_in_memory(alloc, Trial::Written(passes, rows))? {
+        if !holds_on_both(rt, "writing_test", Trial::Written(passes, rows))? {
             return Ok(false);
         }
     }
@@ -268,21 +262,6 @@ fn are_written_in_memory(alloc: Global) -> Result<bool, Refusal> {
 }
 
 #[test]
-fn a_file_of_memory_is_written_as_far_as_no_call_fails(rt: HostRuntime) -> Result<(), Fail> {
-    expect_yes(are_written_in_memory(rt.alloc()))
-}
-
-/// The same of a file of a folder.
-fn are_written_in_folder<R: Files + AllocGlobal + Clone + Drop>(rt: &R) -> Result<bool, Fail> {
-    for &(passes, rows) in WRITINGS {
-        if !holds_in_folder(rt, "writing_test", Trial::Written(passes, rows))? {
-            return Ok(false);
-        }
-    }
-    Ok(true)
-}
-
-#[test]
-fn a_file_of_a_folder_is_written_as_far_as_no_call_fails(rt: HostRuntime) -> Result<(), Fail> {
-    expect_done(are_written_in_folder(&rt))
+fn a_file_is_written_as_far_as_no_call_fails(rt: HostRuntime) -> Result<(), Fail> {
+    expect_done(are_written(&rt))
 }

@@ -55,6 +55,11 @@ impl Notes {
         self.most_open.set(self.most_open.get().max(open));
     }
 
+    /// What has the mark was synced.
+    fn synced_too(&self, mark: u8) {
+        self.synced.set(self.synced.get() | mark);
+    }
+
     /// A file was closed.
     fn closed(&self) {
         self.open.set(self.open.get().saturating_sub(1));
@@ -141,6 +146,12 @@ impl<F: Read> Read for FaultyFile<F> {
         meet(&self.notes, Doing::Reading)?;
         self.file.read(buf)
     }
+
+    // This and what a seek needn't do are passed on: left out, they would be proved from their defaults, which takes longer.
+    fn read_exact(&mut self, buf: &mut [u8]) -> io::Result<()> {
+        meet(&self.notes, Doing::Reading)?;
+        self.file.read_exact(buf)
+    }
 }
 
 impl<F: Write> Write for FaultyFile<F> {
@@ -161,6 +172,14 @@ impl<F: Seek> Seek for FaultyFile<F> {
     fn seek(&mut self, to: SeekFrom) -> io::Result<u64> {
         self.file.seek(to)
     }
+
+    fn rewind(&mut self) -> io::Result<()> {
+        self.file.rewind()
+    }
+
+    fn seek_relative(&mut self, offset: i64) -> io::Result<()> {
+        self.file.seek_relative(offset)
+    }
 }
 
 impl<F: OpenFile> OpenFile for FaultyFile<F> {
@@ -174,7 +193,7 @@ impl<F: OpenFile> OpenFile for FaultyFile<F> {
 
     fn sync_all(&self) -> io::Result<()> {
         meet(&self.notes, Doing::Syncing)?;
-        self.notes.synced.set(self.notes.synced.get() | self.mark);
+        self.notes.synced_too(self.mark);
         self.file.sync_all()
     }
 

@@ -2,7 +2,7 @@
 use crate::directory::calls::{
     Call, FIRST, ROWS, Row, all_answered, are_answered, is_read_so, make_folder, remove_folder,
 };
-use crate::verdict::{expect, expect_yes};
+use crate::verdict::{expect, expect_none, expect_passed, expect_yes};
 use cat_base::Refusal;
 use cat_directory::{Directory, FileName, Folder, FolderShelf, MemoryDirectory, Shelf};
 use std::alloc::Global;
@@ -26,19 +26,6 @@ const FOUR_FAILURES: &[Row<'static>] = &[(Call::Failures, "4")];
 /// The calls, and how many have failed.
 const TABLES: &[&[Row<'static>]] = &[ROWS, FOUR_FAILURES];
 
-#[test]
-fn memory_answers_as_a_folder_does(rt: HostRuntime) -> Result<(), Fail> {
-    let mut memory = MemoryDirectory::new(rt.alloc());
-    expect_yes(all_answered(rt.alloc(), &mut memory, TABLES))
-}
-
-#[test]
-fn a_folder_answers_as_memory_does(rt: HostRuntime) -> Result<(), Fail> {
-    make_folder(&rt, "files_test")?;
-    assert!(rt; answers_in(&rt, "files_test", TABLES)?);
-    remove_folder(&rt, "files_test")
-}
-
 /// A file that is there is made and written anew.
 const ANEW: &[&[Row<'static>]] = &[&[
     (Call::Create(FIRST), ""),
@@ -51,12 +38,6 @@ const ANEW: &[&[Row<'static>]] = &[&[
     (Call::Size(FIRST), "5"),
     (Call::Failures, "0"),
 ]];
-
-#[test]
-fn memory_makes_a_file_anew(rt: HostRuntime) -> Result<(), Fail> {
-    let mut memory = MemoryDirectory::new(rt.alloc());
-    expect_yes(all_answered(rt.alloc(), &mut memory, ANEW))
-}
 
 /// A file that is there stays as it is, until it is deleted.
 const NOT_ANEW: &[&[Row<'static>]] = &[&[
@@ -73,13 +54,6 @@ const NOT_ANEW: &[&[Row<'static>]] = &[&[
     (Call::Read(FIRST, 0, 5), "whole"),
     (Call::Failures, "3"),
 ]];
-
-#[test]
-fn a_folder_makes_no_file_anew(rt: HostRuntime) -> Result<(), Fail> {
-    make_folder(&rt, "anew_test")?;
-    assert!(rt; answers_in(&rt, "anew_test", NOT_ANEW)?);
-    remove_folder(&rt, "anew_test")
-}
 
 /// What is read of a file is what it has then, whatever was read of it before.
 const READ_AGAIN: &[&[Row<'static>]] = &[&[
@@ -99,13 +73,6 @@ const READ_AGAIN: &[&[Row<'static>]] = &[&[
     (Call::Read(FIRST, 0, 3), "NO 31"),
     (Call::Size(FIRST), "NO 31"),
 ]];
-
-#[test]
-fn a_file_that_is_open_is_read_as_it_is(rt: HostRuntime) -> Result<(), Fail> {
-    make_folder(&rt, "again_test")?;
-    assert!(rt; answers_in(&rt, "again_test", READ_AGAIN)?);
-    remove_folder(&rt, "again_test")
-}
 
 /// Whether 70 files are written and read, one behind the other.
 fn are_written<D: Directory + Shelf>(alloc: Global, device: &mut D) -> Result<bool, Refusal> {
@@ -142,10 +109,60 @@ fn are_read_in_turn<R: Files + AllocGlobal + Clone + Drop>(
     Ok(are_written(rt.alloc(), &mut folder)? && are_read(rt.alloc(), &mut folder)?)
 }
 
+/// What a case shows, and the calls.
+type Case = (&'static str, &'static [&'static [Row<'static>]]);
+
+const IN_MEMORY: &[Case] = &[
+    ("memory answers as a folder does", TABLES),
+    ("memory makes a file anew", ANEW),
+];
+
+/// The first case of which a call is answered otherwise by memory.
+fn failing_in_memory(alloc: Global, cases: &[Case]) -> Result<Option<&'static str>, Refusal> {
+    for &(name, tables) in cases {
+        if !all_answered(alloc, &mut MemoryDirectory::new(alloc), tables)? {
+            return Ok(Some(name));
+        }
+    }
+    Ok(None)
+}
+
+#[test]
+fn memory_answers(rt: HostRuntime) -> Result<(), Fail> {
+    expect_none(failing_in_memory(rt.alloc(), IN_MEMORY))
+}
+
+const IN_A_FOLDER: &[Case] = &[
+    ("a folder answers as memory does", TABLES),
+    ("a folder makes no file anew", NOT_ANEW),
+    ("a file that is open is read as it is", READ_AGAIN),
+];
+
+/// The first case of which a call is answered otherwise in a new folder at the path.
+fn failing_in_folder<R: Files + AllocGlobal + Clone + Drop>(
+    rt: &R,
+    path: &str,
+    cases: &[Case],
+) -> Result<Option<&'static str>, Fail> {
+    for &(name, tables) in cases {
+        make_folder(rt, path)?;
+        if !answers_in(rt, path, tables)? {
+            return Ok(Some(name));
+        }
+    }
+    Ok(None)
+}
+
+#[test]
+fn a_folder_answers(rt: HostRuntime) -> Result<(), Fail> {
+    expect_passed(failing_in_folder(&rt, "files_test", IN_A_FOLDER)?)?;
+    remove_folder(&rt, "files_test")
+}
+
 #[test]
 fn more_files_are_read_than_stay_open(rt: HostRuntime) -> Result<(), Fail> {
     make_folder(&rt, "many_test")?;
-    assert!(rt; are_read_in_turn(&rt, "many_test")?);
+    expect_yes(are_read_in_turn(&rt, "many_test"))?;
     remove_folder(&rt, "many_test")
 }
 
@@ -223,7 +240,7 @@ fn are_kept(rt: &(impl Files + Alloc)) -> Result<bool, Fail> {
 #[test]
 fn other_files_of_a_folder_stay(rt: HostRuntime) -> Result<(), Fail> {
     make_others(&rt)?;
-    assert!(rt; answers_in(&rt, "others_test/", BESIDE_OTHERS)? && are_kept(&rt)?);
+    expect(answers_in(&rt, "others_test/", BESIDE_OTHERS)? && are_kept(&rt)?)?;
     remove_folder(&rt, "others_test")
 }
 
@@ -249,7 +266,7 @@ fn is_read_and_cut<R: Files + AllocGlobal + Clone + Drop>(rt: &R) -> Result<bool
 fn a_shelf_reads_the_files_of_its_folder(rt: HostRuntime) -> Result<(), Fail> {
     make_folder(&rt, "shelf_test")?;
     let is_made = answers_in(&rt, "shelf_test", WHOLE)?;
-    assert!(rt; is_made && is_read_and_cut(&rt)?);
+    expect(is_made && is_read_and_cut(&rt)?)?;
     remove_folder(&rt, "shelf_test")
 }
 
@@ -276,7 +293,7 @@ fn all_fail<R: Files + AllocGlobal + Clone + Drop>(rt: &R) -> Result<bool, Refus
 #[test]
 fn a_folder_that_cannot_be_opened_fails(rt: HostRuntime) -> Result<(), Fail> {
     fs::write(&rt, "no_folder_test", "a file")?;
-    assert!(rt; all_fail(&rt)?);
+    expect_yes(all_fail(&rt))?;
     Ok(fs::remove_file(&rt, "no_folder_test")?)
 }
 
@@ -316,7 +333,7 @@ fn a_read_only_file_stays_as_it_is(rt: HostRuntime) -> Result<(), Fail> {
     make_read_only(&rt)?;
     let is_root = OpenOptions::new().append(true).open(&rt, READ_ONLY).is_ok();
     let rows = if is_root { AS_ROOT } else { HELD_BACK };
-    assert!(rt; answers_in(&rt, "read_only_test", rows)?);
+    expect_yes(answers_in(&rt, "read_only_test", rows))?;
     remove_folder(&rt, "read_only_test")
 }
 
@@ -326,6 +343,6 @@ const FULL: &[&[Row<'static>]] = &[&[(Call::Append(FIRST, "x"), "NO 30"), (Call:
 fn a_full_disk_is_a_failure(rt: HostRuntime) -> Result<(), Fail> {
     make_folder(&rt, "full_test")?;
     symlink(&rt, "/dev/full", "full_test/_1.seg")?;
-    assert!(rt; answers_in(&rt, "full_test", FULL)?);
+    expect_yes(answers_in(&rt, "full_test", FULL))?;
     remove_folder(&rt, "full_test")
 }

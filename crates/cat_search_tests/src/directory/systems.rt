@@ -1,7 +1,7 @@
 //! What a folder asks of the system, and what it tells where the system fails.
 use crate::directory::calls::{Call, FIRST, Row, SOURCE, are_answered, make_folder, remove_folder};
 use crate::directory::faulty_system::{Doing, FaultySystem, Notes};
-use crate::verdict::expect_done;
+use crate::verdict::expect_passed;
 use cat_base::Refusal;
 use cat_directory::{Directory, FileName, Folder, Shelf};
 use std::alloc::{AllocError, Global};
@@ -74,6 +74,17 @@ fn do_job<D: Directory + Shelf>(
     }
 }
 
+/// The same in the folder at the path, over the system that has these notes.
+fn do_job_with<R: Files + AllocGlobal + Clone + Drop>(
+    rt: &R,
+    path: &str,
+    notes: &Rc<Notes>,
+    job: Job<'_>,
+) -> Result<bool, Refusal> {
+    let mut folder = Folder::at(system_of(rt, notes)?, rt.alloc(), path)?;
+    do_job(rt.alloc(), &mut folder, notes, job)
+}
+
 /// The same in the folder at the path, in a system that fails as the job says.
 fn do_job_in<R: Files + AllocGlobal + Clone + Drop>(
     rt: &R,
@@ -81,8 +92,7 @@ fn do_job_in<R: Files + AllocGlobal + Clone + Drop>(
     job: Job<'_>,
 ) -> Result<bool, Refusal> {
     let notes = Rc::new(rt.alloc(), Notes::new())?;
-    let mut folder = Folder::at(system_of(rt, &notes)?, rt.alloc(), path)?;
-    do_job(rt.alloc(), &mut folder, &notes, job)
+    do_job_with(rt, path, &notes, job)
 }
 
 /// The same in a new folder, which is taken away then.
@@ -112,11 +122,6 @@ const SYNC_BOTH: &[Row<'static>] = &[(Call::Sync(&[FIRST, SOURCE]), ""), (Call::
 
 /// The folder is synced, and each file.
 const SYNCED: &[Scene<'static>] = &[(None, WHOLE, 0), (None, SYNC_NONE, 4), (None, SYNC_BOTH, 7)];
-
-#[test]
-fn a_folder_asks_the_system_for_all_it_needs(rt: HostRuntime) -> Result<(), Fail> {
-    expect_done(is_done(&rt, "system_test", Job::Scenes(SYNCED)))
-}
 
 const MAKE: &[Row<'static>] = &[
     (Call::Create(FIRST), ""),
@@ -166,11 +171,6 @@ const KINDS: &[Scene<'static>] = &[
     (None, READ, 0),
 ];
 
-#[test]
-fn each_error_of_the_system_is_told_as_it_is(rt: HostRuntime) -> Result<(), Fail> {
-    expect_done(is_done(&rt, "kinds_test", Job::Scenes(KINDS)))
-}
-
 /// An absent file is a failure of this call alone.
 const SYNC_ABSENT: &[Row<'static>] = &[
     (Call::Sync(&[FIRST]), "NO 30"),
@@ -193,11 +193,6 @@ const FAILED_SYNC: &[Scene<'static>] = &[
     (None, NEVER_SYNCED, 5),
 ];
 
-#[test]
-fn after_a_failed_sync_none_succeeds(rt: HostRuntime) -> Result<(), Fail> {
-    expect_done(is_done(&rt, "sync_test", Job::Scenes(FAILED_SYNC)))
-}
-
 const FOLDER_NOT_SYNCED: &[Row<'static>] = &[(Call::Sync(&[]), "NO 30")];
 
 const FAILED_FOLDER_SYNC: &[Scene<'static>] = &[
@@ -209,11 +204,6 @@ const FAILED_FOLDER_SYNC: &[Scene<'static>] = &[
     ),
     (None, NEVER_SYNCED, 5),
 ];
-
-#[test]
-fn after_a_failed_sync_of_the_folder_none_succeeds(rt: HostRuntime) -> Result<(), Fail> {
-    expect_done(is_done(&rt, "folder_sync_test", Job::Scenes(FAILED_FOLDER_SYNC)))
-}
 
 const LISTED: &[Row<'static>] = &[
     (Call::Create(FIRST), ""),
@@ -249,11 +239,6 @@ const FAILED_LISTING: &[Scene<'static>] = &[
     (None, LISTED_AGAIN, 0),
 ];
 
-#[test]
-fn a_listing_that_fails_is_no_list(rt: HostRuntime) -> Result<(), Fail> {
-    expect_done(is_done(&rt, "listing_test", Job::Scenes(FAILED_LISTING)))
-}
-
 const NOT_DELETED: &[Row<'static>] = &[
     (Call::Delete(FIRST), "NO 30"),
     (Call::Read(FIRST, 0, 5), "whole"),
@@ -277,11 +262,6 @@ const DENIED_DELETE: &[Scene<'static>] = &[
     (None, DELETED, 0),
 ];
 
-#[test]
-fn a_denied_delete_is_a_failure(rt: HostRuntime) -> Result<(), Fail> {
-    expect_done(is_done(&rt, "delete_test", Job::Scenes(DENIED_DELETE)))
-}
-
 /// Whether 70 files are written and read, one behind the other.
 fn are_written<D: Directory + Shelf>(alloc: Global, device: &mut D) -> Result<bool, Refusal> {
     for number in 1..=70 {
@@ -303,7 +283,46 @@ fn are_few<D: Directory + Shelf>(
     Ok(are_written(alloc, device)? && notes.most_open.get() == 65)
 }
 
+/// What a job shows, and the job.
+const JOBS: &[(&str, Job<'static>)] = &[
+    (
+        "a folder asks the system for all it needs",
+        Job::Scenes(SYNCED),
+    ),
+    (
+        "each error of the system is told as it is",
+        Job::Scenes(KINDS),
+    ),
+    (
+        "after a failed sync none succeeds",
+        Job::Scenes(FAILED_SYNC),
+    ),
+    (
+        "after a failed sync of the folder none succeeds",
+        Job::Scenes(FAILED_FOLDER_SYNC),
+    ),
+    (
+        "a listing that fails is no list",
+        Job::Scenes(FAILED_LISTING),
+    ),
+    ("a denied delete is a failure", Job::Scenes(DENIED_DELETE)),
+    ("few files are open at once", Job::Many),
+];
+
+/// The first job of which a call is answered otherwise, each in a folder of its own.
+fn failing<R: Files + AllocGlobal + Clone + Drop>(
+    rt: &R,
+    jobs: &[(&'static str, Job<'_>)],
+) -> Result<Option<&'static str>, Fail> {
+    for &(name, job) in jobs {
+        if !is_done(rt, "system_test", job)? {
+            return Ok(Some(name));
+        }
+    }
+    Ok(None)
+}
+
 #[test]
-fn few_files_are_open_at_once(rt: HostRuntime) -> Result<(), Fail> {
-    expect_done(is_done(&rt, "open_test", Job::Many))
+fn a_folder_asks_the_system_and_tells_what_it_is_told(rt: HostRuntime) -> Result<(), Fail> {
+    expect_passed(failing(&rt, JOBS)?)
 }

@@ -1,6 +1,5 @@
-//! Texts that are written in parts, and the numbers of refusals.
+//! The fields of items, the numbers of refusals, and texts that are compared.
 use cat_base::{Refusal, TextSet};
-use std::alloc::{AllocError, Global};
 
 /// One field of each kind.
 pub(crate) const SHOP: &str =
@@ -12,19 +11,6 @@ pub(crate) fn number<T>(outcome: &Result<T, Refusal>) -> u8 {
         Ok(_) => 0,
         Err(refusal) => refusal.number(),
     }
-}
-
-/// A text in parts: what stands first, a piece and how many times it stands, and what stands behind them.
-pub(crate) type Parts<'a> = (&'a str, (&'a str, u32), &'a str);
-
-pub(crate) fn whole(alloc: Global, parts: &Parts<'_>) -> Result<String, AllocError> {
-    let (before, (piece, count), after) = *parts;
-    let mut text = String::from_str(alloc, before)?;
-    for _ in 0..count {
-        text.push_str(piece)?;
-    }
-    text.push_str(after)?;
-    Ok(text)
 }
 
 /// Whether the set has these texts, in byte order.

@@ -1,7 +1,7 @@
-//! The words of a text, and the form of ids.
-use crate::items::texts::{are_texts, whole};
-use crate::verdict::{expect, expect_yes};
-use cat_items::{id_ok, words};
+//! The words of a text.
+use crate::items::texts::are_texts;
+use crate::verdict::expect_yes;
+use cat_items::words;
 use std::alloc::{AllocError, Global};
 use std::test::Fail;
 
@@ -29,37 +29,4 @@ fn texts_have_words(rt: HostRuntime) -> Result<(), Fail> {
         ("日本 日本語", &["日本", "日本語"]),
     ];
     expect_yes(have_words(rt.alloc(), ROWS))
-}
-
-/// Whether each text may be an id, or may not, as stands beside it.
-fn are_judged_so(rows: &[(&str, bool)]) -> bool {
-    for (text, want) in rows {
-        if id_ok(text) != *want {
-            return false;
-        }
-    }
-    true
-}
-
-#[test]
-fn ids(rt: HostRuntime) {
-    const ROWS: &[(&str, bool)] = &[
-        ("a", true),
-        ("!~", true),
-        ("", false),
-        ("a b", false),
-        ("é", false),
-        ("\u{7f}", false),
-    ];
-    assert!(rt; are_judged_so(ROWS));
-}
-
-/// Whether a text of so many bytes may be an id.
-fn is_id(alloc: Global, count: u32) -> Result<bool, AllocError> {
-    Ok(id_ok(&whole(alloc, &("", ("x", count), ""))?))
-}
-
-#[test]
-fn ids_of_64_bytes(rt: HostRuntime) -> Result<(), Fail> {
-    expect(is_id(rt.alloc(), 64)? && !is_id(rt.alloc(), 65)?)
 }

@@ -2,7 +2,7 @@
 //! spells another segment.
 ghost use Rattle.std.specs.Prelude.{◌≡◌};
 
-use crate::segment::bytes::{Parts, are_fronts_damaged, file_of, is_damaged, is_exact, rewritten};
+use crate::segment::bytes::{Format, Parts, file_of, is_exact, is_whole, rewritten};
 use crate::segment::made::made_of_texts;
 use crate::verdict::{expect, expect_yes};
 use cat_base::Refusal;
@@ -35,7 +35,7 @@ fn turned(alloc: Global, bytes: &[u8], place: usize) -> Result<Vec<u8>, AllocErr
 
 /// Whether the bytes are damaged, or those of the segment that is read of them.
 fn are_damaged_or_exact(alloc: Global, bytes: &[u8]) -> Result<bool, Refusal> {
-    match rewritten(alloc, bytes) {
+    match rewritten(alloc, Format::Segment, bytes) {
         Ok(written) => Ok(written.as_slice() == bytes),
         Err(Refusal::Damaged) => Ok(true),
         Err(refusal) => Err(refusal),
@@ -70,15 +70,12 @@ fn is_of_one_row(segment: &Segment) -> bool {
 fn these_bytes_have_a_segment(rt: HostRuntime) -> Result<(), Fail> {
     let bytes = file_of(rt.alloc(), SEGMENT)?;
     let segment = decode_seg(rt.alloc(), &bytes)?;
-    expect(is_exact(rt.alloc(), &bytes)? && is_of_one_row(&segment))
+    expect(is_exact(rt.alloc(), Format::Segment, &bytes)? && is_of_one_row(&segment))
 }
 
 #[test]
 fn a_front_of_a_segment_is_damaged_and_so_is_a_byte_more(rt: HostRuntime) -> Result<(), Fail> {
-    let mut bytes = file_of(rt.alloc(), SEGMENT)?;
-    let are_damaged = are_fronts_damaged(rt.alloc(), &bytes);
-    bytes.push(0)?;
-    expect(are_damaged && is_damaged(rt.alloc(), &bytes))
+    expect_yes(is_whole(rt.alloc(), Format::Segment, SEGMENT))
 }
 
 /// Whether the bytes with any one turned are damaged, or those of another segment.

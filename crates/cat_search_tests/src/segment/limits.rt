@@ -1,19 +1,50 @@
 //! Files of segments with texts, labels and fields of as many as there may be, and of one more.
 ghost use Rattle.std.specs.Prelude.{◌<◌};
 
-use crate::segment::bytes::{is_damaged, is_exact};
-use crate::verdict::{expect, expect_yes};
+use crate::segment::bytes::{Format, is_damaged, is_exact};
+use crate::verdict::{expect, expect_none};
 use cat_base::{MAX_FIELDS, MAX_LABELS, Refusal, put_bytes, put_u32};
 use std::alloc::{AllocError, Global};
 use std::test::Fail;
 
-/// A file with a text: what stands before its length, a byte that it is made of, how many bytes it may have at most, and
-/// what stands behind it.
-type Limit<'a> = (&'a [u8], u8, u8, &'a [u8]);
+/// What is limited, and a file with a text: what stands before its length, a byte that it is made of, how many bytes it may have
+/// at most, and what stands behind it.
+type Limit = (&'static str, &'static [u8], u8, u8, &'static [u8]);
+
+const LIMITS: &[Limit] = &[
+    (
+        "ids have at most 64 bytes",
+        b"CSEG\x01\0\0\0\0\0\0\0\x01\0\0\0\x01\0\0\0\0\0\0\0\0\0\0\0\x01",
+        b'i',
+        64,
+        b"\0\0\0\x24",
+    ),
+    (
+        "names of fields have at most 32 bytes",
+        b"CSEG\x01\0\0\0\0\0\0\0\x01\0\0\0\x01\0\0\0\x01",
+        b'n',
+        32,
+        b"\x03\0\0\0\0\0\0\0\x01\0\0\0\x01a\0\0\0\x24\0",
+    ),
+    (
+        "keywords have at most 128 bytes",
+        b"CSEG\x01\0\0\0\0\0\0\0\x01\0\0\0\x01\0\0\0\x01\0\0\0\x01k\x02\0\0\0\0\0\0\0\x01\0\0\0\x01a\0\0\0\x24\0\0\0\x01",
+        b'k',
+        128,
+        b"\0\0\0\x01",
+    ),
+    (
+        "labels have at most 128 bytes",
+        b"CSEG\x01\0\0\0\0\0\0\0\x01\0\0\0\x01\0\0\0\x01\0\0\0\x01l\x04\0\0\0\0\0\0\0\x01\0\0\0\x01a\0\0\0\x24\0\0\0\x01",
+        b'l',
+        128,
+        b"\0\0\0\x01\0\0\0\0",
+    ),
+];
 
 /// The file with a text of so many bytes.
-fn file_with_text(alloc: Global, limit: &Limit<'_>, count: u8) -> Result<Vec<u8>, AllocError> {
-    let (before, byte, _, after) = limit;
+fn file_with_text(alloc: Global, limit: &Limit, count: u8) -> Result<Vec<u8>, AllocError> {
+    let (_, before, byte, _, after) = limit;
     let mut bytes = Vec::from_slice(alloc, before)?;
     put_bytes(&mut bytes, &vec![in alloc; *byte; usize::from(count)]?)?;
     bytes.extend_from_slice(after)?;
@@ -21,54 +52,25 @@ fn file_with_text(alloc: Global, limit: &Limit<'_>, count: u8) -> Result<Vec<u8>
 }
 
 /// Whether the text may have as many bytes as the limit says, and not one more.
-fn is_limit(alloc: Global, limit: &Limit<'_>) -> Result<bool, Refusal> {
-    let most = file_with_text(alloc, limit, limit.2)?;
-    let more = file_with_text(alloc, limit, limit.2.saturating_add(1))?;
-    Ok(is_exact(alloc, &most)? && is_damaged(alloc, &more))
+fn is_limit(alloc: Global, limit: &Limit) -> Result<bool, Refusal> {
+    let most = file_with_text(alloc, limit, limit.3)?;
+    let more = file_with_text(alloc, limit, limit.3.saturating_add(1))?;
+    Ok(is_exact(alloc, Format::Segment, &most)? && is_damaged(alloc, Format::Segment, &more))
+}
+
+/// The first limit that is another.
+fn failing_limit(alloc: Global, limits: &[Limit]) -> Result<Option<&'static str>, Refusal> {
+    for limit in limits {
+        if !is_limit(alloc, limit)? {
+            return Ok(Some(limit.0));
+        }
+    }
+    Ok(None)
 }
 
 #[test]
-fn ids_have_at_most_64_bytes(rt: HostRuntime) -> Result<(), Fail> {
-    const ID: Limit<'static> = (
-        b"CSEG\x01\0\0\0\0\0\0\0\x01\0\0\0\x01\0\0\0\0\0\0\0\0\0\0\0\x01",
-        b'i',
-        64,
-        b"\0\0\0\x24",
-    );
-    expect_yes(is_limit(rt.alloc(), &ID))
-}
-
-#[test]
-fn names_of_fields_have_at_most_32_bytes(rt: HostRuntime) -> Result<(), Fail> {
-    const NAME: Limit<'static> = (
-        b"CSEG\x01\0\0\0\0\0\0\0\x01\0\0\0\x01\0\0\0\x01",
-        b'n',
-        32,
-        b"\x03\0\0\0\0\0\0\0\x01\0\0\0\x01a\0\0\0\x24\0",
-    );
-    expect_yes(is_limit(rt.alloc(), &NAME))
-}
-
-#[test]
-fn keywords_have_at_most_128_bytes(rt: HostRuntime) -> Result<(), Fail> {
-    const KEYWORD: Limit<'static> = (
-        b"CSEG\x01\0\0\0\0\0\0\0\x01\0\0\0\x01\0\0\0\x01\0\0\0\x01k\x02\0\0\0\0\0\0\0\x01\0\0\0\x01a\0\0\0\x24\0\0\0\x01",
-        b'k',
-        128,
-        b"\0\0\0\x01",
-    );
-    expect_yes(is_limit(rt.alloc(), &KEYWORD))
-}
-
-#[test]
-fn labels_have_at_most_128_bytes(rt: HostRuntime) -> Result<(), Fail> {
-    const LABEL: Limit<'static> = (
-        b"CSEG\x01\0\0\0\0\0\0\0\x01\0\0\0\x01\0\0\0\x01\0\0\0\x01l\x04\0\0\0\0\0\0\0\x01\0\0\0\x01a\0\0\0\x24\0\0\0\x01",
-        b'l',
-        128,
-        b"\0\0\0\x01\0\0\0\0",
-    );
-    expect_yes(is_limit(rt.alloc(), &LABEL))
+fn texts_have_at_most_so_many_bytes(rt: HostRuntime) -> Result<(), Fail> {
+    expect_none(failing_limit(rt.alloc(), LIMITS))
 }
 
 /// Appends a text of two letters: those of greater numbers come later in byte order.
@@ -98,12 +100,16 @@ fn put_ordinals(bytes: &mut Vec<u8>, count: u8) -> Result<(), AllocError> {
     Ok(())
 }
 
+/// Whether a row may have so many labels, and not one more.
+fn are_most_labels(alloc: Global, count: u8) -> Result<bool, Refusal> {
+    let most = file_with_labels(alloc, count)?;
+    let more = file_with_labels(alloc, count.saturating_add(1))?;
+    Ok(is_exact(alloc, Format::Segment, &most)? && is_damaged(alloc, Format::Segment, &more))
+}
+
 #[test]
 fn rows_have_at_most_64_labels(rt: HostRuntime) -> Result<(), Fail> {
-    let most = file_with_labels(rt.alloc(), 64)?;
-    let more = file_with_labels(rt.alloc(), 65)?;
-    let is_most = MAX_LABELS == 64 && is_exact(rt.alloc(), &most)?;
-    expect(is_most && is_damaged(rt.alloc(), &more))
+    expect(MAX_LABELS == 64 && are_most_labels(rt.alloc(), 64)?)
 }
 
 /// Appends so many number fields.
@@ -127,14 +133,20 @@ fn file_with_fields(alloc: Global, count: u8) -> Result<Vec<u8>, AllocError> {
     Ok(bytes)
 }
 
-/// Whether so many number fields make the file of a segment.
-fn are_fields(alloc: Global, count: u8) -> Result<bool, Refusal> {
-    is_exact(alloc, &file_with_fields(alloc, count)?)
+/// Whether a segment may have so many number fields, and not one more.
+fn are_most_fields(alloc: Global, count: u8) -> Result<bool, Refusal> {
+    let most = file_with_fields(alloc, count)?;
+    let more = file_with_fields(alloc, count.saturating_add(1))?;
+    Ok(is_exact(alloc, Format::Segment, &most)? && is_damaged(alloc, Format::Segment, &more))
+}
+
+/// Whether a segment may have no field, and so many at most.
+fn are_from_none_to(alloc: Global, most: u8) -> Result<bool, Refusal> {
+    let none = file_with_fields(alloc, 0)?;
+    Ok(is_exact(alloc, Format::Segment, &none)? && are_most_fields(alloc, most)?)
 }
 
 #[test]
 fn segments_have_at_most_32_fields(rt: HostRuntime) -> Result<(), Fail> {
-    let more = file_with_fields(rt.alloc(), 33)?;
-    let are_few = MAX_FIELDS == 32 && are_fields(rt.alloc(), 0)? && are_fields(rt.alloc(), 32)?;
-    expect(are_few && is_damaged(rt.alloc(), &more))
+    expect(MAX_FIELDS == 32 && are_from_none_to(rt.alloc(), 32)?)
 }

@@ -1,6 +1,8 @@
 //! The bytes of files of live rows: worked out by hand, with one rule broken, and at the limits of a segment.
-use crate::segment::bytes::{Parts, file_of, file_with};
-use crate::verdict::expect;
+use crate::segment::bytes::{
+    Case, Format, Parts, failing, file_of, is_damaged, is_exact, is_whole,
+};
+use crate::verdict::{expect, expect_none, expect_yes};
 use cat_base::{MAX_ROWS, Refusal, put_u32};
 use cat_segment::{Live, decode_liv, encode_liv};
 use std::alloc::{AllocError, Global};
@@ -37,42 +39,6 @@ fn written(live: &Live) -> Result<Option<Vec<u8>>, AllocError> {
     Ok(Some(encode_liv(1, 2, live)?))
 }
 
-/// The bytes of the live rows that are spelled so.
-fn rewritten(alloc: Global, bytes: &[u8]) -> Result<Vec<u8>, Refusal> {
-    let read = decode_liv(alloc, bytes)?;
-    Ok(encode_liv(read.number, read.generation, &read.live)?)
-}
-
-/// Whether no live rows are spelled so.
-fn is_damaged(alloc: Global, bytes: &[u8]) -> bool {
-    matches!(decode_liv(alloc, bytes), Err(Refusal::Damaged))
-}
-
-/// Whether live rows are spelled so, and by these bytes.
-fn is_exact(alloc: Global, bytes: &[u8]) -> Result<bool, Refusal> {
-    Ok(rewritten(alloc, bytes)?.as_slice() == bytes)
-}
-
-/// Whether each of these, in place of the part of the index, leaves the file of no live rows.
-fn are_wrong(alloc: Global, index: usize, parts: Parts<'_>) -> Result<bool, Refusal> {
-    for part in parts {
-        if !is_damaged(alloc, &file_with(alloc, LIVE, index, part)?) {
-            return Ok(false);
-        }
-    }
-    Ok(true)
-}
-
-/// Whether each of these, in place of the part of the index, makes the file of other live rows.
-fn are_right(alloc: Global, index: usize, parts: Parts<'_>) -> Result<bool, Refusal> {
-    for part in parts {
-        if !is_exact(alloc, &file_with(alloc, LIVE, index, part)?)? {
-            return Ok(false);
-        }
-    }
-    Ok(true)
-}
-
 /// Nine rows, of which all are dead but the first and the last.
 fn ends_of_nine(alloc: Global) -> Result<Live, AllocError> {
     let mut live = Live::all(alloc, 9)?;
@@ -93,7 +59,7 @@ fn is_written_so(live: &Live, bytes: &[u8]) -> Result<bool, AllocError> {
 fn live_rows_have_these_bytes(rt: HostRuntime) -> Result<(), Fail> {
     let bytes = file_of(rt.alloc(), LIVE)?;
     let live = ends_of_nine(rt.alloc())?;
-    expect(is_written_so(&live, &bytes)? && is_exact(rt.alloc(), &bytes)?)
+    expect(is_written_so(&live, &bytes)? && is_exact(rt.alloc(), Format::Live, &bytes)?)
 }
 
 /// Whether of nine rows just the first and the last are live.
@@ -107,59 +73,56 @@ fn these_bytes_have_live_rows(rt: HostRuntime) -> Result<(), Fail> {
     expect(read.number == 1 && read.generation == 2 && are_ends(&read.live))
 }
 
-/// Whether no live rows are spelled by any front of the bytes.
-fn are_fronts_damaged(alloc: Global, bytes: &[u8]) -> bool {
-    for end in 0..bytes.len() {
-        if !is_damaged(alloc, bytes.get(..end).unwrap_or(&[])) {
-            return false;
-        }
-    }
-    true
-}
-
 #[test]
 fn a_front_of_live_rows_is_damaged_and_so_is_a_byte_more(rt: HostRuntime) -> Result<(), Fail> {
-    let mut bytes = file_of(rt.alloc(), LIVE)?;
-    let are_damaged = are_fronts_damaged(rt.alloc(), &bytes);
-    bytes.push(0)?;
-    expect(are_damaged && is_damaged(rt.alloc(), &bytes))
+    expect_yes(is_whole(rt.alloc(), Format::Live, LIVE))
 }
 
-#[test]
-fn other_magic_words_and_versions_are_no_live_rows(rt: HostRuntime) -> Result<(), Fail> {
-    const WORDS: Parts<'static> = &[b"CLIW", b"cliv", b"CSEG"];
-    const VERSIONS: Parts<'static> = &[b"\0", b"\x02"];
-    let alloc = rt.alloc();
-    expect(are_wrong(alloc, MAGIC, WORDS)? && are_wrong(alloc, VERSION, VERSIONS)?)
-}
+const CASES: &[Case] = &[
+    (
+        "other magic words are no live rows",
+        MAGIC,
+        &[b"CLIW", b"cliv", b"CSEG"],
+        &[],
+    ),
+    (
+        "other versions are no live rows",
+        VERSION,
+        &[b"\0", b"\x02"],
+        &[],
+    ),
+    (
+        "live rows are of a segment",
+        NUMBER,
+        &[b"\0\0\0\0\0\0\0\0", b"\x80\0\0\0\0\0\0\0"],
+        &[b"\x7f\xff\xff\xff\xff\xff\xff\xff"],
+    ),
+    (
+        "live rows are of a commit",
+        GENERATION,
+        &[b"\0\0\0\0\0\0\0\0", b"\x80\0\0\0\0\0\0\0"],
+        &[b"\x7f\xff\xff\xff\xff\xff\xff\xff"],
+    ),
+    (
+        "live rows have a bit for each row",
+        COUNT,
+        // A byte too many, and one too few.
+        &[b"\0\0\0\x08", b"\0\0\0\x11"],
+        &[b"\0\0\0\x0a", b"\0\0\0\x10"],
+    ),
+    (
+        "some row is dead and none lies past the last",
+        ROWS,
+        // All live; a row that isn't there.
+        &[b"\xff\x01", b"\x01\x03", b"\x01\x81"],
+        // All dead; all but the first, and all but the last live.
+        &[b"\0\0", b"\xfe\x01", b"\xff\0"],
+    ),
+];
 
 #[test]
-fn live_rows_are_of_a_segment_and_a_commit(rt: HostRuntime) -> Result<(), Fail> {
-    const WRONG: Parts<'static> = &[b"\0\0\0\0\0\0\0\0", b"\x80\0\0\0\0\0\0\0"];
-    const RIGHT: Parts<'static> = &[b"\x7f\xff\xff\xff\xff\xff\xff\xff"];
-    let alloc = rt.alloc();
-    let is_segment = are_wrong(alloc, NUMBER, WRONG)? && are_right(alloc, NUMBER, RIGHT)?;
-    let is_commit = are_wrong(alloc, GENERATION, WRONG)? && are_right(alloc, GENERATION, RIGHT)?;
-    expect(is_segment && is_commit)
-}
-
-#[test]
-fn live_rows_have_a_bit_for_each_row(rt: HostRuntime) -> Result<(), Fail> {
-    // A byte too many, and one too few.
-    const WRONG: Parts<'static> = &[b"\0\0\0\x08", b"\0\0\0\x11"];
-    const RIGHT: Parts<'static> = &[b"\0\0\0\x0a", b"\0\0\0\x10"];
-    let alloc = rt.alloc();
-    expect(are_wrong(alloc, COUNT, WRONG)? && are_right(alloc, COUNT, RIGHT)?)
-}
-
-#[test]
-fn some_row_is_dead_and_none_lies_past_the_last(rt: HostRuntime) -> Result<(), Fail> {
-    // All live; a row that isn't there.
-    const WRONG: Parts<'static> = &[b"\xff\x01", b"\x01\x03", b"\x01\x81"];
-    // All dead; all but the first, and all but the last live.
-    const RIGHT: Parts<'static> = &[b"\0\0", b"\xfe\x01", b"\xff\0"];
-    let alloc = rt.alloc();
-    expect(are_wrong(alloc, ROWS, WRONG)? && are_right(alloc, ROWS, RIGHT)?)
+fn live_rows_keep_all_rules_or_are_damaged(rt: HostRuntime) -> Result<(), Fail> {
+    expect_none(failing(rt.alloc(), Format::Live, LIVE, CASES))
 }
 
 /// The bytes as of a file where all of nine rows are live. No test of them takes memory, so they are damaged where none is left.
@@ -167,7 +130,7 @@ const ALL_LIVE: &[u8] = b"CLIV\x01\0\0\0\0\0\0\0\x01\0\0\0\0\0\0\0\x02\0\0\0\x09
 
 #[test]
 fn a_set_of_all_rows_is_damaged_without_memory(rt: HostRuntime) {
-    assert!(rt; is_damaged(rt.alloc(), ALL_LIVE));
+    assert!(rt; is_damaged(rt.alloc(), Format::Live, ALL_LIVE));
 }
 
 /// The file of so many rows, none of them live.
@@ -181,12 +144,12 @@ fn file_of_dead(alloc: Global, count: u32) -> Result<Vec<u8>, AllocError> {
 
 /// Whether there is no file of so many rows.
 fn is_no_count(alloc: Global, count: u32) -> Result<bool, AllocError> {
-    Ok(is_damaged(alloc, &file_of_dead(alloc, count)?))
+    Ok(is_damaged(alloc, Format::Live, &file_of_dead(alloc, count)?))
 }
 
 /// Whether there is a file of so many rows.
 fn is_count(alloc: Global, count: u32) -> Result<bool, Refusal> {
-    is_exact(alloc, &file_of_dead(alloc, count)?)
+    is_exact(alloc, Format::Live, &file_of_dead(alloc, count)?)
 }
 
 #[test]

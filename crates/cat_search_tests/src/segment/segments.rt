@@ -2,11 +2,11 @@
 ghost use Rattle.std.specs.Prelude.{All};
 ghost use Rattle.cat_model.specs.Item.{IsItem};
 
-use crate::segment::bytes::is_exact;
+use crate::segment::bytes::{Format, is_exact};
 use crate::segment::made::{FIELDS, made, made_of_texts, read_items};
 use crate::segment::matched::rows_matched;
 use crate::segment::thrown::{Dice, items, query_text};
-use crate::verdict::{expect, expect_yes};
+use crate::verdict::{expect, expect_none, expect_yes};
 use cat_base::{MAX_ROWS, Refusal};
 use cat_items::{Item, Schema};
 use cat_segment::cat_columns::SetColumn;
@@ -48,59 +48,75 @@ const COLORED: &[&str] = &[
     r#"{"id":"d"}"#,
 ];
 
-#[test]
-fn queries_match_rows_by_labels(rt: HostRuntime) -> Result<(), Fail> {
-    const ROWS: Rows<'static> = &[
-        ("*:*", &[0, 1, 2, 3]),
-        ("color:r*", &[0, 1]),
-        ("*:* -color:red", &[2, 3]),
-        ("-color:red", &[]),
-        ("+color:red color:blue", &[0, 1]),
-        ("color:blue", &[0, 2]),
-        ("+(*:* -color:red) -color:blue", &[3]),
-        ("color:green", &[]),
-        ("price:[* TO *]", &[]),
-    ];
-    expect_yes(are_rows_of(rt.alloc(), COLORED, ROWS))
+/// What a case shows, the texts of items, and queries with the rows that each matches.
+type Case = (&'static str, &'static [&'static str], Rows<'static>);
+
+const CASES: &[Case] = &[
+    (
+        "queries match rows by labels",
+        COLORED,
+        &[
+            ("*:*", &[0, 1, 2, 3]),
+            ("color:r*", &[0, 1]),
+            ("*:* -color:red", &[2, 3]),
+            ("-color:red", &[]),
+            ("+color:red color:blue", &[0, 1]),
+            ("color:blue", &[0, 2]),
+            ("+(*:* -color:red) -color:blue", &[3]),
+            ("color:green", &[]),
+            ("price:[* TO *]", &[]),
+        ],
+    ),
+    (
+        "queries match rows by numbers",
+        &[
+            r#"{"id":"a","price":7,"brand":"x"}"#,
+            r#"{"id":"b","brand":"y"}"#,
+            r#"{"id":"c","price":7}"#,
+            r#"{"id":"d","price":-3}"#,
+        ],
+        &[
+            ("price:7", &[0, 2]),
+            ("price:[* TO 0]", &[3]),
+            ("price:[-3 TO 7]", &[0, 2, 3]),
+            ("price:[3 TO -3]", &[]),
+            ("*:* -(-brand:x)", &[0, 1, 2, 3]),
+            ("(-brand:y)", &[]),
+            ("*:* -price:[* TO *]", &[1]),
+        ],
+    ),
+    (
+        "queries match rows by words and keywords",
+        &[
+            r#"{"id":"a","title":"Red-Shoe 42é","brand":"Acme"}"#,
+            r#"{"id":"b","title":"shoes","brand":"Zed"}"#,
+        ],
+        &[
+            ("title:RED", &[0]),
+            ("title:sho*", &[0, 1]),
+            ("title:42", &[]),
+            ("title:42é", &[0]),
+            ("+brand:[B TO *] title:red", &[1]),
+            ("brand:[* TO Acme]", &[0]),
+            ("brand:Z*", &[1]),
+            ("brand:zed", &[]),
+        ],
+    ),
+];
+
+/// The first case of which a query matches other rows.
+fn failing(alloc: Global, cases: &[Case]) -> Result<Option<&'static str>, Refusal> {
+    for &(name, texts, rows) in cases {
+        if !are_rows_of(alloc, texts, rows)? {
+            return Ok(Some(name));
+        }
+    }
+    Ok(None)
 }
 
 #[test]
-fn queries_match_rows_by_numbers(rt: HostRuntime) -> Result<(), Fail> {
-    const TEXTS: &[&str] = &[
-        r#"{"id":"a","price":7,"brand":"x"}"#,
-        r#"{"id":"b","brand":"y"}"#,
-        r#"{"id":"c","price":7}"#,
-        r#"{"id":"d","price":-3}"#,
-    ];
-    const ROWS: Rows<'static> = &[
-        ("price:7", &[0, 2]),
-        ("price:[* TO 0]", &[3]),
-        ("price:[-3 TO 7]", &[0, 2, 3]),
-        ("price:[3 TO -3]", &[]),
-        ("*:* -(-brand:x)", &[0, 1, 2, 3]),
-        ("(-brand:y)", &[]),
-        ("*:* -price:[* TO *]", &[1]),
-    ];
-    expect_yes(are_rows_of(rt.alloc(), TEXTS, ROWS))
-}
-
-#[test]
-fn queries_match_rows_by_words_and_keywords(rt: HostRuntime) -> Result<(), Fail> {
-    const TEXTS: &[&str] = &[
-        r#"{"id":"a","title":"Red-Shoe 42é","brand":"Acme"}"#,
-        r#"{"id":"b","title":"shoes","brand":"Zed"}"#,
-    ];
-    const ROWS: Rows<'static> = &[
-        ("title:RED", &[0]),
-        ("title:sho*", &[0, 1]),
-        ("title:42", &[]),
-        ("title:42é", &[0]),
-        ("+brand:[B TO *] title:red", &[1]),
-        ("brand:[* TO Acme]", &[0]),
-        ("brand:Z*", &[1]),
-        ("brand:zed", &[]),
-    ];
-    expect_yes(are_rows_of(rt.alloc(), TEXTS, ROWS))
+fn queries_match_rows(rt: HostRuntime) -> Result<(), Fail> {
+    expect_none(failing(rt.alloc(), CASES))
 }
 
 /// The ordinals of the row's labels; none where there is no such row.
@@ -232,7 +248,10 @@ fn is_read_so(
     dice: &mut Dice,
 ) -> Result<bool, Refusal> {
     let read = decode_seg(alloc, bytes)?;
-    Ok(is_exact(alloc, bytes)? && count_matched(alloc, &read, items, dice, 20)?.is_some())
+    Ok(
+        is_exact(alloc, Format::Segment, bytes)?
+            && count_matched(alloc, &read, items, dice, 20)?.is_some(),
+    )
 }
 
 /// Whether this holds of the bytes of the segment of so many items.

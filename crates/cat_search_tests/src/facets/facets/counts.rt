@@ -1,15 +1,14 @@
 //! Counts over views of worked rows, cut into segments in more ways than one, are those that a person worked out.
-ghost use Rattle.std.specs.Prelude.{◌<◌, IfOk, All};
-ghost use Rattle.cat_model.specs.Item.{IsItem};
+ghost use Rattle.std.specs.Prelude.{All};
 ghost use Rattle.cat_facets.specs.Kept.{KnowsIn};
 ghost use Rattle.cat_model.specs.View.{segments_of};
 
-use crate::verdict::{expect, expect_yes};
-use crate::views::{Put, PutText, are_in_order, read_put, sets_of, view_of, view_of_texts};
+use crate::verdict::expect_none;
+use crate::views::{PutText, sets_of, view_of_texts};
 use cat_base::Refusal;
 use cat_cached_sets::{Query, View};
 use cat_facets::cat_search::Prepared;
-use cat_facets::{FacetCount, Facets, ReaderState, ReaderStates};
+use cat_facets::{Facets, ReaderState, ReaderStates};
 use cat_items::Schema;
 use std::alloc::{AllocError, Global};
 use std::fmt::Write;
@@ -157,41 +156,8 @@ const COLORED: &[PutText<'static>] = &[
     (4, true, r#"{"id":"d"}"#),
 ];
 
-#[test]
-fn an_item_counts_once_for_each_of_its_labels(rt: HostRuntime) -> Result<(), Fail> {
-    const COUNTS: &[CountText<'static>] = &[
-        (9, "color", "*:*", "3 2: 2 blue, 2 red"),
-        (2, "color", "*:*", "3 2: 2 blue, 2 red"),
-        (1, "color", "*:*", "3 2: 2 blue"),
-        (0, "color", "*:*", "3 2"),
-        (9, "color", "-color:red", "0 0"),
-        (9, "color", "*:* -color:red", "1 1: 1 blue"),
-        (9, "color", "color:red", "2 2: 2 red, 1 blue"),
-        (1, "color", "color:red", "2 2: 2 red"),
-        (9, "color", "price:1", "0 0"),
-    ];
-    expect_yes(are_counts_by(rt.alloc(), COLORED, CUTS, COUNTS))
-}
-
 /// Four rows in one segment, in two, and each in one of its own.
 const CUTS: &[&[usize]] = &[&[4], &[1, 4], &[3, 4], &[1, 2, 3, 4]];
-
-#[test]
-fn the_dimension_is_judged_before_the_count(rt: HostRuntime) -> Result<(), Fail> {
-    const COUNTS: &[CountText<'static>] = &[
-        (9, "brand", "*:*", "NO 29"),
-        (9, "price", "*:*", "NO 29"),
-        (9, "title", "*:*", "NO 29"),
-        (9, "id", "*:*", "NO 29"),
-        (9, "size", "*:*", "NO 29"),
-        (9, "colo", "*:*", "NO 29"),
-        (1_001, "brand", "*:*", "NO 29"),
-        (1_001, "color", "*:*", "NO 25"),
-        (u64::MAX, "color", "price:1", "NO 25"),
-        (1_000, "color", "*:*", "3 2: 2 blue, 2 red"),
-    ];
-    expect_yes(are_counts(rt.alloc(), COLORED, &[2, 4], COUNTS))
-}
 
 /// The four items after one more that took the place of `a`, and a delete of `b`.
 const REPLACED: &[PutText<'static>] = &[
@@ -201,62 +167,6 @@ const REPLACED: &[PutText<'static>] = &[
     (4, true, r#"{"id":"d"}"#),
     (5, true, r#"{"id":"a","color":["red"]}"#),
 ];
-
-#[test]
-fn a_dead_row_is_not_counted(rt: HostRuntime) -> Result<(), Fail> {
-    const COUNTS: &[CountText<'static>] = &[
-        (9, "color", "*:*", "2 2: 1 blue, 1 red"),
-        (0, "color", "*:*", "2 2"),
-        (1_001, "color", "*:*", "NO 25"),
-        (9, "color", "color:red", "1 1: 1 red"),
-        (9, "color", "color:red color:blue", "2 2: 1 blue, 1 red"),
-    ];
-    expect_yes(are_counts_by(rt.alloc(), REPLACED, &[&[4, 5], &[2, 5]], COUNTS))
-}
-
-#[test]
-fn a_label_of_dead_rows_alone_is_not_met(rt: HostRuntime) -> Result<(), Fail> {
-    const ROWS: &[PutText<'static>] = &[
-        (1, true, r#"{"id":"a","color":["red"]}"#),
-        (2, false, r#"{"id":"b","color":["blue"]}"#),
-    ];
-    const COUNTS: &[CountText<'static>] = &[
-        (9, "color", "*:*", "1 1: 1 red"),
-        (9, "color", "color:blue", "0 0"),
-    ];
-    expect_yes(are_counts_by(rt.alloc(), ROWS, &[&[2], &[1, 2]], COUNTS))
-}
-
-#[test]
-fn ties_go_by_the_bytes_of_labels(rt: HostRuntime) -> Result<(), Fail> {
-    const ROWS: &[PutText<'static>] = &[
-        (1, true, r#"{"id":"a","color":["é","b","z"],"price":1}"#),
-        (2, true, r#"{"id":"b","color":["a","z"],"price":2}"#),
-        (3, true, r#"{"id":"c","color":["B","ab"],"price":3}"#),
-        (4, true, r#"{"id":"d","color":["z","ab","A"],"price":4}"#),
-    ];
-    const COUNTS: &[CountText<'static>] = &[
-        (9, "color", "*:*", "4 7: 3 z, 2 ab, 1 A, 1 B, 1 a, 1 b, 1 é"),
-        (4, "color", "*:*", "4 7: 3 z, 2 ab, 1 A, 1 B"),
-        (9, "color", "price:[1 TO 2]", "2 4: 2 z, 1 a, 1 b, 1 é"),
-        (9, "color", "price:3", "1 2: 1 B, 1 ab"),
-        (1, "color", "price:[3 TO *]", "2 4: 2 ab"),
-    ];
-    expect_yes(are_counts_by(rt.alloc(), ROWS, CUTS, COUNTS))
-}
-
-#[test]
-fn a_view_without_rows_has_no_labels(rt: HostRuntime) -> Result<(), Fail> {
-    const COUNTS: &[CountText<'static>] = &[
-        (9, "color", "*:*", "0 0"),
-        (1_000, "color", "*:*", "0 0"),
-        (1_001, "color", "*:*", "NO 25"),
-        (1_001, "brand", "*:*", "NO 29"),
-    ];
-    const KILLED: &[PutText<'static>] = &[(5, false, r#"{"id":"a","color":["red"]}"#)];
-    let alloc = rt.alloc();
-    expect(are_counts(alloc, &[], &[], COUNTS)? && are_counts(alloc, KILLED, &[1], COUNTS)?)
-}
 
 /// Nine items with one color, one with another, and two that were killed: all hits are most rows of a segment, and one color's
 /// are few.
@@ -275,19 +185,6 @@ const MOSTLY_RED: &[PutText<'static>] = &[
     (12, true, r#"{"id":"k","color":["red"]}"#),
 ];
 
-#[test]
-fn most_rows_and_few_rows_are_counted_alike(rt: HostRuntime) -> Result<(), Fail> {
-    const COUNTS: &[CountText<'static>] = &[
-        (9, "color", "*:*", "9 2: 9 red, 1 blue"),
-        (9, "color", "color:red", "9 2: 9 red, 1 blue"),
-        (9, "color", "color:blue", "1 2: 1 blue, 1 red"),
-        (9, "color", "*:* -color:blue", "8 1: 8 red"),
-        (9, "color", "*:* -color:red", "0 0"),
-    ];
-    const ENDS: &[&[usize]] = &[&[12], &[4, 12], &[11, 12]];
-    expect_yes(are_counts_by(rt.alloc(), MOSTLY_RED, ENDS, COUNTS))
-}
-
 /// Nine items: the first two are dead, of the next three one is, and of the last four all but one. Some have two colors, some
 /// have none.
 const MOSTLY_DEAD: &[PutText<'static>] = &[
@@ -302,114 +199,150 @@ const MOSTLY_DEAD: &[PutText<'static>] = &[
     (9, false, r#"{"id":"i"}"#),
 ];
 
-#[test]
-fn everything_is_counted_alike_when_it_is_asked_again(rt: HostRuntime) -> Result<(), Fail> {
-    const COUNTS: &[CountText<'static>] = &[
-        (9, "color", "*:*", "2 3: 2 red, 1 blue, 1 white"),
-        (9, "color", "*:*", "2 3: 2 red, 1 blue, 1 white"),
-        (9, "color", "color:blue", "1 2: 1 blue, 1 red"),
-        (1, "color", "+*:*", "2 3: 2 red"),
-        (9, "color", "*:* -color:blue", "1 2: 1 red, 1 white"),
-        (0, "color", "*:*", "2 3"),
-        (9, "color", "-*:*", "0 0"),
-    ];
-    const ENDS: &[&[usize]] = &[&[9], &[2, 5, 9], &[1, 2, 3, 4, 5, 6, 7, 8, 9]];
-    expect_yes(are_counts_by(rt.alloc(), MOSTLY_DEAD, ENDS, COUNTS))
-}
+/// What a case shows, the rows, each way to cut them into segments, and the FACETS.
+type Case = (
+    &'static str,
+    &'static [PutText<'static>],
+    &'static [&'static [usize]],
+    &'static [CountText<'static>],
+);
 
-/// The text of an item with 60 colors, which are the numbers from this one on.
-fn sixty_colors(alloc: Global, id: u64, first: u64) -> Result<String, AllocError>
-    requires { first < 3000 }
-{
-    let mut text = format!(in alloc; "{{\"id\":\"{id}\",\"color\":[\"{first}\"")?;
-    for color in first + 1..first + 60 {
-        write!(text, ",\"{color}\"")?;
-    }
-    text.push_str("]}")?;
-    Ok(text)
-}
+const CASES: &[Case] = &[
+    (
+        "an item counts once for each of its labels",
+        COLORED,
+        CUTS,
+        &[
+            (9, "color", "*:*", "3 2: 2 blue, 2 red"),
+            (2, "color", "*:*", "3 2: 2 blue, 2 red"),
+            (1, "color", "*:*", "3 2: 2 blue"),
+            (0, "color", "*:*", "3 2"),
+            (9, "color", "-color:red", "0 0"),
+            (9, "color", "*:* -color:red", "1 1: 1 blue"),
+            (9, "color", "color:red", "2 2: 2 red, 1 blue"),
+            (1, "color", "color:red", "2 2: 2 red"),
+            (9, "color", "price:1", "0 0"),
+        ],
+    ),
+    (
+        "the dimension is judged before the count",
+        COLORED,
+        &[&[2, 4]],
+        &[
+            (9, "brand", "*:*", "NO 29"),
+            (9, "price", "*:*", "NO 29"),
+            (9, "title", "*:*", "NO 29"),
+            (9, "id", "*:*", "NO 29"),
+            (9, "size", "*:*", "NO 29"),
+            (9, "colo", "*:*", "NO 29"),
+            (1_001, "brand", "*:*", "NO 29"),
+            (1_001, "color", "*:*", "NO 25"),
+            (u64::MAX, "color", "price:1", "NO 25"),
+            (1_000, "color", "*:*", "3 2: 2 blue, 2 red"),
+        ],
+    ),
+    (
+        "a dead row is not counted",
+        REPLACED,
+        &[&[4, 5], &[2, 5]],
+        &[
+            (9, "color", "*:*", "2 2: 1 blue, 1 red"),
+            (0, "color", "*:*", "2 2"),
+            (1_001, "color", "*:*", "NO 25"),
+            (9, "color", "color:red", "1 1: 1 red"),
+            (9, "color", "color:red color:blue", "2 2: 1 blue, 1 red"),
+        ],
+    ),
+    (
+        "a label of dead rows alone is not met",
+        &[
+            (1, true, r#"{"id":"a","color":["red"]}"#),
+            (2, false, r#"{"id":"b","color":["blue"]}"#),
+        ],
+        &[&[2], &[1, 2]],
+        &[
+            (9, "color", "*:*", "1 1: 1 red"),
+            (9, "color", "color:blue", "0 0"),
+        ],
+    ),
+    (
+        "ties go by the bytes of labels",
+        &[
+            (1, true, r#"{"id":"a","color":["é","b","z"],"price":1}"#),
+            (2, true, r#"{"id":"b","color":["a","z"],"price":2}"#),
+            (3, true, r#"{"id":"c","color":["B","ab"],"price":3}"#),
+            (4, true, r#"{"id":"d","color":["z","ab","A"],"price":4}"#),
+        ],
+        CUTS,
+        &[
+            (9, "color", "*:*", "4 7: 3 z, 2 ab, 1 A, 1 B, 1 a, 1 b, 1 é"),
+            (4, "color", "*:*", "4 7: 3 z, 2 ab, 1 A, 1 B"),
+            (9, "color", "price:[1 TO 2]", "2 4: 2 z, 1 a, 1 b, 1 é"),
+            (9, "color", "price:3", "1 2: 1 B, 1 ab"),
+            (1, "color", "price:[3 TO *]", "2 4: 2 ab"),
+        ],
+    ),
+    (
+        "a view without segments has no labels",
+        &[],
+        &[&[]],
+        &[
+            (9, "color", "*:*", "0 0"),
+            (1_000, "color", "*:*", "0 0"),
+            (1_001, "color", "*:*", "NO 25"),
+            (1_001, "brand", "*:*", "NO 29"),
+        ],
+    ),
+    (
+        "a view of dead rows has no labels",
+        &[(5, false, r#"{"id":"a","color":["red"]}"#)],
+        &[&[1]],
+        &[
+            (9, "color", "*:*", "0 0"),
+            (1_000, "color", "*:*", "0 0"),
+            (1_001, "color", "*:*", "NO 25"),
+            (1_001, "brand", "*:*", "NO 29"),
+        ],
+    ),
+    (
+        "most rows and few rows are counted alike",
+        MOSTLY_RED,
+        &[&[12], &[4, 12], &[11, 12]],
+        &[
+            (9, "color", "*:*", "9 2: 9 red, 1 blue"),
+            (9, "color", "color:red", "9 2: 9 red, 1 blue"),
+            (9, "color", "color:blue", "1 2: 1 blue, 1 red"),
+            (9, "color", "*:* -color:blue", "8 1: 8 red"),
+            (9, "color", "*:* -color:red", "0 0"),
+        ],
+    ),
+    (
+        "everything is counted alike when it is asked again",
+        MOSTLY_DEAD,
+        &[&[9], &[2, 5, 9], &[1, 2, 3, 4, 5, 6, 7, 8, 9]],
+        &[
+            (9, "color", "*:*", "2 3: 2 red, 1 blue, 1 white"),
+            (9, "color", "*:*", "2 3: 2 red, 1 blue, 1 white"),
+            (9, "color", "color:blue", "1 2: 1 blue, 1 red"),
+            (1, "color", "+*:*", "2 3: 2 red"),
+            (9, "color", "*:* -color:blue", "1 2: 1 red, 1 white"),
+            (0, "color", "*:*", "2 3"),
+            (9, "color", "-*:*", "0 0"),
+        ],
+    ),
+];
 
-/// The row of this number with 60 colors: those of the first 20 are the numbers from 1000 on, and the one after them has the
-/// last 60 of these.
-fn colored_put(alloc: Global, schema: &Schema, number: u64) -> Result<Put, Refusal>
-    requires { number < 22 }
-    ensures { IfOk result (λ p. IsItem schema.now p.item) }
-{
-    let first = if number < 21 {
-        940 + number * 60
-    } else {
-        2_140
-    };
-    let text = sixty_colors(alloc, number, first)?;
-    read_put(alloc, schema, (number, true, text.as_str()))
-}
-
-/// The rows of 20 items with 60 colors each, from 1000 on, and of one more with the last 60 of them.
-fn colored_puts(alloc: Global, schema: &Schema) -> Result<Vec<Put>, Refusal>
-    ensures { IfOk result (λ v. All (λ p. IsItem schema.now p.item) v.items) }
-{
-    let mut puts = Vec::new(alloc);
-    for number in 1..22 {
-        puts.push(colored_put(alloc, schema, number)?)?;
-    }
-    Ok(puts)
-}
-
-/// The color that stands there: the 60 that two items have, then the others.
-fn color_at(place: usize) -> usize {
-    if place < 60 {
-        2_140 + place
-    } else {
-        place.saturating_add(940)
-    }
-}
-
-/// Whether the count is that of the color that stands there.
-fn is_color(alloc: Global, place: usize, each: &FacetCount) -> Result<bool, AllocError> {
-    let color = format!(in alloc; "{}", color_at(place))?;
-    let count = if place < 60 { 2 } else { 1 };
-    Ok(each.label() == color.as_str() && each.count() == count)
-}
-
-/// Whether these are the counts of the colors, as far as they go.
-fn are_colors(alloc: Global, counts: &[FacetCount]) -> Result<bool, AllocError> {
-    for (place, each) in counts.iter().enumerate() {
-        if !is_color(alloc, place, each)? {
-            return Ok(false);
+/// The first case of which a FACETS is answered otherwise.
+fn failing(alloc: Global, cases: &[Case]) -> Result<Option<&'static str>, Refusal> {
+    for &(name, rows, cuts, counts) in cases {
+        if !are_counts_by(alloc, rows, cuts, counts)? {
+            return Ok(Some(name));
         }
     }
-    Ok(true)
-}
-
-/// Whether these are the first 1,000 counts of the 21 items.
-fn are_thousand(alloc: Global, facets: &Facets) -> Result<bool, AllocError> {
-    Ok(
-        facets.matching() == 21
-            && facets.met() == 1_200
-            && facets.counts().len() == 1_000
-            && are_colors(alloc, facets.counts())?,
-    )
-}
-
-/// The view of the 21 items; [`Refusal::Damaged`] where they are no rows of one.
-fn colored_view(alloc: Global) -> Result<View, Refusal> {
-    let schema = Schema::read(alloc, FIELDS)?;
-    let puts = colored_puts(alloc, &schema)?;
-    if !are_in_order(&puts) {
-        return Err(Refusal::Damaged);
-    }
-    view_of(alloc, &schema, &puts, &[8, puts.len()])
-}
-
-/// What is answered where so many counts are asked for at most.
-fn colors_of(alloc: Global, view: &View, n: u64) -> Result<Facets, Refusal> {
-    counts_of(alloc, view, &(n, "color", "*:*", ""))
+    Ok(None)
 }
 
 #[test]
-fn a_thousand_counts_are_told_and_no_more(rt: HostRuntime) -> Result<(), Fail> {
-    let view = colored_view(rt.alloc())?;
-    let facets = colors_of(rt.alloc(), &view, 1_000)?;
-    let more = answer_text(rt.alloc(), &colors_of(rt.alloc(), &view, 1_001))?;
-    expect(more.as_str() == "NO 25" && are_thousand(rt.alloc(), &facets)?)
+fn counts_are_those_that_a_person_worked_out(rt: HostRuntime) -> Result<(), Fail> {
+    expect_none(failing(rt.alloc(), CASES))
 }
