@@ -1,33 +1,38 @@
 #!/usr/bin/env python3
 """Measures what threads bring: the pace of `run` and of `run --threads`, by turns, and how long a FIND waits beside a merge.
 
-threads.py PROGRAM [--threads 4] [--items 100000] [--lines 200000] [--rounds 5] [--folder DIR] [--part paces|writer|wait]
+threads.py PROGRAM [--threads 4] [--items 100000] [--lines 200000] [--rounds 5] [--seconds 6] [--folder DIR] [--part PART ..]
 
-Times are the wall's, since it is more than one processor that is asked for: the machine has to be quiet. In the table of paces the
-program reads a file and writes to nowhere, so that nobody else takes a processor; what it takes for the same file without the lines
-is taken off. Beside a writer this script speaks over pipes, which takes most of a processor.
+Times are the wall's, since it is more than one processor that is asked for: the machine has to be quiet. In the parts `paces` and
+`writer` the program reads a file and writes to nowhere, so that nobody else takes a processor; what it takes for the same file
+without the lines is taken off.
 """
 
 import argparse
+import json
 import os
 import random
-import re
-import selectors
 import shutil
 import statistics
 import subprocess
 import sys
 import tempfile
+import threading
 import time
+from pathlib import Path
 
 from items import COLORS, SCHEMA, Shop
+
+sys.path.insert(0, str(Path(__file__).resolve().parent.parent / "clients" / "python"))
+import jasminedome  # noqa: E402
 
 SCHEMA_LINE = f"SCHEMA 10 1000 {SCHEMA}"
 PAGE = 20
 CHUNK = 1024
 SESSIONS = (1, 2, 3, 4)
 WRITER = 5  # with five threads it shares none with those that read
-WINDOW = 256  # lines of a session that are on their way at once
+MIXES = ((2.8, 0.7), (3.1, 0.6), (2.4, 0.8))  # FINDs in times one thread alone, and the writer's lines in times its pace alone
+CALLERS = 8  # threads of the client
 LARGEST = 262_144  # rows of the largest segment
 
 
@@ -42,7 +47,7 @@ def load_lines(shop, count, tidies=True):
 
 
 def clause(rng, shop):
-    """A query of a shop's page: two words, a color or two, and a range of prices."""
+    """A query of a shop's page: a word of its titles, two colors, and a range of prices."""
     low = rng.randrange(500, 4000)
     colors = " ".join(f"color:{each}" for each in rng.sample(COLORS[:8], 2))
     return f"+title:{shop.pick(shop.words[:60])} +({colors}) +price:[{low} TO {4 * low}]"
@@ -74,7 +79,7 @@ class Room:
         self.seconds([], load_lines(Shop(1), items), self.loaded)
         self.token = items
 
-    def seconds(self, words, lines, folder=None):
+    def seconds(self, words, lines, folder=None, told=subprocess.DEVNULL):
         """How long the program takes for the lines, read from a file."""
         place = folder or shutil.copytree(self.loaded, os.path.join(self.at, "copy"))
         said = os.path.join(self.at, "lines")
@@ -82,16 +87,27 @@ class Room:
             out.write("\n".join([SCHEMA_LINE, *lines]) + "\n")
         with open(said, "rb") as inp:
             begin = time.perf_counter()
-            subprocess.run([self.program, "run", *words, place], stdin=inp, stdout=subprocess.DEVNULL, check=True)
+            subprocess.run([self.program, "run", *words, place], stdin=inp, stdout=told, check=True)
             took = time.perf_counter() - begin
         if not folder:
             shutil.rmtree(place)
         return took
 
+    def replies(self, words, lines):
+        """What the program tells, by lines. None may be a refusal."""
+        with tempfile.TemporaryFile(dir=self.at) as told:
+            self.seconds(words, lines, told=told)
+            told.seek(0)
+            replies = told.read().splitlines()
+        for reply in replies:
+            if b" NO " in reply[:8] or reply.startswith(b"NO"):
+                raise SystemExit(f"threads: a line was answered {reply!r}")
+        return replies
+
 
 def paces(asked, room):
     """The table of paces: lines a second, in the middle of the rounds."""
-    rng, shop = random.Random(5), Shop(2)
+    rng, shop = random.Random(5), Shop(1)
     kinds = {"run": [], "--threads 1": ["--threads", "1"], f"--threads {asked.threads}": ["--threads", str(asked.threads)]}
     some = len(SESSIONS)
     rows = {
@@ -144,85 +160,71 @@ class Talk:
                 raise SystemExit(f"threads: '{line[:60]}' was answered {reply!r}")
         return reply
 
-    def keep_going(self, makers, seconds):
-        """Keeps so many lines of each session on their way for some seconds; answers how many of each were answered a second."""
-        os.set_blocking(self.inp, False)
-        marks = {session: re.compile(rb"(?m)^%d OK" % session) for session in makers}
-        away = dict.fromkeys(makers, 0)
-        answered = dict.fromkeys(makers, 0)
-        waiting, last = bytearray(), b""
-        ready = selectors.DefaultSelector()
-        ready.register(self.out, selectors.EVENT_READ)
-        begin = time.perf_counter()
-        while (spent := time.perf_counter() - begin) < seconds or any(away.values()):
-            if spent < seconds and len(waiting) < 1 << 16:
-                for session, make in makers.items():
-                    while away[session] < WINDOW:
-                        waiting += make()
-                        away[session] += 1
-            if waiting:
-                try:
-                    del waiting[: os.write(self.inp, waiting)]
-                except BlockingIOError:
-                    pass
-            if not ready.select(0.0005):
-                continue
-            data = last + os.read(self.out, 1 << 20)
-            whole, _, last = data.rpartition(b"\n")
-            for session, mark in marks.items():
-                count = len(mark.findall(whole))
-                away[session] -= count
-                answered[session] += count * (spent < seconds)
-        os.set_blocking(self.inp, True)
-        return {session: count / seconds for session, count in answered.items()}
-
     def end(self):
         self.child.stdin.close()
         self.child.wait()
 
 
+def writer_lines(shop, rng, items, count):
+    """So many lines of the writer, each eleventh a REFRESH."""
+    return [f"{WRITER} REFRESH" if n % 11 == 10 else f"{WRITER} PUT {shop.text(rng.randrange(items))}" for n in range(count)]
+
+
+def mixed(some, others):
+    """Both lists in one, each spread evenly over it."""
+    places = [((n + 0.5) / len(lines), line) for lines in (some, others) for n, line in enumerate(lines)]
+    return [line for _, line in sorted(places, key=lambda each: each[0])]
+
+
+def pace_of(room, words, opens, lines, seconds):
+    """How many of the lines a second the program answers, over about so many seconds, and what it takes for none."""
+    none, count = room.seconds(words, opens), 1_000
+    while True:
+        took = room.seconds(words, opens + lines[:count]) - none
+        if took > seconds / 2 or count == len(lines):
+            return count / took, none
+        count = min(len(lines), int(count * min(16, seconds / max(took, 0.001))))
+
+
+def look(replies):
+    """Says how evenly FINDs and the writer's lines were answered beside each other."""
+    heads = [reply.startswith(b"%d " % WRITER) for reply in replies if reply[1:5] == b" OK "]
+    last = {kind: len(heads) - heads[::-1].index(kind) for kind in (False, True)}
+    behind = max(sum(kind != other for other in heads[end:]) / sum(kind != other for other in heads) for kind, end in last.items())
+    print(f"behind the last line of one kind came at most {100 * behind:.1f} % of the other's")
+
+
 def beside_writer(asked, room):
-    """FIND by clauses from four sessions, on one thread and alone, and beside a session that writes and refreshes all the time."""
-    rng, shop = random.Random(6), Shop(3)
+    """FIND by clauses from four sessions, beside a session that writes and refreshes all the time.
+
+    The file has both kinds of lines, each spread evenly over it: as many as one thread alone answers in some time, times 2.8 say, and
+    as many as the writer alone says in it, times 0.7. Where the program takes less for them, it is faster than that.
+    """
+    rng, shop = random.Random(6), Shop(1)
+    words = ["--threads", str(asked.threads + 1)]
+    # By their token, since the writer may have recorded newer views before.
+    opens = [f"{session} OPEN {room.token}" for session in SESSIONS]
+    finds = find_lines(SESSIONS, room.token, 40_000 * asked.seconds, lambda: clause(rng, shop))
+    writes = writer_lines(shop, rng, room.items, 40_000 * asked.seconds)
     found = {}
-
-    def finds(session):
-        queries = [f"{session} FIND {room.token} 1 +price . {clause(rng, shop)}\n".encode() for _ in range(512)]
-        return lambda: rng.choice(queries)
-
-    def writes():
-        texts = [shop.text(rng.randrange(room.items)) for _ in range(512)]
-        number = 0
-
-        def make():
-            nonlocal number
-            number += 1
-            return b"%d REFRESH\n" % WRITER if number % 11 == 0 else f"{WRITER} PUT {rng.choice(texts)}\n".encode()
-
-        return make
-
-    readers = {session: finds(session) for session in SESSIONS}
-    runs = {
-        "run": ([], [("FIND", readers)]),
-        f"--threads {asked.threads + 1}": (["--threads", str(asked.threads + 1)], [("FIND", readers), ("write", {WRITER: writes()}), ("both", {**readers, WRITER: writes()})]),
-    }
     for _ in range(asked.rounds):
-        for kind, (words, phases) in runs.items():
-            place = shutil.copytree(room.loaded, os.path.join(room.at, "copy"))
-            talk = Talk([room.program, "run", *words, place])
-            talk.ask(*(f"{session} OPEN" for session in SESSIONS))
-            for phase, makers in phases:
-                pace = talk.keep_going(makers, 3)
-                found.setdefault((kind, phase, "FIND"), []).append(sum(pace.get(session, 0) for session in SESSIONS))
-                found.setdefault((kind, phase, "write"), []).append(pace.get(WRITER, 0))
-            talk.end()
-            shutil.rmtree(place)
-    threaded = f"--threads {asked.threads + 1}"
-    middle = {key: statistics.median(paces) for key, paces in found.items()}
-    alone, side, both = middle["run", "FIND", "FIND"], middle[threaded, "FIND", "FIND"], middle[threaded, "both", "FIND"]
-    pen, beside = middle[threaded, "write", "write"], middle[threaded, "both", "write"]
-    print(f"FIND by clauses from {len(SESSIONS)} sessions, a second: run {alone:,.0f}; {threaded} {side:,.0f} ({side / alone:.2f}); beside a writer {both:,.0f} ({both / alone:.2f})")
-    print(f"the writer's lines, a second: alone {pen:,.0f}; beside them {beside:,.0f} ({beside / pen:.2f})")
+        one, _ = pace_of(room, [], opens, finds, asked.seconds)
+        four, _ = pace_of(room, words, opens, finds, asked.seconds)
+        pen, none = pace_of(room, words, opens, writes, asked.seconds)
+        found.setdefault("alone", []).append((one, four, pen))
+        for readers, writer in MIXES:
+            said = mixed(finds[: int(readers * one * asked.seconds)], writes[: int(writer * pen * asked.seconds)])
+            if not found.get((readers, writer)) and (readers, writer) == MIXES[0]:
+                look(room.replies(words, opens + said))
+            found.setdefault((readers, writer), []).append(asked.seconds / (room.seconds(words, opens + said) - none))
+    one, four, pen = (statistics.median(each) for each in zip(*found["alone"]))
+    print(f"FIND by clauses from {len(SESSIONS)} sessions, a second: run {one:,.0f}; {' '.join(words)} {four:,.0f} ({four / one:.2f})")
+    print(f"the writer's lines by {' '.join(words)}, a second: {pen:,.0f}")
+    for readers, writer in MIXES:
+        times = found[readers, writer]
+        middle = statistics.median(times)
+        print(f"both, mixed as {readers} and {writer}: {readers * middle:.2f} times FIND by run, and {writer * middle:.2f} times the writer alone")
+        print(f"  in the rounds {', '.join(f'{readers * each:.2f} and {writer * each:.2f}' for each in times)}")
 
 
 def longest_wait(asked, room):
@@ -261,6 +263,46 @@ def longest_wait(asked, room):
         print(f"FIND {query} beside it: {len(found)} times, the longest wait {1000 * max(found):.1f} ms, in the middle {1000 * statistics.median(found):.2f} ms")
 
 
+def clients(asked, room):
+    """FIND by the Python client, from one of its threads and from eight, by one thread of the program and by more."""
+    rng, shop = random.Random(7), Shop(1)
+    rows = {
+        "everything by price": (8_000, lambda: "*:*"),
+        "by clauses": (4_000, lambda: clause(rng, shop)),
+        "any of twenty words": (2_000, lambda: " ".join(f"title:{word}" for word in rng.sample(shop.words[:200], 20))),
+        "any of sixty words": (1_000, lambda: " ".join(f"title:{word}" for word in rng.sample(shop.words[:200], 60))),
+    }
+    kinds = {"run": None, f"--threads {asked.threads}": asked.threads}
+    found = {}
+    for _ in range(asked.rounds):
+        for kind, threads in kinds.items():
+            place = shutil.copytree(room.loaded, os.path.join(room.at, "copy"))
+            with jasminedome.Catalogue(json.loads(SCHEMA), place, 10, 1000, room.program, threads=threads) as catalogue:
+                for row, (count, query) in rows.items():
+                    for callers in (1, CALLERS):
+                        pace = calls(catalogue, [query() for _ in range(count)], callers)
+                        found.setdefault((f"`find` {row}, by {'one thread' if callers == 1 else f'{callers} threads'} of the client", kind), []).append(pace)
+            shutil.rmtree(place)
+    show(found, kinds, f"a second, in the middle of {asked.rounds} rounds")
+
+
+def calls(catalogue, queries, callers):
+    """How many calls of `find` a second so many threads of the client make, each with a view and queries of its own."""
+
+    def work(mine):
+        with catalogue.open() as view:
+            for query in mine:
+                view.find(query, "+price", count=PAGE)
+
+    workers = [threading.Thread(target=work, args=(queries[n::callers],)) for n in range(callers)]
+    begin = time.perf_counter()
+    for worker in workers:
+        worker.start()
+    for worker in workers:
+        worker.join()
+    return len(queries) / (time.perf_counter() - begin)
+
+
 def main():
     parser = argparse.ArgumentParser("threads.py", description=__doc__.split("\n", maxsplit=1)[0])
     parser.add_argument("program")
@@ -268,15 +310,16 @@ def main():
     parser.add_argument("--items", type=int, default=100_000)
     parser.add_argument("--lines", type=int, default=200_000)
     parser.add_argument("--rounds", type=int, default=5)
+    parser.add_argument("--seconds", type=int, default=6)
     parser.add_argument("--folder")
-    parts = {"paces": paces, "writer": beside_writer, "wait": longest_wait}
-    parser.add_argument("--part", choices=parts)
+    parts = {"paces": paces, "writer": beside_writer, "wait": longest_wait, "client": clients}
+    parser.add_argument("--part", choices=parts, action="append")
     asked = parser.parse_args()
     at = tempfile.mkdtemp(dir=asked.folder)
     try:
         room = Room(asked.program, at, asked.items)
         for name, part in parts.items():
-            if asked.part in (None, name):
+            if name in (asked.part or parts):
                 part(asked, room)
     finally:
         shutil.rmtree(at)

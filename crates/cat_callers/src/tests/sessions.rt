@@ -1,9 +1,31 @@
-//! What sessions share, or hand to other threads.
-use cat_directory::MemoryDirectory;
-use cat_threads::Write;
-use cat_threads::cat_commands::cat_ledger::Ledger;
+//! Two sessions in threads of their own over one folder, which write, refresh, open, read off the lock and close.
+ghost use Rattle.std.specs.Prelude.{◌≡◌, [], true};
+ghost use Rattle.cat_threads.specs.cat_commands.cat_ledger.Ledgers.{shape_in};
+ghost use Rattle.cat_threads.specs.service.Passes.{all_different, seated_by};
+ghost use Rattle.cat_threads.specs.sharing.Grounds.{ground_of};
+
+use crate::tests::{FIELDS, item_text};
+use crate::threads::Resting;
+use cat_base::{Refusal, SessionNo, WriteNo};
+use cat_directory::{Directory, Folder, FolderShelf, MemoryDirectory, Shelf};
+use cat_items::Schema;
 use cat_threads::cat_commands::cat_ledger::cat_ledger_state::Hold;
+use cat_threads::cat_commands::cat_ledger::upkeep::MergePolicy;
+use cat_threads::cat_commands::cat_ledger::{Grant, Ledger};
+use cat_threads::running::{Caller, run_threads};
+use cat_threads::{Begun, Naming, Pass, Service, Write};
+use std::alloc::{AllocError, Global};
+use std::fs;
+use std::marker::Brand;
+use std::process::Abort;
+use std::sync::Wait;
+use std::sync::atomic::{AtomicU64, Ordering};
 use std::test::*;
+use std::thread::Threads;
+use std::time::Clock;
+
+/// How many writes each session makes.
+const EACH: u64 = 100;
 
 fn goes<T: Send>() {}
 
@@ -13,4 +35,259 @@ fn what_is_shared_may_go_to_other_threads() -> Result<(), Fail> {
     goes::<Write>();
     goes::<Ledger<MemoryDirectory>>();
     Ok(())
+}
+
+#[test]
+fn two_sessions_write_side_by_side(rt: HostRuntime) -> Result<(), Fail> {
+    let alloc = rt.alloc();
+    let path = "two_sessions_test";
+    let _ = fs::remove_dir_all(&rt, path);
+    fs::create_dir(&rt, path)?;
+    let folder = Folder::at(rt.clone()?, alloc, path)?;
+    let one = FolderShelf::at(rt.clone()?, alloc, path)?;
+    let two = FolderShelf::at(rt.clone()?, alloc, path)?;
+    let schema = Schema::read(alloc, FIELDS)?;
+    let mine = schema.copy()?;
+    let policy = MergePolicy::of(10, 1000).ok_or("policy")?;
+    let Ok(begun) = Begun::open(alloc, folder, schema, policy) else {
+        return Err("open".into());
+    };
+    run_two::<Brand, _, _, _>(&rt, alloc, &mine, begun, [1, 2], one, two)?;
+    Ok(fs::remove_dir_all(&rt, path)?)
+}
+
+/// Lets the two sessions work, each in a thread and with a shelf of its own, and counts what they wrote.
+fn run_two<
+    J: Naming + Send + Sync,
+    D: Directory + Shelf + Drop + Send,
+    S: Shelf + Drop + Send,
+    R: Threads + Wait + Clock + Abort + Sync,
+>(
+    rt: &R,
+    alloc: Global,
+    schema: &Schema,
+    begun: Begun<D>,
+    sessions: [SessionNo; 2],
+    first: S,
+    second: S,
+) -> Result<(), Fail>
+    requires names { (begun.table ≡ J.table) × (J.from ≡ ground_of (shape_in begun.ledger)) × (J.sessions ≡ seated_by [] sessions) }
+    requires different { all_different sessions ≡ true }
+{
+    let Ok((service, passes)) = Service::<D, J>::new(alloc, begun, &sessions) else {
+        return Err("memory".into());
+    };
+    let right = AtomicU64::new(0);
+    let shelves = (first, second);
+    let Some(passes) = side_by_side(rt, alloc, &service, schema, passes, shelves, &right) else {
+        return Err("threads".into());
+    };
+    let count = service.finish(rt, passes).count();
+    assert!(rt; right.load(Ordering::SeqCst) == 2 && count == 2 * EACH);
+    Ok(())
+}
+
+/// A session that writes and reads, and counts itself once all went as it should.
+#[derive(Drop)]
+struct Working<'a, S: Shelf + Drop> {
+    alloc: Global,
+    schema: &'a Schema,
+    shelf: S,
+    right: &'a AtomicU64,
+}
+
+impl<'a, S: Shelf + Drop> Working<'a, S> {
+    fn new(alloc: Global, schema: &'a Schema, shelf: S, right: &'a AtomicU64) -> Working<'a, S> {
+        Working {
+            alloc,
+            schema,
+            shelf,
+            right,
+        }
+    }
+}
+
+impl<'a, D: Directory + Shelf, J: Naming, S: Shelf + Drop, R: Wait> Caller<D, J, R>
+    for Working<'a, S> {
+    fn call(self, rt: &R, service: &Service<D, J>, me: &mut Pass<J>) {
+        let Working {
+            alloc,
+            schema,
+            mut shelf,
+            right,
+        } = self;
+        if work(rt, alloc, service, schema, me, &mut shelf) {
+            right.fetch_add(1, Ordering::SeqCst);
+        }
+    }
+}
+
+/// The two sessions of the passes, each with a shelf.
+fn seated<'a, J: Naming, S: Shelf + Drop>(
+    alloc: Global,
+    schema: &'a Schema,
+    passes: Vec<Pass<J>>,
+    shelves: (S, S),
+    right: &'a AtomicU64,
+) -> Result<Vec<(Pass<J>, Working<'a, S>)>, AllocError> {
+    let mut passes = passes;
+    let (Some(second), Some(first)) = (passes.pop(), passes.pop()) else {
+        return Err(AllocError);
+    };
+    let (one, two) = shelves;
+    let mut jobs = Vec::with_capacity(alloc, 2)?;
+    jobs.push((first, Working::new(alloc, schema, one, right)))?;
+    jobs.push((second, Working::new(alloc, schema, two, right)))?;
+    Ok(jobs)
+}
+
+/// Runs both, with a merger and a warmer beside them, and then they tell each other what they have seen.
+fn side_by_side<
+    J: Naming + Send + Sync,
+    D: Directory + Shelf + Drop + Send,
+    S: Shelf + Drop + Send,
+    R: Threads + Wait + Clock + Sync,
+>(
+    rt: &R,
+    alloc: Global,
+    service: &Service<D, J>,
+    schema: &Schema,
+    passes: Vec<Pass<J>>,
+    shelves: (S, S),
+    right: &AtomicU64,
+) -> Option<Vec<Pass<J>>> {
+    let Ok(jobs) = seated(alloc, schema, passes, shelves, right) else {
+        return None;
+    };
+    let merging = Resting::new(rt);
+    match run_threads(rt, alloc, service, jobs, merging, Resting::new(rt)) {
+        Ok(passes) => meet(rt, service, passes),
+        Err(_) => None,
+    }
+}
+
+/// Both tell each other what they have seen.
+fn meet<J: Naming, D: Directory + Shelf, R: Wait>(
+    rt: &R,
+    service: &Service<D, J>,
+    passes: Vec<Pass<J>>,
+) -> Option<Vec<Pass<J>>> {
+    let mut passes = passes;
+    let (Some(mut two), Some(mut one)) = (passes.pop(), passes.pop()) else {
+        return None;
+    };
+    service.meet(rt, &mut one, &mut two);
+    let (Ok(()), Ok(())) = (passes.push(one), passes.push(two)) else {
+        return None;
+    };
+    Some(passes)
+}
+
+/// Makes all writes of a session, each of which has a greater number than the one before.
+fn work<J: Naming, D: Directory + Shelf, S: Shelf, R: Wait>(
+    rt: &R,
+    alloc: Global,
+    service: &Service<D, J>,
+    schema: &Schema,
+    me: &mut Pass<J>,
+    shelf: &mut S,
+) -> bool
+    ensures { me.new.session ≡ me.old.session }
+{
+    let mut last = 0;
+    for number in 0..EACH {
+        match step(rt, alloc, service, schema, me, shelf, number) {
+            Some(written) if last < written => last = written,
+            _ => return false,
+        }
+    }
+    true
+}
+
+/// Writes an item, and looks at a view that has it. Answers the write's number, if all is as it should be.
+fn step<J: Naming, D: Directory + Shelf, S: Shelf, R: Wait>(
+    rt: &R,
+    alloc: Global,
+    service: &Service<D, J>,
+    schema: &Schema,
+    me: &mut Pass<J>,
+    shelf: &mut S,
+    number: u64,
+) -> Option<WriteNo>
+    ensures { me.new.session ≡ me.old.session }
+{
+    let Ok(id) = id_of(alloc, me.session(), number) else {
+        return None;
+    };
+    let Ok(text) = item_text(alloc, id.as_str()) else {
+        return None;
+    };
+    let Ok(item) = schema.item(alloc, text.as_bytes()) else {
+        return None;
+    };
+    let Ok(written) = service.write(rt, me, Write::Put(item)) else {
+        return None;
+    };
+    if is_shown(
+        rt,
+        alloc,
+        service,
+        me,
+        shelf,
+        written,
+        id.as_str(),
+        text.as_bytes(),
+    ) {
+        Some(written)
+    } else {
+        None
+    }
+}
+
+/// Whether a view that is recorded and opened now has the write, and the text of its item, read off the lock.
+fn is_shown<J: Naming, D: Directory + Shelf, S: Shelf, R: Wait>(
+    rt: &R,
+    alloc: Global,
+    service: &Service<D, J>,
+    me: &mut Pass<J>,
+    shelf: &mut S,
+    written: WriteNo,
+    id: &str,
+    text: &[u8],
+) -> bool
+    ensures { me.new.session ≡ me.old.session }
+{
+    let Ok(token) = service.refresh(rt, me) else {
+        return false;
+    };
+    match service.open(rt, me, None) {
+        Ok(Grant::New(hold)) => {
+            let is_right = written <= token && token <= hold.token();
+            let is_there = has_text(alloc, &hold, shelf, id, text);
+            match service.close(rt, me, hold) {
+                Ok(_released) => is_right && is_there,
+                Err(hold) => {
+                    hold.give_up();
+                    false
+                }
+            }
+        }
+        Ok(Grant::Already(_)) => false,
+        Err(_) => false,
+    }
+}
+
+/// Whether the text is that of the item in the view.
+fn has_text<S: Shelf>(alloc: Global, hold: &Hold, shelf: &mut S, id: &str, text: &[u8]) -> bool {
+    match hold.get(alloc, shelf, id) {
+        Ok(Some(found)) => found.as_slice() == text,
+        _ => false,
+    }
+}
+
+fn id_of(alloc: Global, session: SessionNo, number: u64) -> Result<String, Refusal> {
+    match format!(in alloc; "s{session}-{number}") {
+        Ok(text) => Ok(text),
+        Err(_) => Err(Refusal::Memory),
+    }
 }
