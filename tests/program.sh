@@ -212,6 +212,18 @@ for session in {1..64}; do
 done
 expect 'sixty-four sessions' 0 "$wanted"$'\n65 NO 10\n65 NO 10\n65 NO 10' ''
 
+# of an input of more lines the millionth behind the first is the last that is read
+mkdir "$room/long"
+{
+  echo "$schema"
+  awk 'BEGIN { for (n = 1; n < 1000000; n++) print "1 OPEN" }'
+  printf '%s\n' '1 DEL a' '1 DEL b' '2 OPEN'
+} >"$room/lines"
+start threads "$room/long" <"$room/lines"
+long=$(cat "$room/status")
+[ "$(wc -l <"$room/out")" = 1000001 ] && [ "$(tail -n 2 "$room/out")" = $'1 OK 0\n1 OK 1' ] || long=1
+judged 'a million lines' "$long"
+
 # a stream on four threads tells each session what one thread tells it
 {
   printf '1 OPEN\n'
