@@ -6,7 +6,7 @@ use Rattle.std.proofs.lemmas.List.{get_or_default}
 use Rattle.cat_model.specs.Text.{Text}
 use Rattle.cat_model.specs.Ordinals.{text_at, IsOrdinal}
 use Rattle.cat_columns.specs.declared.hints.Hint.{Hint}
-use Rattle.cat_columns.specs.declared.hints.Hint.TheVariants.{One}
+use Rattle.cat_columns.specs.declared.hints.Hint.TheVariants.{Empty, One}
 use Rattle.cat_columns.specs.Hints.{text_hash, hint_of, Allows, AllowFirst, AreHints}
 
 -- one text more
@@ -24,6 +24,10 @@ allowed : (ds : List Text) (hints : List Hint) (t : Text) → AreHints ds hints 
 allowed ds hints t are has =
     let at : text_at ds has.0 ≡ t = get_or_default ds has.0 [] t has.1 ∙ has.2 in
     subst (λ u. Allows (hint_of hints (text_hash u)) has.0) at (are.allow has.0 has.1)
+
+-- an empty slot tells that the text is absent
+pub none_tells : (ds : List Text) (hints : List Hint) (t : Text) → AreHints ds hints → hint_of hints (text_hash t) ≡ Empty → IsOrdinal ds t None
+none_tells ds hints t are is has = subst (λ h. Allows h has.0) is (allowed ds hints t are has)
 
 other_has_none : (ds : List Text) (hints : List Hint) (t : Text) (only : ℕ) → AreHints ds hints → hint_of hints (text_hash t) ≡ One only
     → (only < length ds → text_at ds only ≢ t) → IsOrdinal ds t None

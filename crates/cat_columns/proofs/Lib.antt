@@ -14,6 +14,7 @@ pub mod Merged
 pub mod Ordinals
 pub mod Packs
 pub mod Presence
+pub mod Pushed
 pub mod Rising
 pub mod RowTests
 pub mod Same

@@ -10,6 +10,9 @@ pub mod Judging
 pub mod Sets
 pub mod SameLists
 pub mod RowTests
+pub mod CopySteps
+pub mod FedSteps
+pub mod AcceptSteps
 pub mod Listing
 pub mod Everything
 pub use Rattle.cat_segment.proofs.columns_laws as columns_laws

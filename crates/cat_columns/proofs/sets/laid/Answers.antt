@@ -1,10 +1,11 @@
 use Rattle.std.proofs.Common.{rules, ◌≡◌, List, ◌++◌, take, length, map, ◌∙◌, ap, sym, subst}
-use Rattle.std.proofs.lemmas.List.{length-map}
+use Rattle.std.proofs.lemmas.List.{length-map, take_all}
 use Rattle.std.specs.Borrow.{Bor}
 use Rattle.std.specs.List.{flat_map}
 use Rattle.std.specs.Prelude.{All, Contains}
 use Rattle.cat_model.specs.Text.{Text}
 use Rattle.cat_model.specs.Ordinals.{text_at}
+use Rattle.cat_columns.specs.Columns.{row_ends_from}
 use Rattle.cat_columns.proofs.Cuts.{ends_more, flat_more}
 use Rattle.cat_columns.proofs.sets.laid.Goals as goal
 
@@ -22,4 +23,13 @@ loop-row-preserved c =
           (c.len-in-loop-row.ensures ∙ (search rules) ∙ sym (length-map c.add_ordinals.new.ordinals.items (text_at c.args.dictionary.now)) ∙ ap length flat) c.in_ok-push.ensures.items;
       ordinals = flat;
       bound = c.in_ok-add_ordinals.ensures.bound;
+    }
+
+pub returns : goal.returns
+returns c =
+    let all = take_all c.loop-row.row-index c.args.rows.now c.loop-row-test.false in
+    record {
+      ends = c.loop-row.invariant.ends ∙ ap (λ (rows : List (Bor (List Text))). row_ends_from 0 (map (λ row. row.now) rows)) all;
+      ordinals = c.loop-row.invariant.ordinals ∙ ap (λ (rows : List (Bor (List Text))). flat_map (λ row. row.now) rows) all;
+      bound = c.loop-row.invariant.bound;
     }
