@@ -1,6 +1,9 @@
 //! The merge of segments in steps.
-ghost use Rattle.std.specs.Prelude.{◌≡◌, ◌≢◌, ◌+◌, ◌-◌, ◌++◌, ◌≤◌, ◌<◌, ℕ, List, min, map, take, length, [], IfOk, OnOk, OnErr, MatchOption};
+ghost use Rattle.std.specs.Prelude.{◌≡◌, ◌≢◌, ◌+◌, ◌-◌, ◌++◌, ◌≤◌, ◌<◌, ℕ, List, true, false, min, map, take, length, [], IfOk, OnOk, OnErr, MatchOption};
 ghost use Rattle.std.specs.List.{flat_map};
+ghost use Rattle.cat_base.specs.declared.refusal.Refusal.TheVariants.{Damaged, Device, Memory};
+ghost use Rattle.cat_directory.specs.Devices.{NoMore, ReadingCount};
+ghost use Rattle.cat_directory.specs.declared.name.FileName.{FileName};
 ghost use Rattle.cat_model.specs.Layout.{head_of};
 ghost use Rattle.cat_model.specs.Limits.{step_limit};
 ghost use Rattle.cat_model.specs.Merged.{rows_of_all, rows_kept, records_kept, merged_leaf, AreDeletedFrom};
@@ -11,8 +14,10 @@ ghost use Rattle.cat_merge.specs.Merging.{MayMerge, with_live};
 ghost use Rattle.cat_merge.specs.Places.{passed_at, IsPlace, IsRowPlace};
 ghost use Rattle.cat_merge.specs.Ranges.{AreRangesApart, AreWithin};
 ghost use Rattle.cat_merge.specs.Walk.{heads_at, source_at, AreInputs};
+ghost use Rattle.cat_merge.specs.files.Sources.{AreJudged};
 
 use crate::counting::rows_in;
+use crate::files::judging::lacks_sources;
 use crate::input::Input;
 use crate::making::Parts;
 use crate::place::Place;
@@ -20,7 +25,8 @@ use crate::rows::KeptRow;
 use crate::sealing::sealed;
 use crate::settling::settled;
 use crate::sources::{SourceRange, add_source};
-use cat_base::{MAX_STEP_ROWS, SegNo};
+use cat_base::{MAX_STEP_ROWS, Refusal, SegNo};
+use cat_directory::Shelf;
 use cat_items::Schema;
 use cat_views::cat_segment::{Live, Segment};
 use std::alloc::{AllocError, Global};
@@ -178,6 +184,27 @@ impl Merge {
                 self.kept.truncate(before);
                 Err(refusal)
             }
+        }
+    }
+
+    /// Why a step isn't made that memory is wanting for: [`Refusal::Damaged`] where one of the texts that it would copy isn't in
+    /// the file of its segment, [`Refusal::Device`] where the device fails; else [`Refusal::Memory`]. It takes no memory.
+    pub(crate) fn why_not_made<S: Shelf>(&self, shelf: &mut S) -> Refusal
+        ensures damaged { result ≡ Damaged → AreJudged (S.bytes shelf.old) self.now.inputs self.now.passed
+            (self.now.passed + min step_limit (length (rows_of_all self.now.inputs) - self.now.passed)) true }
+        ensures due { result ≡ Memory → AreJudged (S.bytes shelf.old) self.now.inputs self.now.passed
+            (self.now.passed + min step_limit (length (rows_of_all self.now.inputs) - self.now.passed)) false }
+        ensures device { result ≡ Device → S.can_fail shelf.old }
+        ensures same { (q : FileName) → S.bytes shelf.new q ≡ S.bytes shelf.old q }
+        ensures crash { (q : FileName) → NoMore (S.may_leave shelf.old q) (S.may_leave shelf.new q) }
+        ensures can { S.can_fail shelf.new → S.can_fail shelf.old }
+        ensures counted { ReadingCount (S.fault_count shelf.old) (S.fault_count shelf.new) result }
+    {
+        let count = self.rows_left().min(MAX_STEP_ROWS);
+        match lacks_sources(shelf, &self.inputs, self.place, count) {
+            Ok(true) => Refusal::Damaged,
+            Ok(false) => Refusal::Memory,
+            Err(refusal) => refusal,
         }
     }
 

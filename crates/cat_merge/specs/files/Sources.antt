@@ -1,5 +1,5 @@
 -- Ranges of files with sources, and what a device tells of them.
-use Rattle.std.specs.Prelude.{◌≡◌, ◌≢◌, ◌+◌, ◌++◌, ◌<◌, ◌≤◌, ℕ, List, [], length, map, sum, Some, None, Any}
+use Rattle.std.specs.Prelude.{◌≡◌, ◌≢◌, ◌+◌, ◌++◌, ◌<◌, ◌≤◌, ℕ, Bool, true, false, List, [], ◌∷◌, length, map, sum, Some, None, All, Any, if◌then◌else◌}
 use Rattle.std.specs.List.{flat_map}
 use Rattle.cat_model.specs.Text.{Text}
 use Rattle.cat_directory.specs.declared.name.FileName.{FileName}
@@ -8,10 +8,15 @@ use Rattle.cat_directory.specs.Devices.{Told, told_after, extended}
 use Rattle.cat_ledger_laws.specs.shape.Ties.{ToldFiles}
 use Rattle.cat_ledger_laws.specs.shape.Shapes.{MergingShape}
 use Rattle.cat_ledger_laws.specs.shape.Steps.{passed_on}
-use Rattle.cat_merge.specs.Copied.{bytes_in}
+use Rattle.cat_merge.specs.Copied.{bytes_in, segment_row_at}
+use Rattle.cat_merge.specs.Places.{input_at}
+use Rattle.cat_merge.specs.Ranges.{AreWithin}
+use Rattle.cat_merge.specs.declared.place.Place.{Place}
 use Rattle.cat_ledger_laws.specs.model.Stored.{joined_sources}
 use Rattle.cat_merge.specs.declared.sources.SourceRange.{SourceRange}
 use Rattle.cat_model.specs.Merged.{records_kept}
+use Rattle.cat_model.specs.RowSets.{has_row}
+use Rattle.cat_views.specs.cat_segment.Sources.{source_offset}
 use Rattle.cat_model.specs.View.{Leaf}
 
 -- the bytes that are told of a file; none where it is absent, or nothing is told
@@ -56,3 +61,30 @@ pub record LacksSources (m : MergingShape) (told : ToldFiles) : Type 0 where
   pub named : (files : ℕ → Text) → joined_sources (records_kept files m.inputs m.passed) ++ flat_map (bytes_in files) ranges
       ≡ joined_sources (records_kept files m.inputs (passed_on m).passed)
   pub cut : Any (IsCutOff told) ranges
+
+-- The ranges that make, in whatever files, the sources of the rows that the merge's next step keeps are in files of which none is told to be
+-- absent, nor to end before the range does.
+pub record MayReachSources (m : MergingShape) (told : ToldFiles) : Type 0 where
+  pub ranges : List SourceRange
+  pub named : (files : ℕ → Text) → joined_sources (records_kept files m.inputs m.passed) ++ flat_map (bytes_in files) ranges
+      ≡ joined_sources (records_kept files m.inputs (passed_on m).passed)
+  pub reached : All (MayReachRange told) ranges
+
+-- ---- row by row
+
+-- where the source of the row of the place stands, if the row is kept
+abbrev pub ranges_at : List Leaf → Place → List SourceRange
+ranges_at inputs place = (if has_row (input_at inputs place.input).live place.row then record {
+  segment = (input_at inputs place.input).segment.number;
+  offset = source_offset (input_at inputs place.input).segment.rows place.row;
+  len = (segment_row_at (input_at inputs place.input).segment place.row).length;
+} ∷ [] else [])
+
+-- What is found of the sources that are kept of the rows between these numbers of passed ones: whether one of them is lacking.
+pub record AreJudged (told : ToldFiles) (inputs : List Leaf) (from to : ℕ) (lacking : Bool) : Type 0 where
+  pub ranges : List SourceRange
+  pub named : (files : ℕ → Text) → joined_sources (records_kept files inputs from) ++ flat_map (bytes_in files) ranges
+      ≡ joined_sources (records_kept files inputs to)
+  pub within : AreWithin inputs ranges
+  pub cut : lacking ≡ true → Any (IsCutOff told) ranges
+  pub reached : lacking ≡ false → All (MayReachRange told) ranges

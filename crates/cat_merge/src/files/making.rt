@@ -1,21 +1,26 @@
 //! A merge in the making, from the first call to the last.
-ghost use Rattle.std.specs.Prelude.{◌≡◌, ◌≢◌, ◌⊎◌, ◌∷◌, ◌↔◌, [], Some, None, length, Any, IsTrue, OnOk, OnErr, IfOk, IfErr};
+ghost use Rattle.std.specs.Prelude.{◌≡◌, ◌≢◌, ◌⊎◌, ◌+◌, ◌-◌, ◌++◌, ◌∷◌, ◌↔◌, ℕ, List, [], true, false, min, Some, None, length, Any, IsTrue, OnOk, OnErr, IfOk, IfErr};
+ghost use Rattle.std.specs.List.{flat_map};
 ghost use Rattle.std.specs.Option.{option_to_list};
 ghost use Rattle.cat_base.specs.declared.refusal.Refusal.TheVariants.{Device, Memory, Damaged};
 ghost use Rattle.cat_directory.specs.Devices.{CountsReading, CountsWriting, NoMore, emptied, told_after};
 ghost use Rattle.cat_ledger_laws.specs.shape.MergeLaws.{CopiesOn};
 ghost use Rattle.cat_ledger_laws.specs.shape.Steps.{passed_on};
 ghost use Rattle.cat_ledger_laws.specs.shape.Ties.{IsTold, TouchesNothing, TouchesOnly};
+ghost use Rattle.cat_ledger_laws.specs.model.Stored.{joined_sources};
+ghost use Rattle.cat_merge.specs.Copied.{bytes_in};
 ghost use Rattle.cat_merge.specs.Merging.{MayMerge};
+ghost use Rattle.cat_merge.specs.Ranges.{AreWithin};
 ghost use Rattle.cat_model.specs.Files.{IsFileNumber, Name};
-ghost use Rattle.cat_model.specs.Merged.{AreDeletedFrom, rows_of_all};
+ghost use Rattle.cat_model.specs.Limits.{step_limit};
+ghost use Rattle.cat_model.specs.Merged.{AreDeletedFrom, records_kept, rows_of_all};
 ghost use Rattle.cat_merge.specs.files.Making.{merged_leaves};
-ghost use Rattle.cat_merge.specs.files.Sources.{LacksBytes, LacksSources};
+ghost use Rattle.cat_merge.specs.files.Sources.{AreJudged, LacksBytes, LacksSources, MayReachSources};
 
-use crate::Merge;
 use crate::files::inputs::inputs_of;
 use crate::files::sealing::settled_leaf;
 use crate::files::sources::append_ranges;
+use crate::{Merge, SourceRange};
 use cat_base::{Refusal, SegNo};
 use cat_directory::{Directory, FileName, Shelf};
 use cat_items::Schema;
@@ -49,6 +54,34 @@ impl Model for MergeInMaking {
     } };
 
     ghost invariant = { λ m. AreOneMerge m.number m.count m.merge };
+}
+
+/// Passes the rows of the next step, and answers where their sources stand. Want of memory hides none that isn't in its file.
+fn next_ranges<S: Shelf>(
+    merge: &mut Merge,
+    shelf: &mut S,
+    alloc: Global,
+) -> Result<Vec<SourceRange>, Refusal>
+    ensures ok { OnOk result (merge.new ≡ record merge.old { passed = merge.old.passed + min step_limit (length (rows_of_all merge.old.inputs) - merge.old.passed) }) }
+    ensures sources { IfOk result (λ ranges. (files : ℕ → List ℕ)
+        → joined_sources (records_kept files merge.old.inputs merge.old.passed) ++ flat_map (bytes_in files) ranges.items
+        ≡ joined_sources (records_kept files merge.new.inputs merge.new.passed)) }
+    ensures within { IfOk result (λ ranges. AreWithin merge.old.inputs ranges.items) }
+    ensures err { OnErr result (merge.new ≡ merge.old) }
+    ensures damaged { IfErr result (λ e. e ≡ Damaged → AreJudged (S.bytes shelf.old) merge.old.inputs merge.old.passed
+        (merge.old.passed + min step_limit (length (rows_of_all merge.old.inputs) - merge.old.passed)) true) }
+    ensures due { IfErr result (λ e. e ≡ Memory → AreJudged (S.bytes shelf.old) merge.old.inputs merge.old.passed
+        (merge.old.passed + min step_limit (length (rows_of_all merge.old.inputs) - merge.old.passed)) false) }
+    ensures device { IfErr result (λ e. e ≡ Device → S.can_fail shelf.old) }
+    ensures same { (q : FileName) → S.bytes shelf.new q ≡ S.bytes shelf.old q }
+    ensures crash { (q : FileName) → NoMore (S.may_leave shelf.old q) (S.may_leave shelf.new q) }
+    ensures can { S.can_fail shelf.new → S.can_fail shelf.old }
+    ensures counted { CountsReading (S.fault_count shelf.old) (S.fault_count shelf.new) result }
+{
+    match merge.copy_step(alloc) {
+        Ok(ranges) => Ok(ranges),
+        Err(AllocError) => Err(merge.why_not_made(shelf)),
+    }
 }
 
 impl MergeInMaking {
@@ -136,8 +169,8 @@ impl MergeInMaking {
     /// files of their segments to the end of its own. (Lucene: `SegmentMerger.mergeFields`, of so many documents.)
     ///
     /// [`Refusal::Damaged`] if a source isn't in the file of its segment; [`Refusal::Device`] if the device fails, or its own
-    /// file is absent; else [`Refusal::Memory`]. Behind an error rows may be passed whose sources aren't copied, so that the
-    /// merge can only be given up.
+    /// file is absent; else [`Refusal::Memory`], which never hides that a source isn't in its file. Behind an error rows may be
+    /// passed whose sources aren't copied, so that the merge can only be given up.
     pub fn copy_step<D: Directory + Shelf>(&mut self, device: &mut D) -> Result<(), Refusal>
         ensures ok { OnOk result (self.new ≡ record self.old { shape = passed_on self.old.shape }) }
         ensures copied { OnOk result (CopiesOn self.old.shape (D.bytes device.old) (D.bytes device.new)) }
@@ -148,12 +181,13 @@ impl MergeInMaking {
             → NoMore (D.may_leave device.old q) (D.may_leave device.new q) }
         ensures damaged { IfErr result (λ e. e ≡ Damaged → LacksSources self.old.shape (D.bytes device.old)) }
         ensures short { IfErr result (λ e. e ≡ Damaged → Any (LacksBytes (D.bytes device.old)) self.old.shape.inputs) }
+        ensures due { IfErr result (λ e. e ≡ Memory → MayReachSources self.old.shape (D.bytes device.old)) }
         ensures device { IfErr result (λ e. e ≡ Device
             → D.can_fail device.old ⊎ (D.bytes device.old (FileName.Source self.old.shape.number) ≡ Some None)) }
         ensures can { D.can_fail device.new → D.can_fail device.old }
         ensures counted { CountsReading (D.fault_count device.old) (D.fault_count device.new) result }
     {
-        let ranges = self.merge.copy_step(self.alloc)?;
+        let ranges = next_ranges(&mut self.merge, device, self.alloc)?;
         append_ranges(device, self.alloc, &ranges, FileName::Source(self.number))?;
         Ok(())
     }

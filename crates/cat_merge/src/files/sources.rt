@@ -1,5 +1,5 @@
 //! The sources of kept rows, read from the files of a merge's inputs and put behind those that its own file has.
-ghost use Rattle.std.specs.Prelude.{◌≡◌, ◌≢◌, ◌⊎◌, Some, None, length, map, sum, OnOk, IfOk, IfErr, Any};
+ghost use Rattle.std.specs.Prelude.{◌≡◌, ◌≢◌, ◌⊎◌, Some, None, length, map, sum, OnOk, IfOk, IfErr, All, Any};
 ghost use Rattle.std.specs.List.{flat_map};
 ghost use Rattle.cat_base.specs.declared.refusal.Refusal.TheVariants.{Damaged, Device, Memory};
 ghost use Rattle.cat_directory.specs.Devices.{CountsReading, NoMore};
@@ -7,6 +7,7 @@ ghost use Rattle.cat_merge.specs.Copied.{bytes_in};
 ghost use Rattle.cat_merge.specs.files.Sources.{AreAppended, IsCutOff, MayReachRange, TellsAll, sources_told};
 
 use crate::SourceRange;
+use crate::files::judging::why_unread;
 use cat_base::Refusal;
 use cat_directory::{Directory, FileName, Shelf};
 use std::alloc::Global;
@@ -56,7 +57,28 @@ fn read_ranges<S: Shelf>(
     Ok(bytes)
 }
 
-/// Puts the bytes of the ranges behind those of the file.
+/// Puts the bytes of the ranges behind those of the file. Where memory is wanting no file has changed.
+fn copy_ranges<D: Directory + Shelf>(
+    device: &mut D,
+    alloc: Global,
+    ranges: &[SourceRange],
+    to: FileName,
+) -> Result<(), Refusal>
+    ensures others { (q : FileName) → q ≢ to → D.bytes device.new q ≡ D.bytes device.old q }
+    ensures crash { (q : FileName) → q ≢ to → NoMore (D.may_leave device.old q) (D.may_leave device.new q) }
+    ensures ok { OnOk result (AreAppended ranges.now to (D.bytes device.old) (D.bytes device.new)) }
+    ensures memory { IfErr result (λ e. e ≡ Memory → D.bytes device.new to ≡ D.bytes device.old to) }
+    ensures damaged { IfErr result (λ e. e ≡ Damaged → Any (IsCutOff (D.bytes device.old)) ranges.now) }
+    ensures device { IfErr result (λ e. e ≡ Device → D.can_fail device.old ⊎ (D.bytes device.old to ≡ Some None)) }
+    ensures can { D.can_fail device.new → D.can_fail device.old }
+    ensures counted { CountsReading (D.fault_count device.old) (D.fault_count device.new) result }
+{
+    let bytes = read_ranges(device, alloc, ranges)?;
+    device.append(to, &bytes)?;
+    Ok(())
+}
+
+/// Puts the bytes of the ranges behind those of the file. Want of memory hides no range that isn't in its file.
 pub(crate) fn append_ranges<D: Directory + Shelf>(
     device: &mut D,
     alloc: Global,
@@ -67,11 +89,14 @@ pub(crate) fn append_ranges<D: Directory + Shelf>(
     ensures crash { (q : FileName) → q ≢ to → NoMore (D.may_leave device.old q) (D.may_leave device.new q) }
     ensures ok { OnOk result (AreAppended ranges.now to (D.bytes device.old) (D.bytes device.new)) }
     ensures damaged { IfErr result (λ e. e ≡ Damaged → Any (IsCutOff (D.bytes device.old)) ranges.now) }
+    ensures due { IfErr result (λ e. e ≡ Memory → All (MayReachRange (D.bytes device.old)) ranges.now) }
     ensures device { IfErr result (λ e. e ≡ Device → D.can_fail device.old ⊎ (D.bytes device.old to ≡ Some None)) }
     ensures can { D.can_fail device.new → D.can_fail device.old }
     ensures counted { CountsReading (D.fault_count device.old) (D.fault_count device.new) result }
 {
-    let bytes = read_ranges(device, alloc, ranges)?;
-    device.append(to, &bytes)?;
-    Ok(())
+    match copy_ranges(device, alloc, ranges, to) {
+        Ok(()) => Ok(()),
+        Err(Refusal::Memory) => Err(why_unread(device, ranges)),
+        Err(refusal) => Err(refusal),
+    }
 }

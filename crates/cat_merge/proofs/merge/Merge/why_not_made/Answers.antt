@@ -1,0 +1,29 @@
+use Rattle.std.proofs.Common.{◌≡◌, ◌-◌, ◌∙◌, length, true, false, ap, subst, arith}
+use Rattle.std.specs.Prelude.{min}
+use Rattle.cat_model.specs.Limits.{step_limit}
+use Rattle.cat_model.specs.Merged.{rows_of_all}
+use Rattle.cat_merge.specs.Merging.{MergeUnderWay}
+use Rattle.cat_merge.specs.Places.{passed_at}
+use Rattle.cat_merge.specs.declared.place.Place.{Place}
+use Rattle.cat_merge.proofs.files.Judged.{judged_step}
+use Rattle.cat_merge.proofs.merge.Merge.why_not_made.Goals as goal
+
+pub returns-in-Ok-true-clause-damaged : goal.returns-in-Ok-true-clause-damaged
+returns-in-Ok-true-clause-damaged g c = λ is.
+    let merge : MergeUnderWay = c.args.self.now in
+    let place : Place = c.self.inside.place in
+    let same : c.deref.result.now ≡ merge.inputs = c.deref.ensures.value ∙ ap (λ (m : MergeUnderWay). m.inputs) c.self.view_is in
+    let at : passed_at merge.inputs place ≡ merge.passed = subst (λ (m : MergeUnderWay). passed_at m.inputs place ≡ m.passed) c.self.view_is c.self.invariant.so_far in
+    let many : c.min-count.result ≡ min step_limit (length (rows_of_all merge.inputs) - merge.passed) = omega (arith, c.min-count.ensures, c.rows_left.ensures) in
+    judged_step (g.S.Holder.bytes c.args.shelf.now) merge.inputs c.deref.result.now place merge.passed c.min-count.result c.in-Ok-true.field-0 true same at many c.in-Ok-true.field-0-test
+    c.in-Ok-true.ensures.judged
+
+pub returns-in-Ok-false-clause-due : goal.returns-in-Ok-false-clause-due
+returns-in-Ok-false-clause-due g c = λ is.
+    let merge : MergeUnderWay = c.args.self.now in
+    let place : Place = c.self.inside.place in
+    let same : c.deref.result.now ≡ merge.inputs = c.deref.ensures.value ∙ ap (λ (m : MergeUnderWay). m.inputs) c.self.view_is in
+    let at : passed_at merge.inputs place ≡ merge.passed = subst (λ (m : MergeUnderWay). passed_at m.inputs place ≡ m.passed) c.self.view_is c.self.invariant.so_far in
+    let many : c.min-count.result ≡ min step_limit (length (rows_of_all merge.inputs) - merge.passed) = omega (arith, c.min-count.ensures, c.rows_left.ensures) in
+    judged_step (g.S.Holder.bytes c.args.shelf.now) merge.inputs c.deref.result.now place merge.passed c.min-count.result c.in-Ok-false.field-0 false same at many c.in-Ok-false.field-0-test
+    c.in-Ok-false.ensures.judged
