@@ -3,8 +3,9 @@
 
 usage: tests/edits.py [--anew] [--lanes N] [CRATE..]
 
-All edits of a crate go into one copy of it, and one check proves the functions that they change and no others; of two edits
-of one function the second goes into a further check. An edit is refused where its function is not proved, and for what it
+All edits of a crate go into one copy of it, and one check proves the functions that they change and those that they call; of
+two edits of one function the second goes into a further check, which takes from the one before what is the same. An edit is
+refused where its function is not proved, and for what it
 does: a goal of its own function is left open, or an answer to one no longer proves it. Where nothing but names that are gone
 tells against it, it shows nothing of the contract, and counts as not refused. An edit with a line '# compiler: TEXT' is one that
 must not compile: the compiler has to refuse it by an error with this text.
@@ -292,8 +293,10 @@ def batches_of(crate, edits):
     return batches, faults
 
 
-def check(crate, edits, words):
-    """Checks the crate with these edits, and gives what each came to; one that doesn't go with the others stands in no answer."""
+def check(crate, edits, words, kept):
+    """Checks the crate with these edits, and gives what each came to; one that doesn't go with the others stands in no answer.
+
+    The folder `kept` has what earlier checks of the crate proved, each by the texts that it was proved of."""
     with tempfile.TemporaryDirectory(prefix="edits-") as room:
         room = Path(room)
         copied(crate, room)
@@ -305,7 +308,7 @@ def check(crate, edits, words):
         # What an edit adds or takes away is one line for one line, so the places of functions stay.
         only = sorted({unit.path for found in units.values() for unit in found})
         asked = [word for name in only for word in ("--only", name)]
-        ran = subprocess.run([*words, *asked], cwd=room, stdin=subprocess.DEVNULL, stdout=subprocess.PIPE, stderr=subprocess.STDOUT, errors="replace")
+        ran = subprocess.run([*words, *asked, "--incremental", kept], cwd=room, stdin=subprocess.DEVNULL, stdout=subprocess.PIPE, stderr=subprocess.STDOUT, errors="replace")
         if LOGS:
             log = Path(LOGS) / f"{edits[0].crate}-{'all' if len(edits) > 1 else edits[0].name}.log"
             log.write_text(f"{' '.join(asked)}\n{ran.stdout}", encoding="utf-8")
@@ -410,15 +413,15 @@ class Results:
             pass
 
 
-def tried(batch, libraries):
+def tried(batch, libraries, kept):
     """What each edit of the batch comes to. Where they don't go together, each is tried by itself."""
     words = libraries.words(batch.crate)
     if words is None:
         return {edit: (UNTRIED, "the crate, or a library below it, isn't built as it stands") for edit in batch.edits}
-    found = check(batch.crate, batch.edits, words)
+    found = check(batch.crate, batch.edits, words, kept)
     for edit in batch.edits:
         if edit not in found or found[edit][0] in (BAD, UNTRIED) and len(batch.edits) > 1:
-            found.update(check(batch.crate, [edit], words))
+            found.update(check(batch.crate, [edit], words, kept))
     return found
 
 
@@ -442,34 +445,36 @@ def main():
     old = len(told)
     if old:
         print(f"edits: {old} of {len(edits)} were tried by an earlier run on this machine, and nothing that they stand on has changed", flush=True)
-    batches = []
+    batches = {}
     for crate in crates:
         left = [it for it in edits if it.crate == crate and it not in told]
         made, faults = batches_of(crate, left)
-        batches += made
+        if made:
+            batches[crate] = made
         told.update({edit: (BAD, why) for edit, why in faults.items()})
-    libraries = kit.Libraries(sources, sorted({it.crate for it in batches}))
+    libraries = kit.Libraries(sources, sorted(batches))
     printing, start = threading.Lock(), time.monotonic()
-    # The longest checks first.
-    batches.sort(key=lambda it: -sources.size_below(it.crate))
 
-    def work(batch):
-        found = tried(batch, libraries)
-        with printing:
-            for edit, (kind, text) in found.items():
-                told[edit] = kind, text
-                results.keep(edit, kind, text)
-                print(f"edits: {edit.label}: {kind}: {text}", flush=True)
+    def work(crate):
+        with tempfile.TemporaryDirectory(prefix="edits-kept-") as kept:
+            for batch in batches[crate]:
+                found = tried(batch, libraries, kept)
+                with printing:
+                    for edit, (kind, text) in found.items():
+                        told[edit] = kind, text
+                        results.keep(edit, kind, text)
+                        print(f"edits: {edit.label}: {kind}: {text}", flush=True)
 
     with ThreadPoolExecutor(max(1, asked.lanes or kit.lanes())) as pool:
-        for it in [pool.submit(work, batch) for batch in batches]:
+        # The longest checks first.
+        for it in [pool.submit(work, crate) for crate in sorted(batches, key=lambda it: -sources.size_below(it))]:
             it.result()
     libraries.close()
     for edit in edits:
         if told[edit][0] != REFUSED:
             print(f"edits: {edit.label}: {told[edit][0]}: {told[edit][1]}")
     refused = sum(told[it][0] == REFUSED for it in edits)
-    print(f"edits: {len(edits) - old} of {len(edits)} were tried in this run, in {len(batches)} checks and {time.monotonic() - start:.0f} s; the others are kept")
+    print(f"edits: {len(edits) - old} of {len(edits)} were tried in this run, in {sum(map(len, batches.values()))} checks and {time.monotonic() - start:.0f} s; the others are kept")
     print(f"{refused} refused, {len(edits) - refused} not")
     return 1 if refused < len(edits) or not edits else 0
 
