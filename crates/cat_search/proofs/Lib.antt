@@ -19,6 +19,7 @@ pub mod Pushed
 pub mod Arranged
 pub mod Walked
 pub mod Stepped
+pub mod Missed
 pub mod Ordered
 pub mod InRange
 pub mod Tested

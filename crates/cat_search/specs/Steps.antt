@@ -1,6 +1,7 @@
 -- The rows of parts, one after another.
-use Rattle.std.specs.Prelude.{◌≡◌, ℕ, ◌≤◌, ◌++◌, List, ◌∷◌, length, take, drop}
+use Rattle.std.specs.Prelude.{◌≡◌, ℕ, ◌≤◌, ◌++◌, Bool, false, List, ◌∷◌, All, length, take, drop}
 use Rattle.std.specs.List.{flat_map}
+use Rattle.cat_model.specs.RowSets.{has_row}
 use Rattle.cat_views.specs.cat_segment.RowParts.{parts_of}
 use Rattle.cat_views.specs.cat_segment.declared.row_parts.RowParts.{RowParts}
 
@@ -17,3 +18,9 @@ rows_of_parts_before parts index = flat_map (λ part. part) (take index (parts_o
 pub record IsNextRow (parts : RowParts) (next : ℕ) (left : List ℕ) (row next_then : ℕ) (rest : List ℕ) : Type 0 where
   pub within : next_then ≤ length (parts_of parts)
   pub rows : left ++ rows_of_parts_from parts next ≡ row ∷ (rest ++ rows_of_parts_from parts next_then)
+
+-- what is left of the rows behind some at their head that are no hits
+pub record IsBehindMisses (hits : List Bool) (rows left : List ℕ) : Type 0 where
+  pub missed : List ℕ
+  pub none : All (λ row. has_row hits row ≡ false) missed
+  pub cut : rows ≡ missed ++ left

@@ -192,7 +192,8 @@ pub(crate) fn offer_hits<'a>(
     if let Some(reach) = reach
         && let Some(walk) = ranks.walk()
     {
-        let left = steps_behind(ranks, walk, mark);
+        let rest = steps_behind(ranks, walk, mark);
+        let left = reach.behind_misses(rest, &hits);
         if reach.covers(left.again(), &hits) {
             return offer_walk(best, ranks, left, &hits, mark);
         }

@@ -6,7 +6,7 @@ ghost use Rattle.cat_search.specs.Bars.{IsFullBy};
 ghost use Rattle.cat_search.specs.Candidates.{TakesIn, mark_standing, standing_of};
 ghost use Rattle.cat_search.specs.Hits.{hit_rows};
 ghost use Rattle.cat_search.specs.Pages.{behind, beyond};
-ghost use Rattle.cat_search.specs.Steps.{rows_of_parts_before};
+ghost use Rattle.cat_search.specs.Steps.{IsBehindMisses, rows_of_parts_before};
 ghost use Rattle.cat_search.specs.Walks.{EndsPassed, IsRestOfWalk, IsOrderedRun, IsWalk, is_passed, standing_at};
 
 use crate::best::Best;
@@ -21,11 +21,17 @@ use std::alloc::AllocError;
 /// By how many times more steps than are expected a walk may take.
 const MOST_STEPS: usize = 8;
 
+/// How many rows a walk may pass before its first hit, for each of the hits. To pass one takes a fifth of the time of a look at
+/// a hit.
+const MOST_MISSES: usize = 2;
+
 /// How many hits a walk in the order of a page has to meet, and in how many steps, to be worth it.
 #[derive(Clone, Copy)]
 pub(crate) struct Reach {
     hits: usize,
     steps: usize,
+    // How many rows may be passed until the first hit is met.
+    misses: usize,
 }
 
 impl Reach {
@@ -42,8 +48,24 @@ impl Reach {
         }
         let steps = all.saturating_mul(MOST_STEPS).checked_div(hits)?;
         // Where each row is a hit, nothing has to be looked at to know that.
-        let hits = if hits == rows { 0 } else { wanted };
-        Some(Reach { hits, steps })
+        let ahead = if hits == rows { 0 } else { wanted };
+        Some(Reach {
+            hits: ahead,
+            steps,
+            misses: hits.saturating_mul(MOST_MISSES),
+        })
+    }
+
+    /// The steps behind those at the head that meet no hit, where the hits are a set: those of a range of the sort's own field
+    /// among other clauses may all stand far behind.
+    pub(crate) fn behind_misses<'a>(&self, steps: Steps<'a>, hits: &Hits<'_>) -> Steps<'a>
+        requires { All (λ row. row < length (hit_rows hits.now)) steps }
+        ensures { IsBehindMisses (hit_rows hits.now) steps.entry result }
+    {
+        match hits {
+            Hits::Matched(set) => steps.behind_misses(set, self.misses),
+            Hits::Live(_) | Hits::InRange(_) | Hits::Listed(_) => steps,
+        }
     }
 
     /// Whether the first steps of the walk meet these hits, or end it. Hits may lie far behind, as those of a range of greater

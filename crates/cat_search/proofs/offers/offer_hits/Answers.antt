@@ -1,27 +1,38 @@
-use Rattle.std.proofs.Common.{◌++◌, length, sym, ap, subst, ◌∙◌}
+use Rattle.std.proofs.Common.{◌<◌, ◌++◌, length, sym, ap, subst, ◌∙◌}
+use Rattle.std.specs.List.{All}
 use Rattle.cat_model.specs.View.{selected}
 use Rattle.cat_search.specs.Candidates.{IsBestAt, mark_standing}
 use Rattle.cat_search.specs.Hits.{hit_rows}
 use Rattle.cat_search.specs.Pages.{behind}
-use Rattle.cat_search.specs.Walks.{IsRestOfWalk}
 use Rattle.cat_search.proofs.Gathered.{on_ok}
+use Rattle.cat_search.proofs.Missed.{missed_rows, missed_runs, missed_taken}
 use Rattle.cat_search.proofs.Stepped.{left_rows, left_runs, taken_all}
 use Rattle.cat_search.proofs.offers.offer_hits.Goals as goal
 
+pub behind_misses-left-requires : goal.behind_misses-left-requires
+behind_misses-left-requires c = left_rows (mark_standing c.args.mark.now) c.args.ranks.now c.steps_behind-rest.result (length (hit_rows c.args.hits)) c.steps_behind-rest.ensures c.requires
+
 pub covers-requires : goal.covers-requires
 covers-requires c =
-    let mark = mark_standing c.args.mark.now in
-    let ranks = c.args.ranks.now in
-    left_rows mark ranks c.again.result (length (hit_rows c.args.hits)) (subst (IsRestOfWalk mark ranks) (sym c.again.ensures) c.steps_behind-left.ensures) c.requires
+    let hits = hit_rows c.args.hits in
+    let rest = c.steps_behind-rest in
+    let within = left_rows (mark_standing c.args.mark.now) c.args.ranks.now rest.result (length hits) rest.ensures c.requires in
+    subst (All (λ row. row < length hits)) (sym c.again.ensures) (missed_rows hits rest.result c.behind_misses-left.result c.behind_misses-left.ensures (λ row. row < length hits) within)
 
 pub offer_walk-requires-clause-run : goal.offer_walk-requires-clause-run
-offer_walk-requires-clause-run c = left_runs (mark_standing c.args.mark.now) c.args.ranks.now c.steps_behind-left.result c.steps_behind-left.ensures
+offer_walk-requires-clause-run c =
+    let rest = c.steps_behind-rest in
+    missed_runs (hit_rows c.args.hits) rest.result c.behind_misses-left.result c.behind_misses-left.ensures c.args.ranks.now (left_runs (mark_standing c.args.mark.now) c.args.ranks.now rest.result rest.ensures)
 
 pub returns-then-covers-clause-best : goal.returns-then-covers-clause-best
 returns-then-covers-clause-best c =
     let mark = mark_standing c.args.mark.now in
     let ranks = c.args.ranks.now in
-    on_ok _ _ (λ took ps h. taken_all mark ranks (hit_rows c.args.hits) c.steps_behind-left.result c.steps_behind-left.ensures c.requires c.offer_walk.new.best ps (took ps h)) c.offer_walk.result c.offer_walk.ensures.best
+    let hits = hit_rows c.args.hits in
+    let rest = c.steps_behind-rest in
+    let kept = c.offer_walk.new.best in
+    let same = missed_taken hits rest.result c.behind_misses-left.result c.behind_misses-left.ensures mark ranks in
+    on_ok _ _ (λ took ps h. taken_all mark ranks hits rest.result rest.ensures c.requires kept ps (subst (λ l. IsBestAt kept (ps ++ l)) same (took ps h))) c.offer_walk.result c.offer_walk.ensures.best
 
 pub returns-in-Live-clause-best : goal.returns-in-Live-clause-best
 returns-in-Live-clause-best c =
