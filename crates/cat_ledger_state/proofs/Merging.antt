@@ -1,6 +1,6 @@
 -- What the steps of a merge make of a shape.
 use Rattle.std.proofs.Common.{◌≡◌, ◌≢◌, ◌↔◌, IsTrue, not, Bool, true, false, ℕ, ◌+◌, ◌-◌, ◌<◌, ◌≤◌, ◌^◌, cond, List, [], ◌∷◌, Option, Some, None, length, take, drop, refl, sym, ◌∙◌, ap, subst, arith, inl, inr, ◌||◌}
-use Rattle.std.specs.Prelude.{option_map}
+use Rattle.std.specs.Prelude.{is_some, option_map}
 use Rattle.std.proofs.lemmas.Bool.{true≢false}
 use Rattle.cat_model.specs.Files.{Name}
 use Rattle.cat_model.specs.Item.{Schema}
@@ -9,16 +9,18 @@ use Rattle.cat_model.specs.Merged.{rows_of_all}
 use Rattle.cat_model.specs.View.{Leaf}
 use Rattle.cat_merge.specs.Merging.{MayMerge}
 use Rattle.cat_merge.specs.files.Making.{InMaking}
+use Rattle.cat_merge.specs.files.Sources.{MayReachSources}
 use Rattle.cat_ledger_laws.specs.model.Users.{Used, users_of, times, same_file_name, Changes}
 use Rattle.cat_ledger_laws.proofs.model.Users.{times-append}
 use Rattle.cat_ledger_laws.specs.model.Portions.{IsMerging, IsMergingOf}
 use Rattle.cat_ledger_laws.specs.shape.Shapes.{MergingShape, Shape, IsShape, names_of_leaves}
 use Rattle.cat_ledger_laws.specs.shape.Steps.{IsBegun, IsCopied, IsEnded, Leaves, passed_on, window_now}
+use Rattle.cat_ledger_laws.specs.shape.Ties.{ToldFiles}
 use Rattle.cat_ledger_laws.proofs.shape.Committed.{users_fit}
 use Rattle.cat_ledger_laws.proofs.shape.MergeWindows.{windows_may_be_merged, merges_find_their_window}
 use Rattle.cat_ledger_laws.proofs.shape.MergeShapes.{many_shown, the_merge}
 use Rattle.cat_ledger_laws.proofs.shape.Writes.{numbers_may_be_taken}
-use Rattle.cat_ledger_state.specs.Cores.{MergesUnder, HasRowsLeft}
+use Rattle.cat_ledger_state.specs.Cores.{MayCopy, MergesUnder, HasRowsLeft}
 use Rattle.cat_ledger_state.proofs.Counting.{users_undone, known_undone}
 use Rattle.cat_ledger_state.proofs.Flushing.{at_most_one, generations_fit}
 use Rattle.cat_ledger_laws.proofs.shape.Told.{same_number}
@@ -135,3 +137,18 @@ still_under schema making m some under = subst (MergesUnder schema) some under
 
 pub none_under : (schema : Schema) (making : Option InMaking) → making ≡ None → MergesUnder schema making
 none_under schema making none = subst (MergesUnder schema) (sym none) tt
+
+-- ---- what a step may copy
+
+pub may_copy : (told : ToldFiles) (merging : Option InMaking) (m : InMaking) → merging ≡ Some m → MayReachSources m.shape told → MayCopy told (option_map (λ m. m.shape) merging)
+may_copy told merging m some reach = subst (λ (o : Option InMaking). MayCopy told (option_map (λ m. m.shape) o)) (sym some) (λ left. reach)
+
+-- nothing is left to copy
+pub none_to_copy : (told : ToldFiles) (merging : Option MergingShape) → (HasRowsLeft merging → ⊥) → MayCopy told merging
+none_to_copy told None none = tt
+none_to_copy told (Some m) none = λ left. absurd (none left)
+
+-- no merge is in the making
+pub idle_to_copy : (told : ToldFiles) (merging : Option MergingShape) → is_some merging ≡ false → MayCopy told merging
+idle_to_copy told None none = tt
+idle_to_copy told (Some m) none = absurd (true≢false none)

@@ -13,6 +13,7 @@ use Rattle.cat_ledger_laws.specs.shape.MergeLaws.{CopiesOn}
 use Rattle.cat_ledger_laws.specs.shape.Ties.{ToldFiles, TouchesOnly, TouchesNothing}
 use Rattle.cat_ledger_laws.specs.shape.WriteLaws.{WritesFlush}
 use Rattle.cat_merge.specs.files.Making.{InMaking}
+use Rattle.cat_merge.specs.files.Sources.{MayReachSources}
 use Rattle.cat_lifetimes.specs.records.Records.{Records}
 use Rattle.cat_ledger_state.specs.declared.state.Core.TheInside.{Inside}
 
@@ -99,3 +100,9 @@ HasRowsLeft (Some m) = m.passed < length (rows_of_all m.inputs)
 abbrev pub IsSourceOf : Option MergingShape → FileName → Type 0
 IsSourceOf None q = ⊥
 IsSourceOf (Some m) q = q ≡ FileName.Source m.number
+
+-- Where a merge is in the making that has rows left, the device doesn't tell that a source which its next step is to copy isn't in the file of
+-- its segment.
+abbrev pub MayCopy : ToldFiles → Option MergingShape → Type 0
+MayCopy told None = Unit {0}
+MayCopy told (Some m) = m.passed < length (rows_of_all m.inputs) → MayReachSources m told

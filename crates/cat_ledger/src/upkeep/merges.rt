@@ -13,7 +13,7 @@ ghost use Rattle.cat_ledger_laws.specs.model.Ledger.{IsNew};
 ghost use Rattle.cat_ledger_laws.specs.model.Plans as plans;
 ghost use Rattle.cat_ledger_laws.specs.model.Replies.{Maintains, IsLeft};
 ghost use Rattle.cat_ledger_laws.specs.shape.Ties.{Makes};
-ghost use Rattle.cat_ledger_state.specs.Cores.{HasRowsLeft};
+ghost use Rattle.cat_ledger_state.specs.Cores.{HasRowsLeft, MayCopy};
 ghost use Rattle.cat_ledger_state.specs.Installs.{IsOfMerge};
 ghost use Rattle.cat_ledger_laws.specs.lines.PlanLaws.{sizes_in};
 ghost use Rattle.cat_ledger.specs.Refusals.{KeepsSegments};
@@ -104,6 +104,7 @@ fn copy<D: Directory + Shelf>(core: &mut Core, device: &mut D) -> Result<usize, 
     ensures commits { SparesCommits (D.may_leave device.old) (D.may_leave device.new) }
     ensures counted { IfErr result (λ e. e ≡ Device → CountsOne (D.fault_count device.old) (D.fault_count device.new)) }
     ensures memory { IfErr result (λ e. e ≡ Memory → D.fault_count device.new ≡ D.fault_count device.old) }
+    ensures reach { IfErr result (λ e. e ≡ Memory → MayCopy (D.bytes device.old) core.old.merging) }
     ensures can { D.can_fail device.new → D.can_fail device.old }
     ensures rises { D.fault_count device.old ≤ D.fault_count device.new }
     ensures refusal { IfErr result (λ e. (e ≡ Memory) ⊎ (e ≡ Device) ⊎ (e ≡ Damaged)) }
@@ -155,6 +156,7 @@ fn go_on<D: Directory + Shelf>(core: &mut Core, device: &mut D) -> Result<MergeN
     ensures device { IfErr result (λ e. e ≡ Device → HasRowsLeft core.old.merging ⊎ D.can_fail device.old) }
     ensures counted { IfErr result (λ e. e ≡ Device → CountsOne (D.fault_count device.old) (D.fault_count device.new)) }
     ensures memory { IfErr result (λ e. e ≡ Memory → D.fault_count device.new ≡ D.fault_count device.old) }
+    ensures reach { IfErr result (λ e. e ≡ Memory → MayCopy (D.bytes device.old) core.old.merging) }
     ensures can { D.can_fail device.new → D.can_fail device.old }
     ensures rises { D.fault_count device.old ≤ D.fault_count device.new }
     ensures refusal { IfErr result (λ e. (e ≡ Memory) ⊎ (e ≡ Device) ⊎ (e ≡ Damaged)) }
@@ -177,8 +179,8 @@ fn go_on<D: Directory + Shelf>(core: &mut Core, device: &mut D) -> Result<MergeN
 ///
 /// [`Refusal::Spent`] where a merge is to be begun and no number is left for its segment; [`Refusal::Damaged`] where a text
 /// that is to be copied isn't in the file of its segment; [`Refusal::Device`] where the directory fails, or doesn't have that
-/// file; or [`Refusal::Memory`], which may come before it is known whether the policy picks any segments. A merge in the
-/// making is over then, and its files are pending.
+/// file; or [`Refusal::Memory`], which may come before it is known whether the policy picks any segments, and never hides that
+/// such a text isn't in its file. A merge in the making is over then, and its files are pending.
 pub fn merge_step<D: Directory + Shelf>(
     core: &mut Core,
     device: &mut D,
@@ -199,6 +201,7 @@ pub fn merge_step<D: Directory + Shelf>(
     ensures device { IfErr result (λ e. e ≡ Device → HasRowsLeft core.old.merging ⊎ D.can_fail device.old) }
     ensures counted { IfErr result (λ e. e ≡ Device → CountsOne (D.fault_count device.old) (D.fault_count device.new)) }
     ensures memory { IfErr result (λ e. e ≡ Memory → D.fault_count device.new ≡ D.fault_count device.old) }
+    ensures reach { IfErr result (λ e. e ≡ Memory → MayCopy (D.bytes device.old) core.old.merging) }
     ensures can { D.can_fail device.new → D.can_fail device.old }
     ensures rises { D.fault_count device.old ≤ D.fault_count device.new }
     ensures refusal { IfErr result (λ e. (e ≡ Memory) ⊎ (e ≡ Device) ⊎ (e ≡ Damaged) ⊎ (e ≡ Spent)) }

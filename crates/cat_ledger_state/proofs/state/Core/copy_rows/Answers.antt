@@ -1,7 +1,7 @@
 use Rattle.std.proofs.Common.{◌∙◌, refl, sym, ap, subst}
 use Rattle.cat_ledger_laws.proofs.shape.MergeSteps.{copies_keep, ends_keep}
-use Rattle.cat_ledger_state.specs.Cores.{shape_of_core, HasRowsLeft}
-use Rattle.cat_ledger_state.proofs.Merging.{copied_is, ended_is, still_under, none_under}
+use Rattle.cat_ledger_state.specs.Cores.{shape_of_core, HasRowsLeft, MayCopy}
+use Rattle.cat_ledger_state.proofs.Merging.{copied_is, ended_is, may_copy, still_under, none_under}
 use Rattle.cat_ledger_state.proofs.state.Core.copy_rows.Goals as goal
 
 pub invariant_of-self : goal.invariant_of-self
@@ -28,3 +28,9 @@ invariant_of-self-in-Err-1 g c =
       few = c.self.invariant.few;
       merges = none_under c.self.inside.schema c.take.new.self c.take.ensures.after;
     }
+
+pub returns-in-Err-clause-due : goal.returns-in-Err-clause-due
+returns-in-Err-clause-due g c = λ memory.
+    let told = g.D.Holder.bytes c.args.device.now in
+    subst (λ s. MayCopy told s.merging) c.self.view_is (
+    may_copy told c.self.inside.merging c.in-Some.merge (sym c.take.ensures.value ∙ c.in-Some.is) (c.in-Err.ensures.due memory))
