@@ -1,11 +1,19 @@
-use Rattle.std.proofs.Common.{◌++◌, ap, length, subst, ◌∙◌}
+use Rattle.std.proofs.Common.{◌++◌, ap, length, subst, sym, ◌∙◌}
+use Rattle.std.proofs.lemmas.List.{length-map}
 use Rattle.cat_query.specs.View.{query_of}
 use Rattle.cat_views.proofs.Selected.{count-selected}
 use Rattle.cat_search.specs.Candidates.{IsBestAt, mark_standing}
 use Rattle.cat_search.specs.Hits.{hit_rows}
 use Rattle.cat_search.specs.Pages.{behind}
+use Rattle.cat_search.specs.Rows.{row_standing}
 use Rattle.cat_search.proofs.Gathered.{hits_standings}
 use Rattle.cat_search.proofs.gathering.offer_matched.Goals as goal
+
+pub offer_hits-requires : goal.offer_hits-requires
+offer_hits-requires c =
+    let order = c.args.wanted.now.order in
+    let ranked = ap length c.of-ranks.ensures ∙ length-map c.segment.result.now.rows (row_standing order) ∙ ap (λ s. length s.rows) c.segment.ensures in
+    c.in_ok-hits.ensures.long ∙ sym ranked
 
 pub returns-clause-total : goal.returns-clause-total
 returns-clause-total c =

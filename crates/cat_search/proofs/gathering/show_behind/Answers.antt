@@ -76,3 +76,16 @@ returns-then-len-wanted c = record {
       full c.args.wanted.now.count c.args.shown.now.items (map entry_shown standings) (map entry_shown l) h many
       ∙ ap (take c.args.wanted.now.count) (sym (map-append entry_shown standings l));
 }
+
+pub returns : goal.returns
+returns c =
+    let mark = mark_standing c.args.wanted.now.mark in
+    let hits = hit_rows c.args.hits in
+    let passed = c.rows_passed-passed.result in
+    let same =
+    ap (λ s. behind mark (selected s c.of-ranks.result)) (c.remove_below.ensures ∙ ap (cleared passed) c.in_ok-left.ensures.ok)
+    ∙ ap (λ r. behind mark (selected (cleared passed hits) r)) c.of-ranks.ensures ∙ c.rows_passed-passed.ensures.passed hits c.requires.long in
+    record {
+      shown = on_ok_weaker c.show_rows.result (λ given standings h.
+          given standings h ∙ ap (λ (l : List HitStanding). take c.args.wanted.now.count (map entry_shown (standings ++ l))) same) c.show_rows.ensures.shown;
+    }

@@ -1,4 +1,4 @@
-use Rattle.std.proofs.Common.{◌+◌, ◌<◌, ◌++◌, length, sym, ap, subst, ◌∙◌, arith}
+use Rattle.std.proofs.Common.{◌+◌, ◌<◌, ◌++◌, length, sym, subst, arith}
 use Rattle.cat_search.specs.Steps.{IsBehindMisses, rows_of_parts_from}
 use Rattle.cat_search.proofs.Missed.{missed_front, missed_on, missed_part}
 use Rattle.cat_search.proofs.steps.first_hit_from.Goals as goal
