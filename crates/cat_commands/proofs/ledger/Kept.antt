@@ -1,10 +1,11 @@
 -- What a call leaves of a ledger that it doesn't change.
 use Rattle.std.proofs.Common.{◌≡◌, ap, arith, inl, refl, subst, sym}
-use Rattle.std.specs.Prelude.{Err, Ok, OnErr, Result}
+use Rattle.std.specs.Prelude.{Err, IfErr, Ok, OnErr, Option, Result}
 use Rattle.cat_base.specs.declared.refusal.Refusal.{Refusal}
+use Rattle.cat_base.specs.declared.refusal.Refusal.TheVariants.{Memory}
 use Rattle.cat_directory.specs.Devices.{FileContent}
 use Rattle.cat_directory.specs.declared.name.FileName.{FileName}
-use Rattle.cat_ledger_laws.specs.shape.Shapes.{Shape}
+use Rattle.cat_ledger_laws.specs.shape.Shapes.{MergingShape, Shape}
 use Rattle.cat_ledger_laws.specs.shape.Ties.{ToldFiles}
 use Rattle.cat_ledger_laws.specs.lines.LineLaws.{NothingChanges}
 use Rattle.cat_ledger.specs.Histories.{Event, Goes}
@@ -13,7 +14,7 @@ use Rattle.cat_ledger.specs.Refusals.{KeepsMerge, KeepsSegments}
 use Rattle.cat_protocol.specs.declared.replies.answer.Answer.{Answer}
 use Rattle.cat_commands.specs.declared.ledger.chores.Chore.{Chore}
 use Rattle.cat_commands.specs.declared.ledger.chores.Chore.TheVariants.{Force, Merge, Stat, Sweep}
-use Rattle.cat_commands.specs.ledger.Chores.{KeepsBehind}
+use Rattle.cat_commands.specs.ledger.Chores.{KeepsBehind, ReachesFor}
 
 pub unchanged : {D : Type 0} (bytes : D → ToldFiles) (old new : LedgerOnDevice D) → new ≡ old
     → NothingChanges (bytes (device_in old)) (shape_in old) (bytes (device_in new)) (shape_in new)
@@ -51,3 +52,13 @@ behind_force s new (Err e) merge segments = (merge, segments)
 pub behind_none : (chore : Chore) (s new : Shape) (r : Result Answer Refusal) → KeepsBehind chore s new → OnErr r (KeepsBehind chore s new)
 behind_none chore s new (Ok a) kept = tt
 behind_none chore s new (Err e) kept = kept
+
+-- ---- where memory was wanting
+
+pub reach_so : (chore is : Chore) (told : ToldFiles) (merging : Option MergingShape) (r : Result Answer Refusal) → chore ≡ is → IfErr r (λ e. e ≡ Memory → ReachesFor is told merging)
+    → IfErr r (λ e. e ≡ Memory → ReachesFor chore told merging)
+reach_so chore is told merging r same reach = subst (λ c. IfErr r (λ e. e ≡ Memory → ReachesFor c told merging)) (sym same) reach
+
+pub reach_any : (chore : Chore) (told : ToldFiles) (merging : Option MergingShape) (r : Result Answer Refusal) → ReachesFor chore told merging → IfErr r (λ e. e ≡ Memory → ReachesFor chore told merging)
+reach_any chore told merging (Ok a) reach = tt
+reach_any chore told merging (Err e) reach = λ memory. reach

@@ -16,7 +16,8 @@ use Rattle.cat_ledger_laws.specs.model.Ledger.{IsNew}
 use Rattle.cat_ledger_laws.specs.model.Plans.{MergePolicy}
 use Rattle.cat_ledger_laws.specs.model.Users.{users_of}
 use Rattle.cat_ledger_laws.specs.shape.Shapes.{MergingShape, Shape}
-use Rattle.cat_ledger.specs.cat_ledger_state.Cores.{HasRowsLeft}
+use Rattle.cat_ledger_laws.specs.shape.Ties.{ToldFiles}
+use Rattle.cat_ledger.specs.cat_ledger_state.Cores.{HasRowsLeft, MayCopy}
 use Rattle.cat_ledger.specs.cat_ledger_state.Installs.{IsOfMerge}
 use Rattle.cat_ledger.specs.upkeep.Due.{IsForceDue, IsMergeDue}
 use Rattle.cat_ledger.specs.Refusals.{KeepsMerge, KeepsSegments}
@@ -110,6 +111,11 @@ pub record MayRefuseForce (s : Shape) (e : Refusal) : Type 0 where
 abbrev pub FailsFor : Chore → Option MergingShape → Type 0 → Type 0
 FailsFor Merge merging fails = HasRowsLeft merging ⊎ fails
 FailsFor chore merging fails = fails
+
+-- Where a MERGE is told that memory was wanting, no source that it is to copy is told to be outside the file of its segment.
+abbrev pub ReachesFor : Chore → ToldFiles → Option MergingShape → Type 0
+ReachesFor Merge told merging = MayCopy told merging
+ReachesFor chore told merging = Unit {0}
 
 -- Maintenance that session 0 asks for may be refused so.
 abbrev pub MayRefuse : MergePolicy → Shape → Chore → Refusal → Type 0

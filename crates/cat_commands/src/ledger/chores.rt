@@ -7,13 +7,13 @@ ghost use Rattle.cat_base.specs.declared.refusal.Refusal.TheVariants.{Device, Li
 ghost use Rattle.cat_model.specs.Lines.{Said};
 ghost use Rattle.cat_model.specs.Run as run;
 ghost use Rattle.cat_cached_sets.specs.filters.Known.{Remembers, RemembersBelow};
-ghost use Rattle.cat_ledger.specs.cat_ledger_state.Cores.{HasRowsLeft};
+ghost use Rattle.cat_ledger.specs.cat_ledger_state.Cores.{HasRowsLeft, MayCopy};
 ghost use Rattle.cat_ledger.specs.Answering.{AnswersCommand, AnswersSaid};
 ghost use Rattle.cat_ledger.specs.Histories.{Event, Goes};
 ghost use Rattle.cat_ledger.specs.Ledgers.{Spares, device_in, policy_in, shape_in};
 ghost use Rattle.cat_ledger.specs.Refusals.{KeepsSegments};
 ghost use Rattle.cat_protocol.specs.replies.Reply.{answer_of, reply_of};
-ghost use Rattle.cat_commands.specs.ledger.Chores.{FailsFor, KeepsBehind, MayRefuse, MayRefuseMerge, SparesUsed, TellsChore, chore_of, pending_in, sets_left};
+ghost use Rattle.cat_commands.specs.ledger.Chores.{FailsFor, KeepsBehind, MayRefuse, MayRefuseMerge, ReachesFor, SparesUsed, TellsChore, chore_of, pending_in, sets_left};
 
 use crate::ledger::merging::{force, merge_step};
 use crate::ledger::stats::tell_stat;
@@ -44,6 +44,7 @@ fn merge<D: Directory + Shelf>(
 ) -> Result<Answer, Refusal>
     ensures answers { AnswersCommand D.bytes 0 (run.Command.chore run.Chore.merge) ledger.old (reply_of result) ledger.new }
     ensures refusal { IfErr result (MayRefuseMerge (policy_in ledger.old) (shape_in ledger.old)) }
+    ensures reach { IfErr result (λ e. e ≡ Memory → MayCopy (D.bytes (device_in ledger.old)) (shape_in ledger.old).merging) }
     ensures device { IfErr result (λ e. e ≡ Device → HasRowsLeft (shape_in ledger.old).merging ⊎ D.can_fail (device_in ledger.old)) }
     ensures counted { IfErr result (λ e. e ≡ Device → CountsOne (D.fault_count (device_in ledger.old)) (D.fault_count (device_in ledger.new))) }
     ensures crash { Spares D.may_leave ledger.old ledger.new }
@@ -103,6 +104,7 @@ pub fn maintain<D: Directory + Shelf>(
     ensures foreign { session ≢ 0 → (result ≡ Err NoForm) × (ledger.new ≡ ledger.old) × (filters.new ≡ filters.old) }
     ensures told { IfOk result (λ a. TellsChore (length filters.old.cached) (shape_in ledger.old) chore (answer_of a)) }
     ensures refusal { session ≡ 0 → IfErr result (MayRefuse (policy_in ledger.old) (shape_in ledger.old) chore) }
+    ensures reach { IfErr result (λ e. e ≡ Memory → ReachesFor chore (D.bytes (device_in ledger.old)) (shape_in ledger.old).merging) }
     ensures device { IfErr result (λ e. e ≡ Device → FailsFor chore (shape_in ledger.old).merging (D.can_fail (device_in ledger.old))) }
     ensures counted { IfErr result (λ e. e ≡ Device → CountsOne (D.fault_count (device_in ledger.old)) (D.fault_count (device_in ledger.new))) }
     ensures crash { SparesUsed D.may_leave ledger.old ledger.new }

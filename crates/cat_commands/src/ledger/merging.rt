@@ -3,9 +3,9 @@
 //! Lucene's `IndexWriter.maybeMerge` and `forceMerge(1)`.
 ghost use Rattle.cat_directory.specs.Devices.{CountsOne};
 ghost use Rattle.std.specs.Prelude.{◌≡◌, ◌⊎◌, IfErr, OnErr, ◌≤◌};
-ghost use Rattle.cat_base.specs.declared.refusal.Refusal.TheVariants.{Device};
+ghost use Rattle.cat_base.specs.declared.refusal.Refusal.TheVariants.{Device, Memory};
 ghost use Rattle.cat_model.specs.Run as run;
-ghost use Rattle.cat_ledger.specs.cat_ledger_state.Cores.{HasRowsLeft};
+ghost use Rattle.cat_ledger.specs.cat_ledger_state.Cores.{HasRowsLeft, MayCopy};
 ghost use Rattle.cat_ledger.specs.upkeep.News as merges;
 ghost use Rattle.cat_ledger.specs.Answering.{AnswersCommand};
 ghost use Rattle.cat_ledger.specs.Histories.{Event, Goes};
@@ -37,6 +37,7 @@ fn news_told(news: MergeNews) -> News
 pub(crate) fn merge_step<D: Directory + Shelf>(ledger: &mut Ledger<D>) -> Result<Answer, Refusal>
     ensures answers { AnswersCommand D.bytes 0 (run.Command.chore run.Chore.merge) ledger.old (reply_of result) ledger.new }
     ensures refusal { IfErr result (MayRefuseMerge (policy_in ledger.old) (shape_in ledger.old)) }
+    ensures reach { IfErr result (λ e. e ≡ Memory → MayCopy (D.bytes (device_in ledger.old)) (shape_in ledger.old).merging) }
     ensures device { IfErr result (λ e. e ≡ Device → HasRowsLeft (shape_in ledger.old).merging ⊎ D.can_fail (device_in ledger.old)) }
     ensures crash { Spares D.may_leave ledger.old ledger.new }
     ensures counted { IfErr result (λ e. e ≡ Device → CountsOne (D.fault_count (device_in ledger.old)) (D.fault_count (device_in ledger.new))) }

@@ -6,7 +6,7 @@ use Rattle.cat_protocol.specs.replies.Reply.{reply_of}
 use Rattle.cat_commands.specs.declared.ledger.chores.Chore.TheVariants.{Force, Merge, Stat, Sweep}
 use Rattle.cat_commands.specs.ledger.Chores.{chore_of}
 use Rattle.cat_commands.proofs.ledger.Answered.{at_zero}
-use Rattle.cat_commands.proofs.ledger.Kept.{behind_force, behind_none, behind_same, behind_so, goes_same}
+use Rattle.cat_commands.proofs.ledger.Kept.{behind_force, behind_none, behind_same, behind_so, goes_same, reach_any, reach_so}
 use Rattle.cat_commands.proofs.ledger.chores.maintain.Goals as goal
 
 pub returns-then-session-ne0-clause-answers : goal.returns-then-session-ne0-clause-answers
@@ -89,3 +89,27 @@ pub returns-in-Stat-clause-keeps : goal.returns-in-Stat-clause-keeps
 returns-in-Stat-clause-keeps g c =
     let s = shape_in c.args.ledger.now in
     behind_so c.args.chore Stat s s c.tell_stat.result c.in-Stat.is (behind_none Stat s s c.tell_stat.result tt)
+
+pub returns-in-Merge-clause-reach : goal.returns-in-Merge-clause-reach
+returns-in-Merge-clause-reach g c =
+    let told = g.D.Holder.bytes (device_in c.args.ledger.now) in
+    let merging = (shape_in c.args.ledger.now).merging in
+    reach_so c.args.chore Merge told merging c.merge.result c.in-Merge.is c.merge.ensures.reach
+
+pub returns-in-Force-clause-reach : goal.returns-in-Force-clause-reach
+returns-in-Force-clause-reach g c =
+    let told = g.D.Holder.bytes (device_in c.args.ledger.now) in
+    let merging = (shape_in c.args.ledger.now).merging in
+    reach_so c.args.chore Force told merging c.force.result c.in-Force.is (reach_any Force told merging c.force.result tt)
+
+pub returns-in-Sweep-clause-reach : goal.returns-in-Sweep-clause-reach
+returns-in-Sweep-clause-reach g c =
+    let told = g.D.Holder.bytes (device_in c.args.ledger.now) in
+    let merging = (shape_in c.args.ledger.now).merging in
+    reach_so c.args.chore Sweep told merging c.sweep.result c.in-Sweep.is (reach_any Sweep told merging c.sweep.result tt)
+
+pub returns-in-Stat-clause-reach : goal.returns-in-Stat-clause-reach
+returns-in-Stat-clause-reach g c =
+    let told = g.D.Holder.bytes (device_in c.args.ledger.now) in
+    let merging = (shape_in c.args.ledger.now).merging in
+    reach_so c.args.chore Stat told merging c.tell_stat.result c.in-Stat.is (reach_any Stat told merging c.tell_stat.result tt)
