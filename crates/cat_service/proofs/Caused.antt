@@ -18,14 +18,15 @@ use Rattle.cat_model.specs.View.{View}
 use Rattle.cat_directory.specs.Devices.{CountsOne, FileContent}
 use Rattle.cat_directory.specs.declared.name.FileName.{FileName}
 use Rattle.cat_commands.specs.views.Holding.{said_open}
-use Rattle.cat_commands.specs.ledger.Chores.{FailsFor, KeepsBehind, MayRefuse, MayRefuseForce, MayRefuseMerge, TellsChore, chore_of}
+use Rattle.cat_commands.specs.ledger.Chores.{FailsFor, IsWarmTold, KeepsBehind, MayRefuse, MayRefuseForce, MayRefuseMerge, ReachesFor, TellsChore, chore_of}
 use Rattle.cat_commands.specs.declared.ledger.chores.Chore as code_chore
 use Rattle.cat_commands.specs.declared.ledger.chores.Chore.TheVariants.{Force, Merge, Stat, Sweep}
+use Rattle.cat_commands.specs.cat_cached_sets.filters.Filters.{Filters}
 use Rattle.cat_commands.specs.cat_ledger.Answering.{AnswersSaid}
 use Rattle.cat_commands.specs.cat_ledger.Histories.{GoesBy}
 use Rattle.cat_commands.specs.cat_ledger.Ledgers.{LedgerOnDevice, device_in, policy_in, shape_in}
 use Rattle.cat_commands.specs.cat_ledger.Refusals.{KeepsMerge}
-use Rattle.cat_commands.specs.cat_ledger_state.Cores.{HasRowsLeft, MayNotFlush}
+use Rattle.cat_commands.specs.cat_ledger_state.Cores.{HasRowsLeft, MayCopy, MayNotFlush}
 use Rattle.cat_ledger_laws.specs.lines.LineLaws.{line_of}
 use Rattle.cat_ledger_laws.specs.lines.ReadLaws.{IsRecordedAs}
 use Rattle.cat_ledger_laws.specs.lines.RunLaws as lines
@@ -65,13 +66,13 @@ kept_so : (A : Type 0) (P : Reply → Type 0) → ((a : Answer) → P (Ok a)) �
 kept_so A P ok err (Ok a) h = ok (answer_of a)
 kept_so A P ok err (Err e) h = err e h
 
-module _ {D : Type 0} (bytes : D → ToldFiles) (can_fail : D → Type 0) (faults : D → ℕ) (old : LedgerOnDevice D) (rights : List HeldView) (result : Result code.Answer Refusal)
-    (left : LedgerOnDevice D) (rights' : List HeldView) where
+module _ {D : Type 0} (bytes : D → ToldFiles) (can_fail : D → Type 0) (faults : D → ℕ) (old : LedgerOnDevice D) (rights : List HeldView) (f : Filters)
+    (result : Result code.Answer Refusal) (left : LedgerOnDevice D) (rights' : List HeldView) (f' : Filters) where
   abbrev world : Service D
-  world = record { ledger = old; rights = rights }
+  world = record { ledger = old; rights = rights; sets = f }
 
   abbrev after : Service D
-  after = record { ledger = left; rights = rights' }
+  after = record { ledger = left; rights = rights'; sets = f' }
 
   abbrev Counted : Type 0
   Counted = CountsOne (faults (device_in old)) (faults (device_in left))
@@ -162,7 +163,7 @@ module _ {D : Type 0} (bytes : D → ToldFiles) (can_fail : D → Type 0) (fault
 
   -- what is told of a generation
   commit_told : (may : D → FileName → FileContent → Type 0) (text : Text) (reply : Reply) (new : LedgerOnDevice D) → GoesBy may (Some (Said.commit text)) reply old new
-      → TellsSo (policy_in old) (shape_in old) (Some (Said.commit text)) reply
+      → TellsSo (policy_in old) (shape_in old) f f' (Some (Said.commit text)) reply
   commit_told may text (Ok (Answer.number g)) new goes = (goes.asked g refl).0
   commit_told may text (Ok (Answer.found f)) new goes = tt
   commit_told may text (Ok (Answer.names ns)) new goes = tt
@@ -197,6 +198,25 @@ module _ {D : Type 0} (bytes : D → ToldFiles) (can_fail : D → Type 0) (fault
 
   -- ---- maintenance
 
+  -- what a step of warming did, as it is answered
+  warm_told : (r : Result code.Answer Refusal) → IfOk r (λ a. IsWarmTold (shape_in old) f f' (answer_of a))
+      → TellsSo (policy_in old) (shape_in old) f f' (Some (Said.chore Chore.warm)) (reply_of r)
+  warm_told (Ok a) told = told
+  warm_told (Err e) told = tt
+
+  pub warm_caused : IfOk result (λ a. IsWarmTold (shape_in old) f f' (answer_of a)) → Rises → Causes (Said.chore Chore.warm)
+  warm_caused told rises = record {
+    spent = λ k. tt;
+    device = λ k. tt;
+    counted = λ k. tt;
+    damaged = λ k. tt;
+    reached = λ k. tt;
+    told = warm_told result told;
+    rises = rises;
+    stays = tt;
+    keeps = tt;
+  }
+
   -- session 0 alone is told anything but that the line has no form
   zero : {A : Type 0} (session : ℕ) (reply : Reply) → (Err NoForm ≢ reply) → (session ≢ 0 → (result ≡ Err NoForm) × A) → reply_of result ≡ reply → session ≡ 0
   zero session reply differs foreign is = elim (eqb_tells session 0) [
@@ -213,7 +233,7 @@ module _ {D : Type 0} (bytes : D → ToldFiles) (can_fail : D → Type 0) (fault
         (subst (λ n. lines.AnswersCarried (policy_in old) (bytes (device_in old)) (shape_in old) (line_of n answers.0) reply (bytes (device_in left)) (shape_in left)) is answers.2)
 
     merge_told : (a : Answer) → session ≡ 0 → AnswersSaid bytes session (Said.chore Chore.merge) old (Ok a) left
-        → TellsSo (policy_in old) (shape_in old) (Some (Said.chore Chore.merge)) (Ok a)
+        → TellsSo (policy_in old) (shape_in old) f f' (Some (Said.chore Chore.merge)) (Ok a)
     merge_told (Answer.news n) is answers =
         (merges_tell (policy_in old) (bytes (device_in old)) (bytes (device_in left)) (shape_in old) (shape_in left) n carried.0 carried.1 carried.2).0
         (of_zero Chore.merge (Ok (Answer.news n)) is answers)
@@ -223,7 +243,7 @@ module _ {D : Type 0} (bytes : D → ToldFiles) (can_fail : D → Type 0) (fault
     merge_told (Answer.commit_text t) is answers = tt
 
     force_told : (a : Answer) → session ≡ 0 → AnswersSaid bytes session (Said.chore Chore.force) old (Ok a) left
-        → TellsSo (policy_in old) (shape_in old) (Some (Said.chore Chore.force)) (Ok a)
+        → TellsSo (policy_in old) (shape_in old) f f' (Some (Said.chore Chore.force)) (Ok a)
     force_told (Answer.news n) is answers =
         (merges_tell (policy_in old) (bytes (device_in old)) (bytes (device_in left)) (shape_in old) (shape_in left) n carried.0 carried.1 carried.2).1
         (of_zero Chore.force (Ok (Answer.news n)) is answers)
@@ -233,31 +253,31 @@ module _ {D : Type 0} (bytes : D → ToldFiles) (can_fail : D → Type 0) (fault
     force_told (Answer.commit_text t) is answers = tt
 
     -- what is told, as it is answered
-    maintain_told : (sets : ℕ) (chore : code_chore.Chore) (r : Result code.Answer Refusal) → (session ≢ 0 → r ≡ Err NoForm)
-        → AnswersSaid bytes session (Said.chore (chore_of chore)) old (reply_of r) left → IfOk r (λ a. TellsChore sets (shape_in old) chore (answer_of a))
-        → TellsSo (policy_in old) (shape_in old) (Some (Said.chore (chore_of chore))) (reply_of r)
-    maintain_told sets Merge (Ok a) foreign answers told = merge_told (answer_of a) (zero_answered a foreign) answers
+    maintain_told : (chore : code_chore.Chore) (r : Result code.Answer Refusal) → (session ≢ 0 → r ≡ Err NoForm)
+        → AnswersSaid bytes session (Said.chore (chore_of chore)) old (reply_of r) left → IfOk r (λ a. TellsChore (length f.cached) (shape_in old) chore (answer_of a))
+        → TellsSo (policy_in old) (shape_in old) f f' (Some (Said.chore (chore_of chore))) (reply_of r)
+    maintain_told Merge (Ok a) foreign answers told = merge_told (answer_of a) (zero_answered a foreign) answers
       where
         zero_answered : (a : code.Answer) → (session ≢ 0 → ◌≡◌ {A = Result code.Answer Refusal} (Ok a) (Err NoForm)) → session ≡ 0
         zero_answered a foreign = elim (eqb_tells session 0) [
           | inl k ↦ k.1
           | inr k ↦ absurd (let no : ◌≡◌ {A = Result code.Answer Refusal} (Ok a) (Err NoForm) = foreign k.1 in cc)
         ]
-    maintain_told sets Force (Ok a) foreign answers told = force_told (answer_of a) (zero_answered a foreign) answers
+    maintain_told Force (Ok a) foreign answers told = force_told (answer_of a) (zero_answered a foreign) answers
       where
         zero_answered : (a : code.Answer) → (session ≢ 0 → ◌≡◌ {A = Result code.Answer Refusal} (Ok a) (Err NoForm)) → session ≡ 0
         zero_answered a foreign = elim (eqb_tells session 0) [
           | inl k ↦ k.1
           | inr k ↦ absurd (let no : ◌≡◌ {A = Result code.Answer Refusal} (Ok a) (Err NoForm) = foreign k.1 in cc)
         ]
-    maintain_told sets Sweep (Ok a) foreign answers told =
-        subst (λ x. TellsSo (policy_in old) (shape_in old) (Some (Said.chore Chore.sweep)) (Ok x)) (sym told) refl
-    maintain_told sets Stat (Ok a) foreign answers told =
-        subst (λ x. TellsSo (policy_in old) (shape_in old) (Some (Said.chore Chore.stat)) (Ok x)) (sym told) (sets, refl)
-    maintain_told sets Merge (Err e) foreign answers told = tt
-    maintain_told sets Force (Err e) foreign answers told = tt
-    maintain_told sets Sweep (Err e) foreign answers told = tt
-    maintain_told sets Stat (Err e) foreign answers told = tt
+    maintain_told Sweep (Ok a) foreign answers told =
+        subst (λ x. TellsSo (policy_in old) (shape_in old) f f' (Some (Said.chore Chore.sweep)) (Ok x)) (sym told) refl
+    maintain_told Stat (Ok a) foreign answers told =
+        subst (λ x. TellsSo (policy_in old) (shape_in old) f f' (Some (Said.chore Chore.stat)) (Ok x)) (sym told) refl
+    maintain_told Merge (Err e) foreign answers told = tt
+    maintain_told Force (Err e) foreign answers told = tt
+    maintain_told Sweep (Err e) foreign answers told = tt
+    maintain_told Stat (Err e) foreign answers told = tt
 
     -- when it is refused
     module _ {A : Type 0} (foreign : session ≢ 0 → (result ≡ Err NoForm) × A) where
@@ -274,21 +294,22 @@ module _ {D : Type 0} (bytes : D → ToldFiles) (can_fail : D → Type 0) (fault
       force_may may e differs k = refused_so (MayRefuseForce (shape_in old)) result e (may (zero session (Err e) (apart e differs) foreign k)) k
 
       refuses : (chore : code_chore.Chore) → (session ≡ 0 → IfErr result (MayRefuse (policy_in old) (shape_in old) chore))
+          → IfErr result (λ e. e ≡ Memory → ReachesFor chore (bytes (device_in old)) (shape_in old).merging)
           → IfErr result (λ e. e ≡ Device → FailsFor chore (shape_in old).merging (can_fail (device_in old))) → IfErr result (λ e. e ≡ Device → Counted)
-          → TellsSo (policy_in old) (shape_in old) (Some (Said.chore (chore_of chore))) (reply_of result) → Rises
+          → TellsSo (policy_in old) (shape_in old) f f' (Some (Said.chore (chore_of chore))) (reply_of result) → Rises
           → OnErr result (KeepsBehind chore (shape_in old) (shape_in left)) → Causes (Said.chore (chore_of chore))
-      refuses Merge may device counted told rises keeps = record {
+      refuses Merge may reach device counted told rises keeps = record {
         spent = λ k. (merge_may may Spent (λ e. cc e) k).spent refl;
         device = given_so (HasRowsLeft (shape_in old).merging ⊎ can_fail (device_in old)) Device result Device device refl;
         counted = given_so Counted Device result Device counted refl;
         damaged = λ k. (merge_may may Damaged (λ e. cc e) k).damaged refl;
-        reached = λ k. tt;
+        reached = given_so (MayCopy (bytes (device_in old)) (shape_in old).merging) Memory result Memory reach refl;
         told = told;
         rises = rises;
         stays = tt;
         keeps = kept_so (KeepsBehind Merge (shape_in old) (shape_in left)) (Keeps (Said.chore Chore.merge)) (λ a. tt) (λ e kept. kept) result keeps;
       }
-      refuses Force may device counted told rises keeps = record {
+      refuses Force may reach device counted told rises keeps = record {
         spent = λ k. let m = force_may may Spent (λ e. cc e) k in (m.due, m.spent refl);
         device = given_so (can_fail (device_in old)) Device result Device device refl;
         counted = given_so Counted Device result Device counted refl;
@@ -299,17 +320,18 @@ module _ {D : Type 0} (bytes : D → ToldFiles) (can_fail : D → Type 0) (fault
         stays = tt;
         keeps = kept_so (KeepsBehind Force (shape_in old) (shape_in left)) (Keeps (Said.chore Chore.force)) (λ a. tt) (λ e kept. kept) result keeps;
       }
-      refuses Sweep may device counted told rises keeps =
+      refuses Sweep may reach device counted told rises keeps =
           record { spent = λ k. tt; device = given_so (can_fail (device_in old)) Device result Device device refl; counted = given_so Counted Device result Device counted refl; damaged = λ k. tt; reached = λ k. tt; told = told; rises = rises; stays = tt; keeps = tt }
-      refuses Stat may device counted told rises keeps =
+      refuses Stat may reach device counted told rises keeps =
           record { spent = λ k. tt; device = λ k. tt; counted = λ k. tt; damaged = λ k. tt; reached = λ k. tt; told = told; rises = rises; stays = tt; keeps = tt }
 
-      pub chore_caused : (sets : ℕ) (chore : code_chore.Chore) → AnswersSaid bytes session (Said.chore (chore_of chore)) old (reply_of result) left
-          → IfOk result (λ a. TellsChore sets (shape_in old) chore (answer_of a)) → (session ≡ 0 → IfErr result (MayRefuse (policy_in old) (shape_in old) chore))
+      pub chore_caused : (chore : code_chore.Chore) → AnswersSaid bytes session (Said.chore (chore_of chore)) old (reply_of result) left
+          → IfOk result (λ a. TellsChore (length f.cached) (shape_in old) chore (answer_of a)) → (session ≡ 0 → IfErr result (MayRefuse (policy_in old) (shape_in old) chore))
+          → IfErr result (λ e. e ≡ Memory → ReachesFor chore (bytes (device_in old)) (shape_in old).merging)
           → IfErr result (λ e. e ≡ Device → FailsFor chore (shape_in old).merging (can_fail (device_in old))) → IfErr result (λ e. e ≡ Device → Counted) → Rises
           → OnErr result (KeepsBehind chore (shape_in old) (shape_in left)) → Causes (Said.chore (chore_of chore))
-      chore_caused sets chore answers told may device counted rises keeps =
-          refuses chore may device counted (maintain_told sets chore result (λ k. (foreign k).0) answers told) rises keeps
+      chore_caused chore answers told may reach device counted rises keeps =
+          refuses chore may reach device counted (maintain_told chore result (λ k. (foreign k).0) answers told) rises keeps
 
 -- ---- of commands
 

@@ -23,6 +23,7 @@ use Rattle.cat_commands.specs.sets.Sets.{HasSets}
 use Rattle.cat_commands.proofs.sets.Knowing.{kept_stay}
 use Rattle.cat_commands.proofs.sets.Right.{sets_stay}
 use Rattle.cat_commands.proofs.views.Counted.{rights_kept}
+use Rattle.cat_service.specs.Cached.{MakesOfSets}
 use Rattle.cat_service.specs.Causes.{HasCause, TakesNumbers}
 use Rattle.cat_service.specs.Lines.{Does}
 use Rattle.cat_service.specs.Named.{TellsNeeded}
@@ -106,17 +107,19 @@ module _ {D : Type 0} {f : Filters} {ks : List ReaderState} (bytes : D → ToldF
   }
 
 -- what an answer makes of a world that tells what is needed
-pub does_telling : {D : Type 0} {f : Filters} {ks : List ReaderState} (bytes : D → ToldFiles) (can_fail : D → Type 0) (faults : D → ℕ) (session : ℕ) (said : Said) (old : LedgerOnDevice D) (reply : Reply) (new : LedgerOnDevice D) (rights after : List HeldView)
-    → IsWorld bytes old rights f ks → HasCause bytes can_fail faults (record { ledger = old; rights = rights }) (Some said) reply (record { ledger = new; rights = after })
+pub does_telling : {D : Type 0} {f : Filters} {ks : List ReaderState} (bytes : D → ToldFiles) (can_fail : D → Type 0) (faults : D → ℕ) (session : ℕ) (said : Said) (old : LedgerOnDevice D) (reply : Reply) (new : LedgerOnDevice D) (rights after : List HeldView) (left : Filters)
+    → IsWorld bytes old rights f ks → HasCause bytes can_fail faults (record { ledger = old; rights = rights; sets = f }) (Some said) reply (record { ledger = new; rights = after; sets = left })
+    → MakesOfSets session (Some said) (record { ledger = old; rights = rights; sets = f }) reply (record { ledger = new; rights = after; sets = left })
     → AnswersSaid bytes session said old reply new → (can_fail (device_in new) → can_fail (device_in old))
     → policy_in new ≡ policy_in old → TellsNeeded (shape_in old) (Some said) reply → (reply ≡ Err Memory → SaysMayWant (bytes (device_in old)) (shape_in old) session said)
-    → Does bytes can_fail faults session (Some said) (record { ledger = old; rights = rights }) reply (record { ledger = new; rights = after })
-does_telling bytes can_fail faults session said old reply new rights after w cause answered can policy told wanting = record {
+    → Does bytes can_fail faults session (Some said) (record { ledger = old; rights = rights; sets = f }) reply (record { ledger = new; rights = after; sets = left })
+does_telling bytes can_fail faults session said old reply new rights after left w cause sets answered can policy told wanting = record {
   answers = answered;
   told = told;
   names = names_files (bytes (device_in old)) (shape_in old) w.carried.0 w.carried.1 w.carried.2 (Some said) reply told;
   wanting = λ k. wanting k answered.0 answered.1;
   cause = cause;
+  sets = sets;
   numbers = taken_numbers bytes session said old reply new rights w answered;
   can = can;
   schema = same_fields bytes session said old reply new rights w answered;
@@ -124,13 +127,14 @@ does_telling bytes can_fail faults session said old reply new rights after w cau
 }
 
 -- what one makes to a line that asks for no names and no source
-pub does : {D : Type 0} {f : Filters} {ks : List ReaderState} (bytes : D → ToldFiles) (can_fail : D → Type 0) (faults : D → ℕ) (session : ℕ) (said : Said) (old : LedgerOnDevice D) (reply : Reply) (new : LedgerOnDevice D) (rights after : List HeldView)
-    → IsWorld bytes old rights f ks → HasCause bytes can_fail faults (record { ledger = old; rights = rights }) (Some said) reply (record { ledger = new; rights = after })
+pub does : {D : Type 0} {f : Filters} {ks : List ReaderState} (bytes : D → ToldFiles) (can_fail : D → Type 0) (faults : D → ℕ) (session : ℕ) (said : Said) (old : LedgerOnDevice D) (reply : Reply) (new : LedgerOnDevice D) (rights after : List HeldView) (left : Filters)
+    → IsWorld bytes old rights f ks → HasCause bytes can_fail faults (record { ledger = old; rights = rights; sets = f }) (Some said) reply (record { ledger = new; rights = after; sets = left })
+    → MakesOfSets session (Some said) (record { ledger = old; rights = rights; sets = f }) reply (record { ledger = new; rights = after; sets = left })
     → AnswersSaid bytes session said old reply new → (can_fail (device_in new) → can_fail (device_in old))
     → policy_in new ≡ policy_in old → says_texts said ≡ false → (reply ≡ Err Memory → SaysMayWant (bytes (device_in old)) (shape_in old) session said)
-    → Does bytes can_fail faults session (Some said) (record { ledger = old; rights = rights }) reply (record { ledger = new; rights = after })
-does bytes can_fail faults session said old reply new rights after w cause answered can policy none wanting =
-    does_telling bytes can_fail faults session said old reply new rights after w cause answered can policy (
+    → Does bytes can_fail faults session (Some said) (record { ledger = old; rights = rights; sets = f }) reply (record { ledger = new; rights = after; sets = left })
+does bytes can_fail faults session said old reply new rights after left w cause sets answered can policy none wanting =
+    does_telling bytes can_fail faults session said old reply new rights after left w cause sets answered can policy (
     told_none (policy_in old) (bytes (device_in old)) (bytes (device_in new)) (shape_in old) (shape_in new) session said answered.0 reply
     w.carried.0 w.carried.1 w.carried.2 answered.1 answered.2 none
     ) wanting

@@ -19,3 +19,4 @@ pub mod Copied
 pub mod Ran
 pub mod Histories
 pub mod Caused
+pub mod Cached

@@ -18,6 +18,7 @@ use Rattle.cat_model.specs.Text.{Text}
 use Rattle.cat_model.specs.View.{Leaf}
 use Rattle.cat_model.specs.Window.{IsWindow}
 use Rattle.cat_directory.specs.Devices.{CountsOne}
+use Rattle.cat_commands.specs.cat_cached_sets.filters.Filters.{Filters}
 use Rattle.cat_commands.specs.cat_ledger.Lasting.{AlwaysTells}
 use Rattle.cat_commands.specs.cat_ledger_state.Cores.{HasRowsLeft, MayNotFlush}
 use Rattle.cat_commands.specs.cat_ledger.upkeep.Due.{IsMergeDue}
@@ -235,66 +236,66 @@ module _ {D : Type 0} (bytes : D → ToldFiles) (can_fail : D → Type 0) (fault
   abbrev Told : Command → Reply → Type 0
   Told c r = IsToldOf (policy_of old).factor (policy_of old).least st c r
 
-  commit_told : (said : Text) (text : Result Text Refusal) (r : Reply) → TellsSo (policy_of old) s (Some (Said.commit said)) r → Told (Command.commit text) r
-  commit_told said text (Ok (Answer.number g)) m = m
-  commit_told said text (Ok (Answer.found f)) m = tt
-  commit_told said text (Ok (Answer.names ns)) m = tt
-  commit_told said text (Ok (Answer.commit_text t)) m = tt
-  commit_told said text (Ok (Answer.news n)) m = tt
-  commit_told said text (Err e) m = tt
+  commit_told : (sets left : Filters) (said : Text) (text : Result Text Refusal) (r : Reply) → TellsSo (policy_of old) s sets left (Some (Said.commit said)) r → Told (Command.commit text) r
+  commit_told sets left said text (Ok (Answer.number g)) m = m
+  commit_told sets left said text (Ok (Answer.found f)) m = tt
+  commit_told sets left said text (Ok (Answer.names ns)) m = tt
+  commit_told sets left said text (Ok (Answer.commit_text t)) m = tt
+  commit_told sets left said text (Ok (Answer.news n)) m = tt
+  commit_told sets left said text (Err e) m = tt
 
-  chore_told : (what : Chore) (r : Reply) → TellsSo (policy_of old) s (Some (Said.chore what)) r → Told (Command.chore what) r
-  chore_told Chore.merge (Ok (Answer.news n)) m = merge_told n m
-  chore_told Chore.force (Ok (Answer.news n)) m = force_told n m
-  chore_told Chore.warm (Ok (Answer.news n)) m = tt
-  chore_told Chore.sweep (Ok (Answer.news n)) m = m
-  chore_told Chore.stat (Ok (Answer.news n)) m = m
-  chore_told Chore.merge (Ok (Answer.number g)) m = tt
-  chore_told Chore.force (Ok (Answer.number g)) m = tt
-  chore_told Chore.warm (Ok (Answer.number g)) m = tt
-  chore_told Chore.sweep (Ok (Answer.number g)) m = tt
-  chore_told Chore.stat (Ok (Answer.number g)) m = tt
-  chore_told Chore.merge (Ok (Answer.found f)) m = tt
-  chore_told Chore.force (Ok (Answer.found f)) m = tt
-  chore_told Chore.warm (Ok (Answer.found f)) m = tt
-  chore_told Chore.sweep (Ok (Answer.found f)) m = tt
-  chore_told Chore.stat (Ok (Answer.found f)) m = tt
-  chore_told Chore.merge (Ok (Answer.names ns)) m = tt
-  chore_told Chore.force (Ok (Answer.names ns)) m = tt
-  chore_told Chore.warm (Ok (Answer.names ns)) m = tt
-  chore_told Chore.sweep (Ok (Answer.names ns)) m = tt
-  chore_told Chore.stat (Ok (Answer.names ns)) m = tt
-  chore_told Chore.merge (Ok (Answer.commit_text t)) m = tt
-  chore_told Chore.force (Ok (Answer.commit_text t)) m = tt
-  chore_told Chore.warm (Ok (Answer.commit_text t)) m = tt
-  chore_told Chore.sweep (Ok (Answer.commit_text t)) m = tt
-  chore_told Chore.stat (Ok (Answer.commit_text t)) m = tt
-  chore_told Chore.merge (Err e) m = tt
-  chore_told Chore.force (Err e) m = tt
-  chore_told Chore.warm (Err e) m = tt
-  chore_told Chore.sweep (Err e) m = tt
-  chore_told Chore.stat (Err e) m = tt
+  chore_told : (sets left : Filters) (what : Chore) (r : Reply) → TellsSo (policy_of old) s sets left (Some (Said.chore what)) r → Told (Command.chore what) r
+  chore_told sets left Chore.merge (Ok (Answer.news n)) m = merge_told n m
+  chore_told sets left Chore.force (Ok (Answer.news n)) m = force_told n m
+  chore_told sets left Chore.warm (Ok (Answer.news n)) m = tt
+  chore_told sets left Chore.sweep (Ok (Answer.news n)) m = m
+  chore_told sets left Chore.stat (Ok (Answer.news n)) m = (length sets.cached, m)
+  chore_told sets left Chore.merge (Ok (Answer.number g)) m = tt
+  chore_told sets left Chore.force (Ok (Answer.number g)) m = tt
+  chore_told sets left Chore.warm (Ok (Answer.number g)) m = tt
+  chore_told sets left Chore.sweep (Ok (Answer.number g)) m = tt
+  chore_told sets left Chore.stat (Ok (Answer.number g)) m = tt
+  chore_told sets left Chore.merge (Ok (Answer.found f)) m = tt
+  chore_told sets left Chore.force (Ok (Answer.found f)) m = tt
+  chore_told sets left Chore.warm (Ok (Answer.found f)) m = tt
+  chore_told sets left Chore.sweep (Ok (Answer.found f)) m = tt
+  chore_told sets left Chore.stat (Ok (Answer.found f)) m = tt
+  chore_told sets left Chore.merge (Ok (Answer.names ns)) m = tt
+  chore_told sets left Chore.force (Ok (Answer.names ns)) m = tt
+  chore_told sets left Chore.warm (Ok (Answer.names ns)) m = tt
+  chore_told sets left Chore.sweep (Ok (Answer.names ns)) m = tt
+  chore_told sets left Chore.stat (Ok (Answer.names ns)) m = tt
+  chore_told sets left Chore.merge (Ok (Answer.commit_text t)) m = tt
+  chore_told sets left Chore.force (Ok (Answer.commit_text t)) m = tt
+  chore_told sets left Chore.warm (Ok (Answer.commit_text t)) m = tt
+  chore_told sets left Chore.sweep (Ok (Answer.commit_text t)) m = tt
+  chore_told sets left Chore.stat (Ok (Answer.commit_text t)) m = tt
+  chore_told sets left Chore.merge (Err e) m = tt
+  chore_told sets left Chore.force (Err e) m = tt
+  chore_told sets left Chore.warm (Err e) m = tt
+  chore_told sets left Chore.sweep (Err e) m = tt
+  chore_told sets left Chore.stat (Err e) m = tt
 
-  told_for : (schema : Schema) (said : Option Said) (c : Command) (r : Reply) → IsCommandOf schema said c → TellsSo (policy_of old) s said r → Told c r
-  told_for schema None c r is m = subst (λ k. Told k r) (sym is) tt
-  told_for schema (Some (Said.commit text)) c r is m = subst (λ k. Told k r) (sym is) (commit_told text (commit_text_of text) r m)
-  told_for schema (Some (Said.chore what)) c r is m = subst (λ k. Told k r) (sym is) (chore_told what r m)
-  told_for schema (Some (Said.put text)) c r is m = subst (λ k. Told k r) (sym is) tt
-  told_for schema (Some (Said.delete text)) c r is m = subst (λ k. Told k r) (sym is) tt
-  told_for schema (Some (Said.delete_where text)) c r is m = subst (λ k. Told k r) (sym is.2) tt
-  told_for schema (Some Said.refresh) c r is m = subst (λ k. Told k r) (sym is) tt
-  told_for schema (Some Said.open_newest) c r is m = subst (λ k. Told k r) (sym is) tt
-  told_for schema (Some (Said.open_at t)) c r is m = subst (λ k. Told k r) (sym is) tt
-  told_for schema (Some (Said.close t)) c r is m = subst (λ k. Told k r) (sym is) tt
-  told_for schema (Some (Said.find t n sort mark text)) c r is m = subst (λ k. Told k r) (sym is.2) tt
-  told_for schema (Some (Said.facets t dim n text)) c r is m = subst (λ k. Told k r) (sym is.2) tt
-  told_for schema (Some (Said.get t text)) c r is m = subst (λ k. Told k r) (sym is) tt
-  told_for schema (Some (Said.files_of_token t)) c r is m = subst (λ k. Told k r) (sym is) tt
-  told_for schema (Some (Said.files_of_commit g)) c r is m = subst (λ k. Told k r) (sym is) tt
-  told_for schema (Some (Said.text_of_commit g)) c r is m = subst (λ k. Told k r) (sym is) tt
-  told_for schema (Some Said.snapshot) c r is m = subst (λ k. Told k r) (sym is) tt
-  told_for schema (Some (Said.release_snapshot g)) c r is m = subst (λ k. Told k r) (sym is) tt
-  told_for schema (Some (Said.prune n)) c r is m = subst (λ k. Told k r) (sym is) tt
+  told_for : (sets left : Filters) (schema : Schema) (said : Option Said) (c : Command) (r : Reply) → IsCommandOf schema said c → TellsSo (policy_of old) s sets left said r → Told c r
+  told_for sets left schema None c r is m = subst (λ k. Told k r) (sym is) tt
+  told_for sets left schema (Some (Said.commit text)) c r is m = subst (λ k. Told k r) (sym is) (commit_told sets left text (commit_text_of text) r m)
+  told_for sets left schema (Some (Said.chore what)) c r is m = subst (λ k. Told k r) (sym is) (chore_told sets left what r m)
+  told_for sets left schema (Some (Said.put text)) c r is m = subst (λ k. Told k r) (sym is) tt
+  told_for sets left schema (Some (Said.delete text)) c r is m = subst (λ k. Told k r) (sym is) tt
+  told_for sets left schema (Some (Said.delete_where text)) c r is m = subst (λ k. Told k r) (sym is.2) tt
+  told_for sets left schema (Some Said.refresh) c r is m = subst (λ k. Told k r) (sym is) tt
+  told_for sets left schema (Some Said.open_newest) c r is m = subst (λ k. Told k r) (sym is) tt
+  told_for sets left schema (Some (Said.open_at t)) c r is m = subst (λ k. Told k r) (sym is) tt
+  told_for sets left schema (Some (Said.close t)) c r is m = subst (λ k. Told k r) (sym is) tt
+  told_for sets left schema (Some (Said.find t n sort mark text)) c r is m = subst (λ k. Told k r) (sym is.2) tt
+  told_for sets left schema (Some (Said.facets t dim n text)) c r is m = subst (λ k. Told k r) (sym is.2) tt
+  told_for sets left schema (Some (Said.get t text)) c r is m = subst (λ k. Told k r) (sym is) tt
+  told_for sets left schema (Some (Said.files_of_token t)) c r is m = subst (λ k. Told k r) (sym is) tt
+  told_for sets left schema (Some (Said.files_of_commit g)) c r is m = subst (λ k. Told k r) (sym is) tt
+  told_for sets left schema (Some (Said.text_of_commit g)) c r is m = subst (λ k. Told k r) (sym is) tt
+  told_for sets left schema (Some Said.snapshot) c r is m = subst (λ k. Told k r) (sym is) tt
+  told_for sets left schema (Some (Said.release_snapshot g)) c r is m = subst (λ k. Told k r) (sym is) tt
+  told_for sets left schema (Some (Said.prune n)) c r is m = subst (λ k. Told k r) (sym is) tt
 
   -- of what is found nothing is said
   found_told : (c : Command) (f : Found) → Told c (Ok (Answer.found f))
@@ -494,7 +495,7 @@ module _ {D : Type 0} (bytes : D → ToldFiles) (can_fail : D → Type 0) (fault
             (cause.damaged (refused_alike Damaged e.reply fitting shown.alike k));
         told =
             (alike_on (λ r. IsToldOf (policy_of old).factor (policy_of old).least (standing_of_service faults tried old) c r)
-            (λ a b h. found_told bytes can_fail faults old tried c (Found.source (Some b))) e.reply fitting shown.alike).0 (told_for bytes can_fail faults old tried schema said c e.reply is cause.told);
+            (λ a b h. found_told bytes can_fail faults old tried c (Found.source (Some b))) e.reply fitting shown.alike).0 (told_for bytes can_fail faults old tried old.sets new.sets schema said c e.reply is cause.told);
         writes = ap (λ (x : Shape). x.count) (sym stands.carries.shape) ∙ stands.stands.shows.count_now;
         views =
             (let a = ap (λ (x : Shape). length x.views) stands.carries.shape in

@@ -8,10 +8,11 @@ use Rattle.cat_model.specs.Run.{Answer, Chore, News, Reply}
 use Rattle.cat_model.specs.Text.{Text}
 use Rattle.cat_model.specs.View.{View}
 use Rattle.cat_directory.specs.Devices.{CountsOne}
-use Rattle.cat_commands.specs.ledger.Chores.{pending_in, stat_in}
+use Rattle.cat_commands.specs.ledger.Chores.{IsWarmTold, pending_in, stat_in}
+use Rattle.cat_commands.specs.cat_cached_sets.filters.Filters.{Filters}
 use Rattle.cat_commands.specs.cat_ledger.Ledgers.{LedgerOnDevice}
 use Rattle.cat_commands.specs.cat_ledger.Refusals.{KeepsMerge, KeepsSegments}
-use Rattle.cat_commands.specs.cat_ledger_state.Cores.{HasRowsLeft, MayNotFlush}
+use Rattle.cat_commands.specs.cat_ledger_state.Cores.{HasRowsLeft, MayCopy, MayNotFlush}
 use Rattle.cat_ledger_laws.specs.lines.PlanLaws.{TellsForce, TellsMerge}
 use Rattle.cat_ledger_laws.specs.lines.ReadLaws.{IsRecordedAs}
 use Rattle.cat_ledger_laws.specs.lines.StayLaws.{IsOneMoreAtMost}
@@ -67,22 +68,25 @@ IsDamagedTo told s (Some (Said.chore Chore.merge)) = HasRowsLeft s.merging
 IsDamagedTo told s said = Unit {0}
 
 -- To a GET, that memory was wanting: the device doesn't tell that the file with the source of the item's live row is absent, nor that it ends
--- before the source does.
+-- before the source does. To a MERGE: nor is that so of a source that its step is to copy.
 abbrev pub MayReachTo : ToldFiles → Shape → Option Said → Type 0
 MayReachTo told s (Some (Said.get t id)) = (view : View) → IsRecordedAs s.views t view → MayReachSource told view id
+MayReachTo told s (Some (Said.chore Chore.merge)) = MayCopy told s.merging
 MayReachTo told s said = Unit {0}
 
 -- ---- answers
 
--- A COMMIT tells the generation that comes next; a SWEEP how many files nobody needs; a STAT how the ledger stands, with some number of
--- cached sets; and a MERGE and a FORCE what is so of the segments that stand and of the merge in the making.
-abbrev pub TellsSo : MergePolicy → Shape → Option Said → Reply → Type 0
-TellsSo policy s (Some (Said.commit text)) (Ok (Answer.number g)) = g ≡ s.next_generation
-TellsSo policy s (Some (Said.chore Chore.merge)) (Ok (Answer.news n)) = TellsMerge policy s n
-TellsSo policy s (Some (Said.chore Chore.force)) (Ok (Answer.news n)) = TellsForce s n
-TellsSo policy s (Some (Said.chore Chore.sweep)) (Ok (Answer.news n)) = n ≡ News.swept (pending_in s)
-TellsSo policy s (Some (Said.chore Chore.stat)) (Ok (Answer.news n)) = (sets : ℕ) × (n ≡ News.state (stat_in sets s))
-TellsSo policy s said reply = Unit {0}
+-- A COMMIT tells the generation that comes next; a SWEEP how many files nobody needs; a STAT how the ledger stands, and how many sets are
+-- cached; a WARM what its step did, by the sets that there were and those that it left; and a MERGE and a FORCE what is so of the segments
+-- that stand and of the merge in the making.
+abbrev pub TellsSo : MergePolicy → Shape → Filters → Filters → Option Said → Reply → Type 0
+TellsSo policy s sets left (Some (Said.commit text)) (Ok (Answer.number g)) = g ≡ s.next_generation
+TellsSo policy s sets left (Some (Said.chore Chore.merge)) (Ok (Answer.news n)) = TellsMerge policy s n
+TellsSo policy s sets left (Some (Said.chore Chore.force)) (Ok (Answer.news n)) = TellsForce s n
+TellsSo policy s sets left (Some (Said.chore Chore.warm)) (Ok a) = IsWarmTold s sets left a
+TellsSo policy s sets left (Some (Said.chore Chore.sweep)) (Ok (Answer.news n)) = n ≡ News.swept (pending_in s)
+TellsSo policy s sets left (Some (Said.chore Chore.stat)) (Ok (Answer.news n)) = n ≡ News.state (stat_in (length sets.cached) s)
+TellsSo policy s sets left said reply = Unit {0}
 
 -- ---- of a world
 
@@ -102,7 +106,7 @@ KeepsIfRefused (Some (Said.chore Chore.force)) (Err e) s new = KeepsMerge s new 
 KeepsIfRefused said reply s new = Unit {0}
 
 -- The reply has its cause in the world: 16 where a number or a limit is spent, 30 where the device can fail and its count of failures rose, 31
--- where a file is damaged, 40 to a GET where none is gone or short, and the news as they are. No failure is forgotten, whatever is told; a COMMIT that is refused for its text changes
+-- where a file is damaged, 40 to a GET and to a MERGE where none is gone or short that they read, and the news as they are. No failure is forgotten, whatever is told; a COMMIT that is refused for its text changes
 -- nothing; and what another refused line keeps is kept. The first three arguments say what a device tells of its files, whether it can fail, and how many failures it has counted.
 pub record HasCause {D : Type 0} (bytes : D → ToldFiles) (can_fail : D → Type 0) (faults : D → ℕ) (old : Service D) (said : Option Said)
     (reply : Reply) (new : Service D) : Type 0 where
@@ -111,7 +115,7 @@ pub record HasCause {D : Type 0} (bytes : D → ToldFiles) (can_fail : D → Typ
   pub counted : reply ≡ Err Device → IsCountedTo (CountsOne (faults (device_of old)) (faults (device_of new))) said
   pub damaged : reply ≡ Err Damaged → IsDamagedTo (bytes (device_of old)) (shape_of_service old) said
   pub reached : reply ≡ Err Memory → MayReachTo (bytes (device_of old)) (shape_of_service old) said
-  pub told : TellsSo (policy_of old) (shape_of_service old) said reply
+  pub told : TellsSo (policy_of old) (shape_of_service old) old.sets new.sets said reply
   pub rises : faults (device_of old) ≤ faults (device_of new)
   pub stays : StaysIfWrong said old.ledger new.ledger
   pub keeps : KeepsIfRefused said reply (shape_of_service old) (shape_of_service new)

@@ -4,6 +4,7 @@ pub mod Outlasting
 pub mod Promises
 pub mod Wanting
 pub mod Causes
+pub mod Cached
 pub mod Lines
 pub mod Histories
 pub mod Opening

@@ -10,6 +10,7 @@ use Rattle.cat_items.specs.Reading.{json}
 use Rattle.cat_ledger_laws.specs.shape.Ties.{ToldFiles}
 use Rattle.cat_ledger_laws.specs.lines.LineLaws.{line_of}
 use Rattle.cat_ledger_laws.specs.lines.RunLaws.{AnswersCarried, IsStep}
+use Rattle.cat_service.specs.Cached.{MakesOfSets}
 use Rattle.cat_service.specs.Causes.{HasCause, TakesNumbers}
 use Rattle.cat_service.specs.Named.{TellsNeeded}
 use Rattle.cat_service.specs.Wanting.{MayWant}
@@ -37,7 +38,8 @@ StepsLine bytes session said old reply new =
     × AnswersCarried (policy_of old) (bytes (device_of old)) (shape_of_service old) (line_of session c) reply (bytes (device_of new)) (shape_of_service new)
 
 -- What an answered line makes of a world: the reply answers it, and tells the names that are needed, which are those
--- of files, and a source that is one line; it says that memory was wanting only where that may be told, and has its cause in what memory has; a device that can't fail goes on so; and neither the fields change nor when it merges.
+-- of files, and a source that is one line; it says that memory was wanting only where that may be told, and has its cause in what memory has; the
+-- cached sets are used and made as the line says; a device that can't fail goes on so; and neither the fields change nor when it merges.
 pub record Does {D : Type 0} (bytes : D → ToldFiles) (can_fail : D → Type 0) (faults : D → ℕ) (session : ℕ) (said : Option Said)
     (old : Service D) (reply : Reply) (new : Service D) : Type 0 where
   pub answers : AnswersLine bytes session said old reply new
@@ -45,6 +47,7 @@ pub record Does {D : Type 0} (bytes : D → ToldFiles) (can_fail : D → Type 0)
   pub names : NamesFiles reply
   pub wanting : reply ≡ Err Memory → MayWant (bytes (device_of old)) (shape_of_service old) session said answers.0
   pub cause : HasCause bytes can_fail faults old said reply new
+  pub sets : MakesOfSets session said old reply new
   pub numbers : TakesNumbers (shape_of_service old) (shape_of_service new)
   pub can : can_fail (device_of new) → can_fail (device_of old)
   pub schema : (shape_of_service new).schema ≡ (shape_of_service old).schema

@@ -15,10 +15,11 @@ use Rattle.cat_commands.specs.sets.Sets.{HasSets}
 use Rattle.cat_commands.specs.views.Holding.{AreRights}
 use Rattle.cat_commands.specs.cat_ledger.Lasting.{IsCarried}
 
--- a ledger, and the rights to its views
+-- a ledger, the rights to its views, and the sets that are cached, with the noted queries and the set in the making
 pub record Service (D : Type 0) : Type 0 where
   pub ledger : LedgerOnDevice D
   pub rights : List HeldView
+  pub sets : Filters
 
 -- its device
 abbrev pub device_of : {D : Type 0} → Service D → D

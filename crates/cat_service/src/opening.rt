@@ -46,7 +46,8 @@ fn nothing_kept(alloc: Global) -> Result<(Filters, ReaderStates), AllocError>
 impl<D: Directory + Shelf> World<D> {
     /// Opens the newest commit of the directory, or an empty catalogue where there is none, under the schema that the line
     /// gives, as `SCHEMA 10 1000 {"price":"number"}`: a factor of merges (2 to 100), their minimum (1 to 100,000), and the
-    /// schema. No session has a right to a view. (Lucene: `OpenMode.CREATE_OR_APPEND`, and the `LogDocMergePolicy`.)
+    /// schema. No session has a right to a view, and no set is cached. (Lucene: `OpenMode.CREATE_OR_APPEND`, and the
+    /// `LogDocMergePolicy`.)
     ///
     /// The first of these that is so is the refusal, with which the directory comes back, and nothing was deleted from it, nor
     /// may a crash leave more of a file than it could have left before: [`Refusal::Line`] of what isn't of that form, or is
@@ -60,6 +61,7 @@ impl<D: Directory + Shelf> World<D> {
         ensures opens { OpensWorld D.bytes D.may_leave device line.now result }
         ensures ahead { IfOk result (λ w. AlwaysTells D.bytes → LeavesNoneAhead D.may_leave w.ledger) }
         ensures begins { IfOk result (λ w. OpensSo D.bytes D.can_fail D.fault_count device line.now w) }
+        ensures sets { IfOk result (λ w. w.sets ≡ record { cached = []; noted = []; warming = None }) }
         ensures can { IfOk result (λ w. D.can_fail (device_of w) → D.can_fail device) }
     {
         if MAX_LINE_BYTES < line.len() {

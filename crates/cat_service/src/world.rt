@@ -18,8 +18,9 @@ use std::marker::Model;
 ///
 /// It isn't dropped by leaving a scope: [`end`](World::end) gives its directory back.
 ///
-/// Contracts see it as its ledger, and the list of the rights. Beside these it keeps sets of rows and states of facets, which
-/// make answers cheaper and change none. (Lucene: the `LRUQueryCache` of an `IndexSearcher`, and the
+/// Contracts see it as its ledger, the list of the rights, and the sets of rows that are cached, with the noted queries and
+/// the set in the making. Beside these it keeps states of facets. Sets and states make answers cheaper; of replies, only those
+/// to WARM and STAT tell of the sets, and none of the states. (Lucene: the `LRUQueryCache` of an `IndexSearcher`, and the
 /// `SortedSetDocValuesReaderState`s of a program.)
 ///
 /// ```text
@@ -39,11 +40,15 @@ pub struct World<D: Directory + Shelf> {
 }
 
 impl<D: Directory + Shelf> Model for World<D> {
+    ghost use Rattle.std.specs.Coded.{codes};
+    ghost use Rattle.cat_commands.specs.cat_cached_sets.cache.Coding.{query_code};
     ghost use Rattle.cat_service.specs.Worlds.{IsWorld, Service};
 
     ghost Value = { Service D };
 
-    ghost view = { λ w. record { ledger = w.ledger; rights = w.rights } };
+    ghost coded = { Prim.hlevel (codes, query_code) };
+
+    ghost view = { λ w. record { ledger = w.ledger; rights = w.rights; sets = w.filters } };
 
     ghost invariant = { λ w. IsWorld D.bytes w.ledger w.rights w.filters w.states };
 }

@@ -1,5 +1,6 @@
 use Rattle.std.proofs.Common.{refl, sym, ◌∙◌, ap, arith}
 use Rattle.std.specs.Prelude.{option_map}
+use Rattle.cat_model.specs.Answer.{Read}
 use Rattle.cat_model.specs.Lines.{Said}
 use Rattle.cat_commands.specs.cat_protocol.replies.Reply.{reply_of}
 use Rattle.cat_commands.proofs.ledger_laws.Histories.{nothing_goes}
@@ -7,6 +8,7 @@ use Rattle.cat_commands.specs.cat_ledger.Ledgers.{device_in, policy_in, shape_in
 use Rattle.cat_commands.proofs.views.Answered.{option_map_twice}
 use Rattle.cat_commands.proofs.sets.Right.{remembered_are_right}
 use Rattle.cat_service.proofs.Beside.{held_sets, held_states, states_after}
+use Rattle.cat_service.proofs.Cached.{read_uses}
 use Rattle.cat_service.proofs.Kept.{does}
 use Rattle.cat_service.proofs.ReadAnswers.{facets_answers}
 use Rattle.cat_service.proofs.Wanted.{stopped, facets_wants}
@@ -45,7 +47,11 @@ returns-clause-does g c = rw (← c.self.view_is) (
     let ledger = c.self.inside.ledger in
     let o = option_map (λ h. h.now.view) c.get-right.result in
     does g.D.Holder.bytes g.D.Holder.can_fail g.D.Holder.fault_count c.args.session (Said.facets facets.token facets.dimension.now facets.count facets.query.now)
-    ledger (reply_of c.count_facets.result) ledger c.self.inside.rights c.self.inside.rights c.self.invariant (record { spent = λ k. tt; device = λ k. tt; counted = λ k. tt; damaged = λ k. tt; reached = λ k. tt; told = tt; rises = omega arith; stays = tt; keeps = tt })
+    ledger (reply_of c.count_facets.result) ledger c.self.inside.rights c.self.inside.rights c.count_facets.new.filters c.self.invariant (record { spent = λ k. tt; device = λ k. tt; counted = λ k. tt; damaged = λ k. tt; reached = λ k. tt; told = tt; rises = omega arith; stays = tt; keeps = tt })
+    (read_uses (shape_in ledger) c.args.session facets.token c.self.inside.rights c.self.invariant.counted facets.query.now c.self.inside.filters
+    c.count_facets.new.filters c.get-right.result (λ h. h.now) c.get-right.ensures (λ q. Read.facets facets.dimension.now facets.count q) c.count_facets.result
+    (rw c.schema.ensures at c.count_facets.ensures.told) (rw c.schema.ensures at c.count_facets.ensures.noted)
+    (rw c.schema.ensures at c.count_facets.ensures.used))
     (facets_answers (policy_in ledger) (g.D.Holder.bytes (device_in ledger)) (shape_in ledger) c.args.session facets.token c.self.inside.rights
     c.self.invariant.counted facets.dimension.now facets.count facets.query.now (reply_of c.count_facets.result) o
     (sym (option_map_twice (λ h. h.now) (λ h. h.view) c.get-right.result) ∙ ap (option_map (λ h. h.view)) c.get-right.ensures)

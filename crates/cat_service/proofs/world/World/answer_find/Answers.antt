@@ -1,5 +1,6 @@
 use Rattle.std.proofs.Common.{refl, sym, ◌∙◌, ap, arith}
 use Rattle.std.specs.Prelude.{option_map}
+use Rattle.cat_model.specs.Answer.{Read}
 use Rattle.cat_model.specs.Lines.{Said}
 use Rattle.cat_commands.specs.cat_protocol.lines.Line.{sort_said}
 use Rattle.cat_commands.specs.cat_search.Sorts.{sort_of}
@@ -9,6 +10,7 @@ use Rattle.cat_commands.specs.cat_ledger.Ledgers.{device_in, policy_in, shape_in
 use Rattle.cat_commands.proofs.views.Answered.{option_map_twice}
 use Rattle.cat_commands.proofs.sets.Right.{remembered_are_right}
 use Rattle.cat_service.proofs.Beside.{held_sets}
+use Rattle.cat_service.proofs.Cached.{read_uses}
 use Rattle.cat_service.proofs.Kept.{does}
 use Rattle.cat_service.proofs.ReadAnswers.{find_answers}
 use Rattle.cat_service.proofs.Wanted.{stopped, find_wants}
@@ -35,7 +37,10 @@ returns-clause-does g c = rw (← c.self.view_is) (
     let ledger = c.self.inside.ledger in
     let o = option_map (λ h. h.now.view) c.get-right.result in
     does g.D.Holder.bytes g.D.Holder.can_fail g.D.Holder.fault_count c.args.session (Said.find find.token find.count (sort_said find.sort) find.mark find.query.now)
-    ledger (reply_of c.find.result) ledger c.self.inside.rights c.self.inside.rights c.self.invariant (record { spent = λ k. tt; device = λ k. tt; counted = λ k. tt; damaged = λ k. tt; reached = λ k. tt; told = tt; rises = omega arith; stays = tt; keeps = tt })
+    ledger (reply_of c.find.result) ledger c.self.inside.rights c.self.inside.rights c.find.new.filters c.self.invariant (record { spent = λ k. tt; device = λ k. tt; counted = λ k. tt; damaged = λ k. tt; reached = λ k. tt; told = tt; rises = omega arith; stays = tt; keeps = tt })
+    (read_uses (shape_in ledger) c.args.session find.token c.self.inside.rights c.self.invariant.counted find.query.now c.self.inside.filters c.find.new.filters
+    c.get-right.result (λ h. h.now) c.get-right.ensures (λ q. Read.find find.count (sort_of c.sort_asked.result) find.mark q) c.find.result
+    (rw c.schema.ensures at c.find.ensures.told) (rw c.schema.ensures at c.find.ensures.noted) (rw c.schema.ensures at c.find.ensures.used))
     (find_answers (policy_in ledger) (g.D.Holder.bytes (device_in ledger)) (shape_in ledger) c.args.session find.token c.self.inside.rights
     c.self.invariant.counted find.count (sort_of c.sort_asked.result) (sort_said find.sort) find.mark find.query.now (reply_of c.find.result) o
     c.sort_asked.ensures (sym (option_map_twice (λ h. h.now) (λ h. h.view) c.get-right.result) ∙ ap (option_map (λ h. h.view)) c.get-right.ensures)

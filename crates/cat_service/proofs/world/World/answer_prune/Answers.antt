@@ -14,7 +14,7 @@ invariant_of-self g c =
 pub returns-clause-does : goal.returns-clause-does
 returns-clause-does g c = rw (← c.self.view_is) (λ session.
     does g.D.Holder.bytes g.D.Holder.can_fail g.D.Holder.fault_count session (Said.prune c.args.count) c.self.inside.ledger (reply_of c.prune.result) c.prune.new.ledger
-    c.self.inside.rights c.self.inside.rights c.self.invariant (record { spent = λ k. tt; device = λ k. tt; counted = λ k. tt; damaged = λ k. tt; reached = λ k. tt; told = tt; rises = c.prune.ensures.rises; stays = tt; keeps = tt }) (c.prune.ensures.answers session) c.prune.ensures.can c.prune.ensures.policy refl
+    c.self.inside.rights c.self.inside.rights c.self.inside.filters c.self.invariant (record { spent = λ k. tt; device = λ k. tt; counted = λ k. tt; damaged = λ k. tt; reached = λ k. tt; told = tt; rises = c.prune.ensures.rises; stays = tt; keeps = tt }) refl (c.prune.ensures.answers session) c.prune.ensures.can c.prune.ensures.policy refl
     (λ k. prune_wants (g.D.Holder.bytes (device_in c.self.inside.ledger)) (shape_in c.self.inside.ledger) session c.prune.result (stopped c.prune.result k) c.args.count))
 
 pub returns-clause-history : goal.returns-clause-history

@@ -14,7 +14,7 @@ invariant_of-self g c =
 pub returns-clause-does : goal.returns-clause-does
 returns-clause-does g c = rw (← c.self.view_is) (λ session.
     does g.D.Holder.bytes g.D.Holder.can_fail g.D.Holder.fault_count session Said.snapshot c.self.inside.ledger (reply_of c.snapshot.result) c.snapshot.new.ledger
-    c.self.inside.rights c.self.inside.rights c.self.invariant (record { spent = λ k. tt; device = λ k. tt; counted = λ k. tt; damaged = λ k. tt; reached = λ k. tt; told = tt; rises = c.snapshot.ensures.rises; stays = tt; keeps = tt }) (c.snapshot.ensures.answers session) c.snapshot.ensures.can c.snapshot.ensures.policy refl
+    c.self.inside.rights c.self.inside.rights c.self.inside.filters c.self.invariant (record { spent = λ k. tt; device = λ k. tt; counted = λ k. tt; damaged = λ k. tt; reached = λ k. tt; told = tt; rises = c.snapshot.ensures.rises; stays = tt; keeps = tt }) refl (c.snapshot.ensures.answers session) c.snapshot.ensures.can c.snapshot.ensures.policy refl
     (λ k. snap_wants (g.D.Holder.bytes (device_in c.self.inside.ledger)) (shape_in c.self.inside.ledger) session c.snapshot.result (stopped c.snapshot.result k) c.snapshot.ensures.due))
 
 pub returns-clause-history : goal.returns-clause-history

@@ -6,6 +6,8 @@ use Rattle.cat_commands.specs.cat_protocol.replies.Reply.{reply_of}
 use Rattle.cat_commands.proofs.ledger_laws.Histories.{nothing_goes}
 use Rattle.cat_commands.specs.cat_ledger.Ledgers.{device_in, shape_in}
 use Rattle.cat_commands.proofs.sets.Right.{current_are_among, warmed_are_right}
+use Rattle.cat_service.proofs.Cached.{warm_uses}
+use Rattle.cat_service.proofs.Caused.{warm_caused}
 use Rattle.cat_service.proofs.Kept.{does}
 use Rattle.cat_service.proofs.Wanted.{stopped, warm_wants}
 use Rattle.cat_service.proofs.world.World.answer_warm.Goals as goal
@@ -27,7 +29,9 @@ invariant_of-self g c =
 pub returns-clause-does : goal.returns-clause-does
 returns-clause-does g c = rw (← c.self.view_is) (
     does g.D.Holder.bytes g.D.Holder.can_fail g.D.Holder.fault_count c.args.session (Said.chore Chore.warm) c.self.inside.ledger (reply_of c.warm.result) c.self.inside.ledger
-    c.self.inside.rights c.self.inside.rights c.self.invariant (record { spent = λ k. tt; device = λ k. tt; counted = λ k. tt; damaged = λ k. tt; reached = λ k. tt; told = tt; rises = omega arith; stays = tt; keeps = tt }) c.warm.ensures.answers (λ x. x) refl refl
+    c.self.inside.rights c.self.inside.rights c.warm.new.filters c.self.invariant
+    (warm_caused g.D.Holder.bytes g.D.Holder.can_fail g.D.Holder.fault_count c.self.inside.ledger c.self.inside.rights c.self.inside.filters c.warm.result c.self.inside.ledger c.self.inside.rights c.warm.new.filters c.warm.ensures.told (omega arith))
+    (warm_uses c.args.session c.self.inside.ledger c.self.inside.rights c.self.inside.filters c.warm.new.filters c.warm.result c.warm.ensures.foreign c.warm.ensures.told c.warm.ensures.refusal) c.warm.ensures.answers (λ x. x) refl refl
     (λ k. warm_wants (g.D.Holder.bytes (device_in c.self.inside.ledger)) (shape_in c.self.inside.ledger) c.args.session c.warm.result (stopped c.warm.result k) c.warm.ensures.foreign))
 
 pub returns-clause-history : goal.returns-clause-history

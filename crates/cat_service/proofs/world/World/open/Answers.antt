@@ -55,6 +55,9 @@ returns-in-Ok-open-clause-begins g c =
       subst (λ (p : MergePolicy). SpellsSchema c.args.line.now p.factor p.least found.json.now) (sym (c.in-Ok-open.ensures.policy ∙ c.policy_of.ensures)) c.in-Some.ensures.found,
     )
 
+pub returns-in-Ok-open-clause-sets : goal.returns-in-Ok-open-clause-sets
+returns-in-Ok-open-clause-sets g c = c.in-Ok-nothing_kept.ensures.0
+
 pub returns-in-Ok-open-clause-can : goal.returns-in-Ok-open-clause-can
 returns-in-Ok-open-clause-can g c = c.in-Ok-open.ensures.can
 
