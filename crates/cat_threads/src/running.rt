@@ -9,7 +9,7 @@ use std::alloc::Global;
 use std::sync::Wait;
 use std::sync::atomic::{AtomicU64, Ordering};
 use std::thread;
-use std::thread::{Promise, PromisedHandle, Threads};
+use std::thread::{Promise, PromisedHandle, Scope, Threads};
 
 /// Whether a worker goes on, and what is done while it has the lock.
 pub trait Gate: Drop {
@@ -116,6 +116,61 @@ fn joined<J: Naming, R: Threads>(
     }
 }
 
+/// Starts a session in a thread of its own.
+fn start<
+    's,
+    E: 's,
+    D: Directory + Shelf + Drop + Send + 's,
+    J: Naming + Send + Sync + 's,
+    C: Caller<D, J, R> + Send + 's,
+    R: Sync + 's,
+>(
+    scope: &Scope<'s, E>,
+    rt: &'s R,
+    service: &'s Service<D, J>,
+    pass: Pass<J>,
+    caller: C,
+) -> Result<PromisedHandle<Pass<J>, Of>, NotRun>
+    ensures { IfOk result (λ h. h.promise.0 ≡ pass.session) }
+{
+    let session = pass.session();
+    let job = move || -> Pass<J>
+        ensures { result.session ≡ pass.session }
+    { run_session(rt, service, pass, caller) };
+    let Ok(handle) = scope.spawn_with(Of(session), job) else {
+        return Err(NotRun::Thread);
+    };
+    Ok(handle)
+}
+
+/// Starts each session, in their order. Where one can't be started, the threads of those before it go on to their ends.
+fn started<
+    's,
+    E: 's,
+    D: Directory + Shelf + Drop + Send + 's,
+    J: Naming + Send + Sync + 's,
+    C: Caller<D, J, R> + Send + 's,
+    R: Sync + 's,
+>(
+    scope: &Scope<'s, E>,
+    rt: &'s R,
+    alloc: Global,
+    service: &'s Service<D, J>,
+    sessions: Vec<(Pass<J>, C)>,
+) -> Result<Vec<PromisedHandle<Pass<J>, Of>>, NotRun>
+    ensures { IfOk result (λ v. map (λ h. h.promise.0) v.items ≡ sessions_of sessions.items) }
+{
+    let mut handles = Vec::new(alloc);
+    for seated in sessions {
+        let (pass, caller) = seated;
+        let handle = start(scope, rt, service, pass, caller)?;
+        let Ok(()) = handles.push(handle) else {
+            return Err(NotRun::Memory);
+        };
+    }
+    Ok(handles)
+}
+
 /// Runs each session in a thread of its own, and a merger and a warmer beside them, which end once the sessions have. The passes
 /// come back in their order.
 pub fn run_threads<
@@ -150,23 +205,10 @@ pub fn run_threads<
                 flag.store(1, Ordering::SeqCst);
                 return Err(NotRun::Thread);
             };
-            let mut handles = Vec::new(alloc);
-            for seated in sessions {
-                let (pass, caller) = seated;
-                let session = pass.session();
-                let job = move || -> Pass<J>
-                    ensures { result.session ≡ pass.session }
-                { run_session(rt, service, pass, caller) };
-                let Ok(handle) = scope.spawn_with(Of(session), job) else {
-                    flag.store(1, Ordering::SeqCst);
-                    return Err(NotRun::Thread);
-                };
-                let Ok(()) = handles.push(handle) else {
-                    flag.store(1, Ordering::SeqCst);
-                    return Err(NotRun::Memory);
-                };
-            }
-            let all = joined(rt, handles);
+            let all = match started(scope, rt, alloc, service, sessions) {
+                Ok(handles) => joined(rt, handles),
+                Err(not) => Err(not),
+            };
             flag.store(1, Ordering::SeqCst);
             all
         },

@@ -1,6 +1,6 @@
 use denote.Param.Send.{sendable}
 use Rattle.std.proofs.Crossing.{crosses}
-use Rattle.cat_threads.proofs.service.ServiceCrosses.{service_sync, pass_send}
+use Rattle.cat_threads.proofs.service.ServiceCrosses.{service_sync}
 use Rattle.cat_threads.proofs.running.fn.run_threads.scope.Goals as goal
 
 -- What is sent lends the service, which a search doesn't go down through by itself. Nor does it look at all fields of `c`, so the bounds
@@ -13,9 +13,3 @@ spawn-requires-2-send-F g c κs within =
     let bounds = c.requires-raw.1.1.1.1.1.1 in
     let d = bounds.0 in let j = bounds.1.0 in let w = bounds.1.1.1.1.0 in let y = bounds.1.1.1.1.1.0 in let r = bounds.1.1.1.1.1.1 in
     search (sendable, crosses, service_sync) depth 40
-
-pub spawn_with-requires-send-F : goal.spawn_with-requires-send-F
-spawn_with-requires-send-F g c κs within =
-    let bounds = c.requires-raw.1.1.1.1.1.1 in
-    let d = bounds.0 in let j = bounds.1.0 in let f = bounds.1.1.0 in let y = bounds.1.1.1.1.1.0 in let r = bounds.1.1.1.1.1.1 in
-    search (sendable, crosses, service_sync, pass_send) depth 40

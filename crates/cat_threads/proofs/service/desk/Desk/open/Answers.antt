@@ -12,6 +12,7 @@ use Rattle.cat_ledger_laws.specs.shape.Shapes.{Shape}
 use Rattle.cat_ledger_laws.specs.shape.Steps.{tokens_of}
 use Rattle.cat_threads.proofs.service.Answering.{acquired}
 use Rattle.cat_threads.proofs.service.Granting.{apart_again, granted_all}
+use Rattle.cat_threads.proofs.service.Telling.{follows_joined, idle_told, same_apart, told_apart}
 use Rattle.cat_threads.proofs.service.desk.Desk.open.Goals as goal
 
 pub invariant_of-self : goal.invariant_of-self
@@ -50,3 +51,23 @@ not_gone s asked (Err e) h = λ none is. h is (greatest (tokens_of s.views)) (su
 
 pub returns-clause-gone : goal.returns-clause-gone
 returns-clause-gone g c = not_gone (shape_in c.self.inside.keeper) c.args.token c.acquire-result.result c.acquire-result.ensures.gone
+
+pub returns-clause-told : goal.returns-clause-told
+returns-clause-told g c = told_apart g.J.Naming.from.start.token (cell_view c.join.new.desk) (cell_view c.part.new.desk) (cell_view c.part.result) c.part.ensures.desk.1 c.part.ensures.mine.1
+
+pub returns-clause-same : goal.returns-clause-same
+returns-clause-same g c = same_apart g.J.Naming.from.start.token (cell_view c.self.inside.scribe) (cell_view c.join.new.desk) (cell_view c.part.new.desk) (cell_view c.me.inside.seat).own c.args.self.now c.self.view_is c.join.ensures.desk.1 c.part.ensures.desk.1
+
+pub returns-clause-seen : goal.returns-clause-seen
+returns-clause-seen g c =
+    let p = c.part.ensures.mine.1 in
+    follows_joined g.J.Naming.from.start.token c.me.inside.session (cell_view c.me.inside.seat) (cell_view c.join.new.desk) (cell_view c.part.result) c.args.me.now c.me.view_is c.join.ensures.seen
+    (ap (λ (x : Sight). x.list) p) (ap (λ (x : Sight). x.token) p)
+
+pub returns-clause-idle : goal.returns-clause-idle
+returns-clause-idle g c =
+    idle_told g.J.Naming.from.start.token c.me.inside.session (cell_view c.me.inside.seat) (cell_view c.join.new.desk) (cell_view c.part.result) c.args.me.now c.me.view_is c.join.ensures.seen c.me.invariant.1
+    (ap (λ (x : Sight). x.list) c.part.ensures.mine.1)
+
+pub returns-clause-refusal : goal.returns-clause-refusal
+returns-clause-refusal g c = c.acquire-result.ensures.refusal

@@ -4,6 +4,7 @@ use Rattle.cat_threads.specs.history.Rules.{Sight, scribe}
 use Rattle.cat_commands.specs.cat_ledger.Ledgers.{device_in, shape_in}
 use Rattle.cat_threads.proofs.service.Answering.{unchanged}
 use Rattle.cat_threads.proofs.service.Granting.{apart_again, prepared_all}
+use Rattle.cat_threads.proofs.service.Telling.{follows_joined, idle_told, same_apart, told_apart}
 use Rattle.cat_threads.proofs.service.desk.Desk.prepare.Goals as goal
 
 pub invariant_of-self : goal.invariant_of-self
@@ -31,3 +32,26 @@ returns-clause-shown g c =
     let old = c.self.inside.keeper in
     prepared_all (g.D.Holder.bytes (device_in old)) (shape_in old) g.J.Naming.from g.J.Naming.sessions (cell_view c.self.inside.scribe) (cell_view c.part.result) c.args.token
     c.prepare-result.result c.self.invariant.3 (ap (λ (x : Sight). x.list) p.1 ∙ ap (λ (x : Sight). x.list) j.desk.1) c.prepare-result.ensures.view
+
+pub returns-clause-told : goal.returns-clause-told
+returns-clause-told g c = told_apart g.J.Naming.from.start.token (cell_view c.join.new.desk) (cell_view c.part.new.desk) (cell_view c.part.result) c.part.ensures.desk.1 c.part.ensures.mine.1
+
+pub returns-clause-same : goal.returns-clause-same
+returns-clause-same g c = same_apart g.J.Naming.from.start.token (cell_view c.self.inside.scribe) (cell_view c.join.new.desk) (cell_view c.part.new.desk) (cell_view c.me.inside.seat).own c.args.self.now c.self.view_is c.join.ensures.desk.1 c.part.ensures.desk.1
+
+pub returns-clause-seen : goal.returns-clause-seen
+returns-clause-seen g c =
+    let p = c.part.ensures.mine.1 in
+    follows_joined g.J.Naming.from.start.token c.me.inside.session (cell_view c.me.inside.seat) (cell_view c.join.new.desk) (cell_view c.part.result) c.args.me.now c.me.view_is c.join.ensures.seen
+    (ap (λ (x : Sight). x.list) p) (ap (λ (x : Sight). x.token) p)
+
+pub returns-clause-idle : goal.returns-clause-idle
+returns-clause-idle g c =
+    idle_told g.J.Naming.from.start.token c.me.inside.session (cell_view c.me.inside.seat) (cell_view c.join.new.desk) (cell_view c.part.result) c.args.me.now c.me.view_is c.join.ensures.seen c.me.invariant.1
+    (ap (λ (x : Sight). x.list) c.part.ensures.mine.1)
+
+pub returns-clause-query : goal.returns-clause-query
+returns-clause-query g c = c.prepare-result.ensures.query
+
+pub returns-clause-refusal : goal.returns-clause-refusal
+returns-clause-refusal g c = c.prepare-result.ensures.refusal

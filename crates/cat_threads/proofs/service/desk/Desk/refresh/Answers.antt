@@ -6,6 +6,7 @@ use Rattle.cat_threads.proofs.sharing.Sharing.{counts_share, newest_share}
 use Rattle.cat_threads.proofs.service.Answering.{refresh_left, refreshed}
 use Rattle.cat_threads.proofs.service.Passed.{follows_told}
 use Rattle.cat_threads.proofs.service.Granting.{apart_again, apart_recorded}
+use Rattle.cat_threads.proofs.service.Telling.{follows_joined, idle_told, recorded_list, refreshed_told, same_apart, told_apart}
 use Rattle.cat_threads.proofs.service.desk.Desk.refresh.Goals as goal
 
 pub record-requires-clause-words : goal.record-requires-clause-words
@@ -85,3 +86,58 @@ returns-in-Ok-clause-seen g c =
     let token : (cell_view c.part.result).token ≡ c.in-Ok.token - c.self.inside.start = ap (λ (x : Sight). x.token) p.1 ∙ ap (λ (x : Sight). x.token) n.1 in
     follows_told g.J.Naming.from.start.token c.me.inside.session (cell_view c.me.inside.seat) (cell_view c.join.new.desk) (cell_view c.part.result) c.args.me.now c.me.view_is j.seen
     (ap (λ (x : Sight). x.list) p.1 ∙ ap (λ (x : Sight). x.list) n.1) (omega arith)
+
+pub returns-in-Ok-clause-told : goal.returns-in-Ok-clause-told
+returns-in-Ok-clause-told g c = told_apart g.J.Naming.from.start.token (cell_view c.record.new.desk) (cell_view c.part.new.desk) (cell_view c.part.result) c.part.ensures.desk.1 c.part.ensures.mine.1
+
+pub returns-in-Ok-clause-list : goal.returns-in-Ok-clause-list
+returns-in-Ok-clause-list g c = recorded_list g.J.Naming.from.start.token (c.in-Ok.token - c.self.inside.start) (cell_view c.self.inside.scribe) (cell_view c.join.new.desk) (cell_view c.record.new.desk) (cell_view c.part.new.desk) (cell_view c.me.inside.seat).own c.args.self.now c.self.view_is c.join.ensures.desk.1 c.record.ensures.1 c.part.ensures.desk.1
+
+pub returns-in-Ok-clause-same : goal.returns-in-Ok-clause-same
+returns-in-Ok-clause-same g c = tt
+
+pub returns-in-Ok-clause-idle : goal.returns-in-Ok-clause-idle
+returns-in-Ok-clause-idle g c =
+    idle_told g.J.Naming.from.start.token c.me.inside.session (cell_view c.me.inside.seat) (cell_view c.join.new.desk) (cell_view c.part.result) c.args.me.now c.me.view_is c.join.ensures.seen c.me.invariant.1
+    (ap (λ (x : Sight). x.list) c.part.ensures.mine.1 ∙ ap (λ (x : Sight). x.list) c.record.ensures.1)
+
+pub returns-in-Ok-clause-token : goal.returns-in-Ok-clause-token
+returns-in-Ok-clause-token g c =
+    let i = c.self.invariant in
+    let old = c.self.inside.keeper in
+    let n = c.record.ensures.1 in
+    let p = c.part.ensures.mine.1 in
+    let all = counts_share (g.D.Holder.bytes (device_in old)) (shape_in old) g.J.Naming.from g.J.Naming.sessions (cell_view c.self.inside.scribe) i.3 in
+    let long = ap (λ (x : Sight). length x.list) c.join.ensures.desk.1 in
+    let is = c.in-Ok.ensures.token in
+    refreshed_told g.J.Naming.from.start.token c.me.inside.session c.in-Ok.token (cell_view c.me.inside.seat) (cell_view c.join.new.desk) (cell_view c.part.result) c.args.me.now c.me.view_is c.join.ensures.seen (omega arith)
+    (ap (λ (x : Sight). x.list) p ∙ ap (λ (x : Sight). x.list) n) (ap (λ (x : Sight). x.token) p ∙ (ap (λ (x : Sight). x.token) n ∙ ap (λ (k : ℕ). c.in-Ok.token - k) i.1))
+
+pub returns-in-Ok-clause-refusal : goal.returns-in-Ok-clause-refusal
+returns-in-Ok-clause-refusal g c = tt
+
+pub returns-in-Err-clause-told : goal.returns-in-Err-clause-told
+returns-in-Err-clause-told g c = told_apart g.J.Naming.from.start.token (cell_view c.join.new.desk) (cell_view c.part-in-Err.new.desk) (cell_view c.part-in-Err.result) c.part-in-Err.ensures.desk.1 c.part-in-Err.ensures.mine.1
+
+pub returns-in-Err-clause-list : goal.returns-in-Err-clause-list
+returns-in-Err-clause-list g c = (same_apart g.J.Naming.from.start.token (cell_view c.self.inside.scribe) (cell_view c.join.new.desk) (cell_view c.part-in-Err.new.desk) (cell_view c.me.inside.seat).own c.args.self.now c.self.view_is c.join.ensures.desk.1 c.part-in-Err.ensures.desk.1).0
+
+pub returns-in-Err-clause-same : goal.returns-in-Err-clause-same
+returns-in-Err-clause-same g c = (same_apart g.J.Naming.from.start.token (cell_view c.self.inside.scribe) (cell_view c.join.new.desk) (cell_view c.part-in-Err.new.desk) (cell_view c.me.inside.seat).own c.args.self.now c.self.view_is c.join.ensures.desk.1 c.part-in-Err.ensures.desk.1).1
+
+pub returns-in-Err-clause-seen : goal.returns-in-Err-clause-seen
+returns-in-Err-clause-seen g c =
+    let p = c.part-in-Err.ensures.mine.1 in
+    follows_joined g.J.Naming.from.start.token c.me.inside.session (cell_view c.me.inside.seat) (cell_view c.join.new.desk) (cell_view c.part-in-Err.result) c.args.me.now c.me.view_is c.join.ensures.seen
+    (ap (λ (x : Sight). x.list) p) (ap (λ (x : Sight). x.token) p)
+
+pub returns-in-Err-clause-idle : goal.returns-in-Err-clause-idle
+returns-in-Err-clause-idle g c =
+    idle_told g.J.Naming.from.start.token c.me.inside.session (cell_view c.me.inside.seat) (cell_view c.join.new.desk) (cell_view c.part-in-Err.result) c.args.me.now c.me.view_is c.join.ensures.seen c.me.invariant.1
+    (ap (λ (x : Sight). x.list) c.part-in-Err.ensures.mine.1)
+
+pub returns-in-Err-clause-token : goal.returns-in-Err-clause-token
+returns-in-Err-clause-token g c = tt
+
+pub returns-in-Err-clause-refusal : goal.returns-in-Err-clause-refusal
+returns-in-Err-clause-refusal g c = c.in-Err.ensures.refusal

@@ -12,6 +12,7 @@ use Rattle.cat_threads.specs.service.Writes.{PutsForeign, write_of}
 use Rattle.cat_threads.proofs.service.Passed.{follows_noted, wrote_noted, has_self}
 use Rattle.cat_threads.proofs.service.Granting.{apart_again, apart_noted, refused_still}
 use Rattle.cat_threads.proofs.service.Refusing.{fields_share}
+use Rattle.cat_threads.proofs.service.Telling.{follows_joined, idle_told, noted_apart, noted_token, same_apart, told_apart}
 use Rattle.cat_threads.proofs.service.desk.Desk.write_as.Goals as goal
 
 pub invariant_of-self : goal.invariant_of-self
@@ -97,3 +98,56 @@ returns-in-Err-clause-kind g c =
     let old = c.self.inside.keeper in
     let same = fields_share (g.D.Holder.bytes (device_in old)) (shape_in old) g.J.Naming.from g.J.Naming.sessions (cell_view c.self.inside.scribe) c.self.invariant.3 in
     λ is. subst (λ s. PutsForeign s (write_of c.args.write)) same (c.in-Err.ensures.kind is)
+
+pub returns-in-Ok-clause-told : goal.returns-in-Ok-clause-told
+returns-in-Ok-clause-told g c = told_apart g.J.Naming.from.start.token (cell_view c.note.new.desk) (cell_view c.part.new.desk) (cell_view c.part.result) c.part.ensures.desk.1 c.part.ensures.mine.1
+
+pub returns-in-Ok-clause-list : goal.returns-in-Ok-clause-list
+returns-in-Ok-clause-list g c =
+    let old = c.self.inside.keeper in
+    let all = counts_share (g.D.Holder.bytes (device_in old)) (shape_in old) g.J.Naming.from g.J.Naming.sessions (cell_view c.self.inside.scribe) c.self.invariant.3 in
+    noted_apart g.J.Naming.from.start.token c.in-Ok.number (shape_in old).count (cell_view c.self.inside.scribe) (cell_view c.join.new.desk) (cell_view c.note.new.desk) (cell_view c.part.new.desk) (cell_view c.me.inside.seat).own g.W.Noting.entry c.args.self.now c.self.view_is c.join.ensures.desk.1 c.note.ensures.1 c.part.ensures.desk.1 c.in-Ok.ensures.number all
+
+pub returns-in-Ok-clause-same : goal.returns-in-Ok-clause-same
+returns-in-Ok-clause-same g c = tt
+
+pub returns-in-Ok-clause-token : goal.returns-in-Ok-clause-token
+returns-in-Ok-clause-token g c = noted_token g.J.Naming.from.start.token (cell_view c.self.inside.scribe) (cell_view c.join.new.desk) (cell_view c.note.new.desk) (cell_view c.part.new.desk) (cell_view c.me.inside.seat).own g.W.Noting.entry c.args.self.now c.self.view_is c.join.ensures.desk.1 c.note.ensures.1 c.part.ensures.desk.1
+
+pub returns-in-Ok-clause-idle : goal.returns-in-Ok-clause-idle
+returns-in-Ok-clause-idle g c = tt
+
+pub returns-in-Ok-clause-kind : goal.returns-in-Ok-clause-kind
+returns-in-Ok-clause-kind g c = tt
+
+pub returns-in-Ok-clause-refusal : goal.returns-in-Ok-clause-refusal
+returns-in-Ok-clause-refusal g c = tt
+
+pub returns-in-Err-clause-told : goal.returns-in-Err-clause-told
+returns-in-Err-clause-told g c = told_apart g.J.Naming.from.start.token (cell_view c.join.new.desk) (cell_view c.part-in-Err.new.desk) (cell_view c.part-in-Err.result) c.part-in-Err.ensures.desk.1 c.part-in-Err.ensures.mine.1
+
+pub returns-in-Err-clause-list : goal.returns-in-Err-clause-list
+returns-in-Err-clause-list g c = tt
+
+pub returns-in-Err-clause-same : goal.returns-in-Err-clause-same
+returns-in-Err-clause-same g c = (same_apart g.J.Naming.from.start.token (cell_view c.self.inside.scribe) (cell_view c.join.new.desk) (cell_view c.part-in-Err.new.desk) (cell_view c.me.inside.seat).own c.args.self.now c.self.view_is c.join.ensures.desk.1 c.part-in-Err.ensures.desk.1).0
+
+pub returns-in-Err-clause-token : goal.returns-in-Err-clause-token
+returns-in-Err-clause-token g c = (same_apart g.J.Naming.from.start.token (cell_view c.self.inside.scribe) (cell_view c.join.new.desk) (cell_view c.part-in-Err.new.desk) (cell_view c.me.inside.seat).own c.args.self.now c.self.view_is c.join.ensures.desk.1 c.part-in-Err.ensures.desk.1).1
+
+pub returns-in-Err-clause-seen : goal.returns-in-Err-clause-seen
+returns-in-Err-clause-seen g c =
+    let p = c.part-in-Err.ensures.mine.1 in
+    follows_joined g.J.Naming.from.start.token c.me.inside.session (cell_view c.me.inside.seat) (cell_view c.join.new.desk) (cell_view c.part-in-Err.result) c.args.me.now c.me.view_is c.join.ensures.seen
+    (ap (λ (x : Sight). x.list) p) (ap (λ (x : Sight). x.token) p)
+
+pub returns-in-Err-clause-wrote : goal.returns-in-Err-clause-wrote
+returns-in-Err-clause-wrote g c = tt
+
+pub returns-in-Err-clause-idle : goal.returns-in-Err-clause-idle
+returns-in-Err-clause-idle g c =
+    idle_told g.J.Naming.from.start.token c.me.inside.session (cell_view c.me.inside.seat) (cell_view c.join.new.desk) (cell_view c.part-in-Err.result) c.args.me.now c.me.view_is c.join.ensures.seen c.me.invariant.1
+    (ap (λ (x : Sight). x.list) c.part-in-Err.ensures.mine.1)
+
+pub returns-in-Err-clause-refusal : goal.returns-in-Err-clause-refusal
+returns-in-Err-clause-refusal g c = c.in-Err.ensures.refusal

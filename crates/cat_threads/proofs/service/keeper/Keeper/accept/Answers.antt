@@ -18,3 +18,6 @@ returns-clause-refused g c = rw (← c.self.view_is) c.accept.ensures.refused
 
 pub returns-clause-kind : goal.returns-clause-kind
 returns-clause-kind g c = rw (← c.self.view_is) c.accept.ensures.kind
+
+pub returns-clause-refusal : goal.returns-clause-refusal
+returns-clause-refusal g c = c.accept.ensures.refusal

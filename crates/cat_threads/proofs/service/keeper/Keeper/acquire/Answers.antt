@@ -23,3 +23,6 @@ returns-clause-err g c = rw (← c.self.view_is) c.acquire.ensures.err
 
 pub returns-clause-same : goal.returns-clause-same
 returns-clause-same g c = rw (← c.self.view_is) c.acquire.ensures.same
+
+pub returns-clause-refusal : goal.returns-clause-refusal
+returns-clause-refusal g c = c.acquire.ensures.refusal

@@ -17,3 +17,6 @@ returns-clause-may g c = rw (← c.self.view_is) c.refresh.ensures.may
 
 pub returns-clause-err : goal.returns-clause-err
 returns-clause-err g c = rw (← c.self.view_is) c.refresh.ensures.err
+
+pub returns-clause-refusal : goal.returns-clause-refusal
+returns-clause-refusal g c = c.refresh.ensures.refusal

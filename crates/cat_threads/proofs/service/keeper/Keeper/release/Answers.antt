@@ -17,3 +17,9 @@ returns-clause-err g c = rw (← c.self.view_is) c.release.ensures.err
 
 pub returns-clause-same : goal.returns-clause-same
 returns-clause-same g c = rw (← c.self.view_is) c.release.ensures.same
+
+pub returns-clause-released : goal.returns-clause-released
+returns-clause-released g c = c.release.ensures.released
+
+pub returns-clause-back : goal.returns-clause-back
+returns-clause-back g c = c.release.ensures.back

@@ -11,3 +11,12 @@ returns-clause-shape g c = rw (← c.self.view_is) c.source.ensures.shape
 
 pub returns-clause-same : goal.returns-clause-same
 returns-clause-same g c = rw (← c.self.view_is) c.source.ensures.same
+
+pub returns-clause-whole : goal.returns-clause-whole
+returns-clause-whole g c = c.source.ensures.whole
+
+pub returns-clause-one_line : goal.returns-clause-one_line
+returns-clause-one_line g c = c.source.ensures.one_line
+
+pub returns-clause-none : goal.returns-clause-none
+returns-clause-none g c = c.source.ensures.none
