@@ -29,6 +29,3 @@ pub use memory::SharedMemory;
 pub use session::Session;
 pub use streams::serve_stream;
 pub use threads::{Fault, serve_threads};
-
-#[cfg(test)]
-mod tests;

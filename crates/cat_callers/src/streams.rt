@@ -9,7 +9,7 @@ use crate::asked::Asked;
 use crate::front::Front;
 use crate::input::{Lines, Next};
 use crate::numbers::rise;
-use crate::opening::begin;
+use crate::opening::{begin_by_first, service_of};
 use crate::output::Output;
 use crate::queues::{Sending, Taking, ends};
 use crate::threads::{Fault, Resting, refuse};
@@ -37,6 +37,32 @@ fn all_numbers(alloc: Global) -> Result<Vec<SessionNo>, AllocError> {
         numbers.push(number)?;
     }
     Ok(numbers)
+}
+
+/// What is taken before the first line is read.
+#[derive(Drop)]
+struct Stream {
+    lines: Lines,
+    asked: Asked,
+    /// The numbers of all sessions.
+    numbers: Vec<SessionNo>,
+    ghost different: { all_different numbers.items ≡ true },
+}
+
+impl Stream {
+    /// Nothing is read yet. All memory for lines is taken here.
+    fn new(alloc: Global) -> Result<Stream, AllocError> {
+        let numbers = all_numbers(alloc)?;
+        // They rise, as they were made.
+        if !rise(numbers.as_slice()) {
+            return Err(AllocError);
+        }
+        Ok(Stream {
+            lines: Lines::new(alloc)?,
+            asked: Asked::new(alloc)?,
+            numbers,
+        })
+    }
 }
 
 /// The passes in so many heaps, one to each in turn.
@@ -126,6 +152,17 @@ fn hand_out<I: Read, W: Write + Drop, R: Wait>(
     unreachable!()
 }
 
+/// Where the reader leaves lines for a thread, where that takes them, and its shelf. None where memory is wanting, or a shelf.
+fn seat_for<S: Shelf + Drop, R: Wait>(
+    rt: &R,
+    alloc: Global,
+    shelves: &mut Vec<S>,
+) -> Option<(Sending, Taking, S)> {
+    let (sending, taking) = ends(rt, alloc).ok()?;
+    let shelf = shelves.pop()?;
+    Some((sending, taking, shelf))
+}
+
 /// Starts a thread for each heap of passes, a merger and a warmer beside them, and hands out the lines.
 fn run_stream<
     J: Naming + Send + Sync,
@@ -160,7 +197,7 @@ fn run_stream<
         let mut shelves = shelves;
         let mut sendings = Vec::new(alloc);
         for heap in heaps {
-            let (Ok((sending, taking)), Some(shelf)) = (ends(rt, alloc), shelves.pop()) else {
+            let Some((sending, taking, shelf)) = seat_for(rt, alloc, &mut shelves) else {
                 flag.store(1, Ordering::SeqCst);
                 return Err(Fault::Thread);
             };
@@ -178,6 +215,23 @@ fn run_stream<
         flag.store(1, Ordering::SeqCst);
         handed
     })
+}
+
+/// A service over what was opened, and the passes of its sessions in so many heaps. None where memory is wanting.
+fn service_and_heaps<D: Directory + Shelf + Drop, J: Naming>(
+    alloc: Global,
+    begun: Begun<D>,
+    numbers: &[SessionNo],
+    heaps: usize,
+) -> Option<(Service<D, J>, Vec<Vec<Pass<J>>>)>
+    requires names { (begun.table ≡ J.table) × (J.from ≡ ground_of (shape_in begun.ledger)) × (J.sessions ≡ seated_by [] numbers.now) }
+    requires different { all_different numbers.now ≡ true }
+{
+    let (service, passes) = service_of::<D, J>(alloc, begun, numbers)?;
+    match dealt(alloc, passes, heaps) {
+        Ok(heaps) => Some((service, heaps)),
+        Err(AllocError) => None,
+    }
 }
 
 /// Runs the service, whose sessions have these numbers, over the stream.
@@ -204,10 +258,8 @@ fn serve_opened<
     requires different { all_different numbers.now ≡ true }
     requires fields { schema.now ≡ J.from.start.schema }
 {
-    let Ok((service, passes)) = Service::<D, J>::new(alloc, begun, numbers) else {
-        return Err(Fault::Thread);
-    };
-    let Ok(heaps) = dealt(alloc, passes, shelves.len()) else {
+    let Some((service, heaps)) = service_and_heaps::<D, J>(alloc, begun, numbers, shelves.len())
+    else {
         return Err(Fault::Thread);
     };
     let front = Front::new(rt, alloc, &service, schema, asked);
@@ -235,26 +287,13 @@ pub fn serve_stream<
     writer: W,
 ) -> Result<(), Fault> {
     let mut writer = writer;
-    let (Ok(mut lines), Ok(numbers), Ok(asked)) = (
-        Lines::new(alloc),
-        all_numbers(alloc),
-        Asked::new(alloc),
-    ) else {
+    let Ok(mut taken) = Stream::new(alloc) else {
         return Err(refuse(Refusal::Memory, &mut writer));
     };
-    if lines.next(reader) == Next::Fault {
-        return Err(Fault::Read);
-    }
-    let (begun, schema) = match begin(alloc, device, lines.line()) {
-        Ok(opened) => opened,
-        Err(refusal) => return Err(refuse(refusal, &mut writer)),
-    };
+    let stream = &mut taken;
+    let (begun, schema) = begin_by_first(alloc, device, &mut stream.lines, reader, &mut writer)?;
     if send_opened(begun.count(), &mut writer).is_err() || flush(&mut writer).is_err() {
         return Err(Fault::Write);
-    }
-    // They rise, as they were made.
-    if !rise(numbers.as_slice()) {
-        return Err(Fault::Thread);
     }
     let output = Mutex::new(Output::new(writer));
     serve_opened::<Brand, D, S, R, I, W>(
@@ -262,10 +301,10 @@ pub fn serve_stream<
         alloc,
         begun,
         &schema,
-        &asked,
-        numbers.as_slice(),
+        &stream.asked,
+        stream.numbers.as_slice(),
         shelves,
-        &mut lines,
+        &mut stream.lines,
         reader,
         &output,
     )?;

@@ -11,4 +11,6 @@ pub mod plain;
 mod replies;
 pub mod serving;
 #[cfg(test)]
+mod threads;
+#[cfg(test)]
 mod verdict;

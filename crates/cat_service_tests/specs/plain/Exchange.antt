@@ -15,7 +15,7 @@ use Rattle.cat_search.specs.cat_query.View.{query_of}
 use Rattle.cat_query.specs.declared.query.Query as code
 use Rattle.cat_search.specs.declared.ask.Ask.{Ask}
 use Rattle.cat_search.specs.Sorts.{sort_of}
-use Rattle.cat_protocol.specs.declared.lines.line.Line.{Line}
+use Rattle.cat_service.specs.cat_protocol.declared.lines.line.Line.{Line}
 use Rattle.cat_service_tests.specs.declared.plain.reply.Reply.{Reply}
 use Rattle.cat_service_tests.specs.plain.Line.{plain_of}
 use Rattle.cat_service_tests.specs.plain.Reply.{plain_reply}

@@ -1,8 +1,8 @@
 -- What the plain catalogue answers of a line that was read.
 use Rattle.std.specs.Prelude.{Bool, true, false, Option, Some, None, cond}
 use Rattle.cat_model.specs.Lines.{Said}
-use Rattle.cat_protocol.specs.declared.lines.command.Command.{Command}
-use Rattle.cat_protocol.specs.lines.Line.{said_of}
+use Rattle.cat_service.specs.cat_protocol.declared.lines.command.Command.{Command}
+use Rattle.cat_service.specs.cat_protocol.lines.Line.{said_of}
 
 -- What it answers. A line that says anything else is answered as one without a form.
 abbrev pub is_plain : Said → Bool

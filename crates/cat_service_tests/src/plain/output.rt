@@ -7,7 +7,7 @@ ghost use Rattle.cat_model.specs.Lines.{counted_words, entry_words, key_text, li
 ghost use Rattle.cat_model.specs.Answer.{Found};
 ghost use Rattle.cat_model.specs.Run as run;
 ghost use Rattle.cat_service_tests.specs.plain.Counts.{counted_of, facets_told};
-ghost use Rattle.cat_protocol.specs.sending.Out.{Sent};
+ghost use Rattle.cat_service.specs.cat_protocol.sending.Out.{Sent};
 ghost use Rattle.cat_service_tests.specs.plain.Reply.{plain_answer, plain_reply};
 ghost use Rattle.cat_search.specs.Keys.{key_of};
 

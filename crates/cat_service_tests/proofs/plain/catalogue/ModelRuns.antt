@@ -11,7 +11,7 @@ use Rattle.cat_model.proofs.Runs.{runs_go_on}
 use Rattle.cat_model.proofs.States.{steps_keep_runs}
 use Rattle.cat_service_tests.specs.plain.Plain.{DoesPlainly, MayWantPlainly}
 use Rattle.cat_service_tests.specs.plain.Exchange.{IsExchangeOf, AreExchanges}
-use Rattle.cat_protocol.specs.declared.lines.line.Line as said
+use Rattle.cat_service.specs.cat_protocol.declared.lines.line.Line as said
 use Rattle.cat_service_tests.specs.declared.plain.reply.Reply as answered
 
 -- a service as it is opened stands for the empty run

@@ -19,7 +19,7 @@ use Rattle.cat_model.specs.Answer.{Found}
 use Rattle.cat_model.specs.Run as run
 use Rattle.cat_model.specs.Served.{AppendsFront}
 use Rattle.cat_service_tests.specs.plain.Counts.{counted_of, facets_told}
-use Rattle.cat_protocol.specs.sending.Out.{Sent}
+use Rattle.cat_service.specs.cat_protocol.sending.Out.{Sent}
 use Rattle.cat_service_tests.specs.declared.plain.counts.Counts.{Counts}
 use Rattle.cat_service_tests.specs.declared.plain.counts.LabelCount.{LabelCount}
 use Rattle.cat_service_tests.specs.plain.Reply.{plain_answer, plain_reply}

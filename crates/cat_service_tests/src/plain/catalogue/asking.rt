@@ -1,10 +1,10 @@
 //! What is asked of a page by a FIND.
 ghost use Rattle.std.specs.Prelude.{◌≡◌};
-ghost use Rattle.cat_protocol.specs.lines.Line.{sort_said};
+ghost use Rattle.cat_service.specs.cat_protocol.lines.Line.{sort_said};
 ghost use Rattle.cat_search.specs.Sorts.{sort_of};
 
-use cat_protocol::lines::Find;
 use cat_search::{Ask, Sort};
+use cat_service::cat_protocol::lines::{self, Find};
 
 /// What the line asks of a page.
 pub(super) fn ask_of<'a>(find: Find<'a>) -> Ask<'a>
@@ -13,9 +13,9 @@ pub(super) fn ask_of<'a>(find: Find<'a>) -> Ask<'a>
     ensures count { result.count ≡ find.entry.count }
 {
     let sort = match find.sort {
-        cat_protocol::lines::Sort::Added => Sort::Added,
-        cat_protocol::lines::Sort::Rising(name) => Sort::Rising(name),
-        cat_protocol::lines::Sort::Falling(name) => Sort::Falling(name),
+        lines::Sort::Added => Sort::Added,
+        lines::Sort::Rising(name) => Sort::Rising(name),
+        lines::Sort::Falling(name) => Sort::Falling(name),
     };
     Ask {
         sort,

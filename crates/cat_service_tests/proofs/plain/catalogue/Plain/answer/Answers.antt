@@ -4,7 +4,7 @@ use Rattle.cat_model.specs.Answer.{Read}
 use Rattle.cat_model.specs.Heard.{id_of}
 use Rattle.cat_model.specs.Run.{Command}
 use Rattle.cat_search.specs.cat_items.Reading.{item_of}
-use Rattle.cat_protocol.specs.lines.Line.{sort_said}
+use Rattle.cat_service.specs.cat_protocol.lines.Line.{sort_said}
 use Rattle.cat_service_tests.specs.plain.Exchange.{find_of}
 use Rattle.cat_service_tests.specs.plain.Line.{plain_of}
 use Rattle.cat_service_tests.proofs.plain.catalogue.Finds.{asks_so}

@@ -1,8 +1,8 @@
 use Rattle.std.proofs.Common.{◌++◌, [], ◌∷◌, map, get_or, ap, sym, ◌∙◌, refl, subst, arith}
 use Rattle.std.proofs.lemmas.List.{take_all}
 use Rattle.cat_model.specs.Run.{Exchange}
-use Rattle.cat_protocol.specs.declared.lines.line.Line.{Line}
-use Rattle.cat_protocol.specs.declared.lines.command.Command.TheVariants.{NoForm}
+use Rattle.cat_service.specs.cat_protocol.declared.lines.line.Line.{Line}
+use Rattle.cat_service.specs.cat_protocol.declared.lines.command.Command.TheVariants.{NoForm}
 use Rattle.cat_service_tests.specs.plain.Exchange.{AreExchanges}
 use Rattle.cat_service_tests.specs.plain.Reply.{plain_reply}
 use Rattle.cat_service_tests.specs.plain.Plain.{beginning_of}

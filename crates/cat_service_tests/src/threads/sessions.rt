@@ -1,28 +1,25 @@
 //! Two sessions in threads of their own over one folder, which write, refresh, open, read off the lock and close.
-ghost use Rattle.std.specs.Prelude.{◌≡◌, [], true};
-ghost use Rattle.cat_threads.specs.cat_commands.cat_ledger.Ledgers.{shape_in};
-ghost use Rattle.cat_threads.specs.service.Passes.{all_different, seated_by};
-ghost use Rattle.cat_threads.specs.sharing.Grounds.{ground_of};
+ghost use Rattle.std.specs.Prelude.{◌≡◌};
 
-use crate::tests::{FIELDS, item_text};
-use crate::threads::Resting;
+use crate::threads::served::{Work, both, count_after};
+use crate::threads::{FIELDS, item_text};
+use crate::verdict::expect;
 use cat_base::{Refusal, SessionNo, WriteNo};
 use cat_directory::{Directory, Folder, FolderShelf, MemoryDirectory, Shelf};
-use cat_items::Schema;
+use cat_search::cat_items::Schema;
 use cat_threads::cat_commands::cat_ledger::cat_ledger_state::Hold;
 use cat_threads::cat_commands::cat_ledger::upkeep::MergePolicy;
 use cat_threads::cat_commands::cat_ledger::{Grant, Ledger};
-use cat_threads::running::{Caller, run_threads};
+use cat_threads::running::{Caller, Gate, run_threads};
 use cat_threads::{Begun, Naming, Pass, Service, Write};
 use std::alloc::{AllocError, Global};
-use std::fs;
-use std::marker::Brand;
-use std::process::Abort;
+use std::fs::Files;
 use std::sync::Wait;
 use std::sync::atomic::{AtomicU64, Ordering};
 use std::test::*;
 use std::thread::Threads;
-use std::time::Clock;
+use std::time::{Clock, Duration};
+use std::{fs, thread};
 
 /// How many writes each session makes.
 const EACH: u64 = 100;
@@ -39,52 +36,77 @@ fn what_is_shared_may_go_to_other_threads() -> Result<(), Fail> {
 
 #[test]
 fn two_sessions_write_side_by_side(rt: HostRuntime) -> Result<(), Fail> {
-    let alloc = rt.alloc();
     let path = "two_sessions_test";
     let _ = fs::remove_dir_all(&rt, path);
     fs::create_dir(&rt, path)?;
-    let folder = Folder::at(rt.clone()?, alloc, path)?;
-    let one = FolderShelf::at(rt.clone()?, alloc, path)?;
-    let two = FolderShelf::at(rt.clone()?, alloc, path)?;
+    let alloc = rt.alloc();
     let schema = Schema::read(alloc, FIELDS)?;
-    let mine = schema.copy()?;
-    let policy = MergePolicy::of(10, 1000).ok_or("policy")?;
-    let Ok(begun) = Begun::open(alloc, folder, schema, policy) else {
-        return Err("open".into());
+    let begun = begin_in(&rt, path, schema.copy()?)?;
+    let right = AtomicU64::new(0);
+    let work = SideBySide {
+        alloc,
+        callers: callers_in(&rt, path, &schema, &right)?,
     };
-    run_two::<Brand, _, _, _>(&rt, alloc, &mine, begun, [1, 2], one, two)?;
-    Ok(fs::remove_dir_all(&rt, path)?)
+    let count = count_after(&rt, alloc, begun, &[1, 2], work);
+    fs::remove_dir_all(&rt, path)?;
+    expect(count == Some(2 * EACH) && right.load(Ordering::SeqCst) == 2)
 }
 
-/// Lets the two sessions work, each in a thread and with a shelf of its own, and counts what they wrote.
-fn run_two<
-    J: Naming + Send + Sync,
-    D: Directory + Shelf + Drop + Send,
-    S: Shelf + Drop + Send,
-    R: Threads + Wait + Clock + Abort + Sync,
->(
+/// A ledger over the folder.
+fn begin_in<R: Files + AllocGlobal + Clone + Drop>(
     rt: &R,
-    alloc: Global,
-    schema: &Schema,
-    begun: Begun<D>,
-    sessions: [SessionNo; 2],
-    first: S,
-    second: S,
-) -> Result<(), Fail>
-    requires names { (begun.table ≡ J.table) × (J.from ≡ ground_of (shape_in begun.ledger)) × (J.sessions ≡ seated_by [] sessions) }
-    requires different { all_different sessions ≡ true }
-{
-    let Ok((service, passes)) = Service::<D, J>::new(alloc, begun, &sessions) else {
-        return Err("memory".into());
-    };
-    let right = AtomicU64::new(0);
-    let shelves = (first, second);
-    let Some(passes) = side_by_side(rt, alloc, &service, schema, passes, shelves, &right) else {
-        return Err("threads".into());
-    };
-    let count = service.finish(rt, passes).count();
-    assert!(rt; right.load(Ordering::SeqCst) == 2 && count == 2 * EACH);
-    Ok(())
+    path: &str,
+    schema: Schema,
+) -> Result<Begun<Folder<R>>, Fail> {
+    let policy = MergePolicy::of(10, 1000).ok_or("policy")?;
+    let folder = Folder::at(rt.clone()?, rt.alloc(), path)?;
+    match Begun::open(rt.alloc(), folder, schema, policy) {
+        Ok(begun) => Ok(begun),
+        Err(_) => Err("open".into()),
+    }
+}
+
+/// Two sessions that are to work over the folder.
+fn callers_in<'a, R: Files + AllocGlobal + Clone + Drop>(
+    rt: &R,
+    path: &str,
+    schema: &'a Schema,
+    right: &'a AtomicU64,
+) -> Result<(Working<'a, FolderShelf<R>>, Working<'a, FolderShelf<R>>), AllocError> {
+    let alloc = rt.alloc();
+    let one = FolderShelf::at(rt.clone()?, alloc, path)?;
+    let two = FolderShelf::at(rt.clone()?, alloc, path)?;
+    let first = Working::new(alloc, schema, one, right);
+    Ok((first, Working::new(alloc, schema, two, right)))
+}
+
+/// The gate of a worker that rests where there was nothing to do.
+#[derive(Drop)]
+struct Resting<'a, R> {
+    rt: &'a R,
+    is_idle: bool,
+}
+
+impl<'a, R> Resting<'a, R> {
+    fn new(rt: &'a R) -> Resting<'a, R> {
+        Resting { rt, is_idle: true }
+    }
+}
+
+impl<'a, R: Clock> Gate for Resting<'a, R> {
+    fn go_on(&mut self) -> bool {
+        if self.is_idle {
+            thread::sleep(self.rt, Duration::from_millis(1));
+        }
+        self.is_idle = false;
+        true
+    }
+
+    fn inside(&mut self) {}
+
+    fn idle(&mut self) {
+        self.is_idle = true;
+    }
 }
 
 /// A session that writes and reads, and counts itself once all went as it should.
@@ -122,47 +144,32 @@ impl<'a, D: Directory + Shelf, J: Naming, S: Shelf + Drop, R: Wait> Caller<D, J,
     }
 }
 
-/// The two sessions of the passes, each with a shelf.
-fn seated<'a, J: Naming, S: Shelf + Drop>(
+/// Runs both, with a merger and a warmer beside them, and then they tell each other what they have seen.
+#[derive(Drop)]
+struct SideBySide<'a, S: Shelf + Drop> {
     alloc: Global,
-    schema: &'a Schema,
-    passes: Vec<Pass<J>>,
-    shelves: (S, S),
-    right: &'a AtomicU64,
-) -> Result<Vec<(Pass<J>, Working<'a, S>)>, AllocError> {
-    let mut passes = passes;
-    let (Some(second), Some(first)) = (passes.pop(), passes.pop()) else {
-        return Err(AllocError);
-    };
-    let (one, two) = shelves;
-    let mut jobs = Vec::with_capacity(alloc, 2)?;
-    jobs.push((first, Working::new(alloc, schema, one, right)))?;
-    jobs.push((second, Working::new(alloc, schema, two, right)))?;
-    Ok(jobs)
+    callers: (Working<'a, S>, Working<'a, S>),
 }
 
-/// Runs both, with a merger and a warmer beside them, and then they tell each other what they have seen.
-fn side_by_side<
-    J: Naming + Send + Sync,
+impl<
+    'a,
     D: Directory + Shelf + Drop + Send,
     S: Shelf + Drop + Send,
     R: Threads + Wait + Clock + Sync,
->(
-    rt: &R,
-    alloc: Global,
-    service: &Service<D, J>,
-    schema: &Schema,
-    passes: Vec<Pass<J>>,
-    shelves: (S, S),
-    right: &AtomicU64,
-) -> Option<Vec<Pass<J>>> {
-    let Ok(jobs) = seated(alloc, schema, passes, shelves, right) else {
-        return None;
-    };
-    let merging = Resting::new(rt);
-    match run_threads(rt, alloc, service, jobs, merging, Resting::new(rt)) {
-        Ok(passes) => meet(rt, service, passes),
-        Err(_) => None,
+> Work<D, R> for SideBySide<'a, S> {
+    fn over<J: Naming + Send + Sync>(
+        self,
+        rt: &R,
+        service: &Service<D, J>,
+        passes: Vec<Pass<J>>,
+    ) -> Option<Vec<Pass<J>>> {
+        let SideBySide { alloc, callers } = self;
+        let jobs = both(alloc, passes, callers).ok()?;
+        let merging = Resting::new(rt);
+        match run_threads(rt, alloc, service, jobs, merging, Resting::new(rt)) {
+            Ok(passes) => meet(rt, service, passes),
+            Err(_) => None,
+        }
     }
 }
 

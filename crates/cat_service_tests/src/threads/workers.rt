@@ -1,19 +1,17 @@
 //! Sessions in threads, with a merger and a warmer beside them.
-ghost use Rattle.std.specs.Prelude.{◌≡◌, [], true};
-ghost use Rattle.cat_threads.specs.cat_commands.cat_ledger.Ledgers.{shape_in};
-ghost use Rattle.cat_threads.specs.service.Passes.{all_different, seated_by};
-ghost use Rattle.cat_threads.specs.sharing.Grounds.{ground_of};
+ghost use Rattle.std.specs.Prelude.{◌≡◌};
 
-use crate::tests::{FIELDS, begin_in_memory, item_text, shown_in};
-use cat_base::{Refusal, SessionNo};
+use crate::threads::served::{Work, both, count_after};
+use crate::threads::{FIELDS, begin_in_memory, item_text, shown_in};
+use crate::verdict::expect;
+use cat_base::Refusal;
 use cat_directory::MemoryDirectory;
-use cat_items::Schema;
+use cat_search::cat_items::Schema;
 use cat_threads::cat_commands::cat_ledger::Grant;
+use cat_threads::cat_commands::cat_ledger::cat_ledger_state::Hold;
 use cat_threads::running::{Caller, Gate, run_threads};
-use cat_threads::{Begun, Naming, Pass, Service, Write};
+use cat_threads::{Naming, Pass, Service, Write};
 use std::alloc::Global;
-use std::marker::Brand;
-use std::process::Abort;
 use std::sync::Wait;
 use std::sync::atomic::{AtomicU64, Ordering};
 use std::test::*;
@@ -141,21 +139,27 @@ struct Reading<'a> {
     board: &'a Board,
 }
 
-impl<'a, J: Naming, R: Wait + Clock + Abort> Caller<MemoryDirectory, J, R> for Reading<'a> {
+impl<'a, J: Naming, R: Wait + Clock> Caller<MemoryDirectory, J, R> for Reading<'a> {
     fn call(self, rt: &R, service: &Service<MemoryDirectory, J>, me: &mut Pass<J>) {
-        self.board.meets(rt);
-        if reads(rt, self.alloc, self.schema, self.board, service, me).is_ok() {
-            self.board.right.fetch_add(1, Ordering::SeqCst);
+        let Reading {
+            alloc,
+            schema,
+            board,
+        } = self;
+        board.meets(rt);
+        if writes(rt, alloc, schema, service, me) == Ok(())
+            && reads(rt, alloc, schema, board, service, me)
+        {
+            board.right.fetch_add(1, Ordering::SeqCst);
         }
     }
 }
 
-/// Writes an item, opens a view of it, and asks for a page of the view while the lock is held by the merger.
-fn reads<J: Naming, R: Wait + Clock + Abort>(
+/// Writes an item, and records a view of it.
+fn writes<J: Naming, R: Wait>(
     rt: &R,
     alloc: Global,
     schema: &Schema,
-    board: &Board,
     service: &Service<MemoryDirectory, J>,
     me: &mut Pass<J>,
 ) -> Result<(), Refusal>
@@ -165,88 +169,105 @@ fn reads<J: Naming, R: Wait + Clock + Abort>(
     let item = schema.item(alloc, text.as_bytes())?;
     let _number = service.write(rt, me, Write::Put(item))?;
     let _token = service.refresh(rt, me)?;
-    match service.open(rt, me, None)? {
-        Grant::New(hold) => {
-            board.held.fetch_add(1, Ordering::SeqCst);
-            let is_locked = reaches(rt, &board.inside, 1);
-            let shown = shown_in(alloc, schema, hold.view());
-            board.pages.fetch_add(1, Ordering::SeqCst);
-            assert!(rt; is_locked, "the lock");
-            assert!(rt; shown == Ok(1), "the page");
-            if let Err(hold) = service.close(rt, me, hold) {
-                hold.give_up();
-                assert!(rt; false, "the close");
+    Ok(())
+}
+
+/// Opens a view, and asks for a page of it while the lock is held by the merger. Whether all went as it should.
+fn reads<J: Naming, R: Wait + Clock>(
+    rt: &R,
+    alloc: Global,
+    schema: &Schema,
+    board: &Board,
+    service: &Service<MemoryDirectory, J>,
+    me: &mut Pass<J>,
+) -> bool
+    ensures { me.new.session ≡ me.old.session }
+{
+    match service.open(rt, me, None) {
+        Ok(Grant::New(hold)) => {
+            let is_right = shows_beside(rt, alloc, schema, board, &hold);
+            match service.close(rt, me, hold) {
+                Ok(_released) => is_right,
+                Err(hold) => {
+                    hold.give_up();
+                    false
+                }
             }
         }
-        Grant::Already(_) => assert!(rt; false, "the right"),
+        Ok(Grant::Already(_)) => false,
+        Err(_) => false,
     }
-    Ok(())
+}
+
+/// Whether the merger has the lock, and a page of the view has the item meanwhile.
+fn shows_beside<R: Clock>(
+    rt: &R,
+    alloc: Global,
+    schema: &Schema,
+    board: &Board,
+    hold: &Hold,
+) -> bool {
+    board.held.fetch_add(1, Ordering::SeqCst);
+    let is_locked = reaches(rt, &board.inside, 1);
+    let shown = shown_in(alloc, schema, hold.view());
+    board.pages.fetch_add(1, Ordering::SeqCst);
+    is_locked && shown == Ok(1)
 }
 
 #[test]
 fn all_at_once_and_pages_while_the_merger_has_the_lock(rt: HostRuntime) -> Result<(), Fail> {
     let alloc = rt.alloc();
     let schema = Schema::read(alloc, FIELDS)?;
-    let mine = schema.copy()?;
-    let begun = begin_in_memory(alloc, schema)?;
-    run_all::<Brand, _>(&rt, alloc, &mine, begun, [1, 2])
-}
-
-fn run_all<J: Naming + Send + Sync, R: Threads + Wait + Clock + Abort + Sync>(
-    rt: &R,
-    alloc: Global,
-    schema: &Schema,
-    begun: Begun<MemoryDirectory>,
-    sessions: [SessionNo; 2],
-) -> Result<(), Fail>
-    requires names { (begun.table ≡ J.table) × (J.from ≡ ground_of (shape_in begun.ledger)) × (J.sessions ≡ seated_by [] sessions) }
-    requires different { all_different sessions ≡ true }
-{
+    let begun = begin_in_memory(alloc, schema.copy()?)?;
     let board = Board::new();
-    let Ok((service, passes)) = Service::<MemoryDirectory, J>::new(alloc, begun, &sessions) else {
-        return Err("memory".into());
+    let work = Together {
+        alloc,
+        schema: &schema,
+        board: &board,
     };
-    let passes = side_by_side(rt, alloc, schema, &board, &service, passes)?;
-    assert_eq!(rt; passes.len(), 2);
-    let ledger = service.finish(rt, passes);
-    assert_eq!(rt; ledger.count(), 2);
+    let count = count_after(&rt, alloc, begun, &[1, 2], work);
     // All four met, both sessions came to their ends, and the merger saw both pages.
-    assert_eq!(rt; board.right.load(Ordering::SeqCst), ALL + 3);
-    Ok(())
+    expect(count == Some(2) && board.right.load(Ordering::SeqCst) == ALL + 3)
 }
 
-/// Runs the sessions, each of which asks for a page, with the workers beside them.
-fn side_by_side<J: Naming + Send + Sync, R: Threads + Wait + Clock + Abort + Sync>(
-    rt: &R,
+/// Two sessions, each of which asks for a page, with the workers beside them.
+#[derive(Drop)]
+struct Together<'a> {
     alloc: Global,
-    schema: &Schema,
-    board: &Board,
-    service: &Service<MemoryDirectory, J>,
-    passes: Vec<Pass<J>>,
-) -> Result<Vec<Pass<J>>, Fail> {
-    let mut jobs = Vec::new(alloc);
-    for pass in passes {
-        let reading = Reading {
-            alloc,
-            schema,
-            board,
-        };
-        jobs.push((pass, reading))?;
+    schema: &'a Schema,
+    board: &'a Board,
+}
+
+impl<'a> Together<'a> {
+    fn reading(&self) -> Reading<'a> {
+        Reading {
+            alloc: self.alloc,
+            schema: self.schema,
+            board: self.board,
+        }
     }
-    let merging = Merging {
-        rt,
-        board,
-        has_come: false,
-        was_inside: false,
-    };
-    let warming = Warming {
-        rt,
-        board,
-        has_come: false,
-        is_idle: false,
-    };
-    match run_threads(rt, alloc, service, jobs, merging, warming) {
-        Ok(passes) => Ok(passes),
-        Err(_) => Err("threads".into()),
+}
+
+impl<'a, R: Threads + Wait + Clock + Sync> Work<MemoryDirectory, R> for Together<'a> {
+    fn over<J: Naming + Send + Sync>(
+        self,
+        rt: &R,
+        service: &Service<MemoryDirectory, J>,
+        passes: Vec<Pass<J>>,
+    ) -> Option<Vec<Pass<J>>> {
+        let jobs = both(self.alloc, passes, (self.reading(), self.reading())).ok()?;
+        let merging = Merging {
+            rt,
+            board: self.board,
+            has_come: false,
+            was_inside: false,
+        };
+        let warming = Warming {
+            rt,
+            board: self.board,
+            has_come: false,
+            is_idle: false,
+        };
+        run_threads(rt, self.alloc, service, jobs, merging, warming).ok()
     }
 }

@@ -1,7 +1,7 @@
-//! Sessions in threads of their own, and what is done beside them.
+//! Tests of callers in threads of their own over one service, and of what is done beside them.
 use cat_base::Refusal;
 use cat_directory::MemoryDirectory;
-use cat_items::Schema;
+use cat_search::cat_items::Schema;
 use cat_threads::Begun;
 use cat_threads::cat_commands::cat_cached_sets::{Query, View};
 use cat_threads::cat_commands::cat_ledger::upkeep::MergePolicy;
@@ -10,7 +10,7 @@ use cat_threads::cat_commands::{Ask, Sort};
 use std::alloc::Global;
 use std::test::Fail;
 
-mod lines;
+mod served;
 mod sessions;
 mod warming;
 mod workers;

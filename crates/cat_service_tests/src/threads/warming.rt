@@ -1,21 +1,16 @@
 //! Cached sets of queries that were noted, one call after another.
-ghost use Rattle.std.specs.Prelude.{◌≡◌, [], true};
-ghost use Rattle.cat_threads.specs.cat_commands.cat_ledger.Ledgers.{shape_in};
-ghost use Rattle.cat_threads.specs.service.Passes.{all_different, seated_by};
-ghost use Rattle.cat_threads.specs.sharing.Grounds.{ground_of};
-
-use crate::tests::{FIELDS, begin_in_memory, item_text, total_of};
-use cat_base::{SessionNo, Text};
+use crate::threads::served::{Work, count_after};
+use crate::threads::{FIELDS, begin_in_memory, item_text, total_of};
+use crate::verdict::expect;
+use cat_base::Text;
 use cat_directory::MemoryDirectory;
-use cat_items::Schema;
+use cat_search::cat_items::Schema;
 use cat_threads::cat_commands::cat_cached_sets::Query;
 use cat_threads::cat_commands::cat_ledger::Grant;
 use cat_threads::cat_commands::cat_ledger::cat_ledger_state::Hold;
 use cat_threads::cat_commands::cat_protocol::replies::{Answer, News};
-use cat_threads::{Begun, Chore, Naming, Pass, Service, Write};
+use cat_threads::{Chore, Naming, Outcome, Pass, Service, Write};
 use std::alloc::Global;
-use std::marker::Brand;
-use std::process::Abort;
 use std::sync::Wait;
 use std::test::*;
 
@@ -29,30 +24,37 @@ const PRICE: u64 = 7;
 fn noted_queries_find_their_sets(rt: HostRuntime) -> Result<(), Fail> {
     let alloc = rt.alloc();
     let schema = Schema::read(alloc, FIELDS)?;
-    let mine = schema.copy()?;
-    let begun = begin_in_memory(alloc, schema)?;
-    run_noted::<Brand, _>(&rt, alloc, &mine, begun, [1])
+    let begun = begin_in_memory(alloc, schema.copy()?)?;
+    let work = Noting {
+        alloc,
+        schema: &schema,
+    };
+    // An item was put and deleted.
+    expect(count_after(&rt, alloc, begun, &[1], work) == Some(2))
 }
 
-fn run_noted<J: Naming, R: Wait + Abort>(
-    rt: &R,
+/// A session that asks queries, and has their sets made.
+#[derive(Drop)]
+struct Noting<'a> {
     alloc: Global,
-    schema: &Schema,
-    begun: Begun<MemoryDirectory>,
-    sessions: [SessionNo; 1],
-) -> Result<(), Fail>
-    requires names { (begun.table ≡ J.table) × (J.from ≡ ground_of (shape_in begun.ledger)) × (J.sessions ≡ seated_by [] sessions) }
-    requires different { all_different sessions ≡ true }
-{
-    let Ok((service, passes)) = Service::<MemoryDirectory, J>::new(alloc, begun, &sessions) else {
-        return Err("memory".into());
-    };
-    let mut passes = passes;
-    let Some(mut me) = passes.pop() else {
-        return Err("me".into());
-    };
-    assert!(rt; is_right(rt, alloc, &service, schema, &mut me));
-    Ok(())
+    schema: &'a Schema,
+}
+
+impl<'a, R: Wait> Work<MemoryDirectory, R> for Noting<'a> {
+    fn over<J: Naming + Send + Sync>(
+        self,
+        rt: &R,
+        service: &Service<MemoryDirectory, J>,
+        passes: Vec<Pass<J>>,
+    ) -> Option<Vec<Pass<J>>> {
+        let mut passes = passes;
+        let me = passes.first_mut()?;
+        if is_right(rt, self.alloc, service, self.schema, me) {
+            Some(passes)
+        } else {
+            None
+        }
+    }
 }
 
 /// Whether an item is put and shown, and pages of the view are right with sets and without.
@@ -130,21 +132,35 @@ fn is_answered<J: Naming, R: Wait>(
     found == Ok(total)
 }
 
-/// What the chore tells: of a merge its rows or segments, of a state the sets, and else a number for each kind.
+/// What a piece of news tells: of a merge its rows or segments, of a state the sets, and else a number for each kind.
+fn number_of(news: &News) -> Option<usize> {
+    match news {
+        News::BegunWarming => Some(1),
+        News::Stored => Some(2),
+        News::Idle => Some(3),
+        News::Done => Some(4),
+        News::BegunMerge(count) | News::Copied(count) => Some(*count),
+        News::State(stat) => Some(stat.cached),
+        _ => None,
+    }
+}
+
+/// What the outcome of a chore tells.
+fn number_in(outcome: &Outcome) -> Option<usize> {
+    match outcome.answer() {
+        Ok(Answer::News(news)) => number_of(news),
+        _ => None,
+    }
+}
+
+/// What the chore tells.
 fn told<J: Naming, R: Wait>(
     rt: &R,
     service: &Service<MemoryDirectory, J>,
     chore: Chore,
 ) -> Option<usize> {
-    match service.maintain(rt, chore).answer() {
-        Ok(Answer::News(News::BegunWarming)) => Some(1),
-        Ok(Answer::News(News::Stored)) => Some(2),
-        Ok(Answer::News(News::Idle)) => Some(3),
-        Ok(Answer::News(News::Done)) => Some(4),
-        Ok(Answer::News(News::BegunMerge(count) | News::Copied(count))) => Some(*count),
-        Ok(Answer::News(News::State(stat))) => Some(stat.cached),
-        _ => None,
-    }
+    let outcome = service.maintain(rt, chore);
+    number_in(&outcome)
 }
 
 /// Whether each query is answered, and its set is made then. At the end there are as many sets as may be.

@@ -1,9 +1,0 @@
-use Rattle.std.proofs.Common.{[]}
-use Rattle.cat_threads.specs.cat_commands.cat_ledger.Ledgers.{shape_in}
-use Rattle.cat_threads.specs.sharing.Grounds.{ground_of}
-use Rattle.cat_threads.specs.service.Passes.{seated_by}
-use Rattle.cat_callers.proofs.tests.lines.is_told.Given as goal
-
--- the service that was just opened
-abbrev pub ghosts-answer_all : goal.ghosts-answer_all
-ghosts-answer_all g a = record { table = a.begun.table; from = ground_of (shape_in a.begun.ledger); sessions = seated_by [] a.numbers.now }
