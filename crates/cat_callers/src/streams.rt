@@ -9,7 +9,7 @@ use crate::asked::Asked;
 use crate::front::Front;
 use crate::input::{Lines, Next};
 use crate::numbers::rise;
-use crate::opening::{begin_by_first, service_of};
+use crate::opening::begin_by_first;
 use crate::output::Output;
 use crate::queues::{Sending, Taking, ends};
 use crate::threads::{Fault, Resting, refuse};
@@ -152,17 +152,6 @@ fn hand_out<I: Read, W: Write + Drop, R: Wait>(
     unreachable!()
 }
 
-/// Where the reader leaves lines for a thread, where that takes them, and its shelf. None where memory is wanting, or a shelf.
-fn seat_for<S: Shelf + Drop, R: Wait>(
-    rt: &R,
-    alloc: Global,
-    shelves: &mut Vec<S>,
-) -> Option<(Sending, Taking, S)> {
-    let (sending, taking) = ends(rt, alloc).ok()?;
-    let shelf = shelves.pop()?;
-    Some((sending, taking, shelf))
-}
-
 /// Starts a thread for each heap of passes, a merger and a warmer beside them, and hands out the lines.
 fn run_stream<
     J: Naming + Send + Sync,
@@ -197,7 +186,7 @@ fn run_stream<
         let mut shelves = shelves;
         let mut sendings = Vec::new(alloc);
         for heap in heaps {
-            let Some((sending, taking, shelf)) = seat_for(rt, alloc, &mut shelves) else {
+            let (Ok((sending, taking)), Some(shelf)) = (ends(rt, alloc), shelves.pop()) else {
                 flag.store(1, Ordering::SeqCst);
                 return Err(Fault::Thread);
             };
@@ -215,23 +204,6 @@ fn run_stream<
         flag.store(1, Ordering::SeqCst);
         handed
     })
-}
-
-/// A service over what was opened, and the passes of its sessions in so many heaps. None where memory is wanting.
-fn service_and_heaps<D: Directory + Shelf + Drop, J: Naming>(
-    alloc: Global,
-    begun: Begun<D>,
-    numbers: &[SessionNo],
-    heaps: usize,
-) -> Option<(Service<D, J>, Vec<Vec<Pass<J>>>)>
-    requires names { (begun.table ≡ J.table) × (J.from ≡ ground_of (shape_in begun.ledger)) × (J.sessions ≡ seated_by [] numbers.now) }
-    requires different { all_different numbers.now ≡ true }
-{
-    let (service, passes) = service_of::<D, J>(alloc, begun, numbers)?;
-    match dealt(alloc, passes, heaps) {
-        Ok(heaps) => Some((service, heaps)),
-        Err(AllocError) => None,
-    }
 }
 
 /// Runs the service, whose sessions have these numbers, over the stream.
@@ -258,8 +230,10 @@ fn serve_opened<
     requires different { all_different numbers.now ≡ true }
     requires fields { schema.now ≡ J.from.start.schema }
 {
-    let Some((service, heaps)) = service_and_heaps::<D, J>(alloc, begun, numbers, shelves.len())
-    else {
+    let Ok((service, passes)) = Service::<D, J>::new(alloc, begun, numbers) else {
+        return Err(Fault::Thread);
+    };
+    let Ok(heaps) = dealt(alloc, passes, shelves.len()) else {
         return Err(Fault::Thread);
     };
     let front = Front::new(rt, alloc, &service, schema, asked);

@@ -8,7 +8,7 @@ use crate::asked::Asked;
 use crate::heard::{Heard, MAX_THREADS, Spoken, hear_all};
 use crate::input::Lines;
 use crate::numbers::rise;
-use crate::opening::{begin_by_first, service_of};
+use crate::opening::begin_by_first;
 use crate::talking::{Talk, Told};
 use cat_base::{Refusal, SessionNo, WriteNo};
 use cat_directory::{Directory, Shelf};
@@ -153,10 +153,13 @@ fn seated<'a, J: Naming, S: Shelf + Drop>(
     let mut sessions = Vec::new(alloc);
     let mut seats = spoken.iter().zip(told.iter()).filter(|seat| seat.0.runs);
     for pass in passes {
-        let (spoken, told) = seats.next()?;
-        let shelf = shelves.pop()?;
+        let (Some((spoken, told)), Some(shelf)) = (seats.next(), shelves.pop()) else {
+            return None;
+        };
         let talk = Talk::new(alloc, schema, asked, spoken.lines.as_slice(), shelf, told);
-        sessions.push((pass, talk)).ok()?;
+        let Ok(()) = sessions.push((pass, talk)) else {
+            return None;
+        };
     }
     Some(sessions)
 }
@@ -212,7 +215,7 @@ fn run_sessions<
     requires different { all_different numbers.now ≡ true }
     requires fields { schema.now ≡ J.from.start.schema }
 {
-    let Some((service, passes)) = service_of::<D, J>(alloc, begun, numbers) else {
+    let Ok((service, passes)) = Service::<D, J>::new(alloc, begun, numbers) else {
         return Err(Fault::Thread);
     };
     run_seated(rt, alloc, &service, passes, schema, spoken, shelves, told)
@@ -257,42 +260,7 @@ fn send_replies<W: Write>(
     flush(to)
 }
 
-/// Runs all sessions, whose lines were heard, and writes what they are told.
-fn answer_heard<
-    D: Directory + Shelf + Drop + Send,
-    S: Shelf + Drop + Send,
-    R: Threads + Wait + Clock + Sync,
-    W: Write,
->(
-    rt: &R,
-    alloc: Global,
-    begun: Begun<D>,
-    schema: &Schema,
-    said: (Heard, Seats),
-    shelves: Vec<S>,
-    writer: &mut W,
-) -> Result<(), Fault>
-    requires fields { (shape_in begun.ledger).schema ≡ schema.now }
-    requires different { all_different said.1.numbers.items ≡ true }
-{
-    run_sessions::<Brand, D, S, R>(
-        rt,
-        alloc,
-        begun,
-        schema,
-        said.1.numbers.as_slice(),
-        said.0.spoken.as_slice(),
-        shelves,
-        said.1.told.as_slice(),
-    )?;
-    let (heard, seats) = said;
-    match send_replies(&heard, seats.told, writer) {
-        Ok(()) => Ok(()),
-        Err(WriteFault) => Err(Fault::Write),
-    }
-}
-
-/// Hears the lines behind the first, and answers all of them.
+/// Hears the lines behind the first, runs all sessions, and writes what they are told.
 fn answer_all<
     D: Directory + Shelf + Drop + Send,
     S: Shelf + Drop + Send,
@@ -311,8 +279,22 @@ fn answer_all<
 ) -> Result<(), Fault>
     requires fields { (shape_in begun.ledger).schema ≡ schema.now }
 {
-    let said = hear(alloc, begun.count(), lines, reader, writer)?;
-    answer_heard(rt, alloc, begun, schema, said, shelves, writer)
+    let (heard, seats) = hear(alloc, begun.count(), lines, reader, writer)?;
+    let Seats { numbers, told } = seats;
+    run_sessions::<Brand, D, S, R>(
+        rt,
+        alloc,
+        begun,
+        schema,
+        numbers.as_slice(),
+        heard.spoken.as_slice(),
+        shelves,
+        told.as_slice(),
+    )?;
+    match send_replies(&heard, told, writer) {
+        Ok(()) => Ok(()),
+        Err(WriteFault) => Err(Fault::Write),
+    }
 }
 
 /// Says why nothing is opened.
