@@ -1,7 +1,10 @@
 //! Two sessions in threads of their own over one folder, which write, refresh, open, read off the lock and close.
-ghost use Rattle.std.specs.Prelude.{◌≡◌};
+ghost use Rattle.std.specs.Prelude.{◌≡◌, [], true};
+ghost use Rattle.cat_threads.specs.cat_commands.cat_ledger.Ledgers.{shape_in};
+ghost use Rattle.cat_threads.specs.service.Passes.{all_different, seated_by};
+ghost use Rattle.cat_threads.specs.sharing.Grounds.{ground_of};
 
-use crate::threads::served::{Work, both, count_after};
+use crate::threads::served::{both, count_of};
 use crate::threads::{FIELDS, item_text};
 use crate::verdict::expect;
 use cat_base::{Refusal, SessionNo, WriteNo};
@@ -14,6 +17,7 @@ use cat_threads::running::{Caller, Gate, run_threads};
 use cat_threads::{Begun, Naming, Pass, Service, Write};
 use std::alloc::{AllocError, Global};
 use std::fs::Files;
+use std::marker::Brand;
 use std::sync::Wait;
 use std::sync::atomic::{AtomicU64, Ordering};
 use std::test::*;
@@ -43,11 +47,8 @@ fn two_sessions_write_side_by_side(rt: HostRuntime) -> Result<(), Fail> {
     let schema = Schema::read(alloc, FIELDS)?;
     let begun = begin_in(&rt, path, schema.copy()?)?;
     let right = AtomicU64::new(0);
-    let work = SideBySide {
-        alloc,
-        callers: callers_in(&rt, path, &schema, &right)?,
-    };
-    let count = count_after(&rt, alloc, begun, &[1, 2], work);
+    let callers = callers_in(&rt, path, &schema, &right)?;
+    let count = run_two::<Brand, _, _, _>(&rt, alloc, begun, [1, 2], callers);
     fs::remove_dir_all(&rt, path)?;
     expect(count == Some(2 * EACH) && right.load(Ordering::SeqCst) == 2)
 }
@@ -144,32 +145,49 @@ impl<'a, D: Directory + Shelf, J: Naming, S: Shelf + Drop, R: Wait> Caller<D, J,
     }
 }
 
-/// Runs both, with a merger and a warmer beside them, and then they tell each other what they have seen.
-#[derive(Drop)]
-struct SideBySide<'a, S: Shelf + Drop> {
-    alloc: Global,
-    callers: (Working<'a, S>, Working<'a, S>),
-}
-
-impl<
-    'a,
+/// Lets the two sessions work. How many writes were accepted, if both came to their ends.
+fn run_two<
+    J: Naming + Send + Sync,
     D: Directory + Shelf + Drop + Send,
     S: Shelf + Drop + Send,
     R: Threads + Wait + Clock + Sync,
-> Work<D, R> for SideBySide<'a, S> {
-    fn over<J: Naming + Send + Sync>(
-        self,
-        rt: &R,
-        service: &Service<D, J>,
-        passes: Vec<Pass<J>>,
-    ) -> Option<Vec<Pass<J>>> {
-        let SideBySide { alloc, callers } = self;
-        let jobs = both(alloc, passes, callers).ok()?;
-        let merging = Resting::new(rt);
-        match run_threads(rt, alloc, service, jobs, merging, Resting::new(rt)) {
-            Ok(passes) => meet(rt, service, passes),
-            Err(_) => None,
-        }
+>(
+    rt: &R,
+    alloc: Global,
+    begun: Begun<D>,
+    sessions: [SessionNo; 2],
+    callers: (Working<'_, S>, Working<'_, S>),
+) -> Option<WriteNo>
+    requires names { (begun.table ≡ J.table) × (J.from ≡ ground_of (shape_in begun.ledger)) × (J.sessions ≡ seated_by [] sessions) }
+    requires different { all_different sessions ≡ true }
+{
+    let Ok((service, passes)) = Service::<D, J>::new(alloc, begun, &sessions) else {
+        return None;
+    };
+    let passes = side_by_side(rt, alloc, &service, passes, callers)?;
+    Some(count_of(rt, service, passes))
+}
+
+/// Runs both, with a merger and a warmer beside them, and then they tell each other what they have seen.
+fn side_by_side<
+    J: Naming + Send + Sync,
+    D: Directory + Shelf + Drop + Send,
+    S: Shelf + Drop + Send,
+    R: Threads + Wait + Clock + Sync,
+>(
+    rt: &R,
+    alloc: Global,
+    service: &Service<D, J>,
+    passes: Vec<Pass<J>>,
+    callers: (Working<'_, S>, Working<'_, S>),
+) -> Option<Vec<Pass<J>>> {
+    let Ok(jobs) = both(alloc, passes, callers) else {
+        return None;
+    };
+    let merging = Resting::new(rt);
+    match run_threads(rt, alloc, service, jobs, merging, Resting::new(rt)) {
+        Ok(passes) => meet(rt, service, passes),
+        Err(_) => None,
     }
 }
 

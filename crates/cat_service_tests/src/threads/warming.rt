@@ -1,16 +1,22 @@
 //! Cached sets of queries that were noted, one call after another.
-use crate::threads::served::{Work, count_after};
+ghost use Rattle.std.specs.Prelude.{◌≡◌, [], true};
+ghost use Rattle.cat_threads.specs.cat_commands.cat_ledger.Ledgers.{shape_in};
+ghost use Rattle.cat_threads.specs.service.Passes.{all_different, seated_by};
+ghost use Rattle.cat_threads.specs.sharing.Grounds.{ground_of};
+
+use crate::threads::served::count_of;
 use crate::threads::{FIELDS, begin_in_memory, item_text, total_of};
 use crate::verdict::expect;
-use cat_base::Text;
+use cat_base::{SessionNo, Text, WriteNo};
 use cat_directory::MemoryDirectory;
 use cat_search::cat_items::Schema;
 use cat_threads::cat_commands::cat_cached_sets::Query;
 use cat_threads::cat_commands::cat_ledger::Grant;
 use cat_threads::cat_commands::cat_ledger::cat_ledger_state::Hold;
 use cat_threads::cat_commands::cat_protocol::replies::{Answer, News};
-use cat_threads::{Chore, Naming, Outcome, Pass, Service, Write};
+use cat_threads::{Begun, Chore, Naming, Outcome, Pass, Service, Write};
 use std::alloc::Global;
+use std::marker::Brand;
 use std::sync::Wait;
 use std::test::*;
 
@@ -25,35 +31,42 @@ fn noted_queries_find_their_sets(rt: HostRuntime) -> Result<(), Fail> {
     let alloc = rt.alloc();
     let schema = Schema::read(alloc, FIELDS)?;
     let begun = begin_in_memory(alloc, schema.copy()?)?;
-    let work = Noting {
-        alloc,
-        schema: &schema,
-    };
     // An item was put and deleted.
-    expect(count_after(&rt, alloc, begun, &[1], work) == Some(2))
+    expect(run_noted::<Brand, _>(&rt, alloc, &schema, begun, [1]) == Some(2))
 }
 
-/// A session that asks queries, and has their sets made.
-#[derive(Drop)]
-struct Noting<'a> {
+/// Lets a session ask queries, whose sets are made. How many writes were accepted, if all was as it should be.
+fn run_noted<J: Naming, R: Wait>(
+    rt: &R,
     alloc: Global,
-    schema: &'a Schema,
+    schema: &Schema,
+    begun: Begun<MemoryDirectory>,
+    sessions: [SessionNo; 1],
+) -> Option<WriteNo>
+    requires names { (begun.table ≡ J.table) × (J.from ≡ ground_of (shape_in begun.ledger)) × (J.sessions ≡ seated_by [] sessions) }
+    requires different { all_different sessions ≡ true }
+{
+    let Ok((service, passes)) = Service::<MemoryDirectory, J>::new(alloc, begun, &sessions) else {
+        return None;
+    };
+    let passes = if_right(rt, alloc, &service, schema, passes)?;
+    Some(count_of(rt, service, passes))
 }
 
-impl<'a, R: Wait> Work<MemoryDirectory, R> for Noting<'a> {
-    fn over<J: Naming + Send + Sync>(
-        self,
-        rt: &R,
-        service: &Service<MemoryDirectory, J>,
-        passes: Vec<Pass<J>>,
-    ) -> Option<Vec<Pass<J>>> {
-        let mut passes = passes;
-        let me = passes.first_mut()?;
-        if is_right(rt, self.alloc, service, self.schema, me) {
-            Some(passes)
-        } else {
-            None
-        }
+/// The passes, if the first one's session is answered as it should be.
+fn if_right<J: Naming, R: Wait>(
+    rt: &R,
+    alloc: Global,
+    service: &Service<MemoryDirectory, J>,
+    schema: &Schema,
+    passes: Vec<Pass<J>>,
+) -> Option<Vec<Pass<J>>> {
+    let mut passes = passes;
+    let me = passes.first_mut()?;
+    if is_right(rt, alloc, service, schema, me) {
+        Some(passes)
+    } else {
+        None
     }
 }
 

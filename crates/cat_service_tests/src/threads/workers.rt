@@ -1,17 +1,21 @@
 //! Sessions in threads, with a merger and a warmer beside them.
-ghost use Rattle.std.specs.Prelude.{◌≡◌};
+ghost use Rattle.std.specs.Prelude.{◌≡◌, [], true};
+ghost use Rattle.cat_threads.specs.cat_commands.cat_ledger.Ledgers.{shape_in};
+ghost use Rattle.cat_threads.specs.service.Passes.{all_different, seated_by};
+ghost use Rattle.cat_threads.specs.sharing.Grounds.{ground_of};
 
-use crate::threads::served::{Work, both, count_after};
+use crate::threads::served::{both, count_of};
 use crate::threads::{FIELDS, begin_in_memory, item_text, shown_in};
 use crate::verdict::expect;
-use cat_base::Refusal;
+use cat_base::{Refusal, SessionNo, WriteNo};
 use cat_directory::MemoryDirectory;
 use cat_search::cat_items::Schema;
 use cat_threads::cat_commands::cat_ledger::Grant;
 use cat_threads::cat_commands::cat_ledger::cat_ledger_state::Hold;
 use cat_threads::running::{Caller, Gate, run_threads};
-use cat_threads::{Naming, Pass, Service, Write};
+use cat_threads::{Begun, Naming, Pass, Service, Write};
 use std::alloc::Global;
+use std::marker::Brand;
 use std::sync::Wait;
 use std::sync::atomic::{AtomicU64, Ordering};
 use std::test::*;
@@ -220,54 +224,66 @@ fn all_at_once_and_pages_while_the_merger_has_the_lock(rt: HostRuntime) -> Resul
     let schema = Schema::read(alloc, FIELDS)?;
     let begun = begin_in_memory(alloc, schema.copy()?)?;
     let board = Board::new();
-    let work = Together {
-        alloc,
-        schema: &schema,
-        board: &board,
-    };
-    let count = count_after(&rt, alloc, begun, &[1, 2], work);
+    let count = run_all::<Brand, _>(&rt, alloc, &schema, &board, begun, [1, 2]);
     // All four met, both sessions came to their ends, and the merger saw both pages.
     expect(count == Some(2) && board.right.load(Ordering::SeqCst) == ALL + 3)
 }
 
-/// Two sessions, each of which asks for a page, with the workers beside them.
-#[derive(Drop)]
-struct Together<'a> {
+/// Runs two sessions, each of which asks for a page. How many writes were accepted.
+fn run_all<J: Naming + Send + Sync, R: Threads + Wait + Clock + Sync>(
+    rt: &R,
     alloc: Global,
-    schema: &'a Schema,
-    board: &'a Board,
+    schema: &Schema,
+    board: &Board,
+    begun: Begun<MemoryDirectory>,
+    sessions: [SessionNo; 2],
+) -> Option<WriteNo>
+    requires names { (begun.table ≡ J.table) × (J.from ≡ ground_of (shape_in begun.ledger)) × (J.sessions ≡ seated_by [] sessions) }
+    requires different { all_different sessions ≡ true }
+{
+    let Ok((service, passes)) = Service::<MemoryDirectory, J>::new(alloc, begun, &sessions) else {
+        return None;
+    };
+    let passes = side_by_side(rt, alloc, schema, board, &service, passes)?;
+    Some(count_of(rt, service, passes))
 }
 
-impl<'a> Together<'a> {
-    fn reading(&self) -> Reading<'a> {
-        Reading {
-            alloc: self.alloc,
-            schema: self.schema,
-            board: self.board,
-        }
-    }
-}
-
-impl<'a, R: Threads + Wait + Clock + Sync> Work<MemoryDirectory, R> for Together<'a> {
-    fn over<J: Naming + Send + Sync>(
-        self,
-        rt: &R,
-        service: &Service<MemoryDirectory, J>,
-        passes: Vec<Pass<J>>,
-    ) -> Option<Vec<Pass<J>>> {
-        let jobs = both(self.alloc, passes, (self.reading(), self.reading())).ok()?;
-        let merging = Merging {
-            rt,
-            board: self.board,
-            has_come: false,
-            was_inside: false,
-        };
-        let warming = Warming {
-            rt,
-            board: self.board,
-            has_come: false,
-            is_idle: false,
-        };
-        run_threads(rt, self.alloc, service, jobs, merging, warming).ok()
+/// Runs both, with the workers beside them.
+fn side_by_side<J: Naming + Send + Sync, R: Threads + Wait + Clock + Sync>(
+    rt: &R,
+    alloc: Global,
+    schema: &Schema,
+    board: &Board,
+    service: &Service<MemoryDirectory, J>,
+    passes: Vec<Pass<J>>,
+) -> Option<Vec<Pass<J>>> {
+    let one = Reading {
+        alloc,
+        schema,
+        board,
+    };
+    let two = Reading {
+        alloc,
+        schema,
+        board,
+    };
+    let Ok(jobs) = both(alloc, passes, (one, two)) else {
+        return None;
+    };
+    let merging = Merging {
+        rt,
+        board,
+        has_come: false,
+        was_inside: false,
+    };
+    let warming = Warming {
+        rt,
+        board,
+        has_come: false,
+        is_idle: false,
+    };
+    match run_threads(rt, alloc, service, jobs, merging, warming) {
+        Ok(passes) => Some(passes),
+        Err(_) => None,
     }
 }
