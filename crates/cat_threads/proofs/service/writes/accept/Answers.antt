@@ -59,3 +59,15 @@ returns-in-DeleteWhere-clause-kind g c = never_kind _ c.delete_where.result c.de
 
 pub returns-in-DeleteWhere-clause-refusal : goal.returns-in-DeleteWhere-clause-refusal
 returns-in-DeleteWhere-clause-refusal g c = among_all c.delete_where.result c.delete_where.ensures.refusal
+
+pub returns-in-Put-clause-number : goal.returns-in-Put-clause-number
+returns-in-Put-clause-number g c = c.put.ensures.number
+
+pub returns-in-Delete-clause-number : goal.returns-in-Delete-clause-number
+returns-in-Delete-clause-number g c = c.delete.ensures.number
+
+pub returns-in-DeleteWhere-clause-number : goal.returns-in-DeleteWhere-clause-number
+returns-in-DeleteWhere-clause-number g c = c.delete_where.ensures.number
+
+pub returns-in-Put-clause-refusal : goal.returns-in-Put-clause-refusal
+returns-in-Put-clause-refusal g c = c.put.ensures.refusal
