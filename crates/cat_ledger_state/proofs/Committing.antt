@@ -103,11 +103,11 @@ own_begun s =
     (same_again (Name.commit s.next_generation))
 
 -- names were taken and given again, and those that were begun are known
-pub commit_left : (text : Text) (s : Shape) (reserved : List CommitFile) (taken given : List Name) (mid users' : List Used) → IsShape s
-    → s.next_generation ≤ last_number → reserved ≡ s.commits → taken ≡ commit_needs (commit_file_now text s) → given ≡ commit_needs (commit_file_now text s)
+pub commit_left : (text : Text) (s : Shape) (reserved : List CommitFile) (listed' : List ListedLive) (taken given : List Name) (mid users' : List Used) → IsShape s
+    → s.next_generation ≤ last_number → reserved ≡ s.commits → listed' ≡ s.listed → taken ≡ commit_needs (commit_file_now text s) → given ≡ commit_needs (commit_file_now text s)
     → Changes taken [] s.users mid → Changes [] given mid users'
-    → Leaves (names_begun s) s (record s { commits = reserved; users = users'; next_generation = s.next_generation + 1 })
-commit_left text s reserved taken given mid users' its left room needs same taking giving =
+    → Leaves (names_begun s) s (record s { commits = reserved; listed = listed'; users = users'; next_generation = s.next_generation + 1 })
+commit_left text s reserved listed' taken given mid users' its left room same_listed needs same taking giving =
     let names : List Name = commit_needs (commit_file_now text s) in
     let first : Changes names [] s.users mid = subst (λ ns. Changes ns [] s.users mid) needs taking in
     let second : Changes [] names mid users' = subst (λ ns. Changes [] ns mid users') same giving in
@@ -119,5 +119,5 @@ commit_left text s reserved taken given mid users' its left room needs same taki
       one_segment = inl refl;
       one_generation = inr (refl, own_begun s);
       left = (segments_fit s its, omega (arith, left));
-      rest = ap (λ cs. record s { commits = cs; users = users'; next_generation = s.next_generation + 1 }) room;
+      rest = ap₂ (λ cs ls. record s { commits = cs; listed = ls; users = users'; next_generation = s.next_generation + 1 }) room same_listed;
     }

@@ -1,13 +1,13 @@
 -- What a commit is made of, and what it makes; and which commits stay.
-use Rattle.std.specs.Prelude.{ℕ, ◌+◌, ◌-◌, ◌==◌, ◌||◌, ltb, cond, Bool, List, Option, Some, None}
+use Rattle.std.specs.Prelude.{ℕ, ◌+◌, ◌-◌, ◌==◌, ◌||◌, ltb, cond, Bool, not, filter, List, Option, Some, None}
 use Rattle.cat_model.specs.Text.{Text}
 use Rattle.cat_model.specs.Files.{Name}
 use Rattle.cat_model.specs.CommitFile.{CommitFile, commit_needs}
 use Rattle.cat_model.specs.Run.{is_newest}
-use Rattle.cat_model.specs.State.{Taken, snapshots_in}
+use Rattle.cat_model.specs.State.{Taken, snapshots_in, stays_kept}
 use Rattle.cat_model.specs.View.{View, needs}
 use Rattle.cat_ledger_laws.specs.model.Users.{times}
-use Rattle.cat_ledger_laws.specs.shape.Shapes.{Shape}
+use Rattle.cat_ledger_laws.specs.shape.Shapes.{Shape, names_of_commits}
 use Rattle.cat_ledger_laws.specs.shape.Steps.{IsCommitted, listed_now, commit_file_now}
 use Rattle.cat_ledger_laws.specs.shape.Ties.{ToldFiles}
 use Rattle.cat_ledger_laws.specs.shape.CommitLaws.{WritesCommit}
@@ -26,6 +26,10 @@ stays_with taken released newest h = is_newest newest h || ltb 0 (left_of taken 
 -- the names of the files that are synced with a commit of now, before its own file is begun
 abbrev pub names_synced : Shape → List Name
 names_synced s = unsynced_in s.listed s.next_generation (listed_now s)
+
+-- the names of the files of the commits that go for a commit of now
+abbrev pub names_given : Shape → List Name
+names_given s = names_of_commits (filter (λ c. not (stays_kept s.taken (Some s.next_generation) c.generation)) s.commits)
 
 -- a commit of now with this text, ready to be written
 abbrev pub draft_now : Text → Shape → Drafted

@@ -1,3 +1,4 @@
+pub mod Found
 pub mod Newest
 pub mod Opened
 pub mod Refused

@@ -27,12 +27,18 @@ use cat_merge::cat_segment::{Live, encode_seg};
 use std::alloc::{AllocError, Global};
 use std::sync::Arc;
 
-/// The segment that a flush makes, with the bytes of its two files.
+/// The bytes of the two files of a segment.
+#[derive(Drop)]
+struct NewFiles {
+    bytes: Vec<u8>,
+    sources: Vec<u8>,
+}
+
+/// The segment that a flush makes, with what its files will hold.
 #[derive(Drop)]
 struct NewSegment {
     leaf: Leaf,
-    bytes: Vec<u8>,
-    sources: Vec<u8>,
+    files: NewFiles,
 }
 
 /// The segment of what waits, all of it live, and what its files will hold.
@@ -40,8 +46,8 @@ fn new_segment(alloc: Global, buffer: &Buffer, number: SegNo) -> Result<NewSegme
     requires some { 1 ≤ length buffer.now.records }
     requires number { IsFileNumber number }
     ensures leaf { IfOk result (λ s. s.leaf ≡ leaf_of buffer.now.schema (all_live number buffer.now.records)) }
-    ensures bytes { IfOk result (λ s. SpellsSegment s.bytes.items s.leaf.segment) }
-    ensures sources { IfOk result (λ s. s.sources.items ≡ joined_sources buffer.now.records) }
+    ensures bytes { IfOk result (λ s. SpellsSegment s.files.bytes.items s.leaf.segment) }
+    ensures sources { IfOk result (λ s. s.files.sources.items ≡ joined_sources buffer.now.records) }
 {
     let Sealed { segment, sources } = buffer.seal(number)?;
     let bytes = encode_seg(alloc, &segment)?;
@@ -49,8 +55,7 @@ fn new_segment(alloc: Global, buffer: &Buffer, number: SegNo) -> Result<NewSegme
     let leaf = Leaf::new(Arc::new(alloc, segment)?, Arc::new(alloc, live)?);
     Ok(NewSegment {
         leaf,
-        bytes,
-        sources,
+        files: NewFiles { bytes, sources },
     })
 }
 
@@ -112,6 +117,41 @@ fn write_segment<D: Directory>(
     write_file(device, alloc, FileName::Source(number), sources)
 }
 
+/// Writes the two files of the segment that stands last, which is taken out again where the directory refuses them.
+fn write_last<D: Directory>(
+    current: &mut Current,
+    refs: &mut FileRefs,
+    device: &mut D,
+    alloc: Global,
+    number: SegNo,
+    files: NewFiles,
+) -> Result<(), Refusal>
+    requires number { IsFileNumber number }
+    requires some { 0 < length current.old }
+    requires had { (q : Name) → times q (Name.segment number ∷ Name.source number ∷ []) ≤ users_of refs.old q }
+    ensures others { (q : FileName) → q ≢ FileName.Segment number → q ≢ FileName.Source number
+        → D.bytes device.new q ≡ D.bytes device.old q }
+    ensures crash { (q : FileName) → q ≢ FileName.Segment number → q ≢ FileName.Source number
+        → NoMore (D.may_leave device.old q) (D.may_leave device.new q) }
+    ensures segment { OnOk result (IsTold (D.bytes device.new (FileName.Segment number)) (Some files.bytes.items)) }
+    ensures source { OnOk result (IsTold (D.bytes device.new (FileName.Source number)) (Some files.sources.items)) }
+    ensures stands { OnOk result (current.new ≡ current.old) }
+    ensures used { OnOk result (refs.new ≡ refs.old) }
+    ensures taken_out { OnErr result (current.new ≡ take (length current.old - 1) current.old) }
+    ensures given { OnErr result (Changes [] (Name.segment number ∷ Name.source number ∷ []) refs.old refs.new) }
+    ensures device { IfErr result (λ e. e ≡ Device → D.can_fail device.old) }
+    ensures can { D.can_fail device.new → D.can_fail device.old }
+    ensures counted { CountsWriting (D.fault_count device.old) (D.fault_count device.new) result }
+{
+    match write_segment(device, alloc, number, &files.bytes, &files.sources) {
+        Ok(()) => Ok(()),
+        Err(refusal) => {
+            remove_segment(current, refs, number);
+            Err(refusal)
+        }
+    }
+}
+
 impl Core {
     /// Makes a segment of what waits, with files of its own; nothing where nothing waits.
     ///
@@ -143,22 +183,22 @@ impl Core {
             return Err(Refusal::Spent);
         }
         prove!(self.records.len() <= MAX_RECORDS);
-        let NewSegment {
-            leaf,
-            bytes,
-            sources,
-        } = new_segment(self.alloc, &self.buffer, number)?;
+        let NewSegment { leaf, files } = new_segment(self.alloc, &self.buffer, number)?;
         add_segment(&mut self.current, &mut self.refs, leaf)?;
         self.next_segment = number + 1;
-        match write_segment(device, self.alloc, number, &bytes, &sources) {
+        match write_last(
+            &mut self.current,
+            &mut self.refs,
+            device,
+            self.alloc,
+            number,
+            files,
+        ) {
             Ok(()) => {
                 self.buffer.clear();
                 Ok(())
             }
-            Err(refusal) => {
-                remove_segment(&mut self.current, &mut self.refs, number);
-                Err(refusal)
-            }
+            Err(refusal) => Err(refusal),
         }
     }
 }

@@ -1,16 +1,19 @@
 //! The end of a merge: its segment stands in the place of those that it took.
 //!
 //! Lucene's `IndexWriter.commitMerge`, with the end of `mergeMiddle`.
-ghost use Rattle.std.specs.Prelude.{◌≡◌, ◌≢◌, ◌⊎◌, ◌+◌, ◌<◌, ◌++◌, ◌∷◌, [], map, length, take, IfOk, IfErr, OnOk, OnErr, ◌≤◌};
+ghost use Rattle.std.specs.Prelude.{◌≡◌, ◌≢◌, ◌⊎◌, ◌+◌, ◌<◌, ◌^◌, ◌++◌, ◌∷◌, [], map, length, take, IfOk, IfErr, OnOk, OnErr, ◌≤◌};
 ghost use Rattle.std.specs.List.{AllByRecursion};
 ghost use Rattle.std.specs.Option.{option_to_list};
 ghost use Rattle.cat_base.specs.declared.refusal.Refusal.TheVariants.{Memory, Device};
 ghost use Rattle.cat_model.specs.Files.{Name, IsFileNumber};
 ghost use Rattle.cat_model.specs.Layout.{SpellsSegment};
+ghost use Rattle.cat_model.specs.Merged.{AreDeletedFrom, rows_of_all};
+ghost use Rattle.cat_merge.specs.files.Making.{merged_leaves};
+ghost use Rattle.cat_lifetimes.specs.refs.Counts.{names_in};
 ghost use Rattle.cat_directory.specs.Devices.{CountsWriting, NoMore};
 ghost use Rattle.cat_directory.specs.Names.{name_of};
 ghost use Rattle.cat_directory.specs.declared.name.FileName.{FileName};
-ghost use Rattle.cat_ledger_laws.specs.model.Users.{users_of, Changes};
+ghost use Rattle.cat_ledger_laws.specs.model.Users.{users_of, times, Changes};
 ghost use Rattle.cat_ledger_laws.specs.shape.Shapes.{names_of_leaves};
 ghost use Rattle.cat_ledger_laws.specs.shape.Steps.{window_now};
 ghost use Rattle.cat_ledger_laws.specs.shape.Ties.{TellsBytes};
@@ -26,6 +29,21 @@ use cat_lifetimes::refs::FileRefs;
 use cat_live_table::current::Current;
 use cat_merge::files::{MergeInMaking, write_segment};
 use std::alloc::{AllocError, Global};
+
+/// The names of the files that a merge moves users of: those of the segment that it makes, which get one, and those of the segments that
+/// it takes, which lose one.
+#[derive(Drop)]
+struct Moves {
+    taken: Vec<FileName>,
+    given: Vec<FileName>,
+}
+
+/// The segment that a merge makes, if a row was kept, and the names of files whose users move with it.
+#[derive(Drop)]
+struct Settled {
+    merged: Option<Leaf>,
+    moves: Moves,
+}
 
 /// Adds the names of the segment's files.
 fn add_files(names: &mut Vec<FileName>, leaf: &Leaf) -> Result<(), AllocError>
@@ -114,6 +132,49 @@ fn write_and_place<D: Directory>(
     Ok(())
 }
 
+/// Makes the segment of the merge, and counts it as a user of its files. The window is of the segments that it takes. An error leaves
+/// the users as they are.
+fn settle(
+    refs: &mut FileRefs,
+    alloc: Global,
+    window: &[Leaf],
+    merge: MergeInMaking,
+) -> Result<Settled, AllocError>
+    requires passed { merge.shape.passed ≡ length (rows_of_all merge.shape.inputs) }
+    requires deleted { AreDeletedFrom merge.shape.inputs window.now }
+    requires fit { (q : Name) → users_of refs.old q
+        + times q (names_of_leaves (merged_leaves merge.shape.number merge.schema merge.shape.inputs window.now)) < 2 ^ 64 }
+    ensures merged { IfOk result (λ s. option_to_list s.merged
+        ≡ merged_leaves merge.shape.number merge.schema merge.shape.inputs window.now) }
+    ensures taken { IfOk result (λ s. map name_of s.moves.taken.items ≡ names_of_leaves (option_to_list s.merged)) }
+    ensures given { IfOk result (λ s. map name_of s.moves.given.items ≡ names_of_leaves window.now) }
+    ensures numbered { OnOk result (IsFileNumber merge.shape.number) }
+    ensures counted { IfOk result (λ s. Changes (names_in s.moves.taken.items) [] refs.old refs.new) }
+    ensures err { OnErr result (refs.new ≡ refs.old) }
+{
+    let merged = merge.settle(window)?;
+    let given = files_of_all(alloc, window)?;
+    let taken = files_of_new(alloc, &merged)?;
+    refs.take(&taken)?;
+    Ok(Settled {
+        merged,
+        moves: Moves { taken, given },
+    })
+}
+
+/// Where the segment was placed, those that it takes lose their users; else its own users are taken back. It takes no memory.
+fn end_moves(refs: &mut FileRefs, moves: Moves, placed: &Result<(), Refusal>)
+    requires taken { (q : Name) → times q (names_in moves.taken.items) ≤ users_of refs.old q }
+    requires given { (q : Name) → times q (names_in moves.given.items) ≤ users_of refs.old q }
+    ensures ok { OnOk placed.now (Changes [] (names_in moves.given.items) refs.old refs.new) }
+    ensures err { OnErr placed.now (Changes [] (names_in moves.taken.items) refs.old refs.new) }
+{
+    match placed {
+        Ok(()) => refs.give(&moves.given),
+        Err(_) => refs.give(&moves.taken),
+    }
+}
+
 /// Puts the segment of the merge in the place of those that it takes, writes its file, and moves the users of the files of all of
 /// these. An error leaves the list and the users as they are; the names of the new segment may be known then, and those that were
 /// known stay so.
@@ -145,20 +206,10 @@ fn install_merged<D: Directory>(
     let number = merge.number();
     let place = (merge.index(), merge.count());
     let window = &current.leaves()[place.0..place.0 + place.1];
-    let given = files_of_all(alloc, window)?;
-    let merged = merge.settle(window)?;
-    let taken = files_of_new(alloc, &merged)?;
-    refs.take(&taken)?;
-    match write_and_place(current, device, alloc, place, merged, number) {
-        Ok(()) => {
-            refs.give(&given);
-            Ok(())
-        }
-        Err(refusal) => {
-            refs.give(&taken);
-            Err(refusal)
-        }
-    }
+    let Settled { merged, moves } = settle(refs, alloc, window, merge)?;
+    let placed = write_and_place(current, device, alloc, place, merged, number);
+    end_moves(refs, moves, &placed);
+    placed
 }
 
 impl Core {

@@ -24,7 +24,7 @@ use Rattle.cat_ledger_laws.specs.shape.Shapes.{names_of_leaves}
 use Rattle.cat_ledger_laws.specs.shape.Ties.{file_of, ToldFiles, IsTold}
 use Rattle.cat_ledger_laws.specs.shape.OpeningLaws.{IsCountedAt, MayHold, view_at}
 use Rattle.cat_ledger_laws.proofs.shape.Told.{file_of_name}
-use Rattle.cat_ledger_state.proofs.startup.Listing.{contained, named}
+use Rattle.cat_ledger_state.proofs.startup.Listing.{contained}
 
 or_second : (a b : Bool) → b ≡ true → (a || b) ≡ true
 or_second true b e = refl
@@ -85,10 +85,9 @@ module _ (told : ToldFiles) where
   )
 
   -- none of the names that a restored commit needs is told to be absent
-  pub needed_there : (schema : Schema) (g : ℕ) (r : Restored) (needed : List FileName) → IsRestored (MayHold told) schema g r → map name_of needed ≡ commit_needs r.commit
-      → (q : FileName) → Contains needed q → told q ≢ Some None
-  needed_there schema g r needed is names q among =
-      let there : has_name (name_of q) (commit_needs r.commit) ≡ true = ap (has_name (name_of q)) (sym names) ∙ named needed q among in
+  pub needed_there : (schema : Schema) (g : ℕ) (r : Restored) → IsRestored (MayHold told) schema g r
+      → (q : FileName) → has_name (name_of q) (commit_needs r.commit) ≡ true → told q ≢ Some None
+  needed_there schema g r is q there =
       subst (λ f. told f ≢ Some None) (file_of_name q) (of_named (MayBe told) (name_of q) (commit_needs r.commit) (all_there schema g r is) there)
 
 -- ---- nobody uses others

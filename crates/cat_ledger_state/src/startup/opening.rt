@@ -1,7 +1,7 @@
 //! Opening: at the newest commit of a directory, or where there is none.
 //!
 //! Lucene's constructor of `IndexWriter` with `OpenMode.CREATE_OR_APPEND`, and that of its `IndexFileDeleter`.
-ghost use Rattle.std.specs.Prelude.{◌≡◌, ◌<◌, ◌≤◌, ◌+◌, true, Some, None, IfOk, IfErr, OnOk};
+ghost use Rattle.std.specs.Prelude.{◌≡◌, ◌⊎◌, ◌<◌, ◌≤◌, ◌+◌, true, Some, None, IfOk, IfErr, OnOk};
 ghost use Rattle.cat_base.specs.declared.refusal.Refusal.TheVariants.{Kind, Device, Damaged};
 ghost use Rattle.cat_model.specs.CommitFile.{commit_needs};
 ghost use Rattle.cat_model.specs.Files.{Name};
@@ -15,16 +15,59 @@ ghost use Rattle.cat_ledger_laws.specs.shape.OpeningLaws.{IsCountedEmpty, MayHol
 ghost use Rattle.cat_commits.specs.reading.Refused.{CountsOpening};
 ghost use Rattle.cat_commits.specs.reading.Told.{Tells};
 ghost use Rattle.cat_ledger_laws.specs.shape.Ties.{ToldFiles};
+ghost use Rattle.cat_ledger_state.specs.startup.Found.{TellsNames};
 ghost use Rattle.cat_ledger_state.specs.startup.Opened.{HasOpened, IsRestoredAt, IsStateAt};
 ghost use Rattle.cat_ledger_state.specs.startup.Refused.{IsLostUnder, IsNewestDamaged, IsNewestForeign};
 
 use crate::{Core, known_names};
 use cat_base::{Generation, Refusal, SegNo};
+use cat_commits::Commit;
 use cat_commits::reading::{Restored, newest_commit, next_numbers, read_commit};
 use cat_directory::{Directory, FileName, Shelf};
 use cat_lifetimes::refs::FileRefs;
 use cat_live_table::Schema;
 use std::alloc::{AllocError, Global};
+
+/// What the names of a directory tell: which are known, the numbers that are taken next, and the newest commit, if there is one.
+#[derive(Drop)]
+struct Found {
+    refs: FileRefs,
+    next: (SegNo, Generation),
+    newest: Option<Generation>,
+}
+
+/// Reads the names of the directory. Nobody uses one yet.
+fn find<D: Directory>(alloc: Global, device: &mut D) -> Result<Found, Refusal>
+    ensures ok { IfOk result (λ f. TellsNames (D.bytes device.old) f.refs f.next.0 f.next.1 f.newest) }
+    ensures device { IfErr result (λ e. e ≡ Device → D.can_fail device.old) }
+    ensures same { (q : FileName) → D.bytes device.new q ≡ D.bytes device.old q }
+    ensures crash { (q : FileName) → NoMore (D.may_leave device.old q) (D.may_leave device.new q) }
+    ensures can { D.can_fail device.new → D.can_fail device.old }
+    ensures counted { CountsWriting (D.fault_count device.old) (D.fault_count device.new) result }
+{
+    let names = device.names(alloc)?;
+    let refs = known_names(alloc, &names)?;
+    let next = next_numbers(&names);
+    let newest = newest_commit(&names);
+    Ok(Found { refs, next, newest })
+}
+
+/// Makes the files last that the commit needs.
+fn sync_needed<D: Directory>(device: &mut D, commit: &Commit) -> Result<(), Refusal>
+    ensures lasts { OnOk result ((q : FileName) → has_name (name_of q) (commit_needs commit.now) ≡ true
+        → IsSettled (D.bytes device.old q) (D.may_leave device.new q)) }
+    ensures gone { OnOk result ((q : FileName) → D.bytes device.old q ≡ Some None
+        → IsSettled (D.bytes device.old q) (D.may_leave device.new q)) }
+    ensures device { IfErr result (λ e. e ≡ Device → D.can_fail device.old
+        ⊎ ((q : FileName) × (has_name (name_of q) (commit_needs commit.now) ≡ true) × (D.bytes device.old q ≡ Some None))) }
+    ensures same { (q : FileName) → D.bytes device.new q ≡ D.bytes device.old q }
+    ensures crash { (q : FileName) → NoMore (D.may_leave device.old q) (D.may_leave device.new q) }
+    ensures can { D.can_fail device.new → D.can_fail device.old }
+    ensures counted { CountsWriting (D.fault_count device.old) (D.fault_count device.new) result }
+{
+    let needed = commit.names()?;
+    device.sync(&needed)
+}
 
 /// The commit of the generation, as its files hold it, which last then.
 fn read_synced<D: Directory + Shelf>(
@@ -48,9 +91,8 @@ fn read_synced<D: Directory + Shelf>(
     ensures counted { CountsOpening (D.fault_count device.old) (D.fault_count device.new) result }
 {
     let restored = read_commit(alloc, device, schema, generation)?;
-    let needed = restored.commit.names()?;
     // What is kept is to last before anything goes, and what is gone is not to come back under a number that is given out anew.
-    device.sync(&needed)?;
+    sync_needed(device, &restored.commit)?;
     Ok(restored)
 }
 
@@ -156,10 +198,8 @@ pub fn open<D: Directory + Shelf>(
     ensures can { D.can_fail device.new → D.can_fail device.old }
     ensures counted { CountsOpening (D.fault_count device.old) (D.fault_count device.new) result }
 {
-    let names = device.names(alloc)?;
-    let refs = known_names(alloc, &names)?;
-    let next = next_numbers(&names);
-    match newest_commit(&names) {
+    let Found { refs, next, newest } = find(alloc, device)?;
+    match newest {
         Some(generation) => open_at(alloc, device, schema, refs, next, generation),
         None => open_empty(alloc, device, schema, refs, next),
     }
