@@ -1,9 +1,9 @@
 -- Tests that are packed into blocks, 64 in each.
-use Rattle.std.proofs.Common.{◌≡◌, ℕ, ℤ, pos, ◌+◌, ◌-◌, ◌*◌, ◌/◌, ◌%◌, ◌^◌, ◌<◌, ◌≤◌, min, Bool, true, false, ◌||◌, eqb, not, ◌&&◌, negsuc, unwrap_or, Option, Some, None, List, [], ◌∷◌, ◌++◌, length, map, get_or, drop, refl, sym, ap, ◌∙◌, inl, inr, arith, eq-eqb, w64, subst}
+use Rattle.std.proofs.Common.{◌≡◌, ℕ, ℤ, pos, ◌+◌, ◌-◌, ◌*◌, ◌/◌, ◌%◌, ◌^◌, ◌<◌, ◌≤◌, min, Bool, true, false, ◌||◌, eqb, not, ◌&&◌, negsuc, unwrap_or, Option, Some, None, List, [], ◌∷◌, ◌++◌, length, map, get_or, drop, take, refl, sym, ap, ◌∙◌, inl, inr, arith, eq-eqb, w64, subst}
 use Rattle.std.specs.Prelude.{bit_or}
 use mir.Val.{bool_byte}
 use Rattle.std.proofs.lemmas.Bool.{cases_eq, cases_lt, le-ltb}
-use Rattle.std.proofs.lemmas.List.{get_or-map, get_or_past, length-map, get_or_append_left, get_or-drop, length_push, length-drop, length-append, drop_all, nil_from_length, map-append, drop-drop, drop-map}
+use Rattle.std.proofs.lemmas.List.{get_or-map, get_or_past, length-map, get_or_append_left, get_or-drop, get_or-take, length-take, length_push, length-drop, length-append, drop_all, nil_from_length, map-append, drop-drop, drop-map}
 use Rattle.std.proofs.Math.Seq.{get_or-append_seam, drop-append_seam}
 use mir.Val.{SFits}
 use Rattle.cat_model.specs.Query.{int_le, open_or}
@@ -170,3 +170,26 @@ packed_none test ns rest blocks none all = record {
   near = omega (arith, ap length none);
   bits = λ row lt. absurd (omega (arith, ap length none));
 }
+
+-- a block of tests of the next 64 numbers, or of those that are left
+pub bits_in_block : (test : ℤ → Bool) (ns rest near : List ℤ) (w start n : ℕ) → rest ≡ drop start ns → near ≡ take n rest → n ≡ min (length rest) 64
+    → ((i : ℕ) → has_bit w i ≡ get_or (map test near) i false) → (i : ℕ) → i < 64 → has_bit w i ≡ get_or (map test ns) (start + i) false
+bits_in_block test ns rest near w start n behind front many bits i below =
+    let left : length rest ≡ length ns - start = ap length behind ∙ length-drop start ns in
+    let long : length near ≡ min n (length rest) = ap length front ∙ length-take n rest in
+    bits i
+    ∙ elim (cases_lt i n) [
+      | inl within ↦
+          get_or-map test near i (pos 0) false (omega arith)
+          ∙ ap test (ap (λ l. get_or l i (pos 0)) front ∙ get_or-take n rest i (pos 0) within ∙ ap (λ l. get_or l i (pos 0)) behind ∙ get_or-drop start ns i (pos 0))
+          ∙ sym (get_or-map test ns (start + i) (pos 0) false (omega arith))
+      | inr past ↦
+          get_or_past (map test near) i false (omega (arith, length-map near test))
+          ∙ sym (get_or_past (map test ns) (start + i) false (omega (arith, length-map ns test)))
+    ]
+
+pub bits_past_block : (test : ℤ → Bool) (rest near : List ℤ) (w n : ℕ) → near ≡ take n rest → n ≡ min (length rest) 64
+    → ((i : ℕ) → has_bit w i ≡ get_or (map test near) i false) → (i : ℕ) → 64 ≤ i → has_bit w i ≡ false
+bits_past_block test rest near w n front many bits i past =
+    let long : length near ≡ min n (length rest) = ap length front ∙ length-take n rest in
+    bits i ∙ get_or_past (map test near) i false (omega (arith, length-map near test))

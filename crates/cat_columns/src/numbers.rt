@@ -1,5 +1,5 @@
 //! A column of numbers, with the rows that have one.
-ghost use Rattle.std.specs.Prelude.{◌≡◌, ℕ, ℤ, pos, ◌+◌, ◌*◌, ◌/◌, ◌^◌, ◌<◌, ◌≤◌, false, ◌&&◌, length, map, IfOk, None, slice_index_or, unwrap_or, is_some};
+ghost use Rattle.std.specs.Prelude.{◌≡◌, ℕ, ℤ, pos, ◌+◌, ◌*◌, ◌/◌, ◌^◌, ◌<◌, ◌≤◌, false, ◌&&◌, length, map, IfOk, None, slice_index_or, unwrap_or, is_some, Some};
 ghost use Rattle.cat_model.specs.Query.{has_some, open_or, int_le};
 ghost use Rattle.cat_columns.specs.Bits.{has_bit, is_set};
 ghost use Rattle.cat_columns.specs.Columns.{is_within, is_between};
@@ -49,6 +49,19 @@ fn block_between(values: &[i64], low: Option<i64>, high: Option<i64>) -> u64
         block |= (within(low, high, *value) as u64) << bit;
     }
     block
+}
+
+/// One bit for each of the 64 values from `64 * block` on, or of as many as there are, from the lowest: whether it lies between
+/// the two, where an absent end is open.
+fn block_at(values: &[i64], block: usize, low: Option<i64>, high: Option<i64>) -> u64
+    requires few { length values.now < 2 ^ 32 }
+    requires within { 64 * block < length values.now }
+    ensures bits { (i : ℕ) → i < 64 → has_bit result i ≡ slice_index_or (map (is_between low high) values.now) (64 * block + i) false }
+    ensures rest { (i : ℕ) → 64 ≤ i → has_bit result i ≡ false }
+{
+    let (_, rest) = values.split_at(64 * block);
+    let (near, _) = rest.split_at(rest.len().min(64));
+    block_between(near, low, high)
 }
 
 /// The blocks of the set of the values that lie between the two.
@@ -136,6 +149,19 @@ impl NumberColumn {
         } else {
             None
         }
+    }
+
+    /// One bit for each of the 64 rows from `64 * block` on, or of as many as there are, from the lowest: whether the row's number
+    /// lies between the two, both included, where an absent end is open. A row without a number may have its bit or not: a look
+    /// at each row's presence would cost half as much again, and [`NumberColumn::value`] tells it of the few that are left. No
+    /// memory is asked for.
+    pub fn block_between(&self, block: usize, low: Option<i64>, high: Option<i64>) -> u64
+        requires { 64 * block < length self.now }
+        ensures numbers { (i : ℕ) (n : ℤ) → i < 64 → slice_index_or self.now (64 * block + i) None ≡ Some n
+            → has_bit result i ≡ (open_or (λ a. int_le a n) low && open_or (int_le n) high) }
+        ensures rows { (i : ℕ) → length self.now ≤ 64 * block + i → has_bit result i ≡ false }
+    {
+        block_at(&self.values, block, low, high)
     }
 
     /// The rows whose number lies between the two, both included, where an absent end is open: Lucene's

@@ -15,6 +15,7 @@ mod making;
 mod merge;
 mod merged_terms;
 mod number_column;
+mod number_order;
 mod ordinals;
 mod place;
 mod policy;

@@ -26,8 +26,9 @@ pub(crate) struct Parts {
     pub(crate) maps: Vec<Vec<u32>>,
     // How many rows are kept.
     pub(crate) rows: usize,
-    // Those of the first fields.
+    // Those of the first fields, and for the number fields among these all rows in few runs with rising numbers.
     pub(crate) columns: Vec<ColumnParts>,
+    pub(crate) orders: Vec<Vec<u32>>,
     pub(crate) ids: IdRuns,
 }
 
@@ -42,11 +43,13 @@ impl Parts {
             maps: row_maps(alloc, inputs)?,
             rows: live_rows_in(inputs),
             columns: Vec::new(alloc),
+            orders: Vec::new(alloc),
             ids: IdRuns::none(alloc),
         })
     }
 
-    /// Makes a part of the index of the ids, or the column of one field more, while one is left.
+    /// Makes a part of the index of the ids, or the column of one field more, with the order of its rows where it is a number
+    /// field, while one is left.
     pub(crate) fn step(
         &mut self,
         alloc: Global,
@@ -69,32 +72,44 @@ impl Parts {
                 &self.maps,
                 self.rows,
                 &mut self.columns,
+                &mut self.orders,
             );
         }
         Ok(())
     }
 
-    /// The columns of all fields, and all rows in few runs that stand in byte order of their ids. It makes what no step has made.
+    /// The columns of all fields, all rows in few runs that stand in byte order of their ids, and for the number fields in turn all
+    /// rows in few runs with rising numbers. It makes what no step has made.
     pub(crate) fn finish(
         self,
         alloc: Global,
         fields: &[Field],
         inputs: &[Input],
-    ) -> Result<(Vec<ColumnParts>, Vec<u32>), AllocError>
+    ) -> Result<(Vec<ColumnParts>, Vec<u32>, Vec<Vec<u32>>), AllocError>
         requires inputs { AreInputs inputs.now }
         requires fields { All (λ leaf. leaf.segment.schema ≡ fields.now) inputs.now }
         requires parts { AreParts fields.now inputs.now self }
         ensures columns { IfOk result (λ p. AreMergedColumns fields.now (kept_rows inputs.now) p.0.items) }
         ensures rows { IfOk result (λ p. AreAllRows (length (kept_rows inputs.now)) p.1.items) }
+        ensures orders { IfOk result (λ p. All (λ order. AreAllRows (length (kept_rows inputs.now)) order.items) p.2.items) }
     {
         let Parts {
             maps,
             rows,
             mut columns,
+            mut orders,
             ids,
         } = self;
         let by_id = ids.into_rows(alloc, inputs, &maps)?;
-        add_columns(alloc, fields, inputs, &maps, rows, &mut columns)?;
-        Ok((columns, by_id))
+        add_columns(
+            alloc,
+            fields,
+            inputs,
+            &maps,
+            rows,
+            &mut columns,
+            &mut orders,
+        )?;
+        Ok((columns, by_id, orders))
     }
 }

@@ -64,7 +64,7 @@ pub(crate) fn sealed(
     ensures ok { IfOk result (λ s. s ≡ record { number = number; schema = schema; rows = kept_rows inputs.now }) }
     ensures some { IfOk result (λ s. kept_rows inputs.now ≢ []) }
 {
-    let (columns, runs) = made.finish(alloc, schema.fields(), inputs)?;
+    let (columns, runs, orders) = made.finish(alloc, schema.fields(), inputs)?;
     let (numbers, ids, lengths) = unzipped(alloc, kept)?;
     let parts = SegmentParts {
         number,
@@ -74,7 +74,7 @@ pub(crate) fn sealed(
         lengths,
         columns,
     };
-    match assemble_runs(alloc, parts, runs) {
+    match assemble_runs(alloc, parts, runs, orders) {
         Ok(segment) => Ok(segment),
         // The parts are those of a segment, so that none is damaged.
         Err(refusal) => Err(want_of_memory(refusal)),

@@ -15,7 +15,9 @@ pub mod Placed
 pub mod Ranged
 pub mod Spelled
 pub mod Steps
+pub mod Taken
 pub mod Through
+pub mod Turned
 pub mod Worded
 pub mod RowOrders
 pub mod Grouped

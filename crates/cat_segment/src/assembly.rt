@@ -89,28 +89,41 @@ pub fn assemble(alloc: Global, parts: SegmentParts) -> Result<Segment, Refusal>
     ensures due { IfErr result (λ e. e ≡ Memory → HasNoSegment parts → ⊥) }
     ensures refusal { IfErr result (λ e. (e ≡ Damaged) ⊎ (e ≡ Memory)) }
 {
-    assembled(alloc, parts, None)
+    assembled(alloc, parts, None, Vec::new(alloc))
 }
 
 /// What [`assemble`] answers, where all rows are given in an order in which long runs of them have rising ids, as those of
 /// merged segments have behind one another ([`Segment::rows_by_id`]): the index of the ids is merged of these runs, and not
-/// sorted anew.
-pub fn assemble_runs(alloc: Global, parts: SegmentParts, runs: Vec<u32>) -> Result<Segment, Refusal>
+/// sorted anew. So are the orders of the number fields, for which in turn all rows are given in an order in which long runs of
+/// them have rising numbers ([`Numbers::rising`](crate::Numbers::rising)); where there are fewer orders, the rest is sorted.
+pub fn assemble_runs(
+    alloc: Global,
+    parts: SegmentParts,
+    runs: Vec<u32>,
+    orders: Vec<Vec<u32>>,
+) -> Result<Segment, Refusal>
     requires parts { IsParts parts }
     requires layout { IsLayout (layout_in parts) }
     requires runs { AreAllRows (length parts.ids.items) runs.items }
+    requires orders { All (λ order. AreAllRows (length parts.ids.items) order.items) orders.items }
     ensures ok { IfOk result (λ s. IsSegment s × (layout_of s ≡ layout_in parts)) }
     ensures damaged { IfErr result (λ e. e ≡ Damaged → HasNoSegment parts) }
     ensures due { IfErr result (λ e. e ≡ Memory → HasNoSegment parts → ⊥) }
     ensures refusal { IfErr result (λ e. (e ≡ Damaged) ⊎ (e ≡ Memory)) }
 {
-    assembled(alloc, parts, Some(runs))
+    assembled(alloc, parts, Some(runs), orders)
 }
 
-fn assembled(alloc: Global, parts: SegmentParts, runs: Option<Vec<u32>>) -> Result<Segment, Refusal>
+fn assembled(
+    alloc: Global,
+    parts: SegmentParts,
+    runs: Option<Vec<u32>>,
+    orders: Vec<Vec<u32>>,
+) -> Result<Segment, Refusal>
     requires parts { IsParts parts }
     requires layout { IsLayout (layout_in parts) }
     requires runs { IfSome runs (λ rows. AreAllRows (length parts.ids.items) rows.items) }
+    requires orders { All (λ order. AreAllRows (length parts.ids.items) order.items) orders.items }
     ensures ok { IfOk result (λ s. IsSegment s × (layout_of s ≡ layout_in parts)) }
     ensures damaged { IfErr result (λ e. e ≡ Damaged → HasNoSegment parts) }
     ensures due { IfErr result (λ e. e ≡ Memory → HasNoSegment parts → ⊥) }
@@ -128,7 +141,7 @@ fn assembled(alloc: Global, parts: SegmentParts, runs: Option<Vec<u32>>) -> Resu
         columns,
     } = parts;
     // Both are judged also where memory is wanting for one.
-    let columns = columns_from(alloc, numbers.len(), columns);
+    let columns = columns_from(alloc, numbers.len(), columns, orders);
     let (ids, columns) = both(Ids::distinct_of(alloc, ids, runs), columns)?;
     let sources = sources_from(alloc, &lengths)?;
     Ok(Segment::joined(number, schema, numbers, ids, sources, columns))

@@ -59,7 +59,7 @@ fn column_of(
         Kind::Number => {
             let numbers = numbers(alloc, index, rows)?;
             let values = NumberColumn::of(alloc, &numbers)?;
-            Ok(Column::Number(Numbers::joined(alloc, values)?))
+            Ok(Column::Number(Numbers::joined(alloc, values, None)?))
         }
         Kind::Facet => {
             let texts = texts(alloc, index, rows)?;

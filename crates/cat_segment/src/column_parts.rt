@@ -1,11 +1,13 @@
 //! Columns of the parts of a file, and whether rows have as few labels as they may.
-ghost use Rattle.std.specs.Prelude.{◌≡◌, ◌↔◌, ◌⊎◌, ◌≤◌, ◌<◌, ◌++◌, ◌∷◌, [], All, Any, IfOk, IfErr, OnOk, IsTrue};
+ghost use Rattle.std.specs.Prelude.{◌≡◌, ◌↔◌, ◌⊎◌, ◌≤◌, ◌<◌, ◌++◌, ◌∷◌, [], All, Any, IfOk, IfErr, IfSome, OnOk, IsTrue};
+ghost use Rattle.std.specs.Vec.Iter.{into_iter_items};
 ghost use Rattle.cat_base.specs.declared.refusal.Refusal.TheVariants.{Damaged, Memory};
 ghost use Rattle.cat_items.specs.file_parts.Parts.{column_in, IsColumnParts};
 ghost use Rattle.cat_items.specs.declared.file_parts.parts.ColumnParts.TheVariants as parts;
 ghost use Rattle.cat_model.specs.Item.{Kind};
 ghost use Rattle.cat_model.specs.Layout.{IsLaid};
 ghost use Rattle.cat_model.specs.Limits.{row_limit, label_limit};
+ghost use Rattle.cat_segment.specs.Index.{AreAllRows};
 ghost use Rattle.cat_segment.specs.Parts.{kind_in, IsColumnOf, HasNoColumn, HasFewLabels, AreColumnsOf};
 ghost use Rattle.cat_segment.specs.Sources.{lengths_between, Rise};
 ghost use Rattle.cat_segment.specs.declared.column.Column as declared;
@@ -17,6 +19,7 @@ use cat_columns::inverted::Terms;
 use cat_columns::{KeywordColumn, NumberColumn, SetColumn};
 use cat_items::file_parts::ColumnParts;
 use std::alloc::{AllocError, Global};
+use std::vec::IntoIter;
 
 /// The column of a text field. [`Refusal::Damaged`] where no column has these words and postings.
 fn words_from(
@@ -120,23 +123,37 @@ fn labels_from(
     Ok(Column::Facet(Labels::joined(alloc, labels)?))
 }
 
-/// The column of a number field.
-fn numbers_from(alloc: Global, rows: usize, numbers: Vec<Option<i64>>) -> Result<Column, AllocError>
+/// The column of a number field. Where all rows are given in runs with rising numbers, their order is merged of these.
+fn numbers_from(
+    alloc: Global,
+    rows: usize,
+    numbers: Vec<Option<i64>>,
+    runs: Option<Vec<u32>>,
+) -> Result<Column, AllocError>
     requires few { rows ≤ row_limit }
     requires laid { IsLaid rows Kind.number (column_in (parts.Number numbers)) }
+    requires runs { IfSome runs (λ order. AreAllRows rows order.items) }
     ensures ok { IfOk result (IsColumnOf rows (parts.Number numbers)) }
     ensures due { HasNoColumn rows (parts.Number numbers) → ⊥ }
 {
     let values = NumberColumn::of(alloc, &numbers)?;
-    Ok(Column::Number(Numbers::joined(alloc, values)?))
+    Ok(Column::Number(Numbers::joined(alloc, values, runs)?))
 }
 
-/// The column of the parts, of as many rows. [`Refusal::Damaged`] where no column is laid out so.
-fn column_from(alloc: Global, rows: usize, part: ColumnParts) -> Result<Column, Refusal>
+/// The column of the parts, of as many rows; that of a number field takes the next of the orders. [`Refusal::Damaged`] where no
+/// column is laid out so.
+fn column_from(
+    alloc: Global,
+    rows: usize,
+    part: ColumnParts,
+    orders: &mut IntoIter<Vec<u32>>,
+) -> Result<Column, Refusal>
     requires few { rows ≤ row_limit }
     requires cut { IsColumnParts part }
     requires labels { HasFewLabels part }
     requires laid { IsLaid rows (kind_in part) (column_in part) }
+    requires orders { All (λ order. AreAllRows rows order.items) (into_iter_items orders.old) }
+    ensures orders { All (λ order. AreAllRows rows order.items) (into_iter_items orders.new) }
     ensures ok { IfOk result (IsColumnOf rows part) }
     ensures damaged { IfErr result (λ e. e ≡ Damaged → HasNoColumn rows part) }
     ensures due { IfErr result (λ e. e ≡ Memory → HasNoColumn rows part → ⊥) }
@@ -145,55 +162,62 @@ fn column_from(alloc: Global, rows: usize, part: ColumnParts) -> Result<Column, 
     match part {
         ColumnParts::Text(words, ends, postings) => words_from(alloc, rows, words, ends, postings),
         ColumnParts::Keyword(dictionary, codes) => keywords_from(alloc, rows, dictionary, codes),
-        ColumnParts::Number(numbers) => Ok(numbers_from(alloc, rows, numbers)?),
+        ColumnParts::Number(numbers) => Ok(numbers_from(alloc, rows, numbers, orders.next())?),
         ColumnParts::Facet(dictionary, ends, ordinals) => {
             labels_from(alloc, rows, dictionary, ends, ordinals)
         }
     }
 }
 
-/// Adds the column of the parts, of as many rows. [`Refusal::Damaged`] where no column is laid out so, also where memory is
-/// wanting.
+/// Adds the column of the parts, of as many rows, as [`column_from`] makes it. [`Refusal::Damaged`] where no column is laid out
+/// so, also where memory is wanting.
 fn add_column(
     alloc: Global,
     rows: usize,
     part: ColumnParts,
+    orders: &mut IntoIter<Vec<u32>>,
     columns: &mut Vec<Column>,
 ) -> Result<(), Refusal>
     requires few { rows ≤ row_limit }
     requires cut { IsColumnParts part }
     requires labels { HasFewLabels part }
     requires laid { IsLaid rows (kind_in part) (column_in part) }
+    requires orders { All (λ order. AreAllRows rows order.items) (into_iter_items orders.old) }
+    ensures orders { All (λ order. AreAllRows rows order.items) (into_iter_items orders.new) }
     ensures ok { OnOk result ((c : declared.Column) × IsColumnOf rows part c × (columns.new.items ≡ columns.old.items ++ c ∷ [])) }
     ensures damaged { IfErr result (λ e. e ≡ Damaged → HasNoColumn rows part) }
     ensures due { IfErr result (λ e. e ≡ Memory → HasNoColumn rows part → ⊥) }
     ensures refusal { IfErr result (λ e. (e ≡ Damaged) ⊎ (e ≡ Memory)) }
 {
-    let column = column_from(alloc, rows, part)?;
+    let column = column_from(alloc, rows, part, orders)?;
     columns.push(column)?;
     Ok(())
 }
 
 /// The columns of the parts, of as many rows. [`Refusal::Damaged`] where no column is laid out as some of them, also where
-/// memory is wanting: then the parts that are left are still judged.
+/// memory is wanting: then the parts that are left are still judged. For the number fields in turn all rows may be given in
+/// runs with rising numbers.
 pub(crate) fn columns_from(
     alloc: Global,
     rows: usize,
     parts: Vec<ColumnParts>,
+    orders: Vec<Vec<u32>>,
 ) -> Result<Vec<Column>, Refusal>
     requires few { rows ≤ row_limit }
     requires cut { All IsColumnParts parts.items }
     requires labels { All HasFewLabels parts.items }
     requires laid { All (λ p. IsLaid rows (kind_in p) (column_in p)) parts.items }
+    requires orders { All (λ order. AreAllRows rows order.items) orders.items }
     ensures ok { IfOk result (λ cs. AreColumnsOf rows parts.items cs.items) }
     ensures damaged { IfErr result (λ e. e ≡ Damaged → Any (HasNoColumn rows) parts.items) }
     ensures due { IfErr result (λ e. e ≡ Memory → All (λ p. HasNoColumn rows p → ⊥) parts.items) }
     ensures refusal { IfErr result (λ e. (e ≡ Damaged) ⊎ (e ≡ Memory)) }
 {
     let mut columns = Vec::new(alloc);
+    let mut orders = orders.into_iter();
     let mut is_short = false;
     for part in parts {
-        match add_column(alloc, rows, part, &mut columns) {
+        match add_column(alloc, rows, part, &mut orders, &mut columns) {
             Ok(()) => {}
             Err(refusal) => match refusal {
                 Refusal::Damaged => return Err(Refusal::Damaged),

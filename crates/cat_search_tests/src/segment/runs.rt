@@ -54,7 +54,7 @@ fn merged(alloc: Global, parts: SegmentParts, order: &Segment) -> Result<Segment
         return Err(Refusal::Count);
     }
     let runs = Vec::from_slice(alloc, order.rows_by_id())?;
-    assemble_runs(alloc, parts, runs)
+    assemble_runs(alloc, parts, runs, Vec::new(alloc))
 }
 
 /// Whether the bytes are those of segment 1, and it these.

@@ -1,4 +1,4 @@
-use Rattle.std.proofs.Common.{◌≡◌, ℕ, length, get_or, sym, ap, ◌∙◌, subst}
+use Rattle.std.proofs.Common.{◌≡◌, ◌++◌, ◌∷◌, [], ℕ, length, get_or, sym, ap, ◌∙◌, subst}
 use Rattle.cat_model.specs.Item.{Field}
 use Rattle.cat_items.specs.Kinds.{field_kind_of}
 use Rattle.cat_merge.specs.Fields.{kept_rows, IsMergedColumn, AreFirstColumns}
@@ -9,7 +9,7 @@ pub returns-clause-columns : goal.returns-clause-columns
 returns-clause-columns c =
     let g : Field = c.index-fields-index.result in
     let at : c.len-index.result ≡ length c.args.columns.now.items = c.len-index.ensures ∙ c.args.columns.now.ok.0 in
-    subst (AreFirstColumns c.args.fields.now (kept_rows c.args.inputs.now)) (sym c.in_ok-push.ensures.items)
-    (column_more c.args.fields.now (kept_rows c.args.inputs.now) c.args.columns.now.items c.in_ok-column.column (field_kind_of c.kind.result) g
-    (c.kind.ensures ∙ ap (λ (f : Field). f.kind) c.index-fields-index.is ∙ ap (λ (n : ℕ). (get_or c.args.fields.now n g).kind) at) c.requires.left c.requires.columns
-    (subst (λ n. IsMergedColumn (field_kind_of c.kind.result) n (kept_rows c.args.inputs.now) c.in_ok-column.column) at c.in_ok-column.ensures))
+    subst (AreFirstColumns c.args.fields.now (kept_rows c.args.inputs.now)) (sym (c.in_ok-push.ensures.items ∙ ap (λ l. l ++ c.in_ok-column.column ∷ []) c.reserve.ensures.items))
+    (column_more c.args.fields.now (kept_rows c.args.inputs.now) c.args.columns.now.items c.in_ok-column.column (field_kind_of c.kind-kind.result) g
+    (c.kind-kind.ensures ∙ ap (λ (f : Field). f.kind) c.index-fields-index.is ∙ ap (λ (n : ℕ). (get_or c.args.fields.now n g).kind) at) c.requires.left c.requires.columns
+    (subst (λ n. IsMergedColumn (field_kind_of c.kind-kind.result) n (kept_rows c.args.inputs.now) c.in_ok-column.column) at c.in_ok-column.ensures))

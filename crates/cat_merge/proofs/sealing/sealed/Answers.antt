@@ -1,4 +1,5 @@
-use Rattle.std.proofs.Common.{◌≡◌, length, sym, ap, ◌∙◌, subst, inl, inr}
+use Rattle.std.proofs.Common.{◌≡◌, ℕ, length, sym, ap, ◌∙◌, subst, inl, inr}
+use Rattle.std.specs.Prelude.{All}
 use Rattle.std.proofs.lemmas.List.{length-map}
 use Rattle.cat_items.specs.declared.file_parts.parts.ColumnParts.TheVariants as column
 use Rattle.cat_items.specs.file_parts.Parts.{heads_in}
@@ -29,6 +30,13 @@ assemble_runs-requires-clause-runs c =
     sym (length-map (kept_rows c.args.inputs.now) head_of) ∙ ap length (sym (c.in_ok-numbers.ensures.heads ∙ c.requires.kept))
     ∙ heads_long c.in_ok-numbers.numbers.items c.in_ok-numbers.ids.items c.in_ok-numbers.lengths.items c.in_ok-numbers.ensures.ids c.in_ok-numbers.ensures.lengths in
     subst (λ n. AreAllRows n c.in_ok-columns.runs.items) long c.in_ok-columns.ensures.rows
+
+pub assemble_runs-requires-clause-orders : goal.assemble_runs-requires-clause-orders
+assemble_runs-requires-clause-orders c =
+    let long : length (kept_rows c.args.inputs.now) ≡ length c.in_ok-numbers.ids.items =
+    sym (length-map (kept_rows c.args.inputs.now) head_of) ∙ ap length (sym (c.in_ok-numbers.ensures.heads ∙ c.requires.kept))
+    ∙ heads_long c.in_ok-numbers.numbers.items c.in_ok-numbers.ids.items c.in_ok-numbers.lengths.items c.in_ok-numbers.ensures.ids c.in_ok-numbers.ensures.lengths in
+    subst (λ (n : ℕ). All (λ order. AreAllRows n order.items) c.in_ok-columns.orders.items) long c.in_ok-columns.ensures.orders
 
 pub returns-in-Ok : goal.returns-in-Ok
 returns-in-Ok c = record {

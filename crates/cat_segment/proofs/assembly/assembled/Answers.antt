@@ -10,6 +10,7 @@ use Rattle.cat_model.specs.Layout.{layout_of}
 use Rattle.cat_model.specs.View.{IsSegment}
 use Rattle.cat_segment.proofs.Assembled.{IsBody-read, IsSegment-read, layout_read}
 use Rattle.cat_segment.proofs.Judged.{ids_differ, columns_stand, columns_told, fit, few, lengths_short, columns_laid, parts_read, ids_settled, columns_settled, segment_made}
+use Rattle.cat_segment.specs.Index.{AreAllRows}
 use Rattle.cat_segment.specs.Parts.{HasNoColumn, AreColumnsOf}
 use Rattle.cat_segment.proofs.assembly.assembled.Goals as goal
 
@@ -28,6 +29,11 @@ columns_from-columns-requires-clause-laid c = columns_laid c.args.parts c.requir
 
 pub columns_from-columns-requires-clause-labels : goal.columns_from-columns-requires-clause-labels
 columns_from-columns-requires-clause-labels c = (c.if-not-are_fit.ensures.0 refl).labels
+
+pub columns_from-columns-requires-clause-orders : goal.columns_from-columns-requires-clause-orders
+columns_from-columns-requires-clause-orders c =
+    let rows : length c.args.parts.ids.items ≡ c.len.result = omega (arith, c.len.ensures, c.args.parts.numbers.ok.0, c.requires.parts.ids) in
+    subst (λ (n : ℕ). All (λ order. AreAllRows n order.items) c.args.orders.items) rows c.requires.orders
 
 pub distinct_of-requires-clause-few : goal.distinct_of-requires-clause-few
 distinct_of-requires-clause-few c = omega (arith, few c.args.parts c.requires.parts c.requires.layout, c.requires.parts.ids)

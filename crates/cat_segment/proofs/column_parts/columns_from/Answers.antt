@@ -14,6 +14,7 @@ loop-part-preserved-in-Ok c =
           (column_more c.args.rows c.loop-part.yielded c.loop-part.columns.items c.in-Some.part made.0 (c.loop-part.invariant.columns enough) made.1);
       judged = judged_more c.args.rows c.loop-part.yielded c.in-Some.part c.loop-part.invariant.judged (λ none. none (contents_of made.0) made.1.contents made.1.spelled);
       left = c.loop-part.invariant.left ∙ ap (λ l. c.loop-part.yielded ++ l) c.in-Some.ensures.steps.0 ∙ sym (append_assoc c.loop-part.yielded (c.in-Some.part ∷ []) c.next.new.self.rest.items);
+      orders = c.add_column.ensures.orders;
     }
 
 pub loop-part-preserved : goal.loop-part-preserved
@@ -23,6 +24,7 @@ loop-part-preserved c =
       columns = λ enough. absurd (true≢false enough);
       judged = judged_more c.args.rows c.loop-part.yielded c.in-Some.part c.loop-part.invariant.judged (c.in-Err.ensures.due memory);
       left = c.loop-part.invariant.left ∙ ap (λ l. c.loop-part.yielded ++ l) c.in-Some.ensures.steps.0 ∙ sym (append_assoc c.loop-part.yielded (c.in-Some.part ∷ []) c.next.new.self.rest.items);
+      orders = c.add_column.ensures.orders;
     }
 
 pub returns-in-Damaged-clause-damaged : goal.returns-in-Damaged-clause-damaged

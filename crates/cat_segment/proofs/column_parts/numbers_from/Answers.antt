@@ -1,10 +1,16 @@
-use Rattle.std.proofs.Common.{ℤ, List, Option, map, sym, ◌∙◌, subst}
+use Rattle.std.proofs.Common.{◌≡◌, ℕ, ℤ, List, Option, IfSome, length, map, sym, ap, ◌∙◌, subst}
 use Rattle.cat_model.specs.Item.{Content}
 use Rattle.cat_segment.proofs.Columned.{numbers_read}
+use Rattle.cat_segment.specs.Index.{AreAllRows}
 use Rattle.cat_segment.specs.Parts.{IsColumnOf}
 use Rattle.cat_segment.specs.declared.column.Column.TheVariants.{Number}
 use Rattle.cat_items.specs.declared.file_parts.parts.ColumnParts.TheVariants as parts
 use Rattle.cat_segment.proofs.column_parts.numbers_from.Goals as goal
+
+pub joined-requires : goal.joined-requires
+joined-requires c =
+    let rows : c.args.rows ≡ length c.in_ok-values.values = sym (ap length (c.in_ok-values.ensures.ok ∙ c.deref.ensures.value) ∙ c.requires.laid.0) in
+    subst (λ (n : ℕ). IfSome c.args.runs (λ order. AreAllRows n order.items)) rows c.requires.runs
 
 pub returns-clause-ok : goal.returns-clause-ok
 returns-clause-ok c =
