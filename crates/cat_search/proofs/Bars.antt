@@ -13,8 +13,9 @@ use Rattle.cat_model.specs.View.{Row}
 use Rattle.cat_views.specs.cat_segment.Contents.{contents_of}
 use Rattle.cat_views.specs.cat_segment.declared.column.Column.{Column}
 use Rattle.cat_views.specs.cat_segment.declared.column.Column.TheVariants as columns
-use Rattle.cat_search.specs.Bars.{HaveRanks, HaveRanksOf, AreEndsOf, IsBarOf, IsLeftOut, key_le, number_of_key}
+use Rattle.cat_search.specs.Bars.{HaveRanks, HaveRanksOf, AreEndsOf, IsBarOf, IsLeftOut, key_le, lets_in, number_of_key}
 use Rattle.cat_search.specs.declared.ends.Ends.{Ends}
+use Rattle.cat_search.specs.declared.number_bar.NumberBar.{NumberBar}
 use Rattle.cat_search.specs.declared.sort.Order.{Order}
 use Rattle.cat_search.specs.declared.sort.Order.TheVariants as order
 use Rattle.cat_search.specs.Keys.{key_ref_of}
@@ -124,3 +125,9 @@ module _ (o old : Order) (ks before : List (Option Key)) (same : o ≡ old) (ali
 -- the key of a row of a column
 pub key-of_row : {X : Type 0} (key : X → Key) (vs : List (Option X)) (row : ℕ) → option_map key (slice_index_or vs row None) ≡ slice_index_or (map (option_map key) vs) row None
 key-of_row key vs row = sym (get_or-map (option_map key) vs row None)
+
+-- ---- what a test of 64 numbers keeps out
+
+pub out_of_range : (bar : NumberBar) (number : Option ℤ) (among : Bool) → bar.missing ≡ false → ((n : ℤ) → number ≡ Some n → among ≡ lets_in bar (Some n)) → among ≡ false → lets_in bar number ≡ false
+out_of_range bar None among closed says e = closed
+out_of_range bar (Some n) among closed says e = sym (says n refl) ∙ e

@@ -36,6 +36,9 @@ module _ {X Y : Type 0} (f : X → Y) (lt : X → X → Bool) (mt : Y → Y → 
   map-insert_all ys [] = refl
   map-insert_all ys (x ∷ xs) = map-insert_all (insert_by lt x ys) xs ∙ ap (λ zs. insert_all mt zs (map f xs)) (map-insert x ys)
 
+  pub map-sorted : (xs : List X) → map f (sorted lt xs) ≡ sorted mt (map f xs)
+  map-sorted xs = map-insert_all [] xs
+
   -- the first n in order
   pub map-first : (n : ℕ) (xs : List X) → map f (take n (sorted lt xs)) ≡ take n (sorted mt (map f xs))
   map-first n xs = map-take f n (sorted lt xs) ∙ ap (take n) (map-insert_all [] xs)

@@ -18,6 +18,8 @@ pub mod ViewPages
 pub mod Pushed
 pub mod Arranged
 pub mod Walked
+pub mod StillOut
+pub mod BlockRows
 pub mod Stepped
 pub mod Missed
 pub mod Ordered

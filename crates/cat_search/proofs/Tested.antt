@@ -121,13 +121,13 @@ cleared_long zero hits h = refl
 cleared_long (suc from) [] h = absurd (omega (arith, h))
 cleared_long (suc from) (b ∷ bs) h = let rest = cleared_long from bs (omega (arith, h)) in omega (arith, rest)
 
-none_in : (t : ℕ → Bool) (a n : ℕ) → ((k : ℕ) → a ≤ k → k < a + n → t k ≡ false) → filter t (range_with_len a n) ≡ []
+pub none_in : (t : ℕ → Bool) (a n : ℕ) → ((k : ℕ) → a ≤ k → k < a + n → t k ≡ false) → filter t (range_with_len a n) ≡ []
 none_in t a zero h = refl
 none_in t a (suc n) h =
     ap (λ b. cond b (a ∷ filter t (range_with_len (a + 1) n)) (filter t (range_with_len (a + 1) n))) (h a (omega arith) (omega arith))
     ∙ none_in t (a + 1) n (λ k p r. h k (omega (arith, p)) (omega (arith, r)))
 
-range_parts : (a m n : ℕ) → range_with_len a (m + n) ≡ range_with_len a m ++ range_with_len (a + m) n
+pub range_parts : (a m n : ℕ) → range_with_len a (m + n) ≡ range_with_len a m ++ range_with_len (a + m) n
 range_parts a zero n = ap (range_with_len a) (let e : 0 + n ≡ n = omega arith in e) ∙ ap (λ k. range_with_len k n) (let e : a ≡ a + 0 = omega arith in e)
 range_parts a (suc m) n =
     ap (range_with_len a) (let e : suc m + n ≡ suc (m + n) = omega arith in e)

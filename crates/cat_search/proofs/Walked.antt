@@ -60,19 +60,19 @@ lifted {X} {Y} f xs ys same = IsPermutation-keeps (map f xs) (Beside f xs) (xs, 
 
 -- ---- the order of candidates, and that of standings, is strict
 
-candidate_strict : IsStrictOrder comes_first
+pub candidate_strict : IsStrictOrder comes_first
 candidate_strict = strict_from_weak comes_first (ranks_by total-law (λ c. c))
 
-abbrev as_ref : Key → KeyRef
+abbrev pub as_ref : Key → KeyRef
 as_ref (Key.number z) = Number z
 as_ref (Key.keyword t) = Keyword (record { ref_ptr = (0, 0); now = t })
 
-abbrev as_rank : Rank → declared.Rank
+abbrev pub as_rank : Rank → declared.Rank
 as_rank (Rank.rising k) = Rising (as_ref k)
 as_rank (Rank.falling k) = Falling (record { 0 = as_ref k })
 as_rank Rank.missing = Missing
 
-abbrev as_candidate : HitStanding → Candidate
+abbrev pub as_candidate : HitStanding → Candidate
 as_candidate p = record { rank = as_rank p.rank; number = p.number; id = record { ref_ptr = (0, 0); now = p.id } }
 
 as_ref-is : (k : Key) → key_ref_of (as_ref k) ≡ k
@@ -84,7 +84,7 @@ as_rank-is (Rank.rising k) = ap Rank.rising (as_ref-is k)
 as_rank-is (Rank.falling k) = ap Rank.falling (as_ref-is k)
 as_rank-is Rank.missing = refl
 
-as_candidate-is : (p : HitStanding) → standing_of (as_candidate p) ≡ p
+pub as_candidate-is : (p : HitStanding) → standing_of (as_candidate p) ≡ p
 as_candidate-is p = λ i. record { rank = (as_rank-is p.rank) i; number = p.number; id = p.id }
 
 before_alike : (p q : HitStanding) → standing_before p q ≡ comes_first (as_candidate p) (as_candidate q)
@@ -93,7 +93,7 @@ before_alike p q = sym (
     ∙ ap (λ u. standing_before u (standing_of (as_candidate q))) (as_candidate-is p) ∙ ap (λ u. standing_before p u) (as_candidate-is q)
     )
 
-standing_strict : IsStrictOrder standing_before
+pub standing_strict : IsStrictOrder standing_before
 standing_strict = record {
   irreflexive = λ p. before_alike p p ∙ candidate_strict.irreflexive (as_candidate p);
   transitive = λ p q r e f. before_alike p r ∙ candidate_strict.transitive (as_candidate p) (as_candidate q) (as_candidate r) (sym (before_alike p q) ∙ e) (sym (before_alike q r) ∙ f);

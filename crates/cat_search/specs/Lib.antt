@@ -9,6 +9,7 @@ pub mod Asks
 pub mod Views
 pub mod Rows
 pub mod Bars
+pub mod Blocks
 pub mod OrdinalBars
 pub mod Hits
 pub mod Walks

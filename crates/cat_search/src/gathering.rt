@@ -294,7 +294,7 @@ fn offer_matched<'a>(
     let ranks = LeafRanks::of(leaf.segment(), wanted.order);
     let taken = share_of(wanted.count, total, before);
     let reach = Reach::of(total, ranks.len(), taken, hits.test_cost());
-    offer_hits(alloc, best, &ranks, hits, &wanted.mark, reach)?;
+    offer_hits(alloc, best, &ranks, hits, total, &wanted.mark, reach)?;
     Ok(total)
 }
 

@@ -5,6 +5,7 @@
 mod ask;
 mod bar;
 mod best;
+mod blocks;
 mod ends;
 mod entries;
 mod gathering;

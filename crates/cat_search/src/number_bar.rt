@@ -1,5 +1,6 @@
 //! The rows of a column of numbers that a page needn't look at.
-ghost use Rattle.std.specs.Prelude.{◌≡◌, option_map};
+ghost use Rattle.std.specs.Prelude.{◌≡◌, ◌<◌, ◌+◌, ◌*◌, ℕ, None, false, length, option_map, slice_index_or};
+ghost use Rattle.cat_search.specs.Blocks.{has_bit};
 ghost use Rattle.cat_search.specs.Bars.{lets_in, number_of_key, IsBarOf};
 ghost use Rattle.cat_search.specs.Keys.{key_ref_of};
 ghost use Rattle.cat_search.specs.Candidates.{mark_standing};
@@ -60,6 +61,17 @@ impl NumberBar {
             Some(number) => is_at_least(self.low, number) && is_at_most(self.high, number),
             None => self.missing,
         }
+    }
+
+    /// One bit for each of the 64 rows of the column from `64 * block` on, from the lowest: what has none needn't be looked at.
+    pub(crate) fn lets_in_of(self, column: &NumberColumn, block: usize) -> u64
+        requires { 64 * block < length column.now }
+        ensures { (i : ℕ) → i < 64 → has_bit result i ≡ false → lets_in self (slice_index_or column.now (64 * block + i) None) ≡ false }
+    {
+        if self.missing {
+            return u64::MAX;
+        }
+        column.block_between(block, self.low, self.high)
     }
 }
 

@@ -10,6 +10,7 @@ ghost use Rattle.cat_search.specs.Walks.{standing_at};
 
 use crate::bar::Bar;
 use crate::best::Best;
+use crate::blocks::{are_many, offer_blocks};
 use crate::hits::Hits;
 use crate::leaf_ranks::LeafRanks;
 use crate::listed::Listed;
@@ -88,11 +89,13 @@ fn offer_by<'a, B: Bar<'a>>(
     Ok(())
 }
 
-/// Offers the hits of a segment to the page, as far as the mark comes before them, with a look at each of them.
+/// Offers the hits of a segment, so many, to the page, as far as the mark comes before them, with a look at each of them, or at
+/// 64 numbers at a time.
 fn offer_rows<'a>(
     best: &mut Best<Candidate<'a>>,
     ranks: &LeafRanks<'a>,
     hits: &RowSet,
+    found: usize,
     mark: &Option<Candidate<'a>>,
 ) -> Result<(), AllocError>
     requires { length hits.now ≡ length ranks.now }
@@ -100,6 +103,9 @@ fn offer_rows<'a>(
     ensures best { OnOk result (TakesIn best.old best.new (behind (mark_standing mark.now) (selected hits.now ranks.now))) }
 {
     if let Some((numbers, order)) = ranks.numbers() {
+        if are_many(found, hits.len()) {
+            return offer_blocks(best, ranks, numbers, order, hits, mark);
+        }
         return offer_by(
             best,
             ranks,
@@ -175,13 +181,14 @@ fn offer_listed<'a>(
     offer_each(best, ranks, &set, mark)
 }
 
-/// Offers the hits of a segment to the page, as far as the mark comes before them: in the order of the page as far as it takes
-/// them, where the reach covers that, and else with a look at each hit.
+/// Offers the hits of a segment, so many, to the page, as far as the mark comes before them: in the order of the page as far as it
+/// takes them, where the reach covers that, and else with a look at each hit.
 pub(crate) fn offer_hits<'a>(
     alloc: Global,
     best: &mut Best<Candidate<'a>>,
     ranks: &LeafRanks<'a>,
     hits: Hits<'_>,
+    found: usize,
     mark: &Option<Candidate<'a>>,
     reach: Option<Reach>,
 ) -> Result<(), AllocError>
@@ -199,11 +206,11 @@ pub(crate) fn offer_hits<'a>(
         }
     }
     if let Hits::Live(leaf) = &hits {
-        return offer_rows(best, ranks, leaf.live().rows(), mark);
+        return offer_rows(best, ranks, leaf.live().rows(), found, mark);
     }
     if let Hits::Listed(listed) = &hits {
         return offer_listed(alloc, best, ranks, listed, mark);
     }
     let rows = hits.into_rows(alloc)?;
-    offer_rows(best, ranks, &rows, mark)
+    offer_rows(best, ranks, &rows, found, mark)
 }
