@@ -1,12 +1,12 @@
 //! Calls that serve all sessions, and what they are answered.
 ghost use Rattle.std.specs.Prelude.{◌≡◌, ◌⊎◌};
 ghost use Rattle.cat_model.specs.Lines.{Said};
-ghost use Rattle.cat_model.specs.Run as run;
 ghost use Rattle.cat_model.specs.View.{segments_of};
 ghost use Rattle.cat_commands.specs.cat_cached_sets.filters.Known.{Remembers, RemembersBelow, FiltersRemember, FiltersRememberBelow};
 ghost use Rattle.cat_commands.specs.cat_ledger.Answering.{AnswersSaid};
 ghost use Rattle.cat_commands.specs.cat_ledger.Ledgers.{shape_in};
 ghost use Rattle.cat_commands.specs.cat_protocol.replies.Reply.{reply_of};
+ghost use Rattle.cat_commands.specs.ledger.Chores.{chore_of};
 ghost use Rattle.cat_threads.specs.service.Chores.{answer_told, chore_done, said_by};
 
 use cat_base::{Generation, Refusal, Text};
@@ -93,56 +93,28 @@ impl Outcome {
     }
 }
 
-/// A step of the merge that the policy picks.
-fn merge<D: Directory + Shelf>(
+/// A chore that makes no cached set and is of no commit.
+fn upkeep<D: Directory + Shelf>(
     alloc: Global,
     ledger: &mut Ledger<D>,
     filters: &mut Filters,
+    chore: commands::Chore,
 ) -> Result<Answer, Refusal>
-    ensures answers { AnswersSaid D.bytes 0 (Said.chore run.Chore.merge) ledger.old (reply_of result) ledger.new }
+    ensures answers { AnswersSaid D.bytes 0 (Said.chore (chore_of chore)) ledger.old (reply_of result) ledger.new }
     ensures known { Remembers filters.old filters.new }
     ensures below { RemembersBelow filters.old filters.new }
 {
-    commands::maintain(alloc, ledger, filters, 0, commands::Chore::Merge)
+    commands::maintain(alloc, ledger, filters, 0, chore)
 }
 
-/// A merge of all segments is begun.
-fn force<D: Directory + Shelf>(
-    alloc: Global,
+/// A snapshot of this commit is given back.
+fn unsnap<D: Directory + Shelf>(
     ledger: &mut Ledger<D>,
-    filters: &mut Filters,
+    generation: Generation,
 ) -> Result<Answer, Refusal>
-    ensures answers { AnswersSaid D.bytes 0 (Said.chore run.Chore.force) ledger.old (reply_of result) ledger.new }
-    ensures known { Remembers filters.old filters.new }
-    ensures below { RemembersBelow filters.old filters.new }
+    ensures { AnswersSaid D.bytes 0 (Said.release_snapshot generation) ledger.old (reply_of result) ledger.new }
 {
-    commands::maintain(alloc, ledger, filters, 0, commands::Chore::Force)
-}
-
-/// The files go that nobody needs.
-fn sweep<D: Directory + Shelf>(
-    alloc: Global,
-    ledger: &mut Ledger<D>,
-    filters: &mut Filters,
-) -> Result<Answer, Refusal>
-    ensures answers { AnswersSaid D.bytes 0 (Said.chore run.Chore.sweep) ledger.old (reply_of result) ledger.new }
-    ensures known { Remembers filters.old filters.new }
-    ensures below { RemembersBelow filters.old filters.new }
-{
-    commands::maintain(alloc, ledger, filters, 0, commands::Chore::Sweep)
-}
-
-/// How the ledger stands.
-fn stat<D: Directory + Shelf>(
-    alloc: Global,
-    ledger: &mut Ledger<D>,
-    filters: &mut Filters,
-) -> Result<Answer, Refusal>
-    ensures answers { AnswersSaid D.bytes 0 (Said.chore run.Chore.stat) ledger.old (reply_of result) ledger.new }
-    ensures known { Remembers filters.old filters.new }
-    ensures below { RemembersBelow filters.old filters.new }
-{
-    commands::maintain(alloc, ledger, filters, 0, commands::Chore::Stat)
+    commands::release_snapshot(ledger, generation)
 }
 
 /// Does the chore, by the call for the line that session 0 would say.
@@ -158,15 +130,15 @@ pub(crate) fn answer<D: Directory + Shelf>(
         × FiltersRememberBelow (segments_of (shape_in ledger.old).leaves) filters.old filters.new) }
 {
     match chore {
-        Chore::Merge => merge(alloc, ledger, filters),
-        Chore::Force => force(alloc, ledger, filters),
-        Chore::Sweep => sweep(alloc, ledger, filters),
-        Chore::Stat => stat(alloc, ledger, filters),
+        Chore::Merge => upkeep(alloc, ledger, filters, commands::Chore::Merge),
+        Chore::Force => upkeep(alloc, ledger, filters, commands::Chore::Force),
+        Chore::Sweep => upkeep(alloc, ledger, filters, commands::Chore::Sweep),
+        Chore::Stat => upkeep(alloc, ledger, filters, commands::Chore::Stat),
         Chore::Warm => commands::warm(ledger, filters, 0),
         Chore::Commit(text) => commands::commit(ledger, text.as_str()),
         Chore::Note(generation) => commands::text_of_commit(alloc, ledger, *generation),
         Chore::Snap => commands::snapshot(ledger),
-        Chore::Unsnap(generation) => commands::release_snapshot(ledger, *generation),
+        Chore::Unsnap(generation) => unsnap(ledger, *generation),
         Chore::Prune(count) => commands::prune(ledger, *count),
         Chore::Files(generation) => commands::files_of_commit(ledger, *generation),
     }

@@ -1,13 +1,13 @@
 //! What lies under the lock.
-ghost use Rattle.std.specs.Prelude.{◌≡◌, ◌≢◌, ◌⊎◌, ◌+◌, [], ◌∷◌, ◌++◌, length, option_map, IfOk, OnErr, OnOk, IfErr, Ok, None};
+ghost use Rattle.std.specs.Prelude.{◌≡◌, ◌≢◌, ◌⊎◌, ◌+◌, suc, true, [], ◌∷◌, ◌++◌, length, option_map, IfOk, OnErr, OnOk, IfErr, Ok, None};
 ghost use Rattle.crossbeam_utils.specs.Seq.{cell_view};
 ghost use Rattle.cat_base.specs.declared.refusal.Refusal.TheVariants.{Device, Full, Gone, Kind, Memory, NotHeld, Spent};
 ghost use Rattle.cat_model.specs.Answer.{HasNoLineFeed};
 ghost use Rattle.cat_commands.specs.cat_ledger_state.cat_views.Sources.{stored_length};
 ghost use Rattle.cat_commands.specs.cat_ledger.Grants.{released_session, released_token};
 ghost use Rattle.cat_commands.specs.cat_ledger.Ledgers.{device_in, shape_in};
-ghost use Rattle.cat_threads.specs.history.Entries.{entry};
-ghost use Rattle.cat_threads.specs.history.Rules.{NoStrangers, scribe as scribe_sight};
+ghost use Rattle.cat_threads.specs.history.Entries.{entry, has_session};
+ghost use Rattle.cat_threads.specs.history.Rules.{NoStrangers, noted, scribe as scribe_sight};
 ghost use Rattle.cat_threads.specs.service.Passes.{Ends, Follows, Granted, Idle, IfNew, Refreshed, Wrote};
 ghost use Rattle.cat_threads.specs.sharing.Grounds.{ground_of};
 ghost use Rattle.cat_threads.specs.sharing.ShareLaws.{IsHistoryOf, IsOfGroundList};
@@ -16,7 +16,6 @@ ghost use Rattle.cat_threads.specs.service.Chores.{IsToldOver, chore_done};
 ghost use Rattle.cat_threads.specs.service.Writes.{PutsForeign, write_of};
 
 use crate::history::{self, Cell, Noting, Seat};
-use crate::running::Gate;
 use crate::service::chores::{Chore, Outcome};
 use crate::service::keeper::{Keeper, Noted};
 use crate::service::naming::Naming;
@@ -109,9 +108,7 @@ impl<D: Directory + Shelf, J: Naming> Desk<D, J> {
         history::join(rt, cell, &mut self.scribe, &mut me.seat);
         match self.keeper.accept(write) {
             Ok(number) => {
-                let count = number - self.start;
-                let token = self.newest - self.start;
-                history::note::<W, R>(rt, cell, &mut self.scribe, count, token);
+                note_number::<W, R>(rt, cell, &mut self.scribe, self.start, self.newest, number);
                 me.seat = history::part(cell, &mut self.scribe);
                 Ok(number)
             }
@@ -237,15 +234,6 @@ impl<D: Directory + Shelf, J: Naming> Desk<D, J> {
     {
         self.keeper.maintain(chore)
     }
-
-    /// Does a chore, once the gate was told that the lock is held.
-    pub(crate) fn turn<G: Gate>(&mut self, gate: &mut G, chore: Chore) -> Outcome
-        ensures same { self.new ≡ self.old }
-        ensures chore { chore_done result ≡ chore }
-    {
-        gate.inside();
-        self.maintain(chore)
-    }
 }
 
 impl<D: Directory + Shelf, J: Naming> Desk<D, J> {
@@ -293,4 +281,24 @@ impl<D: Directory + Shelf, J: Naming> Desk<D, J> {
         history::look(rt, cell, &mut scribe);
         keeper.into_ledger()
     }
+}
+
+/// The write that the call picks is noted, which was answered this number: it is the next behind the list.
+fn note_number<W: Noting, R: Wait>(
+    rt: &R,
+    cell: &Cell,
+    scribe: &mut Seat,
+    start: WriteNo,
+    newest: Token,
+    number: WriteNo,
+)
+    requires desk { (scribe.old.table_id ≡ cell.now.table.shared.table_id) × (cell_view scribe.old ≡ scribe_sight (cell_view scribe.old).list (cell_view scribe.old).token (cell_view scribe.old).seated (cell_view scribe.old).own) }
+    requires number { number ≡ start + suc (length (cell_view scribe.old).list) }
+    requires newest { newest ≡ start + (cell_view scribe.old).token }
+    requires own { has_session (W.entry).session (cell_view scribe.old).own ≡ true }
+    ensures { (scribe.new.table_id ≡ scribe.old.table_id) × (cell_view scribe.new ≡ noted W.entry (cell_view scribe.old)) }
+{
+    let count = number - start;
+    let token = newest - start;
+    history::note::<W, R>(rt, cell, scribe, count, token);
 }

@@ -166,7 +166,10 @@ impl<D: Directory + Shelf, J: Naming> Service<D, J> {
                 let mut desk = desk;
                 Some(desk.note(query))
             }
-            None => None,
+            None => {
+                drop(query);
+                None
+            }
         }
     }
 
@@ -193,7 +196,9 @@ impl<D: Directory + Shelf, J: Naming> Service<D, J> {
     pub(crate) fn turn<R: Wait, G: Gate>(&self, rt: &R, gate: &mut G, chore: Chore) -> Outcome
         ensures { chore_done result ≡ chore }
     {
-        self.desk.lock(rt).turn(gate, chore)
+        let mut desk = self.desk.lock(rt);
+        gate.inside();
+        desk.maintain(chore)
     }
 
     /// Two callers tell each other what they have seen: of their two lists one began the other, and both have the longer one

@@ -7,31 +7,31 @@ use Rattle.cat_threads.proofs.service.chores.answer.Goals as goal
 
 pub returns-in-Merge-clause-answers : goal.returns-in-Merge-clause-answers
 returns-in-Merge-clause-answers g c =
-    subst (λ k. AnswersSaid g.D.Holder.bytes 0 (said_by k) c.args.ledger.now (reply_of c.merge.result) c.merge.new.ledger) (sym c.in-Merge.is) c.merge.ensures.answers
+    subst (λ k. AnswersSaid g.D.Holder.bytes 0 (said_by k) c.args.ledger.now (reply_of c.upkeep.result) c.upkeep.new.ledger) (sym c.in-Merge.is) c.upkeep.ensures.answers
 
 pub returns-in-Merge-clause-sets : goal.returns-in-Merge-clause-sets
-returns-in-Merge-clause-sets g c = inl (c.merge.ensures.known, c.merge.ensures.below)
+returns-in-Merge-clause-sets g c = inl (c.upkeep.ensures.known, c.upkeep.ensures.below)
 
 pub returns-in-Force-clause-answers : goal.returns-in-Force-clause-answers
 returns-in-Force-clause-answers g c =
-    subst (λ k. AnswersSaid g.D.Holder.bytes 0 (said_by k) c.args.ledger.now (reply_of c.force.result) c.force.new.ledger) (sym c.in-Force.is) c.force.ensures.answers
+    subst (λ k. AnswersSaid g.D.Holder.bytes 0 (said_by k) c.args.ledger.now (reply_of c.upkeep-in-Force.result) c.upkeep-in-Force.new.ledger) (sym c.in-Force.is) c.upkeep-in-Force.ensures.answers
 
 pub returns-in-Force-clause-sets : goal.returns-in-Force-clause-sets
-returns-in-Force-clause-sets g c = inl (c.force.ensures.known, c.force.ensures.below)
+returns-in-Force-clause-sets g c = inl (c.upkeep-in-Force.ensures.known, c.upkeep-in-Force.ensures.below)
 
 pub returns-in-Sweep-clause-answers : goal.returns-in-Sweep-clause-answers
 returns-in-Sweep-clause-answers g c =
-    subst (λ k. AnswersSaid g.D.Holder.bytes 0 (said_by k) c.args.ledger.now (reply_of c.sweep.result) c.sweep.new.ledger) (sym c.in-Sweep.is) c.sweep.ensures.answers
+    subst (λ k. AnswersSaid g.D.Holder.bytes 0 (said_by k) c.args.ledger.now (reply_of c.upkeep-in-Sweep.result) c.upkeep-in-Sweep.new.ledger) (sym c.in-Sweep.is) c.upkeep-in-Sweep.ensures.answers
 
 pub returns-in-Sweep-clause-sets : goal.returns-in-Sweep-clause-sets
-returns-in-Sweep-clause-sets g c = inl (c.sweep.ensures.known, c.sweep.ensures.below)
+returns-in-Sweep-clause-sets g c = inl (c.upkeep-in-Sweep.ensures.known, c.upkeep-in-Sweep.ensures.below)
 
 pub returns-in-Stat-clause-answers : goal.returns-in-Stat-clause-answers
 returns-in-Stat-clause-answers g c =
-    subst (λ k. AnswersSaid g.D.Holder.bytes 0 (said_by k) c.args.ledger.now (reply_of c.stat.result) c.stat.new.ledger) (sym c.in-Stat.is) c.stat.ensures.answers
+    subst (λ k. AnswersSaid g.D.Holder.bytes 0 (said_by k) c.args.ledger.now (reply_of c.upkeep-in-Stat.result) c.upkeep-in-Stat.new.ledger) (sym c.in-Stat.is) c.upkeep-in-Stat.ensures.answers
 
 pub returns-in-Stat-clause-sets : goal.returns-in-Stat-clause-sets
-returns-in-Stat-clause-sets g c = inl (c.stat.ensures.known, c.stat.ensures.below)
+returns-in-Stat-clause-sets g c = inl (c.upkeep-in-Stat.ensures.known, c.upkeep-in-Stat.ensures.below)
 
 pub returns-in-Warm-clause-answers : goal.returns-in-Warm-clause-answers
 returns-in-Warm-clause-answers g c =
@@ -63,7 +63,7 @@ returns-in-Snap-clause-sets g c = inl (λ s k. k, λ n b. b)
 
 pub returns-in-Unsnap-clause-answers : goal.returns-in-Unsnap-clause-answers
 returns-in-Unsnap-clause-answers g c =
-    subst (λ k. AnswersSaid g.D.Holder.bytes 0 (said_by k) c.args.ledger.now (reply_of c.release_snapshot.result) c.release_snapshot.new.ledger) (sym c.in-Unsnap.is) (c.release_snapshot.ensures.answers 0)
+    subst (λ k. AnswersSaid g.D.Holder.bytes 0 (said_by k) c.args.ledger.now (reply_of c.unsnap.result) c.unsnap.new.ledger) (sym c.in-Unsnap.is) c.unsnap.ensures
 
 pub returns-in-Unsnap-clause-sets : goal.returns-in-Unsnap-clause-sets
 returns-in-Unsnap-clause-sets g c = inl (λ s k. k, λ n b. b)

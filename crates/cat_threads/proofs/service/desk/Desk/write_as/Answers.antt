@@ -20,7 +20,7 @@ invariant_of-self g c =
     let i = c.self.invariant in
     let a = i.3 in
     let j = c.join.ensures.desk in
-    let n = c.note.ensures in
+    let n = c.note_number.ensures in
     let p = c.part.ensures.desk in
     let v = cell_view c.self.inside.scribe in
     let w = cell_view c.part.new.desk in
@@ -32,7 +32,7 @@ invariant_of-self g c =
     let session = c.args.me.now.session in
     let write = write_of c.args.write in
     let is : w ≡ scribe (v.list ++ entry session write ∷ []) v.token sessions [] =
-    apart_noted v (cell_view c.join.new.desk) (cell_view c.note.new.desk) w sessions (cell_view c.me.inside.seat).own g.W.Noting.entry a.agrees.whole j.1 n.1 p.1
+    apart_noted v (cell_view c.join.new.desk) (cell_view c.note_number.new.scribe) w sessions (cell_view c.me.inside.seat).own g.W.Noting.entry a.agrees.whole j.1 n.1 p.1
     ∙ ap (λ (e : LogEntry). scribe (v.list ++ e ∷ []) v.token sessions []) c.requires.named in (
       p.0 ∙ (n.0 ∙ (j.0 ∙ i.0)),
       i.1,
@@ -68,7 +68,7 @@ invariant_of-self-in-Err g c =
 pub returns-in-Ok-clause-seen : goal.returns-in-Ok-clause-seen
 returns-in-Ok-clause-seen g c =
     let j = c.join.ensures in
-    let n = c.note.ensures in
+    let n = c.note_number.ensures in
     let p = c.part.ensures.mine in
     follows_noted g.J.Naming.from.start.token c.me.inside.session (cell_view c.me.inside.seat) (cell_view c.join.new.desk) (cell_view c.part.result) g.W.Noting.entry c.args.me.now c.me.view_is j.seen
     (ap (λ (v : Sight). v.list) p.1 ∙ ap (λ (v : Sight). v.list) n.1) (ap (λ (v : Sight). v.token) p.1 ∙ ap (λ (v : Sight). v.token) n.1)
@@ -76,7 +76,7 @@ returns-in-Ok-clause-seen g c =
 pub returns-in-Ok-clause-wrote : goal.returns-in-Ok-clause-wrote
 returns-in-Ok-clause-wrote g c =
     let j = c.join.ensures in
-    let n = c.note.ensures in
+    let n = c.note_number.ensures in
     let p = c.part.ensures.mine in
     let start = g.J.Naming.from.start.token in
     let session = c.me.inside.session in
@@ -100,19 +100,19 @@ returns-in-Err-clause-kind g c =
     λ is. subst (λ s. PutsForeign s (write_of c.args.write)) same (c.in-Err.ensures.kind is)
 
 pub returns-in-Ok-clause-told : goal.returns-in-Ok-clause-told
-returns-in-Ok-clause-told g c = told_apart g.J.Naming.from.start.token (cell_view c.note.new.desk) (cell_view c.part.new.desk) (cell_view c.part.result) c.part.ensures.desk.1 c.part.ensures.mine.1
+returns-in-Ok-clause-told g c = told_apart g.J.Naming.from.start.token (cell_view c.note_number.new.scribe) (cell_view c.part.new.desk) (cell_view c.part.result) c.part.ensures.desk.1 c.part.ensures.mine.1
 
 pub returns-in-Ok-clause-list : goal.returns-in-Ok-clause-list
 returns-in-Ok-clause-list g c =
     let old = c.self.inside.keeper in
     let all = counts_share (g.D.Holder.bytes (device_in old)) (shape_in old) g.J.Naming.from g.J.Naming.sessions (cell_view c.self.inside.scribe) c.self.invariant.3 in
-    noted_apart g.J.Naming.from.start.token c.in-Ok.number (shape_in old).count (cell_view c.self.inside.scribe) (cell_view c.join.new.desk) (cell_view c.note.new.desk) (cell_view c.part.new.desk) (cell_view c.me.inside.seat).own g.W.Noting.entry c.args.self.now c.self.view_is c.join.ensures.desk.1 c.note.ensures.1 c.part.ensures.desk.1 c.in-Ok.ensures.number all
+    noted_apart g.J.Naming.from.start.token c.in-Ok.number (shape_in old).count (cell_view c.self.inside.scribe) (cell_view c.join.new.desk) (cell_view c.note_number.new.scribe) (cell_view c.part.new.desk) (cell_view c.me.inside.seat).own g.W.Noting.entry c.args.self.now c.self.view_is c.join.ensures.desk.1 c.note_number.ensures.1 c.part.ensures.desk.1 c.in-Ok.ensures.number all
 
 pub returns-in-Ok-clause-same : goal.returns-in-Ok-clause-same
 returns-in-Ok-clause-same g c = tt
 
 pub returns-in-Ok-clause-token : goal.returns-in-Ok-clause-token
-returns-in-Ok-clause-token g c = noted_token g.J.Naming.from.start.token (cell_view c.self.inside.scribe) (cell_view c.join.new.desk) (cell_view c.note.new.desk) (cell_view c.part.new.desk) (cell_view c.me.inside.seat).own g.W.Noting.entry c.args.self.now c.self.view_is c.join.ensures.desk.1 c.note.ensures.1 c.part.ensures.desk.1
+returns-in-Ok-clause-token g c = noted_token g.J.Naming.from.start.token (cell_view c.self.inside.scribe) (cell_view c.join.new.desk) (cell_view c.note_number.new.scribe) (cell_view c.part.new.desk) (cell_view c.me.inside.seat).own g.W.Noting.entry c.args.self.now c.self.view_is c.join.ensures.desk.1 c.note_number.ensures.1 c.part.ensures.desk.1
 
 pub returns-in-Ok-clause-idle : goal.returns-in-Ok-clause-idle
 returns-in-Ok-clause-idle g c = tt
@@ -151,3 +151,25 @@ returns-in-Err-clause-idle g c =
 
 pub returns-in-Err-clause-refusal : goal.returns-in-Err-clause-refusal
 returns-in-Err-clause-refusal g c = c.in-Err.ensures.refusal
+
+pub note_number-requires-clause-number : goal.note_number-requires-clause-number
+note_number-requires-clause-number g c =
+    let i = c.self.invariant in
+    let old = c.self.inside.keeper in
+    let v = cell_view c.self.inside.scribe in
+    let joined = cell_view c.join.new.desk in
+    let all = counts_share (g.D.Holder.bytes (device_in old)) (shape_in old) g.J.Naming.from g.J.Naming.sessions v i.3 in
+    let long : length joined.list ≡ length v.list = ap (λ (x : Sight). length x.list) c.join.ensures.desk.1 in
+    let start = i.1 in
+    let is = c.in-Ok.ensures.number in
+    omega arith
+
+pub note_number-requires-clause-newest : goal.note_number-requires-clause-newest
+note_number-requires-clause-newest g c =
+    let i = c.self.invariant in
+    let v = cell_view c.self.inside.scribe in
+    let joined = cell_view c.join.new.desk in
+    let top : joined.token ≡ v.token = ap (λ (x : Sight). x.token) c.join.ensures.desk.1 in
+    let start = i.1 in
+    let newest = i.2 in
+    omega arith
