@@ -15,6 +15,7 @@ mod opening;
 mod output;
 mod queues;
 mod reading;
+mod routes;
 mod session;
 mod streams;
 mod talking;

@@ -1,18 +1,20 @@
 //! Services that a schema line opens.
-ghost use Rattle.std.specs.Prelude.{◌≡◌, IfOk};
+ghost use Rattle.std.specs.Prelude.{◌≡◌, [], true, IfOk};
 ghost use Rattle.cat_model.specs.Served.{SpellsSchema};
 ghost use Rattle.cat_model.specs.Text.{Text};
 ghost use Rattle.cat_threads.specs.cat_commands.cat_ledger.Ledgers.{shape_in};
+ghost use Rattle.cat_threads.specs.service.Passes.{all_different, seated_by};
+ghost use Rattle.cat_threads.specs.sharing.Grounds.{ground_of};
 
 use crate::input::{Lines, Next};
 use crate::threads::{Fault, refuse};
-use cat_base::Refusal;
+use cat_base::{Refusal, SessionNo};
 use cat_directory::{Directory, Shelf};
 use cat_items::Schema;
-use cat_threads::Begun;
 use cat_threads::cat_commands::cat_ledger::upkeep::MergePolicy;
 use cat_threads::cat_commands::cat_protocol::lines::SchemaLine;
 use cat_threads::cat_commands::cat_protocol::serving::text_of;
+use cat_threads::{Begun, Naming, Pass, Service};
 use std::alloc::Global;
 use std::io::{Read, Write};
 
@@ -27,14 +29,9 @@ fn policy_of(found: &SchemaLine) -> MergePolicy
     }
 }
 
-/// Opens the newest commit of the directory, or an empty catalogue where there is none, under the schema that the line gives, and
-/// hands the schema out once more. The refusals are those of a schema line.
-pub(crate) fn begin<D: Directory + Shelf + Drop>(
-    alloc: Global,
-    device: D,
-    line: &[u8],
-) -> Result<(Begun<D>, Schema), Refusal>
-    ensures { IfOk result (λ r. (shape_in r.0.ledger).schema ≡ r.1) }
+/// The schema that the line gives, twice, and its policy. The refusals are those of a schema line.
+fn read_first(alloc: Global, line: &[u8]) -> Result<(Schema, Schema, MergePolicy), Refusal>
+    ensures { IfOk result (λ r. r.0 ≡ r.1) }
 {
     let Some(text) = text_of(line) else {
         return Err(Refusal::Line);
@@ -44,7 +41,20 @@ pub(crate) fn begin<D: Directory + Shelf + Drop>(
     };
     let schema = Schema::read(alloc, found.json.as_bytes())?;
     let shared = schema.copy()?;
-    match Begun::open(alloc, device, schema, policy_of(&found)) {
+    Ok((schema, shared, policy_of(&found)))
+}
+
+/// Opens the newest commit of the directory, or an empty catalogue where there is none, under the schema that the line gives, and
+/// hands the schema out once more. The refusals are those of a schema line.
+pub(crate) fn begin<D: Directory + Shelf + Drop>(
+    alloc: Global,
+    device: D,
+    line: &[u8],
+) -> Result<(Begun<D>, Schema), Refusal>
+    ensures { IfOk result (λ r. (shape_in r.0.ledger).schema ≡ r.1) }
+{
+    let (schema, shared, policy) = read_first(alloc, line)?;
+    match Begun::open(alloc, device, schema, policy) {
         Ok(begun) => Ok((begun, shared)),
         Err(not) => Err(not.refusal),
     }
@@ -68,4 +78,16 @@ pub(crate) fn begin_by_first<D: Directory + Shelf + Drop, I: Read, W: Write>(
         Ok(opened) => Ok(opened),
         Err(refusal) => Err(refuse(refusal, writer)),
     }
+}
+
+/// A service over what was opened, and the passes of its sessions, which have these numbers. None where memory is wanting.
+pub(crate) fn service_of<D: Directory + Shelf + Drop, J: Naming>(
+    alloc: Global,
+    begun: Begun<D>,
+    numbers: &[SessionNo],
+) -> Option<(Service<D, J>, Vec<Pass<J>>)>
+    requires names { (begun.table ≡ J.table) × (J.from ≡ ground_of (shape_in begun.ledger)) × (J.sessions ≡ seated_by [] numbers.now) }
+    requires different { all_different numbers.now ≡ true }
+{
+    Service::<D, J>::new(alloc, begun, numbers).ok()
 }

@@ -9,16 +9,15 @@ use crate::asked::Asked;
 use crate::front::Front;
 use crate::input::{Lines, Next};
 use crate::numbers::rise;
-use crate::opening::begin_by_first;
+use crate::opening::{begin_by_first, service_of};
 use crate::output::Output;
 use crate::queues::{Sending, Taking, ends};
+use crate::routes::place_of;
 use crate::threads::{Fault, Resting, refuse};
 use cat_base::{LAST_SESSION, Refusal, SessionNo};
 use cat_directory::{Directory, Shelf};
 use cat_items::Schema;
-use cat_threads::cat_commands::cat_protocol::lines::Line;
 use cat_threads::cat_commands::cat_protocol::sending::{flush, send_opened};
-use cat_threads::cat_commands::cat_protocol::serving::text_of;
 use cat_threads::running::{merger, warmer};
 use cat_threads::{Begun, Naming, Pass, Service};
 use std::alloc::{AllocError, Global};
@@ -65,42 +64,53 @@ impl Stream {
     }
 }
 
+/// So many heaps without a pass.
+fn empty_heaps<J: Naming>(alloc: Global, count: usize) -> Result<Vec<Vec<Pass<J>>>, AllocError> {
+    let mut heaps = Vec::with_capacity(alloc, count)?;
+    for _ in 0..count {
+        heaps.push(Vec::new(alloc))?;
+    }
+    Ok(heaps)
+}
+
+/// Lays the pass on the heap at the place.
+fn lay_on<J: Naming>(
+    heaps: &mut [Vec<Pass<J>>],
+    place: usize,
+    pass: Pass<J>,
+) -> Result<(), AllocError> {
+    if let Some(heap) = heaps.get_mut(place) {
+        heap.push(pass)?;
+    }
+    Ok(())
+}
+
+/// The place behind this one; the first behind the last.
+fn next_place(place: usize, count: usize) -> usize {
+    let next = place.saturating_add(1);
+    if next < count { next } else { 0 }
+}
+
+/// Lays the passes on the heaps, one on each in turn.
+fn deal<J: Naming>(passes: Vec<Pass<J>>, heaps: &mut [Vec<Pass<J>>]) -> Result<(), AllocError> {
+    let count = heaps.len();
+    let mut place = 0;
+    for pass in passes {
+        lay_on(heaps, place, pass)?;
+        place = next_place(place, count);
+    }
+    Ok(())
+}
+
 /// The passes in so many heaps, one to each in turn.
 fn dealt<J: Naming>(
     alloc: Global,
     passes: Vec<Pass<J>>,
-    heaps: usize,
+    count: usize,
 ) -> Result<Vec<Vec<Pass<J>>>, AllocError> {
-    let mut dealt = Vec::with_capacity(alloc, heaps)?;
-    for _ in 0..heaps {
-        dealt.push(Vec::new(alloc))?;
-    }
-    let mut place: usize = 0;
-    for pass in passes {
-        if let Some(heap) = dealt.get_mut(place) {
-            heap.push(pass)?;
-        }
-        place = if place.saturating_add(1) < heaps {
-            place.saturating_add(1)
-        } else {
-            0
-        };
-    }
-    Ok(dealt)
-}
-
-/// The thread that answers the line: its session's, and the first for a line that can't be read.
-fn place_of(line: &[u8], threads: usize) -> usize {
-    if threads < 2 {
-        return 0;
-    }
-    let Some(text) = text_of(line) else {
-        return 0;
-    };
-    match Line::read(text) {
-        Ok(line) => (line.session as usize).checked_rem(threads).unwrap_or(0),
-        Err(_) => 0,
-    }
+    let mut heaps = empty_heaps(alloc, count)?;
+    deal(passes, heaps.as_mut_slice())?;
+    Ok(heaps)
 }
 
 /// Lets go what waits for each thread.
@@ -152,6 +162,17 @@ fn hand_out<I: Read, W: Write + Drop, R: Wait>(
     unreachable!()
 }
 
+/// Where the reader leaves lines for a thread, where that takes them, and its shelf. None where memory is wanting, or a shelf.
+fn seat_for<S: Shelf + Drop, R: Wait>(
+    rt: &R,
+    alloc: Global,
+    shelves: &mut Vec<S>,
+) -> Option<(Sending, Taking, S)> {
+    let (sending, taking) = ends(rt, alloc).ok()?;
+    let shelf = shelves.pop()?;
+    Some((sending, taking, shelf))
+}
+
 /// Starts a thread for each heap of passes, a merger and a warmer beside them, and hands out the lines.
 fn run_stream<
     J: Naming + Send + Sync,
@@ -186,7 +207,7 @@ fn run_stream<
         let mut shelves = shelves;
         let mut sendings = Vec::new(alloc);
         for heap in heaps {
-            let (Ok((sending, taking)), Some(shelf)) = (ends(rt, alloc), shelves.pop()) else {
+            let Some((sending, taking, shelf)) = seat_for(rt, alloc, &mut shelves) else {
                 flag.store(1, Ordering::SeqCst);
                 return Err(Fault::Thread);
             };
@@ -204,6 +225,23 @@ fn run_stream<
         flag.store(1, Ordering::SeqCst);
         handed
     })
+}
+
+/// A service over what was opened, and the passes of its sessions in so many heaps. None where memory is wanting.
+fn service_and_heaps<D: Directory + Shelf + Drop, J: Naming>(
+    alloc: Global,
+    begun: Begun<D>,
+    numbers: &[SessionNo],
+    heaps: usize,
+) -> Option<(Service<D, J>, Vec<Vec<Pass<J>>>)>
+    requires names { (begun.table ≡ J.table) × (J.from ≡ ground_of (shape_in begun.ledger)) × (J.sessions ≡ seated_by [] numbers.now) }
+    requires different { all_different numbers.now ≡ true }
+{
+    let (service, passes) = service_of::<D, J>(alloc, begun, numbers)?;
+    match dealt(alloc, passes, heaps) {
+        Ok(heaps) => Some((service, heaps)),
+        Err(AllocError) => None,
+    }
 }
 
 /// Runs the service, whose sessions have these numbers, over the stream.
@@ -230,10 +268,8 @@ fn serve_opened<
     requires different { all_different numbers.now ≡ true }
     requires fields { schema.now ≡ J.from.start.schema }
 {
-    let Ok((service, passes)) = Service::<D, J>::new(alloc, begun, numbers) else {
-        return Err(Fault::Thread);
-    };
-    let Ok(heaps) = dealt(alloc, passes, shelves.len()) else {
+    let Some((service, heaps)) = service_and_heaps::<D, J>(alloc, begun, numbers, shelves.len())
+    else {
         return Err(Fault::Thread);
     };
     let front = Front::new(rt, alloc, &service, schema, asked);

@@ -112,6 +112,24 @@ impl<'a, D: Directory + Shelf, J: Naming, R: Wait> Front<'a, D, J, R> {
         }
         Ok(())
     }
+
+    /// Answers all lines of a session that has no rights yet, and ends its rights. Whether all replies are written.
+    fn talk<S: Shelf, W: Write>(
+        &self,
+        me: &mut Pass<J>,
+        shelf: &mut S,
+        said: &[u8],
+        to: &mut W,
+    ) -> bool
+        ensures { me.new.session ≡ me.old.session }
+    {
+        let mut holdings = Holdings::new(self.alloc, me.session());
+        let whole = self
+            .reply_to_all(me, &mut holdings, shelf, said, to)
+            .is_ok();
+        self.end_holdings(me, holdings);
+        whole
+    }
 }
 
 impl<'a, D: Directory + Shelf, J: Naming, S: Shelf + Drop, R: Wait> Caller<D, J, R>
@@ -127,12 +145,8 @@ impl<'a, D: Directory + Shelf, J: Naming, S: Shelf + Drop, R: Wait> Caller<D, J,
             of: _,
         } = self;
         let front = Front::new(rt, alloc, service, schema, asked);
-        let mut holdings = Holdings::new(alloc, me.session());
         let mut text = Vec::new(alloc);
-        let whole = front
-            .reply_to_all(me, &mut holdings, &mut shelf, said, &mut text)
-            .is_ok();
-        front.end_holdings(me, holdings);
+        let whole = front.talk(me, &mut shelf, said, &mut text);
         *told.lock(rt) = Told { text, whole };
     }
 }

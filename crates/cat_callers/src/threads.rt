@@ -8,7 +8,7 @@ use crate::asked::Asked;
 use crate::heard::{Heard, MAX_THREADS, Spoken, hear_all};
 use crate::input::Lines;
 use crate::numbers::rise;
-use crate::opening::begin_by_first;
+use crate::opening::{begin_by_first, service_of};
 use crate::talking::{Talk, Told};
 use cat_base::{Refusal, SessionNo, WriteNo};
 use cat_directory::{Directory, Shelf};
@@ -153,13 +153,10 @@ fn seated<'a, J: Naming, S: Shelf + Drop>(
     let mut sessions = Vec::new(alloc);
     let mut seats = spoken.iter().zip(told.iter()).filter(|seat| seat.0.runs);
     for pass in passes {
-        let (Some((spoken, told)), Some(shelf)) = (seats.next(), shelves.pop()) else {
-            return None;
-        };
+        let (spoken, told) = seats.next()?;
+        let shelf = shelves.pop()?;
         let talk = Talk::new(alloc, schema, asked, spoken.lines.as_slice(), shelf, told);
-        let Ok(()) = sessions.push((pass, talk)) else {
-            return None;
-        };
+        sessions.push((pass, talk)).ok()?;
     }
     Some(sessions)
 }
@@ -215,7 +212,7 @@ fn run_sessions<
     requires different { all_different numbers.now ≡ true }
     requires fields { schema.now ≡ J.from.start.schema }
 {
-    let Ok((service, passes)) = Service::<D, J>::new(alloc, begun, numbers) else {
+    let Some((service, passes)) = service_of::<D, J>(alloc, begun, numbers) else {
         return Err(Fault::Thread);
     };
     run_seated(rt, alloc, &service, passes, schema, spoken, shelves, told)
@@ -260,6 +257,43 @@ fn send_replies<W: Write>(
     flush(to)
 }
 
+/// Writes the replies, and says whether that failed.
+fn tell_all<W: Write>(heard: &Heard, told: Vec<Mutex<Told>>, to: &mut W) -> Result<(), Fault> {
+    match send_replies(heard, told, to) {
+        Ok(()) => Ok(()),
+        Err(WriteFault) => Err(Fault::Write),
+    }
+}
+
+/// Runs the sessions whose lines were heard, each told in its seat.
+fn run_heard<
+    D: Directory + Shelf + Drop + Send,
+    S: Shelf + Drop + Send,
+    R: Threads + Wait + Clock + Sync,
+>(
+    rt: &R,
+    alloc: Global,
+    begun: Begun<D>,
+    schema: &Schema,
+    heard: &Heard,
+    seats: &Seats,
+    shelves: Vec<S>,
+) -> Result<(), Fault>
+    requires fields { (shape_in begun.ledger).schema ≡ schema.now }
+    requires different { all_different seats.now.numbers.items ≡ true }
+{
+    run_sessions::<Brand, D, S, R>(
+        rt,
+        alloc,
+        begun,
+        schema,
+        seats.numbers.as_slice(),
+        heard.spoken.as_slice(),
+        shelves,
+        seats.told.as_slice(),
+    )
+}
+
 /// Hears the lines behind the first, runs all sessions, and writes what they are told.
 fn answer_all<
     D: Directory + Shelf + Drop + Send,
@@ -280,21 +314,8 @@ fn answer_all<
     requires fields { (shape_in begun.ledger).schema ≡ schema.now }
 {
     let (heard, seats) = hear(alloc, begun.count(), lines, reader, writer)?;
-    let Seats { numbers, told } = seats;
-    run_sessions::<Brand, D, S, R>(
-        rt,
-        alloc,
-        begun,
-        schema,
-        numbers.as_slice(),
-        heard.spoken.as_slice(),
-        shelves,
-        told.as_slice(),
-    )?;
-    match send_replies(&heard, told, writer) {
-        Ok(()) => Ok(()),
-        Err(WriteFault) => Err(Fault::Write),
-    }
+    run_heard(rt, alloc, begun, schema, &heard, &seats, shelves)?;
+    tell_all(&heard, seats.told, writer)
 }
 
 /// Says why nothing is opened.
