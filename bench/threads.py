@@ -34,6 +34,7 @@ WRITER = 5  # with five threads it shares none with those that read
 MIXES = ((2.8, 0.7), (3.1, 0.6), (2.4, 0.8))  # FINDs in times one thread alone, and the writer's lines in times its pace alone
 CALLERS = 8  # threads of the client
 LARGEST = 262_144  # rows of the largest segment
+LOOKED = 200_000  # lines whose replies are looked at
 
 
 def load_lines(shop, count, tidies=True):
@@ -195,7 +196,14 @@ def look(replies):
 
 
 def beside_writer(asked, room):
-    """FIND by clauses from four sessions, beside a session that writes and refreshes all the time.
+    """FIND from four sessions, beside a session that writes and refreshes all the time."""
+    # More FINDs than a machine answers in a second, times 2.8 too.
+    for kind, most, query in (("of everything by price", 450_000, lambda rng, shop: "*:*"), ("by clauses", 40_000, clause)):
+        beside_writer_by(asked, room, kind, most, query)
+
+
+def beside_writer_by(asked, room, kind, most, query):
+    """FIND by one kind of query from four sessions, beside a session that writes and refreshes all the time.
 
     The file has both kinds of lines, each spread evenly over it: as many as one thread alone answers in some time, times 2.8 say, and
     as many as the writer alone says in it, times 0.7. Where the program takes less for them, it is faster than that.
@@ -204,7 +212,7 @@ def beside_writer(asked, room):
     words = ["--threads", str(asked.threads + 1)]
     # By their token, since the writer may have recorded newer views before.
     opens = [f"{session} OPEN {room.token}" for session in SESSIONS]
-    finds = find_lines(SESSIONS, room.token, 40_000 * asked.seconds, lambda: clause(rng, shop))
+    finds = find_lines(SESSIONS, room.token, most * asked.seconds, lambda: query(rng, shop))
     writes = writer_lines(shop, rng, room.items, 40_000 * asked.seconds)
     found = {}
     for _ in range(asked.rounds):
@@ -213,17 +221,19 @@ def beside_writer(asked, room):
         pen, none = pace_of(room, words, opens, writes, asked.seconds)
         found.setdefault("alone", []).append((one, four, pen))
         for readers, writer in MIXES:
+            if len(finds) < readers * one * asked.seconds or len(writes) < writer * pen * asked.seconds:
+                raise SystemExit(f"threads: too few lines for {asked.seconds} seconds")
             said = mixed(finds[: int(readers * one * asked.seconds)], writes[: int(writer * pen * asked.seconds)])
             if not found.get((readers, writer)) and (readers, writer) == MIXES[0]:
-                look(room.replies(words, opens + said))
+                look(room.replies(words, opens + said[:LOOKED]))
             found.setdefault((readers, writer), []).append(asked.seconds / (room.seconds(words, opens + said) - none))
     one, four, pen = (statistics.median(each) for each in zip(*found["alone"]))
-    print(f"FIND by clauses from {len(SESSIONS)} sessions, a second: run {one:,.0f}; {' '.join(words)} {four:,.0f} ({four / one:.2f})")
+    print(f"FIND {kind} from {len(SESSIONS)} sessions, a second: run {one:,.0f}; {' '.join(words)} {four:,.0f} ({four / one:.2f})")
     print(f"the writer's lines by {' '.join(words)}, a second: {pen:,.0f}")
     for readers, writer in MIXES:
         times = found[readers, writer]
         middle = statistics.median(times)
-        print(f"both, mixed as {readers} and {writer}: {readers * middle:.2f} times FIND by run, and {writer * middle:.2f} times the writer alone")
+        print(f"both, mixed as {readers} and {writer}: {readers * middle:.2f} times FIND {kind} by run, and {writer * middle:.2f} times the writer alone")
         print(f"  in the rounds {', '.join(f'{readers * each:.2f} and {writer * each:.2f}' for each in times)}")
 
 

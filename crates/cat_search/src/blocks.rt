@@ -19,9 +19,9 @@ use crate::standings::Candidate;
 use cat_query::cat_columns::{NumberColumn, RowSet};
 use std::alloc::AllocError;
 
-/// How many of 64 rows have to be hits for a test of all 64 numbers to be worth it. It takes some 10 instructions a row, hit or
-/// not, and less of the time of each than a look at a hit, which takes some 22.
-const LEAST_HITS: usize = 24;
+/// How many of 64 rows have to be hits for a test of all 64 numbers to be worth it. It takes as long as looks at 45 hits do: some
+/// 10 instructions a row, hit or not, where a look takes some 22, of which the processor does more at once.
+const LEAST_HITS: usize = 48;
 
 /// Whether so many hits among the rows are enough for tests of 64 rows.
 pub(crate) fn are_many(hits: usize, rows: usize) -> bool {
