@@ -1,6 +1,7 @@
 //! One growing list of accepted writes that many callers share: two words, and what each caller's pass has seen of them.
 
 mod cell;
+mod rule;
 mod sight;
 mod steps;
 

@@ -44,6 +44,15 @@ pub enum NotRun {
 #[derive(Clone, Copy)]
 pub struct Of(SessionNo);
 
+impl Of {
+    /// The session of the pass that a thread is given.
+    fn session_of<J: Naming>(pass: &Pass<J>) -> Of
+        ensures { result.0 ≡ pass.now.session }
+    {
+        Of(pass.session())
+    }
+}
+
 impl<J: Naming> Promise<Pass<J>> for Of {
     ghost kept_by = { λ p r. r.session ≡ p.0 };
 }
@@ -133,11 +142,11 @@ fn start<
 ) -> Result<PromisedHandle<Pass<J>, Of>, NotRun>
     ensures { IfOk result (λ h. h.promise.0 ≡ pass.session) }
 {
-    let session = pass.session();
+    let session = Of::session_of(&pass);
     let job = move || -> Pass<J>
         ensures { result.session ≡ pass.session }
     { run_session(rt, service, pass, caller) };
-    let Ok(handle) = scope.spawn_with(Of(session), job) else {
+    let Ok(handle) = scope.spawn_with(session, job) else {
         return Err(NotRun::Thread);
     };
     Ok(handle)

@@ -7,6 +7,7 @@ ghost use Rattle.cat_threads.specs.history.Rules.{scribe, caller, old_of, noted,
 use crate::history::cell::{
     Cell, Checks, Level, Notes, Noting, Parts, Records, Seat, Seating, Seats, Tells, Under, Whole,
 };
+use crate::history::rule;
 use std::marker::Brand;
 use std::sync::Wait;
 
@@ -18,9 +19,9 @@ pub fn join<R: Wait>(rt: &R, cell: &Cell, desk: &mut Seat, mine: &mut Seat)
     ensures seen { Compared (cell_view desk.new) (old_of (cell_view mine.old)) }
     ensures sessions { NoStrangers (cell_view desk.new).seated (cell_view desk.new).list }
 {
-    let theirs = cell.split_pass::<Whole>(mine);
-    cell.join_pass::<Under>(desk, theirs);
-    cell.load_as::<Checks, R>(rt, desk);
+    let theirs = rule::split::<Whole>(cell, mine);
+    rule::take_in::<Under>(cell, desk, theirs);
+    rule::load::<Checks, R>(rt, cell, desk);
 }
 
 /// The joined pass comes apart. The result is the caller's.
@@ -29,7 +30,7 @@ pub fn part(cell: &Cell, desk: &mut Seat) -> Seat
     ensures desk { (desk.new.table_id ≡ desk.old.table_id) × (cell_view desk.new ≡ scribe (cell_view desk.old).list (cell_view desk.old).token (cell_view desk.old).seated []) }
     ensures mine { (result.table_id ≡ desk.old.table_id) × (cell_view result ≡ caller (cell_view desk.old).list (cell_view desk.old).token (cell_view desk.old).own) }
 {
-    cell.split_pass::<Parts>(desk)
+    rule::split::<Parts>(cell, desk)
 }
 
 /// The list gets the write that the call picks.
@@ -39,7 +40,7 @@ pub fn note<W: Noting, R: Wait>(rt: &R, cell: &Cell, desk: &mut Seat, count: u64
     requires own { has_session (W.entry).session (cell_view desk.old).own ≡ true }
     ensures { (desk.new.table_id ≡ desk.old.table_id) × (cell_view desk.new ≡ noted W.entry (cell_view desk.old)) }
 {
-    cell.swap_as::<Notes<W>, R>(rt, desk, [count, token]);
+    rule::swap::<Notes<W>, R>(rt, cell, desk, [count, token]);
 }
 
 /// The token rises to a new record's.
@@ -48,7 +49,7 @@ pub fn record<R: Wait>(rt: &R, cell: &Cell, desk: &mut Seat, count: u64, token: 
     requires words { (count ≡ length (cell_view desk.old).list) × ((cell_view desk.old).token ≤ token) }
     ensures { (desk.new.table_id ≡ desk.old.table_id) × (cell_view desk.new ≡ recorded token (cell_view desk.old)) }
 {
-    cell.swap_as::<Records, R>(rt, desk, [count, token]);
+    rule::swap::<Records, R>(rt, cell, desk, [count, token]);
 }
 
 /// Two callers' passes see what the other had seen.
@@ -72,9 +73,9 @@ fn tell<R: Wait>(rt: &R, cell: &Cell, one: &mut Seat, two: &mut Seat)
     ensures two { (two.new.table_id ≡ two.old.table_id) × (cell_view two.new ≡ cell_view two.old) }
     ensures seen { Compared (cell_view one.new) (old_of (cell_view one.old)) × Compared (cell_view one.new) (old_of (note_of (cell_view two.old))) }
 {
-    let note = cell.split_pass::<Tells>(two);
-    cell.join_pass::<Level>(one, note);
-    cell.load_as::<Checks, R>(rt, one);
+    let note = rule::split::<Tells>(cell, two);
+    rule::take_in::<Level>(cell, one, note);
+    rule::load::<Checks, R>(rt, cell, one);
 }
 
 fn seat_as<S: Seating>(cell: &Cell, desk: &mut Seat, session: u32) -> Seat
@@ -84,7 +85,7 @@ fn seat_as<S: Seating>(cell: &Cell, desk: &mut Seat, session: u32) -> Seat
     ensures desk { (desk.new.table_id ≡ desk.old.table_id) × (cell_view desk.new ≡ seating session (cell_view desk.old)) }
     ensures mine { (result.table_id ≡ desk.old.table_id) × (cell_view result ≡ seat_for session (cell_view desk.old)) }
 {
-    cell.split_pass::<Seats<S>>(desk)
+    rule::split::<Seats<S>>(cell, desk)
 }
 
 /// A pass for a session that has none.
@@ -103,5 +104,5 @@ pub fn look<R: Wait>(rt: &R, cell: &Cell, desk: &mut Seat)
     ensures desk { (desk.new.table_id ≡ desk.old.table_id) × (cell_view desk.new ≡ cell_view desk.old) }
     ensures sessions { NoStrangers (cell_view desk.new).seated (cell_view desk.new).list }
 {
-    cell.load_as::<Checks, R>(rt, desk);
+    rule::load::<Checks, R>(rt, cell, desk);
 }

@@ -1,5 +1,5 @@
 //! What lies under the lock.
-ghost use Rattle.std.specs.Prelude.{◌≡◌, ◌≢◌, ◌⊎◌, ◌+◌, suc, true, [], ◌∷◌, ◌++◌, length, option_map, IfOk, OnErr, OnOk, IfErr, Ok, None};
+ghost use Rattle.std.specs.Prelude.{◌≡◌, ◌≢◌, ◌⊎◌, ◌+◌, ◌-◌, ◌≤◌, suc, true, [], ◌∷◌, ◌++◌, length, option_map, IfOk, OnErr, OnOk, IfErr, Ok, None};
 ghost use Rattle.crossbeam_utils.specs.Seq.{cell_view};
 ghost use Rattle.cat_base.specs.declared.refusal.Refusal.TheVariants.{Device, Full, Gone, Kind, Memory, NotHeld, Spent};
 ghost use Rattle.cat_model.specs.Answer.{HasNoLineFeed};
@@ -7,7 +7,7 @@ ghost use Rattle.cat_commands.specs.cat_ledger_state.cat_views.Sources.{stored_l
 ghost use Rattle.cat_commands.specs.cat_ledger.Grants.{released_session, released_token};
 ghost use Rattle.cat_commands.specs.cat_ledger.Ledgers.{device_in, shape_in};
 ghost use Rattle.cat_threads.specs.history.Entries.{entry, has_session};
-ghost use Rattle.cat_threads.specs.history.Rules.{NoStrangers, noted, scribe as scribe_sight};
+ghost use Rattle.cat_threads.specs.history.Rules.{NoStrangers, noted, recorded, scribe as scribe_sight};
 ghost use Rattle.cat_threads.specs.service.Passes.{Ends, Follows, Granted, Idle, IfNew, Refreshed, Wrote};
 ghost use Rattle.cat_threads.specs.sharing.Grounds.{ground_of};
 ghost use Rattle.cat_threads.specs.sharing.ShareLaws.{IsHistoryOf, IsOfGroundList};
@@ -138,9 +138,8 @@ impl<D: Directory + Shelf, J: Naming> Desk<D, J> {
         history::join(rt, cell, &mut self.scribe, &mut me.seat);
         match self.keeper.refresh() {
             Ok(token) => {
-                let relative = token - self.start;
-                history::record(rt, cell, &mut self.scribe, relative, relative);
-                self.newest = token;
+                let start = self.start;
+                record_token(rt, cell, &mut self.scribe, &mut self.newest, start, token);
                 me.seat = history::part(cell, &mut self.scribe);
                 Ok(token)
             }
@@ -301,4 +300,24 @@ fn note_number<W: Noting, R: Wait>(
     let count = number - start;
     let token = newest - start;
     history::note::<W, R>(rt, cell, scribe, count, token);
+}
+
+/// The token of a new record is noted and kept as the newest one: it is the number of all writes.
+fn record_token<R: Wait>(
+    rt: &R,
+    cell: &Cell,
+    scribe: &mut Seat,
+    newest: &mut Token,
+    start: WriteNo,
+    token: Token,
+)
+    requires desk { (scribe.old.table_id ≡ cell.now.table.shared.table_id) × (cell_view scribe.old ≡ scribe_sight (cell_view scribe.old).list (cell_view scribe.old).token (cell_view scribe.old).seated (cell_view scribe.old).own) }
+    requires token { token ≡ start + length (cell_view scribe.old).list }
+    requires rises { (cell_view scribe.old).token ≤ length (cell_view scribe.old).list }
+    ensures scribe { (scribe.new.table_id ≡ scribe.old.table_id) × (cell_view scribe.new ≡ recorded (token - start) (cell_view scribe.old)) }
+    ensures newest { newest.new ≡ token }
+{
+    let relative = token - start;
+    history::record(rt, cell, scribe, relative, relative);
+    *newest = token;
 }

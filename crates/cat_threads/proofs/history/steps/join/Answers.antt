@@ -1,16 +1,23 @@
-use Rattle.std.proofs.Common.{rules, sym, ◌∙◌}
+use Rattle.std.proofs.Common.{sym, ◌∙◌}
 use Rattle.cat_threads.proofs.history.Keeps.{takes_whole, goes_under_as, checks}
 use Rattle.cat_threads.proofs.history.steps.join.Goals as goal
 
-pub split_pass-theirs-requires : goal.split_pass-theirs-requires
-split_pass-theirs-requires g c = (search rules, (search rules, (c.requires.mine.0, takes_whole _ _ c.requires.mine.1)))
+pub split-theirs-requires-clause-own : goal.split-theirs-requires-clause-own
+split-theirs-requires-clause-own g c = c.requires.mine.0
 
-pub join_pass-requires : goal.join_pass-requires
-join_pass-requires g c =
-    let s = c.split_pass-theirs.ensures in
-    (search rules, (search rules, ((c.requires.desk.0, s.given.0 ∙ c.requires.mine.0 ∙ sym c.requires.desk.0, s.given.2), goes_under_as _ _ _ _ c.requires.desk.1)))
+pub split-theirs-requires-clause-rule : goal.split-theirs-requires-clause-rule
+split-theirs-requires-clause-rule g c = takes_whole _ _ c.requires.mine.1
 
-pub load_as-requires : goal.load_as-requires
-load_as-requires g c =
-    let j = c.join_pass.ensures in
-    (search rules, (search rules, (j.0.0 ∙ c.requires.desk.0, checks _ _)))
+pub take_in-requires-clause-own : goal.take_in-requires-clause-own
+take_in-requires-clause-own g c =
+    let s = c.split-theirs.ensures.given in
+    (c.requires.desk.0, s.0 ∙ c.requires.mine.0 ∙ sym c.requires.desk.0, s.2)
+
+pub take_in-requires-clause-rule : goal.take_in-requires-clause-rule
+take_in-requires-clause-rule g c = goes_under_as _ _ _ _ c.requires.desk.1
+
+pub load-requires-clause-own : goal.load-requires-clause-own
+load-requires-clause-own g c = c.take_in.ensures.0 ∙ c.requires.desk.0
+
+pub load-requires-clause-rule : goal.load-requires-clause-rule
+load-requires-clause-rule g c = checks _ _

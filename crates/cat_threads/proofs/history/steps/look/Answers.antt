@@ -1,6 +1,8 @@
-use Rattle.std.proofs.Common.{rules}
 use Rattle.cat_threads.proofs.history.Keeps.{checks}
 use Rattle.cat_threads.proofs.history.steps.look.Goals as goal
 
-pub load_as-requires : goal.load_as-requires
-load_as-requires g c = (search rules, (search rules, (c.requires.0, checks _ _)))
+pub load-requires-clause-own : goal.load-requires-clause-own
+load-requires-clause-own g c = c.requires.0
+
+pub load-requires-clause-rule : goal.load-requires-clause-rule
+load-requires-clause-rule g c = checks _ _

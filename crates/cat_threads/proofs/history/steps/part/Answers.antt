@@ -1,6 +1,8 @@
-use Rattle.std.proofs.Common.{rules}
 use Rattle.cat_threads.proofs.history.Keeps.{parts}
 use Rattle.cat_threads.proofs.history.steps.part.Goals as goal
 
-pub split_pass-requires : goal.split_pass-requires
-split_pass-requires c = (search rules, (search rules, (c.requires.0, parts _ _)))
+pub split-requires-clause-own : goal.split-requires-clause-own
+split-requires-clause-own c = c.requires.0
+
+pub split-requires-clause-rule : goal.split-requires-clause-rule
+split-requires-clause-rule c = parts _ _

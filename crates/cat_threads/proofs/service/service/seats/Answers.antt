@@ -3,7 +3,7 @@ use Rattle.std.specs.Prelude.{slice_index_or}
 use Rattle.std.proofs.lemmas.List.{take_more}
 use Rattle.cat_threads.specs.history.Rules.{Sight}
 use Rattle.cat_threads.specs.history.Entries.{has_session}
-use Rattle.cat_threads.specs.history.Rules.{scribe, seating}
+use Rattle.cat_threads.specs.history.Rules.{scribe, seat_for, seating}
 use Rattle.cat_threads.specs.service.Passes.{Seen, newcomer, seated_by}
 use Rattle.cat_threads.proofs.service.Passed.{is_free, seated_by-snoc, map-snoc}
 use Rattle.cat_threads.proofs.service.service.seats.Goals as goal
@@ -13,6 +13,13 @@ seat-seat-requires-clause-free g c =
     let i = c.loop-session.invariant in
     ap (λ (v : Sight). has_session (slice_index_or c.args.sessions.now c.loop-session.session-index 0) v.seated) i.1
     ∙ is_free [] c.args.sessions.now c.loop-session.session-index 0 c.requires.different (λ s there. refl) (omega arith)
+
+pub new-requires : goal.new-requires
+new-requires g c =
+    let i = c.loop-session.invariant in
+    let mine = c.seat-seat.ensures.mine in
+    let x = slice_index_or c.args.sessions.now c.loop-session.session-index 0 in
+    (mine.0 ∙ i.0, mine.1 ∙ ap (λ (v : Sight). seat_for x v) i.1)
 
 pub loop-session-preserved : goal.loop-session-preserved
 loop-session-preserved g c =

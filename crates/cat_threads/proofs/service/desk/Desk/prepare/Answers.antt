@@ -4,8 +4,27 @@ use Rattle.cat_threads.specs.history.Rules.{Sight, scribe}
 use Rattle.cat_commands.specs.cat_ledger.Ledgers.{device_in, shape_in}
 use Rattle.cat_threads.proofs.service.Answering.{unchanged}
 use Rattle.cat_threads.proofs.service.Granting.{apart_again, prepared_all}
+use Rattle.cat_threads.proofs.service.Spelled.{caller_apart, scribe_alone, scribe_own}
 use Rattle.cat_threads.proofs.service.Telling.{follows_joined, idle_told, same_apart, told_apart}
 use Rattle.cat_threads.proofs.service.desk.Desk.prepare.Goals as goal
+
+pub join-requires-clause-desk : goal.join-requires-clause-desk
+join-requires-clause-desk g c = (c.self.invariant.0 ∙ sym c.requires, scribe_alone (cell_view c.self.inside.scribe) g.J.Naming.sessions c.self.invariant.3.agrees.whole)
+
+pub join-requires-clause-mine : goal.join-requires-clause-mine
+join-requires-clause-mine g c = (c.me.invariant.0 ∙ sym c.requires, ap (λ (x : Sight). x.scribe) c.me.invariant.1)
+
+pub part-requires : goal.part-requires
+part-requires g c =
+    let v = cell_view c.self.inside.scribe in
+    let j = c.join.ensures.desk in
+    (j.0 ∙ (c.self.invariant.0 ∙ sym c.requires), scribe_own (cell_view c.join.new.desk) v.list v.token v.seated (cell_view c.me.inside.seat).own j.1)
+
+pub invariant_of-me : goal.invariant_of-me
+invariant_of-me g c =
+    let j = c.join.ensures.desk in
+    let p = c.part.ensures.mine in
+    (p.0 ∙ (j.0 ∙ c.self.invariant.0), caller_apart c.me.inside.session (cell_view c.self.inside.scribe) (cell_view c.join.new.desk) (cell_view c.me.inside.seat) (cell_view c.part.result) c.me.invariant.1 j.1 p.1)
 
 pub invariant_of-self : goal.invariant_of-self
 invariant_of-self g c =

@@ -3,7 +3,7 @@ use Rattle.std.specs.Prelude.{Err}
 use Rattle.crossbeam_utils.specs.Seq.{cell_view}
 use Rattle.cat_base.specs.declared.refusal.Refusal.TheVariants.{Memory}
 use Rattle.cat_threads.specs.history.Entries.{LogEntry, entry, has_session}
-use Rattle.cat_threads.specs.history.Rules.{Sight, scribe}
+use Rattle.cat_threads.specs.history.Rules.{Sight, noted, scribe}
 use Rattle.cat_commands.specs.cat_ledger.Ledgers.{device_in, policy_in, shape_in}
 use Rattle.cat_ledger_laws.specs.lines.RefusalLaws.{command_of}
 use Rattle.cat_threads.proofs.sharing.Sharing.{counts_share, noted_share, still_share}
@@ -12,8 +12,62 @@ use Rattle.cat_threads.specs.service.Writes.{PutsForeign, write_of}
 use Rattle.cat_threads.proofs.service.Passed.{follows_noted, wrote_noted, has_self}
 use Rattle.cat_threads.proofs.service.Granting.{apart_again, apart_noted, refused_still}
 use Rattle.cat_threads.proofs.service.Refusing.{fields_share}
+use Rattle.cat_threads.proofs.service.Spelled.{caller_apart, caller_behind, scribe_alone, scribe_own}
 use Rattle.cat_threads.proofs.service.Telling.{follows_joined, idle_told, noted_apart, noted_token, same_apart, told_apart}
 use Rattle.cat_threads.proofs.service.desk.Desk.write_as.Goals as goal
+
+pub join-requires-clause-desk : goal.join-requires-clause-desk
+join-requires-clause-desk g c = (c.self.invariant.0 ∙ sym c.requires.cell, scribe_alone (cell_view c.self.inside.scribe) g.J.Naming.sessions c.self.invariant.3.agrees.whole)
+
+pub join-requires-clause-mine : goal.join-requires-clause-mine
+join-requires-clause-mine g c = (c.me.invariant.0 ∙ sym c.requires.cell, ap (λ (x : Sight). x.scribe) c.me.invariant.1)
+
+pub note_number-requires-clause-desk : goal.note_number-requires-clause-desk
+note_number-requires-clause-desk g c =
+    let v = cell_view c.self.inside.scribe in
+    let j = c.join.ensures.desk in
+    (j.0 ∙ (c.self.invariant.0 ∙ sym c.requires.cell), scribe_own (cell_view c.join.new.desk) v.list v.token v.seated (cell_view c.me.inside.seat).own j.1)
+
+pub note_number-requires-clause-own : goal.note_number-requires-clause-own
+note_number-requires-clause-own g c =
+    let session = c.args.me.now.session in
+    let same : session ≡ c.me.inside.session = sym (ap (λ (x : Seen). x.session) c.me.view_is) in
+    ap (λ (e : LogEntry). has_session e.session (cell_view c.join.new.desk).own) c.requires.named
+    ∙ (ap (λ (x : Sight). has_session session x.own) c.join.ensures.desk.1
+    ∙ (ap (λ (x : Sight). has_session session x.own) c.me.invariant.1
+    ∙ (ap (λ (s : ℕ). has_session s (c.me.inside.session ∷ [])) same ∙ has_self c.me.inside.session)))
+
+pub part-requires : goal.part-requires
+part-requires g c =
+    let v = cell_view c.self.inside.scribe in
+    let e = g.W.Noting.entry in
+    let j = c.join.ensures.desk in
+    let n = c.note_number.ensures in (
+      n.0 ∙ (j.0 ∙ (c.self.invariant.0 ∙ sym c.requires.cell)),
+      scribe_own (cell_view c.note_number.new.scribe) (v.list ++ e ∷ []) v.token v.seated (cell_view c.me.inside.seat).own (n.1 ∙ ap (λ (x : Sight). noted e x) j.1),
+    )
+
+pub part-requires-in-Err : goal.part-requires-in-Err
+part-requires-in-Err g c =
+    let v = cell_view c.self.inside.scribe in
+    let j = c.join.ensures.desk in
+    (j.0 ∙ (c.self.invariant.0 ∙ sym c.requires.cell), scribe_own (cell_view c.join.new.desk) v.list v.token v.seated (cell_view c.me.inside.seat).own j.1)
+
+pub invariant_of-me : goal.invariant_of-me
+invariant_of-me g c =
+    let j = c.join.ensures.desk in
+    let n = c.note_number.ensures in
+    let p = c.part.ensures.mine in (
+      p.0 ∙ (n.0 ∙ (j.0 ∙ c.self.invariant.0)),
+      caller_behind c.me.inside.session (cell_view c.self.inside.scribe) (cell_view c.join.new.desk) (cell_view c.note_number.new.scribe) (cell_view c.me.inside.seat) (cell_view c.part.result) c.me.invariant.1 j.1
+          (ap (λ (x : Sight). x.own) n.1) p.1,
+    )
+
+pub invariant_of-me-in-Err : goal.invariant_of-me-in-Err
+invariant_of-me-in-Err g c =
+    let j = c.join.ensures.desk in
+    let p = c.part-in-Err.ensures.mine in
+    (p.0 ∙ (j.0 ∙ c.self.invariant.0), caller_apart c.me.inside.session (cell_view c.self.inside.scribe) (cell_view c.join.new.desk) (cell_view c.me.inside.seat) (cell_view c.part-in-Err.result) c.me.invariant.1 j.1 p.1)
 
 pub invariant_of-self : goal.invariant_of-self
 invariant_of-self g c =
