@@ -12,6 +12,15 @@ use cat_threads::{Naming, Pass};
 use std::io::Write;
 use std::sync::{Mutex, Wait};
 
+/// The line that the bytes spell. None where they can't be read, or show no session.
+pub(crate) fn line_of(bytes: &[u8]) -> Option<Line<'_>> {
+    let text = text_of(bytes)?;
+    match Line::read(text) {
+        Ok(line) => Some(line),
+        Err(_) => None,
+    }
+}
+
 impl<'a, D: Directory + Shelf, J: Naming, R: Wait> Front<'a, D, J, R> {
     /// The sessions of the passes, without rights; fewer where memory is wanting.
     pub(crate) fn seated(&self, passes: Vec<Pass<J>>) -> Vec<Session<J>> {
@@ -42,10 +51,7 @@ impl<'a, D: Directory + Shelf, J: Naming, R: Wait> Front<'a, D, J, R> {
         line: &[u8],
         replies: &mut Replies<'_, W>,
     ) {
-        let Some(text) = text_of(line) else {
-            return replies.add(self.rt, Told::Unreadable);
-        };
-        let Ok(line) = Line::read(text) else {
+        let Some(line) = line_of(line) else {
             return replies.add(self.rt, Told::Unreadable);
         };
         let place = (line.session as usize).checked_div(apart).unwrap_or(0);

@@ -120,11 +120,11 @@ impl<'a, D: Directory + Shelf, J: Naming, R: Wait> Front<'a, D, J, R> {
             Command::Snapshot => self.told(Chore::Snap),
             Command::Unsnapshot(generation) => self.told(Chore::Unsnap(generation)),
             Command::Prune(count) => self.told(Chore::Prune(count)),
-            Command::Merge => self.maintain(me.session(), Chore::Merge),
-            Command::Force => self.maintain(me.session(), Chore::Force),
-            Command::Warm => self.maintain(me.session(), Chore::Warm),
-            Command::Sweep => self.maintain(me.session(), Chore::Sweep),
-            Command::Stat => self.maintain(me.session(), Chore::Stat),
+            Command::Merge => self.maintain(me, Chore::Merge),
+            Command::Force => self.maintain(me, Chore::Force),
+            Command::Warm => self.maintain(me, Chore::Warm),
+            Command::Sweep => self.maintain(me, Chore::Sweep),
+            Command::Stat => self.maintain(me, Chore::Stat),
         }
     }
 }

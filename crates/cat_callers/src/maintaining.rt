@@ -8,11 +8,11 @@ ghost use Rattle.cat_threads.specs.service.Chores.{said_by};
 ghost use Rattle.cat_callers.specs.Told.{ToldCommit, serves};
 
 use crate::front::Front;
-use cat_base::{Refusal, SessionNo, Text};
+use cat_base::{Refusal, Text};
 use cat_directory::{Directory, Shelf};
 use cat_threads::cat_commands::cat_ledger::cat_ledger_state::cat_commits::judge_commit_text;
 use cat_threads::cat_commands::cat_protocol::replies::Answer;
-use cat_threads::{Chore, Naming};
+use cat_threads::{Chore, Naming, Pass};
 use std::sync::Wait;
 
 impl<'a, D: Directory + Shelf, J: Naming, R: Wait> Front<'a, D, J, R> {
@@ -37,10 +37,11 @@ impl<'a, D: Directory + Shelf, J: Naming, R: Wait> Front<'a, D, J, R> {
     }
 
     /// Answers a MERGE, FORCE, WARM, SWEEP or STAT, which session 0 alone may ask for.
-    pub(crate) fn maintain(&self, session: SessionNo, chore: Chore) -> Result<Answer, Refusal>
-        ensures others { session ≢ 0 → reply_of result ≡ Err NoForm }
-        ensures mine { session ≡ 0 → serves D.bytes J.from (said_by chore) (reply_of result) }
+    pub(crate) fn maintain(&self, me: &Pass<J>, chore: Chore) -> Result<Answer, Refusal>
+        ensures others { me.now.session ≢ 0 → reply_of result ≡ Err NoForm }
+        ensures mine { me.now.session ≡ 0 → serves D.bytes J.from (said_by chore) (reply_of result) }
     {
+        let session = me.session();
         if session != 0 {
             return Err(Refusal::Line);
         }

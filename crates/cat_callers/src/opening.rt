@@ -8,11 +8,12 @@ ghost use Rattle.cat_threads.specs.sharing.Grounds.{ground_of};
 
 use crate::input::{Lines, Next};
 use crate::threads::{Fault, refuse};
-use cat_base::{Refusal, SessionNo};
+use cat_base::{Refusal, SessionNo, WriteNo};
 use cat_directory::{Directory, Shelf};
 use cat_items::Schema;
 use cat_threads::cat_commands::cat_ledger::upkeep::MergePolicy;
 use cat_threads::cat_commands::cat_protocol::lines::SchemaLine;
+use cat_threads::cat_commands::cat_protocol::sending::{flush, send_opened};
 use cat_threads::cat_commands::cat_protocol::serving::text_of;
 use cat_threads::{Begun, Naming, Pass, Service};
 use std::alloc::Global;
@@ -61,7 +62,7 @@ pub(crate) fn begin<D: Directory + Shelf + Drop>(
 }
 
 /// Reads the first line, and opens the directory by it. Where the line is refused, that is written.
-pub(crate) fn begin_by_first<D: Directory + Shelf + Drop, I: Read, W: Write>(
+fn open_by_first<D: Directory + Shelf + Drop, I: Read, W: Write>(
     alloc: Global,
     device: D,
     lines: &mut Lines,
@@ -77,6 +78,35 @@ pub(crate) fn begin_by_first<D: Directory + Shelf + Drop, I: Read, W: Write>(
     match begin(alloc, device, lines.line()) {
         Ok(opened) => Ok(opened),
         Err(refusal) => Err(refuse(refusal, writer)),
+    }
+}
+
+/// Writes the reply to a first line that opened.
+fn tell_opened<W: Write>(token: WriteNo, writer: &mut W) -> Result<(), Fault> {
+    if send_opened(token, writer).is_err() || flush(writer).is_err() {
+        Err(Fault::Write)
+    } else {
+        Ok(())
+    }
+}
+
+/// Reads the first line, opens the directory by it, and writes the reply.
+pub(crate) fn begin_by_first<D: Directory + Shelf + Drop, I: Read, W: Write>(
+    alloc: Global,
+    device: D,
+    lines: &mut Lines,
+    reader: &mut I,
+    writer: &mut W,
+) -> Result<(Begun<D>, Schema), Fault>
+    ensures { IfOk result (λ r. (shape_in r.0.ledger).schema ≡ r.1) }
+{
+    let opened = open_by_first(alloc, device, lines, reader, writer)?;
+    match tell_opened(opened.0.count(), writer) {
+        Ok(()) => Ok(opened),
+        Err(fault) => {
+            drop(opened);
+            Err(fault)
+        }
     }
 }
 

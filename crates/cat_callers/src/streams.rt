@@ -17,7 +17,6 @@ use crate::threads::{Fault, Resting, refuse};
 use cat_base::{LAST_SESSION, Refusal, SessionNo};
 use cat_directory::{Directory, Shelf};
 use cat_items::Schema;
-use cat_threads::cat_commands::cat_protocol::sending::{flush, send_opened};
 use cat_threads::running::{merger, warmer};
 use cat_threads::{Begun, Naming, Pass, Service};
 use std::alloc::{AllocError, Global};
@@ -26,7 +25,7 @@ use std::marker::Brand;
 use std::sync::atomic::{AtomicU64, Ordering};
 use std::sync::{Mutex, Wait};
 use std::thread;
-use std::thread::Threads;
+use std::thread::{Scope, Threads};
 use std::time::Clock;
 
 /// The numbers of all sessions, rising.
@@ -168,9 +167,154 @@ fn seat_for<S: Shelf + Drop, R: Wait>(
     alloc: Global,
     shelves: &mut Vec<S>,
 ) -> Option<(Sending, Taking, S)> {
-    let (sending, taking) = ends(rt, alloc).ok()?;
     let shelf = shelves.pop()?;
-    Some((sending, taking, shelf))
+    match ends(rt, alloc) {
+        Ok((sending, taking)) => Some((sending, taking, shelf)),
+        Err(AllocError) => None,
+    }
+}
+
+/// Starts a merger and a warmer, which go on until the flag isn't 0.
+fn start_workers<
+    's,
+    E: 's,
+    J: Naming + Send + Sync + 's,
+    D: Directory + Shelf + Drop + Send + 's,
+    R: Threads + Wait + Clock + Sync + 's,
+>(
+    scope: &Scope<'s, E>,
+    rt: &'s R,
+    service: &'s Service<D, J>,
+    flag: &'s AtomicU64,
+) -> Result<(), Fault> {
+    let job = move || merger(rt, service, flag, Resting::new(rt));
+    let Ok(_merger) = scope.spawn(job) else {
+        return Err(Fault::Thread);
+    };
+    let job = move || warmer(rt, service, flag, Resting::new(rt));
+    let Ok(_warmer) = scope.spawn(job) else {
+        return Err(Fault::Thread);
+    };
+    Ok(())
+}
+
+/// Starts a thread that answers the lines which come to it, for sessions that are so many numbers apart.
+fn start_answerer<
+    's,
+    'f: 's,
+    E: 's,
+    J: Naming + Send + Sync + 's,
+    D: Directory + Shelf + Drop + Send + 's,
+    S: Shelf + Drop + Send + 's,
+    R: Threads + Wait + Clock + Sync + 's,
+    W: Write + Drop + Send + 's,
+>(
+    scope: &Scope<'s, E>,
+    front: &'s Front<'f, D, J, R>,
+    heap: Vec<Pass<J>>,
+    apart: usize,
+    shelf: S,
+    taking: Taking,
+    output: &'s Mutex<Output<W>>,
+) -> Result<(), Fault> {
+    let job = move || answer_stream(front, heap, apart, shelf, taking, output);
+    match scope.spawn(job) {
+        Ok(_answerer) => Ok(()),
+        Err(_) => Err(Fault::Thread),
+    }
+}
+
+/// Starts a thread for the passes of a heap, which takes one of the shelves, and keeps where lines are left for it.
+fn start_one<
+    's,
+    'f: 's,
+    E: 's,
+    J: Naming + Send + Sync + 's,
+    D: Directory + Shelf + Drop + Send + 's,
+    S: Shelf + Drop + Send + 's,
+    R: Threads + Wait + Clock + Sync + 's,
+    W: Write + Drop + Send + 's,
+>(
+    scope: &Scope<'s, E>,
+    front: &'s Front<'f, D, J, R>,
+    heap: Vec<Pass<J>>,
+    apart: usize,
+    shelves: &mut Vec<S>,
+    sendings: &mut Vec<Sending>,
+    output: &'s Mutex<Output<W>>,
+) -> Result<(), Fault> {
+    let Some((sending, taking, shelf)) = seat_for(front.rt, front.alloc, shelves) else {
+        return Err(Fault::Thread);
+    };
+    start_answerer(scope, front, heap, apart, shelf, taking, output)?;
+    match sendings.push(sending) {
+        Ok(()) => Ok(()),
+        Err(_) => Err(Fault::Thread),
+    }
+}
+
+/// Starts a merger and a warmer, and a thread for each heap of passes, for which lines are left in the same order.
+fn start_all<
+    's,
+    'f: 's,
+    E: 's,
+    J: Naming + Send + Sync + 's,
+    D: Directory + Shelf + Drop + Send + 's,
+    S: Shelf + Drop + Send + 's,
+    R: Threads + Wait + Clock + Sync + 's,
+    W: Write + Drop + Send + 's,
+>(
+    scope: &Scope<'s, E>,
+    front: &'s Front<'f, D, J, R>,
+    flag: &'s AtomicU64,
+    heaps: Vec<Vec<Pass<J>>>,
+    shelves: &mut Vec<S>,
+    sendings: &mut Vec<Sending>,
+    output: &'s Mutex<Output<W>>,
+) -> Result<(), Fault> {
+    start_workers(scope, front.rt, front.service, flag)?;
+    let apart = heaps.len();
+    for heap in heaps {
+        start_one(scope, front, heap, apart, shelves, sendings, output)?;
+    }
+    Ok(())
+}
+
+/// Starts all threads, and hands the lines of the reader out to those that answer them.
+fn start_and_hand_out<
+    's,
+    'f: 's,
+    E: 's,
+    J: Naming + Send + Sync + 's,
+    D: Directory + Shelf + Drop + Send + 's,
+    S: Shelf + Drop + Send + 's,
+    R: Threads + Wait + Clock + Sync + 's,
+    I: Read,
+    W: Write + Drop + Send + 's,
+>(
+    scope: &Scope<'s, E>,
+    front: &'s Front<'f, D, J, R>,
+    flag: &'s AtomicU64,
+    heaps: Vec<Vec<Pass<J>>>,
+    shelves: Vec<S>,
+    lines: &mut Lines,
+    reader: &mut I,
+    output: &'s Mutex<Output<W>>,
+) -> Result<(), Fault> {
+    let mut shelves = shelves;
+    let mut sendings = Vec::new(front.alloc);
+    match start_all(
+        scope,
+        front,
+        flag,
+        heaps,
+        &mut shelves,
+        &mut sendings,
+        output,
+    ) {
+        Ok(()) => hand_out(front.rt, lines, reader, sendings.as_mut_slice(), output),
+        Err(fault) => Err(fault),
+    }
 }
 
 /// Starts a thread for each heap of passes, a merger and a warmer beside them, and hands out the lines.
@@ -190,38 +334,11 @@ fn run_stream<
     output: &Mutex<Output<W>>,
 ) -> Result<(), Fault> {
     let rt = front.rt;
-    let alloc = front.alloc;
     let ended = AtomicU64::new(0);
     let flag = &ended;
-    let apart = heaps.len();
     thread::scope(thread::scope_env(), rt, move |scope| -> Result<(), Fault> {
-        let job = move || merger(rt, front.service, flag, Resting::new(rt));
-        let Ok(_merger) = scope.spawn(job) else {
-            return Err(Fault::Thread);
-        };
-        let job = move || warmer(rt, front.service, flag, Resting::new(rt));
-        let Ok(_warmer) = scope.spawn(job) else {
-            flag.store(1, Ordering::SeqCst);
-            return Err(Fault::Thread);
-        };
-        let mut shelves = shelves;
-        let mut sendings = Vec::new(alloc);
-        for heap in heaps {
-            let Some((sending, taking, shelf)) = seat_for(rt, alloc, &mut shelves) else {
-                flag.store(1, Ordering::SeqCst);
-                return Err(Fault::Thread);
-            };
-            let job = move || answer_stream(front, heap, apart, shelf, taking, output);
-            let Ok(_answerer) = scope.spawn(job) else {
-                flag.store(1, Ordering::SeqCst);
-                return Err(Fault::Thread);
-            };
-            let Ok(()) = sendings.push(sending) else {
-                flag.store(1, Ordering::SeqCst);
-                return Err(Fault::Thread);
-            };
-        }
-        let handed = hand_out(rt, lines, reader, sendings.as_mut_slice(), output);
+        let handed = start_and_hand_out(scope, front, flag, heaps, shelves, lines, reader, output);
+        // Whatever came of it, the merger and the warmer end now.
         flag.store(1, Ordering::SeqCst);
         handed
     })
@@ -240,7 +357,10 @@ fn service_and_heaps<D: Directory + Shelf + Drop, J: Naming>(
     let (service, passes) = service_of::<D, J>(alloc, begun, numbers)?;
     match dealt(alloc, passes, heaps) {
         Ok(heaps) => Some((service, heaps)),
-        Err(AllocError) => None,
+        Err(AllocError) => {
+            drop(service);
+            None
+        }
     }
 }
 
@@ -272,8 +392,109 @@ fn serve_opened<
     else {
         return Err(Fault::Thread);
     };
-    let front = Front::new(rt, alloc, &service, schema, asked);
-    run_stream(&front, heaps, shelves, lines, reader, output)
+    let run = run_stream(
+        &Front::new(rt, alloc, &service, schema, asked),
+        heaps,
+        shelves,
+        lines,
+        reader,
+        output,
+    );
+    drop(service);
+    run
+}
+
+/// Runs a service over what was opened, over the stream.
+fn serve_begun<
+    D: Directory + Shelf + Drop + Send,
+    S: Shelf + Drop + Send,
+    R: Threads + Wait + Clock + Sync,
+    I: Read,
+    W: Write + Drop + Send,
+>(
+    rt: &R,
+    alloc: Global,
+    begun: Begun<D>,
+    schema: &Schema,
+    shelves: Vec<S>,
+    stream: &mut Stream,
+    reader: &mut I,
+    output: &Mutex<Output<W>>,
+) -> Result<(), Fault>
+    requires fields { (shape_in begun.ledger).schema ≡ schema.now }
+{
+    serve_opened::<Brand, D, S, R, I, W>(
+        rt,
+        alloc,
+        begun,
+        schema,
+        &stream.asked,
+        stream.numbers.as_slice(),
+        shelves,
+        &mut stream.lines,
+        reader,
+        output,
+    )
+}
+
+/// What came of a stream that was served so: where it came to its end, a write may have failed.
+fn outcome_of<W: Write + Drop>(
+    served: Result<(), Fault>,
+    output: Mutex<Output<W>>,
+) -> Result<(), Fault> {
+    if output.into_inner().has_failed() && served.is_ok() {
+        return Err(Fault::Write);
+    }
+    served
+}
+
+/// Answers the lines behind the first, once that has opened the directory.
+fn serve_lines<
+    D: Directory + Shelf + Drop + Send,
+    S: Shelf + Drop + Send,
+    R: Threads + Wait + Clock + Sync,
+    I: Read,
+    W: Write + Drop + Send,
+>(
+    rt: &R,
+    alloc: Global,
+    begun: Begun<D>,
+    schema: &Schema,
+    shelves: Vec<S>,
+    stream: &mut Stream,
+    reader: &mut I,
+    writer: W,
+) -> Result<(), Fault>
+    requires fields { (shape_in begun.ledger).schema ≡ schema.now }
+{
+    let output = Mutex::new(Output::new(writer));
+    let served = serve_begun(rt, alloc, begun, schema, shelves, stream, reader, &output);
+    outcome_of(served, output)
+}
+
+/// Answers all lines, in the memory that was taken for them.
+fn serve_in<
+    D: Directory + Shelf + Drop + Send,
+    S: Shelf + Drop + Send,
+    R: Threads + Wait + Clock + Sync,
+    I: Read,
+    W: Write + Drop + Send,
+>(
+    rt: &R,
+    alloc: Global,
+    device: D,
+    shelves: Vec<S>,
+    stream: &mut Stream,
+    reader: &mut I,
+    writer: W,
+) -> Result<(), Fault> {
+    let mut writer = writer;
+    match begin_by_first(alloc, device, &mut stream.lines, reader, &mut writer) {
+        Ok((begun, schema)) => serve_lines(
+            rt, alloc, begun, &schema, shelves, stream, reader, writer,
+        ),
+        Err(fault) => Err(fault),
+    }
 }
 
 /// Answers each line of the reader as it comes: the first opens the newest commit of the directory, or an empty catalogue where
@@ -297,29 +518,11 @@ pub fn serve_stream<
     writer: W,
 ) -> Result<(), Fault> {
     let mut writer = writer;
-    let Ok(mut taken) = Stream::new(alloc) else {
-        return Err(refuse(Refusal::Memory, &mut writer));
-    };
-    let stream = &mut taken;
-    let (begun, schema) = begin_by_first(alloc, device, &mut stream.lines, reader, &mut writer)?;
-    if send_opened(begun.count(), &mut writer).is_err() || flush(&mut writer).is_err() {
-        return Err(Fault::Write);
+    match Stream::new(alloc) {
+        Ok(stream) => {
+            let mut stream = stream;
+            serve_in(rt, alloc, device, shelves, &mut stream, reader, writer)
+        }
+        Err(AllocError) => Err(refuse(Refusal::Memory, &mut writer)),
     }
-    let output = Mutex::new(Output::new(writer));
-    serve_opened::<Brand, D, S, R, I, W>(
-        rt,
-        alloc,
-        begun,
-        &schema,
-        &stream.asked,
-        stream.numbers.as_slice(),
-        shelves,
-        &mut stream.lines,
-        reader,
-        &output,
-    )?;
-    if output.into_inner().has_failed() {
-        return Err(Fault::Write);
-    }
-    Ok(())
 }

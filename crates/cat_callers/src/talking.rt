@@ -3,15 +3,15 @@ ghost use Rattle.std.specs.Prelude.{◌≡◌};
 ghost use Rattle.cat_threads.specs.service.Passes.{Follows};
 ghost use Rattle.cat_callers.specs.Sessions.{AreRightsTo};
 
+use crate::answerers::line_of;
 use crate::asked::Asked;
 use crate::front::Front;
 use crate::holdings::Holdings;
 use cat_directory::{Directory, Shelf};
 use cat_items::Schema;
-use cat_threads::cat_commands::cat_protocol::lines::Line;
 use cat_threads::cat_commands::cat_protocol::replies::{Reply, send_reply};
 use cat_threads::cat_commands::cat_protocol::sending::{WriteFault, send_unreadable};
-use cat_threads::cat_commands::cat_protocol::serving::{split_line, text_of};
+use cat_threads::cat_commands::cat_protocol::serving::split_line;
 use cat_threads::running::Caller;
 use cat_threads::{Naming, Pass, Service};
 use std::alloc::Global;
@@ -79,15 +79,14 @@ impl<'a, D: Directory + Shelf, J: Naming, R: Wait> Front<'a, D, J, R> {
         ensures rights { AreRightsTo J.from me.new holdings.new.rights }
         ensures seen { Follows me.old me.new }
     {
-        let Some(text) = text_of(line) else {
-            return send_unreadable(to);
-        };
-        let Ok(line) = Line::read(text) else {
-            return send_unreadable(to);
-        };
-        let answer = self.tell(me, holdings, shelf, line.command);
-        let session = line.session;
-        send_reply(&Reply { session, answer }, to)
+        match line_of(line) {
+            Some(line) => {
+                let answer = self.tell(me, holdings, shelf, line.command);
+                let session = line.session;
+                send_reply(&Reply { session, answer }, to)
+            }
+            None => send_unreadable(to),
+        }
     }
 
     /// Answers all lines of the session, one behind another.

@@ -10,11 +10,11 @@ use crate::input::Lines;
 use crate::numbers::rise;
 use crate::opening::{begin_by_first, service_of};
 use crate::talking::{Talk, Told};
-use cat_base::{Refusal, SessionNo, WriteNo};
+use cat_base::{Refusal, SessionNo};
 use cat_directory::{Directory, Shelf};
 use cat_items::Schema;
 use cat_threads::cat_commands::cat_protocol::sending::{
-    WriteFault, flush, send, send_number, send_opened, send_refused, send_unreadable,
+    WriteFault, flush, send, send_number, send_refused, send_unreadable,
 };
 use cat_threads::running::{Gate, run_threads};
 use cat_threads::{Begun, Naming, Pass, Service};
@@ -39,6 +39,9 @@ pub enum Fault {
     Write,
 }
 
+/// How many milliseconds a worker rests that found nothing to do. Each look takes the lock, which callers wait for.
+const REST: u64 = 10;
+
 /// The gate of a worker that rests where there was nothing to do.
 #[derive(Drop)]
 pub(crate) struct Resting<'a, R> {
@@ -55,7 +58,7 @@ impl<'a, R> Resting<'a, R> {
 impl<'a, R: Clock> Gate for Resting<'a, R> {
     fn go_on(&mut self) -> bool {
         if self.is_idle {
-            thread::sleep(self.rt, Duration::from_millis(1));
+            thread::sleep(self.rt, Duration::from_millis(REST));
         }
         self.is_idle = false;
         true
@@ -77,6 +80,21 @@ fn running_numbers(alloc: Global, spoken: &[Spoken]) -> Result<Vec<SessionNo>, A
         }
     }
     Ok(numbers)
+}
+
+/// The numbers of the sessions that run, each of which stands there once.
+fn different_numbers(alloc: Global, spoken: &[Spoken]) -> Result<Vec<SessionNo>, Fault>
+    ensures { IfOk result (λ n. all_different n.items ≡ true) }
+{
+    let Ok(numbers) = running_numbers(alloc, spoken) else {
+        return Err(Fault::Thread);
+    };
+    // They were sorted, and each session was heard once.
+    if rise(numbers.as_slice()) {
+        Ok(numbers)
+    } else {
+        Err(Fault::Thread)
+    }
 }
 
 /// Nothing is told yet, to as many sessions.
@@ -103,41 +121,76 @@ impl Seats {
     fn of(alloc: Global, spoken: &[Spoken]) -> Result<Seats, Fault>
         ensures { IfOk result (λ s. all_different s.numbers.items ≡ true) }
     {
-        let Ok(numbers) = running_numbers(alloc, spoken) else {
-            return Err(Fault::Thread);
-        };
-        let Ok(told) = nothing_told(alloc, spoken.len()) else {
-            return Err(Fault::Thread);
-        };
-        // They were sorted, and each session was heard once.
-        if !rise(numbers.as_slice()) {
-            return Err(Fault::Thread);
+        let numbers = different_numbers(alloc, spoken)?;
+        match nothing_told(alloc, spoken.len()) {
+            Ok(told) => Ok(Seats { numbers, told }),
+            Err(AllocError) => Err(Fault::Thread),
         }
-        Ok(Seats { numbers, told })
     }
 }
 
-/// What is heard once the reply to the first line has gone out: all lines, and the seats of those who say them.
-fn hear<I: Read, W: Write>(
-    alloc: Global,
-    opened: WriteNo,
-    lines: &mut Lines,
-    reader: &mut I,
-    writer: &mut W,
-) -> Result<(Heard, Seats), Fault>
+/// What is heard behind the first line: all lines, and the seats of those who say them.
+fn hear<I: Read>(alloc: Global, lines: &mut Lines, reader: &mut I) -> Result<(Heard, Seats), Fault>
     ensures { IfOk result (λ r. all_different r.1.numbers.items ≡ true) }
 {
-    if send_opened(opened, writer).is_err() || flush(writer).is_err() {
-        return Err(Fault::Write);
-    }
     let Some(heard) = hear_all(alloc, lines, reader) else {
         return Err(Fault::Read);
     };
-    let seats = Seats::of(alloc, heard.spoken.as_slice())?;
-    Ok((heard, seats))
+    match Seats::of(alloc, heard.spoken.as_slice()) {
+        Ok(seats) => Ok((heard, seats)),
+        Err(fault) => Err(fault),
+    }
 }
 
-/// What the sessions of the passes say, each with a shelf and with where it is told. Fewer where there are too few of these.
+/// Seats the session of the pass, with what it says, one of the shelves and where it is told. No, where one of these is wanting.
+fn seat<'a, J: Naming, S: Shelf + Drop>(
+    alloc: Global,
+    schema: &'a Schema,
+    asked: &'a Asked,
+    pass: Pass<J>,
+    spoken: &'a Spoken,
+    told: &'a Mutex<Told>,
+    shelves: &mut Vec<S>,
+    sessions: &mut Vec<(Pass<J>, Talk<'a, J, S>)>,
+) -> bool
+    requires { schema.now ≡ J.from.start.schema }
+{
+    let Some(shelf) = shelves.pop() else {
+        return false;
+    };
+    let talk = Talk::new(alloc, schema, asked, spoken.lines.as_slice(), shelf, told);
+    match sessions.push((pass, talk)) {
+        Ok(()) => true,
+        Err(_) => false,
+    }
+}
+
+/// Seats the sessions of the passes, as they stand. No, where a seat or memory is wanting.
+fn seat_all<'a, J: Naming, S: Shelf + Drop>(
+    alloc: Global,
+    schema: &'a Schema,
+    asked: &'a Asked,
+    passes: Vec<Pass<J>>,
+    spoken: &'a [Spoken],
+    told: &'a [Mutex<Told>],
+    shelves: &mut Vec<S>,
+    sessions: &mut Vec<(Pass<J>, Talk<'a, J, S>)>,
+) -> bool
+    requires { schema.now ≡ J.from.start.schema }
+{
+    let mut seats = spoken.iter().zip(told.iter()).filter(|seat| seat.0.runs);
+    for pass in passes {
+        let Some((spoken, told)) = seats.next() else {
+            return false;
+        };
+        if !seat(alloc, schema, asked, pass, spoken, told, shelves, sessions) {
+            return false;
+        }
+    }
+    true
+}
+
+/// What the sessions of the passes say, each with a shelf and with where it is told. None where there are too few of these.
 fn seated<'a, J: Naming, S: Shelf + Drop>(
     alloc: Global,
     schema: &'a Schema,
@@ -151,14 +204,20 @@ fn seated<'a, J: Naming, S: Shelf + Drop>(
 {
     let mut shelves = shelves;
     let mut sessions = Vec::new(alloc);
-    let mut seats = spoken.iter().zip(told.iter()).filter(|seat| seat.0.runs);
-    for pass in passes {
-        let (spoken, told) = seats.next()?;
-        let shelf = shelves.pop()?;
-        let talk = Talk::new(alloc, schema, asked, spoken.lines.as_slice(), shelf, told);
-        sessions.push((pass, talk)).ok()?;
+    if seat_all(
+        alloc,
+        schema,
+        asked,
+        passes,
+        spoken,
+        told,
+        &mut shelves,
+        &mut sessions,
+    ) {
+        Some(sessions)
+    } else {
+        None
     }
-    Some(sessions)
 }
 
 /// Runs the sessions of the passes over the service.
@@ -215,13 +274,42 @@ fn run_sessions<
     let Some((service, passes)) = service_of::<D, J>(alloc, begun, numbers) else {
         return Err(Fault::Thread);
     };
-    run_seated(rt, alloc, &service, passes, schema, spoken, shelves, told)
+    let run = run_seated(rt, alloc, &service, passes, schema, spoken, shelves, told);
+    drop(service);
+    run
+}
+
+/// Writes what a session that ran was told.
+fn send_whole<W: Write>(told: &Told, to: &mut W) -> Result<(), WriteFault> {
+    send(told.text.as_slice(), to)?;
+    if told.whole { Ok(()) } else { Err(WriteFault) }
+}
+
+/// Writes that a session which didn't run has no command, for each of its lines.
+fn send_no_command<W: Write>(spoken: &Spoken, to: &mut W) -> Result<(), WriteFault> {
+    for _ in 0..spoken.count {
+        send_number(spoken.number as u64, b" NO 10\n", to)?;
+    }
+    Ok(())
+}
+
+/// Writes what a session was told.
+fn send_one<W: Write>(
+    spoken: &Spoken,
+    told: &mut Mutex<Told>,
+    to: &mut W,
+) -> Result<(), WriteFault> {
+    if spoken.runs {
+        send_whole(told.get_mut(), to)
+    } else {
+        send_no_command(spoken, to)
+    }
 }
 
 /// Writes what each session was told, and that those which didn't run have no command.
 fn send_told<W: Write>(
     spoken: &[Spoken],
-    told: Vec<Mutex<Told>>,
+    told: &mut [Mutex<Told>],
     to: &mut W,
 ) -> Result<(), WriteFault> {
     let mut seats = spoken.iter();
@@ -229,17 +317,7 @@ fn send_told<W: Write>(
         let Some(spoken) = seats.next() else {
             return Ok(());
         };
-        if spoken.runs {
-            let told = told.into_inner();
-            send(told.text.as_slice(), to)?;
-            if !told.whole {
-                return Err(WriteFault);
-            }
-        } else {
-            for _ in 0..spoken.count {
-                send_number(spoken.number as u64, b" NO 10\n", to)?;
-            }
-        }
+        send_one(spoken, told, to)?;
     }
     Ok(())
 }
@@ -247,7 +325,7 @@ fn send_told<W: Write>(
 /// Writes the replies: to the lines that can't be read, and then each session's, by rising number.
 fn send_replies<W: Write>(
     heard: &Heard,
-    told: Vec<Mutex<Told>>,
+    told: &mut [Mutex<Told>],
     to: &mut W,
 ) -> Result<(), WriteFault> {
     for _ in 0..heard.unreadable {
@@ -258,7 +336,7 @@ fn send_replies<W: Write>(
 }
 
 /// Writes the replies, and says whether that failed.
-fn tell_all<W: Write>(heard: &Heard, told: Vec<Mutex<Told>>, to: &mut W) -> Result<(), Fault> {
+fn tell_all<W: Write>(heard: &Heard, told: &mut [Mutex<Told>], to: &mut W) -> Result<(), Fault> {
     match send_replies(heard, told, to) {
         Ok(()) => Ok(()),
         Err(WriteFault) => Err(Fault::Write),
@@ -294,6 +372,29 @@ fn run_heard<
     )
 }
 
+/// Runs the sessions whose lines were heard, and writes what they are told.
+fn run_and_tell<
+    D: Directory + Shelf + Drop + Send,
+    S: Shelf + Drop + Send,
+    R: Threads + Wait + Clock + Sync,
+    W: Write,
+>(
+    rt: &R,
+    alloc: Global,
+    begun: Begun<D>,
+    schema: &Schema,
+    heard: &Heard,
+    seats: &mut Seats,
+    shelves: Vec<S>,
+    writer: &mut W,
+) -> Result<(), Fault>
+    requires fields { (shape_in begun.ledger).schema ≡ schema.now }
+    requires different { all_different seats.old.numbers.items ≡ true }
+{
+    run_heard(rt, alloc, begun, schema, heard, seats, shelves)?;
+    tell_all(heard, seats.told.as_mut_slice(), writer)
+}
+
 /// Hears the lines behind the first, runs all sessions, and writes what they are told.
 fn answer_all<
     D: Directory + Shelf + Drop + Send,
@@ -313,9 +414,18 @@ fn answer_all<
 ) -> Result<(), Fault>
     requires fields { (shape_in begun.ledger).schema ≡ schema.now }
 {
-    let (heard, seats) = hear(alloc, begun.count(), lines, reader, writer)?;
-    run_heard(rt, alloc, begun, schema, &heard, &seats, shelves)?;
-    tell_all(&heard, seats.told, writer)
+    match hear(alloc, lines, reader) {
+        Ok((heard, seats)) => {
+            let mut seats = seats;
+            run_and_tell(
+                rt, alloc, begun, schema, &heard, &mut seats, shelves, writer,
+            )
+        }
+        Err(fault) => {
+            drop(begun);
+            Err(fault)
+        }
+    }
 }
 
 /// Says why nothing is opened.
@@ -324,6 +434,30 @@ pub(crate) fn refuse<W: Write>(refusal: Refusal, to: &mut W) -> Fault {
         Fault::Write
     } else {
         Fault::Schema
+    }
+}
+
+/// Answers all lines, in the memory that was taken for them.
+fn serve_lines<
+    D: Directory + Shelf + Drop + Send,
+    S: Shelf + Drop + Send,
+    R: Threads + Wait + Clock + Sync,
+    I: Read,
+    W: Write,
+>(
+    rt: &R,
+    alloc: Global,
+    device: D,
+    shelves: Vec<S>,
+    lines: &mut Lines,
+    reader: &mut I,
+    writer: &mut W,
+) -> Result<(), Fault> {
+    match begin_by_first(alloc, device, lines, reader, writer) {
+        Ok((begun, schema)) => answer_all(
+            rt, alloc, begun, &schema, shelves, lines, reader, writer,
+        ),
+        Err(fault) => Err(fault),
     }
 }
 
@@ -348,11 +482,11 @@ pub fn serve_threads<
     reader: &mut I,
     writer: &mut W,
 ) -> Result<(), Fault> {
-    let Ok(mut lines) = Lines::new(alloc) else {
-        return Err(refuse(Refusal::Memory, writer));
-    };
-    let (begun, schema) = begin_by_first(alloc, device, &mut lines, reader, writer)?;
-    answer_all(
-        rt, alloc, begun, &schema, shelves, &mut lines, reader, writer,
-    )
+    match Lines::new(alloc) {
+        Ok(lines) => {
+            let mut lines = lines;
+            serve_lines(rt, alloc, device, shelves, &mut lines, reader, writer)
+        }
+        Err(AllocError) => Err(refuse(Refusal::Memory, writer)),
+    }
 }

@@ -1,26 +1,28 @@
 use denote.Param.Send.{sendable}
 use Rattle.std.proofs.Crossing.{crosses}
-use Rattle.cat_items.proofs.schema.Schema.TheSendSync as schema
-use Rattle.cat_threads.proofs.service.ServiceCrosses.{service_sync, pass_send}
-use Rattle.cat_callers.proofs.Crossings.{taking_send}
 use Rattle.cat_callers.proofs.streams.fn.run_stream.scope.Goals as goal
 
--- What is sent lends the front, and so the service, which a search doesn't go down through by itself. The bounds of the types are named:
--- which may be sent, then name and handle, which may be shared.
-pub spawn-requires-send-F : goal.spawn-requires-send-F
-spawn-requires-send-F g c κs within =
+-- A search doesn't go down to the bounds of the types, of which there are many, so each is named.
+pub start_and_hand_out-handed-requires-send-J : goal.start_and_hand_out-handed-requires-send-J
+start_and_hand_out-handed-requires-send-J g c κs within =
     let bounds = c.requires.1.1.1.1.1.1 in
-    let j = bounds.0 in let d = bounds.1 in let y = bounds.4 in let r = bounds.5 in
-    search (sendable, crosses, service_sync, schema.the_sync) depth 40
+    let sent = bounds.0 in
+    search (sendable, crosses) depth 40
 
-pub spawn-requires-2-send-F : goal.spawn-requires-2-send-F
-spawn-requires-2-send-F g c κs within =
+pub start_and_hand_out-handed-requires-send-D : goal.start_and_hand_out-handed-requires-send-D
+start_and_hand_out-handed-requires-send-D g c κs within =
     let bounds = c.requires.1.1.1.1.1.1 in
-    let j = bounds.0 in let d = bounds.1 in let y = bounds.4 in let r = bounds.5 in
-    search (sendable, crosses, service_sync, schema.the_sync) depth 40
+    let sent = bounds.1 in
+    search (sendable, crosses) depth 40
 
-pub spawn-requires-in-loop-heap-send-F : goal.spawn-requires-in-loop-heap-send-F
-spawn-requires-in-loop-heap-send-F g c κs within =
+pub start_and_hand_out-handed-requires-send-S : goal.start_and_hand_out-handed-requires-send-S
+start_and_hand_out-handed-requires-send-S g c κs within =
     let bounds = c.requires.1.1.1.1.1.1 in
-    let j = bounds.0 in let d = bounds.1 in let s = bounds.2 in let w = bounds.3 in let y = bounds.4 in let r = bounds.5 in
-    search (sendable, crosses, service_sync, schema.the_sync, pass_send, taking_send) depth 40
+    let sent = bounds.2 in
+    search (sendable, crosses) depth 40
+
+pub start_and_hand_out-handed-requires-send-W : goal.start_and_hand_out-handed-requires-send-W
+start_and_hand_out-handed-requires-send-W g c κs within =
+    let bounds = c.requires.1.1.1.1.1.1 in
+    let sent = bounds.3 in
+    search (sendable, crosses) depth 40
