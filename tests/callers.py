@@ -12,13 +12,15 @@ twice:
   that asks for upkeep, or for the files that are left of it, and isn't refused.
 
 Threads make no set of rows for a query that is asked for the first time. So of a day that asks for sets, the first doesn't
-compare what WARM and STAT tell. The last line is `N passed, M failed`: a day counts twice.
+compare what WARM and STAT tell. That sets come for queries that are asked again, 64 at most, and that pages are the same with them and
+without, is tried apart. The last line is `N passed, M failed`: a day counts twice.
 """
 
 import re
 import subprocess
 import sys
 import tempfile
+import time
 from concurrent.futures import ThreadPoolExecutor
 from pathlib import Path
 
@@ -105,6 +107,47 @@ def is_told_in_turn(program, what, lines, wanted):
     return other is None
 
 
+def sets_of(child):
+    """How many sets of rows there are."""
+    return int(child.ask("0 STAT").split()[5])
+
+
+def has_page(child, number):
+    """Whether the page of the query of this number is right: the one item has the first number's word."""
+    return child.ask(f"1 FIND 1 9 . . title:w{number}") == ("OK 1 1\n1 a ." if number == 1 else "OK 0 0")
+
+
+def gets_set(child, number):
+    """Whether the query is answered alike until a set is made for it, of which there are 64 at most."""
+    for _ in range(TRIES):
+        if not has_page(child, number):
+            return False
+        if sets_of(child) == min(number, 64):
+            return True
+        time.sleep(0.001)
+    return False
+
+
+def are_sets_made(program, threads):
+    """Whether threads make sets for the queries that they are asked again, and answer alike by them, and once their segment is gone."""
+    child = Child(program, "run", "--threads", threads)
+    try:
+        opened = [child.ask(it) for it in ('SCHEMA 2 1 {"title":"text"}', '1 PUT {"id":"a","title":"w1"}', "1 REFRESH", "1 OPEN")]
+        kept = opened == ["OK 0", "OK 1", "OK 1", "OK 1"] and all(gets_set(child, number) for number in range(1, 67))
+        # The first query's set is made anew while its segment goes.
+        kept = kept and all(has_page(child, 1) for _ in range(TRIES)) and child.ask("1 DEL a") == "OK 2"
+        kept = kept and child.ask("0 FORCE").startswith("OK ") and all(has_page(child, 1) for _ in range(TRIES)) and sets_of(child) <= 64
+        kept = kept and child.end() == "status 0"
+    except Broken as broken:
+        print(f"callers: {broken}")
+        kept = False
+    finally:
+        child.kill()
+    if not kept:
+        print(f"callers: sets for queries that are asked again FAILED on {threads} threads")
+    return kept
+
+
 def main():
     if len(sys.argv) != 2:
         print(__doc__, file=sys.stderr)
@@ -116,6 +159,7 @@ def main():
     with ThreadPoolExecutor(LANES) as lanes:
         kept = list(lanes.map(lambda it: is_told_at_once(program, *it), found))
         kept += lanes.map(lambda it: is_told_in_turn(program, *it), found)
+    kept += [are_sets_made(program, threads) for threads in ("1", "3")]
     print(f"{sum(kept)} passed, {len(kept) - sum(kept) + (not found)} failed")
     return 0 if kept and all(kept) else 1
 

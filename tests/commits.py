@@ -203,6 +203,21 @@ def names_tell_the_newest_commit_and_the_next_numbers(try_):
     expect("behind the last numbers", told, ["OK 0", f"1 OK {LAST}", "1 NO 16", "1 OK 1", "1 NO 16"])
 
 
+def the_last_numbers_are_given_out(try_):
+    """The two last numbers are those of segments, and the last one is a commit's. Behind them there is none."""
+    before = LAST - 1
+    folder = try_.folder({f"segments_{before}": commit(before, 0, before, (), fields=PRICE)})
+    lines = ["1 SNAP", put("a", 1), "1 REFRESH", "0 MERGE", "0 FORCE", put("b", 1), "1 REFRESH", "0 MERGE", "0 FORCE", "0 STAT"]
+    told = [f"1 OK {before}", "1 OK 1", "1 OK 1", "0 OK idle", "0 OK idle", "1 OK 2", "1 OK 2", "0 NO 16", "0 NO 16"]
+    told += ["0 OK 2 0 2 3 0 0", f"0 {before} 1 1", f"0 {LAST} 1 1"]
+    lines += ["1 REFRESH", "1 COMMIT last", "1 COMMIT none", f"1 NOTE {LAST}", f"1 FILES g {LAST}"]
+    names = [f"1 _{before}.seg", f"1 _{before}.sto", f"1 _{LAST}.seg", f"1 _{LAST}.sto", f"1 segments_{LAST}"]
+    told += ["1 OK 2", f"1 OK {LAST}", "1 NO 16", "1 OK =last", "1 OK 5", *names]
+    lines += [put("c", 1), "1 REFRESH", "0 STAT"]
+    told += ["1 OK 3", "1 NO 16", "0 OK 3 1 2 3 0 0", f"0 {before} 1 1", f"0 {LAST} 1 1"]
+    expect("the last numbers", try_.replies(folder, lines, '{"price":"number"}'), ["OK 0", *told])
+
+
 # Damage.
 
 # Each file of the commit, with what is found where it has no bytes.
@@ -540,11 +555,62 @@ def a_commit_has_65535_snapshots_at_most(try_):
     expect("snapshots", told, ["1 OK 1", *["1 OK 1"] * most, "1 NO 16", "1 OK 2", "1 OK 2", f"1 OK {most - 1}"])
 
 
+# Items under the writes 1 to 6, in segments of one, two and three, of which the last two are deleted.
+PRICED = ('{"id":"a","price":7}', '{"id":"b"}', '{"id":"c","price":7}', '{"id":"d","price":2}', '{"id":"e","price":3}', '{"id":"f","price":7}')
+PRICED_SCHEMA = '{"brand":"keyword","color":"facet","price":"number","title":"text"}'
+
+
+def priced(try_):
+    """A folder that has them in a commit of three segments."""
+    folder = try_.folder()
+    a, b, c, *rest = (f"1 PUT {it}" for it in PRICED)
+    told = try_.replies(folder, [a, "1 REFRESH", b, c, "1 REFRESH", *rest, "1 REFRESH", "1 DEL e", "1 DEL f", "1 COMMIT"], PRICED_SCHEMA)
+    expect("the commit", told[-1], "1 OK 1")
+    expect("the texts", [(folder / f"_{it}.sto").read_text() for it in (1, 2, 3)], [PRICED[0], "".join(PRICED[1:3]), "".join(PRICED[3:])])
+    return folder
+
+
+def texts_of_live_ids_are_given_and_cut_ones_are_damaged(try_):
+    folder = priced(try_)
+    child = Child(try_.program, "run", str(folder))
+    try:
+        told = child.say([f"SCHEMA 2 1 {PRICED_SCHEMA}", "1 OPEN", "1 FILES t 8"])
+        names = [f"_{number}.{end}" for number in (1, 2, 3) for end in ("seg", "sto")]
+        expect("what a view needs", told, ["OK 8", "OK 8", "\n".join(["OK 6", *names])])
+        # The file of `a` is gone; the row of `e` is dead, and no row has `g`.
+        (folder / "_1.sto").unlink()
+        told = child.say([f"1 GET 8 {id}" for id in ("c", "d", "e", "g", "a")])
+        expect("the texts", told, [f"OK {PRICED[2]}", f"OK {PRICED[3]}", "OK .", "OK .", "NO 31"])
+        (folder / "_2.sto").write_text(PRICED[1] + PRICED[2][:-1])
+        expect("a text that is cut short", child.say(["1 GET 8 c"]), ["NO 31"])
+        expect("the end", child.end(), "status 0")
+    finally:
+        child.kill()
+
+
+# Texts as long as that of `c`, with a line feed first, last, and between: no reader of replies may take their lines for replies.
+BROKEN = ('\n"id":"c","price":7}', '{"id":"c","price":7\n', '{"id":"c"}\n1 OK 9999')
+
+
+def a_text_with_a_line_feed_is_damaged(try_):
+    folder = priced(try_)
+    for text in BROKEN:
+        expect(f"how long {text!r} is", len(text), len(PRICED[2]))
+        (folder / "_2.sto").write_text(PRICED[1] + text)
+        told = try_.replies(folder, ["1 OPEN", "1 GET 8 c", "1 GET 8 b"], PRICED_SCHEMA)
+        expect(f"with {text!r}", told[2:], ["1 NO 31", f"1 OK {PRICED[1]}"])
+    # A line feed in another text is nobody's trouble but of who reads that one.
+    (folder / "_2.sto").write_text('{"id":"b"\n' + PRICED[2])
+    told = try_.replies(folder, ["1 OPEN", "1 GET 8 c", "1 GET 8 b"], PRICED_SCHEMA)
+    expect("behind a text with a line feed", told[2:], [f"1 OK {PRICED[2]}", "1 NO 31"])
+
+
 TESTS = (
     a_whole_commit_is_read,
     what_fits_is_read,
     another_schema_is_told_before_a_segment_is_read,
     names_tell_the_newest_commit_and_the_next_numbers,
+    the_last_numbers_are_given_out,
     each_file_is_missed,
     each_rule_has_its_words,
     a_spoilt_byte_is_found,
@@ -559,6 +625,8 @@ TESTS = (
     a_thousand_segments_keep_their_files,
     snapshots_are_counted_and_their_commits_kept,
     a_commit_has_65535_snapshots_at_most,
+    texts_of_live_ids_are_given_and_cut_ones_are_damaged,
+    a_text_with_a_line_feed_is_damaged,
 )
 
 

@@ -10,6 +10,7 @@ import shlex
 from dataclasses import dataclass, field
 from pathlib import Path
 
+import counted
 import pages
 
 FOLDER = Path(__file__).resolve().parent / "days"
@@ -236,7 +237,8 @@ def days():
     """Every day, in the order of the files."""
     found = []
     files = sorted(FOLDER.glob("*"))
-    texts = [(it.name, it.read_bytes()) for it in files if it.suffix == ".txt"] + [("pages.py", pages.text().encode())]
+    texts = [(it.name, it.read_bytes()) for it in files if it.suffix == ".txt"]
+    texts += [(f"{it.__name__}.py", it.text().encode()) for it in (counted, pages)]
     others = [it.name for it in files if it.suffix != ".txt" and it.name != "README.md"]
     if others:
         raise Unreadable(f"tests/days has files of no days: {others}")

@@ -21,12 +21,12 @@ class Try:
     def __init__(self, room, program):
         self.program, self.folder = program, room.folder
 
-    def pass_over(self, folder, wanted, *tables):
+    def pass_over(self, folder, wanted, *tables, fields=FIELDS):
         """Opens the folder, or a catalogue in memory where there is none, and says the lines of the tables in turn, each of which has
         to be answered so."""
         child = Child(self.program, *(["run", str(folder)] if folder else []))
         try:
-            expect("the opening", child.ask(f"SCHEMA 2 10 {FIELDS}"), wanted)
+            expect("the opening", child.ask(f"SCHEMA 2 10 {fields}"), wanted)
             for table in tables:
                 for line, reply in table:
                     expect(f"the reply to '{line}'", child.ask(line), reply)
@@ -241,12 +241,146 @@ def an_opening_that_is_refused_deletes_nothing(try_):
     expect("the files without one", state(folder), files)
 
 
+# Files and commits, under a number alone.
+
+PRICE = '{"price":"number"}'
+# Rows b, of write 2, and a, of write 3, which waited in the place of a first text of it.
+UPDATED = (
+    b"CSEG\1" b"\0\0\0\0\0\0\0\1" b"\0\0\0\2" b"\0\0\0\1" b"\0\0\0\5price\3"
+    b"\0\0\0\0\0\0\0\2" b"\0\0\0\1b" b"\0\0\0\x0a" b"\0\0\0\0\0\0\0\3" b"\0\0\0\1a" b"\0\0\0\x15" b"\0" b"\1\0\0\0\0\0\0\0\x1e"
+)
+# Rows a, of write 1, and d, of write 4.
+CHEAP = (
+    b"CSEG\1" b"\0\0\0\0\0\0\0\1" b"\0\0\0\2" b"\0\0\0\1" b"\0\0\0\5price\3"
+    b"\0\0\0\0\0\0\0\1" b"\0\0\0\1a" b"\0\0\0\x14" b"\0\0\0\0\0\0\0\4" b"\0\0\0\1d" b"\0\0\0\x14"
+    b"\1\0\0\0\0\0\0\0\1" b"\1\0\0\0\0\0\0\0\2"
+)
+
+
+def what_waits_becomes_a_segment(try_):
+    """A second text of an item goes last; and of four items two have a price of 5 or more, and go before a segment is made."""
+    folder = try_.folder()
+    lines = (
+        ('1 PUT {"id":"a","price":1}', "OK 1"),
+        ('1 PUT {"id":"b"}', "OK 2"),
+        ('1 PUT {"id":"a","price":30}', "OK 3"),
+        ("0 STAT", "OK 3 2 0 1 0 0"),
+        ("1 REFRESH", "OK 3"),
+        ("0 STAT", "OK 3 0 1 2 0 0\n1 2 2"),
+    )
+    try_.pass_over(folder, "OK 0", lines, fields=PRICE)
+    expect("the files of an update", state(folder), {"_1.seg": UPDATED, "_1.sto": b'{"id":"b"}{"id":"a","price":30}'})
+    folder = try_.folder()
+    lines = (
+        ('1 PUT {"id":"a","price":1}', "OK 1"),
+        ('1 PUT {"id":"b","price":7}', "OK 2"),
+        ('1 PUT {"id":"c","price":5}', "OK 3"),
+        ('1 PUT {"id":"d","price":2}', "OK 4"),
+        ("1 DELW price:[5 TO *]", "OK 5"),
+        ("0 STAT", "OK 5 2 0 1 0 0"),
+        ("1 REFRESH", "OK 5"),
+    )
+    try_.pass_over(folder, "OK 0", lines, fields=PRICE)
+    expect("the files of cheap items", state(folder), {"_1.seg": CHEAP, "_1.sto": b'{"id":"a","price":1}{"id":"d","price":2}'})
+
+
+# Two items in a segment, and a commit of it.
+ONE_COMMIT = (
+    ('1 PUT {"id":"a","price":1}', "OK 1"),
+    ('1 PUT {"id":"b","price":2}', "OK 2"),
+    ("1 COMMIT one", "OK 1"),
+    ("1 FILES g 1", "OK 3\n_1.seg\n_1.sto\nsegments_1"),
+)
+
+
+def a_live_file_stays_while_a_commit_needs_it(try_):
+    """The first commit has no live file; the second has one, and the first goes; the third keeps it."""
+    folder = try_.folder()
+    lines = (
+        ("1 DEL a", "OK 3"),
+        ("1 COMMIT two", "OK 2"),
+        ("1 NOTE 1", "NO 26"),
+        ("0 STAT", "OK 3 0 1 1 0 1\n1 2 1"),
+        ("1 COMMIT", "OK 3"),
+        ("1 NOTE 3", "OK ="),
+        ("1 FILES g 3", "OK 4\n_1.seg\n_1.sto\n_1_2.liv\nsegments_3"),
+        ("1 NOTE 2", "NO 26"),
+        ("0 SWEEP", "OK 2"),
+    )
+    try_.pass_over(folder, "OK 0", ONE_COMMIT, lines, fields=PRICE)
+    expect("the files", sorted(state(folder)), ["_1.seg", "_1.sto", "_1_2.liv", "segments_3"])
+
+
+def a_snapshot_keeps_its_commit(try_):
+    """A commit with two snapshots outlives the next one and a sweep, until both are given back. The newest stays without."""
+    folder = try_.folder()
+    lines = (
+        ("1 SNAP", "OK 1"),
+        ("1 UNSNAP 1", "OK 0"),
+        ("1 NOTE 1", "OK =one"),
+        ("0 SWEEP", "OK 0"),
+        ("1 SNAP", "OK 1"),
+        ("1 SNAP", "OK 1"),
+        ("1 DEL a", "OK 3"),
+        ("1 COMMIT two", "OK 2"),
+        ("0 SWEEP", "OK 0"),
+        ("1 UNSNAP 2", "NO 27"),
+        ("1 UNSNAP 1", "OK 1"),
+        ("1 FILES g 1", "OK 3\n_1.seg\n_1.sto\nsegments_1"),
+        ("1 UNSNAP 1", "OK 0"),
+        ("1 UNSNAP 1", "NO 27"),
+        ("1 NOTE 1", "NO 26"),
+        ("0 STAT", "OK 3 0 1 1 0 1\n1 2 1"),
+        ("0 SWEEP", "OK 1"),
+    )
+    try_.pass_over(folder, "OK 0", ONE_COMMIT, lines, fields=PRICE)
+    expect("the files", sorted(state(folder)), ["_1.seg", "_1.sto", "_1_2.liv", "segments_2"])
+
+
+def a_folder_is_opened_at_its_second_commit(try_):
+    """What was put behind is gone, and so is the first one's file. The next commit has the next numbers, and keeps the live file of a
+    segment that stayed as it was."""
+    folder = try_.folder()
+    lines = (
+        ("1 DEL a", "OK 3"),
+        ('1 PUT {"id":"c","price":3}', "OK 4"),
+        ("1 COMMIT two", "OK 2"),
+        ('1 PUT {"id":"d","price":4}', "OK 5"),
+    )
+    try_.pass_over(folder, "OK 0", ONE_COMMIT, lines, fields=PRICE)
+    second = "OK 6\n_1.seg\n_1.sto\n_1_2.liv\n_2.seg\n_2.sto\nsegments_2"
+    opened = (
+        ("0 STAT", "OK 4 0 2 1 0 0\n1 2 1\n2 1 1"),
+        ("1 OPEN 0", "NO 21"),
+        ("1 OPEN 3", "NO 21"),
+        ("1 UNSNAP 2", "NO 27"),
+        ("1 NOTE 2", "OK =two"),
+        ("1 FILES g 2", second),
+        ("1 OPEN 4", "OK 4"),
+        ("1 FIND 4 9 . . *:*", "OK 2 2\n2 b .\n4 c ."),
+    )
+    try_.pass_over(folder, "OK 4", opened, (("0 SWEEP", "OK 0"),), fields=PRICE)
+    expect("the files", sorted(state(folder)), ["_1.seg", "_1.sto", "_1_2.liv", "_2.seg", "_2.sto", "segments_2"])
+    lines = (
+        ('1 PUT {"id":"a","price":5}', "OK 5"),
+        ("1 COMMIT three", "OK 3"),
+        ("0 STAT", "OK 5 0 3 1 0 1\n1 2 1\n2 1 1\n3 1 1"),
+        ("1 NOTE 3", "OK =three"),
+        ("1 FILES g 3", "OK 8\n_1.seg\n_1.sto\n_1_2.liv\n_2.seg\n_2.sto\n_3.seg\n_3.sto\nsegments_3"),
+    )
+    try_.pass_over(folder, "OK 4", lines, fields=PRICE)
+
+
 TESTS = (
     a_day_in_memory,
     days_in_a_folder,
     a_refusal_changes_nothing,
     sixty_four_views_are_held,
     an_opening_that_is_refused_deletes_nothing,
+    what_waits_becomes_a_segment,
+    a_live_file_stays_while_a_commit_needs_it,
+    a_snapshot_keeps_its_commit,
+    a_folder_is_opened_at_its_second_commit,
 )
 
 

@@ -83,6 +83,37 @@ def behind_others():
     yield from finds.pages(50)
 
 
+# How many records of as many prices, from 0 on, stand in two segments, of which the first ends there.
+DIFFERENT = 1_200
+FIRST_ENDS = 700
+
+
+def different_price_of(number):
+    """No two are alike, and neighbours are far apart."""
+    return number * 389 % DIFFERENT
+
+
+def different_items():
+    """Session 1 puts the records, and opens the table of them all."""
+    for number in range(1, DIFFERENT + 1):
+        yield f'> 1 PUT {{"id":"{number}","price":{different_price_of(number)}}}'
+        yield f"1 OK {number}"
+        if number in (FIRST_ENDS, DIFFERENT):
+            yield from ("> 1 REFRESH", f"1 OK {number}")
+    yield from ("> 1 OPEN", f"1 OK {DIFFERENT}")
+
+
+def different_pages():
+    """The thousand hits of the least prices, those of the greatest, and no more."""
+    numbers = {different_price_of(number): number for number in range(1, DIFFERENT + 1)}
+    for sort, prices in (("+price", range(DIFFERENT)), ("-price", range(DIFFERENT - 1, -1, -1))):
+        yield f"> 1 FIND {DIFFERENT} {PAGE} {sort} . *:*"
+        yield f"1 OK {PAGE} {DIFFERENT}"
+        yield from (f"1 {numbers[price]} {numbers[price]} {price}" for price in prices[:PAGE])
+        yield f"> 1 FIND {DIFFERENT} {PAGE + 1} {sort} . *:*"
+        yield "1 NO 25"
+
+
 def text():
     """The days."""
     days = {
@@ -95,6 +126,7 @@ def text():
     lines = ["=: all records", *items()]
     for title, finds in days.items():
         lines += ["", f"== {title}", ": all records", *finds]
+    lines += ["", "== a page of two segments has a thousand hits and no more", *different_items(), *different_pages()]
     return "\n".join(lines) + "\n"
 
 

@@ -27,6 +27,7 @@ else
   begin 'tests/merges.py' tests/merges.py "$program"
   begin 'tests/chores.py' tests/chores.py "$program"
   begin 'tests/callers.py' tests/callers.py "$program"
+  begin 'tests/streams.py' tests/streams.py "$program"
   if [ -x tests/limits.py ]; then begin 'tests/limits.py' tests/limits.py "$program"; fi
   begin 'tests/large.py' tests/large.py "$program"
   if [ -x tests/folder.py ]; then begin 'tests/folder.py' tests/folder.py "$program" "$check"; fi

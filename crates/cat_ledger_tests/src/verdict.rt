@@ -19,3 +19,21 @@ pub(crate) fn expect_yes<E: Debug + Drop>(answer: Result<bool, E>) -> Result<(),
         Err(error) => Err(Fail::from(error)),
     }
 }
+
+/// Fails with the name of the case that isn't so, unless there is none.
+pub(crate) fn expect_passed(failing: Option<&'static str>) -> Result<(), Fail> {
+    match failing {
+        Some(name) => Err(Fail::new(name)),
+        None => Ok(()),
+    }
+}
+
+/// The same of what is found. An error is told as it is.
+pub(crate) fn expect_none<E: Debug + Drop>(
+    failing: Result<Option<&'static str>, E>,
+) -> Result<(), Fail> {
+    match failing {
+        Ok(failing) => expect_passed(failing),
+        Err(error) => Err(Fail::from(error)),
+    }
+}

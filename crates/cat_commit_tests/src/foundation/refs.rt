@@ -3,7 +3,7 @@ ghost use Rattle.std.specs.Prelude.{◌≤◌, ◌<◌, length, IfOk};
 ghost use Rattle.cat_model.specs.Files.{Name};
 ghost use Rattle.cat_ledger_laws.specs.model.Users.{users_of};
 
-use crate::verdict::{expect, expect_yes};
+use crate::verdict::expect_yes;
 use cat_base::Refusal;
 use cat_directory::{Directory, Faults, Faulty, FileName, MemoryDirectory};
 use cat_lifetimes::refs::FileRefs;
@@ -101,13 +101,24 @@ fn are_pending(refs: &mut FileRefs) -> bool {
     refs.pending() == 2
 }
 
+/// Counts, gives and takes again, of names of which the segment was taken twice and its source once.
+fn are_users_counted(refs: &mut FileRefs) -> Result<bool, AllocError>
+    requires { (q : Name) → users_of refs.old q < 1000 }
+{
+    let are_given = are_counted(refs) && are_given_once(refs);
+    let is_taken = is_taken_again(refs)?;
+    Ok(are_given && is_taken && are_pending(refs))
+}
+
+/// Whether users are counted by name.
+fn counts_by_name(alloc: Global) -> Result<bool, AllocError> {
+    let mut refs = taken(alloc, &[SEGMENT, SOURCE, SEGMENT])?;
+    are_users_counted(&mut refs)
+}
+
 #[test]
 fn users_are_counted_by_name(rt: HostRuntime) -> Result<(), Fail> {
-    let mut refs = taken(rt.alloc(), &[SEGMENT, SOURCE, SEGMENT])?;
-    let are_counted = are_counted(&refs);
-    let are_given = are_given_once(&mut refs);
-    let is_taken = is_taken_again(&mut refs)?;
-    expect(are_counted && are_given && is_taken && are_pending(&mut refs))
+    expect_yes(counts_by_name(rt.alloc()))
 }
 
 /// Whether just these files are there, and all of them pending.
@@ -121,14 +132,24 @@ fn are_left(
     Ok(refs.pending() == left.len() as u64 && names.as_slice() == left)
 }
 
+/// Whether a sweep fails and leaves just these files, which the next one deletes.
+fn leaves(
+    alloc: Global,
+    device: &mut Faulty<MemoryDirectory>,
+    refs: &mut FileRefs,
+    left: &[FileName],
+) -> Result<bool, Refusal> {
+    let fails = refs.sweep(alloc, device) == Err(Refusal::Device);
+    let are_left = are_left(alloc, device, refs, left)?;
+    Ok(fails && are_left && refs.sweep(alloc, device) == Ok(left.len() as u64))
+}
+
 /// Whether so many files are gone where the call behind so many fails, and the others stay: the first of them is tried again.
 fn is_swept_up_to(alloc: Global, passes: usize) -> Result<bool, Refusal> {
-    let mut device = Faulty::new(directory(alloc)?, Faults::One(passes as u64));
     let mut refs = all_but(alloc, FILES.len())?;
+    let mut device = Faulty::new(directory(alloc)?, Faults::One(passes as u64));
     let (_, left) = FILES.split_at(passes.min(FILES.len()));
-    let fails = refs.sweep(alloc, &mut device) == Err(Refusal::Device);
-    let are_left = are_left(alloc, &mut device, &refs, left)?;
-    Ok(fails && are_left && refs.sweep(alloc, &mut device) == Ok(left.len() as u64))
+    leaves(alloc, &mut device, &mut refs, left)
 }
 
 /// The same of each call.
@@ -146,13 +167,22 @@ fn sweeps_go_by_bytes_up_to_the_first_fault(rt: HostRuntime) -> Result<(), Fail>
     expect_yes(is_swept_up_to_each(rt.alloc()))
 }
 
-/// Whether the file of this index stays where it is used, and no other.
-fn stays(alloc: Global, index: usize, used: FileName) -> Result<bool, Refusal> {
-    let mut directory = directory(alloc)?;
-    let mut refs = all_but(alloc, index)?;
-    let are_swept = refs.sweep(alloc, &mut directory) == Ok(6);
+/// Whether a sweep leaves the used file alone.
+fn is_alone_left(
+    alloc: Global,
+    directory: &mut MemoryDirectory,
+    refs: &mut FileRefs,
+    used: FileName,
+) -> Result<bool, Refusal> {
+    let are_swept = refs.sweep(alloc, directory) == Ok(6);
     let is_alone = directory.names(alloc)?.as_slice() == [used].as_slice();
     Ok(are_swept && is_alone && refs.count(used) == 1 && refs.pending() == 0)
+}
+
+/// Whether the file of this index stays where it is used, and no other.
+fn stays(alloc: Global, index: usize, used: FileName) -> Result<bool, Refusal> {
+    let mut refs = all_but(alloc, index)?;
+    is_alone_left(alloc, &mut directory(alloc)?, &mut refs, used)
 }
 
 /// The same of each file.
@@ -170,19 +200,38 @@ fn used_files_stay(rt: HostRuntime) -> Result<(), Fail> {
     expect_yes(each_stays(rt.alloc()))
 }
 
+/// Whether neither names asks the device for anything.
+fn are_swept_unasked(
+    alloc: Global,
+    device: &mut Faulty<MemoryDirectory>,
+    unknown: &mut FileRefs,
+    used: &mut FileRefs,
+) -> bool {
+    unknown.sweep(alloc, device) == Ok(0)
+        && used.sweep(alloc, device) == Ok(0)
+        && device.calls() == 0
+}
+
+/// Whether that is so where no file is known, and where none is pending.
+fn asks_for_nothing(alloc: Global) -> Result<bool, Refusal> {
+    let mut used = taken(alloc, FILES)?;
+    let mut device = Faulty::new(directory(alloc)?, Faults::All(0));
+    Ok(are_swept_unasked(alloc, &mut device, &mut FileRefs::new(alloc), &mut used))
+}
+
 #[test]
 fn a_sweep_of_nothing_asks_for_nothing(rt: HostRuntime) -> Result<(), Fail> {
-    let alloc = rt.alloc();
-    let mut device = Faulty::new(directory(alloc)?, Faults::All(0));
-    let none_known = FileRefs::new(alloc).sweep(alloc, &mut device) == Ok(0);
-    let none_pending = taken(alloc, FILES)?.sweep(alloc, &mut device) == Ok(0);
-    expect(none_known && none_pending && device.calls() == 0)
+    expect_yes(asks_for_nothing(rt.alloc()))
+}
+
+/// Whether files that are absent are swept as those that are there.
+fn are_absent_swept(alloc: Global) -> Result<bool, Refusal> {
+    let mut refs = all_but(alloc, 0)?;
+    let are_swept = refs.sweep(alloc, &mut MemoryDirectory::new(alloc)) == Ok(6);
+    Ok(are_swept && refs.pending() == 0)
 }
 
 #[test]
 fn an_absent_file_is_no_fault(rt: HostRuntime) -> Result<(), Fail> {
-    let alloc = rt.alloc();
-    let mut refs = all_but(alloc, 0)?;
-    let are_swept = refs.sweep(alloc, &mut MemoryDirectory::new(alloc)) == Ok(6);
-    expect(are_swept && refs.pending() == 0)
+    expect_yes(are_absent_swept(rt.alloc()))
 }

@@ -1,7 +1,7 @@
 //! Openings on a device whose calls fail, and without memory.
 use crate::opening::files::{Device, WHOLE_TOLD, device_with, is_whole};
 use crate::opening::told::{FIELDS, is_told};
-use crate::verdict::{expect, expect_yes};
+use crate::verdict::expect_yes;
 use cat_base::Refusal;
 use cat_check::cat_commits::reading::read_commit;
 use cat_directory::{Faults, Holder, MemoryDirectory};
@@ -56,28 +56,36 @@ fn the_first_call_that_fails_ends_an_opening(rt: HostRuntime) -> Result<(), Fail
     expect_yes(are_refused(rt.alloc()))
 }
 
-/// Whether the commit is read, or memory is wanting.
-fn is_read_or_memory(alloc: Global, device: &mut Device, schema: &Schema) -> bool {
-    match read_commit(alloc, device, schema, 3) {
-        Ok(_) => true,
+/// Whether the answer is yes, or memory was wanting.
+fn is_so_or_memory(answer: Result<bool, Refusal>) -> bool {
+    match answer {
+        Ok(is_so) => is_so,
         Err(refusal) => refusal == Refusal::Memory,
     }
 }
 
+/// Whether the commit is read, or memory is wanting, and another opening reads the files as they were.
+fn is_read_or_memory(alloc: Global) -> Result<bool, Refusal> {
+    let mut device = device_with(alloc, &[], Faults::Never)?;
+    let is_read_or_not = is_so_or_memory(is_told(alloc, &mut device, WHOLE_TOLD));
+    Ok(is_read_or_not && is_read(alloc, &mut device)?)
+}
+
 #[test]
 fn an_opening_without_memory_changes_nothing(rt: HostRuntime) -> Result<(), Fail> {
-    let alloc = rt.alloc();
+    expect_yes(is_read_or_memory(rt.alloc()))
+}
+
+/// Whether a commit that is absent is damaged.
+fn is_absent_damaged(alloc: Global) -> Result<bool, Refusal> {
     let schema = Schema::read(alloc, FIELDS)?;
-    let mut device = device_with(alloc, &[], Faults::Never)?;
-    let is_one_of_both = is_read_or_memory(alloc, &mut device, &schema);
-    expect(is_one_of_both && is_read(alloc, &mut device)?)
+    match read_commit(alloc, &mut MemoryDirectory::new(alloc), &schema, 3) {
+        Ok(_restored) => Ok(false),
+        Err(refusal) => Ok(refusal == Refusal::Damaged),
+    }
 }
 
 #[test]
 fn an_absent_commit_is_damage_without_memory(rt: HostRuntime) -> Result<(), Fail> {
-    let alloc = rt.alloc();
-    let schema = Schema::read(alloc, FIELDS)?;
-    let mut directory = MemoryDirectory::new(alloc);
-    let refused = read_commit(alloc, &mut directory, &schema, 3);
-    expect(matches!(refused, Err(Refusal::Damaged)))
+    expect_yes(is_absent_damaged(rt.alloc()))
 }

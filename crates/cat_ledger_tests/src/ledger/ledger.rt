@@ -3,6 +3,7 @@
 mod calling;
 mod failing;
 mod maintaining;
+mod making;
 mod refusing;
 pub(crate) mod telling;
 mod viewing;

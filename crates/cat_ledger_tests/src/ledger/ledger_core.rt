@@ -1,12 +1,8 @@
-//! Tests of what memory has of a ledger: its writes, flushes, merges, views, commits, snapshots and openings, and each call of a
-//! device failing.
+//! Tests of what memory has of a ledger where each call of its device fails once in turn: flushes, merges and commits.
 
 mod calling;
 mod committing;
 mod flushing;
 mod merging;
-mod reopening;
 mod steps;
 mod telling;
-mod viewing;
-mod writing;

@@ -1,6 +1,6 @@
 //! Whose rights are found, which are taken out, and which stay.
 use crate::rights::making::{add, end, has, take};
-use crate::verdict::{expect, expect_yes};
+use crate::verdict::expect_none;
 use cat_base::{Refusal, SessionNo, Token};
 use cat_ledger::cat_lifetimes::rights::Rights;
 use std::alloc::Global;
@@ -46,6 +46,19 @@ fn leave(alloc: Global, rows: &[Row], left: usize) -> Result<bool, Refusal> {
     Ok(are_so? && count == left)
 }
 
+/// The name of the first case in which that isn't so.
+fn failing(
+    alloc: Global,
+    cases: &[(&'static str, &[Row], usize)],
+) -> Result<Option<&'static str>, Refusal> {
+    for &(name, rows, left) in cases {
+        if !leave(alloc, rows, left)? {
+            return Ok(Some(name));
+        }
+    }
+    Ok(None)
+}
+
 /// Two sessions have the view at 4, and one of them that at 6 too. A session has a view once.
 const FOUND: &[Row] = &[
     Row::Len(0),
@@ -64,11 +77,6 @@ const FOUND: &[Row] = &[
     Row::Has(4, 1, false),
     Row::Len(3),
 ];
-
-#[test]
-fn sessions_find_their_own(rt: HostRuntime) -> Result<(), Fail> {
-    expect_yes(leave(rt.alloc(), FOUND, 3))
-}
 
 /// What isn't there isn't taken out, and what is, is there once: one after the other goes, and those behind it stay.
 const TAKEN: &[Row] = &[
@@ -110,11 +118,6 @@ const TAKEN: &[Row] = &[
     Row::Len(0),
 ];
 
-#[test]
-fn what_is_taken_out_is_the_sessions(rt: HostRuntime) -> Result<(), Fail> {
-    expect_yes(leave(rt.alloc(), TAKEN, 0))
-}
-
 /// One is taken out, and given to its session once more.
 const GIVEN_AGAIN: &[Row] = &[
     Row::Add(1, 4, true),
@@ -128,12 +131,15 @@ const GIVEN_AGAIN: &[Row] = &[
     Row::Has(2, 4, true),
 ];
 
-#[test]
-fn each_right_is_taken_out_at_the_end(rt: HostRuntime) -> Result<(), Fail> {
-    expect_yes(leave(rt.alloc(), GIVEN_AGAIN, 5))
-}
+/// Each where there is none before.
+const CASES: &[(&str, &[Row], usize)] = &[
+    ("where none is left none comes", &[], 0),
+    ("sessions find their own", FOUND, 3),
+    ("what is taken out is the session's", TAKEN, 0),
+    ("each right is taken out at the end", GIVEN_AGAIN, 5),
+];
 
 #[test]
-fn where_none_is_left_none_comes(rt: HostRuntime) -> Result<(), Fail> {
-    expect(end(Rights::new(rt.alloc())) == 0)
+fn rights_are_found_and_taken_out_by_session_and_token(rt: HostRuntime) -> Result<(), Fail> {
+    expect_none(failing(rt.alloc(), CASES))
 }

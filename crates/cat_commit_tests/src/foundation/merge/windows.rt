@@ -1,8 +1,10 @@
 //! Levels and windows of segments, as a person worked them out.
 ghost use Rattle.cat_merge.specs.Policy.{IsMergePolicy};
 
+use crate::verdict::expect;
 use cat_base::MAX_ROWS;
 use cat_merge::{level_of, window};
+use std::test::Fail;
 
 /// Rows of a segment, and its level.
 type Levels<'a> = &'a [(u32, u32)];
@@ -34,66 +36,65 @@ fn are_windows(rows: Windows<'_>, factor: u64, minimum: u64) -> bool
     true
 }
 
-#[test]
-fn levels_by_two(rt: HostRuntime) {
-    const ROWS: Levels<'static> = &[
-        (0, 0),
-        (1, 0),
-        (2, 1),
-        (3, 2),
-        (4, 2),
-        (5, 3),
-        (262_144, 18),
-        (262_145, 19),
-        (u32::MAX, 32),
-    ];
-    assert!(rt; are_levels(ROWS, 2, 1));
+const LEVELS_BY_TWO: Levels<'static> = &[
+    (0, 0),
+    (1, 0),
+    (2, 1),
+    (3, 2),
+    (4, 2),
+    (5, 3),
+    (262_144, 18),
+    (262_145, 19),
+    (u32::MAX, 32),
+];
+
+const LEVELS_BY_TEN: Levels<'static> = &[
+    (1, 0),
+    (1_000, 0),
+    (1_001, 1),
+    (10_000, 1),
+    (10_001, 2),
+    (262_144, 3),
+];
+
+const LEVELS_BY_HUNDRED: Levels<'static> = &[(100_000, 0), (100_001, 1)];
+
+const WINDOWS_OF_TWO: Windows<'static> = &[
+    (&[4, 2, 1, 1], Some(2)),
+    (&[2, 2, 1], Some(0)),
+    (&[1, 2, 1], None),
+    (&[3, 4, 1, 1], Some(2)),
+    (&[], None),
+    (&[1], None),
+    (&[1, 1], Some(0)),
+    (&[4, 1, 1, 1], Some(1)),
+    (&[2, 2, 1, 1, 2, 1, 1], Some(2)),
+    (&[3, 4, 8, 7, 3, 3], Some(0)),
+    (&[8, 7, 3, 3, 8, 8], Some(2)),
+];
+
+const WINDOWS_OF_THREE: Windows<'static> = &[
+    (&[10, 10], None),
+    (&[10, 9, 8], Some(0)),
+    (&[10, 9, 11, 8, 7], None),
+    (&[10, 9, 11, 8, 7, 1], Some(3)),
+    (&[30, 11, 29, 30, 10, 10], Some(0)),
+    (&[31, 30, 11, 29, 30, 10, 10], Some(1)),
+    (&[30, 11, 29, 10, 10, 10, 10], Some(3)),
+];
+
+/// Whether each of the levels and windows is as it was worked out.
+fn are_as_worked_out() -> bool {
+    are_levels(LEVELS_BY_TWO, 2, 1)
+        && are_levels(LEVELS_BY_TEN, 10, 1_000)
+        && are_levels(LEVELS_BY_HUNDRED, 100, 100_000)
+        && are_windows(WINDOWS_OF_TWO, 2, 1)
+        && are_windows(WINDOWS_OF_THREE, 3, 10)
 }
 
 #[test]
-fn levels_by_ten(rt: HostRuntime) {
-    const ROWS: Levels<'static> = &[
-        (1, 0),
-        (1_000, 0),
-        (1_001, 1),
-        (10_000, 1),
-        (10_001, 2),
-        (262_144, 3),
-    ];
-    const HUNDRED: Levels<'static> = &[(100_000, 0), (100_001, 1)];
-    assert!(rt; are_levels(ROWS, 10, 1_000) && are_levels(HUNDRED, 100, 100_000));
-}
-
-#[test]
-fn windows_of_two(rt: HostRuntime) {
-    const ROWS: Windows<'static> = &[
-        (&[4, 2, 1, 1], Some(2)),
-        (&[2, 2, 1], Some(0)),
-        (&[1, 2, 1], None),
-        (&[3, 4, 1, 1], Some(2)),
-        (&[], None),
-        (&[1], None),
-        (&[1, 1], Some(0)),
-        (&[4, 1, 1, 1], Some(1)),
-        (&[2, 2, 1, 1, 2, 1, 1], Some(2)),
-        (&[3, 4, 8, 7, 3, 3], Some(0)),
-        (&[8, 7, 3, 3, 8, 8], Some(2)),
-    ];
-    assert!(rt; are_windows(ROWS, 2, 1));
-}
-
-#[test]
-fn windows_of_three(rt: HostRuntime) {
-    const ROWS: Windows<'static> = &[
-        (&[10, 10], None),
-        (&[10, 9, 8], Some(0)),
-        (&[10, 9, 11, 8, 7], None),
-        (&[10, 9, 11, 8, 7, 1], Some(3)),
-        (&[30, 11, 29, 30, 10, 10], Some(0)),
-        (&[31, 30, 11, 29, 30, 10, 10], Some(1)),
-        (&[30, 11, 29, 10, 10, 10, 10], Some(3)),
-    ];
-    assert!(rt; are_windows(ROWS, 3, 10));
+fn levels_and_windows_are_as_worked_out(_rt: HostRuntime) -> Result<(), Fail> {
+    expect(are_as_worked_out())
 }
 
 const HALF: u32 = MAX_ROWS as u32 / 2;
@@ -122,6 +123,6 @@ fn hundreds_fit() -> bool {
 
 /// Segments that are merged have as many rows as one segment may have, and no more.
 #[test]
-fn windows_at_the_limit(rt: HostRuntime) {
-    assert!(rt; halves_fit() && sixty_fourths_fit() && hundreds_fit());
+fn windows_at_the_limit(_rt: HostRuntime) -> Result<(), Fail> {
+    expect(halves_fit() && sixty_fourths_fit() && hundreds_fit())
 }

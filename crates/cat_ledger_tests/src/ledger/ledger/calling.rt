@@ -13,7 +13,7 @@ use std::alloc::Global;
 /// The fields of the items.
 const FIELDS: &[u8] = br#"{"name":"text","price":"number"}"#;
 
-/// A call, and what it is answered.
+/// A call, and what it is answered. An empty answer is any number.
 pub(crate) type Row<'a> = (Call<'a>, &'a str);
 
 /// A call of a ledger.
@@ -60,33 +60,6 @@ pub(crate) fn answer<D: Directory + Shelf>(
     }
 }
 
-/// Makes the call of the row. Answers whether it is answered so.
-fn is_answered<D: Directory + Shelf>(
-    alloc: Global,
-    ledger: &mut Ledger<D>,
-    rights: &mut Rights,
-    row: &Row<'_>,
-) -> Result<bool, Refusal> {
-    let (call, want) = *row;
-    let got = answer(alloc, ledger, rights, call)?;
-    Ok(got.as_str() == want)
-}
-
-/// Makes the calls in turn. Answers whether each is answered so.
-pub(crate) fn are_answered<D: Directory + Shelf>(
-    alloc: Global,
-    ledger: &mut Ledger<D>,
-    rights: &mut Rights,
-    rows: &[Row<'_>],
-) -> Result<bool, Refusal> {
-    for row in rows {
-        if !is_answered(alloc, ledger, rights, row)? {
-            return Ok(false);
-        }
-    }
-    Ok(true)
-}
-
 /// The ledger of the directory, which merges two segments at once, of up to ten rows on the lowest level; or why there is none.
 pub(crate) fn try_open<D: Directory + Shelf + Drop>(
     alloc: Global,
@@ -117,23 +90,4 @@ pub(crate) fn end(rights: Rights) {
         hold.give_up();
     }
     rights.destroy_empty();
-}
-
-/// Ends the ledger with its directory. A ledger that only leaves a scope would be proved to end once more, part by part.
-pub(crate) fn close<D: Directory + Shelf + Drop>(ledger: Ledger<D>) {
-    let _device = ledger.into_directory();
-}
-
-/// Opens the ledger of the directory, and makes the calls. Answers whether each is answered so, and the directory as they left it.
-pub(crate) fn run<D: Directory + Shelf + Drop>(
-    alloc: Global,
-    device: D,
-    rows: &[Row<'_>],
-) -> Result<(bool, D), Refusal> {
-    let mut ledger = open(alloc, device)?;
-    let mut rights = Rights::new(alloc);
-    let are_answered = are_answered(alloc, &mut ledger, &mut rights, rows);
-    end(rights);
-    let device = ledger.into_directory();
-    Ok((are_answered?, device))
 }

@@ -1,13 +1,10 @@
 //! Each call of a device failing in turn: once, after which the ledger goes on, and from some one on, as a crash leaves it.
-use crate::ledger::ledger::calling::{
-    Call, Row, answer, are_answered, close, end, open, run, try_open,
-};
-use crate::ledger::ledger::maintaining::standing_of;
+use crate::ledger::ledger::calling::{Call, Row, open, try_open};
+use crate::ledger::ledger::making::{Job, done};
 use crate::verdict::expect_yes;
 use cat_base::{Refusal, WriteNo};
-use cat_directory::{Directory, Faults, Faulty, FileName, Holder, MemoryDirectory, Shelf};
+use cat_directory::{Directory, Faults, Faulty, FileName, Holder, MemoryDirectory};
 use cat_ledger::Ledger;
-use cat_ledger::cat_lifetimes::rights::Rights;
 use std::alloc::Global;
 use std::test::Fail;
 
@@ -44,64 +41,6 @@ const SHIFT: &[Row<'static>] = &[
 /// commits and for the merge, one for each of two stored texts, and one for each of two files that a sweep deletes.
 const CALLS: u64 = 32;
 
-/// Whether the answer is this one, or any number where this one is empty.
-fn is_so(got: &str, want: &str) -> bool {
-    got == want || want.is_empty() && !got.starts_with("NO")
-}
-
-/// Makes the call of the row. Answers whether it is answered so.
-fn is_made<D: Directory + Shelf>(
-    alloc: Global,
-    ledger: &mut Ledger<D>,
-    rights: &mut Rights,
-    row: &Row<'_>,
-) -> Result<bool, Refusal> {
-    let (call, want) = *row;
-    let got = answer(alloc, ledger, rights, call)?;
-    Ok(is_so(got.as_str(), want))
-}
-
-/// Whether this stands.
-fn stands<D: Directory + Shelf>(
-    alloc: Global,
-    ledger: &Ledger<D>,
-    wanted: &str,
-) -> Result<bool, Refusal> {
-    let text = standing_of(alloc, ledger)?;
-    Ok(text.as_str() == wanted)
-}
-
-/// Makes the call of the row, and once more where the directory fails, which has to leave what stands as before. Answers whether
-/// it is answered so.
-fn is_retried<D: Directory + Shelf>(
-    alloc: Global,
-    ledger: &mut Ledger<D>,
-    rights: &mut Rights,
-    row: &Row<'_>,
-) -> Result<bool, Refusal> {
-    let (call, want) = *row;
-    let before = standing_of(alloc, ledger)?;
-    let got = answer(alloc, ledger, rights, call)?;
-    if got.as_str() != "NO 30" {
-        return Ok(is_so(got.as_str(), want));
-    }
-    Ok(stands(alloc, ledger, before.as_str())? && is_made(alloc, ledger, rights, row)?)
-}
-
-/// Makes the calls in turn, and once more where the directory fails.
-fn are_retried<D: Directory + Shelf>(
-    alloc: Global,
-    ledger: &mut Ledger<D>,
-    rights: &mut Rights,
-) -> Result<bool, Refusal> {
-    for row in SHIFT {
-        if !is_retried(alloc, ledger, rights, row)? {
-            return Ok(false);
-        }
-    }
-    Ok(true)
-}
-
 /// The ledger of a directory without a file, of whose calls the one behind so many fails, at the first try or the second.
 fn open_retried(alloc: Global, passes: u64) -> Result<Ledger<Faulty<MemoryDirectory>>, Refusal> {
     let device = Faulty::new(MemoryDirectory::new(alloc), Faults::One(passes));
@@ -112,17 +51,6 @@ fn open_retried(alloc: Global, passes: u64) -> Result<Ledger<Faulty<MemoryDirect
             other => Err(other),
         },
     }
-}
-
-/// Makes the calls in a directory of whose calls the one behind so many fails. Answers whether they are answered so, and the
-/// directory as they left it.
-fn work(alloc: Global, passes: u64) -> Result<(bool, Faulty<MemoryDirectory>), Refusal> {
-    let mut ledger = open_retried(alloc, passes)?;
-    let mut rights = Rights::new(alloc);
-    let are_answered = are_retried(alloc, &mut ledger, &mut rights);
-    end(rights);
-    let device = ledger.into_directory();
-    Ok((are_answered?, device))
 }
 
 /// The table at the end, behind an opening.
@@ -141,24 +69,39 @@ fn has_8_files(alloc: Global, device: &mut MemoryDirectory) -> Result<bool, Refu
     Ok(names.len() == 8)
 }
 
-/// Whether they are, with the table at the end.
+/// Whether the calls are answered so by the ledger of the directory.
+fn answers(alloc: Global, device: MemoryDirectory, rows: &[Row<'_>]) -> Result<bool, Refusal> {
+    let ledger = open(alloc, device)?;
+    let (are_answered, _, _device) = done(alloc, ledger, Job::Calls(rows))?;
+    Ok(are_answered)
+}
+
+/// Whether the files at the end are there, with the table at the end.
 fn is_left(alloc: Global, device: MemoryDirectory) -> Result<bool, Refusal> {
     let mut device = device;
-    let has_files = has_8_files(alloc, &mut device)?;
-    let (is_answered, _device) = run(alloc, device, LEFT)?;
-    Ok(has_files && is_answered)
+    Ok(has_8_files(alloc, &mut device)? && answers(alloc, device, LEFT)?)
+}
+
+/// Whether the call behind so many has failed; or none, and there were just so many, where it is the one behind all.
+fn has_failed(device: &Faulty<MemoryDirectory>, passes: u64) -> bool {
+    if passes < CALLS {
+        device.failures() == 1
+    } else {
+        device.failures() == 0 && device.calls() == CALLS
+    }
 }
 
 /// Whether the call behind so many fails once, and is made again.
 fn succeeds_later(alloc: Global, passes: u64) -> Result<bool, Refusal> {
-    let (are_answered, device) = work(alloc, passes)?;
-    let has_failed = device.failures() == 1;
+    let ledger = open_retried(alloc, passes)?;
+    let (are_answered, _, device) = done(alloc, ledger, Job::Calls(SHIFT))?;
+    let has_failed = has_failed(&device, passes);
     Ok(is_left(alloc, device.into_device())? && are_answered && has_failed)
 }
 
-/// Whether that is so of each of so many calls.
-fn each_succeeds_later(alloc: Global, calls: u64) -> Result<bool, Refusal> {
-    for passes in 0..calls {
+/// Whether that is so of each of all calls, and no other is made.
+fn each_succeeds_later(alloc: Global) -> Result<bool, Refusal> {
+    for passes in 0..=CALLS {
         if !succeeds_later(alloc, passes)? {
             return Ok(false);
         }
@@ -168,51 +111,7 @@ fn each_succeeds_later(alloc: Global, calls: u64) -> Result<bool, Refusal> {
 
 #[test]
 fn each_call_that_fails_succeeds_later(rt: HostRuntime) -> Result<(), Fail> {
-    expect_yes(each_succeeds_later(rt.alloc(), CALLS))
-}
-
-/// Whether just so many calls are made where none fails.
-fn makes_calls(alloc: Global, calls: u64) -> Result<bool, Refusal> {
-    let (are_answered, device) = work(alloc, calls)?;
-    let are_made = device.calls() == calls && device.failures() == 0;
-    Ok(is_left(alloc, device.into_device())? && are_answered && are_made)
-}
-
-#[test]
-fn no_other_call_is_made(rt: HostRuntime) -> Result<(), Fail> {
-    expect_yes(makes_calls(rt.alloc(), CALLS))
-}
-
-/// Makes the calls in turn up to the first that the directory fails at. Answers how many writes the last commit has that came.
-fn work_until_one_fails<D: Directory + Shelf>(
-    alloc: Global,
-    ledger: &mut Ledger<D>,
-    rights: &mut Rights,
-) -> Result<WriteNo, Refusal> {
-    let mut kept = 0;
-    for (call, _) in SHIFT {
-        let got = answer(alloc, ledger, rights, *call)?;
-        if got.as_str() == "NO 30" {
-            return Ok(kept);
-        }
-        if let Call::Commit(_) = call {
-            kept = ledger.count();
-        }
-    }
-    Ok(kept)
-}
-
-/// The same, of a ledger that is gone then; and what it leaves.
-fn left_of<D: Directory + Shelf + Drop>(
-    alloc: Global,
-    ledger: Ledger<D>,
-) -> Result<(WriteNo, D), Refusal> {
-    let mut ledger = ledger;
-    let mut rights = Rights::new(alloc);
-    let kept = work_until_one_fails(alloc, &mut ledger, &mut rights);
-    end(rights);
-    let device = ledger.into_directory();
-    Ok((kept?, device))
+    expect_yes(each_succeeds_later(rt.alloc()))
 }
 
 /// The table of nothing, and those of the two commits.
@@ -252,28 +151,17 @@ const TABLES: &[(WriteNo, &[Row<'static>])] = &[
     ),
 ];
 
+/// A table that no ledger answers so.
+const NO_TABLE: &[Row<'static>] = &[(Call::Merge, "no table")];
+
 /// The table of so many writes.
-fn table_of(count: WriteNo) -> Option<&'static [Row<'static>]> {
+fn table_of(count: WriteNo) -> &'static [Row<'static>] {
     for (writes, rows) in TABLES {
         if *writes == count {
-            return Some(*rows);
+            return rows;
         }
     }
-    None
-}
-
-/// Whether what is opened is the last commit that came, or one that was cut off behind it.
-fn is_kept_by(
-    alloc: Global,
-    ledger: &mut Ledger<MemoryDirectory>,
-    rights: &mut Rights,
-    kept: WriteNo,
-) -> Result<bool, Refusal> {
-    let count = ledger.count();
-    match table_of(count) {
-        Some(rows) => Ok(kept <= count && are_answered(alloc, ledger, rights, rows)?),
-        None => Ok(false),
-    }
+    NO_TABLE
 }
 
 /// Deletes the own file of the newest of less than ten commits.
@@ -290,6 +178,16 @@ fn delete_newest(alloc: Global, device: &mut MemoryDirectory) -> Result<(), Refu
     }
 }
 
+/// The ledger of the directory without its newest commit.
+fn open_before_newest(
+    alloc: Global,
+    device: MemoryDirectory,
+) -> Result<Ledger<MemoryDirectory>, Refusal> {
+    let mut device = device;
+    delete_newest(alloc, &mut device)?;
+    open(alloc, device)
+}
+
 /// The ledger of what a crash left. Where the newest commit was cut off in the middle of its own file it is damaged, and the one
 /// before opens once that file is gone.
 fn reopen(alloc: Global, device: MemoryDirectory) -> Result<Ledger<MemoryDirectory>, Refusal> {
@@ -302,24 +200,12 @@ fn reopen(alloc: Global, device: MemoryDirectory) -> Result<Ledger<MemoryDirecto
     }
 }
 
-/// The ledger of the directory without its newest commit.
-fn open_before_newest(
-    alloc: Global,
-    device: MemoryDirectory,
-) -> Result<Ledger<MemoryDirectory>, Refusal> {
-    let mut device = device;
-    delete_newest(alloc, &mut device)?;
-    open(alloc, device)
-}
-
-/// Whether what a crash left has the last commit that came.
+/// Whether what a crash left has the last commit that came, or one that was cut off behind it.
 fn is_kept(alloc: Global, device: MemoryDirectory, kept: WriteNo) -> Result<bool, Refusal> {
-    let mut ledger = reopen(alloc, device)?;
-    let mut rights = Rights::new(alloc);
-    let is_kept = is_kept_by(alloc, &mut ledger, &mut rights, kept);
-    end(rights);
-    close(ledger);
-    is_kept
+    let ledger = reopen(alloc, device)?;
+    let rows = table_of(ledger.count());
+    let (is_table, count, _device) = done(alloc, ledger, Job::Calls(rows))?;
+    Ok(is_table && kept <= count)
 }
 
 /// Makes the calls in a directory where all behind so many fail. Answers how many writes the last commit has that came, and what
@@ -327,36 +213,33 @@ fn is_kept(alloc: Global, device: MemoryDirectory, kept: WriteNo) -> Result<bool
 fn crash(alloc: Global, passes: u64) -> Result<(WriteNo, MemoryDirectory), Refusal> {
     let device = Faulty::new(MemoryDirectory::new(alloc), Faults::All(passes));
     let (kept, device) = match try_open(alloc, device)? {
-        Ok(ledger) => left_of(alloc, ledger)?,
+        Ok(ledger) => {
+            let (_, kept, device) = done(alloc, ledger, Job::UntilFault(SHIFT))?;
+            (kept, device)
+        }
         Err(refused) => (0, refused.device),
     };
     Ok((kept, device.into_device()))
 }
 
-/// Whether the last commit that came outlives a crash behind so many calls.
+/// Whether the last commit that came outlives a crash behind so many calls, which is the second where none of all calls fails.
 fn survives(alloc: Global, passes: u64) -> Result<bool, Refusal> {
     let (kept, device) = crash(alloc, passes)?;
-    is_kept(alloc, device, kept)
-}
-
-/// Whether the second commit does where none of so many calls fails.
-fn survives_whole(alloc: Global, calls: u64) -> Result<bool, Refusal> {
-    let (kept, device) = crash(alloc, calls)?;
-    Ok(is_kept(alloc, device, kept)? && kept == 4)
+    Ok(is_kept(alloc, device, kept)? && (passes < CALLS || kept == 4))
 }
 
 /// Whether the last commit does wherever the crash comes.
-fn survives_each(alloc: Global, calls: u64) -> Result<bool, Refusal> {
-    for passes in 0..calls {
+fn survives_each(alloc: Global) -> Result<bool, Refusal> {
+    for passes in 0..=CALLS {
         if !survives(alloc, passes)? {
             return Ok(false);
         }
     }
-    survives_whole(alloc, calls)
+    Ok(true)
 }
 
 /// No commit that came is lost by a crash, wherever it comes.
 #[test]
 fn a_crash_leaves_the_newest_commit(rt: HostRuntime) -> Result<(), Fail> {
-    expect_yes(survives_each(rt.alloc(), CALLS))
+    expect_yes(survives_each(rt.alloc()))
 }

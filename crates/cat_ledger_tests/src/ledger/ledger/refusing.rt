@@ -1,5 +1,6 @@
 //! Refusals that no line can ask for, none of which changes anything.
-use crate::ledger::ledger::calling::{Call, Row, run};
+use crate::ledger::ledger::calling::{Call, Row, open};
+use crate::ledger::ledger::making::{Job, done};
 use crate::verdict::expect_yes;
 use cat_base::Refusal;
 use cat_directory::MemoryDirectory;
@@ -29,7 +30,8 @@ const ROWS: &[Row<'static>] = &[
 
 /// Whether that is so of a ledger of a directory without a file.
 fn refuses_without_change(alloc: Global) -> Result<bool, Refusal> {
-    let (are_answered, _device) = run(alloc, MemoryDirectory::new(alloc), ROWS)?;
+    let ledger = open(alloc, MemoryDirectory::new(alloc))?;
+    let (are_answered, _, _device) = done(alloc, ledger, Job::Calls(ROWS))?;
     Ok(are_answered)
 }
 

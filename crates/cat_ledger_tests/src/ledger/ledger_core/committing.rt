@@ -1,7 +1,6 @@
-//! Commits, snapshots and sweeps.
-use crate::ledger::ledger_core::steps::{Case, Row, Step, run_each, run_failing};
-use crate::verdict::expect_yes;
-use cat_base::LAST_NUMBER;
+//! Commits on devices that fail.
+use crate::ledger::ledger_core::steps::{Case, Row, Step, failing};
+use crate::verdict::expect_none;
 use cat_directory::{Faults, FileName};
 use std::test::Fail;
 
@@ -12,30 +11,6 @@ const NAMES: &[FileName] = &[
     FileName::Live(1, 2),
     FileName::Commit(1),
     FileName::Commit(2),
-];
-
-/// Two items in a segment, and a commit of it.
-const ONE_COMMIT: &[Row<'static>] = &[
-    (Step::Put(r#"{"id":"a","price":1}"#), "ok"),
-    (Step::Put(r#"{"id":"b","price":2}"#), "ok"),
-    (Step::Commit("one"), "1"),
-];
-
-/// No commit is there yet.
-const NONE: &[Row<'static>] = &[(Step::Newest, "none")];
-
-/// The first commit has no live file; the second has one, and the first goes; the third keeps it.
-const THREE_COMMITS: &[Row<'static>] = &[
-    (Step::CommitText(1), "one: segments_1 _1.seg _1.sto"),
-    (Step::Told(NAMES), "2 0 1: 2 2 0 1 0; 0"),
-    (Step::Delete("a"), "ok"),
-    (Step::Commit("two"), "2"),
-    (Step::Told(NAMES), "3 0 1: 2 2 1 0 1; 1"),
-    (Step::Commit(""), "3"),
-    (Step::CommitText(3), ": segments_3 _1.seg _1.sto _1_2.liv"),
-    (Step::CommitText(2), "none"),
-    (Step::Sweep, "2"),
-    (Step::Names, " _1.seg _1.sto _1_2.liv segments_3"),
 ];
 
 /// The commit doesn't come, its names are pending and its number is taken.
@@ -55,12 +30,6 @@ const ONE_DELETED: &[Row<'static>] = &[
     (Step::Commit("one"), "1"),
     (Step::Delete("a"), "ok"),
 ];
-
-/// The live file is made and written, it is synced, and then the commit's own file is made, written and synced.
-#[test]
-fn a_refused_commit_is_none(rt: HostRuntime) -> Result<(), Fail> {
-    expect_yes(run_failing(rt.alloc(), ONE_DELETED, 6, SECOND_FAILS))
-}
 
 /// The own file of the first commit, and the file of live rows and the own file of the second.
 const FIRST: &[u8] = b"CSGM\x02\0\0\0\0\0\0\0\x01\0\0\0\0\0\0\0\x02\0\0\0\0\0\0\0\x02\0\0\0\x03one\
@@ -104,156 +73,96 @@ const OWN_WRITTEN: &[Row<'static>] = &[
 ];
 
 /// From one call of the second commit on all fail. Eight calls were made before: four of a flush and four of the first commit.
-const FAILING: &[Case<'static>] = &[
-    (
-        (1, 1),
-        &[
-            ONE_DELETED,
-            &[
-                (Step::Fail(Faults::All(0)), "ok"),
-                (Step::Commit("two"), "NO 30"),
-                (Step::Calls, "9"),
-            ],
-            FIRST_STANDS,
-            NOTHING,
-        ],
-    ),
-    (
-        (1, 1),
-        &[
-            ONE_DELETED,
-            &[
-                (Step::Fail(Faults::All(1)), "ok"),
-                (Step::Commit("two"), "NO 30"),
-                (Step::Calls, "10"),
-            ],
-            FIRST_STANDS,
-            LIVE_BEGUN,
-        ],
-    ),
-    (
-        (1, 1),
-        &[
-            ONE_DELETED,
-            &[
-                (Step::Fail(Faults::All(2)), "ok"),
-                (Step::Commit("two"), "NO 30"),
-                (Step::Calls, "11"),
-            ],
-            FIRST_STANDS,
-            LIVE_WRITTEN,
-        ],
-    ),
-    (
-        (1, 1),
-        &[
-            ONE_DELETED,
-            &[
-                (Step::Fail(Faults::All(3)), "ok"),
-                (Step::Commit("two"), "NO 30"),
-                (Step::Calls, "12"),
-            ],
-            FIRST_STANDS,
-            LIVE_WRITTEN,
-        ],
-    ),
-    (
-        (1, 1),
-        &[
-            ONE_DELETED,
-            &[
-                (Step::Fail(Faults::All(4)), "ok"),
-                (Step::Commit("two"), "NO 30"),
-                (Step::Calls, "13"),
-            ],
-            FIRST_STANDS,
-            OWN_BEGUN,
-        ],
-    ),
-    (
-        (1, 1),
-        &[
-            ONE_DELETED,
-            &[
-                (Step::Fail(Faults::All(5)), "ok"),
-                (Step::Commit("two"), "NO 30"),
-                (Step::Calls, "14"),
-            ],
-            FIRST_STANDS,
-            OWN_WRITTEN,
-        ],
-    ),
-    (
-        (1, 1),
-        &[
-            ONE_DELETED,
-            &[
-                (Step::Fail(Faults::All(6)), "ok"),
-                (Step::Commit("two"), "2"),
-                (Step::Calls, "14"),
-            ],
-            FIRST_STANDS,
-            OWN_WRITTEN,
-        ],
-    ),
+const FROM_0: &[Row<'static>] = &[
+    (Step::Fail(Faults::All(0)), "ok"),
+    (Step::Commit("two"), "NO 30"),
+    (Step::Calls, "9"),
 ];
 
-#[test]
-fn the_own_file_comes_last(rt: HostRuntime) -> Result<(), Fail> {
-    expect_yes(run_each(rt.alloc(), FAILING))
-}
+const FROM_1: &[Row<'static>] = &[
+    (Step::Fail(Faults::All(1)), "ok"),
+    (Step::Commit("two"), "NO 30"),
+    (Step::Calls, "10"),
+];
 
-/// There is nothing to take a snapshot of.
-const NO_COMMIT: &[Row<'static>] = &[(Step::Snapshot, "NO 26")];
+const FROM_2: &[Row<'static>] = &[
+    (Step::Fail(Faults::All(2)), "ok"),
+    (Step::Commit("two"), "NO 30"),
+    (Step::Calls, "11"),
+];
 
-/// A commit with two snapshots outlives the next one and a sweep, until both are given back.
-const TWO_SNAPSHOTS: &[Row<'static>] = &[
-    (Step::Snapshot, "1"),
-    (Step::Snapshot, "1"),
-    (Step::Delete("a"), "ok"),
+const FROM_3: &[Row<'static>] = &[
+    (Step::Fail(Faults::All(3)), "ok"),
+    (Step::Commit("two"), "NO 30"),
+    (Step::Calls, "12"),
+];
+
+const FROM_4: &[Row<'static>] = &[
+    (Step::Fail(Faults::All(4)), "ok"),
+    (Step::Commit("two"), "NO 30"),
+    (Step::Calls, "13"),
+];
+
+const FROM_5: &[Row<'static>] = &[
+    (Step::Fail(Faults::All(5)), "ok"),
+    (Step::Commit("two"), "NO 30"),
+    (Step::Calls, "14"),
+];
+
+const FROM_6: &[Row<'static>] = &[
+    (Step::Fail(Faults::All(6)), "ok"),
     (Step::Commit("two"), "2"),
-    (Step::Sweep, "0"),
-    (Step::Told(NAMES), "3 0 1: 3 3 1 1 1; 0"),
-    (Step::Unsnapshot(2), "NO 27"),
-    (Step::Unsnapshot(1), "1"),
-    (Step::CommitText(1), "one: segments_1 _1.seg _1.sto"),
-    (Step::Unsnapshot(1), "0"),
-    (Step::Unsnapshot(1), "NO 27"),
-    (Step::CommitText(1), "none"),
-    (Step::Told(NAMES), "3 0 1: 2 2 1 0 1; 1"),
-    (Step::Sweep, "1"),
+    (Step::Calls, "14"),
 ];
 
-/// The newest commit stays, whether it has a snapshot or none.
-const NEWEST_STAYS: &[Row<'static>] = &[
-    (Step::Snapshot, "1"),
-    (Step::SnapshotsOf(1), "1"),
-    (Step::Unsnapshot(1), "0"),
-    (Step::Newest, "1"),
-    (Step::Told(NAMES), "2 0 1: 2 2 0 1 0; 0"),
-];
-
-/// The last number is that of a commit, and behind it there is none.
-const LAST_COMMIT: &[Row<'static>] = &[
-    (Step::Commit("last"), "9223372036854775807"),
-    (Step::Commit("none"), "NO 16"),
-    (
-        Step::CommitText(LAST_NUMBER),
-        "last: segments_9223372036854775807",
-    ),
-    (Step::Told(&[]), "0 0 0:; 0"),
-];
-
-/// Each in a ledger of its own: a live file stays while a commit needs it, a snapshot keeps a commit, the newest commit needs no
-/// snapshot, and no commit is behind the last.
+/// The live file is made and written, it is synced, and then the commit's own file is made, written and synced.
 const CASES: &[Case<'static>] = &[
-    ((1, 1), &[NONE, ONE_COMMIT, THREE_COMMITS]),
-    ((1, 1), &[NO_COMMIT, ONE_COMMIT, TWO_SNAPSHOTS]),
-    ((1, 1), &[ONE_COMMIT, NEWEST_STAYS]),
-    ((1, LAST_NUMBER), &[LAST_COMMIT]),
+    ("a refused commit is none", ONE_DELETED, 6, &[SECOND_FAILS]),
+    (
+        "the own file comes last: 0",
+        ONE_DELETED,
+        1,
+        &[FROM_0, FIRST_STANDS, NOTHING],
+    ),
+    (
+        "the own file comes last: 1",
+        ONE_DELETED,
+        1,
+        &[FROM_1, FIRST_STANDS, LIVE_BEGUN],
+    ),
+    (
+        "the own file comes last: 2",
+        ONE_DELETED,
+        1,
+        &[FROM_2, FIRST_STANDS, LIVE_WRITTEN],
+    ),
+    (
+        "the own file comes last: 3",
+        ONE_DELETED,
+        1,
+        &[FROM_3, FIRST_STANDS, LIVE_WRITTEN],
+    ),
+    (
+        "the own file comes last: 4",
+        ONE_DELETED,
+        1,
+        &[FROM_4, FIRST_STANDS, OWN_BEGUN],
+    ),
+    (
+        "the own file comes last: 5",
+        ONE_DELETED,
+        1,
+        &[FROM_5, FIRST_STANDS, OWN_WRITTEN],
+    ),
+    (
+        "the own file comes last: 6",
+        ONE_DELETED,
+        1,
+        &[FROM_6, FIRST_STANDS, OWN_WRITTEN],
+    ),
 ];
 
 #[test]
-fn commits_and_snapshots_keep_their_files(rt: HostRuntime) -> Result<(), Fail> {
-    expect_yes(run_each(rt.alloc(), CASES))
+fn each_call_of_a_commit_fails(rt: HostRuntime) -> Result<(), Fail> {
+    expect_none(failing(rt.alloc(), CASES))
 }

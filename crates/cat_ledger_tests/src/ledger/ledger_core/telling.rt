@@ -1,24 +1,19 @@
 //! Answers as texts: the refusal's number, or what came; and what is told of a ledger.
 use crate::ledger::ledger::telling::news;
 use crate::ledger::ledger_core::calling::Device;
-use cat_base::{Refusal, Token};
-use cat_directory::{Directory, FileName, Shelf};
+use cat_base::Refusal;
+use cat_directory::{FileName, Shelf};
 use cat_ledger::cat_ledger_state::Core;
 use cat_ledger::upkeep::MergeNews;
 use cat_views::Leaf;
 use std::alloc::{AllocError, Global};
 use std::fmt::Write;
 
-/// The number of the refusal.
-fn number_of(refusal: Refusal) -> u64 {
-    u64::from(refusal.number())
-}
-
 /// Tells the number of the refusal. Want of memory is no answer, and is passed on.
-pub(crate) fn tell_refused(text: &mut String, refusal: Refusal) -> Result<(), Refusal> {
+fn tell_refused(text: &mut String, refusal: Refusal) -> Result<(), Refusal> {
     match refusal {
         Refusal::Memory => Err(Refusal::Memory),
-        other => Ok(write!(text, "NO {}", number_of(other))?),
+        other => Ok(write!(text, "NO {}", u64::from(other.number()))?),
     }
 }
 
@@ -36,11 +31,6 @@ pub(crate) fn tell_number(text: &mut String, answer: Result<u64, Refusal>) -> Re
         Ok(number) => Ok(write!(text, "{number}")?),
         Err(refusal) => tell_refused(text, refusal),
     }
-}
-
-/// Tells `yes` or `no`.
-pub(crate) fn tell_whether(text: &mut String, answer: bool) -> Result<(), Refusal> {
-    Ok(text.push_str(if answer { "yes" } else { "no" })?)
 }
 
 /// Tells the number of the newest commit; `none` where there is none.
@@ -62,20 +52,15 @@ fn tell_leaf(text: &mut String, leaf: &Leaf) -> Result<(), AllocError> {
     text.push(';')
 }
 
-/// Tells the segments in order.
-pub(crate) fn tell_leaves(text: &mut String, leaves: &[Leaf]) -> Result<(), Refusal> {
-    for leaf in leaves {
+/// Tells the segments in order, and whether they are merged.
+pub(crate) fn tell_standing(text: &mut String, core: &Core) -> Result<(), Refusal> {
+    for leaf in core.leaves() {
         tell_leaf(text, leaf)?;
     }
-    Ok(())
-}
-
-/// Tells the segments of the view that is recorded under the token; `none` where there is none.
-pub(crate) fn tell_view(text: &mut String, core: &Core, token: Token) -> Result<(), Refusal> {
-    match core.view_at(token) {
-        Some(view) => tell_leaves(text, view.leaves()),
-        None => Ok(text.push_str("none")?),
+    if core.is_merging() {
+        text.push_str("merging")?;
     }
+    Ok(())
 }
 
 /// Tells what a step did with merges.
@@ -100,24 +85,6 @@ pub(crate) fn tell_counts(
         write!(text, " {}", core.users(*name))?;
     }
     Ok(write!(text, "; {}", core.pending())?)
-}
-
-/// Tells each of the names.
-fn tell_names(text: &mut String, names: &[FileName]) -> Result<(), Refusal> {
-    for name in names {
-        write!(text, " {name}")?;
-    }
-    Ok(())
-}
-
-/// Tells the names of the files that there are.
-pub(crate) fn tell_files(
-    text: &mut String,
-    alloc: Global,
-    device: &mut Device,
-) -> Result<(), Refusal> {
-    let names = device.names(alloc)?;
-    tell_names(text, &names)
 }
 
 /// The bytes of the file, and `None` where it is absent.
@@ -153,14 +120,4 @@ pub(crate) fn tell_file(
 ) -> Result<(), Refusal> {
     let bytes = bytes_of(alloc, device, name)?;
     Ok(text.push_str(compared(&bytes, said))?)
-}
-
-/// Tells the text of the commit, and the names of the files that it needs; `none` where there is no such commit.
-pub(crate) fn tell_commit(text: &mut String, core: &Core, generation: u64) -> Result<(), Refusal> {
-    let Some(commit) = core.commit_at(generation) else {
-        return Ok(text.push_str("none")?);
-    };
-    write!(text, "{}:", commit.text)?;
-    let names = commit.names()?;
-    tell_names(text, &names)
 }
