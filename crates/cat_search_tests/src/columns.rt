@@ -1,7 +1,7 @@
 //! Tests of what segments are made of: sets of rows and columns, terms, and the parts of files.
 
 #[cfg(test)]
-mod columns;
+pub(crate) mod columns;
 #[cfg(test)]
 pub(crate) mod parts;
 #[cfg(test)]

@@ -1,6 +1,5 @@
 //! Tests of what stands alone: texts and numbers, items and schemas, columns and terms, files by name, and query texts; and of
-//! segments and their files, of views, pages, counts over labels and cached sets. It also makes views of texts, for the tests of
-//! the crates above.
+//! segments and their files, of views, pages, counts over labels and cached sets. It also makes views of texts.
 #![tactic(auto)]
 
 pub mod base;

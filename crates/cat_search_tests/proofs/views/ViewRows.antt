@@ -1,20 +1,15 @@
 -- Rows that a test cuts into segments are those of a view.
-use Rattle.std.proofs.Common.{◌≡◌, ◌≢◌, ℕ, ◌+◌, ◌<◌, ◌≤◌, Bool, true, false, cond, List, [], ◌∷◌, ◌++◌, length, map, filter, take, drop, get_or, slice_get, set, slice_range, Option, Some, None, IfSome, zero, suc, inl, inr, All, AllPairs, refl, sym, ap, ◌∙◌, subst, arith, append_assoc, append-nil}
+use Rattle.std.proofs.Common.{◌≡◌, ◌≢◌, ℕ, ◌+◌, ◌<◌, ◌≤◌, Bool, true, false, cond, List, [], ◌∷◌, ◌++◌, length, map, filter, take, drop, get_or, set, slice_range, All, AllPairs, refl, sym, ap, ◌∙◌, subst, arith, append_assoc, append-nil}
 use Rattle.std.specs.List.{flat_map}
 use Rattle.std.proofs.lemmas.Grind.{flat_map-append}
-use Rattle.std.proofs.lemmas.List.{length-append, length-map, map-append, get_or-take, length-take-le, get_or_default, take_more, take_more_set, map_more, drop_all, get_or-set_other, length-set}
+use Rattle.std.proofs.lemmas.List.{length-append, length-map, map-append, get_or-take, length-take-le, take_more, take_more_set, map_more, drop_all, get_or-set_other, length-set}
 use Rattle.std.proofs.lemmas.List.Elements.{All-push, filter-append, filter_passes}
 use Rattle.std.proofs.lemmas.List.Folds.{drop_split}
 use Rattle.std.proofs.lemmas.List.Kept.{AllPairs-filter}
 use Rattle.std.proofs.lemmas.List.Quantifiers.{all_pairs_push}
-use Rattle.std.specs.Arc.{arc_value}
-use Rattle.std.specs.declared.sync.Arc.{Arc}
-use Rattle.std.proofs.lemmas.Bool.{cases_lt}
 use Rattle.cat_model.specs.Item.{Schema}
-use Rattle.cat_model.specs.Query.{Query}
-use Rattle.cat_cached_sets.specs.cat_views.Sets.{AreSets, set_at, shared}
 use Rattle.cat_model.specs.View as model
-use Rattle.cat_model.specs.View.{Segment, Leaf, IsView, row_of, row_matches, selected, live_rows}
+use Rattle.cat_model.specs.View.{Segment, Leaf, IsView, row_of, selected, live_rows}
 use Rattle.cat_search_tests.specs.declared.views.put.Put.{Put}
 use Rattle.cat_search_tests.proofs.segment.SegmentRows.{pairs_map}
 
@@ -149,39 +144,3 @@ is_view schema puts start token leaves order cut past =
       distinct = subst (AllPairs (λ a b. a.id ≢ b.id)) (sym shown) (pairs_map (λ a b. a.id ≢ b.id) row_in (filter (λ p. p.live) puts) (λ i j d lt within.
           (AllPairs-filter Beside (λ p. p.live) puts order i j d lt within).1 (filter_passes (λ p. p.live) puts i d (omega (arith, lt, within))) (filter_passes (λ p. p.live) puts j d within)));
     }
-
--- ---- sets
-
-pub get_before : {X : Type 0} (xs : List X) (x : X) (k : ℕ) → k < length xs → slice_get (xs ++ x ∷ []) k ≡ slice_get xs k
-get_before [] x k lt = absurd (omega (arith, lt))
-get_before (y ∷ ys) x zero lt = refl
-get_before (y ∷ ys) x (suc k) lt = get_before ys x k (omega (arith, lt))
-
-pub get_last : {X : Type 0} (xs : List X) (x : X) → slice_get (xs ++ x ∷ []) (length xs) ≡ Some x
-get_last [] x = refl
-get_last (y ∷ ys) x = get_last ys x
-
-module _ {Z : Type 0} (q : Query) (leaves : List Leaf) (sets : List (Option (Arc (List Bool) Z))) (s : Option (Arc (List Bool) Z)) where
-  abbrev IsSetOf : Leaf → Option (List Bool) → Type 0
-  IsSetOf leaf o = IfSome o (λ rows. rows ≡ map (row_matches q) leaf.segment.rows)
-
-  pub sets_more : (i : ℕ) (leaf : Leaf) → i < length leaves → leaf ≡ get_or leaves i leaf → length sets ≡ i → AreSets q (take i leaves) sets → IsSetOf leaf (shared (Some s))
-      → AreSets q (take (i + 1) leaves) (sets ++ s ∷ [])
-  sets_more i leaf lt is long done here k d within =
-      let longer = length-take-le (i + 1) leaves (omega (arith, lt)) in
-      let shorter = length-take-le i leaves (omega (arith, lt)) in
-      elim (cases_lt k i) [
-        | inl before ↦
-            subst (λ l. IsSetOf l (set_at (sets ++ s ∷ []) k)) (get_or-take i leaves k d before ∙ sym (get_or-take (i + 1) leaves k d (omega (arith, before))))
-            (subst (λ o. IsSetOf (get_or (take i leaves) k d) (shared o)) (sym (get_before sets s k (omega (arith, before, long)))) (done k d (omega (arith, before, shorter))))
-        | inr past ↦
-            let last : k ≡ i = omega (arith, past, within, longer) in
-            let at : leaf ≡ get_or (take (i + 1) leaves) k d =
-            is ∙ get_or_default leaves i leaf d lt ∙ ap (λ n. get_or leaves n d) (sym last) ∙ sym (get_or-take (i + 1) leaves k d (omega (arith, last))) in
-            subst (λ l. IsSetOf l (set_at (sets ++ s ∷ []) k)) at
-            (subst (λ o. IsSetOf leaf (shared o)) (sym (ap (slice_get (sets ++ s ∷ [])) (last ∙ sym long) ∙ get_last sets s)) here)
-      ]
-
-pub shown_in : {X Z : Type 0} (P : X → Type 0) (o : Option (Arc X Z)) → IfSome o (λ s. P (arc_value s)) → IfSome (shared (Some o)) P
-shown_in P None h = tt
-shown_in P (Some s) h = h

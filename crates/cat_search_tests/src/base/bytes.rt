@@ -1,5 +1,5 @@
 //! Numbers and texts as bytes, and what is refused of bytes.
-use crate::verdict::expect;
+use crate::verdict::expect_yes;
 use cat_base::{Cursor, Refusal, put_bytes, put_u32, put_u64};
 use std::alloc::{AllocError, Global};
 use std::test::Fail;
@@ -13,52 +13,85 @@ fn put(alloc: Global) -> Result<Vec<u8>, AllocError> {
     Ok(out)
 }
 
+/// Whether numbers are put with their high byte first, and texts behind how long they are.
+fn is_put(alloc: Global) -> Result<bool, AllocError> {
+    const WANT: &[u8] = &[0, 0, 0, 1, 0, 0, 0, 0, 0, 0, 1, 2, 0, 0, 0, 2, 0x61, 0x62];
+    Ok(put(alloc)?.as_slice() == WANT)
+}
+
 #[test]
 fn puts_the_high_byte_first(rt: HostRuntime) -> Result<(), Fail> {
-    let want = [0, 0, 0, 1, 0, 0, 0, 0, 0, 0, 1, 2, 0, 0, 0, 2, 0x61, 0x62];
-    expect(put(rt.alloc())?.as_slice() == want.as_slice())
+    expect_yes(is_put(rt.alloc()))
 }
 
-/// Whether the next are 7, 1 and 258, in one byte, four and eight.
-fn has_numbers(cursor: &mut Cursor<'_>) -> bool {
-    cursor.take_u8() == Ok(7) && cursor.take_u32() == Ok(1) && cursor.take_u64() == Ok(258)
+/// What is taken of bytes, and what is answered.
+#[derive(Clone, Copy)]
+enum Taken<'a> {
+    /// One byte.
+    Byte(Result<u8, Refusal>),
+    /// A number of four bytes.
+    Short(Result<u32, Refusal>),
+    /// A number of eight bytes.
+    Long(Result<u64, Refusal>),
+    /// A text.
+    Text(Result<&'a [u8], Refusal>),
+    /// Nothing, as the bytes end.
+    End(Result<(), Refusal>),
 }
 
-/// Whether the last are `ab` and an empty text.
-fn has_texts(cursor: &mut Cursor<'_>) -> bool {
-    cursor.take_bytes() == Ok(b"ab".as_slice())
-        && cursor.ended() == Err(Refusal::Damaged)
-        && cursor.take_bytes() == Ok(b"".as_slice())
-        && cursor.ended() == Ok(())
+/// Whether the next is answered so.
+fn is_taken(cursor: &mut Cursor<'_>, want: Taken<'_>) -> bool {
+    match want {
+        Taken::Byte(want) => cursor.take_u8() == want,
+        Taken::Short(want) => cursor.take_u32() == want,
+        Taken::Long(want) => cursor.take_u64() == want,
+        Taken::Text(want) => cursor.take_bytes() == want,
+        Taken::End(want) => cursor.ended() == want,
+    }
 }
 
+/// Whether all is answered so, in turn.
+fn are_taken(bytes: &[u8], all: &[Taken<'_>]) -> bool {
+    let mut cursor = Cursor::new(bytes);
+    for want in all {
+        if !is_taken(&mut cursor, *want) {
+            return false;
+        }
+    }
+    true
+}
+
+/// Numbers and texts, and what is taken of them.
+const PUT: &[u8] = &[
+    7, 0, 0, 0, 1, 0, 0, 0, 0, 0, 0, 1, 2, 0, 0, 0, 2, 0x61, 0x62, 0, 0, 0, 0,
+];
+
+const TAKEN: &[Taken<'static>] = &[
+    Taken::Byte(Ok(7)),
+    Taken::Short(Ok(1)),
+    Taken::Long(Ok(258)),
+    Taken::Text(Ok(b"ab")),
+    Taken::End(Err(Refusal::Damaged)),
+    Taken::Text(Ok(b"")),
+    Taken::End(Ok(())),
+];
+
+/// A text that is longer than what is left, which is refused and leaves its bytes.
+const CUT: &[u8] = &[0, 0, 0, 3, 0x61];
+
+const LEFT: &[Taken<'static>] = &[
+    Taken::Text(Err(Refusal::Damaged)),
+    Taken::Long(Err(Refusal::Damaged)),
+    Taken::Short(Ok(3)),
+    Taken::Short(Err(Refusal::Damaged)),
+    Taken::Text(Err(Refusal::Damaged)),
+    Taken::Byte(Ok(0x61)),
+    Taken::Byte(Err(Refusal::Damaged)),
+    Taken::End(Ok(())),
+];
+
+/// Takes what was put, and leaves what it refuses.
 #[test]
-fn takes_what_was_put(rt: HostRuntime) {
-    let file = [
-        7, 0, 0, 0, 1, 0, 0, 0, 0, 0, 0, 1, 2, 0, 0, 0, 2, 0x61, 0x62, 0, 0, 0, 0,
-    ];
-    let mut cursor = Cursor::new(&file);
-    assert!(rt; has_numbers(&mut cursor) && has_texts(&mut cursor));
-}
-
-/// Whether no text and no number of eight bytes is taken, but 3 is, and then no other number.
-fn leaves_up_to_three(cursor: &mut Cursor<'_>) -> bool {
-    cursor.take_bytes() == Err(Refusal::Damaged)
-        && cursor.take_u64() == Err(Refusal::Damaged)
-        && cursor.take_u32() == Ok(3)
-        && cursor.take_u32() == Err(Refusal::Damaged)
-}
-
-/// Whether no text is taken, but the last byte is, which is `a`.
-fn leaves_the_last(cursor: &mut Cursor<'_>) -> bool {
-    cursor.take_bytes() == Err(Refusal::Damaged)
-        && cursor.take_u8() == Ok(0x61)
-        && cursor.take_u8() == Err(Refusal::Damaged)
-        && cursor.ended() == Ok(())
-}
-
-#[test]
-fn leaves_what_it_refuses(rt: HostRuntime) {
-    let mut cursor = Cursor::new(&[0, 0, 0, 3, 0x61]);
-    assert!(rt; leaves_up_to_three(&mut cursor) && leaves_the_last(&mut cursor));
+fn takes_what_was_put_and_leaves_what_it_refuses(rt: HostRuntime) {
+    assert!(rt; are_taken(PUT, TAKEN) && are_taken(CUT, LEFT));
 }

@@ -1,6 +1,6 @@
 //! Texts and sets of texts.
 use crate::columns::texts::set;
-use crate::verdict::{expect, expect_yes};
+use crate::verdict::{expect, expect_none, expect_yes};
 use cat_base::{SHORT_BYTES, Text, TextSet};
 use std::alloc::{AllocError, Global};
 use std::cmp::Ordering;
@@ -24,35 +24,6 @@ fn spelled_compare_so(alloc: Global, row: &Comparison<'_>) -> Result<bool, Alloc
     Ok(compare_so(&one, &other, want))
 }
 
-/// The same of each row.
-fn all_compare_so(alloc: Global, rows: &[Comparison<'_>]) -> Result<bool, AllocError> {
-    for row in rows {
-        if !spelled_compare_so(alloc, row)? {
-            return Ok(false);
-        }
-    }
-    Ok(true)
-}
-
-#[test]
-fn texts_compare_by_bytes(rt: HostRuntime) -> Result<(), Fail> {
-    // "Z" is 5a, "a" is 61, and "é" begins with c3.
-    const ROWS: &[Comparison<'static>] = &[
-        ("", "a", Ordering::Less),
-        ("a", "a", Ordering::Equal),
-        ("a", "Z", Ordering::Greater),
-        ("a", "ab", Ordering::Less),
-        ("z", "é", Ordering::Less),
-        // 16 bytes lie in the value, and 17 in memory of their own.
-        ("sixteen letters:", "sixteen letters:", Ordering::Equal),
-        ("sixteen letters:", "sixteen letters::", Ordering::Less),
-        ("seventeen letters", "seventeen letters", Ordering::Equal),
-        ("seventeen letters", "seventeen", Ordering::Greater),
-        ("seventeen letters", "z", Ordering::Less),
-    ];
-    expect_yes(all_compare_so(rt.alloc(), ROWS))
-}
-
 /// Whether the text has these letters, and so has its copy.
 fn is_copied(text: &Text, letters: &str) -> Result<bool, AllocError> {
     Ok(text.as_str() == letters && text.copy()? == *text)
@@ -64,49 +35,92 @@ fn is_shown(alloc: Global, text: &Text, want: &str) -> Result<bool, AllocError> 
     Ok(shown.as_str() == want)
 }
 
-#[test]
-fn texts_are_shown(rt: HostRuntime) -> Result<(), Fail> {
-    const SHOE: &str = "red \"shoe\"";
-    const SHOWN: &str = "red \"shoe\", \"red \\\"shoe\\\"\"";
-    let text = Text::new(String::from_str(rt.alloc(), SHOE)?);
-    expect(is_copied(&text, SHOE)? && is_shown(rt.alloc(), &text, SHOWN)?)
+/// Whether a text of these letters is shown so, and so is its copy.
+fn are_shown(alloc: Global, letters: &str, want: &str) -> Result<bool, AllocError> {
+    let text = Text::new(String::from_str(alloc, letters)?);
+    Ok(is_copied(&text, letters)? && is_shown(alloc, &text, want)?)
+}
+
+/// Whether both texts have these letters, and a copy of the first is the other.
+fn are_equal(one: &Text, other: &Text, letters: &str) -> Result<bool, AllocError> {
+    Ok(one.as_str() == letters && other.as_str() == letters && one.copy()? == *other)
 }
 
 /// Whether a text of these letters is kept as it is, be it read of them or made of a string.
 fn is_kept(alloc: Global, letters: &str) -> Result<bool, AllocError> {
     let one = Text::from_str(alloc, letters)?;
     let other = Text::new(String::from_str(alloc, letters)?);
-    Ok(one.as_str() == letters && other.as_str() == letters && one.copy()? == other)
+    are_equal(&one, &other, letters)
 }
 
-/// The same of each text.
-fn are_kept(alloc: Global, texts: &[&str]) -> Result<bool, AllocError> {
-    for text in texts {
-        if !is_kept(alloc, text)? {
-            return Ok(false);
+/// What is tried of texts.
+#[derive(Clone, Copy)]
+enum Case<'a> {
+    /// Texts compare so.
+    Compare(&'a str, &'a str, Ordering),
+    /// A text is shown so: bare, and then quoted.
+    Shown(&'a str, &'a str),
+    /// A text is kept as it is.
+    Kept(&'a str),
+}
+
+/// Texts compare by bytes: "Z" is 5a, "a" is 61, and "é" begins with c3. 16 bytes lie in the value, and 17 in memory of their own.
+const CASES: &[Case<'static>] = &[
+    Case::Compare("", "a", Ordering::Less),
+    Case::Compare("a", "a", Ordering::Equal),
+    Case::Compare("a", "Z", Ordering::Greater),
+    Case::Compare("a", "ab", Ordering::Less),
+    Case::Compare("z", "é", Ordering::Less),
+    Case::Compare("sixteen letters:", "sixteen letters:", Ordering::Equal),
+    Case::Compare("sixteen letters:", "sixteen letters::", Ordering::Less),
+    Case::Compare("seventeen letters", "seventeen letters", Ordering::Equal),
+    Case::Compare("seventeen letters", "seventeen", Ordering::Greater),
+    Case::Compare("seventeen letters", "z", Ordering::Less),
+    Case::Shown("red \"shoe\"", "red \"shoe\", \"red \\\"shoe\\\"\""),
+    Case::Kept(""),
+    Case::Kept("a"),
+    Case::Kept("fifteen letters"),
+    Case::Kept("sixteen letters:"),
+    Case::Kept("ten bytes ééé"),
+    Case::Kept("seventeen letters"),
+    Case::Kept("fifteen bytes: é"),
+];
+
+/// Whether it is so.
+fn is_so(alloc: Global, case: &Case<'_>) -> Result<bool, AllocError> {
+    match *case {
+        Case::Compare(one, other, want) => spelled_compare_so(alloc, &(one, other, want)),
+        Case::Shown(letters, want) => are_shown(alloc, letters, want),
+        Case::Kept(letters) => is_kept(alloc, letters),
+    }
+}
+
+/// The first text that isn't so.
+fn failing(alloc: Global, cases: &[Case<'static>]) -> Result<Option<&'static str>, AllocError> {
+    for case in cases {
+        if !is_so(alloc, case)? {
+            return Ok(Some(text_of(case)));
         }
     }
-    Ok(true)
+    Ok(None)
+}
+
+/// The text that is tried.
+fn text_of(case: &Case<'static>) -> &'static str {
+    match *case {
+        Case::Compare(text, _, _) | Case::Shown(text, _) | Case::Kept(text) => text,
+    }
 }
 
 #[test]
-fn texts_of_each_length_are_kept(rt: HostRuntime) -> Result<(), Fail> {
-    const TEXTS: &[&str] = &[
-        "",
-        "a",
-        "fifteen letters",
-        "sixteen letters:",
-        "ten bytes ééé",
-        "seventeen letters",
-        "fifteen bytes: é",
-    ];
-    expect_yes(are_kept(rt.alloc(), TEXTS))
+fn texts_compare_are_shown_and_are_kept(rt: HostRuntime) -> Result<(), Fail> {
+    expect_none(failing(rt.alloc(), CASES))
 }
 
-/// Whether the letters are few, and those of a copy of their text.
+/// Whether the letters are few, and those of a text of them and of its copy.
 fn is_short(alloc: Global, letters: &str) -> Result<bool, AllocError> {
-    let copy = Text::from_str(alloc, letters)?.copy()?;
-    Ok(letters.len() <= SHORT_BYTES && copy.as_str() == letters)
+    let text = Text::from_str(alloc, letters)?;
+    Ok(letters.len() <= SHORT_BYTES && is_copied(&text, letters)?)
 }
 
 /// The same of each text.
@@ -162,9 +176,14 @@ fn has_nothing(set: &TextSet) -> bool {
     set.is_empty() && set.as_slice().is_empty() && !set.contains("a") && set.len() == 0
 }
 
+/// Whether a set of the texts "b", "a" and "b" has each once, and a new one none.
+fn has_each_once(alloc: Global) -> Result<bool, AllocError> {
+    let words = set(alloc, &["b", "a", "b"])?;
+    are_a_and_b(alloc, &words)
+}
+
 #[test]
 fn a_set_has_each_text_once(rt: HostRuntime) -> Result<(), Fail> {
-    let words = set(rt.alloc(), &["b", "a", "b"])?;
-    let none = TextSet::new(rt.alloc());
-    expect(are_a_and_b(rt.alloc(), &words)? && has_nothing(&none))
+    expect(has_nothing(&TextSet::new(rt.alloc())))?;
+    expect_yes(has_each_once(rt.alloc()))
 }

@@ -3,7 +3,7 @@ ghost use Rattle.std.specs.Prelude.{◌≤◌, ◌^◌, ◌<◌, length};
 ghost use Rattle.cat_model.specs.Layout.{AreEnds};
 
 use crate::columns::texts::{are_words, equal_rows, has_rows, number, rows_in, set, texts};
-use crate::verdict::{expect, expect_yes};
+use crate::verdict::expect_none;
 use cat_base::{MAX_ROWS, Refusal};
 use cat_columns::{Dictionary, KeywordColumn, RowSet, SetColumn};
 use std::alloc::{AllocError, Global};
@@ -39,12 +39,16 @@ fn are_keywords(column: &KeywordColumn, texts: &[&str]) -> bool {
     column.len() == texts.len()
 }
 
-#[test]
-fn keywords_are_made_of_codes(rt: HostRuntime) -> Result<(), Fail> {
+/// Whether the rows have these codes and texts.
+fn are_coded(column: &KeywordColumn, codes: &[u32], texts: &[&str]) -> bool {
+    are_keywords(column, texts) && column.codes() == codes
+}
+
+fn are_made_of_codes(alloc: Global) -> Result<bool, Refusal> {
     const CODES: &[u32] = &[2, 0, 1, 2];
     const TEXTS: &[&str] = &["red", "missing", "blue", "red"];
-    let column = keywords(rt.alloc(), BLUE_AND_RED, CODES)?;
-    expect(are_keywords(&column, TEXTS) && column.codes() == CODES)
+    let column = keywords(alloc, BLUE_AND_RED, CODES)?;
+    Ok(are_coded(&column, CODES, TEXTS))
 }
 
 /// Whether the codes are damaged.
@@ -54,19 +58,16 @@ fn are_no_keywords(alloc: Global, words: &[&str], codes: &[u32]) -> bool
     number(&keywords(alloc, words, codes)) == 31
 }
 
-#[test]
-fn codes_of_no_keywords_are_damaged(rt: HostRuntime) {
+/// Whether codes are damaged where a text has no row, where there is no second text, and where texts fall.
+fn are_codes_damaged(alloc: Global) -> bool {
     const BLUE: &[&str] = &["blue"];
     const FALLING: &[&str] = &["red", "blue"];
     // No row is red.
     const BLUE_ALONE: &[u32] = &[1, 0, 1];
     const EACH: &[u32] = &[1, 2];
-    let alloc = rt.alloc();
-    // There is no second text; the texts fall.
-    let are_damaged = are_no_keywords(alloc, BLUE_AND_RED, BLUE_ALONE)
+    are_no_keywords(alloc, BLUE_AND_RED, BLUE_ALONE)
         && are_no_keywords(alloc, BLUE, EACH)
-        && are_no_keywords(alloc, FALLING, EACH);
-    assert!(rt; are_damaged);
+        && are_no_keywords(alloc, FALLING, EACH)
 }
 
 fn labels(
@@ -93,7 +94,7 @@ fn ordinals_at(column: &SetColumn, row: usize) -> &[u32] {
 }
 
 /// Whether the rows have labels of these ordinals.
-fn are_ordinals(column: &SetColumn, rows: &[&[u32]]) -> bool {
+pub(crate) fn are_ordinals(column: &SetColumn, rows: &[&[u32]]) -> bool {
     for (row, ordinals) in rows.iter().enumerate() {
         if ordinals_at(column, row) != *ordinals {
             return false;
@@ -107,13 +108,12 @@ fn are_labels(column: &SetColumn, words: &[&str], rows: &[&[u32]]) -> bool {
     are_words(column.dictionary().as_slice(), words) && are_ordinals(column, rows)
 }
 
-#[test]
-fn labels_are_made_of_ordinals(rt: HostRuntime) -> Result<(), Fail> {
+fn are_made_of_ordinals(alloc: Global) -> Result<bool, Refusal> {
     const ENDS: &[u32] = &[1, 1, 3];
     const ORDINALS: &[u32] = &[1, 0, 1];
     const ROWS: &[&[u32]] = &[&[1], &[], &[0, 1]];
-    let column = labels(rt.alloc(), BLUE_AND_RED, ENDS, ORDINALS)?;
-    expect(are_labels(&column, BLUE_AND_RED, ROWS))
+    let column = labels(alloc, BLUE_AND_RED, ENDS, ORDINALS)?;
+    Ok(are_labels(&column, BLUE_AND_RED, ROWS))
 }
 
 /// Whether the ordinals are damaged.
@@ -124,8 +124,8 @@ fn are_no_labels(alloc: Global, words: &[&str], ends: &[u32], ordinals: &[u32]) 
     number(&labels(alloc, words, ends, ordinals)) == 31
 }
 
-#[test]
-fn ordinals_of_no_labels_are_damaged(rt: HostRuntime) {
+/// Whether ordinals are damaged where a label has no row, and where a row has a label twice.
+fn are_ordinals_damaged(alloc: Global) -> bool {
     const EACH: &[u32] = &[1, 2];
     // No row is blue.
     const RED: &[u32] = &[1, 1];
@@ -133,10 +133,7 @@ fn ordinals_of_no_labels_are_damaged(rt: HostRuntime) {
     const BOTH: &[u32] = &[2];
     // A row has a label twice.
     const TWICE: &[u32] = &[0, 0];
-    let alloc = rt.alloc();
-    let are_damaged = are_no_labels(alloc, BLUE_AND_RED, EACH, RED)
-        && are_no_labels(alloc, BLUE, BOTH, TWICE);
-    assert!(rt; are_damaged);
+    are_no_labels(alloc, BLUE_AND_RED, EACH, RED) && are_no_labels(alloc, BLUE, BOTH, TWICE)
 }
 
 /// The rows 0, 9, 63, 64 and 66, of 67.
@@ -152,11 +149,10 @@ fn is_packed(
     Ok(has_rows(alloc, set, rows)? && set.to_bytes()?.as_slice() == bytes)
 }
 
-#[test]
-fn sets_are_made_of_bytes(rt: HostRuntime) -> Result<(), Fail> {
+fn are_made_of_bytes(alloc: Global) -> Result<bool, Refusal> {
     const ROWS: &[usize] = &[0, 9, 63, 64, 66];
-    let set = RowSet::from_bytes(rt.alloc(), 67, PACKED)?;
-    expect_yes(is_packed(rt.alloc(), &set, ROWS, PACKED))
+    let set = RowSet::from_bytes(alloc, 67, PACKED)?;
+    Ok(is_packed(alloc, &set, ROWS, PACKED)?)
 }
 
 /// Whether the bytes are of no set of so many rows.
@@ -164,14 +160,9 @@ fn is_no_set(alloc: Global, len: u8, bytes: &[u8]) -> bool {
     number(&RowSet::from_bytes(alloc, usize::from(len), bytes)) == 31
 }
 
-#[test]
-fn bytes_of_other_counts_of_rows_are_damaged(rt: HostRuntime) {
-    let alloc = rt.alloc();
-    // A byte too many; a row past the last; a byte too few.
-    let are_damaged = is_no_set(alloc, 64, PACKED)
-        && is_no_set(alloc, 66, PACKED)
-        && is_no_set(alloc, 73, PACKED);
-    assert!(rt; are_damaged);
+/// Whether a byte too many is damaged, a row past the last, and a byte too few.
+fn are_counts_damaged(alloc: Global) -> bool {
+    is_no_set(alloc, 64, PACKED) && is_no_set(alloc, 66, PACKED) && is_no_set(alloc, 73, PACKED)
 }
 
 /// Whether each is told to have all of so many rows, or none is.
@@ -184,8 +175,8 @@ fn are_told(all: &[(u8, &[u8])], want: bool) -> bool {
     true
 }
 
-#[test]
-fn bytes_of_all_rows_are_told(rt: HostRuntime) {
+/// Whether bytes of all rows are told from others.
+fn are_all_told() -> bool {
     const ALL: &[(u8, &[u8])] = &[(0, b""), (1, b"\x01"), (8, b"\xff"), (15, b"\xff\x7f")];
     // A row is missing, the last one too; a row past the last; a byte too few, and one too many.
     const OTHERS: &[(u8, &[u8])] = &[
@@ -195,7 +186,7 @@ fn bytes_of_all_rows_are_told(rt: HostRuntime) {
         (9, b"\xff"),
         (8, b"\xff\0"),
     ];
-    assert!(rt; are_told(ALL, true) && are_told(OTHERS, false));
+    are_told(ALL, true) && are_told(OTHERS, false)
 }
 
 /// What is left of a set of all rows once those below the row are removed.
@@ -217,35 +208,44 @@ fn are_left_from(alloc: Global, len: usize, row: usize) -> Result<bool, AllocErr
     Ok(left_from(alloc, len, row)?.as_slice() == rows.as_slice())
 }
 
-/// The same of a set of so many rows, from each of these on that is there.
-fn are_left(alloc: Global, len: u8, rows: &[u8]) -> Result<bool, AllocError> {
-    for row in rows {
-        if *row <= len && !are_left_from(alloc, usize::from(len), usize::from(*row))? {
-            return Ok(false);
-        }
+/// The same of a set of so many rows, where the row is there.
+fn is_left(alloc: Global, len: u8, row: u8) -> Result<bool, AllocError> {
+    if row > len {
+        return Ok(false);
     }
-    Ok(true)
+    are_left_from(alloc, usize::from(len), usize::from(row))
 }
+
+/// How many rows a set has, and the row below which rows are removed.
+const REMOVED: &[(u8, u8)] = &[
+    (1, 0),
+    (1, 1),
+    (64, 0),
+    (64, 1),
+    (64, 63),
+    (64, 64),
+    (65, 0),
+    (65, 1),
+    (65, 63),
+    (65, 64),
+    (65, 65),
+    (200, 0),
+    (200, 1),
+    (200, 63),
+    (200, 64),
+    (200, 65),
+    (200, 130),
+    (200, 200),
+];
 
 /// The same of each set.
-fn are_all_left(alloc: Global, sets: &[(u8, &[u8])]) -> Result<bool, AllocError> {
-    for (len, rows) in sets {
-        if !are_left(alloc, *len, rows)? {
+fn are_all_left(alloc: Global) -> Result<bool, AllocError> {
+    for &(len, row) in REMOVED {
+        if !is_left(alloc, len, row)? {
             return Ok(false);
         }
     }
     Ok(true)
-}
-
-#[test]
-fn rows_below_one_are_removed(rt: HostRuntime) -> Result<(), Fail> {
-    const SETS: &[(u8, &[u8])] = &[
-        (1, &[0, 1]),
-        (64, &[0, 1, 63, 64]),
-        (65, &[0, 1, 63, 64, 65]),
-        (200, &[0, 1, 63, 64, 65, 130, 200]),
-    ];
-    expect_yes(are_all_left(rt.alloc(), SETS))
 }
 
 /// The set of the first and the last of so many rows.
@@ -268,10 +268,8 @@ fn has_ends(alloc: Global, len: usize) -> Result<bool, AllocError>
     Ok(set.len() == len && set.count() == 2 && has_rows(alloc, &set, &[0, len - 1])?)
 }
 
-#[test]
-fn a_set_has_the_rows_of_a_full_segment(rt: HostRuntime) -> Result<(), Fail> {
-    let alloc = rt.alloc();
-    expect(has_ends(alloc, 65_537)? && has_ends(alloc, MAX_ROWS)?)
+fn has_rows_of_a_full_segment(alloc: Global) -> Result<bool, AllocError> {
+    Ok(has_ends(alloc, 65_537)? && has_ends(alloc, MAX_ROWS)?)
 }
 
 /// A column of so many rows, each with two labels.
@@ -289,10 +287,9 @@ fn has_all_pairs(column: &SetColumn) -> bool {
     ends.len() == 40_000 && ordinals.len() == 80_000 && ends.last() == Some(&80_000)
 }
 
-#[test]
-fn a_column_has_more_labels_than_two_bytes_count(rt: HostRuntime) -> Result<(), Fail> {
-    let column = column_of_pairs(rt.alloc(), 40_000)?;
-    expect(has_all_pairs(&column))
+fn are_many_labels(alloc: Global) -> Result<bool, AllocError> {
+    let column = column_of_pairs(alloc, 40_000)?;
+    Ok(has_all_pairs(&column))
 }
 
 /// A dictionary that is shared with one that is gone.
@@ -307,10 +304,9 @@ fn is_blue_and_red(dictionary: &Dictionary) -> bool {
         && dictionary.ordinal("green").is_none()
 }
 
-#[test]
-fn a_dictionary_is_shared(rt: HostRuntime) -> Result<(), Fail> {
-    let shared = shared(rt.alloc())?;
-    expect(is_blue_and_red(&shared))
+fn is_shared(alloc: Global) -> Result<bool, AllocError> {
+    let shared = shared(alloc)?;
+    Ok(is_blue_and_red(&shared))
 }
 
 /// The union of two sets and an empty one.
@@ -320,10 +316,9 @@ fn union_of_few(alloc: Global) -> Result<Dictionary, AllocError> {
     Dictionary::union(alloc, &[one.as_slice(), &[], other.as_slice()])
 }
 
-#[test]
-fn a_union_has_the_texts_of_all_sets(rt: HostRuntime) -> Result<(), Fail> {
-    let union = union_of_few(rt.alloc())?;
-    expect(are_words(union.as_slice(), &["ash", "birch", "elm", "oak"]))
+fn is_of_few(alloc: Global) -> Result<bool, AllocError> {
+    let union = union_of_few(alloc)?;
+    Ok(are_words(union.as_slice(), &["ash", "birch", "elm", "oak"]))
 }
 
 /// The union of three sets, one of them twice, and an empty one.
@@ -341,10 +336,87 @@ fn union_of_many(alloc: Global) -> Result<Dictionary, AllocError> {
     Dictionary::union(alloc, sets)
 }
 
-#[test]
-fn a_union_of_many_sets_has_each_text_once(rt: HostRuntime) -> Result<(), Fail> {
+fn is_of_many(alloc: Global) -> Result<bool, AllocError> {
     const WORDS: &[&str] = &["ash", "birch", "elm", "oak", "yew"];
-    let union = union_of_many(rt.alloc())?;
-    let none = Dictionary::union(rt.alloc(), &[])?;
-    expect(are_words(union.as_slice(), WORDS) && none.len() == 0)
+    let union = union_of_many(alloc)?;
+    Ok(are_words(union.as_slice(), WORDS))
+}
+
+fn is_of_none(alloc: Global) -> Result<bool, AllocError> {
+    Ok(Dictionary::union(alloc, &[])?.len() == 0)
+}
+
+/// What is tried.
+#[derive(Clone, Copy)]
+enum Try {
+    Codes,
+    Ordinals,
+    Bytes,
+    Removed,
+    Full,
+    Labels,
+    Shared,
+    Few,
+    Many,
+    Nothing,
+}
+
+const TRIES: &[(&str, Try)] = &[
+    ("keywords are made of codes", Try::Codes),
+    ("labels are made of ordinals", Try::Ordinals),
+    ("sets are made of bytes", Try::Bytes),
+    ("rows below one are removed", Try::Removed),
+    ("a set has the rows of a full segment", Try::Full),
+    ("a column has more labels than two bytes count", Try::Labels),
+    ("a dictionary is shared", Try::Shared),
+    ("a union has the texts of all sets", Try::Few),
+    ("a union of many sets has each text once", Try::Many),
+    ("a union of no sets has no text", Try::Nothing),
+];
+
+/// Whether it is as it has to be.
+fn is_so(alloc: Global, what: Try) -> Result<bool, Refusal> {
+    match what {
+        Try::Codes => are_made_of_codes(alloc),
+        Try::Ordinals => are_made_of_ordinals(alloc),
+        Try::Bytes => are_made_of_bytes(alloc),
+        _ => is_so_with_memory(alloc, what),
+    }
+}
+
+/// The same of what memory alone may refuse.
+fn is_so_with_memory(alloc: Global, what: Try) -> Result<bool, Refusal> {
+    let is_so = match what {
+        Try::Removed => are_all_left(alloc),
+        Try::Full => has_rows_of_a_full_segment(alloc),
+        Try::Labels => are_many_labels(alloc),
+        Try::Shared => is_shared(alloc),
+        Try::Few => is_of_few(alloc),
+        Try::Many => is_of_many(alloc),
+        Try::Nothing => is_of_none(alloc),
+        _ => Ok(false),
+    };
+    Ok(is_so?)
+}
+
+/// The first that isn't so.
+fn failing(alloc: Global, tries: &[(&'static str, Try)]) -> Result<Option<&'static str>, Refusal> {
+    for &(name, what) in tries {
+        if !is_so(alloc, what)? {
+            return Ok(Some(name));
+        }
+    }
+    Ok(None)
+}
+
+#[test]
+fn columns_and_sets_are_made(rt: HostRuntime) -> Result<(), Fail> {
+    expect_none(failing(rt.alloc(), TRIES))
+}
+
+/// What lays out no column or no set is told.
+#[test]
+fn what_a_file_has_wrong_is_damaged(rt: HostRuntime) {
+    assert!(rt; are_codes_damaged(rt.alloc()) && are_ordinals_damaged(rt.alloc()));
+    assert!(rt; are_counts_damaged(rt.alloc()) && are_all_told());
 }

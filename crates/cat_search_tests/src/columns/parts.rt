@@ -1,6 +1,6 @@
 //! A segment of one row, byte by byte as it is laid out.
 use crate::columns::texts::{are_words, number, texts};
-use crate::verdict::expect;
+use crate::verdict::{expect, expect_yes};
 use cat_base::{Cursor, Refusal, put_bytes, put_u32};
 use cat_items::file_parts::{
     ColumnParts, SegmentParts, put_fields, put_head, put_list, put_number, put_start, put_texts,
@@ -36,13 +36,6 @@ fn has_head(parts: &SegmentParts) -> bool {
         && parts.lengths.as_slice() == [36].as_slice()
 }
 
-#[test]
-fn reads_the_fields_and_the_heads_of_rows(rt: HostRuntime) -> Result<(), Fail> {
-    const FIELDS: &[(&str, Kind)] = &[("color", Kind::Facet), ("price", Kind::Number)];
-    let parts = read_segment(rt.alloc(), FILE)?;
-    expect(has_head(&parts) && are_fields(parts.schema.fields(), FIELDS))
-}
-
 /// Whether the one row has the label `red`.
 fn is_red(column: &ColumnParts) -> bool {
     match column {
@@ -73,10 +66,10 @@ fn are_red_and_five(columns: &[ColumnParts]) -> bool {
     }
 }
 
-#[test]
-fn reads_each_column(rt: HostRuntime) -> Result<(), Fail> {
-    let parts = read_segment(rt.alloc(), FILE)?;
-    expect(are_red_and_five(&parts.columns))
+/// Whether they are the fields, the heads of rows and the columns of the file.
+fn are_parts(parts: &SegmentParts) -> bool {
+    const FIELDS: &[(&str, Kind)] = &[("color", Kind::Facet), ("price", Kind::Number)];
+    has_head(parts) && are_fields(parts.schema.fields(), FIELDS) && are_red_and_five(&parts.columns)
 }
 
 /// Whether the bytes lay out no segment.
@@ -101,11 +94,10 @@ fn with_one_more(alloc: Global, bytes: &[u8]) -> Result<Vec<u8>, AllocError> {
     Ok(longer)
 }
 
-#[test]
-fn reads_nothing_less_or_more(rt: HostRuntime) -> Result<(), Fail> {
-    let alloc = rt.alloc();
+/// Whether nothing less than the file is read, and nothing more.
+fn is_read_whole(alloc: Global) -> Result<bool, AllocError> {
     let longer = with_one_more(alloc, FILE)?;
-    expect(are_fronts_damaged(alloc, FILE) && is_damaged(alloc, &longer))
+    Ok(are_fronts_damaged(alloc, FILE) && is_damaged(alloc, &longer))
 }
 
 /// The parts before the columns.
@@ -130,11 +122,17 @@ fn written(alloc: Global, schema: &Schema) -> Result<Vec<u8>, AllocError> {
     Ok(out)
 }
 
+/// Whether the parts of the file are read of it and written so again.
+fn are_read_and_written(alloc: Global) -> Result<bool, Refusal> {
+    let parts = read_segment(alloc, FILE)?;
+    Ok(are_parts(&parts) && written(alloc, &parts.schema)?.as_slice() == FILE)
+}
+
+/// The parts are read, nothing less and nothing more, and each is written.
 #[test]
-fn writes_each_part(rt: HostRuntime) -> Result<(), Fail> {
-    let parts = read_segment(rt.alloc(), FILE)?;
-    let out = written(rt.alloc(), &parts.schema)?;
-    expect(out.as_slice() == FILE)
+fn reads_and_writes_each_part(rt: HostRuntime) -> Result<(), Fail> {
+    expect_yes(are_read_and_written(rt.alloc()))?;
+    expect_yes(is_read_whole(rt.alloc()))
 }
 
 // So many text fields, named `a0` to `a9`, `b0` and so on.
@@ -154,9 +152,13 @@ fn fields_read(alloc: Global, count: u8) -> Result<Schema, Refusal> {
     read_fields(alloc, &mut Cursor::new(&file))
 }
 
+/// Whether so many fields are read.
+fn has_fields(alloc: Global, count: u8) -> Result<bool, Refusal> {
+    Ok(fields_read(alloc, count)?.fields().len() == usize::from(count))
+}
+
 #[test]
 fn reads_as_many_fields_as_a_schema_may_have(rt: HostRuntime) -> Result<(), Fail> {
-    let most = fields_read(rt.alloc(), 32)?;
-    let more = number(&fields_read(rt.alloc(), 33));
-    expect(most.fields().len() == 32 && more == 31)
+    expect(number(&fields_read(rt.alloc(), 33)) == 31)?;
+    expect_yes(has_fields(rt.alloc(), 32))
 }

@@ -3,7 +3,7 @@ ghost use Rattle.std.specs.Prelude.{◌≡◌, ◌^◌, ◌<◌, length, IfOk};
 ghost use Rattle.cat_model.specs.Layout.{AreEnds};
 
 use crate::columns::texts::{are_words, equal_rows, has_rows, number, set, texts};
-use crate::verdict::{expect, expect_yes};
+use crate::verdict::expect_none;
 use cat_base::{Refusal, Text, TextSet};
 use cat_columns::Dictionary;
 use cat_columns::inverted::{MergeInput, Terms};
@@ -54,9 +54,6 @@ fn terms(alloc: Global) -> Result<Terms, AllocError>
     )
 }
 
-/// Words with the rows of each.
-type Rows<'a> = &'a [(&'a str, &'a [usize])];
-
 /// The rows that have the word.
 fn postings(alloc: Global, terms: &Terms, word: &str) -> Result<Vec<usize>, AllocError> {
     let mut rows = Vec::new(alloc);
@@ -64,64 +61,6 @@ fn postings(alloc: Global, terms: &Terms, word: &str) -> Result<Vec<usize>, Allo
         rows.push(*row as usize)?;
     }
     Ok(rows)
-}
-
-/// Whether each word has these rows.
-fn are_postings(alloc: Global, terms: &Terms, want: Rows<'_>) -> Result<bool, AllocError> {
-    for (word, rows) in want {
-        if postings(alloc, terms, word)?.as_slice() != *rows {
-            return Ok(false);
-        }
-    }
-    Ok(true)
-}
-
-/// Whether the set of each word's rows has these rows.
-fn are_rows_with(alloc: Global, terms: &Terms, want: Rows<'_>) -> Result<bool, AllocError> {
-    for (word, rows) in want {
-        if !has_rows(alloc, &terms.rows_with(word)?, rows)? {
-            return Ok(false);
-        }
-    }
-    Ok(true)
-}
-
-/// Whether there are so many rows with these words.
-fn is_of(terms: &Terms, len: usize, words: &[&str]) -> bool {
-    terms.len() == len && are_words(terms.words(), words)
-}
-
-#[test]
-fn words_lead_to_their_rows(rt: HostRuntime) -> Result<(), Fail> {
-    const WORDS: &[&str] = &["blue", "red", "redder", "reef", "shoe"];
-    const ROWS: Rows<'static> = &[("blue", &[2]), ("shoe", &[0, 2]), ("re", &[])];
-    let alloc = rt.alloc();
-    let terms = terms(alloc)?;
-    let lead = are_postings(alloc, &terms, ROWS)? && are_rows_with(alloc, &terms, ROWS)?;
-    expect(lead && is_of(&terms, 4, WORDS))
-}
-
-/// Whether the set of the rows of each prefix has these rows.
-fn are_rows_of(alloc: Global, terms: &Terms, want: Rows<'_>) -> Result<bool, AllocError> {
-    for (prefix, rows) in want {
-        if !has_rows(alloc, &terms.prefix(prefix)?, rows)? {
-            return Ok(false);
-        }
-    }
-    Ok(true)
-}
-
-#[test]
-fn prefixes_lead_to_rows(rt: HostRuntime) -> Result<(), Fail> {
-    const ROWS: Rows<'static> = &[
-        ("", &[0, 2, 3]),
-        ("red", &[0, 2]),
-        ("redd", &[2]),
-        ("t", &[]),
-        ("a", &[]),
-    ];
-    let terms = terms(rt.alloc())?;
-    expect_yes(are_rows_of(rt.alloc(), &terms, ROWS))
 }
 
 /// The text, where there is one.
@@ -132,39 +71,96 @@ fn end(alloc: Global, text: Option<&str>) -> Result<Option<Text>, AllocError> {
     }
 }
 
-/// A range of words, and the rows that have a word in it. An end that is absent bounds nothing.
-type Range<'a> = (Option<&'a str>, Option<&'a str>, &'a [usize]);
-
-/// Whether the set of the range's rows has these rows.
-fn is_range(alloc: Global, terms: &Terms, want: &Range<'_>) -> Result<bool, AllocError> {
-    let (low, high, rows) = *want;
-    let (from, to) = (end(alloc, low)?, end(alloc, high)?);
+/// Whether the set of the rows that have a word between the ends has these rows. An end that is absent bounds nothing.
+fn is_range(
+    alloc: Global,
+    terms: &Terms,
+    ends: (Option<&str>, Option<&str>),
+    rows: &[usize],
+) -> Result<bool, AllocError> {
+    let (from, to) = (end(alloc, ends.0)?, end(alloc, ends.1)?);
     has_rows(alloc, &terms.between(from.as_ref(), to.as_ref())?, rows)
 }
 
-/// The same of each range.
-fn are_ranges(alloc: Global, terms: &Terms, all: &[Range<'_>]) -> Result<bool, AllocError> {
-    for want in all {
-        if !is_range(alloc, terms, want)? {
+/// Whether the word leads to these rows.
+fn leads_to(alloc: Global, terms: &Terms, word: &str, rows: &[usize]) -> Result<bool, AllocError> {
+    Ok(postings(alloc, terms, word)?.as_slice() == rows)
+}
+
+/// Whether all of so many rows have the word.
+fn is_of_all(terms: &Terms, word: &str, count: u32) -> bool {
+    let rows = terms.postings(word);
+    terms.len() == count as usize
+        && rows.len() == count as usize
+        && rows.first() == Some(&0)
+        && rows.last() == Some(&count.saturating_sub(1))
+}
+
+/// The last word in byte order.
+fn last_word(terms: &Terms) -> &str {
+    match terms.words().last() {
+        Some(word) => word.as_str(),
+        None => "",
+    }
+}
+
+/// What is said of terms.
+#[derive(Clone, Copy)]
+enum Said<'a> {
+    /// There are so many rows, with these words.
+    Of(usize, &'a [&'a str]),
+    /// There are so many words, of which this is the last.
+    Words(usize, &'a str),
+    /// The word leads to these rows.
+    Postings(&'a str, &'a [usize]),
+    /// By its ordinal 1, the second word leads to these rows.
+    Second(&'a [u32]),
+    /// All of so many rows have the word.
+    All(&'a str, u32),
+    /// The set of the rows that have the word has these.
+    With(&'a str, &'a [usize]),
+    /// The set of the rows that have the word has so many.
+    Count(&'a str, usize),
+    /// The set of the rows that have a word with this front has these.
+    Prefix(&'a str, &'a [usize]),
+    /// The set of the rows that have a word with this front has so many.
+    PrefixCount(&'a str, usize),
+    /// The set of the rows that have a word between these has these rows.
+    Range(Option<&'a str>, Option<&'a str>, &'a [usize]),
+}
+
+/// Whether it is so of the terms.
+fn is_so(alloc: Global, terms: &Terms, said: Said<'_>) -> Result<bool, AllocError> {
+    match said {
+        Said::Of(len, words) => Ok(terms.len() == len && are_words(terms.words(), words)),
+        Said::Words(count, last) => { Ok(terms.words().len() == count && last_word(terms) == last) }
+        Said::Postings(word, rows) => leads_to(alloc, terms, word, rows),
+        Said::Second(rows) => Ok(second_postings(terms) == rows),
+        Said::All(word, count) => Ok(is_of_all(terms, word, count)),
+        _ => is_set(alloc, terms, said),
+    }
+}
+
+/// The same of what is said of a set of rows.
+fn is_set(alloc: Global, terms: &Terms, said: Said<'_>) -> Result<bool, AllocError> {
+    match said {
+        Said::With(word, rows) => has_rows(alloc, &terms.rows_with(word)?, rows),
+        Said::Count(word, count) => Ok(terms.rows_with(word)?.count() == count),
+        Said::Prefix(front, rows) => has_rows(alloc, &terms.prefix(front)?, rows),
+        Said::PrefixCount(front, count) => Ok(terms.prefix(front)?.count() == count),
+        Said::Range(from, to, rows) => is_range(alloc, terms, (from, to), rows),
+        _ => Ok(false),
+    }
+}
+
+/// Whether all of it is so.
+fn are_so(alloc: Global, terms: &Terms, all: &[Said<'_>]) -> Result<bool, AllocError> {
+    for said in all {
+        if !is_so(alloc, terms, *said)? {
             return Ok(false);
         }
     }
     Ok(true)
-}
-
-#[test]
-fn ranges_lead_to_rows(rt: HostRuntime) -> Result<(), Fail> {
-    const ROWS: &[Range<'static>] = &[
-        (Some("blue"), Some("blue"), &[2]),
-        (Some("bluf"), Some("redder"), &[0, 2]),
-        (Some("redder"), Some("red"), &[]),
-        (Some("redder"), Some("z"), &[0, 2, 3]),
-        // Open ends bound nothing.
-        (None, Some("red"), &[0, 2]),
-        (Some("red"), None, &[0, 2, 3]),
-    ];
-    let terms = terms(rt.alloc())?;
-    expect_yes(are_ranges(rt.alloc(), &terms, ROWS))
 }
 
 /// The terms of `len` rows with these words, whose postings end where `ends` says.
@@ -193,17 +189,9 @@ fn second_postings(terms: &Terms) -> &[u32] {
     terms.postings_at(1)
 }
 
-#[test]
-fn postings_make_terms(rt: HostRuntime) -> Result<(), Fail> {
-    const WORDS: &[&str] = &["blue", "red"];
-    const ENDS: &[u32] = &[1, 3];
-    const POSTINGS: &[u32] = &[2, 0, 2];
-    const SECOND: &[u32] = &[0, 2];
-    const ROWS: Rows<'static> = &[("blue", &[2]), ("red", &[0, 2])];
-    let alloc = rt.alloc();
-    let terms = read(alloc, 3, WORDS, ENDS, POSTINGS)?;
-    let is_made = is_of(&terms, 3, WORDS) && second_postings(&terms) == SECOND;
-    expect(is_made && are_postings(alloc, &terms, ROWS)?)
+/// The terms of three rows that a file has.
+fn read_few(alloc: Global) -> Result<Terms, Refusal> {
+    read(alloc, 3, &["blue", "red"], &[1, 3], &[2, 0, 2])
 }
 
 /// Whether no terms of three rows have these words and postings.
@@ -214,8 +202,8 @@ fn are_no_terms(alloc: Global, words: &[&str], ends: &[u32], rows: &[u32]) -> bo
     number(&read(alloc, 3, words, ends, rows)) == 31
 }
 
-#[test]
-fn postings_of_no_words_are_damaged(rt: HostRuntime) {
+/// Whether postings are damaged that no words have: of words that fall, of one that stands twice, of one without rows.
+fn are_no_words(alloc: Global) -> bool {
     const FALLING: &[&str] = &["red", "blue"];
     const TWICE: &[&str] = &["red", "red"];
     const EACH: &[u32] = &[1, 2];
@@ -224,25 +212,26 @@ fn postings_of_no_words_are_damaged(rt: HostRuntime) {
     // The second has no row.
     const FIRST: &[u32] = &[1, 1];
     const ROW: &[u32] = &[0];
-    let alloc = rt.alloc();
-    let are_damaged = are_no_terms(alloc, FALLING, EACH, ROWS)
+    are_no_terms(alloc, FALLING, EACH, ROWS)
         && are_no_terms(alloc, TWICE, EACH, ROWS)
-        && are_no_terms(alloc, BOTH, FIRST, ROW);
-    assert!(rt; are_damaged);
+        && are_no_terms(alloc, BOTH, FIRST, ROW)
 }
 
-#[test]
-fn postings_of_no_rows_are_damaged(rt: HostRuntime) {
+/// Whether postings are damaged that fall, that stand twice, or that lie past the last row.
+fn are_no_rows(alloc: Global) -> bool {
     const WORD: &[&str] = &["red"];
     const ENDS: &[u32] = &[2];
     const FALLING: &[u32] = &[1, 0];
     const TWICE: &[u32] = &[1, 1];
     const PAST: &[u32] = &[1, 3];
-    let alloc = rt.alloc();
-    let are_damaged = are_no_terms(alloc, WORD, ENDS, FALLING)
+    are_no_terms(alloc, WORD, ENDS, FALLING)
         && are_no_terms(alloc, WORD, ENDS, TWICE)
-        && are_no_terms(alloc, WORD, ENDS, PAST);
-    assert!(rt; are_damaged);
+        && are_no_terms(alloc, WORD, ENDS, PAST)
+}
+
+#[test]
+fn postings_of_no_words_or_rows_are_damaged(rt: HostRuntime) {
+    assert!(rt; are_no_words(rt.alloc()) && are_no_rows(rt.alloc()));
 }
 
 /// The terms of three rows of which the second alone has the word.
@@ -252,13 +241,6 @@ fn of_one_word(alloc: Global, word: &str) -> Result<Terms, AllocError> {
     Terms::from_ordinals(alloc, Dictionary::of(alloc, words)?, &[0, 1, 1], &[0])
 }
 
-#[test]
-fn ordinals_make_terms(rt: HostRuntime) -> Result<(), Fail> {
-    let alloc = rt.alloc();
-    let terms = of_one_word(alloc, "red")?;
-    expect(is_of(&terms, 3, &["red"]) && are_postings(alloc, &terms, &[("red", &[1])])?)
-}
-
 /// The terms of so many rows, each with the same word.
 fn terms_of_equal_rows(alloc: Global, word: &str, count: usize) -> Result<Terms, AllocError>
     requires { count < 2 ^ 32 }
@@ -266,21 +248,6 @@ fn terms_of_equal_rows(alloc: Global, word: &str, count: usize) -> Result<Terms,
     let words = set(alloc, &[word])?;
     let rows = equal_rows(alloc, &words, count)?;
     Terms::build(alloc, &rows)
-}
-
-/// Whether all of 66,000 rows have the word `red`.
-fn are_all_red(terms: &Terms) -> bool {
-    let red = terms.postings("red");
-    terms.len() == 66_000
-        && red.len() == 66_000
-        && red.first() == Some(&0)
-        && red.last() == Some(&65_999)
-}
-
-#[test]
-fn a_word_has_more_rows_than_two_bytes_count(rt: HostRuntime) -> Result<(), Fail> {
-    let terms = terms_of_equal_rows(rt.alloc(), "red", 66_000)?;
-    expect(are_all_red(&terms) && terms.rows_with("red")?.count() == 66_000)
 }
 
 /// So many texts: the numbers from 0 on, in decimal.
@@ -297,31 +264,6 @@ fn terms_of_many_words(alloc: Global, count: usize) -> Result<Terms, AllocError>
     let few = set(alloc, &["0"])?;
     let many = numbered_words(alloc, count)?;
     Terms::build(alloc, &[few.as_slice(), many.as_slice()])
-}
-
-/// The last word in byte order.
-fn last_word(terms: &Terms) -> &str {
-    match terms.words().last() {
-        Some(word) => word.as_str(),
-        None => "",
-    }
-}
-
-/// Whether there are 66,000 words, of which `9999` is the last, and one begins with `6`.
-fn are_many_words(terms: &Terms) -> Result<bool, AllocError> {
-    Ok(
-        terms.words().len() == 66_000
-            && last_word(terms) == "9999"
-            && terms.prefix("6")?.count() == 1,
-    )
-}
-
-#[test]
-fn a_row_has_more_words_than_two_bytes_count(rt: HostRuntime) -> Result<(), Fail> {
-    const ROWS: Rows<'static> = &[("0", &[0, 1]), ("65999", &[1])];
-    let alloc = rt.alloc();
-    let terms = terms_of_many_words(alloc, 66_000)?;
-    expect(are_many_words(&terms)? && are_postings(alloc, &terms, ROWS)?)
 }
 
 /// The rows below the number.
@@ -341,12 +283,6 @@ fn read_equal_rows(alloc: Global, word: &str, count: u32) -> Result<Terms, Refus
     read(alloc, count as usize, &[word], &[count], &rows)
 }
 
-#[test]
-fn a_file_has_more_postings_than_two_bytes_count(rt: HostRuntime) -> Result<(), Fail> {
-    let terms = read_equal_rows(rt.alloc(), "red", 66_000)?;
-    expect(are_all_red(&terms))
-}
-
 /// The terms of rows of two segments: of the first segment the second and the last are left out, of the other the first.
 fn merged_without_some(alloc: Global) -> Result<Terms, AllocError> {
     let one = terms(alloc)?;
@@ -362,24 +298,6 @@ fn merged_without_some(alloc: Global) -> Result<Terms, AllocError> {
         },
     ];
     Terms::merge(alloc, 3, &inputs)
-}
-
-#[test]
-fn a_merge_keeps_the_words_of_the_rows_that_stay(rt: HostRuntime) -> Result<(), Fail> {
-    // A word of no row that stays is gone.
-    const WORDS: &[&str] = &["blue", "oak", "red", "redder", "shoe"];
-    const ROWS: Rows<'static> = &[
-        ("blue", &[1, 2]),
-        ("oak", &[2]),
-        ("red", &[0]),
-        ("redder", &[1]),
-        ("shoe", &[0, 1]),
-        ("reef", &[]),
-        ("ash", &[]),
-    ];
-    let alloc = rt.alloc();
-    let terms = merged_without_some(alloc)?;
-    expect(is_of(&terms, 3, WORDS) && are_postings(alloc, &terms, ROWS)?)
 }
 
 /// The terms of a row of so many words.
@@ -407,22 +325,170 @@ fn merged_with_few(alloc: Global) -> Result<Terms, AllocError> {
     Terms::merge(alloc, 2, &inputs)
 }
 
-#[test]
-fn a_merge_finds_words_that_lie_far_apart(rt: HostRuntime) -> Result<(), Fail> {
-    const ROWS: Rows<'static> = &[
-        ("0", &[0, 1]),
-        ("1", &[0]),
-        ("50", &[0, 1]),
-        ("51", &[0]),
-        ("99", &[0, 1]),
-    ];
-    let alloc = rt.alloc();
-    let terms = merged_with_few(alloc)?;
-    expect(terms.words().len() == 100 && are_postings(alloc, &terms, ROWS)?)
+/// Terms that are made here.
+#[derive(Clone, Copy)]
+enum Made {
+    /// Of four rows with a few words.
+    Few,
+    /// Of three rows that a file has.
+    Read,
+    /// Of three rows, of which the second alone has the word `red`.
+    OneWord,
+    /// Of 66,000 rows with the word `red`.
+    ManyRows,
+    /// Of the same that a file has.
+    ManyRead,
+    /// Of a row with the word `0`, and one with the words `0` to `65999`.
+    ManyWords,
+    /// Merged of two segments, of which some rows are left out.
+    WithoutSome,
+    /// Merged of a row of a hundred words and a row of three of them.
+    WithFew,
+    /// Merged of nothing.
+    OfNothing,
+}
+
+fn make(alloc: Global, made: Made) -> Result<Terms, Refusal> {
+    match made {
+        Made::Few => Ok(terms(alloc)?),
+        Made::Read => read_few(alloc),
+        Made::OneWord => Ok(of_one_word(alloc, "red")?),
+        Made::ManyRows => Ok(terms_of_equal_rows(alloc, "red", 66_000)?),
+        Made::ManyRead => read_equal_rows(alloc, "red", 66_000),
+        Made::ManyWords => Ok(terms_of_many_words(alloc, 66_000)?),
+        Made::WithoutSome => Ok(merged_without_some(alloc)?),
+        Made::WithFew => Ok(merged_with_few(alloc)?),
+        Made::OfNothing => Ok(Terms::merge(alloc, 0, &[])?),
+    }
+}
+
+/// What a case shows, the terms, and what is said of them.
+type Case = (&'static str, Made, &'static [Said<'static>]);
+
+const CASES: &[Case] = &[
+    (
+        "words lead to their rows",
+        Made::Few,
+        &[
+            Said::Of(4, &["blue", "red", "redder", "reef", "shoe"]),
+            Said::Postings("blue", &[2]),
+            Said::Postings("shoe", &[0, 2]),
+            Said::Postings("re", &[]),
+            Said::With("blue", &[2]),
+            Said::With("shoe", &[0, 2]),
+            Said::With("re", &[]),
+        ],
+    ),
+    (
+        "prefixes lead to rows",
+        Made::Few,
+        &[
+            Said::Prefix("", &[0, 2, 3]),
+            Said::Prefix("red", &[0, 2]),
+            Said::Prefix("redd", &[2]),
+            Said::Prefix("t", &[]),
+            Said::Prefix("a", &[]),
+        ],
+    ),
+    (
+        "ranges lead to rows",
+        Made::Few,
+        &[
+            Said::Range(Some("blue"), Some("blue"), &[2]),
+            Said::Range(Some("bluf"), Some("redder"), &[0, 2]),
+            Said::Range(Some("redder"), Some("red"), &[]),
+            Said::Range(Some("redder"), Some("z"), &[0, 2, 3]),
+            // Open ends bound nothing.
+            Said::Range(None, Some("red"), &[0, 2]),
+            Said::Range(Some("red"), None, &[0, 2, 3]),
+        ],
+    ),
+    (
+        "postings make terms",
+        Made::Read,
+        &[
+            Said::Of(3, &["blue", "red"]),
+            Said::Second(&[0, 2]),
+            Said::Postings("blue", &[2]),
+            Said::Postings("red", &[0, 2]),
+        ],
+    ),
+    (
+        "ordinals make terms",
+        Made::OneWord,
+        &[Said::Of(3, &["red"]), Said::Postings("red", &[1])],
+    ),
+    (
+        "a word has more rows than two bytes count",
+        Made::ManyRows,
+        &[Said::All("red", 66_000), Said::Count("red", 66_000)],
+    ),
+    (
+        "a row has more words than two bytes count",
+        Made::ManyWords,
+        &[
+            Said::Words(66_000, "9999"),
+            Said::PrefixCount("6", 1),
+            Said::Postings("0", &[0, 1]),
+            Said::Postings("65999", &[1]),
+        ],
+    ),
+    (
+        "a file has more postings than two bytes count",
+        Made::ManyRead,
+        &[Said::All("red", 66_000)],
+    ),
+    (
+        "a merge keeps the words of the rows that stay",
+        Made::WithoutSome,
+        &[
+            // A word of no row that stays is gone.
+            Said::Of(3, &["blue", "oak", "red", "redder", "shoe"]),
+            Said::Postings("blue", &[1, 2]),
+            Said::Postings("oak", &[2]),
+            Said::Postings("red", &[0]),
+            Said::Postings("redder", &[1]),
+            Said::Postings("shoe", &[0, 1]),
+            Said::Postings("reef", &[]),
+            Said::Postings("ash", &[]),
+        ],
+    ),
+    (
+        "a merge finds words that lie far apart",
+        Made::WithFew,
+        &[
+            Said::Words(100, "99"),
+            Said::Postings("0", &[0, 1]),
+            Said::Postings("1", &[0]),
+            Said::Postings("50", &[0, 1]),
+            Said::Postings("51", &[0]),
+            Said::Postings("99", &[0, 1]),
+        ],
+    ),
+    (
+        "a merge of nothing has no words",
+        Made::OfNothing,
+        &[Said::Of(0, &[])],
+    ),
+];
+
+/// Whether all that is said is so of the terms that are made.
+fn are_so_of(alloc: Global, made: Made, all: &[Said<'_>]) -> Result<bool, Refusal> {
+    let terms = make(alloc, made)?;
+    Ok(are_so(alloc, &terms, all)?)
+}
+
+/// The first case that isn't so.
+fn failing(alloc: Global, cases: &[Case]) -> Result<Option<&'static str>, Refusal> {
+    for &(name, made, all) in cases {
+        if !are_so_of(alloc, made, all)? {
+            return Ok(Some(name));
+        }
+    }
+    Ok(None)
 }
 
 #[test]
-fn a_merge_of_nothing_has_no_words(rt: HostRuntime) -> Result<(), Fail> {
-    let terms = Terms::merge(rt.alloc(), 0, &[])?;
-    expect(terms.len() == 0 && terms.words().is_empty())
+fn terms_are_what_is_said_of_them(rt: HostRuntime) -> Result<(), Fail> {
+    expect_none(failing(rt.alloc(), CASES))
 }

@@ -1,4 +1,7 @@
 //! Calls on devices, and what each has to be answered.
+ghost use Rattle.cat_model.specs.Files.{IsFileName};
+ghost use Rattle.cat_directory.specs.Names.{name_of};
+
 use cat_base::Refusal;
 use cat_directory::{Directory, FileName, Shelf, write_file, write_lasting};
 use std::alloc::{AllocError, Global};
@@ -39,23 +42,61 @@ pub(crate) fn answer<D: Directory + Shelf>(
     call: Call<'_>,
 ) -> Result<String, Refusal> {
     match call {
-        // No device is asked to make a file that no name leads to.
-        Call::Create(name) | Call::Write(name, _) | Call::WriteLasting(name, _)
-            if !name.has_form() => { Ok(String::from_str(alloc, "no form")?) }
-        Call::Create(name) => done(alloc, device.create(alloc, name)),
-        Call::Append(name, bytes) => done(alloc, device.append(name, bytes.as_bytes())),
-        Call::Delete(name) => done(alloc, device.delete(name)),
-        Call::Sync(names) => done(alloc, device.sync(names)),
+        Call::Create(name) | Call::Write(name, _) | Call::WriteLasting(name, _) => {
+            answer_making(device, alloc, name, call)
+        }
+        Call::Append(_, _) | Call::Delete(_) | Call::Sync(_) => done(alloc, change(device, call)),
+        Call::Size(_) | Call::Failures => sized(alloc, count(device, call)),
         Call::Names => listed(alloc, device.names(alloc)),
-        Call::Size(name) => sized(alloc, device.size(name)),
         Call::Read(name, from, len) => read(alloc, device.read(alloc, name, from, len)),
-        Call::Failures => sized(alloc, Ok(device.failures())),
-        Call::Write(name, bytes) => {
-            done(alloc, write_file(device, alloc, name, bytes.as_bytes()))
-        }
-        Call::WriteLasting(name, bytes) => {
-            done(alloc, write_lasting(device, alloc, name, bytes.as_bytes()))
-        }
+    }
+}
+
+/// What a call that makes a file of the name is answered.
+fn answer_making<D: Directory>(
+    device: &mut D,
+    alloc: Global,
+    name: FileName,
+    call: Call<'_>,
+) -> Result<String, Refusal> {
+    // No device is asked to make a file that no name leads to.
+    if !name.has_form() {
+        return Ok(String::from_str(alloc, "no form")?);
+    }
+    done(alloc, make(device, alloc, name, call))
+}
+
+/// Makes the file of the name as the call does.
+fn make<D: Directory>(
+    device: &mut D,
+    alloc: Global,
+    name: FileName,
+    call: Call<'_>,
+) -> Result<(), Refusal>
+    requires { IsFileName (name_of name) }
+{
+    match call {
+        Call::Write(_, bytes) => write_file(device, alloc, name, bytes.as_bytes()),
+        Call::WriteLasting(_, bytes) => write_lasting(device, alloc, name, bytes.as_bytes()),
+        _ => device.create(alloc, name),
+    }
+}
+
+/// Makes the call, where it changes what is there.
+fn change<D: Directory>(device: &mut D, call: Call<'_>) -> Result<(), Refusal> {
+    match call {
+        Call::Append(name, bytes) => device.append(name, bytes.as_bytes()),
+        Call::Delete(name) => device.delete(name),
+        Call::Sync(names) => device.sync(names),
+        _ => Ok(()),
+    }
+}
+
+/// The number that the call asks for.
+fn count<D: Directory + Shelf>(device: &mut D, call: Call<'_>) -> Result<u64, Refusal> {
+    match call {
+        Call::Size(name) => device.size(name),
+        _ => Ok(device.failures()),
     }
 }
 

@@ -1,6 +1,5 @@
-//! Tests of counts over labels: what is counted in views that are made of texts, by states that are made for one count and
-//! by kept ones, and the global ordinals of their labels.
+//! Tests of counts over labels by kept states, and of the global ordinals of labels. What is counted in views of several segments
+//! are days of lines: `tests/counted.py`.
 
-mod counts;
 mod kept;
 mod ordinals;

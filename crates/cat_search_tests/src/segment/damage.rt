@@ -1,6 +1,8 @@
 //! Files of segments that keep each rule of the format but one, and files that reach the limits of the rules.
 use crate::segment::bytes::{Case, Format, Parts, failing, file_of, is_exact};
 use crate::verdict::{expect_none, expect_yes};
+use cat_base::Refusal;
+use std::alloc::Global;
 use std::test::Fail;
 
 /// Segment 1, of two items: `a` has a brand, two colors, a price and a word; `b` has a brand, a color and two words.
@@ -38,10 +40,9 @@ const PRICES: usize = 8;
 
 const TITLES: usize = 9;
 
-#[test]
-fn the_file_itself_is_a_segment(rt: HostRuntime) -> Result<(), Fail> {
-    let bytes = file_of(rt.alloc(), FILE)?;
-    expect_yes(is_exact(rt.alloc(), Format::Segment, &bytes))
+/// Whether the file itself is a segment.
+fn is_segment(alloc: Global) -> Result<bool, Refusal> {
+    is_exact(alloc, Format::Segment, &file_of(alloc, FILE)?)
 }
 
 const CASES: &[Case] = &[
@@ -241,5 +242,6 @@ const CASES: &[Case] = &[
 
 #[test]
 fn a_file_keeps_all_rules_or_is_damaged(rt: HostRuntime) -> Result<(), Fail> {
+    expect_yes(is_segment(rt.alloc()))?;
     expect_none(failing(rt.alloc(), Format::Segment, FILE, CASES))
 }

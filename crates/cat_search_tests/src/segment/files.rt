@@ -4,7 +4,7 @@ ghost use Rattle.std.specs.Prelude.{◌≡◌};
 
 use crate::segment::bytes::{Format, Parts, file_of, is_exact, is_whole, rewritten};
 use crate::segment::made::made_of_texts;
-use crate::verdict::{expect, expect_yes};
+use crate::verdict::expect_yes;
 use cat_base::Refusal;
 use cat_segment::{Segment, decode_seg, encode_seg};
 use std::alloc::{AllocError, Global};
@@ -49,13 +49,12 @@ fn has_bytes(alloc: Global, segment: &Segment, bytes: &[u8]) -> Result<bool, All
     Ok(encode_seg(alloc, segment)?.as_slice() == bytes)
 }
 
-#[test]
-fn a_segment_has_these_bytes(rt: HostRuntime) -> Result<(), Fail> {
+/// Whether the segment of the item has these bytes.
+fn are_written(alloc: Global, bytes: &[u8]) -> Result<bool, Refusal> {
     const FIELDS: &[u8] = br#"{"price":"number","color":"facet"}"#;
     const TEXT: &str = r#"{"id":"a","price":5,"color":["red"]}"#;
-    let segment = made_of_texts(rt.alloc(), FIELDS, &[TEXT])?;
-    let bytes = file_of(rt.alloc(), SEGMENT)?;
-    expect_yes(has_bytes(rt.alloc(), &segment, &bytes))
+    let segment = made_of_texts(alloc, FIELDS, &[TEXT])?;
+    Ok(has_bytes(alloc, &segment, bytes)?)
 }
 
 /// Whether it is segment 1, of one row with the id `a`.
@@ -66,16 +65,10 @@ fn is_of_one_row(segment: &Segment) -> bool {
         && segment.row_with("b").is_none()
 }
 
-#[test]
-fn these_bytes_have_a_segment(rt: HostRuntime) -> Result<(), Fail> {
-    let bytes = file_of(rt.alloc(), SEGMENT)?;
-    let segment = decode_seg(rt.alloc(), &bytes)?;
-    expect(is_exact(rt.alloc(), Format::Segment, &bytes)? && is_of_one_row(&segment))
-}
-
-#[test]
-fn a_front_of_a_segment_is_damaged_and_so_is_a_byte_more(rt: HostRuntime) -> Result<(), Fail> {
-    expect_yes(is_whole(rt.alloc(), Format::Segment, SEGMENT))
+/// Whether these bytes have the segment.
+fn are_read(alloc: Global, bytes: &[u8]) -> Result<bool, Refusal> {
+    let segment = decode_seg(alloc, bytes)?;
+    Ok(is_exact(alloc, Format::Segment, bytes)? && is_of_one_row(&segment))
 }
 
 /// Whether the bytes with any one turned are damaged, or those of another segment.
@@ -88,8 +81,16 @@ fn are_turned_so(alloc: Global, bytes: &[u8]) -> Result<bool, Refusal> {
     Ok(true)
 }
 
+/// Whether the bytes are written so and read so, and one that is turned is damaged or spells another segment.
+fn are_worked_out(alloc: Global) -> Result<bool, Refusal> {
+    let bytes = file_of(alloc, SEGMENT)?;
+    Ok(are_written(alloc, &bytes)? && are_read(alloc, &bytes)? && are_turned_so(alloc, &bytes)?)
+}
+
+/// A segment has these bytes, and they have it; a front of them is damaged, and one more too, and a turned one is damaged or spells
+/// another segment.
 #[test]
-fn a_turned_byte_is_damaged_or_spells_another_segment(rt: HostRuntime) -> Result<(), Fail> {
-    let bytes = file_of(rt.alloc(), SEGMENT)?;
-    expect_yes(are_turned_so(rt.alloc(), &bytes))
+fn a_segment_has_these_bytes(rt: HostRuntime) -> Result<(), Fail> {
+    expect_yes(are_worked_out(rt.alloc()))?;
+    expect_yes(is_whole(rt.alloc(), Format::Segment, SEGMENT))
 }

@@ -2,7 +2,7 @@
 ghost use Rattle.std.specs.Prelude.{◌<◌};
 
 use crate::segment::bytes::{Format, is_damaged, is_exact};
-use crate::verdict::{expect, expect_none};
+use crate::verdict::{expect, expect_none, expect_yes};
 use cat_base::{MAX_FIELDS, MAX_LABELS, Refusal, put_bytes, put_u32};
 use std::alloc::{AllocError, Global};
 use std::test::Fail;
@@ -68,11 +68,6 @@ fn failing_limit(alloc: Global, limits: &[Limit]) -> Result<Option<&'static str>
     Ok(None)
 }
 
-#[test]
-fn texts_have_at_most_so_many_bytes(rt: HostRuntime) -> Result<(), Fail> {
-    expect_none(failing_limit(rt.alloc(), LIMITS))
-}
-
 /// Appends a text of two letters: those of greater numbers come later in byte order.
 fn put_letters(bytes: &mut Vec<u8>, number: u8) -> Result<(), AllocError> {
     put_bytes(bytes, &[b'a' + number / 26, b'a' + number % 26])
@@ -105,11 +100,6 @@ fn are_most_labels(alloc: Global, count: u8) -> Result<bool, Refusal> {
     let most = file_with_labels(alloc, count)?;
     let more = file_with_labels(alloc, count.saturating_add(1))?;
     Ok(is_exact(alloc, Format::Segment, &most)? && is_damaged(alloc, Format::Segment, &more))
-}
-
-#[test]
-fn rows_have_at_most_64_labels(rt: HostRuntime) -> Result<(), Fail> {
-    expect(MAX_LABELS == 64 && are_most_labels(rt.alloc(), 64)?)
 }
 
 /// Appends so many number fields.
@@ -146,7 +136,11 @@ fn are_from_none_to(alloc: Global, most: u8) -> Result<bool, Refusal> {
     Ok(is_exact(alloc, Format::Segment, &none)? && are_most_fields(alloc, most)?)
 }
 
+/// Texts have at most so many bytes, rows at most 64 labels, and segments at most 32 fields.
 #[test]
-fn segments_have_at_most_32_fields(rt: HostRuntime) -> Result<(), Fail> {
-    expect(MAX_FIELDS == 32 && are_from_none_to(rt.alloc(), 32)?)
+fn segments_reach_their_limits(rt: HostRuntime) -> Result<(), Fail> {
+    expect_none(failing_limit(rt.alloc(), LIMITS))?;
+    expect(MAX_LABELS == 64 && MAX_FIELDS == 32)?;
+    expect_yes(are_most_labels(rt.alloc(), 64))?;
+    expect_yes(are_from_none_to(rt.alloc(), 32))
 }

@@ -2,7 +2,7 @@
 use crate::segment::bytes::{
     Case, Format, Parts, failing, file_of, is_damaged, is_exact, is_whole,
 };
-use crate::verdict::{expect, expect_none, expect_yes};
+use crate::verdict::{expect_none, expect_yes};
 use cat_base::{MAX_ROWS, Refusal, put_u32};
 use cat_segment::{Live, decode_liv, encode_liv};
 use std::alloc::{AllocError, Global};
@@ -55,11 +55,10 @@ fn is_written_so(live: &Live, bytes: &[u8]) -> Result<bool, AllocError> {
     Ok(written(live)?.as_deref() == Some(bytes))
 }
 
-#[test]
-fn live_rows_have_these_bytes(rt: HostRuntime) -> Result<(), Fail> {
-    let bytes = file_of(rt.alloc(), LIVE)?;
-    let live = ends_of_nine(rt.alloc())?;
-    expect(is_written_so(&live, &bytes)? && is_exact(rt.alloc(), Format::Live, &bytes)?)
+/// Whether of nine rows the first and the last are written by these bytes, and read of them.
+fn have_bytes(alloc: Global, bytes: &[u8]) -> Result<bool, Refusal> {
+    let live = ends_of_nine(alloc)?;
+    Ok(is_written_so(&live, bytes)? && is_exact(alloc, Format::Live, bytes)?)
 }
 
 /// Whether of nine rows just the first and the last are live.
@@ -67,15 +66,16 @@ fn are_ends(live: &Live) -> bool {
     live.len() == 9 && live.count() == 2 && live.is_live(0) && live.is_live(8)
 }
 
-#[test]
-fn these_bytes_have_live_rows(rt: HostRuntime) -> Result<(), Fail> {
-    let read = decode_liv(rt.alloc(), &file_of(rt.alloc(), LIVE)?)?;
-    expect(read.number == 1 && read.generation == 2 && are_ends(&read.live))
+/// Whether these bytes have them, as those of segment 1 in commit 2.
+fn are_read(alloc: Global, bytes: &[u8]) -> Result<bool, Refusal> {
+    let read = decode_liv(alloc, bytes)?;
+    Ok(read.number == 1 && read.generation == 2 && are_ends(&read.live))
 }
 
-#[test]
-fn a_front_of_live_rows_is_damaged_and_so_is_a_byte_more(rt: HostRuntime) -> Result<(), Fail> {
-    expect_yes(is_whole(rt.alloc(), Format::Live, LIVE))
+/// Whether the bytes that were worked out are written so and read so.
+fn are_worked_out(alloc: Global) -> Result<bool, Refusal> {
+    let bytes = file_of(alloc, LIVE)?;
+    Ok(have_bytes(alloc, &bytes)? && are_read(alloc, &bytes)?)
 }
 
 const CASES: &[Case] = &[
@@ -120,8 +120,11 @@ const CASES: &[Case] = &[
     ),
 ];
 
+/// Live rows have these bytes, of which a front is damaged, and one more too, and which keep all rules or are damaged.
 #[test]
-fn live_rows_keep_all_rules_or_are_damaged(rt: HostRuntime) -> Result<(), Fail> {
+fn live_rows_have_these_bytes(rt: HostRuntime) -> Result<(), Fail> {
+    expect_yes(are_worked_out(rt.alloc()))?;
+    expect_yes(is_whole(rt.alloc(), Format::Live, LIVE))?;
     expect_none(failing(rt.alloc(), Format::Live, LIVE, CASES))
 }
 
@@ -152,11 +155,10 @@ fn is_count(alloc: Global, count: u32) -> Result<bool, Refusal> {
     is_exact(alloc, Format::Live, &file_of_dead(alloc, count)?)
 }
 
-#[test]
-fn live_rows_are_as_many_as_those_of_a_segment(rt: HostRuntime) -> Result<(), Fail> {
-    let alloc = rt.alloc();
+/// Whether there are files of 1 to 262,144 rows.
+fn are_limits(alloc: Global) -> Result<bool, Refusal> {
     let are_some = is_no_count(alloc, 0)? && is_count(alloc, 1)?;
-    expect(are_some && is_count(alloc, 262_144)? && is_no_count(alloc, 262_145)?)
+    Ok(are_some && is_count(alloc, 262_144)? && is_no_count(alloc, 262_145)?)
 }
 
 /// The live rows that are read of the bytes of those of a full segment whose last row is dead.
@@ -177,8 +179,14 @@ fn are_all_but_one(live: Option<&Live>) -> bool {
     }
 }
 
+fn has_live_rows(alloc: Global) -> Result<bool, Refusal> {
+    let live = all_but_the_last(alloc)?;
+    Ok(are_all_but_one(live.as_ref()))
+}
+
+/// Live rows are as many as those of a segment, and a full one has some.
 #[test]
-fn a_full_segment_has_live_rows(rt: HostRuntime) -> Result<(), Fail> {
-    let live = all_but_the_last(rt.alloc())?;
-    expect(are_all_but_one(live.as_ref()))
+fn live_rows_are_as_many_as_those_of_a_segment(rt: HostRuntime) -> Result<(), Fail> {
+    expect_yes(are_limits(rt.alloc()))?;
+    expect_yes(has_live_rows(rt.alloc()))
 }

@@ -1,28 +1,31 @@
-//! Segments assembled of the parts of their files, with an index of ids that is sorted anew or merged of runs.
+//! Segments assembled of the parts of their files, with an index of ids and an order of prices that are sorted anew or merged of
+//! runs.
 ghost use Rattle.std.specs.Prelude.{◌≡◌, IfOk, All};
 ghost use Rattle.cat_items.specs.file_parts.Parts.{layout_in, IsParts};
 ghost use Rattle.cat_model.specs.Item.{IsItem};
 ghost use Rattle.cat_model.specs.Layout.{IsLayout};
+ghost use Rattle.cat_segment.specs.Index.{AreAllRows};
 
 use crate::segment::bytes::{Parts, file_of};
 use crate::segment::made::{FIELDS, made, made_of_texts};
 use crate::segment::thrown::{Dice, items};
-use crate::verdict::{expect, expect_yes};
+use crate::verdict::expect_yes;
 use cat_base::Refusal;
 use cat_items::file_parts::{SegmentParts, read_segment};
 use cat_items::{Item, Schema};
-use cat_segment::{Segment, assemble, assemble_runs, encode_seg};
+use cat_segment::{Column, Numbers, Segment, assemble, assemble_runs, encode_seg};
 use std::alloc::{AllocError, Global};
 use std::test::Fail;
 
-/// Six rows, whose ids rise over the even rows and then over the odd ones.
+/// Six rows, whose ids rise over the even rows and then over the odd ones, and whose prices rise as those of the six below do over
+/// the first three rows and then over the others: so a merge of two segments of three passes them.
 const EVEN_AND_ODD: &[&str] = &[
-    r#"{"id":"a0"}"#,
-    r#"{"id":"b1"}"#,
-    r#"{"id":"a2"}"#,
-    r#"{"id":"b3"}"#,
-    r#"{"id":"a4"}"#,
-    r#"{"id":"b5"}"#,
+    r#"{"id":"a0","price":1}"#,
+    r#"{"id":"b1","price":2}"#,
+    r#"{"id":"a2","price":3}"#,
+    r#"{"id":"b3","price":5}"#,
+    r#"{"id":"a4","price":6}"#,
+    r#"{"id":"b5","price":4}"#,
 ];
 
 /// Six rows, whose ids rise.
@@ -45,7 +48,28 @@ fn parts_of(alloc: Global, segment: &Segment) -> Result<SegmentParts, Refusal>
     read_segment(alloc, &bytes)
 }
 
-/// The segment of the parts, with the index of ids merged of the rows of as many in the order of the other's ids.
+/// The price of each row of a segment, in both orders.
+fn prices(segment: &Segment) -> Option<&Numbers> {
+    match segment.column("price") {
+        Some(Column::Number(numbers)) => Some(numbers),
+        _ => None,
+    }
+}
+
+/// As many rows in the order of these numbers, as those of the one number field.
+fn orders_of(alloc: Global, numbers: &Numbers, count: usize) -> Result<Vec<Vec<u32>>, Refusal>
+    ensures { IfOk result (λ v. All (λ order. AreAllRows count order.items) v.items) }
+{
+    if numbers.values().len() != count {
+        return Err(Refusal::Count);
+    }
+    let mut orders = Vec::new(alloc);
+    orders.push(Vec::from_slice(alloc, numbers.rising())?)?;
+    Ok(orders)
+}
+
+/// The segment of the parts, with the index of ids merged of the rows of as many in the order of the other's ids, and the order of
+/// its prices of the rows in the order of the other's.
 fn merged(alloc: Global, parts: SegmentParts, order: &Segment) -> Result<Segment, Refusal>
     requires parts { IsParts parts }
     requires layout { IsLayout (layout_in parts) }
@@ -53,8 +77,10 @@ fn merged(alloc: Global, parts: SegmentParts, order: &Segment) -> Result<Segment
     if parts.ids.len() != order.len() {
         return Err(Refusal::Count);
     }
+    let by_price = prices(order).ok_or(Refusal::Kind)?;
+    let orders = orders_of(alloc, by_price, parts.ids.len())?;
     let runs = Vec::from_slice(alloc, order.rows_by_id())?;
-    assemble_runs(alloc, parts, runs, Vec::new(alloc))
+    assemble_runs(alloc, parts, runs, orders)
 }
 
 /// Whether the bytes are those of segment 1, and it these.
@@ -65,13 +91,28 @@ fn has_bytes(alloc: Global, segment: &Segment, bytes: &[u8]) -> Result<bool, All
     Ok(encode_seg(alloc, segment)?.as_slice() == bytes)
 }
 
-/// Whether the segment is assembled again of its parts, where the rows in the order of the other's ids are the runs.
+/// Whether both have the same rows in the orders of their ids and of their prices.
+fn has_orders(merged: &Segment, segment: &Segment) -> bool {
+    merged.rows_by_id() == segment.rows_by_id() && has_prices(prices(merged), prices(segment))
+}
+
+/// Whether there are numbers on both sides, and the same rows in their orders.
+fn has_prices(merged: Option<&Numbers>, sorted: Option<&Numbers>) -> bool {
+    match (merged, sorted) {
+        (Some(merged), Some(sorted)) => {
+            merged.rising() == sorted.rising() && merged.falling() == sorted.falling()
+        }
+        _ => false,
+    }
+}
+
+/// Whether the segment is assembled again of its parts, where the rows in the orders of the other's ids and prices are the runs.
 fn is_merged(alloc: Global, segment: &Segment, order: &Segment) -> Result<bool, Refusal>
     requires { segment.now.number ≡ 1 }
 {
     let bytes = encode_seg(alloc, segment)?;
     let merged = merged(alloc, parts_of(alloc, segment)?, order)?;
-    Ok(has_bytes(alloc, &merged, &bytes)? && merged.rows_by_id() == segment.rows_by_id())
+    Ok(has_bytes(alloc, &merged, &bytes)? && has_orders(&merged, segment))
 }
 
 fn even_and_odd(alloc: Global) -> Result<Segment, Refusal>
@@ -91,14 +132,13 @@ fn is_order(segment: &Segment, rows: &[u32]) -> bool {
     segment.rows_by_id() == rows
 }
 
-#[test]
-fn rows_stand_in_byte_order_of_their_ids(rt: HostRuntime) -> Result<(), Fail> {
-    let odd = even_and_odd(rt.alloc())?;
-    let rising = rising(rt.alloc())?;
-    expect(is_order(&odd, &[0, 2, 4, 1, 3, 5]) && is_order(&rising, &[0, 1, 2, 3, 4, 5]))
+/// Whether rows stand in byte order of their ids.
+fn are_ordered(rising: &Segment, odd: &Segment) -> bool {
+    is_order(odd, &[0, 2, 4, 1, 3, 5]) && is_order(rising, &[0, 1, 2, 3, 4, 5])
 }
 
-/// Whether the rising rows are merged of one run of six and of two of three, and the others of three of two.
+/// Whether the rising rows are merged of one run of six and of two of three, by their ids and by their prices, and the others of
+/// three of two by their ids, and of one and five by their prices.
 fn are_merged(alloc: Global, rising: &Segment, odd: &Segment) -> Result<bool, Refusal>
     requires rising { rising.now.number ≡ 1 }
     requires odd { odd.now.number ≡ 1 }
@@ -110,11 +150,11 @@ fn are_merged(alloc: Global, rising: &Segment, odd: &Segment) -> Result<bool, Re
     )
 }
 
-#[test]
-fn an_index_is_merged_of_runs(rt: HostRuntime) -> Result<(), Fail> {
-    let rising = rising(rt.alloc())?;
-    let odd = even_and_odd(rt.alloc())?;
-    expect_yes(are_merged(rt.alloc(), &rising, &odd))
+/// Whether the rows of both are ordered so, and merged so.
+fn are_few_merged(alloc: Global) -> Result<bool, Refusal> {
+    let rising = rising(alloc)?;
+    let odd = even_and_odd(alloc)?;
+    Ok(are_ordered(&rising, &odd) && are_merged(alloc, &rising, &odd)?)
 }
 
 /// What the id of the row begins with: those of even rows come before those of odd ones.
@@ -152,12 +192,12 @@ fn thousand_in_one_run(alloc: Global, schema: &Schema) -> Result<Segment, Refusa
     made(alloc, schema, &items)
 }
 
-#[test]
-fn an_index_of_a_thousand_ids_is_merged_of_two_runs(rt: HostRuntime) -> Result<(), Fail> {
-    let schema = Schema::read(rt.alloc(), FIELDS)?;
-    let odd = thousand_in_two_runs(rt.alloc(), &schema)?;
-    let rising = thousand_in_one_run(rt.alloc(), &schema)?;
-    expect_yes(is_merged(rt.alloc(), &rising, &odd))
+/// Whether an index of a thousand ids is merged of two runs.
+fn are_thousand_merged(alloc: Global) -> Result<bool, Refusal> {
+    let schema = Schema::read(alloc, FIELDS)?;
+    let odd = thousand_in_two_runs(alloc, &schema)?;
+    let rising = thousand_in_one_run(alloc, &schema)?;
+    is_merged(alloc, &rising, &odd)
 }
 
 /// Segment 1, without fields, of four rows with the ids `a`, `b`, `b` and `c`.
@@ -185,17 +225,23 @@ fn is_damaged_merged(alloc: Global, bytes: &[u8], order: &Segment) -> Result<boo
     Ok(is_damaged(&merged(alloc, parts, order)))
 }
 
-#[test]
-fn an_id_in_two_runs_is_damaged(rt: HostRuntime) -> Result<(), Fail> {
-    // Of these the even rows are one run, and the odd ones another.
+/// Whether an id in two runs is damaged: of these rows the even ones are one run, and the odd ones another.
+fn is_twice_damaged(alloc: Global) -> Result<bool, Refusal> {
     const ORDER: &[&str] = &[
         r#"{"id":"a0"}"#,
         r#"{"id":"b1"}"#,
         r#"{"id":"a2"}"#,
         r#"{"id":"b3"}"#,
     ];
-    let bytes = file_of(rt.alloc(), TWICE)?;
-    let order = made_of_texts(rt.alloc(), FIELDS, ORDER)?;
-    let is_sorted_damaged = is_damaged_sorted(rt.alloc(), &bytes)?;
-    expect(is_sorted_damaged && is_damaged_merged(rt.alloc(), &bytes, &order)?)
+    let bytes = file_of(alloc, TWICE)?;
+    let order = made_of_texts(alloc, FIELDS, ORDER)?;
+    Ok(is_damaged_sorted(alloc, &bytes)? && is_damaged_merged(alloc, &bytes, &order)?)
+}
+
+/// Rows stand in byte order of their ids, an index is merged of runs of them, of few and of many, and an id in two runs is damaged.
+#[test]
+fn an_index_is_merged_of_runs(rt: HostRuntime) -> Result<(), Fail> {
+    expect_yes(are_few_merged(rt.alloc()))?;
+    expect_yes(are_thousand_merged(rt.alloc()))?;
+    expect_yes(is_twice_damaged(rt.alloc()))
 }

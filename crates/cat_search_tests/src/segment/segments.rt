@@ -2,11 +2,12 @@
 ghost use Rattle.std.specs.Prelude.{All};
 ghost use Rattle.cat_model.specs.Item.{IsItem};
 
+use crate::columns::columns::are_ordinals;
 use crate::segment::bytes::{Format, is_exact};
 use crate::segment::made::{FIELDS, made, made_of_texts, read_items};
 use crate::segment::matched::rows_matched;
 use crate::segment::thrown::{Dice, items, query_text};
-use crate::verdict::{expect, expect_none, expect_yes};
+use crate::verdict::{expect_none, expect_yes};
 use cat_base::{MAX_ROWS, Refusal};
 use cat_items::{Item, Schema};
 use cat_segment::cat_columns::SetColumn;
@@ -114,30 +115,6 @@ fn failing(alloc: Global, cases: &[Case]) -> Result<Option<&'static str>, Refusa
     Ok(None)
 }
 
-#[test]
-fn queries_match_rows(rt: HostRuntime) -> Result<(), Fail> {
-    expect_none(failing(rt.alloc(), CASES))
-}
-
-/// The ordinals of the row's labels; none where there is no such row.
-fn ordinals_at(labels: &SetColumn, row: usize) -> &[u32] {
-    if row < labels.len() {
-        labels.ordinals(row)
-    } else {
-        &[]
-    }
-}
-
-/// Whether the rows have labels of these ordinals.
-fn are_ordinals(labels: &SetColumn, rows: &[&[u32]]) -> bool {
-    for (row, ordinals) in rows.iter().enumerate() {
-        if ordinals_at(labels, row) != *ordinals {
-            return false;
-        }
-    }
-    labels.len() == rows.len()
-}
-
 /// Whether the labels are these, in order of their ordinals.
 fn are_labels(labels: &SetColumn, texts: &[&str]) -> bool {
     for (ordinal, text) in texts.iter().enumerate() {
@@ -158,12 +135,19 @@ fn is_facet(column: Option<&Column>, texts: &[&str], rows: &[&[u32]]) -> bool {
     }
 }
 
-#[test]
-fn labels_have_ordinals_in_byte_order(rt: HostRuntime) -> Result<(), Fail> {
+/// Whether labels have ordinals in byte order.
+fn are_ordered(alloc: Global) -> Result<bool, Refusal> {
     const ROWS: &[&[u32]] = &[&[0, 1], &[1], &[0], &[]];
-    let segment = made_of_texts(rt.alloc(), FIELDS, COLORED)?;
+    let segment = made_of_texts(alloc, FIELDS, COLORED)?;
     let has_colors = is_facet(segment.column("color"), &["blue", "red"], ROWS);
-    expect(has_colors && segment.column("size").is_none())
+    Ok(has_colors && segment.column("size").is_none())
+}
+
+/// Queries match rows, and labels have ordinals in byte order.
+#[test]
+fn queries_match_rows(rt: HostRuntime) -> Result<(), Fail> {
+    expect_none(failing(rt.alloc(), CASES))?;
+    expect_yes(are_ordered(rt.alloc()))
 }
 
 /// How many rows match a thrown query, and `None` unless they are those of the items that it accepts.
@@ -265,10 +249,10 @@ fn is_read_again(alloc: Global, seed: u64, size: usize) -> Result<bool, Refusal>
 
 #[test]
 fn a_segment_is_read_as_it_was_written(rt: HostRuntime) -> Result<(), Fail> {
-    let alloc = rt.alloc();
-    let are_few_read = is_read_again(alloc, 1, 1)? && is_read_again(alloc, 2, 65)?;
-    let are_many_read = is_read_again(alloc, 3, 1_000)? && is_read_again(alloc, 4, 5_000)?;
-    expect(are_few_read && are_many_read)
+    expect_yes(is_read_again(rt.alloc(), 1, 1))?;
+    expect_yes(is_read_again(rt.alloc(), 2, 65))?;
+    expect_yes(is_read_again(rt.alloc(), 3, 1_000))?;
+    expect_yes(is_read_again(rt.alloc(), 4, 5_000))
 }
 
 #[test]

@@ -1,18 +1,15 @@
 //! Rows read from texts, and views made of them.
-ghost use Rattle.std.specs.Prelude.{◌≡◌, ◌≢◌, ◌≤◌, ◌<◌, true, length, map, IfOk, IfSome, OnOk, All, AllPairs};
+ghost use Rattle.std.specs.Prelude.{◌≡◌, ◌≢◌, ◌≤◌, ◌<◌, true, length, map, IfOk, OnOk, All, AllPairs};
 ghost use Rattle.cat_model.specs.Item.{IsItem};
-ghost use Rattle.std.specs.Arc.{arc_value};
-ghost use Rattle.cat_model.specs.View.{row_matches, row_of};
-ghost use Rattle.cat_cached_sets.specs.cat_query.View.{query_of};
-ghost use Rattle.cat_cached_sets.specs.cat_views.Sets.{AreSets};
+ghost use Rattle.cat_model.specs.View.{row_of};
 
 use crate::segment::are_apart;
 use crate::views::put::Put;
 use cat_base::{MAX_ROWS, Refusal, SegNo, WriteNo};
-use cat_cached_sets::{DocSet, Leaf, Query, View};
+use cat_cached_sets::{Leaf, View};
 use cat_items::Schema;
 use cat_segment::{Live, Row, Segment};
-use std::alloc::{AllocError, Global};
+use std::alloc::Global;
 use std::sync::Arc;
 
 /// A row: the number of its write, whether it is live, and its item.
@@ -193,36 +190,4 @@ pub fn view_of(
         return Err(Refusal::Damaged);
     }
     Ok(View::of(alloc, schema.copy()?, leaves, 99)?)
-}
-
-/// The rows of the segment that the query matches, deleted rows too; of every third segment none.
-fn set_for(
-    alloc: Global,
-    query: &Query,
-    segment: &Segment,
-    index: usize,
-) -> Result<Option<Arc<DocSet>>, AllocError>
-    ensures { IfOk result (λ o. IfSome o (λ s. arc_value s ≡ map (row_matches (query_of query.now)) segment.now.rows)) }
-{
-    if index % 3 == 2 {
-        return Ok(None);
-    }
-    let set = Arc::new(alloc, query.matches(alloc, segment)?)?;
-    Ok(Some(set))
-}
-
-/// Sets that are at hand for the query over the view, of every third segment none.
-pub fn sets_of(
-    alloc: Global,
-    view: &View,
-    query: &Query,
-) -> Result<Vec<Option<Arc<DocSet>>>, AllocError>
-    ensures { IfOk result (λ v. AreSets (query_of query.now) view.now.leaves v.items) }
-{
-    let mut sets = Vec::new(alloc);
-    let leaves = view.leaves();
-    for (index, leaf) in leaves.iter().enumerate() {
-        sets.push(set_for(alloc, query, leaf.segment(), index)?)?;
-    }
-    Ok(sets)
 }

@@ -3,12 +3,11 @@
 ghost use Rattle.std.specs.Prelude.{◌≡◌, ◌≢◌, ◌<◌, true, IfOk, All, AllPairs};
 ghost use Rattle.cat_model.specs.Item.{IsItem};
 
-use crate::verdict::{expect, expect_none, expect_yes};
-use crate::views::making::{PutText, are_in_order, read_put, read_puts, view_of};
+use crate::verdict::expect_none;
+use crate::views::making::{PutText, are_in_order, read_puts, view_of};
 use crate::views::put::Put;
-use cat_base::{Refusal, SegNo, WriteNo};
+use cat_base::{Refusal, WriteNo};
 use cat_cached_sets::{Query, View};
-use cat_directory::{Directory, FileName, MemoryDirectory};
 use cat_facets::cat_search::{Ask, Entry, Key, Page, Prepared, Sort, page_of};
 use cat_items::Schema;
 use std::alloc::{AllocError, Global};
@@ -19,7 +18,7 @@ pub(crate) const FIELDS: &[u8] =
     br#"{"brand":"keyword","color":"facet","price":"number","title":"text"}"#;
 
 /// A FIND: how many hits at most, the sort, the mark, the query, and what is shown.
-type FindText<'a> = (u64, &'a str, Option<WriteNo>, &'a str, &'a str);
+pub(crate) type FindText<'a> = (u64, &'a str, Option<WriteNo>, &'a str, &'a str);
 
 /// The sort that a FIND names so.
 fn sort_named(text: &str) -> Sort<'_> {
@@ -87,8 +86,8 @@ pub(crate) fn shown_by_records(
     Ok(answer_text(alloc, &page)?)
 }
 
-/// Whether the FIND shows the same over the view and over the records.
-fn is_shown(
+/// Whether the FIND shows this over the view and over the records.
+pub(crate) fn is_shown(
     alloc: Global,
     view: &View,
     records: &[Put],
@@ -455,285 +454,4 @@ fn failing(alloc: Global, cases: &[Case]) -> Result<Option<&'static str>, Refusa
 #[test]
 fn pages_show_what_worked_finds_show(rt: HostRuntime) -> Result<(), Fail> {
     expect_none(failing(rt.alloc(), CASES))
-}
-
-/// How many rows the long pages are of, which have the prices from 0 on, each once.
-const MANY: u64 = 1_200;
-
-/// The price of the row of this number, from 0 on: no two of them are alike, and neighbours are far apart.
-fn mixed_price(number: WriteNo) -> u64
-    ensures { result < MANY }
-{
-    number.wrapping_mul(389) % MANY
-}
-
-/// The rows of the numbers from 1 on, all of them live.
-fn mixed_puts(alloc: Global, schema: &Schema) -> Result<Vec<Put>, Refusal>
-    ensures { IfOk result (λ v. All (λ p. IsItem schema.now p.item) v.items) }
-{
-    let mut puts = Vec::new(alloc);
-    for number in 1..MANY + 1 {
-        let price = mixed_price(number);
-        let text = format!(in alloc; "{{\"id\":\"{number}\",\"price\":{price}}}")?;
-        puts.push(read_put(alloc, schema, (number, true, text.as_str()))?)?;
-    }
-    Ok(puts)
-}
-
-/// The price of the hit that stands there.
-fn price_at(place: usize, falling: bool) -> usize {
-    if falling {
-        1_199usize.saturating_sub(place)
-    } else {
-        place
-    }
-}
-
-/// Whether the entry is of the row that has the price, under this price.
-fn has_price(entry: &Entry, price: usize) -> bool {
-    match entry.key() {
-        Some(Key::Number(key)) => {
-            mixed_price(entry.number()) == price as u64 && *key == price as i64
-        }
-        _ => false,
-    }
-}
-
-/// Whether the entries are the 1,000 hits of the least prices in order, or of the greatest, each under its price.
-fn are_thousand(entries: &[Entry], falling: bool) -> bool {
-    for (place, entry) in entries.iter().enumerate() {
-        if !has_price(entry, price_at(place, falling)) {
-            return false;
-        }
-    }
-    entries.len() == 1_000
-}
-
-/// Whether the page has the 1,000 hits of the least prices in order, or of the greatest.
-fn has_thousand(answer: &Result<Page, Refusal>, falling: bool) -> bool {
-    match answer {
-        Ok(page) => page.total() as u64 == MANY && are_thousand(page.entries(), falling),
-        Err(_) => false,
-    }
-}
-
-/// Whether more hits were asked for than a page has.
-fn are_too_many(answer: &Result<Page, Refusal>) -> bool {
-    match answer {
-        Ok(_) => false,
-        Err(refusal) => refusal.number() == 25,
-    }
-}
-
-fn by_price(falling: bool, count: u64) -> Ask<'static> {
-    let sort = if falling {
-        Sort::Falling("price")
-    } else {
-        Sort::Rising("price")
-    };
-    Ask {
-        sort,
-        after: None,
-        count,
-    }
-}
-
-/// Whether a page of the view by price has up to 1,000 hits.
-fn has_thousand_of_view(alloc: Global, view: &View, falling: bool) -> Result<bool, Refusal> {
-    let prepared = Prepared::of(view, Query::parse(view.schema(), alloc, "*:*")?)?;
-    let is_full = has_thousand(&prepared.page(alloc, by_price(falling, 1_000)), falling);
-    Ok(is_full && are_too_many(&prepared.page(alloc, by_price(falling, 1_001))))
-}
-
-/// Whether a page of the records by price has up to 1,000 hits.
-fn has_thousand_of_records(
-    alloc: Global,
-    schema: &Schema,
-    records: &[Put],
-    falling: bool,
-) -> Result<bool, Refusal>
-    requires rising { AllPairs (λ a b. a.number < b.number) records.now }
-    requires items { All (λ p. IsItem schema.now p.item) records.now }
-{
-    let query = Query::parse(schema, alloc, "*:*")?;
-    let most = page_of(alloc, schema, records, &query, by_price(falling, 1_000));
-    let is_full = has_thousand(&most, falling);
-    let more = page_of(alloc, schema, records, &query, by_price(falling, 1_001));
-    Ok(is_full && are_too_many(&more))
-}
-
-/// The rows of the numbers from 1 on, in order.
-fn mixed_records(alloc: Global, schema: &Schema) -> Result<Vec<Put>, Refusal>
-    ensures items { IfOk result (λ v. All (λ p. IsItem schema.now p.item) v.items) }
-    ensures order { IfOk result (λ v. AllPairs (λ a b. (a.number < b.number)
-        × (a.live ≡ true → b.live ≡ true → a.item.id ≢ b.item.id)) v.items) }
-{
-    let puts = mixed_puts(alloc, schema)?;
-    if !are_in_order(&puts) {
-        return Err(Refusal::Damaged);
-    }
-    Ok(puts)
-}
-
-/// Whether pages by price have up to 1,000 hits, over a view and over records.
-fn have_thousand(alloc: Global, falling: bool) -> Result<bool, Refusal> {
-    let schema = Schema::read(alloc, FIELDS)?;
-    let puts = mixed_records(alloc, &schema)?;
-    let view = view_of(alloc, &schema, &puts, &[700, 1_200])?;
-    Ok(
-        has_thousand_of_view(alloc, &view, falling)?
-            && has_thousand_of_records(alloc, &schema, &puts, falling)?,
-    )
-}
-
-#[test]
-fn a_page_by_rising_price_has_a_thousand_hits_and_no_more(rt: HostRuntime) -> Result<(), Fail> {
-    expect_yes(have_thousand(rt.alloc(), false))
-}
-
-#[test]
-fn a_page_by_falling_price_has_a_thousand_hits_and_no_more(rt: HostRuntime) -> Result<(), Fail> {
-    expect_yes(have_thousand(rt.alloc(), true))
-}
-
-/// The view of the four items and of two that were killed, in three segments.
-fn priced_view(alloc: Global) -> Result<View, Refusal> {
-    let schema = Schema::read(alloc, FIELDS)?;
-    view_of_texts(alloc, &schema, PRICED, &[1, 3, 6])
-}
-
-/// The texts of the names, with a space behind each.
-fn names_text(alloc: Global, names: &[FileName]) -> Result<String, AllocError> {
-    let mut text = String::new(alloc);
-    for name in names {
-        write!(text, "{name} ")?;
-    }
-    Ok(text)
-}
-
-#[test]
-fn a_view_needs_two_files_of_each_segment(rt: HostRuntime) -> Result<(), Fail> {
-    let view = priced_view(rt.alloc())?;
-    let names = names_text(rt.alloc(), &view.files(rt.alloc())?)?;
-    expect(names.as_str() == "_1.seg _1.sto _2.seg _2.sto _3.seg _3.sto ")
-}
-
-/// Puts the texts into the file of a segment's sources, one behind the other.
-fn store(
-    alloc: Global,
-    files: &mut MemoryDirectory,
-    segment: SegNo,
-    texts: &[&[u8]],
-) -> Result<(), Refusal> {
-    let name = FileName::Source(segment);
-    if !name.has_form() {
-        return Err(Refusal::Damaged);
-    }
-    files.create(alloc, name)?;
-    for text in texts {
-        files.append(name, text)?;
-    }
-    Ok(())
-}
-
-/// Whether the view gives these texts for the ids, or none.
-fn gives(
-    alloc: Global,
-    view: &View,
-    files: &mut MemoryDirectory,
-    rows: &[(&str, Option<&[u8]>)],
-) -> Result<bool, Refusal> {
-    for &(id, want) in rows {
-        if view.get(alloc, files, id)?.as_deref() != want {
-            return Ok(false);
-        }
-    }
-    Ok(true)
-}
-
-/// Whether the file with the text of the id is told as damaged.
-fn is_damaged(alloc: Global, view: &View, files: &mut MemoryDirectory, id: &str) -> bool {
-    matches!(view.get(alloc, files, id), Err(Refusal::Damaged))
-}
-
-const B: &[u8] = br#"{"id":"b"}"#;
-
-const C: &[u8] = br#"{"id":"c","price":7}"#;
-
-const C_CUT: &[u8] = br#"{"id":"c","price":7"#;
-
-/// Texts as long as that of `b` and `c`, with a line feed first, last, and between.
-const B_BROKEN: &[u8] = b"{\"id\":\"b\"\n";
-
-const C_BROKEN: &[&[u8]] = &[
-    b"\n\"id\":\"c\",\"price\":7}",
-    b"{\"id\":\"c\",\"price\":7\n",
-    b"{\"id\":\"c\"}\n1 OK 9999",
-];
-
-const D: &[u8] = br#"{"id":"d","price":2}"#;
-
-const E: &[u8] = br#"{"id":"e","price":3}"#;
-
-const F: &[u8] = br#"{"id":"f","price":7}"#;
-
-/// The row of `e` is dead, and no row has `g`.
-const TEXTS: &[(&str, Option<&[u8]>)] = &[("c", Some(C)), ("d", Some(D)), ("e", None), ("g", None)];
-
-/// Whether the texts of live ids are given. The file of `a` was never made.
-fn gives_texts(alloc: Global, view: &View, files: &mut MemoryDirectory) -> Result<bool, Refusal> {
-    store(alloc, files, 2, &[B, C])?;
-    store(alloc, files, 3, &[D, E, F])?;
-    Ok(gives(alloc, view, files, TEXTS)? && is_damaged(alloc, view, files, "a"))
-}
-
-/// Whether the text of `c` is damaged where the file has this one in its place.
-fn is_damaged_by(
-    alloc: Global,
-    view: &View,
-    files: &mut MemoryDirectory,
-    text: &[u8],
-) -> Result<bool, Refusal> {
-    store(alloc, files, 2, &[B, text])?;
-    Ok(is_damaged(alloc, view, files, "c"))
-}
-
-#[test]
-fn a_view_gives_the_texts_of_live_ids(rt: HostRuntime) -> Result<(), Fail> {
-    let alloc = rt.alloc();
-    let view = priced_view(alloc)?;
-    let mut files = MemoryDirectory::new(alloc);
-    let are_given = gives_texts(alloc, &view, &mut files)?;
-    expect(are_given && is_damaged_by(alloc, &view, &mut files, C_CUT)?)
-}
-
-/// Whether each text that somebody broke into lines is damaged.
-fn are_broken(alloc: Global, view: &View, files: &mut MemoryDirectory) -> Result<bool, Refusal> {
-    for text in C_BROKEN {
-        if !is_damaged_by(alloc, view, files, text)? {
-            return Ok(false);
-        }
-    }
-    Ok(true)
-}
-
-/// Whether a text is given behind one that somebody broke.
-fn is_given_behind(
-    alloc: Global,
-    view: &View,
-    files: &mut MemoryDirectory,
-) -> Result<bool, Refusal> {
-    store(alloc, files, 2, &[B_BROKEN, C])?;
-    gives(alloc, view, files, &[("c", Some(C))])
-}
-
-/// A text that somebody broke into lines isn't given, so no reader of replies takes its lines for replies. A line feed in another
-/// text is nobody's trouble but of who reads that one.
-#[test]
-fn a_text_with_a_line_feed_is_damaged(rt: HostRuntime) -> Result<(), Fail> {
-    let alloc = rt.alloc();
-    let view = priced_view(alloc)?;
-    let mut files = MemoryDirectory::new(alloc);
-    let are_broken = are_broken(alloc, &view, &mut files)?;
-    expect(are_broken && is_given_behind(alloc, &view, &mut files)?)
 }

@@ -1,23 +1,25 @@
 //! Pages by a number or keyword field, and in order of addition, over segments are the pages over the records that their live
-//! rows show, where many rows tie, stand at an end of the integers, have no value, or are dead, and behind each mark.
-ghost use Rattle.std.specs.Prelude.{◌≡◌, ◌≢◌, ◌<◌, true, IfOk, All, AllPairs};
+//! rows show, where many rows tie, stand at an end of the integers, have no value, or are dead, and behind each mark. The longest
+//! pages are those that the prices alone give.
+ghost use Rattle.std.specs.Prelude.{◌≡◌, ◌≢◌, ◌≤◌, ◌<◌, true, IfOk, All, AllPairs};
 ghost use Rattle.cat_model.specs.Item.{IsItem};
 
 use crate::verdict::expect_yes;
 use crate::views::making::{are_in_order, read_put, view_of};
 use crate::views::put::Put;
-use crate::views::views::{FIELDS, shown_by_records, shown_by_view};
+use crate::views::views::{FIELDS, is_shown, shown_by_records, shown_by_view};
 use cat_base::{Refusal, WriteNo};
 use cat_cached_sets::View;
 use cat_facets::cat_search::{Ask, Sort};
 use cat_items::Schema;
 use std::alloc::{AllocError, Global};
+use std::fmt::Write;
 use std::test::Fail;
 
-/// How many rows there are, in three segments.
-const ROWS: WriteNo = 150;
-
+/// Where the segments end of the rows, and of those of the long pages.
 const ENDS: &[usize] = &[70, 140, 150];
+
+const LONG_ENDS: &[usize] = &[700, 1_200];
 
 /// None, rows of each segment, of which every third is dead where rows are, and one that isn't there.
 const MARKS: &[Option<WriteNo>] = &[
@@ -51,13 +53,25 @@ enum Rows {
     /// Five prices and brands and none; a title, which most rows have alike, and a label that few have. Every third row of the
     /// first segment is dead, all of the second are, and none of the third.
     Worded,
+    /// 1,200 rows with the prices from 0 on, each once, and neighbours far apart; no brand.
+    Mixed,
 }
 
-/// The text of the price and the brand of the row where they aren't its number, and nothing for none. Of two rows with brands the one with the greater price
-/// has the greater brand.
+/// How many rows there are, in three segments, or in two.
+fn count_of(rows: Rows) -> WriteNo
+    ensures { result ≤ 1200 }
+{
+    match rows {
+        Rows::Mixed => 1_200,
+        _ => 150,
+    }
+}
+
+/// The text of the price and the brand of the row where they aren't worked out of its number, and nothing for none. Of two rows
+/// with brands the one with the greater price has the greater brand.
 fn values_of(rows: Rows, number: WriteNo) -> &'static str {
     match (rows, number % 6) {
-        (Rows::Missing | Rows::Apart, _) => "",
+        (Rows::Missing | Rows::Apart | Rows::Mixed, _) => "",
         (Rows::Tied, _) => r#","price":7,"brand":"acme""#,
         (Rows::AtTheEnds, 0 | 3) => r#","price":-9223372036854775808,"brand":"a""#,
         (Rows::AtTheEnds, 1 | 4) => r#","price":9223372036854775807,"brand":"zzz""#,
@@ -80,7 +94,7 @@ fn values_of(rows: Rows, number: WriteNo) -> &'static str {
 /// Whether the row is live.
 fn is_live(rows: Rows, number: WriteNo) -> bool {
     match rows {
-        Rows::Tied | Rows::AtTheEnds | Rows::Missing => true,
+        Rows::Tied | Rows::AtTheEnds | Rows::Missing | Rows::Mixed => true,
         Rows::Thinned | Rows::Apart => number % 3 != 0,
         Rows::Dead => false,
         Rows::Worded => number > 140 || (number <= 70 && number % 3 != 0),
@@ -91,6 +105,10 @@ fn is_live(rows: Rows, number: WriteNo) -> bool {
 fn text_of(alloc: Global, rows: Rows, number: WriteNo) -> Result<String, AllocError> {
     match rows {
         Rows::Apart => format!(in alloc; r#"{{"id":"i{number}","price":{number}}}"#),
+        Rows::Mixed => {
+            let price = number.wrapping_mul(389) % 1_200;
+            format!(in alloc; r#"{{"id":"i{number}","price":{price}}}"#)
+        }
         _ => {
             let values = values_of(rows, number);
             format!(in alloc; r#"{{"id":"i{number}"{values}}}"#)
@@ -120,7 +138,7 @@ fn all_puts(
     ensures { IfOk result (λ v. All (λ p. IsItem schema.now p.item) v.items) }
 {
     let mut puts = Vec::new(alloc);
-    for number in 1..ROWS + 1 {
+    for number in 1..count_of(rows) + 1 {
         if live_only && !is_live(rows, number) {
             continue;
         }
@@ -283,4 +301,77 @@ fn a_range_has_few_of_the_rows_or_none(rt: HostRuntime) -> Result<(), Fail> {
 #[test]
 fn the_rows_of_a_word_are_shown_where_they_live(rt: HostRuntime) -> Result<(), Fail> {
     expect_yes(walks_agree(rt.alloc(), Rows::Worded))
+}
+
+/// The number of the row that has the price: 389 times 509 is 1 more than a multiple of 1,200.
+fn number_of(price: u64) -> WriteNo {
+    match price.wrapping_mul(509) % 1_200 {
+        0 => 1_200,
+        number => number,
+    }
+}
+
+/// The price of the hit at the place, by rising or by falling price.
+fn price_at(place: u64, falling: bool) -> u64 {
+    if falling {
+        1_199u64.saturating_sub(place)
+    } else {
+        place
+    }
+}
+
+/// What a page of a thousand hits shows by rising or by falling price, worked out from the prices alone.
+fn long_page(alloc: Global, falling: bool) -> Result<String, AllocError> {
+    let mut text = format!(in alloc; "1000 of 1200")?;
+    let mut mark = ": ";
+    for place in 0..1_000 {
+        let price = price_at(place, falling);
+        let number = number_of(price);
+        write!(text, "{mark}{number} i{number} {price}")?;
+        mark = ", ";
+    }
+    Ok(text)
+}
+
+/// Whether a page by this sort shows a thousand hits over the view and over the records, and isn't shown with one more.
+fn is_long_shown(
+    alloc: Global,
+    view: &View,
+    records: &[Put],
+    sort: &str,
+    shown: &str,
+) -> Result<bool, Refusal>
+    requires rising { AllPairs (λ a b. a.number < b.number) records.now }
+    requires items { All (λ p. IsItem view.now.schema p.item) records.now }
+{
+    Ok(
+        is_shown(alloc, view, records, &(1_000, sort, None, "*:*", shown))?
+            && is_shown(alloc, view, records, &(1_001, sort, None, "*:*", "NO 25"))?,
+    )
+}
+
+/// The same by rising price and by falling price.
+fn are_long_shown(alloc: Global, view: &View, records: &[Put]) -> Result<bool, Refusal>
+    requires rising { AllPairs (λ a b. a.number < b.number) records.now }
+    requires items { All (λ p. IsItem view.now.schema p.item) records.now }
+{
+    let rising = long_page(alloc, false)?;
+    let falling = long_page(alloc, true)?;
+    Ok(
+        is_long_shown(alloc, view, records, "+price", rising.as_str())?
+            && is_long_shown(alloc, view, records, "-price", falling.as_str())?,
+    )
+}
+
+/// The same over as many rows as long pages want.
+fn long_walks_agree(alloc: Global) -> Result<bool, Refusal> {
+    let schema = Schema::read(alloc, FIELDS)?;
+    let records = puts_in_order(alloc, &schema, Rows::Mixed, false)?;
+    let view = view_of(alloc, &schema, &records, LONG_ENDS)?;
+    are_long_shown(alloc, &view, &records)
+}
+
+#[test]
+fn a_page_by_price_has_a_thousand_hits_and_no_more(rt: HostRuntime) -> Result<(), Fail> {
+    expect_yes(long_walks_agree(rt.alloc()))
 }

@@ -3,15 +3,52 @@ ghost use Rattle.std.specs.Prelude.{◌≡◌, ◌∷◌, [], IfOk, All};
 ghost use Rattle.cat_facets.specs.Kept.{KnowsIn};
 ghost use Rattle.cat_model.specs.View.{segments_of};
 
-use crate::facets::facets::counts::{CountText, answer_text, counts_kept};
 use crate::verdict::{expect, expect_yes};
 use crate::views::{PutText, view_of_texts};
-use cat_base::Token;
-use cat_cached_sets::{Leaf, View};
-use cat_facets::{MAX_KEPT_STATES, ReaderStates};
+use cat_base::{Refusal, Token};
+use cat_cached_sets::{Leaf, Query, View};
+use cat_facets::cat_search::Prepared;
+use cat_facets::{Facets, MAX_KEPT_STATES, ReaderStates};
 use cat_items::Schema;
 use std::alloc::{AllocError, Global};
+use std::fmt::Write;
 use std::test::Fail;
+
+/// A FACETS: how many counts at most, the dimension, the query, and what is answered.
+type CountText<'a> = (u64, &'a str, &'a str, &'a str);
+
+/// What is answered: the hits that have a label, the labels that are met, and the first counts, as `3 2: 2 blue, 2 red`; or
+/// a refusal, as `NO 25`.
+fn answer_text(alloc: Global, answer: &Result<Facets, Refusal>) -> Result<String, AllocError> {
+    let facets = match answer {
+        Ok(facets) => facets,
+        Err(refusal) => return format!(in alloc; "NO {}", refusal.number()),
+    };
+    let mut text = format!(in alloc; "{} {}", facets.matching(), facets.met())?;
+    let mut mark = ": ";
+    for each in facets.counts() {
+        write!(text, "{mark}{} {}", each.count(), each.label())?;
+        mark = ", ";
+    }
+    Ok(text)
+}
+
+/// The counts over the hits in the view, by a state that is kept, or that is kept for the next counts over the view.
+fn counts_kept(
+    alloc: Global,
+    states: &mut ReaderStates,
+    view: &View,
+    count: &CountText<'_>,
+) -> Result<Facets, Refusal>
+    requires { All (KnowsIn states.old) (segments_of view.now.leaves) }
+    ensures { All (KnowsIn states.new) (segments_of view.now.leaves) }
+{
+    let (n, dimension, text, _) = *count;
+    let query = Query::parse(view.schema(), alloc, text)?;
+    // This tells that the segments of a view have different numbers, so that a state of them leaves each of them known.
+    prove!(view.leaves().len() >= 0);
+    states.counts(alloc, &Prepared::of(view, query)?, dimension, n)
+}
 
 /// Whether the FACETS is answered so by the kept states, of which there are so many then.
 fn is_kept(

@@ -2,7 +2,7 @@ use Rattle.std.proofs.Common.{ap, subst}
 use Rattle.cat_model.specs.View.{View, segments_of}
 use Rattle.cat_facets.specs.Kept.{RemembersOf}
 use Rattle.cat_search_tests.proofs.facets.StayKnown.{stay_known}
-use Rattle.cat_search_tests.proofs.facets.facets.counts.counts_kept.Goals as goal
+use Rattle.cat_search_tests.proofs.facets.facets.kept.counts_kept.Goals as goal
 
 pub returns : goal.returns
 returns c =
