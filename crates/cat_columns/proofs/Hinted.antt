@@ -7,7 +7,8 @@ use Rattle.cat_model.specs.Text.{Text}
 use Rattle.cat_model.specs.Ordinals.{text_at, IsOrdinal}
 use Rattle.cat_columns.specs.declared.hints.Hint.{Hint}
 use Rattle.cat_columns.specs.declared.hints.Hint.TheVariants.{Empty, One}
-use Rattle.cat_columns.specs.Hints.{text_hash, hint_of, Allows, AllowFirst, AreHints}
+use Rattle.cat_columns.specs.Hints.{hint_of, Allows, AllowFirst, AreHints}
+use Rattle.cat_columns.specs.TextHash.{text_hash}
 
 -- one text more
 pub allow_more : (texts : List Text) (i hash : ℕ) (old new : List Hint) → AllowFirst texts i old → hash ≡ text_hash (text_at texts i) → Allows (hint_of new hash) i

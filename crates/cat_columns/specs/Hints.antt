@@ -1,15 +1,10 @@
 -- Where in a list of texts a text can be, by its hash.
-use Rattle.std.specs.Prelude.{◌≡◌, ℕ, ◌*◌, ◌/◌, ◌^◌, ◌<◌, ⊤, List, length, slice_index_or, fold}
-use Rattle.std.specs.Hash as fed
-use Rattle.std.specs.Hash.DefaultHasher as sip
+use Rattle.std.specs.Prelude.{◌≡◌, ℕ, ◌*◌, ◌/◌, ◌^◌, ◌<◌, ⊤, List, length, slice_index_or}
 use Rattle.cat_model.specs.Text.{Text}
 use Rattle.cat_model.specs.Ordinals.{text_at}
+use Rattle.cat_columns.specs.TextHash.{text_hash}
 use Rattle.cat_columns.specs.declared.hints.Hint.{Hint}
 use Rattle.cat_columns.specs.declared.hints.Hint.TheVariants.{Empty, One, Crowded}
-
--- the hash of a text
-abbrev pub text_hash : Text → ℕ
-text_hash text = sip.finish (fold sip.write sip.initial (fed.str text))
 
 -- the slot that the hash leads to
 abbrev pub slot_of : ℕ → ℕ → ℕ

@@ -3,3 +3,4 @@ pub mod Columns
 pub mod Merged
 pub mod inverted
 pub mod Hints
+pub mod TextHash

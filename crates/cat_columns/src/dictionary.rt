@@ -3,7 +3,8 @@ ghost use Rattle.std.specs.Prelude.{◌≡◌, ◌≢◌, ◌<◌, ◌^◌, leng
 ghost use Rattle.cat_base.specs.Texts.{sorted_set, IsTextSet};
 ghost use Rattle.cat_model.specs.Ordinals.{dictionary_of, text_at, IsOrdinal};
 
-use crate::hints::{Hint, hint_of, hints_of, text_hash};
+use crate::hashing::text_hash;
+use crate::hints::{Hint, hint_of, hints_of};
 use crate::union::united;
 use cat_base::{Text, TextSet};
 use std::alloc::{AllocError, Global};

@@ -1,10 +1,10 @@
 //! Hints: where in a dictionary a text can be, by its hash, so that most texts are found, or missed, without a search.
 ghost use Rattle.std.specs.Prelude.{◌≡◌, ◌^◌, ◌<◌, ℕ, length, IfOk};
-ghost use Rattle.cat_columns.specs.Hints.{hint_of, slot_of, text_hash, Allows, AreHints};
+ghost use Rattle.cat_columns.specs.Hints.{hint_of, slot_of, Allows, AreHints};
 
+use crate::hashing::text_hash;
 use cat_base::Text;
 use std::alloc::{AllocError, Global};
-use std::hash::{DefaultHasher, Hash, Hasher};
 
 /// What is known of the texts whose hash leads to one slot.
 #[derive(Clone, Copy, Debug)]
@@ -25,15 +25,6 @@ const MOST_TEXTS: usize = 1 << 24;
 
 /// Half a hash is below this.
 const HALF: u64 = 1 << 32;
-
-/// The hash of a text.
-pub(crate) fn text_hash(text: &str) -> u64
-    ensures { result ≡ text_hash text.now }
-{
-    let mut state = DefaultHasher::new();
-    text.hash(&mut state);
-    state.finish()
-}
 
 /// The slot that the hash leads to, where there is a slot.
 fn slot_of(hash: u64, count: usize) -> usize

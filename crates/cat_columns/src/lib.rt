@@ -6,6 +6,7 @@ mod blocks;
 mod covering;
 mod dictionary;
 mod gathering;
+mod hashing;
 mod hints;
 pub mod inverted;
 mod keywords;
@@ -18,6 +19,7 @@ mod sets;
 mod union;
 
 pub use dictionary::Dictionary;
+pub use hashing::text_hash;
 pub use keywords::KeywordColumn;
 pub use laws::{columns_are_told_by_their_layouts, sets_are_told_by_their_bytes};
 pub use numbers::NumberColumn;

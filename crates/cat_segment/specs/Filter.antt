@@ -1,13 +1,12 @@
 -- Which hashes the ids of a segment have, by two bits of each.
-use Rattle.std.specs.Prelude.{◌≡◌, ℕ, ◌*◌, ◌/◌, ◌%◌, ◌^◌, ◌<◌, Bool, true, ◌&&◌, List, length, All, fold}
-use Rattle.std.specs.Hash as fed
-use Rattle.std.specs.Hash.DefaultHasher as sip
+use Rattle.std.specs.Prelude.{◌≡◌, ℕ, ◌*◌, ◌/◌, ◌%◌, ◌^◌, ◌<◌, Bool, true, ◌&&◌, List, length, All}
 use Rattle.cat_model.specs.RowSets.{has_row}
 use Rattle.cat_model.specs.Text.{Text}
+use Rattle.cat_columns.specs.TextHash.{text_hash}
 
 -- the hash of an id
 abbrev pub id_hash : Text → ℕ
-id_hash id = sip.finish (fold sip.write sip.initial (fed.str id))
+id_hash id = text_hash id
 
 -- the bit that half a hash leads to
 abbrev pub bit_of : ℕ → ℕ → ℕ

@@ -3,9 +3,8 @@ ghost use Rattle.std.specs.Prelude.{◌≡◌, ◌^◌, ◌<◌, ℕ, true, leng
 ghost use Rattle.cat_segment.specs.Filter.{bit_of, id_hash, may_have, IsFilter};
 
 use cat_base::Text;
-use cat_columns::RowSet;
+use cat_columns::{RowSet, text_hash};
 use std::alloc::{AllocError, Global};
-use std::hash::{DefaultHasher, Hash, Hasher};
 
 /// How many bits there are for each id. Two of them are set, so that of 70 ids that no row has one is searched for.
 const BITS: usize = 16;
@@ -20,9 +19,7 @@ const HALF: u64 = 1 << 32;
 pub fn id_hash(id: &str) -> u64
     ensures { result ≡ id_hash id.now }
 {
-    let mut state = DefaultHasher::new();
-    id.hash(&mut state);
-    state.finish()
+    text_hash(id)
 }
 
 /// The bit that half a hash leads to.

@@ -1,6 +1,7 @@
 use Rattle.std.proofs.Common.{◌∙◌, [], length, sym, ap, subst}
 use Rattle.std.proofs.lemmas.List.{get_or_default}
-use Rattle.cat_columns.specs.Hints.{text_hash, AllowFirst}
+use Rattle.cat_columns.specs.Hints.{AllowFirst}
+use Rattle.cat_columns.specs.TextHash.{text_hash}
 use Rattle.cat_columns.proofs.Bits.{written_back}
 use Rattle.cat_columns.proofs.Hinted.{allow_more}
 use Rattle.cat_columns.proofs.hints.hints_of.Goals as goal

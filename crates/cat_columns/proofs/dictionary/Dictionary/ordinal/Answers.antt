@@ -1,6 +1,7 @@
 use Rattle.std.proofs.Common.{◌∙◌, ◌<◌, ◌^◌, length, sym, ap, subst}
 use Rattle.std.specs.Arc.{arc_value}
-use Rattle.cat_columns.specs.Hints.{hint_of, text_hash, AreHints}
+use Rattle.cat_columns.specs.Hints.{hint_of, AreHints}
+use Rattle.cat_columns.specs.TextHash.{text_hash}
 use Rattle.cat_columns.proofs.Hinted.{none_tells, one_tells}
 use Rattle.cat_columns.proofs.dictionary.Dictionary.ordinal.Goals as goal
 
