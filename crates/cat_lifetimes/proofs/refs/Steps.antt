@@ -10,16 +10,8 @@ use Rattle.cat_ledger_laws.specs.model.Users.{Used, times, has_name, users_of, i
 use Rattle.cat_directory.specs.declared.name.FileName.{FileName}
 use Rattle.cat_directory.specs.Names.{name_of, same_name}
 use Rattle.cat_directory.specs.NameOrder.{same_name_is, same_name_equivalence}
-use Rattle.cat_lifetimes.specs.refs.Counts.{names_in, used_in}
+use Rattle.cat_lifetimes.specs.refs.Counts.{PutsUsers, names_in, used_in, users_under}
 use Rattle.cat_lifetimes.proofs.refs.Named.{of_files, times_in, has_in, users_in, known_in}
-
--- the entries fs have v at k, and elsewhere what es have
-abbrev pub Puts : List (FileName × ℕ) → List (FileName × ℕ) → FileName → ℕ → Type 0
-Puts es fs k v = (q : FileName) → lookup (same_name q) fs ≡ cond (same_name k q) (Some v) (lookup (same_name q) es)
-
--- the number of users of a name by its entry
-abbrev pub users_at : List (FileName × ℕ) → FileName → ℕ
-users_at es q = unwrap_or (lookup (same_name q) es) 0
 
 one_more : (q k : FileName) (names : List FileName) → count_by (same_name q) (names ++ k ∷ []) ≡ count_by (same_name q) names + cond (same_name k q) 1 0
 one_more q k names =
@@ -34,21 +26,21 @@ one_more_there : (q k : FileName) (names : List FileName) → list_any (same_nam
 one_more_there q k names =
     list_any-append (same_name q) names (k ∷ []) ∙ ap (λ b. list_any (same_name q) names || b) (or_false (same_name q k) ∙ same_name_equivalence.symm q k)
 
-users_more : (es fs : List (FileName × ℕ)) (k : FileName) → Puts es fs k (users_at es k + 1) → (q : FileName) → users_at fs q ≡ users_at es q + cond (same_name k q) 1 0
+users_more : (es fs : List (FileName × ℕ)) (k : FileName) → PutsUsers es fs k (users_under es k + 1) → (q : FileName) → users_under fs q ≡ users_under es q + cond (same_name k q) 1 0
 users_more es fs k puts q = rw (puts q) (by (same_name k q) refl)
   where
-    by : (b : Bool) → same_name k q ≡ b → unwrap_or (cond b (Some (users_at es k + 1)) (lookup (same_name q) es)) 0 ≡ users_at es q + cond b 1 0
-    by true e = ap (λ n. users_at es n + 1) (same_name_is k q e)
+    by : (b : Bool) → same_name k q ≡ b → unwrap_or (cond b (Some (users_under es k + 1)) (lookup (same_name q) es)) 0 ≡ users_under es q + cond b 1 0
+    by true e = ap (λ n. users_under es n + 1) (same_name_is k q e)
     by false e = omega arith
 
-users_less : (es fs : List (FileName × ℕ)) (k : FileName) (v : ℕ) → v + 1 ≡ users_at es k → Puts es fs k v → (q : FileName) → users_at fs q + cond (same_name k q) 1 0 ≡ users_at es q
+users_less : (es fs : List (FileName × ℕ)) (k : FileName) (v : ℕ) → v + 1 ≡ users_under es k → PutsUsers es fs k v → (q : FileName) → users_under fs q + cond (same_name k q) 1 0 ≡ users_under es q
 users_less es fs k v less puts q = rw (puts q) (by (same_name k q) refl)
   where
-    by : (b : Bool) → same_name k q ≡ b → unwrap_or (cond b (Some v) (lookup (same_name q) es)) 0 + cond b 1 0 ≡ users_at es q
-    by true e = less ∙ ap (users_at es) (same_name_is k q e)
+    by : (b : Bool) → same_name k q ≡ b → unwrap_or (cond b (Some v) (lookup (same_name q) es)) 0 + cond b 1 0 ≡ users_under es q
+    by true e = less ∙ ap (users_under es) (same_name_is k q e)
     by false e = omega arith
 
-known_more : (es fs : List (FileName × ℕ)) (k : FileName) (v : ℕ) → Puts es fs k v → (q : FileName) → is_some (lookup (same_name q) fs) ≡ (is_some (lookup (same_name q) es) || same_name k q)
+known_more : (es fs : List (FileName × ℕ)) (k : FileName) (v : ℕ) → PutsUsers es fs k v → (q : FileName) → is_some (lookup (same_name q) fs) ≡ (is_some (lookup (same_name q) es) || same_name k q)
 known_more es fs k v puts q = rw (puts q) (by (same_name k q) (is_some (lookup (same_name q) es)) refl)
   where
     by : (b c : Bool) → is_some (lookup (same_name q) es) ≡ c → is_some (cond b (Some v) (lookup (same_name q) es)) ≡ (c || b)
@@ -61,29 +53,29 @@ or_both : (a b c : Bool) → ((a || b) || c) ≡ (a || (b || c))
 or_both true b c = refl
 or_both false b c = refl
 
-pub one_taken : (old : List Used) (taken : List FileName) (es fs : List (FileName × ℕ)) (k : FileName) → Puts es fs k (users_at es k + 1)
+pub one_taken : (old : List Used) (taken : List FileName) (es fs : List (FileName × ℕ)) (k : FileName) → PutsUsers es fs k (users_under es k + 1)
     → Changes (names_in taken) [] old (map used_in es) → Changes (names_in (taken ++ k ∷ [])) [] old (map used_in fs)
 one_taken old taken es fs k puts c = record {
   users = of_files (λ n. users_of (map used_in fs) n + times n [] ≡ users_of old n + times n (names_in (taken ++ k ∷ [])))
       (λ q. omega (arith, users_in q fs, users_in q es, times_in q taken, times_in q (taken ++ k ∷ []), one_more q k taken, users_more es fs k puts q, c.users (name_of q)));
   known = of_files (λ n. is_known (map used_in fs) n ≡ (is_known old n || has_name n (names_in (taken ++ k ∷ []))))
-      (λ q. known_in q fs ∙ known_more es fs k (users_at es k + 1) puts q ∙ ap (λ b. b || same_name k q) (sym (known_in q es) ∙ c.known (name_of q) ∙ ap (λ b. is_known old (name_of q) || b) (has_in q taken))
+      (λ q. known_in q fs ∙ known_more es fs k (users_under es k + 1) puts q ∙ ap (λ b. b || same_name k q) (sym (known_in q es) ∙ c.known (name_of q) ∙ ap (λ b. is_known old (name_of q) || b) (has_in q taken))
       ∙ or_both (is_known old (name_of q)) (list_any (same_name q) taken) (same_name k q)
       ∙ ap (λ b. is_known old (name_of q) || b) (sym (one_more_there q k taken) ∙ sym (has_in q (taken ++ k ∷ []))));
 }
 
-known_same : (es fs : List (FileName × ℕ)) (k : FileName) (v w : ℕ) → lookup (same_name k) es ≡ Some w → Puts es fs k v → (q : FileName) → is_some (lookup (same_name q) fs) ≡ is_some (lookup (same_name q) es)
+known_same : (es fs : List (FileName × ℕ)) (k : FileName) (v w : ℕ) → lookup (same_name k) es ≡ Some w → PutsUsers es fs k v → (q : FileName) → is_some (lookup (same_name q) fs) ≡ is_some (lookup (same_name q) es)
 known_same es fs k v w there puts q = rw (puts q) (by (same_name k q) refl)
   where
     by : (b : Bool) → same_name k q ≡ b → is_some (cond b (Some v) (lookup (same_name q) es)) ≡ is_some (lookup (same_name q) es)
     by true e = sym (ap is_some (ap (λ n. lookup (same_name n) es) (sym (same_name_is k q e)) ∙ there))
     by false e = refl
 
-pub one_given : (old : List Used) (given : List FileName) (es fs : List (FileName × ℕ)) (k : FileName) (v : ℕ) → lookup (same_name k) es ≡ Some (v + 1) → Puts es fs k v
+pub one_given : (old : List Used) (given : List FileName) (es fs : List (FileName × ℕ)) (k : FileName) (v : ℕ) → lookup (same_name k) es ≡ Some (v + 1) → PutsUsers es fs k v
     → Changes [] (names_in given) old (map used_in es) → Changes [] (names_in (given ++ k ∷ [])) old (map used_in fs)
 one_given old given es fs k v there puts c = record {
   users = of_files (λ n. users_of (map used_in fs) n + times n (names_in (given ++ k ∷ [])) ≡ users_of old n + times n [])
-      (λ q. let less : v + 1 ≡ users_at es k = sym (ap (λ o. unwrap_or o 0) there) in
+      (λ q. let less : v + 1 ≡ users_under es k = sym (ap (λ o. unwrap_or o 0) there) in
       omega (arith, users_in q fs, users_in q es, times_in q given, times_in q (given ++ k ∷ []), one_more q k given, users_less es fs k v less puts q, c.users (name_of q)));
   known = of_files (λ n. is_known (map used_in fs) n ≡ (is_known old n || has_name n []))
       (λ q. known_in q fs ∙ known_same es fs k v (v + 1) there puts q ∙ sym (known_in q es) ∙ c.known (name_of q));
@@ -109,12 +101,12 @@ one_is_left names i d within =
 
 -- so there is room for one user more, where there is for all
 pub fits_one : (old : List Used) (es : List (FileName × ℕ)) (names : List FileName) (i : ℕ) (d : FileName) → i < length names
-    → ((q : Name) → users_of old q + times q (names_in names) < 2 ^ 64) → Changes (names_in (take i names)) [] old (map used_in es) → users_at es (get_or names i d) + 1 < 2 ^ 64
+    → ((q : Name) → users_of old q + times q (names_in names) < 2 ^ 64) → Changes (names_in (take i names)) [] old (map used_in es) → users_under es (get_or names i d) + 1 < 2 ^ 64
 fits_one old es names i d within room c =
     let q : Name = name_of (get_or names i d) in omega (arith, one_is_left names i d within, room q, c.users q, users_in (get_or names i d) es)
 
 -- and one user to give, where all can be given
 pub has_one : (old : List Used) (es : List (FileName × ℕ)) (names : List FileName) (i : ℕ) (d : FileName) → i < length names
-    → ((q : Name) → times q (names_in names) ≤ users_of old q) → Changes [] (names_in (take i names)) old (map used_in es) → 1 ≤ users_at es (get_or names i d)
+    → ((q : Name) → times q (names_in names) ≤ users_of old q) → Changes [] (names_in (take i names)) old (map used_in es) → 1 ≤ users_under es (get_or names i d)
 has_one old es names i d within enough c =
     let q : Name = name_of (get_or names i d) in omega (arith, one_is_left names i d within, enough q, c.users q, users_in (get_or names i d) es)

@@ -1,9 +1,10 @@
 -- Names that are pending, and the entries of the code as users of names.
-use Rattle.std.specs.Prelude.{◌≡◌, ℕ, Bool, true, false, ◌&&◌, ◌==◌, List, map}
+use Rattle.std.specs.Prelude.{◌≡◌, ℕ, Bool, true, false, ◌&&◌, ◌==◌, List, Some, cond, map, unwrap_or}
+use Rattle.std.specs.Map.{lookup}
 use Rattle.cat_model.specs.Files.{Name}
 use Rattle.cat_ledger_laws.specs.model.Users.{Used, users_of, is_known}
 use Rattle.cat_directory.specs.declared.name.FileName.{FileName}
-use Rattle.cat_directory.specs.Names.{name_of}
+use Rattle.cat_directory.specs.Names.{name_of, same_name}
 
 -- the names that stand in the code
 abbrev pub names_in : List FileName → List Name
@@ -24,3 +25,11 @@ IsForgotten old new q = IsPending old q × (is_known new (name_of q) ≡ false)
 -- an entry of the map
 abbrev pub used_in : FileName × ℕ → Used
 used_in e = record { name = name_of e.0; users = e.1 }
+
+-- how many users a name has by its entry
+abbrev pub users_under : List (FileName × ℕ) → FileName → ℕ
+users_under es q = unwrap_or (lookup (same_name q) es) 0
+
+-- the entries fs have v at k, and elsewhere what es have
+abbrev pub PutsUsers : List (FileName × ℕ) → List (FileName × ℕ) → FileName → ℕ → Type 0
+PutsUsers es fs k v = (q : FileName) → lookup (same_name q) fs ≡ cond (same_name k q) (Some v) (lookup (same_name q) es)

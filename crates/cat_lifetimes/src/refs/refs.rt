@@ -5,7 +5,8 @@ ghost use Rattle.cat_model.specs.Files.{Name};
 ghost use Rattle.cat_ledger_laws.specs.model.Users.{Changes, times, users_of, is_known};
 ghost use Rattle.cat_directory.specs.Devices.{CountsWriting, NoMore};
 ghost use Rattle.cat_directory.specs.Names.{name_of};
-ghost use Rattle.cat_lifetimes.specs.refs.Counts.{names_in, used_in, is_pending, IsPending};
+ghost use Rattle.std.specs.HashMap.{spare};
+ghost use Rattle.cat_lifetimes.specs.refs.Counts.{IsPending, PutsUsers, is_pending, names_in, used_in, users_under};
 ghost use Rattle.cat_lifetimes.specs.refs.Swept.{ArePending, Swept};
 
 use cat_base::Refusal;
@@ -69,9 +70,7 @@ impl FileRefs {
     {
         self.users.reserve(names.len())?;
         for name in names {
-            let count = self.users.get(name).copied().unwrap_or(0);
-            let inserted: Result<_, _> = self.users.insert(*name, count + 1);
-            let _before = inserted.unwrap();
+            add_user(&mut self.users, *name);
         }
         Ok(())
     }
@@ -117,6 +116,21 @@ impl FileRefs {
         }
         Ok(names.len() as u64)
     }
+}
+
+/// The name gets one user more; it asks that there is room for a name. Nearly every name is known, and found by one hash.
+fn add_user(users: &mut HashMap<FileName, u64>, name: FileName)
+    requires room { 0 < spare users.old }
+    requires fits { users_under users.old.entries name + 1 < 2 ^ 64 }
+    ensures added { PutsUsers users.old.entries users.new.entries name (users_under users.old.entries name + 1) }
+    ensures room { spare users.old ≤ spare users.new + 1 }
+{
+    if let Some(count) = users.get_mut(&name) {
+        *count += 1;
+        return;
+    }
+    let inserted: Result<_, _> = users.insert(name, 1);
+    let _before = inserted.unwrap();
 }
 
 /// The names without users, in byte order.
