@@ -10,6 +10,7 @@ pub mod Judged
 pub mod Layouts
 pub mod LiveFiles
 pub mod Made
+pub mod NumberKeys
 pub mod Ordered
 pub mod Placed
 pub mod Ranged

@@ -7,6 +7,7 @@ pub mod Laid
 pub mod LiveStart
 pub mod Parts
 pub mod Sources
+pub mod NumberKeys
 pub mod Orders
 pub mod Ranges
 pub mod RowParts

@@ -14,6 +14,7 @@ mod inverting;
 mod live;
 mod live_file;
 mod missing_rows;
+mod number_keys;
 mod number_ranges;
 mod numbers;
 mod row_parts;
