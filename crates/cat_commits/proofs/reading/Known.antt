@@ -79,7 +79,7 @@ texts_all ts i d lt =
     ap (map (λ (x : Bor Text). x.now)) (sym (take-append-drop i ts)) ∙ map-append (λ (x : Bor Text). x.now) (take i ts) (drop i ts)
     ∙ ap (λ (l : List (Bor Text)). map (λ (y : Bor Text). y.now) (take i ts) ++ map (λ (y : Bor Text). y.now) l) (drop-cons ts i d lt)
 
--- ---- ids of live rows, row by row
+-- ---- what live rows have, row by row
 
 selected_suc : {A : Type 0} (bs : List Bool) (xs : List A) (i : ℕ) (d : A) → length bs ≡ length xs → i < length xs
     → selected (take (suc i) bs) (take (suc i) xs) ≡ selected (take i bs) (take i xs) ++ cond (has_row bs i) (get_or xs i d ∷ []) []
@@ -94,29 +94,29 @@ selected_more : {A : Type 0} (bs : List Bool) (xs : List A) (i : ℕ) (d : A) �
     → selected (take (i + 1) bs) (take (i + 1) xs) ≡ selected (take i bs) (take i xs) ++ cond (has_row bs i) (get_or xs i d ∷ []) []
 selected_more bs xs i d long within = rw add-one (selected_suc bs xs i d long within)
 
-module _ (live : List Bool) (rows : List Row) (base so_far more : List Text) (row : ℕ) (long : length live ≡ length rows) (within : row < length rows)
-    (is : so_far ≡ base ++ map (λ r. r.id) (selected (take row live) (take row rows))) where
-  pub id_kept : (id : Text) → HoldsAt (λ r. r.id ≡ id) rows row → has_row live row ≡ true → more ≡ so_far ++ id ∷ []
-      → more ≡ base ++ map (λ r. r.id) (selected (take (row + 1) live) (take (row + 1) rows))
-  id_kept id at kept e = by rows refl
+module _ {X : Type 0} (key : Row → X) (live : List Bool) (rows : List Row) (base so_far more : List X) (row : ℕ) (long : length live ≡ length rows) (within : row < length rows)
+    (is : so_far ≡ base ++ map key (selected (take row live) (take row rows))) where
+  pub row_kept : (x : X) → HoldsAt (λ r. key r ≡ x) rows row → has_row live row ≡ true → more ≡ so_far ++ x ∷ []
+      → more ≡ base ++ map key (selected (take (row + 1) live) (take (row + 1) rows))
+  row_kept x at kept e = by rows refl
     where
-      by : (rs : List Row) → rs ≡ rows → more ≡ base ++ map (λ r. r.id) (selected (take (row + 1) live) (take (row + 1) rows))
+      by : (rs : List Row) → rs ≡ rows → more ≡ base ++ map key (selected (take (row + 1) live) (take (row + 1) rows))
       by [] same = absurd (omega (arith, within, ap length same))
       by (d ∷ rs) same =
-          e ∙ ap (λ l. l ++ id ∷ []) is ∙ append_assoc base (map (λ (r : Row). r.id) (selected (take row live) (take row rows))) (id ∷ [])
+          e ∙ ap (λ l. l ++ x ∷ []) is ∙ append_assoc base (map key (selected (take row live) (take row rows))) (x ∷ [])
           ∙ ap (λ l. base ++ l)
-          (ap (λ (i : Text). map (λ (r : Row). r.id) (selected (take row live) (take row rows)) ++ i ∷ []) (sym (at d))
-          ∙ sym (map-append (λ (r : Row). r.id) (selected (take row live) (take row rows)) (get_or rows row d ∷ []))
-          ∙ ap (map (λ (r : Row). r.id)) (ap (λ b. selected (take row live) (take row rows) ++ cond b (get_or rows row d ∷ []) []) (sym kept) ∙ sym (selected_more live rows row d long within)))
+          (ap (λ (i : X). map key (selected (take row live) (take row rows)) ++ i ∷ []) (sym (at d))
+          ∙ sym (map-append key (selected (take row live) (take row rows)) (get_or rows row d ∷ []))
+          ∙ ap (map key) (ap (λ b. selected (take row live) (take row rows) ++ cond b (get_or rows row d ∷ []) []) (sym kept) ∙ sym (selected_more live rows row d long within)))
 
-  pub id_left : has_row live row ≡ false → more ≡ so_far → more ≡ base ++ map (λ r. r.id) (selected (take (row + 1) live) (take (row + 1) rows))
-  id_left left e = by rows refl
+  pub row_left : has_row live row ≡ false → more ≡ so_far → more ≡ base ++ map key (selected (take (row + 1) live) (take (row + 1) rows))
+  row_left left e = by rows refl
     where
-      by : (rs : List Row) → rs ≡ rows → more ≡ base ++ map (λ r. r.id) (selected (take (row + 1) live) (take (row + 1) rows))
+      by : (rs : List Row) → rs ≡ rows → more ≡ base ++ map key (selected (take (row + 1) live) (take (row + 1) rows))
       by [] same = absurd (omega (arith, within, ap length same))
       by (d ∷ rs) same =
           e ∙ is
-          ∙ ap (λ l. base ++ map (λ (r : Row). r.id) l)
+          ∙ ap (λ l. base ++ map key l)
           (sym (append-nil (selected (take row live) (take row rows)))
           ∙ ap (λ b. selected (take row live) (take row rows) ++ cond b (get_or rows row d ∷ []) []) (sym left) ∙ sym (selected_more live rows row d long within))
 

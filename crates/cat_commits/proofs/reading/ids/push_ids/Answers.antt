@@ -5,7 +5,7 @@ use Rattle.std.proofs.lemmas.List.{map-append}
 use Rattle.cat_model.specs.Text.{Text}
 use Rattle.cat_model.specs.RowSets.{has_row}
 use Rattle.cat_model.specs.View.{Segment, Row}
-use Rattle.cat_commits.proofs.reading.Known.{id_kept, id_left}
+use Rattle.cat_commits.proofs.reading.Known.{row_kept, row_left}
 use Rattle.cat_commits.proofs.reading.ids.push_ids.Goals as goal
 use Rattle.cat_commits.proofs.reading.ids.push_ids.Goals.{then-is_live+in_ok-push, else-is_live}
 
@@ -18,12 +18,12 @@ loop-row-preserved c =
     let so_far : List Text = map (λ (t : Bor Text). t.now) c.loop-row.ids.items in
     elim c.if-is_live.branch [
       | then-is_live+in_ok-push w ↦
-          id_kept live rows base so_far (map (λ (t : Bor Text). t.now) c.if-is_live.ids.items) c.loop-row.row c.live-live.ensures.long within c.loop-row.invariant w.id.result.now
+          row_kept (λ (r : Row). r.id) live rows base so_far (map (λ (t : Bor Text). t.now) c.if-is_live.ids.items) c.loop-row.row c.live-live.ensures.long within c.loop-row.invariant w.id.result.now
           (subst (λ (s : Segment). HoldsAt (λ (r : Row). r.id ≡ w.id.result.now) s.rows c.loop-row.row) c.segment-segment.ensures w.id.ensures)
           (ap (λ (s : List Bool). has_row s c.loop-row.row) (sym c.live-live.ensures.value) ∙ sym c.is_live.ensures ∙ w.if-is_live.true)
           (ap (λ v. map (λ (t : Bor Text). t.now) v.items) w.ids-is ∙ ap (map (λ (t : Bor Text). t.now)) w.in_ok-push.ensures.items ∙ map-append (λ (t : Bor Text). t.now) c.loop-row.ids.items (w.id.result ∷ []))
       | else-is_live w ↦
-          id_left live rows base so_far (map (λ (t : Bor Text). t.now) c.if-is_live.ids.items) c.loop-row.row c.live-live.ensures.long within c.loop-row.invariant
+          row_left (λ (r : Row). r.id) live rows base so_far (map (λ (t : Bor Text). t.now) c.if-is_live.ids.items) c.loop-row.row c.live-live.ensures.long within c.loop-row.invariant
           (ap (λ (s : List Bool). has_row s c.loop-row.row) (sym c.live-live.ensures.value) ∙ sym c.is_live.ensures ∙ w.if-is_live.false)
           (ap (λ v. map (λ (t : Bor Text). t.now) v.items) w.ids-is)
     ]

@@ -1,0 +1,28 @@
+use Rattle.std.proofs.Common.{◌≡◌, ◌<◌, List, Bool, ℕ, length, sym, ap, ◌∙◌, subst, arith}
+use Rattle.std.specs.List.{HoldsAt}
+use Rattle.cat_model.specs.RowSets.{has_row}
+use Rattle.cat_model.specs.View.{Segment, Row}
+use Rattle.cat_views.specs.cat_segment.Filter.{id_hash}
+use Rattle.cat_commits.proofs.reading.Known.{row_kept, row_left}
+use Rattle.cat_commits.proofs.reading.ids.push_hashes.Goals as goal
+use Rattle.cat_commits.proofs.reading.ids.push_hashes.Goals.{then-is_live+in_ok-push, else-is_live}
+
+pub loop-row-preserved : goal.loop-row-preserved
+loop-row-preserved c =
+    let live : List Bool = c.args.leaf.now.live in
+    let rows : List Row = c.args.leaf.now.segment.rows in
+    let within : c.loop-row.row < length rows = subst (λ (s : Segment). c.loop-row.row < length s.rows) c.segment-segment.ensures (omega arith) in
+    let base : List ℕ = c.args.hashes.now.items in
+    let so_far : List ℕ = c.loop-row.hashes.items in
+    elim c.if-is_live.branch [
+      | then-is_live+in_ok-push w ↦
+          let at = subst (λ (s : Segment). HoldsAt (λ (r : Row). r.id ≡ w.id.result.now) s.rows c.loop-row.row) c.segment-segment.ensures w.id.ensures in
+          row_kept (λ (r : Row). id_hash r.id) live rows base so_far c.if-is_live.hashes.items c.loop-row.row c.live-live.ensures.long within c.loop-row.invariant w.id_hash.result
+          (λ d. ap id_hash (at d) ∙ sym w.id_hash.ensures)
+          (ap (λ (s : List Bool). has_row s c.loop-row.row) (sym c.live-live.ensures.value) ∙ sym c.is_live.ensures ∙ w.if-is_live.true)
+          (ap (λ v. v.items) w.hashes-is ∙ w.in_ok-push.ensures.items)
+      | else-is_live w ↦
+          row_left (λ (r : Row). id_hash r.id) live rows base so_far c.if-is_live.hashes.items c.loop-row.row c.live-live.ensures.long within c.loop-row.invariant
+          (ap (λ (s : List Bool). has_row s c.loop-row.row) (sym c.live-live.ensures.value) ∙ sym c.is_live.ensures ∙ w.if-is_live.false)
+          (ap (λ v. v.items) w.hashes-is)
+    ]
