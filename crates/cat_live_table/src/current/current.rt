@@ -45,6 +45,15 @@ impl Model for Current {
     ghost invariant = { λ c. IsCurrent (get_by_text c.places) (get nat_eq c.indices) (hash_map_len c.indices) c.leaves.items };
 }
 
+/// How many live rows the leaves have together.
+fn live_rows_in(leaves: &[Leaf]) -> usize {
+    let mut count: usize = 0;
+    for leaf in leaves {
+        count = count.saturating_add(leaf.live_count());
+    }
+    count
+}
+
 impl Current {
     /// No segment. What it holds is taken from the allocator.
     pub fn new(alloc: Global) -> Current
@@ -58,12 +67,24 @@ impl Current {
         }
     }
 
+    /// No segment, with room for the places of so many ids.
+    fn with_room(alloc: Global, ids: usize) -> Result<Current, AllocError>
+        ensures ok { IfOk result (λ c. c ≡ []) }
+    {
+        Ok(Current {
+            alloc,
+            leaves: Vec::new(alloc),
+            indices: HashMap::new(alloc),
+            places: HashMap::with_capacity(alloc, ids)?,
+        })
+    }
+
     /// The segments of a commit that is opened. Their numbers differ, and so do the ids of their live rows.
     pub fn of(leaves: Vec<Leaf>) -> Result<Current, AllocError>
         requires { AreLeaves leaves.items }
         ensures ok { IfOk result (λ c. c ≡ leaves.items) }
     {
-        let mut current = Current::new(*leaves.allocator());
+        let mut current = Current::with_room(*leaves.allocator(), live_rows_in(&leaves))?;
         for leaf in leaves {
             current.push(leaf)?;
         }
