@@ -100,13 +100,21 @@ fn are_read<D: Directory + Shelf>(alloc: Global, device: &mut D) -> Result<bool,
     Ok(true)
 }
 
-/// Whether more files are written and read in the folder at the path than stay open, and then each is read once more.
+/// Whether more files are written and read than stay open, and then each is read once more.
+fn are_written_and_read<D: Directory + Shelf>(
+    alloc: Global,
+    device: &mut D,
+) -> Result<bool, Refusal> {
+    Ok(are_written(alloc, device)? && are_read(alloc, device)?)
+}
+
+/// The same in the folder at the path.
 fn are_read_in_turn<R: Files + AllocGlobal + Clone + Drop>(
     rt: &R,
     path: &str,
 ) -> Result<bool, Refusal> {
     let mut folder = Folder::at(rt.clone()?, rt.alloc(), path)?;
-    Ok(are_written(rt.alloc(), &mut folder)? && are_read(rt.alloc(), &mut folder)?)
+    are_written_and_read(rt.alloc(), &mut folder)
 }
 
 /// What a case shows, and the calls.
@@ -254,12 +262,21 @@ fn is_cut<S: Shelf>(alloc: Global, shelf: &mut S) -> Result<bool, Refusal> {
     Ok(is_read_so(alloc, shelf, (FIRST, 0, 5), "NO 31")? && shelf.size(FIRST)? == 3)
 }
 
-/// Whether the shelf of the folder reads its file, and then what is left of it.
+/// Whether the shelf reads the file of the folder, and then what is left of it.
+fn is_read_then_cut<S: Shelf>(
+    rt: &(impl Files + Alloc),
+    alloc: Global,
+    shelf: &mut S,
+) -> Result<bool, Fail> {
+    let is_read = is_read_so(alloc, shelf, (FIRST, 1, 3), "hol")?;
+    fs::write(rt, "shelf_test/_1.seg", "cut")?;
+    Ok(is_read && is_cut(alloc, shelf)?)
+}
+
+/// The same of the shelf of the folder.
 fn is_read_and_cut<R: Files + AllocGlobal + Clone + Drop>(rt: &R) -> Result<bool, Fail> {
     let mut shelf = FolderShelf::at(rt.clone()?, rt.alloc(), "shelf_test")?;
-    let is_read = is_read_so(rt.alloc(), &mut shelf, (FIRST, 1, 3), "hol")?;
-    fs::write(rt, "shelf_test/_1.seg", "cut")?;
-    Ok(is_read && is_cut(rt.alloc(), &mut shelf)?)
+    is_read_then_cut(rt, rt.alloc(), &mut shelf)
 }
 
 #[test]

@@ -151,10 +151,18 @@ fn are_merged(alloc: Global, rising: &Segment, odd: &Segment) -> Result<bool, Re
 }
 
 /// Whether the rows of both are ordered so, and merged so.
+fn are_ordered_and_merged(alloc: Global, rising: &Segment, odd: &Segment) -> Result<bool, Refusal>
+    requires rising { rising.now.number ≡ 1 }
+    requires odd { odd.now.number ≡ 1 }
+{
+    Ok(are_ordered(rising, odd) && are_merged(alloc, rising, odd)?)
+}
+
+/// The same of segments that are made for it.
 fn are_few_merged(alloc: Global) -> Result<bool, Refusal> {
     let rising = rising(alloc)?;
     let odd = even_and_odd(alloc)?;
-    Ok(are_ordered(&rising, &odd) && are_merged(alloc, &rising, &odd)?)
+    are_ordered_and_merged(alloc, &rising, &odd)
 }
 
 /// What the id of the row begins with: those of even rows come before those of odd ones.
