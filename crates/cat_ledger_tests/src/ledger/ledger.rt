@@ -5,6 +5,6 @@ mod failing;
 mod maintaining;
 mod making;
 mod refusing;
-pub(crate) mod telling;
+mod telling;
 mod viewing;
 mod writing;

@@ -1,5 +1,6 @@
 //! Calls of a ledger, and what each has to be answered.
 use crate::ledger::ledger::maintaining::{merge, sweep};
+use crate::ledger::ledger::telling::Told;
 use crate::ledger::ledger::viewing::{acquire, prune, refresh, release, source};
 use crate::ledger::ledger::writing::{commit, delete, put, put_under};
 use cat_base::{Refusal, SessionNo, Token};
@@ -13,8 +14,8 @@ use std::alloc::Global;
 /// The fields of the items.
 const FIELDS: &[u8] = br#"{"name":"text","price":"number"}"#;
 
-/// A call, and what it is answered. An empty answer is any number.
-pub(crate) type Row<'a> = (Call<'a>, &'a str);
+/// A call, and what it is answered.
+pub(crate) type Row<'a> = (Call<'a>, Told);
 
 /// A call of a ledger.
 #[derive(Clone, Copy)]
@@ -28,35 +29,35 @@ pub(crate) enum Call<'a> {
     /// `release` by the first session of a right that the second was granted.
     Release(SessionNo, SessionNo, Token),
     Prune(u64),
-    /// `source` of the id in the view that the session holds.
-    Source(SessionNo, Token, &'a str),
+    /// `source` of the id in the view that the session holds, and the text that is wanted, if any.
+    Source(SessionNo, Token, &'a str, Option<&'a str>),
     Commit(&'a str),
     /// Steps until one finds nothing to do.
     Merge,
     Sweep,
 }
 
-/// What a call is answered, as text.
+/// What a call is answered.
 pub(crate) fn answer<D: Directory + Shelf>(
     alloc: Global,
     ledger: &mut Ledger<D>,
     rights: &mut Rights,
     call: Call<'_>,
-) -> Result<String, Refusal> {
+) -> Told {
     match call {
         Call::Put(item) => put(alloc, ledger, item),
         Call::PutUnder(fields, item) => put_under(alloc, ledger, fields, item),
-        Call::Delete(id) => delete(alloc, ledger, id),
-        Call::Refresh => refresh(alloc, ledger),
-        Call::Acquire(session, token) => acquire(alloc, ledger, rights, session, token),
-        Call::Release(session, owner, token) => {
-            release(alloc, ledger, rights, (session, owner), token)
+        Call::Delete(id) => delete(ledger, id),
+        Call::Refresh => refresh(ledger),
+        Call::Acquire(session, token) => acquire(ledger, rights, session, token),
+        Call::Release(session, owner, token) => release(ledger, rights, (session, owner), token),
+        Call::Prune(count) => prune(ledger, count),
+        Call::Source(session, token, id, want) => {
+            source(ledger, rights, (session, token), id, want)
         }
-        Call::Prune(count) => prune(alloc, ledger, count),
-        Call::Source(session, token, id) => source(alloc, ledger, rights, (session, token), id),
-        Call::Commit(text) => commit(alloc, ledger, text),
-        Call::Merge => merge(alloc, ledger),
-        Call::Sweep => sweep(alloc, ledger),
+        Call::Commit(text) => commit(ledger, text),
+        Call::Merge => merge(ledger),
+        Call::Sweep => sweep(ledger),
     }
 }
 

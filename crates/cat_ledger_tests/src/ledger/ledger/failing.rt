@@ -1,6 +1,7 @@
 //! Each call of a device failing in turn: once, after which the ledger goes on, and from some one on, as a crash leaves it.
 use crate::ledger::ledger::calling::{Call, Row, open, try_open};
 use crate::ledger::ledger::making::{Job, done};
+use crate::ledger::ledger::telling::Told;
 use crate::verdict::expect_yes;
 use cat_base::{Refusal, WriteNo};
 use cat_directory::{Directory, Faults, Faulty, FileName, Holder, MemoryDirectory};
@@ -8,33 +9,49 @@ use cat_ledger::Ledger;
 use std::alloc::Global;
 use std::test::Fail;
 
-/// Two views, two commits, a merge and a sweep. An empty answer is any number, since numbers that a failing call has taken aren't
-/// given out again.
+/// Two views, two commits, a merge and a sweep. The answer is any number where one that a failing call has taken isn't given out
+/// again.
 const SHIFT: &[Row<'static>] = &[
-    (Call::Put(r#"{"id":"a","name":"red apple","price":3}"#), "1"),
-    (Call::Put(r#"{"id":"b","name":"blue bowl","price":5}"#), "2"),
-    (Call::Refresh, "2"),
-    (Call::Acquire(1, None), "new 2"),
+    (
+        Call::Put(r#"{"id":"a","name":"red apple","price":3}"#),
+        Told::Number(1),
+    ),
+    (
+        Call::Put(r#"{"id":"b","name":"blue bowl","price":5}"#),
+        Told::Number(2),
+    ),
+    (Call::Refresh, Told::Number(2)),
+    (Call::Acquire(1, None), Told::New(2)),
     (
         Call::Put(r#"{"id":"a","name":"green apple","price":6}"#),
-        "3",
+        Told::Number(3),
     ),
-    (Call::Refresh, "3"),
-    (Call::Commit("three"), ""),
+    (Call::Refresh, Told::Number(3)),
+    (Call::Commit("three"), Told::Any),
     (
-        Call::Source(1, 2, "a"),
-        r#"{"id":"a","name":"red apple","price":3}"#,
+        Call::Source(
+            1,
+            2,
+            "a",
+            Some(r#"{"id":"a","name":"red apple","price":3}"#),
+        ),
+        Told::Is(true),
     ),
-    (Call::Merge, "idle"),
-    (Call::Delete("b"), "4"),
-    (Call::Commit("four"), ""),
+    (Call::Merge, Told::Idle),
+    (Call::Delete("b"), Told::Number(4)),
+    (Call::Commit("four"), Told::Any),
     (
-        Call::Source(1, 2, "b"),
-        r#"{"id":"b","name":"blue bowl","price":5}"#,
+        Call::Source(
+            1,
+            2,
+            "b",
+            Some(r#"{"id":"b","name":"blue bowl","price":5}"#),
+        ),
+        Told::Is(true),
     ),
-    (Call::Release(1, 1, 2), "1 2"),
-    (Call::Prune(1), "2"),
-    (Call::Sweep, ""),
+    (Call::Release(1, 1, 2), Told::Back(1, 2)),
+    (Call::Prune(1), Told::Number(2)),
+    (Call::Sweep, Told::Any),
 ];
 
 /// How many calls these make of a directory without a file: two to open it, four for each of two flushes, six for each of two
@@ -55,12 +72,17 @@ fn open_retried(alloc: Global, passes: u64) -> Result<Ledger<Faulty<MemoryDirect
 
 /// The table at the end, behind an opening.
 const LEFT: &[Row<'static>] = &[
-    (Call::Acquire(2, None), "new 4"),
+    (Call::Acquire(2, None), Told::New(4)),
     (
-        Call::Source(2, 4, "a"),
-        r#"{"id":"a","name":"green apple","price":6}"#,
+        Call::Source(
+            2,
+            4,
+            "a",
+            Some(r#"{"id":"a","name":"green apple","price":6}"#),
+        ),
+        Told::Is(true),
     ),
-    (Call::Source(2, 4, "b"), "none"),
+    (Call::Source(2, 4, "b", None), Told::Is(true)),
 ];
 
 /// Whether the files at the end are those of the last commit, four, and of the two segments of the last view.
@@ -119,40 +141,55 @@ const TABLES: &[(WriteNo, &[Row<'static>])] = &[
     (
         0,
         &[
-            (Call::Acquire(1, Some(0)), "new 0"),
-            (Call::Source(1, 0, "a"), "none"),
-            (Call::Source(1, 0, "b"), "none"),
+            (Call::Acquire(1, Some(0)), Told::New(0)),
+            (Call::Source(1, 0, "a", None), Told::Is(true)),
+            (Call::Source(1, 0, "b", None), Told::Is(true)),
         ],
     ),
     (
         3,
         &[
-            (Call::Acquire(1, Some(3)), "new 3"),
+            (Call::Acquire(1, Some(3)), Told::New(3)),
             (
-                Call::Source(1, 3, "a"),
-                r#"{"id":"a","name":"green apple","price":6}"#,
+                Call::Source(
+                    1,
+                    3,
+                    "a",
+                    Some(r#"{"id":"a","name":"green apple","price":6}"#),
+                ),
+                Told::Is(true),
             ),
             (
-                Call::Source(1, 3, "b"),
-                r#"{"id":"b","name":"blue bowl","price":5}"#,
+                Call::Source(
+                    1,
+                    3,
+                    "b",
+                    Some(r#"{"id":"b","name":"blue bowl","price":5}"#),
+                ),
+                Told::Is(true),
             ),
         ],
     ),
     (
         4,
         &[
-            (Call::Acquire(1, Some(4)), "new 4"),
+            (Call::Acquire(1, Some(4)), Told::New(4)),
             (
-                Call::Source(1, 4, "a"),
-                r#"{"id":"a","name":"green apple","price":6}"#,
+                Call::Source(
+                    1,
+                    4,
+                    "a",
+                    Some(r#"{"id":"a","name":"green apple","price":6}"#),
+                ),
+                Told::Is(true),
             ),
-            (Call::Source(1, 4, "b"), "none"),
+            (Call::Source(1, 4, "b", None), Told::Is(true)),
         ],
     ),
 ];
 
 /// A table that no ledger answers so.
-const NO_TABLE: &[Row<'static>] = &[(Call::Merge, "no table")];
+const NO_TABLE: &[Row<'static>] = &[(Call::Merge, Told::Is(true))];
 
 /// The table of so many writes.
 fn table_of(count: WriteNo) -> &'static [Row<'static>] {

@@ -1,11 +1,11 @@
 //! Makes calls of a ledger that is gone then, and says whether they are answered as they have to be.
 use crate::ledger::ledger::calling::{Call, Row, answer, end};
-use crate::ledger::ledger::maintaining::standing_of;
+use crate::ledger::ledger::telling::{Told, are_same, is_so};
 use cat_base::{Refusal, WriteNo};
 use cat_directory::{Directory, Shelf};
-use cat_ledger::Ledger;
 use cat_ledger::cat_lifetimes::rights::Rights;
-use std::alloc::Global;
+use cat_ledger::{Ledger, Stat};
+use std::alloc::{AllocError, Global};
 
 /// What is done with a ledger.
 #[derive(Clone, Copy)]
@@ -16,48 +16,49 @@ pub(crate) enum Job<'a> {
     UntilFault(&'a [Row<'a>]),
 }
 
-/// Whether the answer is this one, or any number where this one is empty.
-fn is_so(got: &str, want: &str) -> bool {
-    got == want || want.is_empty() && !got.starts_with("NO")
-}
-
 /// Makes the call of the row. Answers whether it is answered so.
 fn is_made<D: Directory + Shelf>(
     alloc: Global,
     ledger: &mut Ledger<D>,
     rights: &mut Rights,
     row: &Row<'_>,
-) -> Result<bool, Refusal> {
+) -> bool {
     let (call, want) = *row;
-    let got = answer(alloc, ledger, rights, call)?;
-    Ok(is_so(got.as_str(), want))
+    is_so(answer(alloc, ledger, rights, call), want)
 }
 
-/// Whether this stands.
-fn stands<D: Directory + Shelf>(
+/// Whether the ledger tells this of itself.
+fn stands<D: Directory + Shelf>(ledger: &Ledger<D>, wanted: &Stat) -> Result<bool, AllocError> {
+    let stat = ledger.stat()?;
+    Ok(are_same(&stat, wanted))
+}
+
+/// Makes the call of the row, and once more where the directory fails, which has to leave what stood before. Answers whether it is
+/// answered so.
+fn is_remade<D: Directory + Shelf>(
     alloc: Global,
-    ledger: &Ledger<D>,
-    wanted: &str,
-) -> Result<bool, Refusal> {
-    let text = standing_of(alloc, ledger)?;
-    Ok(text.as_str() == wanted)
+    ledger: &mut Ledger<D>,
+    rights: &mut Rights,
+    row: &Row<'_>,
+    before: &Stat,
+) -> Result<bool, AllocError> {
+    let (call, want) = *row;
+    let told = answer(alloc, ledger, rights, call);
+    if told != Told::No(Refusal::Device) {
+        return Ok(is_so(told, want));
+    }
+    Ok(stands(ledger, before)? && is_made(alloc, ledger, rights, row))
 }
 
-/// Makes the call of the row, and once more where the directory fails, which has to leave what stands as before. Answers whether
-/// it is answered so.
+/// The same of what stands now.
 fn is_retried<D: Directory + Shelf>(
     alloc: Global,
     ledger: &mut Ledger<D>,
     rights: &mut Rights,
     row: &Row<'_>,
-) -> Result<bool, Refusal> {
-    let (call, want) = *row;
-    let before = standing_of(alloc, ledger)?;
-    let got = answer(alloc, ledger, rights, call)?;
-    if got.as_str() != "NO 30" {
-        return Ok(is_so(got.as_str(), want));
-    }
-    Ok(stands(alloc, ledger, before.as_str())? && is_made(alloc, ledger, rights, row)?)
+) -> Result<bool, AllocError> {
+    let before = ledger.stat()?;
+    is_remade(alloc, ledger, rights, row, &before)
 }
 
 /// Makes the calls in turn, and once more where the directory fails. Answers whether each is answered so.
@@ -66,7 +67,7 @@ fn are_answered<D: Directory + Shelf>(
     ledger: &mut Ledger<D>,
     rights: &mut Rights,
     rows: &[Row<'_>],
-) -> Result<bool, Refusal> {
+) -> Result<bool, AllocError> {
     for row in rows {
         if !is_retried(alloc, ledger, rights, row)? {
             return Ok(false);
@@ -81,18 +82,17 @@ fn kept_until_fault<D: Directory + Shelf>(
     ledger: &mut Ledger<D>,
     rights: &mut Rights,
     rows: &[Row<'_>],
-) -> Result<WriteNo, Refusal> {
+) -> WriteNo {
     let mut kept = 0;
     for (call, _) in rows {
-        let got = answer(alloc, ledger, rights, *call)?;
-        if got.as_str() == "NO 30" {
-            return Ok(kept);
+        if answer(alloc, ledger, rights, *call) == Told::No(Refusal::Device) {
+            return kept;
         }
         if let Call::Commit(_) = call {
             kept = ledger.count();
         }
     }
-    Ok(kept)
+    kept
 }
 
 /// Does the job. Answers whether all is answered so, and how many writes there are then, or the last commit has that came.
@@ -101,10 +101,10 @@ fn is_done<D: Directory + Shelf>(
     ledger: &mut Ledger<D>,
     rights: &mut Rights,
     job: Job<'_>,
-) -> Result<(bool, WriteNo), Refusal> {
+) -> Result<(bool, WriteNo), AllocError> {
     match job {
         Job::Calls(rows) => Ok((are_answered(alloc, ledger, rights, rows)?, ledger.count())),
-        Job::UntilFault(rows) => Ok((true, kept_until_fault(alloc, ledger, rights, rows)?)),
+        Job::UntilFault(rows) => Ok((true, kept_until_fault(alloc, ledger, rights, rows))),
     }
 }
 

@@ -1,6 +1,7 @@
 //! Refusals that no line can ask for, none of which changes anything.
 use crate::ledger::ledger::calling::{Call, Row, open};
 use crate::ledger::ledger::making::{Job, done};
+use crate::ledger::ledger::telling::Told;
 use crate::verdict::expect_yes;
 use cat_base::Refusal;
 use cat_directory::MemoryDirectory;
@@ -9,22 +10,25 @@ use std::test::Fail;
 
 /// The right is another session's, the item is of other fields, and the text is of two lines.
 const ROWS: &[Row<'static>] = &[
-    (Call::Acquire(1, None), "new 0"),
-    (Call::Put(r#"{"id":"a","name":"apple","price":1}"#), "1"),
-    (Call::Release(2, 1, 0), "NO 20"),
+    (Call::Acquire(1, None), Told::New(0)),
+    (
+        Call::Put(r#"{"id":"a","name":"apple","price":1}"#),
+        Told::Number(1),
+    ),
+    (Call::Release(2, 1, 0), Told::No(Refusal::NotHeld)),
     (
         Call::PutUnder(r#"{"weight":"number"}"#, r#"{"id":"a","weight":1}"#),
-        "NO 13",
+        Told::No(Refusal::Kind),
     ),
-    (Call::Commit("two\nlines"), "NO 13"),
-    (Call::Release(1, 1, 0), "1 0"),
-    (Call::Commit("one line"), "1"),
-    (Call::Acquire(1, Some(0)), "new 0"),
-    (Call::Refresh, "1"),
-    (Call::Acquire(2, None), "new 1"),
+    (Call::Commit("two\nlines"), Told::No(Refusal::Kind)),
+    (Call::Release(1, 1, 0), Told::Back(1, 0)),
+    (Call::Commit("one line"), Told::Number(1)),
+    (Call::Acquire(1, Some(0)), Told::New(0)),
+    (Call::Refresh, Told::Number(1)),
+    (Call::Acquire(2, None), Told::New(1)),
     (
-        Call::Source(2, 1, "a"),
-        r#"{"id":"a","name":"apple","price":1}"#,
+        Call::Source(2, 1, "a", Some(r#"{"id":"a","name":"apple","price":1}"#)),
+        Told::Is(true),
     ),
 ];
 

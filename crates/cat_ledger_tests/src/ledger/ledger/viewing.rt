@@ -1,108 +1,105 @@
-//! Recorded views and rights to them, each call answered as text.
-use crate::ledger::ledger::telling::{self, number, refused};
+//! Recorded views and rights to them, and what each call is answered.
+use crate::ledger::ledger::telling::{Told, number};
 use cat_base::{Refusal, SessionNo, Token};
 use cat_directory::{Directory, Shelf};
 use cat_ledger::cat_lifetimes::rights::Rights;
 use cat_ledger::{Grant, Ledger};
 use cat_views::Hold;
-use std::alloc::Global;
+use std::alloc::AllocError;
 
 /// Records a view of now.
-pub(crate) fn refresh<D: Directory + Shelf>(
-    alloc: Global,
-    ledger: &mut Ledger<D>,
-) -> Result<String, Refusal> {
-    number(alloc, ledger.refresh())
+pub(crate) fn refresh<D: Directory + Shelf>(ledger: &mut Ledger<D>) -> Told {
+    number(ledger.refresh())
 }
 
-/// Keeps the right, whose session has none to its view yet.
-fn keep(rights: &mut Rights, hold: Hold) -> Result<(), Refusal> {
+/// Keeps the right, whose session has none to its view yet, and answers so.
+fn keep(rights: &mut Rights, hold: Hold, kept: Told) -> Told {
     if rights.get(hold.session(), hold.token()).is_some() {
         hold.give_up();
-        return Err(Refusal::Full);
+        return Told::No(Refusal::Full);
     }
     if let Err(hold) = rights.insert(hold) {
         hold.give_up();
-        return Err(Refusal::Memory);
+        return Told::No(Refusal::Memory);
     }
-    Ok(())
+    kept
 }
 
 /// Grants the session the right to the view of the token, or of the newest one.
 pub(crate) fn acquire<D: Directory + Shelf>(
-    alloc: Global,
     ledger: &mut Ledger<D>,
     rights: &mut Rights,
     session: SessionNo,
     token: Option<Token>,
-) -> Result<String, Refusal> {
+) -> Told {
     match ledger.acquire(session, token) {
         Ok(Grant::New(hold)) => {
             let token = hold.token();
-            keep(rights, hold)?;
-            Ok(format!(in alloc; "new {token}")?)
+            keep(rights, hold, Told::New(token))
         }
-        Ok(Grant::Already(token)) => Ok(format!(in alloc; "already {token}")?),
-        Err(refusal) => refused(alloc, refusal),
+        Ok(Grant::Already(token)) => Told::Already(token),
+        Err(refusal) => Told::No(refusal),
     }
 }
 
 /// Gives the right of the session back.
 fn give_back<D: Directory + Shelf>(
-    alloc: Global,
     ledger: &mut Ledger<D>,
     rights: &mut Rights,
     session: SessionNo,
     hold: Hold,
-) -> Result<String, Refusal> {
+) -> Told {
     match ledger.release(session, hold) {
-        Ok(released) => {
-            let (session, token) = (released.session(), released.token());
-            Ok(format!(in alloc; "{session} {token}")?)
-        }
-        Err(hold) => {
-            keep(rights, hold)?;
-            refused(alloc, Refusal::NotHeld)
-        }
+        Ok(released) => Told::Back(released.session(), released.token()),
+        Err(hold) => keep(rights, hold, Told::No(Refusal::NotHeld)),
     }
 }
 
 /// The first session gives back the second one's right to the view of the token.
 pub(crate) fn release<D: Directory + Shelf>(
-    alloc: Global,
     ledger: &mut Ledger<D>,
     rights: &mut Rights,
     sessions: (SessionNo, SessionNo),
     token: Token,
-) -> Result<String, Refusal> {
+) -> Told {
     let (session, owner) = sessions;
     match rights.remove(owner, token) {
-        Some(hold) => give_back(alloc, ledger, rights, session, hold),
-        None => Ok(String::from_str(alloc, "none")?),
+        Some(hold) => give_back(ledger, rights, session, hold),
+        None => Told::No(Refusal::Gone),
     }
 }
 
 /// Takes views out.
-pub(crate) fn prune<D: Directory + Shelf>(
-    alloc: Global,
-    ledger: &mut Ledger<D>,
-    count: u64,
-) -> Result<String, Refusal> {
-    let went = ledger.prune(count)?;
-    number(alloc, Ok(went))
+pub(crate) fn prune<D: Directory + Shelf>(ledger: &mut Ledger<D>, count: u64) -> Told {
+    match ledger.prune(count) {
+        Ok(went) => Told::Number(went),
+        Err(AllocError) => Told::No(Refusal::Memory),
+    }
 }
 
-/// The text of the item in the view that the session holds.
+/// Whether the text is the wanted one; none is wanted where there is none.
+fn is_text(found: &Option<Vec<u8>>, want: Option<&str>) -> bool {
+    match (found, want) {
+        (Some(bytes), Some(text)) => bytes.as_slice() == text.as_bytes(),
+        (None, None) => true,
+        _ => false,
+    }
+}
+
+/// Whether the text of the item in the view that the session holds is the wanted one.
 pub(crate) fn source<D: Directory + Shelf>(
-    alloc: Global,
     ledger: &mut Ledger<D>,
     rights: &Rights,
     right: (SessionNo, Token),
     id: &str,
-) -> Result<String, Refusal> {
+    want: Option<&str>,
+) -> Told {
     let (session, token) = right;
-    match rights.get(session, token) {
-        Some(hold) => telling::source(alloc, ledger.source(hold, id)),
-        None => refused(alloc, Refusal::NotHeld),
+    let Some(hold) = rights.get(session, token) else {
+        return Told::No(Refusal::NotHeld);
+    };
+    match ledger.source(hold, id) {
+        Ok(found) => Told::Is(is_text(&found, want)),
+        Err(refusal) => Told::No(refusal),
     }
 }

@@ -99,7 +99,7 @@ fn tell(
         Step::Flush => tell_done(text, flush(core, device)),
         Step::Commit(said) => tell_number(text, commit(core, device, said)),
         Step::Sweep => tell_number(text, sweep(core, device)),
-        Step::MergeAll => tell_news(text, alloc, merge_all(core, alloc, device)),
+        Step::MergeAll => tell_news(text, merge_all(core, alloc, device)),
         Step::Fail(_) | Step::Calls | Step::Failures | Step::File(_, _) => {
             tell_device(text, alloc, device, step)
         }

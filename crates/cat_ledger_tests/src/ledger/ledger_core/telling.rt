@@ -1,5 +1,4 @@
 //! Answers as texts: the refusal's number, or what came; and what is told of a ledger.
-use crate::ledger::ledger::telling::news;
 use crate::ledger::ledger_core::calling::Device;
 use cat_base::Refusal;
 use cat_directory::{FileName, Shelf};
@@ -63,14 +62,16 @@ pub(crate) fn tell_standing(text: &mut String, core: &Core) -> Result<(), Refusa
     Ok(())
 }
 
-/// Tells what a step did with merges.
+/// Tells whether a step ended a merge.
 pub(crate) fn tell_news(
     text: &mut String,
-    alloc: Global,
     answer: Result<MergeNews, Refusal>,
 ) -> Result<(), Refusal> {
-    let news = news(alloc, answer)?;
-    Ok(text.push_str(news.as_str())?)
+    match answer {
+        Ok(MergeNews::Done) => Ok(text.push_str("done")?),
+        Ok(_news) => Ok(text.push_str("not done")?),
+        Err(refusal) => tell_refused(text, refusal),
+    }
 }
 
 /// Tells how many writes there were, items wait and segments stand; the users of these names; and how many are pending.
