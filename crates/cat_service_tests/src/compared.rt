@@ -5,7 +5,6 @@ mod dice;
 
 use crate::compared::dice::Dice;
 use crate::plain::{Answer, Plain};
-use crate::verdict::{expect, expect_yes};
 use cat_base::Refusal;
 use cat_directory::MemoryDirectory;
 use cat_service::World;
@@ -45,66 +44,43 @@ fn service_reply(
     Ok(world.step(line).text(alloc)?)
 }
 
-/// Whether both say the same to a line.
+/// Whether both say the same to a line that the dice throw.
 fn is_answered_alike(
     alloc: Global,
     world: &mut World<MemoryDirectory>,
     plain: &mut Plain,
     dice: &mut Dice,
-    text: &str,
 ) -> Result<bool, Refusal> {
-    let line = Line::read(text)?;
+    let line = dice.line();
     let told = service_reply(alloc, world, &line)?;
     let wanted = plain_reply(alloc, plain, dice, &line)?;
     Ok(told == wanted)
 }
 
-/// The line of what is due after so many lines, if anything is.
-fn chore_after(number: u64) -> Option<&'static str> {
+/// What is due after so many lines, if anything is.
+fn chore_after(number: u64) -> Option<Command<'static>> {
     match number % 12 {
-        0 => Some("0 SWEEP"),
-        5 if number % 5 == 0 => Some("0 FORCE"),
-        7 => Some("0 COMMIT"),
-        3 | 4 | 8 | 9 => Some("0 MERGE"),
-        1 | 2 | 6 | 10 | 11 => Some("0 WARM"),
+        0 => Some(Command::Sweep),
+        5 if number % 5 == 0 => Some(Command::Force),
+        7 => Some(Command::Commit("")),
+        3 | 4 | 8 | 9 => Some(Command::Merge),
+        1 | 2 | 6 | 10 | 11 => Some(Command::Warm),
         _ => None,
     }
 }
 
 /// Has the service alone do what is due after so many lines. Answers whether it does that.
-fn is_maintained(world: &mut World<MemoryDirectory>, number: u64) -> Result<bool, Refusal> {
+fn is_maintained(world: &mut World<MemoryDirectory>, number: u64) -> bool {
     match chore_after(number) {
-        Some(line) => Ok(world.step(&Line::read(line)?).answer.is_ok()),
-        None => Ok(true),
+        Some(command) => world
+            .step(&Line {
+                session: 0,
+                command,
+            })
+            .answer
+            .is_ok(),
+        None => true,
     }
-}
-
-/// Fails where a line is answered otherwise, which is told.
-fn expect_alike(
-    alloc: Global,
-    world: &mut World<MemoryDirectory>,
-    plain: &mut Plain,
-    dice: &mut Dice,
-    text: &str,
-) -> Result<(), Fail> {
-    match is_answered_alike(alloc, world, plain, dice, text) {
-        Ok(true) => Ok(()),
-        Ok(false) => Err(Fail::new(text)),
-        Err(refusal) => Err(Fail::from(refusal)),
-    }
-}
-
-/// Says a line that the dice throw to both, and has the service do what is due behind it.
-fn expect_next_alike(
-    alloc: Global,
-    world: &mut World<MemoryDirectory>,
-    plain: &mut Plain,
-    dice: &mut Dice,
-    number: u64,
-) -> Result<(), Fail> {
-    let text = dice.line(alloc)?;
-    expect_alike(alloc, world, plain, dice, text.as_str())?;
-    expect_yes(is_maintained(world, number))
 }
 
 /// Whether sets of rows stand in the cache, so that replies were compared that came from them.
@@ -119,45 +95,57 @@ fn has_sets(world: &mut World<MemoryDirectory>) -> bool {
     }
 }
 
-/// Says the lines that the dice throw to both.
-fn expect_run_alike(
+/// How many lines of the dice both answer alike, each with what is due behind it: all, or those before the first one that isn't so.
+fn alike(
     alloc: Global,
     world: &mut World<MemoryDirectory>,
     plain: &mut Plain,
     dice: &mut Dice,
-) -> Result<(), Fail> {
+) -> Result<u64, Refusal> {
     for number in 0..COUNT {
-        expect_next_alike(alloc, world, plain, dice, number)?;
+        if !is_answered_alike(alloc, world, plain, dice)? || !is_maintained(world, number) {
+            return Ok(number);
+        }
     }
-    expect(has_sets(world))
+    Ok(COUNT)
 }
 
-/// Compares the world with a plain catalogue.
-fn expect_world_alike(
+/// The same of the world and a plain catalogue of its own; and whether replies came from cached sets.
+fn compared(
     alloc: Global,
     world: &mut World<MemoryDirectory>,
     seed: u64,
-) -> Result<(), Fail> {
+) -> Result<(u64, bool), Refusal> {
     let mut plain = Plain::open(alloc, SHOP)?;
-    expect_run_alike(alloc, world, &mut plain, &mut Dice::new(seed))
+    let alike = alike(alloc, world, &mut plain, &mut Dice::new(seed))?;
+    Ok((alike, has_sets(world)))
 }
 
-/// Compares both in a world of its own.
-fn expect_seed_alike(alloc: Global, seed: u64) -> Result<(), Fail> {
+/// The same in a world of its own.
+fn compared_from(alloc: Global, seed: u64) -> Result<(u64, bool), Refusal> {
     match World::open(alloc, MemoryDirectory::new(alloc), SHOP) {
         Ok(mut world) => {
-            let told = expect_world_alike(alloc, &mut world, seed);
+            let told = compared(alloc, &mut world, seed);
             let _directory = world.end();
             told
         }
-        Err(Unopened { refusal, seed: _ }) => Err(Fail::from(refusal)),
+        Err(Unopened { refusal, seed: _ }) => Err(refusal),
     }
+}
+
+/// Fails with the run, and how many lines of it were answered alike, unless all were, some of them by cached sets.
+fn expect_alike(alloc: Global, seed: u64) -> Result<(), Fail> {
+    let (count, has_sets) = compared_from(alloc, seed)?;
+    if count == COUNT && has_sets {
+        return Ok(());
+    }
+    Err(Fail::new(format!(in alloc; "run {seed}: {count} lines are answered alike")?))
 }
 
 #[test]
 fn the_service_answers_as_plain_lists_do(rt: HostRuntime) -> Result<(), Fail> {
     for seed in 1..=3 {
-        expect_seed_alike(rt.alloc(), seed)?;
+        expect_alike(rt.alloc(), seed)?;
     }
     Ok(())
 }

@@ -1,14 +1,9 @@
-//! Tests of inputs as they come: in any pieces, by readers and writers that fail, and where memory is wanting.
+//! Tests of inputs: by readers and writers that are interrupted or fail, and where memory is wanting. In what pieces an input comes, and
+//! when replies go out, is shown by the program, in tests/streams.py.
 
 #[cfg(test)]
 mod faults;
 #[cfg(test)]
 mod memory;
 #[cfg(test)]
-mod pieces;
-#[cfg(test)]
-mod readers;
-#[cfg(test)]
 mod traffic;
-#[cfg(test)]
-mod writers;

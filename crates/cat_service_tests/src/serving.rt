@@ -2,8 +2,6 @@
 //! gathered.
 
 #[cfg(test)]
-mod ends;
-#[cfg(test)]
 mod gathered;
 #[cfg(test)]
 mod rows;

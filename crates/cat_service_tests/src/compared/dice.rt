@@ -1,18 +1,86 @@
 //! Lines as a die throws them, of the commands that both catalogues answer.
-use itoa::Buffer;
-use std::alloc::{AllocError, Global};
+use cat_base::Token;
+use cat_service::cat_protocol::lines::{Command, Facets, Find, Line, Sort};
 
 const IDS: &[&str] = &["a", "b", "c", "d", "e", "f", "g", "h"];
 
-/// Members of items, of which the last is refused.
-const MEMBERS: &[&str] = &[
-    "",
-    ",\"price\":7",
-    ",\"price\":-3,\"brand\":\"x\"",
-    ",\"brand\":\"y\",\"color\":[\"red\"]",
-    ",\"color\":[\"blue\",\"red\"],\"title\":\"Red shoe\"",
-    ",\"title\":\"wool sock\",\"price\":7,\"color\":[]",
-    ",\"brand\":7",
+/// How many texts there are of an item of each id.
+const TEXTS: usize = 7;
+
+/// The texts of items of each id, of which the last is refused.
+const ITEMS: &[&[&str]] = &[
+    &[
+        r#"{"id":"a"}"#,
+        r#"{"id":"a","price":7}"#,
+        r#"{"id":"a","price":-3,"brand":"x"}"#,
+        r#"{"id":"a","brand":"y","color":["red"]}"#,
+        r#"{"id":"a","color":["blue","red"],"title":"Red shoe"}"#,
+        r#"{"id":"a","title":"wool sock","price":7,"color":[]}"#,
+        r#"{"id":"a","brand":7}"#,
+    ],
+    &[
+        r#"{"id":"b"}"#,
+        r#"{"id":"b","price":7}"#,
+        r#"{"id":"b","price":-3,"brand":"x"}"#,
+        r#"{"id":"b","brand":"y","color":["red"]}"#,
+        r#"{"id":"b","color":["blue","red"],"title":"Red shoe"}"#,
+        r#"{"id":"b","title":"wool sock","price":7,"color":[]}"#,
+        r#"{"id":"b","brand":7}"#,
+    ],
+    &[
+        r#"{"id":"c"}"#,
+        r#"{"id":"c","price":7}"#,
+        r#"{"id":"c","price":-3,"brand":"x"}"#,
+        r#"{"id":"c","brand":"y","color":["red"]}"#,
+        r#"{"id":"c","color":["blue","red"],"title":"Red shoe"}"#,
+        r#"{"id":"c","title":"wool sock","price":7,"color":[]}"#,
+        r#"{"id":"c","brand":7}"#,
+    ],
+    &[
+        r#"{"id":"d"}"#,
+        r#"{"id":"d","price":7}"#,
+        r#"{"id":"d","price":-3,"brand":"x"}"#,
+        r#"{"id":"d","brand":"y","color":["red"]}"#,
+        r#"{"id":"d","color":["blue","red"],"title":"Red shoe"}"#,
+        r#"{"id":"d","title":"wool sock","price":7,"color":[]}"#,
+        r#"{"id":"d","brand":7}"#,
+    ],
+    &[
+        r#"{"id":"e"}"#,
+        r#"{"id":"e","price":7}"#,
+        r#"{"id":"e","price":-3,"brand":"x"}"#,
+        r#"{"id":"e","brand":"y","color":["red"]}"#,
+        r#"{"id":"e","color":["blue","red"],"title":"Red shoe"}"#,
+        r#"{"id":"e","title":"wool sock","price":7,"color":[]}"#,
+        r#"{"id":"e","brand":7}"#,
+    ],
+    &[
+        r#"{"id":"f"}"#,
+        r#"{"id":"f","price":7}"#,
+        r#"{"id":"f","price":-3,"brand":"x"}"#,
+        r#"{"id":"f","brand":"y","color":["red"]}"#,
+        r#"{"id":"f","color":["blue","red"],"title":"Red shoe"}"#,
+        r#"{"id":"f","title":"wool sock","price":7,"color":[]}"#,
+        r#"{"id":"f","brand":7}"#,
+    ],
+    &[
+        r#"{"id":"g"}"#,
+        r#"{"id":"g","price":7}"#,
+        r#"{"id":"g","price":-3,"brand":"x"}"#,
+        r#"{"id":"g","brand":"y","color":["red"]}"#,
+        r#"{"id":"g","color":["blue","red"],"title":"Red shoe"}"#,
+        r#"{"id":"g","title":"wool sock","price":7,"color":[]}"#,
+        r#"{"id":"g","brand":7}"#,
+    ],
+    &[
+        r#"{"id":"h"}"#,
+        r#"{"id":"h","price":7}"#,
+        r#"{"id":"h","price":-3,"brand":"x"}"#,
+        r#"{"id":"h","brand":"y","color":["red"]}"#,
+        r#"{"id":"h","color":["blue","red"],"title":"Red shoe"}"#,
+        r#"{"id":"h","title":"wool sock","price":7,"color":[]}"#,
+        r#"{"id":"h","brand":7}"#,
+    ],
 ];
 
 /// Queries, of which the last is none.
@@ -28,50 +96,30 @@ const QUERIES: &[&str] = &[
 ];
 
 /// Queries of what is deleted, of items that a further clause matches too.
-const DELETED: &[&str] = &["color:red", "*:* -color:red", "price:[* TO 5] brand:y"];
+const DELETED: &[&str] = &[
+    "+color:red price:7 color:red",
+    "+*:* -color:red price:7 color:red",
+    "+price:[* TO 5] brand:y price:7 color:red",
+];
 
-const SORTS: &[&str] = &[".", "+price", "-price", "+brand", "-brand", "+title"];
+const SORTS: &[Sort<'static>] = &[
+    Sort::Added,
+    Sort::Rising("price"),
+    Sort::Falling("price"),
+    Sort::Rising("brand"),
+    Sort::Falling("brand"),
+    Sort::Rising("title"),
+];
 
 /// Fields whose labels are counted, of which the last has none.
 const DIMENSIONS: &[&str] = &["color", "color", "color", "brand"];
-
-/// A piece of a line.
-#[derive(Clone, Copy)]
-enum Piece {
-    Text(&'static str),
-    Number(u64),
-}
-
-const SPACE: Piece = Piece::Text(" ");
-
-fn push_piece(line: &mut String, piece: Piece) -> Result<(), AllocError> {
-    match piece {
-        Piece::Text(text) => line.push_str(text),
-        Piece::Number(number) => line.push_str(Buffer::new().format(number)),
-    }
-}
-
-fn push_pieces(line: &mut String, pieces: &[Piece]) -> Result<(), AllocError> {
-    for piece in pieces {
-        push_piece(line, *piece)?;
-    }
-    Ok(())
-}
-
-/// The line of a session that has these pieces behind the session's number.
-fn line_of(alloc: Global, session: u64, pieces: &[Piece]) -> Result<String, AllocError> {
-    let mut line = String::new(alloc);
-    push_piece(&mut line, Piece::Number(session))?;
-    push_pieces(&mut line, pieces)?;
-    Ok(line)
-}
 
 /// Numbers as a die throws them, the same in each run.
 #[derive(Drop)]
 pub(super) struct Dice {
     state: u64,
     /// The newest four tokens that were recorded, the newest last.
-    tokens: [u64; 4],
+    tokens: [Token; 4],
 }
 
 impl Dice {
@@ -83,7 +131,7 @@ impl Dice {
     }
 
     /// Takes a token that was recorded.
-    pub(super) fn take(&mut self, token: u64) {
+    pub(super) fn take(&mut self, token: Token) {
         let [_, second, third, newest] = self.tokens;
         self.tokens = [second, third, newest, token];
     }
@@ -96,95 +144,111 @@ impl Dice {
         (self.state >> 33) % sides.max(1)
     }
 
-    fn pick(&mut self, texts: &[&'static str]) -> Piece {
+    fn pick(&mut self, texts: &[&'static str]) -> &'static str {
         let at = self.throw(texts.len() as u64) as usize;
-        Piece::Text(texts.get(at).copied().unwrap_or(""))
+        texts.get(at).copied().unwrap_or("")
+    }
+
+    fn sort(&mut self) -> Sort<'static> {
+        let at = self.throw(SORTS.len() as u64) as usize;
+        SORTS.get(at).copied().unwrap_or(Sort::Added)
     }
 
     /// One of the newest four tokens.
-    fn token(&mut self) -> u64 {
+    fn token(&mut self) -> Token {
         let back = self.throw(4) as usize;
         self.tokens.iter().rev().nth(back).copied().unwrap_or(0)
     }
 
     /// The mark of a FIND: none, or the number of a write not long before the token.
-    fn mark(&mut self, token: u64) -> Piece {
+    fn mark(&mut self, token: Token) -> Option<u64> {
         match self.throw(3) {
-            0 => Piece::Number(token.saturating_sub(self.throw(12))),
-            _ => Piece::Text("."),
+            0 => Some(token.saturating_sub(self.throw(12))),
+            _ => None,
         }
     }
 
-    fn find(&mut self, alloc: Global, session: u64) -> Result<String, AllocError> {
+    fn find(&mut self) -> Find<'static> {
         let token = self.token();
-        let count = Piece::Number(self.throw(5));
-        let sort = self.pick(SORTS);
+        let count = self.throw(5);
+        let sort = self.sort();
         let query = self.pick(QUERIES);
         let mark = self.mark(token);
-        let find = Piece::Text(" FIND ");
-        let token = Piece::Number(token);
-        let pieces = [
-            find, token, SPACE, count, SPACE, sort, SPACE, mark, SPACE, query,
-        ];
-        line_of(alloc, session, &pieces)
+        Find {
+            token,
+            count,
+            sort,
+            mark,
+            query,
+        }
     }
 
-    fn facets(&mut self, alloc: Global, session: u64) -> Result<String, AllocError> {
-        let token = Piece::Number(self.token());
+    fn facets(&mut self) -> Facets<'static> {
+        let token = self.token();
         let dimension = self.pick(DIMENSIONS);
-        let count = Piece::Number(self.throw(4));
+        let count = self.throw(4);
         let query = self.pick(QUERIES);
-        let facets = Piece::Text(" FACETS ");
-        let pieces = [facets, token, SPACE, dimension, SPACE, count, SPACE, query];
-        line_of(alloc, session, &pieces)
+        Facets {
+            token,
+            dimension,
+            count,
+            query,
+        }
     }
 
-    fn write(&mut self, alloc: Global, session: u64) -> Result<String, AllocError> {
-        let id = self.pick(IDS);
-        let members = self.pick(MEMBERS);
+    fn write(&mut self) -> Command<'static> {
+        let id = self.throw(IDS.len() as u64) as usize;
+        let text = self.throw(TEXTS as u64) as usize;
         match self.throw(8) {
-            0 => line_of(alloc, session, &[Piece::Text(" DEL "), id]),
-            1 => {
-                let query = self.pick(DELETED);
-                let behind = Piece::Text(" price:7 color:red");
-                line_of(alloc, session, &[Piece::Text(" DELW +"), query, behind])
-            }
-            _ => {
-                let (put, quote) = (Piece::Text(" PUT {\"id\":\""), Piece::Text("\""));
-                line_of(alloc, session, &[put, id, quote, members, Piece::Text("}")])
-            }
+            0 => Command::Delete(IDS.get(id).copied().unwrap_or("")),
+            1 => Command::DeleteWhere(self.pick(DELETED)),
+            _ => Command::Put(item(id, text)),
         }
     }
 
-    fn hold(&mut self, alloc: Global, session: u64) -> Result<String, AllocError> {
-        let token = Piece::Number(self.token());
+    fn hold(&mut self) -> Command<'static> {
+        let token = self.token();
         match self.throw(6) {
-            0 => line_of(alloc, session, &[Piece::Text(" OPEN "), token]),
-            1 => line_of(alloc, session, &[Piece::Text(" CLOSE "), token]),
-            2 => {
-                let count = Piece::Number(self.throw(4));
-                line_of(alloc, session, &[Piece::Text(" PRUNE "), count])
-            }
-            3 => line_of(alloc, session, &[Piece::Text(" OPEN")]),
-            _ => line_of(alloc, session, &[Piece::Text(" REFRESH")]),
+            0 => Command::Open(Some(token)),
+            1 => Command::Close(token),
+            2 => Command::Prune(self.throw(4)),
+            3 => Command::Open(None),
+            _ => Command::Refresh,
         }
     }
 
-    fn get(&mut self, alloc: Global, session: u64) -> Result<String, AllocError> {
-        let token = Piece::Number(self.token());
+    fn get(&mut self) -> Command<'static> {
+        let token = self.token();
         let id = self.pick(IDS);
-        line_of(alloc, session, &[Piece::Text(" GET "), token, SPACE, id])
+        Command::Get { token, id }
+    }
+
+    fn command(&mut self) -> Command<'static> {
+        match self.throw(9) {
+            0..=2 => self.write(),
+            3 | 4 => self.hold(),
+            5 | 6 => Command::Find(self.find()),
+            7 => Command::Facets(self.facets()),
+            _ => self.get(),
+        }
     }
 
     /// A line of a command that both answer.
-    pub(super) fn line(&mut self, alloc: Global) -> Result<String, AllocError> {
-        let session = self.throw(3).saturating_add(1);
-        match self.throw(9) {
-            0..=2 => self.write(alloc, session),
-            3 | 4 => self.hold(alloc, session),
-            5 | 6 => self.find(alloc, session),
-            7 => self.facets(alloc, session),
-            _ => self.get(alloc, session),
-        }
+    pub(super) fn line(&mut self) -> Line<'static> {
+        let session = match self.throw(3) {
+            0 => 1,
+            1 => 2,
+            _ => 3,
+        };
+        let command = self.command();
+        Line { session, command }
+    }
+}
+
+/// So manyth text of the item of so manyth id.
+fn item(id: usize, text: usize) -> &'static str {
+    match ITEMS.get(id) {
+        Some(texts) => texts.get(text).copied().unwrap_or(""),
+        None => "",
     }
 }

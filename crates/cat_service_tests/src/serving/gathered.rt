@@ -1,5 +1,5 @@
 //! Pieces that are gathered before they go to a writer.
-use crate::serving::ends::Filling;
+use crate::streams::Writer;
 use crate::verdict::{expect, expect_yes};
 use cat_service::cat_protocol::sending::{Gathered, WriteFault};
 use std::alloc::{AllocError, Global};
@@ -50,40 +50,15 @@ fn whole(alloc: Global, pieces: &[&[u8]]) -> Result<Vec<u8>, AllocError> {
     Ok(text)
 }
 
-/// Whether the pieces go out one behind another.
-fn go_out(alloc: Global, pieces: &[&[u8]]) -> Result<bool, AllocError> {
-    let text = whole(alloc, pieces)?;
-    let mut said = Vec::new(alloc);
-    Ok(put_all(pieces, &mut said).is_ok() && said == text)
-}
-
-/// Whether the pieces of each text do.
-fn all_go_out(alloc: Global, texts: &[&[&[u8]]]) -> Result<bool, AllocError> {
-    for pieces in texts {
-        if !go_out(alloc, pieces)? {
-            return Ok(false);
-        }
-    }
-    Ok(true)
-}
-
-#[test]
-fn pieces_go_out_in_order(rt: HostRuntime) -> Result<(), Fail> {
-    expect_yes(all_go_out(rt.alloc(), TEXTS))
-}
-
-/// How many bytes writers take before they fail.
+/// How many bytes writers take before they fail: none, some, and all of each text.
 const ROOMS: &[usize] = &[0, 1, 3, 64, 127, 128, 129, 300, 1_000];
 
 /// Whether a writer that takes so many bytes gets this many of the text, which the pieces are, and fails just where that isn't all.
 fn has_front(alloc: Global, pieces: &[&[u8]], text: &[u8], room: usize) -> bool {
-    let mut filling = Filling {
-        held: Vec::new(alloc),
-        room,
-    };
-    let is_sent = put_all(pieces, &mut filling).is_ok();
+    let mut writer = Writer::with_room(Vec::new(alloc), room);
+    let is_sent = put_all(pieces, &mut writer).is_ok();
     let front = &text[..room.min(text.len())];
-    is_sent == (text.len() <= room) && filling.held.as_slice() == front
+    is_sent == (text.len() <= room) && writer.held.as_slice() == front
 }
 
 /// Whether writers of each of the rooms do.
@@ -107,8 +82,9 @@ fn have_each_front(alloc: Global, texts: &[&[&[u8]]]) -> Result<bool, AllocError
     Ok(true)
 }
 
+/// The pieces go out in order, all of them or up to where the writer fails.
 #[test]
-fn a_front_goes_out_to_a_writer_that_fails(rt: HostRuntime) -> Result<(), Fail> {
+fn pieces_go_out_in_order_up_to_a_fault(rt: HostRuntime) -> Result<(), Fail> {
     expect_yes(have_each_front(rt.alloc(), TEXTS))
 }
 

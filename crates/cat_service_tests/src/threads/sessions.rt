@@ -4,16 +4,15 @@ ghost use Rattle.cat_threads.specs.cat_commands.cat_ledger.Ledgers.{shape_in};
 ghost use Rattle.cat_threads.specs.service.Passes.{all_different, seated_by};
 ghost use Rattle.cat_threads.specs.sharing.Grounds.{ground_of};
 
-use crate::threads::served::{both, count_of};
+use crate::threads::served::{begin, count_of, put, side_by_side};
 use crate::threads::{FIELDS, item_text};
 use crate::verdict::expect;
 use cat_base::{Refusal, SessionNo, WriteNo};
 use cat_directory::{Directory, Folder, FolderShelf, MemoryDirectory, Shelf};
 use cat_search::cat_items::Schema;
 use cat_threads::cat_commands::cat_ledger::cat_ledger_state::Hold;
-use cat_threads::cat_commands::cat_ledger::upkeep::MergePolicy;
 use cat_threads::cat_commands::cat_ledger::{Grant, Ledger};
-use cat_threads::running::{Caller, Gate, run_threads};
+use cat_threads::running::{Caller, Gate};
 use cat_threads::{Begun, Naming, Pass, Service, Write};
 use std::alloc::{AllocError, Global};
 use std::fs::Files;
@@ -38,45 +37,42 @@ fn what_is_shared_may_go_to_other_threads() -> Result<(), Fail> {
     Ok(())
 }
 
+/// The folder that both work over.
+const PATH: &str = "two_sessions_test";
+
 #[test]
 fn two_sessions_write_side_by_side(rt: HostRuntime) -> Result<(), Fail> {
-    let path = "two_sessions_test";
-    let _ = fs::remove_dir_all(&rt, path);
-    fs::create_dir(&rt, path)?;
+    let _ = fs::remove_dir_all(&rt, PATH);
+    fs::create_dir(&rt, PATH)?;
     let alloc = rt.alloc();
     let schema = Schema::read(alloc, FIELDS)?;
-    let begun = begin_in(&rt, path, schema.copy()?)?;
     let right = AtomicU64::new(0);
-    let callers = callers_in(&rt, path, &schema, &right)?;
+    let begun = begin_in(&rt, alloc, schema.copy()?)?;
+    let callers = callers_in(&rt, alloc, &schema, &right)?;
     let count = run_two::<Brand, _, _, _>(&rt, alloc, begun, [1, 2], callers);
-    fs::remove_dir_all(&rt, path)?;
+    fs::remove_dir_all(&rt, PATH)?;
     expect(count == Some(2 * EACH) && right.load(Ordering::SeqCst) == 2)
 }
 
 /// A ledger over the folder.
 fn begin_in<R: Files + AllocGlobal + Clone + Drop>(
     rt: &R,
-    path: &str,
+    alloc: Global,
     schema: Schema,
-) -> Result<Begun<Folder<R>>, Fail> {
-    let policy = MergePolicy::of(10, 1000).ok_or("policy")?;
-    let folder = Folder::at(rt.clone()?, rt.alloc(), path)?;
-    match Begun::open(rt.alloc(), folder, schema, policy) {
-        Ok(begun) => Ok(begun),
-        Err(_) => Err("open".into()),
-    }
+) -> Result<Begun<Folder<R>>, Refusal> {
+    let folder = Folder::at(rt.clone()?, alloc, PATH)?;
+    begin(alloc, folder, schema, 10, 1_000)
 }
 
 /// Two sessions that are to work over the folder.
 fn callers_in<'a, R: Files + AllocGlobal + Clone + Drop>(
     rt: &R,
-    path: &str,
+    alloc: Global,
     schema: &'a Schema,
     right: &'a AtomicU64,
 ) -> Result<(Working<'a, FolderShelf<R>>, Working<'a, FolderShelf<R>>), AllocError> {
-    let alloc = rt.alloc();
-    let one = FolderShelf::at(rt.clone()?, alloc, path)?;
-    let two = FolderShelf::at(rt.clone()?, alloc, path)?;
+    let one = FolderShelf::at(rt.clone()?, alloc, PATH)?;
+    let two = FolderShelf::at(rt.clone()?, alloc, PATH)?;
     let first = Working::new(alloc, schema, one, right);
     Ok((first, Working::new(alloc, schema, two, right)))
 }
@@ -145,7 +141,7 @@ impl<'a, D: Directory + Shelf, J: Naming, S: Shelf + Drop, R: Wait> Caller<D, J,
     }
 }
 
-/// Lets the two sessions work. How many writes were accepted, if both came to their ends.
+/// Lets the two sessions work, with a merger and a warmer beside them. How many writes were accepted, if both came to their ends.
 fn run_two<
     J: Naming + Send + Sync,
     D: Directory + Shelf + Drop + Send,
@@ -164,48 +160,9 @@ fn run_two<
     let Ok((service, passes)) = Service::<D, J>::new(alloc, begun, &sessions) else {
         return None;
     };
-    let passes = side_by_side(rt, alloc, &service, passes, callers)?;
+    let workers = (Resting::new(rt), Resting::new(rt));
+    let passes = side_by_side(rt, alloc, &service, passes, callers, workers)?;
     Some(count_of(rt, service, passes))
-}
-
-/// Runs both, with a merger and a warmer beside them, and then they tell each other what they have seen.
-fn side_by_side<
-    J: Naming + Send + Sync,
-    D: Directory + Shelf + Drop + Send,
-    S: Shelf + Drop + Send,
-    R: Threads + Wait + Clock + Sync,
->(
-    rt: &R,
-    alloc: Global,
-    service: &Service<D, J>,
-    passes: Vec<Pass<J>>,
-    callers: (Working<'_, S>, Working<'_, S>),
-) -> Option<Vec<Pass<J>>> {
-    let Ok(jobs) = both(alloc, passes, callers) else {
-        return None;
-    };
-    let merging = Resting::new(rt);
-    match run_threads(rt, alloc, service, jobs, merging, Resting::new(rt)) {
-        Ok(passes) => meet(rt, service, passes),
-        Err(_) => None,
-    }
-}
-
-/// Both tell each other what they have seen.
-fn meet<J: Naming, D: Directory + Shelf, R: Wait>(
-    rt: &R,
-    service: &Service<D, J>,
-    passes: Vec<Pass<J>>,
-) -> Option<Vec<Pass<J>>> {
-    let mut passes = passes;
-    let (Some(mut two), Some(mut one)) = (passes.pop(), passes.pop()) else {
-        return None;
-    };
-    service.meet(rt, &mut one, &mut two);
-    let (Ok(()), Ok(())) = (passes.push(one), passes.push(two)) else {
-        return None;
-    };
-    Some(passes)
 }
 
 /// Makes all writes of a session, each of which has a greater number than the one before.
@@ -244,28 +201,15 @@ fn step<J: Naming, D: Directory + Shelf, S: Shelf, R: Wait>(
     let Ok(id) = id_of(alloc, me.session(), number) else {
         return None;
     };
-    let Ok(text) = item_text(alloc, id.as_str()) else {
-        return None;
-    };
-    let Ok(item) = schema.item(alloc, text.as_bytes()) else {
-        return None;
-    };
-    let Ok(written) = service.write(rt, me, Write::Put(item)) else {
-        return None;
-    };
-    if is_shown(
-        rt,
-        alloc,
-        service,
-        me,
-        shelf,
-        written,
-        id.as_str(),
-        text.as_bytes(),
-    ) {
-        Some(written)
-    } else {
-        None
+    match put(rt, alloc, service, schema, me, id.as_str()) {
+        Ok(written) => {
+            if is_shown(rt, alloc, service, me, shelf, written, id.as_str()) {
+                Some(written)
+            } else {
+                None
+            }
+        }
+        Err(_) => None,
     }
 }
 
@@ -278,7 +222,6 @@ fn is_shown<J: Naming, D: Directory + Shelf, S: Shelf, R: Wait>(
     shelf: &mut S,
     written: WriteNo,
     id: &str,
-    text: &[u8],
 ) -> bool
     ensures { me.new.session ≡ me.old.session }
 {
@@ -288,7 +231,7 @@ fn is_shown<J: Naming, D: Directory + Shelf, S: Shelf, R: Wait>(
     match service.open(rt, me, None) {
         Ok(Grant::New(hold)) => {
             let is_right = written <= token && token <= hold.token();
-            let is_there = has_text(alloc, &hold, shelf, id, text);
+            let is_there = has_text(alloc, &hold, shelf, id);
             match service.close(rt, me, hold) {
                 Ok(_released) => is_right && is_there,
                 Err(hold) => {
@@ -302,10 +245,13 @@ fn is_shown<J: Naming, D: Directory + Shelf, S: Shelf, R: Wait>(
     }
 }
 
-/// Whether the text is that of the item in the view.
-fn has_text<S: Shelf>(alloc: Global, hold: &Hold, shelf: &mut S, id: &str, text: &[u8]) -> bool {
+/// Whether the item of the id has its text in the view.
+fn has_text<S: Shelf>(alloc: Global, hold: &Hold, shelf: &mut S, id: &str) -> bool {
+    let Ok(text) = item_text(alloc, id) else {
+        return false;
+    };
     match hold.get(alloc, shelf, id) {
-        Ok(Some(found)) => found.as_slice() == text,
+        Ok(Some(found)) => found.as_slice() == text.as_bytes(),
         _ => false,
     }
 }

@@ -4,16 +4,16 @@ ghost use Rattle.cat_threads.specs.cat_commands.cat_ledger.Ledgers.{shape_in};
 ghost use Rattle.cat_threads.specs.service.Passes.{all_different, seated_by};
 ghost use Rattle.cat_threads.specs.sharing.Grounds.{ground_of};
 
-use crate::threads::served::{both, count_of};
-use crate::threads::{FIELDS, begin_in_memory, item_text, shown_in};
-use crate::verdict::expect;
+use crate::threads::served::{begin, count_of, put, side_by_side};
+use crate::threads::{FIELDS, shown_in};
+use crate::verdict::expect_yes;
 use cat_base::{Refusal, SessionNo, WriteNo};
 use cat_directory::MemoryDirectory;
 use cat_search::cat_items::Schema;
 use cat_threads::cat_commands::cat_ledger::Grant;
 use cat_threads::cat_commands::cat_ledger::cat_ledger_state::Hold;
-use cat_threads::running::{Caller, Gate, run_threads};
-use cat_threads::{Begun, Naming, Pass, Service, Write};
+use cat_threads::running::{Caller, Gate};
+use cat_threads::{Begun, Naming, Pass, Service};
 use std::alloc::Global;
 use std::marker::Brand;
 use std::sync::Wait;
@@ -84,6 +84,17 @@ struct Merging<'a, R> {
     was_inside: bool,
 }
 
+impl<'a, R> Merging<'a, R> {
+    fn new(rt: &'a R, board: &'a Board) -> Merging<'a, R> {
+        Merging {
+            rt,
+            board,
+            has_come: false,
+            was_inside: false,
+        }
+    }
+}
+
 impl<'a, R: Clock> Gate for Merging<'a, R> {
     fn go_on(&mut self) -> bool {
         if !self.has_come {
@@ -115,6 +126,17 @@ struct Warming<'a, R> {
     is_idle: bool,
 }
 
+impl<'a, R> Warming<'a, R> {
+    fn new(rt: &'a R, board: &'a Board) -> Warming<'a, R> {
+        Warming {
+            rt,
+            board,
+            has_come: false,
+            is_idle: false,
+        }
+    }
+}
+
 impl<'a, R: Clock> Gate for Warming<'a, R> {
     fn go_on(&mut self) -> bool {
         if !self.has_come {
@@ -143,6 +165,16 @@ struct Reading<'a> {
     board: &'a Board,
 }
 
+impl<'a> Reading<'a> {
+    fn new(alloc: Global, schema: &'a Schema, board: &'a Board) -> Reading<'a> {
+        Reading {
+            alloc,
+            schema,
+            board,
+        }
+    }
+}
+
 impl<'a, J: Naming, R: Wait + Clock> Caller<MemoryDirectory, J, R> for Reading<'a> {
     fn call(self, rt: &R, service: &Service<MemoryDirectory, J>, me: &mut Pass<J>) {
         let Reading {
@@ -151,9 +183,7 @@ impl<'a, J: Naming, R: Wait + Clock> Caller<MemoryDirectory, J, R> for Reading<'
             board,
         } = self;
         board.meets(rt);
-        if writes(rt, alloc, schema, service, me) == Ok(())
-            && reads(rt, alloc, schema, board, service, me)
-        {
+        if writes(rt, alloc, schema, service, me) && reads(rt, alloc, schema, board, service, me) {
             board.right.fetch_add(1, Ordering::SeqCst);
         }
     }
@@ -166,14 +196,10 @@ fn writes<J: Naming, R: Wait>(
     schema: &Schema,
     service: &Service<MemoryDirectory, J>,
     me: &mut Pass<J>,
-) -> Result<(), Refusal>
+) -> bool
     ensures { me.new.session ≡ me.old.session }
 {
-    let text = item_text(alloc, "a")?;
-    let item = schema.item(alloc, text.as_bytes())?;
-    let _number = service.write(rt, me, Write::Put(item))?;
-    let _token = service.refresh(rt, me)?;
-    Ok(())
+    put(rt, alloc, service, schema, me, "a").is_ok() && service.refresh(rt, me).is_ok()
 }
 
 /// Opens a view, and asks for a page of it while the lock is held by the merger. Whether all went as it should.
@@ -220,17 +246,20 @@ fn shows_beside<R: Clock>(
 
 #[test]
 fn all_at_once_and_pages_while_the_merger_has_the_lock(rt: HostRuntime) -> Result<(), Fail> {
-    let alloc = rt.alloc();
+    expect_yes(work_at_once(&rt, rt.alloc()))
+}
+
+/// Whether all four meet, both sessions come to their ends, and the merger sees both pages.
+fn work_at_once<R: Threads + Wait + Clock + Sync>(rt: &R, alloc: Global) -> Result<bool, Refusal> {
     let schema = Schema::read(alloc, FIELDS)?;
-    let begun = begin_in_memory(alloc, schema.copy()?)?;
+    let begun = begin(alloc, MemoryDirectory::new(alloc), schema.copy()?, 2, 1)?;
     let board = Board::new();
-    let count = run_all::<Brand, _>(&rt, alloc, &schema, &board, begun, [1, 2]);
-    // All four met, both sessions came to their ends, and the merger saw both pages.
-    expect(count == Some(2) && board.right.load(Ordering::SeqCst) == ALL + 3)
+    let count = run_two::<Brand, _>(rt, alloc, &schema, &board, begun, [1, 2]);
+    Ok(count == Some(2) && board.right.load(Ordering::SeqCst) == ALL + 3)
 }
 
 /// Runs two sessions, each of which asks for a page. How many writes were accepted.
-fn run_all<J: Naming + Send + Sync, R: Threads + Wait + Clock + Sync>(
+fn run_two<J: Naming + Send + Sync, R: Threads + Wait + Clock + Sync>(
     rt: &R,
     alloc: Global,
     schema: &Schema,
@@ -244,46 +273,9 @@ fn run_all<J: Naming + Send + Sync, R: Threads + Wait + Clock + Sync>(
     let Ok((service, passes)) = Service::<MemoryDirectory, J>::new(alloc, begun, &sessions) else {
         return None;
     };
-    let passes = side_by_side(rt, alloc, schema, board, &service, passes)?;
+    let one = Reading::new(alloc, schema, board);
+    let two = Reading::new(alloc, schema, board);
+    let workers = (Merging::new(rt, board), Warming::new(rt, board));
+    let passes = side_by_side(rt, alloc, &service, passes, (one, two), workers)?;
     Some(count_of(rt, service, passes))
-}
-
-/// Runs both, with the workers beside them.
-fn side_by_side<J: Naming + Send + Sync, R: Threads + Wait + Clock + Sync>(
-    rt: &R,
-    alloc: Global,
-    schema: &Schema,
-    board: &Board,
-    service: &Service<MemoryDirectory, J>,
-    passes: Vec<Pass<J>>,
-) -> Option<Vec<Pass<J>>> {
-    let one = Reading {
-        alloc,
-        schema,
-        board,
-    };
-    let two = Reading {
-        alloc,
-        schema,
-        board,
-    };
-    let Ok(jobs) = both(alloc, passes, (one, two)) else {
-        return None;
-    };
-    let merging = Merging {
-        rt,
-        board,
-        has_come: false,
-        was_inside: false,
-    };
-    let warming = Warming {
-        rt,
-        board,
-        has_come: false,
-        is_idle: false,
-    };
-    match run_threads(rt, alloc, service, jobs, merging, warming) {
-        Ok(passes) => Some(passes),
-        Err(_) => None,
-    }
 }

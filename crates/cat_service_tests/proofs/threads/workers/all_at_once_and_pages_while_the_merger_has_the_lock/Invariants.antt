@@ -1,9 +1,0 @@
-use Rattle.std.proofs.Common.{[]}
-use Rattle.cat_threads.specs.cat_commands.cat_ledger.Ledgers.{shape_in}
-use Rattle.cat_threads.specs.sharing.Grounds.{ground_of}
-use Rattle.cat_threads.specs.service.Passes.{seated_by}
-use Rattle.cat_service_tests.proofs.threads.workers.all_at_once_and_pages_while_the_merger_has_the_lock.Given as goal
-
--- the service that was just opened
-abbrev pub ghosts-run_all : goal.ghosts-run_all
-ghosts-run_all g a = record { table = a.begun.table; from = ground_of (shape_in a.begun.ledger); sessions = seated_by [] a.sessions }
