@@ -42,16 +42,26 @@ pub enum Fault {
 /// How many milliseconds a worker rests that found nothing to do. Each look takes the lock, which callers wait for.
 const REST: u64 = 10;
 
+/// How many turns behind one another a worker takes, before it lets others run. Where all processors are busy it waits for its
+/// next turn then; if it did so after each, merges would fall behind, and the more segments there are the longer a REFRESH takes.
+const TURNS: usize = 16;
+
 /// The gate of a worker that rests where there was nothing to do.
 #[derive(Drop)]
 pub(crate) struct Resting<'a, R> {
     rt: &'a R,
     is_idle: bool,
+    // How many turns it takes until it lets others run.
+    turns: usize,
 }
 
 impl<'a, R> Resting<'a, R> {
     pub(crate) fn new(rt: &'a R) -> Resting<'a, R> {
-        Resting { rt, is_idle: true }
+        Resting {
+            rt,
+            is_idle: true,
+            turns: TURNS,
+        }
     }
 }
 
@@ -61,6 +71,13 @@ impl<'a, R: Clock> Gate for Resting<'a, R> {
             thread::sleep(self.rt, Duration::from_millis(REST));
         }
         self.is_idle = false;
+        match self.turns.checked_sub(1) {
+            Some(left) => self.turns = left,
+            None => {
+                thread::yield_now();
+                self.turns = TURNS - 1;
+            }
+        }
         true
     }
 

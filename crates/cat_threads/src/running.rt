@@ -13,7 +13,8 @@ use std::thread::{Promise, PromisedHandle, Scope, Threads};
 
 /// Whether a worker goes on, and what is done while it has the lock.
 pub trait Gate: Drop {
-    /// Whether it takes another turn. This is asked before the lock is taken: a worker that found nothing to do may sleep here.
+    /// Whether it takes another turn. This is asked before the lock is taken: a worker that found nothing to do may sleep here, and
+    /// one that has taken many turns may let others run.
     fn go_on(&mut self) -> bool;
 
     /// Called with the lock held, before the turn's chore.
@@ -76,7 +77,6 @@ pub fn merger<D: Directory + Shelf, J: Naming, R: Wait, G: Gate>(
         if outcome.is_idle() {
             gate.idle();
         }
-        thread::yield_now();
     }
 }
 
@@ -95,7 +95,6 @@ pub fn warmer<D: Directory + Shelf, J: Naming, R: Wait, G: Gate>(
         if service.turn(rt, &mut gate, Chore::Warm).is_idle() {
             gate.idle();
         }
-        thread::yield_now();
     }
 }
 
