@@ -1,10 +1,10 @@
 -- The rows of a range of numbers, in the order of a page.
-use Rattle.std.proofs.Common.{◌≡◌, ℕ, ℤ, zero, suc, ◌<◌, ◌+◌, ◌&&◌, List, [], ◌∷◌, ◌++◌, length, get_or, map, filter, cond, count_by, Option, Some, None, IfSome, option_map, Bool, true, false, All, AllPairs, refl, sym, ap, subst, ◌∙◌, arith}
+use Rattle.std.proofs.Common.{◌≡◌, ℕ, ℤ, zero, suc, ◌<◌, ◌+◌, ◌&&◌, List, [], ◌∷◌, ◌++◌, length, get_or, map, filter, cond, count_by, Option, Some, None, IfSome, option_map, Bool, true, false, All, AllPairs, IsPermutation, refl, sym, ap, subst, ◌∙◌, arith}
 use Rattle.std.specs.List.{AllByRecursion}
 use Rattle.std.proofs.lemmas.List.{length-map}
 use Rattle.std.proofs.lemmas.List.Elements.{All-filter, filter_agree}
 use Rattle.std.proofs.lemmas.List.Kept.{AllPairs-filter}
-use Rattle.std.proofs.lemmas.List.Sorted.{length_permutation}
+use Rattle.std.proofs.lemmas.List.Sorted.{IsPermutation-sym, IsPermutation-trans, length_permutation}
 use Rattle.std.proofs.lemmas.List.Sums.{length-filter, count_by-le-length}
 use Rattle.cat_model.specs.Item.{Content, content_of, number_in}
 use Rattle.cat_model.specs.Page.{Key, key_in}
@@ -26,6 +26,7 @@ use Rattle.cat_search.specs.declared.sort.Order.{Order}
 use Rattle.cat_search.specs.declared.sort.Order.TheVariants as order
 use Rattle.cat_search.specs.declared.sort.OrderField.{OrderField}
 use Rattle.cat_search.specs.declared.standings.Candidate.{Candidate}
+use Rattle.cat_search.proofs.Arranged.{IsPermutation-filter}
 use Rattle.cat_search.proofs.Gathered.{none, standings_at}
 use Rattle.cat_search.proofs.Walked.{same_rows, walk_within, walked_all}
 
@@ -70,6 +71,22 @@ module _ (low high : Option ℤ) (ranks : List HitStanding) (numbers : List (Opt
     all = is;
     passed = passed ∙ filter_agree (λ row. lies_between low high (get_or numbers row None)) (λ row. lies_between low high (ranked_number (standing_at ranks row).rank)) (λ row. ap (lies_between low high) (same row)) order;
   }
+
+-- ---- the same rows in another order
+
+-- those that pass a test, in two orders of all rows
+pub passed_alike : (all order other rows walk : List ℕ) (test : ℕ → Bool) → IsPermutation all order → IsPermutation all other
+    → rows ≡ filter test order → walk ≡ filter test other → IsPermutation walk rows
+passed_alike all order other rows walk test same turned rows_are walk_is =
+    let orders : IsPermutation other order = IsPermutation-trans other all order (IsPermutation-sym all other turned) same in
+    let kept : IsPermutation (filter test other) (filter test order) = IsPermutation-filter test other order orders in
+    subst (λ l. IsPermutation l rows) (sym walk_is) (subst (IsPermutation (filter test other)) (sym rows_are) kept)
+
+-- as many pass a test
+pub as_many_pass : (walk rows : List ℕ) (test : ℕ → Bool) → IsPermutation walk rows → count_by test rows ≡ count_by test walk
+as_many_pass walk rows test same =
+    let kept : IsPermutation (filter test walk) (filter test rows) = IsPermutation-filter test walk rows same in
+    sym (length-filter test rows) ∙ length_permutation (filter test walk) (filter test rows) kept ∙ length-filter test walk
 
 -- ---- the rows that a range matches
 

@@ -193,6 +193,10 @@ walk_within ranks walk is = All-permutation (λ r. r < length ranks) (range_with
         let at = get_or-range_with_len 0 (length ranks) k d within in
         omega (arith, within, at)
 
+-- a walk stands in the order of the page
+pub walk_runs : (ranks : List HitStanding) (walk : List ℕ) → IsWalk ranks walk → IsOrderedRun ranks walk
+walk_runs ranks walk is = record { within = walk_within ranks walk is; rising = is.rising }
+
 -- neither a row nor one that it comes before comes before it
 pub none_before : (ranks : List HitStanding) (row : ℕ) (rest : List ℕ) → AllByRecursion (λ r. standing_before (standing_at ranks row) (standing_at ranks r) ≡ true) rest
     → AllByRecursion (λ r. standing_before (standing_at ranks r) (standing_at ranks row) ≡ false) (row ∷ rest)

@@ -1,5 +1,5 @@
 -- The rows of parts, one after another.
-use Rattle.std.specs.Prelude.{◌≡◌, ℕ, ◌≤◌, ◌++◌, Bool, false, List, ◌∷◌, All, length, take, drop}
+use Rattle.std.specs.Prelude.{◌≡◌, ℕ, ◌≤◌, ◌++◌, Bool, false, List, ◌∷◌, All, length, drop}
 use Rattle.std.specs.List.{flat_map}
 use Rattle.cat_model.specs.RowSets.{has_row}
 use Rattle.cat_views.specs.cat_segment.RowParts.{parts_of}
@@ -8,10 +8,6 @@ use Rattle.cat_views.specs.cat_segment.declared.row_parts.RowParts.{RowParts}
 -- the rows of the parts from this index on
 abbrev pub rows_of_parts_from : RowParts → ℕ → List ℕ
 rows_of_parts_from parts index = flat_map (λ part. part) (drop index (parts_of parts))
-
--- the rows of the parts before this index
-abbrev pub rows_of_parts_before : RowParts → ℕ → List ℕ
-rows_of_parts_before parts index = flat_map (λ part. part) (take index (parts_of parts))
 
 -- the row comes first of these and of those of the parts from this index on, and then come the rest and those of the parts from
 -- another index on

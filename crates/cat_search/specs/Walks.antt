@@ -1,5 +1,5 @@
 -- The rows of a segment in the order of a page.
-use Rattle.std.specs.Prelude.{◌≡◌, ◌<◌, ◌-◌, ◌++◌, ◌&&◌, not, ltb, ℕ, ℤ, Bool, true, false, List, [], filter, length, map, Option, All, AllPairs, IsPermutation, slice_index_or}
+use Rattle.std.specs.Prelude.{◌≡◌, ◌<◌, ◌++◌, ◌&&◌, not, ltb, ℕ, ℤ, Bool, true, false, List, [], filter, length, map, Option, All, AllPairs, IsPermutation, slice_index_or}
 use Rattle.std.specs.List.{range_with_len}
 use Rattle.cat_model.specs.Query.{Query}
 use Rattle.cat_model.specs.RowSets.{has_row}
@@ -38,16 +38,11 @@ pub record AreMatchedRows (q : Query) (segment_rows : List Row) (standings : Lis
   pub all : IsWalk standings walk
   pub matched : rows ≡ filter (has_row (map (row_matches q) segment_rows)) walk
 
--- what is left of a walk behind rows that the mark doesn't come before
-pub record IsRestOfWalk (mark : Option HitStanding) (standings : List HitStanding) (left : List ℕ) : Type 0 where
+-- what is left of a walk, or of some of its rows, behind rows that the mark doesn't come before
+pub record IsRestOfWalk (mark : Option HitStanding) (standings : List HitStanding) (walk left : List ℕ) : Type 0 where
   pub passed : List ℕ
   pub out : All (λ row. beyond mark (standing_at standings row) ≡ false) passed
-  pub walk : IsWalk standings (passed ++ left)
-
--- there is a last row, and the mark doesn't come before it
-pub record EndsPassed (mark : Option HitStanding) (standings : List HitStanding) (rows : List ℕ) : Type 0 where
-  pub some : 0 < length rows
-  pub last : beyond mark (standing_at standings (slice_index_or rows (length rows - 1) 0)) ≡ false
+  pub cut : walk ≡ passed ++ left
 
 -- there is this row, and the mark doesn't come before it
 abbrev pub is_passed : Option HitStanding → List HitStanding → ℕ → Bool

@@ -317,11 +317,11 @@ fn offer_in_order<'a>(
     }
     let live = Hits::live_in(leaf);
     let ranks = LeafRanks::of(leaf.segment(), wanted.order);
-    let Some(rows) = rows_in_order(query, &ranks, wanted.order) else {
+    let Some(range) = rows_in_order(query, &ranks, wanted.order) else {
         return Ok(None);
     };
-    let total = count_live(leaf, rows);
-    offer_range(best, &ranks, rows, &live, &wanted.mark)?;
+    let total = count_live(leaf, range.rows);
+    offer_range(best, &ranks, range.walk, &live, &wanted.mark)?;
     Ok(Some(total))
 }
 

@@ -1,5 +1,5 @@
 //! The rows of a segment as hits of a sort.
-ghost use Rattle.std.specs.Prelude.{◌≡◌, ◌<◌, None, length, map, option_map, replicate, slice_get, IfSome, IsTrue, MatchOption};
+ghost use Rattle.std.specs.Prelude.{◌≡◌, ◌<◌, None, length, map, option_map, replicate, slice_get, IfSome, IsPermutation, IsTrue, MatchOption};
 ghost use Rattle.std.specs.List.{HoldsAt};
 ghost use Rattle.cat_model.specs.Page.{Key, key, key_in};
 ghost use Rattle.cat_views.specs.cat_segment.Contents.{contents_of, contents_told, contents_under_name};
@@ -98,6 +98,15 @@ fn key_at(column: &Column, row: usize) -> Option<KeyRef>
     }
 }
 
+/// The rows of a range of numbers, live or dead.
+#[derive(Clone, Copy)]
+pub(crate) struct RangeRows<'a> {
+    /// In any order, side by side: they are counted so.
+    pub(crate) rows: &'a [u32],
+    /// In the order of the page.
+    pub(crate) walk: RowParts<'a>,
+}
+
 impl<'a> LeafRanks<'a> {
     /// The rows of the segment, in this order.
     pub(crate) fn of(segment: &'a Segment, order: Order<'a>) -> LeafRanks<'a>
@@ -155,24 +164,33 @@ impl<'a> LeafRanks<'a> {
         match self.order {
             Order::Added => None,
             Order::Rising(_) => Some(RowParts::Whole(numbers.rising())),
-            Order::Falling(_) => Some(RowParts::Whole(numbers.falling())),
+            Order::Falling(_) => Some(numbers.falling()),
         }
     }
 
-    /// The rows whose number lies between the two, both included, where an absent end is open, live or dead: in the order of
-    /// the page, where the sort is by a number field.
-    pub(crate) fn range(&self, low: Option<i64>, high: Option<i64>) -> Option<&'a [u32]>
-        ensures { IfSome result (λ rows. IsWalkWhere (λ standing. lies_between low high (ranked_number standing.rank)) self.now rows.now) }
+    /// The rows whose number lies between the two, both included, where an absent end is open, where the sort is by a number
+    /// field.
+    pub(crate) fn range(&self, low: Option<i64>, high: Option<i64>) -> Option<RangeRows<'a>>
+        ensures walk { IfSome result (λ range. IsWalkWhere (λ standing. lies_between low high (ranked_number standing.rank)) self.now
+            (rows_of_parts range.walk)) }
+        ensures rows { IfSome result (λ range. IsPermutation (rows_of_parts range.walk) range.rows.now) }
     {
         let Column::Number(numbers) = self.column? else {
             return None;
         };
         // Its contract says that the numbers of the rows rise.
-        let _rows = self.segment.len();
+        let _count = self.segment.len();
+        let rows = numbers.rising_between(low, high);
         match self.order {
             Order::Added => None,
-            Order::Rising(_) => Some(numbers.rising_between(low, high)),
-            Order::Falling(_) => Some(numbers.falling_between(low, high)),
+            Order::Rising(_) => Some(RangeRows {
+                rows,
+                walk: RowParts::Whole(rows),
+            }),
+            Order::Falling(_) => Some(RangeRows {
+                rows,
+                walk: numbers.falling_between(low, high),
+            }),
         }
     }
 

@@ -1,9 +1,10 @@
 //! Pages of a query that is one range of numbers, in the order of its field: its rows stand side by side in that order, so no
 //! set of them is made.
-ghost use Rattle.std.specs.Prelude.{◌≡◌, ◌<◌, All, IfSome, IsTrue, List, OnOk, count_by, filter, length, map};
+ghost use Rattle.std.specs.Prelude.{◌≡◌, ◌<◌, All, IfSome, IsPermutation, IsTrue, List, OnOk, count_by, filter, length, map};
 ghost use Rattle.cat_model.specs.RowSets.{has_row};
 ghost use Rattle.cat_model.specs.View.{Row};
 ghost use Rattle.cat_query.specs.View.{query_of};
+ghost use Rattle.cat_views.specs.cat_segment.RowParts.{rows_of_parts};
 ghost use Rattle.cat_search.specs.Candidates.{TakesIn, mark_standing};
 ghost use Rattle.cat_search.specs.Hits.{hit_rows};
 ghost use Rattle.cat_search.specs.Pages.{behind};
@@ -13,11 +14,10 @@ ghost use Rattle.cat_search.specs.Walks.{AreMatchedRows, IsOrderedRun, standing_
 
 use crate::best::Best;
 use crate::hits::Hits;
-use crate::leaf_ranks::LeafRanks;
+use crate::leaf_ranks::{LeafRanks, RangeRows};
 use crate::sort::Order;
 use crate::standings::Candidate;
-use crate::steps::Steps;
-use crate::walk::{offer_walk, rows_passed};
+use crate::walk::{offer_walk, steps_behind};
 use cat_query::Query;
 use cat_query::cat_columns::RowSet;
 use cat_views::Leaf;
@@ -34,15 +34,15 @@ fn goes_by(order: Order, name: &str) -> bool
     }
 }
 
-/// The rows that the query matches, live or dead, in the order of the page: where the query is one range of the numbers of the
-/// field that the page goes by.
+/// The rows that the query matches, live or dead, where it is one range of the numbers of the field that the page goes by.
 pub(crate) fn rows_in_order<'a>(
     query: &Query,
     ranks: &LeafRanks<'a>,
     order: Order,
-) -> Option<&'a [u32]>
-    ensures { IfSome result (λ rows. (rs : List Row) → ranks.now ≡ map (row_standing order.entry) rs
-        → AreMatchedRows (query_of query.now) rs ranks.now rows.now) }
+) -> Option<RangeRows<'a>>
+    ensures walk { IfSome result (λ range. (rs : List Row) → ranks.now ≡ map (row_standing order.entry) rs
+        → AreMatchedRows (query_of query.now) rs ranks.now (rows_of_parts range.walk)) }
+    ensures rows { IfSome result (λ range. IsPermutation (rows_of_parts range.walk) range.rows.now) }
 {
     let range = query.number_range()?;
     if !goes_by(order, range.field) {
@@ -77,20 +77,20 @@ pub(crate) fn count_live(leaf: &Leaf, rows: &[u32]) -> usize
     count_among(live, rows)
 }
 
-/// Offers the live ones of these rows, which stand in the order of the page, as far as the mark comes before them.
+/// Offers the live ones of the rows of these parts, which stand in the order of the page, as far as the mark comes before them.
 pub(crate) fn offer_range<'a>(
     best: &mut Best<Candidate<'a>>,
     ranks: &LeafRanks<'a>,
-    rows: &'a [u32],
+    range: RowParts<'a>,
     live: &Hits<'_>,
     mark: &Option<Candidate<'a>>,
 ) -> Result<(), AllocError>
     requires long { length (hit_rows live.now) ≡ length ranks.now }
-    requires run { IsOrderedRun ranks.now rows.now }
+    requires run { IsOrderedRun ranks.now (rows_of_parts range) }
     ensures limit { best.new.limit ≡ best.old.limit }
     ensures best { OnOk result (TakesIn best.old best.new (behind (mark_standing mark.now)
-        (map (standing_at ranks.now) (filter (has_row (hit_rows live.now)) rows.now)))) }
+        (map (standing_at ranks.now) (filter (has_row (hit_rows live.now)) (rows_of_parts range.entry))))) }
 {
-    let (_, left) = rows.split_at(rows_passed(ranks, rows, mark));
-    offer_walk(best, ranks, Steps::of(RowParts::Whole(left)), live, mark)
+    let rest = steps_behind(ranks, range, mark);
+    offer_walk(best, ranks, rest, live, mark)
 }

@@ -14,10 +14,11 @@ const PART_COST: usize = 4;
 
 /// The first row of the parts from this index on: the row, with the index of the part behind its own and the rows behind it in
 /// its own.
-fn first_from<'a>(parts: RowParts<'a>, from: usize) -> Option<(u32, usize, &'a [u32])>
-    requires { from ≤ length (parts_of parts) }
-    ensures { MatchOption result (rows_of_parts_from parts.entry from ≡ [])
-        (λ step. IsNextRow parts.entry from [] step.0 step.1 step.2.now) }
+#[inline(never)]
+fn first_from<'a>(parts: &RowParts<'a>, from: usize) -> Option<(u32, usize, &'a [u32])>
+    requires { from ≤ length (parts_of parts.now) }
+    ensures { MatchOption result (rows_of_parts_from parts.now from ≡ [])
+        (λ step. IsNextRow parts.now from [] step.0 step.1 step.2.now) }
 {
     let mut index = from;
     while index < parts.len() {
@@ -32,14 +33,15 @@ fn first_from<'a>(parts: RowParts<'a>, from: usize) -> Option<(u32, usize, &'a [
 
 /// The first of these rows, or else of the parts from this index on: the row, with the index of the part that comes then and
 /// the rows that come before that part.
+#[inline(always)]
 fn next_step<'a>(
-    parts: RowParts<'a>,
+    parts: &RowParts<'a>,
     next: usize,
     left: &'a [u32],
 ) -> Option<(u32, usize, &'a [u32])>
-    requires { next ≤ length (parts_of parts) }
-    ensures { MatchOption result (left.now ++ rows_of_parts_from parts.entry next ≡ [])
-        (λ step. IsNextRow parts.entry next left.now step.0 step.1 step.2.now) }
+    requires { next ≤ length (parts_of parts.now) }
+    ensures { MatchOption result (left.now ++ rows_of_parts_from parts.now next ≡ [])
+        (λ step. IsNextRow parts.now next left.now step.0 step.1 step.2.now) }
 {
     match left.split_first() {
         Some((row, rest)) => Some((*row, next, rest)),
@@ -132,7 +134,10 @@ impl<'a> Steps<'a> {
     pub(crate) fn of(parts: RowParts<'a>) -> Steps<'a>
         ensures { result ≡ rows_of_parts parts.entry }
     {
-        Steps::behind(parts, 0, &[])
+        if parts.len() == 0 {
+            return Steps::behind(parts, 0, &[]);
+        }
+        Steps::behind(parts, 1, parts.part(0))
     }
 
     /// These rows, and then those of the parts from this index on.
@@ -167,8 +172,9 @@ impl<'a> Iterator for Steps<'a> {
 
     ghost remaining = { item_count (λ rows. rows) };
 
+    #[inline(always)]
     fn next(&mut self) -> Option<usize> {
-        match next_step(self.parts, self.next, self.left) {
+        match next_step(&self.parts, self.next, self.left) {
             None => None,
             Some((row, next, left)) => {
                 self.next = next;

@@ -1,13 +1,13 @@
 //! Hits that are offered to a page in its own order.
-ghost use Rattle.std.specs.Prelude.{◌≡◌, ◌<◌, ◌≤◌, false, filter, length, map, take, All, OnOk, IsTrue};
-ghost use Rattle.cat_views.specs.cat_segment.RowParts.{parts_of, rows_of_parts};
+ghost use Rattle.std.specs.Prelude.{◌≡◌, ◌<◌, ◌≤◌, ◌+◌, false, filter, length, map, take, All, OnOk, IsTrue};
+ghost use Rattle.cat_views.specs.cat_segment.RowParts.{parts_of, rows_of_parts, rows_of_parts_before};
 ghost use Rattle.cat_model.specs.RowSets.{has_row};
 ghost use Rattle.cat_search.specs.Bars.{IsFullBy};
 ghost use Rattle.cat_search.specs.Candidates.{TakesIn, mark_standing, standing_of};
 ghost use Rattle.cat_search.specs.Hits.{hit_rows};
 ghost use Rattle.cat_search.specs.Pages.{behind, beyond};
-ghost use Rattle.cat_search.specs.Steps.{IsBehindMisses, rows_of_parts_before};
-ghost use Rattle.cat_search.specs.Walks.{EndsPassed, IsRestOfWalk, IsOrderedRun, IsWalk, is_passed, standing_at};
+ghost use Rattle.cat_search.specs.Steps.{IsBehindMisses};
+ghost use Rattle.cat_search.specs.Walks.{IsOrderedRun, IsRestOfWalk, is_passed, standing_at};
 
 use crate::best::Best;
 use crate::hits::Hits;
@@ -100,11 +100,7 @@ fn is_passed<'a>(ranks: &LeafRanks<'a>, row: u32, mark: &Option<Candidate<'a>>) 
 }
 
 /// How many of these rows, which stand in the order of the page, the mark doesn't come before.
-pub(crate) fn rows_passed<'a>(
-    ranks: &LeafRanks<'a>,
-    rows: &[u32],
-    mark: &Option<Candidate<'a>>,
-) -> usize
+fn rows_passed<'a>(ranks: &LeafRanks<'a>, rows: &[u32], mark: &Option<Candidate<'a>>) -> usize
     requires { IsOrderedRun ranks.now rows.now }
     ensures bound { result ≤ length rows.now }
     ensures passed { All (λ row. beyond (mark_standing mark.now) (standing_at ranks.now row) ≡ false) (take result rows.now) }
@@ -115,23 +111,32 @@ pub(crate) fn rows_passed<'a>(
     rows.partition_point(|row| is_passed(ranks, *row, mark))
 }
 
-/// Whether there is a last row of these, and the mark doesn't come before it.
-fn is_part_passed<'a>(ranks: &LeafRanks<'a>, rows: &[u32], mark: &Option<Candidate<'a>>) -> bool
-    ensures { IsTrue result → EndsPassed (mark_standing mark.now) ranks.now rows.now }
+/// Whether the last row of the parts up to this index is known, and the mark doesn't come before it: then it comes before none
+/// of their rows.
+fn is_passed_through<'a>(
+    ranks: &LeafRanks<'a>,
+    walk: RowParts<'a>,
+    index: usize,
+    mark: &Option<Candidate<'a>>,
+) -> bool
+    requires run { IsOrderedRun ranks.now (rows_of_parts walk) }
+    requires part { index < length (parts_of walk) }
+    ensures { IsTrue result → All (λ row. beyond (mark_standing mark.now) (standing_at ranks.now row) ≡ false)
+        (rows_of_parts_before walk.entry (index + 1)) }
 {
-    match rows.last() {
-        Some(row) => is_passed(ranks, *row, mark),
+    match walk.last_through(index) {
+        Some(row) => is_passed(ranks, row, mark),
         None => false,
     }
 }
 
-/// How many parts at the head of the walk have no row that the mark comes before, but for parts without rows.
+/// How many parts at the head of the walk have no row that the mark comes before.
 fn parts_passed<'a>(
     ranks: &LeafRanks<'a>,
     walk: RowParts<'a>,
     mark: &Option<Candidate<'a>>,
 ) -> usize
-    requires { IsWalk ranks.now (rows_of_parts walk) }
+    requires { IsOrderedRun ranks.now (rows_of_parts walk) }
     ensures bound { result ≤ length (parts_of walk.entry) }
     ensures passed { All (λ row. beyond (mark_standing mark.now) (standing_at ranks.now row) ≡ false)
         (rows_of_parts_before walk.entry result) }
@@ -140,7 +145,7 @@ fn parts_passed<'a>(
     let mut high = walk.len();
     while low < high {
         let middle = low + (high - low) / 2;
-        if is_part_passed(ranks, walk.part(middle), mark) {
+        if is_passed_through(ranks, walk, middle, mark) {
             low = middle + 1;
         } else {
             high = middle;
@@ -149,17 +154,17 @@ fn parts_passed<'a>(
     low
 }
 
-/// The rows of the walk from this part on, but for those at the head of the part that the mark doesn't come before.
+/// The rows from this part on, but for those at the head of the part that the mark doesn't come before.
 fn steps_from<'a>(
     ranks: &LeafRanks<'a>,
     walk: RowParts<'a>,
     index: usize,
     mark: &Option<Candidate<'a>>,
 ) -> Steps<'a>
-    requires walk { IsWalk ranks.now (rows_of_parts walk) }
+    requires run { IsOrderedRun ranks.now (rows_of_parts walk) }
     requires part { index < length (parts_of walk) }
     requires passed { All (λ row. beyond (mark_standing mark.now) (standing_at ranks.now row) ≡ false) (rows_of_parts_before walk index) }
-    ensures { IsRestOfWalk (mark_standing mark.now) ranks.now result }
+    ensures { IsRestOfWalk (mark_standing mark.now) ranks.now (rows_of_parts walk.entry) result }
 {
     let part = walk.part(index);
     let (_, left) = part.split_at(rows_passed(ranks, part, mark));
@@ -168,15 +173,16 @@ fn steps_from<'a>(
     Steps::behind(walk, index + 1, left)
 }
 
-/// The rows of the walk but for those at its head that the mark doesn't come before (Lucene: the rows that
-/// `LeafFieldComparator.setTopValue` has a collector leave out). Two binary searches find them.
+/// The rows of the parts, which stand in the order of the page, but for those at their head that the mark doesn't come before
+/// (Lucene: the rows that `LeafFieldComparator.setTopValue` has a collector leave out). Two binary searches find them.
+#[inline(always)]
 pub(crate) fn steps_behind<'a>(
     ranks: &LeafRanks<'a>,
     walk: RowParts<'a>,
     mark: &Option<Candidate<'a>>,
 ) -> Steps<'a>
-    requires { IsWalk ranks.now (rows_of_parts walk) }
-    ensures { IsRestOfWalk (mark_standing mark.now) ranks.now result }
+    requires { IsOrderedRun ranks.now (rows_of_parts walk) }
+    ensures { IsRestOfWalk (mark_standing mark.now) ranks.now (rows_of_parts walk.entry) result }
 {
     if mark.is_none() {
         return Steps::of(walk);

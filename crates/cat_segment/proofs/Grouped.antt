@@ -1,13 +1,12 @@
--- The rows of each value, those of one value behind those of another, are all rows in order.
-use Rattle.std.proofs.Common.{◌≡◌, ℕ, zero, suc, ◌+◌, ◌-◌, ◌<◌, List, [], ◌∷◌, ◌++◌, length, map, filter, get_or, cond, AllPairs, IsPermutation, Option, Some, None, Bool, true, false, not, ◌&&◌, ◌||◌, refl, sym, ◌∙◌, ap, subst, arith, inl, inr}
+-- The rows of each text, those of one text behind those of another, are all rows in order.
+use Rattle.std.proofs.Common.{◌≡◌, ℕ, zero, suc, ◌+◌, ◌-◌, ◌<◌, List, [], ◌∷◌, ◌++◌, length, map, filter, get_or, cond, AllPairs, Option}
+use Rattle.std.proofs.Common.{Some, None, Bool, true, false, ◌||◌, refl, sym, ◌∙◌, ap, subst, arith}
 use Rattle.std.specs.Prelude.{reverse, Contains, All}
-use Rattle.std.specs.Cmp.{IsTotalOrder, tied_itself}
+use Rattle.std.specs.Cmp.{IsTotalOrder}
 use Rattle.std.specs.List.{AllByRecursion, flat_map, list_any, range_with_len}
 use Rattle.std.specs.declared.cmp.Ordering.{Ordering}
-use Rattle.std.specs.declared.cmp.Ordering.TheVariants.{Less, Equal}
-use Rattle.std.specs.Ordering.{is_lt, nat_cmp, ordering_then}
-use Rattle.std.proofs.lemmas.Bool.{true≢false, cases_Bool}
-use Rattle.std.proofs.lemmas.Bool.Decides.{nat_tests}
+use Rattle.std.specs.declared.cmp.Ordering.TheVariants.{Less}
+use Rattle.std.proofs.lemmas.Bool.{true≢false}
 use Rattle.std.proofs.lemmas.List.{map-id, length-append, length-map, length-reverse, get_or-map, get_or-reverse, get_or_append_left}
 use Rattle.std.proofs.lemmas.List.Folds.{flat_map-map}
 use Rattle.std.proofs.Math.Seq.{get_or-append_seam}
@@ -16,21 +15,20 @@ use Rattle.std.proofs.lemmas.Cmp.{nat_list_cmp_total}
 use Rattle.cat_model.specs.RowSets.{has_row}
 use Rattle.cat_model.specs.Ordinals.{postings_of, rows_having, text_at}
 use Rattle.cat_segment.specs.RowParts.{rising_values, falling_values}
-use Rattle.std.proofs.lemmas.List.Elements.{filter-append, filter_passes, recursion_from_All, All-from_recursion}
+use Rattle.std.proofs.lemmas.List.Elements.{filter-append, recursion_from_All}
 use Rattle.std.proofs.lemmas.List.FromFn.{length-range_with_len, get_or-range_with_len, map-range_with_len_more}
-use Rattle.std.proofs.lemmas.List.Kept.{AllPairs-filter}
-use Rattle.std.proofs.lemmas.List.Sorted.{IsPermutation-refl, IsPermutation-trans, IsPermutation-append_right, IsPermutation-filter_both}
 use Rattle.std.proofs.lemmas.Map.Keys.{Less-from_sorted}
 use Rattle.std.proofs.lemmas.Slice.Eq.{bytes_eq-Decides}
 use Rattle.cat_base.specs.Texts.{IsTextSet}
 use Rattle.cat_model.specs.Ordinals.{dictionary_of, texts_of}
 use Rattle.cat_model.specs.Text.{Text, same_text, text_cmp}
-use Rattle.cat_model.proofs.Lists.{All-both, All-each, All-weaken, filter-filter, filter_alike, filter_none, list_any_none}
-use Rattle.cat_model.proofs.Places.{EachPair, each_pair, all_pairs}
+use Rattle.cat_model.proofs.Lists.{filter_alike}
+use Rattle.cat_model.proofs.Places.{EachPair, each_pair}
 use Rattle.cat_columns.proofs.Laid.{rows_there}
-use Rattle.cat_segment.specs.Orders.{IsOrderBy, missing_last, row_before, turned}
+use Rattle.cat_segment.specs.Orders.{IsOrderBy, missing_last, turned}
 use Rattle.cat_segment.specs.Valued.{same_value, rows_with}
-use Rattle.cat_segment.proofs.RowOrders.{missing_total, turned_total}
+use Rattle.cat_segment.proofs.Groups.{groups_are_all, groups_rise}
+use Rattle.cat_segment.proofs.RowOrders.{turned_total}
 
 -- ---- values
 
@@ -40,21 +38,7 @@ same_is (Some a) None e = absurd (true≢false (sym e))
 same_is None (Some b) e = absurd (true≢false (sym e))
 same_is None None e = refl
 
-itself : (a : Option Text) → same_value a a ≡ true
-itself (Some a) = (bytes_eq-Decides a a).1 refl
-itself None = refl
-
 -- ---- tests
-
-absorbed : (a b : Bool) → ((a || b) && a) ≡ a
-absorbed true b = refl
-absorbed false true = refl
-absorbed false false = refl
-
-left : (a b : Bool) → (a ≡ true → b ≡ false) → ((a || b) && not a) ≡ b
-left true b h = sym (h refl)
-left false true h = refl
-left false false h = refl
 
 or_true : (a : Bool) → (a || true) ≡ true
 or_true true = refl
@@ -64,87 +48,18 @@ or_false : (a : Bool) → (a || false) ≡ a
 or_false true = refl
 or_false false = refl
 
-filter_kept : {X : Type 0} (p : X → Bool) (xs : List X) → AllByRecursion (λ x. p x ≡ true) xs → filter p xs ≡ xs
-filter_kept p [] a = refl
-filter_kept p (x ∷ xs) a = let h : filter p xs ≡ xs = filter_kept p xs a.1 in let e : p x ≡ true = a.0 in rw (e, h) refl
-
-pairs_append : {X : Type 0} (R : X → X → Type 0) (xs ys : List X) → EachPair R xs → EachPair R ys → AllByRecursion (λ x. AllByRecursion (R x) ys) xs → EachPair R (xs ++ ys)
-pairs_append R [] ys a b c = b
-pairs_append R (x ∷ xs) ys a b c = (All-both (R x) xs ys a.0 c.0, pairs_append R xs ys a.1 b c.1)
-
-below : (a b : ℕ) → a < b → is_lt (nat_cmp a b) ≡ true
-below a b h = grind (arith, nat_tests)
-
 -- the rows up to one more
 pub rows_more : (p : ℕ → Bool) (n : ℕ) → filter p (range_with_len 0 (n + 1)) ≡ filter p (range_with_len 0 n) ++ cond (p n) (n ∷ []) []
 rows_more p n =
-    let more = sym (map-id (range_with_len 0 (n + 1))) ∙ map-range_with_len_more (λ k. k) 0 n n (omega arith) ∙ ap (λ l. l ++ n ∷ []) (map-id (range_with_len 0 n)) in
+    let more = sym (map-id (range_with_len 0 (n + 1))) ∙ map-range_with_len_more (λ k. k) 0 n n (omega arith)
+    ∙ ap (λ l. l ++ n ∷ []) (map-id (range_with_len 0 n)) in
     ap (filter p) more ∙ filter-append p (range_with_len 0 n) (n ∷ [])
 
 -- ---- rows by values that rise
 
 module _ (cmp : Text → Text → Ordering) (total : IsTotalOrder cmp) (values : List (Option Text)) where
-  abbrev value : ℕ → Option Text
-  value row = get_or values row None
-
   abbrev rows : List ℕ
   rows = range_with_len 0 (length values)
-
-  abbrev Under : Option Text → Option Text → Type 0
-  Under k l = missing_last cmp k l ≡ Less
-
-  abbrev any : List (Option Text) → Option Text → Bool
-  any ks v = list_any (λ k. same_value k v) ks
-
-  other : (k l v : Option Text) → same_value k v ≡ true → Under k l → same_value l v ≡ false
-  other k l v e less = elim (cases_Bool (same_value l v)) [
-    | inl same ↦
-        let alike : k ≡ l = same_is k v e ∙ sym (same_is l v same) in
-        let tie : missing_last cmp k l ≡ Equal = ap (λ x. missing_last cmp k x) (sym alike) ∙ tied_itself (missing_total cmp total) k in
-        let no : Equal ≡ Less = sym tie ∙ less in
-        absurd (cc)
-    | inr differ ↦ differ
-  ]
-
-  none_later : (k v : Option Text) (ks : List (Option Text)) → AllByRecursion (Under k) ks → same_value k v ≡ true → any ks v ≡ false
-  none_later k v ks a e = list_any_none (λ l. same_value l v) ks (All-weaken (Under k) (λ l. same_value l v ≡ false) (λ l less. other k l v e less) ks a)
-
-  -- the rows of these values are those of each of them, one behind another
-  arranged : (ks : List (Option Text)) → EachPair Under ks → (xs : List ℕ) → IsPermutation (filter (λ r. any ks (value r)) xs) (flat_map (λ k. filter (λ r. same_value k (value r)) xs) ks)
-  arranged [] a xs = subst (λ l. IsPermutation l []) (sym (filter_none (λ r. any [] (value r)) xs (All-each (λ r. any [] (value r) ≡ false) (λ r. refl) xs))) (IsPermutation-refl [])
-  arranged (k ∷ ks) a xs =
-      let p : ℕ → Bool = λ r. same_value k (value r) in
-      let q : ℕ → Bool = λ r. any ks (value r) in
-      let either : ℕ → Bool = λ r. p r || q r in
-      let zs : List ℕ = filter either xs in
-      let firsts : filter p zs ≡ filter p xs = filter-filter p either xs ∙ filter_alike (λ r. either r && p r) p xs (All-each (λ r. (either r && p r) ≡ p r) (λ r. absorbed (p r) (q r)) xs) in
-      let others : filter (λ r. not (p r)) zs ≡ filter q xs =
-      filter-filter (λ r. not (p r)) either xs ∙ filter_alike (λ r. either r && not (p r)) q xs (All-each (λ r. (either r && not (p r)) ≡ q r) (λ r. left (p r) (q r) (λ e. none_later k (value r) ks a.0 e)) xs) in
-      let halves : IsPermutation zs (filter p zs ++ filter (λ r. not (p r)) zs) = IsPermutation-filter_both p (λ r. not (p r)) (λ r. refl) zs in
-      let same : IsPermutation zs (filter p xs ++ filter q xs) = subst (λ l. IsPermutation zs l) (λ i. firsts i ++ others i) halves in
-      IsPermutation-trans zs (filter p xs ++ filter q xs) (filter p xs ++ flat_map (λ l. filter (λ r. same_value l (value r)) xs) ks) same
-      (IsPermutation-append_right (filter p xs) (filter q xs) (flat_map (λ l. filter (λ r. same_value l (value r)) xs) ks) (arranged ks a.1 xs))
-
-  abbrev Follows : ℕ → ℕ → Type 0
-  Follows a b = row_before cmp values a b ≡ true
-
-  of_others : (k l : Option Text) (a b : ℕ) → Under k l → k ≡ value a → l ≡ value b → Follows a b
-  of_others k l a b less e f =
-      let is : missing_last cmp (value a) (value b) ≡ Less = ap (λ x. missing_last cmp x (value b)) (sym e) ∙ ap (λ x. missing_last cmp k x) (sym f) ∙ less in
-      ap (λ o. is_lt (ordering_then o (nat_cmp a b))) is
-
-  of_one : (k : Option Text) (a b : ℕ) → a < b → k ≡ value a → k ≡ value b → Follows a b
-  of_one k a b h e f =
-      let is : missing_last cmp (value a) (value b) ≡ Equal = ap (λ x. missing_last cmp x (value b)) (sym e) ∙ ap (λ x. missing_last cmp k x) (sym f) ∙ tied_itself (missing_total cmp total) k in
-      ap (λ o. is_lt (ordering_then o (nat_cmp a b))) is ∙ below a b h
-
-  abbrev group : Option Text → List ℕ
-  group k = rows_with values k
-
-  group_has : (k : Option Text) → AllByRecursion (λ r. k ≡ value r) (group k)
-  group_has k =
-      All-weaken (λ r. same_value k (value r) ≡ true) (λ r. k ≡ value r) (λ r e. same_is k (value r) e) (group k)
-      (recursion_from_All (λ r. same_value k (value r) ≡ true) (group k) (filter_passes (λ r. same_value k (value r)) rows))
 
   rows_rise : AllPairs (λ a b. a < b) rows
   rows_rise i j d p q =
@@ -153,34 +68,18 @@ module _ (cmp : Text → Text → Ordering) (total : IsTotalOrder cmp) (values :
       let at_j = get_or-range_with_len 0 (length values) j d (omega (arith, q, long)) in
       omega (arith, p, at_i, at_j)
 
-  group_rises : (k : Option Text) → EachPair Follows (group k)
-  group_rises k =
-      let has = All-from_recursion (λ r. k ≡ value r) (group k) (group_has k) in
-      let up = AllPairs-filter (λ a b. a < b) (λ r. same_value k (value r)) rows rows_rise in
-      each_pair Follows (group k) (λ i j d p q. of_one k (get_or (group k) i d) (get_or (group k) j d) (up i j d p q) (has i d (omega (arith, p, q))) (has j d q))
-
-  before_all : (k : Option Text) (ks : List (Option Text)) → AllByRecursion (Under k) ks → (a : ℕ) → k ≡ value a → AllByRecursion (Follows a) (flat_map group ks)
-  before_all k [] less a e = tt
-  before_all k (l ∷ ls) less a e =
-      All-both (Follows a) (group l) (flat_map group ls) (All-weaken (λ b. l ≡ value b) (Follows a) (λ b f. of_others k l a b less.0 e f) (group l) (group_has l)) (before_all k ls less.1 a e)
-
-  groups_rise : (ks : List (Option Text)) → EachPair Under ks → EachPair Follows (flat_map group ks)
-  groups_rise [] a = tt
-  groups_rise (k ∷ ks) a =
-      pairs_append Follows (group k) (flat_map group ks) (group_rises k) (groups_rise ks a.1)
-      (All-weaken (λ r. k ≡ value r) (λ r. AllByRecursion (Follows r) (flat_map group ks)) (λ r e. before_all k ks a.0 r e) (group k) (group_has k))
-
-  module _ (ks : List (Option Text)) (rises : EachPair Under ks) (each : (row : ℕ) → row < length values → any ks (value row) ≡ true) where
-    kept : filter (λ r. any ks (value r)) rows ≡ rows
-    kept = filter_kept (λ r. any ks (value r)) rows (recursion_from_All (λ r. any ks (value r) ≡ true) rows (λ i d h.
+  module _ (ks : List (Option Text)) (rises : EachPair (λ k l. missing_last cmp k l ≡ Less) ks)
+      (each : (row : ℕ) → row < length values → list_any (λ k. same_value k (get_or values row None)) ks ≡ true) where
+    met : All (λ row. list_any (λ k. same_value k (get_or values row None)) ks ≡ true) rows
+    met i d h =
         let long = length-range_with_len 0 (length values) in
         let at = get_or-range_with_len 0 (length values) i d (omega (arith, h, long)) in
-        each (get_or rows i d) (omega (arith, h, long, at))))
+        each (get_or rows i d) (omega (arith, h, long, at))
 
-    pub in_groups : IsOrderBy cmp values (flat_map group ks)
+    in_groups : IsOrderBy cmp values (flat_map (rows_with values) ks)
     in_groups = record {
-      rows = subst (λ l. IsPermutation l (flat_map group ks)) kept (arranged ks rises rows);
-      rising = all_pairs Follows (flat_map group ks) (groups_rise ks rises);
+      rows = groups_are_all cmp total same_value same_is values rows ks rises met;
+      rising = groups_rise cmp total same_value same_is values rows (λ i j d p q e. rows_rise i j d p q) ks rises;
     }
 
 -- ---- the values of a column

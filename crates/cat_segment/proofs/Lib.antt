@@ -2,6 +2,7 @@ pub mod Assembled
 pub mod Columned
 pub mod Columns
 pub mod Ends
+pub mod Falling
 pub mod Few
 pub mod Filled
 pub mod Formed
@@ -18,9 +19,11 @@ pub mod Spelled
 pub mod Steps
 pub mod Taken
 pub mod Through
-pub mod Turned
 pub mod Worded
 pub mod RowOrders
+pub mod RunEnds
+pub mod Runs
+pub mod Groups
 pub mod Grouped
 pub use Rattle.cat_columns.proofs as columns_laws
 pub use Rattle.cat_items.proofs as items_laws

@@ -23,11 +23,11 @@ use Rattle.cat_segment.specs.Ranges.{IsOrderWhere, lies_between}
 -- ---- a list that is parted by a test
 
 module _ {X : Type 0} (q : X → Bool) where
-  all_kept : (xs : List X) → AllByRecursion (λ y. q y ≡ true) xs → filter q xs ≡ xs
+  pub all_kept : (xs : List X) → AllByRecursion (λ y. q y ≡ true) xs → filter q xs ≡ xs
   all_kept [] a = refl
   all_kept (x ∷ xs) a = ap (λ b. cond b (x ∷ filter q xs) (filter q xs)) a.0 ∙ ap (λ l. x ∷ l) (all_kept xs a.1)
 
-  none_kept : (xs : List X) → AllByRecursion (λ y. q y ≡ false) xs → filter q xs ≡ []
+  pub none_kept : (xs : List X) → AllByRecursion (λ y. q y ≡ false) xs → filter q xs ≡ []
   none_kept [] a = refl
   none_kept (x ∷ xs) a = ap (λ b. cond b (x ∷ filter q xs) (filter q xs)) a.0 ∙ none_kept xs a.1
 
@@ -128,9 +128,6 @@ not_back false c h e = refl
 pub below-stays : (low : Option ℤ) (x y : ℤ) → (int_cmp x y ≡ Greater → ⊥) → not (at_least low y) ≡ true → not (at_least low x) ≡ true
 below-stays low x y h e = not_back (at_least low x) (at_least low y) (at_least-stays low y x h) e
 
-pub above-stays : (high : Option ℤ) (x y : ℤ) → (int_cmp y x ≡ Greater → ⊥) → not (at_most high y) ≡ true → not (at_most high x) ≡ true
-above-stays high x y h e = not_back (at_most high x) (at_most high y) (at_most-stays high y x h) e
-
 -- ---- a range
 
 filter-both : {X : Type 0} (p q r : X → Bool) → ((x : X) → r x ≡ (p x && q x)) → (xs : List X) → filter q (filter p xs) ≡ filter r xs
@@ -154,18 +151,9 @@ both_rising true false = refl
 both_rising false true = refl
 both_rising false false = refl
 
-both_falling : (a b : Bool) → (a && b) ≡ (a && not (not b))
-both_falling true true = refl
-both_falling true false = refl
-both_falling false b = refl
-
 pub between_rising : (low high v : Option ℤ) → lies_between low high v ≡ (has_some (at_most high) v && not (has_some (λ n. not (at_least low n)) v))
 between_rising low high None = refl
 between_rising low high (Some n) = both_rising (at_least low n) (at_most high n)
-
-pub between_falling : (low high v : Option ℤ) → lies_between low high v ≡ (has_some (at_least low) v && not (has_some (λ n. not (at_most high n)) v))
-between_falling low high None = refl
-between_falling low high (Some n) = both_falling (at_least low n) (at_most high n)
 
 -- what the first test leaves at the head, without what the second takes from there
 module _ (cmp : ℤ → ℤ → Ordering) (p q r : Option ℤ → Bool) (is : (v : Option ℤ) → r v ≡ (p v && not (q v))) (values : List (Option ℤ)) where
@@ -191,7 +179,7 @@ module _ (cmp : ℤ → ℤ → Ordering) (p q r : Option ℤ → Bool) (is : (v
 
 -- ---- the set of a range
 
-among_filter : (f : ℕ → Bool) (xs : List ℕ) (k : ℕ) → is_among (filter f xs) k ≡ (f k && is_among xs k)
+pub among_filter : (f : ℕ → Bool) (xs : List ℕ) (k : ℕ) → is_among (filter f xs) k ≡ (f k && is_among xs k)
 among_filter f [] k = by (f k)
   where
     by : (b : Bool) → false ≡ (b && false)

@@ -8,6 +8,7 @@ pub mod LiveStart
 pub mod Parts
 pub mod Sources
 pub mod NumberKeys
+pub mod NumberRuns
 pub mod Orders
 pub mod Ranges
 pub mod RowParts

@@ -13,7 +13,7 @@ use crate::verdict::expect_yes;
 use cat_base::Refusal;
 use cat_items::file_parts::{SegmentParts, read_segment};
 use cat_items::{Item, Schema};
-use cat_segment::{Column, Numbers, Segment, assemble, assemble_runs, encode_seg};
+use cat_segment::{Column, Numbers, RowParts, Segment, assemble, assemble_runs, encode_seg};
 use std::alloc::{AllocError, Global};
 use std::test::Fail;
 
@@ -91,19 +91,46 @@ fn has_bytes(alloc: Global, segment: &Segment, bytes: &[u8]) -> Result<bool, All
     Ok(encode_seg(alloc, segment)?.as_slice() == bytes)
 }
 
-/// Whether both have the same rows in the orders of their ids and of their prices.
-fn has_orders(merged: &Segment, segment: &Segment) -> bool {
-    merged.rows_by_id() == segment.rows_by_id() && has_prices(prices(merged), prices(segment))
+/// The rows of all parts, one after another.
+fn rows_in(alloc: Global, parts: RowParts<'_>) -> Result<Vec<u32>, AllocError> {
+    let mut rows = Vec::new(alloc);
+    for index in 0..parts.len() {
+        rows.extend_from_slice(parts.part(index))?;
+    }
+    Ok(rows)
+}
+
+/// Whether both have the same rows, one after another.
+fn have_same_rows(
+    alloc: Global,
+    merged: RowParts<'_>,
+    sorted: RowParts<'_>,
+) -> Result<bool, AllocError> {
+    let sorted = rows_in(alloc, sorted)?;
+    Ok(rows_in(alloc, merged)?.as_slice() == sorted.as_slice())
 }
 
 /// Whether there are numbers on both sides, and the same rows in their orders.
-fn has_prices(merged: Option<&Numbers>, sorted: Option<&Numbers>) -> bool {
+fn has_prices(
+    alloc: Global,
+    merged: Option<&Numbers>,
+    sorted: Option<&Numbers>,
+) -> Result<bool, AllocError> {
     match (merged, sorted) {
-        (Some(merged), Some(sorted)) => {
-            merged.rising() == sorted.rising() && merged.falling() == sorted.falling()
-        }
-        _ => false,
+        (Some(merged), Some(sorted)) => Ok(
+            merged.rising() == sorted.rising()
+                && have_same_rows(alloc, merged.falling(), sorted.falling())?,
+        ),
+        _ => Ok(false),
     }
+}
+
+/// Whether both have the same rows in the orders of their ids and of their prices.
+fn has_orders(alloc: Global, merged: &Segment, segment: &Segment) -> Result<bool, AllocError> {
+    Ok(
+        merged.rows_by_id() == segment.rows_by_id()
+            && has_prices(alloc, prices(merged), prices(segment))?,
+    )
 }
 
 /// Whether the segment is assembled again of its parts, where the rows in the orders of the other's ids and prices are the runs.
@@ -112,7 +139,7 @@ fn is_merged(alloc: Global, segment: &Segment, order: &Segment) -> Result<bool, 
 {
     let bytes = encode_seg(alloc, segment)?;
     let merged = merged(alloc, parts_of(alloc, segment)?, order)?;
-    Ok(has_bytes(alloc, &merged, &bytes)? && has_orders(&merged, segment))
+    Ok(has_bytes(alloc, &merged, &bytes)? && has_orders(alloc, &merged, segment)?)
 }
 
 fn even_and_odd(alloc: Global) -> Result<Segment, Refusal>

@@ -1,8 +1,7 @@
 use Rattle.std.proofs.Common.{◌≤◌, ◌-◌, length}
 use Rattle.std.specs.List.{All}
-use Rattle.cat_views.specs.cat_segment.RowParts.{parts_of}
+use Rattle.cat_views.specs.cat_segment.RowParts.{parts_of, rows_of_parts_before}
 use Rattle.cat_search.specs.Candidates.{mark_standing}
-use Rattle.cat_search.specs.Steps.{rows_of_parts_before}
 use Rattle.cat_search.proofs.Walked.{Passed}
 use Rattle.cat_search.proofs.walk.parts_passed.Given as goal
 
