@@ -1,14 +1,16 @@
 #!/usr/bin/env python3
 """Measures what threads bring: the pace of `run` and of `run --threads`, by turns, and how long a FIND waits beside a merge.
 
-threads.py PROGRAM [--threads 4] [--items 100000] [--lines 200000] [--rounds 5] [--seconds 6] [--folder DIR] [--part PART ..]
+threads.py PROGRAM [--threads 4] [--items 100000] [--lines 200000] [--rounds 5] [--seconds 6] [--folder DIR] [--quiet] [--part PART ..]
 
 Times are the wall's, since it is more than one processor that is asked for: the machine has to be quiet. In the parts `paces` and
 `writer` the program reads a file and writes to nowhere, so that nobody else takes a processor; what it takes for the same file
-without the lines is taken off.
+without the lines is taken off. Where other machines have the same processors, `--quiet` lets the part `writer` count what was measured
+between two quiet moments alone.
 """
 
 import argparse
+import hashlib
 import json
 import os
 import random
@@ -68,6 +70,62 @@ def cycle_lines(shop, rng, items, token, count, upkeep):
         lines += ["1 REFRESH", f"1 OPEN {token}", f"1 FIND {token} {PAGE} +price . *:*", f"1 FACETS {token} color 10 *:*", f"1 CLOSE {token}"]
         lines += ["0 MERGE"] * 3 * upkeep + ["1 PRUNE 1"] + ["0 SWEEP"] * upkeep
     return lines
+
+
+class Moments:
+    """Tells quiet moments: those in which no other machine takes anything of this one's processors.
+
+    Where two machines have a thread each of one core, either is slowed to two thirds of its pace while the other works, and no figure of
+    the system shows that. What is asked here is a small loop on each processor by itself, and no program that is measured.
+    """
+
+    LEAST = 0.93  # the pace of the slowest processor, in times the best that was seen of any
+    LONGEST = 1_800  # how many seconds one is waited for
+
+    def __init__(self, has_to_be_quiet):
+        self.has_to_be_quiet = has_to_be_quiet
+        self.processors, self.data, self.best = sorted(os.sched_getaffinity(0)), bytes(1 << 16), 0
+        for _ in range(40 if has_to_be_quiet else 0):
+            self.share()
+
+    def share(self, seconds=0.2):
+        """The pace of the slowest processor, in times the best that was seen of any."""
+        paces = []
+
+        def work(processor):
+            os.sched_setaffinity(0, {processor})
+            begin, count, took = time.perf_counter(), 0, 0
+            while took < seconds:
+                hashlib.blake2b(self.data).digest()
+                count, took = count + 1, time.perf_counter() - begin
+            paces.append(count / took)
+
+        workers = [threading.Thread(target=work, args=(each,)) for each in self.processors]
+        for worker in workers:
+            worker.start()
+        for worker in workers:
+            worker.join()
+        self.best = max(self.best, *paces)
+        return min(paces) / self.best
+
+    def await_one(self):
+        """Comes back in a quiet moment."""
+        end = time.monotonic() + self.LONGEST
+        while self.share(0.1) < self.LEAST:
+            if time.monotonic() > end:
+                raise SystemExit(f"threads: there was no quiet moment in {self.LONGEST} seconds")
+            time.sleep(0.1)
+
+    def between(self, work):
+        """What the work answers that stood between two quiet moments, and the list of what it answered before and doesn't count."""
+        others = []
+        while self.has_to_be_quiet:
+            self.await_one()
+            found = work()
+            if self.share() >= self.LEAST:
+                return found, others
+            others.append(found)
+        return work(), others
 
 
 class Room:
@@ -214,11 +272,12 @@ def beside_writer_by(asked, room, kind, most, query):
     opens = [f"{session} OPEN {room.token}" for session in SESSIONS]
     finds = find_lines(SESSIONS, room.token, most * asked.seconds, lambda: query(rng, shop))
     writes = writer_lines(shop, rng, room.items, 40_000 * asked.seconds)
-    found = {}
+    found, others = {}, {}
+    moments = Moments(asked.quiet)
     for _ in range(asked.rounds):
-        one, _ = pace_of(room, [], opens, finds, asked.seconds)
-        four, _ = pace_of(room, words, opens, finds, asked.seconds)
-        pen, none = pace_of(room, words, opens, writes, asked.seconds)
+        one = moments.between(lambda: pace_of(room, [], opens, finds, asked.seconds))[0][0]
+        four = moments.between(lambda: pace_of(room, words, opens, finds, asked.seconds))[0][0]
+        pen, none = moments.between(lambda: pace_of(room, words, opens, writes, asked.seconds))[0]
         found.setdefault("alone", []).append((one, four, pen))
         for readers, writer in MIXES:
             if len(finds) < readers * one * asked.seconds or len(writes) < writer * pen * asked.seconds:
@@ -226,15 +285,24 @@ def beside_writer_by(asked, room, kind, most, query):
             said = mixed(finds[: int(readers * one * asked.seconds)], writes[: int(writer * pen * asked.seconds)])
             if not found.get((readers, writer)) and (readers, writer) == MIXES[0]:
                 look(room.replies(words, opens + said[:LOOKED]))
-            found.setdefault((readers, writer), []).append(asked.seconds / (room.seconds(words, opens + said) - none))
+            pace, more = moments.between(lambda: asked.seconds / (room.seconds(words, opens + said) - none))
+            found.setdefault((readers, writer), []).append(pace)
+            others.setdefault((readers, writer), []).extend(more)
     one, four, pen = (statistics.median(each) for each in zip(*found["alone"]))
     print(f"FIND {kind} from {len(SESSIONS)} sessions, a second: run {one:,.0f}; {' '.join(words)} {four:,.0f} ({four / one:.2f})")
     print(f"the writer's lines by {' '.join(words)}, a second: {pen:,.0f}")
     for readers, writer in MIXES:
-        times = found[readers, writer]
+        times, more = found[readers, writer], others[readers, writer]
         middle = statistics.median(times)
         print(f"both, mixed as {readers} and {writer}: {readers * middle:.2f} times FIND {kind} by run, and {writer * middle:.2f} times the writer alone")
-        print(f"  in the rounds {', '.join(f'{readers * each:.2f} and {writer * each:.2f}' for each in times)}")
+        print(f"  in the rounds {pairs(times, readers, writer)}")
+        if more:
+            print(f"  not counted, since the machine wasn't quiet: {pairs(more, readers, writer)}")
+
+
+def pairs(times, readers, writer):
+    """The paces of both kinds of lines, in times each alone."""
+    return ", ".join(f"{readers * each:.2f} and {writer * each:.2f}" for each in times)
 
 
 def longest_wait(asked, room):
@@ -322,6 +390,7 @@ def main():
     parser.add_argument("--rounds", type=int, default=5)
     parser.add_argument("--seconds", type=int, default=6)
     parser.add_argument("--folder")
+    parser.add_argument("--quiet", action="store_true", help="count only what was measured between two quiet moments")
     parts = {"paces": paces, "writer": beside_writer, "wait": longest_wait, "client": clients}
     parser.add_argument("--part", choices=parts, action="append")
     asked = parser.parse_args()
