@@ -1,6 +1,6 @@
 -- A line says at most one thing, under one session, and is heard in one way.
 use Rattle.std.proofs.Common.{inl, inr, suc, ◌≡◌, ◌⊎◌, ◌≢◌, ℕ, ◌<◌, true≢false, List, [], ◌∷◌, ◌++◌, sym, ◌∙◌, refl, ap, subst, length, get_or, arith, codes}
-use Rattle.std.specs.Prelude.{zero, true, cond, ◌==◌, ◌&&◌, leb, slice_index, map, Option, None, Some, Result, Ok, Err, IsTrue}
+use Rattle.std.specs.Prelude.{zero, true, cond, ◌==◌, ◌&&◌, leb, slice_index, map, Option, None, Some, IfSome, Result, Ok, Err, IsTrue}
 use Rattle.std.specs.List.{list_all}
 use Rattle.std.specs.Char.{is_ascii_lowercase}
 use Rattle.std.specs.Fmt.{decimal}
@@ -15,7 +15,7 @@ use Rattle.cat_model.specs.Query.{Query}
 use Rattle.cat_model.specs.Page.{Sort}
 use Rattle.cat_model.specs.Answer.{Read}
 use Rattle.cat_model.specs.Table.{Opened}
-use Rattle.cat_model.specs.Lines.{Said, spaced, spelling, sort_text, mark_text, chore_name, HasForm, IsNumber, IsSort, IsMark, SpellsLine, ShowsSession}
+use Rattle.cat_model.specs.Lines.{Said, spaced, spelling, sort_text, mark_text, chore_name, HasForm, IsNumber, IsSort, SpellsLine, ShowsSession}
 use Rattle.cat_model.specs.Run.{Chore, Command}
 use Rattle.cat_model.specs.Heard.{Json, Heard, Hears, IsCommand, IsQueryOf}
 use Rattle.cat_model.specs.Served.{Begins, OpensEmpty, Outcome, heard, HeardAll}
@@ -91,7 +91,7 @@ sort_spelled_alike (Sort.rising name) (Sort.rising other) e = ap Sort.rising (cc
 sort_spelled_alike (Sort.falling name) (Sort.falling other) e = ap Sort.falling (cc e)
 sort_spelled_alike one two e = absurd (omega (arith, ap (λ t. get_or t 0 0) e))
 
-mark_no_space : (mark : Option ℕ) → IsMark mark → NoSpace (mark_text mark)
+mark_no_space : (mark : Option ℕ) → IfSome mark IsNumber → NoSpace (mark_text mark)
 mark_no_space None h = dot_no_space
 mark_no_space (Some n) h = decimal_no_space n h
 
@@ -102,7 +102,7 @@ no_dot n h e =
     let range = digit_at (decimal n) 0 (decimal_is_IsNumeral n (omega (arith, h))).0.1 (omega (arith, size)) in
     omega (arith, range.0, ap (λ t. get_or t 0 0) e)
 
-mark_spelled_alike : (one two : Option ℕ) → IsMark one → IsMark two → mark_text one ≡ mark_text two → one ≡ two
+mark_spelled_alike : (one two : Option ℕ) → IfSome one IsNumber → IfSome two IsNumber → mark_text one ≡ mark_text two → one ≡ two
 mark_spelled_alike None None h k e = refl
 mark_spelled_alike None (Some m) h k e = absurd (no_dot m k (sym e))
 mark_spelled_alike (Some n) None h k e = absurd (no_dot n h e)
@@ -115,7 +115,7 @@ same_sort one two r q h k e =
     in (sort_spelled_alike one two words.0, words.1)
 
 -- two marks that stand before a space
-same_mark : (one two : Option ℕ) (r q : Text) → IsMark one → IsMark two → mark_text one ++ 32 ∷ r ≡ mark_text two ++ 32 ∷ q → (one ≡ two) × (r ≡ q)
+same_mark : (one two : Option ℕ) (r q : Text) → IfSome one IsNumber → IfSome two IsNumber → mark_text one ++ 32 ∷ r ≡ mark_text two ++ 32 ∷ q → (one ≡ two) × (r ≡ q)
 same_mark one two r q h k e =
     let words = same_word (mark_text one) (mark_text two) r q (mark_no_space one h) (mark_no_space two k) e
     in (mark_spelled_alike one two h k words.0, words.1)

@@ -49,9 +49,11 @@ token_small t _ text h a = absurd h
 -- a read is stopped by three refusals alone
 stopped : (s t : ℕ) (asked : Read) (e : Refusal) → IsTrue (may_refuse (Command.read t asked) e) → AllByRecursion (λ stop. reply_text s (Err e) ≢ stop) (excepted_replies s) → ⊥
 stopped s t asked Memory h a = a.1.1.1.0 refl
-stopped s t asked Device h a = a.1.0 refl
-stopped s t asked Damaged h a = a.1.1.0 refl
-stopped s t asked e h a = absurd (cc h)
+stopped s t (Read.get id) Device h a = a.1.0 refl
+stopped s t (Read.get id) Damaged h a = a.1.1.0 refl
+stopped s t (Read.get id) e h a = absurd (cc h)
+stopped s t (Read.find n sort mark query) e h a = absurd (cc h)
+stopped s t (Read.facets dim n query) e h a = absurd (cc h)
 
 -- ---- the read of a talk, in its run
 

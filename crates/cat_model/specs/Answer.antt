@@ -1,6 +1,6 @@
 -- What a read answers over a table: a page (IndexSearcher.searchAfter), counts (SortedSetDocValuesFacetCounts) or a stored
 -- item (StoredFields.document). The bounds and the order of the refusals are our own.
-use Rattle.std.specs.Prelude.{ℕ, Bool, true, false, ltb, List, find as first_where, Option, Some, None, option_map, Result, Ok, Err, cond, ◌==◌}
+use Rattle.std.specs.Prelude.{ℕ, Bool, true, false, ltb, List, find as first_where, Option, Some, None, IfSome, option_map, Result, Ok, Err, cond, ◌==◌}
 use Rattle.std.specs.List.{list_any}
 use Rattle.cat_base.specs.declared.refusal.Refusal.{Refusal}
 use Rattle.cat_base.specs.declared.refusal.Refusal.TheVariants.{Count, SortField, NotFacet, Mark}
@@ -29,24 +29,18 @@ stored rs id = option_map (λ r. r.item.source) (first_where (λ r. same_text r.
 
 -- the source, if there is one, has no line feed
 abbrev pub HasNoLineFeed : Option Text → Type 0
-HasNoLineFeed None = Unit {0}
-HasNoLineFeed (Some text) = IsOneLine text
+HasNoLineFeed stored = IfSome stored IsOneLine
 
 -- one sorts by keywords and numbers
 abbrev pub is_sort_kind : Option Kind → Bool
-is_sort_kind None = false
-is_sort_kind (Some Kind.text) = false
 is_sort_kind (Some Kind.keyword) = true
 is_sort_kind (Some Kind.number) = true
-is_sort_kind (Some Kind.facet) = false
+is_sort_kind _ = false
 
 -- one counts over facets
 abbrev pub is_facet_kind : Option Kind → Bool
-is_facet_kind None = false
-is_facet_kind (Some Kind.text) = false
-is_facet_kind (Some Kind.keyword) = false
-is_facet_kind (Some Kind.number) = false
 is_facet_kind (Some Kind.facet) = true
+is_facet_kind _ = false
 
 -- the sort is by order of addition, or by a field that can be sorted by
 abbrev pub can_sort : Schema → Sort → Bool
@@ -61,12 +55,10 @@ has_mark rs (Some mark) = list_any (λ r. r.number == mark) rs
 
 -- the refusal that the read's own text deserves, its query or its id, which is told before a token is looked at
 abbrev pub query_refusal : Read → Option Refusal
-query_refusal (Read.find n sort mark (Ok q)) = None
 query_refusal (Read.find n sort mark (Err e)) = Some e
-query_refusal (Read.facets dim n (Ok q)) = None
 query_refusal (Read.facets dim n (Err e)) = Some e
-query_refusal (Read.get (Ok id)) = None
 query_refusal (Read.get (Err e)) = Some e
+query_refusal _ = None
 
 -- the answer to a read: the refusal of its text comes first, then of a page the count, the sort field and the mark are looked at, in this
 -- order, and of counts the dimension and the count

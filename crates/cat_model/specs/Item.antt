@@ -78,9 +78,8 @@ pub data IsContent : Kind → Content → Type 0 where
 -- one for each field of the schema, in its order, under its name and of its kind
 abbrev pub AreFields : Schema → List FieldContent → Type 0
 AreFields [] [] = Unit {0}
-AreFields [] (p ∷ ps) = ⊥
-AreFields (f ∷ fs) [] = ⊥
 AreFields (f ∷ fs) (p ∷ ps) = ((p.name ≡ f.name) × IsContent f.kind p.content) × AreFields fs ps
+AreFields _ _ = ⊥
 
 -- the item has the fields of the schema
 abbrev pub IsItem : Schema → Item → Type 0
@@ -92,35 +91,23 @@ content_of name i = option_map (λ p. p.content) (find (λ p. same_text p.name n
 
 -- the words of a text field, and none of another
 abbrev pub words_in : Option Content → List Text
-words_in None = []
 words_in (Some (Content.words ws)) = ws
-words_in (Some (Content.keyword k)) = []
-words_in (Some (Content.number z)) = []
-words_in (Some (Content.labels ls)) = []
+words_in _ = []
 
 -- the labels of a facet field, and none of another
 abbrev pub labels_in : Option Content → List Text
-labels_in None = []
-labels_in (Some (Content.words ws)) = []
-labels_in (Some (Content.keyword k)) = []
-labels_in (Some (Content.number z)) = []
 labels_in (Some (Content.labels ls)) = ls
+labels_in _ = []
 
 -- the value of a keyword field, if there is one
 abbrev pub keyword_in : Option Content → Option Text
-keyword_in None = None
-keyword_in (Some (Content.words ws)) = None
 keyword_in (Some (Content.keyword k)) = k
-keyword_in (Some (Content.number z)) = None
-keyword_in (Some (Content.labels ls)) = None
+keyword_in _ = None
 
 -- the value of a number field, if there is one
 abbrev pub number_in : Option Content → Option ℤ
-number_in None = None
-number_in (Some (Content.words ws)) = None
-number_in (Some (Content.keyword k)) = None
 number_in (Some (Content.number z)) = z
-number_in (Some (Content.labels ls)) = None
+number_in _ = None
 
 -- an item under the number of the write that put it
 pub record Record : Type 0 where

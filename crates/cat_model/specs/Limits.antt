@@ -1,103 +1,78 @@
--- The limits of the product by name. They are our own, and each is the number that code has for it: the constants of cat_base.
-use Rattle.std.specs.Prelude.{ℕ}
-use Rattle.cat_base.specs.declared.numbers.TheConstants as code
+-- The limits of the product by name. They are our own, and each is a constant of the code, which has its value: numbers.rt of cat_base.
 
 -- ---- numbers
 
 -- the last number of a write, a segment and a commit, and the last that a line may say: 2^63 - 1
-abbrev pub last_number : ℕ
-last_number = code.LAST_NUMBER
+pub use Rattle.cat_base.specs.declared.numbers.TheConstants.{LAST_NUMBER as last_number}
 
 -- the last number of a session
-abbrev pub session_limit : ℕ
-session_limit = code.LAST_SESSION
+pub use Rattle.cat_base.specs.declared.numbers.TheConstants.{LAST_SESSION as session_limit}
 
 -- ---- lines, items and fields
 
 -- the bytes of a line, without its end
-abbrev pub line_limit : ℕ
-line_limit = code.MAX_LINE_BYTES
+pub use Rattle.cat_base.specs.declared.numbers.TheConstants.{MAX_LINE_BYTES as line_limit}
 
 -- the bytes of an item's source
-abbrev pub source_limit : ℕ
-source_limit = code.MAX_ITEM_BYTES
+pub use Rattle.cat_base.specs.declared.numbers.TheConstants.{MAX_ITEM_BYTES as source_limit}
 
 -- the bytes of an id
-abbrev pub id_limit : ℕ
-id_limit = code.MAX_ID_BYTES
+pub use Rattle.cat_base.specs.declared.numbers.TheConstants.{MAX_ID_BYTES as id_limit}
 
 -- the bytes of a field's name
-abbrev pub name_limit : ℕ
-name_limit = code.MAX_FIELD_NAME_BYTES
+pub use Rattle.cat_base.specs.declared.numbers.TheConstants.{MAX_FIELD_NAME_BYTES as name_limit}
 
 -- the fields of a schema
-abbrev pub field_limit : ℕ
-field_limit = code.MAX_FIELDS
+pub use Rattle.cat_base.specs.declared.numbers.TheConstants.{MAX_FIELDS as field_limit}
 
 -- the bytes of a keyword or a label
-abbrev pub keyword_limit : ℕ
-keyword_limit = code.MAX_KEYWORD_BYTES
+pub use Rattle.cat_base.specs.declared.numbers.TheConstants.{MAX_KEYWORD_BYTES as keyword_limit}
 
 -- the labels of an item in one field
-abbrev pub label_limit : ℕ
-label_limit = code.MAX_LABELS
+pub use Rattle.cat_base.specs.declared.numbers.TheConstants.{MAX_LABELS as label_limit}
 
 -- ---- reads
 
 -- the clauses of a query
-abbrev pub clause_limit : ℕ
-clause_limit = code.MAX_CLAUSES
+pub use Rattle.cat_base.specs.declared.numbers.TheConstants.{MAX_CLAUSES as clause_limit}
 
 -- how deep groups nest
-abbrev pub depth_limit : ℕ
-depth_limit = code.MAX_DEPTH
+pub use Rattle.cat_base.specs.declared.numbers.TheConstants.{MAX_DEPTH as depth_limit}
 
 -- the entries of a page, and the counts of a facet
-abbrev pub page_limit : ℕ
-page_limit = code.MAX_PAGE
+pub use Rattle.cat_base.specs.declared.numbers.TheConstants.{MAX_PAGE as page_limit}
 
 -- the recorded views
-abbrev pub view_limit : ℕ
-view_limit = code.MAX_RECORDS
+pub use Rattle.cat_base.specs.declared.numbers.TheConstants.{MAX_RECORDS as view_limit}
 
 -- ---- segments and commits
 
 -- the records in the write buffer
-abbrev pub buffer_limit : ℕ
-buffer_limit = code.MAX_BUFFERED_ITEMS
+pub use Rattle.cat_base.specs.declared.numbers.TheConstants.{MAX_BUFFERED_ITEMS as buffer_limit}
 
 -- the rows of a segment, and of all that one merge takes
-abbrev pub row_limit : ℕ
-row_limit = code.MAX_ROWS
+pub use Rattle.cat_base.specs.declared.numbers.TheConstants.{MAX_ROWS as row_limit}
 
 -- the rows that one step of a merge passes
-abbrev pub step_limit : ℕ
-step_limit = code.MAX_STEP_ROWS
+pub use Rattle.cat_base.specs.declared.numbers.TheConstants.{MAX_STEP_ROWS as step_limit}
 
 -- the segments that stand at once, and those of one commit
-abbrev pub segment_limit : ℕ
-segment_limit = code.MAX_SEGMENTS
+pub use Rattle.cat_base.specs.declared.numbers.TheConstants.{MAX_SEGMENTS as segment_limit}
 
 -- the snapshots of one commit
-abbrev pub snapshot_limit : ℕ
-snapshot_limit = code.MAX_SNAPSHOTS
+pub use Rattle.cat_base.specs.declared.numbers.TheConstants.{MAX_SNAPSHOTS as snapshot_limit}
 
 -- the bytes of a commit's text
-abbrev pub commit_text_limit : ℕ
-commit_text_limit = code.MAX_COMMIT_TEXT_BYTES
+pub use Rattle.cat_base.specs.declared.numbers.TheConstants.{MAX_COMMIT_TEXT_BYTES as commit_text_limit}
 
 -- a merge joins at least so many segments
-abbrev pub least_factor : ℕ
-least_factor = code.LEAST_MERGE_FACTOR
+pub use Rattle.cat_base.specs.declared.numbers.TheConstants.{LEAST_MERGE_FACTOR as least_factor}
 
 -- at most so many
-abbrev pub greatest_factor : ℕ
-greatest_factor = code.GREATEST_MERGE_FACTOR
+pub use Rattle.cat_base.specs.declared.numbers.TheConstants.{GREATEST_MERGE_FACTOR as greatest_factor}
 
 -- the rows of a segment of the lowest level are bounded by at least so many
-abbrev pub least_minimum : ℕ
-least_minimum = code.LEAST_MERGE_MINIMUM
+pub use Rattle.cat_base.specs.declared.numbers.TheConstants.{LEAST_MERGE_MINIMUM as least_minimum}
 
 -- at most so many
-abbrev pub greatest_minimum : ℕ
-greatest_minimum = code.GREATEST_MERGE_MINIMUM
+pub use Rattle.cat_base.specs.declared.numbers.TheConstants.{GREATEST_MERGE_MINIMUM as greatest_minimum}

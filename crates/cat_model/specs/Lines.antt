@@ -1,5 +1,5 @@
 -- What a line says and the one way to spell it, and the text of a reply. The protocol is our own.
-use Rattle.std.specs.Prelude.{◌≡◌, ℕ, ◌<◌, ◌≤◌, ◌^◌, ◌⊎◌, List, [], ◌∷◌, ◌++◌, codes, map, length, IsUtf8, IsTrue, Option, None, Some, Ok, Err}
+use Rattle.std.specs.Prelude.{◌≡◌, ℕ, ◌<◌, ◌≤◌, ◌^◌, ◌⊎◌, List, [], ◌∷◌, ◌++◌, codes, map, length, IsUtf8, IsTrue, Option, None, Some, IfSome, Ok, Err}
 use Rattle.std.specs.List.{flat_map}
 use Rattle.std.specs.Fmt.{decimal, signed_decimal}
 use Rattle.cat_base.specs.declared.refusal.Refusal.{Refusal}
@@ -99,16 +99,11 @@ IsSort Sort.added = Unit {0}
 IsSort (Sort.rising name) = IsTrue (has_name_form name)
 IsSort (Sort.falling name) = IsTrue (has_name_form name)
 
--- a mark that may be said
-abbrev pub IsMark : Option ℕ → Type 0
-IsMark None = Unit {0}
-IsMark (Some n) = IsNumber n
-
 -- the numbers that are said are below 2^63, and the names have the form of a field's
 abbrev pub HasForm : Said → Type 0
 HasForm (Said.open_at t) = IsNumber t
 HasForm (Said.close t) = IsNumber t
-HasForm (Said.find t n sort mark query) = IsNumber t × IsNumber n × IsSort sort × IsMark mark
+HasForm (Said.find t n sort mark query) = IsNumber t × IsNumber n × IsSort sort × IfSome mark IsNumber
 HasForm (Said.facets t dim n query) = IsNumber t × IsTrue (has_name_form dim) × IsNumber n
 HasForm (Said.get t id) = IsNumber t
 HasForm (Said.files_of_token t) = IsNumber t

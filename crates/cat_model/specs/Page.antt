@@ -26,11 +26,9 @@ hits rs q = filter (λ r. matches q r.item) rs
 
 -- the sort key of what an item has in a field: a keyword or a number
 abbrev pub key_in : Option Content → Option Key
-key_in None = None
-key_in (Some (Content.words ws)) = None
 key_in (Some (Content.keyword k)) = option_map Key.keyword k
 key_in (Some (Content.number z)) = option_map Key.number z
-key_in (Some (Content.labels ls)) = None
+key_in _ = None
 
 -- the sort key of a record, if it has one under this sort
 abbrev pub key : Sort → Record → Option Key

@@ -62,9 +62,8 @@ pub record IsLeafOf (holds : Name → Text → Type 0) (schema : Schema) (x : Li
 -- so each leaf is of the listed segment in its place
 abbrev pub AreLeavesOf : (Name → Text → Type 0) → Schema → List ListedSegment → List Leaf → Type 0
 AreLeavesOf holds schema [] [] = Unit {0}
-AreLeavesOf holds schema [] (leaf ∷ leaves) = ⊥
-AreLeavesOf holds schema (x ∷ xs) [] = ⊥
 AreLeavesOf holds schema (x ∷ xs) (leaf ∷ leaves) = IsLeafOf holds schema x leaf × AreLeavesOf holds schema xs leaves
+AreLeavesOf holds schema xs leaves = ⊥
 
 -- ---- all of them
 

@@ -13,6 +13,7 @@
 use Rattle.std.specs.Prelude.{◌≡◌, ◌⊎◌, ℕ, ◌+◌, ◌-◌, ◌<◌, ◌≤◌, Bool, true, false, not, ◌&&◌, ◌||◌, ltb, max, List, [], ◌∷◌, ◌++◌, length, filter, filter_map, map, count_by, Option, Some, None, option_map, option_to_list, find, Result, Ok, Err, cond, IsTrue, ◌==◌}
 use Rattle.std.specs.List.{cons_option, list_any, list_all, last_or}
 use Rattle.cat_base.specs.declared.refusal.Refusal.{Refusal}
+use Rattle.cat_base.specs.Refusals.{number_of}
 use Rattle.cat_base.specs.declared.refusal.Refusal.TheVariants.{Line as NoForm, Spent, NotHeld, Gone, Full, NoCommit, NoSnapshot, Device, Damaged, Memory}
 use Rattle.cat_model.specs.Text.{Text}
 use Rattle.cat_model.specs.Item.{Item, Record, Schema}
@@ -287,24 +288,20 @@ is_looked_at s Command.formless = false
 is_looked_at s (Command.chore c) = s == 0
 is_looked_at s _ = true
 
--- want of memory, a failing device and a limit that is used up may refuse in place of the answer
+-- a limit that is used up, a failing device and a damaged file, each where it may refuse in place of the command's answer
+abbrev pub refusals_of : Command → List Refusal
+refusals_of (Command.put i) = Spent ∷ Device ∷ []
+refusals_of Command.refresh = Spent ∷ Device ∷ []
+refusals_of (Command.read t (Read.get id)) = Device ∷ Damaged ∷ []
+refusals_of (Command.commit text) = Spent ∷ Device ∷ []
+refusals_of (Command.chore Chore.merge) = Spent ∷ Device ∷ Damaged ∷ []
+refusals_of (Command.chore Chore.force) = Spent ∷ Device ∷ []
+refusals_of (Command.chore Chore.sweep) = Device ∷ []
+refusals_of _ = []
+
+-- one of these or want of memory, by their numbers
 abbrev pub may_refuse : Command → Refusal → Bool
-may_refuse c Memory = true
-may_refuse (Command.put i) Spent = true
-may_refuse (Command.put i) Device = true
-may_refuse Command.refresh Spent = true
-may_refuse Command.refresh Device = true
-may_refuse (Command.read t (Read.get id)) Device = true
-may_refuse (Command.read t (Read.get id)) Damaged = true
-may_refuse (Command.commit text) Spent = true
-may_refuse (Command.commit text) Device = true
-may_refuse (Command.chore Chore.merge) Spent = true
-may_refuse (Command.chore Chore.merge) Device = true
-may_refuse (Command.chore Chore.merge) Damaged = true
-may_refuse (Command.chore Chore.force) Spent = true
-may_refuse (Command.chore Chore.force) Device = true
-may_refuse (Command.chore Chore.sweep) Device = true
-may_refuse _ _ = false
+may_refuse c e = list_any (λ other. number_of e == number_of other) (Memory ∷ refusals_of c)
 
 -- what was found is told, or why nothing was
 abbrev pub found_reply : Result Found Refusal → Reply

@@ -83,8 +83,7 @@ TellsFiles (Outcome.replied e) = NamesFiles e.reply
 abbrev pub HeardAll : Json → Schema → List Text → List Outcome → Type 0
 HeardAll json schema [] [] = Unit {0}
 HeardAll json schema (line ∷ lines) (told ∷ tolds) = Hears json schema line (heard told) × HeardAll json schema lines tolds
-HeardAll json schema [] (told ∷ tolds) = ⊥
-HeardAll json schema (line ∷ lines) [] = ⊥
+HeardAll json schema lines tolds = ⊥
 
 -- The text answers the schema line and the lines behind it: a run from the start, in which the names of files alone are told
 -- as names, with the replies to unreadable lines between.

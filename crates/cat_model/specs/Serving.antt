@@ -1,5 +1,5 @@
 -- What serving lines over a directory means: what was read and written, and what is left of the directory.
-use Rattle.std.specs.Prelude.{◌≡◌, ℕ, false, length, List, [], ◌∷◌, ◌++◌, codes, filter_map, Option, Some, Result, Ok, Err}
+use Rattle.std.specs.Prelude.{◌≡◌, ◌⊎◌, ℕ, false, length, List, [], ◌∷◌, ◌++◌, codes, filter_map, Option, Some, Result, Ok, Err}
 use Rattle.std.specs.List.{flat_map, AllByRecursion}
 use Rattle.std.specs.Fmt.{decimal}
 use Rattle.std.specs.Io.KnownBytes.{Consumes}
@@ -8,12 +8,13 @@ use Rattle.cat_model.specs.Text.{Text}
 use Rattle.cat_model.specs.Query.{Query}
 use Rattle.cat_model.specs.Table.{Opened}
 use Rattle.cat_model.specs.Answer.{Found, Read}
-use Rattle.cat_model.specs.Run.{Answer, Chore, Command, Fits, IsRun, Line, Reply, Run, greatest, holds, view_tokens}
+use Rattle.cat_model.specs.Run.{Answer, Chore, Command, Fits, IsRun, Reply, Run, greatest, holds, view_tokens}
 use Rattle.cat_model.specs.Lines.{line_text}
 use Rattle.cat_model.specs.Heard.{Json}
+use Rattle.cat_model.specs.Files.{Name}
 use Rattle.cat_model.specs.Input.{HaveCome, ended_lines}
 use Rattle.cat_model.specs.Served.{Ending, HeardAll, Outcome, ServesBy, TellsFiles, exchange, outcome_text}
-use Rattle.cat_model.specs.Told.{DirectoryKind, LeavesNoMore, TellsAlways, TellsAsBefore}
+use Rattle.cat_model.specs.Told.{DirectoryKind, FileContent, TellsAlways}
 use Rattle.cat_model.specs.Opens.{BeginsFrom}
 use Rattle.cat_model.specs.Promised.{LeavesPromised, SurvivesCrash}
 
@@ -27,26 +28,20 @@ ReplyLike reply other = reply ≡ other
 -- Lines are told the same, or the replies are alike: the text of a stored item may be another one of its length.
 abbrev pub IsLike : Outcome → Outcome → Type 0
 IsLike Outcome.unreadable Outcome.unreadable = Unit {0}
-IsLike Outcome.unreadable (Outcome.replied e) = ⊥
-IsLike (Outcome.replied e) Outcome.unreadable = ⊥
 IsLike (Outcome.replied e) (Outcome.replied fitting) = (e.line ≡ fitting.line) × ReplyLike e.reply fitting.reply
+IsLike _ _ = ⊥
 
 -- so with each of them
 abbrev pub AreLike : List Outcome → List Outcome → Type 0
 AreLike [] [] = Unit {0}
-AreLike [] (o ∷ os) = ⊥
-AreLike (told ∷ tolds) [] = ⊥
 AreLike (told ∷ tolds) (o ∷ os) = IsLike told o × AreLike tolds os
+AreLike _ _ = ⊥
 
 -- ---- want of memory
 
--- the line of a session
-abbrev pub line_of : ℕ → Command → Line
-line_of session c = record { session = session; command = c }
-
 -- some OK fits the run, so that none of the refusals that the run tells is due to the command
 abbrev pub OkFits : Opened → Run → ℕ → Command → Type 0
-OkFits from run session c = (a : Answer) × Fits from run (record { line = line_of session c; reply = Ok a })
+OkFits from run session c = (a : Answer) × Fits from run (record { line = record { session = session; command = c }; reply = Ok a })
 
 -- Want of memory may be told of the session's command behind the run: where an OK fits. A line without a form and a CLOSE take none,
 -- nor does an OPEN of a token that the session holds. What is due to a PUT is known only once its text was read, which takes memory; and of
@@ -69,20 +64,10 @@ WantRightly from past (e ∷ rest) =
 
 -- ---- a device that failed
 
--- So of a command that is told that the device failed: but to a MERGE it can fail.
-abbrev pub FailsBy : Type 0 → Command → Type 0
-FailsBy fails (Command.put item) = fails
-FailsBy fails Command.refresh = fails
-FailsBy fails (Command.read t (Read.get id)) = fails
-FailsBy fails (Command.commit text) = fails
-FailsBy fails (Command.chore Chore.force) = fails
-FailsBy fails (Command.chore Chore.sweep) = fails
-FailsBy fails c = Unit {0}
-
--- so of what a line was told, which may have been unreadable
+-- Where the line was told that the device failed, it can fail, or the line is a MERGE; the line may have been unreadable.
 abbrev pub FailsRightly : Type 0 → Outcome → Type 0
 FailsRightly fails Outcome.unreadable = Unit {0}
-FailsRightly fails (Outcome.replied e) = e.reply ≡ Err Device → FailsBy fails e.line.command
+FailsRightly fails (Outcome.replied e) = e.reply ≡ Err Device → fails ⊎ (e.line.command ≡ Command.chore Chore.merge)
 
 -- ---- the whole
 
@@ -118,7 +103,7 @@ ServesIn json kind device left = ServesBy (IsServedIn json kind device left) (λ
 abbrev pub SparesUnserved : {D : Type 0} → DirectoryKind D → (device left : D) → (input rest : Option Text) → Result (Unit {0}) Ending
     → Type 0
 SparesUnserved kind device left input rest (Err Ending.schema) =
-    TellsAsBefore (kind.bytes device) (kind.bytes left) × LeavesNoMore (kind.may_leave device) (kind.may_leave left)
+    ((q : Name) → kind.bytes left q ≡ kind.bytes device q) × ((q : Name) (e : FileContent) → kind.may_leave left q e → kind.may_leave device q e)
 SparesUnserved {D = D} kind device left input rest (Err Ending.read) =
     (read : Text) × Consumes input rest read × (ended_lines read ≡ [] → ◌≡◌ {A = D} left device)
 SparesUnserved {D = D} kind device left input rest (Err Ending.write) =

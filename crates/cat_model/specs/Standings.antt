@@ -55,27 +55,11 @@ IsSpentFor factor least s (Command.chore Chore.merge) = IsToMerge factor least s
 IsSpentFor factor least s (Command.chore Chore.force) = IsToForce s × (last_number < s.next_segment)
 IsSpentFor factor least s c = Unit {0}
 
--- The directory counted one failure more. No run has another command that is told that the device failed.
-abbrev pub IsCountedFor : Standing → Command → Standing → Type 0
-IsCountedFor s (Command.put item) new = CountsOne s.failures new.failures
-IsCountedFor s Command.refresh new = CountsOne s.failures new.failures
-IsCountedFor s (Command.read t (Read.get id)) new = CountsOne s.failures new.failures
-IsCountedFor s (Command.commit text) new = CountsOne s.failures new.failures
-IsCountedFor s (Command.chore Chore.merge) new = CountsOne s.failures new.failures
-IsCountedFor s (Command.chore Chore.force) new = CountsOne s.failures new.failures
-IsCountedFor s (Command.chore Chore.sweep) new = CountsOne s.failures new.failures
-IsCountedFor s c new = Unit {0}
-
--- a merge is in the making, which has rows left to pass
-abbrev pub HasRowsToPass : Option Progress → Type 0
-HasRowsToPass None = ⊥
-HasRowsToPass (Some m) = m.passed < m.rows
-
 -- A file is damaged. On directories that always tell of their files none is, so that a GET finds what was stored: but text that has a line
--- feed isn't told. A MERGE is to copy rows. The first argument says whether directories always tell of their files.
+-- feed isn't told. A MERGE has rows left to pass. The first argument says whether directories always tell of their files.
 abbrev pub IsDamagedFor : Type 0 → Opened → Run → Standing → Command → Type 0
 IsDamagedFor always from past s (Command.read t (Read.get (Ok id))) = always → HasNoLineFeed (stored (table from.start (writes past) t) id) → ⊥
-IsDamagedFor always from past s (Command.chore Chore.merge) = HasRowsToPass s.merging
+IsDamagedFor always from past s (Command.chore Chore.merge) = (m : Progress) × (s.merging ≡ Some m) × (m.passed < m.rows)
 IsDamagedFor always from past s c = Unit {0}
 
 -- ---- news
@@ -135,7 +119,7 @@ pub record MovesOn (s : Standing) (c : Command) (reply : Reply) (new : Standing)
 -- and of recorded views are those of the run.
 pub record HasReason (always : Type 0) (factor least : ℕ) (from : Opened) (past : Run) (s : Standing) (e : Exchange) (new : Standing) : Type 0 where
   pub spent : e.reply ≡ Err Spent → IsSpentFor factor least s e.line.command
-  pub counted : e.reply ≡ Err Device → IsCountedFor s e.line.command new
+  pub counted : e.reply ≡ Err Device → CountsOne s.failures new.failures
   pub damaged : e.reply ≡ Err Damaged → IsDamagedFor always from past s e.line.command
   pub told : IsToldOf factor least s e.line.command e.reply
   pub writes : s.stat.writes ≡ now from.start past

@@ -71,14 +71,6 @@ pub record IsNewestTold (told : ToldByName) (generation : ℕ) : Type 0 where
 abbrev pub TellsNoCommit : ToldByName → Type 0
 TellsNoCommit told = (h : ℕ) (bytes : Text) → IsToldToHave told (Name.commit h) bytes → ⊥
 
--- each file is told as it was
-abbrev pub TellsAsBefore : ToldByName → ToldByName → Type 0
-TellsAsBefore old new = (q : Name) → new q ≡ old q
-
--- and a crash may leave no more of it than it could have
-abbrev pub LeavesNoMore : LeftByName → LeftByName → Type 0
-LeavesNoMore old new = (q : Name) → NoMore (old q) (new q)
-
 -- what a crash left: of each file, by itself, something that it may leave
 abbrev pub MayBeLeft : LeftByName → (Name → FileContent) → Type 0
 MayBeLeft may_leave image = (q : Name) → may_leave q (image q)

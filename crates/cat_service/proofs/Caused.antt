@@ -1,6 +1,6 @@
 -- The causes of replies, as those who answer tell them.
 use Rattle.std.proofs.Common.{◌≡◌, ◌≢◌, ℕ, ◌<◌, ◌≤◌, List, Bool, true, false, cond, ltb, length, refl, sym, ◌∙◌, ap, subst, inl, inr}
-use Rattle.std.specs.Prelude.{◌⊎◌, Option, None, Some, Result, Ok, Err, IfErr, IfOk, OnErr}
+use Rattle.std.specs.Prelude.{◌⊎◌, Option, None, Some, Result, Ok, Err, IfErr, IfOk, IsTrue, OnErr}
 use Rattle.std.specs.List.{list_all}
 use Rattle.std.proofs.lemmas.Bool.Decides.{eqb_tells}
 use Rattle.cat_base.specs.declared.refusal.Refusal.{Refusal}
@@ -11,8 +11,7 @@ use Rattle.cat_model.specs.Heard.{commit_text_of}
 use Rattle.cat_model.specs.Item.{Schema}
 use Rattle.cat_model.specs.Limits.{buffer_limit, commit_text_limit, last_number}
 use Rattle.cat_model.specs.Lines.{Said}
-use Rattle.cat_model.specs.Run.{Answer, Chore, Command, Reply}
-use Rattle.cat_model.specs.Serving.{FailsBy}
+use Rattle.cat_model.specs.Run.{Answer, Chore, Command, Reply, may_refuse}
 use Rattle.cat_model.specs.Text.{Text}
 use Rattle.cat_model.specs.View.{View}
 use Rattle.cat_directory.specs.Devices.{CountsOne, FileContent}
@@ -337,53 +336,53 @@ module _ {D : Type 0} (bytes : D → ToldFiles) (can_fail : D → Type 0) (fault
 
 -- the command that is said may be told of a failure where what is said may be
 pub failing_by : {D : Type 0} (can_fail : D → Type 0) (device : D) (s : Shape) (schema : Schema) (said : Option Said) (c : Command)
-    → IsCommandOf schema said c → MayFailTo can_fail device s said → FailsBy (can_fail device) c
-failing_by can_fail device s schema None c is m = subst (FailsBy (can_fail device)) (sym is) tt
-failing_by can_fail device s schema (Some (Said.put text)) c is m = subst (FailsBy (can_fail device)) (sym is) m
-failing_by can_fail device s schema (Some (Said.delete text)) c is m = subst (FailsBy (can_fail device)) (sym is) tt
-failing_by can_fail device s schema (Some (Said.delete_where text)) c is m = subst (FailsBy (can_fail device)) (sym is.2) tt
-failing_by can_fail device s schema (Some Said.refresh) c is m = subst (FailsBy (can_fail device)) (sym is) m
-failing_by can_fail device s schema (Some Said.open_newest) c is m = subst (FailsBy (can_fail device)) (sym is) tt
-failing_by can_fail device s schema (Some (Said.open_at t)) c is m = subst (FailsBy (can_fail device)) (sym is) tt
-failing_by can_fail device s schema (Some (Said.close t)) c is m = subst (FailsBy (can_fail device)) (sym is) tt
-failing_by can_fail device s schema (Some (Said.find t n sort mark text)) c is m = subst (FailsBy (can_fail device)) (sym is.2) tt
-failing_by can_fail device s schema (Some (Said.facets t dim n text)) c is m = subst (FailsBy (can_fail device)) (sym is.2) tt
-failing_by can_fail device s schema (Some (Said.get t text)) c is m = subst (FailsBy (can_fail device)) (sym is) m
-failing_by can_fail device s schema (Some (Said.files_of_token t)) c is m = subst (FailsBy (can_fail device)) (sym is) tt
-failing_by can_fail device s schema (Some (Said.files_of_commit g)) c is m = subst (FailsBy (can_fail device)) (sym is) tt
-failing_by can_fail device s schema (Some (Said.commit text)) c is m = subst (FailsBy (can_fail device)) (sym is) m
-failing_by can_fail device s schema (Some (Said.text_of_commit g)) c is m = subst (FailsBy (can_fail device)) (sym is) tt
-failing_by can_fail device s schema (Some Said.snapshot) c is m = subst (FailsBy (can_fail device)) (sym is) tt
-failing_by can_fail device s schema (Some (Said.release_snapshot g)) c is m = subst (FailsBy (can_fail device)) (sym is) tt
-failing_by can_fail device s schema (Some (Said.prune n)) c is m = subst (FailsBy (can_fail device)) (sym is) tt
-failing_by can_fail device s schema (Some (Said.chore Chore.merge)) c is m = subst (FailsBy (can_fail device)) (sym is) tt
-failing_by can_fail device s schema (Some (Said.chore Chore.force)) c is m = subst (FailsBy (can_fail device)) (sym is) m
-failing_by can_fail device s schema (Some (Said.chore Chore.sweep)) c is m = subst (FailsBy (can_fail device)) (sym is) m
-failing_by can_fail device s schema (Some (Said.chore Chore.warm)) c is m = subst (FailsBy (can_fail device)) (sym is) tt
-failing_by can_fail device s schema (Some (Said.chore Chore.stat)) c is m = subst (FailsBy (can_fail device)) (sym is) tt
+    → IsCommandOf schema said c → MayFailTo can_fail device s said → MayFailBy (can_fail device) c
+failing_by can_fail device s schema None c is m = subst (MayFailBy (can_fail device)) (sym is) tt
+failing_by can_fail device s schema (Some (Said.put text)) c is m = subst (MayFailBy (can_fail device)) (sym is) m
+failing_by can_fail device s schema (Some (Said.delete text)) c is m = subst (MayFailBy (can_fail device)) (sym is) tt
+failing_by can_fail device s schema (Some (Said.delete_where text)) c is m = subst (MayFailBy (can_fail device)) (sym is.2) tt
+failing_by can_fail device s schema (Some Said.refresh) c is m = subst (MayFailBy (can_fail device)) (sym is) m
+failing_by can_fail device s schema (Some Said.open_newest) c is m = subst (MayFailBy (can_fail device)) (sym is) tt
+failing_by can_fail device s schema (Some (Said.open_at t)) c is m = subst (MayFailBy (can_fail device)) (sym is) tt
+failing_by can_fail device s schema (Some (Said.close t)) c is m = subst (MayFailBy (can_fail device)) (sym is) tt
+failing_by can_fail device s schema (Some (Said.find t n sort mark text)) c is m = subst (MayFailBy (can_fail device)) (sym is.2) tt
+failing_by can_fail device s schema (Some (Said.facets t dim n text)) c is m = subst (MayFailBy (can_fail device)) (sym is.2) tt
+failing_by can_fail device s schema (Some (Said.get t text)) c is m = subst (MayFailBy (can_fail device)) (sym is) m
+failing_by can_fail device s schema (Some (Said.files_of_token t)) c is m = subst (MayFailBy (can_fail device)) (sym is) tt
+failing_by can_fail device s schema (Some (Said.files_of_commit g)) c is m = subst (MayFailBy (can_fail device)) (sym is) tt
+failing_by can_fail device s schema (Some (Said.commit text)) c is m = subst (MayFailBy (can_fail device)) (sym is) m
+failing_by can_fail device s schema (Some (Said.text_of_commit g)) c is m = subst (MayFailBy (can_fail device)) (sym is) tt
+failing_by can_fail device s schema (Some Said.snapshot) c is m = subst (MayFailBy (can_fail device)) (sym is) tt
+failing_by can_fail device s schema (Some (Said.release_snapshot g)) c is m = subst (MayFailBy (can_fail device)) (sym is) tt
+failing_by can_fail device s schema (Some (Said.prune n)) c is m = subst (MayFailBy (can_fail device)) (sym is) tt
+failing_by can_fail device s schema (Some (Said.chore Chore.merge)) c is m = subst (MayFailBy (can_fail device)) (sym is) tt
+failing_by can_fail device s schema (Some (Said.chore Chore.force)) c is m = subst (MayFailBy (can_fail device)) (sym is) m
+failing_by can_fail device s schema (Some (Said.chore Chore.sweep)) c is m = subst (MayFailBy (can_fail device)) (sym is) m
+failing_by can_fail device s schema (Some (Said.chore Chore.warm)) c is m = subst (MayFailBy (can_fail device)) (sym is) tt
+failing_by can_fail device s schema (Some (Said.chore Chore.stat)) c is m = subst (MayFailBy (can_fail device)) (sym is) tt
 
--- what may fail where the one does may fail where the other does
-pub failing_on : (A B : Type 0) → (A → B) → (c : Command) → FailsBy A c → FailsBy B c
-failing_on A B f Command.formless m = tt
-failing_on A B f (Command.put item) m = f m
-failing_on A B f (Command.delete id) m = tt
-failing_on A B f (Command.delete_where q) m = tt
-failing_on A B f Command.refresh m = f m
-failing_on A B f Command.open_newest m = tt
-failing_on A B f (Command.open_at t) m = tt
-failing_on A B f (Command.close t) m = tt
-failing_on A B f (Command.read t (Read.find n sort mark q)) m = tt
-failing_on A B f (Command.read t (Read.facets dim n q)) m = tt
-failing_on A B f (Command.read t (Read.get id)) m = f m
-failing_on A B f (Command.prune n) m = tt
-failing_on A B f (Command.commit text) m = f m
-failing_on A B f Command.snapshot m = tt
-failing_on A B f (Command.release_snapshot g) m = tt
-failing_on A B f (Command.files_of_token t) m = tt
-failing_on A B f (Command.files_of_commit g) m = tt
-failing_on A B f (Command.text_of_commit g) m = tt
-failing_on A B f (Command.chore Chore.merge) m = tt
-failing_on A B f (Command.chore Chore.force) m = f m
-failing_on A B f (Command.chore Chore.warm) m = tt
-failing_on A B f (Command.chore Chore.sweep) m = f m
-failing_on A B f (Command.chore Chore.stat) m = tt
+-- Where the run lets the command be told that the device failed, the one can fail where the other does, or the command is a MERGE.
+pub failing_on : (A B : Type 0) → (A → B) → (c : Command) → IsTrue (may_refuse c Device) → MayFailBy A c → B ⊎ (c ≡ Command.chore Chore.merge)
+failing_on A B f Command.formless may m = absurd (cc may)
+failing_on A B f (Command.put item) may m = inl (f m)
+failing_on A B f (Command.delete id) may m = absurd (cc may)
+failing_on A B f (Command.delete_where q) may m = absurd (cc may)
+failing_on A B f Command.refresh may m = inl (f m)
+failing_on A B f Command.open_newest may m = absurd (cc may)
+failing_on A B f (Command.open_at t) may m = absurd (cc may)
+failing_on A B f (Command.close t) may m = absurd (cc may)
+failing_on A B f (Command.read t (Read.find n sort mark q)) may m = absurd (cc may)
+failing_on A B f (Command.read t (Read.facets dim n q)) may m = absurd (cc may)
+failing_on A B f (Command.read t (Read.get id)) may m = inl (f m)
+failing_on A B f (Command.prune n) may m = absurd (cc may)
+failing_on A B f (Command.commit text) may m = inl (f m)
+failing_on A B f Command.snapshot may m = absurd (cc may)
+failing_on A B f (Command.release_snapshot g) may m = absurd (cc may)
+failing_on A B f (Command.files_of_token t) may m = absurd (cc may)
+failing_on A B f (Command.files_of_commit g) may m = absurd (cc may)
+failing_on A B f (Command.text_of_commit g) may m = absurd (cc may)
+failing_on A B f (Command.chore Chore.merge) may m = inr refl
+failing_on A B f (Command.chore Chore.force) may m = inl (f m)
+failing_on A B f (Command.chore Chore.warm) may m = absurd (cc may)
+failing_on A B f (Command.chore Chore.sweep) may m = inl (f m)
+failing_on A B f (Command.chore Chore.stat) may m = absurd (cc may)

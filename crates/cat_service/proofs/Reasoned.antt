@@ -1,22 +1,24 @@
 -- Each reply has its cause in how the world stands before its line.
-use Rattle.std.proofs.Common.{◌≡◌, ◌≢◌, ℕ, ◌+◌, ◌<◌, ◌≤◌, List, [], ◌∷◌, length, map, sum, Bool, true, false, cond, refl, sym, ◌∙◌, ap, subst, arith, inl, inr}
-use Rattle.std.specs.Prelude.{◌⊎◌, Option, None, Some, Result, Ok, Err, option_map}
+use Rattle.std.proofs.Common.{◌≡◌, ◌≢◌, ℕ, ◌+◌, ◌<◌, ◌≤◌, List, [], ◌∷◌, length, map, sum, Bool, true, false, true≢false, cond, refl, sym, ◌∙◌, ap, subst, arith, inl, inr}
+use Rattle.std.specs.Prelude.{◌⊎◌, Option, None, Some, Result, Ok, Err, IsTrue, option_map}
 use Rattle.std.proofs.lemmas.List.{length-map}
 use Rattle.cat_base.specs.declared.refusal.Refusal.{Refusal}
 use Rattle.cat_base.specs.declared.refusal.Refusal.TheVariants.{Damaged, Device, Id, Spent}
 use Rattle.cat_model.specs.Answer.{Found, Read}
-use Rattle.cat_model.specs.Heard.{commit_text_of}
+use Rattle.cat_model.specs.Heard.{IsCommand, commit_text_of, id_of}
 use Rattle.cat_model.specs.Item.{Record, Schema, is_id}
 use Rattle.cat_model.specs.Limits.{row_limit, segment_limit}
 use Rattle.cat_model.specs.Lines.{Said}
 use Rattle.cat_model.specs.Promised.{refuses_commit}
-use Rattle.cat_model.specs.Run.{Answer, Chore, Command, Exchange, Fits, News, Reply, Run, SegmentStat, view_tokens}
+use Rattle.cat_model.specs.Run.{Answer, Chore, Command, Exchange, Fits, News, Reply, Run, SegmentStat, may_refuse, view_tokens}
 use Rattle.cat_model.specs.Served.{Outcome}
 use Rattle.cat_model.specs.State.{RecordedTable, table_recorded}
 use Rattle.cat_model.specs.Table.{Opened}
 use Rattle.cat_model.specs.Text.{Text}
 use Rattle.cat_model.specs.View.{Leaf}
 use Rattle.cat_model.specs.Window.{IsWindow}
+use Rattle.cat_model.proofs.DeviceTold.{HasNoDevice, device_told, said_no_device}
+use Rattle.cat_items.specs.Reading.{json}
 use Rattle.cat_directory.specs.Devices.{CountsOne}
 use Rattle.cat_commands.specs.cat_cached_sets.filters.Filters.{Filters}
 use Rattle.cat_commands.specs.cat_ledger.Lasting.{AlwaysTells}
@@ -35,7 +37,7 @@ use Rattle.cat_service.proofs.Moved.{Moved, calls_move}
 use Rattle.cat_service.specs.Causes.{IsCountedTo, IsDamagedTo, IsSpentTo, TakesNumbers, TellsSo}
 use Rattle.cat_service.specs.Lines.{IsCommandOf}
 use Rattle.cat_service.specs.Reasons.{IsCausedBy, progress_of, standing_of_service}
-use Rattle.cat_model.specs.Standings.{ForceTells, HasNoRoom, HasReason, HasRowsToPass, IsCountedFor, IsDamagedFor, IsSpentFor, IsTakenBy, IsToForce, IsToldOf, IsToMerge, MergeTells, MovesOn, Progress, Standing, segment_rows, writes_by}
+use Rattle.cat_model.specs.Standings.{ForceTells, HasNoRoom, HasReason, IsDamagedFor, IsSpentFor, IsTakenBy, IsToForce, IsToldOf, IsToMerge, MergeTells, MovesOn, Progress, Standing, segment_rows, writes_by}
 use Rattle.cat_service.specs.Worlds.{Service, device_of, policy_of, shape_of_service}
 
 -- ---- replies that are alike
@@ -93,9 +95,9 @@ none_passes m e = ap (option_map progress_of) e
 passes : (m : Option MergingShape) (x : MergingShape) → m ≡ Some x → option_map progress_of m ≡ Some (progress_of x)
 passes m x e = ap (option_map progress_of) e
 
-rows_left : (m : Option MergingShape) → HasRowsLeft m → HasRowsToPass (option_map progress_of m)
+rows_left : (m : Option MergingShape) → HasRowsLeft m → (p : Progress) × (option_map progress_of m ≡ Some p) × (p.passed < p.rows)
 rows_left None h = absurd h
-rows_left (Some m) h = h
+rows_left (Some m) h = (progress_of m, refl, h)
 
 some_passes : (m : Option MergingShape) → m ≢ None → (p : Progress) × (option_map progress_of m ≡ Some p)
 some_passes None some = absurd (some refl)
@@ -131,9 +133,6 @@ module _ {D : Type 0} (bytes : D → ToldFiles) (can_fail : D → Type 0) (fault
 
   abbrev SpentFor : Command → Type 0
   SpentFor c = IsSpentFor (policy_of old).factor (policy_of old).least st c
-
-  abbrev CountedFor : Service D → List ℕ → Command → Type 0
-  CountedFor new after c = IsCountedFor st c (standing_of_service faults after new)
 
   abbrev DamagedFor : Opened → Run → Command → Type 0
   DamagedFor from past c = IsDamagedFor (AlwaysTells bytes) from past st c
@@ -171,34 +170,45 @@ module _ {D : Type 0} (bytes : D → ToldFiles) (can_fail : D → Type 0) (fault
       by (Some (Said.chore Chore.sweep)) is m = subst SpentFor (sym is) tt
       by (Some (Said.chore Chore.stat)) is m = subst SpentFor (sym is) tt
 
-  counted_for : (new : Service D) (after : List ℕ) (schema : Schema) (said : Option Said) (c : Command) → IsCommandOf schema said c
-      → IsCountedTo (CountsOne (faults (device_of old)) (faults (device_of new))) said → IsCountedFor st c (standing_of_service faults after new)
-  counted_for new after schema said c is m = by said is m
+  counted_for : (from : Opened) (past : Run) (session : ℕ) (schema : Schema) (said : Option Said) (c : Command) → IsCommandOf schema said c
+      → Fits from past (record { line = record { session = session; command = c }; reply = Err Device }) → (counted : Type 0)
+      → IsCountedTo counted said → counted
+  counted_for from past session schema said c is fits counted m = by said is m
     where
-      by : (said : Option Said) → IsCommandOf schema said c → IsCountedTo (CountsOne (faults (device_of old)) (faults (device_of new))) said → CountedFor new after c
-      by None is m = subst (CountedFor new after) (sym is) tt
-      by (Some (Said.put text)) is m = subst (CountedFor new after) (sym is) m
-      by (Some (Said.delete text)) is m = subst (CountedFor new after) (sym is) tt
-      by (Some (Said.delete_where text)) is m = subst (CountedFor new after) (sym is.2) tt
-      by (Some Said.refresh) is m = subst (CountedFor new after) (sym is) m
-      by (Some Said.open_newest) is m = subst (CountedFor new after) (sym is) tt
-      by (Some (Said.open_at t)) is m = subst (CountedFor new after) (sym is) tt
-      by (Some (Said.close t)) is m = subst (CountedFor new after) (sym is) tt
-      by (Some (Said.find t n sort mark text)) is m = subst (CountedFor new after) (sym is.2) tt
-      by (Some (Said.facets t dim n text)) is m = subst (CountedFor new after) (sym is.2) tt
-      by (Some (Said.get t text)) is m = subst (CountedFor new after) (sym is) m
-      by (Some (Said.files_of_token t)) is m = subst (CountedFor new after) (sym is) tt
-      by (Some (Said.files_of_commit g)) is m = subst (CountedFor new after) (sym is) tt
-      by (Some (Said.commit text)) is m = subst (CountedFor new after) (sym is) m
-      by (Some (Said.text_of_commit g)) is m = subst (CountedFor new after) (sym is) tt
-      by (Some Said.snapshot) is m = subst (CountedFor new after) (sym is) tt
-      by (Some (Said.release_snapshot g)) is m = subst (CountedFor new after) (sym is) tt
-      by (Some (Said.prune n)) is m = subst (CountedFor new after) (sym is) tt
-      by (Some (Said.chore Chore.merge)) is m = subst (CountedFor new after) (sym is) m
-      by (Some (Said.chore Chore.force)) is m = subst (CountedFor new after) (sym is) m
-      by (Some (Said.chore Chore.warm)) is m = subst (CountedFor new after) (sym is) tt
-      by (Some (Said.chore Chore.sweep)) is m = subst (CountedFor new after) (sym is) m
-      by (Some (Said.chore Chore.stat)) is m = subst (CountedFor new after) (sym is) tt
+      told : HasNoDevice c → IsTrue (may_refuse c Device)
+      told form = device_told from past session c form fits
+
+      -- no run tells this command that the device failed
+      not_told : (said : Said) (d : Command) → IsCommand json schema said c → c ≡ d → may_refuse d Device ≡ false → counted
+      not_told said d is same none =
+          absurd (true≢false (sym (subst (λ k. IsTrue (may_refuse k Device)) same (told (said_no_device json schema said c is))) ∙ none))
+
+      by : (said : Option Said) → IsCommandOf schema said c → IsCountedTo counted said → counted
+      by None is m =
+          absurd (true≢false (sym (subst (λ k. IsTrue (may_refuse k Device)) is (told (subst HasNoDevice (sym is) tt)))))
+      by (Some (Said.put text)) is m = m
+      by (Some (Said.delete text)) is m = not_told (Said.delete text) (Command.delete (id_of text)) is is refl
+      by (Some (Said.delete_where text)) is m = not_told (Said.delete_where text) (Command.delete_where is.0) is is.2 refl
+      by (Some Said.refresh) is m = m
+      by (Some Said.open_newest) is m = not_told Said.open_newest Command.open_newest is is refl
+      by (Some (Said.open_at t)) is m = not_told (Said.open_at t) (Command.open_at t) is is refl
+      by (Some (Said.close t)) is m = not_told (Said.close t) (Command.close t) is is refl
+      by (Some (Said.find t n sort mark text)) is m =
+          not_told (Said.find t n sort mark text) (Command.read t (Read.find n sort mark is.0)) is is.2 refl
+      by (Some (Said.facets t dim n text)) is m = not_told (Said.facets t dim n text) (Command.read t (Read.facets dim n is.0)) is is.2 refl
+      by (Some (Said.get t text)) is m = m
+      by (Some (Said.files_of_token t)) is m = not_told (Said.files_of_token t) (Command.files_of_token t) is is refl
+      by (Some (Said.files_of_commit g)) is m = not_told (Said.files_of_commit g) (Command.files_of_commit g) is is refl
+      by (Some (Said.commit text)) is m = m
+      by (Some (Said.text_of_commit g)) is m = not_told (Said.text_of_commit g) (Command.text_of_commit g) is is refl
+      by (Some Said.snapshot) is m = not_told Said.snapshot Command.snapshot is is refl
+      by (Some (Said.release_snapshot g)) is m = not_told (Said.release_snapshot g) (Command.release_snapshot g) is is refl
+      by (Some (Said.prune n)) is m = not_told (Said.prune n) (Command.prune n) is is refl
+      by (Some (Said.chore Chore.merge)) is m = m
+      by (Some (Said.chore Chore.force)) is m = m
+      by (Some (Said.chore Chore.warm)) is m = not_told (Said.chore Chore.warm) (Command.chore Chore.warm) is is refl
+      by (Some (Said.chore Chore.sweep)) is m = m
+      by (Some (Said.chore Chore.stat)) is m = not_told (Said.chore Chore.stat) (Command.chore Chore.stat) is is refl
 
   -- ---- what is told
 
@@ -489,7 +499,9 @@ module _ {D : Type 0} (bytes : D → ToldFiles) (can_fail : D → Type 0) (fault
       (alike_on (λ r. Moved c r l made.0) (sources_move c l made.0) e.reply made.2 made.3.alike).1 moved in
       let fit_moved : Moved c fitting l made.0 = (alike_on (λ r. Moved c r l made.0) (sources_move c l made.0) e.reply fitting shown.alike).0 told_moved in record {
         spent = λ k. spent_for bytes can_fail faults old tried schema said c is (cause.spent (refused_alike Spent e.reply fitting shown.alike k));
-        counted = λ k. counted_for bytes can_fail faults old tried new after schema said c is (cause.counted (refused_alike Device e.reply fitting shown.alike k));
+        counted = λ k.
+            counted_for bytes can_fail faults old tried from past e.line.session schema said c is (subst (λ r. Fits from past (record { line = e.line; reply = r })) k fits)
+            (CountsOne (faults (device_of old)) (faults (device_of new))) (cause.counted (refused_alike Device e.reply fitting shown.alike k));
         damaged = λ k.
             damaged_for bytes can_fail faults old tried from past e.line.session schema said c is stands (subst (λ r. Fits from past (record { line = e.line; reply = r })) k fits)
             (cause.damaged (refused_alike Damaged e.reply fitting shown.alike k));

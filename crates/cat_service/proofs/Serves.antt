@@ -1,25 +1,28 @@
 -- A world that answers as its machine does serves its input as is promised.
 use Rattle.std.proofs.Common.{inl, inr, ◌≡◌, ℕ, List, [], ◌∷◌, ◌++◌, length, map, Bool, true, false, refl, sym, ◌∙◌, ap, ap₂, subst, arith, append-nil, append_assoc}
 use Rattle.std.specs.List.{flat_map, AllByRecursion}
-use Rattle.std.specs.Prelude.{◌⊎◌, ◌<◌, Contains, Option, None, Some, Result, Ok, Err, nat_lt, if◌then◌else◌, filter_map}
+use Rattle.std.specs.Prelude.{◌⊎◌, ◌<◌, Contains, IsTrue, Option, None, Some, Result, Ok, Err, nat_lt, if◌then◌else◌, filter_map}
 use Rattle.std.proofs.lemmas.Bool.{cases_lt}
 use Rattle.std.proofs.lemmas.Bool.Decides.{nat_tests}
 use Rattle.cat_base.specs.declared.refusal.Refusal.{Refusal}
-use Rattle.cat_base.specs.declared.refusal.Refusal.TheVariants.{Line as NoForm, Memory}
+use Rattle.cat_base.specs.declared.refusal.Refusal.TheVariants.{Device, Line as NoForm, Memory}
 use Rattle.cat_model.specs.Heard.{Heard, Hears}
-use Rattle.cat_model.specs.Lines.{IsReadable}
+use Rattle.cat_model.specs.Item.{Schema}
+use Rattle.cat_model.specs.Lines.{IsReadable, Said}
+use Rattle.cat_model.specs.Files.{Name}
 use Rattle.cat_model.specs.Input.{ended_lines, lines_of}
 use Rattle.cat_model.specs.Answer.{Read}
-use Rattle.cat_model.specs.Run.{Chore, Command, Exchange, IsRun, Reply, Run, newest_commit, now}
+use Rattle.cat_model.specs.Run.{Chore, Command, Exchange, Fits, IsRun, Reply, Run, may_refuse, newest_commit, now}
 use Rattle.cat_model.specs.Served.{Answered, Begins, Ending, HeardAll, IsDue, Outcome, Refused, TellsFiles, exchange, heard, outcome_text, refused_text}
 use Rattle.cat_model.specs.Opens.{BeginsFrom}
 use Rattle.cat_model.specs.Promised.{LeavesPromised, SurvivesCrash}
 use Rattle.cat_model.specs.Reasons.{CausesIn, HasTakenAll, IsCausedIn}
-use Rattle.cat_model.specs.Serving.{AreLike, FailsRightly, IsServedIn, ServesIn, SparesUnserved, WantRightly}
+use Rattle.cat_model.specs.Serving.{AreLike, FailsRightly, IsServedIn, ReplyLike, ServesIn, SparesUnserved, WantRightly}
 use Rattle.cat_model.specs.Standings.{HasReason, HaveReasons, IsDamagedFor, Standing}
 use Rattle.cat_model.specs.Table.{Opened}
-use Rattle.cat_model.specs.Told.{DirectoryKind, LeavesNoMore, TellsAlways, TellsAsBefore}
+use Rattle.cat_model.specs.Told.{DirectoryKind, TellsAlways}
 use Rattle.cat_model.specs.Text.{Text}
+use Rattle.cat_model.proofs.DeviceTold.{HasNoDevice, device_told, said_no_device}
 use Rattle.cat_model.proofs.Runs.{runs_go_on}
 use Rattle.cat_items.specs.Reading.{json}
 use Rattle.cat_directory.specs.Devices.{FileContent, Told}
@@ -49,6 +52,7 @@ use Rattle.cat_service.proofs.Outlasted.{newest_number}
 use Rattle.cat_service.proofs.Settled.{newest_settled, own_left}
 use Rattle.cat_service.proofs.Survived.{HasRefused, found_so, survives, tried_by, tried_more, tried_refused, tries_so}
 use Rattle.cat_service.proofs.Caused.{failing_on}
+use Rattle.cat_service.specs.Lines.{IsCommandOf}
 use Rattle.cat_service.specs.Opening.{BeginsIn, OpensWorld}
 use Rattle.cat_service.specs.Promises.{WorldLasts}
 use Rattle.cat_service.specs.Reasons.{OpensCaused, OpensSo, StepsCaused, standing_of_service}
@@ -88,6 +92,17 @@ newest_of_mended g mended text own gone = record {
     | inr less ↦ less
   ];
 }
+
+-- a command that was told that the device failed is one that the run may tell so
+may_be_told : (from : Opened) (past : Run) (schema : Schema) (said : Option Said) (e : Exchange) (fitting : Reply) → IsCommandOf schema said e.line.command
+    → ReplyLike e.reply fitting → Fits from past (record { line = e.line; reply = fitting }) → e.reply ≡ Err Device → IsTrue (may_refuse e.line.command Device)
+may_be_told from past schema said e fitting is alike fits k =
+    let same : Err Device ≡ fitting = subst (λ r. ReplyLike r fitting) k alike in
+    device_told from past e.line.session e.line.command (form said is) (subst (λ r. Fits from past (record { line = e.line; reply = r })) (sym same) fits)
+  where
+    form : (said : Option Said) → IsCommandOf schema said e.line.command → HasNoDevice e.line.command
+    form None is = subst HasNoDevice (sym is) tt
+    form (Some said) is = said_no_device json schema said e.line.command is
 
 -- ---- causes
 
@@ -246,7 +261,10 @@ module _ {D : Type 0} (bytes : D → ToldFiles) (may_leave : D → FileName → 
             (next.1.same (λ q. always_tells tells (device_of old) q)) (rest.same tells);
         wanting = (λ k. here.1.3 (alike_wants e.reply next.0 next.1.alike k) from past (sym fields) run stands, rest.wanting);
         files = (here.1.1, rest.files);
-        failing = (λ k. failing_on (can_fail (device_of old)) fails can e.line.command (here.1.5 k), rest.failing);
+        failing = (
+          λ k. failing_on (can_fail (device_of old)) fails can e.line.command (may_be_told from past (shape_of_service old).schema step.1.0 e next.0 step.1.1 next.1.alike next.2 k) (here.1.5 k),
+          rest.failing,
+        );
         promised =
             subst (LeavesPromised kind (device_of new) from) (append_assoc past (fit ∷ []) (filter_map exchange rest.fitting)) rest.promised;
         newest = rest.newest ∙ ap (newest_commit from) (append_assoc past (fit ∷ []) (filter_map exchange rest.fitting));
@@ -376,7 +394,8 @@ module _ {D : Type 0} (bytes : D → ToldFiles) (may_leave : D → FileName → 
 
   -- each file is told as it was, and a crash leaves no more of it
   abbrev Spares : D → D → Type 0
-  Spares device left = TellsAsBefore (kind.bytes device) (kind.bytes left) × LeavesNoMore (kind.may_leave device) (kind.may_leave left)
+  Spares device left =
+      ((q : Name) → kind.bytes left q ≡ kind.bytes device q) × ((q : Name) (e : FileContent) → kind.may_leave left q e → kind.may_leave device q e)
 
   -- ---- the stage that is left
 

@@ -1,7 +1,9 @@
 -- A world of sessions as what is served: what its schema line opens, and what each line behind it does.
 use Rattle.std.specs.Prelude.{◌≡◌, Option, None, Some, Result, Err, IfOk}
-use Rattle.cat_base.specs.declared.refusal.Refusal.TheVariants.{Line as NoForm, Memory}
+use Rattle.cat_base.specs.declared.refusal.Refusal.TheVariants.{Device, Line as NoForm, Memory}
+use Rattle.cat_model.specs.Answer.{Read}
 use Rattle.cat_model.specs.Heard.{Hears}
+use Rattle.cat_model.specs.Run.{Chore, Command}
 use Rattle.cat_model.specs.Served.{NamesFiles, Outcome, heard}
 use Rattle.cat_model.specs.Text.{Text}
 use Rattle.cat_items.specs.Reading.{json}
@@ -14,7 +16,6 @@ use Rattle.cat_ledger_laws.specs.lines.RunLaws.{IsStep}
 use Rattle.cat_commands.specs.cat_protocol.declared.serving.machine.Stage.{Stage}
 use Rattle.cat_commands.specs.cat_protocol.declared.serving.machine.Stage.TheVariants.{Waiting, Refused, Open}
 use Rattle.cat_commands.specs.cat_protocol.declared.serving.machine.Unopened.{Unopened}
-use Rattle.cat_model.specs.Serving.{FailsRightly}
 use Rattle.cat_service.specs.Histories.{GoesTold}
 use Rattle.cat_service.specs.Opening.{OpensWorld}
 use Rattle.cat_service.specs.Promises.{WorldLasts}
@@ -31,6 +32,16 @@ OpensIfShort bytes may_leave can_fail device (Some line) r =
     OpensWorld bytes may_leave device line r × IfOk r (λ w. AlwaysTells bytes → LeavesNoneAhead may_leave w.ledger)
     × IfOk r (λ w. can_fail (device_of w) → can_fail device)
 
+-- The device can fail, as one may to whom the command is told that it did; but to a MERGE. No run tells another command so.
+abbrev pub MayFailBy : Type 0 → Command → Type 0
+MayFailBy fails (Command.put item) = fails
+MayFailBy fails Command.refresh = fails
+MayFailBy fails (Command.read t (Read.get id)) = fails
+MayFailBy fails (Command.commit text) = fails
+MayFailBy fails (Command.chore Chore.force) = fails
+MayFailBy fails (Command.chore Chore.sweep) = fails
+MayFailBy fails c = Unit {0}
+
 -- An unreadable line changes nothing. The reply to another is a step of every run that led here, tells no names but those of files, and
 -- want of memory only where that may be; what it makes of commits is known by it; and a failure of the device only where that can fail.
 abbrev pub ChangesByOutcome : {D : Type 0} → (D → ToldFiles) → (D → FileName → FileContent → Type 0) → (D → Type 0) → Service D → Outcome → Service D
@@ -41,7 +52,7 @@ ChangesByOutcome bytes may_leave can_fail old (Outcome.replied e) new =
     × IsStep (bytes (device_of old)) (shape_of_service old) e.line e.reply (bytes (device_of new)) (shape_of_service new)
     × (e.reply ≡ Err Memory → WantsRightly (bytes (device_of old)) (shape_of_service old) e.line.session e.line.command)
     × GoesTold may_leave e.line.command e.reply old new
-    × FailsRightly (can_fail (device_of old)) (Outcome.replied e)
+    × (e.reply ≡ Err Device → MayFailBy (can_fail (device_of old)) e.line.command)
     × (can_fail (device_of new) → can_fail (device_of old))
 
 -- a line, which may be too long, is heard and changes the world

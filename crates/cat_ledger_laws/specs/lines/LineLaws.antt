@@ -10,7 +10,6 @@ use Rattle.cat_model.specs.Write.{Write}
 use Rattle.cat_model.specs.Limits.{last_number, snapshot_limit}
 use Rattle.cat_model.specs.Run.{Command, Line, Answer, Reply, is_full, is_looked_at, may_refuse}
 use Rattle.cat_model.specs.State.{held_in, snapshots_in}
-pub use Rattle.cat_model.specs.Serving.{line_of}
 use Rattle.cat_ledger_laws.specs.model.Ledger.{Ledger}
 use Rattle.cat_ledger_laws.specs.model.Plans.{MergePolicy}
 use Rattle.cat_ledger_laws.specs.model.Calls.{wrote, Flushes, RecordsView, Pruned, Committed, Snaps, Unsnapped}
@@ -19,6 +18,10 @@ use Rattle.cat_ledger_laws.specs.shape.Shapes.{Shape}
 use Rattle.cat_ledger_laws.specs.shape.Steps.{tokens_of}
 use Rattle.cat_ledger_laws.specs.shape.Ties.{ToldFiles, Makes, TouchesNothing}
 use Rattle.cat_ledger_laws.specs.lines.RunLaws.{AnswersCarried}
+
+-- the line of a session
+abbrev pub line_of : ℕ → Command → Line
+line_of session c = record { session = session; command = c }
 
 -- nothing has changed, in memory or on the device
 abbrev pub NothingChanges : ToldFiles → Shape → ToldFiles → Shape → Type 0

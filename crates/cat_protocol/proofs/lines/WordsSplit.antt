@@ -13,7 +13,7 @@ use Rattle.std.proofs.lemmas.Str.Pattern.{IsSplitOnceResult, split_parts}
 use Rattle.cat_model.specs.Text.{Text}
 use Rattle.cat_model.specs.Item.{is_name_byte, has_name_form}
 use Rattle.cat_model.specs.Page.{Sort}
-use Rattle.cat_model.specs.Lines.{IsNumber, IsSort, IsMark, sort_text, mark_text}
+use Rattle.cat_model.specs.Lines.{IsNumber, IsSort, sort_text, mark_text}
 use Rattle.cat_protocol.specs.lines.Words.{HasNoSpace}
 
 -- ---- where a text is split
@@ -101,7 +101,7 @@ sort_no_space Sort.added h = letters_no_space (codes ".") refl
 sort_no_space (Sort.rising name) h = first_behind 43 name (λ e. omega (arith, e)) (name_no_space name h)
 sort_no_space (Sort.falling name) h = first_behind 45 name (λ e. omega (arith, e)) (name_no_space name h)
 
-pub mark_no_space : (mark : Option ℕ) → IsMark mark → HasNoSpace (mark_text mark)
+pub mark_no_space : (mark : Option ℕ) → IfSome mark IsNumber → HasNoSpace (mark_text mark)
 mark_no_space None h = letters_no_space (codes ".") refl
 mark_no_space (Some n) h = decimal_no_space n (omega (arith, h))
 

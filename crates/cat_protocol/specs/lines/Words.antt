@@ -1,10 +1,10 @@
 -- The words of a line.
-use Rattle.std.specs.Prelude.{◌≡◌, ◌≢◌, ℕ, ◌<◌, Option, [], ◌∷◌, length, slice_index, IsTrue}
+use Rattle.std.specs.Prelude.{◌≡◌, ◌≢◌, ℕ, ◌<◌, Option, IfSome, [], ◌∷◌, length, slice_index, IsTrue}
 use Rattle.std.specs.Fmt.{decimal}
 use Rattle.cat_model.specs.Text.{Text}
 use Rattle.cat_model.specs.Item.{has_name_form}
 use Rattle.cat_model.specs.Page.{Sort}
-use Rattle.cat_model.specs.Lines.{IsNumber, IsSort, IsMark, sort_text, mark_text, spaced}
+use Rattle.cat_model.specs.Lines.{IsNumber, IsSort, sort_text, mark_text, spaced}
 
 -- no space stands in the text
 abbrev pub HasNoSpace : Text → Type 0
@@ -15,7 +15,7 @@ pub record SpellsFind (text : Text) (token count : ℕ) (sort : Sort) (mark : Op
   pub token_is_number : IsNumber token
   pub count_is_number : IsNumber count
   pub sort_has_form : IsSort sort
-  pub mark_has_form : IsMark mark
+  pub mark_has_form : IfSome mark IsNumber
   pub spelled : text ≡ spaced (decimal token ∷ decimal count ∷ sort_text sort ∷ mark_text mark ∷ query ∷ [])
 
 -- the text spells the arguments of a FACETS
