@@ -1,96 +1,37 @@
--- Reading goes from left to right as the definition of faults says, and what is refused has a fault there.
-use Rattle.std.proofs.Common.{◌≡◌, ◌≢◌, ℕ, zero, suc, ◌+◌, ◌≤◌, ◌<◌, List, [], ◌∷◌, ◌++◌, length, take, drop, Result, Ok, Err, Some, None, Bool, true, false, true≢false, nat_eq, eqb, leb, cond, codes, ◌||◌, ◌&&◌, ◌⊎◌, inl, inr, refl, sym, ap, subst, ◌∙◌, append_assoc, arith, length-append}
-use Rattle.std.specs.Prelude.{IsTrue, not, find}
-use Rattle.std.proofs.lemmas.Bool.{eqb-true, or_parts, and_parts, or_left, or_right, cond_both, cases_Bool}
-use Rattle.std.proofs.lemmas.Slice.Eq.{bytes_eq-Decides}
-use Rattle.std.specs.List.{AllByRecursion, starts_with, list_all, prefix_len}
+-- Reading goes from left to right as the definition of faults says, and a text is refused where it stops being read.
+use Rattle.std.proofs.Common.{◌≡◌, ℕ, zero, suc, ◌+◌, ◌≤◌, ◌<◌, [], ◌∷◌, ◌++◌, length, drop, Result, Ok, Err, Some, Bool, true, false, true≢false, nat_eq, eqb, cond, ◌||◌, ◌⊎◌, inl, inr, refl, sym, ap, subst, ◌∙◌, append_assoc, arith}
+use Rattle.std.specs.Prelude.{IsTrue, not}
+use Rattle.std.proofs.lemmas.Bool.{eqb-true, or_parts, or_left, or_right, cond_both, cases_Bool}
+use Rattle.std.specs.List.{AllByRecursion, starts_with}
 use Rattle.std.specs.Char.{is_ascii_lowercase, is_ascii_digit}
-use Rattle.cat_model.specs.Text.{Text, same_text}
-use Rattle.cat_model.specs.Item.{Schema, Field, IsSchema, Kind, kind_of, is_field_name, has_name_form, is_name_byte}
+use Rattle.cat_model.specs.Text.{Text}
+use Rattle.cat_model.specs.Item.{Schema, IsSchema, Kind, kind_of, is_name_byte}
 use Rattle.cat_model.specs.Query.{Query, Primary, Sign}
-use Rattle.cat_model.specs.Faults.{Next, is_sign, begins_primary, IsWholeName, ReadsTo, Fault}
-use Rattle.cat_model.specs.Reader.{◌>>=◌, Inside, after_spaces, ends, sign_at, grouped, everything_at, leaf_at, primary_at, clause_at, gap_at, clauses_at, content_at, term_at, name_at, behind_name, whole}
-use Rattle.cat_model.proofs.QueryValues.{map_some, chosen, Stops}
-use Rattle.cat_model.proofs.QueryTerms.{Yields, yields_bind, option_cases, name_parts, name_all, name_stops, term_no_field, term_fails, term_sound}
+use Rattle.cat_model.specs.Faults.{Next, is_sign, begins_primary, PassesOver, ReadsTo}
+use Rattle.cat_model.specs.Reader.{◌>>=◌, Inside, after_spaces, ends, sign_at, grouped, everything_at, leaf_at, primary_at, clause_at, gap_at, clauses_at, content_at, term_at, name_at, whole}
+use Rattle.cat_model.proofs.QueryTerms.{Yields, yields_bind, name_parts, name_all, term_fails, term_sound}
 use Rattle.cat_model.proofs.QuerySound.{everything_is}
+use Rattle.cat_model.proofs.QueryPlaces.{no_term, Move, move, too_many_stops, no_clause_stops, empty_stops, unopened_stops, unopened_end_stops, no_primary_stops, too_deep_stops, star_stops, no_field_stops, no_value_stops, no_end_stops, text_end_stops}
 
--- ---- names begin with a lower letter
-
-pub record LowerFirst (name : Text) : Type 0 where
-  pub first : ℕ
-  pub others : Text
-  pub parts : name ≡ first ∷ others
-  pub lower : is_ascii_lowercase first ≡ true
-
-name_lower : (name : Text) → is_field_name name ≡ true → LowerFirst name
-name_lower [] e = absurd cc
-name_lower (b ∷ bs) e =
-    let form = (and_parts (has_name_form (b ∷ bs)) (not (same_text (b ∷ bs) (codes "id"))) e).0 in
-    let bytes = (and_parts (is_ascii_lowercase b && list_all is_name_byte bs) (leb (length bs) 31) form).0 in
-    record { first = b; others = bs; parts = refl; lower = (and_parts (is_ascii_lowercase b) (list_all is_name_byte bs) bytes).0 }
-
-found_lower : (fields : List Field) → AllByRecursion (λ f. IsTrue (is_field_name f.name)) fields → (name : Text) (f : Field) → find (λ f. same_text f.name name) fields ≡ Some f → LowerFirst name
-found_lower [] all name f e = absurd cc
-found_lower (x ∷ fields) all name f e = elim (chosen (same_text x.name name) (Some x) (find (λ f. same_text f.name name) fields) (Some f) e) [
-  | inl h ↦ subst LowerFirst ((bytes_eq-Decides x.name name).0 h.0) (name_lower x.name all.0)
-  | inr h ↦ found_lower fields all.1 name f h.1
-]
-
--- the name of a field begins with a lower letter
-pub field_lower : (schema : Schema) → IsSchema schema → (name : Text) (k : Kind) → kind_of schema name ≡ Some k → LowerFirst name
-field_lower schema ok name k e =
-    let m = map_some (λ (f : Field). f.kind) (find (λ f. same_text f.name name) schema) k e in
-    found_lower schema ok.named name m.0 m.1
-
--- no term begins with another byte
-pub no_term : (schema : Schema) → IsSchema schema → (b : ℕ) (bs : Text) → is_ascii_lowercase b ≡ false → term_at schema (b ∷ bs) ≡ Err (length (b ∷ bs))
-no_term schema ok b bs e = elim (option_cases (kind_of schema (name_at (b ∷ bs)))) [
-  | inl f ↦ term_no_field schema (b ∷ bs) f
-  | inr f ↦
-      let l = field_lower schema ok (name_at (b ∷ bs)) f.0 f.1 in
-      let same : b ∷ bs ≡ l.first ∷ (l.others ++ behind_name (b ∷ bs)) = name_parts (b ∷ bs) ∙ ap (λ (x : Text). x ++ behind_name (b ∷ bs)) l.parts in
-      absurd (true≢false (sym l.lower ∙ ap is_ascii_lowercase (first_same b l.first bs (l.others ++ behind_name (b ∷ bs)) same) ∙ e))
-]
-  where
-    first_same : (b c : ℕ) (bs cs : Text) → b ∷ bs ≡ c ∷ cs → c ≡ b
-    first_same b c bs cs e = cc
-
--- ---- from left to right
-
-pub reads_parts : {schema : Schema} {text f r : Text} {next : Next} → ReadsTo schema text f r next → text ≡ f ++ r
-reads_parts ReadsTo.start = refl
-reads_parts (ReadsTo.space f r c g new x) = reads_parts x ∙ sym (append_assoc f (32 ∷ []) r)
-reads_parts (ReadsTo.sign f r b c g new x s l) = reads_parts x ∙ sym (append_assoc f (b ∷ []) r)
-reads_parts (ReadsTo.no_sign f r b c g new x s l) = reads_parts x
-reads_parts (ReadsTo.opened f r c g x l) = reads_parts x ∙ sym (append_assoc f (40 ∷ []) r)
-reads_parts (ReadsTo.everything f r c g x) = reads_parts x ∙ sym (append_assoc f (42 ∷ 58 ∷ 42 ∷ []) r)
-reads_parts (ReadsTo.term f name t r c g k a p x named field value means) = reads_parts x ∙ regrouped f name t r
-  where
-    regrouped : (f name t r : Text) → f ++ (name ++ (58 ∷ (t ++ r))) ≡ (f ++ (name ++ (58 ∷ t))) ++ r
-    regrouped f name t r = simp append_assoc
-reads_parts (ReadsTo.gap f r c g x) = reads_parts x ∙ sym (append_assoc f (32 ∷ []) r)
-reads_parts (ReadsTo.shut f r c g x) = reads_parts x ∙ sym (append_assoc f (41 ∷ []) r)
-reads_parts (ReadsTo.shut_behind_space f r c g x) = reads_parts x ∙ sym (append_assoc f (41 ∷ []) r)
-
-pub reads_length : {schema : Schema} {text f r : Text} {next : Next} → ReadsTo schema text f r next → length f + length r ≡ length text
-reads_length {schema} {text} {f} {r} {next} x = sym (ap length (reads_parts x) ∙ length-append f r)
-
--- a fault with so many bytes left
+-- where reading stops, with so many bytes left
 pub record Faulty (schema : Schema) (text : Text) (left : ℕ) : Type 0 where
-  pub place : ℕ
-  pub fault : Fault schema text place
-  pub total : place + left ≡ length text
+  pub front : Text
+  pub rest : Text
+  pub next : Next
+  pub reads : ReadsTo schema text front rest next
+  pub stuck : move schema next rest ≡ Move.stops
+  pub least : left ≡ length rest
 
--- what is read is so, or is refused where a fault is
+-- what is read is so, or is refused where reading stops
 abbrev pub Judged : {A : Type 0} → Schema → Text → (A → Type 0) → Result A ℕ → Type 0
 Judged schema text P r = Yields (Faulty schema text) P r
 
 judged_bind : {A B : Type 0} (schema : Schema) (text : Text) (P : A → Type 0) (Q : B → Type 0) (r : Result A ℕ) (f : A → Result B ℕ) → Judged schema text P r → ((x : A) → P x → Judged schema text Q (f x)) → Judged schema text Q (r >>= f)
 judged_bind schema text P Q r f so go = yields_bind (Faulty schema text) P Q r f so go
 
--- a fault at the byte that comes next
-faulty_here : {schema : Schema} {text f r : Text} {next : Next} → ReadsTo schema text f r next → Fault schema text (length f) → Faulty schema text (length r)
-faulty_here {f = f} x fault = record { place = length f; fault = fault; total = reads_length x }
+-- reading stops before what comes next
+faulty_here : {schema : Schema} {text f r : Text} {next : Next} → ReadsTo schema text f r next → move schema next r ≡ Move.stops → Faulty schema text (length r)
+faulty_here {f = f} {r = r} {next = next} x e = record { front = f; rest = r; next = next; reads = x; stuck = e; least = refl }
 
 -- ---- primaries that are no groups
 
@@ -99,52 +40,41 @@ pub record Goes (schema : Schema) (text rest : Text) (next : Next) : Type 0 wher
   pub front : Text
   pub reads : ReadsTo schema text front rest next
 
-name_step : (b : ℕ) (bs : Text) → is_name_byte b ≡ true → (name_at (b ∷ bs) ≡ b ∷ name_at bs) × (behind_name (b ∷ bs) ≡ behind_name bs)
-name_step b bs e = step_with (prefix_len is_name_byte bs) (is_name_byte b) e
-  where
-    step_with : (n : ℕ) (v : Bool) → v ≡ true → (take (cond v (1 + n) 0) (b ∷ bs) ≡ b ∷ take n bs) × (drop (cond v (1 + n) 0) (b ∷ bs) ≡ drop n bs)
-    step_with n true h =
-        let k : 1 + n ≡ suc n = omega arith in
-        (rw k refl, rw k refl)
-    step_with n false h = absurd cc
-
 pub lower_name : (b : ℕ) → is_ascii_lowercase b ≡ true → is_name_byte b ≡ true
 lower_name b e = or_left (is_ascii_lowercase b || is_ascii_digit b) (eqb b 95) (or_left (is_ascii_lowercase b) (is_ascii_digit b) e)
 
-is_whole_name : (name rest : Text) → AllByRecursion (λ b. IsTrue (is_name_byte b)) name → Stops is_name_byte rest → IsWholeName name rest
-is_whole_name name [] all stops = all
-is_whole_name name (b ∷ rest) all stops = (all, stops)
+-- up to the colon of a field
+field_goes : (schema : Schema) (text f rest name behind : Text) (c g : ℕ) (k : Kind) → ReadsTo schema text f rest (Next.a_primary c g) → rest ≡ name ++ (58 ∷ behind) → AllByRecursion (λ b. IsTrue (is_name_byte b)) name → kind_of schema name ≡ Some k
+    → Goes schema text behind (Next.a_value name k c g)
+field_goes schema text f rest name behind c g k reads parts named field =
+    let same : rest ≡ (name ++ 58 ∷ []) ++ behind = parts ∙ sym (append_assoc name (58 ∷ []) behind) in
+    let before = subst (λ (r : Text). ReadsTo schema text f r (Next.a_primary c g)) same reads in
+    record { front = f ++ (name ++ 58 ∷ []); reads = ReadsTo.step f (name ++ 58 ∷ []) behind (Next.a_primary c g) (Next.a_value name k c g) before (PassesOver.field name behind c g k named field) }
 
 term_goes : (schema : Schema) (text f : Text) (b : ℕ) (bs : Text) (c g : ℕ) → ReadsTo schema text f (b ∷ bs) (Next.a_primary c g) → is_ascii_lowercase b ≡ true → (r : Result (Primary × Text) ℕ) → term_at schema (b ∷ bs) ≡ r
     → Judged schema text (λ x. Goes schema text x.1 (Next.an_end c g)) r
 term_goes schema text f b bs c g reads lower (Ok x) e =
     let t = term_sound schema (b ∷ bs) x.0 x.1 e in
-    record { front = f ++ (t.name ++ (58 ∷ t.value)); reads = ReadsTo.term f t.name t.value x.1 c g t.kind t.asks x.0 (subst (λ (r : Text). ReadsTo schema text f r (Next.a_primary c g)) t.parts reads) t.named t.field t.whole t.means }
+    let colon = field_goes schema text f (b ∷ bs) t.name (t.value ++ x.1) c g t.kind reads t.parts t.named t.field in
+    record {
+      front = colon.front ++ t.value;
+      reads = ReadsTo.step colon.front t.value x.1 (Next.a_value t.name t.kind c g) (Next.an_end c g) colon.reads (PassesOver.value t.name t.value x.1 c g t.kind t.asks x.0 t.whole t.means);
+    }
 term_goes schema text f b bs c g reads lower (Err n) e = elim (term_fails schema (b ∷ bs) n e) [
-  | inl w ↦
-      let named = name_step b bs (lower_name b lower) in
-      let parts : b ∷ bs ≡ b ∷ name_at bs ++ behind_name bs = ap (λ (x : Text). b ∷ x) (name_parts bs) in
-      let wrong : (kind_of schema (b ∷ name_at bs) ≡ None) ⊎ ((behind : Text) → behind_name bs ≢ 58 ∷ behind) =
-      elim w.wrong [ inl h ↦ inl (ap (kind_of schema) (sym named.0) ∙ h) | inr h ↦ inr (λ behind x. h behind (named.1 ∙ x)) ] in
-      let fault = Fault.no_field f (name_at bs) (behind_name bs) b c g (subst (λ (r : Text). ReadsTo schema text f r (Next.a_primary c g)) parts reads) lower
-      (is_whole_name (b ∷ name_at bs) (behind_name bs) (lower_name b lower, name_all bs) (name_stops bs)) wrong in
-      subst (λ (left : ℕ). Faulty schema text left) (sym w.left) (faulty_here reads fault)
+  | inl w ↦ subst (λ (left : ℕ). Faulty schema text left) (sym w.left) (faulty_here reads (no_field_stops schema c g b bs lower w.wrong))
   | inr w ↦
       let name : Text = name_at (b ∷ bs) in
       let parts : b ∷ bs ≡ name ++ (58 ∷ w.behind) = name_parts (b ∷ bs) ∙ ap (λ (x : Text). name ++ x) w.colon in
-      let fault = Fault.no_value f name w.behind c g w.kind (subst (λ (r : Text). ReadsTo schema text f r (Next.a_primary c g)) parts reads) (name_all (b ∷ bs)) w.field w.none in
-      let total : length f + length (b ∷ bs) ≡ length text = reads_length reads in
-      let inner : length (b ∷ bs) ≡ length name + length (58 ∷ w.behind) = ap length parts ∙ length-append name (58 ∷ w.behind) in
-      record { place = length f + length name + 1; fault = fault; total = omega (arith, w.left, total, inner) }
+      let colon = field_goes schema text f (b ∷ bs) name w.behind c g w.kind reads parts (name_all (b ∷ bs)) w.field in
+      subst (λ (left : ℕ). Faulty schema text left) (sym w.left) (faulty_here colon.reads (no_value_stops schema c g name w.behind w.kind w.none))
 ]
 
 star_goes : (schema : Schema) (text f bs : Text) (c g : ℕ) → ReadsTo schema text f (42 ∷ bs) (Next.a_primary c g) → Judged schema text (λ x. Goes schema text x.1 (Next.an_end c g)) (everything_at (42 ∷ bs))
 star_goes schema text f bs c g reads =
     cond_both (starts_with nat_eq (42 ∷ bs) (42 ∷ 58 ∷ 42 ∷ [])) (Ok (Primary.everything, drop 3 (42 ∷ bs))) (Err (length (42 ∷ bs))) (Judged schema text (λ x. Goes schema text x.1 (Next.an_end c g)))
-    (λ h. record { front = f ++ (42 ∷ 58 ∷ 42 ∷ []); reads = ReadsTo.everything f (drop 3 (42 ∷ bs)) c g (subst (λ (r : Text). ReadsTo schema text f r (Next.a_primary c g)) (everything_is (42 ∷ bs) h) reads) })
-    (λ h. faulty_here reads (Fault.star f bs c g reads (λ r e. true≢false (sym (ap (λ (x : Text). starts_with nat_eq (42 ∷ x) (42 ∷ 58 ∷ 42 ∷ [])) e) ∙ h))))
+    (λ h. record { front = f ++ (42 ∷ 58 ∷ 42 ∷ []); reads = ReadsTo.step f (42 ∷ 58 ∷ 42 ∷ []) (drop 3 (42 ∷ bs)) (Next.a_primary c g) (Next.an_end c g) (subst (λ (r : Text). ReadsTo schema text f r (Next.a_primary c g)) (everything_is (42 ∷ bs) h) reads) (PassesOver.everything (drop 3 (42 ∷ bs)) c g) })
+    (λ h. faulty_here reads (star_stops schema c g bs h))
 
--- where neither a primary nor a star begins, `no_primary` is left to the caller
 leaf_goes : (schema : Schema) (text f : Text) (b : ℕ) (bs : Text) (c g : ℕ) → IsSchema schema → ReadsTo schema text f (b ∷ bs) (Next.a_primary c g) → eqb b 40 ≡ false → Judged schema text (λ x. Goes schema text x.1 (Next.an_end c g)) (leaf_at schema (b ∷ bs))
 unfolding leaf_at
 leaf_goes schema text f b bs c g ok reads no_open =
@@ -155,7 +85,7 @@ leaf_goes schema text f b bs c g ok reads no_open =
       | inr other ↦
           let e : term_at schema (b ∷ bs) ≡ Err (length (b ∷ bs)) = no_term schema ok b bs other in
           let none : begins_primary b ≡ false = rw (no_open, h, other) refl in
-          subst (Judged schema text (λ x. Goes schema text x.1 (Next.an_end c g))) (sym e) (faulty_here reads (Fault.no_primary f bs b c g reads none))
+          subst (Judged schema text (λ x. Goes schema text x.1 (Next.an_end c g))) (sym e) (faulty_here reads (no_primary_stops schema c g b bs ok none))
     ])
   where
     star : b ≡ 42 → Judged schema text (λ x. Goes schema text x.1 (Next.an_end c g)) (everything_at (b ∷ bs))
@@ -186,8 +116,8 @@ GoesInside schema text inside levels =
 
 grouped_goes : (schema : Schema) (text : Text) (c g : ℕ) (x : Query × ℕ × Text) → EndsSo schema text c (g + 1) x → Judged schema text (PrimaryGoes schema text c g) (grouped x)
 grouped_goes schema text c g (q, left, []) so = elim so.reads [
-  | inl r ↦ faulty_here r (Fault.stops_open so.front so.count g false (inr r))
-  | inr r ↦ faulty_here r (Fault.stops_open so.front so.count g false (inl r))
+  | inl r ↦ faulty_here r (text_end_stops schema (Next.an_end so.count (g + 1)))
+  | inr r ↦ faulty_here r (text_end_stops schema (Next.a_clause so.count (g + 1) false))
 ]
 grouped_goes schema text c g (q, left, b ∷ bs) so =
     let is : b ≡ 41 = eqb-true b 41 so.stops in
@@ -197,8 +127,8 @@ grouped_goes schema text c g (q, left, b ∷ bs) so =
       used = so.used;
       front = so.front ++ 41 ∷ [];
       reads = elim so.reads [
-        | inl r ↦ ReadsTo.shut so.front bs so.count g (subst (λ (x : ℕ). ReadsTo schema text so.front (x ∷ bs) (Next.an_end so.count (g + 1))) is r)
-        | inr r ↦ ReadsTo.shut_behind_space so.front bs so.count g (subst (λ (x : ℕ). ReadsTo schema text so.front (x ∷ bs) (Next.a_clause so.count (g + 1) false)) is r)
+        | inl r ↦ ReadsTo.step so.front (41 ∷ []) bs (Next.an_end so.count (g + 1)) (Next.an_end so.count g) (subst (λ (x : ℕ). ReadsTo schema text so.front (x ∷ bs) (Next.an_end so.count (g + 1))) is r) (PassesOver.shut bs so.count g)
+        | inr r ↦ ReadsTo.step so.front (41 ∷ []) bs (Next.a_clause so.count (g + 1) false) (Next.an_end so.count g) (subst (λ (x : ℕ). ReadsTo schema text so.front (x ∷ bs) (Next.a_clause so.count (g + 1) false)) is r) (PassesOver.shut_behind_space bs so.count g)
       ];
     }
 
@@ -208,16 +138,16 @@ unfolding content_at
 group_goes schema text f bs c g left zero inside reads used deep =
     let eight : g ≡ 8 = omega arith in
     let k : length (40 ∷ bs) ≡ length bs + 1 = omega arith in
-    subst (Faulty schema text) k (faulty_here reads (Fault.too_deep f bs c (subst (λ (x : ℕ). ReadsTo schema text f (40 ∷ bs) (Next.a_primary c x)) eight reads)))
+    subst (Faulty schema text) k (faulty_here (subst (λ (x : ℕ). ReadsTo schema text f (40 ∷ bs) (Next.a_primary c x)) eight reads) (too_deep_stops schema c bs))
 group_goes schema text f bs c g left (suc levels) inside reads used deep =
     judged_bind schema text (EndsSo schema text c (g + 1)) (PrimaryGoes schema text c g) (content_at schema (suc levels) left bs) grouped
-    (inside (f ++ 40 ∷ []) bs c (g + 1) left (ReadsTo.opened f bs c g reads (omega arith)) used (omega arith) (omega arith))
+    (inside (f ++ 40 ∷ []) bs c (g + 1) left (ReadsTo.step f (40 ∷ []) bs (Next.a_primary c g) (Next.a_clause c (g + 1) true) reads (PassesOver.opened bs c g (omega arith))) used (omega arith) (omega arith))
     (grouped_goes schema text c g)
 
 primary_goes : (schema : Schema) (text f rest : Text) (c g left levels : ℕ) → IsSchema schema → GoesInside schema text (content_at schema levels) levels → ReadsTo schema text f rest (Next.a_primary c g) → c + left ≡ 64 → g + levels ≡ 8
     → Judged schema text (PrimaryGoes schema text c g) (primary_at schema (content_at schema levels) left rest)
 unfolding primary_at
-primary_goes schema text f [] c g left levels ok inside reads used deep = faulty_here reads (Fault.stops_signed f c g reads)
+primary_goes schema text f [] c g left levels ok inside reads used deep = faulty_here reads (text_end_stops schema (Next.a_primary c g))
 primary_goes schema text f (b ∷ bs) c g left levels ok inside reads used deep =
     cond_both (eqb b 40) (content_at schema levels left bs >>= grouped) (leaf_at schema (b ∷ bs) >>= λ p. Ok (p.0, left, p.1)) (Judged schema text (PrimaryGoes schema text c g))
     (λ h. group_goes schema text f bs c g left levels inside (subst (λ (x : ℕ). ReadsTo schema text f (x ∷ bs) (Next.a_primary c g)) (eqb-true b 40 h) reads) used deep)
@@ -237,10 +167,10 @@ record ClauseGoes (schema : Schema) (text : Text) (c g : ℕ) (x : Sign × Prima
 -- where a clause has to begin, and neither a space nor a `)` stands
 limit_fault : (schema : Schema) (text f : Text) (b : ℕ) (bs : Text) (g : ℕ) (new : Bool) → ReadsTo schema text f (b ∷ bs) (Next.a_clause 64 g new) → eqb b 32 ≡ false → eqb b 41 ≡ false → Faulty schema text (length (b ∷ bs))
 limit_fault schema text f b bs g new reads no_space no_close = elim (cases_Bool (is_sign b || begins_primary b)) [
-  | inl h ↦ faulty_here reads (Fault.too_many f bs b g new reads h)
+  | inl h ↦ faulty_here reads (too_many_stops schema g b bs new h)
   | inr h ↦
       let none : IsTrue (not (is_sign b || begins_primary b || eqb b 32 || eqb b 41)) = rw (h, no_space, no_close) refl in
-      faulty_here reads (Fault.no_clause f bs b 64 g new reads none)
+      faulty_here reads (no_clause_stops schema 64 g b bs new none)
 ]
 
 no_primary_at : (schema : Schema) → IsSchema schema → (inside : Inside) (left b : ℕ) (bs : Text) → begins_primary b ≡ false → primary_at schema inside left (b ∷ bs) ≡ Err (length (b ∷ bs))
@@ -271,20 +201,20 @@ clause_goes schema text f b bs c g (suc left) levels new ok inside reads no_spac
   | inl h ↦
       let is : b ≡ 43 = eqb-true b 43 h in
       let e : sign_at (b ∷ bs) ≡ (Sign.must, bs) = rw h refl in
-      subst (goes-as) (sym e) (behind_sign schema text (f ++ b ∷ []) bs Sign.must c g left levels ok inside (ReadsTo.sign f bs b c g new reads (or_left (eqb b 43) (eqb b 45) h) (omega arith)) used deep)
+      subst (goes-as) (sym e) (behind_sign schema text (f ++ b ∷ []) bs Sign.must c g left levels ok inside (ReadsTo.step f (b ∷ []) bs (Next.a_clause c g new) (Next.a_primary (c + 1) g) reads (PassesOver.sign b bs c g new (or_left (eqb b 43) (eqb b 45) h) (omega arith))) used deep)
   | inr h ↦ elim (cases_Bool (eqb b 45)) [
     | inl k ↦
         let e : sign_at (b ∷ bs) ≡ (Sign.must_not, bs) = rw (h, k) refl in
-        subst (goes-as) (sym e) (behind_sign schema text (f ++ b ∷ []) bs Sign.must_not c g left levels ok inside (ReadsTo.sign f bs b c g new reads (or_right (eqb b 43) (eqb b 45) k) (omega arith)) used deep)
+        subst (goes-as) (sym e) (behind_sign schema text (f ++ b ∷ []) bs Sign.must_not c g left levels ok inside (ReadsTo.step f (b ∷ []) bs (Next.a_clause c g new) (Next.a_primary (c + 1) g) reads (PassesOver.sign b bs c g new (or_right (eqb b 43) (eqb b 45) k) (omega arith))) used deep)
     | inr k ↦
         let e : sign_at (b ∷ bs) ≡ (Sign.should, b ∷ bs) = rw (h, k) refl in
         elim (cases_Bool (begins_primary b)) [
-          | inl p ↦ subst (goes-as) (sym e) (behind_sign schema text f (b ∷ bs) Sign.should c g left levels ok inside (ReadsTo.no_sign f bs b c g new reads p (omega arith)) used deep)
+          | inl p ↦ subst (goes-as) (sym e) (behind_sign schema text (f ++ []) (b ∷ bs) Sign.should c g left levels ok inside (ReadsTo.step f [] (b ∷ bs) (Next.a_clause c g new) (Next.a_primary (c + 1) g) reads (PassesOver.no_sign b bs c g new p (omega arith))) used deep)
           | inr p ↦
               let n : primary_at schema (content_at schema levels) left (b ∷ bs) ≡ Err (length (b ∷ bs)) = no_primary_at schema ok (content_at schema levels) left b bs p in
               let none : IsTrue (not (is_sign b || begins_primary b || eqb b 32 || eqb b 41)) = rw (h, k, p, no_space, no_close) refl in
               let stuck : (primary_at schema (content_at schema levels) left (b ∷ bs) >>= λ p. Ok (Sign.should, p.0, p.1, p.2)) ≡ Err (length (b ∷ bs)) = rw n refl in
-              subst (goes-as) (sym e) (subst (Judged schema text (ClauseGoes schema text c g)) (sym stuck) (faulty_here reads (Fault.no_clause f bs b c g new reads none)))
+              subst (goes-as) (sym e) (subst (Judged schema text (ClauseGoes schema text c g)) (sym stuck) (faulty_here reads (no_clause_stops schema c g b bs new none)))
         ]
   ]
 ]
@@ -306,7 +236,7 @@ spaces_go : (schema : Schema) (text f rest : Text) (c g : ℕ) (new : Bool) → 
 spaces_go schema text f [] c g new reads = record { front = f; reads = reads }
 spaces_go schema text f (b ∷ bs) c g new reads =
     cond_both (eqb b 32) (after_spaces bs) (b ∷ bs) (λ x. Goes schema text x (Next.a_clause c g new))
-    (λ h. spaces_go schema text (f ++ 32 ∷ []) bs c g new (ReadsTo.space f bs c g new (subst (λ (x : ℕ). ReadsTo schema text f (x ∷ bs) (Next.a_clause c g new)) (eqb-true b 32 h) reads)))
+    (λ h. spaces_go schema text (f ++ 32 ∷ []) bs c g new (ReadsTo.step f (32 ∷ []) bs (Next.a_clause c g new) (Next.a_clause c g new) (subst (λ (x : ℕ). ReadsTo schema text f (x ∷ bs) (Next.a_clause c g new)) (eqb-true b 32 h) reads) (PassesOver.space bs c g new)))
     (λ h. record { front = f; reads = reads })
 
 -- behind a primary and the spaces after it
@@ -320,7 +250,7 @@ gap_goes schema text f [] c g reads = record { front = f; reads = inl (reads, re
 gap_goes schema text f (b ∷ bs) c g reads = elim (cases_Bool (eqb b 32)) [
   | inl h ↦
       let is : b ≡ 32 = eqb-true b 32 h in
-      let so = spaces_go schema text (f ++ 32 ∷ []) bs c g false (ReadsTo.gap f bs c g (subst (λ (x : ℕ). ReadsTo schema text f (x ∷ bs) (Next.an_end c g)) is reads)) in
+      let so = spaces_go schema text (f ++ 32 ∷ []) bs c g false (ReadsTo.step f (32 ∷ []) bs (Next.an_end c g) (Next.a_clause c g false) (subst (λ (x : ℕ). ReadsTo schema text f (x ∷ bs) (Next.an_end c g)) is reads) (PassesOver.gap bs c g)) in
       let e : gap_at (b ∷ bs) ≡ Ok (after_spaces bs) = rw h refl in
       let found : GapGoes schema text c g (after_spaces bs) = record { front = so.front; reads = inr so.reads; clean = no_space_after bs } in
       subst (Judged schema text (GapGoes schema text c g)) (sym e) found
@@ -332,7 +262,7 @@ gap_goes schema text f (b ∷ bs) c g reads = elim (cases_Bool (eqb b 32)) [
     | inr k ↦
         let e : gap_at (b ∷ bs) ≡ Err (length (b ∷ bs)) = rw (h, k) refl in
         let none : IsTrue (not (eqb b 32 || eqb b 41)) = rw (h, k) refl in
-        subst (Judged schema text (GapGoes schema text c g)) (sym e) (faulty_here reads (Fault.no_end f bs b c g reads none))
+        subst (Judged schema text (GapGoes schema text c g)) (sym e) (faulty_here reads (no_end_stops schema c g b bs none))
   ]
 ]
 
@@ -371,11 +301,8 @@ series_goes schema text levels ok inside (suc n) f (b ∷ bs) c g left new reads
 
 -- the end of the text, or a `)`, where no clause came
 no_content : (schema : Schema) (text f rest : Text) (c g : ℕ) → ReadsTo schema text f rest (Next.a_clause c g true) → ends rest ≡ true → Faulty schema text (length rest)
-no_content schema text f [] c zero reads stop = faulty_here reads (Fault.stops_empty f c reads)
-no_content schema text f [] c (suc g) reads stop =
-    let k : suc g ≡ g + 1 = omega arith in
-    faulty_here reads (Fault.stops_open f c g true (inl (subst (λ (x : ℕ). ReadsTo schema text f [] (Next.a_clause c x true)) k reads)))
-no_content schema text f (b ∷ bs) c g reads stop = faulty_here reads (Fault.empty f bs c g (subst (λ (x : ℕ). ReadsTo schema text f (x ∷ bs) (Next.a_clause c g true)) (eqb-true b 41 stop) reads))
+no_content schema text f [] c g reads stop = faulty_here reads (text_end_stops schema (Next.a_clause c g true))
+no_content schema text f (b ∷ bs) c g reads stop = faulty_here (subst (λ (x : ℕ). ReadsTo schema text f (x ∷ bs) (Next.a_clause c g true)) (eqb-true b 41 stop) reads) (empty_stops schema c g bs)
 
 content_goes : (schema : Schema) (text : Text) → IsSchema schema → (levels : ℕ) → GoesInside schema text (content_at schema levels) levels
 unfolding content_at
@@ -386,25 +313,15 @@ content_goes schema text ok (suc levels) f rest c g left reads used deep low =
     (λ h. no_content schema text so.front (after_spaces rest) c g so.reads h)
     (λ h. series_goes schema text levels ok (content_goes schema text ok levels) left so.front (after_spaces rest) c g left true so.reads h (no_space_after rest) used (omega arith) (omega arith))
 
--- the text may end here
-pub record Accepted (schema : Schema) (text : Text) : Type 0 where
-  pub count : ℕ
-  pub front : Text
-  pub reads : ReadsTo schema text front [] (Next.an_end count 0) ⊎ ReadsTo schema text front [] (Next.a_clause count 0 false)
-
-whole_goes : (schema : Schema) (text : Text) (x : Query × ℕ × Text) → EndsSo schema text 0 0 x → Judged schema text (λ q. Accepted schema text) (whole x)
-whole_goes schema text (q, left, []) so = record { count = so.count; front = so.front; reads = so.reads }
+whole_goes : (schema : Schema) (text : Text) (x : Query × ℕ × Text) → EndsSo schema text 0 0 x → Judged schema text (λ q. Unit {0}) (whole x)
+whole_goes schema text (q, left, []) so = tt
 whole_goes schema text (q, left, b ∷ bs) so = elim so.reads [
-  | inl r ↦
-      let r' = subst (λ (x : ℕ). ReadsTo schema text so.front (x ∷ bs) (Next.an_end so.count 0)) (eqb-true b 41 so.stops) r in
-      faulty_here r (Fault.unopened so.front bs so.count false (inr r'))
-  | inr r ↦
-      let r' = subst (λ (x : ℕ). ReadsTo schema text so.front (x ∷ bs) (Next.a_clause so.count 0 false)) (eqb-true b 41 so.stops) r in
-      faulty_here r (Fault.unopened so.front bs so.count false (inl r'))
+  | inl r ↦ faulty_here (subst (λ (x : ℕ). ReadsTo schema text so.front (x ∷ bs) (Next.an_end so.count 0)) (eqb-true b 41 so.stops) r) (unopened_end_stops schema so.count bs)
+  | inr r ↦ faulty_here (subst (λ (x : ℕ). ReadsTo schema text so.front (x ∷ bs) (Next.a_clause so.count 0 false)) (eqb-true b 41 so.stops) r) (unopened_stops schema so.count bs false)
 ]
 
-pub text_goes : (schema : Schema) (text : Text) → IsSchema schema → Judged schema text (λ q. Accepted schema text) (content_at schema 9 64 text >>= whole)
+pub text_goes : (schema : Schema) (text : Text) → IsSchema schema → Judged schema text (λ q. Unit {0}) (content_at schema 9 64 text >>= whole)
 text_goes schema text ok =
-    judged_bind schema text (EndsSo schema text 0 0) (λ q. Accepted schema text) (content_at schema 9 64 text) whole
+    judged_bind schema text (EndsSo schema text 0 0) (λ q. Unit {0}) (content_at schema 9 64 text) whole
     (content_goes schema text ok 9 [] text 0 0 64 ReadsTo.start refl refl (omega arith))
     (whole_goes schema text)

@@ -1,5 +1,5 @@
 -- What reading gives is what the text spells, and what it refuses is a fault: the laws of query texts.
-use Rattle.std.proofs.Common.{◌≡◌, ℕ, ◌-◌, ◌+◌, [], ◌∷◌, length, Result, Ok, Err, ◌⊎◌, inl, inr, refl, sym, ap, subst, ◌∙◌, arith, append-nil}
+use Rattle.std.proofs.Common.{◌≡◌, ℕ, ◌-◌, ◌+◌, ◌≤◌, [], ◌∷◌, length, Result, Ok, Err, ◌⊎◌, inl, inr, refl, sym, ap, subst, ◌∙◌, arith, append-nil}
 use Rattle.cat_model.specs.Text.{Text}
 use Rattle.cat_model.specs.Item.{Schema, IsSchema}
 use Rattle.cat_model.specs.Query.{Query}
@@ -7,11 +7,11 @@ use Rattle.cat_model.specs.Grammar.{IsQuery, Spells, clauses}
 use Rattle.cat_model.specs.Faults.{Fault}
 use Rattle.cat_model.specs.Reader.{◌>>=◌, content_at, whole, placed, read_query}
 use Rattle.cat_model.specs.QueryLaws.{QueriesAreRead, FaultsAreFound, TextsSpellOneQuery, FaultsHaveOnePlace, TextsAreJudged, SpelledTextsHaveNoFault}
-use Rattle.cat_model.proofs.QueryTerms.{ok_is}
+use Rattle.cat_model.proofs.QueryTerms.{ok_is, ok_not_err}
 use Rattle.cat_model.proofs.QueryComplete.{reads_query}
 use Rattle.cat_model.proofs.QuerySound.{Sound, SoGroup, sound_ok, content_sound}
-use Rattle.cat_model.proofs.QueryFaults.{Judged, Accepted, text_goes}
-use Rattle.cat_model.proofs.QueryPlaces.{one_place, accepted_no_fault}
+use Rattle.cat_model.proofs.QueryPlaces.{reads_length, stops_farthest}
+use Rattle.cat_model.proofs.QueryFaults.{Faulty, Judged, text_goes}
 
 placed_ok : (total : ℕ) (r : Result Query ℕ) (q : Query) → placed total r ≡ Ok q → r ≡ Ok q
 placed_ok total (Ok p) q e = e
@@ -46,43 +46,50 @@ one_query schema text p q s t = ok_is p q (sym (spells_read schema text p s) ∙
 
 -- ---- faults
 
--- what is refused, as the places say it
-abbrev Outcome : Schema → Text → Result Query ℕ → Type 0
-Outcome schema text (Ok q) = Accepted schema text
-Outcome schema text (Err place) = Fault schema text place
-
-outcome : (schema : Schema) (text : Text) (r : Result Query ℕ) → Judged schema text (λ q. Accepted schema text) r → Outcome schema text (placed (length text) r)
-outcome schema text (Ok q) j = j
-outcome schema text (Err left) j =
-    let total : j.place + left ≡ length text = j.total in
-    let k : j.place ≡ length text - left = omega arith in
-    subst (Fault schema text) k j.fault
-
-judged : (schema : Schema) (text : Text) → IsSchema schema → Outcome schema text (read_query schema text)
-unfolding read_query
-judged schema text ok = outcome schema text (content_at schema 9 64 text >>= whole) (text_goes schema text ok)
+refused_is : (total : ℕ) (r : Result Query ℕ) (place : ℕ) → placed total r ≡ Err place → (left : ℕ) × (r ≡ Err left) × (place ≡ total - left)
+refused_is total (Ok q) place e = absurd cc
+refused_is total (Err left) place e = (left, refl, cc)
 
 result_cases : (r : Result Query ℕ) → ((q : Query) × (r ≡ Ok q)) ⊎ ((place : ℕ) × (r ≡ Err place))
 result_cases (Ok q) = inl (q, refl)
 result_cases (Err place) = inr (place, refl)
 
+-- a text is refused where it stops being read
 pub read_faults : (schema : Schema) (text : Text) (place : ℕ) → IsSchema schema → read_query schema text ≡ Err place → Fault schema text place
-read_faults schema text place ok e = subst (Outcome schema text) e (judged schema text ok)
+unfolding read_query
+read_faults schema text place ok e =
+    let read : Result Query ℕ = content_at schema 9 64 text >>= whole in
+    let r = refused_is (length text) read place e in
+    let at : Faulty schema text r.0 = subst (Judged schema text (λ q. Unit {0})) r.1 (text_goes schema text ok) in
+    let total : length at.front + length at.rest ≡ length text = reads_length at.reads in
+    let here : length at.front ≡ place = omega (arith, r.2, at.least, total) in
+    record {
+      front = at.front;
+      rest = at.rest;
+      next = at.next;
+      reads = at.reads;
+      here = here;
+      farthest = λ f r n reads. subst (λ (most : ℕ). length f ≤ most) here (stops_farthest ok at.reads at.stuck f r n reads);
+      wrong = λ q spells. ok_not_err q place (sym (spells_read schema text q spells) ∙ e);
+    }
 
 pub no_fault : SpelledTextsHaveNoFault
-no_fault schema text q place ok s x = accepted_no_fault schema text place ok (subst (Outcome schema text) (spells_read schema text q s) (judged schema text ok)) x
+no_fault schema text q place ok spells fault = fault.wrong q spells
+
+pub place_is_one : FaultsHaveOnePlace
+place_is_one schema text m n ok x y =
+    let more : length x.front ≤ n = y.farthest x.front x.rest x.next x.reads in
+    let less : length y.front ≤ m = x.farthest y.front y.rest y.next y.reads in
+    omega (arith, x.here, y.here, more, less)
 
 faults_read : (schema : Schema) (text : Text) (place : ℕ) → IsSchema schema → Fault schema text place → read_query schema text ≡ Err place
-faults_read schema text place ok x = elim (result_cases (read_query schema text)) [
-  | inl h ↦ absurd (no_fault schema text h.0 place ok (read_spells schema text h.0 h.1) x)
-  | inr h ↦ h.1 ∙ ap (λ (n : ℕ). Err n) (one_place schema text h.0 place ok (read_faults schema text h.0 ok h.1) x)
+faults_read schema text place ok fault = elim (result_cases (read_query schema text)) [
+  | inl h ↦ absurd (fault.wrong h.0 (read_spells schema text h.0 h.1))
+  | inr h ↦ h.1 ∙ ap (λ (n : ℕ). Err n) (place_is_one schema text h.0 place ok (read_faults schema text h.0 ok h.1) fault)
 ]
 
 pub faults_are_found : FaultsAreFound
 faults_are_found schema text place ok = (read_faults schema text place ok, faults_read schema text place ok)
-
-pub place_is_one : FaultsHaveOnePlace
-place_is_one = one_place
 
 pub texts_are_judged : TextsAreJudged
 texts_are_judged schema text ok = elim (result_cases (read_query schema text)) [

@@ -211,7 +211,7 @@ no_colon left [] none = refl
 no_colon left (b ∷ bs) none = rw (ne_eqb b 58 (λ e. none bs (ap (λ (x : ℕ). x ∷ bs) e))) refl
 
 -- what is read behind the colon
-value_of : Text → Kind → Text → Result (Primary × Text) ℕ
+unfoldable pub value_of : Text → Kind → Text → Result (Primary × Text) ℕ
 value_of name kind behind = or_fault (length behind) (value_at behind) >>= λ value. or_fault (length behind) (meaning name kind value.0) >>= λ p. Ok (p, value.1)
 
 module _ (schema : Schema) (text : Text) where
@@ -250,7 +250,7 @@ value_of_sound name kind behind p rest e =
       subst (λ (q : Primary). Means name kind x.0.0 q) p-is (meaning_sound name kind x.0.0 y.0 (or_fault_ok (length behind) (meaning name kind x.0.0) y.0 y.1)),
     )
 
-value_of_complete : (name : Text) (kind : Kind) (t rest : Text) (a : Asks) (p : Primary) → IsWhole t rest a → Means name kind a p → value_of name kind (t ++ rest) ≡ Ok (p, rest)
+pub value_of_complete : (name : Text) (kind : Kind) (t rest : Text) (a : Asks) (p : Primary) → IsWhole t rest a → Means name kind a p → value_of name kind (t ++ rest) ≡ Ok (p, rest)
 unfolding value_of
 value_of_complete name kind t rest a p whole means = rw (whole_complete whole, meaning_complete means) refl
 
@@ -277,7 +277,7 @@ value_of_fails name kind behind n e = (
   λ t rest a p parts whole means. ok_not_err (p, rest) n (sym (ap (value_of name kind) parts ∙ value_of_complete name kind t rest a p whole means) ∙ e),
 )
 
-value_of_none : (name : Text) (kind : Kind) (behind : Text) → NoValue name kind behind → value_of name kind behind ≡ Err (length behind)
+pub value_of_none : (name : Text) (kind : Kind) (behind : Text) → NoValue name kind behind → value_of name kind behind ≡ Err (length behind)
 value_of_none name kind behind none = elim (value_of_cases name kind behind) [
   | inl f ↦ f
   | inr f ↦ let v = value_of_sound name kind behind f.0.0 f.0.1 f.1 in absurd (none v.0 f.0.1 v.1 f.0.0 v.2 v.3 v.4)
