@@ -6,7 +6,7 @@ use Rattle.cat_model.specs.Text.{Text}
 use Rattle.cat_model.specs.Item.{Schema, IsSchema}
 use Rattle.cat_model.specs.Forms.{IsCommitText}
 use Rattle.cat_model.specs.Files.{Name, IsFileNumber}
-use Rattle.cat_model.specs.Layout.{spelled_fields}
+use Rattle.cat_model.specs.SegmentFile.{spelled_fields}
 use Rattle.cat_model.specs.Limits.{last_number, segment_limit}
 
 -- The two versions of the file. The first knows no text; it is read, and the second alone is written.

@@ -1,16 +1,17 @@
--- How a segment is laid out in a file, and the bytes of each part. The layouts are our own; they hold what Lucene's codec
--- holds in its FieldInfosFormat, PostingsFormat and DocValuesFormat.
-use Rattle.std.specs.Prelude.{◌≡◌, ℕ, suc, ◌-◌, ◌<◌, ◌≤◌, ◌^◌, ℤ, not, true, List, [], ◌∷◌, ◌++◌, length, map, codes, take, drop, Option, Some, None, IfSome, All}
-use Rattle.std.specs.List.{flat_map, prefix_len}
-use Rattle.std.specs.Int.{w64, cast_unsigned}
+-- What the file of a segment is read into, in parts, and the bytes of each part. Nothing to believe: `SegmentFile` says the bytes
+-- of the segment itself, and that these are the same is proved (`SegmentsAreSpelledAsLaid`).
+use Rattle.std.specs.Prelude.{◌≡◌, ℕ, ◌-◌, ◌<◌, ◌≤◌, ◌^◌, ℤ, true, List, [], ◌∷◌, ◌++◌, length, map, codes, take, drop, Option, IfSome, All}
+use Rattle.std.specs.List.{flat_map}
+use Rattle.std.specs.Int.{w64}
 use Rattle.std.specs.Int.RustNames.{FitsSigned}
 use Rattle.cat_base.specs.Bytes.{spelled_u32, spelled_u64, spelled_bytes}
-use Rattle.cat_model.specs.Text.{Text, same_text}
+use Rattle.cat_model.specs.Text.{Text}
 use Rattle.cat_model.specs.Item.{Content, Field, Kind, Schema, IsSchema, is_id, content_of, words_in, keyword_in, number_in, labels_in}
 use Rattle.cat_model.specs.Forms.{IsKeyword, IsLabel, IsWord, IsSourceLength}
 use Rattle.cat_model.specs.Ordinals.{dictionary_of, postings_of, texts_of}
 use Rattle.cat_model.specs.Files.{IsFileNumber}
-use Rattle.cat_model.specs.View.{Row, Segment, IsSegment, item_in}
+use Rattle.cat_model.specs.View.{Row, Segment, item_in}
+pub use Rattle.cat_model.specs.SegmentFile.{kind_byte, spelled_field, spelled_fields, spelled_list, spelled_texts, spelled_number, ordinal_in, code_in, SpellsSegment}
 use Rattle.cat_model.specs.Limits.{row_limit}
 
 -- ---- what is laid out
@@ -40,15 +41,6 @@ pub record Layout : Type 0 where
   pub schema : Schema
   pub heads : List Head
   pub columns : List Laid
-
--- the ordinal of a text of the dictionary: how many texts stand before it
-abbrev pub ordinal_in : List Text → Text → ℕ
-ordinal_in dictionary text = prefix_len (λ t. not (same_text t text)) dictionary
-
--- 0 where the row has no text, else the ordinal plus 1
-abbrev pub code_in : List Text → Option Text → ℕ
-code_in dictionary None = 0
-code_in dictionary (Some text) = suc (ordinal_in dictionary text)
 
 -- the words of rows, each with its postings
 abbrev pub word_postings_of : List (List Text) → List WordPostings
@@ -82,41 +74,13 @@ layout_of s =
 
 -- ---- its bytes
 
--- the byte of a kind
-abbrev pub kind_byte : Kind → ℕ
-kind_byte Kind.text = 1
-kind_byte Kind.keyword = 2
-kind_byte Kind.number = 3
-kind_byte Kind.facet = 4
-
--- the name and the kind
-abbrev pub spelled_field : Field → List ℕ
-spelled_field f = spelled_bytes f.name ++ kind_byte f.kind ∷ []
-
--- the number of fields, and each
-abbrev pub spelled_fields : Schema → List ℕ
-spelled_fields schema = spelled_u32 (length schema) ++ flat_map spelled_field schema
-
 -- the number, the id, and how long the source is
 abbrev pub spelled_head : Head → List ℕ
 spelled_head h = spelled_u64 h.number ++ (spelled_bytes h.id ++ spelled_u32 h.length)
 
--- the number of numbers, and each
-abbrev pub spelled_list : List ℕ → List ℕ
-spelled_list ns = spelled_u32 (length ns) ++ flat_map spelled_u32 ns
-
--- the number of texts, and each
-abbrev pub spelled_texts : List Text → List ℕ
-spelled_texts texts = spelled_u32 (length texts) ++ flat_map spelled_bytes texts
-
 -- the word, and its postings
 abbrev pub spelled_postings : WordPostings → List ℕ
 spelled_postings p = spelled_bytes p.word ++ spelled_list p.rows
-
--- 0 where the row has no number; else 1, and the number in two's complement
-abbrev pub spelled_number : Option ℤ → List ℕ
-spelled_number None = 0 ∷ []
-spelled_number (Some z) = 1 ∷ spelled_u64 (cast_unsigned w64 z)
 
 -- a column, by its kind
 abbrev pub spelled_column : Laid → List ℕ
@@ -130,16 +94,6 @@ abbrev pub spelled_layout : Layout → List ℕ
 spelled_layout l =
     codes "CSEG" ++ (1 ∷ (spelled_u64 l.number ++ (spelled_u32 (length l.heads)
     ++ (spelled_fields l.schema ++ (flat_map spelled_head l.heads ++ flat_map spelled_column l.columns)))))
-
--- the bytes of a segment's file
-abbrev pub spelled_segment : Segment → List ℕ
-spelled_segment s = spelled_layout (layout_of s)
-
--- the bytes are those of the segment's file, whose number a name can have
-pub record SpellsSegment (bytes : List ℕ) (s : Segment) : Type 0 where
-  pub number : IsFileNumber s.number
-  pub form : IsSegment s
-  pub spelled : bytes ≡ spelled_segment s
 
 -- ---- what can be laid out: texts with their forms, numbers that fit, one of each for each row
 
@@ -184,7 +138,7 @@ pub record IsLayout (l : Layout) : Type 0 where
   pub heads : All IsHead l.heads
   pub columns : AreLaid (length l.heads) l.schema l.columns
 
--- ---- pieces of one list: nothing to believe, since they only serve the proofs of what reads a file
+-- ---- pieces of one list, for the proofs of what reads a file
 
 -- the list from `from` to the first end, from there to the next, and so on
 abbrev pub pieces : {A : Type 0} → ℕ → List ℕ → List A → List (List A)

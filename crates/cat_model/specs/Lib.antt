@@ -23,7 +23,7 @@ pub mod Served
 pub mod RowSets
 pub mod Ordinals
 pub mod View
-pub mod Layout
+pub mod SegmentFile
 pub mod LiveFile
 pub mod CommitFile
 pub mod Merged
@@ -41,7 +41,8 @@ pub mod Found
 -- ---- What the contracts of single crates rest on beside these.
 pub mod GlobalOrdinals
 -- ---- What needs no belief: laws, each proved as the contract of a public function, samples that were judged by hand, and
--- what serves proofs (`Reader`, `Ranks`, `State`).
+-- what serves code and proofs (`Layout`, `Reader`, `Ranks`, `State`).
+pub mod Layout
 pub mod Reader
 pub mod QueryLaws
 pub mod QuerySamples

@@ -5,7 +5,7 @@ use Rattle.cat_model.specs.Text.{Text}
 use Rattle.cat_model.specs.Item.{Schema}
 use Rattle.cat_model.specs.Files.{Name}
 use Rattle.cat_model.specs.CommitFile.{ListedSegment, CommitFile, SpellsCommit}
-use Rattle.cat_model.specs.Layout.{SpellsSegment}
+use Rattle.cat_model.specs.SegmentFile.{SpellsSegment}
 use Rattle.cat_model.specs.LiveFile.{SpellsLive}
 use Rattle.cat_model.specs.View.{Segment, Leaf, IsView}
 use Rattle.cat_model.specs.Merged.{rows_of_all}

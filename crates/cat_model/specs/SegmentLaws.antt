@@ -5,11 +5,17 @@ use Rattle.std.specs.List.{flat_map}
 use Rattle.cat_base.specs.Texts.{IsTextSet}
 use Rattle.cat_model.specs.Text.{Text}
 use Rattle.cat_model.specs.Item.{Schema}
-use Rattle.cat_model.specs.View.{Leaf, row_of, live_rows}
+use Rattle.cat_model.specs.View.{Segment, Leaf, row_of, live_rows}
+use Rattle.cat_model.specs.SegmentFile.{spelled_segment}
+use Rattle.cat_model.specs.Layout.{layout_of, spelled_layout}
 use Rattle.cat_model.specs.CommitFile.{CommitFile, SpellsCommit}
 use Rattle.cat_model.specs.Window.{IsLevel, IsWindow}
 use Rattle.cat_model.specs.Merged.{AreDeletedFrom, rows_kept, records_kept, merged_leaf}
 use Rattle.cat_model.specs.GlobalOrdinals.{IsOrdinalMap}
+
+-- The bytes of a segment's file are those of its layout.
+abbrev pub SegmentsAreSpelledAsLaid : Type 0
+SegmentsAreSpelledAsLaid = (s : Segment) → spelled_segment s ≡ spelled_layout (layout_of s)
 
 -- Bytes are the file of one commit at most.
 abbrev pub CommitsAreToldByTheirBytes : Type 0

@@ -7,7 +7,7 @@ ghost use Rattle.cat_model.specs.TalkSample.{SampleIsJudged};
 ghost use Rattle.cat_model.specs.QueryLaws.{QueriesAreRead, FaultsAreFound, TextsSpellOneQuery, FaultsHaveOnePlace, TextsAreJudged, SpelledTextsHaveNoFault};
 ghost use Rattle.cat_model.specs.QuerySamples.{SamplesAreJudged};
 ghost use Rattle.cat_model.specs.ViewLaws.{SourcesAreShown};
-ghost use Rattle.cat_model.specs.SegmentLaws.{CommitsAreToldByTheirBytes, LevelsAreOne, WindowsAreOne, MergedShowTheEnd, KeptAreSourced, OrdinalMapsAreOne};
+ghost use Rattle.cat_model.specs.SegmentLaws.{SegmentsAreSpelledAsLaid, CommitsAreToldByTheirBytes, LevelsAreOne, WindowsAreOne, MergedShowTheEnd, KeptAreSourced, OrdinalMapsAreOne};
 ghost use Rattle.cat_model.specs.RankLaws.{RanksFollowOrder, AddedStandFirst, SortsOrderRecords};
 
 pub use cat_base;
@@ -212,6 +212,13 @@ pub fn sorts_order_records()
 /// Lucene's `StoredFields` of a reader gives the documents that its searcher finds.
 pub fn sources_are_shown()
     ensures { SourcesAreShown }
+{}
+
+/// The bytes of a segment's file are those of its layout, the parts that a file is written from and read into.
+///
+/// Lucene's `Codec` has a format for each such part; the layout is our own.
+pub fn segments_are_spelled_as_laid()
+    ensures { SegmentsAreSpelledAsLaid }
 {}
 
 /// Bytes are the file of one commit at most: of one version, with one text and one list of segments.
