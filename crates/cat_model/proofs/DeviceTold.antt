@@ -1,9 +1,8 @@
 -- Which commands a run tells that the device failed: those that may be told so.
 use Rattle.std.proofs.Common.{◌≡◌, ◌≢◌, Bool, true, false, cond, ltb, Option, Some, None, refl, sym, subst, inl, inr}
 use Rattle.std.specs.Prelude.{ℕ, ◌+◌, ◌-◌, List, Result, Ok, Err, IsTrue, ◌==◌, length}
-use Rattle.std.specs.List.{list_all}
 use Rattle.cat_base.specs.declared.refusal.Refusal.{Refusal}
-use Rattle.cat_base.specs.declared.refusal.Refusal.TheVariants.{Count, Device, Id, NoCommit, Line, NoSnapshot, NotFacet, NotHeld, Gone, Mark, Query as NoQuery, SortField, Spent}
+use Rattle.cat_base.specs.declared.refusal.Refusal.TheVariants.{Count, Device, Id, NoCommit, Line, NoSnapshot, NotFacet, NotHeld, Gone, Mark, SortField, Spent}
 use Rattle.cat_model.specs.Text.{Text}
 use Rattle.cat_model.specs.Item.{Schema, kind_of, is_id}
 use Rattle.cat_model.specs.Query.{Query}
@@ -13,7 +12,7 @@ use Rattle.cat_model.specs.Facets.{facets_in}
 use Rattle.cat_model.specs.Answer.{Read, Found, can_sort, has_mark, is_facet_kind}
 use Rattle.cat_model.specs.Table.{Opened, table}
 use Rattle.cat_model.specs.Run.{Answer, Answers, Command, Fits, News, Refuses, Reply, Run, commits, found_reply, greatest, has, holds, is_held, is_kept, may_refuse, may_tell, newest_commit, now, pruned, snapshot_of, snapshots, text_under, view_tokens, writes}
-use Rattle.cat_model.specs.Heard.{IsCommand, IsQueryOf, Json, id_of}
+use Rattle.cat_model.specs.Heard.{IsCommand, IsQueryOf, Json}
 use Rattle.cat_model.specs.Lines.{Said}
 use Rattle.cat_model.proofs.Runs.{stops_refuse}
 

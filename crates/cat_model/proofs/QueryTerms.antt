@@ -2,14 +2,14 @@
 use Rattle.std.proofs.Common.{◌≡◌, ◌≢◌, ℕ, ◌^◌, ◌<◌, List, [], ◌∷◌, ◌++◌, length, take, drop, Result, Ok, Err, Option, Some, None, Bool, true, false, ltb, leb, eqb, cond, ◌&&◌, ◌⊎◌, inl, inr, refl, sym, ap, subst, ◌∙◌, arith}
 use Rattle.std.proofs.lemmas.Bool.{ne_eqb, eqb-true, eqb-false, ltb-true, leb-true, lt-ltb, le-leb, and_parts, and_from}
 use Rattle.std.proofs.lemmas.List.{take-append-drop, take_at, drop_at}
-use Rattle.std.specs.Prelude.{ℤ, pos, option_map, IsTrue}
+use Rattle.std.specs.Prelude.{ℤ, pos, neg_ℤ, option_map, IsTrue}
 use Rattle.std.specs.List.{AllByRecursion, prefix_len, list_all}
 use Rattle.std.specs.Char.{is_ascii_digit}
 use Rattle.cat_model.specs.Text.{Text}
 use Rattle.cat_model.specs.Item.{Schema, Kind, kind_of, is_name_byte}
 use Rattle.cat_model.specs.Query.{Primary}
 use Rattle.cat_model.specs.Words.{words, lowered, is_word_byte}
-use Rattle.cat_model.specs.Grammar.{Asks, value_from, negated, AreDigits, IsInteger, below, IsBound, Means, clauses_in, depth_in}
+use Rattle.cat_model.specs.Grammar.{Asks, value_from, AreDigits, IsInteger, below, IsBound, Means, clauses_in, depth_in}
 use Rattle.cat_model.specs.Faults.{IsWhole}
 use Rattle.cat_model.specs.Reader.{◌>>=◌, or_fault, only_word, are_digits, integer_of, bound_of, meaning, value_at, name_at, behind_name, colon_at, term_at}
 use Rattle.cat_model.proofs.QueryValues.{chosen, if_some, some_is, map_some, and_then_some, Stops, run_len, run_all, run_stops, value_sound, whole_complete}
@@ -40,12 +40,12 @@ pub integer_sound : (t : Text) (z : ℤ) → integer_of t ≡ Some z → IsInteg
 unfolding integer_of
 integer_sound [] z e = absurd cc
 integer_sound (b ∷ bs) z e =
-    elim (chosen (eqb b 45) (cond (are_digits bs && leb (value_from 0 bs) (2 ^ 63)) (Some (negated (value_from 0 bs))) None) (cond (are_digits (b ∷ bs) && ltb (value_from 0 (b ∷ bs)) (2 ^ 63)) (Some (pos (value_from 0 (b ∷ bs)))) None) (Some z) e) [
+    elim (chosen (eqb b 45) (cond (are_digits bs && leb (value_from 0 bs) (2 ^ 63)) (Some (neg_ℤ (pos (value_from 0 bs)))) None) (cond (are_digits (b ∷ bs) && ltb (value_from 0 (b ∷ bs)) (2 ^ 63)) (Some (pos (value_from 0 (b ∷ bs)))) None) (Some z) e) [
       | inl h ↦
-          let g = if_some (are_digits bs && leb (value_from 0 bs) (2 ^ 63)) (Some (negated (value_from 0 bs))) z h.1 in
+          let g = if_some (are_digits bs && leb (value_from 0 bs) (2 ^ 63)) (Some (neg_ℤ (pos (value_from 0 bs)))) z h.1 in
           let d = and_parts (are_digits bs) (leb (value_from 0 bs) (2 ^ 63)) g.0 in
-          subst (λ (x : ℤ). IsInteger (b ∷ bs) x) (some_is (negated (value_from 0 bs)) z g.1)
-          (subst (λ (x : ℕ). IsInteger (x ∷ bs) (negated (value_from 0 bs))) (sym (eqb-true b 45 h.0)) (below bs (digits_sound bs d.0) (leb-true (value_from 0 bs) (2 ^ 63) d.1)))
+          subst (λ (x : ℤ). IsInteger (b ∷ bs) x) (some_is (neg_ℤ (pos (value_from 0 bs))) z g.1)
+          (subst (λ (x : ℕ). IsInteger (x ∷ bs) (neg_ℤ (pos (value_from 0 bs)))) (sym (eqb-true b 45 h.0)) (below bs (digits_sound bs d.0) (leb-true (value_from 0 bs) (2 ^ 63) d.1)))
       | inr h ↦
           let g = if_some (are_digits (b ∷ bs) && ltb (value_from 0 (b ∷ bs)) (2 ^ 63)) (Some (pos (value_from 0 (b ∷ bs)))) z h.1 in
           let d = and_parts (are_digits (b ∷ bs)) (ltb (value_from 0 (b ∷ bs)) (2 ^ 63)) g.0 in
@@ -69,7 +69,7 @@ integer_complete (IsInteger.not_below (b ∷ bs) d h) =
     some_if : (v : Bool) (z : ℤ) → v ≡ true → cond v (Some z) None ≡ Some z
     some_if v z e = rw e refl
 integer_complete (below t d h) =
-    some_if (are_digits t && leb (value_from 0 t) (2 ^ 63)) (negated (value_from 0 t)) (and_from (are_digits t) (leb (value_from 0 t) (2 ^ 63)) (digits_complete t d) (le-leb (value_from 0 t) (2 ^ 63) h))
+    some_if (are_digits t && leb (value_from 0 t) (2 ^ 63)) (neg_ℤ (pos (value_from 0 t))) (and_from (are_digits t) (leb (value_from 0 t) (2 ^ 63)) (digits_complete t d) (le-leb (value_from 0 t) (2 ^ 63) h))
   where
     some_if : (v : Bool) (z : ℤ) → v ≡ true → cond v (Some z) None ≡ Some z
     some_if v z e = rw e refl

@@ -1,6 +1,6 @@
 -- The grammar of query texts: a constructor for each way to write a thing. `+` and `-` are those of Lucene's classic
 -- QueryParser, and a series of clauses is its BooleanQuery. The rest of the grammar and both limits are our own.
-use Rattle.std.specs.Prelude.{◌≡◌, ◌≢◌, ℕ, suc, ℤ, pos, negsuc, zero, ◌+◌, ◌-◌, ◌*◌, ◌^◌, ◌<◌, ◌≤◌, max, [], ◌∷◌, ◌++◌, Option, Some, None, ◌⊎◌, Bool, ◌||◌, not, ◌==◌, IsTrue}
+use Rattle.std.specs.Prelude.{◌≡◌, ◌≢◌, ℕ, ℤ, pos, neg_ℤ, ◌+◌, ◌-◌, ◌*◌, ◌^◌, ◌<◌, ◌≤◌, max, [], ◌∷◌, ◌++◌, Option, Some, None, ◌⊎◌, Bool, ◌||◌, not, ◌==◌, IsTrue}
 use Rattle.std.specs.List.{AllByRecursion}
 use Rattle.std.specs.Char.{is_ascii_digit}
 use Rattle.cat_model.specs.Text.{Text}
@@ -56,15 +56,10 @@ value_from n (b ∷ bs) = value_from (n * 10 + (b - 48)) bs
 abbrev pub AreDigits : Text → Type 0
 AreDigits t = (t ≢ []) × AllByRecursion (λ b. IsTrue (is_ascii_digit b)) t
 
--- the number below zero
-abbrev pub negated : ℕ → ℤ
-negated zero = pos 0
-negated (suc n) = negsuc n
-
 -- an optional `-` and one or more digits, in the range of an i64
 pub data IsInteger : Text → ℤ → Type 0 where
   not_below : (t : Text) → AreDigits t → value_from 0 t < 2 ^ 63 → IsInteger t (pos (value_from 0 t))
-  below : (t : Text) → AreDigits t → value_from 0 t ≤ 2 ^ 63 → IsInteger (45 ∷ t) (negated (value_from 0 t))
+  below : (t : Text) → AreDigits t → value_from 0 t ≤ 2 ^ 63 → IsInteger (45 ∷ t) (neg_ℤ (pos (value_from 0 t)))
 
 -- the number that an end of a range is; an open end is none
 abbrev pub IsBound : Option Text → Option ℤ → Type 0

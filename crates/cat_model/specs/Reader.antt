@@ -1,7 +1,7 @@
 -- How a query text is read, as functions. Nothing to believe: the laws of queries tie it to the grammar and to the faults,
 -- and a parser in code is proved to give what it gives. Below `read_query` an Err is the number of bytes that are
 -- left from the fault on.
-use Rattle.std.specs.Prelude.{◌+◌, ◌-◌, ◌^◌, ℕ, ℤ, pos, zero, suc, List, [], ◌∷◌, length, take, drop, Option, Some, None, option_map, option_and_then, Result, Ok, Err, Bool, true, false, ◌&&◌, ◌||◌, ◌==◌, ltb, leb, nat_eq, if◌then◌else◌}
+use Rattle.std.specs.Prelude.{◌+◌, ◌-◌, ◌^◌, ℕ, ℤ, pos, neg_ℤ, zero, suc, List, [], ◌∷◌, length, take, drop, Option, Some, None, option_map, option_and_then, Result, Ok, Err, Bool, true, false, ◌&&◌, ◌||◌, ◌==◌, ltb, leb, nat_eq, if◌then◌else◌}
 use Rattle.std.specs.List.{prefix_len, starts_with, list_all}
 use Rattle.std.specs.Char.{is_ascii_digit}
 use Rattle.cat_model.specs.Text.{Text}
@@ -9,7 +9,7 @@ use Rattle.cat_model.specs.Item.{Schema, Kind, kind_of, is_name_byte}
 use Rattle.cat_model.specs.Limits.{clause_limit, depth_limit}
 use Rattle.cat_model.specs.Query.{Query, Primary, Sign}
 use Rattle.cat_model.specs.Words.{words, lowered, is_word_byte}
-use Rattle.cat_model.specs.Grammar.{is_bare_byte, Asks, value_from, negated}
+use Rattle.cat_model.specs.Grammar.{is_bare_byte, Asks, value_from}
 
 infixl 10 ◌>>=◌
 -- go on with what was read, unless a fault was met
@@ -100,7 +100,7 @@ are_digits t = ltb 0 (length t) && list_all is_ascii_digit t
 unfoldable pub integer_of : Text → Option ℤ
 integer_of [] = None
 integer_of (b ∷ bs) =
-    if b == 45 then (if are_digits bs && leb (value_from 0 bs) (2 ^ 63) then Some (negated (value_from 0 bs)) else None)
+    if b == 45 then (if are_digits bs && leb (value_from 0 bs) (2 ^ 63) then Some (neg_ℤ (pos (value_from 0 bs))) else None)
     else (if are_digits (b ∷ bs) && ltb (value_from 0 (b ∷ bs)) (2 ^ 63) then Some (pos (value_from 0 (b ∷ bs))) else None)
 
 -- the number that an end of a range is; an open end stays open

@@ -52,27 +52,19 @@ pub record BeginsWith (told : ToldByName) (schema : Schema) (first : ℕ) (s : S
   pub segments : s.stat.segments ≡ map leaf_stat restored.leaves
   pub next : s.next_segment ≡ max first restored.commit.next
 
--- no commit is there, and no segment stands
-abbrev pub BeginsWithout : ToldByName → (first : ℕ) → Standing → Type 0
-BeginsWithout told first s = TellsNoCommit told × (s.stat.segments ≡ []) × (s.next_segment ≡ max first 1)
-
--- No failure is counted but those that the directory had counted. Or one more is, where the directory can fail: a file that nobody needs
--- couldn't be deleted, and waits for a SWEEP.
-abbrev pub HasCountedFirst : (fails : Type 0) → (failures : ℕ) → Standing → Type 0
-HasCountedFirst fails failures s = (s.failures ≡ failures) ⊎ (fails × CountsOne failures s.failures × (0 < s.stat.pending))
-
--- How it stands before the first line: nothing waits, no merge is in the making, no generation was tried, the numbers that come next are the
--- least that are above those in the names of the directory's files, and failures are counted as above. The second argument says whether the
--- directory can fail.
+-- How it stands before the first line: at the newest commit, or without a segment where no commit is there; nothing waits, no merge is in the
+-- making, no generation was tried, and the numbers that come next are the least that are above those in the names of the directory's files. No
+-- failure is counted but those that the directory had counted. Or one more is, where the directory can fail, as the second argument says: a
+-- file that nobody needs couldn't be deleted, and waits for a SWEEP.
 pub record StandsFirst (told : ToldByName) (fails : Type 0) (failures : ℕ) (schema : Schema) (s : Standing) : Type 0 where
   pub names : List Name
   pub listed : AreNamesIn told names
   pub first : ℕ
   pub next : AreFirstNumbers names first s.next_generation
-  pub commit : BeginsWith told schema first s ⊎ BeginsWithout told first s
+  pub commit : BeginsWith told schema first s ⊎ (TellsNoCommit told × (s.stat.segments ≡ []) × (s.next_segment ≡ max first 1))
   pub waits : s.stat.buffered ≡ 0
   pub idle : s.merging ≡ None
-  pub counted : HasCountedFirst fails failures s
+  pub counted : (s.failures ≡ failures) ⊎ (fails × CountsOne failures s.failures × (0 < s.stat.pending))
   pub untried : s.tried ≡ []
 
 -- ---- the whole

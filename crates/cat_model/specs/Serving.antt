@@ -7,7 +7,7 @@ use Rattle.cat_base.specs.declared.refusal.Refusal.TheVariants.{Device, Memory}
 use Rattle.cat_model.specs.Text.{Text}
 use Rattle.cat_model.specs.Query.{Query}
 use Rattle.cat_model.specs.Table.{Opened}
-use Rattle.cat_model.specs.Answer.{Found, Read}
+use Rattle.cat_model.specs.Answer.{Found}
 use Rattle.cat_model.specs.Run.{Answer, Chore, Command, Fits, IsRun, Reply, Run, greatest, holds, view_tokens}
 use Rattle.cat_model.specs.Lines.{line_text}
 use Rattle.cat_model.specs.Heard.{Json}

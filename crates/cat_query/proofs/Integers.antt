@@ -8,7 +8,7 @@ use Rattle.std.proofs.lemmas.Bool.{ne_eqb, cases_eq, and_parts, ltb-true, leb-tr
 use Rattle.std.proofs.lemmas.Str.Parse.{IsNumeralModel, numerals_by_fold, parse_signed_plain, parse_signed_minus}
 use mir.Syntax.{w64}
 use Rattle.cat_model.specs.Text.{Text}
-use Rattle.cat_model.specs.Grammar.{value_from, negated}
+use Rattle.cat_model.specs.Grammar.{value_from}
 use Rattle.cat_model.specs.Reader.{are_digits, integer_of}
 use Rattle.cat_query.specs.Reading.{behind_byte}
 use Rattle.cat_query.specs.Escapes.{unescaped_from, unescaped, is_escaped_from, is_escaped}
@@ -27,10 +27,6 @@ both : (a b : Bool) → a ≡ true → b ≡ true → (a && b) ≡ true
 both true true p q = refl
 both true false p q = q
 both false b p q = absurd (true≢false (sym p))
-
-negated_is : (n : ℕ) → neg_ℤ (pos n) ≡ negated n
-negated_is zero = refl
-negated_is (suc n) = refl
 
 nothing_is_none : {E : Type 0} (r : Result ℤ E) (P Q : Type 0) (x : ℤ) → OkIff r (P × (0 < 0) × Q) x → result_ok r ≡ None
 nothing_is_none (Ok y) P Q x h = absurd (let bad = h.0.1 in omega arith)
@@ -58,8 +54,8 @@ no_digits : (b : ℕ) (bs : Text) → list_all is_ascii_digit bs ≡ false → i
 unfolding integer_of
 no_digits b bs h = at (eqb b 45)
   where
-    at : (v : Bool) → cond v (cond (are_digits bs && leb (value_from 0 bs) (2 ^ 63)) (Some (negated (value_from 0 bs))) None) (cond (are_digits (b ∷ bs) && ltb (value_from 0 (b ∷ bs)) (2 ^ 63)) (Some (pos (value_from 0 (b ∷ bs)))) None) ≡ None
-    at true = rw h (none (ltb 0 (length bs)) (leb (value_from 0 bs) (2 ^ 63)) (Some (negated (value_from 0 bs))))
+    at : (v : Bool) → cond v (cond (are_digits bs && leb (value_from 0 bs) (2 ^ 63)) (Some (neg_ℤ (pos (value_from 0 bs)))) None) (cond (are_digits (b ∷ bs) && ltb (value_from 0 (b ∷ bs)) (2 ^ 63)) (Some (pos (value_from 0 (b ∷ bs)))) None) ≡ None
+    at true = rw h (none (ltb 0 (length bs)) (leb (value_from 0 bs) (2 ^ 63)) (Some (neg_ℤ (pos (value_from 0 bs)))))
     at false = rw (h, and_false (is_ascii_digit b)) (none (ltb 0 (length (b ∷ bs))) (ltb (value_from 0 (b ∷ bs)) (2 ^ 63)) (Some (pos (value_from 0 (b ∷ bs)))))
 
 -- the first escaped byte is a quote or a backslash
@@ -107,10 +103,10 @@ parsed [] r h n = nothing_is_none r _ _ _ (parse_signed_plain own w64 [] r h (om
 parsed (b ∷ bs) r h n = elim (cases_eq b 45) [
   | inl e ↦
       rw (eq-eqb b 45 e)
-      (chosen (are_digits bs && leb (value_from 0 bs) (2 ^ 63)) r (neg_ℤ (pos (value_from 0 bs))) (negated (value_from 0 bs)) (parse_signed_minus own w64 (b ∷ bs) r h e)
+      (chosen (are_digits bs && leb (value_from 0 bs) (2 ^ 63)) r (neg_ℤ (pos (value_from 0 bs))) (neg_ℤ (pos (value_from 0 bs))) (parse_signed_minus own w64 (b ∷ bs) r h e)
       (λ t. let p = and_parts (are_digits bs) (leb (value_from 0 bs) (2 ^ 63)) t in let q = and_parts (ltb 0 (length bs)) (list_all is_ascii_digit bs) p.0 in (q.1, ltb-true 0 (length bs) q.0, leb-true (value_from 0 bs) (2 ^ 63) p.1))
       (λ p. both (are_digits bs) (leb (value_from 0 bs) (2 ^ 63)) (both (ltb 0 (length bs)) (list_all is_ascii_digit bs) (lt-ltb 0 (length bs) p.1) p.0) (le-leb (value_from 0 bs) (2 ^ 63) p.2))
-      (negated_is (value_from 0 bs)))
+      refl)
   | inr e ↦
       rw (ne_eqb b 45 e)
       (chosen (are_digits (b ∷ bs) && ltb (value_from 0 (b ∷ bs)) (2 ^ 63)) r (pos (value_from 0 (b ∷ bs))) (pos (value_from 0 (b ∷ bs))) (parse_signed_plain own w64 (b ∷ bs) r h (no_plus n) e)

@@ -36,6 +36,7 @@ use Rattle.cat_commands.specs.cat_protocol.replies.Reply.{answer_of, reply_of}
 use Rattle.cat_commands.specs.cat_protocol.declared.replies.answer.Answer as code
 use Rattle.cat_commands.specs.cat_protocol.cat_views.Holds.{HeldView}
 use Rattle.cat_commands.specs.cat_protocol.cat_views.Sources.{HoldsSource, MayReachSource, TellsSource}
+use Rattle.cat_service.specs.Serving.{MayFailBy}
 use Rattle.cat_service.specs.Causes.{HasCause, IsDamagedTo, IsSpentTo, KeepsIfRefused, MayFailTo, MayReachTo, TellsSo}
 use Rattle.cat_service.specs.Lines.{IsCommandOf}
 use Rattle.cat_service.specs.Worlds.{Service}
