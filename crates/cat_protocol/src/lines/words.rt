@@ -3,7 +3,7 @@ ghost use Rattle.std.specs.Prelude.{◌≡◌, ℕ, Option, ◌∷◌, ◌++◌,
 ghost use Rattle.std.specs.Fmt.{decimal};
 ghost use Rattle.cat_model.specs.Text.{Text};
 ghost use Rattle.cat_model.specs.Item as model;
-ghost use Rattle.cat_model.specs.Lines.{IsNumber, IsMark, mark_text};
+ghost use Rattle.cat_model.specs.Lines.{IsNumber, mark_text};
 ghost use Rattle.cat_protocol.specs.lines.Words.{HasNoSpace};
 
 use cat_base::{WriteNo, parse_number};
@@ -49,8 +49,8 @@ pub(crate) fn split_name(text: &str) -> Option<(&str, &str)>
 
 /// The mark that the word spells: `.` for none, or the number of a record.
 fn mark(word: &str) -> Option<Option<WriteNo>>
-    ensures found { IfSome result (λ mark. IsMark mark × (word.now ≡ mark_text mark)) }
-    ensures none { IfNone result ((mark : Option ℕ) → IsMark mark → word.now ≡ mark_text mark → ⊥) }
+    ensures found { IfSome result (λ mark. IfSome mark IsNumber × (word.now ≡ mark_text mark)) }
+    ensures none { IfNone result ((mark : Option ℕ) → IfSome mark IsNumber → word.now ≡ mark_text mark → ⊥) }
 {
     if word == "." {
         return Some(None);
@@ -61,8 +61,8 @@ fn mark(word: &str) -> Option<Option<WriteNo>>
 
 /// A mark, and the text behind the space that ends it.
 pub(crate) fn split_mark(text: &str) -> Option<(Option<WriteNo>, &str)>
-    ensures found { IfSome result (λ parts. IsMark parts.0 × (text.now ≡ mark_text parts.0 ++ 32 ∷ parts.1.now)) }
-    ensures none { IfNone result ((mark : Option ℕ) (rest : Text) → IsMark mark → text.now ≡ mark_text mark ++ 32 ∷ rest → ⊥) }
+    ensures found { IfSome result (λ parts. IfSome parts.0 IsNumber × (text.now ≡ mark_text parts.0 ++ 32 ∷ parts.1.now)) }
+    ensures none { IfNone result ((mark : Option ℕ) (rest : Text) → IfSome mark IsNumber → text.now ≡ mark_text mark ++ 32 ∷ rest → ⊥) }
 {
     let (word, rest) = split_word(text)?;
     let mark = mark(word)?;
