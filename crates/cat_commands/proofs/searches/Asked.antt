@@ -21,6 +21,12 @@ spelled_unread {X = X} schema text e memory judged due = by judged.0 judged.1
     by _ (IsQueryOf.spelled q s) = (q, s)
     by _ (IsQueryOf.faulty place fault) = absurd (let other : ◌≡◌ {A = Result X Refusal} (Err e) (Err (NoQuery place)) = due place fault in cc)
 
+-- so it has none
+pub unread_no_fault : {X : Type 0} (schema : Schema) (text : Text) (e : Refusal) → e ≡ Memory
+    → ((place : ℕ) → Fault schema text place → ◌≡◌ {A = Result X Refusal} (Err e) (Err (NoQuery place))) → (place : ℕ) → Fault schema text place → ⊥
+unread_no_fault {X = X} schema text e memory due place fault =
+    let other : ◌≡◌ {A = Result X Refusal} (Err e) (Err (NoQuery place)) = due place fault in cc
+
 -- what is no want of memory is a fault
 pub is_fault : (schema : Schema) (text : Text) (e : Refusal) → (e ≡ Memory → ⊥) → (e ≡ Memory) ⊎ ((place : ℕ) × (e ≡ NoQuery place) × Fault schema text place)
     → (place : ℕ) × (e ≡ NoQuery place) × Fault schema text place

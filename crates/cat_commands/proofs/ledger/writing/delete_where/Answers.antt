@@ -1,5 +1,8 @@
-use Rattle.std.proofs.Common.{◌+◌, refl}
-use Rattle.std.specs.Prelude.{Ok}
+use Rattle.std.proofs.Common.{◌≡◌, ◌+◌, refl}
+use Rattle.std.specs.Prelude.{Err, Ok, Result}
+use Rattle.cat_base.specs.declared.refusal.Refusal.{Refusal}
+use Rattle.cat_base.specs.declared.refusal.Refusal.TheVariants.{Query as NoQuery}
+use Rattle.cat_cached_sets.specs.cat_query.declared.query.Query.{Query}
 use Rattle.cat_model.specs.Heard.{IsQueryOf}
 use Rattle.cat_model.specs.Run.{Command}
 use Rattle.cat_cached_sets.specs.cat_query.View.{query_of}
@@ -44,3 +47,7 @@ returns-clause-answers g c = λ session.
 
 pub returns-in-Err-clause-history : goal.returns-in-Err-clause-history
 returns-in-Err-clause-history g c = goes_same g.D.Holder.may_leave c.args.ledger.now
+
+pub returns-in-Err-clause-due : goal.returns-in-Err-clause-due
+returns-in-Err-clause-due g c = λ place fault.
+    let told : ◌≡◌ {A = Result Query Refusal} (Err c.in-Err.refusal) (Err (NoQuery place)) = c.in-Err.ensures.due place fault in cc

@@ -158,3 +158,6 @@ returns-in_err-facets-clause-due c =
     to_right (λ h. (q : model.Query) → Spells c.args.schema.now c.args.text.now q → GivesDue h.now.view (Read.facets c.args.dimension.now c.args.count (Ok q)) given) c.args.right c.in-Some.hold c.in-Some.is
     (λ q spelled. subst (λ (v : View). GivesDue v (Read.facets c.args.dimension.now c.args.count (Ok q)) given) c.view-view.ensures
     (due_passed c.view-view.result.now (Read.facets c.args.dimension.now c.args.count (Ok q)) e (Err e) given refl (passed_on given e c.from_residual-in_err-facets.ensures) (c.in_err-facets.ensures.due q)))
+
+pub returns-in_err-query-clause-unheld : goal.returns-in_err-query-clause-unheld
+returns-in_err-query-clause-unheld c = λ unheld right. absurd (right c.in_err-query.ensures.err.0 c.in_err-query.ensures.err.2)
