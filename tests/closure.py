@@ -5,7 +5,7 @@ usage: tests/closure.py [--list] [--opaque NAME,..] CRATE::FUNCTION ..
 
 For each function it prints how many definitions those are, their lines without comments, and the files that they stand in; with
 --list each of them too. A definition that is named by --opaque counts, but what it cites doesn't. What std and the kit's crates
-define, and types of Rust, are not counted.
+define, and types and constants of Rust, are not counted.
 """
 import argparse
 import collections
